@@ -1,0 +1,23 @@
+-- Who owns a position of a distributed dimension (HPF 2.0, DISTRIBUTE).
+use Rattle.std.specs.Prelude.{◌≡◌, ℕ, ◌+◌, ◌-◌, ◌*◌, ◌%◌, ◌^◌, ◌≤◌, ℤ, max, pos, unsigned_abs}
+use Rattle.std.specs.Int.{div_ceil}
+use Rattle.hpf_base.specs.declared.mapping.Form.{Form}
+use Rattle.hpf_base.specs.declared.mapping.Form.TheVariants.{Whole, Block, Cyclic}
+use Rattle.hpf_base.specs.declared.mapping.Line.{Line}
+
+-- the coordinate, from 0, of the processor that owns a position under a format
+abbrev pub coordinate_under : Form → ℕ → ℕ → ℕ
+coordinate_under Whole procs position = 0
+coordinate_under (Block m) procs position = div_ceil position m - 1
+coordinate_under (Cyclic k) procs position = (div_ceil position k - 1) % procs
+
+abbrev pub coordinate : Line → ℕ → ℕ
+coordinate line position = coordinate_under line.form line.procs position
+
+-- the size of a block where DISTRIBUTE names none: the least with which all positions are dealt out, and at least 1
+abbrev pub default_block : ℕ → ℕ → ℕ
+default_block extent procs = max 1 (div_ceil extent procs)
+
+-- a dimension from 1 to extent under BLOCK on so many processors
+abbrev pub block_line : ℕ → ℕ → Line
+block_line extent procs = record { lower = pos 1; extent = extent; form = Block (default_block extent procs); procs = procs }

@@ -1,0 +1,21 @@
+-- What a call of a source or a sink does, as far as the object tells its bytes.
+use Rattle.std.specs.Prelude.{◌≡◌, ℕ, ◌-◌, ◌^◌, ◌<◌, ◌⊎◌, List, [], ◌++◌, Option, None, Some}
+
+-- the count of faults rose in a call, or it stands at its greatest value after it
+abbrev pub Rose : ℕ → ℕ → Type 0
+Rose before after = (before < after) ⊎ (after ≡ 2 ^ 64 - 1)
+
+-- the source gave these bytes, the next ones that it had left; one that doesn't tell what is left tells nothing after
+abbrev pub Gave : Option (List ℕ) → Option (List ℕ) → List ℕ → Type 0
+Gave None left' bytes = left' ≡ None
+Gave (Some left) left' bytes = (rest : List ℕ) × (left' ≡ Some rest) × (left ≡ bytes ++ rest)
+
+-- nothing is left
+abbrev pub IsAtEnd : Option (List ℕ) → Type 0
+IsAtEnd None = Unit {0}
+IsAtEnd (Some left) = left ≡ []
+
+-- the sink took these bytes, behind those that it held
+abbrev pub Took : Option (List ℕ) → Option (List ℕ) → List ℕ → Type 0
+Took None held' bytes = held' ≡ None
+Took (Some held) held' bytes = held' ≡ Some (held ++ bytes)

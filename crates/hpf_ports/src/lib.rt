@@ -1,0 +1,26 @@
+//! The outside: where a program's text comes from and where its answers go.
+//!
+//! Comes in: a source of bytes, or a sink for bytes, of any kind. Goes out: the whole text, or all bytes
+//! written, or the fault with its cause. What holds in between: a source tells the bytes that it has left
+//! and a sink those that it holds, where they can, and each counts its faults. A failure is answered only
+//! where that count rose.
+#![tactic(auto)]
+
+mod gate;
+mod mem;
+mod read;
+mod sink;
+mod source;
+mod standard;
+mod write;
+
+#[cfg(test)]
+mod tests;
+
+pub use gate::{Gate, OpenGate};
+pub use mem::{MemSink, MemSource};
+pub use read::{ReadAll, SOURCE_LIMIT, read_all};
+pub use sink::Sink;
+pub use source::{Failed, Source};
+pub use standard::{StdSink, StdSource};
+pub use write::write_all;
