@@ -1,11 +1,14 @@
 -- Positions of a dimension, and the elements that stand there.
-use Rattle.std.specs.Prelude.{◌≡◌, ℕ, ◌+◌, ◌-◌, List, slice_index_or, length, map}
+use Rattle.std.specs.Prelude.{ℕ, ◌+◌, ◌-◌, ℤ, pos, Bool, ◌&&◌, nat_le, List, slice_index_or}
 use Rattle.std.specs.List.{range_with_len}
-use Rattle.std.specs.Prelude.{ℤ, pos}
 
 -- the positions from first to last, ascending; none where last is below first
 abbrev pub section : ℕ → ℕ → List ℕ
 section first last = range_with_len first (last + 1 - first)
+
+-- the position stands in the section
+abbrev pub in_section : ℕ → ℕ → ℕ → Bool
+in_section first last position = nat_le first position && nat_le position last
 
 -- the positions of a dimension of this extent, in array-element order (Fortran 95, 6.2.2.2)
 abbrev pub positions : ℕ → List ℕ

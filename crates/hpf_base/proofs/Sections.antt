@@ -1,0 +1,98 @@
+-- Laws on sections of positions.
+use Rattle.std.proofs.Common.{◌≡◌, ℕ, zero, suc, ◌+◌, ◌-◌, ◌<◌, ◌≤◌, ◌⊎◌, inl, inr, Bool, true, false, cond, List, [], ◌∷◌, ◌++◌, refl, sym, ◌∙◌, ap, arith, min, max}
+use Rattle.std.proofs.lemmas.List.{append-nil}
+use Rattle.std.proofs.lemmas.Bool.{cases_lt}
+use Rattle.std.proofs.lemmas.Bool.Decides.{nat_tests}
+use Rattle.std.specs.Prelude.{filter}
+use Rattle.std.specs.List.{range_with_len}
+use Rattle.hpf_base.specs.Positions.{in_section, positions, section}
+
+-- two tests that are true together are one
+pub same_test : (a b : Bool) → (a ≡ true → b ≡ true) → (b ≡ true → a ≡ true) → a ≡ b
+same_test true true f g = refl
+same_test true false f g = sym (f refl)
+same_test false true f g = g refl
+same_test false false f g = refl
+
+pub in_section_true : (a b j : ℕ) → in_section a b j ≡ true → (a ≤ j) × (j ≤ b)
+in_section_true a b j h = grind (arith, nat_tests)
+
+pub in_section_false : (a b j : ℕ) → in_section a b j ≡ false → (j < a) ⊎ (b < j)
+in_section_false a b j h = grind (arith, nat_tests)
+
+pub in_section_holds : (a b j : ℕ) → a ≤ j → j ≤ b → in_section a b j ≡ true
+in_section_holds a b j h k = grind (arith, nat_tests)
+
+-- a list of numbers in two parts
+pub range_with_len-add : (a n m : ℕ) → range_with_len a (n + m) ≡ range_with_len a n ++ range_with_len (a + n) m
+range_with_len-add a zero m =
+    let len : zero + m ≡ m = omega arith in
+    let at : a + zero ≡ a = omega arith in
+    ap (range_with_len a) len ∙ ap (λ b. range_with_len b m) (sym at)
+range_with_len-add a (suc n) m =
+    let len : suc n + m ≡ suc (n + m) = omega arith in
+    let at : a + 1 + n ≡ a + suc n = omega arith in
+    ap (range_with_len a) len
+    ∙ ap (λ t. a ∷ t) (range_with_len-add (a + 1) n m ∙ ap (λ b. range_with_len (a + 1) n ++ range_with_len b m) at)
+
+-- the number in front of a filtered list of numbers is kept or not
+filter-range_front : (t : Bool) (lo n a b : ℕ) (rest : List ℕ) → in_section a b lo ≡ t
+    → rest ≡ range_with_len (max (lo + 1) a) (min (lo + 1 + n) (b + 1) - max (lo + 1) a)
+    → cond t (lo ∷ rest) rest ≡ range_with_len (max lo a) (min (lo + suc n) (b + 1) - max lo a)
+filter-range_front true lo n a b rest e is =
+    let within : (a ≤ lo) × (lo ≤ b) = in_section_true a b lo e in
+    let at : lo ≡ max lo a = omega arith in
+    let next : max (lo + 1) a ≡ max lo a + 1 = omega arith in
+    let count : min (lo + suc n) (b + 1) - max lo a ≡ suc (min (lo + 1 + n) (b + 1) - max (lo + 1) a) = omega arith in
+    rw (is, count, next) (ap (λ k. k ∷ range_with_len (max lo a + 1) (min (lo + 1 + n) (b + 1) - (max lo a + 1))) at)
+filter-range_front false lo n a b rest e is = outside (in_section_false a b lo e)
+    where
+      outside : (lo < a) ⊎ (b < lo) → rest ≡ range_with_len (max lo a) (min (lo + suc n) (b + 1) - max lo a)
+      outside (inl below) =
+          let at : max (lo + 1) a ≡ max lo a = omega arith in
+          let count : min (lo + 1 + n) (b + 1) ≡ min (lo + suc n) (b + 1) = omega arith in
+          rw (is, at, count) refl
+      outside (inr above) =
+          let none : min (lo + 1 + n) (b + 1) - max (lo + 1) a ≡ 0 = omega arith in
+          let none' : min (lo + suc n) (b + 1) - max lo a ≡ 0 = omega arith in
+          rw (is, none, none') refl
+
+-- a test that is true in a section keeps of a list of numbers what stands in the section
+pub filter-range : (P : ℕ → Bool) (lo n a b : ℕ) → ((j : ℕ) → lo ≤ j → j < lo + n → P j ≡ in_section a b j)
+    → filter P (range_with_len lo n) ≡ range_with_len (max lo a) (min (lo + n) (b + 1) - max lo a)
+filter-range P lo zero a b same =
+    let none : min (lo + zero) (b + 1) - max lo a ≡ 0 = omega arith in sym (ap (range_with_len (max lo a)) none)
+filter-range P lo (suc n) a b same =
+    ap (λ t. cond t (lo ∷ filter P (range_with_len (lo + 1) n)) (filter P (range_with_len (lo + 1) n))) (same lo (omega arith) (omega arith))
+    ∙ filter-range_front (in_section a b lo) lo n a b (filter P (range_with_len (lo + 1) n)) refl
+      (filter-range P (lo + 1) n a b (λ j l u. same j (omega arith) (omega arith)))
+
+-- a test that is true in a section of the positions keeps that section
+pub filter-positions : (P : ℕ → Bool) (extent a b : ℕ) → 1 ≤ a → b ≤ extent
+    → ((j : ℕ) → 1 ≤ j → j ≤ extent → P j ≡ in_section a b j) → filter P (positions extent) ≡ section a b
+filter-positions P extent a b begins ends same =
+    let at : max 1 a ≡ a = omega arith in
+    let count : min (1 + (extent + 1 - 1)) (b + 1) - max 1 a ≡ b + 1 - a = omega arith in
+    filter-range P 1 (extent + 1 - 1) a b (λ j l u. same j l (omega arith))
+    ∙ ap (range_with_len (max 1 a)) count ∙ ap (λ k. range_with_len k (b + 1 - a)) at
+
+-- the part of a section up to one place, and then that up to a further place
+pub section-join : (a b k k' : ℕ) → k ≤ k' → section a (min b k) ++ section (max a (k + 1)) (min b k') ≡ section a (min b k')
+section-join a b k k' order = cases (cases_lt k a) (cases_lt b k)
+    where
+      cases : (k < a) ⊎ (a ≤ k) → (b < k) ⊎ (k ≤ b)
+          → section a (min b k) ++ section (max a (k + 1)) (min b k') ≡ section a (min b k')
+      cases (inl before) _ =
+          let none : min b k + 1 - a ≡ 0 = omega arith in
+          let at : max a (k + 1) ≡ a = omega arith in
+          rw (none, at) refl
+      cases (inr within) (inl all) =
+          let none : min b k' + 1 - max a (k + 1) ≡ 0 = omega arith in
+          let same : min b k ≡ min b k' = omega arith in
+          rw (none, same) (append-nil _)
+      cases (inr within) (inr some) =
+          let first : min b k + 1 - a ≡ k + 1 - a = omega arith in
+          let at : max a (k + 1) ≡ a + (k + 1 - a) = omega arith in
+          let last : min b k' + 1 - (a + (k + 1 - a)) ≡ min b k' - k = omega arith in
+          let whole : min b k' + 1 - a ≡ k + 1 - a + (min b k' - k) = omega arith in
+          rw (first, at, last, whole) (sym (range_with_len-add a (k + 1 - a) (min b k' - k)))
