@@ -40,10 +40,10 @@ coordinate-unique m j q some begins above upto =
 
 -- a processor owns the positions of its block, up to the last
 pub owned-block : (extent procs q : ℕ)
-    → owned (block_line extent procs) q ≡ section (q * default_block extent procs + 1) (min ((q + 1) * default_block extent procs) extent)
-owned-block extent procs q =
-    filter-positions (λ j. coordinate (block_line extent procs) j == q) extent (q * size + 1) (min ((q + 1) * size) extent)
-      (omega arith) (omega arith) (λ j begins ends. same_test _ _ (inside j begins ends) (found j begins))
+    → section (q * default_block extent procs + 1) (min ((q + 1) * default_block extent procs) extent) ≡ owned (block_line extent procs) q
+owned-block extent procs q = sym
+    (filter-positions (λ j. coordinate (block_line extent procs) j == q) extent (q * size + 1) (min ((q + 1) * size) extent)
+      (omega arith) (omega arith) (λ j begins ends. same_test _ _ (inside j begins ends) (found j begins)))
     where
       size : ℕ
       size = default_block extent procs

@@ -35,6 +35,13 @@ range_with_len-add a (suc n) m =
     ap (range_with_len a) len
     ∙ ap (λ t. a ∷ t) (range_with_len-add (a + 1) n m ∙ ap (λ b. range_with_len (a + 1) n ++ range_with_len b m) at)
 
+-- one number more at the end
+pub range_with_len-more : (a p : ℕ) → a ≤ p → range_with_len a (p + 1 - a) ≡ range_with_len a (p - a) ++ p ∷ []
+range_with_len-more a p low =
+    let count : p + 1 - a ≡ p - a + 1 = omega arith in
+    let at : a + (p - a) ≡ p = omega arith in
+    ap (range_with_len a) count ∙ range_with_len-add a (p - a) 1 ∙ ap (λ n. range_with_len a (p - a) ++ n ∷ []) at
+
 -- the number in front of a filtered list of numbers is kept or not
 filter-range_front : (t : Bool) (lo n a b : ℕ) (rest : List ℕ) → in_section a b lo ≡ t
     → rest ≡ range_with_len (max (lo + 1) a) (min (lo + 1 + n) (b + 1) - max (lo + 1) a)

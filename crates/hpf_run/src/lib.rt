@@ -1,0 +1,13 @@
+//! The door: from words and a source to a status and the bytes of standard output and standard error.
+//!
+//! Comes in: the words of a command line, a source, two sinks and a gate. Goes out: a status. What holds in
+//! between: the nodes own pieces of the array and exchange letters, and what they print is the meaning of the
+//! text; every answer that isn't the outcome of the text has a fault that was counted in this call, or is want
+//! of memory.
+#![tactic(auto)]
+
+mod blocks;
+mod message;
+mod section;
+
+pub use message::first_message;
