@@ -8,6 +8,9 @@
 
 mod blocks;
 mod message;
+mod node;
+mod outbox;
+mod piece;
 mod section;
 
 pub use message::first_message;

@@ -4,9 +4,11 @@ use Rattle.hpf_base.proofs.Sections.{range_with_len-more}
 use Rattle.hpf_run.proofs.section.Section.positions.Goals as goal
 
 pub loop-position-preserved : goal.loop-position-preserved
-loop-position-preserved c =
-    (c.in_ok-push.ensures.items ∙ ap (λ xs. xs ++ c.loop-position.position ∷ []) c.loop-position.invariant.0
-      ∙ sym (range_with_len-more c.args.self.first c.loop-position.position (omega arith)), omega arith)
+loop-position-preserved c = (
+  c.in_ok-push.ensures.items ∙ ap (λ xs. xs ++ c.loop-position.position ∷ []) c.loop-position.invariant.0
+      ∙ sym (range_with_len-more c.args.self.first c.loop-position.position (omega arith)),
+  omega arith,
+)
 
 pub returns : goal.returns
 returns c =
