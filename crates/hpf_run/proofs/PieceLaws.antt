@@ -6,16 +6,17 @@ use Rattle.std.proofs.lemmas.List.FromFn.{length-range_with_len, get_or-range_wi
 use Rattle.std.proofs.lemmas.List.Elements.{filter_passes}
 use Rattle.std.specs.Int.{div_ceil}
 use Rattle.std.specs.List.{range_with_len}
-use Rattle.std.specs.Prelude.{All, filter}
+use Rattle.std.specs.Prelude.{All, IsSomeAnd, Some, filter, slice_get}
 use Rattle.hpf_base.specs.LocalOrder.{owned, piece_of}
 use Rattle.hpf_base.specs.Owner.{block_line, coordinate, default_block}
 use Rattle.hpf_base.specs.Positions.{element, in_section, positions, section}
-use Rattle.hpf_base.proofs.Blocks.{coordinate-within, coordinate-unique, default_block-some}
-use Rattle.hpf_base.proofs.Sections.{All-range, map-agree, map-range_agree, section-join}
+use Rattle.hpf_base.proofs.Blocks.{coordinate-within, default_block-all, default_block-some}
+use Rattle.hpf_base.proofs.Sections.{All-range, filter-positions, map-agree, map-range_agree, section-join, slice_get-map-range}
 use Rattle.hpf_reader.specs.declared.first.FirstStmt.{FirstStmt}
 use Rattle.hpf_run.specs.declared.section.Section.{Section}
 use Rattle.hpf_run.specs.Message.{message_of, needs}
-use Rattle.hpf_run.specs.Pieces.{letter_of, letters_of, values_needed}
+use Rattle.hpf_run.proofs.Needs.{message-section}
+use Rattle.hpf_run.specs.Pieces.{letter_of, letters_of, outboxes_of, shared}
 
 -- a position that the sender owns lies in its block
 sent_within : (extent procs from j : ℕ) (needed other : Bool) → 1 ≤ j
@@ -32,8 +33,8 @@ message-owned extent procs from to stmt k d below =
     let line = block_line extent procs in
     let test : ℕ → Bool = λ j. needs line stmt to j && (not (coordinate line j == to) && (coordinate line j == from)) in
     let inside : (1 ≤ get_or (message_of line stmt from to) k d) × (get_or (message_of line stmt from to) k d ≤ extent) =
-          All-filter test (λ j. (1 ≤ j) × (j ≤ extent)) (positions extent)
-            (All-range (λ j. (1 ≤ j) × (j ≤ extent)) 1 (extent + 1 - 1) (λ j low high. (low, omega arith))) k d below in
+    All-filter test (λ j. (1 ≤ j) × (j ≤ extent)) (positions extent)
+    (All-range (λ j. (1 ≤ j) × (j ≤ extent)) 1 (extent + 1 - 1) (λ j low high. (low, omega arith))) k d below in
     let within = sent_within extent procs from (get_or (message_of line stmt from to) k d) _ _ inside.0 (filter_passes test (positions extent) k d below) in
     (omega (arith, within.0), omega (arith, within.1, inside.1))
 
@@ -50,12 +51,12 @@ pub letter-values : (extent procs from to size : ℕ) (block : Section) (xs piec
     → section block.first block.last ≡ owned (block_line extent procs) from
     → piece ≡ piece_of (block_line extent procs) xs from
     → map (λ j. get_or piece (j - block.first) (pos 0)) (message_of (block_line extent procs) stmt from to)
-      ≡ map (element xs) (message_of (block_line extent procs) stmt from to)
+    ≡ map (element xs) (message_of (block_line extent procs) stmt from to)
 letter-values extent procs from to size block xs piece stmt size_is block_first block_last is_owned piece_is =
     map-agree _ _ _ (λ k d below.
-      let inside = message-owned extent procs from to stmt k d below in
-      value-at block.first block.last xs piece (piece_is ∙ ap (map (element xs)) (sym is_owned)) _
-        (rw (block_first, size_is) inside.0) (rw (block_last, size_is) inside.1))
+    let inside = message-owned extent procs from to stmt k d below in
+    value-at block.first block.last xs piece (piece_is ∙ ap (map (element xs)) (sym is_owned)) _
+    (rw (block_first, size_is) inside.0) (rw (block_last, size_is) inside.1))
 
 -- every position of a message lies inside the sender's piece
 pub letter-fits : (extent procs from to size count : ℕ) (block : Section) (stmt : FirstStmt)
@@ -69,3 +70,72 @@ letter-fits extent procs from to size count block stmt size_is block_first block
     let high : get_or (message_of (block_line extent procs) stmt from to) k d ≤ block.last = rw (block_last, size_is) inside.1 in
     let long : count ≡ block.last + 1 - block.first = sized ∙ ap length (sym is_owned) ∙ length-range_with_len block.first (block.last + 1 - block.first) in
     (low, omega arith)
+
+-- the values of a part of a node's own block
+pub own-values : (block part : Section) (xs piece : List ℤ) → piece ≡ map (element xs) (section block.first block.last)
+    → block.first ≤ part.first → part.last ≤ block.last
+    → map (λ j. get_or piece (j - block.first) (pos 0)) (section part.first part.last) ≡ map (element xs) (section part.first part.last)
+own-values block part xs piece is low high =
+    map-range_agree _ _ part.first (part.last + 1 - part.first)
+    (λ j above below. value-at block.first block.last xs piece is j (omega arith) (omega arith))
+
+pub own-fits : (block part : Section) (count : ℕ) → count ≡ block.last + 1 - block.first → block.first ≤ part.first → part.last ≤ block.last
+    → All (λ j. (block.first ≤ j) × (j < block.first + count)) (section part.first part.last)
+own-fits block part count long low high =
+    All-range (λ j. (block.first ≤ j) × (j < block.first + count)) part.first (part.last + 1 - part.first) (λ j above below. (omega arith, omega arith))
+
+-- how many a node owns
+pub owned-count : (extent procs node : ℕ) (block : Section) → section block.first block.last ≡ owned (block_line extent procs) node
+    → (count : ℕ) → count ≡ length (owned (block_line extent procs) node) → count ≡ block.last + 1 - block.first
+owned-count extent procs node block is_owned count sized =
+    sized ∙ ap length (sym is_owned) ∙ length-range_with_len block.first (block.last + 1 - block.first)
+
+-- what a section and a block have in common, as the code makes it
+pub common-bounds : (need block part : Section) → part ≡ record { first = max need.first block.first; last = min need.last block.last }
+    → (block.first ≤ part.first) × (part.last ≤ block.last)
+common-bounds need block part is = rw is (omega arith, omega arith)
+
+pub common-shared : (extent size node : ℕ) (need block part : Section) → part ≡ record { first = max need.first block.first; last = min need.last block.last }
+    → block.first ≡ node * size + 1 → block.last ≡ min ((node + 1) * size) extent
+    → section part.first part.last ≡ shared need extent size node
+common-shared extent size node need block part is first last =
+    ap (λ s. section s.first s.last) is
+    ∙ ap (λ n. section (max need.first n) (min need.last block.last)) first
+    ∙ ap (λ n. section (max need.first (node * size + 1)) (min need.last n)) last
+
+-- what is needed of the blocks before one, and of that one
+pub shared-more : (extent size node : ℕ) (need : Section) → need.last ≤ extent
+    → section need.first (min need.last (node * size)) ++ shared need extent size node ≡ section need.first (min need.last ((node + 1) * size))
+shared-more extent size node need ends =
+    let last : min need.last (min ((node + 1) * size) extent) ≡ min need.last ((node + 1) * size) = omega arith in
+    ap (λ n. section need.first (min need.last (node * size)) ++ section (max need.first (node * size + 1)) n) last
+    ∙ section-join need.first need.last (node * size) ((node + 1) * size) (omega arith)
+
+-- all blocks together hold what is needed
+pub shared-all : (extent nodes size : ℕ) (need : Section) (stmt : FirstStmt) (node : ℕ) → size ≡ default_block extent nodes → 1 ≤ nodes
+    → 1 ≤ need.first → need.last ≤ extent
+    → ((j : ℕ) → needs (block_line extent nodes) stmt node j ≡ in_section need.first need.last j)
+    → section need.first (min need.last (nodes * size)) ≡ filter (needs (block_line extent nodes) stmt node) (positions extent)
+shared-all extent nodes size need stmt node size_is some begins ends needed =
+    let all : extent ≤ nodes * size = rw size_is (default_block-all extent nodes some) in
+    let last : min need.last (nodes * size) ≡ need.last = omega arith in
+    ap (section need.first) last
+    ∙ sym (filter-positions (needs (block_line extent nodes) stmt node) extent need.first need.last begins ends (λ j low high. needed j))
+
+-- what stands in the letter from another node
+pub letter-read : (extent procs from node size : ℕ) (need : Section) (stmt : FirstStmt) (xs : List ℤ) (outboxes : List (List (List ℤ))) (values : List ℤ)
+    → size ≡ default_block extent procs → from < procs → node < procs → (from ≡ node → ⊥) → 1 ≤ need.first → need.last ≤ extent
+    → ((j : ℕ) → needs (block_line extent procs) stmt node j ≡ in_section need.first need.last j)
+    → outboxes ≡ outboxes_of (block_line extent procs) stmt xs
+    → IsSomeAnd (slice_get outboxes from) (λ letters. slice_get letters node ≡ Some values)
+    → values ≡ map (element xs) (shared need extent size from)
+letter-read extent procs from node size need stmt xs outboxes values size_is from_below node_below apart begins ends needed sent found =
+    let line = block_line extent procs in
+    let letters : slice_get outboxes from ≡ Some (letters_of line stmt xs from) =
+    ap (λ o. slice_get o from) sent ∙ slice_get-map-range (letters_of line stmt xs) procs from from_below in
+    let here : slice_get (letters_of line stmt xs from) node ≡ Some values = rw letters at found in
+    let same : Some values ≡ Some (letter_of line stmt xs from node) = sym here ∙ slice_get-map-range (letter_of line stmt xs from) procs node node_below in
+    let value : values ≡ letter_of line stmt xs from node = cc in
+    value ∙ cond-false (from == node) [] _ (ne_eqb from node apart)
+    ∙ ap (map (element xs)) (sym (message-section extent procs from node need.first need.last stmt apart begins ends needed)
+    ∙ ap (λ n. section (max need.first (from * n + 1)) (min need.last (min ((from + 1) * n) extent))) (sym size_is))

@@ -1,10 +1,11 @@
 -- What a node does with its piece of the array.
-use Rattle.std.specs.Prelude.{◌≡◌, ℕ, ◌+◌, ◌-◌, ℤ, pos, ◌==◌, List, [], ◌++◌, length, take, drop, map, filter, if◌then◌else◌}
+use Rattle.std.specs.Prelude.{◌≡◌, ℕ, ◌+◌, ◌-◌, ◌*◌, ℤ, max, min, ◌==◌, List, [], ◌++◌, length, take, drop, map, filter, if◌then◌else◌}
 use Rattle.hpf_base.specs.declared.mapping.Line.{Line}
 use Rattle.hpf_base.specs.Owner.{block_line}
 use Rattle.hpf_base.specs.LocalOrder.{pieces_of}
-use Rattle.hpf_base.specs.Positions.{element, positions}
+use Rattle.hpf_base.specs.Positions.{element, positions, section}
 use Rattle.hpf_reader.specs.declared.first.FirstStmt.{FirstStmt}
+use Rattle.hpf_run.specs.declared.section.Section.{Section}
 use Rattle.hpf_run.specs.Message.{message_of, needs}
 use Rattle.std.specs.List.{range_with_len}
 
@@ -19,6 +20,14 @@ letter_of line stmt xs from to = if from == to then [] else map (element xs) (me
 -- a node's letters, by target
 abbrev pub letters_of : Line → FirstStmt → List ℤ → ℕ → List (List ℤ)
 letters_of line stmt xs from = map (letter_of line stmt xs from) (range_with_len 0 line.procs)
+
+-- the letters of all nodes, by source
+abbrev pub outboxes_of : Line → FirstStmt → List ℤ → List (List (List ℤ))
+outboxes_of line stmt xs = map (letters_of line stmt xs) (range_with_len 0 line.procs)
+
+-- what of a section lies in a node's block
+abbrev pub shared : Section → ℕ → ℕ → ℕ → List ℕ
+shared need extent size node = section (max need.first (node * size + 1)) (min need.last (min ((node + 1) * size) extent))
 
 -- the values that a node needs, in array-element order
 abbrev pub values_needed : Line → FirstStmt → List ℤ → ℕ → List ℤ

@@ -12,5 +12,6 @@ mod node;
 mod outbox;
 mod piece;
 mod section;
+mod store;
 
 pub use message::first_message;

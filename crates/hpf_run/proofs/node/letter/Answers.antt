@@ -6,7 +6,7 @@ use Rattle.hpf_run.proofs.node.letter.Goals as goal
 pub values_at-requires : goal.values_at-requires
 values_at-requires c =
     rw (c.deref.ensures.value, c.in_ok-positions.ensures)
-      (letter-fits c.args.blocks.extent c.args.blocks.nodes c.args.from c.args.to c.args.blocks.size _ c.block.result c.args.stmt.now c.args.blocks.size_is c.block.ensures.first c.block.ensures.last c.block.ensures.owned c.requires.sized)
+    (letter-fits c.args.blocks.extent c.args.blocks.nodes c.args.from c.args.to c.args.blocks.size _ c.block.result c.args.stmt.now c.args.blocks.size_is c.block.ensures.first c.block.ensures.last c.block.ensures.owned c.requires.sized)
 
 pub returns : goal.returns
 returns c = λ xs is.

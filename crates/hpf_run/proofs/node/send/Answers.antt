@@ -6,4 +6,4 @@ use Rattle.hpf_run.proofs.node.send.Goals as goal
 pub loop-to-preserved : goal.loop-to-preserved
 loop-to-preserved c = λ xs is.
     map-range_push (letter_of (block_line c.args.blocks.extent c.args.blocks.nodes) c.args.stmt.now xs c.args.node) c.loop-to.letters.items c.push.new.self.items c.in_ok-letter.field-0 c.loop-to.to
-      c.in_ok-push.ensures.items (c.loop-to.invariant xs is) (c.in_ok-letter.ensures xs is)
+    c.in_ok-push.ensures.items (c.loop-to.invariant xs is) (c.in_ok-letter.ensures xs is)

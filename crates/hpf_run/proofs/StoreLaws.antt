@@ -1,0 +1,91 @@
+-- A node's piece behind a statement.
+use Rattle.std.proofs.Common.{◌≡◌, ℕ, zero, suc, ◌+◌, ◌-◌, ◌*◌, ◌<◌, ◌≤◌, ◌⊎◌, inl, inr, Bool, true, false, List, [], ◌∷◌, ◌++◌, length, map, refl, sym, ◌∙◌, ap, arith, min, max, ℤ, pos, get_or, take, drop, replicate}
+use Rattle.std.proofs.lemmas.Bool.{cases_lt, cond-false, cond-true, and_left, and_right, lt-leb}
+use Rattle.std.proofs.lemmas.List.{append_assoc, drop_at, map-append}
+use Rattle.std.proofs.lemmas.List.FromFn.{get_or-map-range_with_len, length-map-range_with_len, length-range_with_len, take-map-range_with_len}
+use Rattle.std.specs.Int.{int_wrapping_add, w64}
+use Rattle.std.specs.List.{range_with_len}
+use Rattle.std.specs.Prelude.{filter}
+use Rattle.array_meaning.specs.First.{array_after, element_after}
+use Rattle.hpf_base.specs.LocalOrder.{owned, piece_of}
+use Rattle.hpf_base.specs.Owner.{block_line, default_block}
+use Rattle.hpf_base.specs.Positions.{element, in_section, positions, section}
+use Rattle.hpf_base.proofs.Sections.{in_section_holds, map-range_agree, map-range_shifted, range_with_len-add}
+use Rattle.hpf_reader.specs.declared.first.FirstStmt.{FirstStmt}
+use Rattle.hpf_reader.specs.declared.first.FirstStmt.TheVariants.{Fill, Shift, Show}
+use Rattle.hpf_run.specs.declared.section.Section.{Section}
+use Rattle.hpf_run.specs.Pieces.{overwritten}
+
+-- the array behind a statement, element by element
+pub element-after : (stmt : FirstStmt) (xs : List ℤ) (j : ℕ) → 1 ≤ j → j ≤ length xs → element (array_after stmt xs) j ≡ element_after stmt xs j
+element-after stmt xs j low high =
+    get_or-map-range_with_len (element_after stmt xs) 1 (length xs + 1 - 1) (j - 1) j (pos 0) (omega arith) (omega arith)
+
+-- outside its section a statement leaves an element
+pub in_section-outside : (a b j : ℕ) → (j < a) ⊎ (b < j) → in_section a b j ≡ false
+in_section-outside a b j (inl below) = and_left _ _ (lt-leb a j below)
+in_section-outside a b j (inr above) = and_right _ _ (lt-leb j b above)
+
+-- the values of a function at a list of numbers in two parts
+in_parts : (f : ℕ → ℤ) (a n m : ℕ) → map f (range_with_len a (n + m)) ≡ map f (range_with_len a n) ++ map f (range_with_len (a + n) m)
+in_parts f a n m = ap (map f) (range_with_len-add a n m) ∙ map-append f (range_with_len a n) (range_with_len (a + n) m)
+
+-- a list of values of a function, with values of another written over a part of it, outside which the two agree
+pub overwritten-range : (f g : ℕ → ℤ) (first k m r : ℕ) (values : List ℤ) → values ≡ map g (range_with_len (first + k) m)
+    → ((j : ℕ) → first ≤ j → j < first + k → f j ≡ g j)
+    → ((j : ℕ) → first + (k + m) ≤ j → j < first + (k + m) + r → f j ≡ g j)
+    → overwritten k values (map f (range_with_len first (k + m + r))) ≡ map g (range_with_len first (k + m + r))
+overwritten-range f g first k m r values is before behind =
+    let long : length values ≡ m = ap length is ∙ length-map-range_with_len g (first + k) m in
+    let front : take k (map f (range_with_len first (k + m + r))) ≡ map g (range_with_len first k) =
+          take-map-range_with_len f first (k + m + r) k (omega arith) ∙ map-range_agree f g first k before in
+    let back : drop (k + length values) (map f (range_with_len first (k + m + r))) ≡ map g (range_with_len (first + (k + m)) r) =
+          ap (λ n. drop (k + n) (map f (range_with_len first (k + m + r)))) long
+          ∙ ap (drop (k + m)) (in_parts f first (k + m) r)
+          ∙ drop_at (map f (range_with_len first (k + m))) (map f (range_with_len (first + (k + m)) r)) (k + m) (length-map-range_with_len f first (k + m))
+          ∙ map-range_agree f g (first + (k + m)) r behind in
+    ap (λ l. l ++ (values ++ drop (k + length values) (map f (range_with_len first (k + m + r))))) front
+    ∙ ap (λ l. map g (range_with_len first k) ++ (values ++ l)) back
+    ∙ ap (λ l. map g (range_with_len first k) ++ (l ++ map g (range_with_len (first + (k + m)) r))) is
+    ∙ sym (append_assoc (map g (range_with_len first k)) (map g (range_with_len (first + k) m)) (map g (range_with_len (first + (k + m)) r)))
+    ∙ ap (λ l. l ++ map g (range_with_len (first + (k + m)) r)) (sym (in_parts g first k m))
+    ∙ sym (in_parts g first (k + m) r)
+
+-- what a node holds of an array whose elements are the values of a function
+module _ (extent procs node : ℕ) (block : Section) (is_owned : section block.first block.last ≡ owned (block_line extent procs) node)
+    (begins : 1 ≤ block.first) (ends : block.last ≤ extent) where
+  -- the piece behind a statement, by the function that gives its elements
+  piece-after : (stmt : FirstStmt) (xs : List ℤ) → length xs ≡ extent
+      → piece_of (block_line extent procs) (array_after stmt xs) node ≡ map (element_after stmt xs) (section block.first block.last)
+  piece-after stmt xs long =
+      ap (map (element (array_after stmt xs))) (sym is_owned)
+      ∙ map-range_agree _ _ block.first (block.last + 1 - block.first) (λ j low high. element-after stmt xs j (omega arith) (omega arith))
+
+  -- a piece that the statement leaves as it is
+  pub piece-kept : (stmt : FirstStmt) (xs piece : List ℤ) → length xs ≡ extent → piece ≡ piece_of (block_line extent procs) xs node
+      → ((j : ℕ) → block.first ≤ j → j ≤ block.last → element xs j ≡ element_after stmt xs j)
+      → piece ≡ piece_of (block_line extent procs) (array_after stmt xs) node
+  piece-kept stmt xs piece long is kept =
+      is ∙ ap (map (element xs)) (sym is_owned)
+      ∙ map-range_agree _ _ block.first (block.last + 1 - block.first) (λ j low high. kept j low (omega arith))
+      ∙ sym (piece-after stmt xs long)
+
+  -- a piece over which the statement's values are written
+  pub piece-stored : (stmt : FirstStmt) (xs piece values : List ℤ) (a b : ℕ) → block.first ≤ a → a ≤ b → b ≤ block.last
+      → length xs ≡ extent → piece ≡ piece_of (block_line extent procs) xs node
+      → values ≡ map (element_after stmt xs) (section a b)
+      → ((j : ℕ) → block.first ≤ j → j ≤ block.last → (j < a) ⊎ (b < j) → element xs j ≡ element_after stmt xs j)
+      → overwritten (a - block.first) values piece ≡ piece_of (block_line extent procs) (array_after stmt xs) node
+  piece-stored stmt xs piece values a b low some high long is values_are kept =
+      let k : ℕ = a - block.first in
+      let m : ℕ = b + 1 - a in
+      let r : ℕ = block.last - b in
+      let count : block.last + 1 - block.first ≡ k + m + r = omega arith in
+      let at : a ≡ block.first + k = omega arith in
+      ap (overwritten k values) (is ∙ ap (map (element xs)) (sym is_owned) ∙ ap (λ n. map (element xs) (range_with_len block.first n)) count)
+      ∙ overwritten-range (element xs) (element_after stmt xs) block.first k m r values
+        (values_are ∙ ap (λ n. map (element_after stmt xs) (range_with_len n m)) at)
+        (λ j above below. kept j above (omega arith) (inl (omega arith)))
+        (λ j above below. kept j (omega arith) (omega arith) (inr (omega arith)))
+      ∙ ap (λ n. map (element_after stmt xs) (range_with_len block.first n)) (sym count)
+      ∙ sym (piece-after stmt xs long)
