@@ -1,8 +1,9 @@
 -- A node's piece behind a statement.
 use Rattle.std.proofs.Common.{◌≡◌, ℕ, zero, suc, ◌+◌, ◌-◌, ◌*◌, ◌<◌, ◌≤◌, ◌⊎◌, inl, inr, Bool, true, false, List, [], ◌∷◌, ◌++◌, length, map, refl, sym, ◌∙◌, ap, arith, min, max, ℤ, pos, get_or, take, drop, replicate}
 use Rattle.std.proofs.lemmas.Bool.{cases_lt, cond-false, cond-true, and_left, and_right, lt-leb}
-use Rattle.std.proofs.lemmas.List.{append_assoc, drop_at, map-append}
+use Rattle.std.proofs.lemmas.List.{append_assoc, drop_at, length-map, map-append}
 use Rattle.std.proofs.lemmas.List.FromFn.{get_or-map-range_with_len, length-map-range_with_len, length-range_with_len, take-map-range_with_len}
+use Rattle.std.proofs.lemmas.Simd.{map-map}
 use Rattle.std.specs.Int.{int_wrapping_add, w64}
 use Rattle.std.specs.List.{range_with_len}
 use Rattle.std.specs.Prelude.{filter}
@@ -10,11 +11,14 @@ use Rattle.array_meaning.specs.First.{array_after, element_after}
 use Rattle.hpf_base.specs.LocalOrder.{owned, piece_of}
 use Rattle.hpf_base.specs.Owner.{block_line, default_block}
 use Rattle.hpf_base.specs.Positions.{element, in_section, positions, section}
-use Rattle.hpf_base.proofs.Sections.{in_section_holds, map-range_agree, map-range_shifted, range_with_len-add}
+use Rattle.hpf_base.proofs.Sections.{filter-positions, in_section_holds, map-range_agree, map-range_shifted, range_with_len-add}
+use Rattle.hpf_reader.specs.FirstValid.{IsWithin}
 use Rattle.hpf_reader.specs.declared.first.FirstStmt.{FirstStmt}
 use Rattle.hpf_reader.specs.declared.first.FirstStmt.TheVariants.{Fill, Shift, Show}
 use Rattle.hpf_run.specs.declared.section.Section.{Section}
-use Rattle.hpf_run.specs.Pieces.{overwritten}
+use Rattle.hpf_run.specs.Message.{needs}
+use Rattle.hpf_run.specs.Pieces.{overwritten, shared, values_needed}
+use Rattle.hpf_run.proofs.Needs.{needs-shift}
 
 -- the array behind a statement, element by element
 pub element-after : (stmt : FirstStmt) (xs : List ℤ) (j : ℕ) → 1 ≤ j → j ≤ length xs → element (array_after stmt xs) j ≡ element_after stmt xs j
@@ -89,3 +93,101 @@ module _ (extent procs node : ℕ) (block : Section) (is_owned : section block.f
         (λ j above below. kept j (omega arith) (omega arith) (inr (omega arith)))
       ∙ ap (λ n. map (element_after stmt xs) (range_with_len block.first n)) (sym count)
       ∙ sym (piece-after stmt xs long)
+
+-- a list of one value
+replicate-map : (value : ℤ) (a n : ℕ) → replicate n value ≡ map (λ _. value) (range_with_len a n)
+replicate-map value a zero = refl
+replicate-map value a (suc n) = ap (λ l. value ∷ l) (replicate-map value (a + 1) n)
+
+-- a position of a block that holds nothing of a section stands outside the section
+pub outside_block : (a b first last j : ℕ) → min b last < max a first → first ≤ j → j ≤ last → (j < a) ⊎ (b < j)
+outside_block a b first last j none low high = cases (cases_lt j a) (cases_lt b j)
+    where
+      cases : (j < a) ⊎ (a ≤ j) → (b < j) ⊎ (j ≤ b) → (j < a) ⊎ (b < j)
+      cases (inl below) _ = inl below
+      cases (inr above) (inl behind) = inr behind
+      cases (inr above) (inr upto) = absurd (omega arith)
+
+-- a position of a block outside what the block has in common with a section stands outside the section
+pub outside_common : (a b first last j : ℕ) → first ≤ j → j ≤ last → (j < max a first) ⊎ (min b last < j) → (j < a) ⊎ (b < j)
+outside_common a b first last j low high (inl below) = inl (omega arith)
+outside_common a b first last j low high (inr above) = inr (omega arith)
+
+-- the same for ends that are given
+pub outside_is : (a b a' b' j : ℕ) → a ≡ a' → b ≡ b' → (j < a) ⊎ (b < j) → (j < a') ⊎ (b' < j)
+outside_is a b a' b' j low high (inl below) = inl (omega arith)
+outside_is a b a' b' j low high (inr above) = inr (omega arith)
+
+-- the values of a filled part
+pub filled-values : (line a b c d : ℕ) (value : ℤ) (xs : List ℤ) → a ≤ c → d ≤ b
+    → replicate (d + 1 - c) value ≡ map (element_after (Fill line a b value) xs) (section c d)
+filled-values line a b c d value xs low high =
+    replicate-map value c (d + 1 - c)
+    ∙ map-range_agree _ _ c (d + 1 - c) (λ j above below.
+      sym (cond-true (in_section a b j) value (element xs j) (in_section_holds a b j (omega arith) (omega arith))))
+
+-- elements outside the left side stay
+pub fill-leaves : (line a b j : ℕ) (value : ℤ) (xs : List ℤ) → (j < a) ⊎ (b < j) → element xs j ≡ element_after (Fill line a b value) xs j
+fill-leaves line a b j value xs out = sym (cond-false (in_section a b j) value (element xs j) (in_section-outside a b j out))
+
+pub shift-leaves : (line a b from j : ℕ) (add : ℤ) (xs : List ℤ) → (j < a) ⊎ (b < j) → element xs j ≡ element_after (Shift line a b from add) xs j
+shift-leaves line a b from j add xs out = sym (cond-false (in_section a b j) (int_wrapping_add w64 (element xs (from + (j - a))) add) (element xs j) (in_section-outside a b j out))
+
+-- what a node needs for a shift, where it owns something of the left side: a section that is shifted
+pub needed-shift : (extent procs node at a b from : ℕ) (add : ℤ) → IsWithin extent (Shift at a b from add)
+    → (let size = default_block extent procs in
+       let c = max a (node * size + 1) in
+       let d = min b (min ((node + 1) * size) extent) in
+       c ≤ d → filter (needs (block_line extent procs) (Shift at a b from add) node) (positions extent) ≡ map (λ j. from + (j - a)) (section c d))
+needed-shift extent procs node at a b from add within some =
+    let size : ℕ = default_block extent procs in
+    let c : ℕ = max a (node * size + 1) in
+    let d : ℕ = min b (min ((node + 1) * size) extent) in
+    let count : from + (d - a) + 1 - (from + (c - a)) ≡ d + 1 - c = omega arith in
+    filter-positions (needs (block_line extent procs) (Shift at a b from add) node) extent (from + (c - a)) (from + (d - a))
+      (omega (arith, within.1.begins)) (omega (arith, within.1.ends))
+      (λ j low high. needs-shift extent procs node at a b from add (from + (c - a)) (from + (d - a)) within.0
+        ((λ less. absurd (omega arith)), (λ more. (omega arith, omega arith))) j)
+    ∙ ap (range_with_len (from + (c - a))) count
+    ∙ sym (map-range_shifted c (from + (c - a)) (d + 1 - c) (λ j. from + (j - a)) (λ j low high. omega arith))
+
+-- the sums that a shift stores, of the values that it needs
+pub shifted-values : (extent procs node at a b from : ℕ) (add : ℤ) (xs values : List ℤ) (c d : ℕ) → IsWithin extent (Shift at a b from add)
+    → c ≡ max a (node * default_block extent procs + 1) → d ≡ min b (min ((node + 1) * default_block extent procs) extent) → c ≤ d
+    → values ≡ values_needed (block_line extent procs) (Shift at a b from add) xs node
+    → map (λ value. int_wrapping_add w64 value add) values ≡ map (element_after (Shift at a b from add) xs) (section c d)
+shifted-values extent procs node at a b from add xs values c d within first last some values_are =
+    let sum : ℤ → ℤ = λ value. int_wrapping_add w64 value add in
+    let read : ℕ → ℕ = λ j. from + (j - a) in
+    let needed : filter (needs (block_line extent procs) (Shift at a b from add) node) (positions extent) ≡ map read (section c d) =
+          rw (first, last) (needed-shift extent procs node at a b from add within (omega arith)) in
+    ap (map sum) (values_are ∙ ap (map (element xs)) needed ∙ map-map (element xs) read (section c d))
+    ∙ map-map sum (λ j. element xs (read j)) (section c d)
+    ∙ map-range_agree _ _ c (d + 1 - c) (λ j above below.
+      sym (cond-true (in_section a b j) (sum (element xs (read j))) (element xs j) (in_section_holds a b j (omega arith) (omega arith))))
+
+-- a node needs for a shift as many values as it stores
+pub shifted-count : (extent procs node at a b from : ℕ) (add : ℤ) (size : ℕ) (left : Section) (xs values : List ℤ) → IsWithin extent (Shift at a b from add)
+    → size ≡ default_block extent procs → left ≡ record { first = a; last = b }
+    → values ≡ values_needed (block_line extent procs) (Shift at a b from add) xs node
+    → length values ≡ length (shared left extent size node)
+shifted-count extent procs node at a b from add size left xs values within size_is left_is values_are =
+    ap length values_are
+    ∙ length-map (filter (needs (block_line extent procs) (Shift at a b from add) node) (positions extent)) (element xs)
+    ∙ cases (cases_lt d c)
+    ∙ rw (left_is, size_is) refl
+    where
+      c : ℕ
+      c = max a (node * default_block extent procs + 1)
+      d : ℕ
+      d = min b (min ((node + 1) * default_block extent procs) extent)
+      cases : (d < c) ⊎ (c ≤ d)
+          → length (filter (needs (block_line extent procs) (Shift at a b from add) node) (positions extent)) ≡ length (section c d)
+      cases (inl none) =
+          let empty : d + 1 - c ≡ 0 = omega arith in
+          ap length (filter-positions (needs (block_line extent procs) (Shift at a b from add) node) extent 1 0 (omega arith) (omega arith)
+            (λ j low high. needs-shift extent procs node at a b from add 1 0 within.0 ((λ less. (refl, refl)), (λ more. absurd (omega arith))) j))
+          ∙ sym (ap (λ n. length (range_with_len c n)) empty)
+      cases (inr some) =
+          ap length (needed-shift extent procs node at a b from add within some)
+          ∙ length-map (section c d) (λ j. from + (j - a))

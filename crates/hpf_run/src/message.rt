@@ -20,7 +20,7 @@ fn read_by(computed: Section, first: u64, from: u64) -> Section
     ensures none { computed.last < computed.first → result ≡ record { first = 1; last = 0 } }
     ensures some { computed.first ≤ computed.last → (result.first + first ≡ from + computed.first) × (result.last + first ≡ from + computed.last) }
 {
-    if computed.is_empty() {
+    if computed.last < computed.first {
         return Section::empty();
     }
     Section {

@@ -1,6 +1,6 @@
 //! Sections of positions.
 
-ghost use Rattle.std.specs.Prelude.{◌≡◌, ◌+◌, ◌-◌, ◌^◌, ◌<◌, ◌↔◌, IsTrue, max, min, IfOk};
+ghost use Rattle.std.specs.Prelude.{◌≡◌, ◌+◌, ◌-◌, ◌^◌, ◌<◌, max, min, IfOk};
 ghost use Rattle.hpf_base.specs.Positions.{section};
 
 use hpf_base::OutOfMemory;
@@ -19,12 +19,6 @@ impl Section {
         ensures { result ≡ record { first = 1; last = 0 } }
     {
         Section { first: 1, last: 0 }
-    }
-
-    pub fn is_empty(self) -> bool
-        ensures { IsTrue result ↔ (self.last < self.first) }
-    {
-        self.last < self.first
     }
 
     /// What stands in both sections.

@@ -6,6 +6,7 @@ ghost use Rattle.hpf_base.specs.LocalOrder.{owned, piece_of};
 ghost use Rattle.hpf_base.specs.Owner.{block_line};
 ghost use Rattle.array_meaning.specs.First.{array_after};
 ghost use Rattle.hpf_reader.specs.FirstForm.{IsInside};
+ghost use Rattle.hpf_reader.specs.FirstValid.{IsWithin};
 ghost use Rattle.hpf_reader.specs.declared.first.FirstStmt.TheVariants.{Fill, Shift};
 ghost use Rattle.hpf_run.specs.Pieces.{shared, values_needed};
 
@@ -25,7 +26,7 @@ pub fn fill(blocks: Blocks, piece: &mut Piece, node: u32, first: u64, last: u64,
 {
     let block = blocks.block(node);
     let computed = Section { first, last }.common(block);
-    if computed.is_empty() {
+    if computed.last < computed.first {
         return;
     }
     let place = (computed.first - block.first) as usize;
@@ -59,13 +60,13 @@ pub fn store(
     requires inside { IsInside blocks.extent left.first left.last }
     requires sized { length piece.old ≡ length (owned (block_line blocks.extent blocks.nodes) node) }
     requires counted { length values.now ≡ length (shared left blocks.extent blocks.size node) }
-    ensures { (line from : ℕ) (xs : List ℤ) → length xs ≡ blocks.extent → piece.old ≡ piece_of (block_line blocks.extent blocks.nodes) xs node
+    ensures { (line from : ℕ) (xs : List ℤ) → IsWithin blocks.extent (Shift line left.first left.last from add) → length xs ≡ blocks.extent → piece.old ≡ piece_of (block_line blocks.extent blocks.nodes) xs node
         → values.now ≡ values_needed (block_line blocks.extent blocks.nodes) (Shift line left.first left.last from add) xs node
         → OnOk result (piece.new ≡ piece_of (block_line blocks.extent blocks.nodes) (array_after (Shift line left.first left.last from add) xs) node) }
 {
     let block = blocks.block(node);
     let computed = left.common(block);
-    if computed.is_empty() {
+    if computed.last < computed.first {
         return Ok(());
     }
     let sums = sums(alloc, values, add)?;
