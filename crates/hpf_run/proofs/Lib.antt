@@ -1,3 +1,4 @@
 pub mod Needs
+pub mod NodeLaws
 pub mod PieceLaws
 pub mod StoreLaws

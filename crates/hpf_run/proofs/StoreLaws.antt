@@ -42,12 +42,12 @@ pub overwritten-range : (f g : ℕ → ℤ) (first k m r : ℕ) (values : List �
 overwritten-range f g first k m r values is before behind =
     let long : length values ≡ m = ap length is ∙ length-map-range_with_len g (first + k) m in
     let front : take k (map f (range_with_len first (k + m + r))) ≡ map g (range_with_len first k) =
-          take-map-range_with_len f first (k + m + r) k (omega arith) ∙ map-range_agree f g first k before in
+    take-map-range_with_len f first (k + m + r) k (omega arith) ∙ map-range_agree f g first k before in
     let back : drop (k + length values) (map f (range_with_len first (k + m + r))) ≡ map g (range_with_len (first + (k + m)) r) =
-          ap (λ n. drop (k + n) (map f (range_with_len first (k + m + r)))) long
-          ∙ ap (drop (k + m)) (in_parts f first (k + m) r)
-          ∙ drop_at (map f (range_with_len first (k + m))) (map f (range_with_len (first + (k + m)) r)) (k + m) (length-map-range_with_len f first (k + m))
-          ∙ map-range_agree f g (first + (k + m)) r behind in
+    ap (λ n. drop (k + n) (map f (range_with_len first (k + m + r)))) long
+    ∙ ap (drop (k + m)) (in_parts f first (k + m) r)
+    ∙ drop_at (map f (range_with_len first (k + m))) (map f (range_with_len (first + (k + m)) r)) (k + m) (length-map-range_with_len f first (k + m))
+    ∙ map-range_agree f g (first + (k + m)) r behind in
     ap (λ l. l ++ (values ++ drop (k + length values) (map f (range_with_len first (k + m + r))))) front
     ∙ ap (λ l. map g (range_with_len first k) ++ (values ++ l)) back
     ∙ ap (λ l. map g (range_with_len first k) ++ (l ++ map g (range_with_len (first + (k + m)) r))) is
@@ -88,9 +88,9 @@ module _ (extent procs node : ℕ) (block : Section) (is_owned : section block.f
       let at : a ≡ block.first + k = omega arith in
       ap (overwritten k values) (is ∙ ap (map (element xs)) (sym is_owned) ∙ ap (λ n. map (element xs) (range_with_len block.first n)) count)
       ∙ overwritten-range (element xs) (element_after stmt xs) block.first k m r values
-        (values_are ∙ ap (λ n. map (element_after stmt xs) (range_with_len n m)) at)
-        (λ j above below. kept j above (omega arith) (inl (omega arith)))
-        (λ j above below. kept j (omega arith) (omega arith) (inr (omega arith)))
+      (values_are ∙ ap (λ n. map (element_after stmt xs) (range_with_len n m)) at)
+      (λ j above below. kept j above (omega arith) (inl (omega arith)))
+      (λ j above below. kept j (omega arith) (omega arith) (inr (omega arith)))
       ∙ ap (λ n. map (element_after stmt xs) (range_with_len block.first n)) (sym count)
       ∙ sym (piece-after stmt xs long)
 
@@ -102,11 +102,11 @@ replicate-map value a (suc n) = ap (λ l. value ∷ l) (replicate-map value (a +
 -- a position of a block that holds nothing of a section stands outside the section
 pub outside_block : (a b first last j : ℕ) → min b last < max a first → first ≤ j → j ≤ last → (j < a) ⊎ (b < j)
 outside_block a b first last j none low high = cases (cases_lt j a) (cases_lt b j)
-    where
-      cases : (j < a) ⊎ (a ≤ j) → (b < j) ⊎ (j ≤ b) → (j < a) ⊎ (b < j)
-      cases (inl below) _ = inl below
-      cases (inr above) (inl behind) = inr behind
-      cases (inr above) (inr upto) = absurd (omega arith)
+  where
+    cases : (j < a) ⊎ (a ≤ j) → (b < j) ⊎ (j ≤ b) → (j < a) ⊎ (b < j)
+    cases (inl below) _ = inl below
+    cases (inr above) (inl behind) = inr behind
+    cases (inr above) (inr upto) = absurd (omega arith)
 
 -- a position of a block outside what the block has in common with a section stands outside the section
 pub outside_common : (a b first last j : ℕ) → first ≤ j → j ≤ last → (j < max a first) ⊎ (min b last < j) → (j < a) ⊎ (b < j)
@@ -124,7 +124,7 @@ pub filled-values : (line a b c d : ℕ) (value : ℤ) (xs : List ℤ) → a ≤
 filled-values line a b c d value xs low high =
     replicate-map value c (d + 1 - c)
     ∙ map-range_agree _ _ c (d + 1 - c) (λ j above below.
-      sym (cond-true (in_section a b j) value (element xs j) (in_section_holds a b j (omega arith) (omega arith))))
+    sym (cond-true (in_section a b j) value (element xs j) (in_section_holds a b j (omega arith) (omega arith))))
 
 -- elements outside the left side stay
 pub fill-leaves : (line a b j : ℕ) (value : ℤ) (xs : List ℤ) → (j < a) ⊎ (b < j) → element xs j ≡ element_after (Fill line a b value) xs j
@@ -136,18 +136,18 @@ shift-leaves line a b from j add xs out = sym (cond-false (in_section a b j) (in
 -- what a node needs for a shift, where it owns something of the left side: a section that is shifted
 pub needed-shift : (extent procs node at a b from : ℕ) (add : ℤ) → IsWithin extent (Shift at a b from add)
     → (let size = default_block extent procs in
-       let c = max a (node * size + 1) in
-       let d = min b (min ((node + 1) * size) extent) in
-       c ≤ d → filter (needs (block_line extent procs) (Shift at a b from add) node) (positions extent) ≡ map (λ j. from + (j - a)) (section c d))
+    let c = max a (node * size + 1) in
+    let d = min b (min ((node + 1) * size) extent) in
+    c ≤ d → filter (needs (block_line extent procs) (Shift at a b from add) node) (positions extent) ≡ map (λ j. from + (j - a)) (section c d))
 needed-shift extent procs node at a b from add within some =
     let size : ℕ = default_block extent procs in
     let c : ℕ = max a (node * size + 1) in
     let d : ℕ = min b (min ((node + 1) * size) extent) in
     let count : from + (d - a) + 1 - (from + (c - a)) ≡ d + 1 - c = omega arith in
     filter-positions (needs (block_line extent procs) (Shift at a b from add) node) extent (from + (c - a)) (from + (d - a))
-      (omega (arith, within.1.begins)) (omega (arith, within.1.ends))
-      (λ j low high. needs-shift extent procs node at a b from add (from + (c - a)) (from + (d - a)) within.0
-        ((λ less. absurd (omega arith)), (λ more. (omega arith, omega arith))) j)
+    (omega (arith, within.1.begins)) (omega (arith, within.1.ends))
+    (λ j low high. needs-shift extent procs node at a b from add (from + (c - a)) (from + (d - a)) within.0
+    ((λ less. absurd (omega arith)), (λ more. (omega arith, omega arith))) j)
     ∙ ap (range_with_len (from + (c - a))) count
     ∙ sym (map-range_shifted c (from + (c - a)) (d + 1 - c) (λ j. from + (j - a)) (λ j low high. omega arith))
 
@@ -160,11 +160,11 @@ shifted-values extent procs node at a b from add xs values c d within first last
     let sum : ℤ → ℤ = λ value. int_wrapping_add w64 value add in
     let read : ℕ → ℕ = λ j. from + (j - a) in
     let needed : filter (needs (block_line extent procs) (Shift at a b from add) node) (positions extent) ≡ map read (section c d) =
-          rw (first, last) (needed-shift extent procs node at a b from add within (omega arith)) in
+    rw (first, last) (needed-shift extent procs node at a b from add within (omega arith)) in
     ap (map sum) (values_are ∙ ap (map (element xs)) needed ∙ map-map (element xs) read (section c d))
     ∙ map-map sum (λ j. element xs (read j)) (section c d)
     ∙ map-range_agree _ _ c (d + 1 - c) (λ j above below.
-      sym (cond-true (in_section a b j) (sum (element xs (read j))) (element xs j) (in_section_holds a b j (omega arith) (omega arith))))
+    sym (cond-true (in_section a b j) (sum (element xs (read j))) (element xs j) (in_section_holds a b j (omega arith) (omega arith))))
 
 -- a node needs for a shift as many values as it stores
 pub shifted-count : (extent procs node at a b from : ℕ) (add : ℤ) (size : ℕ) (left : Section) (xs values : List ℤ) → IsWithin extent (Shift at a b from add)
@@ -176,18 +176,20 @@ shifted-count extent procs node at a b from add size left xs values within size_
     ∙ length-map (filter (needs (block_line extent procs) (Shift at a b from add) node) (positions extent)) (element xs)
     ∙ cases (cases_lt d c)
     ∙ rw (left_is, size_is) refl
-    where
-      c : ℕ
-      c = max a (node * default_block extent procs + 1)
-      d : ℕ
-      d = min b (min ((node + 1) * default_block extent procs) extent)
-      cases : (d < c) ⊎ (c ≤ d)
-          → length (filter (needs (block_line extent procs) (Shift at a b from add) node) (positions extent)) ≡ length (section c d)
-      cases (inl none) =
-          let empty : d + 1 - c ≡ 0 = omega arith in
-          ap length (filter-positions (needs (block_line extent procs) (Shift at a b from add) node) extent 1 0 (omega arith) (omega arith)
-            (λ j low high. needs-shift extent procs node at a b from add 1 0 within.0 ((λ less. (refl, refl)), (λ more. absurd (omega arith))) j))
-          ∙ sym (ap (λ n. length (range_with_len c n)) empty)
-      cases (inr some) =
-          ap length (needed-shift extent procs node at a b from add within some)
-          ∙ length-map (section c d) (λ j. from + (j - a))
+  where
+    c : ℕ
+    c = max a (node * default_block extent procs + 1)
+
+    d : ℕ
+    d = min b (min ((node + 1) * default_block extent procs) extent)
+
+    cases : (d < c) ⊎ (c ≤ d)
+        → length (filter (needs (block_line extent procs) (Shift at a b from add) node) (positions extent)) ≡ length (section c d)
+    cases (inl none) =
+        let empty : d + 1 - c ≡ 0 = omega arith in
+        ap length (filter-positions (needs (block_line extent procs) (Shift at a b from add) node) extent 1 0 (omega arith) (omega arith)
+        (λ j low high. needs-shift extent procs node at a b from add 1 0 within.0 ((λ less. (refl, refl)), (λ more. absurd (omega arith))) j))
+        ∙ sym (ap (λ n. length (range_with_len c n)) empty)
+    cases (inr some) =
+        ap length (needed-shift extent procs node at a b from add within some)
+        ∙ length-map (section c d) (λ j. from + (j - a))

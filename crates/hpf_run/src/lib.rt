@@ -9,6 +9,7 @@
 mod blocks;
 mod message;
 mod node;
+mod nodes;
 mod outbox;
 mod piece;
 mod section;

@@ -15,8 +15,8 @@ returns-then-computed c = λ line from xs within long is values_are.
     let last : c.common-computed.result.last ≡ min c.args.left.last c.block-block.result.last = ap (λ s. s.last) c.common-computed.ensures in
     let none : min c.args.left.last c.block-block.result.last < max c.args.left.first c.block-block.result.first = omega arith in
     piece-kept c.args.blocks.extent c.args.blocks.nodes c.args.node c.block-block.result c.block-block.ensures.owned
-      (omega (arith, c.block-block.ensures.first)) (omega (arith, c.block-block.ensures.last)) (Shift line c.args.left.first c.args.left.last from c.args.add) xs c.args.piece.now long is
-      (λ j low high. shift-leaves line c.args.left.first c.args.left.last from j c.args.add xs (outside_block _ _ _ _ j none low high))
+    (omega (arith, c.block-block.ensures.first)) (omega (arith, c.block-block.ensures.last)) (Shift line c.args.left.first c.args.left.last from c.args.add) xs c.args.piece.now long is
+    (λ j low high. shift-leaves line c.args.left.first c.args.left.last from j c.args.add xs (outside_block _ _ _ _ j none low high))
 
 pub store-requires : goal.store-requires
 store-requires c =
@@ -24,9 +24,9 @@ store-requires c =
     let last : c.common-computed.result.last ≡ min c.args.left.last c.block-block.result.last = ap (λ s. s.last) c.common-computed.ensures in
     let count = owned-count c.args.blocks.extent c.args.blocks.nodes c.args.node c.block-block.result c.block-block.ensures.owned _ c.requires.sized in
     let sums : length c.deref.result.now ≡ c.common-computed.result.last + 1 - c.common-computed.result.first =
-          ap length (c.deref.ensures.value ∙ c.in_ok-sums.ensures) ∙ length-map c.args.values.now _ ∙ c.requires.counted
-          ∙ sym (ap length (common-shared c.args.blocks.extent c.args.blocks.size c.args.node c.args.left c.block-block.result c.common-computed.result c.common-computed.ensures c.block-block.ensures.first c.block-block.ensures.last))
-          ∙ length-range_with_len c.common-computed.result.first (c.common-computed.result.last + 1 - c.common-computed.result.first) in
+    ap length (c.deref.ensures.value ∙ c.in_ok-sums.ensures) ∙ length-map c.args.values.now _ ∙ c.requires.counted
+    ∙ sym (ap length (common-shared c.args.blocks.extent c.args.blocks.size c.args.node c.args.left c.block-block.result c.common-computed.result c.common-computed.ensures c.block-block.ensures.first c.block-block.ensures.last))
+    ∙ length-range_with_len c.common-computed.result.first (c.common-computed.result.last + 1 - c.common-computed.result.first) in
     omega (arith, count)
 
 pub returns : goal.returns
@@ -35,11 +35,11 @@ returns c = λ line from xs within long is values_are.
     let last : c.common-computed.result.last ≡ min c.args.left.last c.block-block.result.last = ap (λ s. s.last) c.common-computed.ensures in
     c.store.ensures
     ∙ ap (λ vs. overwritten (c.common-computed.result.first - c.block-block.result.first) vs c.args.piece.now)
-      (c.deref.ensures.value ∙ c.in_ok-sums.ensures ∙ ap (λ n. map (λ v. int_wrapping_add w64 v n) c.args.values.now) (to_z-of_z w64 c.args.add c.ranges.add))
+    (c.deref.ensures.value ∙ c.in_ok-sums.ensures ∙ ap (λ n. map (λ v. int_wrapping_add w64 v n) c.args.values.now) (to_z-of_z w64 c.args.add c.ranges.add))
     ∙ piece-stored c.args.blocks.extent c.args.blocks.nodes c.args.node c.block-block.result c.block-block.ensures.owned
-      (omega (arith, c.block-block.ensures.first)) (omega (arith, c.block-block.ensures.last)) (Shift line c.args.left.first c.args.left.last from c.args.add) xs c.args.piece.now _
-      c.common-computed.result.first c.common-computed.result.last (omega arith) (omega arith) (omega arith) long is
-      (shifted-values c.args.blocks.extent c.args.blocks.nodes c.args.node line c.args.left.first c.args.left.last from c.args.add xs c.args.values.now c.common-computed.result.first c.common-computed.result.last within
-        (first ∙ rw (c.block-block.ensures.first, c.args.blocks.size_is) refl) (last ∙ rw (c.block-block.ensures.last, c.args.blocks.size_is) refl) (omega arith) values_are)
-      (λ j low high out. shift-leaves line c.args.left.first c.args.left.last from j c.args.add xs
-        (outside_common c.args.left.first c.args.left.last c.block-block.result.first c.block-block.result.last j low high (outside_is _ _ _ _ j first last out)))
+    (omega (arith, c.block-block.ensures.first)) (omega (arith, c.block-block.ensures.last)) (Shift line c.args.left.first c.args.left.last from c.args.add) xs c.args.piece.now _
+    c.common-computed.result.first c.common-computed.result.last (omega arith) (omega arith) (omega arith) long is
+    (shifted-values c.args.blocks.extent c.args.blocks.nodes c.args.node line c.args.left.first c.args.left.last from c.args.add xs c.args.values.now c.common-computed.result.first c.common-computed.result.last within
+    (first ∙ rw (c.block-block.ensures.first, c.args.blocks.size_is) refl) (last ∙ rw (c.block-block.ensures.last, c.args.blocks.size_is) refl) (omega arith) values_are)
+    (λ j low high out. shift-leaves line c.args.left.first c.args.left.last from j c.args.add xs
+    (outside_common c.args.left.first c.args.left.last c.block-block.result.first c.block-block.result.last j low high (outside_is _ _ _ _ j first last out)))

@@ -1,0 +1,57 @@
+//! The nodes of a run, stepped in rotation.
+
+ghost use Rattle.std.specs.Prelude.{◌≡◌, ℕ, ◌+◌, ◌<◌, ◌≤◌, ℤ, List, ◌∷◌, [], ◌++◌, All, length, map, replicate, pos, IfOk, OnOk};
+ghost use Rattle.std.specs.Fmt.{signed_decimal};
+ghost use Rattle.hpf_base.specs.LocalOrder.{pieces_of};
+ghost use Rattle.hpf_base.specs.Owner.{block_line};
+ghost use Rattle.hpf_base.specs.Positions.{element};
+ghost use Rattle.array_meaning.specs.First.{after, array_after, printed_by};
+ghost use Rattle.hpf_reader.specs.FirstForm.{IsInside};
+ghost use Rattle.hpf_reader.specs.FirstValid.{IsWithin};
+ghost use Rattle.hpf_reader.specs.declared.first.FirstStmt.TheVariants.{Fill, Shift, Show};
+ghost use Rattle.hpf_run.specs.Pieces.{Holds, outboxes_of};
+
+use crate::blocks::Blocks;
+use crate::node::{send, take};
+use crate::outbox::Outbox;
+use crate::piece::Piece;
+use crate::section::Section;
+use crate::store::{fill, store};
+use hpf_base::OutOfMemory;
+use hpf_reader::FirstStmt;
+use itoa::Buffer;
+use std::alloc::Global;
+use std::marker::Model;
+
+/// Each node in turn fills what it owns of a section.
+fn fill_all(blocks: Blocks, pieces: &mut [Piece], first: u64, last: u64, value: i64)
+    requires inside { IsInside blocks.extent first last }
+    requires held { (xs : List ℤ) × (length xs ≡ blocks.extent) × (pieces.old ≡ pieces_of (block_line blocks.extent blocks.nodes) xs) }
+    ensures { (line : ℕ) (xs : List ℤ) → length xs ≡ blocks.extent → pieces.old ≡ pieces_of (block_line blocks.extent blocks.nodes) xs
+        → pieces.new ≡ pieces_of (block_line blocks.extent blocks.nodes) (array_after (Fill line first last value) xs) }
+{
+    for node in 0..blocks.nodes {
+        let piece = &mut pieces[node as usize];
+        fill(blocks, piece, node, first, last, value);
+    }
+}
+
+/// Each node in turn sends its letters for a statement.
+fn send_all(
+    alloc: Global,
+    blocks: Blocks,
+    stmt: &FirstStmt,
+    pieces: &[Piece],
+) -> Result<Vec<Outbox>, OutOfMemory>
+    requires within { IsWithin blocks.extent stmt.now }
+    requires held { (xs : List ℤ) × (pieces.now ≡ pieces_of (block_line blocks.extent blocks.nodes) xs) }
+    ensures { (xs : List ℤ) → pieces.now ≡ pieces_of (block_line blocks.extent blocks.nodes) xs
+        → IfOk result (λ outboxes. outboxes.items ≡ outboxes_of (block_line blocks.extent blocks.nodes) stmt.now xs) }
+{
+    let mut outboxes = Vec::new(alloc);
+    for node in 0..blocks.nodes {
+        let piece = &pieces[node as usize];
+        outboxes.push(send(alloc, blocks, stmt, piece, node)?)?;
+    }
+    Ok(outboxes)
+}
