@@ -19,13 +19,13 @@ bounds-pieces-node c =
 pub fill-requires-clause-sized : goal.fill-requires-clause-sized
 fill-requires-clause-sized c =
     piece-sized c.args.blocks.extent c.args.blocks.nodes c.loop-node.node c.requires.held.0 _
-      (stepped-here _ _ _ _ _ (c.loop-node.invariant 0 c.requires.held.0 c.requires.held.1 c.requires.held.2) c.loop-node-test.true c.index-pieces-node.result)
+    (stepped-here _ _ _ _ _ (c.loop-node.invariant 0 c.requires.held.0 c.requires.held.1 c.requires.held.2) c.loop-node-test.true c.index-pieces-node.result)
 
 pub loop-node-preserved : goal.loop-node-preserved
 loop-node-preserved c = λ line xs long is.
     let stepped = c.loop-node.invariant line xs long is in
     stepped-more _ _ _ _ _ _ stepped c.loop-node-test.true
-      (c.fill.ensures line xs long (stepped-here _ _ _ _ _ stepped c.loop-node-test.true c.index-pieces-node.result))
+    (c.fill.ensures line xs long (stepped-here _ _ _ _ _ stepped c.loop-node-test.true c.index-pieces-node.result))
 
 pub returns : goal.returns
 returns c = λ line xs long is.

@@ -1,0 +1,8 @@
+use Rattle.std.proofs.Common.{◌≡◌, ◌<◌, ◌∙◌, ap, arith, sym, length}
+use Rattle.hpf_run.proofs.NodeLaws.{pieces-count, stepped-all, stepped-here, stepped-more, stepped-none}
+use Rattle.hpf_run.proofs.nodes.shift_all.Goals as goal
+
+pub bounds-pieces-node : goal.bounds-pieces-node
+bounds-pieces-node c =
+    let count = pieces-count c.args.blocks.extent c.args.blocks.nodes c.requires.held.0 c.args.pieces.now c.requires.held.2 in
+    omega (arith, count)
