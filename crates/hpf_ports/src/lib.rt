@@ -12,10 +12,9 @@ mod read;
 mod sink;
 mod source;
 mod standard;
-mod write;
-
 #[cfg(test)]
 mod tests;
+mod write;
 
 pub use gate::{Gate, OpenGate};
 pub use mem::{MemSink, MemSource};

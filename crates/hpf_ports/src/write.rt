@@ -6,7 +6,9 @@ ghost use Rattle.hpf_ports.specs.Ports.{Took, Rose};
 use crate::sink::Sink;
 use crate::source::Failed;
 
-/// Writes all of `bytes`. It takes no memory, and no bytes need no call of the sink.
+/// Writes all of `bytes`, in order. It answers `Failed` where a write failed, and the sink then holds what it
+/// held before and a front of `bytes` that isn't all of them. It takes no memory, and no bytes need no call of
+/// the sink.
 pub fn write_all<O: Sink>(out: &mut O, bytes: &[u8]) -> Result<(), Failed>
     ensures ok { OnOk result (Took (O.held out.old) (O.held out.new) bytes.now) }
 
@@ -16,5 +18,9 @@ pub fn write_all<O: Sink>(out: &mut O, bytes: &[u8]) -> Result<(), Failed>
 
     ensures count { O.faults out.old ≤ O.faults out.new }
 {
-    todo
+    let mut done = 0;
+    while done < bytes.len() {
+        done += out.write(&bytes[done..])?;
+    }
+    Ok(())
 }
