@@ -1,2 +1,4 @@
+pub mod FirstBody
 pub mod FirstForm
+pub mod FirstReading
 pub mod FirstRefusal
