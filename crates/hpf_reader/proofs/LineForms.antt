@@ -121,8 +121,8 @@ record IsTarget (line : List ℕ) (name extent first last : ℕ) (bytes : List �
   last_numeral : IsNumeral last_digits last
   spelled : line ≡ spelled_section name first_digits last_digits ++ codes " = " ++ bytes
 
-five : (a b c d e : List ℕ) → a ++ b ++ (c ++ d ++ e) ≡ a ++ b ++ c ++ d ++ e
-five a b c d e = simp append_assoc
+grouped_left : (a b c d e : List ℕ) → a ++ b ++ (c ++ d ++ e) ≡ a ++ b ++ c ++ d ++ e
+grouped_left a b c d e = simp append_assoc
 
 shift_found : (name extent number first last from : ℕ) (add : ℤ) (line : List ℕ) (s : IsShift line name extent first last from add) → shift_at name extent number first last (spelled_section name s.from_digits s.to_digits ++ codes " + " ++ s.digits) ≡ Some (Shift number first last from add)
 unfolding shift_at
@@ -159,7 +159,7 @@ shift_sound name extent number first last line bytes target =
         add_is = refl;
         digits = r;
         numeral = v;
-        spelled = target.spelled ∙ ap (λ (b : List ℕ). spelled_section name target.first_digits target.last_digits ++ codes " = " ++ b) (w.5 ∙ ap (λ (b : List ℕ). spelled_section name w.0 w.2 ++ b) e ∙ sym (append_assoc (spelled_section name w.0 w.2) (codes " + ") r)) ∙ five (spelled_section name target.first_digits target.last_digits) (codes " = ") (spelled_section name w.0 w.2) (codes " + ") r;
+        spelled = target.spelled ∙ ap (λ (b : List ℕ). spelled_section name target.first_digits target.last_digits ++ codes " = " ++ b) (w.5 ∙ ap (λ (b : List ℕ). spelled_section name w.0 w.2 ++ b) e ∙ sym (append_assoc (spelled_section name w.0 w.2) (codes " + ") r)) ∙ grouped_left (spelled_section name target.first_digits target.last_digits) (codes " = ") (spelled_section name w.0 w.2) (codes " + ") r;
       },
     )))))
 
@@ -227,7 +227,7 @@ statement_found name extent number line (Fill at first last value) letter (e, w)
     ∙ rw (whole_found w.digits w.number w.numeral, ← w.value_is, e) refl
 statement_found name extent number line (Shift at first last from add) letter (e, w) =
     let right = spelled_section name w.from_digits w.to_digits ++ codes " + " ++ w.digits in
-    let grouped : line ≡ spelled_section name w.first_digits w.last_digits ++ codes " = " ++ right = w.spelled ∙ sym (five (spelled_section name w.first_digits w.last_digits) (codes " = ") (spelled_section name w.from_digits w.to_digits) (codes " + ") w.digits) in
+    let grouped : line ≡ spelled_section name w.first_digits w.last_digits ++ codes " = " ++ right = w.spelled ∙ sym (grouped_left (spelled_section name w.first_digits w.last_digits) (codes " = ") (spelled_section name w.from_digits w.to_digits) (codes " + ") w.digits) in
     ap (statement_at name extent number) grouped ∙ assigned name extent number first last w.first_digits w.last_digits right w.first_numeral w.last_numeral w.inside
     ∙ rw (no_number name _ letter, shift_found name extent number first last from add line w, e) refl
 statement_found name extent number line (Show at place) letter (e, w) =

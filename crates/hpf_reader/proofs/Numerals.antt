@@ -14,17 +14,17 @@ use Rattle.hpf_reader.specs.FirstForm.{IsNumeral}
 use Rattle.hpf_reader.specs.FirstReading.{digit_count, number_at, whole_number}
 use Rattle.hpf_reader.proofs.Texts.{Ifs, bind_holds, test_holds}
 
-own : IsNumeralModel (λ ds. all_ascii_digits ds ≡ true) (digits_value 10)
-own = numerals_by_value _ tells_all_ascii_digits
+decimals : IsNumeralModel (λ ds. all_ascii_digits ds ≡ true) (digits_value 10)
+decimals = numerals_by_value _ tells_all_ascii_digits
 
 pub digit_below : (ds : List ℕ) (i : ℕ) → all_ascii_digits ds ≡ true → i < length ds → 48 ≤ get_or ds i 0
-digit_below ds i all lt = (digit_at ds i (own.to ds all) lt).0
+digit_below ds i all lt = (digit_at ds i (decimals.to ds all) lt).0
 
 pub value_small : (ds : List ℕ) (i : ℕ) → all_ascii_digits ds ≡ true → length ds ≤ 9 → digits_value 10 (take i ds) < 10 ^ 9
-value_small ds i all few = omega (arith, digits_value-take-le 10 ds i (omega arith), digits_value_short own ds 9 all few)
+value_small ds i all few = omega (arith, digits_value-take-le 10 ds i (omega arith), digits_value_short decimals ds 9 all few)
 
 pub value_step : (ds : List ℕ) (i : ℕ) → all_ascii_digits ds ≡ true → i < length ds → digits_value 10 (take (i + 1) ds) + 48 ≡ digits_value 10 (take i ds) * 10 + get_or ds i 0
-value_step ds i all lt = omega (arith, digits_value_more 10 ds i lt, digit_value_digit (get_or ds i 0) (digit_at ds i (own.to ds all) lt))
+value_step ds i all lt = omega (arith, digits_value_more 10 ds i lt, digit_value_digit (get_or ds i 0) (digit_at ds i (decimals.to ds all) lt))
 
 pub digits_taken : (bytes : List ℕ) → all_ascii_digits (take (digit_count bytes) bytes) ≡ true
 digits_taken [] = refl

@@ -73,6 +73,7 @@ pub(crate) fn is_end(line: &[u8]) -> bool
     line == b"END".as_slice()
 }
 
+/// `PRINT *, X(place)`, with this line number.
 #[tactic(auto, unfolding(crate::specs::FirstReading::show_at))]
 fn show(name: u8, extent: u64, number: u32, line: &[u8]) -> Option<FirstStmt>
     ensures { Sees (λ x. x) result (show_at name extent number line.now) }
@@ -89,6 +90,7 @@ fn show(name: u8, extent: u64, number: u32, line: &[u8]) -> Option<FirstStmt>
     }
 }
 
+/// `X(from:to) + add` to a section as long as that one.
 #[tactic(auto, unfolding(crate::specs::FirstReading::shift_at))]
 fn shift(
     name: u8,
@@ -117,6 +119,7 @@ fn shift(
     }
 }
 
+/// `value`, or `X(from:to) + add`.
 #[tactic(auto, unfolding(crate::specs::FirstReading::right_side_at))]
 fn right_side(
     name: u8,
@@ -140,6 +143,7 @@ fn right_side(
     }
 }
 
+/// `X(first:last) = ` and a right side.
 #[tactic(auto, unfolding(crate::specs::FirstReading::assignment_at))]
 fn assignment(name: u8, extent: u64, number: u32, line: &[u8]) -> Option<FirstStmt>
     ensures { Sees (λ x. x) result (assignment_at name extent number line.now) }
