@@ -1,0 +1,5 @@
+pub mod Texts
+pub mod Numerals
+pub mod LineForms
+pub mod FirstPlaces
+pub mod OneReading

@@ -1,3 +1,5 @@
+pub mod FirstBody
 pub mod FirstForm
+pub mod FirstReading
 pub mod FirstRefusal
 pub mod FirstValid

@@ -5,7 +5,11 @@
 //! at the stated line exactly where it isn't.
 #![tactic(auto)]
 
+mod body;
 mod first;
+mod line_forms;
+mod line_split;
+mod numeral;
 mod reading;
 #[cfg(test)]
 mod tests;
