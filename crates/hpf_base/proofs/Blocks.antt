@@ -1,5 +1,5 @@
 -- What a processor owns under BLOCK is a section.
-use Rattle.std.proofs.Common.{◌≡◌, ℕ, zero, suc, ◌+◌, ◌-◌, ◌*◌, ◌<◌, ◌≤◌, ◌==◌, Bool, true, refl, sym, ◌∙◌, arith, min, max, eq-eqb}
+use Rattle.std.proofs.Common.{◌≡◌, ℕ, zero, suc, ◌+◌, ◌-◌, ◌*◌, ◌<◌, ◌≤◌, ◌==◌, true, sym, arith, min, eq-eqb}
 use Rattle.std.proofs.Math.Nat.{lt_of_mul-lt-mul_right, mul-le-mul_left, mul_comm}
 use Rattle.std.proofs.lemmas.Bool.{eqb-true}
 use Rattle.std.proofs.lemmas.Grind.{div_ceil_times}
@@ -43,18 +43,20 @@ pub owned-block : (extent procs q : ℕ)
     → section (q * default_block extent procs + 1) (min ((q + 1) * default_block extent procs) extent) ≡ owned (block_line extent procs) q
 owned-block extent procs q = sym
     (filter-positions (λ j. coordinate (block_line extent procs) j == q) extent (q * size + 1) (min ((q + 1) * size) extent)
-      (omega arith) (omega arith) (λ j begins ends. same_test _ _ (inside j begins ends) (found j begins)))
-    where
-      size : ℕ
-      size = default_block extent procs
-      inside : (j : ℕ) → 1 ≤ j → j ≤ extent → (coordinate (block_line extent procs) j == q) ≡ true
-          → in_section (q * size + 1) (min ((q + 1) * size) extent) j ≡ true
-      inside j begins ends e =
-          let is : div_ceil j size - 1 ≡ q = eqb-true _ _ e in
-          let within = coordinate-within size j (default_block-some extent procs) begins in
-          in_section_holds _ _ j (omega (arith, rw is at within.0)) (omega (arith, rw is at within.1))
-      found : (j : ℕ) → 1 ≤ j → in_section (q * size + 1) (min ((q + 1) * size) extent) j ≡ true
-          → (coordinate (block_line extent procs) j == q) ≡ true
-      found j begins e =
-          let within = in_section_true _ _ j e in
-          eq-eqb _ _ (coordinate-unique size j q (default_block-some extent procs) begins (omega (arith, within.0)) (omega (arith, within.1)))
+    (omega arith) (omega arith) (λ j begins ends. same_test _ _ (inside j begins ends) (found j begins)))
+  where
+    size : ℕ
+    size = default_block extent procs
+
+    inside : (j : ℕ) → 1 ≤ j → j ≤ extent → (coordinate (block_line extent procs) j == q) ≡ true
+        → in_section (q * size + 1) (min ((q + 1) * size) extent) j ≡ true
+    inside j begins ends e =
+        let is : div_ceil j size - 1 ≡ q = eqb-true _ _ e in
+        let within = coordinate-within size j (default_block-some extent procs) begins in
+        in_section_holds _ _ j (omega (arith, rw is at within.0)) (omega (arith, rw is at within.1))
+
+    found : (j : ℕ) → 1 ≤ j → in_section (q * size + 1) (min ((q + 1) * size) extent) j ≡ true
+        → (coordinate (block_line extent procs) j == q) ≡ true
+    found j begins e =
+        let within = in_section_true _ _ j e in
+        eq-eqb _ _ (coordinate-unique size j q (default_block-some extent procs) begins (omega (arith, within.0)) (omega (arith, within.1)))

@@ -57,16 +57,16 @@ filter-range_front true lo n a b rest e is =
     let count : min (lo + suc n) (b + 1) - max lo a ≡ suc (min (lo + 1 + n) (b + 1) - max (lo + 1) a) = omega arith in
     rw (is, count, next) (ap (λ k. k ∷ range_with_len (max lo a + 1) (min (lo + 1 + n) (b + 1) - (max lo a + 1))) at)
 filter-range_front false lo n a b rest e is = outside (in_section_false a b lo e)
-    where
-      outside : (lo < a) ⊎ (b < lo) → rest ≡ range_with_len (max lo a) (min (lo + suc n) (b + 1) - max lo a)
-      outside (inl below) =
-          let at : max (lo + 1) a ≡ max lo a = omega arith in
-          let count : min (lo + 1 + n) (b + 1) ≡ min (lo + suc n) (b + 1) = omega arith in
-          rw (is, at, count) refl
-      outside (inr above) =
-          let none : min (lo + 1 + n) (b + 1) - max (lo + 1) a ≡ 0 = omega arith in
-          let none' : min (lo + suc n) (b + 1) - max lo a ≡ 0 = omega arith in
-          rw (is, none, none') refl
+  where
+    outside : (lo < a) ⊎ (b < lo) → rest ≡ range_with_len (max lo a) (min (lo + suc n) (b + 1) - max lo a)
+    outside (inl below) =
+        let at : max (lo + 1) a ≡ max lo a = omega arith in
+        let count : min (lo + 1 + n) (b + 1) ≡ min (lo + suc n) (b + 1) = omega arith in
+        rw (is, at, count) refl
+    outside (inr above) =
+        let none : min (lo + 1 + n) (b + 1) - max (lo + 1) a ≡ 0 = omega arith in
+        let none' : min (lo + suc n) (b + 1) - max lo a ≡ 0 = omega arith in
+        rw (is, none, none') refl
 
 -- a test that is true in a section keeps of a list of numbers what stands in the section
 pub filter-range : (P : ℕ → Bool) (lo n a b : ℕ) → ((j : ℕ) → lo ≤ j → j < lo + n → P j ≡ in_section a b j)
@@ -76,7 +76,7 @@ filter-range P lo zero a b same =
 filter-range P lo (suc n) a b same =
     ap (λ t. cond t (lo ∷ filter P (range_with_len (lo + 1) n)) (filter P (range_with_len (lo + 1) n))) (same lo (omega arith) (omega arith))
     ∙ filter-range_front (in_section a b lo) lo n a b (filter P (range_with_len (lo + 1) n)) refl
-      (filter-range P (lo + 1) n a b (λ j l u. same j (omega arith) (omega arith)))
+    (filter-range P (lo + 1) n a b (λ j l u. same j (omega arith) (omega arith)))
 
 -- a test that is true in a section of the positions keeps that section
 pub filter-positions : (P : ℕ → Bool) (extent a b : ℕ) → 1 ≤ a → b ≤ extent
@@ -90,23 +90,23 @@ filter-positions P extent a b begins ends same =
 -- the part of a section up to one place, and then that up to a further place
 pub section-join : (a b k k' : ℕ) → k ≤ k' → section a (min b k) ++ section (max a (k + 1)) (min b k') ≡ section a (min b k')
 section-join a b k k' order = cases (cases_lt k a) (cases_lt b k)
-    where
-      cases : (k < a) ⊎ (a ≤ k) → (b < k) ⊎ (k ≤ b)
-          → section a (min b k) ++ section (max a (k + 1)) (min b k') ≡ section a (min b k')
-      cases (inl before) _ =
-          let none : min b k + 1 - a ≡ 0 = omega arith in
-          let at : max a (k + 1) ≡ a = omega arith in
-          rw (none, at) refl
-      cases (inr within) (inl all) =
-          let none : min b k' + 1 - max a (k + 1) ≡ 0 = omega arith in
-          let same : min b k ≡ min b k' = omega arith in
-          rw (none, same) (append-nil _)
-      cases (inr within) (inr some) =
-          let first : min b k + 1 - a ≡ k + 1 - a = omega arith in
-          let at : max a (k + 1) ≡ a + (k + 1 - a) = omega arith in
-          let last : min b k' + 1 - (a + (k + 1 - a)) ≡ min b k' - k = omega arith in
-          let whole : min b k' + 1 - a ≡ k + 1 - a + (min b k' - k) = omega arith in
-          rw (first, at, last, whole) (sym (range_with_len-add a (k + 1 - a) (min b k' - k)))
+  where
+    cases : (k < a) ⊎ (a ≤ k) → (b < k) ⊎ (k ≤ b)
+        → section a (min b k) ++ section (max a (k + 1)) (min b k') ≡ section a (min b k')
+    cases (inl before) _ =
+        let none : min b k + 1 - a ≡ 0 = omega arith in
+        let at : max a (k + 1) ≡ a = omega arith in
+        rw (none, at) refl
+    cases (inr within) (inl all) =
+        let none : min b k' + 1 - max a (k + 1) ≡ 0 = omega arith in
+        let same : min b k ≡ min b k' = omega arith in
+        rw (none, same) (append-nil _)
+    cases (inr within) (inr some) =
+        let first : min b k + 1 - a ≡ k + 1 - a = omega arith in
+        let at : max a (k + 1) ≡ a + (k + 1 - a) = omega arith in
+        let last : min b k' + 1 - (a + (k + 1 - a)) ≡ min b k' - k = omega arith in
+        let whole : min b k' + 1 - a ≡ k + 1 - a + (min b k' - k) = omega arith in
+        rw (first, at, last, whole) (sym (range_with_len-add a (k + 1 - a) (min b k' - k)))
 
 -- what holds of each number of a list of numbers
 pub All-range : (P : ℕ → Type 0) (a n : ℕ) → ((j : ℕ) → a ≤ j → j < a + n → P j) → All P (range_with_len a n)
@@ -131,10 +131,10 @@ pub map-range_shifted : (a b n : ℕ) (f : ℕ → ℕ) → ((j : ℕ) → a ≤
 map-range_shifted a b n f shifted = same_lists _ _
     (length-map-range_with_len f a n ∙ sym (length-range_with_len b n))
     (λ k d below.
-      let inside : k < n = omega (arith, length-map-range_with_len f a n) in
-      let at : f (a + k) + a ≡ b + (a + k) = shifted (a + k) (omega arith) (omega arith) in
-      let here : f (a + k) ≡ b + k = omega arith in
-      get_or-map-range_with_len f a n k (a + k) d inside refl ∙ here ∙ sym (get_or-range_with_len b n k d inside))
+    let inside : k < n = omega (arith, length-map-range_with_len f a n) in
+    let at : f (a + k) + a ≡ b + (a + k) = shifted (a + k) (omega arith) (omega arith) in
+    let here : f (a + k) ≡ b + k = omega arith in
+    get_or-map-range_with_len f a n k (a + k) d inside refl ∙ here ∙ sym (get_or-range_with_len b n k d inside))
 
 -- a list that is made of a function of the place has one element more
 pub map-range_push : {Y : Type 0} (f : ℕ → Y) (xs ys : List Y) (y : Y) (n : ℕ) → ys ≡ xs ++ y ∷ [] → xs ≡ map f (range_with_len 0 n) → y ≡ f n

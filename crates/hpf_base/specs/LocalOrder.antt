@@ -1,5 +1,5 @@
 -- What a node holds of an array of one dimension, and in which order.
-use Rattle.std.specs.Prelude.{◌≡◌, ℕ, ℤ, List, ◌==◌, filter, map}
+use Rattle.std.specs.Prelude.{ℕ, ℤ, List, ◌==◌, filter, map}
 use Rattle.hpf_base.specs.declared.mapping.Line.{Line}
 use Rattle.hpf_base.specs.Owner.{coordinate}
 use Rattle.hpf_base.specs.Positions.{positions, element}

@@ -1,5 +1,5 @@
 -- Who owns a position of a distributed dimension (HPF 2.0, DISTRIBUTE).
-use Rattle.std.specs.Prelude.{◌≡◌, ℕ, ◌+◌, ◌-◌, ◌*◌, ◌%◌, ◌^◌, ◌≤◌, ℤ, max, pos, unsigned_abs}
+use Rattle.std.specs.Prelude.{ℕ, ◌-◌, ◌%◌, max, pos}
 use Rattle.std.specs.Int.{div_ceil}
 use Rattle.hpf_base.specs.declared.mapping.Form.{Form}
 use Rattle.hpf_base.specs.declared.mapping.Form.TheVariants.{Whole, Block, Cyclic}

@@ -1,5 +1,5 @@
 -- The lines of a text.
-use Rattle.std.specs.Prelude.{◌≡◌, ℕ, ◌==◌, List, [], ◌∷◌, if◌then◌else◌}
+use Rattle.std.specs.Prelude.{ℕ, ◌==◌, List, [], ◌∷◌, if◌then◌else◌}
 
 -- the same lines, the first with a byte more at its front; where there is no line, that byte alone
 abbrev pub longer_first : ℕ → List (List ℕ) → List (List ℕ)
