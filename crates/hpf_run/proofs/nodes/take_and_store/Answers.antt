@@ -1,4 +1,7 @@
 use Rattle.std.proofs.Common.{◌∙◌, ap, length, refl, subst, sym}
+use Rattle.std.proofs.lemmas.Int.{to_z-of_z}
+use Rattle.std.specs.Int.{w64}
+use Rattle.hpf_reader.specs.declared.first.FirstStmt.TheVariants.{Shift}
 use Rattle.array_meaning.specs.First.{array_after}
 use Rattle.hpf_base.specs.LocalOrder.{piece_of}
 use Rattle.hpf_base.specs.Owner.{block_line}
@@ -27,5 +30,7 @@ pub returns : goal.returns
 returns c = λ xs long is sent.
     c.in_ok-store.ensures c.requires.shift.0 c.requires.shift.1 xs (subst (IsWithin c.args.blocks.extent) c.requires.shift.2 c.requires.within) long is
       (c.deref.ensures.value ∙ c.in_ok-values.ensures xs is sent
-        ∙ ap (λ s. values_needed (block_line c.args.blocks.extent c.args.blocks.nodes) s xs c.args.node) c.requires.shift.2)
-    ∙ ap (λ s. piece_of (block_line c.args.blocks.extent c.args.blocks.nodes) (array_after s xs) c.args.node) (sym c.requires.shift.2)
+        ∙ ap (λ s. values_needed (block_line c.args.blocks.extent c.args.blocks.nodes) s xs c.args.node)
+          (c.requires.shift.2 ∙ sym (ap (Shift c.requires.shift.0 c.args.left.first c.args.left.last c.requires.shift.1) (to_z-of_z w64 c.args.add c.ranges.add))))
+    ∙ ap (λ s. piece_of (block_line c.args.blocks.extent c.args.blocks.nodes) (array_after s xs) c.args.node)
+      (ap (Shift c.requires.shift.0 c.args.left.first c.args.left.last c.requires.shift.1) (to_z-of_z w64 c.args.add c.ranges.add) ∙ sym c.requires.shift.2)
