@@ -12,7 +12,7 @@ use Rattle.hpf_reader.specs.FirstForm.{IsInside}
 use Rattle.hpf_reader.specs.declared.first.FirstStmt.{FirstStmt}
 use Rattle.hpf_reader.specs.declared.first.FirstStmt.TheVariants.{Show}
 use Rattle.hpf_run.specs.Message.{needs}
-use Rattle.hpf_run.specs.Pieces.{letter_of, letters_of, outboxes_of, values_needed}
+use Rattle.hpf_run.specs.Pieces.{Distributed, Holds, letter_of, letters_of, outboxes_of, values_needed}
 use Rattle.hpf_run.proofs.Needs.{needs-show_first}
 use Rattle.hpf_base.specs.LocalOrder.{owned, piece_of, pieces_of}
 use Rattle.hpf_base.specs.Owner.{block_line}
@@ -78,8 +78,8 @@ pub outboxes-each : (extent procs : ℕ) (stmt : FirstStmt) (xs : List ℤ) (out
     → outboxes ≡ outboxes_of (block_line extent procs) stmt xs → All (λ letters. length letters ≡ procs) outboxes
 outboxes-each extent procs stmt xs outboxes is =
     rw is (All-map (λ letters. length letters ≡ procs) (letters_of (block_line extent procs) stmt xs) (range_with_len 0 procs)
-      (All-range (λ from. length (letters_of (block_line extent procs) stmt xs from) ≡ procs) 0 procs
-        (λ from low high. length-map-range_with_len (letter_of (block_line extent procs) stmt xs from) 0 procs)))
+    (All-range (λ from. length (letters_of (block_line extent procs) stmt xs from) ≡ procs) 0 procs
+    (λ from low high. length-map-range_with_len (letter_of (block_line extent procs) stmt xs from) 0 procs)))
 
 -- node 0 needs for PRINT the element that it names
 pub shown-value : (extent procs at place : ℕ) (xs : List ℤ) → IsInside extent place place
@@ -87,5 +87,19 @@ pub shown-value : (extent procs at place : ℕ) (xs : List ℤ) → IsInside ext
 shown-value extent procs at place xs inside =
     let one : place + 1 - place ≡ 1 = omega arith in
     ap (map (element xs)) (filter-positions (needs (block_line extent procs) (Show at place) 0) extent place place inside.begins inside.ends
-      (λ j low high. needs-show_first extent procs at place j)
-      ∙ ap (range_with_len place) one)
+    (λ j low high. needs-show_first extent procs at place j)
+    ∙ ap (range_with_len place) one)
+
+-- nodes that hold an array, from numbers that are equal to theirs
+pub holds-from : (d : Distributed) (xs : List ℤ) (extent nodes : ℕ) → extent ≡ d.extent → nodes ≡ length d.pieces → length xs ≡ extent
+    → d.pieces ≡ pieces_of (block_line extent nodes) xs → Holds d xs
+holds-from d xs extent nodes extent_is nodes_is long is = record {
+  extent = long ∙ extent_is;
+  pieces = is ∙ ap (λ e. pieces_of (block_line e nodes) xs) extent_is ∙ ap (λ n. pieces_of (block_line d.extent n) xs) nodes_is
+}
+
+-- what they hold, by numbers that are equal to theirs
+pub held-pieces : (d : Distributed) (xs : List ℤ) (extent nodes : ℕ) → extent ≡ d.extent → nodes ≡ length d.pieces → Holds d xs
+    → d.pieces ≡ pieces_of (block_line extent nodes) xs
+held-pieces d xs extent nodes extent_is nodes_is holds =
+    holds.pieces ∙ sym (ap (λ e. pieces_of (block_line e nodes) xs) extent_is ∙ ap (λ n. pieces_of (block_line d.extent n) xs) nodes_is)

@@ -1,7 +1,7 @@
 -- A node's piece behind a statement.
 use Rattle.std.proofs.Common.{◌≡◌, ℕ, zero, suc, ◌+◌, ◌-◌, ◌*◌, ◌<◌, ◌≤◌, ◌⊎◌, inl, inr, Bool, true, false, List, [], ◌∷◌, ◌++◌, length, map, refl, sym, ◌∙◌, ap, arith, min, max, ℤ, pos, get_or, take, drop, replicate}
 use Rattle.std.proofs.lemmas.Bool.{cases_lt, cond-false, cond-true, and_left, and_right, lt-leb}
-use Rattle.std.proofs.lemmas.List.{append_assoc, drop_at, length-map, map-append}
+use Rattle.std.proofs.lemmas.List.{append_assoc, drop_at, get_or_default, length-map, map-append, same_lists}
 use Rattle.std.proofs.lemmas.List.FromFn.{get_or-map-range_with_len, length-map-range_with_len, length-range_with_len, take-map-range_with_len}
 use Rattle.std.proofs.lemmas.Simd.{map-map}
 use Rattle.std.specs.Int.{int_wrapping_add, w64}
@@ -95,7 +95,7 @@ module _ (extent procs node : ℕ) (block : Section) (is_owned : section block.f
       ∙ sym (piece-after stmt xs long)
 
 -- a list of one value
-replicate-map : (value : ℤ) (a n : ℕ) → replicate n value ≡ map (λ _. value) (range_with_len a n)
+pub replicate-map : (value : ℤ) (a n : ℕ) → replicate n value ≡ map (λ _. value) (range_with_len a n)
 replicate-map value a zero = refl
 replicate-map value a (suc n) = ap (λ l. value ∷ l) (replicate-map value (a + 1) n)
 
@@ -193,3 +193,27 @@ shifted-count extent procs node at a b from add size left xs values within size_
     cases (inr some) =
         ap length (needed-shift extent procs node at a b from add within some)
         ∙ length-map (section c d) (λ j. from + (j - a))
+
+-- each element of an array of zeros
+zeros-element : (n i : ℕ) → get_or (replicate n (pos 0)) i (pos 0) ≡ pos 0
+zeros-element zero i = refl
+zeros-element (suc n) zero = refl
+zeros-element (suc n) (suc i) = zeros-element n i
+
+-- a node's piece of an array of zeros
+pub zeros-piece : (extent procs node : ℕ) (block : Section) → section block.first block.last ≡ owned (block_line extent procs) node
+    → replicate (block.last + 1 - block.first) (pos 0) ≡ piece_of (block_line extent procs) (replicate extent (pos 0)) node
+zeros-piece extent procs node block is_owned =
+    replicate-map (pos 0) block.first (block.last + 1 - block.first)
+    ∙ map-range_agree _ _ block.first (block.last + 1 - block.first) (λ j low high. sym (zeros-element extent (j - 1)))
+    ∙ ap (map (element (replicate extent (pos 0)))) is_owned
+
+-- PRINT leaves the array
+pub array-shown : (line place : ℕ) (xs : List ℤ) → array_after (Show line place) xs ≡ xs
+array-shown line place xs = same_lists _ _
+    (length-map-range_with_len (element xs) 1 (length xs + 1 - 1) ∙ omega arith)
+    (λ k d below.
+    let inside : k < length xs + 1 - 1 = omega (arith, length-map-range_with_len (element xs) 1 (length xs + 1 - 1)) in
+    let at : 1 + k - 1 ≡ k = omega arith in
+    get_or-map-range_with_len (element xs) 1 (length xs + 1 - 1) k (1 + k) d inside refl
+    ∙ ap (λ n. get_or xs n (pos 0)) at ∙ get_or_default xs k (pos 0) d (omega arith))

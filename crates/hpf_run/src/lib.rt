@@ -7,6 +7,7 @@
 #![tactic(auto)]
 
 mod blocks;
+mod first_nodes;
 mod message;
 mod node;
 mod nodes;

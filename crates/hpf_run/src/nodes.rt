@@ -24,7 +24,7 @@ use std::alloc::Global;
 use std::marker::Model;
 
 /// Each node in turn fills what it owns of a section.
-fn fill_all(blocks: Blocks, pieces: &mut [Piece], first: u64, last: u64, value: i64)
+pub fn fill_all(blocks: Blocks, pieces: &mut [Piece], first: u64, last: u64, value: i64)
     requires inside { IsInside blocks.extent first last }
     requires held { (xs : List ℤ) × (length xs ≡ blocks.extent) × (pieces.old ≡ pieces_of (block_line blocks.extent blocks.nodes) xs) }
     ensures { (line : ℕ) (xs : List ℤ) → length xs ≡ blocks.extent → pieces.old ≡ pieces_of (block_line blocks.extent blocks.nodes) xs
@@ -82,7 +82,7 @@ fn take_and_store(
 }
 
 /// Each node in turn sends its letters for a shift, and then each takes its letters and stores.
-fn shift_all(
+pub fn shift_all(
     alloc: Global,
     blocks: Blocks,
     stmt: &FirstStmt,
@@ -115,7 +115,7 @@ fn print_line(printed: &mut Vec<u8>, value: i64) -> Result<(), OutOfMemory>
 }
 
 /// The element that PRINT names comes to node 0 in a letter, and node 0 prints it.
-fn show(
+pub fn show(
     alloc: Global,
     blocks: Blocks,
     stmt: &FirstStmt,

@@ -9,4 +9,4 @@ abbrev pub invariant-loop-node : goal.invariant-loop-node
 invariant-loop-node l =
     (xs : List ℤ) → length xs ≡ l.blocks.extent → l.fn.pieces ≡ pieces_of (block_line l.blocks.extent l.blocks.nodes) xs
     → Stepped (piece_of (block_line l.blocks.extent l.blocks.nodes) xs)
-      (piece_of (block_line l.blocks.extent l.blocks.nodes) (array_after l.stmt xs)) l.blocks.nodes l.node l.pieces
+    (piece_of (block_line l.blocks.extent l.blocks.nodes) (array_after l.stmt xs)) l.blocks.nodes l.node l.pieces

@@ -23,22 +23,22 @@ take-requires-clause-each c =
 pub index-requires : goal.index-requires
 index-requires c =
     let values : c.in_ok-values.values.items ≡ element c.requires.held.0 c.requires.show.1 ∷ [] =
-          c.in_ok-values.ensures c.requires.held.0
-            (piece-is c.args.blocks.extent c.args.blocks.nodes 0 c.requires.held.0 c.args.pieces.now c.requires.held.1 c.args.blocks.some_nodes c.index-pieces-0.result c.index-pieces-0.is)
-            (c.deref.ensures.value ∙ c.in_ok-outboxes.ensures c.requires.held.0 c.requires.held.1)
-          ∙ ap (λ s. values_needed (block_line c.args.blocks.extent c.args.blocks.nodes) s c.requires.held.0 0) c.requires.show.2
-          ∙ shown-value c.args.blocks.extent c.args.blocks.nodes c.requires.show.0 c.requires.show.1 c.requires.held.0 (subst (IsWithin c.args.blocks.extent) c.requires.show.2 c.requires.within) in
+    c.in_ok-values.ensures c.requires.held.0
+    (piece-is c.args.blocks.extent c.args.blocks.nodes 0 c.requires.held.0 c.args.pieces.now c.requires.held.1 c.args.blocks.some_nodes c.index-pieces-0.result c.index-pieces-0.is)
+    (c.deref.ensures.value ∙ c.in_ok-outboxes.ensures c.requires.held.0 c.requires.held.1)
+    ∙ ap (λ s. values_needed (block_line c.args.blocks.extent c.args.blocks.nodes) s c.requires.held.0 0) c.requires.show.2
+    ∙ shown-value c.args.blocks.extent c.args.blocks.nodes c.requires.show.0 c.requires.show.1 c.requires.held.0 (subst (IsWithin c.args.blocks.extent) c.requires.show.2 c.requires.within) in
     let one : length c.in_ok-values.values.items ≡ 1 = ap length values in
     omega (arith, c.in_ok-values.values.ok.0)
 
 pub returns : goal.returns
 returns c = λ xs is.
     let values : c.in_ok-values.values.items ≡ element xs c.requires.show.1 ∷ [] =
-          c.in_ok-values.ensures xs
-            (piece-is c.args.blocks.extent c.args.blocks.nodes 0 xs c.args.pieces.now is c.args.blocks.some_nodes c.index-pieces-0.result c.index-pieces-0.is)
-            (c.deref.ensures.value ∙ c.in_ok-outboxes.ensures xs is)
-          ∙ ap (λ s. values_needed (block_line c.args.blocks.extent c.args.blocks.nodes) s xs 0) c.requires.show.2
-          ∙ shown-value c.args.blocks.extent c.args.blocks.nodes c.requires.show.0 c.requires.show.1 xs (subst (IsWithin c.args.blocks.extent) c.requires.show.2 c.requires.within) in
+    c.in_ok-values.ensures xs
+    (piece-is c.args.blocks.extent c.args.blocks.nodes 0 xs c.args.pieces.now is c.args.blocks.some_nodes c.index-pieces-0.result c.index-pieces-0.is)
+    (c.deref.ensures.value ∙ c.in_ok-outboxes.ensures xs is)
+    ∙ ap (λ s. values_needed (block_line c.args.blocks.extent c.args.blocks.nodes) s xs 0) c.requires.show.2
+    ∙ shown-value c.args.blocks.extent c.args.blocks.nodes c.requires.show.0 c.requires.show.1 xs (subst (IsWithin c.args.blocks.extent) c.requires.show.2 c.requires.within) in
     let value : c.index.result.now ≡ element xs c.requires.show.1 = c.index.ensures ∙ ap (λ l. get_or l 0 c.index.result.now) values in
     let fits : SFits w64 c.index.result.now = search rules in
     c.in_ok-print_line.ensures

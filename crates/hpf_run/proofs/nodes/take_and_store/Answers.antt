@@ -22,15 +22,15 @@ take-requires-clause-each c =
 pub store-requires-clause-counted : goal.store-requires-clause-counted
 store-requires-clause-counted c =
     shifted-count c.args.blocks.extent c.args.blocks.nodes c.args.node c.requires.shift.0 c.args.left.first c.args.left.last c.requires.shift.1 c.args.add c.args.blocks.size c.args.left c.requires.held.0 c.deref.result.now
-      (subst (IsWithin c.args.blocks.extent) c.requires.shift.2 c.requires.within) c.args.blocks.size_is refl
-      (c.deref.ensures.value ∙ c.in_ok-values.ensures c.requires.held.0 c.requires.held.1 c.requires.held.2
-        ∙ ap (λ s. values_needed (block_line c.args.blocks.extent c.args.blocks.nodes) s c.requires.held.0 c.args.node) c.requires.shift.2)
+    (subst (IsWithin c.args.blocks.extent) c.requires.shift.2 c.requires.within) c.args.blocks.size_is refl
+    (c.deref.ensures.value ∙ c.in_ok-values.ensures c.requires.held.0 c.requires.held.1 c.requires.held.2
+    ∙ ap (λ s. values_needed (block_line c.args.blocks.extent c.args.blocks.nodes) s c.requires.held.0 c.args.node) c.requires.shift.2)
 
 pub returns : goal.returns
 returns c = λ xs long is sent.
     c.in_ok-store.ensures c.requires.shift.0 c.requires.shift.1 xs (subst (IsWithin c.args.blocks.extent) c.requires.shift.2 c.requires.within) long is
-      (c.deref.ensures.value ∙ c.in_ok-values.ensures xs is sent
-        ∙ ap (λ s. values_needed (block_line c.args.blocks.extent c.args.blocks.nodes) s xs c.args.node)
-          (c.requires.shift.2 ∙ sym (ap (Shift c.requires.shift.0 c.args.left.first c.args.left.last c.requires.shift.1) (to_z-of_z w64 c.args.add c.ranges.add))))
+    (c.deref.ensures.value ∙ c.in_ok-values.ensures xs is sent
+    ∙ ap (λ s. values_needed (block_line c.args.blocks.extent c.args.blocks.nodes) s xs c.args.node)
+    (c.requires.shift.2 ∙ sym (ap (Shift c.requires.shift.0 c.args.left.first c.args.left.last c.requires.shift.1) (to_z-of_z w64 c.args.add c.ranges.add))))
     ∙ ap (λ s. piece_of (block_line c.args.blocks.extent c.args.blocks.nodes) (array_after s xs) c.args.node)
-      (ap (Shift c.requires.shift.0 c.args.left.first c.args.left.last c.requires.shift.1) (to_z-of_z w64 c.args.add c.ranges.add) ∙ sym c.requires.shift.2)
+    (ap (Shift c.requires.shift.0 c.args.left.first c.args.left.last c.requires.shift.1) (to_z-of_z w64 c.args.add c.ranges.add) ∙ sym c.requires.shift.2)
