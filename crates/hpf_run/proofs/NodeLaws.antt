@@ -95,7 +95,7 @@ pub holds-from : (d : Distributed) (xs : List ℤ) (extent nodes : ℕ) → exte
     → d.pieces ≡ pieces_of (block_line extent nodes) xs → Holds d xs
 holds-from d xs extent nodes extent_is nodes_is long is = record {
   extent = long ∙ extent_is;
-  pieces = is ∙ ap (λ e. pieces_of (block_line e nodes) xs) extent_is ∙ ap (λ n. pieces_of (block_line d.extent n) xs) nodes_is
+  pieces = is ∙ ap (λ e. pieces_of (block_line e nodes) xs) extent_is ∙ ap (λ n. pieces_of (block_line d.extent n) xs) nodes_is;
 }
 
 -- what they hold, by numbers that are equal to theirs

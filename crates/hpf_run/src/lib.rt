@@ -8,6 +8,7 @@
 
 mod blocks;
 mod first_nodes;
+mod first_run;
 mod message;
 mod node;
 mod nodes;

@@ -18,6 +18,6 @@ pub returns-clause-zeros : goal.returns-clause-zeros
 returns-clause-zeros c =
     let count = pieces-count c.new.result.extent c.new.result.nodes (replicate c.new.result.extent (pos 0)) c.in_ok-pieces.pieces.items c.in_ok-pieces.ensures in
     holds-from _ (replicate c.args.extent (pos 0)) c.new.result.extent c.new.result.nodes c.new.ensures.extent (sym count)
-      (length-replicate c.args.extent (pos 0) ∙ sym c.new.ensures.extent)
-      (c.in_ok-pieces.ensures
-        ∙ ap (λ n. pieces_of (block_line c.new.result.extent c.new.result.nodes) (replicate n (pos 0))) c.new.ensures.extent)
+    (length-replicate c.args.extent (pos 0) ∙ sym c.new.ensures.extent)
+    (c.in_ok-pieces.ensures
+    ∙ ap (λ n. pieces_of (block_line c.new.result.extent c.new.result.nodes) (replicate n (pos 0))) c.new.ensures.extent)
