@@ -1,4 +1,5 @@
 pub mod Needs
+pub mod Digits
 pub mod NodeLaws
 pub mod PieceLaws
 pub mod StoreLaws

@@ -16,5 +16,6 @@ mod outbox;
 mod piece;
 mod section;
 mod store;
+mod words;
 
 pub use message::first_message;

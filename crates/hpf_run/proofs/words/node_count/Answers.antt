@@ -1,0 +1,18 @@
+use Rattle.std.proofs.Common.{◌∙◌, ap, sym}
+use Rattle.std.proofs.lemmas.Bool.{both_ways}
+use Rattle.std.proofs.lemmas.Str.Parse.{parse_gives}
+use Rattle.std.specs.Char.{is_ascii_digit}
+use Rattle.std.specs.List.{list_all}
+use Rattle.hpf_run.proofs.Digits.{decimals, digits_value-small, list_all-digits}
+use Rattle.hpf_run.proofs.words.node_count.Goals as goal
+
+pub returns-then-not-are_digits-clause-none : goal.returns-then-not-are_digits-clause-none
+returns-then-not-are_digits-clause-none c = λ nodes is.
+    both_ways _ (sym c.if-not-are_digits.ensures)
+      (ap (list_all is_ascii_digit) c.as_bytes-bytes.ensures.value ∙ list_all-digits c.args.digits.now ∙ is.decimal)
+
+pub returns-in_default-3-clause-none : goal.returns-in_default-3-clause-none
+returns-in_default-3-clause-none c = λ nodes is.
+    let read = parse_gives decimals 32 c.args.digits.now _ c.parse.ensures.value.0 is.decimal is.some (digits_value-small c.args.digits.now is.decimal is.few) in
+    let refused = c.in_default.is in
+    cc
