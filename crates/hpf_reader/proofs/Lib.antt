@@ -3,3 +3,4 @@ pub mod Numerals
 pub mod LineForms
 pub mod FirstPlaces
 pub mod OneReading
+pub mod FirstValidity

@@ -3,6 +3,7 @@
 ghost use Rattle.std.specs.Prelude.{◌≡◌, IfOk, IfErr};
 ghost use Rattle.hpf_reader.specs.FirstForm.{Program, program_of, ReadsAs};
 ghost use Rattle.hpf_reader.specs.FirstRefusal.{IsCauseOf};
+ghost use Rattle.hpf_reader.specs.FirstValid.{IsValid};
 
 use crate::body::statements;
 use crate::first::{FirstError, FirstProgram};
@@ -17,6 +18,7 @@ use std::alloc::Global;
 /// least 1. `Memory` comes only where a growth was refused.
 pub fn read_first(alloc: Global, text: &[u8]) -> Result<FirstProgram, FirstError>
     ensures read { IfOk result (λ p. ReadsAs text.now (program_of p)) }
+    ensures valid { IfOk result (λ p. IsValid (program_of p)) }
     ensures one_reading { IfOk result (λ p. (q : Program) → ReadsAs text.now q → program_of p ≡ q) }
     ensures refused { IfErr result (IsCauseOf text.now) }
 {

@@ -1,3 +1,5 @@
 pub mod Message
+pub mod Outcome
 pub mod Pieces
+pub mod Reply
 pub mod Words

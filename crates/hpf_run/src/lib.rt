@@ -14,6 +14,7 @@ mod node;
 mod nodes;
 mod outbox;
 mod piece;
+mod reply;
 mod section;
 mod store;
 mod words;

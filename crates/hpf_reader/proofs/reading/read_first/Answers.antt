@@ -4,6 +4,7 @@ use Rattle.std.proofs.lemmas.Result.{err_from_is_err_and}
 use Rattle.hpf_base.specs.Text.{lines_of}
 use Rattle.hpf_reader.proofs.LineForms.{declaration_is, no_declaration}
 use Rattle.hpf_reader.proofs.FirstPlaces.{first_line_wrong, one_line, second_line_wrong, body_stopped, body_read}
+use Rattle.hpf_reader.proofs.FirstValidity.{lines_valid}
 use Rattle.hpf_reader.proofs.OneReading.{one_reading}
 use Rattle.hpf_reader.proofs.reading.read_first.Goals as goal
 
@@ -41,4 +42,4 @@ returns c =
     let r = body_read c.args.text.now c.in-Some.first.now c.in-Some-next_line.second.now (lines_of c.in-Some-next_line.rest.now) c.in-Some-declaration.name c.in-Some-declaration.extent c.in_ok-stmts.stmts.items
     (record { declared = declaration_is _ _ c.in-Some-declaration.ensures; behind = _; first_parts = c.in-Some.ensures; second_parts = c.in-Some-next_line.ensures; directed = c.is_directive.ensures.0 c.if-not-is_directive.false })
     c.in_ok-stmts.ensures.read in
-    record { read = r; one_reading = λ q w. one_reading (lines_of c.args.text.now) _ q r w; refused = tt }
+    record { read = r; valid = lines_valid (lines_of c.args.text.now) _ r; one_reading = λ q w. one_reading (lines_of c.args.text.now) _ q r w; refused = tt }

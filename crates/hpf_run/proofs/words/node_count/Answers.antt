@@ -9,7 +9,7 @@ use Rattle.hpf_run.proofs.words.node_count.Goals as goal
 pub returns-then-not-are_digits-clause-none : goal.returns-then-not-are_digits-clause-none
 returns-then-not-are_digits-clause-none c = λ nodes is.
     both_ways _ (sym c.if-not-are_digits.ensures)
-      (ap (list_all is_ascii_digit) c.as_bytes-bytes.ensures.value ∙ list_all-digits c.args.digits.now ∙ is.decimal)
+    (ap (list_all is_ascii_digit) c.as_bytes-bytes.ensures.value ∙ list_all-digits c.args.digits.now ∙ is.decimal)
 
 pub returns-in_default-3-clause-none : goal.returns-in_default-3-clause-none
 returns-in_default-3-clause-none c = λ nodes is.

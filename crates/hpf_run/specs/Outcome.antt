@@ -1,0 +1,84 @@
+-- What a call of the program means to answer.
+use Rattle.std.specs.Prelude.{◌≡◌, ℕ, ◌+◌, ◌<◌, ◌≤◌, ◌⊎◌, List, [], ◌++◌, length, take, drop, codes, Option, None, Some, decimal}
+use Rattle.hpf_base.specs.declared.refusal.Refusal.{Refusal}
+use Rattle.hpf_base.specs.declared.refusal.Reason.TheVariants.{LeftOut}
+use Rattle.hpf_base.specs.declared.status.Status.{Status}
+use Rattle.hpf_base.specs.declared.status.Status.TheVariants.{Done, Refused, Usage, ReadFault, WriteFault, Memory, TooLong}
+use Rattle.hpf_base.specs.Refusal.{name_of, number_of}
+use Rattle.hpf_ports.specs.Ports.{Gave, IsAtEnd, Rose, Took}
+use Rattle.hpf_reader.specs.FirstForm.{Program, ReadsAs}
+use Rattle.hpf_reader.specs.FirstRefusal.{IsLeftOut}
+use Rattle.array_meaning.specs.First.{printed_of}
+use Rattle.hpf_run.specs.Words.{IsJob, IsNoJob}
+
+-- a status, and the bytes for standard output and standard error
+pub record Outcome : Type 0 where
+  pub status : Status
+  pub out : List ℕ
+  pub err : List ℕ
+
+-- the lines of standard error
+abbrev pub usage_line : List ℕ
+usage_line = codes "hpf: usage: hpf ACTION [--grid G] [--threads T] [--size N] [--arrays]\n"
+
+abbrev pub read_fault_line : List ℕ
+read_fault_line = codes "hpf: read fault\n"
+
+abbrev pub memory_line : List ℕ
+memory_line = codes "hpf: out of memory\n"
+
+abbrev pub too_long_line : List ℕ
+too_long_line = codes "hpf: source too long\n"
+
+-- the line, the reason's number and its name
+abbrev pub refusal_line : Refusal → List ℕ
+refusal_line refusal =
+    codes "hpf: line " ++ decimal refusal.line ++ codes ": refused " ++ decimal (number_of refusal.reason) ++ codes " " ++ name_of refusal.reason ++ codes "\n"
+
+-- the greatest length of a source, in bytes
+abbrev pub source_limit : ℕ
+source_limit = 1048576
+
+-- the outcome of words and a source's bytes
+pub data TopOutcome (words : List (List ℕ)) (bytes : List ℕ) : Outcome → Type 0 where
+  usage : IsNoJob words → TopOutcome words bytes record { status = Usage; out = []; err = usage_line }
+  too_long : (nodes : ℕ) → IsJob words nodes → source_limit < length bytes
+      → TopOutcome words bytes record { status = TooLong; out = []; err = too_long_line }
+  refused : (nodes : ℕ) → IsJob words nodes → length bytes ≤ source_limit → (number : ℕ) → IsLeftOut bytes number
+      → TopOutcome words bytes record { status = Refused; out = []; err = refusal_line record { line = number; reason = LeftOut } }
+  done : (nodes : ℕ) → IsJob words nodes → length bytes ≤ source_limit → (p : Program) → ReadsAs bytes p
+      → TopOutcome words bytes record { status = Done; out = printed_of p; err = [] }
+
+-- what a port tells: its bytes, where it tells them, and its count of faults
+pub record Port : Type 0 where
+  pub bytes : Option (List ℕ)
+  pub faults : ℕ
+
+-- the bytes that a source had left, where it tells them
+abbrev pub Had : Option (List ℕ) → List ℕ → Type 0
+Had None bytes = Unit {0}
+Had (Some left) bytes = left ≡ bytes
+
+-- how far a source was read for a status: not at all, one byte past the limit, or to its end
+abbrev pub IsRead : Status → Option (List ℕ) → Option (List ℕ) → List ℕ → Type 0
+IsRead Usage left left' bytes = left' ≡ left
+IsRead TooLong left left' bytes = Gave left left' (take (source_limit + 1) bytes)
+IsRead status left left' bytes = Gave left left' bytes × IsAtEnd left'
+
+-- what a call means to answer: the outcome of its words and its source, or a counted read fault, or want of
+-- memory, which comes without a cause
+pub data Meant (words : List (List ℕ)) (source source' : Port) : Outcome → Type 0 where
+  outcome : (bytes : List ℕ) (o : Outcome) → Had source.bytes bytes → TopOutcome words bytes o → IsRead o.status source.bytes source'.bytes bytes
+      → Meant words source source' o
+  read_fault : (nodes : ℕ) → IsJob words nodes → Rose source.faults source'.faults
+      → Meant words source source' record { status = ReadFault; out = []; err = read_fault_line }
+  memory : Meant words source source' record { status = Memory; out = []; err = memory_line }
+
+-- what is written of it, and the status: all of it, or a proper prefix of one sink's text where that sink's count
+-- of faults rose
+pub data Delivered (o : Outcome) (out out' err err' : Port) : Status → Type 0 where
+  whole : Took out.bytes out'.bytes o.out → Took err.bytes err'.bytes o.err → Delivered o out out' err err' o.status
+  out_fault : Rose out.faults out'.faults → (n : ℕ) → n < length o.out → Took out.bytes out'.bytes (take n o.out) → err'.bytes ≡ err.bytes
+      → Delivered o out out' err err' WriteFault
+  err_fault : Rose err.faults err'.faults → Took out.bytes out'.bytes o.out → (n : ℕ) → n < length o.err → Took err.bytes err'.bytes (take n o.err)
+      → Delivered o out out' err err' WriteFault

@@ -1,0 +1,79 @@
+//! What a call of the program means to answer. Every text is made before the first is written.
+
+ghost use Rattle.std.specs.Prelude.{◌≡◌, IfOk};
+ghost use Rattle.hpf_run.specs.Outcome.{refusal_line};
+ghost use Rattle.hpf_run.specs.Reply.{outcome_of};
+
+use hpf_base::{OutOfMemory, Refusal, Status};
+use itoa::Buffer;
+use std::alloc::Global;
+
+/// An answer, with the text that isn't known beforehand.
+#[derive(Debug, Drop)]
+pub enum Reply {
+    /// The bytes that the program prints.
+    Done(Vec<u8>),
+    /// The refusal's line.
+    Refused(Vec<u8>),
+    Usage,
+    ReadFault,
+    TooLong,
+    Memory,
+}
+
+impl Reply {
+    pub fn status(&self) -> Status
+        ensures { result ≡ (outcome_of self.now).status }
+    {
+        match self {
+            Reply::Done(_) => Status::Done,
+            Reply::Refused(_) => Status::Refused,
+            Reply::Usage => Status::Usage,
+            Reply::ReadFault => Status::ReadFault,
+            Reply::TooLong => Status::TooLong,
+            Reply::Memory => Status::Memory,
+        }
+    }
+
+    /// The bytes for standard output.
+    pub fn out(&self) -> &[u8]
+        ensures { result.now ≡ (outcome_of self.now).out }
+    {
+        match self {
+            Reply::Done(printed) => printed,
+            _ => &[],
+        }
+    }
+
+    /// The line for standard error.
+    pub fn err(&self) -> &[u8]
+        ensures { result.now ≡ (outcome_of self.now).err }
+    {
+        match self {
+            Reply::Done(_) => &[],
+            Reply::Refused(line) => line,
+            Reply::Usage => {
+                b"hpf: usage: hpf ACTION [--grid G] [--threads T] [--size N] [--arrays]\n"
+            }
+            Reply::ReadFault => b"hpf: read fault\n",
+            Reply::TooLong => b"hpf: source too long\n",
+            Reply::Memory => b"hpf: out of memory\n",
+        }
+    }
+}
+
+/// The line that a refusal is reported by.
+pub fn refusal_text(alloc: Global, refusal: Refusal) -> Result<Vec<u8>, OutOfMemory>
+    ensures { IfOk result (λ text. text.items ≡ refusal_line refusal) }
+{
+    let mut line = Buffer::new();
+    let mut reason = Buffer::new();
+    let mut text = Vec::from_slice(alloc, b"hpf: line ")?;
+    text.extend_from_slice(line.format(refusal.line).as_bytes())?;
+    text.extend_from_slice(b": refused ")?;
+    text.extend_from_slice(reason.format(refusal.reason.number()).as_bytes())?;
+    text.extend_from_slice(b" ")?;
+    text.extend_from_slice(refusal.reason.name().as_bytes())?;
+    text.extend_from_slice(b"\n")?;
+    Ok(text)
+}
