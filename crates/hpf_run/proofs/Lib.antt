@@ -3,3 +3,4 @@ pub mod Digits
 pub mod NodeLaws
 pub mod PieceLaws
 pub mod StoreLaws
+pub mod TopLaws

@@ -41,12 +41,12 @@ source_limit = 1048576
 
 -- the outcome of words and a source's bytes
 pub data TopOutcome (words : List (List ℕ)) (bytes : List ℕ) : Outcome → Type 0 where
-  usage : IsNoJob words → TopOutcome words bytes record { status = Usage; out = []; err = usage_line }
-  too_long : (nodes : ℕ) → IsJob words nodes → source_limit < length bytes
+  is_usage : IsNoJob words → TopOutcome words bytes record { status = Usage; out = []; err = usage_line }
+  is_too_long : (nodes : ℕ) → IsJob words nodes → source_limit < length bytes
       → TopOutcome words bytes record { status = TooLong; out = []; err = too_long_line }
-  refused : (nodes : ℕ) → IsJob words nodes → length bytes ≤ source_limit → (number : ℕ) → IsLeftOut bytes number
+  is_refused : (nodes : ℕ) → IsJob words nodes → length bytes ≤ source_limit → (number : ℕ) → IsLeftOut bytes number
       → TopOutcome words bytes record { status = Refused; out = []; err = refusal_line record { line = number; reason = LeftOut } }
-  done : (nodes : ℕ) → IsJob words nodes → length bytes ≤ source_limit → (p : Program) → ReadsAs bytes p
+  is_done : (nodes : ℕ) → IsJob words nodes → length bytes ≤ source_limit → (p : Program) → ReadsAs bytes p
       → TopOutcome words bytes record { status = Done; out = printed_of p; err = [] }
 
 -- what a port tells: its bytes, where it tells them, and its count of faults
@@ -68,17 +68,24 @@ IsRead status left left' bytes = Gave left left' bytes × IsAtEnd left'
 -- what a call means to answer: the outcome of its words and its source, or a counted read fault, or want of
 -- memory, which comes without a cause
 pub data Meant (words : List (List ℕ)) (source source' : Port) : Outcome → Type 0 where
-  outcome : (bytes : List ℕ) (o : Outcome) → Had source.bytes bytes → TopOutcome words bytes o → IsRead o.status source.bytes source'.bytes bytes
+  means_outcome : (bytes : List ℕ) (o : Outcome) → Had source.bytes bytes → TopOutcome words bytes o → IsRead o.status source.bytes source'.bytes bytes
       → Meant words source source' o
-  read_fault : (nodes : ℕ) → IsJob words nodes → Rose source.faults source'.faults
+  means_read_fault : (nodes : ℕ) → IsJob words nodes → Rose source.faults source'.faults
       → Meant words source source' record { status = ReadFault; out = []; err = read_fault_line }
-  memory : Meant words source source' record { status = Memory; out = []; err = memory_line }
+  means_memory : Meant words source source' record { status = Memory; out = []; err = memory_line }
 
 -- what is written of it, and the status: all of it, or a proper prefix of one sink's text where that sink's count
 -- of faults rose
 pub data Delivered (o : Outcome) (out out' err err' : Port) : Status → Type 0 where
-  whole : Took out.bytes out'.bytes o.out → Took err.bytes err'.bytes o.err → Delivered o out out' err err' o.status
-  out_fault : Rose out.faults out'.faults → (n : ℕ) → n < length o.out → Took out.bytes out'.bytes (take n o.out) → err'.bytes ≡ err.bytes
+  all_written : Took out.bytes out'.bytes o.out → Took err.bytes err'.bytes o.err → Delivered o out out' err err' o.status
+  out_failed : Rose out.faults out'.faults → (n : ℕ) → n < length o.out → Took out.bytes out'.bytes (take n o.out) → err'.bytes ≡ err.bytes
       → Delivered o out out' err err' WriteFault
-  err_fault : Rose err.faults err'.faults → Took out.bytes out'.bytes o.out → (n : ℕ) → n < length o.err → Took err.bytes err'.bytes (take n o.err)
+  err_failed : Rose err.faults err'.faults → Took out.bytes out'.bytes o.out → (n : ℕ) → n < length o.err → Took err.bytes err'.bytes (take n o.err)
       → Delivered o out out' err err' WriteFault
+
+-- what a text comes to: its refusal, or what its program prints, or want of memory
+pub data TextMeant (text : List ℕ) : Outcome → Type 0 where
+  text_refused : (number : ℕ) → IsLeftOut text number
+      → TextMeant text record { status = Refused; out = []; err = refusal_line record { line = number; reason = LeftOut } }
+  text_done : (p : Program) → ReadsAs text p → TextMeant text record { status = Done; out = printed_of p; err = [] }
+  text_memory : TextMeant text record { status = Memory; out = []; err = memory_line }

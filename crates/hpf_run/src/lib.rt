@@ -17,6 +17,10 @@ mod piece;
 mod reply;
 mod section;
 mod store;
+mod top;
 mod words;
 
+pub use first_nodes::FirstNodes;
+pub use first_run::run_first;
 pub use message::first_message;
+pub use top::hpf_top;

@@ -1,0 +1,98 @@
+//! The top call: from words and a source to a status and two texts.
+
+ghost use Rattle.std.specs.Prelude.{◌≡◌, ◌≤◌, map, string_bytes};
+ghost use Rattle.hpf_run.specs.Outcome.{Delivered, Meant, Outcome, TextMeant};
+ghost use Rattle.hpf_run.specs.Reply.{outcome_of};
+ghost use Rattle.hpf_run.specs.Words.{IsNoJob};
+
+use crate::first_run::run_first;
+use crate::reply::{Reply, refusal_text};
+use crate::words::nodes_of;
+use hpf_base::{Reason, Refusal, Status};
+use hpf_ports::{Gate, ReadAll, Sink, Source, read_all, write_all};
+use hpf_reader::{FirstError, read_first};
+use std::alloc::Global;
+
+/// What a text comes to on so many nodes.
+fn reply_to_text(alloc: Global, nodes: u32, text: &[u8]) -> Reply
+    requires some_nodes { 1 ≤ nodes }
+    requires few_nodes { nodes ≤ 64 }
+    ensures { TextMeant text.now (outcome_of result) }
+{
+    match read_first(alloc, text) {
+        Ok(program) => match run_first(alloc, &program, nodes) {
+            Ok(printed) => Reply::Done(printed),
+            Err(_) => Reply::Memory,
+        },
+        Err(FirstError::LeftOut(line)) => {
+            let refusal = Refusal {
+                line,
+                reason: Reason::LeftOut,
+            };
+            match refusal_text(alloc, refusal) {
+                Ok(text) => Reply::Refused(text),
+                Err(_) => Reply::Memory,
+            }
+        }
+        Err(FirstError::Memory) => Reply::Memory,
+    }
+}
+
+/// What the words and the source come to. For words that are no job the source isn't touched.
+fn reply_to<S: Source>(alloc: Global, words: &[String], src: &mut S) -> Reply
+    ensures untouched { IsNoJob (map string_bytes words.now) → src.new ≡ src.old }
+    ensures meant { Meant (map string_bytes words.now) record { bytes = S.left src.old; faults = S.faults src.old }
+        record { bytes = S.left src.new; faults = S.faults src.new } (outcome_of result) }
+{
+    let Some(nodes) = nodes_of(words) else {
+        return Reply::Usage;
+    };
+    match read_all(alloc, src) {
+        Ok(text) => reply_to_text(alloc, nodes, &text),
+        Err(ReadAll::Fault) => Reply::ReadFault,
+        Err(ReadAll::TooLong) => Reply::TooLong,
+        Err(ReadAll::Memory) => Reply::Memory,
+    }
+}
+
+/// Writes a reply: first standard output, then standard error.
+fn deliver<O: Sink, E: Sink>(reply: &Reply, out: &mut O, err: &mut E) -> Status
+    ensures { Delivered (outcome_of reply.now) record { bytes = O.held out.old; faults = O.faults out.old }
+        record { bytes = O.held out.new; faults = O.faults out.new } record { bytes = E.held err.old; faults = E.faults err.old }
+        record { bytes = E.held err.new; faults = E.faults err.new } result }
+{
+    let Ok(()) = write_all(out, reply.out()) else {
+        return Status::WriteFault;
+    };
+    let Ok(()) = write_all(err, reply.err()) else {
+        return Status::WriteFault;
+    };
+    reply.status()
+}
+
+/// Runs the program on words, a source and two sinks, and answers its status.
+///
+/// The answer is what the words and the source mean: the outcome of the text, or a read fault where the source's
+/// count of faults rose in this call, or want of memory, which may come without a cause. It is delivered whole,
+/// or the answer is `WriteFault`: then the count of the sink at fault rose in this call, and that sink holds a
+/// proper prefix of its text. For words that are no job the source isn't touched. `rt` and `gate` have no part
+/// in any answer.
+pub fn hpf_top<R, S: Source, O: Sink, E: Sink, G: Gate>(
+    _rt: &R,
+    alloc: Global,
+    words: &[String],
+    src: &mut S,
+    out: &mut O,
+    err: &mut E,
+    _gate: &G,
+) -> Status
+    ensures untouched { IsNoJob (map string_bytes words.now) → src.new ≡ src.old }
+    ensures answer { (o : Outcome)
+        × Meant (map string_bytes words.now) record { bytes = S.left src.old; faults = S.faults src.old }
+        record { bytes = S.left src.new; faults = S.faults src.new } o
+        × Delivered o record { bytes = O.held out.old; faults = O.faults out.old } record { bytes = O.held out.new; faults = O.faults out.new }
+        record { bytes = E.held err.old; faults = E.faults err.old } record { bytes = E.held err.new; faults = E.faults err.new } result }
+{
+    let reply = reply_to(alloc, words, src);
+    deliver(&reply, out, err)
+}
