@@ -45,7 +45,7 @@ text-meant words source source' nodes text o job gave end short (text_refused nu
     means_outcome text _ (read_had source.bytes source'.bytes text gave end) (is_refused nodes job short number is) (gave, end)
 text-meant words source source' nodes text o job gave end short (text_done p reads) =
     means_outcome text _ (read_had source.bytes source'.bytes text gave end) (is_done nodes job short p reads) (gave, end)
-text-meant words source source' nodes text o job gave end short text_memory = means_memory
+text-meant words source source' nodes text o job gave end short text_memory = means_memory nodes job text short gave
 
 -- a source of which a byte past the limit was taken
 pub too_long-meant : (words : List (List ℕ)) (source source' : Port) (nodes : ℕ) (taken : List ℕ) → IsJob words nodes

@@ -66,13 +66,14 @@ IsRead TooLong left left' bytes = Gave left left' (take (source_limit + 1) bytes
 IsRead status left left' bytes = Gave left left' bytes × IsAtEnd left'
 
 -- what a call means to answer: the outcome of its words and its source, or a counted read fault, or want of
--- memory, which comes without a cause
+-- memory, which comes without a cause; in the last two cases the source gave no byte past the limit
 pub data Meant (words : List (List ℕ)) (source source' : Port) : Outcome → Type 0 where
   means_outcome : (bytes : List ℕ) (o : Outcome) → Had source.bytes bytes → TopOutcome words bytes o → IsRead o.status source.bytes source'.bytes bytes
       → Meant words source source' o
-  means_read_fault : (nodes : ℕ) → IsJob words nodes → Rose source.faults source'.faults
-      → Meant words source source' record { status = ReadFault; out = []; err = read_fault_line }
-  means_memory : Meant words source source' record { status = Memory; out = []; err = memory_line }
+  means_read_fault : (nodes : ℕ) → IsJob words nodes → Rose source.faults source'.faults → (taken : List ℕ) → length taken ≤ source_limit
+      → Gave source.bytes source'.bytes taken → Meant words source source' record { status = ReadFault; out = []; err = read_fault_line }
+  means_memory : (nodes : ℕ) → IsJob words nodes → (taken : List ℕ) → length taken ≤ source_limit
+      → Gave source.bytes source'.bytes taken → Meant words source source' record { status = Memory; out = []; err = memory_line }
 
 -- what is written of it, and the status: all of it, or a proper prefix of one sink's text where that sink's count
 -- of faults rose

@@ -18,7 +18,10 @@ pub returns-in-Err-Fault-clause-untouched : goal.returns-in-Err-Fault-clause-unt
 returns-in-Err-Fault-clause-untouched g c = λ none. absurd (none c.in-Some.nodes c.in-Some.ensures.some)
 
 pub returns-in-Err-Fault-clause-meant : goal.returns-in-Err-Fault-clause-meant
-returns-in-Err-Fault-clause-meant g c = means_read_fault c.in-Some.nodes c.in-Some.ensures.some (c.in-Err-Fault.ensures.fault (ap Err c.in-Err-Fault.field-0-is))
+returns-in-Err-Fault-clause-meant g c =
+    let taken = c.in-Err-Fault.ensures.in_time (λ e. let is = c.in-Err-Fault.field-0-is in cc) in
+    means_read_fault c.in-Some.nodes c.in-Some.ensures.some (c.in-Err-Fault.ensures.fault (ap Err c.in-Err-Fault.field-0-is))
+      taken.0 taken.1 taken.2
 
 pub returns-in-Err-TooLong-clause-untouched : goal.returns-in-Err-TooLong-clause-untouched
 returns-in-Err-TooLong-clause-untouched g c = λ none. absurd (none c.in-Some.nodes c.in-Some.ensures.some)
@@ -32,4 +35,6 @@ pub returns-in-Err-Memory-clause-untouched : goal.returns-in-Err-Memory-clause-u
 returns-in-Err-Memory-clause-untouched g c = λ none. absurd (none c.in-Some.nodes c.in-Some.ensures.some)
 
 pub returns-in-Err-Memory-clause-meant : goal.returns-in-Err-Memory-clause-meant
-returns-in-Err-Memory-clause-meant g c = means_memory
+returns-in-Err-Memory-clause-meant g c =
+    let taken = c.in-Err-Memory.ensures.in_time (λ e. let is = c.in-Err-Memory.field-0-is in cc) in
+    means_memory c.in-Some.nodes c.in-Some.ensures.some taken.0 taken.1 taken.2
