@@ -1,7 +1,7 @@
 -- A program that is read stays inside its array.
-use Rattle.std.proofs.Common.{◌≡◌, ℕ, ◌+◌, ◌-◌, List, [], ◌∷◌, arith, sym, subst}
+use Rattle.std.proofs.Common.{◌≡◌, ℕ, ◌+◌, ◌-◌, List, [], ◌∷◌, arith, subst}
 use Rattle.std.specs.List.{AllByRecursion}
-use Rattle.hpf_reader.specs.FirstForm.{AreLinesOf, AreStatements, IsFill, IsInside, IsShift, IsShow, IsStatement, Program}
+use Rattle.hpf_reader.specs.FirstForm.{AreLinesOf, AreStatements, IsInside, IsStatement, Program}
 use Rattle.hpf_reader.specs.FirstValid.{IsValid, IsWithin}
 use Rattle.hpf_reader.specs.declared.first.FirstStmt.{FirstStmt}
 use Rattle.hpf_reader.specs.declared.first.FirstStmt.TheVariants.{Fill, Shift, Show}

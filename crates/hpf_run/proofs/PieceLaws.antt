@@ -1,11 +1,10 @@
 -- Laws on pieces, and on what stands in letters.
-use Rattle.std.proofs.Common.{◌≡◌, ℕ, ◌+◌, ◌-◌, ◌*◌, ◌<◌, ◌≤◌, ◌==◌, ◌&&◌, not, Bool, true, false, List, [], ◌∷◌, ◌++◌, length, map, refl, sym, ◌∙◌, ap, subst, arith, min, max, ℤ, pos, get_or, take, drop}
+use Rattle.std.proofs.Common.{◌≡◌, ℕ, ◌+◌, ◌-◌, ◌*◌, ◌<◌, ◌≤◌, ◌==◌, ◌&&◌, not, Bool, true, List, [], ◌++◌, length, map, sym, ◌∙◌, ap, arith, min, max, ℤ, pos, get_or}
 use Rattle.std.proofs.lemmas.Bool.{and_parts, eqb-true, cond-false, ne_eqb}
-use Rattle.std.proofs.lemmas.List.Elements.{All-filter, All-weaker}
-use Rattle.std.proofs.lemmas.List.FromFn.{length-range_with_len, get_or-range_with_len, length-map-range_with_len, get_or-map-range_with_len}
+use Rattle.std.proofs.lemmas.List.Elements.{All-filter}
+use Rattle.std.proofs.lemmas.List.FromFn.{length-range_with_len, get_or-map-range_with_len}
 use Rattle.std.proofs.lemmas.List.Elements.{filter_passes}
 use Rattle.std.specs.Int.{div_ceil}
-use Rattle.std.specs.List.{range_with_len}
 use Rattle.std.specs.Prelude.{All, IsSomeAnd, Some, filter, slice_get}
 use Rattle.hpf_base.specs.LocalOrder.{owned, piece_of}
 use Rattle.hpf_base.specs.Owner.{block_line, coordinate, default_block}

@@ -1,8 +1,8 @@
 -- A node's piece behind a statement.
-use Rattle.std.proofs.Common.{◌≡◌, ℕ, zero, suc, ◌+◌, ◌-◌, ◌*◌, ◌<◌, ◌≤◌, ◌⊎◌, inl, inr, Bool, true, false, List, [], ◌∷◌, ◌++◌, length, map, refl, sym, ◌∙◌, ap, arith, min, max, ℤ, pos, get_or, take, drop, replicate}
+use Rattle.std.proofs.Common.{◌≡◌, ℕ, zero, suc, ◌+◌, ◌-◌, ◌*◌, ◌<◌, ◌≤◌, ◌⊎◌, inl, inr, false, List, ◌∷◌, ◌++◌, length, map, refl, sym, ◌∙◌, ap, arith, min, max, ℤ, pos, get_or, take, drop, replicate}
 use Rattle.std.proofs.lemmas.Bool.{cases_lt, cond-false, cond-true, and_left, and_right, lt-leb}
 use Rattle.std.proofs.lemmas.List.{append_assoc, drop_at, get_or_default, length-map, map-append, same_lists}
-use Rattle.std.proofs.lemmas.List.FromFn.{get_or-map-range_with_len, length-map-range_with_len, length-range_with_len, take-map-range_with_len}
+use Rattle.std.proofs.lemmas.List.FromFn.{get_or-map-range_with_len, length-map-range_with_len, take-map-range_with_len}
 use Rattle.std.proofs.lemmas.Simd.{map-map}
 use Rattle.std.specs.Int.{int_wrapping_add, w64}
 use Rattle.std.specs.List.{range_with_len}

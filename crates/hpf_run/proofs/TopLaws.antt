@@ -1,6 +1,6 @@
 -- From what the parts answer to what the top call means.
 use Rattle.std.proofs.Common.{◌≡◌, ℕ, ◌+◌, ◌<◌, ◌≤◌, List, [], ◌++◌, length, take, Option, None, Some, refl, sym, ◌∙◌, ap, subst, arith}
-use Rattle.std.proofs.lemmas.List.{append-nil, length-append, take_all, take_at}
+use Rattle.std.proofs.lemmas.List.{append-nil, length-append, take_at}
 use Rattle.hpf_base.specs.declared.refusal.Reason.TheVariants.{LeftOut}
 use Rattle.hpf_base.specs.declared.status.Status.TheVariants.{Done, Refused, TooLong, Usage, WriteFault}
 use Rattle.hpf_base.specs.declared.status.Status.{Status}
@@ -8,7 +8,7 @@ use Rattle.hpf_ports.specs.Ports.{Gave, IsAtEnd, Rose, Took}
 use Rattle.hpf_reader.specs.FirstForm.{Program, ReadsAs}
 use Rattle.hpf_reader.specs.FirstRefusal.{IsLeftOut}
 use Rattle.array_meaning.specs.First.{printed_of}
-use Rattle.hpf_run.specs.Outcome.{is_done, is_refused, is_too_long, is_usage, means_memory, means_outcome, text_done, text_memory, text_refused, all_written, err_failed, out_failed, Delivered, Had, Meant, Outcome, Port, TextMeant, TopOutcome, refusal_line, source_limit, too_long_line, usage_line}
+use Rattle.hpf_run.specs.Outcome.{is_done, is_refused, is_too_long, is_usage, means_memory, means_outcome, text_done, text_memory, text_refused, all_written, err_failed, out_failed, Delivered, Had, Meant, Outcome, Port, TextMeant, refusal_line, source_limit, too_long_line, usage_line}
 use Rattle.hpf_run.specs.Words.{IsJob, IsNoJob}
 
 -- a text whose program prints the bytes
@@ -52,15 +52,15 @@ pub too_long-meant : (words : List (List ℕ)) (source source' : Port) (nodes : 
     → length taken ≡ source_limit + 1 → Gave source.bytes source'.bytes taken
     → Meant words source source' record { status = TooLong; out = []; err = too_long_line }
 too_long-meant words source source' nodes taken job long gave = cases source.bytes gave
-    where
-      cases : (left : Option (List ℕ)) → Gave left source'.bytes taken
-          → Meant words record { bytes = left; faults = source.faults } source' record { status = TooLong; out = []; err = too_long_line }
-      cases None given =
-          means_outcome taken _ tt (is_too_long nodes job (omega arith)) given
-      cases (Some left) given =
-          let count : length left ≡ length taken + length given.0 = ap length given.2 ∙ length-append taken given.0 in
-          let front : take (source_limit + 1) left ≡ taken = ap (take (source_limit + 1)) given.2 ∙ take_at taken given.0 (source_limit + 1) long in
-          means_outcome left _ refl (is_too_long nodes job (omega arith)) (given.0, given.1, given.2 ∙ ap (λ l. l ++ given.0) (sym front))
+  where
+    cases : (left : Option (List ℕ)) → Gave left source'.bytes taken
+        → Meant words record { bytes = left; faults = source.faults } source' record { status = TooLong; out = []; err = too_long_line }
+    cases None given =
+        means_outcome taken _ tt (is_too_long nodes job (omega arith)) given
+    cases (Some left) given =
+        let count : length left ≡ length taken + length given.0 = ap length given.2 ∙ length-append taken given.0 in
+        let front : take (source_limit + 1) left ≡ taken = ap (take (source_limit + 1)) given.2 ∙ take_at taken given.0 (source_limit + 1) long in
+        means_outcome left _ refl (is_too_long nodes job (omega arith)) (given.0, given.1, given.2 ∙ ap (λ l. l ++ given.0) (sym front))
 
 -- what is delivered, from what the writes of texts that are equal to an outcome's answer
 pub delivered-out : (o : Outcome) (out out' err : Port) (text : List ℕ) → text ≡ o.out → Rose out.faults out'.faults
@@ -79,4 +79,4 @@ pub delivered-all : (o : Outcome) (out out' err err' : Port) (text line : List �
     → Took out.bytes out'.bytes text → Took err.bytes err'.bytes line → Delivered o out out' err err' status
 delivered-all o out out' err err' text line status text_is line_is status_is took_text took_line =
     subst (Delivered o out out' err err') (sym status_is)
-      (all_written (subst (Took out.bytes out'.bytes) text_is took_text) (subst (Took err.bytes err'.bytes) line_is took_line))
+    (all_written (subst (Took out.bytes out'.bytes) text_is took_text) (subst (Took err.bytes err'.bytes) line_is took_line))

@@ -1,5 +1,5 @@
 -- Who sends what to whom for a statement: the owner of the left element computes (HPF 2.0, 1.3).
-use Rattle.std.specs.Prelude.{ℕ, ◌+◌, ◌-◌, Bool, false, not, ◌&&◌, ◌==◌, List, [], ◌∷◌, filter}
+use Rattle.std.specs.Prelude.{ℕ, ◌+◌, ◌-◌, Bool, false, not, ◌&&◌, ◌==◌, List, filter}
 use Rattle.std.specs.List.{list_any}
 use Rattle.hpf_base.specs.declared.mapping.Line.{Line}
 use Rattle.hpf_base.specs.Owner.{coordinate}

@@ -1,5 +1,5 @@
 -- What a call of the program means to answer.
-use Rattle.std.specs.Prelude.{◌≡◌, ℕ, ◌+◌, ◌<◌, ◌≤◌, ◌⊎◌, List, [], ◌++◌, length, take, drop, codes, Option, None, Some, decimal}
+use Rattle.std.specs.Prelude.{◌≡◌, ℕ, ◌+◌, ◌<◌, ◌≤◌, List, [], ◌++◌, length, take, codes, Option, None, Some, decimal}
 use Rattle.hpf_base.specs.declared.refusal.Refusal.{Refusal}
 use Rattle.hpf_base.specs.declared.refusal.Reason.TheVariants.{LeftOut}
 use Rattle.hpf_base.specs.declared.status.Status.{Status}

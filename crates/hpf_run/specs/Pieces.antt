@@ -1,5 +1,5 @@
 -- What a node does with its piece of the array.
-use Rattle.std.specs.Prelude.{◌≡◌, ℕ, ◌+◌, ◌-◌, ◌*◌, ℤ, max, min, ◌==◌, List, [], ◌++◌, length, take, drop, map, filter, if◌then◌else◌}
+use Rattle.std.specs.Prelude.{◌≡◌, ℕ, ◌+◌, ◌*◌, ℤ, max, min, ◌==◌, List, [], ◌++◌, length, take, drop, map, filter, if◌then◌else◌}
 use Rattle.hpf_base.specs.declared.mapping.Line.{Line}
 use Rattle.hpf_base.specs.Owner.{block_line}
 use Rattle.hpf_base.specs.LocalOrder.{pieces_of}

@@ -1,5 +1,5 @@
 -- What a reply says.
-use Rattle.std.specs.Prelude.{List, [], ◌≡◌}
+use Rattle.std.specs.Prelude.{[]}
 use Rattle.hpf_base.specs.declared.status.Status.TheVariants as status
 use Rattle.hpf_run.specs.declared.reply.Reply.{Reply}
 use Rattle.hpf_run.specs.declared.reply.Reply.TheVariants.{Done, Refused, Usage, ReadFault, TooLong, Memory}

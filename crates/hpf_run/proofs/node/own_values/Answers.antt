@@ -1,5 +1,5 @@
-use Rattle.std.proofs.Common.{◌≡◌, ◌-◌, ◌∙◌, ap, map, sym, pos, slice_index_or}
-use Rattle.hpf_base.specs.Positions.{element, section}
+use Rattle.std.proofs.Common.{◌-◌, ◌∙◌, ap, map, sym, pos, slice_index_or}
+use Rattle.hpf_base.specs.Positions.{element}
 use Rattle.hpf_run.proofs.PieceLaws.{common-bounds, common-shared, own-fits, own-values, owned-count}
 use Rattle.hpf_run.proofs.node.own_values.Goals as goal
 

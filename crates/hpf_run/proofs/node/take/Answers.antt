@@ -2,7 +2,6 @@ use Rattle.std.proofs.Common.{◌≡◌, ◌*◌, ◌++◌, ◌∙◌, ap, arith
 use Rattle.std.proofs.lemmas.List.{map-append}
 use Rattle.hpf_base.specs.Positions.{element, section}
 use Rattle.hpf_run.proofs.PieceLaws.{shared-all, shared-more}
-use Rattle.hpf_run.specs.Pieces.{shared}
 use Rattle.hpf_run.proofs.node.take.Goals as goal
 
 pub loop-from-preserved : goal.loop-from-preserved

@@ -1,8 +1,8 @@
-use Rattle.std.proofs.Common.{◌≡◌, ◌<◌, ◌∙◌, ap, arith, sym, length, slice_index_or}
+use Rattle.std.proofs.Common.{◌∙◌, ap, arith}
 use Rattle.std.proofs.lemmas.Int.{to_z-of_z}
 use Rattle.std.specs.Int.{w64}
 use Rattle.array_meaning.specs.First.{array_after}
-use Rattle.hpf_base.specs.LocalOrder.{piece_of, pieces_of}
+use Rattle.hpf_base.specs.LocalOrder.{pieces_of}
 use Rattle.hpf_base.specs.Owner.{block_line}
 use Rattle.hpf_reader.specs.declared.first.FirstStmt.TheVariants.{Fill}
 use Rattle.hpf_run.proofs.NodeLaws.{pieces-count, piece-sized, stepped-all, stepped-here, stepped-more, stepped-none}

@@ -1,4 +1,4 @@
-use Rattle.std.proofs.Common.{◌≡◌, arith}
+use Rattle.std.proofs.Common.{arith}
 use Rattle.hpf_base.specs.Owner.{block_line}
 use Rattle.hpf_base.proofs.Sections.{map-range_push}
 use Rattle.hpf_run.proofs.NodeLaws.{pieces-count, piece-is, piece-sized}

@@ -1,5 +1,5 @@
-use Rattle.std.proofs.Common.{◌≡◌, ◌<◌, ◌∙◌, ap, arith, sym, length}
-use Rattle.hpf_run.proofs.NodeLaws.{pieces-count, stepped-all, stepped-here, stepped-more, stepped-none}
+use Rattle.std.proofs.Common.{arith}
+use Rattle.hpf_run.proofs.NodeLaws.{pieces-count, stepped-all, stepped-none}
 use Rattle.hpf_run.proofs.nodes.shift_all.Goals as goal
 
 pub bounds-pieces-node : goal.bounds-pieces-node

@@ -1,10 +1,9 @@
-use Rattle.std.proofs.Common.{◌≡◌, ◌<◌, ◌+◌, ◌∷◌, ◌++◌, [], ◌∙◌, ap, arith, length, rules, subst, sym, List, ℤ, get_or, pos}
+use Rattle.std.proofs.Common.{◌≡◌, ◌∷◌, ◌++◌, [], ◌∙◌, ap, arith, length, rules, subst, sym, get_or}
 use Rattle.std.proofs.lemmas.Int.{to_z-of_z}
 use Rattle.std.specs.Fmt.{signed_decimal}
 use Rattle.std.specs.Int.{w64}
 use mir.Val.{SFits}
 use Rattle.array_meaning.specs.First.{printed_by}
-use Rattle.hpf_base.specs.LocalOrder.{pieces_of}
 use Rattle.hpf_base.specs.Owner.{block_line}
 use Rattle.hpf_base.specs.Positions.{element}
 use Rattle.hpf_reader.specs.FirstValid.{IsWithin}

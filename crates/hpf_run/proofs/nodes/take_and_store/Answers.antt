@@ -1,4 +1,4 @@
-use Rattle.std.proofs.Common.{◌∙◌, ap, length, refl, subst, sym}
+use Rattle.std.proofs.Common.{◌∙◌, ap, refl, subst, sym}
 use Rattle.std.proofs.lemmas.Int.{to_z-of_z}
 use Rattle.std.specs.Int.{w64}
 use Rattle.hpf_reader.specs.declared.first.FirstStmt.TheVariants.{Shift}
@@ -7,7 +7,7 @@ use Rattle.hpf_base.specs.LocalOrder.{piece_of}
 use Rattle.hpf_base.specs.Owner.{block_line}
 use Rattle.hpf_reader.specs.FirstValid.{IsWithin}
 use Rattle.hpf_run.specs.Pieces.{values_needed}
-use Rattle.hpf_run.proofs.NodeLaws.{outboxes-count, outboxes-each, piece-sized}
+use Rattle.hpf_run.proofs.NodeLaws.{outboxes-count, outboxes-each}
 use Rattle.hpf_run.proofs.StoreLaws.{shifted-count}
 use Rattle.hpf_run.proofs.nodes.take_and_store.Goals as goal
 

@@ -12,7 +12,7 @@ returns-in-Ok-clause-untouched g c = λ none. absurd (none c.in-Some.nodes c.in-
 
 pub returns-in-Ok-clause-meant : goal.returns-in-Ok-clause-meant
 returns-in-Ok-clause-meant g c = text-meant _ _ _ c.in-Some.nodes c.in-Ok.text.items _ c.in-Some.ensures.some c.in-Ok.ensures.whole c.in-Ok.ensures.end c.in-Ok.ensures.short
-      (subst (λ t. TextMeant t (outcome_of c.reply_to_text.result)) c.deref.ensures.value c.reply_to_text.ensures)
+    (subst (λ t. TextMeant t (outcome_of c.reply_to_text.result)) c.deref.ensures.value c.reply_to_text.ensures)
 
 pub returns-in-Err-Fault-clause-untouched : goal.returns-in-Err-Fault-clause-untouched
 returns-in-Err-Fault-clause-untouched g c = λ none. absurd (none c.in-Some.nodes c.in-Some.ensures.some)
@@ -21,7 +21,7 @@ pub returns-in-Err-Fault-clause-meant : goal.returns-in-Err-Fault-clause-meant
 returns-in-Err-Fault-clause-meant g c =
     let taken = c.in-Err-Fault.ensures.in_time (λ e. let is = c.in-Err-Fault.field-0-is in cc) in
     means_read_fault c.in-Some.nodes c.in-Some.ensures.some (c.in-Err-Fault.ensures.fault (ap Err c.in-Err-Fault.field-0-is))
-      taken.0 taken.1 taken.2
+    taken.0 taken.1 taken.2
 
 pub returns-in-Err-TooLong-clause-untouched : goal.returns-in-Err-TooLong-clause-untouched
 returns-in-Err-TooLong-clause-untouched g c = λ none. absurd (none c.in-Some.nodes c.in-Some.ensures.some)

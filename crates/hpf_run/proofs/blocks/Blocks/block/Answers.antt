@@ -1,4 +1,4 @@
-use Rattle.std.proofs.Common.{◌≡◌, ◌+◌, ◌*◌, min, arith}
+use Rattle.std.proofs.Common.{◌≡◌, ◌+◌, ◌*◌, arith}
 use Rattle.hpf_base.proofs.Blocks.{owned-block}
 use Rattle.hpf_run.proofs.blocks.Blocks.block.Goals as goal
 

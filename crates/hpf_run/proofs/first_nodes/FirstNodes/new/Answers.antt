@@ -1,4 +1,4 @@
-use Rattle.std.proofs.Common.{◌≡◌, ◌≤◌, ◌∙◌, ap, arith, length, pos, replicate, sym}
+use Rattle.std.proofs.Common.{◌∙◌, ap, arith, pos, replicate, sym}
 use Rattle.std.proofs.lemmas.List.{length-replicate}
 use Rattle.hpf_base.specs.LocalOrder.{pieces_of}
 use Rattle.hpf_base.specs.Owner.{block_line}
