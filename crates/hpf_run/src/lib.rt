@@ -17,6 +17,8 @@ mod piece;
 mod reply;
 mod section;
 mod store;
+#[cfg(test)]
+mod tests;
 mod top;
 mod words;
 
