@@ -9,13 +9,11 @@ use Rattle.std.proofs.lemmas.List.{take-append-drop, take_at, drop_at, length-ta
 use Rattle.std.proofs.lemmas.List.Sums.{prefix_len-le-length}
 use Rattle.std.proofs.lemmas.Int.Digits.{digits_value_more}
 use Rattle.std.proofs.lemmas.Str.{digit_value_digit}
-use Rattle.std.proofs.lemmas.Str.Parse.{IsNumeralModel, numerals_by_value, tells_all_ascii_digits, digit_at, digits_value_short, digits_value-take-le}
+use Rattle.std.proofs.lemmas.Str.Parse.{digit_at, digits_value_short, digits_value-take-le}
+use Rattle.hpf_base.proofs.Digits.{decimals}
 use Rattle.hpf_reader.specs.FirstForm.{IsNumeral}
 use Rattle.hpf_reader.specs.FirstReading.{digit_count, number_at, whole_number}
 use Rattle.hpf_reader.proofs.Texts.{Ifs, bind_holds, test_holds}
-
-decimals : IsNumeralModel (λ ds. all_ascii_digits ds ≡ true) (digits_value 10)
-decimals = numerals_by_value _ tells_all_ascii_digits
 
 pub digit_below : (ds : List ℕ) (i : ℕ) → all_ascii_digits ds ≡ true → i < length ds → 48 ≤ get_or ds i 0
 digit_below ds i all lt = (digit_at ds i (decimals.to ds all) lt).0

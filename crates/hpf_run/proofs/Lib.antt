@@ -1,5 +1,4 @@
 pub mod Needs
-pub mod Digits
 pub mod NodeLaws
 pub mod PieceLaws
 pub mod StoreLaws

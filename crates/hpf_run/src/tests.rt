@@ -66,68 +66,69 @@ fn on<'a>(words: &'a [&'a str], text: &'a [u8]) -> Case<'a> {
     }
 }
 
+/// The answer of a run in which nothing fails is this one.
+fn gives(
+    rt: &impl Abort,
+    alloc: Global,
+    words: &[&str],
+    text: &[u8],
+    want: (Status, &[u8], &[u8]),
+) -> Result<(), Fail> {
+    let got = run(rt, alloc, &on(words, text))?;
+    assert_eq!(rt; got.status, want.0);
+    assert!(rt; got.out.as_slice() == want.1);
+    assert!(rt; got.err.as_slice() == want.2);
+    Ok(())
+}
+
 #[test]
-fn answers(rt: HostRuntime) -> Result<(), Fail> {
-    let alloc = rt.alloc();
-    let four: &[&str] = &["run", "--grid", "4"];
-    let cases: [(&[&str], &[u8], Status, &[u8], &[u8]); 9] = [
-        (four, ONE_BLOCK_ARRAY, Status::Done, b"6\n5\n", b""),
-        (
-            &["run", "--grid", "1"],
+fn any_grid(rt: HostRuntime) -> Result<(), Fail> {
+    for nodes in ["1", "4", "64", "04"] {
+        let words = ["run", "--grid", nodes];
+        gives(
+            &rt,
+            rt.alloc(),
+            &words,
             ONE_BLOCK_ARRAY,
-            Status::Done,
-            b"6\n5\n",
-            b"",
-        ),
-        (
-            &["run", "--grid", "64"],
-            ONE_BLOCK_ARRAY,
-            Status::Done,
-            b"6\n5\n",
-            b"",
-        ),
-        (
-            &["run", "--grid", "04"],
-            ONE_BLOCK_ARRAY,
-            Status::Done,
-            b"6\n5\n",
-            b"",
-        ),
-        (
-            four,
-            b"INTEGER A(3)\nEND\n",
-            Status::Refused,
-            b"",
-            b"hpf: line 2: refused 11 LeftOut\n",
-        ),
-        (
-            four,
-            b"",
-            Status::Refused,
-            b"",
-            b"hpf: line 1: refused 11 LeftOut\n",
-        ),
-        (
-            &["run", "--grid", "0"],
-            ONE_BLOCK_ARRAY,
-            Status::Usage,
-            b"",
-            USAGE,
-        ),
-        (
-            &["run", "--grid", "65"],
-            ONE_BLOCK_ARRAY,
-            Status::Usage,
-            b"",
-            USAGE,
-        ),
-        (&[], ONE_BLOCK_ARRAY, Status::Usage, b"", USAGE),
+            (Status::Done, b"6\n5\n", b""),
+        )?;
+    }
+    Ok(())
+}
+
+#[test]
+fn refusals(rt: HostRuntime) -> Result<(), Fail> {
+    let words = ["run", "--grid", "4"];
+    let second: &[u8] = b"hpf: line 2: refused 11 LeftOut\n";
+    gives(
+        &rt,
+        rt.alloc(),
+        &words,
+        b"INTEGER A(3)\nEND\n",
+        (Status::Refused, b"", second),
+    )?;
+    let first: &[u8] = b"hpf: line 1: refused 11 LeftOut\n";
+    gives(&rt, rt.alloc(), &words, b"", (Status::Refused, b"", first))?;
+    Ok(())
+}
+
+#[test]
+fn usage(rt: HostRuntime) -> Result<(), Fail> {
+    let cases: [&[&str]; 5] = [
+        &[],
+        &["run"],
+        &["run", "--grid", "0"],
+        &["run", "--grid", "65"],
+        &["run", "--grid", "+4"],
     ];
-    for (words, text, status, out, err) in &cases {
-        let got = run(&rt, alloc, &on(words, text))?;
-        assert_eq!(rt; got.status, *status);
-        assert!(rt; got.out.as_slice() == *out);
-        assert!(rt; got.err.as_slice() == *err);
+    for words in cases {
+        gives(
+            &rt,
+            rt.alloc(),
+            words,
+            ONE_BLOCK_ARRAY,
+            (Status::Usage, b"", USAGE),
+        )?;
     }
     Ok(())
 }
