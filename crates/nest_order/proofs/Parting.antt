@@ -1,0 +1,235 @@
+-- The law of fission: without interference, plain loops and parts one after another end alike.
+use Rattle.std.proofs.Common.{◌≡◌, ℕ, zero, suc, ◌<◌, ◌≤◌, ◌+◌, ◌-◌, nat_eq, nat_lt, if◌then◌else◌, Result, Ok, Err, List, refl, ap, sym, ◌∙◌, subst, ◌⊎◌, inl, inr, ⊎_elim, ℤ, arith}
+use Rattle.std.proofs.lemmas.Bool.{cases_eq, cases_lt}
+use Rattle.std.proofs.lemmas.Bool.Decides.{nat_tests}
+use Rattle.std.specs.List.{Contains}
+use Rattle.nest_order.specs.Memory.{Memory, Spot, read, write, Alike}
+use Rattle.nest_order.specs.Turns.{◌>>=◌}
+use Rattle.nest_order.specs.Effect.{Effect, Skip, Put, Fail, apply, then_apply, scatter}
+use Rattle.nest_order.specs.Orders.{alone, plain_parts, plain, parted, kept, Apart, IsLeastKept, NoneKept}
+use Rattle.nest_order.proofs.MemoryLemmas.{Alike-write, Alike-refl, Alike-trans, Alike-sym, spots, read-write_other, read-write_both, Memory-ext}
+
+-- some number below n, or none
+bounded : (P : ℕ → Type 0) (n : ℕ) → ((i : ℕ) → P i ⊎ (P i → ⊥)) → ((i : ℕ) × (i < n) × P i) ⊎ ((i : ℕ) → i < n → P i → ⊥)
+bounded P zero dec = inr (λ i lt p. absurd (omega arith))
+bounded P (suc n) dec = ⊎_elim
+    (λ p. inl (n, omega arith, p))
+    (λ never. ⊎_elim
+    (λ s. let lt : s.0 < n = s.1 in inl (s.0, omega arith, s.2))
+    (λ none. inr (λ i lt p. ⊎_elim (λ e. never (subst P e p)) (λ ne. none i (omega arith) p) (cases_eq i n)))
+    (bounded P n dec))
+    (dec n)
+
+-- a number for the iterations below i, and one for the others
+abbrev below : ℕ → ℕ → ℕ → ℕ → ℕ
+below i a b x = if nat_lt x i then a else b
+
+below_in : (i a b x : ℕ) → x < i → below i a b x ≡ a
+below_in i a b x lt = grind (arith, nat_tests)
+
+below_out : (i a b x : ℕ) → i ≤ x → below i a b x ≡ b
+below_out i a b x le = grind (arith, nat_tests)
+
+below_other : (i a b x : ℕ) → (i ≡ x → ⊥) → below (suc i) a b x ≡ below i a b x
+below_other i a b x ne = ⊎_elim
+    (λ lt. below_in (suc i) a b x (omega arith) ∙ sym (below_in i a b x lt))
+    (λ le. below_out (suc i) a b x (omega arith) ∙ sym (below_out i a b x le))
+    (cases_lt x i)
+
+-- the same for the iteration i alone
+abbrev here : ℕ → ℕ → (ℕ → ℕ) → ℕ → ℕ
+here i j p x = if nat_eq x i then j else p x
+
+here_at : (i j : ℕ) (p : ℕ → ℕ) → here i j p i ≡ j
+here_at i j p = grind (arith, nat_tests)
+
+here_other : (i j : ℕ) (p : ℕ → ℕ) (x : ℕ) → (i ≡ x → ⊥) → here i j p x ≡ p x
+here_other i j p x ne = grind (arith, nat_tests)
+
+module _ {F : Type 0} where
+  apply_both : (e : Effect F) (m m' : Memory) (l : Spot) → Alike m m' → read m l ≡ read m' l → read (apply e m) l ≡ read (apply e m') l
+  apply_both Skip m m' l alike same = same
+  apply_both (Put s v) m m' l alike same = read-write_both m m' s l v alike same
+  apply_both (Fail f) m m' l alike same = same
+
+  apply_other : (e : Effect F) (m : Memory) (l : Spot) → ((v : ℤ) → e ≡ Put l v → ⊥) → read (apply e m) l ≡ read m l
+  apply_other Skip m l never = refl
+  apply_other (Put s v) m l never = read-write_other m s l v (λ e. never v (ap (λ x. Put x v) e))
+  apply_other (Fail f) m l never = refl
+
+  Alike-apply : (e : Effect F) (m : Memory) → Alike (apply e m) m
+  Alike-apply Skip m = Alike-refl m
+  Alike-apply (Put s v) m = Alike-write m s v
+  Alike-apply (Fail f) m = Alike-refl m
+
+  puts : (e : Effect F) (l : Spot) → ((v : ℤ) × (e ≡ Put l v)) ⊎ ((v : ℤ) × (e ≡ Put l v) → ⊥)
+  puts Skip l = inr (λ h. let e = h.1 in cc)
+  puts (Fail f) l = inr (λ h. let e = h.1 in cc)
+  puts (Put s v) l = ⊎_elim
+      (λ e. inl (v, ap (λ x. Put x v) e))
+      (λ ne. inr (λ h. let e = h.1 in ne cc))
+      (spots s l)
+
+  goes_on : (e : Effect F) (m : Memory) → ((f : F) → e ≡ Fail f → ⊥) → then_apply e m ≡ Ok (apply e m)
+  goes_on Skip m never = refl
+  goes_on (Put s v) m never = refl
+  goes_on (Fail f) m never = absurd (never f refl)
+
+  module _ (act : ℕ → ℕ → Memory → Effect F) (start : Memory) where
+    pub Alike-alone : (i j : ℕ) → Alike (alone act start i j) start
+    Alike-alone i zero = Alike-refl start
+    Alike-alone i (suc j) = Alike-trans (alone act start i (suc j)) (alone act start i j) start (Alike-apply (act i j (alone act start i j)) (alone act start i j)) (Alike-alone i j)
+
+    module _ (n k : ℕ) (touches : ℕ → List Spot) (free : Apart act start n k touches) where
+      abbrev Unwritten : Spot → Type 0
+      Unwritten l = (i j : ℕ) (v : ℤ) → i < n → j < k → act i j (alone act start i j) ≡ Put l v → ⊥
+
+      -- a memory after p i parts of each iteration i, in some order
+      record Merged (p : ℕ → ℕ) (m : Memory) : Type 0 where
+        alike : Alike m start
+        touched : (i : ℕ) (l : Spot) → i < n → Contains (touches i) l → read m l ≡ read (alone act start i (p i)) l
+        rest : (l : Spot) → Unwritten l → read m l ≡ read start l
+
+      Merged-same : (p q : ℕ → ℕ) (m : Memory) → ((i : ℕ) → i < n → q i ≡ p i) → Merged p m → Merged q m
+      Merged-same p q m same h = record {
+        alike = h.alike;
+        touched = λ i l lt t. h.touched i l lt t ∙ ap (λ x. read (alone act start i x) l) (sym (same i lt));
+        rest = h.rest;
+      }
+
+      -- one more part of one iteration
+      step : (p q : ℕ → ℕ) (m : Memory) (i j : ℕ) → i < n → j < k → p i ≡ j → q i ≡ suc j → ((x : ℕ) → (i ≡ x → ⊥) → q x ≡ p x) → Merged p m →
+          Merged q (apply (act i j (alone act start i j)) m)
+      step p q m i j lt lt' at after others h =
+          let s = alone act start i j in
+          let e = act i j s in
+          record {
+            alike = Alike-trans (apply e m) m start (Alike-apply e m) h.alike;
+            touched = λ x l ltx t. ⊎_elim
+                (λ same. subst (λ y. Contains (touches y) l → read (apply e m) l ≡ read (alone act start y (q y)) l) same
+                (λ t. apply_both e m s l (Alike-trans m start s h.alike (Alike-sym s start (Alike-alone i j)))
+                (h.touched i l lt t ∙ ap (λ y. read (alone act start i y) l) at)
+                ∙ ap (λ y. read (alone act start i y) l) (sym after)) t)
+                (λ ne. apply_other e m l (λ v is. free.apart i x j l v lt ltx lt' ne is t)
+                ∙ h.touched x l ltx t ∙ ap (λ y. read (alone act start x y) l) (sym (others x ne)))
+                (cases_eq i x);
+            rest = λ l un. apply_other e m l (λ v is. un i j v lt lt' is) ∙ h.rest l un;
+          }
+
+      -- what a part does in such a memory is what it does alone
+      as_alone : (p : ℕ → ℕ) (m : Memory) (i j : ℕ) → i < n → j < k → p i ≡ j → Merged p m → act i j m ≡ act i j (alone act start i j)
+      as_alone p m i j lt lt' at h =
+          free.local i j m lt lt' h.alike (λ l t. h.touched i l lt t ∙ ap (λ y. read (alone act start i y) l) at)
+
+      Merged-start : Merged (λ i. 0) start
+      Merged-start = record { alike = Alike-refl start; touched = λ i l lt t. refl; rest = λ l un. refl }
+
+      -- part j for the first i iterations
+      scatter_merged : (j : ℕ) (m : Memory) → j < k → Merged (λ i. j) m → (i : ℕ) → i ≤ n → Merged (below i (suc j) j) (scatter (λ x. act x j m) i m)
+      scatter_merged j m lt h zero le = Merged-same (λ i. j) (below 0 (suc j) j) m (λ i ltn. below_out 0 (suc j) j i (omega arith)) h
+      scatter_merged j m lt h (suc i) le =
+          let so_far = scatter_merged j m lt h i (omega arith) in
+          subst (λ e. Merged (below (suc i) (suc j) j) (apply e (scatter (λ x. act x j m) i m))) (sym (as_alone (λ i. j) m i j (omega arith) lt refl h))
+          (step (below i (suc j) j) (below (suc i) (suc j) j) (scatter (λ x. act x j m) i m) i j (omega arith) lt
+          (below_out i (suc j) j i (omega arith)) (below_in (suc i) (suc j) j i (omega arith)) (λ x ne. below_other i (suc j) j x ne) so_far)
+
+      parted_merged : (j : ℕ) → j ≤ k → Merged (λ i. j) (parted act start n j)
+      parted_merged zero le = Merged-start
+      parted_merged (suc j) le =
+          let m = parted act start n j in
+          Merged-same (below n (suc j) j) (λ i. suc j) (parted act start n (suc j)) (λ i lt. sym (below_in n (suc j) j i lt))
+          (scatter_merged j m (omega arith) (parted_merged j (omega arith)) n (omega arith))
+
+      kept_alone : (i j : ℕ) → i < n → j < k → kept act start n i j ≡ act i j (alone act start i j)
+      kept_alone i j lt lt' = as_alone (λ i. j) (parted act start n j) i j lt lt' refl (parted_merged j (omega arith))
+
+      -- no fault of an iteration alone below the key (i, j)
+      abbrev Clean : ℕ → ℕ → Type 0
+      Clean i j = (x y : ℕ) (f : F) → x < n → y < k → (x < i) ⊎ ((x ≡ i) × (y < j)) → act x y (alone act start x y) ≡ Fail f → ⊥
+
+      -- the plain loops come to (i, j)
+      parts_come : (i : ℕ) → i < n → (m : Memory) → Merged (below i k 0) m → (j : ℕ) → j ≤ k → Clean i j →
+          (m' : Memory) × (plain_parts act start i j m ≡ Ok m') × Merged (here i j (below i k 0)) m'
+      parts_come i lt m h zero le clean = (
+        m,
+        refl,
+        Merged-same (below i k 0) (here i 0 (below i k 0)) m (λ x ltx. ⊎_elim
+            (λ e. subst (λ y. here i 0 (below i k 0) y ≡ below i k 0 y) e (here_at i 0 (below i k 0) ∙ sym (below_out i k 0 i (omega arith))))
+            (λ ne. here_other i 0 (below i k 0) x ne) (cases_eq i x)) h,
+      )
+      parts_come i lt m h (suc j) le clean =
+          let r = parts_come i lt m h j (omega arith) (λ x y f ltx lty sooner. clean x y f ltx lty (⊎_elim (λ a. inl a) (λ b. inr (b.0, let z : y < j = b.1 in omega arith)) sooner)) in
+          let p = here i j (below i k 0) in
+          let s = alone act start i j in
+          let same = as_alone p r.0 i j lt (omega arith) (here_at i j (below i k 0)) r.2 in (
+            apply (act i j s) r.0,
+            ap (λ x. x >>= (λ m'. then_apply (act i j m') m')) r.1
+                ∙ ap (λ e. then_apply e r.0) same
+                ∙ goes_on (act i j s) r.0 (λ f is. clean i j f lt (omega arith) (inr (refl, omega arith)) is),
+            step p (here i (suc j) (below i k 0)) r.0 i j lt (omega arith) (here_at i j (below i k 0)) (here_at i (suc j) (below i k 0))
+                (λ x ne. here_other i (suc j) (below i k 0) x ne ∙ sym (here_other i j (below i k 0) x ne)) r.2,
+          )
+
+      plain_comes : (i : ℕ) → i ≤ n → Clean i 0 → (m : Memory) × (plain act start k i ≡ Ok m) × Merged (below i k 0) m
+      plain_comes zero le clean = (start, refl, Merged-same (λ i. 0) (below 0 k 0) start (λ i lt. below_out 0 k 0 i (omega arith)) Merged-start)
+      plain_comes (suc i) le clean =
+          let r = plain_comes i (omega arith) (λ x y f ltx lty sooner. clean x y f ltx lty (⊎_elim (λ a. inl (let z : x < i = a in omega arith)) (λ b. absurd (let z : y < 0 = b.1 in omega arith)) sooner)) in
+          let t = parts_come i (omega arith) r.0 r.2 k (omega arith) (λ x y f ltx lty sooner. clean x y f ltx lty (inl (⊎_elim (λ a. let z : x < i = a in omega arith) (λ b. let z : x ≡ i = b.0 in omega arith) sooner))) in (
+            t.0,
+            ap (λ x. x >>= plain_parts act start i k) r.1 ∙ t.1,
+            Merged-same (here i k (below i k 0)) (below (suc i) k 0) t.0 (λ x ltx. ⊎_elim
+                (λ e. subst (λ y. below (suc i) k 0 y ≡ here i k (below i k 0) y) e (below_in (suc i) k 0 i (omega arith) ∙ sym (here_at i k (below i k 0))))
+                (λ ne. below_other i k 0 x ne ∙ sym (here_other i k (below i k 0) x ne)) (cases_eq i x)) t.2,
+          )
+
+      -- all parts of all iterations, in any two orders
+      ends_alike : (m m' : Memory) → Merged (λ i. k) m → Merged (λ i. k) m' → m ≡ m'
+      ends_alike m m' h g = Memory-ext m m' (Alike-trans m start m' h.alike (Alike-sym m' start g.alike)) (λ l. ⊎_elim
+          (λ w. let i = w.0 in let t = free.stores i w.2.0 l w.2.2.0 w.1 w.2.1 w.2.2.1 in h.touched i l w.1 t ∙ sym (g.touched i l w.1 t))
+          (λ none. let un : Unwritten l = λ i j v lt lt' is. none i lt (j, lt', (v, is)) in h.rest l un ∙ sym (g.rest l un))
+          (writer l))
+        where
+          Writes : Spot → ℕ → ℕ → Type 0
+          Writes l i j = (v : ℤ) × (act i j (alone act start i j) ≡ Put l v)
+
+          of_row : (l : Spot) (i : ℕ) → (((j : ℕ) × (j < k) × ((v : ℤ) × (act i j (alone act start i j) ≡ Put l v))) ⊎ ((j : ℕ) × (j < k) × ((v : ℤ) × (act i j (alone act start i j) ≡ Put l v)) → ⊥))
+          of_row l i = ⊎_elim (λ s. inl s) (λ none. inr (λ s. none s.0 s.1 s.2))
+              (bounded (λ j. (v : ℤ) × (act i j (alone act start i j) ≡ Put l v)) k (λ j. puts (act i j (alone act start i j)) l))
+
+          writer : (l : Spot) → ((i : ℕ) × (i < n) × ((j : ℕ) × (j < k) × ((v : ℤ) × (act i j (alone act start i j) ≡ Put l v)))) ⊎ ((i : ℕ) → i < n → (j : ℕ) × (j < k) × ((v : ℤ) × (act i j (alone act start i j) ≡ Put l v)) → ⊥)
+          writer l = bounded (λ i. (j : ℕ) × (j < k) × ((v : ℤ) × (act i j (alone act start i j) ≡ Put l v))) n (λ i. of_row l i)
+
+      -- where no fault is kept
+      pub fission_finishes : NoneKept act start n k → plain act start k n ≡ Ok (parted act start n k)
+      fission_finishes clean =
+          let r = plain_comes n (omega arith) (λ x y f ltx lty sooner is. clean x y f ltx lty (kept_alone x y ltx lty ∙ is)) in
+          r.1 ∙ ap (λ m. Ok m) (ends_alike r.0 (parted act start n k)
+          (Merged-same (below n k 0) (λ i. k) r.0 (λ i lt. sym (below_in n k 0 i lt)) r.2) (parted_merged k (omega arith)))
+
+      pub parts_stop : (i j d : ℕ) (m : Memory) (f : F) → plain_parts act start i j m ≡ Err f → plain_parts act start i (d + j) m ≡ Err f
+      parts_stop i j zero m f e = let z : j ≡ 0 + j = omega arith in subst (λ x. plain_parts act start i x m ≡ Err f) z e
+      parts_stop i j (suc d) m f e =
+          let z : suc (d + j) ≡ suc d + j = omega arith in
+          subst (λ x. plain_parts act start i x m ≡ Err f) z (ap (λ x. x >>= (λ m'. then_apply (act i (d + j) m') m')) (parts_stop i j d m f e))
+
+      pub plain_stops : (i d : ℕ) (f : F) → plain act start k i ≡ Err f → plain act start k (d + i) ≡ Err f
+      plain_stops i zero f e = let z : i ≡ 0 + i = omega arith in subst (λ x. plain act start k x ≡ Err f) z e
+      plain_stops i (suc d) f e =
+          let z : suc (d + i) ≡ suc d + i = omega arith in
+          subst (λ x. plain act start k x ≡ Err f) z (ap (λ x. x >>= plain_parts act start (d + i) k) (plain_stops i d f e))
+
+      -- where one is kept, the least key has the first fault of the plain loops
+      pub fission_faults : (i j : ℕ) (f : F) → IsLeastKept act start n k i j f → plain act start k n ≡ Err f
+      fission_faults i j f least =
+          let lt = least.iteration in
+          let lt' = least.part in
+          let clean : Clean i j = λ x y g ltx lty sooner is. least.sooner x y g ltx lty sooner (kept_alone x y ltx lty ∙ is) in
+          let r = plain_comes i (omega arith) (λ x y g ltx lty sooner. clean x y g ltx lty (⊎_elim (λ a. inl a) (λ b. absurd (let z : y < 0 = b.1 in omega arith)) sooner)) in
+          let t = parts_come i lt r.0 r.2 j (omega arith) clean in
+          let same = as_alone (here i j (below i k 0)) t.0 i j lt lt' (here_at i j (below i k 0)) t.2 ∙ sym (kept_alone i j lt lt') ∙ least.here in
+          let at : plain_parts act start i (suc j) r.0 ≡ Err f = ap (λ x. x >>= (λ m'. then_apply (act i j m') m')) t.1 ∙ ap (λ e. then_apply e t.0) same in
+          let z : k - suc j + suc j ≡ k = omega arith in
+          let row = subst (λ x. plain_parts act start i x r.0 ≡ Err f) z (parts_stop i (suc j) (k - suc j) r.0 f at) in
+          let all = ap (λ x. x >>= plain_parts act start i k) r.1 ∙ row in
+          let y : n - suc i + suc i ≡ n = omega arith in
+          subst (λ x. plain act start k x ≡ Err f) y (plain_stops (suc i) (n - suc i) f all)

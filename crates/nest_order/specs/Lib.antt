@@ -1,0 +1,4 @@
+pub mod Turns
+pub mod Memory
+pub mod Effect
+pub mod Orders

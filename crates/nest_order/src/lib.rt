@@ -1,0 +1,6 @@
+//! The order of parallel iterations.
+#![tactic(auto)]
+
+mod orders;
+
+pub use orders::{law_of_fission};
