@@ -1,2 +1,4 @@
 mod MemoryLemmas
 mod Parting
+mod Flattening
+mod Touching
