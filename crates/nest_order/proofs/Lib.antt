@@ -2,3 +2,4 @@ mod MemoryLemmas
 mod Parting
 mod Flattening
 mod Touching
+mod LastCopy

@@ -47,6 +47,13 @@ here_other : (i j : ℕ) (p : ℕ → ℕ) (x : ℕ) → (i ≡ x → ⊥) → h
 here_other i j p x ne = grind (arith, nat_tests)
 
 module _ {F : Type 0} where
+  ok_same : {A : Type 0} (a b : A) → (let x : Result A F = Ok a in x) ≡ Ok b → a ≡ b
+  ok_same a b h = cc
+
+  bound : {A B : Type 0} (r : Result A F) (f : A → Result B F) (b : B) → r >>= f ≡ Ok b → (a : A) × (r ≡ Ok a) × (f a ≡ Ok b)
+  bound (Ok a) f b h = (a, refl, h)
+  bound (Err e) f b h = absurd cc
+
   apply_both : (e : Effect F) (m m' : Memory) (l : Spot) → Alike m m' → read m l ≡ read m' l → read (apply e m) l ≡ read (apply e m') l
   apply_both Skip m m' l alike same = same
   apply_both (Put s v) m m' l alike same = read-write_both m m' s l v alike same
@@ -69,6 +76,11 @@ module _ {F : Type 0} where
       (λ e. inl (v, ap (λ x. Put x v) e))
       (λ ne. inr (λ h. let e = h.1 in ne cc))
       (spots s l)
+
+  applied : (e : Effect F) (m m' : Memory) → then_apply e m ≡ Ok m' → apply e m ≡ m'
+  applied Skip m m' h = ok_same m m' h
+  applied (Put s v) m m' h = ok_same (write m s v) m' h
+  applied (Fail f) m m' h = cc
 
   goes_on : (e : Effect F) (m : Memory) → ((f : F) → e ≡ Fail f → ⊥) → then_apply e m ≡ Ok (apply e m)
   goes_on Skip m never = refl
@@ -140,47 +152,67 @@ module _ {F : Type 0} where
           Merged-same (below n (suc j) j) (λ i. suc j) (parted act start n (suc j)) (λ i lt. sym (below_in n (suc j) j i lt))
           (scatter_merged j m (omega arith) (parted_merged j (omega arith)) n (omega arith))
 
-      kept_alone : (i j : ℕ) → i < n → j < k → kept act start n i j ≡ act i j (alone act start i j)
+      pub kept_alone : (i j : ℕ) → i < n → j < k → kept act start n i j ≡ act i j (alone act start i j)
       kept_alone i j lt lt' = as_alone (λ i. j) (parted act start n j) i j lt lt' refl (parted_merged j (omega arith))
 
       -- no fault of an iteration alone below the key (i, j)
       abbrev Clean : ℕ → ℕ → Type 0
       Clean i j = (x y : ℕ) (f : F) → x < n → y < k → (x < i) ⊎ ((x ≡ i) × (y < j)) → act x y (alone act start x y) ≡ Fail f → ⊥
 
-      -- the plain loops come to (i, j)
-      parts_come : (i : ℕ) → i < n → (m : Memory) → Merged (below i k 0) m → (j : ℕ) → j ≤ k → Clean i j →
-          (m' : Memory) × (plain_parts act start i j m ≡ Ok m') × Merged (here i j (below i k 0)) m'
-      parts_come i lt m h zero le clean = (
-        m,
-        refl,
-        Merged-same (below i k 0) (here i 0 (below i k 0)) m (λ x ltx. ⊎_elim
-            (λ e. subst (λ y. here i 0 (below i k 0) y ≡ below i k 0 y) e (here_at i 0 (below i k 0) ∙ sym (below_out i k 0 i (omega arith))))
-            (λ ne. here_other i 0 (below i k 0) x ne) (cases_eq i x)) h,
-      )
-      parts_come i lt m h (suc j) le clean =
-          let r = parts_come i lt m h j (omega arith) (λ x y f ltx lty sooner. clean x y f ltx lty (⊎_elim (λ a. inl a) (λ b. inr (b.0, let z : y < j = b.1 in omega arith)) sooner)) in
+      -- the plain order as far as it comes
+      parts_merged : (i : ℕ) → i < n → (m : Memory) → Merged (below i k 0) m → (j : ℕ) → j ≤ k → (m' : Memory) → plain_parts act start i j m ≡ Ok m' → Merged (here i j (below i k 0)) m'
+      parts_merged i lt m h zero le m' e =
+          let p = below i k 0 in
+          subst (Merged (here i 0 p)) (ok_same m m' e)
+          (Merged-same p (here i 0 p) m (λ x ltx. ⊎_elim
+          (λ is. subst (λ y. here i 0 p y ≡ p y) is (here_at i 0 p ∙ sym (below_out i k 0 i (omega arith))))
+          (λ ne. here_other i 0 p x ne) (cases_eq i x)) h)
+      parts_merged i lt m h (suc j) le m' e =
+          let p = below i k 0 in
+          let r = bound (plain_parts act start i j m) (λ t. then_apply (act i j t) t) m' e in
+          let so_far = parts_merged i lt m h j (omega arith) r.0 r.1 in
+          let same = as_alone (here i j p) r.0 i j lt (omega arith) (here_at i j p) so_far in
+          subst (Merged (here i (suc j) p)) (ap (λ f. apply f r.0) (sym same) ∙ applied (act i j r.0) r.0 m' r.2)
+          (step (here i j p) (here i (suc j) p) r.0 i j lt (omega arith) (here_at i j p) (here_at i (suc j) p)
+          (λ x ne. here_other i (suc j) p x ne ∙ sym (here_other i j p x ne)) so_far)
+
+      plain_merged : (i : ℕ) → i ≤ n → (m : Memory) → plain act start k i ≡ Ok m → Merged (below i k 0) m
+      plain_merged zero le m e = subst (Merged (below 0 k 0)) (ok_same start m e) (Merged-same (λ i. 0) (below 0 k 0) start (λ i lt. below_out 0 k 0 i (omega arith)) Merged-start)
+      plain_merged (suc i) le m e =
+          let p = below i k 0 in
+          let r = bound (plain act start k i) (plain_parts act start i k) m e in
+          Merged-same (here i k p) (below (suc i) k 0) m (λ x ltx. ⊎_elim
+          (λ is. subst (λ y. below (suc i) k 0 y ≡ here i k p y) is (below_in (suc i) k 0 i (omega arith) ∙ sym (here_at i k p)))
+          (λ ne. below_other i k 0 x ne ∙ sym (here_other i k p x ne)) (cases_eq i x))
+          (parts_merged i (omega arith) r.0 (plain_merged i (omega arith) r.0 r.1) k (omega arith) m r.2)
+
+      -- what a part does where the plain order comes to it is what it does alone
+      plain_alone : (i j : ℕ) → i < n → j < k → (before m : Memory) → plain act start k i ≡ Ok before → plain_parts act start i j before ≡ Ok m → act i j m ≡ act i j (alone act start i j)
+      plain_alone i j lt lt' before m come at =
           let p = here i j (below i k 0) in
-          let s = alone act start i j in
-          let same = as_alone p r.0 i j lt (omega arith) (here_at i j (below i k 0)) r.2 in (
+          as_alone p m i j lt lt' (here_at i j (below i k 0)) (parts_merged i lt before (plain_merged i (omega arith) before come) j (omega arith) m at)
+
+      pub plain_kept : (i j : ℕ) (before m : Memory) → i < n → j < k → plain act start k i ≡ Ok before → plain_parts act start i j before ≡ Ok m → act i j m ≡ kept act start n i j
+      plain_kept i j before m lt lt' come at = plain_alone i j lt lt' before m come at ∙ sym (kept_alone i j lt lt')
+
+      -- the plain order comes to (i, j)
+      parts_come : (i : ℕ) → i < n → (before : Memory) → plain act start k i ≡ Ok before → (j : ℕ) → j ≤ k → Clean i j → (m : Memory) × (plain_parts act start i j before ≡ Ok m)
+      parts_come i lt before come zero le clean = (before, refl)
+      parts_come i lt before come (suc j) le clean =
+          let r = parts_come i lt before come j (omega arith) (λ x y f ltx lty sooner. clean x y f ltx lty (⊎_elim (λ a. inl a) (λ b. inr (b.0, let z : y < j = b.1 in omega arith)) sooner)) in
+          let s = alone act start i j in (
             apply (act i j s) r.0,
-            ap (λ x. x >>= (λ m'. then_apply (act i j m') m')) r.1
-                ∙ ap (λ e. then_apply e r.0) same
+            ap (λ x. x >>= (λ t. then_apply (act i j t) t)) r.1
+                ∙ ap (λ e. then_apply e r.0) (plain_alone i j lt (omega arith) before r.0 come r.1)
                 ∙ goes_on (act i j s) r.0 (λ f is. clean i j f lt (omega arith) (inr (refl, omega arith)) is),
-            step p (here i (suc j) (below i k 0)) r.0 i j lt (omega arith) (here_at i j (below i k 0)) (here_at i (suc j) (below i k 0))
-                (λ x ne. here_other i (suc j) (below i k 0) x ne ∙ sym (here_other i j (below i k 0) x ne)) r.2,
           )
 
-      plain_comes : (i : ℕ) → i ≤ n → Clean i 0 → (m : Memory) × (plain act start k i ≡ Ok m) × Merged (below i k 0) m
-      plain_comes zero le clean = (start, refl, Merged-same (λ i. 0) (below 0 k 0) start (λ i lt. below_out 0 k 0 i (omega arith)) Merged-start)
+      plain_comes : (i : ℕ) → i ≤ n → Clean i 0 → (m : Memory) × (plain act start k i ≡ Ok m)
+      plain_comes zero le clean = (start, refl)
       plain_comes (suc i) le clean =
           let r = plain_comes i (omega arith) (λ x y f ltx lty sooner. clean x y f ltx lty (⊎_elim (λ a. inl (let z : x < i = a in omega arith)) (λ b. absurd (let z : y < 0 = b.1 in omega arith)) sooner)) in
-          let t = parts_come i (omega arith) r.0 r.2 k (omega arith) (λ x y f ltx lty sooner. clean x y f ltx lty (inl (⊎_elim (λ a. let z : x < i = a in omega arith) (λ b. let z : x ≡ i = b.0 in omega arith) sooner))) in (
-            t.0,
-            ap (λ x. x >>= plain_parts act start i k) r.1 ∙ t.1,
-            Merged-same (here i k (below i k 0)) (below (suc i) k 0) t.0 (λ x ltx. ⊎_elim
-                (λ e. subst (λ y. below (suc i) k 0 y ≡ here i k (below i k 0) y) e (below_in (suc i) k 0 i (omega arith) ∙ sym (here_at i k (below i k 0))))
-                (λ ne. below_other i k 0 x ne ∙ sym (here_other i k (below i k 0) x ne)) (cases_eq i x)) t.2,
-          )
+          let t = parts_come i (omega arith) r.0 r.1 k (omega arith) (λ x y f ltx lty sooner. clean x y f ltx lty (inl (⊎_elim (λ a. let z : x < i = a in omega arith) (λ b. let z : x ≡ i = b.0 in omega arith) sooner))) in
+          (t.0, ap (λ x. x >>= plain_parts act start i k) r.1 ∙ t.1)
 
       -- all parts of all iterations, in any two orders
       ends_alike : (m m' : Memory) → Merged (λ i. k) m → Merged (λ i. k) m' → m ≡ m'
@@ -199,35 +231,38 @@ module _ {F : Type 0} where
           writer : (l : Spot) → ((i : ℕ) × (i < n) × ((j : ℕ) × (j < k) × ((v : ℤ) × (act i j (alone act start i j) ≡ Put l v)))) ⊎ ((i : ℕ) → i < n → (j : ℕ) × (j < k) × ((v : ℤ) × (act i j (alone act start i j) ≡ Put l v)) → ⊥)
           writer l = bounded (λ i. (j : ℕ) × (j < k) × ((v : ℤ) × (act i j (alone act start i j) ≡ Put l v))) n (λ i. of_row l i)
 
+      pub parted_alone : (i : ℕ) (l : Spot) → i < n → Contains (touches i) l → read (parted act start n k) l ≡ read (alone act start i k) l
+      parted_alone i l lt t = (parted_merged k (omega arith)).touched i l lt t
+
       -- where no fault is kept
       pub fission_finishes : NoneKept act start n k → plain act start k n ≡ Ok (parted act start n k)
       fission_finishes clean =
           let r = plain_comes n (omega arith) (λ x y f ltx lty sooner is. clean x y f ltx lty (kept_alone x y ltx lty ∙ is)) in
-          r.1 ∙ ap (λ m. Ok m) (ends_alike r.0 (parted act start n k)
-          (Merged-same (below n k 0) (λ i. k) r.0 (λ i lt. sym (below_in n k 0 i lt)) r.2) (parted_merged k (omega arith)))
+          r.1 ∙ ap Ok (ends_alike r.0 (parted act start n k)
+          (Merged-same (below n k 0) (λ i. k) r.0 (λ i lt. sym (below_in n k 0 i lt)) (plain_merged n (omega arith) r.0 r.1)) (parted_merged k (omega arith)))
 
-      pub parts_stop : (i j d : ℕ) (m : Memory) (f : F) → plain_parts act start i j m ≡ Err f → plain_parts act start i (d + j) m ≡ Err f
+      parts_stop : (i j d : ℕ) (m : Memory) (f : F) → plain_parts act start i j m ≡ Err f → plain_parts act start i (d + j) m ≡ Err f
       parts_stop i j zero m f e = let z : j ≡ 0 + j = omega arith in subst (λ x. plain_parts act start i x m ≡ Err f) z e
       parts_stop i j (suc d) m f e =
           let z : suc (d + j) ≡ suc d + j = omega arith in
-          subst (λ x. plain_parts act start i x m ≡ Err f) z (ap (λ x. x >>= (λ m'. then_apply (act i (d + j) m') m')) (parts_stop i j d m f e))
+          subst (λ x. plain_parts act start i x m ≡ Err f) z (ap (λ x. x >>= (λ t. then_apply (act i (d + j) t) t)) (parts_stop i j d m f e))
 
-      pub plain_stops : (i d : ℕ) (f : F) → plain act start k i ≡ Err f → plain act start k (d + i) ≡ Err f
+      plain_stops : (i d : ℕ) (f : F) → plain act start k i ≡ Err f → plain act start k (d + i) ≡ Err f
       plain_stops i zero f e = let z : i ≡ 0 + i = omega arith in subst (λ x. plain act start k x ≡ Err f) z e
       plain_stops i (suc d) f e =
           let z : suc (d + i) ≡ suc d + i = omega arith in
           subst (λ x. plain act start k x ≡ Err f) z (ap (λ x. x >>= plain_parts act start (d + i) k) (plain_stops i d f e))
 
-      -- where one is kept, the least key has the first fault of the plain loops
+      -- where one is kept, the least key has the first fault of the plain order
       pub fission_faults : (i j : ℕ) (f : F) → IsLeastKept act start n k i j f → plain act start k n ≡ Err f
       fission_faults i j f least =
           let lt = least.iteration in
           let lt' = least.part in
           let clean : Clean i j = λ x y g ltx lty sooner is. least.sooner x y g ltx lty sooner (kept_alone x y ltx lty ∙ is) in
           let r = plain_comes i (omega arith) (λ x y g ltx lty sooner. clean x y g ltx lty (⊎_elim (λ a. inl a) (λ b. absurd (let z : y < 0 = b.1 in omega arith)) sooner)) in
-          let t = parts_come i lt r.0 r.2 j (omega arith) clean in
-          let same = as_alone (here i j (below i k 0)) t.0 i j lt lt' (here_at i j (below i k 0)) t.2 ∙ sym (kept_alone i j lt lt') ∙ least.here in
-          let at : plain_parts act start i (suc j) r.0 ≡ Err f = ap (λ x. x >>= (λ m'. then_apply (act i j m') m')) t.1 ∙ ap (λ e. then_apply e t.0) same in
+          let t = parts_come i lt r.0 r.1 j (omega arith) clean in
+          let same = plain_kept i j r.0 t.0 lt lt' r.1 t.1 ∙ least.here in
+          let at : plain_parts act start i (suc j) r.0 ≡ Err f = ap (λ x. x >>= (λ m. then_apply (act i j m) m)) t.1 ∙ ap (λ e. then_apply e t.0) same in
           let z : k - suc j + suc j ≡ k = omega arith in
           let row = subst (λ x. plain_parts act start i x r.0 ≡ Err f) z (parts_stop i (suc j) (k - suc j) r.0 f at) in
           let all = ap (λ x. x >>= plain_parts act start i k) r.1 ∙ row in

@@ -4,3 +4,6 @@ pub mod Effect
 pub mod Orders
 pub mod Items
 pub mod Listed
+pub mod LastValue
+pub mod Reduction
+pub mod NestIndex

@@ -1,9 +1,9 @@
 //! The law of fission.
 
-ghost use Rattle.std.specs.Prelude.{◌≡◌, ℕ, List, Ok, Err};
+ghost use Rattle.std.specs.Prelude.{◌≡◌, ℕ, ◌<◌, List, Ok, Err};
 ghost use Rattle.nest_order.specs.Memory.{Memory, Spot};
 ghost use Rattle.nest_order.specs.Effect.{Effect};
-ghost use Rattle.nest_order.specs.Orders.{plain, parted, Apart, NoneKept, IsLeastKept};
+ghost use Rattle.nest_order.specs.Orders.{plain_parts, plain, parted, kept, Apart, NoneKept, IsLeastKept};
 
 /// The law of fission. Let no iteration store where another one touches, and let each iteration's parts depend on what
 /// it touches alone. Where no fault is kept, the plain order ends with the memory of the parted order. Else it ends
@@ -17,4 +17,15 @@ pub fn law_of_fission<F>()
         → Apart act start n parts touches
         → IsLeastKept act start n parts i j fault
         → plain act start parts n ≡ Err fault }
+{}
+
+/// As far as the plain order comes, each part does there what it does in the parted order.
+pub fn parts_agree<F>()
+    ensures { (act : ℕ → ℕ → Memory → Effect F) (start : Memory) (n parts i j : ℕ) (touches : ℕ → List Spot) (before m : Memory)
+        → Apart act start n parts touches
+        → i < n
+        → j < parts
+        → plain act start parts i ≡ Ok before
+        → plain_parts act start i j before ≡ Ok m
+        → act i j m ≡ kept act start n i j }
 {}
