@@ -3,3 +3,6 @@ mod Parting
 mod Flattening
 mod Touching
 mod LastCopy
+mod Numbering
+mod Joins
+mod Reducing
