@@ -3,7 +3,7 @@ use Rattle.std.proofs.Common.{◌≡◌, ℕ, zero, suc, ◌+◌, ◌<◌, ◌�
 use Rattle.std.specs.Prelude.{nat_eq, ◌&&◌, not, if◌then◌else◌}
 use Rattle.std.proofs.lemmas.Bool.Decides.{nat_tests}
 use Rattle.nest_order.specs.Turns.{◌>>=◌, in_turn}
-use Rattle.nest_order.specs.Items.{joined_up_to, Conditions, set_condition, guard_holds, none_holds, IsBelow, Iteration, Items, Done, Then, If, Repeat, Branches, EndIf, Branch, Part, Acts, Tests, exec, exec_branches, count_items, count_branches, flat, flat_branches, do_part, do_parts, Matches}
+use Rattle.nest_order.specs.Items.{joined_up_to, Conditions, set_condition, guard_holds, none_holds, IsBelow, Iteration, Items, Done, Then, If, Repeat, Branches, EndIf, Branch, Part, Acts, Tests, Evaluation, holds_in, exec, exec_branches, count_items, count_branches, flat, flat_branches, do_part, do_parts, Matches}
 
 pub set_at : (c : Conditions) (n : ℕ) (b : Bool) → set_condition c n b n ≡ b
 set_at c n b = let e : nat_eq n n ≡ true = grind (arith, nat_tests) in ap (λ t. if t then b else c n) e
@@ -85,31 +85,31 @@ Matches-below : {M F : Type 0} (k k' : ℕ) (c c' : Conditions) (r : Result (Ite
 Matches-below k k' c c' r (Ok m) le kept h = (h.0, h.1, λ x lt. h.2 x (omega arith) ∙ kept x lt)
 Matches-below k k' c c' r (Err f) le kept h = h
 
-module _ {M F L : Type 0} where
-  parts_append : (ps qs : List (Part M F L)) (s : Iteration M) → do_parts (ps ++ qs) s ≡ do_parts ps s >>= do_parts qs
+module _ {A C M F : Type 0} (E : Evaluation A C M F) where
+  parts_append : (ps qs : List (Part A C)) (s : Iteration M) → do_parts E (ps ++ qs) s ≡ do_parts E ps s >>= do_parts E qs
   parts_append [] qs s = refl
-  parts_append (p ∷ ps) qs s = after (λ t. parts_append ps qs t) (do_part p s)
+  parts_append (p ∷ ps) qs s = after (λ t. parts_append ps qs t) (do_part E p s)
     where
-      after : ((t : Iteration M) → do_parts (ps ++ qs) t ≡ do_parts ps t >>= do_parts qs) → (r : Result (Iteration M) F) → r >>= do_parts (ps ++ qs) ≡ (r >>= do_parts ps) >>= do_parts qs
+      after : ((t : Iteration M) → do_parts E (ps ++ qs) t ≡ do_parts E ps t >>= do_parts E qs) → (r : Result (Iteration M) F) → r >>= do_parts E (ps ++ qs) ≡ (r >>= do_parts E ps) >>= do_parts E qs
       after rec (Ok t) = rec t
       after rec (Err f) = refl
 
-  leads : (ps qs : List (Part M F L)) (s t : Iteration M) → do_parts ps s ≡ Ok t → do_parts (ps ++ qs) s ≡ do_parts qs t
-  leads ps qs s t e = parts_append ps qs s ∙ ap (λ r. r >>= do_parts qs) e
+  leads : (ps qs : List (Part A C)) (s t : Iteration M) → do_parts E ps s ≡ Ok t → do_parts E (ps ++ qs) s ≡ do_parts E qs t
+  leads ps qs s t e = parts_append ps qs s ∙ ap (λ r. r >>= do_parts E qs) e
 
   -- the parts leave the memory and the conditions below k
-  abbrev Skipped : ℕ → List (Part M F L) → M → Conditions → Type 0
-  Skipped k ps m c = (d : Conditions) × (do_parts ps (at m c) ≡ Ok (at m d)) × Kept k c d
+  abbrev Skipped : ℕ → List (Part A C) → M → Conditions → Type 0
+  Skipped k ps m c = (d : Conditions) × (do_parts E ps (at m c) ≡ Ok (at m d)) × Kept k c d
 
-  skipped_below : (k k' : ℕ) (ps : List (Part M F L)) (m : M) (c : Conditions) → k ≤ k' → Skipped k' ps m c → Skipped k ps m c
+  skipped_below : (k k' : ℕ) (ps : List (Part A C)) (m : M) (c : Conditions) → k ≤ k' → Skipped k' ps m c → Skipped k ps m c
   skipped_below k k' ps m c le h = (h.0, h.1, kept-below k k' c h.0 le h.2)
 
-  skipped_append : (k : ℕ) (ps qs : List (Part M F L)) (m : M) (c : Conditions) → Skipped k ps m c → ((d : Conditions) → Kept k c d → Skipped k qs m d) → Skipped k (ps ++ qs) m c
+  skipped_append : (k : ℕ) (ps qs : List (Part A C)) (m : M) (c : Conditions) → Skipped k ps m c → ((d : Conditions) → Kept k c d → Skipped k qs m d) → Skipped k (ps ++ qs) m c
   skipped_append k ps qs m c h next =
       let g = next h.0 h.2 in
       (g.0, leads ps qs (at m c) (at m h.0) h.1 ∙ g.1, kept-trans k c h.0 g.0 h.2 g.2)
 
-  skipped_turns : (k : ℕ) (g : Option ℕ) (lists : ℕ → List (Part M F L)) (m : M) → IsBelow g k → ((x : ℕ) (c : Conditions) → guard_holds g c ≡ false → Skipped k (lists x) m c) →
+  skipped_turns : (k : ℕ) (g : Option ℕ) (lists : ℕ → List (Part A C)) (m : M) → IsBelow g k → ((x : ℕ) (c : Conditions) → guard_holds g c ≡ false → Skipped k (lists x) m c) →
       (t : ℕ) (c : Conditions) → guard_holds g c ≡ false → Skipped k (joined_up_to t lists) m c
   skipped_turns k g lists m below each zero c off = (c, refl, λ x lt. refl)
   skipped_turns k g lists m below each (suc t) c off =
@@ -117,11 +117,11 @@ module _ {M F L : Type 0} where
 
   mutual
     -- behind a guard that doesn't hold nothing is done
-    skip : (items : Items M F L) (g : Option ℕ) (k : ℕ) → IsBelow g k → (m : M) (c : Conditions) → guard_holds g c ≡ false → Skipped k (flat items g k) m c
+    skip : (items : Items A C) (g : Option ℕ) (k : ℕ) → IsBelow g k → (m : M) (c : Conditions) → guard_holds g c ≡ false → Skipped k (flat items g k) m c
     skip Done g k below m c off = (c, refl, λ x lt. refl)
-    skip (Then names a rest) g k below m c off =
+    skip (Then a rest) g k below m c off =
         let r = skip rest g k below m c off in
-        (r.0, ap (λ b. ((if b then a m else Ok m) >>= (λ m'. let v : Result (Iteration M) F = Ok (at m' c) in v)) >>= do_parts (flat rest g k)) off ∙ r.1, r.2)
+        (r.0, ap (λ b. ((if b then E.action a m else Ok m) >>= (λ m'. let v : Result (Iteration M) F = Ok (at m' c) in v)) >>= do_parts E (flat rest g k)) off ∙ r.1, r.2)
     skip (If branches rest) g k below m c off =
         skipped_append k (flat_branches branches g [] k) (flat rest g (k + count_branches branches)) m c (skip_branches branches g [] k below tt m c (tested_first g c ∙ off))
         (λ d kept. skipped_below k (k + count_branches branches) (flat rest g (k + count_branches branches)) m d (omega arith)
@@ -131,9 +131,9 @@ module _ {M F L : Type 0} where
         (λ d kept. skipped_below k (k + count_items (body 0)) (flat rest g (k + count_items (body 0))) m d (omega arith)
         (skip rest g (k + count_items (body 0)) (below-more g k (k + count_items (body 0)) (omega arith) below) m d (holds_kept g k c d below kept ∙ off)))
 
-    skip_branches : (branches : Branches M F L) (g : Option ℕ) (es : List ℕ) (k : ℕ) → IsBelow g k → AllBelow es k → (m : M) (c : Conditions) → is_tested g es c ≡ false → Skipped k (flat_branches branches g es k) m c
+    skip_branches : (branches : Branches A C) (g : Option ℕ) (es : List ℕ) (k : ℕ) → IsBelow g k → AllBelow es k → (m : M) (c : Conditions) → is_tested g es c ≡ false → Skipped k (flat_branches branches g es k) m c
     skip_branches EndIf g es k below all m c off = (c, refl, λ x lt. refl)
-    skip_branches (Branch names known test body others) g es k below all m c off =
+    skip_branches (Branch test body others) g es k below all m c off =
         let k' = k + 1 + count_items body in
         let c1 = set_condition c k false in
         let kept1 = kept-set k k c false (omega arith) in
@@ -143,77 +143,77 @@ module _ {M F L : Type 0} where
         (skip_branches others g (k ∷ es) k' (below-more g k k' (omega arith) below) (omega arith, all_below-more es k k' (omega arith) all) m d
         (tested_off g es k d (tested_kept g es k c d below all (kept-trans k c c1 d kept1 kept) ∙ off)))) in
         (r.0,
-        ap (λ b. ((if b then test m else Ok false) >>= (λ v. let w : Result (Iteration M) F = Ok (at m (set_condition c k v)) in w)) >>= do_parts (flat body (Some k) (k + 1) ++ flat_branches others g (k ∷ es) k')) off ∙ r.1,
+        ap (λ b. ((if b then holds_in E test m else Ok false) >>= (λ v. let w : Result (Iteration M) F = Ok (at m (set_condition c k v)) in w)) >>= do_parts E (flat body (Some k) (k + 1) ++ flat_branches others g (k ∷ es) k')) off ∙ r.1,
         kept-trans k c c1 r.0 kept1 r.2)
 
   -- one list of parts after another
-  then_matches : (k k' : ℕ) (c c' : Conditions) (s : Iteration M) (ps qs : List (Part M F L)) (q : Result M F) (f : M → Result M F) → Matches k' c' (do_parts ps s) q →
-      ((m : M) (d : Conditions) → Kept k' c' d → Matches k c (do_parts qs (at m d)) (f m)) → Matches k c (do_parts (ps ++ qs) s) (q >>= f)
-  then_matches k k' c c' s ps qs (Err e) f h next = parts_append ps qs s ∙ ap (λ r. r >>= do_parts qs) h
+  then_matches : (k k' : ℕ) (c c' : Conditions) (s : Iteration M) (ps qs : List (Part A C)) (q : Result M F) (f : M → Result M F) → Matches k' c' (do_parts E ps s) q →
+      ((m : M) (d : Conditions) → Kept k' c' d → Matches k c (do_parts E qs (at m d)) (f m)) → Matches k c (do_parts E (ps ++ qs) s) (q >>= f)
+  then_matches k k' c c' s ps qs (Err e) f h next = parts_append ps qs s ∙ ap (λ r. r >>= do_parts E qs) h
   then_matches k k' c c' s ps qs (Ok m) f h next = subst (λ r. Matches k c r (f m)) (sym (leads ps qs s (at m h.0) h.1)) (next m h.0 h.2)
 
   -- parts that are skipped behind a list of parts
-  then_skipped : (k k' : ℕ) (c c' : Conditions) (s : Iteration M) (ps qs : List (Part M F L)) (q : Result M F) → Matches k' c' (do_parts ps s) q →
-      ((m : M) (d : Conditions) → Kept k' c' d → (Skipped k qs m d) × Kept k c d) → Matches k c (do_parts (ps ++ qs) s) q
-  then_skipped k k' c c' s ps qs (Err e) h next = parts_append ps qs s ∙ ap (λ r. r >>= do_parts qs) h
+  then_skipped : (k k' : ℕ) (c c' : Conditions) (s : Iteration M) (ps qs : List (Part A C)) (q : Result M F) → Matches k' c' (do_parts E ps s) q →
+      ((m : M) (d : Conditions) → Kept k' c' d → (Skipped k qs m d) × Kept k c d) → Matches k c (do_parts E (ps ++ qs) s) q
+  then_skipped k k' c c' s ps qs (Err e) h next = parts_append ps qs s ∙ ap (λ r. r >>= do_parts E qs) h
   then_skipped k k' c c' s ps qs (Ok m) h next =
       let n = next m h.0 h.2 in
       (n.0.0, leads ps qs s (at m h.0) h.1 ∙ n.0.1, kept-trans k c h.0 n.0.0 n.1 n.0.2)
 
-  matches_turns : (k : ℕ) (g : Option ℕ) (lists : ℕ → List (Part M F L)) (body : ℕ → M → Result M F) → IsBelow g k →
-      ((x : ℕ) (m : M) (c : Conditions) → guard_holds g c ≡ true → Matches k c (do_parts (lists x) (at m c)) (body x m)) →
-      (t : ℕ) (m : M) (c : Conditions) → guard_holds g c ≡ true → Matches k c (do_parts (joined_up_to t lists) (at m c)) (in_turn t body m)
+  matches_turns : (k : ℕ) (g : Option ℕ) (lists : ℕ → List (Part A C)) (body : ℕ → M → Result M F) → IsBelow g k →
+      ((x : ℕ) (m : M) (c : Conditions) → guard_holds g c ≡ true → Matches k c (do_parts E (lists x) (at m c)) (body x m)) →
+      (t : ℕ) (m : M) (c : Conditions) → guard_holds g c ≡ true → Matches k c (do_parts E (joined_up_to t lists) (at m c)) (in_turn t body m)
   matches_turns k g lists body below each zero m c on = (c, refl, λ x lt. refl)
   matches_turns k g lists body below each (suc t) m c on =
       then_matches k k c c (at m c) (joined_up_to t lists) (lists t) (in_turn t body m) (body t) (matches_turns k g lists body below each t m c on)
-      (λ m' d kept. Matches-below k k c d (do_parts (lists t) (at m' d)) (body t m') (omega arith) kept (each t m' d (holds_kept g k c d below kept ∙ on)))
+      (λ m' d kept. Matches-below k k c d (do_parts E (lists t) (at m' d)) (body t m') (omega arith) kept (each t m' d (holds_kept g k c d below kept ∙ on)))
 
   mutual
     -- behind a guard that holds the parts do what the statements do
-    go : (items : Items M F L) (g : Option ℕ) (k : ℕ) → IsBelow g k → (m : M) (c : Conditions) → guard_holds g c ≡ true → Matches k c (do_parts (flat items g k) (at m c)) (exec items m)
+    go : (items : Items A C) (g : Option ℕ) (k : ℕ) → IsBelow g k → (m : M) (c : Conditions) → guard_holds g c ≡ true → Matches k c (do_parts E (flat items g k) (at m c)) (exec E items m)
     go Done g k below m c on = (c, refl, λ x lt. refl)
-    go (Then names a rest) g k below m c on =
-        subst (λ b. Matches k c (((if b then a m else Ok m) >>= (λ m'. Ok (at m' c))) >>= do_parts (flat rest g k)) (a m >>= exec rest)) (sym on)
-        (after (λ m'. go rest g k below m' c on) (a m))
+    go (Then a rest) g k below m c on =
+        subst (λ b. Matches k c (((if b then E.action a m else Ok m) >>= (λ m'. Ok (at m' c))) >>= do_parts E (flat rest g k)) (E.action a m >>= exec E rest)) (sym on)
+        (after (λ m'. go rest g k below m' c on) (E.action a m))
       where
-        after : ((m' : M) → Matches k c (do_parts (flat rest g k) (at m' c)) (exec rest m')) → (r : Result M F) → Matches k c ((r >>= (λ m'. Ok (at m' c))) >>= do_parts (flat rest g k)) (r >>= exec rest)
+        after : ((m' : M) → Matches k c (do_parts E (flat rest g k) (at m' c)) (exec E rest m')) → (r : Result M F) → Matches k c ((r >>= (λ m'. Ok (at m' c))) >>= do_parts E (flat rest g k)) (r >>= exec E rest)
         after rec (Ok m') = rec m'
         after rec (Err f) = refl
     go (If branches rest) g k below m c on =
         let k' = k + count_branches branches in
-        then_matches k k c c (at m c) (flat_branches branches g [] k) (flat rest g k') (exec_branches branches m) (exec rest) (go_branches branches g [] k below tt m c (tested_first g c ∙ on))
-        (λ m' d kept. Matches-below k k' c d (do_parts (flat rest g k') (at m' d)) (exec rest m') (omega arith) kept
+        then_matches k k c c (at m c) (flat_branches branches g [] k) (flat rest g k') (exec_branches E branches m) (exec E rest) (go_branches branches g [] k below tt m c (tested_first g c ∙ on))
+        (λ m' d kept. Matches-below k k' c d (do_parts E (flat rest g k') (at m' d)) (exec E rest m') (omega arith) kept
         (go rest g k' (below-more g k k' (omega arith) below) m' d (holds_kept g k c d below kept ∙ on)))
     go (Repeat t body rest) g k below m c on =
         let k' = k + count_items (body 0) in
-        then_matches k k c c (at m c) (joined_up_to t (λ x. flat (body x) g k)) (flat rest g k') (in_turn t (λ x. exec (body x)) m) (exec rest)
-        (matches_turns k g (λ x. flat (body x) g k) (λ x. exec (body x)) below (λ x m d h. go (body x) g k below m d h) t m c on)
-        (λ m' d kept. Matches-below k k' c d (do_parts (flat rest g k') (at m' d)) (exec rest m') (omega arith) kept
+        then_matches k k c c (at m c) (joined_up_to t (λ x. flat (body x) g k)) (flat rest g k') (in_turn t (λ x. exec E (body x)) m) (exec E rest)
+        (matches_turns k g (λ x. flat (body x) g k) (λ x. exec E (body x)) below (λ x m d h. go (body x) g k below m d h) t m c on)
+        (λ m' d kept. Matches-below k k' c d (do_parts E (flat rest g k') (at m' d)) (exec E rest m') (omega arith) kept
         (go rest g k' (below-more g k k' (omega arith) below) m' d (holds_kept g k c d below kept ∙ on)))
 
-    go_branches : (branches : Branches M F L) (g : Option ℕ) (es : List ℕ) (k : ℕ) → IsBelow g k → AllBelow es k → (m : M) (c : Conditions) → is_tested g es c ≡ true →
-        Matches k c (do_parts (flat_branches branches g es k) (at m c)) (exec_branches branches m)
+    go_branches : (branches : Branches A C) (g : Option ℕ) (es : List ℕ) (k : ℕ) → IsBelow g k → AllBelow es k → (m : M) (c : Conditions) → is_tested g es c ≡ true →
+        Matches k c (do_parts E (flat_branches branches g es k) (at m c)) (exec_branches E branches m)
     go_branches EndIf g es k below all m c on = (c, refl, λ x lt. refl)
-    go_branches (Branch names known test body others) g es k below all m c on =
-        subst (λ b. Matches k c (((if b then test m else Ok false) >>= (λ v. Ok (at m (set_condition c k v)))) >>= do_parts (flat body (Some k) (k + 1) ++ flat_branches others g (k ∷ es) (k + 1 + count_items body)))
-        (test m >>= (λ holds. if holds then exec body m else exec_branches others m))) (sym on)
+    go_branches (Branch test body others) g es k below all m c on =
+        subst (λ b. Matches k c (((if b then holds_in E test m else Ok false) >>= (λ v. Ok (at m (set_condition c k v)))) >>= do_parts E (flat body (Some k) (k + 1) ++ flat_branches others g (k ∷ es) (k + 1 + count_items body)))
+        (holds_in E test m >>= (λ holds. if holds then exec E body m else exec_branches E others m))) (sym on)
         (chosen (λ d h. go body (Some k) (k + 1) (omega arith) m d h)
         (λ d h. go_branches others g (k ∷ es) (k + 1 + count_items body) (below-more g k (k + 1 + count_items body) (omega arith) below) (omega arith, all_below-more es k (k + 1 + count_items body) (omega arith) all) m d h)
-        (test m))
+        (holds_in E test m))
       where
         k' : ℕ
         k' = k + 1 + count_items body
 
-        chosen : ((d : Conditions) → d k ≡ true → Matches (k + 1) d (do_parts (flat body (Some k) (k + 1)) (at m d)) (exec body m)) →
-            ((d : Conditions) → is_tested g (k ∷ es) d ≡ true → Matches (k + 1 + count_items body) d (do_parts (flat_branches others g (k ∷ es) (k + 1 + count_items body)) (at m d)) (exec_branches others m)) →
+        chosen : ((d : Conditions) → d k ≡ true → Matches (k + 1) d (do_parts E (flat body (Some k) (k + 1)) (at m d)) (exec E body m)) →
+            ((d : Conditions) → is_tested g (k ∷ es) d ≡ true → Matches (k + 1 + count_items body) d (do_parts E (flat_branches others g (k ∷ es) (k + 1 + count_items body)) (at m d)) (exec_branches E others m)) →
             (r : Result Bool F) →
-            Matches k c ((r >>= (λ v. Ok (at m (set_condition c k v)))) >>= do_parts (flat body (Some k) (k + 1) ++ flat_branches others g (k ∷ es) (k + 1 + count_items body)))
-            (r >>= (λ holds. if holds then exec body m else exec_branches others m))
+            Matches k c ((r >>= (λ v. Ok (at m (set_condition c k v)))) >>= do_parts E (flat body (Some k) (k + 1) ++ flat_branches others g (k ∷ es) (k + 1 + count_items body)))
+            (r >>= (λ holds. if holds then exec E body m else exec_branches E others m))
         chosen taken later (Err f) = refl
         chosen taken later (Ok true) =
             let k' = k + 1 + count_items body in
             let c1 = set_condition c k true in
-            then_skipped k (k + 1) c c1 (at m c1) (flat body (Some k) (k + 1)) (flat_branches others g (k ∷ es) k') (exec body m) (taken c1 (set_at c k true))
+            then_skipped k (k + 1) c c1 (at m c1) (flat body (Some k) (k + 1)) (flat_branches others g (k ∷ es) k') (exec E body m) (taken c1 (set_at c k true))
             (λ m' d kept.
             (skipped_below k k' (flat_branches others g (k ∷ es) k') m' d (omega arith)
             (skip_branches others g (k ∷ es) k' (below-more g k k' (omega arith) below) (omega arith, all_below-more es k k' (omega arith) all) m' d
@@ -224,12 +224,12 @@ module _ {M F L : Type 0} where
             let c1 = set_condition c k false in
             let s = skip body (Some k) (k + 1) (omega arith) m c1 (set_at c k false) in
             let kept = kept-trans k c c1 s.0 (kept-set k k c false (omega arith)) (kept-below k (k + 1) c1 s.0 (omega arith) s.2) in
-            subst (λ r. Matches k c r (exec_branches others m)) (sym (leads (flat body (Some k) (k + 1)) (flat_branches others g (k ∷ es) k') (at m c1) (at m s.0) s.1))
-            (Matches-below k k' c s.0 (do_parts (flat_branches others g (k ∷ es) k') (at m s.0)) (exec_branches others m) (omega arith) kept
+            subst (λ r. Matches k c r (exec_branches E others m)) (sym (leads (flat body (Some k) (k + 1)) (flat_branches others g (k ∷ es) k') (at m c1) (at m s.0) s.1))
+            (Matches-below k k' c s.0 (do_parts E (flat_branches others g (k ∷ es) k') (at m s.0)) (exec_branches E others m) (omega arith) kept
             (later s.0 (tested_later g es k s.0 true (tested_kept g es k c s.0 below all kept ∙ on) (s.2 k (omega arith) ∙ set_at c k false))))
 
-  pub items_taken : (items : Items M F L) (g : Option ℕ) (k : ℕ) (m : M) (c : Conditions) → IsBelow g k → guard_holds g c ≡ true → Matches k c (do_parts (flat items g k) (at m c)) (exec items m)
+  pub items_taken : (items : Items A C) (g : Option ℕ) (k : ℕ) (m : M) (c : Conditions) → IsBelow g k → guard_holds g c ≡ true → Matches k c (do_parts E (flat items g k) (at m c)) (exec E items m)
   items_taken items g k m c below on = go items g k below m c on
 
-  pub items_passed : (items : Items M F L) (g : Option ℕ) (k : ℕ) (m : M) (c : Conditions) → IsBelow g k → guard_holds g c ≡ false → Matches k c (do_parts (flat items g k) (at m c)) (Ok m)
+  pub items_passed : (items : Items A C) (g : Option ℕ) (k : ℕ) (m : M) (c : Conditions) → IsBelow g k → guard_holds g c ≡ false → Matches k c (do_parts E (flat items g k) (at m c)) (Ok m)
   items_passed items g k m c below off = skip items g k below m c off
