@@ -3,7 +3,7 @@ use Rattle.std.proofs.Common.{◌≡◌, ℕ, zero, suc, ◌+◌, ◌<◌, ◌�
 use Rattle.std.specs.Prelude.{nat_eq, ◌&&◌, not, if◌then◌else◌}
 use Rattle.std.proofs.lemmas.Bool.Decides.{nat_tests}
 use Rattle.nest_order.specs.Turns.{◌>>=◌, in_turn}
-use Rattle.nest_order.specs.Items.{joined_up_to, Conditions, set_condition, guard_holds, none_holds, IsBelow, Iteration, Items, Done, Then, If, Repeat, Branches, EndIf, Branch, Part, Acts, Tests, Evaluation, holds_in, exec, exec_branches, count_items, count_branches, flat, flat_branches, do_part, do_parts, Matches}
+use Rattle.nest_order.specs.Items.{joined_up_to, most, Conditions, set_condition, guard_holds, none_holds, IsBelow, Iteration, Items, Done, Then, If, Repeat, Branches, EndIf, Branch, Part, Acts, Tests, Evaluation, holds_in, exec, exec_branches, count_items, count_branches, flat, flat_branches, do_part, do_parts, Matches}
 
 pub set_at : (c : Conditions) (n : ℕ) (b : Bool) → set_condition c n b n ≡ b
 set_at c n b = let e : nat_eq n n ≡ true = grind (arith, nat_tests) in ap (λ t. if t then b else c n) e
@@ -127,9 +127,9 @@ module _ {A C M F : Type 0} (E : Evaluation A C M F) where
         (λ d kept. skipped_below k (k + count_branches branches) (flat rest g (k + count_branches branches)) m d (omega arith)
         (skip rest g (k + count_branches branches) (below-more g k (k + count_branches branches) (omega arith) below) m d (holds_kept g k c d below kept ∙ off)))
     skip (Repeat t body rest) g k below m c off =
-        skipped_append k (joined_up_to t (λ x. flat (body x) g k)) (flat rest g (k + count_items (body 0))) m c (skipped_turns k g (λ x. flat (body x) g k) m below (λ x d h. skip (body x) g k below m d h) t c off)
-        (λ d kept. skipped_below k (k + count_items (body 0)) (flat rest g (k + count_items (body 0))) m d (omega arith)
-        (skip rest g (k + count_items (body 0)) (below-more g k (k + count_items (body 0)) (omega arith) below) m d (holds_kept g k c d below kept ∙ off)))
+        skipped_append k (joined_up_to t (λ x. flat (body x) g k)) (flat rest g (k + most t (λ x. count_items (body x)))) m c (skipped_turns k g (λ x. flat (body x) g k) m below (λ x d h. skip (body x) g k below m d h) t c off)
+        (λ d kept. skipped_below k (k + most t (λ x. count_items (body x))) (flat rest g (k + most t (λ x. count_items (body x)))) m d (omega arith)
+        (skip rest g (k + most t (λ x. count_items (body x))) (below-more g k (k + most t (λ x. count_items (body x))) (omega arith) below) m d (holds_kept g k c d below kept ∙ off)))
 
     skip_branches : (branches : Branches A C) (g : Option ℕ) (es : List ℕ) (k : ℕ) → IsBelow g k → AllBelow es k → (m : M) (c : Conditions) → is_tested g es c ≡ false → Skipped k (flat_branches branches g es k) m c
     skip_branches EndIf g es k below all m c off = (c, refl, λ x lt. refl)
@@ -185,7 +185,7 @@ module _ {A C M F : Type 0} (E : Evaluation A C M F) where
         (λ m' d kept. Matches-below k k' c d (do_parts E (flat rest g k') (at m' d)) (exec E rest m') (omega arith) kept
         (go rest g k' (below-more g k k' (omega arith) below) m' d (holds_kept g k c d below kept ∙ on)))
     go (Repeat t body rest) g k below m c on =
-        let k' = k + count_items (body 0) in
+        let k' = k + most t (λ x. count_items (body x)) in
         then_matches k k c c (at m c) (joined_up_to t (λ x. flat (body x) g k)) (flat rest g k') (in_turn t (λ x. exec E (body x)) m) (exec E rest)
         (matches_turns k g (λ x. flat (body x) g k) (λ x. exec E (body x)) below (λ x m d h. go (body x) g k below m d h) t m c on)
         (λ m' d kept. Matches-below k k' c d (do_parts E (flat rest g k') (at m' d)) (exec E rest m') (omega arith) kept

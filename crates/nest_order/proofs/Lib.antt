@@ -6,3 +6,4 @@ mod LastCopy
 mod Numbering
 mod Joins
 mod Reducing
+mod Acting

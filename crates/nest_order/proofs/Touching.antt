@@ -3,12 +3,12 @@ use Rattle.std.proofs.Common.{◌≡◌, ℕ, zero, suc, ◌+◌, ◌<◌, ◌�
 use Rattle.std.specs.Prelude.{◌&&◌, if◌then◌else◌, IfSome}
 use Rattle.std.specs.List.{Contains}
 use Rattle.std.proofs.lemmas.List.Elements.{Contains-append_left, Contains-append_right, Contains-append_cases}
-use Rattle.nest_order.specs.Items.{joined_up_to, Conditions, set_condition, guard_holds, IsBelow, Iteration, Items, Done, Then, If, Repeat, Branches, EndIf, Branch, Part, Acts, Tests, Evaluation, holds_in, EachIn, EachInBranches, count_items, count_branches, flat, flat_branches, is_evaluated}
+use Rattle.nest_order.specs.Items.{joined_up_to, most, Conditions, set_condition, guard_holds, IsBelow, Iteration, Items, Done, Then, If, Repeat, Branches, EndIf, Branch, Part, Acts, Tests, Evaluation, holds_in, EachIn, EachInBranches, count_items, count_branches, flat, flat_branches, is_evaluated}
 use Rattle.nest_order.specs.Listed.{value_or, counted, Names, names_in, known_in, names_of, go_on, go_on_all, touched, listed, listed_branches, AreKnown}
 use Rattle.nest_order.proofs.Flattening.{set_at, Kept, kept-set, kept-below, kept-trans, AllBelow, below-more, all_below-more, holds_kept, is_tested, tested_kept, tested_first, tested_later, tested_taken, tested_off}
 
 -- each element of the one list is one of the other
-abbrev AllIn : {L : Type 0} → List L → List L → Type 0
+abbrev pub AllIn : {L : Type 0} → List L → List L → Type 0
 AllIn {L} xs ys = (x : L) → Contains xs x → Contains ys x
 
 none_in : {L : Type 0} (ys : List L) → AllIn [] ys
@@ -23,7 +23,7 @@ in_left xs ys x h = Contains-append_left xs ys x h
 in_right : {L : Type 0} (xs ys : List L) → AllIn ys (xs ++ ys)
 in_right xs ys x h = Contains-append_right xs ys x h
 
-in_turn_of : {L : Type 0} (lists : ℕ → List L) (t x : ℕ) → x < t → AllIn (lists x) (joined_up_to t lists)
+pub in_turn_of : {L : Type 0} (lists : ℕ → List L) (t x : ℕ) → x < t → AllIn (lists x) (joined_up_to t lists)
 in_turn_of lists zero x lt name h = absurd (omega arith)
 in_turn_of lists (suc t) x lt name h = ⊎_elim
     (λ less. Contains-append_left (joined_up_to t lists) (lists t) name (in_turn_of lists t x less name h))
@@ -111,7 +111,7 @@ module _ {A C L M F : Type 0} (E : Evaluation A C M F) (N : Names A C L) where
         (stays_more (flat rest g k') after k k' allowed allowed (omega arith) (λ x h. h)
         (silent rest g k' (below-more g k k' (omega arith) below) after (holds_kept g k s.conditions after.conditions below first.kept ∙ off) allowed))
     silent (Repeat t body rest) g k below s off allowed =
-        let k' = k + count_items (body 0) in
+        let k' = k + most t (λ x. count_items (body x)) in
         let ps = joined_up_to t (λ x. flat (body x) g k) in
         let first = stays_turns (λ x. flat (body x) g k) k allowed false g below t (λ x lt s' h. silent (body x) g k below s' h allowed) s off in
         let after = go_on_all E ps s in
@@ -161,7 +161,7 @@ module _ {A C L M F : Type 0} (E : Evaluation A C M F) (N : Names A C L) where
         (stays_more (flat rest g k') after k k' (listed N rest) (one ++ listed N rest) (omega arith) (in_right one (listed N rest))
         (lists rest known.1 g k' (below-more g k k' (omega arith) below) after (holds_kept g k s.conditions after.conditions below first.kept ∙ on)))
     lists (Repeat t body rest) known g k below s on =
-        let k' = k + count_items (body 0) in
+        let k' = k + most t (λ x. count_items (body x)) in
         let ps = joined_up_to t (λ x. flat (body x) g k) in
         let one = joined_up_to t (λ x. listed N (body x)) in
         let first = stays_turns (λ x. flat (body x) g k) k one true g below t

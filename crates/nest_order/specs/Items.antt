@@ -1,11 +1,16 @@
 -- The statements of one iteration, with conditions and inner loops, and the guarded parts that they flatten to.
-use Rattle.std.specs.Prelude.{◌≡◌, ℕ, zero, suc, ◌+◌, ◌<◌, nat_eq, List, [], ◌∷◌, ◌++◌, Option, Some, None, Result, Ok, Err, Bool, true, false, ◌&&◌, not, if◌then◌else◌, IfSome}
+use Rattle.std.specs.Prelude.{◌≡◌, ℕ, zero, suc, ◌+◌, ◌<◌, nat_eq, List, [], ◌∷◌, ◌++◌, Option, Some, None, Result, Ok, Err, Bool, true, false, ◌&&◌, not, max, if◌then◌else◌, IfSome}
 use Rattle.nest_order.specs.Turns.{◌>>=◌, in_turn}
 
 -- the lists of the first turns, one after another
 abbrev pub joined_up_to : {A : Type 0} → ℕ → (ℕ → List A) → List A
 joined_up_to zero lists = []
 joined_up_to (suc turns) lists = joined_up_to turns lists ++ lists turns
+
+-- the greatest of the first numbers, or 0
+abbrev pub most : ℕ → (ℕ → ℕ) → ℕ
+most zero numbers = 0
+most (suc count) numbers = max (most count numbers) (numbers count)
 
 -- the stored conditions of an iteration, by number
 abbrev pub Conditions : Type 0
@@ -87,7 +92,7 @@ module _ {A C : Type 0} where
     count_items Done = 0
     count_items (Then action rest) = count_items rest
     count_items (If branches rest) = count_branches branches + count_items rest
-    count_items (Repeat trips body rest) = count_items (body 0) + count_items rest
+    count_items (Repeat trips body rest) = most trips (λ x. count_items (body x)) + count_items rest
 
     pub count_branches : Branches A C → ℕ
     count_branches EndIf = 0
@@ -100,7 +105,7 @@ module _ {A C : Type 0} where
     flat Done guard k = []
     flat (Then action rest) guard k = Acts guard action ∷ flat rest guard k
     flat (If branches rest) guard k = flat_branches branches guard [] k ++ flat rest guard (k + count_branches branches)
-    flat (Repeat trips body rest) guard k = joined_up_to trips (λ x. flat (body x) guard k) ++ flat rest guard (k + count_items (body 0))
+    flat (Repeat trips body rest) guard k = joined_up_to trips (λ x. flat (body x) guard k) ++ flat rest guard (k + most trips (λ x. count_items (body x)))
 
     pub flat_branches : Branches A C → Option ℕ → List ℕ → ℕ → List (Part A C)
     flat_branches EndIf guard earlier k = []

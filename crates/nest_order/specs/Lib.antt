@@ -7,3 +7,4 @@ pub mod Listed
 pub mod LastValue
 pub mod Reduction
 pub mod NestIndex
+pub mod Nest
