@@ -47,21 +47,21 @@ below_most (suc t) f x lt = ⊎_elim
     (cases_eq x t)
 
 module _ {A C F : Type 0} (S : Statements A C F) (N : Names A C Spot) (W : A → List Spot) (start : Memory) (place i count : ℕ) where
-  abbrev E : Evaluation A C Memory F
+  abbrev pub E : Evaluation A C Memory F
   E = evaluated S
 
-  abbrev at : ℕ → Spot
+  abbrev pub at : ℕ → Spot
   at c = condition_at S place i c
 
-  abbrev conditions : Memory → Conditions
+  abbrev pub conditions : Memory → Conditions
   conditions m = conditions_in S place i m
 
   -- what is known of a part: its numbers are among the first, and it depends on what it names
-  abbrev IsGood : Part A C → Type 0
+  abbrev pub IsGood : Part A C → Type 0
   IsGood (Acts g a) = IsBelow g count × IsNamed S N W start a
   IsGood (Tests k g es test) = (k < count) × IsBelow g k × AllBelow es k × IfSome test (IsNear S N W start)
 
-  abbrev AreGood : List (Part A C) → Type 0
+  abbrev pub AreGood : List (Part A C) → Type 0
   AreGood [] = Unit {0}
   AreGood (p ∷ ps) = IsGood p × AreGood ps
 
@@ -74,7 +74,7 @@ module _ {A C F : Type 0} (S : Statements A C F) (N : Names A C Spot) (W : A →
   good_turns lists (suc t) each = good_append (joined_up_to t lists) (lists t) (good_turns lists t (λ x lt. each x (omega arith))) (each t (omega arith))
 
   mutual
-    all_good : (items : Items A C) (g : Option ℕ) (k : ℕ) → EachIn (IsNamed S N W start) (IsNear S N W start) items → IsBelow g k → k + count_items items ≤ count → AreGood (flat items g k)
+    pub all_good : (items : Items A C) (g : Option ℕ) (k : ℕ) → EachIn (IsNamed S N W start) (IsNear S N W start) items → IsBelow g k → k + count_items items ≤ count → AreGood (flat items g k)
     all_good Done g k each below le = tt
     all_good (Then a rest) g k each below le = ((below-more g k count (omega arith) below, each.0), all_good rest g k each.1 below le)
     all_good (If branches rest) g k each below le =
@@ -97,11 +97,11 @@ module _ {A C F : Type 0} (S : Statements A C F) (N : Names A C Spot) (W : A →
 
   module _ (rows : (c : ℕ) → c < count → i < length (row start (place + c))) where
     -- an iteration's memory and conditions, and the one memory that has both
-    record Beside (s : Iteration Memory) (m : Memory) : Type 0 where
-      alike_s : Alike s.memory start
-      alike_m : Alike m start
-      same : (spot : Spot) → spot.place < place → read s.memory spot ≡ read m spot
-      stored : Kept count s.conditions (conditions m)
+    pub record Beside (s : Iteration Memory) (m : Memory) : Type 0 where
+      pub alike_s : Alike s.memory start
+      pub alike_m : Alike m start
+      pub same : (spot : Spot) → spot.place < place → read s.memory spot ≡ read m spot
+      pub stored : Kept count s.conditions (conditions m)
 
     beside_effect : (s : Iteration Memory) (m : Memory) (e : Effect F) → ((spot : Spot) (v : ℤ) → e ≡ Put spot v → spot.place < place) → Beside s m → Beside (record s { memory = apply e s.memory }) (apply e m)
     beside_effect s m Skip low h = h
@@ -115,7 +115,7 @@ module _ {A C F : Type 0} (S : Statements A C F) (N : Names A C Spot) (W : A →
           ∙ h.stored x lt;
     }
 
-    beside_stored : (s : Iteration Memory) (m : Memory) (c : ℕ) (b : Bool) → c < count → Beside s m → Beside (record s { conditions = set_condition s.conditions c b }) (write m (at c) (number_for b))
+    pub beside_stored : (s : Iteration Memory) (m : Memory) (c : ℕ) (b : Bool) → c < count → Beside s m → Beside (record s { conditions = set_condition s.conditions c b }) (write m (at c) (number_for b))
     beside_stored s m c b lt h = record {
       alike_s = h.alike_s;
       alike_m = Alike-trans (write m (at c) (number_for b)) m start (Alike-write m (at c) (number_for b)) h.alike_m;
@@ -140,15 +140,15 @@ module _ {A C F : Type 0} (S : Statements A C F) (N : Names A C Spot) (W : A →
           (cases_eq c x);
     }
 
-    holds_near : (test : Option C) → IfSome test (IsNear S N W start) → (m m' : Memory) → Alike m start → Alike m' start → AgreeOn S N W start (names_in N test) m m' → holds_in E test m ≡ holds_in E test m'
+    pub holds_near : (test : Option C) → IfSome test (IsNear S N W start) → (m m' : Memory) → Alike m start → Alike m' start → AgreeOn S N W start (names_in N test) m m' → holds_in E test m ≡ holds_in E test m'
     holds_near None near m m' h g agree = refl
     holds_near (Some c) near m m' h g agree = near m m' h g agree
 
     module _ (T listed_all listed_writes : List Spot) (in_T : AllIn listed_all T) (conditions_in_T : (c : ℕ) → c < count → Contains T (at c)) (low : (spot : Spot) → Contains listed_all spot → spot.place < place) where
       -- an act where the iteration alone comes to it: it depends on what is touched, and stores what is listed or a condition
-      record Proper (e : Memory → Effect F) (m : Memory) : Type 0 where
-        local : (m' : Memory) → Alike m' start → AgreeOn S N W start T m' m → e m' ≡ e m
-        stores : (spot : Spot) (v : ℤ) → e m ≡ Put spot v → (Contains listed_writes spot × Contains listed_all spot) ⊎ ((c : ℕ) × (c < count) × (at c ≡ spot))
+      pub record Proper (e : Memory → Effect F) (m : Memory) : Type 0 where
+        pub local : (m' : Memory) → Alike m' start → AgreeOn S N W start T m' m → e m' ≡ e m
+        pub stores : (spot : Spot) (v : ℤ) → e m ≡ Put spot v → (Contains listed_writes spot × Contains listed_all spot) ⊎ ((c : ℕ) × (c < count) × (at c ≡ spot))
 
       abbrev AllProper : List (Memory → Effect F) → Memory → Type 0
       AllProper [] m = Unit {0}
@@ -158,7 +158,7 @@ module _ {A C F : Type 0} (S : Statements A C F) (N : Names A C Spot) (W : A →
       conditions_agree : (m m' : Memory) → AgreeOn S N W start T m' m → Kept count (conditions m) (conditions m')
       conditions_agree m m' agree = λ x lt. ap is_set (agree (at x) (conditions_in_T x lt))
 
-      acts_proper : (g : Option ℕ) (a : A) (s : Iteration Memory) (m : Memory) → IsBelow g count → IsNamed S N W start a → Beside s m →
+      pub acts_proper : (g : Option ℕ) (a : A) (s : Iteration Memory) (m : Memory) → IsBelow g count → IsNamed S N W start a → Beside s m →
           (guard_holds g s.conditions ≡ true → AllIn (N.of_action a) listed_all) → (guard_holds g s.conditions ≡ true → AllIn (W a) listed_writes) →
           (b : Bool) → guard_holds g s.conditions ≡ b → (let e = λ (m : Memory). if guard_holds g (conditions m) then S.effect a m else Skip in Proper e m × Beside (go_on E (let p : Part A C = Acts g a in p) s) (apply (e m) m))
       acts_proper g a s m below named h names written true on =
@@ -203,10 +203,10 @@ module _ {A C F : Type 0} (S : Statements A C F) (N : Names A C Spot) (W : A →
       stored_truth s m c (Err f) lt h = beside_stored s m c false lt h
 
       -- the second act of a test
-      abbrev test_act : ℕ → Option ℕ → List ℕ → Option C → Memory → Effect F
+      abbrev pub test_act : ℕ → Option ℕ → List ℕ → Option C → Memory → Effect F
       test_act k g es test m = if is_tested g es (conditions m) then put_truth S place i (at k) (holds_in E test m) else Skip
 
-      tests_proper : (k : ℕ) (g : Option ℕ) (es : List ℕ) (test : Option C) (s : Iteration Memory) (m : Memory) → k < count → IsBelow g k → AllBelow es k → IfSome test (IsNear S N W start) → Beside s m →
+      pub tests_proper : (k : ℕ) (g : Option ℕ) (es : List ℕ) (test : Option C) (s : Iteration Memory) (m : Memory) → k < count → IsBelow g k → AllBelow es k → IfSome test (IsNear S N W start) → Beside s m →
           (is_tested g es s.conditions ≡ true → AllIn (names_in N test) listed_all) → (b : Bool) → is_tested g es s.conditions ≡ b →
           (let m1 = write m (at k) (pos 0) in Proper (test_act k g es test) m1 × Beside (go_on E (let p : Part A C = Tests k g es test in p) s) (apply (test_act k g es test m1) m1))
       tests_proper k g es test s m lt below all near h names b is =
@@ -254,11 +254,11 @@ module _ {A C F : Type 0} (S : Statements A C F) (N : Names A C Spot) (W : A →
               )
 
       -- what the first of the parts names where it is evaluated, and what the others touch
-      first_named : (names : Names A C Spot) (p : Part A C) (ps : List (Part A C)) (s : Iteration Memory) (all : List Spot) → AllIn (touched E names (p ∷ ps) s) all → is_evaluated p s.conditions ≡ true → AllIn (names_of names p) all
+      pub first_named : (names : Names A C Spot) (p : Part A C) (ps : List (Part A C)) (s : Iteration Memory) (all : List Spot) → AllIn (touched E names (p ∷ ps) s) all → is_evaluated p s.conditions ≡ true → AllIn (names_of names p) all
       first_named names p ps s all h on l c =
           h l (Contains-append_left (if is_evaluated p s.conditions then names_of names p else []) (touched E names ps (go_on E p s)) l (subst (λ t. Contains (if t then names_of names p else []) l) (sym on) c))
 
-      others_named : (names : Names A C Spot) (p : Part A C) (ps : List (Part A C)) (s : Iteration Memory) (all : List Spot) → AllIn (touched E names (p ∷ ps) s) all → AllIn (touched E names ps (go_on E p s)) all
+      pub others_named : (names : Names A C Spot) (p : Part A C) (ps : List (Part A C)) (s : Iteration Memory) (all : List Spot) → AllIn (touched E names (p ∷ ps) s) all → AllIn (touched E names ps (go_on E p s)) all
       others_named names p ps s all h l c = h l (Contains-append_right (if is_evaluated p s.conditions then names_of names p else []) (touched E names ps (go_on E p s)) l c)
 
       parts_proper : (ps : List (Part A C)) → AreGood ps → (s : Iteration Memory) (m : Memory) → Beside s m → AllIn (touched E N ps s) listed_all → AllIn (touched E (writes N W) ps s) listed_writes → AllProper (effects S place i ps) m
@@ -289,22 +289,22 @@ module _ {A C F : Type 0} (S : Statements A C F) (N : Names A C Spot) (W : A →
       proper_at (e ∷ es) m all (suc j) lt = subst (Proper (acts es i j)) (alone_behind e es m j) (proper_at es (apply (e m) m) all.1 j (omega arith))
 
 module _ {A C F : Type 0} (S : Statements A C F) (N : Names A C Spot) (W : A → List Spot) (start : Memory) (place n : ℕ) (items : ℕ → Items A C) (free : IsParallel S N W start place n items) where
-  abbrev act : ℕ → ℕ → Memory → Effect F
+  abbrev pub act : ℕ → ℕ → Memory → Effect F
   act = nest_act S place items
 
-  abbrev touches : ℕ → List Spot
+  abbrev pub touches : ℕ → List Spot
   touches = touches_of S N W start place n items
 
-  abbrev listed_all : ℕ → List Spot
+  abbrev pub listed_all : ℕ → List Spot
   listed_all i = listed N (items i)
 
-  abbrev listed_writes : ℕ → List Spot
+  abbrev pub listed_writes : ℕ → List Spot
   listed_writes i = listed (writes N W) (items i)
 
-  abbrev spots_of : ℕ → ℕ → List Spot
+  abbrev pub spots_of : ℕ → ℕ → List Spot
   spots_of i c = condition_at S place i c ∷ []
 
-  condition_touched : (i c : ℕ) → c < count_items (items i) → Contains (touches i) (condition_at S place i c)
+  pub condition_touched : (i c : ℕ) → c < count_items (items i) → Contains (touches i) (condition_at S place i c)
   condition_touched i c lt = Contains-append_right (listed_all i) (joined_up_to (count_items (items i)) (spots_of i)) (condition_at S place i c)
       (in_turn_of (spots_of i) (count_items (items i)) c lt (condition_at S place i c) (0, omega arith, refl))
 

@@ -7,3 +7,4 @@ mod Numbering
 mod Joins
 mod Reducing
 mod Acting
+mod Following

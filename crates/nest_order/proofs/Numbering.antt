@@ -57,13 +57,13 @@ module _ {M F : Type 0} where
   then_then (Ok m) f g = refl
   then_then (Err e) f g = refl
 
-  in_turn-add : (a b : ℕ) (f : ℕ → M → Result M F) (m : M) → in_turn (a + b) f m ≡ in_turn a f m >>= in_turn b (λ x. f (a + x))
+  pub in_turn-add : (a b : ℕ) (f : ℕ → M → Result M F) (m : M) → in_turn (a + b) f m ≡ in_turn a f m >>= in_turn b (λ x. f (a + x))
   in_turn-add a zero f m = let z : a + 0 ≡ a = omega arith in ap (λ n. in_turn n f m) z ∙ then_ok (in_turn a f m)
   in_turn-add a (suc b) f m =
       let z : a + suc b ≡ suc (a + b) = omega arith in
       ap (λ n. in_turn n f m) z ∙ ap (λ r. r >>= f (a + b)) (in_turn-add a b f m) ∙ then_then (in_turn a f m) (in_turn b (λ x. f (a + x))) (f (a + b))
 
-  in_turn-same : (t : ℕ) (f g : ℕ → M → Result M F) → ((x : ℕ) → x < t → f x ≡ g x) → in_turn t f ≡ in_turn t g
+  pub in_turn-same : (t : ℕ) (f g : ℕ → M → Result M F) → ((x : ℕ) → x < t → f x ≡ g x) → in_turn t f ≡ in_turn t g
   in_turn-same zero f g same = refl
   in_turn-same (suc t) f g same = λ i m. in_turn-same t f g (λ x lt. same x (omega arith)) i m >>= same t (omega arith) i
 

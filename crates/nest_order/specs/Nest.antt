@@ -1,9 +1,10 @@
 -- A nest of statements as acts of parts on one memory, with the stored conditions in rows of their own.
 use Rattle.std.specs.Prelude.{◌≡◌, ℕ, zero, suc, ◌+◌, ◌<◌, List, [], ◌∷◌, ◌++◌, length, slice_get, ℤ, pos, negsuc, Option, Some, None, Result, Ok, Err, Bool, true, false, ◌&&◌, if◌then◌else◌}
 use Rattle.std.specs.List.{Contains}
+use Rattle.nest_order.specs.Turns.{in_turn}
 use Rattle.nest_order.specs.Memory.{Memory, Spot, row, read, Alike}
 use Rattle.nest_order.specs.Effect.{Effect, Skip, Put, Fail, then_apply}
-use Rattle.nest_order.specs.Items.{Conditions, guard_holds, none_holds, joined_up_to, Items, Part, Acts, Tests, Evaluation, holds_in, EachIn, flat, count_items}
+use Rattle.nest_order.specs.Items.{Conditions, guard_holds, none_holds, joined_up_to, Items, Part, Acts, Tests, Evaluation, holds_in, EachIn, exec, flat, count_items}
 use Rattle.nest_order.specs.Listed.{Names, listed, AreKnown}
 
 -- what assignments do to a memory, and what conditions are in it
@@ -92,3 +93,20 @@ module _ {A C F : Type 0} (statements : Statements A C F) (names : Names A C Spo
     -- what is listed for an iteration, and its stored conditions
     abbrev pub touches_of : ℕ → List Spot
     touches_of i = listed names (items i) ++ joined_up_to (count_items (items i)) (λ number. condition_at statements place i number ∷ [])
+
+-- memories that differ in the stored conditions alone
+pub record SameBelow (place : ℕ) (m m' : Memory) : Type 0 where
+  pub alike : Alike m m'
+  pub same : (spot : Spot) → spot.place < place → read m spot ≡ read m' spot
+
+-- both end with such memories, or both with one fault
+abbrev pub EndAlike : {F : Type 0} → ℕ → Result Memory F → Result Memory F → Type 0
+EndAlike place (Ok m) (Ok m') = SameBelow place m m'
+EndAlike place (Ok m) (Err fault) = ⊥
+EndAlike place (Err fault) (Ok m) = ⊥
+EndAlike place (Err fault) (Err other) = fault ≡ other
+
+module _ {A C F : Type 0} (statements : Statements A C F) where
+  -- the plain loops: the statements of one iteration after those of another, up to the first fault, with no stored conditions
+  abbrev pub plain_loops : (ℕ → Items A C) → Memory → ℕ → Result Memory F
+  plain_loops items start n = in_turn n (λ i. exec (evaluated statements) (items i)) start

@@ -10,7 +10,7 @@ mod reduction;
 
 pub use items::{flattened_items, listed_items};
 pub use last_value::last_value_of_scalar;
-pub use nest::parallel_nest;
+pub use nest::{law_of_nests, parallel_nest, plain_nest};
 pub use nest_index::{nested_loops, numbered_tuples};
 pub use orders::{law_of_fission, parts_agree};
 pub use reduction::{operators_join, reduction_by_join, reduction_variable};
