@@ -8,3 +8,4 @@ mod Joins
 mod Reducing
 mod Acting
 mod Following
+mod Examples

@@ -165,7 +165,7 @@ module _ {A C L M F : Type 0} (E : Evaluation A C M F) (N : Names A C L) where
         let ps = joined_up_to t (λ x. flat (body x) g k) in
         let one = joined_up_to t (λ x. listed N (body x)) in
         let first = stays_turns (λ x. flat (body x) g k) k one true g below t
-        (λ x lt s' h. stays_more (flat (body x) g k) s' k k (listed N (body x)) one (omega arith) (in_turn_of (λ y. listed N (body y)) t x lt) (lists (body x) (known.0 x) g k below s' h)) s on in
+        (λ x lt s' h. stays_more (flat (body x) g k) s' k k (listed N (body x)) one (omega arith) (in_turn_of (λ y. listed N (body y)) t x lt) (lists (body x) (known.0 x lt) g k below s' h)) s on in
         let after = go_on_all E ps s in
         stays_append ps (flat rest g k') s k (one ++ listed N rest) (stays_more ps s k k one (one ++ listed N rest) (omega arith) (in_left one (listed N rest)) first)
         (stays_more (flat rest g k') after k k' (listed N rest) (one ++ listed N rest) (omega arith) (in_right one (listed N rest))

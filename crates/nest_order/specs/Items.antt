@@ -123,7 +123,7 @@ module _ {A C : Type 0} where
     EachIn P Q Done = Unit {0}
     EachIn P Q (Then action rest) = P action × EachIn P Q rest
     EachIn P Q (If branches rest) = EachInBranches P Q branches × EachIn P Q rest
-    EachIn P Q (Repeat trips body rest) = ((x : ℕ) → EachIn P Q (body x)) × EachIn P Q rest
+    EachIn P Q (Repeat trips body rest) = ((x : ℕ) → x < trips → EachIn P Q (body x)) × EachIn P Q rest
 
     pub EachInBranches : (A → Type 0) → (C → Type 0) → Branches A C → Type 0
     EachInBranches P Q EndIf = Unit {0}

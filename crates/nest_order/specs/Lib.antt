@@ -8,3 +8,4 @@ pub mod LastValue
 pub mod Reduction
 pub mod NestIndex
 pub mod Nest
+pub mod Example

@@ -1,6 +1,7 @@
 //! The order of parallel iterations.
 #![tactic(auto)]
 
+mod example;
 mod items;
 mod last_value;
 mod nest;
@@ -8,6 +9,7 @@ mod nest_index;
 mod orders;
 mod reduction;
 
+pub use example::{example_faults, example_finishes, example_is_parallel, example_last_value, example_reduction};
 pub use items::{flattened_items, listed_items};
 pub use last_value::last_value_of_scalar;
 pub use nest::{law_of_nests, parallel_nest, plain_nest};
