@@ -10,7 +10,7 @@ use Rattle.nest_order.specs.Effect.{Effect, Skip, Put, Fail, apply, then_apply}
 use Rattle.nest_order.specs.Orders.{alone, Apart}
 use Rattle.nest_order.specs.Items.{joined_up_to, most, Conditions, set_condition, guard_holds, none_holds, IsBelow, Iteration, Items, Done, Then, If, Repeat, Branches, EndIf, Branch, Part, Acts, Tests, Evaluation, holds_in, EachIn, EachInBranches, count_items, count_branches, flat, flat_branches, is_evaluated}
 use Rattle.nest_order.specs.Listed.{value_or, Names, names_in, names_of, go_on, touched, listed}
-use Rattle.nest_order.specs.Nest.{Statements, evaluated, is_set, number_for, condition_at, conditions_in, put_truth, effects_of, effects, effect_at, nest_effects, nest_act, writes, AgreeOn, IsNamed, IsNear, IsParallel, touches_of}
+use Rattle.nest_order.specs.Nest.{Interpretation, evaluated, is_set, number_for, condition_at, conditions_in, put_truth, effects_of, effects, effect_at, nest_effects, nest_act, writes, AgreeOn, IsNamed, IsNear, IsParallel, touches_of}
 use Rattle.nest_order.proofs.MemoryLemmas.{Alike-write, Alike-trans, Alike-sym, Alike-refl, read-write_other, read-write_both, read-write_at}
 use Rattle.nest_order.proofs.Flattening.{set_at, set_other, Kept, AllBelow, below-more, all_below-more, holds_kept, is_tested, tested_kept}
 use Rattle.nest_order.proofs.Touching.{AllIn, in_turn_of, touched_listed}
@@ -46,7 +46,7 @@ below_most (suc t) f x lt = ⊎_elim
     (λ ne. let z : f x ≤ most t f = below_most t f x (omega arith) in omega arith)
     (cases_eq x t)
 
-module _ {A C F : Type 0} (S : Statements A C F) (N : Names A C Spot) (W : A → List Spot) (start : Memory) (place i count : ℕ) where
+module _ {A C F : Type 0} (S : Interpretation A C F) (N : Names A C Spot) (W : A → List Spot) (start : Memory) (place i count : ℕ) where
   abbrev pub E : Evaluation A C Memory F
   E = evaluated S
 
@@ -288,7 +288,7 @@ module _ {A C F : Type 0} (S : Statements A C F) (N : Names A C Spot) (W : A →
       proper_at (e ∷ es) m all zero lt = all.0
       proper_at (e ∷ es) m all (suc j) lt = subst (Proper (acts es i j)) (alone_behind e es m j) (proper_at es (apply (e m) m) all.1 j (omega arith))
 
-module _ {A C F : Type 0} (S : Statements A C F) (N : Names A C Spot) (W : A → List Spot) (start : Memory) (place n : ℕ) (items : ℕ → Items A C) (free : IsParallel S N W start place n items) where
+module _ {A C F : Type 0} (S : Interpretation A C F) (N : Names A C Spot) (W : A → List Spot) (start : Memory) (place n : ℕ) (items : ℕ → Items A C) (free : IsParallel S N W start place n items) where
   abbrev pub act : ℕ → ℕ → Memory → Effect F
   act = nest_act S place items
 

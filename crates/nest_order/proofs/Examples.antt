@@ -11,7 +11,7 @@ use Rattle.nest_order.specs.Orders.{kept, IsLeastKept}
 use Rattle.nest_order.specs.Items.{EachIn, count_items}
 use Rattle.nest_order.specs.Listed.{listed}
 use Rattle.nest_order.specs.Nest.{nest_effects, nest_act, is_set, writes, IsNamed, IsNear, IsParallel}
-use Rattle.nest_order.specs.Example.{Assignment, Set, Add, Divide, Comparison, Exceeds, effect_in, statements, names, spots_written, a_at, b_at, x_at, s_at, body, entry, fine, faulty}
+use Rattle.nest_order.specs.Example.{Assignment, Set, Add, Divide, Comparison, Exceeds, effect_in, interpretation, names, spots_written, a_at, b_at, x_at, s_at, body, entry, fine, faulty}
 
 first_of_two : (x y : Spot) → Contains (x ∷ y ∷ []) x
 first_of_two x y = (0, omega arith, refl)
@@ -22,7 +22,7 @@ second_of_two x y = (1, omega arith, refl)
 stored_in : (to from spot : Spot) → to ≡ spot → Contains (to ∷ []) spot × Contains (to ∷ from ∷ []) spot
 stored_in to from spot e = subst (λ s. Contains (to ∷ []) s × Contains (to ∷ from ∷ []) s) e ((0, omega arith, refl), first_of_two to from)
 
-named : (start : Memory) (a : Assignment) → IsNamed statements names spots_written start a
+named : (start : Memory) (a : Assignment) → IsNamed interpretation names spots_written start a
 named start (Set to from) = record {
   near = λ m m' h g agree. ap (Put to) (agree from (second_of_two to from));
   stores = λ m spot value put. stored_in to from spot cc;
@@ -44,10 +44,10 @@ named start (Divide line to from) = record {
     divided true v spot value h = cc
     divided false v spot value h = absurd cc
 
-near : (start : Memory) (c : Comparison) → IsNear statements names spots_written start c
+near : (start : Memory) (c : Comparison) → IsNear interpretation names spots_written start c
 near start (Exceeds element bound) = λ m m' h g agree. ap (λ v. Ok (int_lt bound v)) (agree element (0, omega arith, refl))
 
-each_named : (start : Memory) (i : ℕ) → EachIn (IsNamed statements names spots_written start) (IsNear statements names spots_written start) (body i)
+each_named : (start : Memory) (i : ℕ) → EachIn (IsNamed interpretation names spots_written start) (IsNear interpretation names spots_written start) (body i)
 each_named start i =
     let set = named start (Set (x_at i) (b_at i)) in
     let first = named start (Divide 4 (a_at i) (b_at (i + 1))) in
@@ -78,7 +78,7 @@ all_own_written i =
     let s : IsOwnWritten i (s_at i) = (λ e. omega arith, refl) in
     (x, (a, (a, (s, (s, tt)))))
 
-pub is_parallel : (b : List ℤ) → IsParallel statements names spots_written (entry b) 4 3 body
+pub is_parallel : (b : List ℤ) → IsParallel interpretation names spots_written (entry b) 4 3 body
 is_parallel b = record {
   named = λ i lt. each_named (entry b) i;
   known = λ i lt. (((λ v e. absurd cc), (tt, (tt, tt)), (tt, (tt, tt), tt)), ((λ k ltk. (tt, tt)), tt));
@@ -102,7 +102,7 @@ is_parallel b = record {
     in_row i (suc zero) lt ltn = lt
     in_row i (suc (suc number)) lt ltn = absurd (omega arith)
 
-pub nine_acts : (i : ℕ) → i < 3 → length (nest_effects statements 4 body i) ≤ 9
+pub nine_acts : (i : ℕ) → i < 3 → length (nest_effects interpretation 4 body i) ≤ 9
 nine_acts i lt = omega arith
 
 -- an effect that isn't a fault
@@ -111,7 +111,7 @@ goes_on Skip = true
 goes_on (Put spot value) = true
 goes_on (Fail fault) = false
 
-none_sooner : (j : ℕ) → j < 6 → goes_on (kept (nest_act statements 4 body) faulty 3 0 j) ≡ true
+none_sooner : (j : ℕ) → j < 6 → goes_on (kept (nest_act interpretation 4 body) faulty 3 0 j) ≡ true
 none_sooner zero lt = refl
 none_sooner (suc zero) lt = refl
 none_sooner (suc (suc zero)) lt = refl
@@ -120,13 +120,13 @@ none_sooner (suc (suc (suc (suc zero)))) lt = refl
 none_sooner (suc (suc (suc (suc (suc zero))))) lt = refl
 none_sooner (suc (suc (suc (suc (suc (suc j)))))) lt = absurd (omega arith)
 
-pub least_fault : IsLeastKept (nest_act statements 4 body) faulty 3 9 0 6 6
+pub least_fault : IsLeastKept (nest_act interpretation 4 body) faulty 3 9 0 6 6
 least_fault = record {
   iteration = omega arith;
   part = omega arith;
   here = refl;
   sooner = λ i j other lt ltj before is. ⊎_elim
       (λ less. let z : i < 0 = less in absurd (omega arith))
-      (λ same. absurd (true≢false (sym (subst (λ x. goes_on (kept (nest_act statements 4 body) faulty 3 x j) ≡ true) (sym same.0) (none_sooner j same.1)) ∙ ap goes_on is)))
+      (λ same. absurd (true≢false (sym (subst (λ x. goes_on (kept (nest_act interpretation 4 body) faulty 3 x j) ≡ true) (sym same.0) (none_sooner j same.1)) ∙ ap goes_on is)))
       before;
 }

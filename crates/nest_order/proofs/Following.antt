@@ -9,7 +9,7 @@ use Rattle.nest_order.specs.Effect.{Effect, Skip, Put, Fail, apply, then_apply}
 use Rattle.nest_order.specs.Orders.{plain_parts, plain, parted, NoneKept, IsLeastKept}
 use Rattle.nest_order.specs.Items.{joined_up_to, Conditions, guard_holds, none_holds, IsBelow, Iteration, Items, Part, Acts, Tests, Evaluation, holds_in, exec, count_items, flat, do_part, do_parts, Matches}
 use Rattle.nest_order.specs.Listed.{value_or, Names, names_in, go_on, touched, listed}
-use Rattle.nest_order.specs.Nest.{Statements, evaluated, condition_at, conditions_in, put_truth, effects_of, effects, effect_at, nest_effects, nest_act, writes, AgreeOn, IsNamed, IsNear, IsParallel, touches_of, SameBelow, EndAlike, plain_loops}
+use Rattle.nest_order.specs.Nest.{Interpretation, evaluated, condition_at, conditions_in, put_truth, effects_of, effects, effect_at, nest_effects, nest_act, writes, AgreeOn, IsNamed, IsNear, IsParallel, touches_of, SameBelow, EndAlike, plain_loops}
 use Rattle.nest_order.proofs.MemoryLemmas.{Alike-trans, Alike-sym, Alike-refl}
 use Rattle.nest_order.proofs.Flattening.{AllBelow, set_other, Kept, holds_kept, is_tested, tested_kept, items_taken}
 use Rattle.nest_order.proofs.Touching.{AllIn, touched_listed}
@@ -70,7 +70,7 @@ do_or_stop {M = M} {F = F} E (Tests k g es test) s = cases (is_tested g es s.con
     cases true (Err f) = inr (f, refl)
     cases false r = inl refl
 
-module _ {A C F : Type 0} (S : Statements A C F) (N : Names A C Spot) (W : A → List Spot) (start : Memory) (place i count : ℕ) (rows : (c : ℕ) → c < count → i < length (row start (place + c)))
+module _ {A C F : Type 0} (S : Interpretation A C F) (N : Names A C Spot) (W : A → List Spot) (start : Memory) (place i count : ℕ) (rows : (c : ℕ) → c < count → i < length (row start (place + c)))
     (T listed_all listed_writes : List Spot) (in_T : AllIn listed_all T) (conditions_in_T : (c : ℕ) → c < count → Contains T (condition_at S place i c)) (low : (spot : Spot) → Contains listed_all spot → spot.place < place) where
   abbrev E : Evaluation A C Memory F
   E = evaluated S
@@ -170,7 +170,7 @@ module _ {A C F : Type 0} (S : Statements A C F) (N : Names A C Spot) (W : A →
       (h.0, h.1, record { alike = h.2.alike_s; same = record { alike = Alike-trans x start h.0 h.2.alike_s (Alike-sym h.0 start h.2.alike_m); same = h.2.same } })
   ends_follow c (Err f) r w matches follows = subst (λ r. Follows r w) matches follows
 
-module _ {A C F : Type 0} (S : Statements A C F) (N : Names A C Spot) (W : A → List Spot) (start : Memory) (place n : ℕ) (items : ℕ → Items A C) (free : IsParallel S N W start place n items)
+module _ {A C F : Type 0} (S : Interpretation A C F) (N : Names A C Spot) (W : A → List Spot) (start : Memory) (place n : ℕ) (items : ℕ → Items A C) (free : IsParallel S N W start place n items)
     (parts : ℕ) (enough : (i : ℕ) → i < n → length (nest_effects S place items i) ≤ parts) where
   one_iteration : (i : ℕ) → i < n → (x m : Memory) → At start place x m → AtEnds start place (exec (evaluated S) (items i) x) (plain_parts (nest_act S place items) start i parts m)
   one_iteration i lt x m h =

@@ -7,5 +7,6 @@ mod Numbering
 mod Joins
 mod Reducing
 mod Acting
+mod ActNumbers
 mod Following
 mod Examples

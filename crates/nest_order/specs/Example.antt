@@ -19,7 +19,7 @@ use Rattle.nest_order.specs.Memory.{Memory, Spot, read}
 use Rattle.nest_order.specs.Effect.{Effect, Put, Fail}
 use Rattle.nest_order.specs.Items.{Items, Done, Then, If, Repeat, Branches, EndIf, Branch}
 use Rattle.nest_order.specs.Listed.{Names}
-use Rattle.nest_order.specs.Nest.{Statements, is_set}
+use Rattle.nest_order.specs.Nest.{Interpretation, is_set}
 use Rattle.nest_order.specs.Reduction.{Statement, OnRight}
 
 -- `to = from`, `to = to + from`, and `to = to / from`, which faults with its line where the divisor is 0
@@ -40,8 +40,8 @@ effect_in (Divide line to from) m = if is_set (read m from) then Put to (int_div
 abbrev pub exceeds_in : Comparison → Memory → Result Bool ℕ
 exceeds_in (Exceeds element bound) m = Ok (int_lt bound (read m element))
 
-abbrev pub statements : Statements Assignment Comparison ℕ
-statements = record { effect = effect_in; condition = exceeds_in }
+abbrev pub interpretation : Interpretation Assignment Comparison ℕ
+interpretation = record { effect = effect_in; condition = exceeds_in }
 
 abbrev pub spots_named : Assignment → List Spot
 spots_named (Set to from) = to ∷ from ∷ []

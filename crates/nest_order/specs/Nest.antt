@@ -8,12 +8,12 @@ use Rattle.nest_order.specs.Items.{Conditions, guard_holds, none_holds, joined_u
 use Rattle.nest_order.specs.Listed.{Names, listed, AreKnown}
 
 -- what assignments do to a memory, and what conditions are in it
-pub record Statements (A C F : Type 0) : Type 0 where
+pub record Interpretation (A C F : Type 0) : Type 0 where
   pub effect : A → Memory → Effect F
   pub condition : C → Memory → Result Bool F
 
-abbrev pub evaluated : {A C F : Type 0} → Statements A C F → Evaluation A C Memory F
-evaluated statements = record { action = λ action m. then_apply (statements.effect action m) m; condition = statements.condition }
+abbrev pub evaluated : {A C F : Type 0} → Interpretation A C F → Evaluation A C Memory F
+evaluated interpretation = record { action = λ action m. then_apply (interpretation.effect action m) m; condition = interpretation.condition }
 
 -- a stored condition is 1 or 0
 abbrev pub is_set : ℤ → Bool
@@ -26,7 +26,7 @@ number_for true = pos 1
 number_for false = pos 0
 
 -- `place` is the first of the rows of conditions, and i the iteration
-module _ {A C F : Type 0} (statements : Statements A C F) (place i : ℕ) where
+module _ {A C F : Type 0} (interpretation : Interpretation A C F) (place i : ℕ) where
   -- each condition has a row of its own, with a position for each iteration
   abbrev pub condition_at : ℕ → Spot
   condition_at number = record { place = place + number; at = i }
@@ -41,24 +41,34 @@ module _ {A C F : Type 0} (statements : Statements A C F) (place i : ℕ) where
   -- what a part does in its turn. A condition is made anew with 0 first, at every iteration, and then stored where it is
   -- evaluated: these are two acts, and the first never faults
   abbrev pub effects_of : Part A C → List (Memory → Effect F)
-  effects_of (Acts guard action) = (λ m. if guard_holds guard (conditions_in m) then statements.effect action m else Skip) ∷ []
+  effects_of (Acts guard action) = (λ m. if guard_holds guard (conditions_in m) then interpretation.effect action m else Skip) ∷ []
   effects_of (Tests number guard earlier test) =
       (λ m. Put (condition_at number) (pos 0))
-      ∷ (λ m. if guard_holds guard (conditions_in m) && none_holds earlier (conditions_in m) then put_truth (condition_at number) (holds_in (evaluated statements) test m) else Skip)
+      ∷ (λ m. if guard_holds guard (conditions_in m) && none_holds earlier (conditions_in m) then put_truth (condition_at number) (holds_in (evaluated interpretation) test m) else Skip)
       ∷ []
 
   abbrev pub effects : List (Part A C) → List (Memory → Effect F)
   effects [] = []
   effects (part ∷ parts) = effects_of part ++ effects parts
 
+-- the number of parts before the one that an act belongs to, from 0. It isn't the number of acts before, since a part that
+-- stores a condition has two acts
+abbrev pub part_of : {A C : Type 0} → List (Part A C) → ℕ → ℕ
+part_of [] act = act
+part_of (Acts guard action ∷ parts) zero = 0
+part_of (Acts guard action ∷ parts) (suc act) = suc (part_of parts act)
+part_of (Tests number guard earlier test ∷ parts) zero = 0
+part_of (Tests number guard earlier test ∷ parts) (suc zero) = 0
+part_of (Tests number guard earlier test ∷ parts) (suc (suc act)) = suc (part_of parts act)
+
 abbrev pub effect_at : {F : Type 0} → Option (Memory → Effect F) → Memory → Effect F
 effect_at None m = Skip
 effect_at (Some effect) m = effect m
 
-module _ {A C F : Type 0} (statements : Statements A C F) (place : ℕ) (items : ℕ → Items A C) where
+module _ {A C F : Type 0} (interpretation : Interpretation A C F) (place : ℕ) (items : ℕ → Items A C) where
   -- what the parts of an iteration do, in order
   abbrev pub nest_effects : ℕ → List (Memory → Effect F)
-  nest_effects i = effects statements place i (flat (items i) None 0)
+  nest_effects i = effects interpretation place i (flat (items i) None 0)
 
   -- the acts of a nest: what part j does at iteration i
   abbrev pub nest_act : ℕ → ℕ → Memory → Effect F
@@ -68,31 +78,31 @@ module _ {A C F : Type 0} (statements : Statements A C F) (place : ℕ) (items :
 abbrev pub writes : {A C L : Type 0} → Names A C L → (A → List L) → Names A C L
 writes names written = record { of_action = written; of_condition = λ condition. []; known = names.known }
 
-module _ {A C F : Type 0} (statements : Statements A C F) (names : Names A C Spot) (written : A → List Spot) (start : Memory) where
+module _ {A C F : Type 0} (interpretation : Interpretation A C F) (names : Names A C Spot) (written : A → List Spot) (start : Memory) where
   abbrev pub AgreeOn : List Spot → Memory → Memory → Type 0
   AgreeOn spots m m' = (spot : Spot) → Contains spots spot → read m spot ≡ read m' spot
 
   -- what an assignment does depends on what it names alone, and it writes only what it names as written
   pub record IsNamed (action : A) : Type 0 where
-    pub near : (m m' : Memory) → Alike m start → Alike m' start → AgreeOn (names.of_action action) m m' → statements.effect action m ≡ statements.effect action m'
-    pub stores : (m : Memory) (spot : Spot) (value : ℤ) → statements.effect action m ≡ Put spot value → Contains (written action) spot × Contains (names.of_action action) spot
+    pub near : (m m' : Memory) → Alike m start → Alike m' start → AgreeOn (names.of_action action) m m' → interpretation.effect action m ≡ interpretation.effect action m'
+    pub stores : (m : Memory) (spot : Spot) (value : ℤ) → interpretation.effect action m ≡ Put spot value → Contains (written action) spot × Contains (names.of_action action) spot
 
   abbrev pub IsNear : C → Type 0
-  IsNear condition = (m m' : Memory) → Alike m start → Alike m' start → AgreeOn (names.of_condition condition) m m' → statements.condition condition m ≡ statements.condition condition m'
+  IsNear condition = (m m' : Memory) → Alike m start → Alike m' start → AgreeOn (names.of_condition condition) m m' → interpretation.condition condition m ≡ interpretation.condition condition m'
 
   module _ (place n : ℕ) (items : ℕ → Items A C) where
     -- No two iterations interfere: none writes what is listed for another one. A nest whose iterations write one spot each is
     -- none, even where they write the same value
     pub record IsParallel : Type 0 where
       pub named : (i : ℕ) → i < n → EachIn IsNamed IsNear (items i)
-      pub known : (i : ℕ) → i < n → AreKnown (evaluated statements) names (items i)
+      pub known : (i : ℕ) → i < n → AreKnown (evaluated interpretation) names (items i)
       pub rows : (i number : ℕ) → i < n → number < count_items (items i) → i < length (row start (place + number))
       pub below : (i : ℕ) (spot : Spot) → i < n → Contains (listed names (items i)) spot → spot.place < place
       pub apart : (i i' : ℕ) (spot : Spot) → i < n → i' < n → (i ≡ i' → ⊥) → Contains (listed (writes names written) (items i)) spot → Contains (listed names (items i')) spot → ⊥
 
     -- what is listed for an iteration, and its stored conditions
     abbrev pub touches_of : ℕ → List Spot
-    touches_of i = listed names (items i) ++ joined_up_to (count_items (items i)) (λ number. condition_at statements place i number ∷ [])
+    touches_of i = listed names (items i) ++ joined_up_to (count_items (items i)) (λ number. condition_at interpretation place i number ∷ [])
 
 -- memories that differ in the stored conditions alone
 pub record SameBelow (place : ℕ) (m m' : Memory) : Type 0 where
@@ -106,7 +116,7 @@ EndAlike place (Ok m) (Err fault) = ⊥
 EndAlike place (Err fault) (Ok m) = ⊥
 EndAlike place (Err fault) (Err other) = fault ≡ other
 
-module _ {A C F : Type 0} (statements : Statements A C F) where
+module _ {A C F : Type 0} (interpretation : Interpretation A C F) where
   -- the plain loops: the statements of one iteration after those of another, up to the first fault, with no stored conditions
   abbrev pub plain_loops : (ℕ → Items A C) → Memory → ℕ → Result Memory F
-  plain_loops items start n = in_turn n (λ i. exec (evaluated statements) (items i)) start
+  plain_loops items start n = in_turn n (λ i. exec (evaluated interpretation) (items i)) start
