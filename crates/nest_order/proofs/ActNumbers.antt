@@ -3,7 +3,7 @@ use Rattle.std.proofs.Common.{◌≡◌, ℕ, zero, suc, ◌<◌, List, [], ◌�
 use Rattle.std.specs.Prelude.{slice_get}
 use Rattle.nest_order.specs.Memory.{Memory}
 use Rattle.nest_order.specs.Effect.{Fail}
-use Rattle.nest_order.specs.Items.{Part, Acts, Tests}
+use Rattle.nest_order.specs.Parts.{Part, Acts, Tests}
 use Rattle.nest_order.specs.Nest.{Interpretation, effects, effect_at, part_of}
 
 module _ {A C F : Type 0} (S : Interpretation A C F) (place i : ℕ) where

@@ -1,5 +1,5 @@
 -- A nest whose iterations don't interfere has parts that are apart.
-use Rattle.std.proofs.Common.{◌≡◌, ℕ, zero, suc, ◌+◌, ◌<◌, ◌≤◌, List, [], ◌∷◌, ◌++◌, length, Option, Some, None, Result, Ok, Err, Bool, true, false, refl, ap, sym, ◌∙◌, subst, arith, ◌⊎◌, inl, inr, ⊎_elim, true≢false, ℤ, pos}
+use Rattle.std.proofs.Common.{◌≡◌, ℕ, zero, suc, ◌+◌, ◌<◌, ◌≤◌, List, [], ◌∷◌, ◌++◌, length, Option, Some, None, Result, Ok, Err, Bool, true, false, refl, ap, sym, ◌∙◌, subst, arith, ◌⊎◌, inl, inr, ⊎_elim, ℤ, pos}
 use Rattle.std.specs.Prelude.{◌&&◌, if◌then◌else◌, IfSome, slice_get}
 use Rattle.std.specs.List.{Contains}
 use Rattle.std.proofs.lemmas.Bool.{cases_eq, cases_lt}
@@ -8,9 +8,11 @@ use Rattle.std.proofs.lemmas.List.Elements.{Contains-append_left, Contains-appen
 use Rattle.nest_order.specs.Memory.{Memory, Spot, row, read, write, Alike}
 use Rattle.nest_order.specs.Effect.{Effect, Skip, Put, Fail, apply, then_apply}
 use Rattle.nest_order.specs.Orders.{alone, Apart}
-use Rattle.nest_order.specs.Items.{joined_up_to, most, Conditions, set_condition, guard_holds, none_holds, IsBelow, Iteration, Items, Done, Then, If, Repeat, Branches, EndIf, Branch, Part, Acts, Tests, Evaluation, holds_in, EachIn, EachInBranches, count_items, count_branches, flat, flat_branches, is_evaluated}
+use Rattle.nest_order.specs.Turns.{joined_up_to}
+use Rattle.nest_order.specs.Items.{Items, Done, Then, If, Repeat, Branches, EndIf, Branch, Evaluation, holds_in, EachIn, EachInBranches}
+use Rattle.nest_order.specs.Parts.{most, Conditions, set_condition, guard_holds, IsBelow, Iteration, Part, Acts, Tests, count_items, count_branches, flat, flat_branches, is_evaluated}
 use Rattle.nest_order.specs.Listed.{value_or, Names, names_in, names_of, go_on, touched, listed}
-use Rattle.nest_order.specs.Nest.{Interpretation, evaluated, is_set, number_for, condition_at, conditions_in, put_truth, effects_of, effects, effect_at, nest_effects, nest_act, writes, AgreeOn, IsNamed, IsNear, IsParallel, touches_of}
+use Rattle.nest_order.specs.Nest.{Interpretation, evaluated, is_set, number_for, condition_at, conditions_in, put_truth, effects, effect_at, nest_effects, nest_act, writes, AgreeOn, IsNamed, IsNear, IsParallel, touches_of}
 use Rattle.nest_order.proofs.MemoryLemmas.{Alike-write, Alike-trans, Alike-sym, Alike-refl, read-write_other, read-write_both, read-write_at}
 use Rattle.nest_order.proofs.Flattening.{set_at, set_other, Kept, AllBelow, below-more, all_below-more, holds_kept, is_tested, tested_kept}
 use Rattle.nest_order.proofs.Touching.{AllIn, in_turn_of, touched_listed}
@@ -90,10 +92,11 @@ module _ {A C F : Type 0} (S : Interpretation A C F) (N : Names A C Spot) (W : A
     all_branches_good : (branches : Branches A C) (g : Option ℕ) (es : List ℕ) (k : ℕ) → EachInBranches (IsNamed S N W start) (IsNear S N W start) branches → IsBelow g k → AllBelow es k → k + count_branches branches ≤ count → AreGood (flat_branches branches g es k)
     all_branches_good EndIf g es k each below all le = tt
     all_branches_good (Branch test body others) g es k each below all le =
-        let k' = k + 1 + count_items body in
-        ((omega arith, below, all, each.0),
-        good_append (flat body (Some k) (k + 1)) (flat_branches others g (k ∷ es) k') (all_good body (Some k) (k + 1) each.1 (omega arith) (omega arith))
-        (all_branches_good others g (k ∷ es) k' each.2 (below-more g k k' (omega arith) below) (omega arith, all_below-more es k k' (omega arith) all) (omega arith)))
+        let k' = k + 1 + count_items body in (
+          (omega arith, below, all, each.0),
+          good_append (flat body (Some k) (k + 1)) (flat_branches others g (k ∷ es) k') (all_good body (Some k) (k + 1) each.1 (omega arith) (omega arith))
+              (all_branches_good others g (k ∷ es) k' each.2 (below-more g k k' (omega arith) below) (omega arith, all_below-more es k k' (omega arith) all) (omega arith)),
+        )
 
   module _ (rows : (c : ℕ) → c < count → i < length (row start (place + c))) where
     -- an iteration's memory and conditions, and the one memory that has both
@@ -140,14 +143,14 @@ module _ {A C F : Type 0} (S : Interpretation A C F) (N : Names A C Spot) (W : A
           (cases_eq c x);
     }
 
-    pub holds_near : (test : Option C) → IfSome test (IsNear S N W start) → (m m' : Memory) → Alike m start → Alike m' start → AgreeOn S N W start (names_in N test) m m' → holds_in E test m ≡ holds_in E test m'
+    pub holds_near : (test : Option C) → IfSome test (IsNear S N W start) → (m m' : Memory) → Alike m start → Alike m' start → AgreeOn (names_in N test) m m' → holds_in E test m ≡ holds_in E test m'
     holds_near None near m m' h g agree = refl
     holds_near (Some c) near m m' h g agree = near m m' h g agree
 
     module _ (T listed_all listed_writes : List Spot) (in_T : AllIn listed_all T) (conditions_in_T : (c : ℕ) → c < count → Contains T (at c)) (low : (spot : Spot) → Contains listed_all spot → spot.place < place) where
       -- an act where the iteration alone comes to it: it depends on what is touched, and stores what is listed or a condition
       pub record Proper (e : Memory → Effect F) (m : Memory) : Type 0 where
-        pub local : (m' : Memory) → Alike m' start → AgreeOn S N W start T m' m → e m' ≡ e m
+        pub local : (m' : Memory) → Alike m' start → AgreeOn T m' m → e m' ≡ e m
         pub stores : (spot : Spot) (v : ℤ) → e m ≡ Put spot v → (Contains listed_writes spot × Contains listed_all spot) ⊎ ((c : ℕ) × (c < count) × (at c ≡ spot))
 
       abbrev AllProper : List (Memory → Effect F) → Memory → Type 0
@@ -155,7 +158,7 @@ module _ {A C F : Type 0} (S : Interpretation A C F) (N : Names A C Spot) (W : A
       AllProper (e ∷ es) m = Proper e m × AllProper es (apply (e m) m)
 
       -- the conditions of two memories that agree on what is touched
-      conditions_agree : (m m' : Memory) → AgreeOn S N W start T m' m → Kept count (conditions m) (conditions m')
+      conditions_agree : (m m' : Memory) → AgreeOn T m' m → Kept count (conditions m) (conditions m')
       conditions_agree m m' agree = λ x lt. ap is_set (agree (at x) (conditions_in_T x lt))
 
       pub acts_proper : (g : Option ℕ) (a : A) (s : Iteration Memory) (m : Memory) → IsBelow g count → IsNamed S N W start a → Beside s m →
@@ -219,7 +222,7 @@ module _ {A C F : Type 0} (S : Interpretation A C F) (N : Names A C Spot) (W : A
           of_memory : (b : Bool) (m : Memory) → is_tested g es (conditions m) ≡ b → test_act k g es test m ≡ (if b then put_truth S place i (at k) (holds_in E test m) else Skip)
           of_memory b m on = ap (λ t. if t then put_truth S place i (at k) (holds_in E test m) else Skip) on
 
-          tested_too : (b : Bool) (m m' : Memory) → AgreeOn S N W start T m' m → is_tested g es (conditions m) ≡ b → is_tested g es (conditions m') ≡ b
+          tested_too : (b : Bool) (m m' : Memory) → AgreeOn T m' m → is_tested g es (conditions m) ≡ b → is_tested g es (conditions m') ≡ b
           tested_too b m m' agree on = tested_kept g es k (conditions m) (conditions m') below all (λ x ltx. conditions_agree m m' agree x (omega arith)) ∙ on
 
           cases : (b : Bool) → Beside (record s { conditions = set_condition s.conditions k false }) (write m (at k) (pos 0)) → is_tested g es (conditions (write m (at k) (pos 0))) ≡ b → is_tested g es s.conditions ≡ b →
@@ -271,9 +274,13 @@ module _ {A C F : Type 0} (S : Interpretation A C F) (N : Names A C Spot) (W : A
           let p : Part A C = Tests k g es test in
           let m1 = write m (at k) (pos 0) in
           let lt : k < count = good.0.0 in
-          let r = tests_proper k g es test s m lt good.0.1 good.0.2 good.0.3 h (first_named N p ps s listed_all names) (is_tested g es s.conditions) refl in
-          (record { local = λ m' alike agree. refl; stores = λ spot v put. inr (k, lt, cc) }, (r.0,
-          parts_proper ps good.1 (go_on E p s) (apply (test_act k g es test m1) m1) r.1 (others_named N p ps s listed_all names) (others_named (writes N W) p ps s listed_writes written)))
+          let r = tests_proper k g es test s m lt good.0.1 good.0.2 good.0.3 h (first_named N p ps s listed_all names) (is_tested g es s.conditions) refl in (
+            record { local = λ m' alike agree. refl; stores = λ spot v put. inr (k, lt, cc) },
+            (
+              r.0,
+              parts_proper ps good.1 (go_on E p s) (apply (test_act k g es test m1) m1) r.1 (others_named N p ps s listed_all names) (others_named (writes N W) p ps s listed_writes written),
+            ),
+          )
 
       -- the acts of a list, as the acts of an iteration by number
       abbrev acts : List (Memory → Effect F) → ℕ → ℕ → Memory → Effect F

@@ -1,5 +1,5 @@
 -- The example nest meets the premises of the laws.
-use Rattle.std.proofs.Common.{◌≡◌, ℕ, zero, suc, ◌+◌, ◌<◌, ◌≤◌, List, [], ◌∷◌, length, Some, None, Bool, true, false, refl, ap, sym, ◌∙◌, subst, arith, ◌⊎◌, inl, inr, ⊎_elim, ℤ, pos, true≢false}
+use Rattle.std.proofs.Common.{◌≡◌, ℕ, zero, suc, ◌+◌, ◌<◌, ◌≤◌, List, [], ◌∷◌, length, Bool, true, false, refl, ap, sym, ◌∙◌, subst, arith, ◌⊎◌, inl, inr, ⊎_elim, ℤ, pos, true≢false}
 use Rattle.std.specs.Prelude.{if◌then◌else◌, Ok, ◌+ℤ◌, int_lt, int_div}
 use Rattle.std.specs.Int.{int_wrap}
 use mir.Syntax.{w64}
@@ -8,10 +8,10 @@ use Rattle.std.proofs.lemmas.List.Elements.{All-contains, All-from_recursion}
 use Rattle.nest_order.specs.Memory.{Memory, Spot, row, read}
 use Rattle.nest_order.specs.Effect.{Effect, Skip, Put, Fail}
 use Rattle.nest_order.specs.Orders.{kept, IsLeastKept}
-use Rattle.nest_order.specs.Items.{EachIn, count_items}
+use Rattle.nest_order.specs.Items.{EachIn}
 use Rattle.nest_order.specs.Listed.{listed}
 use Rattle.nest_order.specs.Nest.{nest_effects, nest_act, is_set, writes, IsNamed, IsNear, IsParallel}
-use Rattle.nest_order.specs.Example.{Assignment, Set, Add, Divide, Comparison, Exceeds, effect_in, interpretation, names, spots_written, a_at, b_at, x_at, s_at, body, entry, fine, faulty}
+use Rattle.nest_order.specs.Example.{Assignment, Set, Add, Divide, Comparison, Exceeds, interpretation, names, spots_written, a_at, b_at, x_at, s_at, body, entry, faulty}
 
 first_of_two : (x y : Spot) → Contains (x ∷ y ∷ []) x
 first_of_two x y = (0, omega arith, refl)

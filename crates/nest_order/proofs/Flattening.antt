@@ -2,8 +2,9 @@
 use Rattle.std.proofs.Common.{◌≡◌, ℕ, zero, suc, ◌+◌, ◌<◌, ◌≤◌, List, [], ◌∷◌, ◌++◌, Option, Some, None, Result, Ok, Err, Bool, true, false, refl, ap, sym, ◌∙◌, subst, arith, true≢false}
 use Rattle.std.specs.Prelude.{nat_eq, ◌&&◌, not, if◌then◌else◌}
 use Rattle.std.proofs.lemmas.Bool.Decides.{nat_tests}
-use Rattle.nest_order.specs.Turns.{◌>>=◌, in_turn}
-use Rattle.nest_order.specs.Items.{joined_up_to, most, Conditions, set_condition, guard_holds, none_holds, IsBelow, Iteration, Items, Done, Then, If, Repeat, Branches, EndIf, Branch, Part, Acts, Tests, Evaluation, holds_in, exec, exec_branches, count_items, count_branches, flat, flat_branches, do_part, do_parts, Matches}
+use Rattle.nest_order.specs.Turns.{◌>>=◌, in_turn, joined_up_to}
+use Rattle.nest_order.specs.Items.{Items, Done, Then, If, Repeat, Branches, EndIf, Branch, Evaluation, holds_in, exec, exec_branches}
+use Rattle.nest_order.specs.Parts.{most, Conditions, set_condition, guard_holds, none_holds, IsBelow, Iteration, Part, count_items, count_branches, flat, flat_branches, do_part, do_parts, Matches}
 
 pub set_at : (c : Conditions) (n : ℕ) (b : Bool) → set_condition c n b n ≡ b
 set_at c n b = let e : nat_eq n n ≡ true = grind (arith, nat_tests) in ap (λ t. if t then b else c n) e
@@ -141,10 +142,11 @@ module _ {A C M F : Type 0} (E : Evaluation A C M F) where
         (skipped_below k (k + 1) (flat body (Some k) (k + 1)) m c1 (omega arith) (skip body (Some k) (k + 1) (omega arith) m c1 (set_at c k false)))
         (λ d kept. skipped_below k k' (flat_branches others g (k ∷ es) k') m d (omega arith)
         (skip_branches others g (k ∷ es) k' (below-more g k k' (omega arith) below) (omega arith, all_below-more es k k' (omega arith) all) m d
-        (tested_off g es k d (tested_kept g es k c d below all (kept-trans k c c1 d kept1 kept) ∙ off)))) in
-        (r.0,
-        ap (λ b. ((if b then holds_in E test m else Ok false) >>= (λ v. let w : Result (Iteration M) F = Ok (at m (set_condition c k v)) in w)) >>= do_parts E (flat body (Some k) (k + 1) ++ flat_branches others g (k ∷ es) k')) off ∙ r.1,
-        kept-trans k c c1 r.0 kept1 r.2)
+        (tested_off g es k d (tested_kept g es k c d below all (kept-trans k c c1 d kept1 kept) ∙ off)))) in (
+          r.0,
+          ap (λ b. ((if b then holds_in E test m else Ok false) >>= (λ v. let w : Result (Iteration M) F = Ok (at m (set_condition c k v)) in w)) >>= do_parts E (flat body (Some k) (k + 1) ++ flat_branches others g (k ∷ es) k')) off ∙ r.1,
+          kept-trans k c c1 r.0 kept1 r.2,
+        )
 
   -- one list of parts after another
   then_matches : (k k' : ℕ) (c c' : Conditions) (s : Iteration M) (ps qs : List (Part A C)) (q : Result M F) (f : M → Result M F) → Matches k' c' (do_parts E ps s) q →
@@ -214,11 +216,12 @@ module _ {A C M F : Type 0} (E : Evaluation A C M F) where
             let k' = k + 1 + count_items body in
             let c1 = set_condition c k true in
             then_skipped k (k + 1) c c1 (at m c1) (flat body (Some k) (k + 1)) (flat_branches others g (k ∷ es) k') (exec E body m) (taken c1 (set_at c k true))
-            (λ m' d kept.
-            (skipped_below k k' (flat_branches others g (k ∷ es) k') m' d (omega arith)
-            (skip_branches others g (k ∷ es) k' (below-more g k k' (omega arith) below) (omega arith, all_below-more es k k' (omega arith) all) m' d
-            (tested_taken g es k d (kept k (omega arith) ∙ set_at c k true))),
-            kept-trans k c c1 d (kept-set k k c true (omega arith)) (kept-below k (k + 1) c1 d (omega arith) kept)))
+            (λ m' d kept. (
+              skipped_below k k' (flat_branches others g (k ∷ es) k') m' d (omega arith)
+                  (skip_branches others g (k ∷ es) k' (below-more g k k' (omega arith) below) (omega arith, all_below-more es k k' (omega arith) all) m' d
+                  (tested_taken g es k d (kept k (omega arith) ∙ set_at c k true))),
+              kept-trans k c c1 d (kept-set k k c true (omega arith)) (kept-below k (k + 1) c1 d (omega arith) kept),
+            ))
         chosen taken later (Ok false) =
             let k' = k + 1 + count_items body in
             let c1 = set_condition c k false in

@@ -1,9 +1,9 @@
 -- The operators of a reduction join the integers of 64 bits.
-use Rattle.std.proofs.Common.{◌≡◌, ℕ, zero, suc, ◌+◌, ◌-◌, ◌*◌, ◌<◌, ◌≤◌, ◌^◌, Bool, true, false, refl, ap, sym, ◌∙◌, subst, ℤ, pos, negsuc, neg_ℤ, ◌+ℤ◌, ◌-ℤ◌, ◌*ℤ◌, max, arith}
+use Rattle.std.proofs.Common.{◌≡◌, ℕ, zero, suc, ◌*◌, ◌<◌, ◌^◌, Bool, true, false, refl, ap, sym, ◌∙◌, ℤ, pos, negsuc, neg_ℤ, ◌+ℤ◌, ◌*ℤ◌, max, arith}
 use Rattle.std.specs.Prelude.{cond, int_lt, FitsSigned, bit_and, bit_or, bit_xor}
 use Rattle.std.specs.Int.{int_wrap, int_max, int_min}
 use Rattle.std.specs.Int.Bits.{xor_assoc, and_lt}
-use Rattle.std.proofs.lemmas.Int.{ints, clamps, int_max_is, int_min_is, int_wrap_fits, SFits-int_wrap, int_wrap-add_left, int_wrap-add_right, int_wrap-mul_left, int_wrap-mul_right, of_z-to_z, to_z-of_z}
+use Rattle.std.proofs.lemmas.Int.{ints, int_max_is, int_min_is, int_wrap_fits, SFits-int_wrap, int_wrap-add_left, int_wrap-add_right, int_wrap-mul_left, int_wrap-mul_right, of_z-to_z, to_z-of_z}
 use Rattle.std.proofs.lemmas.Nat.{and_assoc, and_comm, or_comm, xor_comm, or_lt, xor_lt, and_mask}
 use Rattle.std.specs.Int.Bits.{or_zero_r, xor_zero_r}
 use Rattle.std.proofs.lemmas.Nat.Bits.{same_from_bits, bit_at_or}
@@ -13,7 +13,7 @@ use Rattle.std.proofs.Math.IntN.{+ℤ_comm, *ℤ_comm, zero-*ℤ, *ℤ-one}
 use Rattle.std.proofs.Math.Facts.{Fits-of_z, sfits_to_z, sfits_lit}
 use lib.IntN
 use mir.Syntax.{w64}
-use mir.Val.{to_z, of_z, Fits}
+use mir.Val.{to_z, of_z}
 use Rattle.nest_order.specs.Reduction.{IsJoin, Operator, Sum, Product, Greatest, Least, And, Or, ExclusiveOr, joined, unit_of}
 
 abbrev InRange : ℤ → Type 0

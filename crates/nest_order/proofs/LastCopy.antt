@@ -3,7 +3,7 @@ use Rattle.std.proofs.Common.{◌≡◌, ℕ, zero, suc, ◌<◌, ◌≤◌, Lis
 use Rattle.std.specs.Prelude.{nat_eq, ◌&&◌, ◌||◌, if◌then◌else◌}
 use Rattle.std.specs.List.{Contains}
 use Rattle.std.proofs.lemmas.Bool.Decides.{nat_tests}
-use Rattle.nest_order.specs.Memory.{Memory, Spot, row, read, write, Alike}
+use Rattle.nest_order.specs.Memory.{Memory, Spot, row, read, write}
 use Rattle.nest_order.specs.Effect.{Effect, Skip, Put, Fail, apply}
 use Rattle.nest_order.specs.Orders.{alone, parted, kept, Apart}
 use Rattle.nest_order.specs.LastValue.{copy_at, is_same_spot, stores_to, value_after, assigns, scalar_after_parts, scalar_after, last_value}

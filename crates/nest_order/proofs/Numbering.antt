@@ -1,5 +1,5 @@
 -- Nested loops are one loop over the numbers of their tuples.
-use Rattle.std.proofs.Common.{◌≡◌, ℕ, zero, suc, ◌+◌, ◌-◌, ◌*◌, ◌/◌, ◌%◌, ◌<◌, ◌≤◌, List, [], ◌∷◌, Result, Ok, Err, refl, ap, sym, ◌∙◌, subst, arith}
+use Rattle.std.proofs.Common.{◌≡◌, ℕ, zero, suc, ◌+◌, ◌*◌, ◌/◌, ◌%◌, ◌<◌, ◌≤◌, List, [], ◌∷◌, Result, Ok, Err, refl, ap, sym, ◌∙◌, subst, arith}
 use Rattle.std.proofs.Math.Nat.{mod-eq_of_lt, div-eq_of_lt, mul-suc, mul-zero, mul_comm, mod-add-div, add-mul-mod_self_left, add-mul-div_left, mul-le-mul_left}
 use Rattle.std.proofs.lemmas.Nat.{div_below, mod_below}
 use Rattle.nest_order.specs.Turns.{◌>>=◌, in_turn}

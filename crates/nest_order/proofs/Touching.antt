@@ -1,9 +1,11 @@
 -- What an iteration touches is listed for it.
-use Rattle.std.proofs.Common.{◌≡◌, ℕ, zero, suc, ◌+◌, ◌<◌, ◌≤◌, List, [], ◌∷◌, ◌++◌, Option, Some, None, Result, Ok, Err, Bool, true, false, refl, ap, sym, ◌∙◌, subst, arith, ◌⊎◌, ⊎_elim, true≢false}
-use Rattle.std.specs.Prelude.{◌&&◌, if◌then◌else◌, IfSome}
+use Rattle.std.proofs.Common.{◌≡◌, ℕ, zero, suc, ◌+◌, ◌<◌, ◌≤◌, List, [], ◌∷◌, ◌++◌, Option, Some, None, Ok, Bool, true, false, refl, ap, sym, ◌∙◌, subst, arith, ◌⊎◌, ⊎_elim, true≢false}
+use Rattle.std.specs.Prelude.{if◌then◌else◌, IfSome}
 use Rattle.std.specs.List.{Contains}
 use Rattle.std.proofs.lemmas.List.Elements.{Contains-append_left, Contains-append_right, Contains-append_cases}
-use Rattle.nest_order.specs.Items.{joined_up_to, most, Conditions, set_condition, guard_holds, IsBelow, Iteration, Items, Done, Then, If, Repeat, Branches, EndIf, Branch, Part, Acts, Tests, Evaluation, holds_in, EachIn, EachInBranches, count_items, count_branches, flat, flat_branches, is_evaluated}
+use Rattle.nest_order.specs.Turns.{joined_up_to}
+use Rattle.nest_order.specs.Items.{Items, Done, Then, If, Repeat, Branches, EndIf, Branch, Evaluation, holds_in, EachInBranches}
+use Rattle.nest_order.specs.Parts.{most, guard_holds, IsBelow, Iteration, Part, Acts, Tests, count_items, count_branches, flat, flat_branches, is_evaluated}
 use Rattle.nest_order.specs.Listed.{value_or, counted, Names, names_in, known_in, names_of, go_on, go_on_all, touched, listed, listed_branches, AreKnown}
 use Rattle.nest_order.proofs.Flattening.{set_at, Kept, kept-set, kept-below, kept-trans, AllBelow, below-more, all_below-more, holds_kept, is_tested, tested_kept, tested_first, tested_later, tested_taken, tested_off}
 

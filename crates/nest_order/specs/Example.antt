@@ -12,12 +12,12 @@
 --       S = S + B(I)
 --     END DO
 --   END DO
-use Rattle.std.specs.Prelude.{ℕ, ◌+◌, List, [], ◌∷◌, ℤ, pos, ◌+ℤ◌, int_lt, int_div, Option, Some, None, Result, Ok, Bool, if◌then◌else◌}
+use Rattle.std.specs.Prelude.{ℕ, ◌+◌, List, [], ◌∷◌, ℤ, pos, ◌+ℤ◌, int_lt, int_div, Some, None, Result, Ok, Bool, if◌then◌else◌}
 use Rattle.std.specs.Int.{int_wrap}
 use mir.Syntax.{w64}
 use Rattle.nest_order.specs.Memory.{Memory, Spot, read}
 use Rattle.nest_order.specs.Effect.{Effect, Put, Fail}
-use Rattle.nest_order.specs.Items.{Items, Done, Then, If, Repeat, Branches, EndIf, Branch}
+use Rattle.nest_order.specs.Items.{Items, Done, Then, If, Repeat, EndIf, Branch}
 use Rattle.nest_order.specs.Listed.{Names}
 use Rattle.nest_order.specs.Nest.{Interpretation, is_set}
 use Rattle.nest_order.specs.Reduction.{Statement, OnRight}

@@ -7,6 +7,7 @@ use Rattle.nest_order.specs.Effect.{Effect, Skip, Put, Fail}
 abbrev pub copy_at : ℕ → ℕ → Spot
 copy_at place i = record { place = place; at = i }
 
+-- one place and one position: two copies at one position aren't one spot
 abbrev pub is_same_spot : Spot → Spot → Bool
 is_same_spot one other = nat_eq one.place other.place && nat_eq one.at other.at
 
@@ -25,12 +26,12 @@ module _ {F : Type 0} where
 
   -- `effect i j` is what part j does at iteration i, and `place` is the row of the scalar's copies
   module _ (effect : ℕ → ℕ → Effect F) (place : ℕ) where
-    -- some part of the first ones assigns the scalar at iteration i
+    -- some part of the first ones assigns the scalar at iteration i. A part that stands there and is skipped doesn't
     abbrev pub assigns : ℕ → ℕ → Bool
     assigns i zero = false
     assigns i (suc j) = stores_to (effect i j) (copy_at place i) || assigns i j
 
-    -- the one scalar of the plain order after the first parts of iteration i
+    -- the one scalar of the plain order after the first parts of iteration i: a later store of it counts, not the first
     abbrev pub scalar_after_parts : ℕ → ℕ → ℤ → ℤ
     scalar_after_parts i zero before = before
     scalar_after_parts i (suc j) before = value_after (effect i j) (copy_at place i) (scalar_after_parts i j before)

@@ -3,6 +3,7 @@ pub mod Memory
 pub mod Effect
 pub mod Orders
 pub mod Items
+pub mod Parts
 pub mod Listed
 pub mod LastValue
 pub mod Reduction

@@ -1,10 +1,13 @@
 -- What an iteration touches while it goes on past its faults, and what is listed for it.
-use Rattle.std.specs.Prelude.{◌≡◌, ℕ, List, [], ◌∷◌, ◌++◌, Option, Some, None, Result, Ok, Err, Bool, true, false, ◌&&◌, if◌then◌else◌}
-use Rattle.nest_order.specs.Items.{Conditions, set_condition, guard_holds, none_holds, Iteration, Items, Done, Then, If, Repeat, Branches, EndIf, Branch, Part, Acts, Tests, Evaluation, holds_in, EachIn, is_evaluated, joined_up_to}
+use Rattle.std.specs.Prelude.{◌≡◌, List, [], ◌∷◌, ◌++◌, Option, Some, None, Result, Ok, Err, Bool, true, false, ◌&&◌, if◌then◌else◌}
+use Rattle.nest_order.specs.Turns.{joined_up_to}
+use Rattle.nest_order.specs.Items.{Items, Done, Then, If, Repeat, Branches, EndIf, Branch, Evaluation, holds_in, EachIn}
+use Rattle.nest_order.specs.Parts.{set_condition, guard_holds, none_holds, Iteration, Part, Acts, Tests, is_evaluated}
 
+-- the value, or where there is a fault what stood there before
 abbrev pub value_or : {A F : Type 0} → Result A F → A → A
-value_or (Ok value) default = value
-value_or (Err fault) default = default
+value_or (Ok value) before = value
+value_or (Err fault) before = before
 
 -- what counts of a branch and of the later ones: by a condition that is known one of them, by any other both
 abbrev pub counted : {L : Type 0} → Option Bool → List L → List L → List L
@@ -20,15 +23,17 @@ pub record Names (A C L : Type 0) : Type 0 where
   pub known : C → Option Bool
 
 module _ {A C L : Type 0} (names : Names A C L) where
-  -- ELSE names nothing, and is known to hold
+  -- what a branch's condition names. ELSE names nothing, and is known to hold
   abbrev pub names_in : Option C → List L
   names_in None = []
   names_in (Some condition) = names.of_condition condition
 
+  -- which way a branch's condition is known to go
   abbrev pub known_in : Option C → Option Bool
   known_in None = Some true
   known_in (Some condition) = names.known condition
 
+  -- what a part names, whether it is evaluated or not. A guard is no name: an iteration has its own conditions
   abbrev pub names_of : Part A C → List L
   names_of (Acts guard action) = names.of_action action
   names_of (Tests number guard earlier test) = names_in test
@@ -52,6 +57,7 @@ module _ {A C M F : Type 0} (evaluation : Evaluation A C M F) where
   go_on (Tests number guard earlier test) s =
       record s { conditions = set_condition s.conditions number (if guard_holds guard s.conditions && none_holds earlier s.conditions then value_or (holds_in evaluation test s.memory) false else false) }
 
+  -- the parts in order, each of them
   abbrev pub go_on_all : List (Part A C) → Iteration M → Iteration M
   go_on_all [] s = s
   go_on_all (part ∷ parts) s = go_on_all parts (go_on part s)

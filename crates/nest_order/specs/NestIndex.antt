@@ -2,25 +2,25 @@
 use Rattle.std.specs.Prelude.{ℕ, ◌+◌, ◌*◌, ◌/◌, ◌%◌, ◌<◌, List, [], ◌∷◌, Result}
 use Rattle.nest_order.specs.Turns.{in_turn}
 
--- how many iterations there are, from the loops' counts, innermost first. No loop has one iteration, and not none
+-- how many iterations there are, from the loops' counts, innermost first. Where no loop is left there is one, and not none
 abbrev pub iterations : List ℕ → ℕ
 iterations [] = 1
 iterations (count ∷ counts) = count * iterations counts
 
--- each turn is one of its loop's, counted from 0
+-- the turns are one of each loop, counted from 0. A tuple isn't the values of the indices, which first and step give
 abbrev pub IsTuple : List ℕ → List ℕ → Type 0
 IsTuple [] [] = Unit {0}
 IsTuple [] (turn ∷ turns) = ⊥
 IsTuple (count ∷ counts) [] = ⊥
 IsTuple (count ∷ counts) (turn ∷ turns) = (turn < count) × IsTuple counts turns
 
--- the number of a tuple, from 0: the innermost loop is the fastest, and the outermost isn't
+-- the number of a tuple in execution order, from 0: the innermost loop is the fastest, and not the outermost
 abbrev pub number_of : List ℕ → List ℕ → ℕ
 number_of [] turns = 0
 number_of (count ∷ counts) [] = 0
 number_of (count ∷ counts) (turn ∷ turns) = turn + count * number_of counts turns
 
--- the tuple of a number
+-- the tuple of a number, innermost turn first
 abbrev pub tuple_of : List ℕ → ℕ → List ℕ
 tuple_of [] number = []
 tuple_of (count ∷ counts) number = number % count ∷ tuple_of counts (number / count)

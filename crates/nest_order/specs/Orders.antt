@@ -1,5 +1,5 @@
 -- The orders of the parts of a nest: iteration by iteration, part by part, and each iteration alone.
-use Rattle.std.specs.Prelude.{◌≡◌, ℕ, zero, suc, ◌<◌, ◌⊎◌, List, ℤ, Result, Ok}
+use Rattle.std.specs.Prelude.{◌≡◌, ℕ, zero, suc, ◌<◌, ◌⊎◌, List, ℤ, Result}
 use Rattle.std.specs.List.{Contains}
 use Rattle.nest_order.specs.Turns.{in_turn}
 use Rattle.nest_order.specs.Memory.{Memory, Spot, read, Alike}
@@ -30,7 +30,7 @@ module _ {F : Type 0} (act : ℕ → ℕ → Memory → Effect F) (start : Memor
   abbrev pub kept : ℕ → ℕ → ℕ → Effect F
   kept n i j = act i j (parted n j)
 
-  -- no part keeps a fault at an iteration
+  -- no part keeps a fault at an iteration, also where the plain order would have ended before
   abbrev pub NoneKept : ℕ → ℕ → Type 0
   NoneKept n parts = (i j : ℕ) (fault : F) → i < n → j < parts → kept n i j ≡ Fail fault → ⊥
 

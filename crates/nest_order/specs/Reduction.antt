@@ -19,7 +19,7 @@ pub record IsReducing {V : Type 0} (InRange : V → Type 0) (join : V → V → 
   pub passes : (a b : V) → InRange a → InRange b → statement (join a b) ≡ join a (statement b)
 
 module _ {V : Type 0} where
-  -- the statements of one iteration, in order
+  -- the statements of one iteration, in order. An iteration may have none
   abbrev pub after_statements : V → List (V → V) → V
   after_statements before statements = fold (λ value statement. statement value) before statements
 
@@ -71,18 +71,19 @@ pub data Statement : Type 0 where
   OnLeft : ℤ → Statement
   Subtracted : ℤ → Statement
 
--- what a statement makes of the variable
+-- what a statement makes of the variable. Its expression is evaluated before, and doesn't name the variable
 abbrev pub assigned : Operator → Statement → ℤ → ℤ
 assigned op (OnRight e) s = joined op s e
 assigned op (OnLeft e) s = joined op e s
 assigned op (Subtracted e) s = int_wrap w64 (s -ℤ e)
 
--- the statement's operator is this one
+-- the statement is of this operator: only `+` has a statement with `-`
 abbrev pub IsOf : Operator → Statement → Type 0
 IsOf op (OnRight e) = Unit {0}
 IsOf op (OnLeft e) = Unit {0}
 IsOf op (Subtracted e) = op ≡ Sum
 
+-- the value of the statement's expression
 abbrev pub value_in : Statement → ℤ
 value_in (OnRight e) = e
 value_in (OnLeft e) = e

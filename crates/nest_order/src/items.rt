@@ -2,7 +2,8 @@
 
 ghost use Rattle.std.specs.Prelude.{◌≡◌, ℕ, Option, Ok, true, false, ◌<◌};
 ghost use Rattle.std.specs.List.{Contains};
-ghost use Rattle.nest_order.specs.Items.{Conditions, guard_holds, IsBelow, Iteration, Items, Evaluation, exec, flat, do_parts, Matches};
+ghost use Rattle.nest_order.specs.Items.{Items, Evaluation, exec};
+ghost use Rattle.nest_order.specs.Parts.{Conditions, guard_holds, IsBelow, Iteration, flat, do_parts, Matches};
 ghost use Rattle.nest_order.specs.Listed.{Names, touched, listed, AreKnown};
 
 /// Flattened statements, at a guard that is stored before theirs. Where it holds, the parts do what the statements do:

@@ -14,5 +14,5 @@ pub fn last_value_of_scalar<F>()
         → Apart act start n parts touches
         → n ≤ length (row start place)
         → scalar_after (kept act start n) place parts entry n
-            ≡ last_value (kept act start n) place parts entry (parted act start n parts) n }
+        ≡ last_value (kept act start n) place parts entry (parted act start n parts) n }
 {}

@@ -4,7 +4,8 @@ ghost use Rattle.std.specs.Prelude.{◌≡◌, ℕ, ◌<◌, ◌≤◌, List, le
 ghost use Rattle.nest_order.specs.Memory.{Memory, Spot};
 ghost use Rattle.nest_order.specs.Effect.{Fail};
 ghost use Rattle.nest_order.specs.Orders.{plain, parted, Apart, NoneKept, IsLeastKept};
-ghost use Rattle.nest_order.specs.Items.{Items, flat};
+ghost use Rattle.nest_order.specs.Items.{Items};
+ghost use Rattle.nest_order.specs.Parts.{flat};
 ghost use Rattle.nest_order.specs.Listed.{Names};
 ghost use Rattle.nest_order.specs.Nest.{Interpretation, nest_effects, nest_act, part_of, plain_loops, EndAlike, IsParallel, touches_of};
 

@@ -28,5 +28,5 @@ pub fn reduction_variable()
         → FitsSigned w64 entry
         → AllByRecursion (AllByRecursion (λ s. IsOf op s × FitsSigned w64 (value_in s))) iterations
         → plain_value entry (all_assigned op iterations)
-            ≡ joined op entry (folded (joined op) (unit_of op) (copies_of (unit_of op) (all_assigned op iterations))) }
+        ≡ joined op entry (folded (joined op) (unit_of op) (copies_of (unit_of op) (all_assigned op iterations))) }
 {}

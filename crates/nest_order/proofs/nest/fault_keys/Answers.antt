@@ -1,5 +1,5 @@
 use Rattle.std.proofs.Common.{None}
-use Rattle.nest_order.specs.Items.{flat}
+use Rattle.nest_order.specs.Parts.{flat}
 use Rattle.nest_order.proofs.ActNumbers.{later_part}
 use Rattle.nest_order.proofs.nest.fault_keys.Goals as goal
 
