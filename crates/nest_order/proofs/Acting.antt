@@ -1,6 +1,6 @@
 -- A nest whose iterations don't interfere has parts that are apart.
 use Rattle.std.proofs.Common.{◌≡◌, ℕ, zero, suc, ◌+◌, ◌<◌, ◌≤◌, List, [], ◌∷◌, ◌++◌, length, Option, Some, None, Result, Ok, Err, Bool, true, false, refl, ap, sym, ◌∙◌, subst, arith, ◌⊎◌, inl, inr, ⊎_elim, ℤ, pos}
-use Rattle.std.specs.Prelude.{◌&&◌, if◌then◌else◌, IfSome, slice_get}
+use Rattle.std.specs.Prelude.{if◌then◌else◌, IfSome, slice_get, slice_index_or}
 use Rattle.std.specs.List.{Contains}
 use Rattle.std.proofs.lemmas.Bool.{cases_eq, cases_lt}
 use Rattle.std.proofs.lemmas.Option.{slice_get_past}
@@ -37,7 +37,7 @@ of_turn lists (suc t) name h = ⊎_elim
 of_one : {L : Type 0} (x name : L) → Contains (x ∷ []) name → x ≡ name
 of_one {L = L} x name h = at h.0 h.1 h.2
   where
-    at : (k : ℕ) → k < length (x ∷ []) → (let xs : List L = x ∷ [] in Rattle.std.specs.Prelude.slice_index_or xs k name) ≡ name → x ≡ name
+    at : (k : ℕ) → k < length (x ∷ []) → (let xs : List L = x ∷ [] in slice_index_or xs k name) ≡ name → x ≡ name
     at zero lt is = is
     at (suc k) lt is = absurd (omega arith)
 

@@ -8,7 +8,7 @@ use Rattle.nest_order.specs.Memory.{Memory, Spot, row, write, Alike}
 use Rattle.nest_order.specs.Effect.{Effect, Skip, Put, Fail, apply, then_apply}
 use Rattle.nest_order.specs.Orders.{plain_parts, plain, parted, NoneKept, IsLeastKept}
 use Rattle.nest_order.specs.Items.{Items, Evaluation, holds_in, exec}
-use Rattle.nest_order.specs.Parts.{Conditions, guard_holds, none_holds, IsBelow, Iteration, Part, Acts, Tests, count_items, flat, do_part, do_parts, Matches}
+use Rattle.nest_order.specs.Parts.{Conditions, set_condition, guard_holds, IsBelow, Iteration, Part, Acts, Tests, count_items, flat, do_part, do_parts, Matches}
 use Rattle.nest_order.specs.Listed.{value_or, Names, names_in, go_on, touched, listed}
 use Rattle.nest_order.specs.Nest.{Interpretation, evaluated, condition_at, conditions_in, put_truth, effects, effect_at, nest_effects, nest_act, writes, IsNamed, IsNear, IsParallel, SameBelow, EndAlike, plain_loops}
 use Rattle.nest_order.proofs.MemoryLemmas.{Alike-trans, Alike-sym, Alike-refl}
@@ -65,8 +65,8 @@ do_or_stop {M = M} {F = F} E (Acts g a) s = cases (guard_holds g s.conditions) (
 do_or_stop {M = M} {F = F} E (Tests k g es test) s = cases (is_tested g es s.conditions) (holds_in E test s.memory)
   where
     cases : (b : Bool) (r : Result Bool F) →
-        ((if b then r else Ok false) >>= (λ v. Ok (record s { conditions = Rattle.nest_order.specs.Parts.set_condition s.conditions k v })) ≡ Ok (record s { conditions = Rattle.nest_order.specs.Parts.set_condition s.conditions k (if b then value_or r false else false) }))
-        ⊎ ((f : F) × ((if b then r else Ok false) >>= (λ v. let x : Result (Iteration M) F = Ok (record s { conditions = Rattle.nest_order.specs.Parts.set_condition s.conditions k v }) in x) ≡ Err f))
+        ((if b then r else Ok false) >>= (λ v. Ok (record s { conditions = set_condition s.conditions k v })) ≡ Ok (record s { conditions = set_condition s.conditions k (if b then value_or r false else false) }))
+        ⊎ ((f : F) × ((if b then r else Ok false) >>= (λ v. let x : Result (Iteration M) F = Ok (record s { conditions = set_condition s.conditions k v }) in x) ≡ Err f))
     cases true (Ok v) = inl refl
     cases true (Err f) = inr (f, refl)
     cases false r = inl refl
@@ -118,7 +118,7 @@ module _ {A C F : Type 0} (S : Interpretation A C F) (N : Names A C Spot) (W : A
     where
       outcome : (m1 : Memory) (b d : Bool) (r q : Result Bool F) → b ≡ d → (d ≡ true → r ≡ q) →
           (let e = if b then put_truth S place i (condition_at S place i k) r else Skip in
-          then_apply e m1 ≡ ((if d then q else Ok false) >>= (λ v. let y : Result (Iteration Memory) F = Ok (record s { conditions = Rattle.nest_order.specs.Parts.set_condition s.conditions k v }) in y)) >>= (λ t. Ok (apply e m1)))
+          then_apply e m1 ≡ ((if d then q else Ok false) >>= (λ v. let y : Result (Iteration Memory) F = Ok (record s { conditions = set_condition s.conditions k v }) in y)) >>= (λ t. Ok (apply e m1)))
       outcome m1 true true r (Ok v) same is = let z = is refl in subst (λ x. let e = put_truth S place i (condition_at S place i k) x in then_apply e m1 ≡ Ok (apply e m1)) (sym z) refl
       outcome m1 true true r (Err f) same is = let z = is refl in subst (λ x. let e = put_truth S place i (condition_at S place i k) x in then_apply e m1 ≡ Err f) (sym z) refl
       outcome m1 false false r q same is = refl

@@ -1,4 +1,5 @@
--- The law of fission: without interference, plain loops and parts one after another end alike.
+-- The law of fission: where iterations are apart, the plain order and the parted order end alike. Neither is compared with
+-- the other: both are compared with each iteration alone.
 use Rattle.std.proofs.Common.{◌≡◌, ℕ, zero, suc, ◌<◌, ◌≤◌, ◌+◌, ◌-◌, nat_eq, nat_lt, if◌then◌else◌, Result, Ok, Err, List, refl, ap, sym, ◌∙◌, subst, ◌⊎◌, inl, inr, ⊎_elim, ℤ, arith}
 use Rattle.std.proofs.lemmas.Bool.{cases_eq, cases_lt}
 use Rattle.std.proofs.lemmas.Bool.Decides.{nat_tests}
@@ -9,16 +10,19 @@ use Rattle.nest_order.specs.Effect.{Effect, Skip, Put, Fail, apply, then_apply, 
 use Rattle.nest_order.specs.Orders.{alone, plain_parts, plain, parted, kept, Apart, IsLeastKept, NoneKept}
 use Rattle.nest_order.proofs.MemoryLemmas.{Alike-write, Alike-refl, Alike-trans, Alike-sym, spots, read-write_other, read-write_both, Memory-ext}
 
--- some number below n, or none
-bounded : (P : ℕ → Type 0) (n : ℕ) → ((i : ℕ) → P i ⊎ (P i → ⊥)) → ((i : ℕ) × (i < n) × P i) ⊎ ((i : ℕ) → i < n → P i → ⊥)
+-- the least number below n that has a decided fact, or none has it
+bounded : (P : ℕ → Type 0) (n : ℕ) → ((i : ℕ) → P i ⊎ (P i → ⊥)) → ((i : ℕ) × (i < n) × P i × ((x : ℕ) → x < i → P x → ⊥)) ⊎ ((i : ℕ) → i < n → P i → ⊥)
 bounded P zero dec = inr (λ i lt p. absurd (omega arith))
 bounded P (suc n) dec = ⊎_elim
-    (λ p. inl (n, omega arith, p))
-    (λ never. ⊎_elim
-    (λ s. let lt : s.0 < n = s.1 in inl (s.0, omega arith, s.2))
-    (λ none. inr (λ i lt p. ⊎_elim (λ e. never (subst P e p)) (λ ne. none i (omega arith) p) (cases_eq i n)))
-    (bounded P n dec))
-    (dec n)
+    (λ s. let lt : s.0 < n = s.1 in inl (s.0, omega arith, s.2, s.3))
+    (λ none. ⊎_elim
+    (λ p. inl (n, omega arith, p, none))
+    (λ never. inr (λ i lt p. ⊎_elim (λ e. never (subst P e p)) (λ ne. none i (omega arith) p) (cases_eq i n)))
+    (dec n))
+    (bounded P n dec)
+
+some_below : (P : ℕ → Type 0) (n : ℕ) → ((i : ℕ) → P i ⊎ (P i → ⊥)) → ((i : ℕ) × (i < n) × P i) ⊎ ((i : ℕ) → i < n → P i → ⊥)
+some_below P n dec = ⊎_elim (λ s. inl (s.0, s.1, s.2)) (λ none. inr none) (bounded P n dec)
 
 -- a number for the iterations below i, and one for the others
 abbrev below : ℕ → ℕ → ℕ → ℕ → ℕ
@@ -82,6 +86,11 @@ module _ {F : Type 0} where
   applied (Put s v) m m' h = ok_same (write m s v) m' h
   applied (Fail f) m m' h = cc
 
+  fails : (e : Effect F) → ((f : F) × (e ≡ Fail f)) ⊎ ((f : F) × (e ≡ Fail f) → ⊥)
+  fails Skip = inr (λ h. let e = h.1 in cc)
+  fails (Put s v) = inr (λ h. let e = h.1 in cc)
+  fails (Fail f) = inl (f, refl)
+
   goes_on : (e : Effect F) (m : Memory) → ((f : F) → e ≡ Fail f → ⊥) → then_apply e m ≡ Ok (apply e m)
   goes_on Skip m never = refl
   goes_on (Put s v) m never = refl
@@ -91,6 +100,39 @@ module _ {F : Type 0} where
     pub Alike-alone : (i j : ℕ) → Alike (alone act start i j) start
     Alike-alone i zero = Alike-refl start
     Alike-alone i (suc j) = Alike-trans (alone act start i (suc j)) (alone act start i j) start (Alike-apply (act i j (alone act start i j)) (alone act start i j)) (Alike-alone i j)
+
+    -- where a fault is kept, one has the least key
+    module _ (n k : ℕ) where
+      abbrev KeepsAt : ℕ → ℕ → Type 0
+      KeepsAt i j = (f : F) × (kept act start n i j ≡ Fail f)
+
+      abbrev Keeps : ℕ → Type 0
+      Keeps i = (j : ℕ) × (j < k) × KeepsAt i j × ((x : ℕ) → x < j → KeepsAt i x → ⊥)
+
+      keeps : (i : ℕ) → Keeps i ⊎ ((j : ℕ) → j < k → KeepsAt i j → ⊥)
+      keeps i = bounded (KeepsAt i) k (λ j. fails (kept act start n i j))
+
+      none_at : (i : ℕ) → (Keeps i → ⊥) → (j : ℕ) → j < k → KeepsAt i j → ⊥
+      none_at i never j lt h = ⊎_elim never (λ none. none j lt h) (keeps i)
+
+      pub none_or_least : NoneKept act start n k ⊎ ((i : ℕ) × (j : ℕ) × (f : F) × IsLeastKept act start n k i j f)
+      none_or_least = ⊎_elim
+          (λ s. let t = s.2 in inr (
+            s.0,
+            t.0,
+            t.2.0,
+            record {
+              iteration = s.1;
+              part = t.1;
+              here = t.2.1;
+              sooner = λ i j g lt lt' before is. ⊎_elim
+                  (λ less. none_at i (s.3 i less) j lt' (g, is))
+                  (λ same. t.3 j same.1 (subst (λ x. KeepsAt x j) same.0 (g, is)))
+                  before;
+            },
+          ))
+          (λ none. inl (λ i j f lt lt' is. none_at i (none i lt) j lt' (f, is)))
+          (bounded Keeps n (λ i. ⊎_elim (λ h. inl h) (λ none. inr (λ h. none h.0 h.1 h.2)) (keeps i)))
 
     module _ (n k : ℕ) (touches : ℕ → List Spot) (free : Apart act start n k touches) where
       abbrev Unwritten : Spot → Type 0
@@ -226,10 +268,10 @@ module _ {F : Type 0} where
 
           of_row : (l : Spot) (i : ℕ) → (((j : ℕ) × (j < k) × ((v : ℤ) × (act i j (alone act start i j) ≡ Put l v))) ⊎ ((j : ℕ) × (j < k) × ((v : ℤ) × (act i j (alone act start i j) ≡ Put l v)) → ⊥))
           of_row l i = ⊎_elim (λ s. inl s) (λ none. inr (λ s. none s.0 s.1 s.2))
-              (bounded (λ j. (v : ℤ) × (act i j (alone act start i j) ≡ Put l v)) k (λ j. puts (act i j (alone act start i j)) l))
+              (some_below (λ j. (v : ℤ) × (act i j (alone act start i j) ≡ Put l v)) k (λ j. puts (act i j (alone act start i j)) l))
 
           writer : (l : Spot) → ((i : ℕ) × (i < n) × ((j : ℕ) × (j < k) × ((v : ℤ) × (act i j (alone act start i j) ≡ Put l v)))) ⊎ ((i : ℕ) → i < n → (j : ℕ) × (j < k) × ((v : ℤ) × (act i j (alone act start i j) ≡ Put l v)) → ⊥)
-          writer l = bounded (λ i. (j : ℕ) × (j < k) × ((v : ℤ) × (act i j (alone act start i j) ≡ Put l v))) n (λ i. of_row l i)
+          writer l = some_below (λ i. (j : ℕ) × (j < k) × ((v : ℤ) × (act i j (alone act start i j) ≡ Put l v))) n (λ i. of_row l i)
 
       pub parted_alone : (i : ℕ) (l : Spot) → i < n → Contains (touches i) l → read (parted act start n k) l ≡ read (alone act start i k) l
       parted_alone i l lt t = (parted_merged k (omega arith)).touched i l lt t

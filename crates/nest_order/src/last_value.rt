@@ -10,7 +10,8 @@ ghost use Rattle.nest_order.specs.LastValue.{scalar_after, last_value};
 /// each store to a copy is a store to it. After all iterations it is the copy of the last iteration that assigned it, as
 /// the parted order leaves that copy; where no iteration assigns it, it is the entry value.
 pub fn last_value_of_scalar<F>()
-    ensures { (act : ℕ → ℕ → Memory → Effect F) (start : Memory) (n parts : ℕ) (touches : ℕ → List Spot) (place : ℕ) (entry : ℤ)
+    ensures { (act : ℕ → ℕ → Memory → Effect F) (start : Memory) (n parts : ℕ)
+        (touches : ℕ → List Spot) (place : ℕ) (entry : ℤ)
         → Apart act start n parts touches
         → n ≤ length (row start place)
         → scalar_after (kept act start n) place parts entry n

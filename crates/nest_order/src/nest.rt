@@ -7,34 +7,43 @@ ghost use Rattle.nest_order.specs.Orders.{plain, parted, Apart, NoneKept, IsLeas
 ghost use Rattle.nest_order.specs.Items.{Items};
 ghost use Rattle.nest_order.specs.Parts.{flat};
 ghost use Rattle.nest_order.specs.Listed.{Names};
-ghost use Rattle.nest_order.specs.Nest.{Interpretation, nest_effects, nest_act, part_of, plain_loops, EndAlike, IsParallel, touches_of};
+ghost use Rattle.nest_order.specs.Nest.{Interpretation, nest_effects, nest_act, part_of};
+ghost use Rattle.nest_order.specs.Nest.{plain_loops, EndAlike, IsParallel, touches_of};
 
 /// The parts of a nest are apart, as the law of fission asks, where no iteration writes what is listed for another one.
 pub fn parallel_nest<A, C, F>()
-    ensures { (interpretation : Interpretation A C F) (names : Names A C Spot) (written : A → List Spot) (start : Memory) (place n parts : ℕ) (items : ℕ → Items A C)
+    ensures { (interpretation : Interpretation A C F) (names : Names A C Spot)
+        (written : A → List Spot) (start : Memory) (place n parts : ℕ) (items : ℕ → Items A C)
         → IsParallel interpretation names written start place n items
-        → Apart (nest_act interpretation place items) start n parts (touches_of interpretation names written start place n items) }
+        → Apart (nest_act interpretation place items) start n parts
+        (touches_of interpretation names written start place n items) }
 {}
 
 /// The plain order of a nest's parts follows its plain loops: both end with one fault, or with memories that differ in
 /// the stored conditions alone. The parts are as many as the iteration with most has; another one skips the last ones.
 pub fn plain_nest<A, C, F>()
-    ensures { (interpretation : Interpretation A C F) (names : Names A C Spot) (written : A → List Spot) (start : Memory) (place n parts : ℕ) (items : ℕ → Items A C)
+    ensures { (interpretation : Interpretation A C F) (names : Names A C Spot)
+        (written : A → List Spot) (start : Memory) (place n parts : ℕ) (items : ℕ → Items A C)
         → IsParallel interpretation names written start place n items
         → ((i : ℕ) → i < n → length (nest_effects interpretation place items i) ≤ parts)
-        → EndAlike place (plain_loops interpretation items start n) (plain (nest_act interpretation place items) start parts n) }
+        → EndAlike place (plain_loops interpretation items start n)
+        (plain (nest_act interpretation place items) start parts n) }
 {}
 
 /// The law of fission for nests. Let no iteration write what is listed for another one. Where the parted order keeps no
 /// fault, the plain loops end with its memory, but for the stored conditions. Else they end with the fault of the least
 /// key.
 pub fn law_of_nests<A, C, F>()
-    ensures finishes { (interpretation : Interpretation A C F) (names : Names A C Spot) (written : A → List Spot) (start : Memory) (place n parts : ℕ) (items : ℕ → Items A C)
+    ensures finishes { (interpretation : Interpretation A C F) (names : Names A C Spot)
+        (written : A → List Spot) (start : Memory) (place n parts : ℕ) (items : ℕ → Items A C)
         → IsParallel interpretation names written start place n items
         → ((i : ℕ) → i < n → length (nest_effects interpretation place items i) ≤ parts)
         → NoneKept (nest_act interpretation place items) start n parts
-        → EndAlike place (plain_loops interpretation items start n) (Ok (parted (nest_act interpretation place items) start n parts)) }
-    ensures faults { (interpretation : Interpretation A C F) (names : Names A C Spot) (written : A → List Spot) (start : Memory) (place n parts i j : ℕ) (items : ℕ → Items A C) (fault : F)
+        → EndAlike place (plain_loops interpretation items start n)
+        (Ok (parted (nest_act interpretation place items) start n parts)) }
+    ensures faults { (interpretation : Interpretation A C F) (names : Names A C Spot)
+        (written : A → List Spot) (start : Memory) (place n parts : ℕ) (items : ℕ → Items A C)
+        (i j : ℕ) (fault : F)
         → IsParallel interpretation names written start place n items
         → ((x : ℕ) → x < n → length (nest_effects interpretation place items x) ≤ parts)
         → IsLeastKept (nest_act interpretation place items) start n parts i j fault
@@ -44,7 +53,8 @@ pub fn law_of_nests<A, C, F>()
 /// The keys of faults are in one order by the numbers of acts and by the numbers of parts applied before: where an act
 /// faults, each later act of that iteration is of a later part.
 pub fn fault_keys<A, C, F>()
-    ensures { (interpretation : Interpretation A C F) (place : ℕ) (items : ℕ → Items A C) (i j later : ℕ) (m : Memory) (fault : F)
+    ensures { (interpretation : Interpretation A C F) (place : ℕ) (items : ℕ → Items A C)
+        (i j later : ℕ) (m : Memory) (fault : F)
         → nest_act interpretation place items i j m ≡ Fail fault
         → j < later
         → part_of (flat (items i) None 0) j < part_of (flat (items i) None 0) later }

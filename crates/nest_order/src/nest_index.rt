@@ -6,10 +6,14 @@ ghost use Rattle.nest_order.specs.NestIndex.{iterations, IsTuple, number_of, tup
 
 /// The tuples of nested loops and the numbers below their count of iterations are one to one.
 pub fn numbered_tuples()
-    ensures numbered { (counts turns : List ℕ) → IsTuple counts turns → number_of counts turns < iterations counts }
-    ensures back_to_tuple { (counts turns : List ℕ) → IsTuple counts turns → tuple_of counts (number_of counts turns) ≡ turns }
-    ensures tuple { (counts : List ℕ) (number : ℕ) → number < iterations counts → IsTuple counts (tuple_of counts number) }
-    ensures back_to_number { (counts : List ℕ) (number : ℕ) → number < iterations counts → number_of counts (tuple_of counts number) ≡ number }
+    ensures numbered { (counts turns : List ℕ) → IsTuple counts turns
+        → number_of counts turns < iterations counts }
+    ensures back_to_tuple { (counts turns : List ℕ) → IsTuple counts turns
+        → tuple_of counts (number_of counts turns) ≡ turns }
+    ensures tuple { (counts : List ℕ) (number : ℕ) → number < iterations counts
+        → IsTuple counts (tuple_of counts number) }
+    ensures back_to_number { (counts : List ℕ) (number : ℕ) → number < iterations counts
+        → number_of counts (tuple_of counts number) ≡ number }
 {}
 
 /// Nested loops run their tuples in the order of the numbers, up to the first fault.

@@ -3,13 +3,16 @@
 ghost use Rattle.std.specs.Prelude.{◌≡◌, ℤ, List, Bool, true, FitsSigned};
 ghost use Rattle.std.specs.Int.{w64};
 ghost use Rattle.std.specs.List.{AllByRecursion};
-ghost use Rattle.nest_order.specs.Reduction.{IsJoin, IsReducing, plain_value, copies_of, folded, Operator, joined, unit_of, Statement, IsOf, value_in, assigned, all_assigned};
+ghost use Rattle.nest_order.specs.Reduction.{IsJoin, IsReducing, plain_value, copies_of, folded};
+ghost use Rattle.nest_order.specs.Reduction.{Operator, joined, unit_of, Statement, IsOf, value_in};
+ghost use Rattle.nest_order.specs.Reduction.{all_assigned};
 
 /// A reduction over any values in a range: what joins them is associative with a unit on the right, and each statement
 /// changes the second of two joined values alone. The plain order makes of the entry value its join with the fold of
 /// the copies.
 pub fn reduction_by_join<V>()
-    ensures { (in_range : V → Bool) (join : V → V → V) (unit entry : V) (iterations : List (List (V → V)))
+    ensures { (in_range : V → Bool) (join : V → V → V) (unit entry : V)
+        (iterations : List (List (V → V)))
         → IsJoin (λ v. in_range v ≡ true) join unit
         → in_range entry ≡ true
         → AllByRecursion (AllByRecursion (IsReducing (λ v. in_range v ≡ true) join)) iterations
@@ -28,5 +31,6 @@ pub fn reduction_variable()
         → FitsSigned w64 entry
         → AllByRecursion (AllByRecursion (λ s. IsOf op s × FitsSigned w64 (value_in s))) iterations
         → plain_value entry (all_assigned op iterations)
-        ≡ joined op entry (folded (joined op) (unit_of op) (copies_of (unit_of op) (all_assigned op iterations))) }
+        ≡ joined op entry
+        (folded (joined op) (unit_of op) (copies_of (unit_of op) (all_assigned op iterations))) }
 {}
