@@ -19,9 +19,9 @@ use Rattle.nest_order.proofs.Parting.{fission_finishes, fission_faults}
 use Rattle.nest_order.proofs.Acting.{Beside, beside_stored, holds_near, AreGood, all_good, test_act, acts_proper, tests_proper, first_named, others_named, condition_touched, touches, parts_apart}
 
 -- the plain loops have come to x, and the plain order of the parts to m
-record At (start : Memory) (place : ℕ) (x m : Memory) : Type 0 where
-  alike : Alike x start
-  same : SameBelow place x m
+pub record At (start : Memory) (place : ℕ) (x m : Memory) : Type 0 where
+  pub alike : Alike x start
+  pub same : SameBelow place x m
 
 abbrev AtEnds : {F : Type 0} → Memory → ℕ → Result Memory F → Result Memory F → Type 0
 AtEnds start place (Ok x) r = (m : Memory) × (r ≡ Ok m) × At start place x m
@@ -53,7 +53,7 @@ module _ {F : Type 0} where
       bind_same (Err e) f g same = refl
 
 -- a part that doesn't fault does what it does going on past faults
-do_or_stop : {A C M F : Type 0} (E : Evaluation A C M F) (p : Part A C) (s : Iteration M) → (do_part E p s ≡ Ok (go_on E p s)) ⊎ ((f : F) × (do_part E p s ≡ Err f))
+pub do_or_stop : {A C M F : Type 0} (E : Evaluation A C M F) (p : Part A C) (s : Iteration M) → (do_part E p s ≡ Ok (go_on E p s)) ⊎ ((f : F) × (do_part E p s ≡ Err f))
 do_or_stop {M = M} {F = F} E (Acts g a) s = cases (guard_holds g s.conditions) (E.action a s.memory)
   where
     cases : (b : Bool) (r : Result M F) →
@@ -76,11 +76,11 @@ module _ {A C F : Type 0} (S : Interpretation A C F) (N : Names A C Spot) (W : A
   abbrev E : Evaluation A C Memory F
   E = evaluated S
 
-  abbrev Next : Iteration Memory → Memory → Type 0
+  abbrev pub Next : Iteration Memory → Memory → Type 0
   Next s m = Beside S N W start place i count rows s m
 
   -- an act faults exactly where the part does
-  acts_outcome : (g : Option ℕ) (a : A) (s : Iteration Memory) (m : Memory) → IsBelow g count → IsNamed S N W start a → Next s m → (guard_holds g s.conditions ≡ true → AllIn (N.of_action a) listed_all) →
+  pub acts_outcome : (g : Option ℕ) (a : A) (s : Iteration Memory) (m : Memory) → IsBelow g count → IsNamed S N W start a → Next s m → (guard_holds g s.conditions ≡ true → AllIn (N.of_action a) listed_all) →
       (b : Bool) → guard_holds g s.conditions ≡ b →
       (let e = if guard_holds g (conditions_in S place i m) then S.effect a m else Skip in then_apply e m ≡ do_part E (let p : Part A C = Acts g a in p) s >>= (λ t. Ok (apply e m)))
   acts_outcome g a s m below named h names b is =
@@ -106,7 +106,7 @@ module _ {A C F : Type 0} (S : Interpretation A C F) (N : Names A C Spot) (W : A
       cases true same is on = both (guard_holds g (conditions_in S place i m)) (guard_holds g s.conditions) true on is (outcome (S.effect a m) (S.effect a s.memory) (same refl))
       cases false same is on = both (guard_holds g (conditions_in S place i m)) (guard_holds g s.conditions) false on is refl
 
-  tests_outcome : (k : ℕ) (g : Option ℕ) (es : List ℕ) (test : Option C) (s : Iteration Memory) (m : Memory) → k < count → IsBelow g k → AllBelow es k → IfSome test (IsNear S N W start) → Next s m → (is_tested g es s.conditions ≡ true → AllIn (names_in N test) listed_all) →
+  pub tests_outcome : (k : ℕ) (g : Option ℕ) (es : List ℕ) (test : Option C) (s : Iteration Memory) (m : Memory) → k < count → IsBelow g k → AllBelow es k → IfSome test (IsNear S N W start) → Next s m → (is_tested g es s.conditions ≡ true → AllIn (names_in N test) listed_all) →
       (let m1 = write m (condition_at S place i k) (pos 0) in let e = test_act S N W start place i count rows T listed_all listed_writes in_T conditions_in_T low k g es test m1 in
       then_apply e m1 ≡ do_part E (let p : Part A C = Tests k g es test in p) s >>= (λ t. Ok (apply e m1)))
   tests_outcome k g es test s m lt below all near h names =

@@ -6,7 +6,8 @@ use Rattle.std.proofs.lemmas.Bool.Decides.{nat_tests}
 use Rattle.nest_order.specs.Memory.{Memory, Spot, row, read, write}
 use Rattle.nest_order.specs.Effect.{Effect, Skip, Put, Fail, apply}
 use Rattle.nest_order.specs.Orders.{alone, parted, kept, Apart}
-use Rattle.nest_order.specs.LastValue.{copy_at, is_same_spot, stores_to, value_after, assigns, scalar_after_parts, scalar_after, last_value}
+use Rattle.nest_order.specs.LastValue.{copy_at, is_same_spot, note_scalar, stores_to, assigns, scalar_after, last_value}
+use Rattle.nest_order.specs.Stores.{noted, noted_by_parts}
 use Rattle.nest_order.proofs.MemoryLemmas.{read-write_other, read-write_at}
 use Rattle.nest_order.proofs.Parting.{Alike-alone, kept_alone, parted_alone}
 
@@ -29,7 +30,7 @@ spot_cases a b = of_places (nat_eq a.place b.place) refl (nat_eq a.at b.at) refl
 module _ {F : Type 0} where
   -- one more part: the scalar follows the copy, once that was stored
   after_effect : (e : Effect F) (m : Memory) (spot : Spot) (assigned : Bool) (before v : ℤ) → spot.at < length (row m spot.place) → before ≡ (if assigned then read m spot else v) →
-      value_after e spot before ≡ (if stores_to e spot || assigned then read (apply e m) spot else v)
+      (noted (λ l w b. if is_same_spot l spot then w else b) e before) ≡ (if stores_to e spot || assigned then read (apply e m) spot else v)
   after_effect Skip m spot assigned before v lt h = h
   after_effect (Fail f) m spot assigned before v lt h = h
   after_effect (Put s w) m spot assigned before v lt h = ⊎_elim
@@ -53,12 +54,12 @@ module _ {F : Type 0} where
     abbrev effect : ℕ → ℕ → Effect F
     effect = kept act start n
 
-    copied : (i j : ℕ) → i < n → j ≤ parts → (v : ℤ) → scalar_after_parts effect place i j v ≡ (if assigns effect place i j then read (alone act start i j) (copy_at place i) else v)
+    copied : (i j : ℕ) → i < n → j ≤ parts → (v : ℤ) → noted_by_parts (note_scalar place) effect i j v ≡ (if assigns effect place i j then read (alone act start i j) (copy_at place i) else v)
     copied i zero lt le v = refl
     copied i (suc j) lt le v =
         let m = alone act start i j in
         let known = kept_alone act start n parts touches free i j lt (omega arith) in
-        after_effect (effect i j) m (copy_at place i) (assigns effect place i j) (scalar_after_parts effect place i j v) v
+        after_effect (effect i j) m (copy_at place i) (assigns effect place i j) (noted_by_parts (note_scalar place) effect i j v) v
         (omega (arith, (Alike-alone act start i j).extent place)) (copied i j lt (omega arith) v)
         ∙ ap (λ e. if stores_to (effect i j) (copy_at place i) || assigns effect place i j then read (apply e m) (copy_at place i) else v) known
 
@@ -90,3 +91,10 @@ module _ {F : Type 0} where
 
     pub last_copy : (entry : ℤ) → scalar_after effect place parts entry n ≡ last_value effect place parts entry (parted act start n parts) n
     last_copy entry = scalar_is_last entry n (omega arith)
+
+-- a store outside a row of copies isn't one of the scalar
+pub not_noted : (place conditions i : ℕ) (spot : Spot) (value before : ℤ) → place < conditions → conditions ≤ spot.place → note_scalar place i spot value before ≡ before
+not_noted place conditions i spot value before lt le = ⊎_elim
+    (λ c. let z : spot.place ≡ place = ap (λ s. s.place) c.1 in absurd (omega arith))
+    (λ c. ap (λ b. if b then value else before) c.0)
+    (spot_cases spot (copy_at place i))

@@ -9,4 +9,5 @@ mod Reducing
 mod Acting
 mod ActNumbers
 mod Following
+mod Observing
 mod Examples

@@ -5,6 +5,7 @@ pub mod Orders
 pub mod Items
 pub mod Parts
 pub mod Listed
+pub mod Stores
 pub mod LastValue
 pub mod Reduction
 pub mod NestIndex

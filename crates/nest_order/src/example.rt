@@ -5,7 +5,8 @@ ghost use Rattle.nest_order.specs.Memory.{row};
 ghost use Rattle.nest_order.specs.Effect.{Fail};
 ghost use Rattle.nest_order.specs.Orders.{parted, kept, IsLeastKept};
 ghost use Rattle.nest_order.specs.Nest.{nest_effects, nest_act, plain_loops, IsParallel};
-ghost use Rattle.nest_order.specs.LastValue.{scalar_after, last_value};
+ghost use Rattle.nest_order.specs.LastValue.{note_scalar, scalar_after, last_value};
+ghost use Rattle.nest_order.specs.Stores.{observed_loops};
 ghost use Rattle.nest_order.specs.Reduction.{Sum, joined, unit_of, folded, copies_of};
 ghost use Rattle.nest_order.specs.Reduction.{plain_value, all_assigned};
 ghost use Rattle.nest_order.specs.Example.{interpretation, names, spots_written, body};
@@ -32,6 +33,12 @@ pub fn example_finishes()
 /// After the nest X is the copy of iteration 1, the last one that assigned it, and not that of the last iteration.
 pub fn example_last_value()
     ensures plain { scalar_after (kept (nest_act interpretation 4 body) fine 3) 2 9 (pos 5) 3 ≡ pos 2 }
+    ensures loops { observed_loops interpretation (note_scalar 2) body fine (pos 5) 3
+        ≡ Ok (record {
+          memory = three 6 12 3 ∷ (pos 3 ∷ pos 2 ∷ pos 1 ∷ pos 4 ∷ []) ∷ three 3 2 5 ∷ three 6 4 2
+              ∷ three 0 0 0 ∷ three 0 0 0 ∷ [];
+          noted_so_far = pos 2;
+        }) }
     ensures copied { last_value (kept (nest_act interpretation 4 body) fine 3) 2 9 (pos 5)
         (parted (nest_act interpretation 4 body) fine 3 9) 3 ≡ pos 2 }
 {}

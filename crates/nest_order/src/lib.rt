@@ -11,7 +11,7 @@
 //!   the fault of the least key.
 //! - `items`: statements flatten to guarded parts that do the same, and what an iteration touches is listed for it.
 //! - `nest`: both together. The statements of a nest are acts of parts on a memory that also has the stored conditions, and
-//!   where the lists of its iterations don't interfere, its plain loops end as the parted order does.
+//!   where the lists of its iterations don't interfere, its plain loops end as the parted order does, and with its stores.
 //! - `last_value` and `reduction`: what the scalars are after the nest, by the copies that its iterations have of them.
 //! - `nest_index`: several loops are one count of iterations, the innermost fastest.
 //! - `example`: a small nest that meets the premises, and what the laws say of it.
@@ -31,8 +31,8 @@ pub use example::{
     example_faults, example_finishes, example_is_parallel, example_last_value, example_reduction,
 };
 pub use items::{flattened_items, listed_items};
-pub use last_value::last_value_of_scalar;
-pub use nest::{fault_keys, law_of_nests, parallel_nest, plain_nest};
+pub use last_value::{last_value_in_nest, last_value_of_scalar};
+pub use nest::{fault_keys, law_of_nests, parallel_nest, plain_nest, stores_of_nest};
 pub use nest_index::{nested_loops, numbered_tuples};
 pub use orders::{law_of_fission, parts_agree};
 pub use reduction::{operators_join, reduction_by_join, reduction_variable};

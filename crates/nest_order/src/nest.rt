@@ -1,14 +1,15 @@
 //! A nest of statements as acts of parts on one memory.
 
-ghost use Rattle.std.specs.Prelude.{◌≡◌, ℕ, ◌<◌, ◌≤◌, List, length, Ok, Err, None};
+ghost use Rattle.std.specs.Prelude.{◌≡◌, ℕ, ◌<◌, ◌≤◌, ℤ, List, length, Ok, Err, None};
 ghost use Rattle.nest_order.specs.Memory.{Memory, Spot};
 ghost use Rattle.nest_order.specs.Effect.{Fail};
-ghost use Rattle.nest_order.specs.Orders.{plain, parted, Apart, NoneKept, IsLeastKept};
+ghost use Rattle.nest_order.specs.Orders.{plain, parted, kept, Apart, NoneKept, IsLeastKept};
 ghost use Rattle.nest_order.specs.Items.{Items};
 ghost use Rattle.nest_order.specs.Parts.{flat};
 ghost use Rattle.nest_order.specs.Listed.{Names};
 ghost use Rattle.nest_order.specs.Nest.{Interpretation, nest_effects, nest_act, part_of};
-ghost use Rattle.nest_order.specs.Nest.{plain_loops, EndAlike, IsParallel, touches_of};
+ghost use Rattle.nest_order.specs.Nest.{plain_loops, EndAlike, SameBelow, IsParallel, touches_of};
+ghost use Rattle.nest_order.specs.Stores.{noted_by_all, observed_loops};
 
 /// The parts of a nest are apart, as the law of fission asks, where no iteration writes what is listed for another one.
 pub fn parallel_nest<A, C, F>()
@@ -58,4 +59,31 @@ pub fn fault_keys<A, C, F>()
         → nest_act interpretation place items i j m ≡ Fail fault
         → j < later
         → part_of (flat (items i) None 0) j < part_of (flat (items i) None 0) later }
+{}
+
+/// The stores of the plain loops are those that the parted order keeps, read iteration by iteration: whatever is noted of
+/// them, as long as nothing is noted of the stored conditions. Where a fault is kept, the loops end with it as before.
+pub fn stores_of_nest<A, C, F, V>()
+    ensures finishes { (interpretation : Interpretation A C F) (names : Names A C Spot)
+        (written : A → List Spot) (start : Memory) (place n parts : ℕ) (items : ℕ → Items A C)
+        (note : ℕ → Spot → ℤ → V → V) (first : V)
+        → IsParallel interpretation names written start place n items
+        → ((i : ℕ) → i < n → length (nest_effects interpretation place items i) ≤ parts)
+        → ((i : ℕ) (spot : Spot) (value : ℤ) (before : V) → place ≤ spot.place → note i spot value before ≡ before)
+        → NoneKept (nest_act interpretation place items) start n parts
+        → (m : Memory)
+        × (observed_loops interpretation note items start first n
+        ≡ Ok (record {
+          memory = m;
+          noted_so_far = noted_by_all note (kept (nest_act interpretation place items) start n) parts first n;
+        }))
+        × SameBelow place m (parted (nest_act interpretation place items) start n parts) }
+    ensures faults { (interpretation : Interpretation A C F) (names : Names A C Spot)
+        (written : A → List Spot) (start : Memory) (place n parts : ℕ) (items : ℕ → Items A C)
+        (note : ℕ → Spot → ℤ → V → V) (first : V) (i j : ℕ) (fault : F)
+        → IsParallel interpretation names written start place n items
+        → ((x : ℕ) → x < n → length (nest_effects interpretation place items x) ≤ parts)
+        → ((x : ℕ) (spot : Spot) (value : ℤ) (before : V) → place ≤ spot.place → note x spot value before ≡ before)
+        → IsLeastKept (nest_act interpretation place items) start n parts i j fault
+        → observed_loops interpretation note items start first n ≡ Err fault }
 {}
