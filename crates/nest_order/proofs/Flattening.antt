@@ -172,35 +172,35 @@ module _ {A C M F : Type 0} (E : Evaluation A C M F) where
 
   mutual
     -- behind a guard that holds the parts do what the statements do
-    go : (items : Items A C) (g : Option ℕ) (k : ℕ) → IsBelow g k → (m : M) (c : Conditions) → guard_holds g c ≡ true → Matches k c (do_parts E (flat items g k) (at m c)) (exec E items m)
-    go Done g k below m c on = (c, refl, λ x lt. refl)
-    go (Then a rest) g k below m c on =
+    items_done : (items : Items A C) (g : Option ℕ) (k : ℕ) → IsBelow g k → (m : M) (c : Conditions) → guard_holds g c ≡ true → Matches k c (do_parts E (flat items g k) (at m c)) (exec E items m)
+    items_done Done g k below m c on = (c, refl, λ x lt. refl)
+    items_done (Then a rest) g k below m c on =
         subst (λ b. Matches k c (((if b then E.action a m else Ok m) >>= (λ m'. Ok (at m' c))) >>= do_parts E (flat rest g k)) (E.action a m >>= exec E rest)) (sym on)
-        (after (λ m'. go rest g k below m' c on) (E.action a m))
+        (after (λ m'. items_done rest g k below m' c on) (E.action a m))
       where
         after : ((m' : M) → Matches k c (do_parts E (flat rest g k) (at m' c)) (exec E rest m')) → (r : Result M F) → Matches k c ((r >>= (λ m'. Ok (at m' c))) >>= do_parts E (flat rest g k)) (r >>= exec E rest)
         after rec (Ok m') = rec m'
         after rec (Err f) = refl
-    go (If branches rest) g k below m c on =
+    items_done (If branches rest) g k below m c on =
         let k' = k + count_branches branches in
-        then_matches k k c c (at m c) (flat_branches branches g [] k) (flat rest g k') (exec_branches E branches m) (exec E rest) (go_branches branches g [] k below tt m c (tested_first g c ∙ on))
+        then_matches k k c c (at m c) (flat_branches branches g [] k) (flat rest g k') (exec_branches E branches m) (exec E rest) (branches_done branches g [] k below tt m c (tested_first g c ∙ on))
         (λ m' d kept. Matches-below k k' c d (do_parts E (flat rest g k') (at m' d)) (exec E rest m') (omega arith) kept
-        (go rest g k' (below-more g k k' (omega arith) below) m' d (holds_kept g k c d below kept ∙ on)))
-    go (Repeat t body rest) g k below m c on =
+        (items_done rest g k' (below-more g k k' (omega arith) below) m' d (holds_kept g k c d below kept ∙ on)))
+    items_done (Repeat t body rest) g k below m c on =
         let k' = k + most t (λ x. count_items (body x)) in
         then_matches k k c c (at m c) (joined_up_to t (λ x. flat (body x) g k)) (flat rest g k') (in_turn t (λ x. exec E (body x)) m) (exec E rest)
-        (matches_turns k g (λ x. flat (body x) g k) (λ x. exec E (body x)) below (λ x m d h. go (body x) g k below m d h) t m c on)
+        (matches_turns k g (λ x. flat (body x) g k) (λ x. exec E (body x)) below (λ x m d h. items_done (body x) g k below m d h) t m c on)
         (λ m' d kept. Matches-below k k' c d (do_parts E (flat rest g k') (at m' d)) (exec E rest m') (omega arith) kept
-        (go rest g k' (below-more g k k' (omega arith) below) m' d (holds_kept g k c d below kept ∙ on)))
+        (items_done rest g k' (below-more g k k' (omega arith) below) m' d (holds_kept g k c d below kept ∙ on)))
 
-    go_branches : (branches : Branches A C) (g : Option ℕ) (es : List ℕ) (k : ℕ) → IsBelow g k → AllBelow es k → (m : M) (c : Conditions) → is_tested g es c ≡ true →
+    branches_done : (branches : Branches A C) (g : Option ℕ) (es : List ℕ) (k : ℕ) → IsBelow g k → AllBelow es k → (m : M) (c : Conditions) → is_tested g es c ≡ true →
         Matches k c (do_parts E (flat_branches branches g es k) (at m c)) (exec_branches E branches m)
-    go_branches EndIf g es k below all m c on = (c, refl, λ x lt. refl)
-    go_branches (Branch test body others) g es k below all m c on =
+    branches_done EndIf g es k below all m c on = (c, refl, λ x lt. refl)
+    branches_done (Branch test body others) g es k below all m c on =
         subst (λ b. Matches k c (((if b then holds_in E test m else Ok false) >>= (λ v. Ok (at m (set_condition c k v)))) >>= do_parts E (flat body (Some k) (k + 1) ++ flat_branches others g (k ∷ es) (k + 1 + count_items body)))
         (holds_in E test m >>= (λ holds. if holds then exec E body m else exec_branches E others m))) (sym on)
-        (chosen (λ d h. go body (Some k) (k + 1) (omega arith) m d h)
-        (λ d h. go_branches others g (k ∷ es) (k + 1 + count_items body) (below-more g k (k + 1 + count_items body) (omega arith) below) (omega arith, all_below-more es k (k + 1 + count_items body) (omega arith) all) m d h)
+        (chosen (λ d h. items_done body (Some k) (k + 1) (omega arith) m d h)
+        (λ d h. branches_done others g (k ∷ es) (k + 1 + count_items body) (below-more g k (k + 1 + count_items body) (omega arith) below) (omega arith, all_below-more es k (k + 1 + count_items body) (omega arith) all) m d h)
         (holds_in E test m))
       where
         k' : ℕ
@@ -232,7 +232,7 @@ module _ {A C M F : Type 0} (E : Evaluation A C M F) where
             (later s.0 (tested_later g es k s.0 true (tested_kept g es k c s.0 below all kept ∙ on) (s.2 k (omega arith) ∙ set_at c k false))))
 
   pub items_taken : (items : Items A C) (g : Option ℕ) (k : ℕ) (m : M) (c : Conditions) → IsBelow g k → guard_holds g c ≡ true → Matches k c (do_parts E (flat items g k) (at m c)) (exec E items m)
-  items_taken items g k m c below on = go items g k below m c on
+  items_taken items g k m c below on = items_done items g k below m c on
 
   pub items_passed : (items : Items A C) (g : Option ℕ) (k : ℕ) (m : M) (c : Conditions) → IsBelow g k → guard_holds g c ≡ false → Matches k c (do_parts E (flat items g k) (at m c)) (Ok m)
   items_passed items g k m c below off = skip items g k below m c off

@@ -8,6 +8,7 @@ mod Joins
 mod Reducing
 mod Acting
 mod ActNumbers
-mod Following
+mod Outcomes
 mod Observing
+mod Following
 mod Examples

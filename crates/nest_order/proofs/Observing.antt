@@ -4,7 +4,7 @@ use Rattle.std.specs.Prelude.{if◌then◌else◌, slice_get}
 use Rattle.std.specs.List.{Contains}
 use Rattle.std.proofs.lemmas.List.Elements.{Contains-append_left}
 use Rattle.nest_order.specs.Turns.{◌>>=◌, in_turn, joined_up_to}
-use Rattle.nest_order.specs.Memory.{Memory, Spot, row, write}
+use Rattle.nest_order.specs.Memory.{Memory, Spot, row, write, Alike}
 use Rattle.nest_order.specs.Effect.{Effect, Skip, Put, Fail, apply, then_apply}
 use Rattle.nest_order.specs.Orders.{plain_parts, plain, parted, kept, NoneKept, IsLeastKept}
 use Rattle.nest_order.specs.Items.{Items, Evaluation, holds_in, exec}
@@ -18,7 +18,7 @@ use Rattle.nest_order.proofs.Touching.{AllIn, touched_listed}
 use Rattle.nest_order.proofs.Numbering.{in_turn-add, in_turn-same}
 use Rattle.nest_order.proofs.Parting.{plain_kept, fission_finishes, fission_faults}
 use Rattle.nest_order.proofs.Acting.{AreGood, all_good, test_act, acts_proper, tests_proper, first_named, others_named, condition_touched, touches, parts_apart}
-use Rattle.nest_order.proofs.Following.{At, Next, do_or_stop, acts_outcome, tests_outcome}
+use Rattle.nest_order.proofs.Outcomes.{Next, do_or_stop, acts_outcome, tests_outcome}
 
 module _ {A C F V : Type 0} (S : Interpretation A C F) (note : Spot → ℤ → V → V) where
   -- an iteration's memory with what is noted
@@ -80,10 +80,15 @@ module _ {A C F V : Type 0} (S : Interpretation A C F) (note : Spot → ℤ → 
       same (Ok m) v g h = h (record { memory = m; noted_so_far = v })
       same (Err f) v g h = refl
 
+-- the plain loops have come to x, and the plain order of the parts to m
+pub record At (start : Memory) (place : ℕ) (x m : Memory) : Type 0 where
+  pub alike : Alike x start
+  pub same : SameBelow place x m
+
 -- statements end as the plain order of the parts does, where what its acts note is w
-abbrev SeenAt : {V F : Type 0} → Memory → ℕ → V → Result (Observed V) F → Result Memory F → Type 0
-SeenAt start place w q (Ok m) = (x : Memory) × (q ≡ Ok (record { memory = x; noted_so_far = w })) × At start place x m
-SeenAt start place w q (Err f) = q ≡ Err f
+abbrev pub NotedAt : {V F : Type 0} → Memory → ℕ → V → Result (Observed V) F → Result Memory F → Type 0
+NotedAt start place w q (Ok m) = (x : Memory) × (q ≡ Ok (record { memory = x; noted_so_far = w })) × At start place x m
+NotedAt start place w q (Err f) = q ≡ Err f
 
 module _ {A C F V : Type 0} (S : Interpretation A C F) (N : Names A C Spot) (W : A → List Spot) (start : Memory) (place i count : ℕ) (rows : (c : ℕ) → c < count → i < length (row start (place + c)))
     (T listed_all listed_writes : List Spot) (in_T : AllIn listed_all T) (conditions_in_T : (c : ℕ) → c < count → Contains T (condition_at S place i c)) (low : (spot : Spot) → Contains listed_all spot → spot.place < place)
@@ -162,9 +167,9 @@ module _ {A C F V : Type 0} (S : Interpretation A C F) (N : Names A C Spot) (W :
       (parts_follow ps good.1 (go_on E p s) (apply e m1) v r.1 (others_named S N W start place i count rows T listed_all listed_writes in_T conditions_in_T low N p ps s listed_all names)
       (others_named S N W start place i count rows T listed_all listed_writes in_T conditions_in_T low (writes N W) p ps s listed_writes written))
 
-  ends_seen : (c : Conditions) (w : V) (q : Result (Observed V) F) (r : Result (Iteration (Observed V)) F) (l : Result (Observed V) F) (plain : Result Memory F) → Matches 0 c r q → Follows r l →
-      l ≡ plain >>= (λ m. Ok (record { memory = m; noted_so_far = w })) → SeenAt start place w q plain
-  ends_seen c w (Ok y) r l (Ok m) matches follows is =
+  ends_noted : (c : Conditions) (w : V) (q : Result (Observed V) F) (r : Result (Iteration (Observed V)) F) (l : Result (Observed V) F) (plain : Result Memory F) → Matches 0 c r q → Follows r l →
+      l ≡ plain >>= (λ m. Ok (record { memory = m; noted_so_far = w })) → NotedAt start place w q plain
+  ends_noted c w (Ok y) r l (Ok m) matches follows is =
       let h = subst (λ r. Follows r l) matches.1 follows in
       let e : Ok (record { memory = m; noted_so_far = w }) ≡ Ok (record { memory = h.0; noted_so_far = y.noted_so_far }) = sym is ∙ h.1 in
       let o = ok_same (record { memory = m; noted_so_far = w }) (record { memory = h.0; noted_so_far = y.noted_so_far }) e in
@@ -176,12 +181,12 @@ module _ {A C F V : Type 0} (S : Interpretation A C F) (N : Names A C Spot) (W :
     where
       ok_same : (a b : Observed V) → (let x : Result (Observed V) F = Ok a in x) ≡ Ok b → a ≡ b
       ok_same a b h = cc
-  ends_seen c w (Ok y) r l (Err f) matches follows is =
+  ends_noted c w (Ok y) r l (Err f) matches follows is =
       let h = subst (λ r. Follows r l) matches.1 follows in
       let e : (let x : Result (Observed V) F = Err f in x) ≡ Ok (record { memory = h.0; noted_so_far = y.noted_so_far }) = sym is ∙ h.1 in absurd cc
-  ends_seen c w (Err g) r l (Ok m) matches follows is =
+  ends_noted c w (Err g) r l (Ok m) matches follows is =
       let e : (let x : Result (Observed V) F = Ok (record { memory = m; noted_so_far = w }) in x) ≡ Err g = sym is ∙ subst (λ r. Follows r l) matches follows in absurd cc
-  ends_seen c w (Err g) r l (Err f) matches follows is = let e : (let x : Result (Observed V) F = Err f in x) ≡ Err g = sym is ∙ subst (λ r. Follows r l) matches follows in sym (ap Err (err_same f g e))
+  ends_noted c w (Err g) r l (Err f) matches follows is = let e : (let x : Result (Observed V) F = Err f in x) ≡ Err g = sym is ∙ subst (λ r. Follows r l) matches follows in sym (ap Err (err_same f g e))
     where
       err_same : (a b : F) → (let x : Result (Observed V) F = Err a in x) ≡ Err b → a ≡ b
       err_same a b h = cc
@@ -213,7 +218,7 @@ module _ {A C F V : Type 0} (S : Interpretation A C F) (N : Names A C Spot) (W :
       cases (Err f) same = refl
 
   one_iteration : (i : ℕ) → i < n → (x m : Memory) (v : V) → plain act start parts i ≡ Ok m → At start place x m →
-      SeenAt start place (noted_by_parts note effect i parts v) (exec (observed S (note i)) (items i) (with x v)) (plain_parts act start i parts m)
+      NotedAt start place (noted_by_parts note effect i parts v) (exec (observed S (note i)) (items i) (with x v)) (plain_parts act start i parts m)
   one_iteration i lt x m v come h =
       let E = evaluated S in
       let O = observed S (note i) in
@@ -226,7 +231,7 @@ module _ {A C F V : Type 0} (S : Interpretation A C F) (N : Names A C Spot) (W :
       let in_T = λ (l : Spot) (t : Contains all l). Contains-append_left all (joined_up_to count (λ c. condition_at S place i c ∷ [])) l t in
       let conditions_in_T = condition_touched S N W start place n items free i in
       let low = λ (l : Spot) (t : Contains all l). free.below i l lt t in
-      ends_seen S N W start place i count rows (touches S N W start place n items free i) all written in_T conditions_in_T low (note i) (unnoted i) c (noted_by_parts note effect i parts v)
+      ends_noted S N W start place i count rows (touches S N W start place n items free i) all written in_T conditions_in_T low (note i) (unnoted i) c (noted_by_parts note effect i parts v)
       (exec O (items i) (with x v)) (do_parts O (flat (items i) None 0) (lift S (note i) s v)) (in_list S (note i) (nest_effects S place items i) (with m v)) (plain_parts act start i parts m)
       (items_taken O (items i) None 0 (with x v) c tt refl)
       (parts_follow S N W start place i count rows (touches S N W start place n items free i) all written in_T conditions_in_T low (note i) (unnoted i) (flat (items i) None 0)
@@ -236,28 +241,28 @@ module _ {A C F V : Type 0} (S : Interpretation A C F) (N : Names A C Spot) (W :
       (λ l t. touched_listed E (writes N W) (items i) None 0 s l (free.known i lt) tt refl t))
       (sym (by_number S (note i) (nest_effects S place items i) parts (enough i lt) (with m v)) ∙ plain_noted i lt m come v parts (omega arith))
 
-  loops_seen : (k : ℕ) → k ≤ n → SeenAt start place (noted_by_all note effect parts first k) (observed_loops S note items start first k) (plain act start parts k)
-  loops_seen zero le = (start, refl, record { alike = Alike-refl start; same = record { alike = Alike-refl start; same = λ l lt. refl } })
-  loops_seen (suc k) le = cases (plain act start parts k) refl (loops_seen k (omega arith))
+  pub loops_noted : (k : ℕ) → k ≤ n → NotedAt start place (noted_by_all note effect parts first k) (observed_loops S note items start first k) (plain act start parts k)
+  loops_noted zero le = (start, refl, record { alike = Alike-refl start; same = record { alike = Alike-refl start; same = λ l lt. refl } })
+  loops_noted (suc k) le = cases (plain act start parts k) refl (loops_noted k (omega arith))
     where
-      cases : (r : Result Memory F) → plain act start parts k ≡ r → SeenAt start place (noted_by_all note effect parts first k) (observed_loops S note items start first k) r →
-          SeenAt start place (noted_by_all note effect parts first (suc k)) (observed_loops S note items start first (suc k)) (plain act start parts (suc k))
+      cases : (r : Result Memory F) → plain act start parts k ≡ r → NotedAt start place (noted_by_all note effect parts first k) (observed_loops S note items start first k) r →
+          NotedAt start place (noted_by_all note effect parts first (suc k)) (observed_loops S note items start first (suc k)) (plain act start parts (suc k))
       cases (Ok m) come h =
-          subst (λ r. SeenAt start place (noted_by_all note effect parts first (suc k)) (observed_loops S note items start first (suc k)) (r >>= plain_parts act start k parts)) (sym come)
-          (subst (λ q. SeenAt start place (noted_by_all note effect parts first (suc k)) (q >>= exec (observed S (note k)) (items k)) (plain_parts act start k parts m)) (sym h.1)
+          subst (λ r. NotedAt start place (noted_by_all note effect parts first (suc k)) (observed_loops S note items start first (suc k)) (r >>= plain_parts act start k parts)) (sym come)
+          (subst (λ q. NotedAt start place (noted_by_all note effect parts first (suc k)) (q >>= exec (observed S (note k)) (items k)) (plain_parts act start k parts m)) (sym h.1)
           (one_iteration k (omega arith) h.0 m (noted_by_all note effect parts first k) come h.2))
       cases (Err f) come h =
-          subst (λ r. SeenAt start place (noted_by_all note effect parts first (suc k)) (observed_loops S note items start first (suc k)) (r >>= plain_parts act start k parts)) (sym come)
+          subst (λ r. NotedAt start place (noted_by_all note effect parts first (suc k)) (observed_loops S note items start first (suc k)) (r >>= plain_parts act start k parts)) (sym come)
           (ap (λ q. q >>= exec (observed S (note k)) (items k)) h)
 
   pub stores_noted : NoneKept act start n parts →
       (m : Memory) × (observed_loops S note items start first n ≡ Ok (record { memory = m; noted_so_far = noted_by_all note effect parts first n })) × SameBelow place m (parted act start n parts)
   stores_noted none =
-      let h = subst (SeenAt start place (noted_by_all note effect parts first n) (observed_loops S note items start first n))
-      (fission_finishes act start n parts (touches S N W start place n items free) (parts_apart S N W start place n items free parts) none) (loops_seen n (omega arith)) in
+      let h = subst (NotedAt start place (noted_by_all note effect parts first n) (observed_loops S note items start first n))
+      (fission_finishes act start n parts (touches S N W start place n items free) (parts_apart S N W start place n items free parts) none) (loops_noted n (omega arith)) in
       (h.0, h.1, h.2.same)
 
   pub faults_noted : (i j : ℕ) (f : F) → IsLeastKept act start n parts i j f → observed_loops S note items start first n ≡ Err f
   faults_noted i j f least =
-      subst (SeenAt start place (noted_by_all note effect parts first n) (observed_loops S note items start first n))
-      (fission_faults act start n parts (touches S N W start place n items free) (parts_apart S N W start place n items free parts) i j f least) (loops_seen n (omega arith))
+      subst (NotedAt start place (noted_by_all note effect parts first n) (observed_loops S note items start first n))
+      (fission_faults act start n parts (touches S N W start place n items free) (parts_apart S N W start place n items free parts) i j f least) (loops_noted n (omega arith))

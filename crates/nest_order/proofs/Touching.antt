@@ -100,30 +100,30 @@ module _ {A C L M F : Type 0} (E : Evaluation A C M F) (N : Names A C L) where
 
   mutual
     -- behind a guard that doesn't hold nothing is touched
-    silent : (items : Items A C) (g : Option ℕ) (k : ℕ) → IsBelow g k → (s : Iteration M) → guard_holds g s.conditions ≡ false → (allowed : List L) → Stays (flat items g k) s k allowed
-    silent Done g k below s off allowed = stays_nil s k allowed
-    silent (Then a rest) g k below s off allowed =
-        stays_cons (Acts g a) (flat rest g k) s k allowed (λ on. absurd (true≢false (sym on ∙ off))) (λ x lt. refl) (silent rest g k below (go_on E (let p : Part A C = Acts g a in p) s) off allowed)
-    silent (If branches rest) g k below s off allowed =
+    untouched : (items : Items A C) (g : Option ℕ) (k : ℕ) → IsBelow g k → (s : Iteration M) → guard_holds g s.conditions ≡ false → (allowed : List L) → Stays (flat items g k) s k allowed
+    untouched Done g k below s off allowed = stays_nil s k allowed
+    untouched (Then a rest) g k below s off allowed =
+        stays_cons (Acts g a) (flat rest g k) s k allowed (λ on. absurd (true≢false (sym on ∙ off))) (λ x lt. refl) (untouched rest g k below (go_on E (let p : Part A C = Acts g a in p) s) off allowed)
+    untouched (If branches rest) g k below s off allowed =
         let k' = k + count_branches branches in
         let ps = flat_branches branches g [] k in
-        let first = silent_branches branches g [] k below tt s (tested_first g s.conditions ∙ off) allowed in
+        let first = untouched_branches branches g [] k below tt s (tested_first g s.conditions ∙ off) allowed in
         let after = go_on_all E ps s in
         stays_append ps (flat rest g k') s k allowed first
         (stays_more (flat rest g k') after k k' allowed allowed (omega arith) (λ x h. h)
-        (silent rest g k' (below-more g k k' (omega arith) below) after (holds_kept g k s.conditions after.conditions below first.kept ∙ off) allowed))
-    silent (Repeat t body rest) g k below s off allowed =
+        (untouched rest g k' (below-more g k k' (omega arith) below) after (holds_kept g k s.conditions after.conditions below first.kept ∙ off) allowed))
+    untouched (Repeat t body rest) g k below s off allowed =
         let k' = k + most t (λ x. count_items (body x)) in
         let ps = joined_up_to t (λ x. flat (body x) g k) in
-        let first = stays_turns (λ x. flat (body x) g k) k allowed false g below t (λ x lt s' h. silent (body x) g k below s' h allowed) s off in
+        let first = stays_turns (λ x. flat (body x) g k) k allowed false g below t (λ x lt s' h. untouched (body x) g k below s' h allowed) s off in
         let after = go_on_all E ps s in
         stays_append ps (flat rest g k') s k allowed first
         (stays_more (flat rest g k') after k k' allowed allowed (omega arith) (λ x h. h)
-        (silent rest g k' (below-more g k k' (omega arith) below) after (holds_kept g k s.conditions after.conditions below first.kept ∙ off) allowed))
+        (untouched rest g k' (below-more g k k' (omega arith) below) after (holds_kept g k s.conditions after.conditions below first.kept ∙ off) allowed))
 
-    silent_branches : (branches : Branches A C) (g : Option ℕ) (es : List ℕ) (k : ℕ) → IsBelow g k → AllBelow es k → (s : Iteration M) → is_tested g es s.conditions ≡ false → (allowed : List L) → Stays (flat_branches branches g es k) s k allowed
-    silent_branches EndIf g es k below all s off allowed = stays_nil s k allowed
-    silent_branches (Branch test body others) g es k below all s off allowed =
+    untouched_branches : (branches : Branches A C) (g : Option ℕ) (es : List ℕ) (k : ℕ) → IsBelow g k → AllBelow es k → (s : Iteration M) → is_tested g es s.conditions ≡ false → (allowed : List L) → Stays (flat_branches branches g es k) s k allowed
+    untouched_branches EndIf g es k below all s off allowed = stays_nil s k allowed
+    untouched_branches (Branch test body others) g es k below all s off allowed =
         let k' = k + 1 + count_items body in
         let p : Part A C = Tests k g es test in
         let s1 = go_on E p s in
@@ -131,13 +131,13 @@ module _ {A C L M F : Type 0} (E : Evaluation A C M F) (N : Names A C L) where
         let qs = flat_branches others g (k ∷ es) k' in
         let kept1 = kept-set k k s.conditions (if is_tested g es s.conditions then value_or (holds_in E test s.memory) false else false) (omega arith) in
         let free = stored g es k test s false (ap (λ b. if b then value_or (holds_in E test s.memory) false else false) off) in
-        let first = silent body (Some k) (k + 1) (omega arith) s1 free allowed in
+        let first = untouched body (Some k) (k + 1) (omega arith) s1 free allowed in
         let s2 = go_on_all E ps s1 in
         let kept2 = kept-trans k s.conditions s1.conditions s2.conditions kept1 (kept-below k (k + 1) s1.conditions s2.conditions (omega arith) first.kept) in
         stays_cons p (ps ++ qs) s k allowed (λ on. absurd (true≢false (sym on ∙ off))) kept1
         (stays_append ps qs s1 k allowed (stays_more ps s1 k (k + 1) allowed allowed (omega arith) (λ x h. h) first)
         (stays_more qs s2 k k' allowed allowed (omega arith) (λ x h. h)
-        (silent_branches others g (k ∷ es) k' (below-more g k k' (omega arith) below) (omega arith, all_below-more es k k' (omega arith) all) s2
+        (untouched_branches others g (k ∷ es) k' (below-more g k k' (omega arith) below) (omega arith, all_below-more es k k' (omega arith) all) s2
         (tested_off g es k s2.conditions (tested_kept g es k s.conditions s2.conditions below all kept2 ∙ off)) allowed)))
 
   -- a condition goes the way that is known
@@ -147,37 +147,37 @@ module _ {A C L M F : Type 0} (E : Evaluation A C M F) (N : Names A C L) where
 
   mutual
     -- behind a guard that holds what is touched is listed
-    lists : (items : Items A C) → AreKnown E N items → (g : Option ℕ) (k : ℕ) → IsBelow g k → (s : Iteration M) → guard_holds g s.conditions ≡ true → Stays (flat items g k) s k (listed N items)
-    lists Done known g k below s on = stays_nil s k []
-    lists (Then a rest) known g k below s on =
+    items_listed : (items : Items A C) → AreKnown E N items → (g : Option ℕ) (k : ℕ) → IsBelow g k → (s : Iteration M) → guard_holds g s.conditions ≡ true → Stays (flat items g k) s k (listed N items)
+    items_listed Done known g k below s on = stays_nil s k []
+    items_listed (Then a rest) known g k below s on =
         let p : Part A C = Acts g a in
         stays_cons p (flat rest g k) s k ((N.of_action a) ++ listed N rest) (λ h. in_left (N.of_action a) (listed N rest)) (λ x lt. refl)
-        (stays_more (flat rest g k) (go_on E p s) k k (listed N rest) ((N.of_action a) ++ listed N rest) (omega arith) (in_right (N.of_action a) (listed N rest)) (lists rest known.1 g k below (go_on E p s) on))
-    lists (If branches rest) known g k below s on =
+        (stays_more (flat rest g k) (go_on E p s) k k (listed N rest) ((N.of_action a) ++ listed N rest) (omega arith) (in_right (N.of_action a) (listed N rest)) (items_listed rest known.1 g k below (go_on E p s) on))
+    items_listed (If branches rest) known g k below s on =
         let k' = k + count_branches branches in
         let ps = flat_branches branches g [] k in
         let one = listed_branches N branches in
-        let first = lists_branches branches known.0 g [] k below tt s (tested_first g s.conditions ∙ on) in
+        let first = branches_listed branches known.0 g [] k below tt s (tested_first g s.conditions ∙ on) in
         let after = go_on_all E ps s in
         stays_append ps (flat rest g k') s k (one ++ listed N rest) (stays_more ps s k k one (one ++ listed N rest) (omega arith) (in_left one (listed N rest)) first)
         (stays_more (flat rest g k') after k k' (listed N rest) (one ++ listed N rest) (omega arith) (in_right one (listed N rest))
-        (lists rest known.1 g k' (below-more g k k' (omega arith) below) after (holds_kept g k s.conditions after.conditions below first.kept ∙ on)))
-    lists (Repeat t body rest) known g k below s on =
+        (items_listed rest known.1 g k' (below-more g k k' (omega arith) below) after (holds_kept g k s.conditions after.conditions below first.kept ∙ on)))
+    items_listed (Repeat t body rest) known g k below s on =
         let k' = k + most t (λ x. count_items (body x)) in
         let ps = joined_up_to t (λ x. flat (body x) g k) in
         let one = joined_up_to t (λ x. listed N (body x)) in
         let first = stays_turns (λ x. flat (body x) g k) k one true g below t
-        (λ x lt s' h. stays_more (flat (body x) g k) s' k k (listed N (body x)) one (omega arith) (in_turn_of (λ y. listed N (body y)) t x lt) (lists (body x) (known.0 x lt) g k below s' h)) s on in
+        (λ x lt s' h. stays_more (flat (body x) g k) s' k k (listed N (body x)) one (omega arith) (in_turn_of (λ y. listed N (body y)) t x lt) (items_listed (body x) (known.0 x lt) g k below s' h)) s on in
         let after = go_on_all E ps s in
         stays_append ps (flat rest g k') s k (one ++ listed N rest) (stays_more ps s k k one (one ++ listed N rest) (omega arith) (in_left one (listed N rest)) first)
         (stays_more (flat rest g k') after k k' (listed N rest) (one ++ listed N rest) (omega arith) (in_right one (listed N rest))
-        (lists rest known.1 g k' (below-more g k k' (omega arith) below) after (holds_kept g k s.conditions after.conditions below first.kept ∙ on)))
+        (items_listed rest known.1 g k' (below-more g k k' (omega arith) below) after (holds_kept g k s.conditions after.conditions below first.kept ∙ on)))
 
-    lists_branches : (branches : Branches A C) → EachInBranches (λ action. Unit {0}) (λ condition. (b : Bool) → N.known condition ≡ Some b → (m : M) → E.condition condition m ≡ Ok b) branches → (g : Option ℕ) (es : List ℕ) (k : ℕ) → IsBelow g k → AllBelow es k → (s : Iteration M) → is_tested g es s.conditions ≡ true → Stays (flat_branches branches g es k) s k (listed_branches N branches)
-    lists_branches EndIf known g es k below all s on = stays_nil s k []
-    lists_branches (Branch test body others) are g es k below all s on =
-        cases (λ s' h. lists body are.1 (Some k) (k + 1) (omega arith) s' h)
-        (λ s' h. lists_branches others are.2 g (k ∷ es) (k + 1 + count_items body) (below-more g k (k + 1 + count_items body) (omega arith) below) (omega arith, all_below-more es k (k + 1 + count_items body) (omega arith) all) s' h)
+    branches_listed : (branches : Branches A C) → EachInBranches (λ action. Unit {0}) (λ condition. (b : Bool) → N.known condition ≡ Some b → (m : M) → E.condition condition m ≡ Ok b) branches → (g : Option ℕ) (es : List ℕ) (k : ℕ) → IsBelow g k → AllBelow es k → (s : Iteration M) → is_tested g es s.conditions ≡ true → Stays (flat_branches branches g es k) s k (listed_branches N branches)
+    branches_listed EndIf known g es k below all s on = stays_nil s k []
+    branches_listed (Branch test body others) are g es k below all s on =
+        cases (λ s' h. items_listed body are.1 (Some k) (k + 1) (omega arith) s' h)
+        (λ s' h. branches_listed others are.2 g (k ∷ es) (k + 1 + count_items body) (below-more g k (k + 1 + count_items body) (omega arith) below) (omega arith, all_below-more es k (k + 1 + count_items body) (omega arith) all) s' h)
         (value_or (holds_in E test s.memory) false) refl
       where
         cases : ((s' : Iteration M) → s'.conditions k ≡ true → Stays (flat body (Some k) (k + 1)) s' (k + 1) (listed N body)) →
@@ -209,16 +209,16 @@ module _ {A C L M F : Type 0} (E : Evaluation A C M F) (N : Names A C L) where
             of_body : (b : Bool) → value_or (holds_in E test s.memory) false ≡ b → (s' : Iteration M) → s'.conditions k ≡ b → Stays (flat body (Some k) (k + 1)) s' (k + 1) (counted (known_in N test) (listed N body) (listed_branches N others))
             of_body true is s' h =
                 stays_more (flat body (Some k) (k + 1)) s' (k + 1) (k + 1) (listed N body) (counted (known_in N test) (listed N body) (listed_branches N others)) (omega arith) (taken_in (known_in N test) (listed N body) (listed_branches N others) (goes true is)) (taken s' h)
-            of_body false is s' h = silent body (Some k) (k + 1) (omega arith) s' h (counted (known_in N test) (listed N body) (listed_branches N others))
+            of_body false is s' h = untouched body (Some k) (k + 1) (omega arith) s' h (counted (known_in N test) (listed N body) (listed_branches N others))
 
             of_others : (b : Bool) → value_or (holds_in E test s.memory) false ≡ b → (s' : Iteration M) → s'.conditions k ≡ b → is_tested g es s'.conditions ≡ true →
                 Stays (flat_branches others g (k ∷ es) (k + 1 + count_items body)) s' (k + 1 + count_items body) (counted (known_in N test) (listed N body) (listed_branches N others))
             of_others true is s' h on' =
-                silent_branches others g (k ∷ es) (k + 1 + count_items body) (below-more g k (k + 1 + count_items body) (omega arith) below) (omega arith, all_below-more es k (k + 1 + count_items body) (omega arith) all) s'
+                untouched_branches others g (k ∷ es) (k + 1 + count_items body) (below-more g k (k + 1 + count_items body) (omega arith) below) (omega arith, all_below-more es k (k + 1 + count_items body) (omega arith) all) s'
                 (tested_taken g es k s'.conditions h) (counted (known_in N test) (listed N body) (listed_branches N others))
             of_others false is s' h on' =
                 stays_more (flat_branches others g (k ∷ es) (k + 1 + count_items body)) s' (k + 1 + count_items body) (k + 1 + count_items body) (listed_branches N others) (counted (known_in N test) (listed N body) (listed_branches N others)) (omega arith)
                 (later_in (known_in N test) (listed N body) (listed_branches N others) (goes false is)) (later s' (tested_later g es k s'.conditions true on' h))
 
   pub touched_listed : (items : Items A C) (g : Option ℕ) (k : ℕ) (s : Iteration M) (name : L) → AreKnown E N items → IsBelow g k → guard_holds g s.conditions ≡ true → Contains (touched E N (flat items g k) s) name → Contains (listed N items) name
-  touched_listed items g k s name known below on h = (lists items known g k below s on).within name h
+  touched_listed items g k s name known below on h = (items_listed items known g k below s on).within name h
