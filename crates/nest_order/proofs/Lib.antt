@@ -1,0 +1,14 @@
+mod MemoryLemmas
+mod Parting
+mod Flattening
+mod Touching
+mod LastCopy
+mod Numbering
+mod Joins
+mod Reducing
+mod Acting
+mod ActNumbers
+mod Outcomes
+mod Observing
+mod Following
+mod Examples

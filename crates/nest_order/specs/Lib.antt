@@ -1,0 +1,13 @@
+pub mod Turns
+pub mod Memory
+pub mod Effect
+pub mod Orders
+pub mod Items
+pub mod Parts
+pub mod Listed
+pub mod Stores
+pub mod LastValue
+pub mod Reduction
+pub mod NestIndex
+pub mod Nest
+pub mod Example
