@@ -1,0 +1,16 @@
+use Rattle.std.proofs.Common.{◌≡◌, ◌≤◌, arith, ap, subst, length}
+use Rattle.hpf_base.specs.Reached.{IsReached}
+use Rattle.node_core.specs.CoreLists.{CoreData, core_of}
+use Rattle.node_core.proofs.Rounds.{round-goes, round-ends}
+use Rattle.node_core.proofs.cores.Core.round.Goals as goal
+
+pub loop-place-preserved : goal.loop-place-preserved
+loop-place-preserved g c =
+    round-goes g.N.PhasedNode.steps c.args.self.now c.loop-place.self c.step.new.self c.loop-place.place c.in_ok-step.field-0 c.loop-place.invariant c.in_ok-step.ensures.step c.in_ok-step.ensures.left c.in_ok-step.ensures.stays
+
+pub returns-clause-less : goal.returns-clause-less
+returns-clause-less g c =
+    let n : length c.self.inside.nodes.items ≡ length c.args.self.now.lists.nodes = ap (λ (x : CoreData g.row.N.Denot g.row.N-Mail.Denot). length x.lists.nodes) c.self.view_is in
+    let le : length c.args.self.now.lists.nodes ≤ c.loop-place.place = omega (arith, c.self.inside.nodes.ok.0) in
+    round-ends g.N.PhasedNode.steps c.args.self.now c.loop-place.self c.loop-place.place c.loop-place.invariant le
+    (subst (λ (x : CoreData g.row.N.Denot g.row.N-Mail.Denot). IsReached g.N.PhasedNode.steps (core_of x.lists)) c.self.view_is c.self.invariant.reached) c.requires
