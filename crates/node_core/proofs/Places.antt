@@ -16,8 +16,8 @@ use Rattle.hpf_base.specs.declared.node.NodeId.{NodeId}
 use Rattle.hpf_base.specs.declared.stepped.Stepped.{Stepped}
 use Rattle.hpf_base.specs.declared.stepped.Stepped.TheVariants.{Moved, NotReady, Ended}
 use Rattle.hpf_base.specs.NodeSteps.{NodeSteps, Move, Worked, Sent, Took, after}
-use Rattle.hpf_base.specs.Cores.{capacity, CoreState, start, put, tail, queue_after, take_of, move_by, move_at, moved, core_move, core_step, core_run, made_in, nodes_after}
-use Rattle.hpf_base.specs.Reached.{IsReached, IsStep, answer_by, unmoved}
+use Rattle.hpf_base.specs.Cores.{capacity, CoreState, start, put, tail, queue_after, take_of, move_by, move_at, moved, core_move, core_step, made_in, nodes_after}
+use Rattle.hpf_base.specs.Reached.{IsStep, answer_by, unmoved}
 use Rattle.node_core.specs.CoreLists.{pair_queue, CoreLists, core_of, IsCore}
 use Rattle.node_law.proofs.History.{IsHistory, history-reached}
 use Rattle.node_law.proofs.MovesLeft.{reached-step}

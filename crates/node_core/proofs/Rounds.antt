@@ -32,6 +32,13 @@ module _ {N M : Type 0} (S : NodeSteps N M) where
   pub step-length : (c d : CoreState N M) (p : ℕ) (stepped : Stepped) → IsStep S c p stepped d → length d.nodes ≡ length c.nodes
   step-length c d p stepped h = ap (λ (e : CoreState N M). length e.nodes) h.after ∙ moved-length c p (core_move S c p)
 
+  pub runs-length : (c d : CoreState N M) → RunsTo S c d → length d.nodes ≡ length c.nodes
+  runs-length c d r = ap (λ (e : CoreState N M). length e.nodes) r.1 ∙ go r.0 c
+    where
+      go : (ps : List ℕ) (e : CoreState N M) → length (core_run S e ps).nodes ≡ length e.nodes
+      go [] e = refl
+      go (p ∷ ps) e = go ps (core_step S e p) ∙ moved-length e p (core_move S e p)
+
   pub runs-on : (c d e : CoreState N M) (p : ℕ) (stepped : Stepped) → RunsTo S c d → IsStep S d p stepped e → RunsTo S c e
   runs-on c d e p stepped r h = (r.0 ++ (p ∷ []), h.after ∙ ap (λ (x : CoreState N M). core_step S x p) r.1 ∙ sym (run-append S r.0 (p ∷ []) c))
 

@@ -46,6 +46,7 @@ fn step_in<N: PhasedNode>(
     ensures stays { IfOk result (λ stepped. stepped ≢ Stepped.Moved → lists nodes.new.items queues.new.items ≡ lists nodes.old.items queues.old.items) }
     ensures same { OnErr result (lists nodes.new.items queues.new.items ≡ lists nodes.old.items queues.old.items) }
     ensures wants { OnErr result (ActsAt N.steps nodes.old.items node.0 Act.Local) }
+    ensures count { length nodes.new.items ≡ length nodes.old.items }
 {
     let place = node.0 as usize;
     match nodes[place].next_act() {
@@ -119,6 +120,7 @@ impl<N: PhasedNode> Core<N> {
         ensures left { IfOk result (λ stepped. stepped ≡ Stepped.Moved → suc self.new.left ≡ self.old.left) }
         ensures same { OnErr result (self.new ≡ self.old) }
         ensures wants { OnErr result (ActsAt N.steps self.old.lists.nodes node.0 Act.Local) }
+        ensures count { length self.new.lists.nodes ≡ length self.old.lists.nodes }
     {
         step_in(&mut self.nodes, &mut self.queues, node)
     }
@@ -158,6 +160,7 @@ impl<N: PhasedNode> Core<N> {
         requires { All (λ (node : NodeId). node.0 < length self.old.lists.nodes) choices.now }
         ensures ok { OnOk result (core_of self.new.lists ≡ core_run N.steps (core_of self.old.lists) (map (λ (node : NodeId). node.0) choices.now)) }
         ensures err { OnErr result (StopsAt N.steps self.old.lists (map (λ (node : NodeId). node.0) choices.now) self.new.lists) }
+        ensures count { length self.new.lists.nodes ≡ length self.old.lists.nodes }
     {
         for node in choices {
             self.step(*node)?;
@@ -184,6 +187,7 @@ impl<N: PhasedNode> Core<N> {
         ensures finished { OnOk result (IsFinished N.steps (core_of self.new.lists)) }
         ensures reached { RunsTo N.steps (core_of self.old.lists) (core_of self.new.lists) }
         ensures last { OnOk result (EndsInLockstep N.steps (core_of self.old.lists) self.new.lists.nodes) }
+        ensures count { length self.new.lists.nodes ≡ length self.old.lists.nodes }
     {
         while !self.finished() {
             self.round()?;
