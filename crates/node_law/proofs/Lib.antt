@@ -5,5 +5,8 @@ pub mod MovesLeft
 pub mod NeverStuck
 pub mod NextMove
 pub mod OneMovesLeft
+pub mod Passing
+pub mod PhaseAlone
 pub mod Prefixes
 pub mod StepAnswers
+pub mod UnderWay
