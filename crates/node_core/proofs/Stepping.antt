@@ -140,7 +140,22 @@ module _ {N M : Type 0} (S : NodeSteps N M) where
       let v : IsReached S d = record { from = u.from; run = u.run; choices = u.choices; is = step.after ∙ u.is } in
       ap suc (left-is S d k v) ∙ sym (step-left S c w p (moved-enabled (slice_get c.nodes p) (core_move S c p) step.answers)) ∙ sym (left-is S c l w)
 
-  -- the same in the words of the clauses: K is the core's fields before, D after, and old is its value before
+  -- the answers in the words of the clauses: K is the core's fields before, D after, and old is its lists before
+  module _ (K D old : CoreLists N M) (v : K ≡ old) (w : IsReached S (core_of K)) where
+    here : (p : ℕ) → p < length old.nodes → p < length K.nodes
+    here p lt = subst (λ (x : CoreLists N M). p < length x.nodes) (sym v) lt
+
+    pub not_ready-clause : {E : Type 0} → (p : ℕ) (r : Result Stepped E) → p < length old.nodes → IfOk r (λ stepped. IsStep S (core_of K) p stepped (core_of D)) → IfOk r (λ stepped. stepped ≡ NotReady ↔ IsWaiting S (core_of old) p)
+    not_ready-clause p (Ok stepped) lt step =
+        subst (λ (x : CoreLists N M). stepped ≡ NotReady ↔ IsWaiting S (core_of x) p) v (not_ready-waits S (core_of K) p stepped (core_of D) w (here p lt) step)
+    not_ready-clause p (Err e) lt step = tt
+
+    pub ended-clause : {E : Type 0} → (p : ℕ) (r : Result Stepped E) → p < length old.nodes → IfOk r (λ stepped. IsStep S (core_of K) p stepped (core_of D)) → IfOk r (λ stepped. stepped ≡ Ended ↔ ActsAt S old.nodes p Done)
+    ended-clause p (Ok stepped) lt step =
+        subst (λ (x : CoreLists N M). stepped ≡ Ended ↔ ActsAt S x.nodes p Done) v (ended-done S (core_of K) p stepped (core_of D) (here p lt) step)
+    ended-clause p (Err e) lt step = tt
+
+  -- the moves left in the words of the clauses: old is the core's value before
   module _ (K D : CoreLists N M) (l : MovesLeft S (core_of K)) (k : MovesLeft S (core_of D)) (old : CoreData N M) (v : (let x : CoreData N M = record { lists = K; left = l.0 } in x ≡ old)) (w : IsReached S (core_of K)) where
     pub left-clause : {E : Type 0} → (p : ℕ) (r : Result Stepped E) → IfOk r (λ stepped. IsStep S (core_of K) p stepped (core_of D)) → IfOk r (λ stepped. stepped ≡ Moved → suc k.0 ≡ old.left)
     left-clause p (Ok stepped) step = λ e.
@@ -154,19 +169,6 @@ module _ {N M : Type 0} (S : NodeSteps N M) where
       where
         same : (a b : CoreLists N M) (m n : ℕ) → a ≡ b → m ≡ n → (let x : CoreData N M = record { lists = a; left = m } in let y : CoreData N M = record { lists = b; left = n } in x ≡ y)
         same a b m n h g = ap (λ (t : CoreLists N M). let x : CoreData N M = record { lists = t; left = m } in x) h ∙ ap (λ (t : ℕ). let x : CoreData N M = record { lists = b; left = t } in x) g
-
-    here : (p : ℕ) → p < length old.lists.nodes → p < length K.nodes
-    here p lt = subst (λ (x : CoreData N M). p < length x.lists.nodes) (sym v) lt
-
-    pub not_ready-clause : {E : Type 0} → (p : ℕ) (r : Result Stepped E) → p < length old.lists.nodes → IfOk r (λ stepped. IsStep S (core_of K) p stepped (core_of D)) → IfOk r (λ stepped. stepped ≡ NotReady ↔ IsWaiting S (core_of old.lists) p)
-    not_ready-clause p (Ok stepped) lt step =
-        subst (λ (x : CoreData N M). stepped ≡ NotReady ↔ IsWaiting S (core_of x.lists) p) v (not_ready-waits S (core_of K) p stepped (core_of D) w (here p lt) step)
-    not_ready-clause p (Err e) lt step = tt
-
-    pub ended-clause : {E : Type 0} → (p : ℕ) (r : Result Stepped E) → p < length old.lists.nodes → IfOk r (λ stepped. IsStep S (core_of K) p stepped (core_of D)) → IfOk r (λ stepped. stepped ≡ Ended ↔ ActsAt S old.lists.nodes p Done)
-    ended-clause p (Ok stepped) lt step =
-        subst (λ (x : CoreData N M). stepped ≡ Ended ↔ ActsAt S x.lists.nodes p Done) v (ended-done S (core_of K) p stepped (core_of D) (here p lt) step)
-    ended-clause p (Err e) lt step = tt
 
     pub stays-clause : {E : Type 0} → (r : Result Stepped E) → IfOk r (λ stepped. stepped ≢ Moved → D ≡ K) → IfOk r (λ stepped. stepped ≢ Moved → (let x : CoreData N M = record { lists = D; left = k.0 } in x ≡ old))
     stays-clause (Ok stepped) h = λ d. kept-value (h d)

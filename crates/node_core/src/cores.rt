@@ -1,15 +1,19 @@
 //! The core and its steps.
 
-ghost use Rattle.std.specs.Prelude.{◌≡◌, ◌↔◌, map, ◌≢◌, suc, ◌<◌, ◌≤◌, ◌*◌, ◌+◌, ◌^◌, List, length, slice_get, slice_set, IfOk, OnErr, OnOk, IsTrue, Some};
+ghost use Rattle.std.specs.Prelude.{◌≡◌, ◌↔◌, map, ◌≢◌, suc, ◌<◌, ◌≤◌, ◌*◌, ◌+◌, ◌^◌, List, length, slice_get, slice_set, IfOk, IfSome, OnErr, OnOk, IsTrue, Some, None, ℕ};
 ghost use Rattle.std.specs.List.{All};
 ghost use Rattle.hpf_base.specs.declared.node.NodeId.{NodeId};
 ghost use Rattle.hpf_base.specs.Cores.{start, core_run, IsEnabled, IsFinished};
 ghost use Rattle.hpf_base.specs.Phases.{Lockstep};
 ghost use Rattle.hpf_base.specs.Reached.{RunsTo, EndsInLockstep, IsStep, IsWaiting, ActsAt, MovesLeft};
 ghost use Rattle.node_core.specs.CoreLists.{StopsAt, CoreLists, lists, CoreData, core_of, IsCore};
+ghost use Rattle.node_core.specs.Stage.{IsInStage, CanStep, IsReady};
+ghost use Rattle.node_law.proofs.Passing.{UnfinishedAt, IsChosen};
+ghost use Rattle.node_law.proofs.UnderWay.{IsNext};
 ghost use Rattle.node_law.proofs.OneMovesLeft.{left-prop};
 
 use crate::queue::Queue;
+use crate::stage::{Stage, is_of_stage};
 use hpf_base::OutOfMemory;
 use node_law::{Act, NodeId, PhasedNode, Stepped};
 use std::alloc::Global;
@@ -83,13 +87,21 @@ fn is_done<N: PhasedNode>(node: &N) -> bool
     matches!(node.next_act(), Act::Done)
 }
 
+// Whether the node has the number, and its act belongs to the stage.
+fn is_in_stage<N: PhasedNode>(node: &N, number: u64, stage: Stage) -> bool
+    ensures { IsTrue result ↔ IsInStage N.steps number stage node.now }
+{
+    node.phase() == number && is_of_stage(node.next_act(), stage)
+}
+
 impl<N: PhasedNode> Core<N> {
     /// The core of these nodes, which are phased and fewer than 2^32, with an empty queue for each ordered pair. The
     /// queues' room is taken here.
     pub fn new(alloc: Global, nodes: Vec<N>) -> Result<Core<N>, OutOfMemory>
         requires phased { Lockstep N.steps (slice_get nodes.items) }
         requires few { length nodes.items < 2 ^ 32 }
-        ensures { IfOk result (λ core. core_of core.lists ≡ start nodes.items) }
+        ensures start { IfOk result (λ core. core_of core.lists ≡ start nodes.items) }
+        ensures ready { IfOk result (λ core. IsReady N.steps core) }
     {
         let count = nodes.len();
         let mut queues = Vec::new(alloc);
@@ -153,6 +165,63 @@ impl<N: PhasedNode> Core<N> {
             }
         }
         true
+    }
+
+    /// Whether the node is at this stage of the phase of this number, and is enabled.
+    pub(crate) fn can_step(&self, node: NodeId, number: u64, stage: Stage) -> bool
+        requires { node.0 < length self.now.lists.nodes }
+        ensures { IsTrue result ↔ CanStep N.steps number stage (core_of self.now.lists) node.0 }
+    {
+        is_in_stage(&self.nodes[node.0 as usize], number, stage) && self.enabled(node)
+    }
+
+    /// The least node at this stage of the phase of this number that is enabled.
+    pub(crate) fn find(&self, number: u64, stage: Stage) -> Option<NodeId>
+        ensures some { IfSome result (λ node. (node.0 < length self.now.lists.nodes) × CanStep N.steps number stage (core_of self.now.lists) node.0) }
+        ensures none { result ≡ None → (p : ℕ) → ¬ CanStep N.steps number stage (core_of self.now.lists) p }
+    {
+        for place in 0..self.nodes.len() {
+            let node = NodeId(place as u32);
+            if self.can_step(node, number, stage) {
+                return Some(node);
+            }
+        }
+        None
+    }
+
+    // The number of the first node that is not Done.
+    fn first_number(&self) -> u64
+        requires { ¬ IsFinished N.steps (core_of self.now.lists) }
+        ensures { UnfinishedAt N.steps self.now.lists.nodes result }
+    {
+        for node in &self.nodes {
+            if !is_done(node) {
+                return node.phase();
+            }
+        }
+        unreachable!()
+    }
+
+    // The number before `first`, if a node that is not Done has it, and else `first`.
+    fn number_before(&self, first: u64) -> u64
+        ensures { IsChosen N.steps self.now.lists.nodes first result }
+    {
+        for node in &self.nodes {
+            if !is_done(node) && node.phase().wrapping_add(1) == first {
+                return node.phase();
+            }
+        }
+        first
+    }
+
+    /// The number of the next phase, which nodes that are not Done have, or that of such a node where no phase is left.
+    pub(crate) fn next_phase(&self) -> u64
+        requires unfinished { ¬ IsFinished N.steps (core_of self.now.lists) }
+        requires phased { Lockstep N.steps (slice_get self.now.lists.nodes) }
+        ensures next { IsNext N.steps result (slice_get self.now.lists.nodes) }
+        ensures there { UnfinishedAt N.steps self.now.lists.nodes result }
+    {
+        self.number_before(self.first_number())
     }
 
     /// The steps of these nodes in order. On want of memory those before the refused one stand.

@@ -8,7 +8,9 @@
 #![tactic(auto)]
 
 mod cores;
+mod lockstep;
 mod queue;
+mod stage;
 
 pub use cores::Core;
 pub use node_law::{Act, NodeId, PhasedNode, Stepped};
