@@ -52,6 +52,10 @@ fn ends_with(core: Core<Passer>, numbers: [u64; 3]) -> bool {
 #[test]
 fn every_order_ends_alike(rt: HostRuntime) -> Result<(), Fail> {
     let mut core = three_nodes(rt.alloc(), 7, 8, 9)?;
+    core.run_lockstep()?;
+    assert!(rt; ends_with(core, [9, 9, 8]));
+
+    let mut core = three_nodes(rt.alloc(), 7, 8, 9)?;
     core.run_rotation()?;
     assert_eq!(rt; core.step(NodeId(0))?, Stepped::Ended);
     assert!(rt; ends_with(core, [9, 9, 8]));
@@ -90,7 +94,7 @@ fn queue_fills(rt: HostRuntime) -> Result<(), Fail> {
     assert_eq!(rt; core.step(NodeId(0))?, Stepped::Moved);
     assert_eq!(rt; core.step(NodeId(0))?, Stepped::Ended);
 
-    // Node 2 waits for the letter of node 1 no longer.
+    // The letter of node 1 has come to node 2.
     assert_eq!(rt; core.step(NodeId(2))?, Stepped::Moved);
     Ok(())
 }
