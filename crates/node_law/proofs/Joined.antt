@@ -69,9 +69,9 @@ module _ {N M : Type 0} (S : NodeSteps N M) where
   after-between n None new xs ys h = rw h.1 refl
   after-between n (Some a) new xs ys h = rw h.3 (ap Some (after_all-append S a xs ys))
 
-  between-append : (n : ℕ) (o mid new : Option N) (xs ys : List (Move M)) → IsBetween S n o xs mid → IsBetween S n mid ys new → IsBetween S n o (xs ++ ys) new
-  between-append n None mid new xs ys h k = let e = rw h.1 at k in (rw (h.0, e.0) refl, e.1)
-  between-append n (Some a) mid new xs ys h k =
+  between-append : (n : ℕ) (o middle new : Option N) (xs ys : List (Move M)) → IsBetween S n o xs middle → IsBetween S n middle ys new → IsBetween S n o (xs ++ ys) new
+  between-append n None middle new xs ys h k = let e = rw h.1 at k in (rw (h.0, e.0) refl, e.1)
+  between-append n (Some a) middle new xs ys h k =
       let e = rw h.3 at k in (
         moves-append S a xs ys h.0 e.0,
         local-append xs ys h.1 e.1,
@@ -79,9 +79,9 @@ module _ {N M : Type 0} (S : NodeSteps N M) where
         e.3 ∙ ap Some (sym (after_all-append S a xs ys)),
       )
 
-  end-after : (n : ℕ) (o mid : Option N) (xs ys : List (Move M)) → IsBetween S n o xs mid → IsEndAt S mid ys → IsEndAt S o (xs ++ ys)
-  end-after n None mid xs ys h k = let e = rw h.1 at k in rw (h.0, e) refl
-  end-after n (Some a) mid xs ys h k =
+  end-after : (n : ℕ) (o middle : Option N) (xs ys : List (Move M)) → IsBetween S n o xs middle → IsEndAt S middle ys → IsEndAt S o (xs ++ ys)
+  end-after n None middle xs ys h k = let e = rw h.1 at k in rw (h.0, e) refl
+  end-after n (Some a) middle xs ys h k =
       let e = rw h.3 at k in (
         moves-append S a xs ys h.0 e.0,
         local-append xs ys h.1 e.1,
@@ -94,30 +94,30 @@ module _ {N M : Type 0} (S : NodeSteps N M) where
   end-done n (Some a) new xs h d = (h.0, h.1, rw append-nil at (keeps-append n a xs [] h.2 tt), rw h.3 at d)
 
   -- a phase that local steps open
-  module _ (n : ℕ) (ns mid : ℕ → Option N) (between : ℕ → List (Move M)) (h : (p : ℕ) → IsBetween S n (ns p) (between p) (mid p)) (parts : ℕ → Part M) where
-    phase-after : IsPhase S n mid parts → IsPhase S n ns (begun_by between parts)
+  module _ (n : ℕ) (ns middle : ℕ → Option N) (between : ℕ → List (Move M)) (h : (p : ℕ) → IsBetween S n (ns p) (between p) (middle p)) (parts : ℕ → Part M) where
+    phase-after : IsPhase S n middle parts → IsPhase S n ns (begun_by between parts)
     phase-after k =
-        let b = between-begun n (ns k.begun.0) (mid k.begun.0) (between k.begun.0) k.begun.1 (h k.begun.0) k.begun.2 in
+        let b = between-begun n (ns k.begun.0) (middle k.begun.0) (between k.begun.0) k.begun.1 (h k.begun.0) k.begun.2 in
         record {
           begun = (k.begun.0, b.0, b.1, b.2);
-          each = λ p. part-after n (ns p) (mid p) (between p) (parts p) (h p) (k.each p);
-          letters = λ p q. rw (sent-append q (between p) (parts p).front, between-sent n (ns p) (mid p) (between p) q (h p)) (k.letters p q);
+          each = λ p. part-after n (ns p) (middle p) (between p) (parts p) (h p) (k.each p);
+          letters = λ p q. rw (sent-append q (between p) (parts p).front, between-sent n (ns p) (middle p) (between p) q (h p)) (k.letters p q);
         }
 
-    nodes-after : (let old : ℕ → Option N = λ p. after_at S (mid p) (moves (parts p)) in let new : ℕ → Option N = λ p. after_at S (ns p) (moves (begun_by between parts p)) in old ≡ new)
-    nodes-after = fun_ext (λ p. sym (rw (append_assoc (between p) (parts p).front (parts p).back) (after-between n (ns p) (mid p) (between p) (moves (parts p)) (h p))))
+    nodes-after : (let old : ℕ → Option N = λ p. after_at S (middle p) (moves (parts p)) in let new : ℕ → Option N = λ p. after_at S (ns p) (moves (begun_by between parts p)) in old ≡ new)
+    nodes-after = fun_ext (λ p. sym (rw (append_assoc (between p) (parts p).front (parts p).back) (after-between n (ns p) (middle p) (between p) (moves (parts p)) (h p))))
 
-  pub leads-joined : (first : List (ℕ → Part M)) (n : ℕ) (ns mid new : ℕ → Option N) (second : List (ℕ → Part M)) (between last : ℕ → List (Move M)) → LeadsTo S n ns first between mid → LeadsTo S (number_after n first) mid second last new → LeadsTo S n ns (joined first between second) (joined_last between second last) new
-  leads-joined [] n ns mid new [] between last h k = λ p. between-append n (ns p) (mid p) (new p) (between p) (last p) (h p) (k p)
-  leads-joined [] n ns mid new (parts ∷ rest) between last h k = (phase-after n ns mid between h parts k.0, subst (λ (K : ℕ → Option N). LeadsTo S (next_number n) K rest last new) (nodes-after n ns mid between h parts) k.1)
-  leads-joined (parts ∷ first) n ns mid new second between last h k =
-      (h.0, leads-joined first (next_number n) (λ p. after_at S (ns p) (moves (parts p))) mid new second between last h.1 k)
+  pub leads-joined : (first : List (ℕ → Part M)) (n : ℕ) (ns middle new : ℕ → Option N) (second : List (ℕ → Part M)) (between last : ℕ → List (Move M)) → LeadsTo S n ns first between middle → LeadsTo S (number_after n first) middle second last new → LeadsTo S n ns (joined first between second) (joined_last between second last) new
+  leads-joined [] n ns middle new [] between last h k = λ p. between-append n (ns p) (middle p) (new p) (between p) (last p) (h p) (k p)
+  leads-joined [] n ns middle new (parts ∷ rest) between last h k = (phase-after n ns middle between h parts k.0, subst (λ (K : ℕ → Option N). LeadsTo S (next_number n) K rest last new) (nodes-after n ns middle between h parts) k.1)
+  leads-joined (parts ∷ first) n ns middle new second between last h k =
+      (h.0, leads-joined first (next_number n) (λ p. after_at S (ns p) (moves (parts p))) middle new second between last h.1 k)
 
-  pub lockstep-joined : (first : List (ℕ → Part M)) (n : ℕ) (ns mid : ℕ → Option N) (second : List (ℕ → Part M)) (between last : ℕ → List (Move M)) → LeadsTo S n ns first between mid → IsLockstep S (number_after n first) mid second last → IsLockstep S n ns (joined first between second) (joined_last between second last)
-  lockstep-joined [] n ns mid [] between last h k = λ p. end-after n (ns p) (mid p) (between p) (last p) (h p) (k p)
-  lockstep-joined [] n ns mid (parts ∷ rest) between last h k = (phase-after n ns mid between h parts k.0, subst (λ (K : ℕ → Option N). IsLockstep S (next_number n) K rest last) (nodes-after n ns mid between h parts) k.1)
-  lockstep-joined (parts ∷ first) n ns mid second between last h k =
-      (h.0, lockstep-joined first (next_number n) (λ p. after_at S (ns p) (moves (parts p))) mid second between last h.1 k)
+  pub lockstep-joined : (first : List (ℕ → Part M)) (n : ℕ) (ns middle : ℕ → Option N) (second : List (ℕ → Part M)) (between last : ℕ → List (Move M)) → LeadsTo S n ns first between middle → IsLockstep S (number_after n first) middle second last → IsLockstep S n ns (joined first between second) (joined_last between second last)
+  lockstep-joined [] n ns middle [] between last h k = λ p. end-after n (ns p) (middle p) (between p) (last p) (h p) (k p)
+  lockstep-joined [] n ns middle (parts ∷ rest) between last h k = (phase-after n ns middle between h parts k.0, subst (λ (K : ℕ → Option N). IsLockstep S (next_number n) K rest last) (nodes-after n ns middle between h parts) k.1)
+  lockstep-joined (parts ∷ first) n ns middle second between last h k =
+      (h.0, lockstep-joined first (next_number n) (λ p. after_at S (ns p) (moves (parts p))) middle second between last h.1 k)
 
   -- a piece that leads to nodes that are all Done
   pub lockstep-ended : (phases : List (ℕ → Part M)) (n : ℕ) (ns new : ℕ → Option N) (last : ℕ → List (Move M)) → LeadsTo S n ns phases last new → ((p : ℕ) → IsDoneAt S (new p)) → IsLockstep S n ns phases last

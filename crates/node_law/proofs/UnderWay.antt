@@ -40,19 +40,19 @@ module _ {N M : Type 0} (S : NodeSteps N M) where
   same-rest n phases last F G e h = subst (λ (K : ℕ → Option N). IsLockstep S n K phases last) (fun_ext e) h
 
   -- a local step in the phase leaves the phase under way, with the same rest
-  pub local-mid : (n : ℕ) (ns ms : ℕ → Option N) (p : ℕ) (a : N) → ns p ≡ Some a → S.act a ≡ Local → S.phase a ≡ n → ms p ≡ Some (S.after_local a) → ((q : ℕ) → p ≢ q → ms q ≡ ns q) → UnderWay n ns → UnderWay n ms
-  local-mid n ns ms p a is act e new same mid =
-      let here : IsPart S n a (mid.parts p) = rw is at (mid.each p) in
-      let f = first-local n a (mid.parts p).front (mid.parts p).back here act e in
-      let P : Part M = record { front = f.0; back = (mid.parts p).back } in
-      let whole : IsPart S n a (record { front = Worked ∷ f.0; back = (mid.parts p).back }) = subst (λ (l : List (Move M)). IsPart S n a (record { front = l; back = (mid.parts p).back })) f.1 here in
+  pub local-under_way : (n : ℕ) (ns ms : ℕ → Option N) (p : ℕ) (a : N) → ns p ≡ Some a → S.act a ≡ Local → S.phase a ≡ n → ms p ≡ Some (S.after_local a) → ((q : ℕ) → p ≢ q → ms q ≡ ns q) → UnderWay n ns → UnderWay n ms
+  local-under_way n ns ms p a is act e new same u =
+      let here : IsPart S n a (u.parts p) = rw is at (u.each p) in
+      let f = first-local n a (u.parts p).front (u.parts p).back here act e in
+      let P : Part M = record { front = f.0; back = (u.parts p).back } in
+      let whole : IsPart S n a (record { front = Worked ∷ f.0; back = (u.parts p).back }) = subst (λ (l : List (Move M)). IsPart S n a (record { front = l; back = (u.parts p).back })) f.1 here in
       let left : IsPart S n (S.after_local a) P = record { made = whole.made.1; front = whole.front; back = whole.back; number = whole.number.1; awaited = whole.awaited } in
-      let new_parts : ℕ → Part M = λ q. if p == q then P else mid.parts q in
-      let fronts : (s t : ℕ) → sent t (new_parts s).front ≡ sent t (mid.parts s).front = λ s t. elim (eqb_tells p s) [
+      let new_parts : ℕ → Part M = λ q. if p == q then P else u.parts q in
+      let fronts : (s t : ℕ) → sent t (new_parts s).front ≡ sent t (u.parts s).front = λ s t. elim (eqb_tells p s) [
         | inl h ↦ rw (h.0, ← h.1) (sym (ap (sent t) f.1))
         | inr h ↦ rw h.0 refl
       ] in
-      let backs : (s t : ℕ) → taken s (new_parts t).back ≡ taken s (mid.parts t).back = λ s t. elim (eqb_tells p t) [
+      let backs : (s t : ℕ) → taken s (new_parts t).back ≡ taken s (u.parts t).back = λ s t. elim (eqb_tells p t) [
         | inl h ↦ rw (h.0, ← h.1) refl
         | inr h ↦ rw h.0 refl
       ] in
@@ -60,25 +60,25 @@ module _ {N M : Type 0} (S : NodeSteps N M) where
         parts = new_parts;
         each = λ q. elim (eqb_tells p q) [
           | inl h ↦ rw (h.0, ← h.1, new) left
-          | inr h ↦ rw (h.0, same q h.1) (mid.each q)
+          | inr h ↦ rw (h.0, same q h.1) (u.each q)
         ];
-        letters = λ s t. fronts s t ∙ mid.letters s t ∙ sym (backs s t);
-        phases = mid.phases;
-        last = mid.last;
-        rest = same-rest (next_number n) mid.phases mid.last (λ q. after_at S (ns q) (moves (mid.parts q))) (λ q. after_at S (ms q) (moves (new_parts q)))
+        letters = λ s t. fronts s t ∙ u.letters s t ∙ sym (backs s t);
+        phases = u.phases;
+        last = u.last;
+        rest = same-rest (next_number n) u.phases u.last (λ q. after_at S (ns q) (moves (u.parts q))) (λ q. after_at S (ms q) (moves (new_parts q)))
             (λ q. elim (eqb_tells p q) [
-              | inl h ↦ rw (h.0, ← h.1, new, is) (ap (λ (l : List (Move M)). let o : Option N = Some (after_all S a (l ++ (mid.parts p).back)) in o) f.1)
+              | inl h ↦ rw (h.0, ← h.1, new, is) (ap (λ (l : List (Move M)). let o : Option N = Some (after_all S a (l ++ (u.parts p).back)) in o) f.1)
               | inr h ↦ rw (h.0, same q h.1) refl
-            ]) mid.rest;
+            ]) u.rest;
       }
 
   -- where no node has the number any more, the phase is over
-  pub mid-over : (n : ℕ) (ns : ℕ → Option N) → ((p : ℕ) (a : N) → ns p ≡ Some a → S.phase a ≢ n) → UnderWay n ns → Lockstep S ns
-  mid-over n ns none mid = record {
+  pub over-phased : (n : ℕ) (ns : ℕ → Option N) → ((p : ℕ) (a : N) → ns p ≡ Some a → S.phase a ≢ n) → UnderWay n ns → Lockstep S ns
+  over-phased n ns none u = record {
     number = next_number n;
-    phases = mid.phases;
-    last = mid.last;
-    run = same-rest (next_number n) mid.phases mid.last (λ p. after_at S (ns p) (moves (mid.parts p))) ns (λ p. still (ns p) (mid.parts p) (none p) (mid.each p)) mid.rest;
+    phases = u.phases;
+    last = u.last;
+    run = same-rest (next_number n) u.phases u.last (λ p. after_at S (ns p) (moves (u.parts p))) ns (λ p. still (ns p) (u.parts p) (none p) (u.each p)) u.rest;
   }
     where
       idle : (a : N) (xs : List (Move M)) → S.phase a ≢ n → TurnsNumber S n a xs → xs ≡ []
@@ -90,12 +90,12 @@ module _ {N M : Type 0} (S : NodeSteps N M) where
       still (Some a) part d h = rw (idle a (moves part) (d a refl) h.number) refl
 
   -- where one has, it is a phase, and what is left is a lockstep run
-  pub mid-on : (n : ℕ) (ns : ℕ → Option N) (p : ℕ) (a : N) → ns p ≡ Some a → S.phase a ≡ n → UnderWay n ns → Lockstep S ns
-  mid-on n ns p a is e mid = record {
+  pub begun-phased : (n : ℕ) (ns : ℕ → Option N) (p : ℕ) (a : N) → ns p ≡ Some a → S.phase a ≡ n → UnderWay n ns → Lockstep S ns
+  begun-phased n ns p a is e u = record {
     number = n;
-    phases = mid.parts ∷ mid.phases;
-    last = mid.last;
-    run = (record { begun = (p, a, is, e); each = mid.each; letters = mid.letters }, mid.rest);
+    phases = u.parts ∷ u.phases;
+    last = u.last;
+    run = (record { begun = (p, a, is, e); each = u.each; letters = u.letters }, u.rest);
   }
 
   -- no phase is left: local steps lead to nodes that are all Done
@@ -114,7 +114,7 @@ module _ {N M : Type 0} (S : NodeSteps N M) where
 
   -- a local step in the phase keeps that it is the next one
   pub local-next : (n : ℕ) (ns ms : ℕ → Option N) (p : ℕ) (a : N) → ns p ≡ Some a → S.act a ≡ Local → S.phase a ≡ n → ms p ≡ Some (S.after_local a) → ((q : ℕ) → p ≢ q → ms q ≡ ns q) → IsNext n ns → IsNext n ms
-  local-next n ns ms p a is act e new same (inl mid) = inl (local-mid n ns ms p a is act e new same mid)
+  local-next n ns ms p a is act e new same (inl u) = inl (local-under_way n ns ms p a is act e new same u)
   local-next n ns ms p a is act e new same (inr end) =
       let here = end-local a (end.0 p) (rw is at (end.1 p)) act in
       inr (
@@ -142,10 +142,10 @@ module _ {N M : Type 0} (S : NodeSteps N M) where
       go d none (suc p) a is = none p a is
 
   pub next-phased : (n : ℕ) (ns : List N) → IsNext n (slice_get ns) → Lockstep S (slice_get ns)
-  next-phased n ns (inl mid) =
+  next-phased n ns (inl u) =
       elim (any-at n ns) [
-        | inl some ↦ mid-on n (slice_get ns) some.0 some.1 some.2 some.3 mid
-        | inr none ↦ mid-over n (slice_get ns) none mid
+        | inl some ↦ begun-phased n (slice_get ns) some.0 some.1 some.2 some.3 u
+        | inr none ↦ over-phased n (slice_get ns) none u
       ]
   next-phased n ns (inr end) = record { number = n; phases = []; last = end.0; run = end.1 }
 
@@ -207,21 +207,21 @@ module _ {N M : Type 0} (S : NodeSteps N M) where
 
   pub next-passes : (n : ℕ) (ns : List N) → ((p : ℕ) (a : N) → slice_get ns p ≡ Some a → S.phase a ≡ n → S.act a ≢ Local) → IsNext n (slice_get ns) → Passes n (slice_get ns)
   unfolding phase-alone
-  next-passes n ns d (inl mid) =
+  next-passes n ns d (inl u) =
       elim (any-at n ns) [
         | inl some ↦
-            (let phase : IsPhase S n (slice_get ns) mid.parts = record { begun = some; each = mid.each; letters = mid.letters } in
+            (let phase : IsPhase S n (slice_get ns) u.parts = record { begun = some; each = u.each; letters = u.letters } in
             record {
-              alone = phase-alone S n (slice_get ns) mid.parts phase;
-              letters_only = λ p. rw append-nil (part-no-work n (slice_get ns p) (mid.parts p).front (mid.parts p).back (mid.each p) (d p));
+              alone = phase-alone S n (slice_get ns) u.parts phase;
+              letters_only = λ p. rw append-nil (part-no-work n (slice_get ns p) (u.parts p).front (u.parts p).back (u.each p) (d p));
               after = record {
                 number = next_number n;
-                phases = mid.phases;
-                last = mid.last;
-                run = same-rest (next_number n) mid.phases mid.last (λ p. after_at S (slice_get ns p) (moves (mid.parts p))) (λ p. after_at S (slice_get ns p) (moves (mid.parts p) ++ [])) (λ p. rw append-nil refl) mid.rest;
+                phases = u.phases;
+                last = u.last;
+                run = same-rest (next_number n) u.phases u.last (λ p. after_at S (slice_get ns p) (moves (u.parts p))) (λ p. after_at S (slice_get ns p) (moves (u.parts p) ++ [])) (λ p. rw append-nil refl) u.rest;
               };
             })
-        | inr none ↦ still n (slice_get ns) (λ p a is e. absurd (none p a is e)) (mid-over n (slice_get ns) none mid)
+        | inr none ↦ still n (slice_get ns) (λ p a is e. absurd (none p a is e)) (over-phased n (slice_get ns) none u)
       ]
   next-passes n ns d (inr end) =
       still n (slice_get ns) (λ p a is e. end-idle n a (end.0 p) (rw is at (end.1 p)) (d p a is e)) (record { number = n; phases = []; last = end.0; run = end.1 })
