@@ -15,6 +15,7 @@ use Rattle.hpf_base.specs.NodeSteps.{NodeSteps, Move, after_at}
 use Rattle.hpf_base.specs.Phases.{Lockstep, all_moves}
 use Rattle.hpf_base.specs.Cores.{CoreState, start, core_run, core_step, core_move, move_at, moved, nodes_after, made_in, IsFinished}
 use Rattle.hpf_base.specs.Reached.{IsStep, IsReached, RunsTo, EndsInLockstep, answer_by, ActsAt}
+use Rattle.node_core.specs.Stage.{WantsLocal}
 use Rattle.node_core.specs.CoreLists.{CoreData, lists, core_of, StopsAt}
 use Rattle.node_law.proofs.NeverStuck.{never_stuck, all-done, done-at}
 use Rattle.node_law.proofs.MovesLeft.{history-is, done-all, run-append}
@@ -63,6 +64,11 @@ module _ {N M : Type 0} (S : NodeSteps N M) where
     ap (λ (x : CoreData N M). core_of x.lists) same ∙ e ∙ ap (core_run S (core_of i.lists)) (sym (take-map (λ (n : NodeId). n.0) k choices)),
     rw (get_or-map (λ (n : NodeId). n.0) choices k d 0 lt) (subst (λ (x : CoreData N M). ActsAt S x.lists.nodes (get_or choices k d).0 Local) (sym same) acts),
   )
+
+  -- a step that wants memory is a local one
+  pub wants-local : {E : Type 0} (r : Result (Unit {0}) E) (a b : CoreData N M) (p : ℕ) → b ≡ a → ActsAt S a.lists.nodes p Local → OnErr r (WantsLocal S b.lists.nodes)
+  wants-local (Ok u) a b p same acts = tt
+  wants-local (Err x) a b p same acts = (p, subst (λ (x : CoreData N M). ActsAt S x.lists.nodes p Local) (sym same) acts)
 
   -- no move was made
   no-move : (o : Option N) (m : Option (Move M)) (stepped : Stepped) → stepped ≢ Moved → stepped ≡ answer_by S o m → m ≡ None

@@ -6,7 +6,7 @@ use Rattle.hpf_base.specs.declared.act.Act.TheVariants.{Local, Send, Take, Done}
 use Rattle.hpf_base.specs.NodeSteps.{NodeSteps, after_at}
 use Rattle.hpf_base.specs.Phases.{Lockstep, all_moves}
 use Rattle.hpf_base.specs.Cores.{CoreState, start, IsEnabled}
-use Rattle.hpf_base.specs.Reached.{RunsTo}
+use Rattle.hpf_base.specs.Reached.{RunsTo, ActsAt}
 use Rattle.node_core.specs.declared.stage.Stage.{Stage}
 use Rattle.node_core.specs.declared.stage.Stage.TheVariants.{Steps, Sends, Takes}
 use Rattle.node_core.specs.CoreLists.{CoreData, core_of}
@@ -34,6 +34,10 @@ module _ {N M : Type 0} (S : NodeSteps N M) where
   -- the node p is at this stage of the phase n, and it is enabled
   abbrev pub CanStep : ℕ → Stage → CoreState N M → ℕ → Type 0
   CanStep n stage c p = (a : N) × (slice_get c.nodes p ≡ Some a) × IsInStage n stage a × IsEnabled S c p
+
+  -- a node is to make a local step
+  abbrev pub WantsLocal : List N → Type 0
+  WantsLocal ns = (p : ℕ) × ActsAt S ns p Local
 
   -- core steps lead from old to new, which is old itself or nearer to the end
   pub record Advances (old new : CoreData N M) : Type 0 where

@@ -7,7 +7,7 @@ ghost use Rattle.hpf_base.specs.Cores.{start, core_run, IsEnabled, IsFinished};
 ghost use Rattle.hpf_base.specs.Phases.{Lockstep};
 ghost use Rattle.hpf_base.specs.Reached.{RunsTo, EndsInLockstep, IsStep, IsWaiting, ActsAt, MovesLeft};
 ghost use Rattle.node_core.specs.CoreLists.{StopsAt, CoreLists, lists, CoreData, core_of, IsCore};
-ghost use Rattle.node_core.specs.Stage.{IsInStage, CanStep, IsReady};
+ghost use Rattle.node_core.specs.Stage.{IsInStage, CanStep, IsReady, WantsLocal};
 ghost use Rattle.node_law.proofs.Passing.{UnfinishedAt, IsChosen};
 ghost use Rattle.node_law.proofs.UnderWay.{IsNext};
 ghost use Rattle.node_law.proofs.OneMovesLeft.{left-prop};
@@ -242,6 +242,7 @@ impl<N: PhasedNode> Core<N> {
         requires { ¬ IsFinished N.steps (core_of self.old.lists) }
         ensures less { OnOk result (self.new.left < self.old.left) }
         ensures reached { RunsTo N.steps (core_of self.old.lists) (core_of self.new.lists) }
+        ensures wants { OnErr result (WantsLocal N.steps self.new.lists.nodes) }
     {
         let count = self.nodes.len();
         for place in 0..count {
@@ -251,11 +252,12 @@ impl<N: PhasedNode> Core<N> {
     }
 
     /// Steps nodes 0, 1 and so on again and again until all are Done. The nodes are then the last ones of the lockstep
-    /// run. On want of memory the steps done stand.
+    /// run. Want of memory comes only from a local step, and then the steps done stand.
     pub fn run_rotation(&mut self) -> Result<(), OutOfMemory>
         ensures finished { OnOk result (IsFinished N.steps (core_of self.new.lists)) }
         ensures reached { RunsTo N.steps (core_of self.old.lists) (core_of self.new.lists) }
         ensures last { OnOk result (EndsInLockstep N.steps (core_of self.old.lists) self.new.lists.nodes) }
+        ensures wants { OnErr result (WantsLocal N.steps self.new.lists.nodes) }
         ensures count { length self.new.lists.nodes ≡ length self.old.lists.nodes }
     {
         while !self.finished() {

@@ -5,7 +5,7 @@ ghost use Rattle.hpf_base.specs.Cores.{start, IsFinished};
 ghost use Rattle.hpf_base.specs.Phases.{Lockstep};
 ghost use Rattle.hpf_base.specs.Reached.{RunsTo, EndsInLockstep};
 ghost use Rattle.node_core.specs.CoreLists.{core_of};
-ghost use Rattle.node_core.specs.Stage.{CanStep, Advances, IsReady, EndAlike};
+ghost use Rattle.node_core.specs.Stage.{CanStep, Advances, IsReady, EndAlike, WantsLocal};
 ghost use Rattle.node_law.proofs.Passing.{UnfinishedAt};
 ghost use Rattle.node_law.proofs.UnderWay.{IsNext};
 
@@ -23,6 +23,7 @@ impl<N: PhasedNode> Core<N> {
         ensures next { IsNext N.steps number (slice_get self.new.lists.nodes) }
         ensures none { OnOk result ((p : ℕ) → ¬ CanStep N.steps number Stage.Steps (core_of self.new.lists) p) }
         ensures advances { Advances N.steps self.old self.new }
+        ensures wants { OnErr result (WantsLocal N.steps self.new.lists.nodes) }
     {
         while let Some(node) = self.find(number, Stage::Steps) {
             self.step(node)?;
@@ -66,6 +67,7 @@ impl<N: PhasedNode> Core<N> {
         ensures ready { IsReady N.steps self.new }
         ensures less { OnOk result (self.new.left < self.old.left) }
         ensures reached { RunsTo N.steps (core_of self.old.lists) (core_of self.new.lists) }
+        ensures wants { OnErr result (WantsLocal N.steps self.new.lists.nodes) }
     {
         self.local_steps(number)?;
         self.letters(number);
@@ -74,14 +76,15 @@ impl<N: PhasedNode> Core<N> {
 
     /// Passes the phases of the lockstep run one after another, and then makes the local steps that are left. In a phase
     /// it makes all local steps, then all sends, then all takes, each in ascending order of nodes. It needs that all
-    /// queues are empty and the nodes phased, as they are in a new core. On want of memory the steps done stand, and the
-    /// same is true again with the same last nodes, so that a further call goes on from there.
+    /// queues are empty and the nodes phased, as they are in a new core. Want of memory comes only from a local step. Then the
+    /// steps done stand, and the same is true again with the same last nodes, so that a further call goes on from there.
     pub fn run_lockstep(&mut self) -> Result<(), OutOfMemory>
         requires ready { IsReady N.steps self.old }
         ensures finished { OnOk result (IsFinished N.steps (core_of self.new.lists)) }
         ensures reached { RunsTo N.steps (core_of self.old.lists) (core_of self.new.lists) }
         ensures last { OnOk result (EndsInLockstep N.steps (core_of self.old.lists) self.new.lists.nodes) }
         ensures ready { IsReady N.steps self.new }
+        ensures wants { OnErr result (WantsLocal N.steps self.new.lists.nodes) }
         ensures alike { EndAlike N.steps self.old.lists.nodes self.new.lists.nodes }
         ensures count { length self.new.lists.nodes ≡ length self.old.lists.nodes }
     {

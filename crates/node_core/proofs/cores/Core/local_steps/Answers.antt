@@ -1,4 +1,5 @@
 use Rattle.std.proofs.Common.{refl}
+use Rattle.node_core.proofs.Rounds.{wants-local}
 use Rattle.node_core.proofs.PhaseSteps.{local-goes}
 use Rattle.node_core.proofs.cores.Core.local_steps.Goals as goal
 
@@ -8,3 +9,6 @@ loop-node-preserved g c =
 
 pub returns-clause-none : goal.returns-clause-none
 returns-clause-none g c = c.in_default.ensures.none refl
+
+pub returns-in_err-step-clause-wants : goal.returns-in_err-step-clause-wants
+returns-in_err-step-clause-wants g c = wants-local g.N.PhasedNode.steps c.from_residual.result c.loop-node.self c.step.new.self _ c.in_err-step.ensures.same c.in_err-step.ensures.wants

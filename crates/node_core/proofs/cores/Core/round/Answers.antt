@@ -1,7 +1,7 @@
 use Rattle.std.proofs.Common.{◌≡◌, ◌≤◌, arith, ap, subst, length}
 use Rattle.hpf_base.specs.Reached.{IsReached}
 use Rattle.node_core.specs.CoreLists.{CoreData, core_of}
-use Rattle.node_core.proofs.Rounds.{round-goes, round-ends}
+use Rattle.node_core.proofs.Rounds.{wants-local, round-goes, round-ends}
 use Rattle.node_core.proofs.cores.Core.round.Goals as goal
 
 pub loop-place-preserved : goal.loop-place-preserved
@@ -14,3 +14,6 @@ returns-clause-less g c =
     let le : length c.args.self.now.lists.nodes ≤ c.loop-place.place = omega (arith, c.self.inside.nodes.ok.0) in
     round-ends g.N.PhasedNode.steps c.args.self.now c.loop-place.self c.loop-place.place c.loop-place.invariant le
     (subst (λ (x : CoreData g.row.N.Denot g.row.N-Mail.Denot). IsReached g.N.PhasedNode.steps (core_of x.lists)) c.self.view_is c.self.invariant.reached) c.requires
+
+pub returns-in_err-step-clause-wants : goal.returns-in_err-step-clause-wants
+returns-in_err-step-clause-wants g c = wants-local g.N.PhasedNode.steps c.from_residual.result c.loop-place.self c.step.new.self _ c.in_err-step.ensures.same c.in_err-step.ensures.wants
