@@ -1,6 +1,10 @@
+pub mod Cores
 pub mod LocalOrder
+pub mod NodeSteps
 pub mod Owner
+pub mod Phases
 pub mod Positions
+pub mod Reached
 pub mod Refusal
 pub mod Status
 pub mod Text

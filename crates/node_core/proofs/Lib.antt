@@ -1,0 +1,4 @@
+pub mod PhaseSteps
+pub mod Places
+pub mod Rounds
+pub mod Stepping

@@ -1,0 +1,2 @@
+pub mod CoreLists
+pub mod Stage

@@ -1,0 +1,2 @@
+pub mod Passer
+pub mod Three

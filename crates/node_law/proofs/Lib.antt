@@ -1,0 +1,12 @@
+pub mod History
+pub mod Joined
+pub mod LawOfPrefixes
+pub mod MovesLeft
+pub mod NeverStuck
+pub mod NextMove
+pub mod OneMovesLeft
+pub mod Passing
+pub mod PhaseAlone
+pub mod Prefixes
+pub mod StepAnswers
+pub mod UnderWay

@@ -1,0 +1,18 @@
+//! The laws of nodes that pass letters in phases: no interleaving of their steps changes anything, and none gets
+//! stuck.
+//!
+//! Comes in: any node type that keeps the clauses of `PhasedNode`, and nodes of it that are phased, so that a
+//! lockstep run passes their phases one after another. Goes out: the laws, each the contract of a function that
+//! does nothing. What holds in between: a node's moves are a function of the letters that it takes, so whatever
+//! the order of the steps, its moves so far are a prefix of those of the lockstep run. The law of prefixes says
+//! this of moves alone, with no queue and no order in time, and the others follow from it.
+#![tactic(auto)]
+
+mod laws;
+mod node;
+mod pieces;
+
+pub use hpf_base::{Act, NodeId, Stepped};
+pub use laws::{confluence, law_of_ends, law_of_prefixes, never_stuck, one_lockstep};
+pub use node::PhasedNode;
+pub use pieces::{lockstep_of_pieces, pieces_joined};
