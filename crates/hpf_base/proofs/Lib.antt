@@ -1,3 +1,5 @@
 pub mod Blocks
 pub mod FirstLine
 pub mod Sections
+pub mod ElementOrder
+pub mod Places

@@ -1,4 +1,8 @@
+pub mod Alignment
+pub mod ElementOrder
+pub mod Grid
 pub mod LocalOrder
+pub mod Mapping
 pub mod Owner
 pub mod Positions
 pub mod Refusal

@@ -6,13 +6,17 @@
 //! standards, and no crate states it a second time.
 #![tactic(auto)]
 
+mod grid;
+mod index;
 mod mapping;
 mod memory;
 mod node;
 mod refusal;
 mod status;
 
-pub use mapping::{Form, Line};
+pub use grid::{Grid, MAX_NODES};
+pub use index::{Index, MAX_RANK, Shape};
+pub use mapping::{AlignDim, Form, Line, MapDim, MapDims, Mapping};
 pub use memory::OutOfMemory;
 pub use node::NodeId;
 pub use refusal::{Reason, Refusal};
