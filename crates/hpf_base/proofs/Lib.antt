@@ -3,3 +3,4 @@ pub mod FirstLine
 pub mod Sections
 pub mod ElementOrder
 pub mod Places
+pub mod Lines
