@@ -10,5 +10,4 @@ ghost use Rattle.hpf_base.specs.declared.mapping.Mapping.{Mapping};
 /// one (HPF 2.0, ALIGN).
 pub fn composed_owners()
     ensures { (target : Mapping) (align : List AlignDim) (subscripts : List (Option ℤ)) (node : ℕ) → owns_at (composed target align) subscripts node ≡ owns_at target (map (λ entry. aligned entry subscripts) align) node }
-{
-}
+{}

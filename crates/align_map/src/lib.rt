@@ -7,10 +7,11 @@
 //! coordinate; so each element has an owner, and to compose and then to own is to own through both.
 #![tactic(auto)]
 
-mod compose;
+mod composition;
 mod laws;
 mod owners;
+mod subscripts;
 
-pub use compose::compose;
+pub use composition::compose;
 pub use laws::composed_owners;
 pub use owners::{least_owner, owns};

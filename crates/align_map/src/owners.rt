@@ -6,6 +6,7 @@ ghost use Rattle.hpf_base.specs.ElementOrder.{product};
 ghost use Rattle.hpf_base.specs.Grid.{node_coordinates};
 ghost use Rattle.hpf_base.specs.Mapping.{InLine, IsAlign, IsLine, IsMapDim, IsMapping, MapsInside};
 
+use crate::subscripts::linear;
 use distribution::owner;
 use hpf_base::{AlignDim, Grid, Index, Line, MapDim, Mapping, NodeId};
 
@@ -72,12 +73,6 @@ fn subscript(align: &AlignDim, index: &Index) -> Option<i128>
     }
 }
 
-fn linear(a: i64, i: i64, b: i64) -> i128
-    ensures { result ≡ (a *ℤ i) +ℤ b }
-{
-    a as i128 * i as i128 + b as i128
-}
-
 /// The position, from 1, at which a subscript stands in a line.
 fn position(line: &Line, subscript: i128) -> u64
     requires line { IsLine line.now }
@@ -97,8 +92,8 @@ fn coordinate(grid: &Grid, node: NodeId, dim: u32) -> u32
 {
     let dims = grid.dims();
     let mut rest = node.0;
-    for extent in &dims[..dim as usize] {
-        rest /= *extent;
+    for faster in 0..dim as usize {
+        rest /= dims[faster];
     }
     rest % dims[dim as usize]
 }

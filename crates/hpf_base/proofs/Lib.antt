@@ -4,3 +4,4 @@ pub mod Sections
 pub mod ElementOrder
 pub mod Places
 pub mod Lines
+pub mod Integers

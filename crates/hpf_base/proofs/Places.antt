@@ -1,8 +1,9 @@
 -- The n-th tuple of places in array-element order, and the number of a tuple.
-use Rattle.std.proofs.Common.{◌≡◌, ℕ, zero, suc, ◌+◌, ◌*◌, ◌/◌, ◌%◌, ◌<◌, List, [], ◌∷◌, ◌++◌, refl, sym, ◌∙◌, ap, arith, length, map, get_or}
+use Rattle.std.proofs.Common.{◌≡◌, ℕ, zero, suc, ◌+◌, ◌*◌, ◌/◌, ◌%◌, ◌<◌, List, [], ◌∷◌, ◌++◌, refl, sym, ◌∙◌, ap, arith, length, map, get_or, drop}
 use Rattle.std.proofs.Math.Nat.{mul-suc, mul-zero, mul_comm}
-use Rattle.std.proofs.lemmas.List.{append-nil, map-append}
+use Rattle.std.proofs.lemmas.List.{append-nil, drop_more, map-append}
 use Rattle.std.proofs.lemmas.List.Concat.{flat_map-append}
+use Rattle.std.proofs.lemmas.List.FromFn.{get_or-map-range_with_len}
 use Rattle.std.proofs.lemmas.Nat.{mul-add-lt, div-mul-add, mod-mul-add}
 use Rattle.std.specs.List.{flat_map, range_with_len}
 use Rattle.hpf_base.specs.ElementOrder.{places, product}
@@ -99,3 +100,24 @@ place_at-number_of (extent ∷ extents) (p ∷ ps) is =
     ap (λ q. q ∷ place_at extents ((n * extent + p) / extent)) (mod-mul-add n extent p first)
     ∙ ap (λ m. p ∷ place_at extents m) (div-mul-add n extent p first)
     ∙ ap (λ qs. p ∷ qs) (place_at-number_of extents ps (IsPlace-rest extent extents p ps is))
+
+pub length-place_at : (extents : List ℕ) (n : ℕ) → length (place_at extents n) ≡ length extents
+length-place_at [] n = refl
+length-place_at (extent ∷ extents) n = ap suc (length-place_at extents (n / extent))
+
+-- the n-th tuple of the list
+pub places-get : (extents : List ℕ) (n : ℕ) (d : List ℕ) → n < product extents → get_or (places extents) n d ≡ place_at extents n
+places-get extents n d below =
+    ap (λ list. get_or list n d) (places-by_number extents) ∙ get_or-map-range_with_len (place_at extents) 0 (product extents) n n d below (omega arith)
+
+-- the next place of the n-th tuple, by what is left of the number
+pub place_at-next : (extents : List ℕ) (n rest i : ℕ) → i < length extents → place_at (drop i extents) rest ≡ drop i (place_at extents n)
+    → (rest % get_or extents i 0 ≡ get_or (place_at extents n) i 0)
+    × (place_at (drop (i + 1) extents) (rest / get_or extents i 0) ≡ drop (i + 1) (place_at extents n))
+place_at-next extents n rest i inside so_far =
+    let place = place_at extents n in
+    let within : i < length place = omega (arith, length-place_at extents n) in
+    let split : get_or extents i 0 ∷ drop (i + 1) extents ≡ drop i extents = sym (drop_more extents i 0 inside) in
+    let both : rest % get_or extents i 0 ∷ place_at (drop (i + 1) extents) (rest / get_or extents i 0) ≡ get_or place i 0 ∷ drop (i + 1) place =
+        ap (λ es. place_at es rest) split ∙ so_far ∙ drop_more place i 0 within in
+    (cc, cc)

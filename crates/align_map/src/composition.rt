@@ -5,6 +5,7 @@ ghost use Rattle.std.specs.Int.{w64};
 ghost use Rattle.hpf_base.specs.Alignment.{align_through, composed, composed_align, composed_entry};
 ghost use Rattle.hpf_base.specs.Mapping.{FitsAlign, IsAlign, IsMapping, MoveApart};
 
+use crate::subscripts::{linear, product};
 use hpf_base::{AlignDim, Grid, MapDim, MapDims, Mapping, OutOfMemory};
 use std::alloc::Global;
 
@@ -15,11 +16,7 @@ use std::alloc::Global;
 ///
 /// The numbers of the result fit 64 bits, and no two entries of `align` are Linear with `a` other than 0 and one
 /// dimension. Then the result is a valid mapping of the array whose dimensions `align` names.
-pub fn compose(
-    alloc: Global,
-    target: &Mapping,
-    align: &[AlignDim],
-) -> Result<Mapping, OutOfMemory>
+pub fn compose(alloc: Global, target: &Mapping, align: &[AlignDim]) -> Result<Mapping, OutOfMemory>
     requires target { IsMapping (length align.now) target.now }
     requires fits { All (λ entry. FitsAlign (composed_align align.now entry.align)) target.now.dims }
     requires apart { AllPairs MoveApart align.now }
@@ -45,15 +42,23 @@ fn composed_with(entry: &MapDim, align: &[AlignDim]) -> MapDim
     requires fits { FitsAlign (composed_align align.now entry.now.align) }
     ensures { result ≡ composed_entry align.now entry.now }
 {
-    let align = match entry.align {
-        AlignDim::Linear { dim, a, b } => through(a, b, &align[dim as usize]),
-        AlignDim::At(v) => AlignDim::At(v),
-        AlignDim::Every => AlignDim::Every,
-    };
     MapDim {
         line: entry.line,
         grid_dim: entry.grid_dim,
-        align,
+        align: put_in(&entry.align, align),
+    }
+}
+
+/// The alignment with the alignee's subscripts put in.
+fn put_in(outer: &AlignDim, align: &[AlignDim]) -> AlignDim
+    requires align { IsAlign (length align.now) outer.now }
+    requires fits { FitsAlign (composed_align align.now outer.now) }
+    ensures { result ≡ composed_align align.now outer.now }
+{
+    match *outer {
+        AlignDim::Linear { dim, a, b } => through(a, b, &align[dim as usize]),
+        AlignDim::At(v) => AlignDim::At(v),
+        AlignDim::Every => AlignDim::Every,
     }
 }
 
@@ -63,27 +68,23 @@ fn through(a: i64, b: i64, inner: &AlignDim) -> AlignDim
     ensures { result ≡ align_through a b inner.now }
 {
     match *inner {
-        AlignDim::Linear { dim, a: step, b: first } => AlignDim::Linear {
+        AlignDim::Linear {
             dim,
-            a: product_of(a, step),
-            b: linear(a, first, b),
+            a: step,
+            b: first,
+        } => AlignDim::Linear {
+            dim,
+            a: narrow(product(a, step)),
+            b: narrow(linear(a, first, b)),
         },
-        AlignDim::At(v) => AlignDim::At(linear(a, v, b)),
+        AlignDim::At(v) => AlignDim::At(narrow(linear(a, v, b))),
         AlignDim::Every => AlignDim::Every,
     }
 }
 
-fn product_of(a: i64, b: i64) -> i64
-    requires { FitsSigned w64 (a *ℤ b) }
-    ensures { result ≡ a *ℤ b }
+fn narrow(number: i128) -> i64
+    requires { FitsSigned w64 number }
+    ensures { result ≡ number }
 {
-    a * b
-}
-
-/// `a * i + b`, where the product alone may exceed 64 bits.
-fn linear(a: i64, i: i64, b: i64) -> i64
-    requires { FitsSigned w64 ((a *ℤ i) +ℤ b) }
-    ensures { result ≡ (a *ℤ i) +ℤ b }
-{
-    (a as i128 * i as i128 + b as i128) as i64
+    number as i64
 }
