@@ -5,3 +5,4 @@ pub mod ElementOrder
 pub mod Places
 pub mod Lines
 pub mod Integers
+pub mod Elements

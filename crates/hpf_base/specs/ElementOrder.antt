@@ -1,5 +1,5 @@
 -- Array-element order: the elements of an array in the order of their subscripts, the first fastest (Fortran 95, 6.2.2.2).
-use Rattle.std.specs.Prelude.{ℕ, ◌*◌, ℤ, pos, ◌+ℤ◌, unsigned_abs, List, [], ◌∷◌, map}
+use Rattle.std.specs.Prelude.{◌≡◌, ℕ, ◌*◌, ◌<◌, ℤ, pos, ◌+ℤ◌, ◌≤ℤ◌, ◌<ℤ◌, unsigned_abs, length, slice_index_or, List, [], ◌∷◌, map}
 use Rattle.std.specs.List.{flat_map, range_with_len}
 use Rattle.hpf_base.specs.declared.index.Shape.{Shape}
 
@@ -25,3 +25,9 @@ extents_of shape = map unsigned_abs shape.extent
 -- all elements of an array, in array-element order
 abbrev pub elements : Shape → List (List ℤ)
 elements shape = map (index_at shape.lower) (places (extents_of shape))
+
+-- the subscripts name an element: one for each dimension, and inside its bounds (Fortran 95, 6.2.2)
+pub record IsInside (shape : Shape) (index : List ℤ) : Type 0 where
+  pub rank : length index ≡ length shape.lower
+  pub lower : (k : ℕ) → k < length index → slice_index_or shape.lower k (pos 0) ≤ℤ slice_index_or index k (pos 0)
+  pub upper : (k : ℕ) → k < length index → slice_index_or index k (pos 0) <ℤ (slice_index_or shape.lower k (pos 0) +ℤ slice_index_or shape.extent k (pos 0))
