@@ -11,6 +11,8 @@ mod composition;
 mod laws;
 mod owners;
 mod subscripts;
+#[cfg(test)]
+mod tests;
 
 pub use composition::compose;
 pub use laws::composed_owners;

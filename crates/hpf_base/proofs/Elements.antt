@@ -23,7 +23,7 @@ pub elements-get : (shape : Shape) (n : ℕ) (d : List ℤ) → n < product (ext
     → get_or (elements shape) n d ≡ index_at shape.lower (place_at (extents_of shape) n)
 elements-get shape n d below =
     let count : length (places (extents_of shape)) ≡ product (extents_of shape) =
-        ap length (places-by_number (extents_of shape)) ∙ length-map-range_with_len (place_at (extents_of shape)) 0 (product (extents_of shape)) in
+    ap length (places-by_number (extents_of shape)) ∙ length-map-range_with_len (place_at (extents_of shape)) 0 (product (extents_of shape)) in
     get_or-map (index_at shape.lower) (places (extents_of shape)) n [] d (omega (arith, count, below))
     ∙ ap (index_at shape.lower) (places-get (extents_of shape) n [] below)
 
@@ -67,8 +67,8 @@ pub elements-distinct : (shape : Shape) → IsShape shape → AllPairs (λ x y. 
 elements-distinct shape valid i j d order within = λ same.
     let below : j < product (extents_of shape) = omega (arith, within, length-elements shape) in
     let one : i ≡ j =
-        sym (number-back shape i d valid (omega arith)) ∙ ap (λ index. number_of (extents_of shape) (places_of shape.lower index)) same
-        ∙ number-back shape j d valid below in
+    sym (number-back shape i d valid (omega arith)) ∙ ap (λ index. number_of (extents_of shape) (places_of shape.lower index)) same
+    ∙ number-back shape j d valid below in
     omega arith
 
 pub AllPairs-cons : {X : Type 0} (R : X → X → Type 0) (x : X) (xs : List X) → All (R x) xs → AllPairs R xs → AllPairs R (x ∷ xs)
@@ -137,11 +137,15 @@ places_of-inside shape index valid inside =
           let there : k < length shape.extent = omega (arith, here, valid.rank) in
           let at : k < length index = omega (arith, here, inside.rank) in
           let place : get_or (places_of shape.lower index) k 0 ≡ unsigned_abs (get_or index k (pos 0) -ℤ get_or shape.lower k (pos 0)) =
-              places_of-get shape.lower index k inside.rank here in
+          places_of-get shape.lower index k inside.rank here in
           let extent : get_or (extents_of shape) k 0 ≡ unsigned_abs (get_or shape.extent k (pos 0)) = get_or-map unsigned_abs shape.extent k (pos 0) 0 there in
           let low = (valid.extent k (pos 0) there).0 in
-          omega (arith, place, extent,
-          dimension_within (get_or shape.lower k (pos 0)) (get_or shape.extent k (pos 0)) (get_or index k (pos 0)) low (inside.lower k at) (inside.upper k at));
+          omega (
+            arith,
+            place,
+            extent,
+            dimension_within (get_or shape.lower k (pos 0)) (get_or shape.extent k (pos 0)) (get_or index k (pos 0)) low (inside.lower k at) (inside.upper k at),
+          );
     }
 
 -- each index inside the bounds is an element
@@ -150,11 +154,12 @@ elements-contains shape index valid inside =
     let extents = extents_of shape in
     let place = places_of-inside shape index valid inside in
     let n = number_of extents (places_of shape.lower index) in
-    let below : n < product extents = number_of-below extents (places_of shape.lower index) place in
-    (n,
-    omega (arith, below, length-elements shape),
-    elements-get shape n index below ∙ ap (index_at shape.lower) (place_at-number_of extents (places_of shape.lower index) place)
-    ∙ index_at-places_of shape.lower index inside.rank inside.lower)
+    let below : n < product extents = number_of-below extents (places_of shape.lower index) place in (
+      n,
+      omega (arith, below, length-elements shape),
+      elements-get shape n index below ∙ ap (index_at shape.lower) (place_at-number_of extents (places_of shape.lower index) place)
+          ∙ index_at-places_of shape.lower index inside.rank inside.lower,
+    )
 
 Contains-kept : {X : Type 0} (t : Bool) (x y : X) (xs : List X) → Contains xs x → Contains (cond t (y ∷ xs) xs) x
 Contains-kept true x y xs within = (suc within.0, omega (arith, within.1), within.2)

@@ -119,5 +119,5 @@ place_at-next extents n rest i inside so_far =
     let within : i < length place = omega (arith, length-place_at extents n) in
     let split : get_or extents i 0 ∷ drop (i + 1) extents ≡ drop i extents = sym (drop_more extents i 0 inside) in
     let both : rest % get_or extents i 0 ∷ place_at (drop (i + 1) extents) (rest / get_or extents i 0) ≡ get_or place i 0 ∷ drop (i + 1) place =
-        ap (λ es. place_at es rest) split ∙ so_far ∙ drop_more place i 0 within in
+    ap (λ es. place_at es rest) split ∙ so_far ∙ drop_more place i 0 within in
     (cc, cc)

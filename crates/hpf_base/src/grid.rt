@@ -4,6 +4,7 @@ ghost use Rattle.std.specs.Prelude.{◌≡◌, ◌<◌, ◌≤◌, ◌^◌, ◌�
 ghost use Rattle.hpf_base.specs.Grid.{IsGrid};
 ghost use Rattle.hpf_base.specs.ElementOrder.{product};
 
+use crate::index::MAX_RANK;
 use smallvec::SmallVec;
 use std::alloc::Global;
 use std::marker::Model;
@@ -36,7 +37,7 @@ impl Grid {
         ensures some { IsSome result ↔ IsGrid dims.now }
         ensures value { IfSome result (λ grid. grid ≡ dims.now) }
     {
-        if dims.is_empty() || dims.len() > 7 || nodes_of(dims).is_none() {
+        if dims.is_empty() || dims.len() > MAX_RANK || nodes_of(dims).is_none() {
             return None;
         }
         match SmallVec::from_slice(alloc, dims) {

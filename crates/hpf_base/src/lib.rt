@@ -13,6 +13,8 @@ mod memory;
 mod node;
 mod refusal;
 mod status;
+#[cfg(test)]
+mod tests;
 
 pub use grid::{Grid, MAX_NODES};
 pub use index::{Index, MAX_RANK, Shape};
