@@ -17,8 +17,10 @@ one_place xs x p q apart p-at q-at = cases (cases_order p q)
   where
     p-is : get_or xs p x ≡ x
     p-is = get_or_from_slice_get xs p x x p-at
+
     q-is : get_or xs q x ≡ x
     q-is = get_or_from_slice_get xs q x x q-at
+
     cases : (p ≡ q) ⊎ ((p < q) ⊎ (q < p)) → p ≡ q
     cases (inl same) = same
     cases (inr (inl less)) = absurd (apart p q x less (slice_get_within xs q x q-at) (p-is ∙ sym q-is))
@@ -46,15 +48,16 @@ none_unowned xs x place places mapping shape node is valid inside = (unowned (ow
     unowned true at no_place =
         let element = elements-contains shape x valid inside in
         let local : Contains xs x =
-            subst (λ list. Contains list x) (sym is) (Contains-filter (λ index. owns mapping index node) x (elements shape) element.0 element.1 element.2 at) in
+        subst (λ list. Contains list x) (sym is) (Contains-filter (λ index. owns mapping index node) x (elements shape) element.0 element.1 element.2 at) in
         let found : slice_get xs local.0 ≡ Some x = slice_get-get_or xs local.0 x local.1 ∙ ap Some local.2 in
         absurd (true≢false (subst IsNone ((places local.0).1 found) no_place))
+
     none : (o : Option ℕ) → place ≡ o → owns mapping x node ≡ false → IsNone place
     none None at not_owner = subst IsNone (sym at) refl
     none (Some q) at not_owner =
         let there : slice_get xs q ≡ Some x = (places q).0 at in
         let here : slice_get (local_elements mapping shape node) q ≡ Some x = ap (λ list. slice_get list q) (sym is) ∙ there in
         let owner : owns mapping (get_or (local_elements mapping shape node) q x) node ≡ true =
-            filter_passes (λ index. owns mapping index node) (elements shape) q x (slice_get_within (local_elements mapping shape node) q x here) in
+        filter_passes (λ index. owns mapping index node) (elements shape) q x (slice_get_within (local_elements mapping shape node) q x here) in
         absurd (both_ways (owns mapping x node) not_owner
         (ap (λ index. owns mapping index node) (sym (get_or_from_slice_get (local_elements mapping shape node) q x x here)) ∙ owner))

@@ -29,9 +29,9 @@ pub none_extent : (extents : List ℤ) → list_any (λ e. int_eq e (pos 0)) ext
 none_extent [] found = absurd (cc)
 none_extent (e ∷ es) found =
     elim (or_cases (int_eq e (pos 0)) (list_any (λ x. int_eq x (pos 0)) es) found) [
-      inl here ↦
-        ap (λ x. unsigned_abs x * product (map unsigned_abs es)) ((Decides-int_eq e (pos 0)).0 here) ∙ zero-mul (product (map unsigned_abs es))
-    | inr later ↦ ap (λ n. unsigned_abs e * n) (none_extent es later) ∙ mul-zero (unsigned_abs e)
+      | inl here ↦
+          ap (λ x. unsigned_abs x * product (map unsigned_abs es)) ((Decides-int_eq e (pos 0)).0 here) ∙ zero-mul (product (map unsigned_abs es))
+      | inr later ↦ ap (λ n. unsigned_abs e * n) (none_extent es later) ∙ mul-zero (unsigned_abs e)
     ]
 
 above_zero : (e : ℤ) → pos 0 ≤ℤ e → int_eq e (pos 0) ≡ false → pos 1 ≤ℤ e
@@ -93,7 +93,22 @@ written_all shape index dim n valid below all written =
     let place = place_at (extents_of shape) n in
     let rank : length place ≡ length shape.lower = length-place_at (extents_of shape) n ∙ length-map shape.extent unsigned_abs ∙ sym valid.rank in
     let whole : take dim (index_at shape.lower place) ≡ index_at shape.lower place =
-        take_all dim (index_at shape.lower place) (omega (arith, length-index_at shape.lower place rank)) in
+    take_all dim (index_at shape.lower place) (omega (arith, length-index_at shape.lower place rank)) in
     slice_get-get_or (elements shape) n [] (omega (arith, below, length-elements shape))
     ∙ ap Some (elements-get shape n [] below ∙ sym whole ∙ sym written)
 
+-- the elements of a vector that begins at 1
+vector-elements_from_one : (P : List ℤ → Type 0) (extent : ℤ) → ((i : ℤ) → pos 1 ≤ℤ i → i ≤ℤ extent → P (i ∷ [])) → pos 0 ≤ℤ extent
+    → All P (elements (record { lower = pos 1 ∷ []; extent = extent ∷ [] }))
+vector-elements_from_one P (negsuc n) each positive = absurd (omega (arith, ints))
+vector-elements_from_one P (pos n) each positive = λ k d within.
+    let shape : Shape = record { lower = pos 1 ∷ []; extent = pos n ∷ [] } in
+    let below : k < n = omega (arith, within, length-elements shape) in
+    let place : k % n < n = mod_below k n (omega arith) in
+    subst P (sym (elements-get shape k d (omega arith))) (each (pos 1 +ℤ pos (k % n)) (omega (arith, ints)) (omega (arith, ints)))
+
+pub vector-elements : (P : List ℤ → Type 0) (extent : ℤ) (lower extents : List ℤ) → lower ≡ pos 1 ∷ [] → extents ≡ extent ∷ []
+    → ((i : ℤ) → pos 1 ≤ℤ i → i ≤ℤ extent → P (i ∷ [])) → pos 0 ≤ℤ extent → All P (elements (record { lower = lower; extent = extents }))
+vector-elements P extent lower extents lower-is extents-is each positive =
+    subst (λ ls. All P (elements (record { lower = ls; extent = extents }))) (sym lower-is)
+    (subst (λ es. All P (elements (record { lower = pos 1 ∷ []; extent = es }))) (sym extents-is) (vector-elements_from_one P extent each positive))

@@ -8,5 +8,7 @@
 
 mod element;
 mod piece;
+#[cfg(test)]
+mod tests;
 
 pub use piece::Piece;

@@ -14,10 +14,10 @@ loop-number-preserved c =
 pub invariant_of-result : goal.invariant_of-result
 invariant_of-result c =
     let all : length (elements c.args.shape.now) ≤ c.loop-number.number =
-        omega (arith, length-elements c.args.shape.now, c.element_count-number-end.ensures.value, c.loop-number-test.false) in
+    omega (arith, length-elements c.args.shape.now, c.element_count-number-end.ensures.value, c.loop-number-test.false) in
     let is : c.loop-number.owned.items ≡ local_elements c.args.map.now c.args.shape.now c.args.node.0 =
-        filter_all (λ index. owns c.args.map.now index c.args.node.0) (elements c.args.shape.now) c.loop-number.owned.items c.loop-number.number all
-            c.loop-number.invariant in
+    filter_all (λ index. owns c.args.map.now index c.args.node.0) (elements c.args.shape.now) c.loop-number.owned.items c.loop-number.number all
+    c.loop-number.invariant in
     subst (AllPairs (λ x y. x ≢ y)) (sym is)
     (AllPairs-filter (λ x y. x ≢ y) (λ index. owns c.args.map.now index c.args.node.0) (elements c.args.shape.now)
     (elements-distinct c.args.shape.now c.requires.shape))
@@ -25,6 +25,6 @@ invariant_of-result c =
 pub returns : goal.returns
 returns c =
     let all : length (elements c.args.shape.now) ≤ c.loop-number.number =
-        omega (arith, length-elements c.args.shape.now, c.element_count-number-end.ensures.value, c.loop-number-test.false) in
+    omega (arith, length-elements c.args.shape.now, c.element_count-number-end.ensures.value, c.loop-number-test.false) in
     filter_all (λ index. owns c.args.map.now index c.args.node.0) (elements c.args.shape.now) c.loop-number.owned.items c.loop-number.number all
     c.loop-number.invariant
