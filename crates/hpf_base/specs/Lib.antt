@@ -1,5 +1,9 @@
+pub mod Alignment
 pub mod Cores
+pub mod ElementOrder
+pub mod Grid
 pub mod LocalOrder
+pub mod Mapping
 pub mod NodeSteps
 pub mod Owner
 pub mod Phases

@@ -1,4 +1,9 @@
-//! Lines: how the positions of one dimension are distributed over processors.
+//! Mappings: how the dimensions of an array lie on the dimensions of a grid of processors.
+
+ghost use Rattle.std.specs.Prelude.{◌≡◌};
+
+use crate::grid::Grid;
+use std::marker::Model;
 
 /// The distribution format of a dimension (HPF 2.0, DISTRIBUTE).
 #[derive(Clone, Copy, Debug, PartialEq, Eq)]
@@ -18,4 +23,71 @@ pub struct Line {
     pub extent: u64,
     pub form: Form,
     pub procs: u32,
+}
+
+/// What a dimension of the template is given for an element with subscripts `i` (HPF 2.0, ALIGN).
+#[derive(Clone, Copy, Debug, PartialEq, Eq)]
+pub enum AlignDim {
+    /// The subscript `a * i[dim] + b`; dimensions count from 0.
+    Linear { dim: u32, a: i64, b: i64 },
+    /// This subscript for every element.
+    At(i64),
+    /// Every subscript: the element is replicated over the dimension.
+    Every,
+}
+
+/// One distributed dimension of the template: its line, the dimension of the grid on which it lies, counted from
+/// 0, and what it is given for an element.
+#[derive(Clone, Copy, Debug, PartialEq, Eq)]
+pub struct MapDim {
+    pub line: Line,
+    pub grid_dim: u32,
+    pub align: AlignDim,
+}
+
+/// The distributed dimensions of a mapping. Contracts see the list.
+#[derive(Debug, Drop)]
+pub struct MapDims {
+    entries: Vec<MapDim>,
+}
+
+impl Model for MapDims {
+    ghost use Rattle.std.specs.Prelude.{List};
+    ghost use Rattle.hpf_base.specs.declared.mapping.MapDim.{MapDim};
+
+    ghost Value = { List MapDim };
+
+    ghost view = { λ d. d.entries.items };
+}
+
+impl MapDims {
+    /// These dimensions, in their order. It takes no memory.
+    pub fn new(entries: Vec<MapDim>) -> MapDims
+        ensures { result ≡ entries.items }
+    {
+        MapDims { entries }
+    }
+
+    /// The dimensions in order.
+    pub fn as_slice(&self) -> &[MapDim]
+        ensures { result.now ≡ self.now }
+    {
+        &self.entries
+    }
+
+    /// The dimensions in order. It takes no memory.
+    pub fn into_vec(self) -> Vec<MapDim>
+        ensures { result.items ≡ self }
+    {
+        self.entries
+    }
+}
+
+/// Where the elements of an array lie: a node owns an element where, in every entry that is given a subscript for
+/// it, the node's coordinate in `grid_dim` is the coordinate of that subscript's position (HPF 2.0, DISTRIBUTE
+/// and ALIGN).
+#[derive(Debug, Drop)]
+pub struct Mapping {
+    pub grid: Grid,
+    pub dims: MapDims,
 }

@@ -1,0 +1,3 @@
+pub mod OwnerLaws
+pub mod ComposedLaws
+pub mod Products

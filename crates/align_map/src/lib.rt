@@ -1,0 +1,19 @@
+//! Alignment: which nodes own an element of a mapped array (HPF 2.0, ALIGN and DISTRIBUTE).
+//!
+//! Comes in: a mapping, whose entries say which subscript each distributed dimension of the template is given for
+//! an element, and the element's subscripts. Goes out: whether a node owns the element, the owner with the least
+//! number, and the mapping of an array that is aligned with a mapped one. What holds in between: a node owns an
+//! element where its coordinate agrees in every distributed dimension, and a replicated dimension takes any
+//! coordinate; so each element has an owner, and to compose and then to own is to own through both.
+#![tactic(auto)]
+
+mod composition;
+mod laws;
+mod owners;
+mod subscripts;
+#[cfg(test)]
+mod tests;
+
+pub use composition::compose;
+pub use laws::composed_owners;
+pub use owners::{least_owner, owns};

@@ -1,0 +1,7 @@
+use Rattle.std.proofs.Common.{◌≡◌, ◌-◌, ◌<◌, ◌==◌, filter, length}
+use Rattle.hpf_base.specs.Owner.{coordinate}
+use Rattle.hpf_base.specs.Positions.{section}
+use Rattle.distribution.proofs.counts.owned_up_to.Given as goal
+
+abbrev pub invariant-loop-pos : goal.invariant-loop-pos
+invariant-loop-pos l = (l.count ≡ length (filter (λ j. coordinate l.line j == l.node) (section 1 (l.pos - 1)))) × (l.count < l.pos)

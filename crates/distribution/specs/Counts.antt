@@ -1,0 +1,14 @@
+-- How many positions of a line are owned (HPF 2.0, DISTRIBUTE).
+use Rattle.std.specs.Prelude.{ℕ, ◌-◌, ◌==◌, filter, length}
+use Rattle.hpf_base.specs.declared.mapping.Line.{Line}
+use Rattle.hpf_base.specs.LocalOrder.{owned}
+use Rattle.hpf_base.specs.Owner.{coordinate}
+use Rattle.hpf_base.specs.Positions.{section}
+
+-- how many positions the processor owns
+abbrev pub owned_count : Line → ℕ → ℕ
+owned_count line node = length (owned line node)
+
+-- how many lesser positions have the same owner
+abbrev pub rank : Line → ℕ → ℕ
+rank line position = length (filter (λ j. coordinate line j == coordinate line position) (section 1 (position - 1)))

@@ -1,0 +1,57 @@
+//! Index tuples and the shapes that they range over.
+
+ghost use Rattle.std.specs.Prelude.{◌≡◌, ◌≤◌, ◌↔◌, length, IsSome, IfSome};
+
+use smallvec::SmallVec;
+use std::alloc::Global;
+use std::marker::Model;
+
+/// The greatest number of dimensions of an array (Fortran 95, 2.4.5).
+pub const MAX_RANK: usize = 7;
+
+/// The subscripts of an element, the first dimension first. It needs no memory. Contracts see the list.
+#[derive(Debug, Drop)]
+pub struct Index {
+    numbers: SmallVec<i64, 7>,
+}
+
+impl Model for Index {
+    ghost use Rattle.std.specs.Prelude.{◌≤◌, List, ℤ, length};
+
+    ghost Value = { List ℤ };
+
+    ghost view = { λ i. i.numbers.items };
+
+    ghost invariant = { λ i. length i.numbers.items ≤ 7 };
+}
+
+impl Index {
+    /// The tuple of these numbers, in their order; None exactly where they are more than 7. It takes no memory.
+    pub fn new(alloc: Global, numbers: &[i64]) -> Option<Index>
+        ensures some { IsSome result ↔ (length numbers.now ≤ 7) }
+        ensures value { IfSome result (λ index. index ≡ numbers.now) }
+    {
+        if numbers.len() > MAX_RANK {
+            return None;
+        }
+        match SmallVec::from_slice(alloc, numbers) {
+            Ok(numbers) => Some(Index { numbers }),
+            Err(_) => unreachable!(),
+        }
+    }
+
+    /// The numbers, at most 7, in order. It takes no memory.
+    pub fn numbers(&self) -> &[i64]
+        ensures value { result.now ≡ self.now }
+        ensures short { length self.now ≤ 7 }
+    {
+        self.numbers.as_slice()
+    }
+}
+
+/// The bounds of an array: in each dimension its lower bound and its extent, the first dimension first.
+#[derive(Debug, Drop)]
+pub struct Shape {
+    pub lower: Index,
+    pub extent: Index,
+}

@@ -1,0 +1,3 @@
+pub mod ElementLaws
+pub mod AddressLaws
+pub mod PieceLaws

@@ -1,0 +1,131 @@
+ghost use Rattle.std.specs.Prelude.{◌≡◌, ◌≢◌, ◌<◌, ◌^◌, ◌∷◌, [], ℤ, pos, ◌≤ℤ◌, IfSome};
+ghost use Rattle.hpf_base.specs.ElementOrder.{product};
+ghost use Rattle.hpf_base.specs.declared.mapping.Form.TheVariants.{Whole};
+ghost use Rattle.hpf_base.specs.Mapping.{IsAlign, IsLine, IsMapping, MapsInside};
+
+use super::*;
+use crate::element::{element_count, nth_element};
+use hpf_base::{AlignDim, Form, Grid, Index, Line, MapDim, MapDims, Mapping, NodeId, Shape};
+use std::alloc::Global;
+use std::test::*;
+
+/// The mapping of an array that is aligned with a template of one dimension.
+fn line_map(alloc: Global, line: Line, align: AlignDim) -> Option<Mapping>
+    requires line { IsLine line }
+    requires distributed { line.form ≢ Whole }
+    requires align { IsAlign 1 align }
+    ensures valid { IfSome result (IsMapping 1) }
+    ensures grid { IfSome result (λ map. map.grid ≡ line.procs ∷ []) }
+    ensures dims { IfSome result (λ map. map.dims ≡ record { line = line; grid_dim = 0; align = align } ∷ []) }
+{
+    let entry = MapDim {
+        line,
+        grid_dim: 0,
+        align,
+    };
+    Some(Mapping {
+        grid: Grid::new(alloc, &[line.procs])?,
+        dims: MapDims::new(vec![in alloc; entry].ok()?),
+    })
+}
+
+/// What the node owns of a vector with the subscripts 1 to `extent`; None where an address isn't an element's place.
+fn owned_of(alloc: Global, map: &Mapping, extent: i64, node: u32) -> Option<Vec<i64>>
+    requires mapping { IsMapping 1 map.now }
+    requires inside { (i : ℤ) → pos 1 ≤ℤ i → i ≤ℤ extent → MapsInside map.now (i ∷ []) }
+    requires some { pos 0 ≤ℤ extent }
+    requires few { extent ≤ℤ pos (2 ^ 20) }
+    requires node { node < product map.now.grid }
+{
+    let shape = Shape {
+        lower: Index::new(alloc, &[1])?,
+        extent: Index::new(alloc, &[extent])?,
+    };
+    let piece = Piece::new(alloc, map, &shape, NodeId(node)).ok()?;
+    let mut owned = Vec::new(alloc);
+    for place in 0..piece.len() {
+        let element = piece.element(place)?;
+        if piece.address(&element) != Some(place) {
+            return None;
+        }
+        owned.push(*element.numbers().first()?).ok()?;
+    }
+    if piece.element(piece.len()).is_some() {
+        None
+    } else {
+        Some(owned)
+    }
+}
+
+#[test]
+fn cyclic_by_twos(rt: HostRuntime) -> Result<(), Fail> {
+    let line = Line {
+        lower: 1,
+        extent: 13,
+        form: Form::Cyclic(2),
+        procs: 3,
+    };
+    let align = AlignDim::Linear { dim: 0, a: 1, b: 0 };
+    let map = line_map(rt.alloc(), line, align).ok_or("a mapping")?;
+    let first = owned_of(rt.alloc(), &map, 13, 0).ok_or("a piece")?;
+    assert_eq!(rt; first.as_slice(), [1, 2, 7, 8, 13].as_slice());
+    let last = owned_of(rt.alloc(), &map, 13, 2).ok_or("a piece")?;
+    assert_eq!(rt; last.as_slice(), [5, 6, 11, 12].as_slice());
+    let none = owned_of(rt.alloc(), &map, 0, 1).ok_or("a piece")?;
+    assert!(rt; none.is_empty());
+    Ok(())
+}
+
+#[test]
+fn strided_alignment(rt: HostRuntime) -> Result<(), Fail> {
+    let line = Line {
+        lower: 1,
+        extent: 15,
+        form: Form::Cyclic(3),
+        procs: 2,
+    };
+    let align = AlignDim::Linear {
+        dim: 0,
+        a: 2,
+        b: -1,
+    };
+    let map = line_map(rt.alloc(), line, align).ok_or("a mapping")?;
+    let first = owned_of(rt.alloc(), &map, 8, 0).ok_or("a piece")?;
+    assert_eq!(rt; first.as_slice(), [1, 2, 4, 5, 7, 8].as_slice());
+    let second = owned_of(rt.alloc(), &map, 8, 1).ok_or("a piece")?;
+    assert_eq!(rt; second.as_slice(), [3, 6].as_slice());
+    Ok(())
+}
+
+#[test]
+fn at_the_limits(rt: HostRuntime) -> Result<(), Fail> {
+    let line = Line {
+        lower: -2199023255552,
+        extent: 1099511627776,
+        form: Form::Cyclic(65536),
+        procs: 64,
+    };
+    let align = AlignDim::Linear {
+        dim: 0,
+        a: 65536,
+        b: -2199023255553,
+    };
+    let map = line_map(rt.alloc(), line, align).ok_or("a mapping")?;
+    let second = owned_of(rt.alloc(), &map, 130, 1).ok_or("a piece")?;
+    assert_eq!(rt; second.as_slice(), [2, 66, 130].as_slice());
+    Ok(())
+}
+
+#[test]
+fn first_subscript_fastest(rt: HostRuntime) -> Result<(), Fail> {
+    let shape = Shape {
+        lower: Index::new(rt.alloc(), &[0, 5]).ok_or("two numbers")?,
+        extent: Index::new(rt.alloc(), &[2, 3]).ok_or("two numbers")?,
+    };
+    assert_eq!(rt; element_count(&shape), 6);
+    for (number, element) in [(0, [0, 5]), (1, [1, 5]), (2, [0, 6]), (5, [1, 7])] {
+        let index = nth_element(rt.alloc(), &shape, number);
+        assert_eq!(rt; index.numbers(), element.as_slice());
+    }
+    Ok(())
+}
