@@ -1,5 +1,5 @@
 -- Places in a list without repetition.
-use Rattle.std.proofs.Common.{◌≡◌, ◌≢◌, ◌↔◌, ℕ, ◌<◌, ◌≤◌, ◌⊎◌, inl, inr, ℤ, Bool, true, false, List, refl, sym, ◌∙◌, ap, subst, arith, length, get_or, All, AllPairs, Contains, Option, Some, None, IsNone, slice_get}
+use Rattle.std.proofs.Common.{◌≡◌, ◌≢◌, ◌↔◌, ℕ, ◌<◌, ◌≤◌, ◌⊎◌, inl, inr, ℤ, Bool, true, false, List, refl, sym, ◌∙◌, ap, subst, arith, length, get_or, AllPairs, Contains, Option, Some, None, IsNone, slice_get}
 use Rattle.std.proofs.lemmas.Bool.{both_ways, cases_order, true≢false}
 use Rattle.std.proofs.lemmas.List.Elements.{filter_passes}
 use Rattle.std.proofs.lemmas.Option.{get_or_from_slice_get, same_Some, slice_get-get_or, slice_get_within}

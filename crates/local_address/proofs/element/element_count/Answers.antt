@@ -1,5 +1,4 @@
-use Rattle.std.proofs.Common.{◌≡◌, sym, ◌∙◌, ap, map, unsigned_abs, pos}
-use Rattle.std.specs.List.{list_any}
+use Rattle.std.proofs.Common.{sym, ◌∙◌, ap, map, unsigned_abs}
 use Rattle.hpf_base.specs.ElementOrder.{product}
 use Rattle.local_address.proofs.ElementLaws.{none_extent}
 use Rattle.local_address.proofs.element.element_count.Goals as goal

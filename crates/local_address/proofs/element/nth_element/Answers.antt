@@ -1,8 +1,8 @@
-use Rattle.std.proofs.Common.{rules, ◌≡◌, ◌%◌, ◌/◌, ◌+◌, ◌<◌, ◌≤◌, ℤ, pos, ◌+ℤ◌, FitsSigned, sym, ◌∙◌, ap, subst, arith, get_or, drop, set, take, length, map, unsigned_abs, to_z, of_z, Some}
+use Rattle.std.proofs.Common.{rules, ◌≡◌, ◌%◌, ◌/◌, ◌+◌, ◌<◌, pos, ◌+ℤ◌, FitsSigned, sym, ◌∙◌, ap, arith, get_or, drop, take, length, map, unsigned_abs, to_z, of_z, Some}
 use Rattle.std.proofs.lemmas.Int.{to_z-of_z}
 use Rattle.std.proofs.lemmas.List.{length-map, length-set}
 use Rattle.std.specs.Int.{w64}
-use Rattle.hpf_base.specs.ElementOrder.{extents_of, index_at, product}
+use Rattle.hpf_base.specs.ElementOrder.{extents_of, index_at}
 use Rattle.hpf_base.proofs.Places.{length-place_at, place_at, place_at-next}
 use Rattle.local_address.proofs.ElementLaws.{extent_some, written_all, written_more}
 use Rattle.local_address.proofs.element.nth_element.Goals as goal

@@ -1,4 +1,4 @@
-use Rattle.std.proofs.Common.{◌≡◌, ◌≢◌, ◌≤◌, ℤ, List, Some, None, slice_get, sym, refl, ◌∙◌, ap, arith, length, AllPairs, subst}
+use Rattle.std.proofs.Common.{◌≡◌, ◌≢◌, Some, None, slice_get, sym, refl, ◌∙◌, ap, arith, length, AllPairs, subst}
 use Rattle.std.proofs.lemmas.Bool.{both_ways}
 use Rattle.std.proofs.lemmas.Option.{same_Some, slice_get_read}
 use borrow.Author.Count.{below_more}
