@@ -5,6 +5,8 @@ ghost use Rattle.std.specs.List.{list_all};
 ghost use Rattle.std.specs.Char.{is_ascii_digit};
 ghost use Rattle.hpf_run.specs.Words.{IsJob, IsNoJob, IsNodeCount};
 
+use hpf_base::MAX_NODES;
+
 /// Every byte is a digit.
 fn are_digits(bytes: &[u8]) -> bool
     ensures { result ≡ list_all is_ascii_digit bytes.now }
@@ -25,7 +27,7 @@ fn node_count(digits: &str) -> Option<u32>
         return None;
     }
     match digits.parse::<u32>() {
-        Ok(nodes) if 1 <= nodes && nodes <= 64 => Some(nodes),
+        Ok(nodes) if 1 <= nodes && nodes <= MAX_NODES => Some(nodes),
         _ => None,
     }
 }
