@@ -1,5 +1,5 @@
 -- The number of elements of a shape, and an element by its number, one dimension after another.
-use Rattle.std.proofs.Common.{◌≡◌, inl, inr, ℕ, zero, suc, ◌+◌, ◌*◌, ◌%◌, ◌<◌, ◌≤◌, ℤ, pos, negsuc, ◌+ℤ◌, ◌≤ℤ◌, unsigned_abs, true, false, List, [], ◌∷◌, ◌++◌, refl, sym, ◌∙◌, ap, subst, arith, length, map, get_or, set, take, All, Some, slice_get}
+use Rattle.std.proofs.Common.{◌≡◌, inl, inr, ℕ, zero, suc, ◌+◌, ◌*◌, ◌/◌, ◌%◌, ◌<◌, ◌≤◌, ℤ, pos, negsuc, ◌+ℤ◌, ◌≤ℤ◌, unsigned_abs, true, false, List, [], ◌∷◌, ◌++◌, refl, sym, ◌∙◌, ap, subst, arith, length, map, get_or, set, take, All, Some, slice_get}
 use Rattle.std.proofs.Math.Nat.{mul_comm, mul-zero, zero-mul}
 use Rattle.std.proofs.lemmas.Bool.{both_ways, or_cases, or_parts}
 use Rattle.std.proofs.lemmas.Bool.Decides.{Decides-int_eq}
@@ -112,3 +112,22 @@ pub vector-elements : (P : List ℤ → Type 0) (extent : ℤ) (lower extents : 
 vector-elements P extent lower extents lower-is extents-is each positive =
     subst (λ ls. All P (elements (record { lower = ls; extent = extents }))) (sym lower-is)
     (subst (λ es. All P (elements (record { lower = pos 1 ∷ []; extent = es }))) (sym extents-is) (vector-elements_from_one P extent each positive))
+
+-- the elements of an array of 4 by 4 that begins at 1
+plane-elements_from_one : (P : List ℤ → Type 0)
+    → ((i j : ℤ) → pos 1 ≤ℤ i → i ≤ℤ pos 4 → pos 1 ≤ℤ j → j ≤ℤ pos 4 → P (i ∷ j ∷ []))
+    → All P (elements (record { lower = pos 1 ∷ pos 1 ∷ []; extent = pos 4 ∷ pos 4 ∷ [] }))
+plane-elements_from_one P each = λ k d within.
+    let shape : Shape = record { lower = pos 1 ∷ pos 1 ∷ []; extent = pos 4 ∷ pos 4 ∷ [] } in
+    let below : k < 16 = omega (arith, within, length-elements shape) in
+    let row : k % 4 < 4 = mod_below k 4 (omega arith) in
+    let column : k / 4 % 4 < 4 = mod_below (k / 4) 4 (omega arith) in
+    subst P (sym (elements-get shape k d below))
+    (each (pos 1 +ℤ pos (k % 4)) (pos 1 +ℤ pos (k / 4 % 4)) (omega (arith, ints)) (omega (arith, ints)) (omega (arith, ints)) (omega (arith, ints)))
+
+pub plane-elements : (P : List ℤ → Type 0) (lower extents : List ℤ) → lower ≡ pos 1 ∷ pos 1 ∷ [] → extents ≡ pos 4 ∷ pos 4 ∷ []
+    → ((i j : ℤ) → pos 1 ≤ℤ i → i ≤ℤ pos 4 → pos 1 ≤ℤ j → j ≤ℤ pos 4 → P (i ∷ j ∷ []))
+    → All P (elements (record { lower = lower; extent = extents }))
+plane-elements P lower extents lower-is extents-is each =
+    subst (λ ls. All P (elements (record { lower = ls; extent = extents }))) (sym lower-is)
+    (subst (λ es. All P (elements (record { lower = pos 1 ∷ pos 1 ∷ []; extent = es }))) (sym extents-is) (plane-elements_from_one P each))

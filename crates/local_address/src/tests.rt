@@ -116,6 +116,79 @@ fn at_the_limits(rt: HostRuntime) -> Result<(), Fail> {
     Ok(())
 }
 
+/// The mapping of A(4,4) that is distributed (CYCLIC,BLOCK) on a grid of 2 by 2.
+fn plane(alloc: Global) -> Option<Mapping>
+    ensures valid { IfSome result (IsMapping 2) }
+    ensures grid { IfSome result (λ map. map.grid ≡ 2 ∷ 2 ∷ []) }
+    ensures inside { IfSome result (λ map. (i j : ℤ) → pos 1 ≤ℤ i → i ≤ℤ pos 4 → pos 1 ≤ℤ j → j ≤ℤ pos 4 → MapsInside map (i ∷ j ∷ [])) }
+{
+    let first = MapDim {
+        line: Line {
+            lower: 1,
+            extent: 4,
+            form: Form::Cyclic(1),
+            procs: 2,
+        },
+        grid_dim: 0,
+        align: AlignDim::Linear { dim: 0, a: 1, b: 0 },
+    };
+    let second = MapDim {
+        line: Line {
+            lower: 1,
+            extent: 4,
+            form: Form::Block(2),
+            procs: 2,
+        },
+        grid_dim: 1,
+        align: AlignDim::Linear { dim: 1, a: 1, b: 0 },
+    };
+    let mut dims = Vec::new(alloc);
+    dims.push(first).ok()?;
+    dims.push(second).ok()?;
+    Some(Mapping {
+        grid: Grid::new(alloc, &[2, 2])?,
+        dims: MapDims::new(dims),
+    })
+}
+
+/// The subscripts of the first and of the last element of A(4,4) that the node owns; None where it doesn't own four.
+fn ends_of(alloc: Global, map: &Mapping, node: u32) -> Option<[i64; 4]>
+    requires mapping { IsMapping 2 map.now }
+    requires inside { (i j : ℤ) → pos 1 ≤ℤ i → i ≤ℤ pos 4 → pos 1 ≤ℤ j → j ≤ℤ pos 4 → MapsInside map.now (i ∷ j ∷ []) }
+    requires node { node < product map.now.grid }
+{
+    let shape = Shape {
+        lower: Index::new(alloc, &[1, 1])?,
+        extent: Index::new(alloc, &[4, 4])?,
+    };
+    let piece = Piece::new(alloc, map, &shape, NodeId(node)).ok()?;
+    let first = piece.element(0)?;
+    let last = piece.element(3)?;
+    if piece.len() != 4 || piece.address(&last) != Some(3) {
+        return None;
+    }
+    Some([
+        *first.numbers().first()?,
+        *first.numbers().get(1)?,
+        *last.numbers().first()?,
+        *last.numbers().get(1)?,
+    ])
+}
+
+#[test]
+fn two_dimensions(rt: HostRuntime) -> Result<(), Fail> {
+    let map = plane(rt.alloc()).ok_or("a mapping")?;
+    for (node, ends) in [
+        (0, [1, 1, 3, 2]),
+        (1, [2, 1, 4, 2]),
+        (2, [1, 3, 3, 4]),
+        (3, [2, 3, 4, 4]),
+    ] {
+        assert_eq!(rt; ends_of(rt.alloc(), &map, node), Some(ends));
+    }
+    Ok(())
+}
+
 #[test]
 fn first_subscript_fastest(rt: HostRuntime) -> Result<(), Fail> {
     let shape = Shape {
