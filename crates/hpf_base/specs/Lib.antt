@@ -4,6 +4,7 @@ pub mod ElementOrder
 pub mod Grid
 pub mod LocalOrder
 pub mod Mapping
+pub mod Name
 pub mod NodeSteps
 pub mod Owner
 pub mod Phases

@@ -3,6 +3,8 @@
 ghost use Rattle.std.specs.Prelude.{◌≡◌};
 ghost use Rattle.hpf_base.specs.Refusal.{name_of, number_of};
 
+use std::alloc::{AllocError, AllocFailed};
+
 /// The rule that a text breaks.
 #[derive(Clone, Copy, Debug, PartialEq, Eq)]
 pub enum Reason {
@@ -67,4 +69,23 @@ impl Reason {
 pub struct Refusal {
     pub line: u32,
     pub reason: Reason,
+}
+
+/// Why no answer is given: the text is refused, or a growth was. What a refusal is of, each call says.
+#[derive(Clone, Copy, Debug, PartialEq, Eq)]
+pub enum StaticError {
+    Refused(Refusal),
+    Memory,
+}
+
+impl From<AllocError> for StaticError {
+    fn from(_error: AllocError) -> StaticError {
+        StaticError::Memory
+    }
+}
+
+impl<T: Drop> From<AllocFailed<T>> for StaticError {
+    fn from(_error: AllocFailed<T>) -> StaticError {
+        StaticError::Memory
+    }
 }

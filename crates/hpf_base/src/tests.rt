@@ -54,3 +54,22 @@ fn dimensions_of_a_mapping(rt: HostRuntime) -> Result<(), Fail> {
     assert_eq!(rt; dims.into_vec().len(), 1);
     Ok(())
 }
+
+#[test]
+fn names(rt: HostRuntime) -> Result<(), Fail> {
+    let name = Name::new(b"A_1").ok_or("three bytes")?;
+    assert_eq!(rt; name.bytes(), b"A_1".as_slice());
+    assert!(rt; Name::new(&[b'X'; 31]).is_some());
+    assert!(rt; Name::new(b"9").is_some());
+    for none in [
+        b"".as_slice(),
+        b"a".as_slice(),
+        b"A B".as_slice(),
+        [b'X'; 32].as_slice(),
+    ] {
+        assert!(rt; Name::new(none).is_none());
+    }
+    assert!(rt; Name::new(b"A") == Name::new(b"A"));
+    assert!(rt; Name::new(b"A") != Name::new(b"AA"));
+    Ok(())
+}

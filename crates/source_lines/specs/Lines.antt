@@ -1,0 +1,57 @@
+-- The logical lines of a text (Fortran 95, 3.3.1; HPF 2.0, 2.3).
+use Rattle.std.specs.Prelude.{ℕ, ◌+◌, ◌-◌, not, nat_eq, List, [], ◌∷◌, ◌++◌, map, filter, flat_map, length, take, drop, if◌then◌else◌, bytes_eq}
+use Rattle.std.specs.List.{join_with_byte, list_all, prefix_len, starts_with}
+use Rattle.source_lines.specs.declared.line.LogicalLine.{LogicalLine}
+use Rattle.source_lines.specs.declared.line.LineKind.{LineKind}
+use Rattle.source_lines.specs.declared.line.LineKind.TheVariants as line
+use Rattle.source_lines.specs.declared.rows.RowKind.{RowKind}
+use Rattle.source_lines.specs.declared.rows.RowKind.TheVariants.{Directive}
+use Rattle.source_lines.specs.Cut.{cut}
+use Rattle.source_lines.specs.Rows.{Row, rows_of, is_blank, without_blanks, without_blanks_behind, first_part}
+use Rattle.source_lines.specs.Breaches.{standing, is_continued}
+
+-- what a line gives to its logical line: a `&` at its end is left out
+abbrev pub body : Row → List ℕ
+body row = if is_continued row then take (length (without_blanks_behind row.code) - 1) row.code else row.code
+
+-- a `&` that is the first byte of a continuing line, blanks aside, is left out as well
+abbrev pub continuing_body : Row → List ℕ
+continuing_body row = if starts_with nat_eq (without_blanks (body row)) (38 ∷ []) then drop 1 (without_blanks (body row)) else body row
+
+-- the bytes of a line and of those that continue it, with a blank between
+abbrev pub joined : Row → List Row → List ℕ
+joined row rows = join_with_byte 32 (body row ∷ map continuing_body rows)
+
+-- the first of some lists with a part more at its front
+abbrev pub with_part : List ℕ → List (List ℕ) → List (List ℕ)
+with_part part [] = part ∷ []
+with_part part (statement ∷ statements) = (part ++ statement) ∷ statements
+
+-- parts, put together between the `;`
+abbrev pub between_semicolons : List (List ℕ) → List (List ℕ)
+between_semicolons [] = [] ∷ []
+between_semicolons (part ∷ parts) = if bytes_eq part (59 ∷ []) then [] ∷ between_semicolons parts else with_part part (between_semicolons parts)
+
+-- the statements that stand between `;` outside of text constants; empty ones are passed over
+abbrev pub statements : List ℕ → List (List ℕ)
+statements bytes = filter (λ statement. not (list_all is_blank statement)) (between_semicolons (cut first_part bytes))
+
+abbrev pub logical_line : ℕ → LineKind → List ℕ → LogicalLine
+logical_line number kind bytes = record { line = number; kind = kind; bytes = bytes }
+
+-- a directive is one logical line; of statements each is one
+abbrev pub lines_of_kind : RowKind → ℕ → List ℕ → List LogicalLine
+lines_of_kind Directive number bytes = logical_line number line.Directive bytes ∷ []
+lines_of_kind kind number bytes = map (logical_line number line.Statement) (statements bytes)
+
+-- the logical lines of a line and those that continue it
+abbrev pub lines_of_group : List Row → List LogicalLine
+lines_of_group [] = []
+lines_of_group (row ∷ rows) = lines_of_kind row.kind row.number (joined row rows)
+
+-- the logical lines of the text's lines
+abbrev pub lines_in : List Row → List LogicalLine
+lines_in rows = flat_map lines_of_group (cut (λ rest. prefix_len is_continued rest + 1) (standing rows))
+
+abbrev pub logical_lines : List ℕ → List LogicalLine
+logical_lines text = lines_in (rows_of text)

@@ -1,0 +1,15 @@
+//! From the bytes of a text to its logical lines, and the types of lines and tokens.
+//!
+//! Comes in: any bytes. Goes out: the statements and directives of the text, each with its line's number, or the
+//! first line that breaks a rule of the source form (Fortran 95, 3.3). What holds in between: the lines are
+//! those of the definition, which splits whole lists; a text is refused exactly where it has a breach.
+#![tactic(auto)]
+
+mod bytes;
+mod line;
+mod rows;
+mod token;
+
+pub use bytes::Bytes;
+pub use line::{LineKind, LogicalLine};
+pub use token::{Token, TokenKind};

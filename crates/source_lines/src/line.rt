@@ -1,0 +1,22 @@
+//! Logical lines.
+
+use crate::bytes::Bytes;
+
+/// What stands on a logical line.
+#[derive(Clone, Copy, Debug, PartialEq, Eq)]
+pub enum LineKind {
+    /// A statement (Fortran 95, 3.3.1).
+    Statement,
+    /// What follows `!HPF$` (HPF 2.0, 2.3).
+    Directive,
+}
+
+/// A statement or a directive: the number of its first line, from 1, and its bytes, where a blank stands between
+/// the pieces of continued lines and where the statement's neighbours behind `;`, comments and the `&` of
+/// continuation are left out.
+#[derive(Debug, Drop)]
+pub struct LogicalLine {
+    pub line: u32,
+    pub kind: LineKind,
+    pub bytes: Bytes,
+}

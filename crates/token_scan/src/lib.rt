@@ -1,0 +1,2 @@
+//! From the bytes of a logical line to its tokens.
+#![tactic(auto)]
