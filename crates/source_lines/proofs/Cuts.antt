@@ -4,7 +4,8 @@ use Rattle.std.specs.List.{concat}
 use Rattle.std.proofs.lemmas.List.{take-append-drop, length-drop}
 use Rattle.source_lines.specs.Cut.{cut, cut_behind}
 
-cut_behind-drop : {A : Type 0} (first : List A → ℕ) (xs : List A) (n : ℕ) → cut_behind first xs n ≡ cut first (drop n xs)
+-- behind so many of the elements the rest is cut alike
+pub cut_behind-drop : {A : Type 0} (first : List A → ℕ) (xs : List A) (n : ℕ) → cut_behind first xs n ≡ cut first (drop n xs)
 cut_behind-drop first [] zero = refl
 cut_behind-drop first [] (suc n) = refl
 cut_behind-drop first (x ∷ xs) zero = refl

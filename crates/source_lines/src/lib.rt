@@ -5,8 +5,11 @@
 //! those of the definition, which splits whole lists; a text is refused exactly where it has a breach.
 #![tactic(auto)]
 
+mod blanks;
 mod bytes;
 mod line;
+mod marks;
+mod parts;
 mod rows;
 mod token;
 
