@@ -8,6 +8,7 @@
 mod blanks;
 mod bytes;
 mod line;
+mod line_split;
 mod marks;
 mod parts;
 mod rows;

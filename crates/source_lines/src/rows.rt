@@ -8,6 +8,7 @@ ghost use Rattle.source_lines.specs.Rows.{physical_lines, row_of, rows_of};
 
 use crate::marks::{content, is_directive, is_lone_ampersand, without_return};
 use crate::blanks::all_blank;
+use crate::line_split::next_line;
 use crate::parts::code_of;
 use std::alloc::{AllocError, Global};
 use std::marker::Model;
@@ -91,4 +92,17 @@ fn row_of(number: usize, line: &[u8]) -> Row<'_>
         code,
         bad: line.len() > MOST_BYTES || bad || is_lone_ampersand(code),
     }
+}
+
+/// The lines of a text.
+pub(crate) fn rows(alloc: Global, text: &[u8]) -> Result<Vec<Row<'_>>, AllocError>
+    ensures { IfOk result (λ rows. rows.items ≡ rows_of text.now) }
+{
+    let mut rows = Vec::new(alloc);
+    let mut rest = text;
+    while let Some((line, behind)) = next_line(rest) {
+        rows.push(row_of(rows.len() + 1, line))?;
+        rest = behind;
+    }
+    Ok(rows)
 }
