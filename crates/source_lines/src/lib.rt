@@ -6,6 +6,7 @@
 #![tactic(auto)]
 
 mod blanks;
+mod breach;
 mod bytes;
 mod line;
 mod line_split;
