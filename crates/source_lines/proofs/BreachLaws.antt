@@ -1,17 +1,17 @@
 -- The first breach among lines, and what the lines before it aren't.
-use Rattle.std.proofs.Common.{◌≡◌, ℕ, zero, suc, ◌+◌, ◌-◌, ◌<◌, ◌≤◌, Bool, true, false, cond, List, [], ◌∷◌, ◌++◌, length, take, drop, refl, sym, ap, subst, ◌∙◌, inl, inr, arith, add_comm, length-append, lit≤}
-use Rattle.std.specs.Prelude.{◌==◌, not, ◌&&◌, ◌||◌, ◌⊎◌, filter, reverse, IsTrue, IsFalse}
-use Rattle.std.specs.List.{prefix_len, suffix_len}
-use Rattle.std.proofs.lemmas.Bool.{eqb-true, eqb-false, eq-eqb, cases_lt, cases_order, false≢true}
-use Rattle.std.proofs.lemmas.List.{append-nil, reverse-append, append_cancel_left, take-append-drop, length-take, length-drop}
+use Rattle.std.proofs.Common.{◌≡◌, ℕ, zero, suc, ◌+◌, ◌-◌, ◌<◌, ◌≤◌, Bool, true, false, cond, List, [], ◌∷◌, ◌++◌, length, take, drop, get_or, map, refl, sym, ap, subst, ◌∙◌, inl, inr, arith, add_comm, length-append, lit≤}
+use Rattle.std.specs.Prelude.{◌==◌, not, ◌&&◌, ◌||◌, ◌⊎◌, filter, Some, None}
+use Rattle.std.specs.List.{enumerate_from, prefix_len, suffix_len}
+use Rattle.std.proofs.lemmas.Bool.{eqb-true, eqb-false, eq-eqb, and_parts, cases_lt, cases_order, not-true, or_cases, false≢true}
+use Rattle.std.proofs.lemmas.List.{append-nil, reverse-append, append_cancel_left, take-append-drop, drop_more, length-take, length-take-le, take_rest}
 use Rattle.std.proofs.lemmas.List.Elements.{filter-append}
 use Rattle.hpf_base.specs.Refusal.{IsFirstBreach, NoBreach, number_of}
 use Rattle.hpf_base.specs.declared.refusal.Reason.{Reason}
 use Rattle.hpf_base.specs.declared.refusal.Reason.TheVariants.{BadLine, NotAStatement, BadNest, BadName, BadRank, BadDirective, BadSubscript, BadIndependent, BadArrangement, Limit, LeftOut, BadConstant}
 use Rattle.source_lines.specs.declared.rows.RowKind.{RowKind}
 use Rattle.source_lines.specs.declared.rows.RowKind.TheVariants.{Passed, Statement, Directive}
-use Rattle.source_lines.specs.Rows.{Row}
-use Rattle.source_lines.specs.Breaches.{goes_on, is_continued, is_passed, meets, standing, IsBreachAt, IsBreachIn}
+use Rattle.source_lines.specs.Rows.{Row, physical_lines, row_of, rows_of}
+use Rattle.source_lines.specs.Breaches.{goes_on, is_continued, is_passed, meets, standing, IsBreachAt, IsBreachIn, IsLeastReasonAt}
 
 -- a passed line goes on as a statement does
 pub goes_on_passed : (rows : List Row) → goes_on Passed rows ≡ goes_on Statement rows
@@ -115,3 +115,80 @@ either_not true b c e is = false≢true (sym e)
 either_not false true true e is = elim is [ inl a ↦ false≢true a | inr bc ↦ false≢true (sym bc.1) ]
 either_not false true false e is = false≢true (sym e)
 either_not false false c e is = elim is [ inl a ↦ false≢true a | inr bc ↦ false≢true bc.0 ]
+
+some_number : (reason : Reason) → 1 ≤ number_of reason
+some_number BadLine = lit≤ tt
+some_number NotAStatement = lit≤ tt
+some_number BadNest = lit≤ tt
+some_number BadName = lit≤ tt
+some_number BadRank = lit≤ tt
+some_number BadDirective = lit≤ tt
+some_number BadSubscript = lit≤ tt
+some_number BadIndependent = lit≤ tt
+some_number BadArrangement = lit≤ tt
+some_number Limit = lit≤ tt
+some_number LeftOut = lit≤ tt
+some_number BadConstant = lit≤ tt
+
+or_true : (b : Bool) → (b || true) ≡ true
+or_true true = refl
+or_true false = refl
+
+module _ (before : List Row) (row : Row) (after : List Row) where
+  pub bad_least : (row.bad || (is_continued row && not (goes_on row.kind after))) ≡ true → IsLeastReasonAt before row after (Some BadLine)
+  bad_least e = (either_is row.bad (is_continued row) (goes_on row.kind after) e, λ other why. some_number other)
+
+  not_bad : (row.bad || (is_continued row && not (goes_on row.kind after))) ≡ false → IsBreachAt before row after BadLine → ⊥
+  not_bad e why = either_not row.bad (is_continued row) (goes_on row.kind after) e why
+
+  limit_only : (IsBreachAt before row after BadLine → ⊥) → (other : Reason) → IsBreachAt before row after other → other ≡ Limit
+  limit_only fine BadLine why = absurd (fine why)
+  limit_only fine Limit why = refl
+  limit_only fine other why = absurd why
+
+  module _ (n : ℕ) (counted : n ≡ suffix_len is_continued (standing before)) where
+    limit_is : ((row.number == 20001) || (not (is_passed row.kind) && (n == 40))) ≡ true → IsBreachAt before row after Limit
+    limit_is e =
+        elim (or_cases (row.number == 20001) (not (is_passed row.kind) && (n == 40)) e) [
+          inl last ↦ inl (eqb-true row.number 20001 last)
+        | inr many ↦
+            let p = and_parts (not (is_passed row.kind)) (n == 40) many in
+            inr (not-true (is_passed row.kind) p.0, sym counted ∙ eqb-true n 40 p.1) ]
+
+    pub limit_least : (row.bad || (is_continued row && not (goes_on row.kind after))) ≡ false → ((row.number == 20001) || (not (is_passed row.kind) && (n == 40))) ≡ true
+        → IsLeastReasonAt before row after (Some Limit)
+    limit_least fine e = (limit_is e, λ other why. let s = limit_only (not_bad fine) other why in rw s (omega arith))
+
+    limit_not : ((row.number == 20001) || (not (is_passed row.kind) && (n == 40))) ≡ false → IsBreachAt before row after Limit → ⊥
+    limit_not e why =
+        elim why [
+          inl last ↦ false≢true (sym e ∙ rw (eq-eqb row.number 20001 last) refl)
+        | inr many ↦ false≢true (sym e ∙ rw (many.0, eq-eqb n 40 (counted ∙ many.1)) (or_true (row.number == 20001))) ]
+
+    pub none_least : (row.bad || (is_continued row && not (goes_on row.kind after))) ≡ false → ((row.number == 20001) || (not (is_passed row.kind) && (n == 40))) ≡ false
+        → IsLeastReasonAt before row after None
+    none_least fine e reason why = limit_not e (let s = limit_only (not_bad fine) reason why in subst (IsBreachAt before row after) s why)
+
+-- a list around an element
+pub parted_at : {A : Type 0} (xs : List A) (i : ℕ) (x : A) → i < length xs → x ≡ get_or xs i x → xs ≡ take i xs ++ x ∷ drop (i + 1) xs
+parted_at xs i x within at =
+    sym (take-append-drop i xs) ∙ ap (λ l. take i xs ++ l) (drop_more xs i x within ∙ ap (λ y. y ∷ drop (i + 1) xs) (sym at))
+
+rows_numbered_from : (n : ℕ) (lines : List (List ℕ)) (before : List Row) (row : Row) (after : List Row) → map (λ x. row_of x.0 x.1) (enumerate_from n lines) ≡ before ++ row ∷ after
+    → row.number ≡ n + length before
+rows_numbered_from n [] [] row after e = absurd cc
+rows_numbered_from n [] (r ∷ before) row after e = absurd cc
+rows_numbered_from n (line ∷ lines) [] row after e = let same : row_of n line ≡ row = cc in sym (ap (λ (r : Row). r.number) same) ∙ omega arith
+rows_numbered_from n (line ∷ lines) (r ∷ before) row after e =
+    let tail : map (λ x. row_of x.0 x.1) (enumerate_from (n + 1) lines) ≡ before ++ row ∷ after = cc in
+    rows_numbered_from (n + 1) lines before row after tail ∙ omega arith
+
+-- the lines of a text are numbered from 1
+pub rows_numbered : (rows : List Row) → (text : List ℕ) × (rows ≡ rows_of text) → IsNumbered rows
+rows_numbered rows of before row after e = rows_numbered_from 1 (physical_lines of.0) before row after (sym of.1 ∙ e) ∙ add_comm 1 (length before)
+
+-- a line in front of which no line is a breach has a small number
+pub number_few : (rows : List Row) (i : ℕ) (row : Row) → IsNumbered rows → IsClear rows i → i < length rows → row ≡ get_or rows i row → row.number ≤ 20001
+number_few rows i row numbered clear within at =
+    let few : i ≤ 20000 = clear_few rows i numbered clear (omega arith) in
+    omega (arith, few, length-take i rows, numbered (take i rows) row (drop (i + 1) rows) (parted_at rows i row within at))

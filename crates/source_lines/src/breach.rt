@@ -1,11 +1,11 @@
 //! The first line that breaks a rule.
 
-ghost use Rattle.std.specs.Prelude.{◌≡◌, ◌==◌, ◌+◌, ◌<◌, ◌≤◌, ◌&&◌, ◌||◌, not, List, ◌++◌, ◌∷◌, [], IsTrue, MatchOption, length};
+ghost use Rattle.std.specs.Prelude.{◌≡◌, ◌==◌, ◌+◌, ◌<◌, ◌≤◌, ◌^◌, ◌&&◌, ◌||◌, cond, not, ℕ, List, ◌++◌, ◌∷◌, [], IsTrue, MatchOption, length};
 ghost use Rattle.std.specs.List.{suffix_len};
-ghost use Rattle.hpf_base.specs.Refusal.{IsFirstBreach, NoBreach, number_of};
-ghost use Rattle.hpf_base.specs.declared.refusal.Reason as base;
-ghost use Rattle.source_lines.specs.Breaches.{goes_on, is_continued, is_passed, standing, IsBreachAt, IsBreachIn};
+ghost use Rattle.hpf_base.specs.Refusal.{IsFirstBreach, NoBreach};
+ghost use Rattle.source_lines.specs.Breaches.{goes_on, is_continued, is_passed, standing, IsBreachIn, IsLeastReasonAt};
 ghost use Rattle.source_lines.specs.Rows as seen;
+ghost use Rattle.source_lines.specs.Rows.{rows_of};
 
 use crate::marks;
 use crate::rows::{Row, RowKind};
@@ -78,4 +78,48 @@ fn is_past_limit(row: &Row<'_>, continued: usize) -> bool
     ensures { result ≡ ((row.now.number == 20001) || (not (is_passed row.now.kind) && (continued == 40))) }
 {
     row.number() == MOST_LINES + 1 || !is_passed(row) && continued == MOST_CONTINUATIONS + 1
+}
+
+/// Of the reasons for which a line is a breach the least, where this many lines in a row are continued up to it.
+fn reason_at(row: &Row<'_>, continued: usize, after: &[Row<'_>]) -> Option<Reason>
+    ensures { (before : List seen.Row) → continued ≡ suffix_len is_continued (standing before) → IsLeastReasonAt before row.now after.now result }
+{
+    if is_bad_before(row, after) {
+        Some(Reason::BadLine)
+    } else if is_past_limit(row, continued) {
+        Some(Reason::Limit)
+    } else {
+        None
+    }
+}
+
+/// How many lines in a row are continued up to the next one.
+fn count_with(row: &Row<'_>, continued: usize) -> usize
+    requires { continued < 2 ^ 32 }
+    ensures within { result ≤ continued + 1 }
+    ensures count { result ≡ cond (is_passed row.now.kind) continued (cond (is_continued row.now) (continued + 1) 0) }
+{
+    if is_passed(row) {
+        continued
+    } else if is_continued(row) {
+        continued + 1
+    } else {
+        0
+    }
+}
+
+/// The first breach of a text's lines.
+pub(crate) fn first_breach(rows: &[Row<'_>]) -> Option<Refusal>
+    requires { (text : List ℕ) × (rows.now ≡ rows_of text) }
+    ensures { MatchOption result (NoBreach (IsBreachIn rows.now)) (IsFirstBreach (IsBreachIn rows.now)) }
+{
+    let mut continued = 0;
+    for (i, row) in rows.iter().enumerate() {
+        if let Some(reason) = reason_at(row, continued, &rows[i + 1..]) {
+            let line = row.number() as u32;
+            return Some(Refusal { line, reason });
+        }
+        continued = count_with(row, continued);
+    }
+    None
 }
