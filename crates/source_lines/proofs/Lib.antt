@@ -1,3 +1,4 @@
 pub mod Cuts
 pub mod PartLaws
 pub mod BreachLaws
+pub mod LineLaws

@@ -8,11 +8,13 @@
 mod blanks;
 mod breach;
 mod bytes;
+mod joined;
 mod line;
 mod line_split;
 mod marks;
 mod parts;
 mod rows;
+mod statements;
 mod token;
 
 pub use bytes::Bytes;
