@@ -1,5 +1,5 @@
 -- A list that is cut into pieces: its first piece, and the pieces behind it.
-use Rattle.std.proofs.Common.{◌≡◌, ℕ, zero, suc, ◌-◌, ◌≤◌, List, [], ◌∷◌, length, take, drop, refl, ap, arith}
+use Rattle.std.proofs.Common.{◌≡◌, ℕ, zero, suc, ◌+◌, ◌-◌, ◌≤◌, List, [], ◌∷◌, length, take, drop, refl, ap, subst, arith}
 use Rattle.std.specs.List.{concat}
 use Rattle.std.proofs.lemmas.List.{take-append-drop, length-drop}
 use Rattle.source_lines.specs.Cut.{cut, cut_behind}
@@ -15,6 +15,12 @@ cut_behind-drop first (x ∷ xs) (suc n) = cut_behind-drop first xs n
 pub cut-cons : {A : Type 0} (first : List A → ℕ) (x : A) (xs : List A)
     → cut first (x ∷ xs) ≡ (x ∷ take (first (x ∷ xs) - 1) xs) ∷ cut first (drop (first (x ∷ xs) - 1) xs)
 cut-cons first x xs = ap (λ pieces. (x ∷ take (first (x ∷ xs) - 1) xs) ∷ pieces) (cut_behind-drop first xs (first (x ∷ xs) - 1))
+
+-- where `first` takes n elements behind the first one, these go with it
+pub cut-head : {A : Type 0} (first : List A → ℕ) (x : A) (xs : List A) (n : ℕ) → first (x ∷ xs) ≡ n + 1 → cut first (x ∷ xs) ≡ (x ∷ take n xs) ∷ cut first (drop n xs)
+cut-head first x xs n takes =
+    let behind : first (x ∷ xs) - 1 ≡ n = omega (arith, takes) in
+    subst (λ k. cut first (x ∷ xs) ≡ (x ∷ take k xs) ∷ cut first (drop k xs)) behind (cut-cons first x xs)
 
 -- where `first` takes n elements of the list, and at least one, the first piece is these
 pub cut-first : {A : Type 0} (first : List A → ℕ) (xs : List A) (n : ℕ) → first xs ≡ n → 1 ≤ n → n ≤ length xs

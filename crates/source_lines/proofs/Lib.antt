@@ -2,3 +2,4 @@ pub mod Cuts
 pub mod PartLaws
 pub mod BreachLaws
 pub mod LineLaws
+pub mod GroupLaws

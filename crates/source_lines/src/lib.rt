@@ -8,6 +8,7 @@
 mod blanks;
 mod breach;
 mod bytes;
+mod groups;
 mod joined;
 mod line;
 mod line_split;
@@ -15,8 +16,11 @@ mod marks;
 mod parts;
 mod rows;
 mod statements;
+mod text;
 mod token;
 
 pub use bytes::Bytes;
+
 pub use line::{LineKind, LogicalLine};
+pub use text::logical_lines;
 pub use token::{Token, TokenKind};
