@@ -1,9 +1,9 @@
 -- The first breach among lines, and what the lines before it aren't.
 use Rattle.std.proofs.Common.{◌≡◌, ℕ, zero, suc, ◌+◌, ◌-◌, ◌<◌, ◌≤◌, Bool, true, false, cond, List, [], ◌∷◌, ◌++◌, length, take, drop, get_or, map, refl, sym, ap, subst, ◌∙◌, inl, inr, arith, add_comm, length-append, lit≤}
-use Rattle.std.specs.Prelude.{◌==◌, not, ◌&&◌, ◌||◌, ◌⊎◌, filter, Some, None}
+use Rattle.std.specs.Prelude.{◌==◌, not, ◌&&◌, ◌||◌, ◌⊎◌, filter, All, Some, None, ◌^◌}
 use Rattle.std.specs.List.{enumerate_from, prefix_len, suffix_len}
 use Rattle.std.proofs.lemmas.Bool.{eqb-true, eqb-false, eq-eqb, and_parts, cases_lt, cases_order, not-true, or_cases, false≢true}
-use Rattle.std.proofs.lemmas.List.{append-nil, reverse-append, append_cancel_left, take-append-drop, drop_more, length-take, length-take-le, take_rest}
+use Rattle.std.proofs.lemmas.List.{append-nil, get_or_default, reverse-append, append_cancel_left, take-append-drop, drop_more, length-take, length-take-le, take_rest}
 use Rattle.std.proofs.lemmas.List.Elements.{filter-append}
 use Rattle.hpf_base.specs.Refusal.{IsFirstBreach, NoBreach, number_of}
 use Rattle.hpf_base.specs.declared.refusal.Reason.{Reason}
@@ -192,3 +192,11 @@ pub number_few : (rows : List Row) (i : ℕ) (row : Row) → IsNumbered rows →
 number_few rows i row numbered clear within at =
     let few : i ≤ 20000 = clear_few rows i numbered clear (omega arith) in
     omega (arith, few, length-take i rows, numbered (take i rows) row (drop (i + 1) rows) (parted_at rows i row within at))
+
+-- where the lines have no breach, each has a small number
+pub fine_numbers : (rows : List Row) → IsNumbered rows → NoBreach (IsBreachIn rows) → All (λ row. row.number < 2 ^ 32) rows
+fine_numbers rows numbered fine k d within =
+    let few = number_few rows k (get_or rows k d) numbered
+        (λ before row after reason whole _ why. fine row.number reason (record { before = before; row = row; after = after; whole = whole; numbered = refl; why = why }))
+        within (get_or_default rows k d (get_or rows k d) within) in
+    omega (arith, few)
