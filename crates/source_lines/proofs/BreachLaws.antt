@@ -1,15 +1,14 @@
 -- The first breach among lines, and what the lines before it aren't.
-use Rattle.std.proofs.Common.{◌≡◌, ℕ, zero, suc, ◌+◌, ◌-◌, ◌<◌, ◌≤◌, Bool, true, false, cond, List, [], ◌∷◌, ◌++◌, length, take, drop, get_or, map, refl, sym, ap, subst, ◌∙◌, inl, inr, arith, add_comm, length-append, lit≤}
-use Rattle.std.specs.Prelude.{◌==◌, not, ◌&&◌, ◌||◌, ◌⊎◌, filter, All, Some, None, ◌^◌}
+use Rattle.std.proofs.Common.{◌≡◌, ℕ, zero, suc, ◌+◌, ◌<◌, ◌≤◌, Bool, true, false, cond, List, [], ◌∷◌, ◌++◌, length, take, drop, get_or, map, refl, sym, ap, subst, ◌∙◌, inl, inr, arith, add_comm, length-append, lit≤}
+use Rattle.std.specs.Prelude.{◌==◌, not, ◌&&◌, ◌||◌, ◌⊎◌, All, Some, None, ◌^◌}
 use Rattle.std.specs.List.{enumerate_from, prefix_len, suffix_len}
-use Rattle.std.proofs.lemmas.Bool.{eqb-true, eqb-false, eq-eqb, and_parts, cases_lt, cases_order, not-true, or_cases, false≢true}
-use Rattle.std.proofs.lemmas.List.{append-nil, get_or_default, reverse-append, append_cancel_left, take-append-drop, drop_more, length-take, length-take-le, take_rest}
+use Rattle.std.proofs.lemmas.Bool.{eqb-true, eq-eqb, and_parts, cases_lt, cases_order, not-true, or_cases, false≢true}
+use Rattle.std.proofs.lemmas.List.{append-nil, get_or_default, reverse-append, take-append-drop, drop_more, length-take}
 use Rattle.std.proofs.lemmas.List.Elements.{filter-append}
 use Rattle.hpf_base.specs.Refusal.{IsFirstBreach, NoBreach, number_of}
 use Rattle.hpf_base.specs.declared.refusal.Reason.{Reason}
 use Rattle.hpf_base.specs.declared.refusal.Reason.TheVariants.{BadLine, NotAStatement, BadNest, BadName, BadRank, BadDirective, BadSubscript, BadIndependent, BadArrangement, Limit, LeftOut, BadConstant}
-use Rattle.source_lines.specs.declared.rows.RowKind.{RowKind}
-use Rattle.source_lines.specs.declared.rows.RowKind.TheVariants.{Passed, Statement, Directive}
+use Rattle.source_lines.specs.declared.rows.RowKind.TheVariants.{Passed, Statement}
 use Rattle.source_lines.specs.Rows.{Row, physical_lines, row_of, rows_of}
 use Rattle.source_lines.specs.Breaches.{goes_on, is_continued, is_passed, meets, standing, IsBreachAt, IsBreachIn, IsLeastReasonAt}
 
@@ -44,10 +43,11 @@ pub clear_more : (rows before : List Row) (row : Row) (after : List Row) → row
     → ((reason : Reason) → IsBreachAt before row after reason → ⊥) → IsClear rows (length before + 1)
 clear_more rows before row after whole clear none b r a reason whole' within why =
     elim (cases_order (length b) (length before)) [
-      inl same ↦
-        let s = same_parts b before r row a after (sym whole' ∙ whole) same in
-        none reason (subst (λ (x : List Row). IsBreachAt x row after reason) s.0 (subst (λ (x : Row). IsBreachAt b x after reason) s.1 (subst (λ (x : List Row). IsBreachAt b r x reason) s.2 why)))
-    | inr other ↦ elim other [ inl below ↦ clear b r a reason whole' below why | inr above ↦ absurd (omega arith) ] ]
+      | inl same ↦
+          let s = same_parts b before r row a after (sym whole' ∙ whole) same in
+          none reason (subst (λ (x : List Row). IsBreachAt x row after reason) s.0 (subst (λ (x : Row). IsBreachAt b x after reason) s.1 (subst (λ (x : List Row). IsBreachAt b r x reason) s.2 why)))
+      | inr other ↦ elim other [ inl below ↦ clear b r a reason whole' below why | inr above ↦ absurd (omega arith) ]
+    ]
 
 -- where no line is a breach, the lines have none
 pub clear_all : (rows : List Row) → IsClear rows (length rows) → NoBreach (IsBreachIn rows)
@@ -65,11 +65,12 @@ parted (x ∷ xs) (suc n) within =
 pub clear_few : (rows : List Row) (n : ℕ) → IsNumbered rows → IsClear rows n → n ≤ length rows → n ≤ 20000
 clear_few rows n numbered clear within =
     elim (cases_lt 20000 n) [
-      inl far ↦
-        let p = parted rows 20000 (omega arith) in
-        let at : p.x.number ≡ 20001 = numbered p.before p.x p.after p.whole ∙ ap (λ (k : ℕ). k + 1) p.long in
-        absurd (clear p.before p.x p.after Limit p.whole (omega (arith, p.long)) (inl at))
-    | inr near ↦ near ]
+      | inl far ↦
+          let p = parted rows 20000 (omega arith) in
+          let at : p.x.number ≡ 20001 = numbered p.before p.x p.after p.whole ∙ ap (λ (k : ℕ). k + 1) p.long in
+          absurd (clear p.before p.x p.after Limit p.whole (omega (arith, p.long)) (inl at))
+      | inr near ↦ near
+    ]
 
 -- the first line that is a breach, by the least of its reasons, is the first breach
 pub first_found : (rows before : List Row) (row : Row) (after : List Row) (line : ℕ) (reason : Reason) → rows ≡ before ++ row ∷ after → IsNumbered rows → IsClear rows (length before)
@@ -78,16 +79,18 @@ pub first_found : (rows before : List Row) (row : Row) (after : List Row) (line 
 first_found rows before row after line reason whole numbered clear is why least = record {
   stands = record { before = before; row = row; after = after; whole = whole; numbered = is; why = why };
   first = λ line' reason' b.
-    elim (cases_order (length b.before) (length before)) [
-      inl same ↦
-        let s = same_parts b.before before b.row row b.after after (sym b.whole ∙ whole) same in
-        let why' : IsBreachAt before row after reason' =
-        subst (λ (x : List Row). IsBreachAt x row after reason') s.0 (subst (λ (x : Row). IsBreachAt b.before x after reason') s.1 (subst (λ (x : List Row). IsBreachAt b.before b.row x reason') s.2 b.why)) in
-        inr (is ∙ sym (b.numbered ∙ ap (λ (r : Row). r.number) s.1), least reason' why')
-    | inr other ↦ elim other [
-        inl below ↦ absurd (clear b.before b.row b.after reason' b.whole below b.why)
-      | inr above ↦
-        inl (omega (arith, is, b.numbered, numbered before row after whole, numbered b.before b.row b.after b.whole)) ] ];
+      elim (cases_order (length b.before) (length before)) [
+        | inl same ↦
+            let s = same_parts b.before before b.row row b.after after (sym b.whole ∙ whole) same in
+            let why' : IsBreachAt before row after reason' =
+            subst (λ (x : List Row). IsBreachAt x row after reason') s.0 (subst (λ (x : Row). IsBreachAt b.before x after reason') s.1 (subst (λ (x : List Row). IsBreachAt b.before b.row x reason') s.2 b.why)) in
+            inr (is ∙ sym (b.numbered ∙ ap (λ (r : Row). r.number) s.1), least reason' why')
+        | inr other ↦ elim other [
+          | inl below ↦ absurd (clear b.before b.row b.after reason' b.whole below b.why)
+          | inr above ↦
+              inl (omega (arith, is, b.numbered, numbered before row after whole, numbered b.before b.row b.after b.whole))
+        ]
+      ];
 }
 
 suffix_len_push : {A : Type 0} (p : A → Bool) (xs : List A) (x : A) → suffix_len p (xs ++ x ∷ []) ≡ cond (p x) (1 + suffix_len p xs) 0
@@ -150,10 +153,11 @@ module _ (before : List Row) (row : Row) (after : List Row) where
     limit_is : ((row.number == 20001) || (not (is_passed row.kind) && (n == 40))) ≡ true → IsBreachAt before row after Limit
     limit_is e =
         elim (or_cases (row.number == 20001) (not (is_passed row.kind) && (n == 40)) e) [
-          inl last ↦ inl (eqb-true row.number 20001 last)
-        | inr many ↦
-            let p = and_parts (not (is_passed row.kind)) (n == 40) many in
-            inr (not-true (is_passed row.kind) p.0, sym counted ∙ eqb-true n 40 p.1) ]
+          | inl last ↦ inl (eqb-true row.number 20001 last)
+          | inr many ↦
+              let p = and_parts (not (is_passed row.kind)) (n == 40) many in
+              inr (not-true (is_passed row.kind) p.0, sym counted ∙ eqb-true n 40 p.1)
+        ]
 
     pub limit_least : (row.bad || (is_continued row && not (goes_on row.kind after))) ≡ false → ((row.number == 20001) || (not (is_passed row.kind) && (n == 40))) ≡ true
         → IsLeastReasonAt before row after (Some Limit)
@@ -162,8 +166,9 @@ module _ (before : List Row) (row : Row) (after : List Row) where
     limit_not : ((row.number == 20001) || (not (is_passed row.kind) && (n == 40))) ≡ false → IsBreachAt before row after Limit → ⊥
     limit_not e why =
         elim why [
-          inl last ↦ false≢true (sym e ∙ rw (eq-eqb row.number 20001 last) refl)
-        | inr many ↦ false≢true (sym e ∙ rw (many.0, eq-eqb n 40 (counted ∙ many.1)) (or_true (row.number == 20001))) ]
+          | inl last ↦ false≢true (sym e ∙ rw (eq-eqb row.number 20001 last) refl)
+          | inr many ↦ false≢true (sym e ∙ rw (many.0, eq-eqb n 40 (counted ∙ many.1)) (or_true (row.number == 20001)))
+        ]
 
     pub none_least : (row.bad || (is_continued row && not (goes_on row.kind after))) ≡ false → ((row.number == 20001) || (not (is_passed row.kind) && (n == 40))) ≡ false
         → IsLeastReasonAt before row after None
@@ -197,6 +202,6 @@ number_few rows i row numbered clear within at =
 pub fine_numbers : (rows : List Row) → IsNumbered rows → NoBreach (IsBreachIn rows) → All (λ row. row.number < 2 ^ 32) rows
 fine_numbers rows numbered fine k d within =
     let few = number_few rows k (get_or rows k d) numbered
-        (λ before row after reason whole _ why. fine row.number reason (record { before = before; row = row; after = after; whole = whole; numbered = refl; why = why }))
-        within (get_or_default rows k d (get_or rows k d) within) in
+    (λ before row after reason whole _ why. fine row.number reason (record { before = before; row = row; after = after; whole = whole; numbered = refl; why = why }))
+    within (get_or_default rows k d (get_or rows k d) within) in
     omega (arith, few)

@@ -1,8 +1,8 @@
-use Rattle.std.proofs.Common.{◌≡◌, ◌<◌, ◌^◌, List, refl, sym, subst, ◌∙◌}
+use Rattle.std.proofs.Common.{◌<◌, ◌^◌, sym, subst, ◌∙◌}
 use Rattle.std.specs.Prelude.{All, not}
 use Rattle.std.proofs.lemmas.List.Elements.{All-filter}
 use Rattle.hpf_base.specs.Refusal.{IsFirstBreach, NoBreach}
-use Rattle.source_lines.specs.Rows.{Row, rows_of}
+use Rattle.source_lines.specs.Rows.{Row}
 use Rattle.source_lines.specs.Breaches.{IsBreachIn, is_passed}
 use Rattle.source_lines.proofs.BreachLaws.{fine_numbers, rows_numbered}
 use Rattle.source_lines.proofs.text.logical_lines.Goals as goal
