@@ -198,10 +198,15 @@ number_few rows i row numbered clear within at =
     let few : i ≤ 20000 = clear_few rows i numbered clear (omega arith) in
     omega (arith, few, length-take i rows, numbered (take i rows) row (drop (i + 1) rows) (parted_at rows i row within at))
 
--- where the lines have no breach, each has a small number
+-- where lines have no breach, none of them is one
+pub fine_clear : (rows : List Row) → NoBreach (IsBreachIn rows) → IsClear rows (length rows)
+fine_clear rows fine before row after reason whole within why =
+    fine row.number reason (record { before = before; row = row; after = after; whole = whole; numbered = refl; why = why })
+
+-- where lines have no breach, each has a small number
 pub fine_numbers : (rows : List Row) → IsNumbered rows → NoBreach (IsBreachIn rows) → All (λ row. row.number < 2 ^ 32) rows
 fine_numbers rows numbered fine k d within =
     let few = number_few rows k (get_or rows k d) numbered
-    (λ before row after reason whole _ why. fine row.number reason (record { before = before; row = row; after = after; whole = whole; numbered = refl; why = why }))
+    (λ before row after reason whole below why. fine_clear rows fine before row after reason whole (omega arith) why)
     within (get_or_default rows k d (get_or rows k d) within) in
     omega (arith, few)

@@ -3,3 +3,4 @@ pub mod PartLaws
 pub mod BreachLaws
 pub mod LineLaws
 pub mod GroupLaws
+pub mod ShortLaws

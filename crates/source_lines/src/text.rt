@@ -26,6 +26,7 @@ use std::alloc::Global;
 /// `Memory` comes only where a growth was refused.
 pub fn logical_lines(alloc: Global, text: &[u8]) -> Result<Vec<LogicalLine>, StaticError>
     ensures lines { IfOk result (λ lines. lines.items ≡ logical_lines text.now) }
+    ensures short { IfOk result (λ lines. All (λ line. length line.bytes < 2 ^ 32) lines.items) }
     ensures fine { OnOk result (NoBreach (IsLineBreach text.now)) }
     ensures refused { IfErr result (IsRefusalBy (IsLineBreach text.now)) }
 {
