@@ -1,16 +1,15 @@
 -- The first breach among lines, and what the lines before it aren't.
-use Rattle.std.proofs.Common.{◌≡◌, ℕ, zero, suc, ◌+◌, ◌<◌, ◌≤◌, Bool, true, false, cond, List, [], ◌∷◌, ◌++◌, length, take, drop, get_or, map, refl, sym, ap, subst, ◌∙◌, inl, inr, arith, add_comm, length-append, lit≤}
-use Rattle.std.specs.Prelude.{◌==◌, not, ◌&&◌, ◌||◌, ◌⊎◌, All, Some, None, ◌^◌}
-use Rattle.std.specs.List.{enumerate_from, prefix_len, suffix_len}
-use Rattle.std.proofs.lemmas.Bool.{eqb-true, eq-eqb, and_parts, cases_lt, cases_order, not-true, or_cases, false≢true}
-use Rattle.std.proofs.lemmas.List.{append-nil, get_or_default, reverse-append, take-append-drop, drop_more, length-take}
-use Rattle.std.proofs.lemmas.List.Elements.{filter-append}
+use Rattle.std.proofs.Common.{◌≡◌, ℕ, zero, suc, ◌+◌, ◌<◌, ◌≤◌, List, [], ◌∷◌, ◌++◌, length, take, drop, get_or, map, refl, sym, ap, subst, ◌∙◌, inl, inr, arith, add_comm}
+use Rattle.std.specs.Prelude.{All, ◌^◌}
+use Rattle.std.specs.List.{enumerate_from}
+use Rattle.std.proofs.lemmas.Bool.{cases_lt, cases_order}
+use Rattle.std.proofs.lemmas.List.{get_or_default, take-append-drop, drop_more, length-take}
 use Rattle.hpf_base.specs.Refusal.{IsFirstBreach, NoBreach, number_of}
 use Rattle.hpf_base.specs.declared.refusal.Reason.{Reason}
-use Rattle.hpf_base.specs.declared.refusal.Reason.TheVariants.{BadLine, NotAStatement, BadNest, BadName, BadRank, BadDirective, BadSubscript, BadIndependent, BadArrangement, Limit, LeftOut, BadConstant}
+use Rattle.hpf_base.specs.declared.refusal.Reason.TheVariants.{Limit}
 use Rattle.source_lines.specs.declared.rows.RowKind.TheVariants.{Passed, Statement}
 use Rattle.source_lines.specs.Rows.{Row, physical_lines, row_of, rows_of}
-use Rattle.source_lines.specs.Breaches.{goes_on, is_continued, is_passed, meets, standing, IsBreachAt, IsBreachIn, IsLeastReasonAt}
+use Rattle.source_lines.specs.Breaches.{goes_on, meets, IsBreachAt, IsBreachIn}
 
 -- a passed line goes on as a statement does
 pub goes_on_passed : (rows : List Row) → goes_on Passed rows ≡ goes_on Statement rows
@@ -37,22 +36,6 @@ same_parts (y ∷ before) (y' ∷ before') x x' after after' e l =
     let tail : before ++ x ∷ after ≡ before' ++ x' ∷ after' = cc in
     let s = same_parts before before' x x' after after' tail (omega arith) in
     (cc (s.0, head), s.1, s.2)
-
--- one line more that is no breach
-pub clear_more : (rows before : List Row) (row : Row) (after : List Row) → rows ≡ before ++ row ∷ after → IsClear rows (length before)
-    → ((reason : Reason) → IsBreachAt before row after reason → ⊥) → IsClear rows (length before + 1)
-clear_more rows before row after whole clear none b r a reason whole' within why =
-    elim (cases_order (length b) (length before)) [
-      | inl same ↦
-          let s = same_parts b before r row a after (sym whole' ∙ whole) same in
-          none reason (subst (λ (x : List Row). IsBreachAt x row after reason) s.0 (subst (λ (x : Row). IsBreachAt b x after reason) s.1 (subst (λ (x : List Row). IsBreachAt b r x reason) s.2 why)))
-      | inr other ↦ elim other [ inl below ↦ clear b r a reason whole' below why | inr above ↦ absurd (omega arith) ]
-    ]
-
--- where no line is a breach, the lines have none
-pub clear_all : (rows : List Row) → IsClear rows (length rows) → NoBreach (IsBreachIn rows)
-clear_all rows clear line reason b =
-    clear b.before b.row b.after reason b.whole (omega (arith, ap length b.whole, length-append b.before (b.row ∷ b.after))) b.why
 
 parted : {A : Type 0} (xs : List A) (n : ℕ) → n < length xs → record { before : List A; x : A; after : List A; whole : xs ≡ before ++ x ∷ after; long : length before ≡ n }
 parted [] n within = absurd (omega arith)
@@ -92,87 +75,6 @@ first_found rows before row after line reason whole numbered clear is why least 
         ]
       ];
 }
-
-suffix_len_push : {A : Type 0} (p : A → Bool) (xs : List A) (x : A) → suffix_len p (xs ++ x ∷ []) ≡ cond (p x) (1 + suffix_len p xs) 0
-suffix_len_push p xs x = ap (prefix_len p) (reverse-append xs (x ∷ []))
-
--- how many lines in a row are continued up to this one
-abbrev pub count_with : Row → ℕ → ℕ
-count_with row n = cond (is_passed row.kind) n (cond (is_continued row) (n + 1) 0)
-
-pub count_more : (before : List Row) (row : Row) → suffix_len is_continued (standing (before ++ row ∷ [])) ≡ count_with row (suffix_len is_continued (standing before))
-count_more before row = ap (suffix_len is_continued) (filter-append (λ r. not (is_passed r.kind)) before (row ∷ [])) ∙ step (is_passed row.kind)
-  where
-    step : (passed : Bool) → suffix_len is_continued (standing before ++ cond (not passed) (row ∷ []) []) ≡ cond passed (suffix_len is_continued (standing before)) (cond (is_continued row) (suffix_len is_continued (standing before) + 1) 0)
-    step true = ap (suffix_len is_continued) (append-nil (standing before))
-    step false = suffix_len_push is_continued (standing before) row ∙ ap (λ (n : ℕ). cond (is_continued row) n 0) (add_comm 1 (suffix_len is_continued (standing before)))
-
-either_is : (a b c : Bool) → (a || (b && not c)) ≡ true → (a ≡ true) ⊎ ((b ≡ true) × (c ≡ false))
-either_is true b c e = inl refl
-either_is false true false e = inr (refl, refl)
-either_is false true true e = absurd (false≢true e)
-either_is false false c e = absurd (false≢true e)
-
-either_not : (a b c : Bool) → (a || (b && not c)) ≡ false → (a ≡ true) ⊎ ((b ≡ true) × (c ≡ false)) → ⊥
-either_not true b c e is = false≢true (sym e)
-either_not false true true e is = elim is [ inl a ↦ false≢true a | inr bc ↦ false≢true (sym bc.1) ]
-either_not false true false e is = false≢true (sym e)
-either_not false false c e is = elim is [ inl a ↦ false≢true a | inr bc ↦ false≢true bc.0 ]
-
-some_number : (reason : Reason) → 1 ≤ number_of reason
-some_number BadLine = lit≤ tt
-some_number NotAStatement = lit≤ tt
-some_number BadNest = lit≤ tt
-some_number BadName = lit≤ tt
-some_number BadRank = lit≤ tt
-some_number BadDirective = lit≤ tt
-some_number BadSubscript = lit≤ tt
-some_number BadIndependent = lit≤ tt
-some_number BadArrangement = lit≤ tt
-some_number Limit = lit≤ tt
-some_number LeftOut = lit≤ tt
-some_number BadConstant = lit≤ tt
-
-or_true : (b : Bool) → (b || true) ≡ true
-or_true true = refl
-or_true false = refl
-
-module _ (before : List Row) (row : Row) (after : List Row) where
-  pub bad_least : (row.bad || (is_continued row && not (goes_on row.kind after))) ≡ true → IsLeastReasonAt before row after (Some BadLine)
-  bad_least e = (either_is row.bad (is_continued row) (goes_on row.kind after) e, λ other why. some_number other)
-
-  not_bad : (row.bad || (is_continued row && not (goes_on row.kind after))) ≡ false → IsBreachAt before row after BadLine → ⊥
-  not_bad e why = either_not row.bad (is_continued row) (goes_on row.kind after) e why
-
-  limit_only : (IsBreachAt before row after BadLine → ⊥) → (other : Reason) → IsBreachAt before row after other → other ≡ Limit
-  limit_only fine BadLine why = absurd (fine why)
-  limit_only fine Limit why = refl
-  limit_only fine other why = absurd why
-
-  module _ (n : ℕ) (counted : n ≡ suffix_len is_continued (standing before)) where
-    limit_is : ((row.number == 20001) || (not (is_passed row.kind) && (n == 40))) ≡ true → IsBreachAt before row after Limit
-    limit_is e =
-        elim (or_cases (row.number == 20001) (not (is_passed row.kind) && (n == 40)) e) [
-          | inl last ↦ inl (eqb-true row.number 20001 last)
-          | inr many ↦
-              let p = and_parts (not (is_passed row.kind)) (n == 40) many in
-              inr (not-true (is_passed row.kind) p.0, sym counted ∙ eqb-true n 40 p.1)
-        ]
-
-    pub limit_least : (row.bad || (is_continued row && not (goes_on row.kind after))) ≡ false → ((row.number == 20001) || (not (is_passed row.kind) && (n == 40))) ≡ true
-        → IsLeastReasonAt before row after (Some Limit)
-    limit_least fine e = (limit_is e, λ other why. let s = limit_only (not_bad fine) other why in rw s (omega arith))
-
-    limit_not : ((row.number == 20001) || (not (is_passed row.kind) && (n == 40))) ≡ false → IsBreachAt before row after Limit → ⊥
-    limit_not e why =
-        elim why [
-          | inl last ↦ false≢true (sym e ∙ rw (eq-eqb row.number 20001 last) refl)
-          | inr many ↦ false≢true (sym e ∙ rw (many.0, eq-eqb n 40 (counted ∙ many.1)) (or_true (row.number == 20001)))
-        ]
-
-    pub none_least : (row.bad || (is_continued row && not (goes_on row.kind after))) ≡ false → ((row.number == 20001) || (not (is_passed row.kind) && (n == 40))) ≡ false
-        → IsLeastReasonAt before row after None
-    none_least fine e reason why = limit_not e (let s = limit_only (not_bad fine) reason why in subst (IsBreachAt before row after) s why)
 
 -- a list around an element
 pub parted_at : {A : Type 0} (xs : List A) (i : ℕ) (x : A) → i < length xs → x ≡ get_or xs i x → xs ≡ take i xs ++ x ∷ drop (i + 1) xs

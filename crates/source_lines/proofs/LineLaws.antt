@@ -48,10 +48,6 @@ between-part b bytes e = step (first_part (b ∷ bytes)) (first_part-some b byte
     step zero some cuts = absurd (omega arith)
     step (suc n) some cuts = ap together cuts ∙ rw e refl
 
--- a `;` ends the first statement
-pub between-semicolon : (bytes : List ℕ) → between_semicolons (59 ∷ bytes) ≡ [] ∷ between_semicolons bytes
-between-semicolon bytes = refl
-
 between-here : (bytes : List ℕ) (b : ℕ) (more : List ℕ) (n : ℕ) → bytes ≡ b ∷ more → (b ≡ 59 → ⊥) → n ≡ first_part bytes
     → between_semicolons bytes ≡ with_part (take n bytes) (between_semicolons (drop n bytes))
 between-here bytes b more n is other part =
