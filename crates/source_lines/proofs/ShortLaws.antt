@@ -1,11 +1,10 @@
 -- How long logical lines are.
-use Rattle.std.proofs.Common.{◌≡◌, ℕ, zero, suc, ◌+◌, ◌-◌, ◌*◌, ◌^◌, ◌<◌, ◌≤◌, Bool, true, false, cond, List, [], ◌∷◌, ◌++◌, length, take, drop, get_or, map, refl, sym, ap, subst, inl, arith}
+use Rattle.std.proofs.Common.{◌≡◌, ℕ, zero, suc, ◌+◌, ◌-◌, ◌*◌, ◌<◌, ◌≤◌, Bool, true, false, cond, List, [], ◌∷◌, ◌++◌, length, take, drop, get_or, map, refl, sym, ap, subst, inl, arith}
 use Rattle.std.specs.Prelude.{All, filter, bytes_eq, if◌then◌else◌, nat_eq, nat_lt, not, ◌||◌}
 use Rattle.std.specs.List.{concat, enumerate_from, flat_map, join_with_byte, prefix_len, list_all, list_any, starts_with}
 use Rattle.std.proofs.lemmas.Bool.{ltb-false, false≢true}
 use Rattle.std.proofs.lemmas.List.{length-take, length-drop, length-append, get_or_default}
-use Rattle.std.proofs.lemmas.List.Elements.{All-append, All-cons, All-filter, All-head, All-map, All-nil, All-tail, All-take, All-weaker}
-use Rattle.std.proofs.lemmas.List.Sums.{count_by-le-length, length-filter}
+use Rattle.std.proofs.lemmas.List.Elements.{All-append, All-cons, All-filter, All-head, All-map, All-nil, All-tail, All-take}
 use Rattle.hpf_base.specs.Refusal.{NoBreach}
 use Rattle.hpf_base.specs.declared.refusal.Reason.TheVariants.{BadLine}
 use Rattle.source_lines.specs.declared.line.LogicalLine.{LogicalLine}
@@ -16,7 +15,8 @@ use Rattle.source_lines.specs.Cut.{cut, cut_behind}
 use Rattle.source_lines.specs.Rows.{Row, code_of, content, first_part, is_bad, is_bad_part, is_comment, is_blank, is_directive, is_lone_ampersand, parts, physical_lines, row_of, rows_of, without_blanks, without_blanks_behind}
 use Rattle.source_lines.specs.Lines.{between_semicolons, body, continuing_body, groups, joined, lines_in, lines_of_group, lines_of_kind, logical_line, logical_lines, statements, together, with_part}
 use Rattle.source_lines.specs.Breaches.{is_continued, is_passed, standing, IsLineBreach}
-use Rattle.source_lines.proofs.BreachLaws.{IsClear, clear_few, fine_clear, parted_at, rows_numbered}
+use Rattle.source_lines.proofs.BreachLaws.{IsClear, fine_clear, parted_at}
+use Rattle.source_lines.proofs.ContinuationLaws.{groups_few}
 use Rattle.source_lines.proofs.Cuts.{concat-cut}
 
 length-concat-filter : (p : List ℕ → Bool) (lists : List (List ℕ)) → length (concat (filter p lists)) ≤ length (concat lists)
@@ -82,18 +82,13 @@ false_if : (t : Bool) → (t ≡ true → ⊥) → t ≡ false
 false_if true h = absurd (h refl)
 false_if false h = refl
 
--- where a text has no breach, its lines are short and few
-fine_rows : (text : List ℕ) → NoBreach (IsLineBreach text) → All IsShort (rows_of text) × (length (rows_of text) ≤ 20000)
-fine_rows text fine =
-    let rows = rows_of text in
-    let clear : IsClear (rows_of text) (length (rows_of text)) = fine_clear (rows_of text) fine in (
-      λ k d lt.
-          let row = get_or (rows_of text) k d in
-          let whole = parted_at (rows_of text) k row lt (get_or_default (rows_of text) k d row lt) in
-          let front : length (take k (rows_of text)) < length (rows_of text) = omega (arith, length-take k (rows_of text), lt) in
-          sound_rows text k d lt (false_if row.bad (λ bad. clear (take k (rows_of text)) row (drop (k + 1) (rows_of text)) BadLine whole front (inl bad))),
-      clear_few (rows_of text) (length (rows_of text)) (rows_numbered (rows_of text) (text, refl)) clear (omega arith),
-    )
+-- where a text has no breach, its lines are short
+fine_rows : (text : List ℕ) → IsClear (rows_of text) (length (rows_of text)) → All IsShort (rows_of text)
+fine_rows text clear k d lt =
+    let row = get_or (rows_of text) k d in
+    let whole = parted_at (rows_of text) k row lt (get_or_default (rows_of text) k d row lt) in
+    let front : length (take k (rows_of text)) < length (rows_of text) = omega (arith, length-take k (rows_of text), lt) in
+    sound_rows text k d lt (false_if row.bad (λ bad. clear (take k (rows_of text)) row (drop (k + 1) (rows_of text)) BadLine whole front (inl bad)))
 
 -- lists of at most so many elements
 abbrev AreWithin : ℕ → List (List ℕ) → Type 0
@@ -121,46 +116,43 @@ statements-within bytes =
     All-filter (λ statement. not (list_all is_blank statement)) (λ (list : List ℕ). length list ≤ length bytes) (between_semicolons bytes)
     (subst (λ n. AreWithin n (between_semicolons bytes)) (ap length (concat-cut first_part bytes)) (together-within (cut first_part bytes)))
 
--- a logical line of less than 2 ^ 32 bytes
+-- a logical line of no more bytes than forty lines have, a blank behind each
 abbrev IsShortLine : LogicalLine → Type 0
-IsShortLine line = length line.bytes < 2 ^ 32
+IsShortLine line = length line.bytes ≤ 40 * 133
 
-lines_of_kind-short : (kind : RowKind) (number : ℕ) (bytes : List ℕ) → length bytes < 2 ^ 32 → All IsShortLine (lines_of_kind kind number bytes)
+lines_of_kind-short : (kind : RowKind) (number : ℕ) (bytes : List ℕ) → length bytes ≤ 40 * 133 → All IsShortLine (lines_of_kind kind number bytes)
 lines_of_kind-short Directive number bytes short = All-cons IsShortLine (logical_line number line.Directive bytes) [] short (All-nil IsShortLine)
 lines_of_kind-short kind number bytes short =
     All-map IsShortLine (logical_line number line.Statement) (statements bytes)
     (λ k d lt. let at : length (get_or (statements bytes) k d) ≤ length bytes = statements-within bytes k d lt in omega (arith, at, short))
 
--- a group of fewer lines than a text may have, which are short
-abbrev IsShortGroup : List Row → Type 0
-IsShortGroup rows = All IsShort rows × (length rows ≤ 20000)
+lines_of_group-short : (rows : List Row) → All IsShort rows → length rows ≤ 40 → All IsShortLine (lines_of_group rows)
+lines_of_group-short [] short few = All-nil IsShortLine
+lines_of_group-short (row ∷ rows) short few =
+    lines_of_kind-short row.kind row.number (joined row rows) (omega (arith, joined-within row rows short, few))
 
-lines_of_group-short : (rows : List Row) → IsShortGroup rows → All IsShortLine (lines_of_group rows)
-lines_of_group-short [] short = All-nil IsShortLine
-lines_of_group-short (row ∷ rows) short =
-    lines_of_kind-short row.kind row.number (joined row rows) (omega (arith, joined-within row rows short.0, short.1))
-
-groups_behind-short : (first : List Row → ℕ) (rows : List Row) (skipped : ℕ) → IsShortGroup rows → All IsShortGroup (cut_behind first rows skipped)
-groups_behind-short first [] skipped short = All-nil IsShortGroup
+groups_behind-short : (first : List Row → ℕ) (rows : List Row) (skipped : ℕ) → All IsShort rows → All (All IsShort) (cut_behind first rows skipped)
+groups_behind-short first [] skipped short = All-nil (All IsShort)
 groups_behind-short first (row ∷ rows) zero short =
-    let rest : All IsShort rows = All-tail IsShort row rows short.0 in
+    let rest : All IsShort rows = All-tail IsShort row rows short in
     let taken = take (first (row ∷ rows) - 1) rows in
-    All-cons IsShortGroup (row ∷ taken) (cut_behind first rows (first (row ∷ rows) - 1))
-    (All-cons IsShort row taken (All-head IsShort row rows short.0) (All-take IsShort (first (row ∷ rows) - 1) rows rest), omega (arith, short.1, length-take (first (row ∷ rows) - 1) rows))
-    (groups_behind-short first rows (first (row ∷ rows) - 1) (rest, omega (arith, short.1)))
-groups_behind-short first (row ∷ rows) (suc skipped) short = groups_behind-short first rows skipped (All-tail IsShort row rows short.0, omega (arith, short.1))
+    All-cons (All IsShort) (row ∷ taken) (cut_behind first rows (first (row ∷ rows) - 1))
+    (All-cons IsShort row taken (All-head IsShort row rows short) (All-take IsShort (first (row ∷ rows) - 1) rows rest)) (groups_behind-short first rows (first (row ∷ rows) - 1) rest)
+groups_behind-short first (row ∷ rows) (suc skipped) short = groups_behind-short first rows skipped (All-tail IsShort row rows short)
 
 all_flat : {A B : Type 0} (P : B → Type 0) (f : A → List B) (xs : List A) → All (λ x. All P (f x)) xs → All P (flat_map f xs)
 all_flat P f [] all = All-nil P
 all_flat P f (x ∷ xs) all =
     All-append P (f x) (flat_map f xs) (All-head (λ x. All P (f x)) x xs all) (all_flat P f xs (All-tail (λ x. All P (f x)) x xs all))
 
-lines_in-short : (rows : List Row) → IsShortGroup rows → All IsShortLine (lines_in rows)
-lines_in-short rows short =
-    let here : IsShortGroup (standing rows) = (All-filter (λ row. not (is_passed row.kind)) IsShort rows short.0, omega (arith, length-filter (λ row. not (is_passed row.kind)) rows, count_by-le-length (λ row. not (is_passed row.kind)) rows, short.1)) in
+lines_in-short : (rows : List Row) → All IsShort rows → IsClear rows (length rows) → All IsShortLine (lines_in rows)
+lines_in-short rows short clear =
+    let here : All IsShort (standing rows) = All-filter (λ row. not (is_passed row.kind)) IsShort rows short in
     all_flat IsShortLine lines_of_group (groups (standing rows))
-    (All-weaker IsShortGroup (λ group. All IsShortLine (lines_of_group group)) lines_of_group-short (groups (standing rows)) (groups_behind-short (λ rest. prefix_len is_continued rest + 1) (standing rows) 0 here))
+    (λ k d lt. lines_of_group-short (get_or (groups (standing rows)) k d) (groups_behind-short (λ rest. prefix_len is_continued rest + 1) (standing rows) 0 here k d lt) (groups_few rows clear k d lt))
 
 -- where a text has no breach, its logical lines are short
-pub lines_short : (text : List ℕ) → NoBreach (IsLineBreach text) → All (λ line. length line.bytes < 2 ^ 32) (logical_lines text)
-lines_short text fine = lines_in-short (rows_of text) (fine_rows text fine)
+pub lines_short : (text : List ℕ) → NoBreach (IsLineBreach text) → All (λ line. length line.bytes ≤ 40 * 133) (logical_lines text)
+lines_short text fine =
+    let clear = fine_clear (rows_of text) fine in
+    lines_in-short (rows_of text) (fine_rows text clear) clear

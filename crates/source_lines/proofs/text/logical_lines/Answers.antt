@@ -1,4 +1,4 @@
-use Rattle.std.proofs.Common.{◌≡◌, ◌<◌, ◌^◌, length, ap, sym, subst, ◌∙◌}
+use Rattle.std.proofs.Common.{◌≡◌, ◌*◌, ◌<◌, ◌≤◌, ◌^◌, length, ap, sym, subst, ◌∙◌}
 use Rattle.std.specs.Prelude.{All, not}
 use Rattle.std.proofs.lemmas.List.Elements.{All-filter}
 use Rattle.hpf_base.specs.Refusal.{IsFirstBreach, NoBreach}
@@ -32,4 +32,4 @@ returns-in-Ok-lines_in-clause-short c =
     let fine = subst (λ rows. NoBreach (IsBreachIn rows)) (c.deref.ensures.value ∙ c.in-Ok.ensures) c.in_default-first_breach.ensures in
     let same : c.in-Ok-lines_in.lines.items ≡ logical_lines c.args.text.now =
     c.in-Ok-lines_in.ensures ∙ ap (λ rows. flat_map lines_of_group (groups rows)) (c.deref-2.ensures.value ∙ c.standing.ensures ∙ ap standing c.in-Ok.ensures) in
-    subst (All (λ line. length line.bytes < 2 ^ 32)) (sym same) (lines_short c.args.text.now fine)
+    subst (All (λ line. length line.bytes ≤ 40 * 133)) (sym same) (lines_short c.args.text.now fine)
