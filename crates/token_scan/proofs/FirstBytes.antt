@@ -58,30 +58,38 @@ or_else-none (Some x) = refl
 pub kind_of-period : (bytes : List ℕ) → kind_of (46 ∷ bytes) ≡ option_map Dot (code_in dot_words (upper (46 ∷ bytes)))
 kind_of-period bytes = rw (no_symbol (λ b. b == 46) 46 bytes refl refl) (or_else-none _)
 
-delimiter_not-letter : (b : ℕ) → is_delimiter b ≡ true → is_ascii_alphabetic b ≡ false
+pub delimiter_not-letter : (b : ℕ) → is_delimiter b ≡ true → is_ascii_alphabetic b ≡ false
 delimiter_not-letter b h = grind (arith, nat_tests)
 
-delimiter_not-digit : (b : ℕ) → is_delimiter b ≡ true → is_ascii_digit b ≡ false
+pub delimiter_not-digit : (b : ℕ) → is_delimiter b ≡ true → is_ascii_digit b ≡ false
 delimiter_not-digit b h = grind (arith, nat_tests)
 
 delimiter_not-period : (b : ℕ) → is_delimiter b ≡ true → (b == 46) ≡ false
 delimiter_not-period b h = grind (arith, nat_tests)
 
+pub delimiter_not-blank : (b : ℕ) → is_delimiter b ≡ true → is_blank b ≡ false
+delimiter_not-blank b h = grind (arith, nat_tests)
+
 pub kind_of-delimiter : (b : ℕ) (bytes : List ℕ) → is_delimiter b ≡ true → kind_of (b ∷ bytes) ≡ option_map Text (characters b bytes)
 kind_of-delimiter b bytes h =
     rw (delimiter_not-letter b h, delimiter_not-digit b h, h, no_dot_word b bytes (delimiter_not-period b h), no_symbol is_delimiter b bytes refl h) (or_else-none _)
 
--- a byte that begins no token but a symbol
-abbrev pub is_other : ℕ → Bool
-is_other b = not (is_ascii_alphabetic b) && not (is_ascii_digit b) && not (is_delimiter b) && not (b == 46)
-
 pub kind_of-other : (b : ℕ) (bytes : List ℕ) → is_ascii_alphabetic b ≡ false → is_ascii_digit b ≡ false → is_delimiter b ≡ false → (b == 46) ≡ false
     → kind_of (b ∷ bytes) ≡ option_map Symbol (code_in symbols (b ∷ bytes))
-kind_of-other b bytes letter digit delimiter period =
-    rw (letter, digit, delimiter, no_dot_word b bytes period) refl
+kind_of-other b bytes letter digit delimiter period = rw (letter, digit, delimiter, no_dot_word b bytes period) refl
 
 blank_not-letter : (b : ℕ) → is_blank b ≡ true → is_ascii_alphabetic b ≡ false
 blank_not-letter b h = grind (arith, nat_tests)
 
+blank_not-digit : (b : ℕ) → is_blank b ≡ true → is_ascii_digit b ≡ false
+blank_not-digit b h = grind (arith, nat_tests)
+
+blank_not-delimiter : (b : ℕ) → is_blank b ≡ true → is_delimiter b ≡ false
+blank_not-delimiter b h = grind (arith, nat_tests)
+
+blank_not-period : (b : ℕ) → is_blank b ≡ true → (b == 46) ≡ false
+blank_not-period b h = grind (arith, nat_tests)
+
 pub kind_of-blank : (b : ℕ) (bytes : List ℕ) → is_blank b ≡ true → kind_of (b ∷ bytes) ≡ None
-kind_of-blank b bytes h = ?
+kind_of-blank b bytes h =
+    kind_of-other b bytes (blank_not-letter b h) (blank_not-digit b h) (blank_not-delimiter b h) (blank_not-period b h) ∙ ap (option_map Symbol) (no_symbol is_blank b bytes refl h)

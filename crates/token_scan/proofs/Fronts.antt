@@ -1,8 +1,8 @@
 -- How long the longest token at the front is, by which of the fronts are tokens.
-use Rattle.std.proofs.Common.{◌≡◌, ℕ, zero, suc, ◌+◌, ◌<◌, ◌≤◌, Bool, true, false, List, [], ◌∷◌, filter, length, take, Option, Some, None, is_some, refl, ap, ◌∙◌, arith}
+use Rattle.std.proofs.Common.{◌≡◌, ℕ, zero, suc, ◌+◌, ◌<◌, ◌≤◌, ◌⊎◌, Bool, true, false, List, [], ◌∷◌, filter, length, take, Option, Some, None, is_some, inl, inr, refl, ap, ◌∙◌, one-add, arith}
 use Rattle.std.specs.Prelude.{unwrap_or, nat_lt}
-use Rattle.std.proofs.lemmas.Bool.{ltb-true, ltb-false}
-use Rattle.std.specs.List.{last_or, range_with_len}
+use Rattle.std.proofs.lemmas.Bool.{and_from, ltb-true, ltb-false}
+use Rattle.std.specs.List.{last_or, list_all, prefix_len, range_with_len}
 use Rattle.token_scan.specs.Tokens.{kind_of, longest}
 
 -- no number passes the test
@@ -33,14 +33,73 @@ last_or-some test other from (suc count) n begins ends passes fails =
         let here : test from ≡ true = ap test same ∙ passes in
         rw here (last_or-none test (Some from) (from + 1) count (λ m h g. fails m (omega arith) (omega arith)) ∙ ap Some same)
 
-pub longest-some : (bytes : List ℕ) (n : ℕ) → 1 ≤ n → n ≤ length bytes → is_some (kind_of (take n bytes)) ≡ true
-    → ((m : ℕ) → n < m → m ≤ length bytes → is_some (kind_of (take m bytes)) ≡ false)
-    → longest bytes ≡ n
+-- a number from `from` on and before `end` that passes the test and is the last to do so
+abbrev IsLast : (ℕ → Bool) → Option ℕ → ℕ → ℕ → Type 0
+IsLast test last from end = (n : ℕ) × (last ≡ Some n) × (from ≤ n) × (n < end) × (test n ≡ true)
+
+-- no number passes the test, or one is the last
+last_or-either : (test : ℕ → Bool) (other : Option ℕ) (from count : ℕ)
+    → (last_or other (filter test (range_with_len from count)) ≡ other) ⊎ IsLast test (last_or other (filter test (range_with_len from count))) from (from + count)
+last_or-either test other from zero = inl refl
+last_or-either test other from (suc count) = step (test from) refl (λ (o : Option ℕ). last_or-either test o (from + 1) count)
+  where
+    step : (t : Bool) → test from ≡ t
+        → ((o : Option ℕ) → (last_or o (filter test (range_with_len (from + 1) count)) ≡ o) ⊎ IsLast test (last_or o (filter test (range_with_len (from + 1) count))) (from + 1) (from + 1 + count))
+        → (last_or other (filter test (range_with_len from (suc count))) ≡ other) ⊎ IsLast test (last_or other (filter test (range_with_len from (suc count)))) from (from + suc count)
+    step true e behind = rw e (inr (here (behind (Some from))))
+      where
+        here : (last_or (Some from) (filter test (range_with_len (from + 1) count)) ≡ Some from) ⊎ IsLast test (last_or (Some from) (filter test (range_with_len (from + 1) count))) (from + 1) (from + 1 + count) → IsLast test (last_or (Some from) (filter test (range_with_len (from + 1) count))) from (from + suc count)
+        here (inl is) = (from, is, omega arith, omega arith, e)
+        here (inr (n, is, begins, ends, passes)) = (n, is, omega arith, omega arith, passes)
+    step false e behind = rw e (later (behind other))
+      where
+        later : (last_or other (filter test (range_with_len (from + 1) count)) ≡ other) ⊎ IsLast test (last_or other (filter test (range_with_len (from + 1) count))) (from + 1) (from + 1 + count) → (last_or other (filter test (range_with_len (from + 1) count)) ≡ other) ⊎ IsLast test (last_or other (filter test (range_with_len (from + 1) count))) from (from + suc count)
+        later (inl is) = inl is
+        later (inr (n, is, begins, ends, passes)) = inr (n, is, omega arith, omega arith, passes)
+
+-- no front of more than so many bytes is a token
+abbrev pub NoneLonger : List ℕ → ℕ → Type 0
+NoneLonger bytes n = (m : ℕ) → n < m → m ≤ length bytes → is_some (kind_of (take m bytes)) ≡ false
+
+pub longest-some : (bytes : List ℕ) (n : ℕ) → 1 ≤ n → n ≤ length bytes → is_some (kind_of (take n bytes)) ≡ true → NoneLonger bytes n → longest bytes ≡ n
 longest-some bytes n begins ends passes fails =
     rw (last_or-some (λ m. is_some (kind_of (take m bytes))) None 1 (length bytes) n begins (omega arith) passes (λ m h g. fails m h (omega arith))) refl
 
-pub longest-none : (bytes : List ℕ)
-    → ((m : ℕ) → 1 ≤ m → m ≤ length bytes → is_some (kind_of (take m bytes)) ≡ false)
-    → longest bytes ≡ 0
+pub longest-none : (bytes : List ℕ) → NoneLonger bytes 0 → longest bytes ≡ 0
 longest-none bytes fails =
     rw (last_or-none (λ m. is_some (kind_of (take m bytes))) None 1 (length bytes) (λ m h g. fails m h (omega arith))) refl
+
+pub longest-either : (bytes : List ℕ) → (longest bytes ≡ 0) ⊎ ((1 ≤ longest bytes) × (longest bytes ≤ length bytes) × (is_some (kind_of (take (longest bytes) bytes)) ≡ true))
+longest-either bytes = step (last_or-either (λ m. is_some (kind_of (take m bytes))) None 1 (length bytes))
+  where
+    last : Option ℕ
+    last = last_or None (filter (λ m. is_some (kind_of (take m bytes))) (range_with_len 1 (length bytes)))
+    step : (last ≡ None) ⊎ IsLast (λ m. is_some (kind_of (take m bytes))) last 1 (1 + length bytes) → (longest bytes ≡ 0) ⊎ ((1 ≤ longest bytes) × (longest bytes ≤ length bytes) × (is_some (kind_of (take (longest bytes) bytes)) ≡ true))
+    step (inl is) = inl (rw is refl)
+    step (inr (n, is, begins, ends, passes)) = inr (let e : longest bytes ≡ n = rw is refl in rw e (begins, omega arith, passes))
+
+-- a run of bytes that pass a test
+list_all-within : (test : ℕ → Bool) (bytes : List ℕ) → list_all test (take (prefix_len test bytes) bytes) ≡ true
+list_all-within test [] = refl
+list_all-within test (b ∷ bytes) = step (test b) refl (list_all-within test bytes)
+  where
+    step : (t : Bool) → test b ≡ t → list_all test (take (prefix_len test bytes) bytes) ≡ true → list_all test (take (prefix_len test (b ∷ bytes)) (b ∷ bytes)) ≡ true
+    step true e h = rw (e, one-add) (and_from (test b) _ e h)
+    step false e h = rw e refl
+
+list_all-past : (test : ℕ → Bool) (bytes : List ℕ) (m : ℕ) → prefix_len test bytes < m → m ≤ length bytes → list_all test (take m bytes) ≡ false
+list_all-past test [] m past within = absurd (omega arith)
+list_all-past test (b ∷ bytes) zero past within = absurd (omega arith)
+list_all-past test (b ∷ bytes) (suc m) past within = step (test b) refl past (list_all-past test bytes m)
+  where
+    step : (t : Bool) → test b ≡ t → prefix_len test (b ∷ bytes) < suc m → (prefix_len test bytes < m → m ≤ length bytes → list_all test (take m bytes) ≡ false) → list_all test (take (suc m) (b ∷ bytes)) ≡ false
+    step true e past ih = let past' = rw e at past in rw e (ih (omega arith) (omega arith))
+    step false e past ih = rw e refl
+
+-- where the tokens that begin with this byte are those that go on with bytes that pass a test
+pub none_longer-run : (test : ℕ → Bool) (b : ℕ) (bytes : List ℕ) → ((rest : List ℕ) → is_some (kind_of (b ∷ rest)) ≡ list_all test rest) → NoneLonger (b ∷ bytes) (suc (prefix_len test bytes))
+none_longer-run test b bytes is zero past within = absurd (omega arith)
+none_longer-run test b bytes is (suc m) past within = is (take m bytes) ∙ list_all-past test bytes m (omega arith) (omega arith)
+
+pub token-run : (test : ℕ → Bool) (b : ℕ) (bytes : List ℕ) → ((rest : List ℕ) → is_some (kind_of (b ∷ rest)) ≡ list_all test rest) → is_some (kind_of (b ∷ take (prefix_len test bytes) bytes)) ≡ true
+token-run test b bytes is = is (take (prefix_len test bytes) bytes) ∙ list_all-within test bytes

@@ -83,10 +83,9 @@ fn other(bytes: &[u8]) -> Piece
     requires { IsTrue (begins_with is_other bytes.now) }
     ensures { IsPiece bytes.now result }
 {
-    if bytes.len() > 1 {
-        if let Some(code) = symbol(&bytes[..2]) {
-            return Piece::Token(2, TokenKind::Symbol(code));
-        }
+    let two = bytes.len().min(2);
+    if let Some(code) = symbol(&bytes[..two]) {
+        return Piece::Token(two, TokenKind::Symbol(code));
     }
     match symbol(&bytes[..1]) {
         Some(code) => Piece::Token(1, TokenKind::Symbol(code)),
