@@ -5,6 +5,7 @@ use Rattle.std.specs.List.{list_all}
 use Rattle.std.specs.Str.{all_ascii_digits}
 use Rattle.std.specs.Str.Parse.{digits_value}
 use Rattle.std.proofs.lemmas.Bool.Decides.{nat_tests}
+use Rattle.std.proofs.lemmas.List.{length-map}
 use Rattle.op_tables.specs.Words.{code_in, dot_words, symbols}
 use Rattle.source_lines.specs.Rows.{is_blank, is_delimiter}
 use Rattle.source_lines.specs.declared.token.TokenKind.{TokenKind}
@@ -12,7 +13,7 @@ use Rattle.source_lines.specs.declared.token.TokenKind.TheVariants.{Word, Intege
 use Rattle.token_scan.specs.Tokens.{characters, is_word_byte, kind_of, or_else, upper}
 use Rattle.token_scan.proofs.Tables.{code_in-outside}
 
-letter_not-digit : (b : ℕ) → is_ascii_alphabetic b ≡ true → is_ascii_digit b ≡ false
+pub letter_not-digit : (b : ℕ) → is_ascii_alphabetic b ≡ true → is_ascii_digit b ≡ false
 letter_not-digit b h = grind (arith, nat_tests)
 
 letter_not-delimiter : (b : ℕ) → is_ascii_alphabetic b ≡ true → is_delimiter b ≡ false
@@ -21,11 +22,14 @@ letter_not-delimiter b h = grind (arith, nat_tests)
 digit_not-delimiter : (b : ℕ) → is_ascii_digit b ≡ true → is_delimiter b ≡ false
 digit_not-delimiter b h = grind (arith, nat_tests)
 
-digit_not-letter : (b : ℕ) → is_ascii_digit b ≡ true → is_ascii_alphabetic b ≡ false
+pub digit_not-letter : (b : ℕ) → is_ascii_digit b ≡ true → is_ascii_alphabetic b ≡ false
 digit_not-letter b h = grind (arith, nat_tests)
 
+pub length-upper : (bytes : List ℕ) → length (upper bytes) ≡ length bytes
+length-upper bytes = simp length-map
+
 -- no letter is given as a period
-period-upper : (b : ℕ) → (to_ascii_uppercase b == 46) ≡ (b == 46)
+pub period-upper : (b : ℕ) → (to_ascii_uppercase b == 46) ≡ (b == 46)
 period-upper b = grind (arith, nat_tests)
 
 letter_not-period : (b : ℕ) → is_ascii_alphabetic b ≡ true → (b == 46) ≡ false

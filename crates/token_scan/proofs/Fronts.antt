@@ -79,7 +79,7 @@ longest-either bytes = step (last_or-either (λ m. is_some (kind_of (take m byte
     step (inr (n, is, begins, ends, passes)) = inr (let e : longest bytes ≡ n = rw is refl in rw e (begins, omega arith, passes))
 
 -- a run of bytes that pass a test
-list_all-within : (test : ℕ → Bool) (bytes : List ℕ) → list_all test (take (prefix_len test bytes) bytes) ≡ true
+pub list_all-within : (test : ℕ → Bool) (bytes : List ℕ) → list_all test (take (prefix_len test bytes) bytes) ≡ true
 list_all-within test [] = refl
 list_all-within test (b ∷ bytes) = step (test b) refl (list_all-within test bytes)
   where

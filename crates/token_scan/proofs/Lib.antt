@@ -3,3 +3,8 @@ pub mod Tables
 pub mod FirstBytes
 pub mod FirstPieces
 pub mod TextFronts
+pub mod WordFronts
+pub mod LiteralFronts
+pub mod DotFronts
+pub mod SymbolFronts
+pub mod Values
