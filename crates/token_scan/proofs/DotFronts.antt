@@ -15,7 +15,7 @@ use Rattle.token_scan.proofs.Tables.{code_in-outside}
 use Rattle.token_scan.proofs.FirstBytes.{kind_of-period, period-upper, length-upper}
 use Rattle.token_scan.proofs.FirstPieces.{no_token-none_longer, token_first, within_limit}
 
-abbrev no_period : ℕ → Bool
+abbrev pub no_period : ℕ → Bool
 no_period b = not (b == 46)
 
 no_period-upper : (bytes : List ℕ) → prefix_len no_period (upper bytes) ≡ prefix_len no_period bytes

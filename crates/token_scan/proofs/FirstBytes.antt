@@ -82,10 +82,10 @@ pub kind_of-other : (b : ℕ) (bytes : List ℕ) → is_ascii_alphabetic b ≡ f
     → kind_of (b ∷ bytes) ≡ option_map Symbol (code_in symbols (b ∷ bytes))
 kind_of-other b bytes letter digit delimiter period = rw (letter, digit, delimiter, no_dot_word b bytes period) refl
 
-blank_not-letter : (b : ℕ) → is_blank b ≡ true → is_ascii_alphabetic b ≡ false
+pub blank_not-letter : (b : ℕ) → is_blank b ≡ true → is_ascii_alphabetic b ≡ false
 blank_not-letter b h = grind (arith, nat_tests)
 
-blank_not-digit : (b : ℕ) → is_blank b ≡ true → is_ascii_digit b ≡ false
+pub blank_not-digit : (b : ℕ) → is_blank b ≡ true → is_ascii_digit b ≡ false
 blank_not-digit b h = grind (arith, nat_tests)
 
 blank_not-delimiter : (b : ℕ) → is_blank b ≡ true → is_delimiter b ≡ false

@@ -8,3 +8,5 @@ pub mod LiteralFronts
 pub mod DotFronts
 pub mod SymbolFronts
 pub mod Values
+pub mod BlankFronts
+pub mod LineScan

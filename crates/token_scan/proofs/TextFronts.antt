@@ -1,7 +1,8 @@
 -- Texts at the front.
-use Rattle.std.proofs.Common.{◌≡◌, ℕ, zero, suc, ◌+◌, ◌-◌, ◌<◌, ◌≤◌, ◌==◌, Bool, true, false, IsTrue, Any, List, [], ◌∷◌, ◌++◌, length, take, drop, Option, Some, None, is_some, IfSome, option_map, if◌then◌else◌, inl, inr, refl, ap, sym, subst, ◌∙◌, one-add, add-one, arith}
+use Rattle.std.proofs.Common.{◌≡◌, ℕ, zero, suc, ◌+◌, ◌-◌, ◌<◌, ◌≤◌, ◌==◌, Bool, true, false, IsTrue, Any, List, [], ◌∷◌, ◌++◌, length, take, drop, Option, Some, None, is_some, IfSome, option_map, get_or, append_assoc, if◌then◌else◌, inl, inr, refl, ap, sym, subst, ◌∙◌, one-add, add-one, arith}
 use Rattle.std.specs.Prelude.{◌⊎◌}
-use Rattle.std.proofs.lemmas.Bool.{eqb-true, eq-eqb}
+use Rattle.std.proofs.lemmas.Bool.{eqb-true, eq-eqb, ne_eqb}
+use Rattle.std.proofs.Math.Seq.{drop-cons}
 use Rattle.std.proofs.lemmas.Bool.Decides.{nat_tests}
 use Rattle.std.proofs.lemmas.List.{length-drop}
 use Rattle.source_lines.specs.Rows.{is_blank, is_delimiter}
@@ -9,7 +10,7 @@ use Rattle.source_lines.specs.declared.token.TokenKind.{TokenKind}
 use Rattle.source_lines.specs.declared.token.TokenKind.TheVariants.{Text}
 use Rattle.source_lines.proofs.Cuts.{cut-first}
 use Rattle.token_scan.specs.Tokens.{characters, is_no_token, is_past_limit, kind_of, longer, longest, pieces}
-use Rattle.token_scan.specs.Pieces.{closed_text, longer_text, IsPiece}
+use Rattle.token_scan.specs.Pieces.{begins_with, closed_text, longer_text, IsPiece}
 use Rattle.token_scan.specs.declared.piece.Piece.TheVariants.{Token}
 use Rattle.token_scan.proofs.Fronts.{NoneLonger, longest-either}
 use Rattle.token_scan.proofs.FirstBytes.{kind_of-delimiter, delimiter_not-letter, delimiter_not-digit, delimiter_not-blank}
@@ -19,6 +20,13 @@ use Rattle.token_scan.proofs.FirstPieces.{any_behind, no_token_first, token_firs
 abbrev pub behind : List ℕ → ℕ → Option (List ℕ × ℕ) → Option (List ℕ × ℕ)
 behind characters bytes text = option_map (λ x. (characters ++ x.0, bytes + x.1)) text
 
+behind-longer : (characters : List ℕ) (at b n end : ℕ) (text : Option (List ℕ × ℕ)) → at + n ≡ end → behind characters at (longer_text b n text) ≡ behind (characters ++ b ∷ []) end text
+behind-longer characters at b n end None e = refl
+behind-longer characters at b n end (Some x) e =
+    let place : at + (n + x.1) ≡ end + x.1 = omega arith in
+    let read : characters ++ (b ∷ x.0) ≡ (characters ++ b ∷ []) ++ x.0 = simp append_assoc in
+    cc
+
 characters-other : (delimiter b : ℕ) (bytes : List ℕ) → (b == delimiter) ≡ false → characters delimiter (b ∷ bytes) ≡ longer b (characters delimiter bytes)
 characters-other delimiter b [] e = rw e refl
 characters-other delimiter b (c ∷ bytes) e = rw e refl
@@ -26,6 +34,29 @@ characters-other delimiter b (c ∷ bytes) e = rw e refl
 closed_text-other : (delimiter b : ℕ) (bytes : List ℕ) → (b == delimiter) ≡ false → closed_text delimiter (b ∷ bytes) ≡ longer_text b 1 (closed_text delimiter bytes)
 closed_text-other delimiter b [] e = rw e refl
 closed_text-other delimiter b (c ∷ bytes) e = rw e refl
+
+closed_text-doubled : (delimiter b c : ℕ) (bytes : List ℕ) → b ≡ delimiter → c ≡ delimiter → closed_text delimiter (b ∷ c ∷ bytes) ≡ longer_text b 2 (closed_text delimiter bytes)
+closed_text-doubled delimiter b c bytes e f = rw (e, f, eq-eqb delimiter delimiter refl) refl
+
+-- a byte that is no delimiter is read
+pub read_byte : (delimiter : ℕ) (bytes characters : List ℕ) (at end : ℕ) → at < length bytes → at + 1 ≡ end → (get_or bytes at 0 ≡ delimiter → ⊥)
+    → closed_text delimiter bytes ≡ behind characters at (closed_text delimiter (drop at bytes))
+    → closed_text delimiter bytes ≡ behind (characters ++ get_or bytes at 0 ∷ []) end (closed_text delimiter (drop end bytes))
+read_byte delimiter bytes characters at end lt e other read =
+    let place : end ≡ suc at = omega arith in
+    read ∙ ap (behind characters at) (ap (closed_text delimiter) (drop-cons bytes at 0 lt) ∙ closed_text-other delimiter (get_or bytes at 0) (drop (suc at) bytes) (ne_eqb _ _ other))
+    ∙ behind-longer characters at (get_or bytes at 0) 1 end _ e ∙ rw place refl
+
+-- a doubled delimiter is read as one
+pub read_doubled : (delimiter : ℕ) (bytes characters : List ℕ) (at end : ℕ) → at + 1 < length bytes → at + 2 ≡ end → get_or bytes at 0 ≡ delimiter → get_or bytes (at + 1) 0 ≡ delimiter
+    → closed_text delimiter bytes ≡ behind characters at (closed_text delimiter (drop at bytes))
+    → closed_text delimiter bytes ≡ behind (characters ++ get_or bytes at 0 ∷ []) end (closed_text delimiter (drop end bytes))
+read_doubled delimiter bytes characters at end lt e first second read =
+    let place : end ≡ suc (suc at) = omega arith in
+    let next : get_or bytes (suc at) 0 ≡ delimiter = rw add-one at second in
+    let split : drop at bytes ≡ get_or bytes at 0 ∷ (get_or bytes (suc at) 0 ∷ drop (suc (suc at)) bytes) = drop-cons bytes at 0 (omega arith) ∙ ap (λ (l : List ℕ). get_or bytes at 0 ∷ l) (drop-cons bytes (suc at) 0 (omega arith)) in
+    read ∙ ap (behind characters at) (ap (closed_text delimiter) split ∙ closed_text-doubled delimiter (get_or bytes at 0) (get_or bytes (suc at) 0) (drop (suc (suc at)) bytes) first next)
+    ∙ behind-longer characters at (get_or bytes at 0) 2 end _ e ∙ rw place refl
 
 -- the front of these bytes is the longest that is a text
 record IsLongestText (delimiter : ℕ) (bytes : List ℕ) (text : List ℕ × ℕ) : Type 0 where
@@ -92,9 +123,9 @@ closed_text-longest delimiter (b ∷ c ∷ bytes) = step (b == delimiter) refl (
 closed_text-is : (delimiter : ℕ) (bytes : List ℕ) (text : List ℕ × ℕ) → closed_text delimiter bytes ≡ Some text → IsLongestText delimiter bytes text
 closed_text-is delimiter bytes text e = subst (λ (o : Option (List ℕ × ℕ)). IfSome o (IsLongestText delimiter bytes)) e (closed_text-longest delimiter bytes)
 
-pub text_token : (delimiter : ℕ) (bytes characters : List ℕ) (n : ℕ) → is_delimiter delimiter ≡ true → closed_text delimiter bytes ≡ Some (characters, n)
+text_token-cons : (delimiter : ℕ) (bytes characters : List ℕ) (n : ℕ) → is_delimiter delimiter ≡ true → closed_text delimiter bytes ≡ Some (characters, n)
     → IsPiece (delimiter ∷ bytes) (Token (n + 1) (Text characters))
-text_token delimiter bytes text n delim e =
+text_token-cons delimiter bytes text n delim e =
     let is : IsLongestText delimiter bytes (text, n) = closed_text-is delimiter bytes (text, n) e in
     let kind : kind_of (delimiter ∷ take n bytes) ≡ Some (Text text) = kind_of-delimiter delimiter (take n bytes) delim ∙ ap (option_map Text) is.is in
     rw add-one (token_first (delimiter ∷ bytes) (suc n) (omega arith) (omega (arith, is.within)) (ap is_some kind) (past is), kind, within_limit delimiter (take n bytes) (delimiter_not-letter delimiter delim) (delimiter_not-digit delimiter delim))
@@ -102,6 +133,11 @@ text_token delimiter bytes text n delim e =
     past : IsLongestText delimiter bytes (text, n) → NoneLonger (delimiter ∷ bytes) (suc n)
     past is zero lt le = absurd (omega arith)
     past is (suc m) lt le = ap is_some (kind_of-delimiter delimiter (take m bytes) delim ∙ ap (option_map Text) (is.longest m (omega arith) (omega arith)))
+
+pub text_token : (bytes characters : List ℕ) (n : ℕ) → begins_with is_delimiter bytes ≡ true → closed_text (get_or bytes 0 0) (drop 1 bytes) ≡ Some (characters, n)
+    → IsPiece bytes (Token (n + 1) (Text characters))
+text_token [] characters n delim e = absurd cc
+text_token (b ∷ bytes) characters n delim e = text_token-cons b bytes characters n delim e
 
 option_map-none : {A B : Type 0} (f : A → B) (o : Option A) → option_map f o ≡ None → o ≡ None
 option_map-none f None e = refl
@@ -167,5 +203,6 @@ text_open-within zero delimiter bytes within delim none = text_open-step delimit
 text_open-within (suc bound) delimiter bytes within delim none = text_open-step delimiter bytes delim none (λ rest lt e. text_open-within bound delimiter rest (omega arith) delim e)
 
 -- an open text has a piece that is no token
-pub text_open : (delimiter : ℕ) (bytes : List ℕ) → is_delimiter delimiter ≡ true → closed_text delimiter bytes ≡ None → Any (λ piece. IsTrue (is_no_token piece)) (pieces (delimiter ∷ bytes))
-text_open delimiter bytes delim none = text_open-within (length bytes) delimiter bytes (omega arith) delim none
+pub text_open : (bytes : List ℕ) → begins_with is_delimiter bytes ≡ true → closed_text (get_or bytes 0 0) (drop 1 bytes) ≡ None → Any (λ piece. IsTrue (is_no_token piece)) (pieces bytes)
+text_open [] delim none = absurd cc
+text_open (b ∷ bytes) delim none = text_open-within (length bytes) b bytes (omega arith) delim none

@@ -1,6 +1,6 @@
 //! The value of a literal.
 
-ghost use Rattle.std.specs.Prelude.{◌≡◌, ◌≤◌, ◌^◌, IsTrue, MatchOption, pos};
+ghost use Rattle.std.specs.Prelude.{◌≡◌, ◌<◌, ◌≤◌, ◌^◌, IsTrue, MatchOption, pos};
 ghost use Rattle.std.specs.Str.{all_ascii_digits};
 ghost use Rattle.std.specs.Str.Parse.{digits_value};
 
@@ -10,7 +10,7 @@ const FULL: u64 = 1 << 60;
 /// The number that digits stand for; None exactly where it is above 2^63 - 1.
 pub(crate) fn value_of(digits: &[u8]) -> Option<i64>
     requires { IsTrue (all_ascii_digits digits.now) }
-    ensures { MatchOption result (2 ^ 63 ≤ digits_value 10 digits.now) (λ n. n ≡ pos (digits_value 10 digits.now)) }
+    ensures { MatchOption result (2 ^ 63 ≤ digits_value 10 digits.now) (λ n. (n ≡ pos (digits_value 10 digits.now)) × (digits_value 10 digits.now < 2 ^ 63)) }
 {
     let mut value: u64 = 0;
     for digit in digits {

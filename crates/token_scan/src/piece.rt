@@ -1,6 +1,6 @@
 //! What stands at the front of bytes.
 
-ghost use Rattle.std.specs.Prelude.{◌≡◌, ◌<◌, ◌==◌, ◌∷◌, IfOk, IsTrue, length};
+ghost use Rattle.std.specs.Prelude.{◌≡◌, ◌<◌, ◌==◌, IfOk, IsTrue, length};
 ghost use Rattle.std.specs.Char.{is_ascii_alphabetic, is_ascii_digit};
 ghost use Rattle.source_lines.specs.Rows.{is_delimiter};
 ghost use Rattle.token_scan.specs.Pieces.{IsPiece, begins_with, is_other};
@@ -52,17 +52,19 @@ fn integer(bytes: &[u8]) -> Piece
 }
 
 /// A character constant.
-fn text(alloc: Global, delimiter: u8, bytes: &[u8]) -> Result<Piece, AllocError>
-    requires { IsTrue (is_delimiter delimiter) }
-    ensures { IfOk result (IsPiece (delimiter ∷ bytes.now)) }
+fn text(alloc: Global, bytes: &[u8]) -> Result<Piece, AllocError>
+    requires { IsTrue (begins_with is_delimiter bytes.now) }
+    ensures { IfOk result (IsPiece bytes.now) }
 {
-    match closed_text(alloc, delimiter, bytes)? {
-        Some((characters, len)) => Ok(Piece::Token(len + 1, TokenKind::Text(Bytes::new(characters)))),
+    match closed_text(alloc, bytes[0], &bytes[1..])? {
+        Some((characters, len)) => {
+            Ok(Piece::Token(len + 1, TokenKind::Text(Bytes::new(characters))))
+        }
         None => Ok(Piece::NoToken),
     }
 }
 
-/// A word between periods, behind the first of them.
+/// A word between periods.
 fn dot(alloc: Global, bytes: &[u8]) -> Result<Piece, AllocError>
     requires { IsTrue (begins_with (λ b. b == 46) bytes.now) }
     ensures { IfOk result (IsPiece bytes.now) }
@@ -106,7 +108,7 @@ pub(crate) fn first_piece(alloc: Global, bytes: &[u8]) -> Result<Piece, AllocErr
     } else if first.is_ascii_digit() {
         Ok(integer(bytes))
     } else if first == b'\'' || first == b'"' {
-        text(alloc, first, &bytes[1..])
+        text(alloc, bytes)
     } else if first == b'.' {
         dot(alloc, bytes)
     } else {

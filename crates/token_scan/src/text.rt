@@ -1,6 +1,6 @@
 //! Character constants (Fortran 95, 4.3.2.1).
 
-ghost use Rattle.std.specs.Prelude.{◌≡◌, IfOk, option_map};
+ghost use Rattle.std.specs.Prelude.{◌≡◌, ◌≤◌, IfOk, IfSome, length, option_map};
 ghost use Rattle.token_scan.specs.Pieces.{closed_text};
 
 use std::alloc::{AllocError, Global};
@@ -12,7 +12,8 @@ pub(crate) fn closed_text(
     delimiter: u8,
     bytes: &[u8],
 ) -> Result<Option<(Vec<u8>, usize)>, AllocError>
-    ensures { IfOk result (λ text. option_map (λ x. (x.0.items, x.1)) text ≡ closed_text delimiter bytes.now) }
+    ensures read { IfOk result (λ text. option_map (λ x. (x.0.items, x.1)) text ≡ closed_text delimiter bytes.now) }
+    ensures within { IfOk result (λ text. IfSome text (λ x. x.1 ≤ length bytes.now)) }
 {
     let mut characters = Vec::new(alloc);
     let mut at = 0;
