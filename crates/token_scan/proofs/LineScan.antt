@@ -1,7 +1,7 @@
 -- The tokens of a line, one after another.
-use Rattle.std.proofs.Common.{◌≡◌, ℕ, zero, suc, ◌+◌, ◌<◌, ◌≤◌, Bool, true, false, not, ◌&&◌, IsTrue, IsFalse, MatchBool, Any, List, [], ◌∷◌, ◌++◌, length, take, drop, Option, Some, None, is_some, option_map, option_to_list, inl, inr, refl, ap, sym, subst, ◌∙◌, append_assoc, arith}
+use Rattle.std.proofs.Common.{◌≡◌, ℕ, zero, suc, ◌+◌, ◌-◌, ◌<◌, ◌≤◌, Bool, true, false, not, ◌&&◌, IsTrue, IsFalse, MatchBool, Any, List, [], ◌∷◌, ◌++◌, length, take, drop, Option, Some, None, is_some, option_map, option_to_list, inl, inr, refl, ap, sym, subst, ◌∙◌, append_assoc, arith}
 use Rattle.std.specs.Prelude.{◌⊎◌}
-use Rattle.std.proofs.lemmas.List.{append-nil, drop-drop, drop_all, length-take, length-drop}
+use Rattle.std.proofs.lemmas.List.{append-nil, take_rest, drop-drop, drop_all, length-take, length-drop}
 use Rattle.hpf_base.specs.Refusal.{number_of, IsFirstBreach, NoBreach}
 use Rattle.hpf_base.specs.declared.refusal.Reason.{Reason}
 use Rattle.hpf_base.specs.declared.refusal.Reason.TheVariants.{BadLine, Limit}
@@ -10,6 +10,7 @@ use Rattle.source_lines.specs.declared.token.Token.{Token}
 use Rattle.source_lines.specs.declared.token.TokenKind.{TokenKind}
 use Rattle.token_scan.specs.Tokens.{is_no_token, is_past_limit, kind_of, pieces, token_at, tokens, tokens_from, IsPieceBreach, IsTokenBreach}
 use Rattle.token_scan.specs.Pieces.{IsFirst, IsPiece}
+use Rattle.token_scan.specs.declared.piece.Piece.{Piece}
 use Rattle.token_scan.specs.declared.piece.Piece.TheVariants as piece
 use Rattle.token_scan.proofs.FirstPieces.{any_here, any_behind, any_cases}
 
@@ -20,6 +21,13 @@ pub record IsScanned (bytes : List ℕ) (place : ℕ) (found : List Token) (past
   pub whole : (reason : Reason) → Any (IsPieceBreach reason) (pieces (drop place bytes)) → Any (IsPieceBreach reason) (pieces bytes)
   pub none_bad : Any (IsPieceBreach BadLine) (pieces bytes) → Any (IsPieceBreach BadLine) (pieces (drop place bytes))
   pub kept : MatchBool past_limit (Any (IsPieceBreach Limit) (pieces bytes)) ((tokens bytes ≡ found ++ tokens_from place (pieces (drop place bytes))) × (Any (IsPieceBreach Limit) (pieces bytes) → Any (IsPieceBreach Limit) (pieces (drop place bytes))))
+
+-- what is read of the bytes behind a place
+pub read_at : (bytes all : List ℕ) (place : ℕ) (read is : Piece) → bytes ≡ all → read ≡ is → IsPiece (take (length bytes - place) (drop place bytes)) read → IsPiece (drop place all) is
+read_at bytes all place read is e same h =
+    subst (λ (p : Piece). IsPiece (drop place all) p) same
+    (subst (λ (l : List ℕ). IsPiece (drop place l) read) e
+    (subst (λ (l : List ℕ). IsPiece l read) (take_rest bytes place) h))
 
 pub scanned_none : (bytes : List ℕ) → IsScanned bytes 0 [] false
 scanned_none bytes = record { within = omega arith; whole = λ reason h. h; none_bad = λ h. h; kept = (refl, λ h. h) }

@@ -24,10 +24,15 @@ pub fn tokens(alloc: Global, line: &LogicalLine) -> Result<Vec<Token>, StaticErr
     let mut is_past_limit = false;
     let mut place = 0;
     while place < bytes.len() {
-        match first_piece(alloc, &bytes[place..])? {
+        let Ok(piece) = first_piece(alloc, &bytes[place..]) else {
+            return Err(StaticError::Memory);
+        };
+        match piece {
             Piece::Blank => place += 1,
             Piece::Token(len, kind) => {
-                found.push(token(place, place + len, kind))?;
+                let Ok(()) = found.push(token(place, place + len, kind)) else {
+                    return Err(StaticError::Memory);
+                };
                 place += len;
             }
             Piece::PastLimit(len) => {
