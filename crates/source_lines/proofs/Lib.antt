@@ -1,0 +1,5 @@
+pub mod Cuts
+pub mod PartLaws
+pub mod BreachLaws
+pub mod LineLaws
+pub mod GroupLaws

@@ -1,6 +1,7 @@
 -- What a text may not have in its lines (Fortran 95, 3.3.1; HPF 2.0, 2.3).
-use Rattle.std.specs.Prelude.{◌≡◌, ℕ, ◌⊎◌, Bool, not, false, true, IsTrue, IsFalse, nat_eq, List, [], ◌∷◌, ◌++◌, filter}
+use Rattle.std.specs.Prelude.{◌≡◌, ℕ, ◌⊎◌, Bool, not, false, true, IsTrue, IsFalse, nat_eq, ◌≤◌, List, [], ◌∷◌, ◌++◌, filter, Option, Some, None}
 use Rattle.std.specs.List.{ends_with, suffix_len}
+use Rattle.hpf_base.specs.Refusal.{number_of}
 use Rattle.hpf_base.specs.declared.refusal.Reason.{Reason}
 use Rattle.hpf_base.specs.declared.refusal.Reason.TheVariants.{BadLine, Limit}
 use Rattle.source_lines.specs.declared.rows.RowKind.{RowKind}
@@ -40,6 +41,11 @@ abbrev pub IsBreachAt : List Row → Row → List Row → Reason → Type 0
 IsBreachAt before row after BadLine = IsTrue row.bad ⊎ (IsTrue (is_continued row) × IsFalse (goes_on row.kind after))
 IsBreachAt before row after Limit = (row.number ≡ 20001) ⊎ (IsFalse (is_passed row.kind) × (suffix_len is_continued (standing before) ≡ 40))
 IsBreachAt before row after reason = ⊥
+
+-- of the reasons for which the line between these is a breach the least, if there is one
+abbrev pub IsLeastReasonAt : List Row → Row → List Row → Option Reason → Type 0
+IsLeastReasonAt before row after None = (reason : Reason) → IsBreachAt before row after reason → ⊥
+IsLeastReasonAt before row after (Some reason) = IsBreachAt before row after reason × ((other : Reason) → IsBreachAt before row after other → number_of reason ≤ number_of other)
 
 -- the breaches of a text's lines: a line that is bad, alone or as one that is continued, line 20,001, and the fortieth
 -- continuation line

@@ -27,14 +27,22 @@ abbrev pub with_part : List ℕ → List (List ℕ) → List (List ℕ)
 with_part part [] = part ∷ []
 with_part part (statement ∷ statements) = (part ++ statement) ∷ statements
 
--- parts, put together between the `;`
-abbrev pub between_semicolons : List (List ℕ) → List (List ℕ)
-between_semicolons [] = [] ∷ []
-between_semicolons (part ∷ parts) = if bytes_eq part (59 ∷ []) then [] ∷ between_semicolons parts else with_part part (between_semicolons parts)
+-- parts, put together between those that are `;`
+abbrev pub together : List (List ℕ) → List (List ℕ)
+together [] = [] ∷ []
+together (part ∷ parts) = if bytes_eq part (59 ∷ []) then [] ∷ together parts else with_part part (together parts)
 
--- the statements that stand between `;` outside of text constants; empty ones are passed over
+-- what stands between the `;` outside of text constants
+abbrev pub between_semicolons : List ℕ → List (List ℕ)
+between_semicolons bytes = together (cut first_part bytes)
+
+-- statements without the empty ones
+abbrev pub without_empty : List (List ℕ) → List (List ℕ)
+without_empty statements = filter (λ statement. not (list_all is_blank statement)) statements
+
+-- the statements of bytes: they stand between `;`, and empty ones are passed over
 abbrev pub statements : List ℕ → List (List ℕ)
-statements bytes = filter (λ statement. not (list_all is_blank statement)) (between_semicolons (cut first_part bytes))
+statements bytes = without_empty (between_semicolons bytes)
 
 abbrev pub logical_line : ℕ → LineKind → List ℕ → LogicalLine
 logical_line number kind bytes = record { line = number; kind = kind; bytes = bytes }
@@ -49,9 +57,13 @@ abbrev pub lines_of_group : List Row → List LogicalLine
 lines_of_group [] = []
 lines_of_group (row ∷ rows) = lines_of_kind row.kind row.number (joined row rows)
 
+-- the lines that aren't passed over, each with those that continue it
+abbrev pub groups : List Row → List (List Row)
+groups rows = cut (λ rest. prefix_len is_continued rest + 1) rows
+
 -- the logical lines of the text's lines
 abbrev pub lines_in : List Row → List LogicalLine
-lines_in rows = flat_map lines_of_group (cut (λ rest. prefix_len is_continued rest + 1) (standing rows))
+lines_in rows = flat_map lines_of_group (groups (standing rows))
 
 abbrev pub logical_lines : List ℕ → List LogicalLine
 logical_lines text = lines_in (rows_of text)

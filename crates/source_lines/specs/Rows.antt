@@ -49,12 +49,13 @@ abbrev pub is_comment : List ℕ → Bool
 is_comment [] = false
 is_comment (b ∷ bytes) = b == 33
 
+-- the parts of these bytes, a comment apart
 abbrev pub parts : List ℕ → List (List ℕ)
-parts line = filter (λ part. not (is_comment part)) (cut first_part (content line))
+parts bytes = filter (λ part. not (is_comment part)) (cut first_part bytes)
 
--- what stands on a line, its comment apart
+-- what stands in these bytes, a comment apart
 abbrev pub code_of : List ℕ → List ℕ
-code_of line = concat (parts line)
+code_of bytes = concat (parts bytes)
 
 -- a control byte other than tab
 abbrev pub is_control : ℕ → Bool
@@ -77,11 +78,11 @@ is_lone_ampersand code = bytes_eq (without_blanks (without_blanks_behind code)) 
 
 -- the line breaks a rule, whatever stands on other lines
 abbrev pub is_bad : List ℕ → Bool
-is_bad line = nat_lt 132 (length line) || list_any (is_bad_part (is_directive line)) (parts line) || is_lone_ampersand (code_of line)
+is_bad line = nat_lt 132 (length line) || list_any (is_bad_part (is_directive line)) (parts (content line)) || is_lone_ampersand (code_of (content line))
 
 -- a line that is blank or holds only a comment is passed over
 abbrev pub kind_of : List ℕ → RowKind
-kind_of line = if is_directive line then Directive else if list_all is_blank (code_of line) then Passed else Statement
+kind_of line = if is_directive line then Directive else if list_all is_blank (code_of (content line)) then Passed else Statement
 
 -- what the rules ask of a line: its number, from 1, and what stands on it
 pub record Row : Type 0 where
@@ -91,7 +92,7 @@ pub record Row : Type 0 where
   pub bad : Bool
 
 abbrev pub row_of : ℕ → List ℕ → Row
-row_of number line = record { number = number; kind = kind_of line; code = code_of line; bad = is_bad line }
+row_of number line = record { number = number; kind = kind_of line; code = code_of (content line); bad = is_bad line }
 
 abbrev pub rows_of : List ℕ → List Row
 rows_of text = map (λ x. row_of x.0 x.1) (enumerate_from 1 (physical_lines text))

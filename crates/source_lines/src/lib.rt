@@ -5,11 +5,22 @@
 //! those of the definition, which splits whole lists; a text is refused exactly where it has a breach.
 #![tactic(auto)]
 
+mod blanks;
+mod breach;
 mod bytes;
+mod groups;
+mod joined;
 mod line;
+mod line_split;
+mod marks;
+mod parts;
 mod rows;
+mod statements;
+mod text;
 mod token;
 
 pub use bytes::Bytes;
+
 pub use line::{LineKind, LogicalLine};
+pub use text::logical_lines;
 pub use token::{Token, TokenKind};

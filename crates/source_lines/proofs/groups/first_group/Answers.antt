@@ -1,0 +1,11 @@
+use Rattle.std.proofs.Common.{◌≡◌, ◌∙◌, ap, min, length}
+use Rattle.std.specs.List.{prefix_len}
+use Rattle.source_lines.specs.Breaches.{is_continued}
+use Rattle.source_lines.proofs.GroupLaws.{group-first}
+use Rattle.source_lines.proofs.groups.first_group.Goals as goal
+
+pub returns-clause-group : goal.returns-clause-group
+returns-clause-group c =
+    let others = c.in_ok-row.others.now in
+    group-first c.args.rows.now c.in_ok-row.row.now others c.split_at.result.0.now c.min.result c.in_ok-row.ensures.cases.0
+    (c.min.ensures ∙ ap (λ n. min n (length others)) c.continued_lines.ensures) c.split_at.ensures.front
