@@ -1,4 +1,4 @@
-use Rattle.std.proofs.Common.{◌≡◌, List, ◌+◌, ◌++◌, ◌∷◌, [], sym, ap, subst, ◌∙◌, arith}
+use Rattle.std.proofs.Common.{◌≡◌, Bool, length, List, ◌+◌, ◌++◌, ◌∷◌, [], sym, ap, subst, ◌∙◌, arith}
 use Rattle.hpf_base.specs.Refusal.{IsRefusalBy}
 use Rattle.hpf_base.specs.declared.refusal.StaticError.{StaticError}
 use Rattle.source_lines.specs.declared.token.Token.{Token}
@@ -32,8 +32,12 @@ returns-in-NoToken-clause-refused c =
 pub returns-then-is_past_limit-clause-refused : goal.returns-then-is_past_limit-clause-refused
 returns-then-is_past_limit-clause-refused c =
     subst (λ (error : StaticError). IsRefusalBy (IsTokenBreach c.args.line.now) error) (sym c.refused-then-is_past_limit.ensures)
-    (end_past_limit c.args.line.now c.loop-place.place c.loop-place.found.items ? ?)
+    (end_past_limit c.args.line.now c.loop-place.place c.loop-place.found.items
+    (subst (λ (past_limit : Bool). IsScanned c.args.line.now.bytes c.loop-place.place c.loop-place.found.items past_limit) c.if-is_past_limit.true c.loop-place.invariant)
+    (omega (arith, ap length c.as_slice-bytes.ensures)))
 
 pub returns-else-is_past_limit-clause-fine : goal.returns-else-is_past_limit-clause-fine
 returns-else-is_past_limit-clause-fine c =
-    end_fine c.args.line.now c.loop-place.place c.loop-place.found.items ? ?
+    end_fine c.args.line.now c.loop-place.place c.loop-place.found.items
+    (subst (λ (past_limit : Bool). IsScanned c.args.line.now.bytes c.loop-place.place c.loop-place.found.items past_limit) c.if-is_past_limit.false c.loop-place.invariant)
+    (omega (arith, ap length c.as_slice-bytes.ensures))
