@@ -8,7 +8,7 @@ use Rattle.std.proofs.lemmas.List.Sums.{prefix_len-le-length}
 use Rattle.op_tables.specs.Words.{code_in, dot_words}
 use Rattle.source_lines.specs.declared.token.TokenKind.TheVariants.{Dot}
 use Rattle.token_scan.specs.Tokens.{is_no_token, kind_of, pieces, upper}
-use Rattle.token_scan.specs.Pieces.{begins_with, IsPiece}
+use Rattle.token_scan.specs.Pieces.{HasNoToken, begins_with, IsPiece}
 use Rattle.token_scan.specs.declared.piece.Piece.TheVariants.{Token}
 use Rattle.token_scan.proofs.Fronts.{NoneLonger}
 use Rattle.token_scan.proofs.Tables.{code_in-outside}
@@ -31,6 +31,9 @@ no_period-take (b ∷ bytes) (suc m) = step (b == 46) refl (no_period-take bytes
     step true e h = rw e (omega arith)
     step false e h = rw (e, h) (omega arith)
 
+kind_of-unknown : (bytes : List ℕ) → code_in dot_words (upper (46 ∷ bytes)) ≡ None → kind_of (46 ∷ bytes) ≡ None
+kind_of-unknown bytes e = kind_of-period bytes ∙ ap (option_map Dot) e
+
 -- the next period is the last byte
 abbrev is_dotted : List ℕ → Bool
 is_dotted word = prefix_len no_period (drop 1 word) + 2 == length word
@@ -38,7 +41,7 @@ is_dotted word = prefix_len no_period (drop 1 word) + 2 == length word
 -- a front that doesn't end with the next period is no dot word
 no_dot_word-elsewhere : (bytes : List ℕ) (m : ℕ) → m ≤ length bytes → m ≢ prefix_len no_period bytes + 1 → kind_of (46 ∷ take m bytes) ≡ None
 no_dot_word-elsewhere bytes m within elsewhere =
-    kind_of-period (take m bytes) ∙ ap (option_map Dot) (code_in-outside is_dotted dot_words (upper (46 ∷ take m bytes)) refl (ne_eqb _ _ other))
+    kind_of-unknown (take m bytes) (code_in-outside is_dotted dot_words (upper (46 ∷ take m bytes)) refl (ne_eqb _ _ other))
   where
     other : prefix_len no_period (upper (take m bytes)) + 2 ≢ suc (length (upper (take m bytes)))
     other e = elsewhere (omega (arith, no_period-upper (take m bytes), no_period-take bytes m, length-upper (take m bytes), length-take m bytes))
@@ -49,7 +52,7 @@ none_longer-dot bytes zero past within = absurd (omega arith)
 none_longer-dot bytes (suc m) past within = ap is_some (no_dot_word-elsewhere bytes m (omega arith) (λ e. absurd (omega arith)))
 
 -- there is no next period, or what ends with it is no dot word
-no_dot : (bytes : List ℕ) → ((m : ℕ) → m ≡ prefix_len no_period bytes + 1 → m ≤ length bytes → kind_of (46 ∷ take m bytes) ≡ None) → Any (λ piece. IsTrue (is_no_token piece)) (pieces (46 ∷ bytes))
+no_dot : (bytes : List ℕ) → ((m : ℕ) → m ≡ prefix_len no_period bytes + 1 → m ≤ length bytes → kind_of (46 ∷ take m bytes) ≡ None) → HasNoToken (46 ∷ bytes)
 no_dot bytes none = no_token-none_longer 46 bytes fails refl
   where
     fails : NoneLonger (46 ∷ bytes) 0
@@ -76,19 +79,21 @@ dot_token (b ∷ bytes) len code h =
     (sym (eqb-true b 46 h)) (dot_token-cons bytes len code)
 
 pub dot_unclosed : (bytes : List ℕ) (len : ℕ) → begins_with (λ b. b == 46) bytes ≡ true → len ≡ prefix_len no_period (drop 1 bytes) → len + 1 ≡ length bytes
-    → Any (λ piece. IsTrue (is_no_token piece)) (pieces bytes)
+    → HasNoToken bytes
 dot_unclosed [] len h e all = absurd cc
 dot_unclosed (b ∷ bytes) len h e all =
-    subst (λ (x : ℕ). Any (λ piece. IsTrue (is_no_token piece)) (pieces (x ∷ bytes))) (sym (eqb-true b 46 h)) (no_dot bytes (λ m at within. absurd (omega arith)))
+    subst (λ (x : ℕ). HasNoToken (x ∷ bytes)) (sym (eqb-true b 46 h)) (no_dot bytes (λ m at within. absurd (omega arith)))
 
 dot_unknown-cons : (rest : List ℕ) (len : ℕ) → len ≡ prefix_len no_period rest → code_in dot_words (upper (take (len + 2) (46 ∷ rest))) ≡ None
-    → Any (λ piece. IsTrue (is_no_token piece)) (pieces (46 ∷ rest))
+    → HasNoToken (46 ∷ rest)
 dot_unknown-cons rest len e is =
-    no_dot rest (λ m at within. let split : len + 2 ≡ suc m = omega arith in kind_of-period (take m rest) ∙ ap (option_map Dot) (rw split at is))
+    no_dot rest (λ m at within.
+    let split : len + 2 ≡ suc m = omega arith in
+    kind_of-unknown (take m rest) (rw split at is))
 
 pub dot_unknown : (bytes : List ℕ) (len : ℕ) → begins_with (λ b. b == 46) bytes ≡ true → len ≡ prefix_len no_period (drop 1 bytes)
-    → code_in dot_words (upper (take (len + 2) bytes)) ≡ None → Any (λ piece. IsTrue (is_no_token piece)) (pieces bytes)
+    → code_in dot_words (upper (take (len + 2) bytes)) ≡ None → HasNoToken bytes
 dot_unknown [] len h = absurd cc
 dot_unknown (b ∷ bytes) len h =
-    subst (λ (x : ℕ). len ≡ prefix_len no_period bytes → code_in dot_words (upper (take (len + 2) (x ∷ bytes))) ≡ None → Any (λ piece. IsTrue (is_no_token piece)) (pieces (x ∷ bytes)))
+    subst (λ (x : ℕ). len ≡ prefix_len no_period bytes → code_in dot_words (upper (take (len + 2) (x ∷ bytes))) ≡ None → HasNoToken (x ∷ bytes))
     (sym (eqb-true b 46 h)) (dot_unknown-cons bytes len)

@@ -7,7 +7,7 @@ use Rattle.source_lines.specs.declared.token.TokenKind.{TokenKind}
 use Rattle.source_lines.specs.Rows.{is_blank}
 use Rattle.source_lines.proofs.Cuts.{cut-cons, cut-first}
 use Rattle.token_scan.specs.Tokens.{is_no_token, is_past_limit, kind_of, longest, pieces}
-use Rattle.token_scan.specs.Pieces.{IsFirst}
+use Rattle.token_scan.specs.Pieces.{HasNoToken, IsFirst}
 use Rattle.token_scan.proofs.Fronts.{NoneLonger, longest-some, longest-none}
 
 pub any_here : {A : Type 0} (P : A → Type 0) (x : A) (xs : List A) → P x → Any P (x ∷ xs)
@@ -30,13 +30,13 @@ byte_first b bytes none =
     record { some = omega arith; within = omega arith; cut = cut-cons longest b bytes ∙ rw none refl }
 
 -- where no token begins, and no blank stands
-pub no_token_first : (b : ℕ) (bytes : List ℕ) → longest (b ∷ bytes) ≡ 0 → kind_of (b ∷ []) ≡ None → is_blank b ≡ false → Any (λ piece. IsTrue (is_no_token piece)) (pieces (b ∷ bytes))
+pub no_token_first : (b : ℕ) (bytes : List ℕ) → longest (b ∷ bytes) ≡ 0 → kind_of (b ∷ []) ≡ None → is_blank b ≡ false → HasNoToken (b ∷ bytes)
 no_token_first b bytes none kind blank =
     subst (λ (l : List (List ℕ)). Any (λ piece. IsTrue (is_no_token piece)) l) (sym (byte_first b bytes none).cut)
     (any_here (λ piece. IsTrue (is_no_token piece)) (b ∷ []) (pieces bytes) (rw (kind, blank) refl))
 
 -- no front is a token, and no blank stands
-pub no_token-none_longer : (b : ℕ) (bytes : List ℕ) → NoneLonger (b ∷ bytes) 0 → is_blank b ≡ false → Any (λ piece. IsTrue (is_no_token piece)) (pieces (b ∷ bytes))
+pub no_token-none_longer : (b : ℕ) (bytes : List ℕ) → NoneLonger (b ∷ bytes) 0 → is_blank b ≡ false → HasNoToken (b ∷ bytes)
 no_token-none_longer b bytes fails blank = no_token_first b bytes (longest-none (b ∷ bytes) fails) (none (kind_of (b ∷ [])) (fails 1 (omega arith) (omega arith))) blank
   where
     none : (kind : Option TokenKind) → is_some kind ≡ false → kind ≡ None

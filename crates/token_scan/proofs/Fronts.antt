@@ -74,6 +74,7 @@ longest-either bytes = step (last_or-either (λ m. is_some (kind_of (take m byte
   where
     last : Option ℕ
     last = last_or None (filter (λ m. is_some (kind_of (take m bytes))) (range_with_len 1 (length bytes)))
+
     step : (last ≡ None) ⊎ IsLast (λ m. is_some (kind_of (take m bytes))) last 1 (1 + length bytes) → (longest bytes ≡ 0) ⊎ ((1 ≤ longest bytes) × (longest bytes ≤ length bytes) × (is_some (kind_of (take (longest bytes) bytes)) ≡ true))
     step (inl is) = inl (rw is refl)
     step (inr (n, is, begins, ends, passes)) = inr (let e : longest bytes ≡ n = rw is refl in rw e (begins, omega arith, passes))

@@ -62,9 +62,11 @@ scanned_within bytes place len found more past_limit is first token limit gives 
   where
     size : length (take len (drop place bytes)) ≡ len
     size = omega (arith, length-take len (drop place bytes), first.within)
+
     behind : IsTrue (is_past_limit (take len (drop place bytes))) ⊎ Any (IsPieceBreach Limit) (pieces (drop (place + len) bytes)) → Any (IsPieceBreach Limit) (pieces (drop (place + len) bytes))
     behind (inl h) = absurd cc
     behind (inr h) = h
+
     kept : (t : Bool)
         → MatchBool t (Any (IsPieceBreach Limit) (pieces bytes)) ((tokens bytes ≡ found ++ tokens_from place (pieces (drop place bytes))) × (Any (IsPieceBreach Limit) (pieces bytes) → Any (IsPieceBreach Limit) (pieces (drop place bytes))))
         → MatchBool t (Any (IsPieceBreach Limit) (pieces bytes)) ((tokens bytes ≡ (found ++ more) ++ tokens_from (place + len) (pieces (drop (place + len) bytes))) × (Any (IsPieceBreach Limit) (pieces bytes) → Any (IsPieceBreach Limit) (pieces (drop (place + len) bytes))))
@@ -107,6 +109,7 @@ end_fine line place found is all number reason breach = none reason breach.1
   where
     no_piece : Any (IsPieceBreach Limit) [] → ⊥
     no_piece (k, x, within, at, h) = absurd (omega arith)
+
     none : (reason : Reason) → Any (IsPieceBreach reason) (pieces line.bytes) → ⊥
     none BadLine h = end_bad line.bytes place found false is all h
     none Limit h = no_piece (subst (λ (l : List ℕ). Any (IsPieceBreach Limit) (pieces l)) (drop_all place line.bytes all) (is.kept.1 h))

@@ -8,7 +8,7 @@ use Rattle.op_tables.specs.Words.{code_in, symbols}
 use Rattle.source_lines.specs.Rows.{is_blank, is_delimiter}
 use Rattle.source_lines.specs.declared.token.TokenKind.TheVariants.{Symbol}
 use Rattle.token_scan.specs.Tokens.{is_no_token, kind_of, pieces}
-use Rattle.token_scan.specs.Pieces.{begins_with, is_other, IsPiece}
+use Rattle.token_scan.specs.Pieces.{HasNoToken, begins_with, is_other, IsPiece}
 use Rattle.token_scan.specs.declared.piece.Piece.TheVariants.{Token}
 use Rattle.token_scan.proofs.Fronts.{NoneLonger}
 use Rattle.token_scan.proofs.Tables.{code_in-outside}
@@ -38,11 +38,14 @@ other_parts b h =
 symbol_kind : (b : ℕ) (bytes : List ℕ) → IsOther b → kind_of (b ∷ bytes) ≡ option_map Symbol (code_in symbols (b ∷ bytes))
 symbol_kind b bytes is = kind_of-other b bytes is.letter is.digit is.delimiter is.period
 
+kind_of-no_symbol : (b : ℕ) (bytes : List ℕ) → IsOther b → code_in symbols (b ∷ bytes) ≡ None → kind_of (b ∷ bytes) ≡ None
+kind_of-no_symbol b bytes is e = symbol_kind b bytes is ∙ ap (option_map Symbol) e
+
 -- no symbol has more than two bytes
 none_longer-two : (b : ℕ) (bytes : List ℕ) → IsOther b → NoneLonger (b ∷ bytes) (min (length (b ∷ bytes)) 2)
 none_longer-two b bytes is zero past within = absurd (omega arith)
 none_longer-two b bytes is (suc m) past within =
-    ap is_some (symbol_kind b (take m bytes) is ∙ ap (option_map Symbol) (code_in-outside (λ w. nat_le (length w) 2) symbols (b ∷ take m bytes) refl (lt-leb _ _ (omega (arith, length-take m bytes)))))
+    ap is_some (kind_of-no_symbol b (take m bytes) is (code_in-outside (λ w. nat_le (length w) 2) symbols (b ∷ take m bytes) refl (lt-leb _ _ (omega (arith, length-take m bytes)))))
 
 pub symbol_of_two : (bytes : List ℕ) (n code : ℕ) → begins_with is_other bytes ≡ true → n ≡ min (length bytes) 2 → code_in symbols (take n bytes) ≡ Some code
     → IsPiece bytes (Token n (Symbol code))
@@ -59,7 +62,7 @@ none_longer-one b bytes n is e none zero past within = absurd (omega arith)
 none_longer-one b bytes n is e none (suc zero) past within = absurd (omega arith)
 none_longer-one b bytes n is e none (suc (suc zero)) past within =
     let two : n ≡ 2 = omega arith in
-    ap is_some (symbol_kind b (take 1 bytes) is ∙ ap (option_map Symbol) (rw two at none))
+    ap is_some (kind_of-no_symbol b (take 1 bytes) is (rw two at none))
 none_longer-one b bytes n is e none (suc (suc (suc m))) past within = none_longer-two b bytes is (suc (suc (suc m))) (omega arith) within
 
 pub symbol_of_one : (bytes : List ℕ) (n code : ℕ) → begins_with is_other bytes ≡ true → n ≡ min (length bytes) 2 → code_in symbols (take n bytes) ≡ None
@@ -71,7 +74,7 @@ symbol_of_one (b ∷ bytes) n code h e none is =
     (token_first (b ∷ bytes) 1 (omega arith) (omega arith) (ap is_some kind) (none_longer-one b bytes n other e none), kind, within_limit b [] other.letter other.digit)
 
 pub no_symbol_first : (bytes : List ℕ) (n : ℕ) → begins_with is_other bytes ≡ true → n ≡ min (length bytes) 2 → code_in symbols (take n bytes) ≡ None
-    → code_in symbols (take 1 bytes) ≡ None → Any (λ piece. IsTrue (is_no_token piece)) (pieces bytes)
+    → code_in symbols (take 1 bytes) ≡ None → HasNoToken bytes
 no_symbol_first [] n h e none is = absurd cc
 no_symbol_first (b ∷ bytes) n h e none is =
     let other : IsOther b = other_parts b h in
@@ -79,5 +82,5 @@ no_symbol_first (b ∷ bytes) n h e none is =
   where
     fails : IsOther b → NoneLonger (b ∷ bytes) 0
     fails other zero past within = absurd (omega arith)
-    fails other (suc zero) past within = ap is_some (symbol_kind b [] other ∙ ap (option_map Symbol) is)
+    fails other (suc zero) past within = ap is_some (kind_of-no_symbol b [] other is)
     fails other (suc (suc m)) past within = none_longer-one b bytes n other e none (suc (suc m)) (omega arith) within

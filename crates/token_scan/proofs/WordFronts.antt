@@ -50,6 +50,7 @@ word_front-cons b bytes h =
         tested : (t : Bool) → is_some (if t then Some (Word (upper (b ∷ rest))) else None) ≡ t
         tested true = refl
         tested false = refl
+
     limited : (t : Bool) → (t || false) ≡ t
     limited true = refl
     limited false = refl

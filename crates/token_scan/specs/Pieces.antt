@@ -41,9 +41,13 @@ pub record IsFirst (bytes : List ℕ) (len : ℕ) : Type 0 where
   pub within : len ≤ length bytes
   pub cut : pieces bytes ≡ take len bytes ∷ pieces (drop len bytes)
 
+-- a piece is no token
+abbrev pub HasNoToken : List ℕ → Type 0
+HasNoToken bytes = Any (λ piece. IsTrue (is_no_token piece)) (pieces bytes)
+
 -- what is read is what stands there
 abbrev pub IsPiece : List ℕ → Piece → Type 0
 IsPiece bytes Blank = IsFirst bytes 1 × (kind_of (take 1 bytes) ≡ None) × IsTrue (list_all is_blank (take 1 bytes)) × IsFalse (is_past_limit (take 1 bytes))
 IsPiece bytes (Token len kind) = IsFirst bytes len × (kind_of (take len bytes) ≡ Some kind) × IsFalse (is_past_limit (take len bytes))
 IsPiece bytes (PastLimit len) = IsFirst bytes len × IsTrue (is_some (kind_of (take len bytes))) × IsTrue (is_past_limit (take len bytes))
-IsPiece bytes NoToken = Any (λ piece. IsTrue (is_no_token piece)) (pieces bytes)
+IsPiece bytes NoToken = HasNoToken bytes

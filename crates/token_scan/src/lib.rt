@@ -5,11 +5,13 @@
 //! tokens are those of the definition, which cuts whole lists, and a line is refused exactly where it has a breach.
 #![tactic(auto)]
 
+mod case;
 mod line_tokens;
 mod number;
 mod piece;
 mod run;
+#[cfg(test)]
+mod tests;
 mod text;
-mod words;
 
 pub use line_tokens::tokens;

@@ -5,10 +5,10 @@ ghost use Rattle.std.specs.Char.{is_ascii_alphabetic, is_ascii_digit};
 ghost use Rattle.source_lines.specs.Rows.{is_delimiter};
 ghost use Rattle.token_scan.specs.Pieces.{IsPiece, begins_with, is_other};
 
+use crate::case::upper_case;
 use crate::number::value_of;
 use crate::run::{Class, run_len};
 use crate::text::closed_text;
-use crate::words::upper_case;
 use hpf_base::Name;
 use op_tables::{dot_word, symbol};
 use source_lines::{Bytes, TokenKind};

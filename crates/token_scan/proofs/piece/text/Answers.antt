@@ -12,7 +12,7 @@ overflow_add-result c = let within = rw c.in-Some.is at c.in_ok-characters.ensur
 pub returns-in-Some : goal.returns-in-Some
 returns-in-Some c =
     let read : closed_text (get_or c.args.bytes.now 0 0) (drop 1 c.args.bytes.now) ≡ Some (c.in-Some.characters.items, c.in-Some.len) =
-        ap (closed_text (get_or c.args.bytes.now 0 0)) (sym (take_rest c.args.bytes.now 1)) ∙ sym (rw c.in-Some.is at c.in_ok-characters.ensures.read) in
+    ap (closed_text (get_or c.args.bytes.now 0 0)) (sym (take_rest c.args.bytes.now 1)) ∙ sym (rw c.in-Some.is at c.in_ok-characters.ensures.read) in
     subst (λ (text : List ℕ). IsPiece c.args.bytes.now (Token (c.in-Some.len + 1) (Text text))) (sym c.new.ensures) (text_token c.args.bytes.now c.in-Some.characters.items c.in-Some.len c.requires read)
 
 pub returns-in-None : goal.returns-in-None

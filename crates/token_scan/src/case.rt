@@ -1,6 +1,6 @@
-//! Words and dot words, without case (Fortran 95, 3.2.1 and 3.2.4).
+//! Upper case.
 
-ghost use Rattle.std.specs.Prelude.{◌≡◌, ◌<◌, IfOk, length};
+ghost use Rattle.std.specs.Prelude.{◌≡◌, IfOk};
 ghost use Rattle.token_scan.specs.Tokens.{upper};
 
 use std::alloc::{AllocError, Global};
