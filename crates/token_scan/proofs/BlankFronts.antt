@@ -1,5 +1,5 @@
 -- Blanks at the front.
-use Rattle.std.proofs.Common.{◌≡◌, ℕ, zero, suc, ◌<◌, ◌≤◌, true, List, [], ◌∷◌, length, take, is_some, ap, rules, refl, arith}
+use Rattle.std.proofs.Common.{◌≡◌, ℕ, zero, suc, true, List, [], ◌∷◌, take, is_some, ap, refl, arith}
 use Rattle.source_lines.specs.Rows.{is_blank}
 use Rattle.token_scan.specs.Pieces.{begins_with, IsPiece}
 use Rattle.token_scan.specs.declared.piece.Piece.TheVariants.{Blank}

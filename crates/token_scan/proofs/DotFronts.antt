@@ -1,19 +1,17 @@
 -- Dot words at the front.
-use Rattle.std.proofs.Common.{◌≡◌, ◌≢◌, ℕ, zero, suc, ◌+◌, ◌<◌, ◌≤◌, ◌==◌, min, Bool, true, false, not, IsTrue, Any, List, [], ◌∷◌, length, map, take, drop, Option, Some, None, is_some, option_map, refl, ap, sym, subst, ◌∙◌, one-add, add-one, arith}
-use Rattle.std.specs.Char.{to_ascii_uppercase}
+use Rattle.std.proofs.Common.{◌≡◌, ◌≢◌, ℕ, zero, suc, ◌+◌, ◌≤◌, ◌==◌, min, Bool, true, false, not, List, [], ◌∷◌, length, take, drop, Some, None, is_some, option_map, refl, ap, sym, subst, ◌∙◌, arith}
 use Rattle.std.specs.List.{prefix_len}
 use Rattle.std.proofs.lemmas.Bool.{eq-eqb, eqb-true, ne_eqb}
 use Rattle.std.proofs.lemmas.List.{length-take}
-use Rattle.std.proofs.lemmas.List.Sums.{prefix_len-le-length}
 use Rattle.op_tables.specs.Words.{code_in, dot_words}
 use Rattle.source_lines.specs.declared.token.TokenKind.TheVariants.{Dot}
-use Rattle.token_scan.specs.Tokens.{is_no_token, kind_of, pieces, upper}
+use Rattle.token_scan.specs.Tokens.{kind_of, upper}
 use Rattle.token_scan.specs.Pieces.{HasNoToken, begins_with, IsPiece}
 use Rattle.token_scan.specs.declared.piece.Piece.TheVariants.{Token}
 use Rattle.token_scan.proofs.Fronts.{NoneLonger}
 use Rattle.token_scan.proofs.Tables.{code_in-outside}
 use Rattle.token_scan.proofs.FirstBytes.{kind_of-period, period-upper, length-upper}
-use Rattle.token_scan.proofs.FirstPieces.{no_token-none_longer, token_first, within_limit}
+use Rattle.token_scan.proofs.FirstPieces.{no_token-none_longer, token_first}
 
 abbrev pub no_period : ℕ → Bool
 no_period b = not (b == 46)

@@ -1,5 +1,5 @@
 -- What the first byte of a token says of its kind.
-use Rattle.std.proofs.Common.{◌≡◌, ℕ, ◌≤◌, ◌<◌, ◌==◌, ◌⊎◌, Bool, true, false, not, ◌&&◌, ◌||◌, List, [], ◌∷◌, length, get_or, Option, Some, None, pos, option_map, if◌then◌else◌, refl, ap, sym, subst, ◌∙◌, arith}
+use Rattle.std.proofs.Common.{◌≡◌, ℕ, ◌==◌, Bool, true, false, not, List, ◌∷◌, length, get_or, Option, Some, None, pos, option_map, if◌then◌else◌, refl, ap, ◌∙◌, arith}
 use Rattle.std.specs.Char.{is_ascii_alphabetic, is_ascii_digit, to_ascii_uppercase}
 use Rattle.std.specs.List.{list_all}
 use Rattle.std.specs.Str.{all_ascii_digits}
@@ -8,7 +8,6 @@ use Rattle.std.proofs.lemmas.Bool.Decides.{nat_tests}
 use Rattle.std.proofs.lemmas.List.{length-map}
 use Rattle.op_tables.specs.Words.{code_in, dot_words, symbols}
 use Rattle.source_lines.specs.Rows.{is_blank, is_delimiter}
-use Rattle.source_lines.specs.declared.token.TokenKind.{TokenKind}
 use Rattle.source_lines.specs.declared.token.TokenKind.TheVariants.{Word, Integer, Text, Dot, Symbol}
 use Rattle.token_scan.specs.Tokens.{characters, is_word_byte, kind_of, or_else, upper}
 use Rattle.token_scan.proofs.Tables.{code_in-outside}

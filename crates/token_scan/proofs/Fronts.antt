@@ -1,6 +1,6 @@
 -- How long the longest token at the front is, by which of the fronts are tokens.
 use Rattle.std.proofs.Common.{◌≡◌, ℕ, zero, suc, ◌+◌, ◌<◌, ◌≤◌, ◌⊎◌, Bool, true, false, List, [], ◌∷◌, filter, length, take, Option, Some, None, is_some, inl, inr, refl, ap, ◌∙◌, one-add, arith}
-use Rattle.std.specs.Prelude.{unwrap_or, nat_lt}
+use Rattle.std.specs.Prelude.{nat_lt}
 use Rattle.std.proofs.lemmas.Bool.{and_from, ltb-true, ltb-false}
 use Rattle.std.specs.List.{last_or, list_all, prefix_len, range_with_len}
 use Rattle.token_scan.specs.Tokens.{kind_of, longest}

@@ -1,5 +1,5 @@
 -- The tokens of a line, one after another.
-use Rattle.std.proofs.Common.{◌≡◌, ℕ, zero, suc, ◌+◌, ◌-◌, ◌<◌, ◌≤◌, Bool, true, false, not, ◌&&◌, IsTrue, IsFalse, MatchBool, Any, List, [], ◌∷◌, ◌++◌, length, take, drop, Option, Some, None, is_some, option_map, option_to_list, inl, inr, refl, ap, sym, subst, ◌∙◌, append_assoc, arith}
+use Rattle.std.proofs.Common.{◌≡◌, ℕ, ◌+◌, ◌-◌, ◌≤◌, Bool, true, false, IsTrue, MatchBool, Any, List, [], ◌∷◌, ◌++◌, length, take, drop, option_to_list, inl, inr, refl, ap, sym, subst, ◌∙◌, append_assoc, arith}
 use Rattle.std.specs.Prelude.{◌⊎◌}
 use Rattle.std.proofs.lemmas.List.{append-nil, take_rest, drop-drop, drop_all, length-take, length-drop}
 use Rattle.hpf_base.specs.Refusal.{number_of, IsFirstBreach, NoBreach}
@@ -8,7 +8,7 @@ use Rattle.hpf_base.specs.declared.refusal.Reason.TheVariants.{BadLine, Limit}
 use Rattle.source_lines.specs.declared.line.LogicalLine.{LogicalLine}
 use Rattle.source_lines.specs.declared.token.Token.{Token}
 use Rattle.source_lines.specs.declared.token.TokenKind.{TokenKind}
-use Rattle.token_scan.specs.Tokens.{is_no_token, is_past_limit, kind_of, pieces, token_at, tokens, tokens_from, IsPieceBreach, IsTokenBreach}
+use Rattle.token_scan.specs.Tokens.{is_no_token, is_past_limit, pieces, token_at, tokens, tokens_from, IsPieceBreach, IsTokenBreach}
 use Rattle.token_scan.specs.Pieces.{IsFirst, IsPiece}
 use Rattle.token_scan.specs.declared.piece.Piece.{Piece}
 use Rattle.token_scan.specs.declared.piece.Piece.TheVariants as piece

@@ -1,5 +1,5 @@
 -- Symbols at the front.
-use Rattle.std.proofs.Common.{◌≡◌, ℕ, zero, suc, ◌<◌, ◌≤◌, ◌==◌, min, Bool, true, false, not, ◌&&◌, IsTrue, Any, List, [], ◌∷◌, length, take, Option, Some, None, is_some, option_map, refl, ap, sym, subst, ◌∙◌, arith}
+use Rattle.std.proofs.Common.{◌≡◌, ℕ, zero, suc, ◌==◌, min, Bool, true, false, not, List, [], ◌∷◌, length, take, Some, None, is_some, option_map, refl, ap, sym, subst, ◌∙◌, arith}
 use Rattle.std.specs.Prelude.{nat_le}
 use Rattle.std.specs.Char.{is_ascii_alphabetic, is_ascii_digit}
 use Rattle.std.proofs.lemmas.Bool.{and_parts, lt-leb}
@@ -7,7 +7,7 @@ use Rattle.std.proofs.lemmas.List.{length-take}
 use Rattle.op_tables.specs.Words.{code_in, symbols}
 use Rattle.source_lines.specs.Rows.{is_blank, is_delimiter}
 use Rattle.source_lines.specs.declared.token.TokenKind.TheVariants.{Symbol}
-use Rattle.token_scan.specs.Tokens.{is_no_token, kind_of, pieces}
+use Rattle.token_scan.specs.Tokens.{kind_of}
 use Rattle.token_scan.specs.Pieces.{HasNoToken, begins_with, is_other, IsPiece}
 use Rattle.token_scan.specs.declared.piece.Piece.TheVariants.{Token}
 use Rattle.token_scan.proofs.Fronts.{NoneLonger}

@@ -1,15 +1,13 @@
 -- Texts at the front.
-use Rattle.std.proofs.Common.{◌≡◌, ℕ, zero, suc, ◌+◌, ◌-◌, ◌<◌, ◌≤◌, ◌==◌, Bool, true, false, IsTrue, Any, List, [], ◌∷◌, ◌++◌, length, take, drop, Option, Some, None, is_some, IfSome, option_map, get_or, append_assoc, if◌then◌else◌, inl, inr, refl, ap, sym, subst, ◌∙◌, one-add, add-one, arith}
+use Rattle.std.proofs.Common.{◌≡◌, ℕ, zero, suc, ◌+◌, ◌<◌, ◌≤◌, ◌==◌, Bool, true, false, IsTrue, Any, List, [], ◌∷◌, ◌++◌, length, take, drop, Option, Some, None, is_some, IfSome, option_map, get_or, append_assoc, inl, inr, refl, ap, sym, subst, ◌∙◌, one-add, add-one, arith}
 use Rattle.std.specs.Prelude.{◌⊎◌}
 use Rattle.std.proofs.lemmas.Bool.{eqb-true, eq-eqb, ne_eqb}
 use Rattle.std.proofs.Math.Seq.{drop-cons}
-use Rattle.std.proofs.lemmas.Bool.Decides.{nat_tests}
 use Rattle.std.proofs.lemmas.List.{length-drop}
-use Rattle.source_lines.specs.Rows.{is_blank, is_delimiter}
-use Rattle.source_lines.specs.declared.token.TokenKind.{TokenKind}
+use Rattle.source_lines.specs.Rows.{is_delimiter}
 use Rattle.source_lines.specs.declared.token.TokenKind.TheVariants.{Text}
 use Rattle.source_lines.proofs.Cuts.{cut-first}
-use Rattle.token_scan.specs.Tokens.{characters, is_no_token, is_past_limit, kind_of, longer, longest, pieces}
+use Rattle.token_scan.specs.Tokens.{characters, is_no_token, kind_of, longer, longest, pieces}
 use Rattle.token_scan.specs.Pieces.{HasNoToken, begins_with, closed_text, longer_text, IsPiece}
 use Rattle.token_scan.specs.declared.piece.Piece.TheVariants.{Token}
 use Rattle.token_scan.proofs.Fronts.{NoneLonger, longest-either}

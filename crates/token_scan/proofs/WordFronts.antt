@@ -1,15 +1,15 @@
 -- Words at the front.
-use Rattle.std.proofs.Common.{◌≡◌, ℕ, suc, ◌+◌, ◌<◌, ◌≤◌, Bool, true, false, ◌&&◌, IsTrue, IsFalse, ◌||◌, if◌then◌else◌, None, List, [], ◌∷◌, length, map, take, Some, is_some, refl, ap, sym, subst, ◌∙◌, one-add, arith}
+use Rattle.std.proofs.Common.{◌≡◌, ℕ, suc, ◌≤◌, Bool, true, false, ◌||◌, if◌then◌else◌, None, List, [], ◌∷◌, length, take, Some, is_some, refl, ap, sym, subst, ◌∙◌, one-add, arith}
 use Rattle.std.specs.Prelude.{nat_lt}
 use Rattle.std.specs.Char.{is_ascii_alphabetic, to_ascii_uppercase}
 use Rattle.std.specs.List.{list_all, prefix_len}
-use Rattle.std.proofs.lemmas.Bool.{and_parts, and_from, ltb-true, ltb-false, lt-ltb, le-ltb}
+use Rattle.std.proofs.lemmas.Bool.{and_parts, and_from, ltb-false, le-ltb}
 use Rattle.std.proofs.lemmas.Bool.Decides.{nat_tests}
 use Rattle.std.proofs.lemmas.List.{length-take}
 use Rattle.std.proofs.lemmas.List.Sums.{prefix_len-le-length}
 use Rattle.hpf_base.specs.Name.{IsName, is_name_byte}
 use Rattle.source_lines.specs.declared.token.TokenKind.TheVariants.{Word}
-use Rattle.token_scan.specs.Tokens.{is_past_limit, is_word, is_word_byte, kind_of, upper}
+use Rattle.token_scan.specs.Tokens.{is_past_limit, is_word_byte, kind_of, upper}
 use Rattle.token_scan.specs.Pieces.{begins_with, IsFirst, IsPiece}
 use Rattle.token_scan.specs.declared.piece.Piece.TheVariants.{Token, PastLimit}
 use Rattle.token_scan.proofs.Fronts.{list_all-within, none_longer-run, token-run}

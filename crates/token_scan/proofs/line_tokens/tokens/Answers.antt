@@ -1,4 +1,4 @@
-use Rattle.std.proofs.Common.{◌≡◌, Bool, length, List, ◌+◌, ◌++◌, ◌∷◌, [], sym, ap, subst, ◌∙◌, arith}
+use Rattle.std.proofs.Common.{Bool, length, List, ◌+◌, ◌++◌, ◌∷◌, [], sym, ap, subst, ◌∙◌, arith}
 use Rattle.hpf_base.specs.Refusal.{IsRefusalBy}
 use Rattle.hpf_base.specs.declared.refusal.StaticError.{StaticError}
 use Rattle.source_lines.specs.declared.token.Token.{Token}

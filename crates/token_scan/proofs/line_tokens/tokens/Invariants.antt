@@ -1,4 +1,4 @@
-use Rattle.std.proofs.Common.{◌≡◌, length, ◌-◌}
+use Rattle.std.proofs.Common.{length, ◌-◌}
 use Rattle.token_scan.proofs.LineScan.{IsScanned}
 use Rattle.token_scan.proofs.line_tokens.tokens.Given as goal
 
