@@ -6,7 +6,8 @@ use Rattle.std.proofs.lemmas.List.{length-take}
 use Rattle.op_tables.specs.Words.{code_in, dot_words}
 use Rattle.source_lines.specs.declared.token.TokenKind.TheVariants.{Dot}
 use Rattle.token_scan.specs.Tokens.{kind_of, upper}
-use Rattle.token_scan.specs.Pieces.{HasNoToken, begins_with, IsPiece}
+use Rattle.hpf_base.specs.declared.refusal.Reason.TheVariants.{BadLine}
+use Rattle.token_scan.specs.Pieces.{HasBreach, begins_with, IsPiece}
 use Rattle.token_scan.specs.declared.piece.Piece.TheVariants.{Token}
 use Rattle.token_scan.proofs.Fronts.{NoneLonger}
 use Rattle.token_scan.proofs.Tables.{code_in-outside}
@@ -50,7 +51,7 @@ none_longer-dot bytes zero past within = absurd (omega arith)
 none_longer-dot bytes (suc m) past within = ap is_some (no_dot_word-elsewhere bytes m (omega arith) (λ e. absurd (omega arith)))
 
 -- there is no next period, or what ends with it is no dot word
-no_dot : (bytes : List ℕ) → ((m : ℕ) → m ≡ prefix_len no_period bytes + 1 → m ≤ length bytes → kind_of (46 ∷ take m bytes) ≡ None) → HasNoToken (46 ∷ bytes)
+no_dot : (bytes : List ℕ) → ((m : ℕ) → m ≡ prefix_len no_period bytes + 1 → m ≤ length bytes → kind_of (46 ∷ take m bytes) ≡ None) → HasBreach BadLine (46 ∷ bytes)
 no_dot bytes none = no_token-none_longer 46 bytes fails refl
   where
     fails : NoneLonger (46 ∷ bytes) 0
@@ -77,21 +78,21 @@ dot_token (b ∷ bytes) len code h =
     (sym (eqb-true b 46 h)) (dot_token-cons bytes len code)
 
 pub dot_unclosed : (bytes : List ℕ) (len : ℕ) → begins_with (λ b. b == 46) bytes ≡ true → len ≡ prefix_len no_period (drop 1 bytes) → len + 1 ≡ length bytes
-    → HasNoToken bytes
+    → HasBreach BadLine bytes
 dot_unclosed [] len h e all = absurd cc
 dot_unclosed (b ∷ bytes) len h e all =
-    subst (λ (x : ℕ). HasNoToken (x ∷ bytes)) (sym (eqb-true b 46 h)) (no_dot bytes (λ m at within. absurd (omega arith)))
+    subst (λ (x : ℕ). HasBreach BadLine (x ∷ bytes)) (sym (eqb-true b 46 h)) (no_dot bytes (λ m at within. absurd (omega arith)))
 
 dot_unknown-cons : (rest : List ℕ) (len : ℕ) → len ≡ prefix_len no_period rest → code_in dot_words (upper (take (len + 2) (46 ∷ rest))) ≡ None
-    → HasNoToken (46 ∷ rest)
+    → HasBreach BadLine (46 ∷ rest)
 dot_unknown-cons rest len e is =
     no_dot rest (λ m at within.
     let split : len + 2 ≡ suc m = omega arith in
     kind_of-unknown (take m rest) (rw split at is))
 
 pub dot_unknown : (bytes : List ℕ) (len : ℕ) → begins_with (λ b. b == 46) bytes ≡ true → len ≡ prefix_len no_period (drop 1 bytes)
-    → code_in dot_words (upper (take (len + 2) bytes)) ≡ None → HasNoToken bytes
+    → code_in dot_words (upper (take (len + 2) bytes)) ≡ None → HasBreach BadLine bytes
 dot_unknown [] len h = absurd cc
 dot_unknown (b ∷ bytes) len h =
-    subst (λ (x : ℕ). len ≡ prefix_len no_period bytes → code_in dot_words (upper (take (len + 2) (x ∷ bytes))) ≡ None → HasNoToken (x ∷ bytes))
+    subst (λ (x : ℕ). len ≡ prefix_len no_period bytes → code_in dot_words (upper (take (len + 2) (x ∷ bytes))) ≡ None → HasBreach BadLine (x ∷ bytes))
     (sym (eqb-true b 46 h)) (dot_unknown-cons bytes len)

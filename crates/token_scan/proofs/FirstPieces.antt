@@ -1,12 +1,14 @@
 -- The first piece of bytes.
-use Rattle.std.proofs.Common.{◌≡◌, ℕ, zero, suc, ◌≤◌, true, false, IsTrue, Any, List, [], ◌∷◌, length, take, Option, Some, None, is_some, inl, inr, subst, refl, sym, ◌∙◌, arith}
+use Rattle.std.proofs.Common.{◌≡◌, ℕ, zero, suc, ◌≤◌, true, false, Any, List, [], ◌∷◌, length, take, Option, Some, None, is_some, inl, inr, subst, refl, sym, ◌∙◌, arith}
 use Rattle.std.specs.Prelude.{◌⊎◌}
 use Rattle.std.specs.Char.{is_ascii_alphabetic, is_ascii_digit}
 use Rattle.source_lines.specs.declared.token.TokenKind.{TokenKind}
 use Rattle.source_lines.specs.Rows.{is_blank}
 use Rattle.source_lines.proofs.Cuts.{cut-cons, cut-first}
-use Rattle.token_scan.specs.Tokens.{is_no_token, is_past_limit, kind_of, longest, pieces}
-use Rattle.token_scan.specs.Pieces.{HasNoToken, IsFirst}
+use Rattle.token_scan.specs.Tokens.{is_past_limit, kind_of, longest, pieces}
+use Rattle.hpf_base.specs.declared.refusal.Reason.TheVariants.{BadLine}
+use Rattle.token_scan.specs.Tokens.{IsPieceBreach}
+use Rattle.token_scan.specs.Pieces.{HasBreach, IsFirst}
 use Rattle.token_scan.proofs.Fronts.{NoneLonger, longest-some, longest-none}
 
 pub any_here : {A : Type 0} (P : A → Type 0) (x : A) (xs : List A) → P x → Any P (x ∷ xs)
@@ -21,7 +23,7 @@ any_cases P x xs (suc k, y, within, at, h) = inr (k, y, omega arith, at, h)
 
 pub token_first : (bytes : List ℕ) (n : ℕ) → 1 ≤ n → n ≤ length bytes → is_some (kind_of (take n bytes)) ≡ true → NoneLonger bytes n → IsFirst bytes n
 token_first bytes n some within passes fails =
-    record { some = some; within = within; cut = cut-first longest bytes n (longest-some bytes n some within passes fails) some within }
+    record { some = some; within = within; cut = cut-first longest bytes n (longest-some bytes n (some, within, passes) fails) some within }
 
 -- where no token begins, the first piece is one byte
 pub byte_first : (b : ℕ) (bytes : List ℕ) → longest (b ∷ bytes) ≡ 0 → IsFirst (b ∷ bytes) 1
@@ -29,13 +31,13 @@ byte_first b bytes none =
     record { some = omega arith; within = omega arith; cut = cut-cons longest b bytes ∙ rw none refl }
 
 -- where no token begins, and no blank stands
-pub no_token_first : (b : ℕ) (bytes : List ℕ) → longest (b ∷ bytes) ≡ 0 → kind_of (b ∷ []) ≡ None → is_blank b ≡ false → HasNoToken (b ∷ bytes)
+pub no_token_first : (b : ℕ) (bytes : List ℕ) → longest (b ∷ bytes) ≡ 0 → kind_of (b ∷ []) ≡ None → is_blank b ≡ false → HasBreach BadLine (b ∷ bytes)
 no_token_first b bytes none kind blank =
-    subst (λ (l : List (List ℕ)). Any (λ piece. IsTrue (is_no_token piece)) l) (sym (byte_first b bytes none).cut)
-    (any_here (λ piece. IsTrue (is_no_token piece)) (b ∷ []) (pieces bytes) (rw (kind, blank) refl))
+    subst (λ (l : List (List ℕ)). Any (IsPieceBreach BadLine) l) (sym (byte_first b bytes none).cut)
+    (any_here (IsPieceBreach BadLine) (b ∷ []) (pieces bytes) (rw (kind, blank) refl))
 
 -- no front is a token, and no blank stands
-pub no_token-none_longer : (b : ℕ) (bytes : List ℕ) → NoneLonger (b ∷ bytes) 0 → is_blank b ≡ false → HasNoToken (b ∷ bytes)
+pub no_token-none_longer : (b : ℕ) (bytes : List ℕ) → NoneLonger (b ∷ bytes) 0 → is_blank b ≡ false → HasBreach BadLine (b ∷ bytes)
 no_token-none_longer b bytes fails blank = no_token_first b bytes (longest-none (b ∷ bytes) fails) (none (kind_of (b ∷ [])) (fails 1 (omega arith) (omega arith))) blank
   where
     none : (kind : Option TokenKind) → is_some kind ≡ false → kind ≡ None

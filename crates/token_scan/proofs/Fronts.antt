@@ -5,55 +5,54 @@ use Rattle.std.proofs.lemmas.Bool.{and_from, ltb-true, ltb-false}
 use Rattle.std.specs.List.{last_or, list_all, prefix_len, range_with_len}
 use Rattle.token_scan.specs.Tokens.{kind_of, longest}
 
+-- the last of so many numbers from one on that passes a test, or else another value
+abbrev last_that : (ℕ → Bool) → Option ℕ → ℕ → ℕ → Option ℕ
+last_that test other from count = last_or other (filter test (range_with_len from count))
+
 -- no number passes the test
-last_or-none : (test : ℕ → Bool) (other : Option ℕ) (from count : ℕ)
-    → ((m : ℕ) → from ≤ m → m < from + count → test m ≡ false)
-    → last_or other (filter test (range_with_len from count)) ≡ other
-last_or-none test other from zero fails = refl
-last_or-none test other from (suc count) fails =
+last_that-none : (test : ℕ → Bool) (other : Option ℕ) (from count : ℕ) → ((m : ℕ) → from ≤ m → m < from + count → test m ≡ false) → last_that test other from count ≡ other
+last_that-none test other from zero fails = refl
+last_that-none test other from (suc count) fails =
     let first : test from ≡ false = fails from (omega arith) (omega arith) in
-    rw first (last_or-none test other (from + 1) count (λ m h g. fails m (omega arith) (omega arith)))
+    rw first (last_that-none test other (from + 1) count (λ m h g. fails m (omega arith) (omega arith)))
 
 -- n passes the test, and no number above it
-last_or-some : (test : ℕ → Bool) (other : Option ℕ) (from count n : ℕ) → from ≤ n → n < from + count
-    → test n ≡ true → ((m : ℕ) → n < m → m < from + count → test m ≡ false)
-    → last_or other (filter test (range_with_len from count)) ≡ Some n
-last_or-some test other from zero n begins ends passes fails = absurd (omega arith)
-last_or-some test other from (suc count) n begins ends passes fails =
+last_that-some : (test : ℕ → Bool) (other : Option ℕ) (from count n : ℕ) → from ≤ n → n < from + count → test n ≡ true
+    → ((m : ℕ) → n < m → m < from + count → test m ≡ false) → last_that test other from count ≡ Some n
+last_that-some test other from zero n begins ends passes fails = absurd (omega arith)
+last_that-some test other from (suc count) n begins ends passes fails =
     step (nat_lt from n) refl (test from) refl
-    (λ (o : Option ℕ) (h : from < n). last_or-some test o (from + 1) count n (omega arith) (omega arith) passes (λ m h g. fails m h (omega arith)))
+    (λ (o : Option ℕ) (h : from < n). last_that-some test o (from + 1) count n (omega arith) (omega arith) passes (λ m h g. fails m h (omega arith)))
   where
-    step : (later : Bool) → nat_lt from n ≡ later → (t : Bool) → test from ≡ t
-        → ((o : Option ℕ) → from < n → last_or o (filter test (range_with_len (from + 1) count)) ≡ Some n)
-        → last_or other (filter test (range_with_len from (suc count))) ≡ Some n
+    step : (later : Bool) → nat_lt from n ≡ later → (t : Bool) → test from ≡ t → ((o : Option ℕ) → from < n → last_that test o (from + 1) count ≡ Some n)
+        → last_that test other from (suc count) ≡ Some n
     step true h true e behind = rw e (behind (Some from) (ltb-true _ _ h))
     step true h false e behind = rw e (behind other (ltb-true _ _ h))
     step false h t e behind =
         let same : from ≡ n = omega (arith, ltb-false _ _ h) in
         let here : test from ≡ true = ap test same ∙ passes in
-        rw here (last_or-none test (Some from) (from + 1) count (λ m h g. fails m (omega arith) (omega arith)) ∙ ap Some same)
+        rw here (last_that-none test (Some from) (from + 1) count (λ m h g. fails m (omega arith) (omega arith)) ∙ ap Some same)
 
--- a number from `from` on and before `end` that passes the test and is the last to do so
-abbrev IsLast : (ℕ → Bool) → Option ℕ → ℕ → ℕ → Type 0
-IsLast test last from end = (n : ℕ) × (last ≡ Some n) × (from ≤ n) × (n < end) × (test n ≡ true)
+-- the last is a number from `from` on and before `end` that passes the test
+abbrev IsFound : (ℕ → Bool) → Option ℕ → ℕ → ℕ → Type 0
+IsFound test last from end = (n : ℕ) × (last ≡ Some n) × (from ≤ n) × (n < end) × (test n ≡ true)
 
--- no number passes the test, or one is the last
-last_or-either : (test : ℕ → Bool) (other : Option ℕ) (from count : ℕ)
-    → (last_or other (filter test (range_with_len from count)) ≡ other) ⊎ IsLast test (last_or other (filter test (range_with_len from count))) from (from + count)
-last_or-either test other from zero = inl refl
-last_or-either test other from (suc count) = step (test from) refl (λ (o : Option ℕ). last_or-either test o (from + 1) count)
+last_that-either : (test : ℕ → Bool) (other : Option ℕ) (from count : ℕ) → (last_that test other from count ≡ other) ⊎ IsFound test (last_that test other from count) from (from + count)
+last_that-either test other from zero = inl refl
+last_that-either test other from (suc count) = step (test from) refl (λ (o : Option ℕ). last_that-either test o (from + 1) count)
   where
-    step : (t : Bool) → test from ≡ t
-        → ((o : Option ℕ) → (last_or o (filter test (range_with_len (from + 1) count)) ≡ o) ⊎ IsLast test (last_or o (filter test (range_with_len (from + 1) count))) (from + 1) (from + 1 + count))
-        → (last_or other (filter test (range_with_len from (suc count))) ≡ other) ⊎ IsLast test (last_or other (filter test (range_with_len from (suc count)))) from (from + suc count)
+    step : (t : Bool) → test from ≡ t → ((o : Option ℕ) → (last_that test o (from + 1) count ≡ o) ⊎ IsFound test (last_that test o (from + 1) count) (from + 1) (from + 1 + count))
+        → (last_that test other from (suc count) ≡ other) ⊎ IsFound test (last_that test other from (suc count)) from (from + suc count)
     step true e behind = rw e (inr (here (behind (Some from))))
       where
-        here : (last_or (Some from) (filter test (range_with_len (from + 1) count)) ≡ Some from) ⊎ IsLast test (last_or (Some from) (filter test (range_with_len (from + 1) count))) (from + 1) (from + 1 + count) → IsLast test (last_or (Some from) (filter test (range_with_len (from + 1) count))) from (from + suc count)
+        here : (last_that test (Some from) (from + 1) count ≡ Some from) ⊎ IsFound test (last_that test (Some from) (from + 1) count) (from + 1) (from + 1 + count)
+            → IsFound test (last_that test (Some from) (from + 1) count) from (from + suc count)
         here (inl is) = (from, is, omega arith, omega arith, e)
         here (inr (n, is, begins, ends, passes)) = (n, is, omega arith, omega arith, passes)
     step false e behind = rw e (later (behind other))
       where
-        later : (last_or other (filter test (range_with_len (from + 1) count)) ≡ other) ⊎ IsLast test (last_or other (filter test (range_with_len (from + 1) count))) (from + 1) (from + 1 + count) → (last_or other (filter test (range_with_len (from + 1) count)) ≡ other) ⊎ IsLast test (last_or other (filter test (range_with_len (from + 1) count))) from (from + suc count)
+        later : (last_that test other (from + 1) count ≡ other) ⊎ IsFound test (last_that test other (from + 1) count) (from + 1) (from + 1 + count)
+            → (last_that test other (from + 1) count ≡ other) ⊎ IsFound test (last_that test other (from + 1) count) from (from + suc count)
         later (inl is) = inl is
         later (inr (n, is, begins, ends, passes)) = inr (n, is, omega arith, omega arith, passes)
 
@@ -61,21 +60,25 @@ last_or-either test other from (suc count) = step (test from) refl (λ (o : Opti
 abbrev pub NoneLonger : List ℕ → ℕ → Type 0
 NoneLonger bytes n = (m : ℕ) → n < m → m ≤ length bytes → is_some (kind_of (take m bytes)) ≡ false
 
-pub longest-some : (bytes : List ℕ) (n : ℕ) → 1 ≤ n → n ≤ length bytes → is_some (kind_of (take n bytes)) ≡ true → NoneLonger bytes n → longest bytes ≡ n
-longest-some bytes n begins ends passes fails =
-    rw (last_or-some (λ m. is_some (kind_of (take m bytes))) None 1 (length bytes) n begins (omega arith) passes (λ m h g. fails m h (omega arith))) refl
+-- the front of so many bytes is a token
+abbrev pub IsToken : List ℕ → ℕ → Type 0
+IsToken bytes n = (1 ≤ n) × (n ≤ length bytes) × (is_some (kind_of (take n bytes)) ≡ true)
+
+abbrev is_token : List ℕ → ℕ → Bool
+is_token bytes n = is_some (kind_of (take n bytes))
+
+pub longest-some : (bytes : List ℕ) (n : ℕ) → IsToken bytes n → NoneLonger bytes n → longest bytes ≡ n
+longest-some bytes n (some, within, passes) fails =
+    rw (last_that-some (is_token bytes) None 1 (length bytes) n some (omega arith) passes (λ m h g. fails m h (omega arith))) refl
 
 pub longest-none : (bytes : List ℕ) → NoneLonger bytes 0 → longest bytes ≡ 0
-longest-none bytes fails =
-    rw (last_or-none (λ m. is_some (kind_of (take m bytes))) None 1 (length bytes) (λ m h g. fails m h (omega arith))) refl
+longest-none bytes fails = rw (last_that-none (is_token bytes) None 1 (length bytes) (λ m h g. fails m h (omega arith))) refl
 
-pub longest-either : (bytes : List ℕ) → (longest bytes ≡ 0) ⊎ ((1 ≤ longest bytes) × (longest bytes ≤ length bytes) × (is_some (kind_of (take (longest bytes) bytes)) ≡ true))
-longest-either bytes = step (last_or-either (λ m. is_some (kind_of (take m bytes))) None 1 (length bytes))
+pub longest-either : (bytes : List ℕ) → (longest bytes ≡ 0) ⊎ IsToken bytes (longest bytes)
+longest-either bytes = step (last_that-either (is_token bytes) None 1 (length bytes))
   where
-    last : Option ℕ
-    last = last_or None (filter (λ m. is_some (kind_of (take m bytes))) (range_with_len 1 (length bytes)))
-
-    step : (last ≡ None) ⊎ IsLast (λ m. is_some (kind_of (take m bytes))) last 1 (1 + length bytes) → (longest bytes ≡ 0) ⊎ ((1 ≤ longest bytes) × (longest bytes ≤ length bytes) × (is_some (kind_of (take (longest bytes) bytes)) ≡ true))
+    step : (last_that (is_token bytes) None 1 (length bytes) ≡ None) ⊎ IsFound (is_token bytes) (last_that (is_token bytes) None 1 (length bytes)) 1 (1 + length bytes)
+        → (longest bytes ≡ 0) ⊎ IsToken bytes (longest bytes)
     step (inl is) = inl (rw is refl)
     step (inr (n, is, begins, ends, passes)) = inr (let e : longest bytes ≡ n = rw is refl in rw e (begins, omega arith, passes))
 

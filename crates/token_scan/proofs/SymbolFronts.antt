@@ -8,7 +8,8 @@ use Rattle.op_tables.specs.Words.{code_in, symbols}
 use Rattle.source_lines.specs.Rows.{is_blank, is_delimiter}
 use Rattle.source_lines.specs.declared.token.TokenKind.TheVariants.{Symbol}
 use Rattle.token_scan.specs.Tokens.{kind_of}
-use Rattle.token_scan.specs.Pieces.{HasNoToken, begins_with, is_other, IsPiece}
+use Rattle.hpf_base.specs.declared.refusal.Reason.TheVariants.{BadLine}
+use Rattle.token_scan.specs.Pieces.{HasBreach, begins_with, is_other, IsPiece}
 use Rattle.token_scan.specs.declared.piece.Piece.TheVariants.{Token}
 use Rattle.token_scan.proofs.Fronts.{NoneLonger}
 use Rattle.token_scan.proofs.Tables.{code_in-outside}
@@ -74,7 +75,7 @@ symbol_of_one (b ∷ bytes) n code h e none is =
     (token_first (b ∷ bytes) 1 (omega arith) (omega arith) (ap is_some kind) (none_longer-one b bytes n other e none), kind, within_limit b [] other.letter other.digit)
 
 pub no_symbol_first : (bytes : List ℕ) (n : ℕ) → begins_with is_other bytes ≡ true → n ≡ min (length bytes) 2 → code_in symbols (take n bytes) ≡ None
-    → code_in symbols (take 1 bytes) ≡ None → HasNoToken bytes
+    → code_in symbols (take 1 bytes) ≡ None → HasBreach BadLine bytes
 no_symbol_first [] n h e none is = absurd cc
 no_symbol_first (b ∷ bytes) n h e none is =
     let other : IsOther b = other_parts b h in

@@ -1,5 +1,5 @@
 -- Texts at the front.
-use Rattle.std.proofs.Common.{◌≡◌, ℕ, zero, suc, ◌+◌, ◌<◌, ◌≤◌, ◌==◌, Bool, true, false, IsTrue, Any, List, [], ◌∷◌, ◌++◌, length, take, drop, Option, Some, None, is_some, IfSome, option_map, get_or, append_assoc, inl, inr, refl, ap, sym, subst, ◌∙◌, one-add, add-one, arith}
+use Rattle.std.proofs.Common.{◌≡◌, ℕ, zero, suc, ◌+◌, ◌<◌, ◌≤◌, ◌==◌, Bool, true, false, Any, List, [], ◌∷◌, ◌++◌, length, take, drop, Option, Some, None, is_some, IfSome, option_map, get_or, append_assoc, inl, inr, refl, ap, sym, subst, ◌∙◌, one-add, add-one, arith}
 use Rattle.std.specs.Prelude.{◌⊎◌}
 use Rattle.std.proofs.lemmas.Bool.{eqb-true, eq-eqb, ne_eqb}
 use Rattle.std.proofs.Math.Seq.{drop-cons}
@@ -7,10 +7,12 @@ use Rattle.std.proofs.lemmas.List.{length-drop}
 use Rattle.source_lines.specs.Rows.{is_delimiter}
 use Rattle.source_lines.specs.declared.token.TokenKind.TheVariants.{Text}
 use Rattle.source_lines.proofs.Cuts.{cut-first}
-use Rattle.token_scan.specs.Tokens.{characters, is_no_token, kind_of, longer, longest, pieces}
-use Rattle.token_scan.specs.Pieces.{HasNoToken, begins_with, closed_text, longer_text, IsPiece}
+use Rattle.token_scan.specs.Tokens.{characters, kind_of, longer, longest, pieces}
+use Rattle.hpf_base.specs.declared.refusal.Reason.TheVariants.{BadLine}
+use Rattle.token_scan.specs.Tokens.{IsPieceBreach}
+use Rattle.token_scan.specs.Pieces.{HasBreach, begins_with, closed_text, longer_text, IsPiece}
 use Rattle.token_scan.specs.declared.piece.Piece.TheVariants.{Token}
-use Rattle.token_scan.proofs.Fronts.{NoneLonger, longest-either}
+use Rattle.token_scan.proofs.Fronts.{IsToken, NoneLonger, longest-either}
 use Rattle.token_scan.proofs.FirstBytes.{kind_of-delimiter, delimiter_not-letter, delimiter_not-digit, delimiter_not-blank}
 use Rattle.token_scan.proofs.FirstPieces.{any_behind, no_token_first, token_first, within_limit}
 
@@ -178,30 +180,30 @@ open_behind delimiter (b ∷ c ∷ bytes) (suc n) none h = step (b == delimiter)
     step false e u f n h doubled other = open_behind-other delimiter b (c ∷ bytes) n e other none h
 
 text_open-step : (delimiter : ℕ) (bytes : List ℕ) → is_delimiter delimiter ≡ true → closed_text delimiter bytes ≡ None
-    → ((rest : List ℕ) → length rest < length bytes → closed_text delimiter rest ≡ None → HasNoToken (delimiter ∷ rest))
-    → HasNoToken (delimiter ∷ bytes)
+    → ((rest : List ℕ) → length rest < length bytes → closed_text delimiter rest ≡ None → HasBreach BadLine (delimiter ∷ rest))
+    → HasBreach BadLine (delimiter ∷ bytes)
 text_open-step delimiter bytes delim none again = cases (longest-either (delimiter ∷ bytes))
   where
-    at_length : (n : ℕ) → longest (delimiter ∷ bytes) ≡ n → 1 ≤ n → n ≤ length (delimiter ∷ bytes) → is_some (kind_of (take n (delimiter ∷ bytes))) ≡ true → HasNoToken (delimiter ∷ bytes)
+    at_length : (n : ℕ) → longest (delimiter ∷ bytes) ≡ n → 1 ≤ n → n ≤ length (delimiter ∷ bytes) → is_some (kind_of (take n (delimiter ∷ bytes))) ≡ true → HasBreach BadLine (delimiter ∷ bytes)
     at_length zero e some within passes = absurd (omega arith)
     at_length (suc n) e some within passes =
         let behind : IsOpenBehind delimiter bytes n = open_behind delimiter bytes n none (sym (is_some-option_map Text _) ∙ sym (ap is_some (kind_of-delimiter delimiter (take n bytes) delim)) ∙ passes) in
         let cut : pieces (delimiter ∷ bytes) ≡ take (suc n) (delimiter ∷ bytes) ∷ pieces (drop (suc n) (delimiter ∷ bytes)) = cut-first longest (delimiter ∷ bytes) (suc n) e some within in
-        subst (λ (l : List (List ℕ)). Any (λ piece. IsTrue (is_no_token piece)) l) (sym cut)
+        subst (λ (l : List (List ℕ)). Any (IsPieceBreach BadLine) l) (sym cut)
         (any_behind _ (delimiter ∷ take n bytes) (pieces (drop n bytes))
-        (subst (λ (l : List ℕ). HasNoToken l) (sym behind.1)
+        (subst (λ (l : List ℕ). HasBreach BadLine l) (sym behind.1)
         (again behind.0 (omega (arith, ap length behind.1, length-drop n bytes)) behind.2)))
 
-    cases : (longest (delimiter ∷ bytes) ≡ 0) ⊎ ((1 ≤ longest (delimiter ∷ bytes)) × (longest (delimiter ∷ bytes) ≤ length (delimiter ∷ bytes)) × (is_some (kind_of (take (longest (delimiter ∷ bytes)) (delimiter ∷ bytes))) ≡ true)) → HasNoToken (delimiter ∷ bytes)
+    cases : (longest (delimiter ∷ bytes) ≡ 0) ⊎ IsToken (delimiter ∷ bytes) (longest (delimiter ∷ bytes)) → HasBreach BadLine (delimiter ∷ bytes)
     cases (inl none) = no_token_first delimiter bytes none (kind_of-delimiter delimiter [] delim) (delimiter_not-blank delimiter delim)
     cases (inr (some, within, passes)) = at_length _ refl some within passes
 
 text_open-within : (bound delimiter : ℕ) (bytes : List ℕ) → length bytes ≤ bound → is_delimiter delimiter ≡ true → closed_text delimiter bytes ≡ None
-    → HasNoToken (delimiter ∷ bytes)
+    → HasBreach BadLine (delimiter ∷ bytes)
 text_open-within zero delimiter bytes within delim none = text_open-step delimiter bytes delim none (λ rest lt e. absurd (omega arith))
 text_open-within (suc bound) delimiter bytes within delim none = text_open-step delimiter bytes delim none (λ rest lt e. text_open-within bound delimiter rest (omega arith) delim e)
 
 -- an open text has a piece that is no token
-pub text_open : (bytes : List ℕ) → begins_with is_delimiter bytes ≡ true → closed_text (get_or bytes 0 0) (drop 1 bytes) ≡ None → HasNoToken bytes
+pub text_open : (bytes : List ℕ) → begins_with is_delimiter bytes ≡ true → closed_text (get_or bytes 0 0) (drop 1 bytes) ≡ None → HasBreach BadLine bytes
 text_open [] delim none = absurd cc
 text_open (b ∷ bytes) delim none = text_open-within (length bytes) b bytes (omega arith) delim none

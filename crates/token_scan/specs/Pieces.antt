@@ -2,13 +2,16 @@
 use Rattle.std.specs.Prelude.{◌≡◌, ℕ, ◌+◌, ◌≤◌, ◌==◌, Bool, false, not, ◌&&◌, IsTrue, IsFalse, Any, List, [], ◌∷◌, length, take, drop, Option, Some, None, is_some, option_map, if◌then◌else◌}
 use Rattle.std.specs.Char.{is_ascii_alphabetic, is_ascii_digit}
 use Rattle.std.specs.List.{list_all}
+use Rattle.hpf_base.specs.declared.refusal.Reason.{Reason}
+use Rattle.hpf_base.specs.declared.refusal.Reason.TheVariants.{BadLine}
 use Rattle.source_lines.specs.Rows.{is_blank, is_delimiter}
 use Rattle.token_scan.specs.declared.piece.Piece.{Piece}
 use Rattle.token_scan.specs.declared.piece.Piece.TheVariants.{Blank, Token, PastLimit, NoToken}
 use Rattle.token_scan.specs.declared.run.Class.{Class}
 use Rattle.token_scan.specs.declared.run.Class.TheVariants.{InWord, Digit, NoPeriod}
-use Rattle.token_scan.specs.Tokens.{is_no_token, is_past_limit, is_word_byte, kind_of, pieces}
+use Rattle.token_scan.specs.Tokens.{is_past_limit, is_word_byte, kind_of, pieces, IsPieceBreach}
 
+-- a byte of the class
 abbrev pub is_of : Class → ℕ → Bool
 is_of InWord b = is_word_byte b
 is_of Digit b = is_ascii_digit b
@@ -41,13 +44,13 @@ pub record IsFirst (bytes : List ℕ) (len : ℕ) : Type 0 where
   pub within : len ≤ length bytes
   pub cut : pieces bytes ≡ take len bytes ∷ pieces (drop len bytes)
 
--- a piece is no token
-abbrev pub HasNoToken : List ℕ → Type 0
-HasNoToken bytes = Any (λ piece. IsTrue (is_no_token piece)) (pieces bytes)
+-- a piece is a breach for this reason
+abbrev pub HasBreach : Reason → List ℕ → Type 0
+HasBreach reason bytes = Any (IsPieceBreach reason) (pieces bytes)
 
 -- what is read is what stands there
 abbrev pub IsPiece : List ℕ → Piece → Type 0
 IsPiece bytes Blank = IsFirst bytes 1 × (kind_of (take 1 bytes) ≡ None) × IsTrue (list_all is_blank (take 1 bytes)) × IsFalse (is_past_limit (take 1 bytes))
 IsPiece bytes (Token len kind) = IsFirst bytes len × (kind_of (take len bytes) ≡ Some kind) × IsFalse (is_past_limit (take len bytes))
 IsPiece bytes (PastLimit len) = IsFirst bytes len × IsTrue (is_some (kind_of (take len bytes))) × IsTrue (is_past_limit (take len bytes))
-IsPiece bytes NoToken = HasNoToken bytes
+IsPiece bytes NoToken = HasBreach BadLine bytes

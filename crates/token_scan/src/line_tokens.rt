@@ -9,10 +9,16 @@ use hpf_base::{Reason, Refusal, StaticError};
 use source_lines::{LogicalLine, Token, TokenKind};
 use std::alloc::Global;
 
-/// The tokens of a line, from left to right, each the longest that fits at its place. Blanks and tabs separate them and
-/// are left out; a word is given in upper case, a doubled delimiter in a text stands for one (Fortran 95, 3.2, 3.3.1,
-/// 4.3.1.1 and 4.3.2.1). The line is refused as a bad line if a piece of it is no token, and otherwise for a limit if a
-/// word has more than 31 bytes or a literal is above 2^63 - 1.
+/// The tokens of a line, from left to right, each the longest that fits at its place, with that place (Fortran 95, 3.2,
+/// 3.3.1, 4.3.1.1 and 4.3.2.1). Blanks and tabs separate tokens and stand in none but texts. A word is given in upper
+/// case; a doubled delimiter in a text stands for one.
+///
+/// `Refused` comes exactly where a piece of the line breaks a rule, with the line's number and the least reason:
+///
+/// - `BadLine`: a piece that is no token.
+/// - `Limit`: a word of more than 31 bytes, or a literal above 2^63 - 1.
+///
+/// `Memory` comes only where a growth was refused.
 pub fn tokens(alloc: Global, line: &LogicalLine) -> Result<Vec<Token>, StaticError>
     requires { length line.now.bytes < 2 ^ 32 }
     ensures tokens { IfOk result (λ ts. ts.items ≡ tokens line.now.bytes) }
@@ -62,6 +68,7 @@ fn token(from: usize, to: usize, kind: TokenKind) -> Token
     }
 }
 
+/// The refusal of a line for a reason.
 fn refused(line: u32, reason: Reason) -> StaticError
     ensures { result ≡ StaticError.Refused (record { line = line; reason = reason }) }
 {
