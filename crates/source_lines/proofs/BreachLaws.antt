@@ -1,17 +1,15 @@
 -- The first breach among lines, and what the lines before it aren't.
-use Rattle.std.proofs.Common.{◌≡◌, ℕ, zero, suc, ◌+◌, ◌-◌, ◌<◌, ◌≤◌, Bool, true, false, cond, List, [], ◌∷◌, ◌++◌, length, take, drop, get_or, map, refl, sym, ap, subst, ◌∙◌, inl, inr, arith, add_comm, length-append, lit≤}
-use Rattle.std.specs.Prelude.{◌==◌, not, ◌&&◌, ◌||◌, ◌⊎◌, filter, All, Some, None, ◌^◌}
-use Rattle.std.specs.List.{enumerate_from, prefix_len, suffix_len}
-use Rattle.std.proofs.lemmas.Bool.{eqb-true, eqb-false, eq-eqb, and_parts, cases_lt, cases_order, not-true, or_cases, false≢true}
-use Rattle.std.proofs.lemmas.List.{append-nil, get_or_default, reverse-append, append_cancel_left, take-append-drop, drop_more, length-take, length-take-le, take_rest}
-use Rattle.std.proofs.lemmas.List.Elements.{filter-append}
+use Rattle.std.proofs.Common.{◌≡◌, ℕ, zero, suc, ◌+◌, ◌<◌, ◌≤◌, List, [], ◌∷◌, ◌++◌, length, take, drop, get_or, map, refl, sym, ap, subst, ◌∙◌, inl, inr, arith, add_comm}
+use Rattle.std.specs.Prelude.{All, ◌^◌}
+use Rattle.std.specs.List.{enumerate_from}
+use Rattle.std.proofs.lemmas.Bool.{cases_lt, cases_order}
+use Rattle.std.proofs.lemmas.List.{get_or_default, take-append-drop, drop_more, length-take}
 use Rattle.hpf_base.specs.Refusal.{IsFirstBreach, NoBreach, number_of}
 use Rattle.hpf_base.specs.declared.refusal.Reason.{Reason}
-use Rattle.hpf_base.specs.declared.refusal.Reason.TheVariants.{BadLine, NotAStatement, BadNest, BadName, BadRank, BadDirective, BadSubscript, BadIndependent, BadArrangement, Limit, LeftOut, BadConstant}
-use Rattle.source_lines.specs.declared.rows.RowKind.{RowKind}
-use Rattle.source_lines.specs.declared.rows.RowKind.TheVariants.{Passed, Statement, Directive}
+use Rattle.hpf_base.specs.declared.refusal.Reason.TheVariants.{Limit}
+use Rattle.source_lines.specs.declared.rows.RowKind.TheVariants.{Passed, Statement}
 use Rattle.source_lines.specs.Rows.{Row, physical_lines, row_of, rows_of}
-use Rattle.source_lines.specs.Breaches.{goes_on, is_continued, is_passed, meets, standing, IsBreachAt, IsBreachIn, IsLeastReasonAt}
+use Rattle.source_lines.specs.Breaches.{goes_on, meets, IsBreachAt, IsBreachIn}
 
 -- a passed line goes on as a statement does
 pub goes_on_passed : (rows : List Row) → goes_on Passed rows ≡ goes_on Statement rows
@@ -39,21 +37,6 @@ same_parts (y ∷ before) (y' ∷ before') x x' after after' e l =
     let s = same_parts before before' x x' after after' tail (omega arith) in
     (cc (s.0, head), s.1, s.2)
 
--- one line more that is no breach
-pub clear_more : (rows before : List Row) (row : Row) (after : List Row) → rows ≡ before ++ row ∷ after → IsClear rows (length before)
-    → ((reason : Reason) → IsBreachAt before row after reason → ⊥) → IsClear rows (length before + 1)
-clear_more rows before row after whole clear none b r a reason whole' within why =
-    elim (cases_order (length b) (length before)) [
-      inl same ↦
-        let s = same_parts b before r row a after (sym whole' ∙ whole) same in
-        none reason (subst (λ (x : List Row). IsBreachAt x row after reason) s.0 (subst (λ (x : Row). IsBreachAt b x after reason) s.1 (subst (λ (x : List Row). IsBreachAt b r x reason) s.2 why)))
-    | inr other ↦ elim other [ inl below ↦ clear b r a reason whole' below why | inr above ↦ absurd (omega arith) ] ]
-
--- where no line is a breach, the lines have none
-pub clear_all : (rows : List Row) → IsClear rows (length rows) → NoBreach (IsBreachIn rows)
-clear_all rows clear line reason b =
-    clear b.before b.row b.after reason b.whole (omega (arith, ap length b.whole, length-append b.before (b.row ∷ b.after))) b.why
-
 parted : {A : Type 0} (xs : List A) (n : ℕ) → n < length xs → record { before : List A; x : A; after : List A; whole : xs ≡ before ++ x ∷ after; long : length before ≡ n }
 parted [] n within = absurd (omega arith)
 parted (x ∷ xs) zero within = record { before = []; x = x; after = xs; whole = refl; long = refl }
@@ -65,11 +48,12 @@ parted (x ∷ xs) (suc n) within =
 pub clear_few : (rows : List Row) (n : ℕ) → IsNumbered rows → IsClear rows n → n ≤ length rows → n ≤ 20000
 clear_few rows n numbered clear within =
     elim (cases_lt 20000 n) [
-      inl far ↦
-        let p = parted rows 20000 (omega arith) in
-        let at : p.x.number ≡ 20001 = numbered p.before p.x p.after p.whole ∙ ap (λ (k : ℕ). k + 1) p.long in
-        absurd (clear p.before p.x p.after Limit p.whole (omega (arith, p.long)) (inl at))
-    | inr near ↦ near ]
+      | inl far ↦
+          let p = parted rows 20000 (omega arith) in
+          let at : p.x.number ≡ 20001 = numbered p.before p.x p.after p.whole ∙ ap (λ (k : ℕ). k + 1) p.long in
+          absurd (clear p.before p.x p.after Limit p.whole (omega (arith, p.long)) (inl at))
+      | inr near ↦ near
+    ]
 
 -- the first line that is a breach, by the least of its reasons, is the first breach
 pub first_found : (rows before : List Row) (row : Row) (after : List Row) (line : ℕ) (reason : Reason) → rows ≡ before ++ row ∷ after → IsNumbered rows → IsClear rows (length before)
@@ -78,96 +62,19 @@ pub first_found : (rows before : List Row) (row : Row) (after : List Row) (line 
 first_found rows before row after line reason whole numbered clear is why least = record {
   stands = record { before = before; row = row; after = after; whole = whole; numbered = is; why = why };
   first = λ line' reason' b.
-    elim (cases_order (length b.before) (length before)) [
-      inl same ↦
-        let s = same_parts b.before before b.row row b.after after (sym b.whole ∙ whole) same in
-        let why' : IsBreachAt before row after reason' =
-        subst (λ (x : List Row). IsBreachAt x row after reason') s.0 (subst (λ (x : Row). IsBreachAt b.before x after reason') s.1 (subst (λ (x : List Row). IsBreachAt b.before b.row x reason') s.2 b.why)) in
-        inr (is ∙ sym (b.numbered ∙ ap (λ (r : Row). r.number) s.1), least reason' why')
-    | inr other ↦ elim other [
-        inl below ↦ absurd (clear b.before b.row b.after reason' b.whole below b.why)
-      | inr above ↦
-        inl (omega (arith, is, b.numbered, numbered before row after whole, numbered b.before b.row b.after b.whole)) ] ];
+      elim (cases_order (length b.before) (length before)) [
+        | inl same ↦
+            let s = same_parts b.before before b.row row b.after after (sym b.whole ∙ whole) same in
+            let why' : IsBreachAt before row after reason' =
+            subst (λ (x : List Row). IsBreachAt x row after reason') s.0 (subst (λ (x : Row). IsBreachAt b.before x after reason') s.1 (subst (λ (x : List Row). IsBreachAt b.before b.row x reason') s.2 b.why)) in
+            inr (is ∙ sym (b.numbered ∙ ap (λ (r : Row). r.number) s.1), least reason' why')
+        | inr other ↦ elim other [
+          | inl below ↦ absurd (clear b.before b.row b.after reason' b.whole below b.why)
+          | inr above ↦
+              inl (omega (arith, is, b.numbered, numbered before row after whole, numbered b.before b.row b.after b.whole))
+        ]
+      ];
 }
-
-suffix_len_push : {A : Type 0} (p : A → Bool) (xs : List A) (x : A) → suffix_len p (xs ++ x ∷ []) ≡ cond (p x) (1 + suffix_len p xs) 0
-suffix_len_push p xs x = ap (prefix_len p) (reverse-append xs (x ∷ []))
-
--- how many lines in a row are continued up to this one
-abbrev pub count_with : Row → ℕ → ℕ
-count_with row n = cond (is_passed row.kind) n (cond (is_continued row) (n + 1) 0)
-
-pub count_more : (before : List Row) (row : Row) → suffix_len is_continued (standing (before ++ row ∷ [])) ≡ count_with row (suffix_len is_continued (standing before))
-count_more before row = ap (suffix_len is_continued) (filter-append (λ r. not (is_passed r.kind)) before (row ∷ [])) ∙ step (is_passed row.kind)
-  where
-    step : (passed : Bool) → suffix_len is_continued (standing before ++ cond (not passed) (row ∷ []) []) ≡ cond passed (suffix_len is_continued (standing before)) (cond (is_continued row) (suffix_len is_continued (standing before) + 1) 0)
-    step true = ap (suffix_len is_continued) (append-nil (standing before))
-    step false = suffix_len_push is_continued (standing before) row ∙ ap (λ (n : ℕ). cond (is_continued row) n 0) (add_comm 1 (suffix_len is_continued (standing before)))
-
-either_is : (a b c : Bool) → (a || (b && not c)) ≡ true → (a ≡ true) ⊎ ((b ≡ true) × (c ≡ false))
-either_is true b c e = inl refl
-either_is false true false e = inr (refl, refl)
-either_is false true true e = absurd (false≢true e)
-either_is false false c e = absurd (false≢true e)
-
-either_not : (a b c : Bool) → (a || (b && not c)) ≡ false → (a ≡ true) ⊎ ((b ≡ true) × (c ≡ false)) → ⊥
-either_not true b c e is = false≢true (sym e)
-either_not false true true e is = elim is [ inl a ↦ false≢true a | inr bc ↦ false≢true (sym bc.1) ]
-either_not false true false e is = false≢true (sym e)
-either_not false false c e is = elim is [ inl a ↦ false≢true a | inr bc ↦ false≢true bc.0 ]
-
-some_number : (reason : Reason) → 1 ≤ number_of reason
-some_number BadLine = lit≤ tt
-some_number NotAStatement = lit≤ tt
-some_number BadNest = lit≤ tt
-some_number BadName = lit≤ tt
-some_number BadRank = lit≤ tt
-some_number BadDirective = lit≤ tt
-some_number BadSubscript = lit≤ tt
-some_number BadIndependent = lit≤ tt
-some_number BadArrangement = lit≤ tt
-some_number Limit = lit≤ tt
-some_number LeftOut = lit≤ tt
-some_number BadConstant = lit≤ tt
-
-or_true : (b : Bool) → (b || true) ≡ true
-or_true true = refl
-or_true false = refl
-
-module _ (before : List Row) (row : Row) (after : List Row) where
-  pub bad_least : (row.bad || (is_continued row && not (goes_on row.kind after))) ≡ true → IsLeastReasonAt before row after (Some BadLine)
-  bad_least e = (either_is row.bad (is_continued row) (goes_on row.kind after) e, λ other why. some_number other)
-
-  not_bad : (row.bad || (is_continued row && not (goes_on row.kind after))) ≡ false → IsBreachAt before row after BadLine → ⊥
-  not_bad e why = either_not row.bad (is_continued row) (goes_on row.kind after) e why
-
-  limit_only : (IsBreachAt before row after BadLine → ⊥) → (other : Reason) → IsBreachAt before row after other → other ≡ Limit
-  limit_only fine BadLine why = absurd (fine why)
-  limit_only fine Limit why = refl
-  limit_only fine other why = absurd why
-
-  module _ (n : ℕ) (counted : n ≡ suffix_len is_continued (standing before)) where
-    limit_is : ((row.number == 20001) || (not (is_passed row.kind) && (n == 40))) ≡ true → IsBreachAt before row after Limit
-    limit_is e =
-        elim (or_cases (row.number == 20001) (not (is_passed row.kind) && (n == 40)) e) [
-          inl last ↦ inl (eqb-true row.number 20001 last)
-        | inr many ↦
-            let p = and_parts (not (is_passed row.kind)) (n == 40) many in
-            inr (not-true (is_passed row.kind) p.0, sym counted ∙ eqb-true n 40 p.1) ]
-
-    pub limit_least : (row.bad || (is_continued row && not (goes_on row.kind after))) ≡ false → ((row.number == 20001) || (not (is_passed row.kind) && (n == 40))) ≡ true
-        → IsLeastReasonAt before row after (Some Limit)
-    limit_least fine e = (limit_is e, λ other why. let s = limit_only (not_bad fine) other why in rw s (omega arith))
-
-    limit_not : ((row.number == 20001) || (not (is_passed row.kind) && (n == 40))) ≡ false → IsBreachAt before row after Limit → ⊥
-    limit_not e why =
-        elim why [
-          inl last ↦ false≢true (sym e ∙ rw (eq-eqb row.number 20001 last) refl)
-        | inr many ↦ false≢true (sym e ∙ rw (many.0, eq-eqb n 40 (counted ∙ many.1)) (or_true (row.number == 20001))) ]
-
-    pub none_least : (row.bad || (is_continued row && not (goes_on row.kind after))) ≡ false → ((row.number == 20001) || (not (is_passed row.kind) && (n == 40))) ≡ false
-        → IsLeastReasonAt before row after None
-    none_least fine e reason why = limit_not e (let s = limit_only (not_bad fine) reason why in subst (IsBreachAt before row after) s why)
 
 -- a list around an element
 pub parted_at : {A : Type 0} (xs : List A) (i : ℕ) (x : A) → i < length xs → x ≡ get_or xs i x → xs ≡ take i xs ++ x ∷ drop (i + 1) xs
@@ -193,10 +100,15 @@ number_few rows i row numbered clear within at =
     let few : i ≤ 20000 = clear_few rows i numbered clear (omega arith) in
     omega (arith, few, length-take i rows, numbered (take i rows) row (drop (i + 1) rows) (parted_at rows i row within at))
 
--- where the lines have no breach, each has a small number
+-- where lines have no breach, none of them is one
+pub fine_clear : (rows : List Row) → NoBreach (IsBreachIn rows) → IsClear rows (length rows)
+fine_clear rows fine before row after reason whole within why =
+    fine row.number reason (record { before = before; row = row; after = after; whole = whole; numbered = refl; why = why })
+
+-- where lines have no breach, each has a small number
 pub fine_numbers : (rows : List Row) → IsNumbered rows → NoBreach (IsBreachIn rows) → All (λ row. row.number < 2 ^ 32) rows
 fine_numbers rows numbered fine k d within =
     let few = number_few rows k (get_or rows k d) numbered
-        (λ before row after reason whole _ why. fine row.number reason (record { before = before; row = row; after = after; whole = whole; numbered = refl; why = why }))
-        within (get_or_default rows k d (get_or rows k d) within) in
+    (λ before row after reason whole below why. fine_clear rows fine before row after reason whole (omega arith) why)
+    within (get_or_default rows k d (get_or rows k d) within) in
     omega (arith, few)

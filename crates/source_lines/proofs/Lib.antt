@@ -3,3 +3,5 @@ pub mod PartLaws
 pub mod BreachLaws
 pub mod LineLaws
 pub mod GroupLaws
+pub mod ContinuationLaws
+pub mod ShortLaws

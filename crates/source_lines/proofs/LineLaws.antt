@@ -3,7 +3,7 @@ use Rattle.std.proofs.Common.{◌≡◌, ℕ, zero, suc, ◌+◌, ◌<◌, ◌�
 use Rattle.std.specs.Prelude.{◌==◌, bytes_eq, if◌then◌else◌}
 use Rattle.std.specs.List.{join_with_byte}
 use Rattle.std.proofs.Math.Seq.{take-add}
-use Rattle.std.proofs.lemmas.List.{append-nil, drop-drop, drop_more}
+use Rattle.std.proofs.lemmas.List.{drop-drop, drop_more}
 use Rattle.std.proofs.lemmas.Bool.{ne_eqb}
 use Rattle.source_lines.specs.Cut.{cut}
 use Rattle.source_lines.specs.Rows.{first_part}
@@ -47,10 +47,6 @@ between-part b bytes e = step (first_part (b ∷ bytes)) (first_part-some b byte
         → together (cut first_part (b ∷ bytes)) ≡ with_part (take n (b ∷ bytes)) (together (cut first_part (drop n (b ∷ bytes))))
     step zero some cuts = absurd (omega arith)
     step (suc n) some cuts = ap together cuts ∙ rw e refl
-
--- a `;` ends the first statement
-pub between-semicolon : (bytes : List ℕ) → between_semicolons (59 ∷ bytes) ≡ [] ∷ between_semicolons bytes
-between-semicolon bytes = refl
 
 between-here : (bytes : List ℕ) (b : ℕ) (more : List ℕ) (n : ℕ) → bytes ≡ b ∷ more → (b ≡ 59 → ⊥) → n ≡ first_part bytes
     → between_semicolons bytes ≡ with_part (take n bytes) (between_semicolons (drop n bytes))

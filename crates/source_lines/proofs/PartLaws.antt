@@ -1,10 +1,9 @@
 -- The parts of bytes, one by one.
-use Rattle.std.proofs.Common.{◌≡◌, ℕ, zero, suc, ◌+◌, ◌-◌, ◌<◌, ◌≤◌, Bool, true, false, List, [], ◌∷◌, ◌++◌, length, take, drop, refl, sym, ap, ◌∙◌, arith, min}
+use Rattle.std.proofs.Common.{◌≡◌, ℕ, zero, suc, ◌+◌, ◌-◌, ◌≤◌, Bool, true, false, List, [], ◌∷◌, length, take, drop, refl, ap, ◌∙◌, arith, min}
 use Rattle.std.specs.Prelude.{◌==◌, not, filter, if◌then◌else◌}
 use Rattle.std.specs.List.{prefix_len}
-use Rattle.std.proofs.lemmas.List.{take-append-drop, drop_all, length-drop}
-use Rattle.std.proofs.lemmas.Bool.{eqb-true}
-use Rattle.source_lines.specs.Cut.{cut, cut_behind}
+use Rattle.std.proofs.lemmas.List.{drop_all}
+use Rattle.source_lines.specs.Cut.{cut}
 use Rattle.source_lines.specs.Rows.{first_part, is_delimiter, is_comment, parts}
 use Rattle.source_lines.proofs.Cuts.{cut-first, cut_behind-drop}
 

@@ -12,6 +12,7 @@ use crate::rows::{Row, RowKind};
 use hpf_base::{Reason, Refusal};
 
 const MOST_LINES: usize = 20_000;
+
 const MOST_CONTINUATIONS: usize = 39;
 
 /// The line goes on with another.

@@ -16,11 +16,12 @@ mod marks;
 mod parts;
 mod rows;
 mod statements;
+#[cfg(test)]
+mod tests;
 mod text;
 mod token;
 
 pub use bytes::Bytes;
-
 pub use line::{LineKind, LogicalLine};
 pub use text::logical_lines;
 pub use token::{Token, TokenKind};

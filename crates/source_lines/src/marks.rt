@@ -43,11 +43,7 @@ pub(crate) fn content(line: &[u8]) -> &[u8]
     ensures { result.now ≡ content line.now }
 {
     let bytes = without_blanks(line);
-    if has_mark(bytes) {
-        &bytes[5..]
-    } else {
-        line
-    }
+    if has_mark(bytes) { &bytes[5..] } else { line }
 }
 
 /// The only thing on the line is `&`.

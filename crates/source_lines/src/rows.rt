@@ -6,9 +6,9 @@ ghost use Rattle.std.specs.List.{list_all};
 ghost use Rattle.source_lines.specs.Rows as seen;
 ghost use Rattle.source_lines.specs.Rows.{physical_lines, row_of, rows_of};
 
-use crate::marks::{content, is_directive, is_lone_ampersand, without_return};
 use crate::blanks::all_blank;
 use crate::line_split::next_line;
+use crate::marks::{content, is_directive, is_lone_ampersand, without_return};
 use crate::parts::code_of;
 use std::alloc::{AllocError, Global};
 use std::marker::Model;

@@ -1,6 +1,6 @@
 //! The logical lines of a text.
 
-ghost use Rattle.std.specs.Prelude.{◌≡◌, ◌<◌, ◌^◌, All, IfOk, IfErr, OnOk, length};
+ghost use Rattle.std.specs.Prelude.{◌≡◌, ◌*◌, ◌≤◌, All, IfOk, IfErr, OnOk, length};
 ghost use Rattle.hpf_base.specs.Refusal.{IsRefusalBy, NoBreach};
 ghost use Rattle.source_lines.specs.Breaches.{IsLineBreach};
 ghost use Rattle.source_lines.specs.Lines.{logical_lines};
@@ -26,6 +26,7 @@ use std::alloc::Global;
 /// `Memory` comes only where a growth was refused.
 pub fn logical_lines(alloc: Global, text: &[u8]) -> Result<Vec<LogicalLine>, StaticError>
     ensures lines { IfOk result (λ lines. lines.items ≡ logical_lines text.now) }
+    ensures short { IfOk result (λ lines. All (λ line. length line.bytes ≤ 40 * 133) lines.items) }
     ensures fine { OnOk result (NoBreach (IsLineBreach text.now)) }
     ensures refused { IfErr result (IsRefusalBy (IsLineBreach text.now)) }
 {

@@ -1,6 +1,5 @@
-use Rattle.std.proofs.Common.{◌≡◌, ◌≤◌, ℕ, ◌+◌, ◌-◌, List, ◌++◌, ◌∷◌, sym, ap, subst, arith, length, take, drop, Fits, ◌∙◌}
+use Rattle.std.proofs.Common.{◌≡◌, ◌+◌, ◌-◌, ◌++◌, ◌∷◌, sym, subst, arith, length, take, drop}
 use Rattle.std.proofs.lemmas.List.{take_rest, length-take-le}
-use Rattle.source_lines.specs.Rows.{Row}
 use Rattle.source_lines.proofs.BreachLaws.{IsClear, rows_numbered, parted_at, clear_few, number_few, first_found}
 use Rattle.source_lines.proofs.breach.first_breach.Goals as goal
 

@@ -9,5 +9,5 @@ abbrev pub invariant-loop-i : goal.invariant-loop-i
 invariant-loop-i l = record {
   clear : IsClear l.rows l.i;
   counted : l.continued ≡ suffix_len is_continued (standing (take l.i l.rows));
-  within : l.continued ≤ l.i
+  within : l.continued ≤ l.i;
 }

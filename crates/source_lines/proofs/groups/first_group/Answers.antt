@@ -1,6 +1,4 @@
-use Rattle.std.proofs.Common.{◌≡◌, ◌∙◌, ap, min, length}
-use Rattle.std.specs.List.{prefix_len}
-use Rattle.source_lines.specs.Breaches.{is_continued}
+use Rattle.std.proofs.Common.{◌∙◌, ap, min, length}
 use Rattle.source_lines.proofs.GroupLaws.{group-first}
 use Rattle.source_lines.proofs.groups.first_group.Goals as goal
 

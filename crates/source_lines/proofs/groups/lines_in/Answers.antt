@@ -1,4 +1,4 @@
-use Rattle.std.proofs.Common.{◌≡◌, ◌<◌, ◌^◌, ◌∷◌, ◌-◌, length, take, drop, subst, ◌∙◌, sym}
+use Rattle.std.proofs.Common.{◌<◌, ◌^◌, drop, subst, ◌∙◌, sym}
 use Rattle.std.specs.Prelude.{All}
 use Rattle.std.proofs.lemmas.List.{take_rest}
 use Rattle.std.proofs.lemmas.List.Elements.{All-drop, All-head}

@@ -1,4 +1,4 @@
-use Rattle.std.proofs.Common.{◌≡◌, List, ℕ, Bool, true, false, ◌∷◌, ◌++◌, refl, sym, ap, ◌∙◌, append_assoc}
+use Rattle.std.proofs.Common.{◌++◌, sym, ap, ◌∙◌, append_assoc}
 use Rattle.std.specs.Prelude.{◌||◌}
 use Rattle.std.proofs.Math.Bool.{or_assoc}
 use Rattle.std.specs.List.{concat, list_any}
@@ -16,4 +16,3 @@ loop-part-preserved c =
       stands = i.stands ∙ ap (λ l. i.code ++ concat l) parts ∙ sym (append_assoc i.code part (code_of behind));
       seen = i.seen ∙ ap (λ l. c.loop-part.bad || list_any (is_bad_part c.args.directive) l) parts ∙ rw c.is_bad_part-bad.ensures (sym (or_assoc c.loop-part.bad _ _));
     }
-

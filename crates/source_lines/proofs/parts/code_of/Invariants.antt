@@ -10,7 +10,7 @@ invariant-loop-part l = record {
   code : List ℕ;
   whole : l.bytes ≡ code ++ l.rest;
   stands : code_of l.bytes ≡ code ++ code_of l.rest;
-  seen : list_any (is_bad_part l.directive) (parts l.bytes) ≡ (l.bad || list_any (is_bad_part l.directive) (parts l.rest))
+  seen : list_any (is_bad_part l.directive) (parts l.bytes) ≡ (l.bad || list_any (is_bad_part l.directive) (parts l.rest));
 }
 
 abbrev pub decreases-loop-part : goal.decreases-loop-part

@@ -7,7 +7,7 @@ use Rattle.source_lines.proofs.rows.rows.Given as goal
 abbrev pub invariant-loop-line : goal.invariant-loop-line
 invariant-loop-line l = record {
   short : vec_len l.rows + length l.rest ≤ length l.text;
-  whole : rows_of l.text ≡ l.rows.items ++ map (λ x. row_of x.0 x.1) (enumerate_from (vec_len l.rows + 1) (physical_lines l.rest))
+  whole : rows_of l.text ≡ l.rows.items ++ map (λ x. row_of x.0 x.1) (enumerate_from (vec_len l.rows + 1) (physical_lines l.rest));
 }
 
 abbrev pub decreases-loop-line : goal.decreases-loop-line

@@ -1,4 +1,4 @@
-use Rattle.std.proofs.Common.{◌≡◌, ◌≤◌, ◌+◌, ◌-◌, length, take, drop, sym, ap, ◌∙◌, arith}
+use Rattle.std.proofs.Common.{◌≡◌, ◌≤◌, length, drop, ap, ◌∙◌, arith}
 use Rattle.std.proofs.lemmas.List.{take_rest, length-drop}
 use Rattle.source_lines.specs.Rows.{first_part}
 use Rattle.source_lines.proofs.PartLaws.{first_part-within}
