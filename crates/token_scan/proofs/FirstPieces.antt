@@ -5,9 +5,8 @@ use Rattle.std.specs.Char.{is_ascii_alphabetic, is_ascii_digit}
 use Rattle.source_lines.specs.declared.token.TokenKind.{TokenKind}
 use Rattle.source_lines.specs.Rows.{is_blank}
 use Rattle.source_lines.proofs.Cuts.{cut-cons, cut-first}
-use Rattle.token_scan.specs.Tokens.{is_past_limit, kind_of, longest, pieces}
+use Rattle.token_scan.specs.Tokens.{is_past_limit, kind_of, longest, pieces, IsPieceBreach}
 use Rattle.hpf_base.specs.declared.refusal.Reason.TheVariants.{BadLine}
-use Rattle.token_scan.specs.Tokens.{IsPieceBreach}
 use Rattle.token_scan.specs.Pieces.{HasBreach, IsFirst}
 use Rattle.token_scan.proofs.Fronts.{NoneLonger, longest-some, longest-none}
 

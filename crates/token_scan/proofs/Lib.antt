@@ -2,7 +2,9 @@ pub mod Fronts
 pub mod Tables
 pub mod FirstBytes
 pub mod FirstPieces
+pub mod TextReading
 pub mod TextFronts
+pub mod OpenTexts
 pub mod WordFronts
 pub mod LiteralFronts
 pub mod DotFronts

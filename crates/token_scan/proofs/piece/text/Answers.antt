@@ -3,7 +3,8 @@ use Rattle.std.proofs.lemmas.List.{take_rest, length-take, length-drop}
 use Rattle.source_lines.specs.declared.token.TokenKind.TheVariants.{Text}
 use Rattle.token_scan.specs.Pieces.{IsPiece, closed_text}
 use Rattle.token_scan.specs.declared.piece.Piece.TheVariants.{Token}
-use Rattle.token_scan.proofs.TextFronts.{text_token, text_open}
+use Rattle.token_scan.proofs.TextFronts.{text_token}
+use Rattle.token_scan.proofs.OpenTexts.{text_open}
 use Rattle.token_scan.proofs.piece.text.Goals as goal
 
 pub overflow_add-result : goal.overflow_add-result

@@ -1,5 +1,5 @@
 use Rattle.std.proofs.Common.{arith}
-use Rattle.token_scan.proofs.TextFronts.{read_byte, read_doubled}
+use Rattle.token_scan.proofs.TextReading.{read_byte, read_doubled}
 use Rattle.token_scan.proofs.text.closed_text.Goals as goal
 use Rattle.token_scan.proofs.text.closed_text.Goals.{then-byte-delimiter+else-at-bytes+else-bytes-at, else-byte-delimiter}
 

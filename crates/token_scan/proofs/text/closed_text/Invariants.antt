@@ -1,6 +1,6 @@
 use Rattle.std.proofs.Common.{◌≡◌, ◌≤◌, ◌-◌, length, drop}
 use Rattle.token_scan.specs.Pieces.{closed_text}
-use Rattle.token_scan.proofs.TextFronts.{behind}
+use Rattle.token_scan.proofs.TextReading.{behind}
 use Rattle.token_scan.proofs.text.closed_text.Given as goal
 
 abbrev pub invariant-loop-at : goal.invariant-loop-at
