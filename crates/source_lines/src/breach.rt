@@ -1,6 +1,6 @@
 //! The first line that breaks a rule.
 
-ghost use Rattle.std.specs.Prelude.{◌≡◌, ◌==◌, ◌+◌, ◌<◌, ◌≤◌, ◌^◌, ◌&&◌, ◌||◌, cond, not, ℕ, List, ◌++◌, ◌∷◌, [], IsTrue, MatchOption, length};
+ghost use Rattle.std.specs.Prelude.{◌≡◌, ◌==◌, ◌+◌, ◌<◌, ◌≤◌, ◌^◌, ◌&&◌, ◌||◌, cond, not, ℕ, List, MatchOption};
 ghost use Rattle.std.specs.List.{suffix_len};
 ghost use Rattle.hpf_base.specs.Refusal.{IsFirstBreach, NoBreach};
 ghost use Rattle.source_lines.specs.Breaches.{goes_on, is_continued, is_passed, standing, IsBreachIn, IsLeastReasonAt};

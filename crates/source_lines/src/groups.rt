@@ -13,10 +13,9 @@ use crate::statements::{push_line, push_statements};
 use std::alloc::{AllocError, Global};
 
 /// The lines that aren't passed over.
-pub(crate) fn standing(rows: Vec<Row<'_>>) -> Vec<Row<'_>>
+pub(crate) fn standing(mut rows: Vec<Row<'_>>) -> Vec<Row<'_>>
     ensures { result.items ≡ standing rows.entry.items }
 {
-    let mut rows = rows;
     rows.retain(|row| !is_passed(row));
     rows
 }

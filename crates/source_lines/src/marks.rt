@@ -1,6 +1,6 @@
 //! What a line begins with and ends with.
 
-ghost use Rattle.std.specs.Prelude.{◌≡◌, ◌∷◌, [], map, bytes_eq, codes, nat_eq};
+ghost use Rattle.std.specs.Prelude.{◌≡◌, ◌∷◌, [], map, codes, nat_eq};
 ghost use Rattle.std.specs.Char.{to_ascii_uppercase};
 ghost use Rattle.std.specs.List.{ends_with, starts_with};
 ghost use Rattle.source_lines.specs.Rows.{content, is_directive, is_lone_ampersand, without_blanks_behind, without_return};

@@ -1,10 +1,9 @@
 //! The lines of a text, one by one.
 
-ghost use Rattle.std.specs.Prelude.{◌≡◌, ◌++◌, ◌∷◌, [], IfOk, MatchOption};
-ghost use Rattle.std.specs.Prelude.{if◌then◌else◌};
+ghost use Rattle.std.specs.Prelude.{◌≡◌, IfOk, if◌then◌else◌};
 ghost use Rattle.std.specs.List.{list_all};
 ghost use Rattle.source_lines.specs.Rows as seen;
-ghost use Rattle.source_lines.specs.Rows.{physical_lines, row_of, rows_of};
+ghost use Rattle.source_lines.specs.Rows.{row_of, rows_of};
 
 use crate::blanks::all_blank;
 use crate::line_split::next_line;
