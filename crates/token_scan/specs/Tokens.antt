@@ -30,9 +30,10 @@ abbrev pub is_word : List ℕ → Bool
 is_word [] = false
 is_word (b ∷ bytes) = is_ascii_alphabetic b && list_all is_word_byte bytes
 
--- digits
+-- digits, at least one
 abbrev pub is_integer : List ℕ → Bool
-is_integer bytes = nat_le 1 (length bytes) && all_ascii_digits bytes
+is_integer [] = false
+is_integer bytes = all_ascii_digits bytes
 
 -- with a byte more at the front
 abbrev pub longer : ℕ → Option (List ℕ) → Option (List ℕ)

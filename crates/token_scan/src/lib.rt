@@ -1,2 +1,17 @@
-//! From the bytes of a logical line to its tokens.
+//! From the bytes of a logical line to its tokens (Fortran 95, 3.2 and 3.3.1).
+//!
+//! Comes in: a logical line, any bytes. Goes out: its tokens, from left to right, each with its place and what it
+//! stands for, or the refusal of the line. What holds in between: each token is the longest that fits at its place, the
+//! tokens are those of the definition, which cuts whole lists, and a line is refused exactly where it has a breach.
 #![tactic(auto)]
+
+mod case;
+mod line_tokens;
+mod number;
+mod piece;
+mod run;
+#[cfg(test)]
+mod tests;
+mod text;
+
+pub use line_tokens::tokens;
