@@ -1,2 +1,6 @@
 //! The words of the language.
 #![tactic(auto)]
+
+mod op;
+
+pub use op::Op;

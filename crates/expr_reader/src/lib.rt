@@ -1,0 +1,2 @@
+//! Reading expressions.
+#![tactic(auto)]
