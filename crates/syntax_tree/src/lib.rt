@@ -17,6 +17,6 @@ pub use decl::{Bound, ConstDef, Decl, DeclKind, EndForm, Entity, IntegerDecl, Tr
 pub use directive::{AlignSpec, Directive, DistSpec, Format, Source, Target};
 pub use expr::{Expr, Ref, Subscript};
 pub use names::Names;
-pub use operators::{binary, left_place, level, unary, right_place};
+pub use operators::{binary, intrinsic, left_place, level, unary, right_place};
 pub use sign::{Sign, sign_of};
 pub use stmt::{Arm, DoLoop, Header, Item, Kind, Mark, Stmt};

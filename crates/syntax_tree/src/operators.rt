@@ -1,10 +1,10 @@
 //! Operators and intrinsic procedures, and how tightly an operator binds (Fortran 95, 7.1.1 and 7.3).
 
 ghost use Rattle.std.specs.Prelude.{◌≡◌, ◌≤◌};
-ghost use Rattle.syntax_tree.specs.Operators.{binary, left_place, level, unary, right_place};
+ghost use Rattle.syntax_tree.specs.Operators.{binary, intrinsic, left_place, level, unary, right_place};
 
 use crate::sign::Sign;
-use op_tables::Op;
+use op_tables::{Op, intrinsic_word};
 
 /// The operator that a sign is between two operands.
 pub fn binary(sign: Sign) -> Option<Op>
@@ -79,4 +79,39 @@ pub fn right_place(op: Op) -> u8
         Op::Pow => level(op),
         _ => level(op) + 1,
     }
+}
+
+/// The intrinsic procedures, in the order of their words' codes.
+static INTRINSICS: [Option<Op>; 23] = [
+    Some(Op::Abs),
+    Some(Op::All),
+    Some(Op::Any),
+    Some(Op::Count),
+    Some(Op::Dim),
+    Some(Op::BitAnd),
+    Some(Op::BitXor),
+    Some(Op::BitOr),
+    Some(Op::LBound),
+    Some(Op::Max),
+    Some(Op::MaxVal),
+    Some(Op::Min),
+    Some(Op::MinVal),
+    Some(Op::Mod),
+    Some(Op::Modulo),
+    Some(Op::BitNot),
+    Some(Op::Nodes),
+    None,
+    Some(Op::Product),
+    Some(Op::Sign),
+    Some(Op::Size),
+    Some(Op::Sum),
+    Some(Op::UBound),
+];
+
+/// The intrinsic procedure that a word in upper case names. PROCESSORS_SHAPE is left out.
+pub fn intrinsic(word: &[u8]) -> Option<Op>
+    ensures { result ≡ intrinsic word.now }
+{
+    let code = intrinsic_word(word)?;
+    *INTRINSICS.get(usize::from(code))?
 }
