@@ -5,6 +5,7 @@
 //! and every choice of spelling that a tree keeps is a field of it, and a tree has one meaning of its own.
 #![tactic(auto)]
 
+mod codes;
 mod decl;
 mod directive;
 mod expr;

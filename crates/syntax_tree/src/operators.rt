@@ -1,8 +1,9 @@
 //! Operators and intrinsic procedures, and how tightly an operator binds (Fortran 95, 7.1.1 and 7.3).
 
 ghost use Rattle.std.specs.Prelude.{◌≡◌, ◌≤◌};
-ghost use Rattle.syntax_tree.specs.Operators.{binary, intrinsic, left_place, level, unary, right_place};
+ghost use Rattle.syntax_tree.specs.Operators.{binary, intrinsic, left_place, level, procedure_at, unary, right_place};
 
+use crate::codes::at_code;
 use crate::sign::Sign;
 use op_tables::{Op, intrinsic_word};
 
@@ -112,6 +113,18 @@ static INTRINSICS: [Option<Op>; 23] = [
 pub fn intrinsic(word: &[u8]) -> Option<Op>
     ensures { result ≡ intrinsic word.now }
 {
-    let code = intrinsic_word(word)?;
-    *INTRINSICS.get(usize::from(code))?
+    match intrinsic_word(word) {
+        Some(code) => procedure(code),
+        None => None,
+    }
+}
+
+/// The intrinsic procedure whose word has this code.
+fn procedure(code: u16) -> Option<Op>
+    ensures { result ≡ procedure_at (Some code) }
+{
+    match at_code(&INTRINSICS, code) {
+        Some(op) => op,
+        None => None,
+    }
 }

@@ -1,8 +1,9 @@
 //! Operators and delimiters, however they are spelled.
 
-ghost use Rattle.std.specs.Prelude.{◌≡◌, slice_get};
+ghost use Rattle.std.specs.Prelude.{◌≡◌};
 ghost use Rattle.syntax_tree.specs.Lexeme.{lexeme_of, sign_of};
 
+use crate::codes::at_code;
 use source_lines::TokenKind;
 
 /// An operator or a delimiter (Fortran 95, 3.2), where `.EQ.` and `==` are one.
@@ -102,15 +103,8 @@ pub fn sign_of(kind: &TokenKind) -> Option<Sign>
     ensures { result ≡ sign_of (lexeme_of kind.now) }
 {
     match kind {
-        TokenKind::Dot(code) => sign_at(&DOT_SIGNS, *code),
-        TokenKind::Symbol(code) => sign_at(&SYMBOL_SIGNS, *code),
+        TokenKind::Dot(code) => at_code(&DOT_SIGNS, *code),
+        TokenKind::Symbol(code) => at_code(&SYMBOL_SIGNS, *code),
         _ => None,
     }
-}
-
-/// The sign of a code.
-fn sign_at(signs: &[Sign], code: u16) -> Option<Sign>
-    ensures { result ≡ slice_get signs.now code }
-{
-    signs.get(usize::from(code)).copied()
 }
