@@ -1,72 +1,33 @@
-//! Words between periods: operators and logical constants (Fortran 95, 3.2.4 and 7.1.2).
+//! Words between periods: operators and logical constants (Fortran 95, 3.2 and 7.1.2).
 
 ghost use Rattle.std.specs.Prelude.{◌≡◌};
 ghost use Rattle.std.specs.Option.{option_copied};
 ghost use Rattle.op_tables.specs.Tables.{row_of, IsTableOf};
 ghost use Rattle.op_tables.specs.Words.{dot_words, code_in};
 
-use crate::table::{Row, Table, code_of, find_row};
+use crate::table::{Row, Table, code_of, find_row, rows};
 
-/// The table of the words between periods: 13 rows, ascending; a row's code is its place, from 0.
+/// The table of the words between periods.
 pub const DOT_WORDS: Table<13> = Table {
-    rows: [
-        Row {
-            spelling: ".AND.",
-            code: 0,
-        },
-        Row {
-            spelling: ".EQ.",
-            code: 1,
-        },
-        Row {
-            spelling: ".EQV.",
-            code: 2,
-        },
-        Row {
-            spelling: ".FALSE.",
-            code: 3,
-        },
-        Row {
-            spelling: ".GE.",
-            code: 4,
-        },
-        Row {
-            spelling: ".GT.",
-            code: 5,
-        },
-        Row {
-            spelling: ".LE.",
-            code: 6,
-        },
-        Row {
-            spelling: ".LT.",
-            code: 7,
-        },
-        Row {
-            spelling: ".NE.",
-            code: 8,
-        },
-        Row {
-            spelling: ".NEQV.",
-            code: 9,
-        },
-        Row {
-            spelling: ".NOT.",
-            code: 10,
-        },
-        Row {
-            spelling: ".OR.",
-            code: 11,
-        },
-        Row {
-            spelling: ".TRUE.",
-            code: 12,
-        },
+    rows: rows![
+        ".AND." => 0,
+        ".EQ." => 1,
+        ".EQV." => 2,
+        ".FALSE." => 3,
+        ".GE." => 4,
+        ".GT." => 5,
+        ".LE." => 6,
+        ".LT." => 7,
+        ".NE." => 8,
+        ".NEQV." => 9,
+        ".NOT." => 10,
+        ".OR." => 11,
+        ".TRUE." => 12,
     ],
 };
 
 impl Table<13> {
-    /// The row whose spelling is `word`; None exactly where no row has it. It takes no memory.
+    /// The row with this spelling; None exactly where there is none. It takes no memory.
     pub fn find(&self, word: &str) -> Option<&Row>
         ensures { option_copied result ≡ row_of self.now.rows word.now }
     {
@@ -74,15 +35,15 @@ impl Table<13> {
     }
 }
 
-/// The code of the word between periods that is spelled so, with its periods; None exactly where there is none. It takes no memory.
+/// The code of the word between periods that is spelled so; None exactly where there is none. It takes no memory.
 pub fn dot_word(spelling: &[u8]) -> Option<u16>
     ensures { result ≡ code_in dot_words spelling.now }
 {
-    code_of(&table().rows, spelling)
+    code_of(&words().rows, spelling)
 }
 
-/// The table, with what is proved of it.
-fn table() -> Table<13>
+/// The table, with the proof of its rows.
+fn words() -> Table<13>
     ensures { IsTableOf dot_words result.rows }
 {
     DOT_WORDS

@@ -1,112 +1,43 @@
-//! Names of intrinsic procedures (Fortran 95, 13.11; HPF 2.0, 7).
+//! Names of intrinsic procedures (Fortran 95, 13; HPF 2.0, 7).
 
 ghost use Rattle.std.specs.Prelude.{◌≡◌};
 ghost use Rattle.std.specs.Option.{option_copied};
 ghost use Rattle.op_tables.specs.Tables.{row_of, IsTableOf};
 ghost use Rattle.op_tables.specs.Words.{intrinsic_words, code_in};
 
-use crate::table::{Row, Table, code_of, find_row};
+use crate::table::{Row, Table, code_of, find_row, rows};
 
-/// The table of the names of intrinsic procedures: 23 rows, ascending; a row's code is its place, from 0.
+/// The table of the names of intrinsic procedures.
 pub const INTRINSIC_WORDS: Table<23> = Table {
-    rows: [
-        Row {
-            spelling: "ABS",
-            code: 0,
-        },
-        Row {
-            spelling: "ALL",
-            code: 1,
-        },
-        Row {
-            spelling: "ANY",
-            code: 2,
-        },
-        Row {
-            spelling: "COUNT",
-            code: 3,
-        },
-        Row {
-            spelling: "DIM",
-            code: 4,
-        },
-        Row {
-            spelling: "IAND",
-            code: 5,
-        },
-        Row {
-            spelling: "IEOR",
-            code: 6,
-        },
-        Row {
-            spelling: "IOR",
-            code: 7,
-        },
-        Row {
-            spelling: "LBOUND",
-            code: 8,
-        },
-        Row {
-            spelling: "MAX",
-            code: 9,
-        },
-        Row {
-            spelling: "MAXVAL",
-            code: 10,
-        },
-        Row {
-            spelling: "MIN",
-            code: 11,
-        },
-        Row {
-            spelling: "MINVAL",
-            code: 12,
-        },
-        Row {
-            spelling: "MOD",
-            code: 13,
-        },
-        Row {
-            spelling: "MODULO",
-            code: 14,
-        },
-        Row {
-            spelling: "NOT",
-            code: 15,
-        },
-        Row {
-            spelling: "NUMBER_OF_PROCESSORS",
-            code: 16,
-        },
-        Row {
-            spelling: "PROCESSORS_SHAPE",
-            code: 17,
-        },
-        Row {
-            spelling: "PRODUCT",
-            code: 18,
-        },
-        Row {
-            spelling: "SIGN",
-            code: 19,
-        },
-        Row {
-            spelling: "SIZE",
-            code: 20,
-        },
-        Row {
-            spelling: "SUM",
-            code: 21,
-        },
-        Row {
-            spelling: "UBOUND",
-            code: 22,
-        },
+    rows: rows![
+        "ABS" => 0,
+        "ALL" => 1,
+        "ANY" => 2,
+        "COUNT" => 3,
+        "DIM" => 4,
+        "IAND" => 5,
+        "IEOR" => 6,
+        "IOR" => 7,
+        "LBOUND" => 8,
+        "MAX" => 9,
+        "MAXVAL" => 10,
+        "MIN" => 11,
+        "MINVAL" => 12,
+        "MOD" => 13,
+        "MODULO" => 14,
+        "NOT" => 15,
+        "NUMBER_OF_PROCESSORS" => 16,
+        "PROCESSORS_SHAPE" => 17,
+        "PRODUCT" => 18,
+        "SIGN" => 19,
+        "SIZE" => 20,
+        "SUM" => 21,
+        "UBOUND" => 22,
     ],
 };
 
 impl Table<23> {
-    /// The row whose spelling is `word`; None exactly where no row has it. It takes no memory.
+    /// The row with this spelling; None exactly where there is none. It takes no memory.
     pub fn find(&self, word: &str) -> Option<&Row>
         ensures { option_copied result ≡ row_of self.now.rows word.now }
     {
@@ -114,15 +45,15 @@ impl Table<23> {
     }
 }
 
-/// The code of the intrinsic procedure that has this name; None exactly where there is none. It takes no memory.
+/// The code of the intrinsic procedure of this name; None exactly where there is none. It takes no memory.
 pub fn intrinsic_word(word: &[u8]) -> Option<u16>
     ensures { result ≡ code_in intrinsic_words word.now }
 {
-    code_of(&table().rows, word)
+    code_of(&words().rows, word)
 }
 
-/// The table, with what is proved of it.
-fn table() -> Table<23>
+/// The table, with the proof of its rows.
+fn words() -> Table<23>
     ensures { IsTableOf intrinsic_words result.rows }
 {
     INTRINSIC_WORDS

@@ -1,88 +1,37 @@
-//! Operators and delimiters that have no letters (Fortran 95, 3.2.4 and 3.2.6).
+//! Operators and delimiters without letters (Fortran 95, 3.2 and 7.1.2).
 
 ghost use Rattle.std.specs.Prelude.{◌≡◌};
 ghost use Rattle.std.specs.Option.{option_copied};
 ghost use Rattle.op_tables.specs.Tables.{row_of, IsTableOf};
 ghost use Rattle.op_tables.specs.Words.{symbols, code_in};
 
-use crate::table::{Row, Table, code_of, find_row};
+use crate::table::{Row, Table, code_of, find_row, rows};
 
-/// The table of the operators and delimiters: 17 rows, ascending; a row's code is its place, from 0.
+/// The table of the operators and delimiters without letters.
 pub const SYMBOLS: Table<17> = Table {
-    rows: [
-        Row {
-            spelling: "(",
-            code: 0,
-        },
-        Row {
-            spelling: ")",
-            code: 1,
-        },
-        Row {
-            spelling: "*",
-            code: 2,
-        },
-        Row {
-            spelling: "**",
-            code: 3,
-        },
-        Row {
-            spelling: "+",
-            code: 4,
-        },
-        Row {
-            spelling: ",",
-            code: 5,
-        },
-        Row {
-            spelling: "-",
-            code: 6,
-        },
-        Row {
-            spelling: "/",
-            code: 7,
-        },
-        Row {
-            spelling: "/=",
-            code: 8,
-        },
-        Row {
-            spelling: ":",
-            code: 9,
-        },
-        Row {
-            spelling: "::",
-            code: 10,
-        },
-        Row {
-            spelling: "<",
-            code: 11,
-        },
-        Row {
-            spelling: "<=",
-            code: 12,
-        },
-        Row {
-            spelling: "=",
-            code: 13,
-        },
-        Row {
-            spelling: "==",
-            code: 14,
-        },
-        Row {
-            spelling: ">",
-            code: 15,
-        },
-        Row {
-            spelling: ">=",
-            code: 16,
-        },
+    rows: rows![
+        "(" => 0,
+        ")" => 1,
+        "*" => 2,
+        "**" => 3,
+        "+" => 4,
+        "," => 5,
+        "-" => 6,
+        "/" => 7,
+        "/=" => 8,
+        ":" => 9,
+        "::" => 10,
+        "<" => 11,
+        "<=" => 12,
+        "=" => 13,
+        "==" => 14,
+        ">" => 15,
+        ">=" => 16,
     ],
 };
 
 impl Table<17> {
-    /// The row whose spelling is `word`; None exactly where no row has it. It takes no memory.
+    /// The row with this spelling; None exactly where there is none. It takes no memory.
     pub fn find(&self, word: &str) -> Option<&Row>
         ensures { option_copied result ≡ row_of self.now.rows word.now }
     {
@@ -94,11 +43,11 @@ impl Table<17> {
 pub fn symbol(spelling: &[u8]) -> Option<u16>
     ensures { result ≡ code_in symbols spelling.now }
 {
-    code_of(&table().rows, spelling)
+    code_of(&words().rows, spelling)
 }
 
-/// The table, with what is proved of it.
-fn table() -> Table<17>
+/// The table, with the proof of its rows.
+fn words() -> Table<17>
     ensures { IsTableOf symbols result.rows }
 {
     SYMBOLS
