@@ -9,6 +9,7 @@ use Rattle.syntax_tree.specs.declared.sign.Sign.{Sign}
 use Rattle.syntax_tree.specs.declared.sign.Sign.TheVariants as sign
 use Rattle.syntax_tree.specs.Lexeme.{Lexeme, Word, Integer, Fixed}
 use Rattle.syntax_tree.specs.Operators.{binary_of, unary_of, operator_lexeme, level, left_place, right_place, intrinsic, intrinsic_word}
+use Rattle.syntax_tree.proofs.Intrinsics.{IsNamed, intrinsic_is_named}
 use Rattle.syntax_tree.specs.Expression.{Expression, Number, Truth, Name, Element, Call, Unary, Binary, Closed, Part, One, Range, Glued, Parts, End, More, Maybe, Absent, Present}
 use Rattle.syntax_tree.specs.Spelling.{binds, spelling, part_spelling, maybe_spelling, step_spelling, parts_spelling, rest_spelling, IsFormed, IsPart, IsMaybe, IsList, AreParts, AreArguments}
 use Rattle.expr_reader.specs.Reading.{◌>>=◌, Core, Readers, is_open, is_close, is_colon, is_colons, name_with, name_at, are_arguments, if_arguments, arguments_at, call_at, word_at, closed_at, unary_at, operand_at, expr_at, joined_at, goes_with, goes_on, more_with, more_at, rest_at, core_at, from_here, maybe_at, step_at, range_at, one_at, glued_at, part_from, part_at, list_at, at_lexeme, at_end, behind, reading}
@@ -112,10 +113,6 @@ binary_is (Fixed sign.Eqv) = (refl, refl)
 binary_is (Fixed sign.Neqv) = (refl, refl)
 binary_is t = tt
 
--- the word of an intrinsic procedure names it
-intrinsic_is : (x : List ℕ) → Ifs (intrinsic x) (λ o. (intrinsic_word o ≡ x) × (intrinsic (intrinsic_word o) ≡ Some o))
-intrinsic_is x = ?
-
 pub few_levels : (o : Op) → (level o ≤ 8) × (right_place o ≤ 9)
 few_levels op.Add = (omega arith, omega arith)
 few_levels op.Sub = (omega arith, omega arith)
@@ -190,7 +187,7 @@ module _ (f : ℕ → Readers) (us : List Lexeme) (ih : (d : ℕ) → Sound (dro
       (λ e. (tt, takes_head (Fixed sign.Close) _ ((ih 1).head (Fixed sign.Close) (close_is _ e))))
       (λ e. bind_holds (f 1).list if_arguments _ IsArguments (ih 1).list sound_if_arguments)
 
-  sound_call : (x : List ℕ) (k : ℕ) → k ≤ 9 → (o : Option Op) → Ifs o (λ o. (intrinsic_word o ≡ x) × (intrinsic (intrinsic_word o) ≡ Some o)) → Ifs (call_at f o) (Operand k (Word x))
+  sound_call : (x : List ℕ) (k : ℕ) → k ≤ 9 → (o : Option Op) → IsNamed x o → Ifs (call_at f o) (Operand k (Word x))
   sound_call x k le None h = tt
   sound_call x k le (Some o) h =
       cond_holds (is_open (f 0).core.head) _ None (λ r. Ifs r (Operand k (Word x)))
@@ -206,7 +203,7 @@ module _ (f : ℕ → Readers) (us : List Lexeme) (ih : (d : ℕ) → Sound (dro
   sound_word : (x : List ℕ) (k : ℕ) → k ≤ 9 → Ifs (word_at f x) (Operand k (Word x))
   sound_word x k le =
       cond_holds (is_reserved x) (call_at f (intrinsic x)) (Some (name_at f x)) (λ r. Ifs r (Operand k (Word x)))
-      (λ e. sound_call x k le (intrinsic x) (intrinsic_is x))
+      (λ e. sound_call x k le (intrinsic x) (intrinsic_is_named x))
       (λ e. sound_name x k le e)
 
   sound_closed : (k : ℕ) → k ≤ 9 → Ifs (closed_at f) (Operand k (Fixed sign.Open))
