@@ -1,3 +1,4 @@
 pub mod Equations
 pub mod Sound
 pub mod Complete
+pub mod Apart
