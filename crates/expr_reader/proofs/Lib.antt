@@ -2,3 +2,4 @@ pub mod Equations
 pub mod Sound
 pub mod Complete
 pub mod Apart
+pub mod Theorem
