@@ -5,11 +5,11 @@ use Rattle.op_tables.specs.declared.op.Op.{Op}
 use Rattle.op_tables.specs.Words.{is_reserved}
 use Rattle.syntax_tree.specs.declared.sign.Sign.{Sign}
 use Rattle.syntax_tree.specs.declared.sign.Sign.TheVariants as sign
-use Rattle.syntax_tree.specs.Lexeme.{Lexeme, Word, Integer, Fixed}
-use Rattle.syntax_tree.specs.Operators.{unary_of, level, left_place, right_place, intrinsic}
+use Rattle.syntax_tree.specs.Lexeme.{Lexeme, Word, Integer, Fixed, sign_of}
+use Rattle.syntax_tree.specs.Operators.{binary_of, unary_of, level, left_place, right_place, intrinsic}
 use Rattle.syntax_tree.specs.Expression.{Expression, Number, Truth, Name, Element, Call, Unary, Binary, Closed, Part, One, Range, Glued, Parts, End, More, Maybe, Absent, Present, kept, part_kept, all_kept, maybe_kept}
 use Rattle.syntax_tree.specs.Spelling.{binds}
-use Rattle.expr_reader.specs.Reading.{◌>>=◌, Core, Readers, is_open, is_close, is_colon, is_colons, name_with, name_at, are_arguments, if_arguments, arguments_at, call_at, word_at, closed_at, unary_at, operand_at, expr_at, joined_at, goes_with, goes_on, binary_at, more_with, more_at, rest_at, core_at, from_here, maybe_at, step_at, range_at, one_at, glued_at, part_from, part_at, list_at, at_lexeme, at_end, behind, reading, apart}
+use Rattle.expr_reader.specs.Reading.{◌>>=◌, Core, Readers, is_open, is_close, is_colon, is_colons, name_with, name_at, are_arguments, if_arguments, arguments_at, call_at, word_at, closed_at, unary_at, operand_at, expr_at, joined_at, goes_with, goes_on, more_with, more_at, rest_at, core_at, from_here, maybe_at, step_at, range_at, one_at, glued_at, part_from, part_at, list_at, at_lexeme, at_end, behind, reading, apart}
 
 -- with something done to the value
 abbrev pub mapped : {A : Type 0} → (A → A) → Option (A × ℕ) → Option (A × ℕ)
@@ -133,7 +133,7 @@ module _ (f g : ℕ → Readers) (ih : (d : ℕ) → Agrees (f d) (g d)) where
   kept_more_with k e n (Some o) = kept_joined k e n o ((f 0).core.expr (right_place o)) ∙ ap (joined_at g k (kept e) n o) ((ih 0).expr (right_place o))
 
   kept_more : (k : ℕ) (e : Expression) (n : ℕ) (t : Lexeme) → first_kept (more_at f k e n t) ≡ more_at g k (kept e) n t
-  kept_more k e n t = kept_more_with k e n (goes_on k e (Some t)) ∙ ap (more_with g k (kept e) n) (kept_goes k e (binary_at (Some t)))
+  kept_more k e n t = kept_more_with k e n (goes_on k e (sign_of t)) ∙ ap (more_with g k (kept e) n) (kept_goes k e (binary_of t))
 
   kept_rest : (t : Lexeme) → mapped all_kept (rest_at f t) ≡ rest_at g t
   kept_rest (Fixed sign.Close) = refl

@@ -6,7 +6,7 @@ use Rattle.op_tables.specs.declared.op.Op.TheVariants as op
 use Rattle.op_tables.specs.Words.{is_reserved, code_in, statement_words, left_out_words, intrinsic_words}
 use Rattle.syntax_tree.specs.declared.sign.Sign.{Sign}
 use Rattle.syntax_tree.specs.declared.sign.Sign.TheVariants as sign
-use Rattle.syntax_tree.specs.Lexeme.{Lexeme, Word, Integer, Fixed}
+use Rattle.syntax_tree.specs.Lexeme.{Lexeme, Word, Integer, Fixed, sign_of}
 use Rattle.syntax_tree.specs.Operators.{procedure_at, binary_of, unary_of, operator_lexeme, level, left_place, right_place, intrinsic, intrinsic_word}
 use Rattle.syntax_tree.specs.Expression.{Expression, Number, Truth, Name, Element, Call, Unary, Binary, Closed, Part, One, Range, Glued, Parts, End, More, Maybe, Absent, Present}
 use Rattle.syntax_tree.specs.Spelling.{binds, spelling, part_spelling, maybe_spelling, step_spelling, parts_spelling, rest_spelling, IsFormed, IsPart, IsMaybe, IsList, AreParts, AreArguments}
@@ -18,7 +18,7 @@ use Rattle.expr_reader.proofs.Sound.{sound, sound_behind_lexeme, drop_taken, few
 -- lexemes that an expression which binds at least so tightly does not go on with
 abbrev pub Stops : ℕ → List Lexeme → Type 0
 Stops k [] = Unit {0}
-Stops k (t ∷ ts) = (is_open (Some t) ≡ false) × Ifs (binary_of t) (λ o. level o < k)
+Stops k (t ∷ ts) = (is_open (sign_of t) ≡ false) × Ifs (binary_of t) (λ o. level o < k)
 
 stops_more : (j k : ℕ) (ts : List Lexeme) → j ≤ k → Stops j ts → Stops k ts
 stops_more j k [] le h = tt
@@ -217,7 +217,7 @@ halts_none (t ∷ ts) h = absurd cc
 halts_none [] h = absurd h
 
 -- the head of tokens
-head_reading : (t : Lexeme) (ts : List Lexeme) → (reading Glued (t ∷ ts)).core.head ≡ Some t
+head_reading : (t : Lexeme) (ts : List Lexeme) → (reading Glued (t ∷ ts)).core.head ≡ sign_of t
 head_reading t ts = ap (λ c. c.head) (core_reading Glued t ts)
 
 -- what stands behind the tokens that were taken
@@ -352,7 +352,7 @@ comes_unary o a us is le find =
       exact = λ h. ap (λ x. Unary o x.0) (f.exact (stops_more (level o + 1) (inner a) us (omega (arith, inner_binds a)) h) h);
     }
 
-no_open : (o : Op) → is_open (Some (operator_lexeme o)) ≡ false
+no_open : (o : Op) → is_open (sign_of (operator_lexeme o)) ≡ false
 no_open op.Add = refl
 no_open op.Sub = refl
 no_open op.Mul = refl
@@ -420,7 +420,7 @@ on_part ts us vs n e l = ap (λ ts. on Glued ts n) e ∙ ap (reading Glued) (dro
 -- what stands behind a whole part of a list
 abbrev pub Ends : List Lexeme → Type 0
 Ends [] = ⊥
-Ends (t ∷ ts) = (is_halt t ≡ true) × (is_colon (Some t) ≡ false) × (is_colons (Some t) ≡ false)
+Ends (t ∷ ts) = (is_halt t ≡ true) × (is_colon (sign_of t) ≡ false) × (is_colons (sign_of t) ≡ false)
 
 ends_halt : (ts : List Lexeme) → Ends ts → Halts ts
 ends_halt [] h = absurd h

@@ -1,10 +1,8 @@
 -- What a reading is at each list of lexemes.
-use Rattle.std.proofs.Common.{◌≡◌, ◌≤◌, ℕ, zero, suc, ◌+◌, List, [], ◌∷◌, length, drop, Some, None, refl, sym, ap, ◌∙◌, subst, arith}
-use Rattle.std.specs.Prelude.{slice_get}
-use Rattle.std.proofs.lemmas.Option.{slice_get_past}
+use Rattle.std.proofs.Common.{◌≡◌, ℕ, zero, suc, List, [], ◌∷◌, drop, refl, sym, ap, ◌∙◌}
 use Rattle.syntax_tree.specs.Lexeme.{Lexeme}
 use Rattle.syntax_tree.specs.Expression.{Expression, Part, Maybe}
-use Rattle.expr_reader.specs.Reading.{Readers, core_at, from_here, list_at, at_lexeme, at_end, behind, reading, on}
+use Rattle.expr_reader.specs.Reading.{core_at, from_here, list_at, at_lexeme, at_end, behind, reading, on}
 
 module _ (glue : Maybe → Expression → Part) where
   behind-drop : (ts : List Lexeme) (d : ℕ) → behind glue ts d ≡ reading glue (drop d ts)
@@ -36,30 +34,6 @@ module _ (glue : Maybe → Expression → Part) where
   -- a list is read by what is read from there on
   pub list_reading : (t : Lexeme) (ts : List Lexeme) → (reading glue (t ∷ ts)).list ≡ list_at glue (λ d. (reading glue (drop d (t ∷ ts))).core)
   list_reading t ts = ap (λ r. r.list) (reading_at t ts) ∙ ap (list_at glue) (λ i d. from_here_each t ts d i)
-
-  pub head_on : (ts : List Lexeme) (n : ℕ) → (on glue ts n).core.head ≡ slice_get ts n
-  head_on [] zero = ap (λ r. r.core.head) reading_at_end
-  head_on [] (suc n) = ap (λ r. r.core.head) reading_at_end
-  head_on (t ∷ ts) zero = ap (λ r. r.core.head) (reading_at t ts)
-  head_on (t ∷ ts) (suc n) = head_on ts n
-
-  pub head_past : (ts : List Lexeme) (n : ℕ) → length ts ≤ n → None ≡ (on glue ts n).core.head
-  head_past ts n h = sym (head_on ts n ∙ slice_get_past ts n h)
-
-  pub head_within : (ts : List Lexeme) (n : ℕ) (t : Lexeme) → Some t ≡ slice_get ts n → Some t ≡ (on glue ts n).core.head
-  head_within ts n t h = h ∙ sym (head_on ts n)
-
-  next_on : (t : Lexeme) (ts : List Lexeme) (m n : ℕ) → m ≡ suc n → on glue (t ∷ ts) m ≡ on glue ts n
-  next_on t ts m n e = ap (λ m. on glue (t ∷ ts) m) e
-
-  -- a place of the lexemes: past their end, or at one
-  pub on_cases : (ts : List Lexeme) (n : ℕ) (P : Readers → Type 0) → P (at_end glue) → ((t : Lexeme) → P (at_lexeme glue (λ d. on glue ts (n + 1 + d)) t)) → P (on glue ts n)
-  on_cases [] zero P e s = subst P (sym reading_at_end) e
-  on_cases [] (suc n) P e s = subst P (sym reading_at_end) e
-  on_cases (t ∷ ts) zero P e s =
-      subst P (sym (reading_at t ts)) (subst P (λ i. at_lexeme glue (λ d. next_on t ts (0 + 1 + d) d (omega arith) i) t) (s t))
-  on_cases (t ∷ ts) (suc n) P e s =
-      on_cases ts n P e (λ u. subst P (λ i. at_lexeme glue (λ d. next_on t ts (suc n + 1 + d) (n + 1 + d) (omega arith) i) u) (s u))
 
   on_nil : (d : ℕ) → on glue [] d ≡ at_end glue
   on_nil zero = reading_at_end

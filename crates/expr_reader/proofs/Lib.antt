@@ -3,3 +3,4 @@ pub mod Sound
 pub mod Complete
 pub mod Apart
 pub mod Theorem
+pub mod Steps

@@ -7,7 +7,7 @@ use Rattle.op_tables.specs.declared.op.Op.TheVariants as op
 use Rattle.op_tables.specs.Words.{is_reserved}
 use Rattle.syntax_tree.specs.declared.sign.Sign.{Sign}
 use Rattle.syntax_tree.specs.declared.sign.Sign.TheVariants as sign
-use Rattle.syntax_tree.specs.Lexeme.{Lexeme, Word, Integer, Fixed}
+use Rattle.syntax_tree.specs.Lexeme.{Lexeme, Word, Integer, Fixed, sign_of}
 use Rattle.syntax_tree.specs.Operators.{binary_of, unary_of, operator_lexeme, level, left_place, right_place, intrinsic, intrinsic_word}
 use Rattle.syntax_tree.proofs.Intrinsics.{IsNamed, intrinsic_is_named}
 use Rattle.syntax_tree.specs.Expression.{Expression, Number, Truth, Name, Element, Call, Unary, Binary, Closed, Part, One, Range, Glued, Parts, End, More, Maybe, Absent, Present}
@@ -55,7 +55,7 @@ takes_head t ts h = (h, refl)
 
 -- what the readers at a place say of the lexemes there
 pub record Sound (ts : List Lexeme) (r : Readers) : Type 0 where
-  pub head : (t : Lexeme) → r.core.head ≡ Some t → ts ≡ t ∷ drop 1 ts
+  pub head : (s : Sign) → r.core.head ≡ Some s → ts ≡ Fixed s ∷ drop 1 ts
   pub expr : (k : ℕ) → k ≤ 9 → Ifs (r.core.expr k) (Spelled k ts)
   pub more : (k : ℕ) (e : Expression) (n : ℕ) → IsFormed e → k ≤ binds e → n ≡ length (spelling e) → Spelled k (spelling e ++ ts) (r.core.more k e n)
   pub grows : (k : ℕ) (e : Expression) (n : ℕ) → n ≤ (r.core.more k e n).1
@@ -72,21 +72,25 @@ sound_at_end ts = record {
   list = tt;
 }
 
--- what the tests of lexemes say
-open_is : (h : Option Lexeme) → is_open h ≡ true → h ≡ Some (Fixed sign.Open)
-open_is (Some (Fixed sign.Open)) e = refl
+-- what the tests of signs say
+sign_is : (t : Lexeme) (s : Sign) → sign_of t ≡ Some s → t ≡ Fixed s
+sign_is (Fixed u) s h = let e : u ≡ s = cc in ap Fixed e
+sign_is t s h = absurd cc
+
+open_is : (h : Option Sign) → is_open h ≡ true → h ≡ Some sign.Open
+open_is (Some sign.Open) e = refl
 open_is h e = absurd cc
 
-close_is : (h : Option Lexeme) → is_close h ≡ true → h ≡ Some (Fixed sign.Close)
-close_is (Some (Fixed sign.Close)) e = refl
+close_is : (h : Option Sign) → is_close h ≡ true → h ≡ Some sign.Close
+close_is (Some sign.Close) e = refl
 close_is h e = absurd cc
 
-colon_is : (h : Option Lexeme) → is_colon h ≡ true → h ≡ Some (Fixed sign.Colon)
-colon_is (Some (Fixed sign.Colon)) e = refl
+colon_is : (h : Option Sign) → is_colon h ≡ true → h ≡ Some sign.Colon
+colon_is (Some sign.Colon) e = refl
 colon_is h e = absurd cc
 
-colons_is : (h : Option Lexeme) → is_colons h ≡ true → h ≡ Some (Fixed sign.Colons)
-colons_is (Some (Fixed sign.Colons)) e = refl
+colons_is : (h : Option Sign) → is_colons h ≡ true → h ≡ Some sign.Colons
+colons_is (Some sign.Colons) e = refl
 colons_is h e = absurd cc
 
 unary_is : (t : Lexeme) → Ifs (unary_of t) (λ o. (operator_lexeme o ≡ t) × (unary_of (operator_lexeme o) ≡ Some o))
@@ -170,7 +174,7 @@ module _ (f : ℕ → Readers) (us : List Lexeme) (ih : (d : ℕ) → Sound (dro
   sound_name : (x : List ℕ) (k : ℕ) → k ≤ 9 → is_reserved x ≡ false → Operand k (Word x) (name_at f x)
   sound_name x k le free =
       cond_holds (is_open (f 0).core.head) (name_with x (f 1).list) (Name x, 0) (Operand k (Word x))
-      (λ e. sound_name_with x k le free ((ih 0).head (Fixed sign.Open) (open_is _ e)) (f 1).list (ih 1).list)
+      (λ e. sound_name_with x k le free ((ih 0).head sign.Open (open_is _ e)) (f 1).list (ih 1).list)
       (λ e. sound_bare x k le free)
 
   -- arguments, and the parenthesis behind them
@@ -184,7 +188,7 @@ module _ (f : ℕ → Readers) (us : List Lexeme) (ih : (d : ℕ) → Sound (dro
   sound_arguments : Ifs (arguments_at (f 1)) IsArguments
   sound_arguments =
       cond_holds (is_close (f 1).core.head) (Some (End, 1)) ((f 1).list >>= if_arguments) (λ r. Ifs r IsArguments)
-      (λ e. (tt, takes_head (Fixed sign.Close) _ ((ih 1).head (Fixed sign.Close) (close_is _ e))))
+      (λ e. (tt, takes_head (Fixed sign.Close) _ ((ih 1).head sign.Close (close_is _ e))))
       (λ e. bind_holds (f 1).list if_arguments _ IsArguments (ih 1).list sound_if_arguments)
 
   sound_call : (x : List ℕ) (k : ℕ) → k ≤ 9 → (o : Option Op) → IsNamed x o → Ifs (call_at f o) (Operand k (Word x))
@@ -196,7 +200,7 @@ module _ (f : ℕ → Readers) (us : List Lexeme) (ih : (d : ℕ) → Sound (dro
         formed = (h.1, a.0);
         bound = le;
         takes = subst (λ x. Takes (Word (intrinsic_word o) ∷ Fixed sign.Open ∷ parts_spelling ps.0) (Word x ∷ us) (ps.1 + 1 + 1)) h.0
-            (takes_one _ us (Fixed sign.Open ∷ parts_spelling ps.0) (ps.1 + 1) (opened ((ih 0).head (Fixed sign.Open) (open_is _ e)) (parts_spelling ps.0) ps.1 a.1));
+            (takes_one _ us (Fixed sign.Open ∷ parts_spelling ps.0) (ps.1 + 1) (opened ((ih 0).head sign.Open (open_is _ e)) (parts_spelling ps.0) ps.1 a.1));
       }))
       (λ e. tt)
 
@@ -213,7 +217,7 @@ module _ (f : ℕ → Readers) (us : List Lexeme) (ih : (d : ℕ) → Sound (dro
       (λ c. record {
         formed = s.formed;
         bound = le;
-        takes = takes_one (Fixed sign.Open) us _ (e.1 + 1) (takes_two (spelling e.0) (Fixed sign.Close ∷ []) us e.1 1 s.takes (takes_head (Fixed sign.Close) _ ((ih e.1).head (Fixed sign.Close) (close_is _ c))));
+        takes = takes_one (Fixed sign.Open) us _ (e.1 + 1) (takes_two (spelling e.0) (Fixed sign.Close ∷ []) us e.1 1 s.takes (takes_head (Fixed sign.Close) _ ((ih e.1).head sign.Close (close_is _ c))));
       })
       (λ c. tt))
 
@@ -298,7 +302,7 @@ module _ (f : ℕ → Readers) (us : List Lexeme) (ih : (d : ℕ) → Sound (dro
 
 -- a list, where the cores from there on are sound
 abbrev SoundCore : List Lexeme → Core → Type 0
-SoundCore ts c = ((t : Lexeme) → c.head ≡ Some t → ts ≡ t ∷ drop 1 ts) × ((k : ℕ) → k ≤ 9 → Ifs (c.expr k) (Spelled k ts)) × Ifs c.rest (λ s. AreParts s.0 × Takes (rest_spelling s.0) ts s.1)
+SoundCore ts c = ((s : Sign) → c.head ≡ Some s → ts ≡ Fixed s ∷ drop 1 ts) × ((k : ℕ) → k ≤ 9 → Ifs (c.expr k) (Spelled k ts)) × Ifs c.rest (λ s. AreParts s.0 × Takes (rest_spelling s.0) ts s.1)
 
 module _ (g : ℕ → Core) (ts : List Lexeme) (ih : (d : ℕ) → SoundCore (drop d ts) (g d)) where
   sound_maybe : (us : List Lexeme) (o : Option (Expression × ℕ)) → Ifs o (Spelled 0 us) → IsMaybe (maybe_at o).0 × Takes (maybe_spelling (maybe_at o).0) us (maybe_at o).1
@@ -312,7 +316,7 @@ module _ (g : ℕ → Core) (ts : List Lexeme) (ih : (d : ℕ) → SoundCore (dr
   sound_step a b n text is wa wb h =
       cond_holds (is_colon (g n).head) _ (Some (Range a b Absent, n)) (λ r. Ifs r IsPartAt)
       (λ c.
-      let colon : Takes (Fixed sign.Colon ∷ []) (drop n ts) 1 = takes_head (Fixed sign.Colon) _ ((ih n).0 (Fixed sign.Colon) (colon_is _ c)) in
+      let colon : Takes (Fixed sign.Colon ∷ []) (drop n ts) 1 = takes_head (Fixed sign.Colon) _ ((ih n).0 sign.Colon (colon_is _ c)) in
       let upto = takes_two text (Fixed sign.Colon ∷ []) ts n 1 h colon in
       bind_holds ((g (n + 1)).expr 0) _ (Spelled 0 (drop (n + 1) ts)) IsPartAt ((ih (n + 1)).1 0 (omega arith))
       (λ x s. (
@@ -323,7 +327,7 @@ module _ (g : ℕ → Core) (ts : List Lexeme) (ih : (d : ℕ) → SoundCore (dr
 
   sound_range : (a : Maybe) (n : ℕ) → IsMaybe a → Takes (maybe_spelling a) ts n → is_colon (g n).head ≡ true → Ifs (range_at g a n) IsPartAt
   sound_range a n wa h c =
-      let colon : Takes (Fixed sign.Colon ∷ []) (drop n ts) 1 = takes_head (Fixed sign.Colon) _ ((ih n).0 (Fixed sign.Colon) (colon_is _ c)) in
+      let colon : Takes (Fixed sign.Colon ∷ []) (drop n ts) 1 = takes_head (Fixed sign.Colon) _ ((ih n).0 sign.Colon (colon_is _ c)) in
       let upto = takes_two (maybe_spelling a) (Fixed sign.Colon ∷ []) ts n 1 h colon in
       let o = (g (n + 1)).expr 0 in
       let b = maybe_at o in
@@ -338,7 +342,7 @@ module _ (g : ℕ → Core) (ts : List Lexeme) (ih : (d : ℕ) → SoundCore (dr
 
   sound_glued : (a : Maybe) (n : ℕ) → IsMaybe a → Takes (maybe_spelling a) ts n → is_colons (g n).head ≡ true → Ifs (glued_at Glued g a n) IsPartAt
   sound_glued a n wa h c =
-      let colons : Takes (Fixed sign.Colons ∷ []) (drop n ts) 1 = takes_head (Fixed sign.Colons) _ ((ih n).0 (Fixed sign.Colons) (colons_is _ c)) in
+      let colons : Takes (Fixed sign.Colons ∷ []) (drop n ts) 1 = takes_head (Fixed sign.Colons) _ ((ih n).0 sign.Colons (colons_is _ c)) in
       let upto = takes_two (maybe_spelling a) (Fixed sign.Colons ∷ []) ts n 1 h colons in
       bind_holds ((g (n + 1)).expr 0) _ (Spelled 0 (drop (n + 1) ts)) IsPartAt ((ih (n + 1)).1 0 (omega arith))
       (λ x s. (
@@ -363,16 +367,16 @@ module _ (g : ℕ → Core) (ts : List Lexeme) (ih : (d : ℕ) → SoundCore (dr
 
 sound_at_lexeme : (f : ℕ → Readers) (t : Lexeme) (us : List Lexeme) → ((d : ℕ) → Sound (drop d us) (f d)) → Sound (t ∷ us) (at_lexeme Glued f t)
 sound_at_lexeme f t us ih = record {
-  head = λ u h. let e : t ≡ u = cc in ap (λ t. t ∷ us) e;
+  head = λ s h. ap (λ t. t ∷ us) (sign_is t s h);
   expr = λ k le. sound_expr f us ih k t le;
   more = λ k e n w low len. sound_more f us ih k t e n w low len;
-  grows = λ k e n. grows_more f us ih k e n (goes_on k e (Some t));
+  grows = λ k e n. grows_more f us ih k e n (goes_on k e (sign_of t));
   rest = sound_rest f us ih t;
   list = sound_list (from_here (core_at f t) f) (t ∷ us) cores;
 }
   where
     cores : (d : ℕ) → SoundCore (drop d (t ∷ us)) (from_here (core_at f t) f d)
-    cores zero = ((λ u h. let e : t ≡ u = cc in ap (λ t. t ∷ us) e), (λ k le. sound_expr f us ih k t le), sound_rest f us ih t)
+    cores zero = ((λ s h. ap (λ t. t ∷ us) (sign_is t s h)), (λ k le. sound_expr f us ih k t le), sound_rest f us ih t)
     cores (suc d) = ((ih d).head, (ih d).expr, (ih d).rest)
 
 sound_behind : (ts : List Lexeme) (d : ℕ) → Sound (drop d ts) (behind Glued ts d)

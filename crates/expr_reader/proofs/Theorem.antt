@@ -10,7 +10,7 @@ use Rattle.syntax_tree.specs.Spelling.{spelling, IsFormed, depth, part_depth, li
 use Rattle.expr_reader.specs.Reading.{◌>>=◌, reading, apart}
 use Rattle.expr_reader.specs.Spelled.{Spelled, Ifs}
 use Rattle.expr_reader.specs.Longest.{IsLongest, NoneBegins, Why}
-use Rattle.expr_reader.specs.Front.{front, Ends}
+use Rattle.expr_reader.specs.Front.{front, Ends, IsFront}
 use Rattle.expr_reader.proofs.Sound.{sound, bind_holds, drop_taken}
 use Rattle.expr_reader.proofs.Complete.{comes, Finds, finds, Stops, inner}
 use Rattle.expr_reader.proofs.Apart.{mapped, agree}
@@ -104,13 +104,6 @@ has_depth (Closed a) = omega arith
 
 pub too_deep : (b : Bool) (d l : ℕ) → (IsTrue b ↔ (d ≤ l)) → b ≡ false → l < d
 too_deep b d l h e = ⊎_elim (λ lt. lt) (λ le. let t : IsTrue b = h.1 le in absurd cc) (cases_lt l d)
-
--- what stands at the front
-pub record IsFront (ts : List Lexeme) (x : Expression × List Lexeme) : Type 0 where
-  pub written : Expression
-  pub same : kept written ≡ x.0
-  pub formed : IsFormed written
-  pub parts : ts ≡ spelling written ++ x.1
 
 pub front_sound : (ts : List Lexeme) → Ifs (front ts) (IsFront ts)
 unfolding front

@@ -2,9 +2,10 @@
 use Rattle.std.specs.Prelude.{◌≤◌, ℕ, zero, suc, ◌+◌, List, [], ◌∷◌, drop, Option, Some, None, Bool, true, false, ◌&&◌, nat_le, if◌then◌else◌}
 use Rattle.op_tables.specs.declared.op.Op.{Op}
 use Rattle.op_tables.specs.Words.{is_reserved}
+use Rattle.syntax_tree.specs.declared.sign.Sign.{Sign}
 use Rattle.syntax_tree.specs.declared.sign.Sign.TheVariants as sign
-use Rattle.syntax_tree.specs.Lexeme.{Lexeme, Word, Integer, Fixed}
-use Rattle.syntax_tree.specs.Operators.{binary_of, unary_of, level, left_place, right_place, intrinsic}
+use Rattle.syntax_tree.specs.Lexeme.{Lexeme, Word, Integer, Fixed, sign_of}
+use Rattle.syntax_tree.specs.Operators.{binary_in, unary_of, level, left_place, right_place, intrinsic}
 use Rattle.syntax_tree.specs.Expression.{Expression, Number, Truth, Name, Element, Call, Unary, Binary, Closed, Part, One, Range, Glued, Parts, End, More, Maybe, Absent, Present}
 use Rattle.syntax_tree.specs.Spelling.{binds}
 
@@ -16,8 +17,8 @@ None >>= f = None
 
 -- what can be read at a place: each time a value, and how many lexemes it takes
 pub record Core : Type 0 where
-  -- the lexeme there
-  pub head : Option Lexeme
+  -- the operator or delimiter there
+  pub head : Option Sign
   -- an expression that binds at least so tightly
   pub expr : ℕ → Option (Expression × ℕ)
   -- what the expression of so many lexemes before the place goes on to be
@@ -30,26 +31,26 @@ pub record Readers : Type 0 where
   -- the parts of a list, and the parenthesis
   pub list : Option (Parts × ℕ)
 
--- whether a lexeme is this one
-abbrev pub is_open : Option Lexeme → Bool
-is_open (Some (Fixed sign.Open)) = true
-is_open t = false
+-- whether it is this one
+abbrev pub is_open : Option Sign → Bool
+is_open (Some sign.Open) = true
+is_open s = false
 
-abbrev pub is_close : Option Lexeme → Bool
-is_close (Some (Fixed sign.Close)) = true
-is_close t = false
+abbrev pub is_close : Option Sign → Bool
+is_close (Some sign.Close) = true
+is_close s = false
 
-abbrev pub is_comma : Option Lexeme → Bool
-is_comma (Some (Fixed sign.Comma)) = true
-is_comma t = false
+abbrev pub is_comma : Option Sign → Bool
+is_comma (Some sign.Comma) = true
+is_comma s = false
 
-abbrev pub is_colon : Option Lexeme → Bool
-is_colon (Some (Fixed sign.Colon)) = true
-is_colon t = false
+abbrev pub is_colon : Option Sign → Bool
+is_colon (Some sign.Colon) = true
+is_colon s = false
 
-abbrev pub is_colons : Option Lexeme → Bool
-is_colons (Some (Fixed sign.Colons)) = true
-is_colons t = false
+abbrev pub is_colons : Option Sign → Bool
+is_colons (Some sign.Colons) = true
+is_colons s = false
 
 -- a name with the subscripts behind it, and how many lexemes these take
 abbrev pub name_with : List ℕ → Option (Parts × ℕ) → Expression × ℕ
@@ -109,19 +110,15 @@ abbrev pub goes_with : ℕ → Expression → Option Op → Option Op
 goes_with k e None = None
 goes_with k e (Some o) = if nat_le k (level o) && nat_le (left_place o) (binds e) then Some o else None
 
-abbrev pub binary_at : Option Lexeme → Option Op
-binary_at None = None
-binary_at (Some t) = binary_of t
-
-abbrev pub goes_on : ℕ → Expression → Option Lexeme → Option Op
-goes_on k e t = goes_with k e (binary_at t)
+abbrev pub goes_on : ℕ → Expression → Option Sign → Option Op
+goes_on k e s = goes_with k e (binary_in s)
 
 abbrev pub more_with : (ℕ → Readers) → ℕ → Expression → ℕ → Option Op → Expression × ℕ
 more_with f k e n None = (e, n)
 more_with f k e n (Some o) = joined_at f k e n o ((f 0).core.expr (right_place o))
 
 abbrev pub more_at : (ℕ → Readers) → ℕ → Expression → ℕ → Lexeme → Expression × ℕ
-more_at f k e n t = more_with f k e n (goes_on k e (Some t))
+more_at f k e n t = more_with f k e n (goes_on k e (sign_of t))
 
 abbrev pub rest_at : (ℕ → Readers) → Lexeme → Option (Parts × ℕ)
 rest_at f (Fixed sign.Close) = Some (End, 1)
@@ -130,7 +127,7 @@ rest_at f t = None
 
 abbrev pub core_at : (ℕ → Readers) → Lexeme → Core
 core_at f t = record {
-  head = Some t;
+  head = sign_of t;
   expr = λ k. expr_at f k t;
   more = λ k e n. more_at f k e n t;
   rest = rest_at f t;

@@ -1,11 +1,12 @@
 -- What the functions of the code gave.
-use Rattle.std.specs.Prelude.{◌≡◌, ◌≤◌, ℕ, ◌+◌, List, [], ◌∷◌, map, Option, Some, None}
+use Rattle.std.specs.Prelude.{◌≡◌, ◌≤◌, ℕ, ◌+◌, List, [], ◌∷◌, drop, Option, Some, None, Vec, true, false}
+use Rattle.std.specs.declared.alloc.Global.{Global}
 use Rattle.source_lines.specs.declared.token.Token.{Token}
 use Rattle.syntax_tree.specs.declared.expr.Expr.{Expr}
 use Rattle.syntax_tree.specs.declared.expr.Subscript.{Subscript}
-use Rattle.syntax_tree.specs.Lexeme.{lexeme_of}
+use Rattle.syntax_tree.specs.Lexeme.{lexemes}
 use Rattle.syntax_tree.specs.Expression.{Expression, One, Parts, End, More, Maybe, Absent, Present, expression, subscript}
-use Rattle.expr_reader.specs.Reading.{Readers, apart, reading}
+use Rattle.expr_reader.specs.Reading.{Readers, apart, are_arguments, reading}
 
 -- what was read, with the trees apart from where they lie
 abbrev pub seen : {X Y : Type 0} → (X → Y) → Option (X × ℕ) → Option (Y × ℕ)
@@ -17,9 +18,13 @@ abbrev pub EndsWithin : {X : Type 0} → Option (X × ℕ) → ℕ → Type 0
 EndsWithin None n = Unit {0}
 EndsWithin (Some x) n = x.1 ≤ n
 
--- what can be read at a token, `::` and two colons not told apart
+-- what can be read at the first of the tokens, where `::` and two colons aren't told apart
 abbrev pub read : List Token → Readers
-read tokens = reading apart (map (λ t. lexeme_of t.kind) tokens)
+read tokens = reading apart (lexemes tokens)
+
+-- what can be read behind so many of the tokens
+abbrev pub ahead : List Token → ℕ → Readers
+ahead tokens d = read (drop d tokens)
 
 -- a tree that may be there
 abbrev pub maybe_in : Option Expr → Maybe
@@ -43,3 +48,8 @@ joined (More p front) ps = More p (joined front ps)
 abbrev pub with_front : Parts → ℕ → Option (Parts × ℕ) → Option (Parts × ℕ)
 with_front front n None = None
 with_front front n (Some x) = Some (joined front x.0, n + x.1)
+
+-- the expressions that parts are
+abbrev pub AreExpressions : Option (Vec Expr Global) → Parts → Type 0
+AreExpressions None ps = are_arguments ps ≡ false
+AreExpressions (Some es) ps = (are_arguments ps ≡ true) × (arguments_of es.items ≡ ps)

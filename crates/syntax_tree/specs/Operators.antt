@@ -5,7 +5,7 @@ use Rattle.op_tables.specs.declared.op.Op.TheVariants as op
 use Rattle.op_tables.specs.Words.{code_in, intrinsic_words}
 use Rattle.syntax_tree.specs.declared.sign.Sign.{Sign}
 use Rattle.syntax_tree.specs.declared.sign.Sign.TheVariants as sign
-use Rattle.syntax_tree.specs.Lexeme.{Lexeme, Fixed, Unknown}
+use Rattle.syntax_tree.specs.Lexeme.{Lexeme, Fixed, Unknown, sign_of}
 
 -- the operator that a sign is between two operands
 abbrev pub binary : Sign → Option Op
@@ -33,9 +33,12 @@ unary sign.Minus = Some op.Neg
 unary sign.Not = Some op.LogNot
 unary s = None
 
+abbrev pub binary_in : Option Sign → Option Op
+binary_in None = None
+binary_in (Some s) = binary s
+
 abbrev pub binary_of : Lexeme → Option Op
-binary_of (Fixed s) = binary s
-binary_of l = None
+binary_of l = binary_in (sign_of l)
 
 abbrev pub unary_of : Lexeme → Option Op
 unary_of (Fixed s) = unary s
