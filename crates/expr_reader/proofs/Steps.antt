@@ -11,9 +11,9 @@ use Rattle.syntax_tree.specs.declared.expr.Subscript.{Subscript}
 use Rattle.syntax_tree.specs.declared.expr.Expr.TheBlock.{Row_of-Subscript, end_of-Subscript, more_of-Subscript, items-the_row-Subscript, hidden-the_row-Subscript-0, items_hidden-the_row-Subscript-0, back-Ref-subs, Row_of-Expr, end_of-Expr, more_of-Expr, items-the_row-Expr, hidden-the_row-Expr-1, items_hidden-the_row-Expr-1}
 use Rattle.syntax_tree.specs.Lexeme.{Lexeme, lexeme_of, lexemes, sign_of, Fixed}
 use Rattle.syntax_tree.specs.Operators.{right_place}
-use Rattle.syntax_tree.specs.Expression.{Expression, Name, Element, Call, Binary, Parts, Part, One, End, More, expression, subscripts, arguments, reference, subscript}
-use Rattle.expr_reader.specs.Reading.{◌>>=◌, Readers, operand_at, more_with, joined_at, goes_on, apart, part_at, rest_at, is_open, is_close, is_comma, name_with, name_at, at_lexeme, at_end, core_at, list_at, reading}
-use Rattle.expr_reader.specs.Seen.{EndsWithin, ahead, read, arguments_of, parts_of, with_front, joined}
+use Rattle.syntax_tree.specs.Expression.{Expression, Name, Element, Call, Binary, Parts, Part, One, Range, Glued, End, More, expression, subscripts, arguments, reference, subscript}
+use Rattle.expr_reader.specs.Reading.{◌>>=◌, Readers, are_arguments, arguments_at, call_at, operand_at, more_with, joined_at, goes_on, apart, part_at, rest_at, is_open, is_close, is_comma, name_with, name_at, at_lexeme, at_end, core_at, list_at, reading}
+use Rattle.expr_reader.specs.Seen.{EndsWithin, ahead, expression_of, read, arguments_of, parts_of, with_front, joined}
 use Rattle.expr_reader.proofs.Equations.{reading_at, reading_at_end, list_all}
 
 subscript_items : {m : _} (row : Row_of-Subscript m) → subscripts row ≡ parts_of (items-the_row-Subscript m row)
@@ -196,9 +196,50 @@ pub name_kept : (us : List Token) (x : List ℕ) (s : Option (Parts × ℕ)) →
 name_kept us x s h g =
     ap (name_with x) g ∙ ap (λ b. if b then name_with x (ahead us 1).list else (Name x, 0)) h
 
+pub called : (us : List Token) (o : Op) (args args' : Parts) (n : ℕ) → args' ≡ args → true ≡ is_open (ahead us 0).core.head → Some (args, n) ≡ arguments_at (ahead us 1) → Some (Call o args', n + 1) ≡ call_at (ahead us) (Some o)
+called us o args args' n e h g =
+    ap (λ a. Some (Call o a, n + 1)) e
+    ∙ ap (λ r. r >>= λ ps. Some (Call o ps.0, ps.1 + 1)) g
+    ∙ ap (λ b. if b then (arguments_at (ahead us 1) >>= λ ps. Some (Call o ps.0, ps.1 + 1)) else None) h
+
 -- the end of what was read behind a place
 pub ends : {X : Type 0} (ts us : List Token) (n : ℕ) (o : Option (X × ℕ)) (x : X) (count : ℕ) → us ≡ drop n ts → n ≤ length ts → o ≡ Some (x, count) → EndsWithin o (length us) → n + count ≤ length ts
 ends ts us n o x count e h is w =
     let l : length us + n ≡ length ts = omega (arith, ap length e, length-drop n ts) in
     let w' : count ≤ length us = subst (λ o. EndsWithin o (length us)) is w in
     omega arith
+
+-- the expressions that the parts of a list are, one by one
+pub no_arguments : (ss : List Subscript) (s : Subscript) (rest : List Subscript) → None ≡ expression_of (subscript s) → are_arguments (parts_of (ss ++ s ∷ rest)) ≡ false
+no_arguments [] s rest h = none (subscript s) h
+  where
+    none : (p : Part) → None ≡ expression_of p → are_arguments (More p (parts_of rest)) ≡ false
+    none (One e) h = absurd cc
+    none (Range a b c) h = refl
+    none (Glued a c) h = refl
+no_arguments (t ∷ ss) s rest h = later (subscript t) (no_arguments ss s rest h)
+  where
+    later : (p : Part) → are_arguments (parts_of (ss ++ s ∷ rest)) ≡ false → are_arguments (More p (parts_of (ss ++ s ∷ rest))) ≡ false
+    later (One e) h = h
+    later (Range a b c) h = refl
+    later (Glued a c) h = refl
+
+one_part : (p : Part) (e : Expression) → Some e ≡ expression_of p → One e ≡ p
+one_part (One x) e h = let same : e ≡ x = cc in ap One same
+one_part p e h = absurd cc
+
+pub one_more : (ss : List Subscript) (s : Subscript) (e : Expr) → are_arguments (parts_of ss) ≡ true → Some (expression e) ≡ expression_of (subscript s) → are_arguments (parts_of (ss ++ s ∷ [])) ≡ true
+one_more [] s e h is = ap (λ p. are_arguments (More p End)) (sym (one_part (subscript s) (expression e) is))
+one_more (t ∷ ss) s e h is = later (subscript t) h (λ g. one_more ss s e g is)
+  where
+    later : (p : Part) → are_arguments (More p (parts_of ss)) ≡ true → (are_arguments (parts_of ss) ≡ true → are_arguments (parts_of (ss ++ s ∷ [])) ≡ true) → are_arguments (More p (parts_of (ss ++ s ∷ []))) ≡ true
+    later (One x) h more = more h
+    later (Range a b c) h more = absurd cc
+    later (Glued a c) h more = absurd cc
+
+pub one_more_same : (es : List Expr) (ss : List Subscript) (s : Subscript) (e : Expr) → arguments_of es ≡ parts_of ss → Some (expression e) ≡ expression_of (subscript s) → arguments_of (es ++ e ∷ []) ≡ parts_of (ss ++ s ∷ [])
+one_more_same es ss s e same is = arguments_push es e ∙ ap (λ ps. joined ps (More (One (expression e)) End)) same ∙ ap (λ p. joined (parts_of ss) (More p End)) (one_part (subscript s) (expression e) is) ∙ sym (joined_more ss s End) ∙ joined_end (ss ++ s ∷ [])
+  where
+    arguments_push : (es : List Expr) (e : Expr) → arguments_of (es ++ e ∷ []) ≡ joined (arguments_of es) (More (One (expression e)) End)
+    arguments_push [] e = refl
+    arguments_push (x ∷ es) e = ap (More (One (expression x))) (arguments_push es e)

@@ -5,7 +5,7 @@ use Rattle.source_lines.specs.declared.token.Token.{Token}
 use Rattle.syntax_tree.specs.declared.expr.Expr.{Expr}
 use Rattle.syntax_tree.specs.declared.expr.Subscript.{Subscript}
 use Rattle.syntax_tree.specs.Lexeme.{lexemes}
-use Rattle.syntax_tree.specs.Expression.{Expression, One, Parts, End, More, Maybe, Absent, Present, expression, subscript}
+use Rattle.syntax_tree.specs.Expression.{Expression, Part, One, Parts, End, More, Maybe, Absent, Present, expression, subscript}
 use Rattle.expr_reader.specs.Reading.{Readers, apart, are_arguments, reading}
 
 -- what was read, with the trees apart from where they lie
@@ -48,6 +48,11 @@ joined (More p front) ps = More p (joined front ps)
 abbrev pub with_front : Parts → ℕ → Option (Parts × ℕ) → Option (Parts × ℕ)
 with_front front n None = None
 with_front front n (Some x) = Some (joined front x.0, n + x.1)
+
+-- the expression that a part of a list is
+abbrev pub expression_of : Part → Option Expression
+expression_of (One e) = Some e
+expression_of p = None
 
 -- the expressions that parts are
 abbrev pub AreExpressions : Option (Vec Expr Global) → Parts → Type 0

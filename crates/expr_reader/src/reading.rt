@@ -1,6 +1,6 @@
 //! Reading by recursive descent.
 
-ghost use Rattle.std.specs.Prelude.{◌≡◌, ◌≤◌, ◌<◌, ◌+◌, length, drop, IfOk, IfErr, IsSome};
+ghost use Rattle.std.specs.Prelude.{◌≡◌, ◌≤◌, ◌<◌, ◌+◌, length, drop, IfOk, IfErr, IsSome, option_map};
 ghost use Rattle.syntax_tree.specs.Lexeme.{fixed, lexeme_of, lexemes};
 ghost use Rattle.syntax_tree.specs.Operators.{unary};
 ghost use Rattle.syntax_tree.specs.Expression.{expression, subscript};
@@ -8,7 +8,7 @@ ghost use Rattle.syntax_tree.specs.Spelling.{binds};
 ghost use Rattle.expr_reader.specs.Front.{front, Sees};
 ghost use Rattle.expr_reader.specs.Longest.{IsRead, IsRefused};
 ghost use Rattle.expr_reader.specs.Reading.{apart, arguments_at, call_at, closed_at, glued_at, goes_on, maybe_at, name_at, operand_at, part_at, part_from, range_at, unary_at, word_at};
-ghost use Rattle.expr_reader.specs.Seen.{ahead, AreExpressions, arguments_of, EndsWithin, maybe_in, parts_of, read, seen};
+ghost use Rattle.expr_reader.specs.Seen.{ahead, AreExpressions, arguments_of, EndsWithin, expression_of, maybe_in, parts_of, read, seen};
 
 use crate::depth::{MAX_DEPTH, fits};
 use crate::signs::{behind, closes, opens, ranges, separates, sign_at, steps};
@@ -90,7 +90,8 @@ fn operand(
     match first {
         TokenKind::Integer(value) => Ok(Some((Expr::Int(*value), 0))),
         TokenKind::Word(word) => from_word(alloc, *word, rest),
-        _ => from_sign(alloc, sign_of(first), rest, place),
+        TokenKind::Text(_) => Ok(None),
+        TokenKind::Dot(_) | TokenKind::Symbol(_) => from_sign(alloc, sign_of(first), rest, place),
     }
 }
 
@@ -381,10 +382,20 @@ fn expressions(alloc: Global, parts: Vec<Subscript>) -> Result<Option<Vec<Expr>>
 {
     let mut expressions = Vec::new(alloc);
     for part in parts {
-        let Subscript::One(e) = part else {
+        let Some(e) = expression_of(part) else {
             return Ok(None);
         };
         expressions.push(e)?;
     }
     Ok(Some(expressions))
+}
+
+/// The expression that a part of a list is.
+fn expression_of(part: Subscript) -> Option<Expr>
+    ensures { option_map expression result ≡ expression_of (subscript part) }
+{
+    match part {
+        Subscript::One(e) => Some(e),
+        Subscript::Triplet { .. } => None,
+    }
 }

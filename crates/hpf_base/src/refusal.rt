@@ -2,6 +2,7 @@
 
 ghost use Rattle.std.specs.Prelude.{◌≡◌};
 ghost use Rattle.hpf_base.specs.Refusal.{name_of, number_of};
+ghost use Rattle.hpf_base.specs.declared.refusal.StaticError.TheVariants.{Memory};
 
 use std::alloc::{AllocError, AllocFailed};
 
@@ -79,12 +80,16 @@ pub enum StaticError {
 }
 
 impl From<AllocError> for StaticError {
+    ghost from_gives = { λ _ e. e ≡ Memory };
+
     fn from(_error: AllocError) -> StaticError {
         StaticError::Memory
     }
 }
 
 impl<T: Drop> From<AllocFailed<T>> for StaticError {
+    ghost from_gives = { λ _ e. e ≡ Memory };
+
     fn from(_error: AllocFailed<T>) -> StaticError {
         StaticError::Memory
     }

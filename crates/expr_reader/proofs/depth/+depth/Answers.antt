@@ -17,3 +17,11 @@ fits-returns-in-Some t c =
     ∙ ap (λ l. 1 + list_depth (parts_of l)) (sym c.deref.ensures.value)
     in
     (λ h. omega (arith, d, c.all_fit.ensures.0 h), λ h. c.all_fit.ensures.1 (omega (arith, d, h)))
+
+pub fits-returns-in-Call : goal.fits-returns-in-Call
+fits-returns-in-Call t c =
+    let d : depth (expression c.args.tree.now) ≡ 1 + list_depth (arguments_of c.deref-in-Call.result.now) =
+    ap depth (ap expression c.in-Call.is ∙ ap (Call c.in-Call.field-0) (call_vec c.in-Call.arguments))
+    ∙ ap (λ l. 1 + list_depth (arguments_of l)) (sym c.deref-in-Call.ensures.value)
+    in
+    (λ h. omega (arith, d, c.arguments_fit.ensures.0 h), λ h. c.arguments_fit.ensures.1 (omega (arith, d, h)))

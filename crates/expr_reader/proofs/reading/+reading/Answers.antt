@@ -1,8 +1,8 @@
 use Rattle.std.proofs.Common.{Some, None, ◌+◌, ◌<◌, length, sym, ap, ◌∙◌, arith, rules}
 use Rattle.syntax_tree.specs.Expression.{expression, subscript, Call}
-use Rattle.expr_reader.specs.Reading.{apart, part_at}
+use Rattle.expr_reader.specs.Reading.{apart, arguments_at, call_at, part_at}
 use Rattle.expr_reader.specs.Seen.{ahead, arguments_of, parts_of, read, seen, with_front}
-use Rattle.expr_reader.proofs.Steps.{call_vec, reference_vec, name_kept, ends, expr_none, expr_step, more_kept, more_over, more_end, list_stops, list_closes, list_ends, list_goes_on}
+use Rattle.expr_reader.proofs.Steps.{call_vec, called, reference_vec, name_kept, ends, expr_none, expr_step, more_kept, more_over, more_end, list_stops, list_closes, list_ends, list_goes_on}
 use Rattle.expr_reader.proofs.reading.+reading.Goals as goal
 use Rattle.expr_reader.proofs.reading.+reading.Goals.{more-in-Some+in_ok-other+in_default-2, more-in_default}
 
@@ -59,3 +59,8 @@ pub reference-returns-clause-value : goal.reference-returns-clause-value
 reference-returns-clause-value t c =
     (λ i. (reference_vec c.args.name c.in-Some.subs i, c.in-Some.taken + 1))
     ∙ name_kept c.args.rest.now c.args.name (Some (parts_of c.in-Some.subs.items, c.in-Some.taken)) (sym c.if-opens.true ∙ c.opens.ensures.value) (ap (seen (λ v. parts_of v.items)) (sym c.in-Some.is) ∙ c.in_ok-subs.ensures.value ∙ ap (λ ts. (read ts).list) c.behind.ensures)
+
+pub call-returns-clause-value : goal.call-returns-clause-value
+call-returns-clause-value t c =
+    called c.args.rest.now c.in-Some.op (arguments_of c.in-Some-2.arguments.items) _ c.in-Some-2.taken (call_vec c.in-Some-2.arguments) (sym c.if-not-opens.false ∙ c.opens.ensures.value) (ap (seen (λ v. arguments_of v.items)) (sym c.in-Some-2.is) ∙ c.in_ok-arguments.ensures.value ∙ ap (λ ts. arguments_at (read ts)) c.behind.ensures)
+    ∙ ap (call_at (ahead c.args.rest.now)) (sym c.in-Some.is)
