@@ -5,14 +5,14 @@ ghost use Rattle.std.specs.Option.{option_copied};
 ghost use Rattle.op_tables.specs.Tables.{row_of, IsTableOf};
 ghost use Rattle.op_tables.specs.Words.{code_in};
 
-/// A word, in upper case, and its code, which is its place in its table, from 0.
+/// A word, in upper case, and its code: in the tables of this crate its place, from 0.
 #[derive(Clone, Copy)]
 pub struct Row {
     pub spelling: &'static str,
     pub code: u16,
 }
 
-/// A table of words: the spellings of its rows are distinct, and ascend in the order of bytes.
+/// A table of words. In the tables of this crate the spellings are distinct and ascend in the order of bytes.
 #[derive(Clone, Copy)]
 pub struct Table<const N: usize> {
     pub rows: [Row; N],
