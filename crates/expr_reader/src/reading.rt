@@ -117,11 +117,7 @@ fn from_sign(
 
 /// An operand that begins with a word.
 #[cycle(reading)]
-fn from_word(
-    alloc: Global,
-    word: Name,
-    rest: &[Token],
-) -> Result<Option<(Expr, usize)>, AllocError>
+fn from_word(alloc: Global, word: Name, rest: &[Token]) -> Result<Option<(Expr, usize)>, AllocError>
     ensures within { IfOk result (λ r. EndsWithin r (length rest.now)) }
     ensures value { IfOk result (λ r. seen expression r ≡ word_at (ahead rest.now) word) }
 {
@@ -348,10 +344,7 @@ fn range(
         return Ok(None);
     };
     let step = Some(step);
-    Ok(Some((
-        Subscript::Triplet { first, last, step },
-        taken + 1 + count,
-    )))
+    Ok(Some((Subscript::Triplet { first, last, step }, taken + 1 + count)))
 }
 
 /// A triplet without a last part from its `::` on.
@@ -370,10 +363,7 @@ fn stepped(
         return Ok(None);
     };
     let (last, step) = (None, Some(step));
-    Ok(Some((
-        Subscript::Triplet { first, last, step },
-        taken + 1 + count,
-    )))
+    Ok(Some((Subscript::Triplet { first, last, step }, taken + 1 + count)))
 }
 
 /// The expressions that the parts of a list are; None where one of them is a triplet.

@@ -13,11 +13,13 @@ mod names;
 mod operators;
 mod sign;
 mod stmt;
+#[cfg(test)]
+mod tests;
 
 pub use decl::{Bound, ConstDef, Decl, DeclKind, EndForm, Entity, IntegerDecl, Tree};
 pub use directive::{AlignSpec, Directive, DistSpec, Format, Source, Target};
 pub use expr::{Expr, Ref, Subscript};
 pub use names::Names;
-pub use operators::{binary, intrinsic, left_place, level, unary, right_place};
+pub use operators::{binary, intrinsic, left_place, level, right_place, unary};
 pub use sign::{Sign, sign_of};
 pub use stmt::{Arm, DoLoop, Header, Item, Kind, Mark, Stmt};

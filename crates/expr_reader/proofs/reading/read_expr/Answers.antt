@@ -28,9 +28,9 @@ returns-clause-found c =
     let d : depth e ≡ depth w.written = ap depth (sym w.same) ∙ same_depth w.written in
     let z : c.in-Some.taken ≡ c.args.from + c.in-Some.taken - c.args.from = omega arith in
     record {
-        forward = omega arith;
-        written = w.written;
-        same = w.same;
-        longest = subst (λ n. IsLongest ts (w.written, n)) z w.longest;
-        shallow = omega (arith, d, c.fits.ensures.0 c.if-not-fits.false);
+      forward = omega arith;
+      written = w.written;
+      same = w.same;
+      longest = subst (λ n. IsLongest ts (w.written, n)) z w.longest;
+      shallow = omega (arith, d, c.fits.ensures.0 c.if-not-fits.false);
     }
