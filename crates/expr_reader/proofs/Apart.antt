@@ -1,15 +1,14 @@
 -- A reading that doesn't tell `::` from two colons gives what a tree keeps of what is written.
-use Rattle.std.proofs.Common.{◌≡◌, ℕ, zero, suc, ◌+◌, List, [], ◌∷◌, Option, Some, None, Bool, true, false, refl, sym, ap, ◌∙◌}
+use Rattle.std.proofs.Common.{◌≡◌, ℕ, zero, suc, ◌+◌, List, [], ◌∷◌, Option, Some, None, Bool, true, false, refl, ap, ◌∙◌}
 use Rattle.std.specs.Prelude.{if◌then◌else◌, nat_le, ◌&&◌}
 use Rattle.op_tables.specs.declared.op.Op.{Op}
 use Rattle.op_tables.specs.Words.{is_reserved}
-use Rattle.syntax_tree.specs.declared.sign.Sign.{Sign}
 use Rattle.syntax_tree.specs.declared.sign.Sign.TheVariants as sign
 use Rattle.syntax_tree.specs.Lexeme.{Lexeme, Word, Integer, Fixed, sign_of}
 use Rattle.syntax_tree.specs.Operators.{binary_of, unary_of, level, left_place, right_place, intrinsic}
-use Rattle.syntax_tree.specs.Expression.{Expression, Number, Truth, Name, Element, Call, Unary, Binary, Closed, Part, One, Range, Glued, Parts, End, More, Maybe, Absent, Present, kept, part_kept, all_kept, maybe_kept}
+use Rattle.syntax_tree.specs.Expression.{Expression, Number, Name, Call, Unary, Binary, Closed, Part, One, Range, Glued, Parts, End, More, Maybe, Absent, Present, kept, part_kept, all_kept, maybe_kept}
 use Rattle.syntax_tree.specs.Spelling.{binds}
-use Rattle.expr_reader.specs.Reading.{◌>>=◌, Core, Readers, is_open, is_close, is_colon, is_colons, name_with, name_at, are_arguments, if_arguments, arguments_at, call_at, word_at, closed_at, unary_at, operand_at, expr_at, joined_at, goes_with, goes_on, more_with, more_at, rest_at, core_at, from_here, maybe_at, step_at, range_at, one_at, glued_at, part_from, part_at, list_at, at_lexeme, at_end, behind, reading, apart}
+use Rattle.expr_reader.specs.Reading.{◌>>=◌, Core, Readers, is_open, is_close, is_colon, is_colons, name_with, name_at, are_arguments, if_arguments, arguments_at, call_at, word_at, closed_at, unary_at, operand_at, expr_at, joined_at, goes_with, goes_on, more_with, more_at, rest_at, core_at, from_here, maybe_at, step_at, range_at, one_at, glued_at, part_from, part_at, list_at, at_lexeme, behind, reading, apart}
 
 -- with something done to the value
 abbrev pub mapped : {A : Type 0} → (A → A) → Option (A × ℕ) → Option (A × ℕ)
@@ -37,19 +36,12 @@ pub record Agrees (r s : Readers) : Type 0 where
 
 same_binds : (e : Expression) → binds e ≡ binds (kept e)
 same_binds (Number n) = refl
-same_binds (Truth b) = refl
-same_binds (Name x) = refl
-same_binds (Element x ps) = refl
-same_binds (Call o ps) = refl
-same_binds (Unary o a) = refl
-same_binds (Binary o a b) = refl
-same_binds (Closed a) = refl
+same_binds e = refl
 
 same_arguments : (ps : Parts) → are_arguments ps ≡ are_arguments (all_kept ps)
 same_arguments End = refl
 same_arguments (More (One e) ps) = same_arguments ps
-same_arguments (More (Range a b c) ps) = refl
-same_arguments (More (Glued a c) ps) = refl
+same_arguments (More p ps) = refl
 
 kept_if_arguments : (ps : Parts × ℕ) → mapped all_kept (if_arguments ps) ≡ if_arguments (all_kept ps.0, ps.1)
 kept_if_arguments ps =
@@ -80,16 +72,16 @@ module _ (f g : ℕ → Readers) (ih : (d : ℕ) → Agrees (f d) (g d)) where
       (bind_mapped all_kept all_kept (f 1).list if_arguments if_arguments kept_if_arguments ∙ ap (λ l. l >>= if_arguments) (ih 1).list)
       ∙ ap (λ h. if is_close h then Some (End, 1) else ((g 1).list >>= if_arguments)) (ih 1).head
 
-  abbrev called : Op → Parts × ℕ → Option (Expression × ℕ)
-  called o ps = Some (Call o ps.0, ps.1 + 1)
+  abbrev call_with : Op → Parts × ℕ → Option (Expression × ℕ)
+  call_with o ps = Some (Call o ps.0, ps.1 + 1)
 
   kept_call : (o : Option Op) → mapped kept (call_at f o) ≡ call_at g o
   kept_call None = refl
   kept_call (Some o) =
-      cond_mapped kept (is_open (f 0).core.head) (arguments_at (f 1) >>= called o) None (arguments_at (g 1) >>= called o) None
-      (bind_mapped all_kept kept (arguments_at (f 1)) (called o) (called o) (λ ps. refl) ∙ ap (λ a. a >>= called o) kept_arguments)
+      cond_mapped kept (is_open (f 0).core.head) (arguments_at (f 1) >>= call_with o) None (arguments_at (g 1) >>= call_with o) None
+      (bind_mapped all_kept kept (arguments_at (f 1)) (call_with o) (call_with o) (λ ps. refl) ∙ ap (λ a. a >>= call_with o) kept_arguments)
       refl
-      ∙ ap (λ h. if is_open h then (arguments_at (g 1) >>= called o) else None) (ih 0).head
+      ∙ ap (λ h. if is_open h then (arguments_at (g 1) >>= call_with o) else None) (ih 0).head
 
   kept_word : (x : List ℕ) → mapped kept (word_at f x) ≡ word_at g x
   kept_word x = cond_mapped kept (is_reserved x) (call_at f (intrinsic x)) (Some (name_at f x)) (call_at g (intrinsic x)) (Some (name_at g x)) (kept_call (intrinsic x)) (ap Some (kept_name x))

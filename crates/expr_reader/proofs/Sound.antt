@@ -10,9 +10,9 @@ use Rattle.syntax_tree.specs.declared.sign.Sign.TheVariants as sign
 use Rattle.syntax_tree.specs.Lexeme.{Lexeme, Word, Integer, Fixed, sign_of}
 use Rattle.syntax_tree.specs.Operators.{binary_of, unary_of, operator_lexeme, level, left_place, right_place, intrinsic, intrinsic_word}
 use Rattle.syntax_tree.proofs.Intrinsics.{IsNamed, intrinsic_is_named}
-use Rattle.syntax_tree.specs.Expression.{Expression, Number, Truth, Name, Element, Call, Unary, Binary, Closed, Part, One, Range, Glued, Parts, End, More, Maybe, Absent, Present}
+use Rattle.syntax_tree.specs.Expression.{Expression, Name, Binary, Closed, Part, One, Range, Glued, Parts, End, More, Maybe, Absent, Present}
 use Rattle.syntax_tree.specs.Spelling.{binds, spelling, part_spelling, maybe_spelling, step_spelling, parts_spelling, rest_spelling, IsFormed, IsPart, IsMaybe, IsList, AreParts, AreArguments}
-use Rattle.expr_reader.specs.Reading.{◌>>=◌, Core, Readers, is_open, is_close, is_colon, is_colons, name_with, name_at, are_arguments, if_arguments, arguments_at, call_at, word_at, closed_at, unary_at, operand_at, expr_at, joined_at, goes_with, goes_on, more_with, more_at, rest_at, core_at, from_here, maybe_at, step_at, range_at, one_at, glued_at, part_from, part_at, list_at, at_lexeme, at_end, behind, reading}
+use Rattle.expr_reader.specs.Reading.{◌>>=◌, Core, Readers, is_open, is_close, is_colon, is_colons, name_with, name_at, are_arguments, if_arguments, arguments_at, call_at, word_at, closed_at, unary_at, operand_at, expr_at, joined_at, goes_with, goes_on, more_with, more_at, rest_at, core_at, from_here, maybe_at, step_at, range_at, one_at, glued_at, part_at, list_at, at_lexeme, at_end, behind, reading}
 use Rattle.expr_reader.specs.Spelled.{Takes, Spelled, Ifs}
 
 -- the tools: a step that may fail, and a choice
@@ -118,24 +118,7 @@ binary_is (Fixed sign.Neqv) = (refl, refl)
 binary_is t = tt
 
 pub few_levels : (o : Op) → (level o ≤ 8) × (right_place o ≤ 9)
-few_levels op.Add = (omega arith, omega arith)
-few_levels op.Sub = (omega arith, omega arith)
-few_levels op.Mul = (omega arith, omega arith)
-few_levels op.Neg = (omega arith, omega arith)
-few_levels op.Plus = (omega arith, omega arith)
-few_levels op.Div = (omega arith, omega arith)
 few_levels op.Pow = (omega arith, omega arith)
-few_levels op.Eq = (omega arith, omega arith)
-few_levels op.Ne = (omega arith, omega arith)
-few_levels op.Lt = (omega arith, omega arith)
-few_levels op.Le = (omega arith, omega arith)
-few_levels op.Gt = (omega arith, omega arith)
-few_levels op.Ge = (omega arith, omega arith)
-few_levels op.LogNot = (omega arith, omega arith)
-few_levels op.And = (omega arith, omega arith)
-few_levels op.Or = (omega arith, omega arith)
-few_levels op.Eqv = (omega arith, omega arith)
-few_levels op.Neqv = (omega arith, omega arith)
 few_levels o = (omega arith, omega arith)
 
 le_of_test : (a b : ℕ) → nat_le a b ≡ true → a ≤ b

@@ -3,8 +3,6 @@ use Rattle.std.proofs.Common.{◌≡◌, ◌≤◌, ◌<◌, ℕ, zero, suc, ◌
 use Rattle.std.specs.Prelude.{Vec, slice_index_or, if◌then◌else◌}
 use Rattle.op_tables.specs.declared.op.Op.{Op}
 use Rattle.source_lines.specs.declared.token.Token.{Token}
-use Rattle.source_lines.specs.declared.token.TokenKind.{TokenKind}
-use Rattle.syntax_tree.specs.declared.sign.Sign.{Sign}
 use Rattle.syntax_tree.specs.declared.sign.Sign.TheVariants as sign
 use Rattle.syntax_tree.specs.declared.expr.Expr.{Expr}
 use Rattle.syntax_tree.specs.declared.expr.Subscript.{Subscript}
@@ -20,6 +18,7 @@ subscript_items : {m : _} (row : Row_of-Subscript m) → subscripts row ≡ part
 subscript_items end_of-Subscript = refl
 subscript_items (more_of-Subscript s row) = ap (More (subscript s)) (subscript_items row)
 
+-- what a name with subscripts is, as they lie in memory
 pub reference_vec : (x : List ℕ) (v : Vec Subscript Global) → reference x (back-Ref-subs (Some v)) ≡ Element x (parts_of v.items)
 reference_vec x v = ap (Element x) (subscript_items (hidden-the_row-Subscript-0 v) ∙ ap parts_of (items_hidden-the_row-Subscript-0 v))
 
@@ -27,14 +26,19 @@ argument_items : {m : _} (row : Row_of-Expr m) → arguments row ≡ arguments_o
 argument_items end_of-Expr = refl
 argument_items (more_of-Expr e row) = ap (More (One (expression e))) (argument_items row)
 
+-- the arguments of a call, as they lie in memory
 pub call_vec : (v : Vec Expr Global) → arguments (hidden-the_row-Expr-1 v) ≡ arguments_of v.items
 call_vec v = argument_items (hidden-the_row-Expr-1 v) ∙ ap arguments_of (items_hidden-the_row-Expr-1 v)
 
--- lexemes behind some
+-- the lexemes behind some are those of the tokens behind as many
 pub lexemes_behind : (d : ℕ) (ts : List Token) → drop d (lexemes ts) ≡ lexemes (drop d ts)
 lexemes_behind zero ts = refl
 lexemes_behind (suc d) [] = refl
 lexemes_behind (suc d) (t ∷ ts) = lexemes_behind d ts
+
+-- what can be read behind a place of the tokens, where the tokens behind it are given
+pub read_behind : (ts us : List Token) (n : ℕ) → us ≡ drop n ts → (read us).core.expr 0 ≡ (reading apart (drop n (lexemes ts))).core.expr 0
+read_behind ts us n h = ap (λ ts. (read ts).core.expr 0) h ∙ ap (λ ts. (reading apart ts).core.expr 0) (sym (lexemes_behind n ts))
 
 read_at : (t : Token) (ts : List Token) → read (t ∷ ts) ≡ at_lexeme apart (ahead ts) (lexeme_of t.kind)
 read_at t ts = reading_at apart (lexeme_of t.kind) (lexemes ts) ∙ ap (λ f. at_lexeme apart f (lexeme_of t.kind)) (λ i d. reading apart (lexemes_behind d ts i))
@@ -71,9 +75,6 @@ head_within [] n d h = absurd (omega arith)
 head_within (t ∷ ts) zero d h = ap (λ r. r.core.head) (sym (read_at t ts))
 head_within (t ∷ ts) (suc n) d h = head_within ts n d (omega arith)
 
-ahead_behind : (t : Token) (us : List Token) (n : ℕ) → ahead (t ∷ us) (n + 1) ≡ ahead us n
-ahead_behind t us n = let e : n + 1 ≡ suc n = omega arith in ap (λ m. ahead (t ∷ us) m) e
-
 pub expr_none : (ts : List Token) (k : ℕ) → length ts ≡ 0 → None ≡ (read ts).core.expr k
 expr_none [] k e = ap (λ r. r.core.expr k) (sym read_at_end)
 expr_none (t ∷ ts) k e = absurd (omega arith)
@@ -82,7 +83,7 @@ pub expr_step : (ts : List Token) (t : Token) (us : List Token) (k : ℕ) (o : O
 expr_step ts t us k o e h =
     ap (λ o. o >>= λ e. Some ((ahead ts (e.1 + 1)).core.more k e.0 (e.1 + 1))) h
     ∙ ap (λ ts. operand_at (ahead us) k (lexeme_of t.kind) >>= λ e. Some ((ahead ts (e.1 + 1)).core.more k e.0 (e.1 + 1))) e
-    ∙ (λ i. operand_at (ahead us) k (lexeme_of t.kind) >>= λ e. Some ((ahead_behind t us e.1 i).core.more k e.0 (e.1 + 1)))
+    ∙ (λ i. operand_at (ahead us) k (lexeme_of t.kind) >>= λ e. Some ((next_ahead t us (e.1 + 1) e.1 (omega arith) i).core.more k e.0 (e.1 + 1)))
     ∙ sym (ap (λ c. c.expr k) (core_read t us))
     ∙ ap (λ ts. (read ts).core.expr k) (sym e)
 

@@ -1,18 +1,18 @@
 -- The laws of reading: one expression for each spelling, and the longest.
-use Rattle.std.proofs.Common.{◌≡◌, ◌≤◌, ◌<◌, ◌↔◌, ℕ, ◌+◌, ◌-◌, List, [], ◌∷◌, ◌++◌, length, drop, Option, Some, None, Bool, false, IsTrue, ⊎_elim, refl, sym, ap, ◌∙◌, subst, arith, append-nil}
+use Rattle.std.proofs.Common.{◌≡◌, ◌≤◌, ◌<◌, ◌↔◌, ℕ, ◌+◌, List, [], ◌∷◌, ◌++◌, length, drop, Option, Some, None, Bool, false, IsTrue, ⊎_elim, refl, sym, ap, ◌∙◌, subst, arith, append-nil}
 use Rattle.std.specs.Prelude.{max}
 use Rattle.std.proofs.lemmas.Bool.{cases_lt}
-use Rattle.hpf_base.specs.declared.refusal.Reason.TheVariants.{NotAStatement, Limit}
 use Rattle.syntax_tree.specs.Lexeme.{Lexeme}
 use Rattle.syntax_tree.specs.Operators.{level}
 use Rattle.syntax_tree.specs.Expression.{Expression, Number, Truth, Name, Element, Call, Unary, Binary, Closed, Part, One, Range, Glued, Parts, End, More, Maybe, Absent, Present, kept, part_kept, all_kept, maybe_kept}
 use Rattle.syntax_tree.specs.Spelling.{spelling, IsFormed, depth, part_depth, list_depth, maybe_depth}
 use Rattle.expr_reader.specs.Reading.{◌>>=◌, reading, apart}
 use Rattle.expr_reader.specs.Spelled.{Spelled, Ifs}
-use Rattle.expr_reader.specs.Longest.{IsLongest, NoneBegins, Why}
+use Rattle.expr_reader.specs.Longest.{IsLongest, NoneBegins}
 use Rattle.expr_reader.specs.Front.{front, Ends, IsFront}
-use Rattle.expr_reader.proofs.Sound.{sound, bind_holds, drop_taken}
-use Rattle.expr_reader.proofs.Complete.{comes, Finds, finds, Stops, inner}
+use Rattle.expr_reader.proofs.Sound.{sound, drop_taken}
+use Rattle.expr_reader.proofs.Operands.{Finds, finds, Stops, inner}
+use Rattle.expr_reader.proofs.Complete.{comes}
 use Rattle.expr_reader.proofs.Apart.{mapped, agree}
 
 some_is : (x y : Expression × ℕ) → Some x ≡ Some y → x ≡ y
@@ -94,13 +94,7 @@ mutual
 
 pub has_depth : (e : Expression) → 1 ≤ depth e
 has_depth (Number n) = omega arith
-has_depth (Truth b) = omega arith
-has_depth (Name x) = omega arith
-has_depth (Element x s) = omega arith
-has_depth (Call o s) = omega arith
-has_depth (Unary o a) = omega arith
-has_depth (Binary o a b) = omega arith
-has_depth (Closed a) = omega arith
+has_depth e = omega arith
 
 pub too_deep : (b : Bool) (d l : ℕ) → (IsTrue b ↔ (d ≤ l)) → b ≡ false → l < d
 too_deep b d l h e = ⊎_elim (λ lt. lt) (λ le. let t : IsTrue b = h.1 le in absurd cc) (cases_lt l d)

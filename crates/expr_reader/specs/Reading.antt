@@ -1,12 +1,12 @@
 -- Reading an expression from left to right, as a function on lists of lexemes.
-use Rattle.std.specs.Prelude.{◌≤◌, ℕ, zero, suc, ◌+◌, List, [], ◌∷◌, drop, Option, Some, None, Bool, true, false, ◌&&◌, nat_le, if◌then◌else◌}
+use Rattle.std.specs.Prelude.{ℕ, zero, suc, ◌+◌, List, [], ◌∷◌, drop, Option, Some, None, Bool, true, false, ◌&&◌, nat_le, if◌then◌else◌}
 use Rattle.op_tables.specs.declared.op.Op.{Op}
 use Rattle.op_tables.specs.Words.{is_reserved}
 use Rattle.syntax_tree.specs.declared.sign.Sign.{Sign}
 use Rattle.syntax_tree.specs.declared.sign.Sign.TheVariants as sign
 use Rattle.syntax_tree.specs.Lexeme.{Lexeme, Word, Integer, Fixed, sign_of}
 use Rattle.syntax_tree.specs.Operators.{binary_in, unary_of, level, left_place, right_place, intrinsic}
-use Rattle.syntax_tree.specs.Expression.{Expression, Number, Truth, Name, Element, Call, Unary, Binary, Closed, Part, One, Range, Glued, Parts, End, More, Maybe, Absent, Present}
+use Rattle.syntax_tree.specs.Expression.{Expression, Number, Truth, Name, Element, Call, Unary, Binary, Closed, Part, One, Range, Parts, End, More, Maybe, Absent, Present}
 use Rattle.syntax_tree.specs.Spelling.{binds}
 
 infixl 10 ◌>>=◌
@@ -31,7 +31,7 @@ pub record Readers : Type 0 where
   -- the parts of a list, and the parenthesis
   pub list : Option (Parts × ℕ)
 
--- whether it is this one
+-- which operator or delimiter it is
 abbrev pub is_open : Option Sign → Bool
 is_open (Some sign.Open) = true
 is_open s = false
@@ -105,7 +105,7 @@ abbrev pub joined_at : (ℕ → Readers) → ℕ → Expression → ℕ → Op �
 joined_at f k e n o None = (e, n)
 joined_at f k e n o (Some b) = (f b.1).core.more k (Binary o e b.0) (n + (b.1 + 1))
 
--- the operator with which a tree goes on at a place
+-- the operator with which an expression goes on
 abbrev pub goes_with : ℕ → Expression → Option Op → Option Op
 goes_with k e None = None
 goes_with k e (Some o) = if nat_le k (level o) && nat_le (left_place o) (binds e) then Some o else None
@@ -146,7 +146,7 @@ abbrev pub maybe_at : Option (Expression × ℕ) → Maybe × ℕ
 maybe_at None = (Absent, 0)
 maybe_at (Some e) = (Present e.0, e.1)
 
--- the last part of a range, and the step
+-- the step of a triplet, where its first parts are known
 abbrev pub step_at : (ℕ → Core) → Maybe → Maybe → ℕ → Option (Part × ℕ)
 step_at g a b n =
     if is_colon (g n).head then ((g (n + 1)).expr 0 >>= λ c. Some (Range a b (Present c.0), n + 1 + c.1)) else Some (Range a b Absent, n)
@@ -154,12 +154,12 @@ step_at g a b n =
 abbrev pub range_at : (ℕ → Core) → Maybe → ℕ → Option (Part × ℕ)
 range_at g a n = let b = maybe_at ((g (n + 1)).expr 0) in step_at g a b.0 (n + 1 + b.1)
 
--- a part of a list that is no range
+-- a part of a list that is no triplet
 abbrev pub one_at : Maybe → ℕ → Option (Part × ℕ)
 one_at Absent n = None
 one_at (Present e) n = Some (One e, n)
 
--- `glue` makes the range whose two colons are one lexeme, of its first part and its step
+-- `glue` makes the triplet whose two colons are one lexeme, of its first part and its step
 module _ (glue : Maybe → Expression → Part) where
   abbrev pub glued_at : (ℕ → Core) → Maybe → ℕ → Option (Part × ℕ)
   glued_at g a n = (g (n + 1)).expr 0 >>= λ c. Some (glue a c.0, n + 1 + c.1)
@@ -194,6 +194,6 @@ module _ (glue : Maybe → Expression → Part) where
   abbrev pub on : List Lexeme → ℕ → Readers
   on ts d = reading (drop d ts)
 
--- the range that a tree keeps of one whose two colons are one lexeme
+-- the triplet that a tree keeps of one whose two colons are one lexeme
 abbrev pub apart : Maybe → Expression → Part
 apart a c = Range a Absent (Present c)

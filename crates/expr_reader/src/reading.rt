@@ -2,7 +2,8 @@
 
 ghost use Rattle.std.specs.Prelude.{◌≡◌, ◌≤◌, ◌<◌, ◌+◌, length, drop, IfOk, IfErr, IsSome, option_map};
 ghost use Rattle.syntax_tree.specs.Lexeme.{fixed, lexeme_of, lexemes};
-ghost use Rattle.syntax_tree.specs.Operators.{unary};
+ghost use Rattle.op_tables.specs.Words.{is_reserved};
+ghost use Rattle.syntax_tree.specs.Operators.{intrinsic, unary};
 ghost use Rattle.syntax_tree.specs.Expression.{expression, subscript};
 ghost use Rattle.syntax_tree.specs.Spelling.{binds};
 ghost use Rattle.expr_reader.specs.Front.{front, Sees};
@@ -121,15 +122,32 @@ fn from_word(alloc: Global, word: Name, rest: &[Token]) -> Result<Option<(Expr, 
     ensures within { IfOk result (λ r. EndsWithin r (length rest.now)) }
     ensures value { IfOk result (λ r. seen expression r ≡ word_at (ahead rest.now) word) }
 {
-    if is_reserved(word.bytes()) {
-        return call(alloc, intrinsic(word.bytes()), rest);
+    if is_no_name(&word) {
+        return call(alloc, procedure(&word), rest);
     }
     let (reference, taken) = reference(alloc, word, rest)?;
     Ok(Some((Expr::Ref(reference), taken)))
 }
 
+/// Whether a word is in one of the tables of words. Apart, since the tables would lie in each frame of the descent.
+#[inline(never)]
+fn is_no_name(word: &Name) -> bool
+    ensures { result ≡ is_reserved word.now }
+{
+    is_reserved(word.bytes())
+}
+
+/// The intrinsic procedure that a word names.
+#[inline(never)]
+fn procedure(word: &Name) -> Option<Op>
+    ensures { result ≡ intrinsic word.now }
+{
+    intrinsic(word.bytes())
+}
+
 /// A call of an intrinsic procedure, behind its word.
 #[cycle(reading)]
+#[inline(never)]
 fn call(
     alloc: Global,
     procedure: Option<Op>,
@@ -324,6 +342,7 @@ fn maybe(alloc: Global, tokens: &[Token]) -> Result<(Option<Expr>, usize), Alloc
 
 /// A triplet from its first colon on.
 #[cycle(reading)]
+#[inline(never)]
 fn range(
     alloc: Global,
     first: Option<Expr>,
@@ -349,6 +368,7 @@ fn range(
 
 /// A triplet without a last part from its `::` on.
 #[cycle(reading)]
+#[inline(never)]
 fn stepped(
     alloc: Global,
     first: Option<Expr>,
@@ -367,6 +387,7 @@ fn stepped(
 }
 
 /// The expressions that the parts of a list are; None where one of them is a triplet.
+#[inline(never)]
 fn expressions(alloc: Global, parts: Vec<Subscript>) -> Result<Option<Vec<Expr>>, AllocError>
     ensures { IfOk result (λ r. AreExpressions r (parts_of parts.items)) }
 {

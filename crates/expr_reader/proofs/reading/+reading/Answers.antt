@@ -1,5 +1,5 @@
 use Rattle.std.proofs.Common.{Some, None, ◌+◌, ◌<◌, length, sym, ap, ◌∙◌, arith, rules}
-use Rattle.syntax_tree.specs.Expression.{expression, subscript, Call}
+use Rattle.syntax_tree.specs.Expression.{expression, subscript}
 use Rattle.expr_reader.specs.Reading.{apart, arguments_at, call_at, part_at}
 use Rattle.expr_reader.specs.Seen.{ahead, arguments_of, parts_of, read, seen, with_front}
 use Rattle.expr_reader.proofs.Steps.{call_vec, called, reference_vec, name_kept, ends, expr_none, expr_step, more_kept, more_over, more_end, list_stops, list_closes, list_ends, list_goes_on}

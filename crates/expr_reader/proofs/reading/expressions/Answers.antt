@@ -1,4 +1,4 @@
-use Rattle.std.proofs.Common.{rules, ◌≡◌, List, [], ◌∷◌, ◌++◌, true, false, sym, ap, ◌∙◌, append_assoc}
+use Rattle.std.proofs.Common.{rules, [], ◌∷◌, ◌++◌, sym, ap, ◌∙◌, append_assoc}
 use Rattle.expr_reader.specs.Reading.{are_arguments}
 use Rattle.expr_reader.specs.Seen.{arguments_of, parts_of}
 use Rattle.expr_reader.proofs.Steps.{no_arguments, one_more, one_more_same}
