@@ -22,7 +22,7 @@ pub fn fits(tree: &Expr, levels: usize) -> bool
         Expr::Int(_) | Expr::Bool(_) => true,
         Expr::Ref(reference) => match &reference.subs {
             None => true,
-            Some(subs) => all_fit(subs, levels - 1),
+            Some(parts) => parts_fit(parts, levels - 1),
         },
         Expr::Unary(_, a) => fits(a, levels - 1),
         Expr::Binary(_, a, b) => fits(a, levels - 1) && fits(b, levels - 1),
@@ -31,18 +31,20 @@ pub fn fits(tree: &Expr, levels: usize) -> bool
     }
 }
 
+/// Whether each part of a list has at most so many levels.
 #[cycle(depth)]
-fn all_fit(subs: &[Subscript], levels: usize) -> bool
-    ensures { IsTrue result ↔ (list_depth (parts_of subs.now) ≤ levels) }
+fn parts_fit(parts: &[Subscript], levels: usize) -> bool
+    ensures { IsTrue result ↔ (list_depth (parts_of parts.now) ≤ levels) }
 {
-    for sub in subs {
-        if !sub_fits(sub, levels) {
+    for part in parts {
+        if !part_fits(part, levels) {
             return false;
         }
     }
     true
 }
 
+/// Whether each argument has at most so many levels.
 #[cycle(depth)]
 fn arguments_fit(arguments: &[Expr], levels: usize) -> bool
     ensures { IsTrue result ↔ (list_depth (arguments_of arguments.now) ≤ levels) }
@@ -55,11 +57,12 @@ fn arguments_fit(arguments: &[Expr], levels: usize) -> bool
     true
 }
 
+/// Whether each expression of a part has at most so many levels.
 #[cycle(depth)]
-fn sub_fits(sub: &Subscript, levels: usize) -> bool
-    ensures { IsTrue result ↔ (part_depth (subscript sub.now) ≤ levels) }
+fn part_fits(part: &Subscript, levels: usize) -> bool
+    ensures { IsTrue result ↔ (part_depth (subscript part.now) ≤ levels) }
 {
-    match sub {
+    match part {
         Subscript::One(e) => fits(e, levels),
         Subscript::Triplet { first, last, step } => {
             maybe_fits(first, levels) && maybe_fits(last, levels) && maybe_fits(step, levels)
@@ -67,11 +70,12 @@ fn sub_fits(sub: &Subscript, levels: usize) -> bool
     }
 }
 
+/// Whether an expression that may be there has at most so many levels.
 #[cycle(depth)]
-fn maybe_fits(part: &Option<Expr>, levels: usize) -> bool
-    ensures { IsTrue result ↔ (maybe_depth (maybe_in part.now) ≤ levels) }
+fn maybe_fits(tree: &Option<Expr>, levels: usize) -> bool
+    ensures { IsTrue result ↔ (maybe_depth (maybe_in tree.now) ≤ levels) }
 {
-    match part {
+    match tree {
         None => true,
         Some(e) => fits(e, levels),
     }

@@ -193,9 +193,9 @@ fn reference(alloc: Global, name: Name, rest: &[Token]) -> Result<(Ref, usize), 
     ensures value { IfOk result (λ x. (expression (Expr.Ref x.0), x.1) ≡ name_at (ahead rest.now) name) }
 {
     if opens(rest, 0)
-        && let Some((subs, taken)) = list(alloc, behind(rest, 1))?
+        && let Some((parts, taken)) = list(alloc, behind(rest, 1))?
     {
-        let subs = Some(subs);
+        let subs = Some(parts);
         return Ok((Ref { name, subs }, taken + 1));
     }
     Ok((Ref { name, subs: None }, 0))

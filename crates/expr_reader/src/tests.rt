@@ -71,27 +71,27 @@ fn write_expr(out: &mut String, tree: &Expr) -> Result<(), Fail> {
     Ok(())
 }
 
-/// Writes a name, with its subscripts in brackets.
+/// Writes a name, with its list in brackets.
 #[cycle(prefix)]
 fn write_ref(out: &mut String, reference: &Ref) -> Result<(), Fail> {
     for byte in reference.name.bytes() {
         out.push(char::from(*byte))?;
     }
-    let Some(subs) = &reference.subs else {
+    let Some(parts) = &reference.subs else {
         return Ok(());
     };
     out.push_str("[")?;
-    for sub in subs {
-        write_sub(out, sub)?;
+    for part in parts {
+        write_part(out, part)?;
     }
     out.push_str("]")?;
     Ok(())
 }
 
-/// Writes a subscript and a semicolon; `_` stands for a part of a triplet that is left out.
+/// Writes a part of a list and a semicolon; `_` stands for what is left out of a triplet.
 #[cycle(prefix)]
-fn write_sub(out: &mut String, sub: &Subscript) -> Result<(), Fail> {
-    match sub {
+fn write_part(out: &mut String, part: &Subscript) -> Result<(), Fail> {
+    match part {
         Subscript::One(e) => write_expr(out, e)?,
         Subscript::Triplet { first, last, step } => {
             write_maybe(out, first)?;
@@ -105,9 +105,10 @@ fn write_sub(out: &mut String, sub: &Subscript) -> Result<(), Fail> {
     Ok(())
 }
 
+/// Writes an expression that may be there.
 #[cycle(prefix)]
-fn write_maybe(out: &mut String, part: &Option<Expr>) -> Result<(), Fail> {
-    match part {
+fn write_maybe(out: &mut String, tree: &Option<Expr>) -> Result<(), Fail> {
+    match tree {
         Some(e) => write_expr(out, e),
         None => Ok(out.push_str("_")?),
     }
@@ -292,23 +293,28 @@ fn depth_has_a_limit(rt: HostRuntime) -> Result<(), Fail> {
     Ok(())
 }
 
+/// A statement has up to 5,280 characters, 40 lines of 132; what nests most deeply in so many is read in the stack.
 #[test]
 fn deepest_statements_are_read(rt: HostRuntime) -> Result<(), Fail> {
-    for (before, after) in [
-        ("( ", ") "),
-        ("A ( ", ") "),
-        ("ABS ( ", ") "),
-        ("A ( : ", ") "),
-        ("1 ** ", ""),
-        ("1 + ", ""),
+    for (before, count, after) in [
+        ("( ", 2640, ") "),
+        ("A ( ", 1760, ") "),
+        ("ABS ( ", 1056, ") "),
+        ("A ( : ", 1320, ") "),
+        ("1 ** ", 1760, ""),
+        ("1 + ", 2640, ""),
     ] {
-        let tokens = nested(rt.alloc(), before, 2640, after)?;
+        let tokens = nested(rt.alloc(), before, count, after)?;
         assert_eq!(rt; end_of(rt.alloc(), &tokens)?, None, "of {before}");
     }
     let open = nested(rt.alloc(), "( ", 5280, "")?;
     assert!(rt; front_expr(rt.alloc(), &open)?.is_none());
     let open = nested(rt.alloc(), "A ( ", 2640, "")?;
     assert_eq!(rt; end_of(rt.alloc(), &open)?, Some(1));
+    let open = nested(rt.alloc(), "A ( : ", 1760, "")?;
+    assert_eq!(rt; end_of(rt.alloc(), &open)?, Some(1));
+    let open = nested(rt.alloc(), "ABS ( ", 1320, "")?;
+    assert!(rt; front_expr(rt.alloc(), &open)?.is_none());
     Ok(())
 }
 

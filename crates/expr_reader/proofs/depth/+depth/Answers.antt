@@ -13,10 +13,10 @@ fits-returns-then-levels-eq0 t c = (λ h. absurd cc, λ h. absurd (omega (arith,
 pub fits-returns-in-Some : goal.fits-returns-in-Some
 fits-returns-in-Some t c =
     let d : depth (expression c.args.tree.now) ≡ 1 + list_depth (parts_of c.deref.result.now) =
-    ap depth (ap expression c.in-Ref.is ∙ ap (λ s. reference c.in-Ref.reference.name (back-Ref-subs s)) c.in-Some.is ∙ reference_vec c.in-Ref.reference.name c.in-Some.subs)
+    ap depth (ap expression c.in-Ref.is ∙ ap (λ s. reference c.in-Ref.reference.name (back-Ref-subs s)) c.in-Some.is ∙ reference_vec c.in-Ref.reference.name c.in-Some.parts)
     ∙ ap (λ l. 1 + list_depth (parts_of l)) (sym c.deref.ensures.value)
     in
-    (λ h. omega (arith, d, c.all_fit.ensures.0 h), λ h. c.all_fit.ensures.1 (omega (arith, d, h)))
+    (λ h. omega (arith, d, c.parts_fit.ensures.0 h), λ h. c.parts_fit.ensures.1 (omega (arith, d, h)))
 
 pub fits-returns-in-Call : goal.fits-returns-in-Call
 fits-returns-in-Call t c =

@@ -57,8 +57,8 @@ list-parts-preserved t c = record {
 
 pub reference-returns-clause-value : goal.reference-returns-clause-value
 reference-returns-clause-value t c =
-    (λ i. (reference_vec c.args.name c.in-Some.subs i, c.in-Some.taken + 1))
-    ∙ name_kept c.args.rest.now c.args.name (Some (parts_of c.in-Some.subs.items, c.in-Some.taken)) (sym c.if-opens.true ∙ c.opens.ensures.value) (ap (seen (λ v. parts_of v.items)) (sym c.in-Some.is) ∙ c.in_ok-subs.ensures.value ∙ ap (λ ts. (read ts).list) c.behind.ensures)
+    (λ i. (reference_vec c.args.name c.in-Some.parts i, c.in-Some.taken + 1))
+    ∙ name_kept c.args.rest.now c.args.name (Some (parts_of c.in-Some.parts.items, c.in-Some.taken)) (sym c.if-opens.true ∙ c.opens.ensures.value) (ap (seen (λ v. parts_of v.items)) (sym c.in-Some.is) ∙ c.in_ok-parts.ensures.value ∙ ap (λ ts. (read ts).list) c.behind.ensures)
 
 pub call-returns-clause-value : goal.call-returns-clause-value
 call-returns-clause-value t c =
