@@ -17,6 +17,7 @@ is_halt (Fixed sign.Colon) = true
 is_halt (Fixed sign.Colons) = true
 is_halt t = false
 
+-- one of them is at the front
 abbrev pub Halts : List Lexeme → Type 0
 Halts [] = ⊥
 Halts (t ∷ ts) = is_halt t ≡ true
@@ -44,7 +45,7 @@ finds_maybe (Present e) ws h find =
     let f = find e refl in
     ap maybe_at (f.reads ∙ ap Some (f.exact (halts_stop ws (inner e) h) (halts_stop ws 0 h)))
 
--- the same, where the lexemes are given apart
+-- what is read behind the first of two parts of the lexemes
 on_part : (ts us vs : List Lexeme) (n : ℕ) → ts ≡ us ++ vs → n ≡ length us → on Glued ts n ≡ reading Glued vs
 on_part ts us vs n e l = ap (λ ts. on Glued ts n) e ∙ ap (reading Glued) (drop_taken us vs n l)
 

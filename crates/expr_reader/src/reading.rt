@@ -129,7 +129,8 @@ fn from_word(alloc: Global, word: Name, rest: &[Token]) -> Result<Option<(Expr, 
     Ok(Some((Expr::Ref(reference), taken)))
 }
 
-/// Whether a word is in one of the tables of words. Apart, since the tables would lie in each frame of the descent.
+/// Whether a word is in one of the tables of words. It is never inlined, since the tables would lie in the stack at each
+/// level of the descent.
 #[inline(never)]
 fn is_no_name(word: &Name) -> bool
     ensures { result ≡ is_reserved word.now }
