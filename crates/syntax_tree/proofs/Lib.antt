@@ -1,0 +1,2 @@
+pub mod Intrinsics
+pub mod Lexemes

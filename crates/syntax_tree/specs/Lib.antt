@@ -1,0 +1,4 @@
+pub mod Lexeme
+pub mod Operators
+pub mod Expression
+pub mod Spelling

@@ -1,0 +1,69 @@
+//! Mapping directives (HPF 2.0, 3).
+
+use crate::decl::Entity;
+use crate::expr::{Expr, Subscript};
+use crate::names::Names;
+use hpf_base::Name;
+
+/// A directive among the declarations.
+#[derive(Debug, Drop)]
+pub enum Directive {
+    /// Arrangements of processors, each with its extents.
+    Processors(Vec<Entity>),
+    /// Templates, each with its bounds.
+    Template(Vec<Entity>),
+    Dynamic(Names),
+    Distribute(DistSpec),
+    Align(AlignSpec),
+    /// A directive that is passed over.
+    Passed,
+}
+
+/// DISTRIBUTE or REDISTRIBUTE: how the named arrays or templates are dealt out.
+#[derive(Debug, Drop)]
+pub struct DistSpec {
+    pub names: Names,
+    /// One a dimension, the first dimension first.
+    pub formats: Vec<Format>,
+    /// The arrangement behind ONTO.
+    pub onto: Option<Name>,
+    /// The names stand behind `::`.
+    pub colons: bool,
+}
+
+/// The format of a dimension.
+#[derive(Debug, Drop)]
+pub enum Format {
+    /// `*`.
+    Star,
+    Block(Option<Expr>),
+    Cyclic(Option<Expr>),
+}
+
+/// ALIGN: how the named arrays lie on a target.
+#[derive(Debug, Drop)]
+pub struct AlignSpec {
+    pub names: Names,
+    /// One a dimension of the alignees.
+    pub source: Option<Vec<Source>>,
+    pub target: Name,
+    /// One a dimension of the target.
+    pub subs: Option<Vec<Target>>,
+    /// The names stand behind `::`.
+    pub colons: bool,
+}
+
+/// What stands for a dimension of the alignee.
+#[derive(Debug, Drop)]
+pub enum Source {
+    Dummy(Name),
+    Colon,
+    Star,
+}
+
+/// What stands for a dimension of the target.
+#[derive(Debug, Drop)]
+pub enum Target {
+    Sub(Subscript),
+    Star,
+}

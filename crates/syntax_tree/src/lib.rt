@@ -1,0 +1,25 @@
+//! The tree of a program, and the definition of what spells it.
+//!
+//! Comes in: nothing. Goes out: the types of programs, declarations, statements, directives and expressions; in
+//! `specs/` the lexemes that spell a tree, and which trees are well formed. What holds in between: every name
+//! and every choice of spelling that a tree keeps is a field of it, and a tree has one meaning of its own.
+#![tactic(auto)]
+
+mod codes;
+mod decl;
+mod directive;
+mod expr;
+mod names;
+mod operators;
+mod sign;
+mod stmt;
+#[cfg(test)]
+mod tests;
+
+pub use decl::{Bound, ConstDef, Decl, DeclKind, EndForm, Entity, IntegerDecl, Tree};
+pub use directive::{AlignSpec, Directive, DistSpec, Format, Source, Target};
+pub use expr::{Expr, Ref, Subscript};
+pub use names::Names;
+pub use operators::{binary, intrinsic, left_place, level, right_place, unary};
+pub use sign::{Sign, sign_of};
+pub use stmt::{Arm, DoLoop, Header, Item, Kind, Mark, Stmt};
