@@ -1,0 +1,9 @@
+pub mod Marks
+pub mod Reading
+pub mod Grammar
+pub mod Printed
+pub mod Read
+pub mod Found
+pub mod Parts
+pub mod Seen
+pub mod Sane

@@ -1,0 +1,35 @@
+-- What the functions of the code gave.
+use Rattle.std.specs.Prelude.{◌≡◌, ◌≢◌, suc, Bool, false, true, List, ◌++◌, length, Option, Some, None, Result, Ok, Err}
+use Rattle.syntax_tree.specs.declared.expr.Ref.{Ref}
+use Rattle.syntax_tree.specs.declared.expr.Expr.TheVariants as expr
+use Rattle.syntax_tree.specs.Lexeme.{Lexeme}
+use Rattle.syntax_tree.specs.Expression.{Expression, expression}
+use Rattle.line_forms.specs.declared.miss.Miss.{Miss}
+use Rattle.line_forms.specs.declared.miss.Miss.TheVariants.{Memory}
+use Rattle.line_forms.specs.Reading.{Reading, Found, Stopped}
+use Rattle.line_forms.specs.Marks.{comma, starts}
+use Rattle.line_forms.specs.Read.{index_next, is_variable, series}
+
+-- what was read, or why nothing was; want of memory has no cause in the lexemes
+abbrev pub Sees : {X A : Type 0} → (X → A × List Lexeme) → Result X Miss → Reading A → Type 0
+Sees view (Ok x) r = r ≡ Found (view x)
+Sees view (Err e) r = (e ≢ Memory) → r ≡ Stopped e
+
+-- the reference that an expression is
+abbrev pub variable_of : Option Ref → Expression → Type 0
+variable_of None e = is_variable e ≡ false
+variable_of (Some r) e = (is_variable e ≡ true) × (expression (expr.Ref r) ≡ e)
+
+-- elements in front of those that were read
+abbrev pub with_front : {A : Type 0} → List A → Reading (List A) → Reading (List A)
+with_front front (Found x) = Found (front ++ x.0, x.1)
+with_front front (Stopped why) = Stopped why
+
+-- a list goes on behind an element: with a comma, and where its elements are indices with a comma and an index
+abbrev pub goes_on : Bool → List Lexeme → Bool
+goes_on true ts = index_next ts
+goes_on false ts = starts comma ts
+
+-- the elements in front
+abbrev pub elements : {A : Type 0} → Bool → (List Lexeme → Reading A) → List Lexeme → Reading (List A)
+elements indices part ts = series (goes_on indices) part (suc (length ts)) ts
