@@ -1,0 +1,14 @@
+use Rattle.std.proofs.Common.{subst, sym}
+use Rattle.syntax_tree.specs.Lexeme.{lexemes}
+use Rattle.line_forms.specs.Seen.{Sees}
+use Rattle.directive_reader.specs.Reading.{laid}
+use Rattle.directive_reader.specs.Views.{laid_of}
+use Rattle.directive_reader.proofs.lines.laid.Goals as goal
+
+pub returns-then-many : goal.returns-then-many
+returns-then-many c =
+    subst (λ m. Sees (λ x. (laid_of x.0, lexemes x.1.now)) c.many_laid.result (laid c.args.strict m (lexemes c.args.tokens.now))) (sym c.if-many.true) c.many_laid.ensures
+
+pub returns : goal.returns
+returns c =
+    subst (λ m. Sees (λ x. (laid_of x.0, lexemes x.1.now)) c.one_laid.result (laid c.args.strict m (lexemes c.args.tokens.now))) (sym c.if-many.false) c.one_laid.ensures

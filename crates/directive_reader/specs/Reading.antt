@@ -1,0 +1,66 @@
+-- Reading a directive as the kind that its first lexemes say.
+use Rattle.std.specs.Prelude.{Bool, true, false, ◌&&◌, ◌||◌, not, if◌then◌else◌, List, [], ◌∷◌, drop, Option, Some, None, codes}
+use Rattle.syntax_tree.specs.Lexeme.{Lexeme, Word}
+use Rattle.line_forms.specs.declared.miss.Miss.TheVariants as miss
+use Rattle.line_forms.specs.Marks.{starts, key, opening}
+use Rattle.line_forms.specs.Grammar.{Value}
+use Rattle.line_forms.specs.Reading.{Reading, Found, Stopped, ◌>>=◌}
+use Rattle.line_forms.specs.Read.{read}
+use Rattle.directive_reader.specs.declared.kind.Kind.{Kind}
+use Rattle.directive_reader.specs.declared.kind.Kind.TheVariants as kind
+use Rattle.directive_reader.specs.Forms.{Form, Known, Passed, alignment, distribution, grammar, is_passed}
+
+-- a word stands in front
+abbrev pub is_named : List Lexeme → Bool
+is_named (Word x ∷ ts) = true
+is_named ts = false
+
+-- behind WITH, which is an alignee: its list, or WITH and the target
+abbrev pub is_alignee : List Lexeme → Bool
+is_alignee ts = starts opening ts || (starts (key (codes "WITH")) ts && is_named (drop 1 ts))
+
+-- behind ALIGN: the alignees stand behind `::`, since their list comes first, or WITH that is no alignee
+abbrev pub is_many : List Lexeme → Bool
+is_many ts = starts opening ts || (starts (key (codes "WITH")) ts && not (is_alignee (drop 1 ts)))
+
+-- the kind of the directive that may stand there
+abbrev pub kind_of : List Lexeme → Option Kind
+kind_of ts =
+    if starts (key (codes "PROCESSORS")) ts then Some kind.Processors else
+    if starts (key (codes "TEMPLATE")) ts then Some kind.Template else
+    if starts (key (codes "DYNAMIC")) ts then Some kind.Dynamic else
+    if starts (key (codes "DISTRIBUTE")) ts then Some (kind.Distribute (starts opening (drop 1 ts))) else
+    if starts (key (codes "REDISTRIBUTE")) ts then Some (kind.Redistribute (starts opening (drop 1 ts))) else
+    if starts (key (codes "ALIGN")) ts then Some (kind.Align (is_many (drop 1 ts))) else
+    if starts (key (codes "INDEPENDENT")) ts then Some kind.Independent else None
+
+-- a directive of the kind in front
+abbrev pub known : Bool → Kind → List Lexeme → Reading Form
+known strict k ts = read strict (grammar k) ts >>= λ v. Found (Known k v.0, v.1)
+
+abbrev pub of_kind : Bool → Option Kind → List Lexeme → Reading Form
+of_kind strict None ts = Stopped miss.Form
+of_kind strict (Some k) ts = known strict k ts
+
+-- with nothing left
+abbrev pub ended : Form × List Lexeme → Reading Form
+ended (form, []) = Found (form, [])
+ended (form, t ∷ ts) = Stopped miss.Form
+
+-- the whole line
+abbrev pub directive : Bool → List Lexeme → Reading Form
+directive strict ts = if is_passed ts then Found (Passed [], []) else (of_kind strict (kind_of ts) ts >>= ended)
+
+-- the formats of a DISTRIBUTE or REDISTRIBUTE, behind its word
+abbrev pub Dealt : Type 0
+Dealt = (many : Bool) × Value (distribution many)
+
+abbrev pub dealt : Bool → Bool → List Lexeme → Reading Dealt
+dealt strict many ts = read strict (distribution many) ts >>= λ v. Found ((many, v.0), v.1)
+
+-- the alignees and the target of an ALIGN, behind its word
+abbrev pub Laid : Type 0
+Laid = (many : Bool) × Value (alignment many)
+
+abbrev pub laid : Bool → Bool → List Lexeme → Reading Laid
+laid strict many ts = read strict (alignment many) ts >>= λ v. Found ((many, v.0), v.1)

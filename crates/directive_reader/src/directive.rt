@@ -1,0 +1,13 @@
+//! Directives as they stand on their lines.
+
+use syntax_tree::{Directive, DistSpec, Names};
+
+/// A directive (HPF 2.0, 3, 5.1 and 8.5).
+#[derive(Debug, Drop)]
+pub enum DirectiveLine {
+    /// One that maps, or one that is passed over.
+    Mapping(Directive),
+    Redistribute(DistSpec),
+    /// INDEPENDENT, with the names of its lists; a list that isn't there has none.
+    Independent { new: Names, reduction: Names },
+}

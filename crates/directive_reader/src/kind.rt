@@ -1,0 +1,13 @@
+//! Kinds of directives.
+
+/// What kind of directive a line is. Where the field is true, the names that it speaks of stand in a list behind `::`.
+#[derive(Clone, Copy, Debug, PartialEq, Eq)]
+pub enum Kind {
+    Processors,
+    Template,
+    Dynamic,
+    Distribute(bool),
+    Redistribute(bool),
+    Align(bool),
+    Independent,
+}

@@ -1,0 +1,27 @@
+//! From the tokens of a directive line to the directive that it is.
+//!
+//! Comes in: the tokens of one directive line, in order, without its `!HPF$`, and the number of the line. Goes out: the
+//! directive, or the refusal of the line for the least reason against it. What holds in between: a directive is spelled
+//! by its line, whole, by the grammar of its kind, and no other directive is; one that is passed over begins with a
+//! word of HPF that the language leaves out, whatever stands behind it.
+//!
+//! A line is read as the kind that its first words say. In DISTRIBUTE and REDISTRIBUTE the names stand behind `::` where
+//! a list comes first. In ALIGN they do where a list comes first, or WITH that is neither followed by a list nor by WITH
+//! and a word.
+#![tactic(auto)]
+
+mod directive;
+mod heads;
+mod kind;
+mod laws;
+mod lines;
+mod mapping;
+mod reading;
+mod refusal;
+#[cfg(test)]
+mod tests;
+
+pub use directive::DirectiveLine;
+pub use kind::Kind;
+pub use laws::one_directive;
+pub use reading::read_directive;
