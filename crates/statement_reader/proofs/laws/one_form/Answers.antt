@@ -1,0 +1,5 @@
+use Rattle.statement_reader.proofs.Theorem.{one_form}
+use Rattle.statement_reader.proofs.laws.one_form.Goals as goal
+
+pub returns : goal.returns
+returns c = one_form
