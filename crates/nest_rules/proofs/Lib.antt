@@ -1,0 +1,2 @@
+pub mod FirstBreaches
+pub mod Finding

@@ -1,0 +1,70 @@
+//! The first breach.
+
+ghost use Rattle.std.specs.Prelude.{◌≡◌, IfOk};
+ghost use Rattle.nest_rules.specs.Breaches.{roles, IsNestBreach};
+ghost use Rattle.nest_rules.specs.Firsts.{Firsts};
+ghost use Rattle.nest_rules.specs.Found.{declared_length, end_reason, is_declaration};
+ghost use Rattle.nest_rules.specs.Lines.{lines_of};
+
+use crate::firsts::{at_line, earlier};
+use crate::line::Line;
+use crate::role::Role;
+use crate::roles::role_of;
+use crate::rules::least_reason;
+use crate::seen::{Seen, is_statement};
+use hpf_base::{Reason, Refusal};
+use std::alloc::{AllocError, Global};
+
+/// The reason for which a text may not end where it ends.
+fn end_reason(seen: &Seen) -> Option<Reason>
+    ensures { result ≡ end_reason seen.now }
+{
+    if seen.ended {
+        None
+    } else {
+        Some(Reason::BadNest)
+    }
+}
+
+/// A declaration.
+fn is_declaration(role: Role) -> bool
+    ensures { result ≡ is_declaration role }
+{
+    matches!(role, Role::Declaration(_))
+}
+
+/// How many lines stand up to the last declaration before the first statement.
+fn declared_length(lines: &[Line]) -> usize
+    ensures { result ≡ declared_length (roles (lines_of lines.now)) }
+{
+    let mut declared = 0;
+    for (i, line) in lines.iter().enumerate() {
+        let role = role_of(&line.what);
+        if is_statement(role) {
+            return declared;
+        }
+        if is_declaration(role) {
+            declared = i + 1;
+        }
+    }
+    declared
+}
+
+/// The first breach of the rules of constructs, declarations and directives in a program's lines, which stand in the order
+/// of the text: the breach of the least line, and of those on one line the one of the least reason; None where no line
+/// breaks a rule. `last` is the number of the text's last line, and 0 where the text has none: a text without END is refused
+/// there, and at line 1 where it has no line. An `Err` is want of memory, which it takes for the open constructs.
+pub fn first_breach(alloc: Global, last: u32, lines: &[Line]) -> Result<Option<Refusal>, AllocError>
+    ensures { IfOk result (λ r. Firsts (IsNestBreach last (lines_of lines.now)) r) }
+{
+    let declared = declared_length(lines);
+    let mut seen = Seen::nothing(alloc);
+    let mut first = None;
+    for (i, line) in lines.iter().enumerate() {
+        let role = role_of(&line.what);
+        let reason = least_reason(&seen, role, i + 1 < declared, &lines[i + 1..]);
+        first = earlier(first, at_line(line.number, reason));
+        seen.go_behind(role)?;
+    }
+    Ok(earlier(first, at_line(last.max(1), end_reason(&seen))))
+}
