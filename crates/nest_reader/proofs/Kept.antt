@@ -1,0 +1,148 @@
+-- The lines that a tree keeps, line by line.
+use Rattle.std.proofs.Common.{◌≡◌, ℕ, Bool, true, false, not, ◌||◌, ◌&&◌, List, [], ◌∷◌, ◌++◌, Option, Some, None, refl, sym, ap, ◌∙◌}
+use Rattle.std.specs.Prelude.{if◌then◌else◌, ◌⊎◌}
+use Rattle.std.proofs.Common.{inl, inr}
+use Rattle.hpf_base.specs.declared.refusal.Reason.TheVariants as reason
+use Rattle.hpf_base.specs.Refusal.{NoBreach}
+use Rattle.nest_rules.specs.declared.role.Construct.TheVariants as construct
+use Rattle.nest_rules.specs.declared.role.Role.{Role}
+use Rattle.nest_rules.specs.declared.role.Role.TheVariants as role
+use Rattle.nest_rules.specs.Breaches.{BreachFrom, comes_late, declaration_comes, is_misdirected, is_misplaced, misses, roles, takes_mark, leaves_nothing, fits_mask}
+use Rattle.nest_rules.specs.Lines.{Line}
+use Rattle.nest_rules.specs.Roles.{role_of}
+use Rattle.nest_rules.specs.Seen.{Seen, in_mask, is_passed, is_statement, seen_behind}
+use Rattle.nest_reader.specs.Printed.{Entry, Are, from_name, has_name, is_declared, is_program, kept_behind_name, without_passed}
+use Rattle.nest_reader.specs.Draft.{fits_mark, is_inner, pending_behind}
+use Rattle.nest_reader.specs.Progress.{IsMarked}
+
+module _ (l : Line) (ls : List Line) where
+  pub passed_name : role_of l.what ≡ role.Passed → has_name (l ∷ ls) ≡ has_name ls
+  passed_name e = ap (λ r. is_program r || (is_passed r && has_name ls)) e
+
+  pub passed_from : role_of l.what ≡ role.Passed → from_name (l ∷ ls) ≡ from_name ls
+  passed_from e = ap (λ r. if is_passed r then from_name ls else l ∷ kept_behind_name ls) e
+
+  pub other_name : is_program (role_of l.what) ≡ false → is_passed (role_of l.what) ≡ false → has_name (l ∷ ls) ≡ false
+  other_name e f = ap (λ b. b || (is_passed (role_of l.what) && has_name ls)) e ∙ ap (λ b. b && has_name ls) f
+
+  pub declared_behind : is_declared (role_of l.what) ≡ true → kept_behind_name (l ∷ ls) ≡ l ∷ kept_behind_name ls
+  declared_behind e = ap (λ b. if b then l ∷ kept_behind_name ls else without_passed (l ∷ ls)) e
+
+  pub passed_without : role_of l.what ≡ role.Passed → without_passed (l ∷ ls) ≡ without_passed ls
+  passed_without e = ap (λ r. if not (is_passed r) then l ∷ without_passed ls else without_passed ls) e
+
+  pub kept_without : is_passed (role_of l.what) ≡ false → without_passed (l ∷ ls) ≡ l ∷ without_passed ls
+  kept_without e = ap (λ b. if not b then l ∷ without_passed ls else without_passed ls) e
+
+  pub inner_behind : is_declared (role_of l.what) ≡ false → is_passed (role_of l.what) ≡ false → kept_behind_name (l ∷ ls) ≡ l ∷ without_passed ls
+  inner_behind e f = ap (λ b. if b then l ∷ kept_behind_name ls else without_passed (l ∷ ls)) e ∙ kept_without f
+
+pub inner_program : (r : Role) → is_inner r ≡ true → is_program r ≡ false
+inner_program role.Program h = absurd cc
+inner_program r h = refl
+
+pub inner_passed : (r : Role) → is_inner r ≡ true → is_passed r ≡ false
+inner_passed role.Passed h = absurd cc
+inner_passed r h = refl
+
+pub inner_declared : (r : Role) → is_inner r ≡ true → is_declared r ≡ false
+inner_declared (role.Declaration d) h = absurd cc
+inner_declared role.Passed h = absurd cc
+inner_declared r h = refl
+
+pub or_false : (a b : Bool) → (a || b) ≡ false → (a ≡ false) × (b ≡ false)
+or_false false b h = (refl, h)
+or_false true b h = absurd cc
+
+pub and_false : (a : Bool) → (a && true) ≡ false → a ≡ false
+and_false true h = absurd cc
+and_false false h = refl
+
+-- what breaks no rule
+pub not_misplaced : (s : Seen) (last : ℕ) (l : Line) (rest : List Line) → NoBreach (BreachFrom s last (l ∷ rest)) → is_misplaced s (role_of l.what) ≡ false
+not_misplaced s last l rest free = falsely (is_misplaced s (role_of l.what)) (λ h. free l.number reason.BadNest (inl (refl, h)))
+  where
+    falsely : (b : Bool) → (b ≡ true → ⊥) → b ≡ false
+    falsely true f = absurd (f refl)
+    falsely false f = refl
+
+pub not_misdirected : (s : Seen) (last : ℕ) (l : Line) (rest : List Line) → NoBreach (BreachFrom s last (l ∷ rest)) → is_misdirected s (role_of l.what) (roles rest) ≡ false
+not_misdirected s last l rest free = falsely (is_misdirected s (role_of l.what) (roles rest)) (λ h. free l.number reason.BadDirective (inl (refl, h)))
+  where
+    falsely : (b : Bool) → (b ≡ true → ⊥) → b ≡ false
+    falsely true f = absurd (f refl)
+    falsely false f = refl
+
+pub freed : (s : Seen) (last : ℕ) (l : Line) (rest : List Line) → NoBreach (BreachFrom s last (l ∷ rest)) → NoBreach (BreachFrom (seen_behind s (role_of l.what)) last rest)
+freed s last l rest free = λ line why h. free line why (inr h)
+
+module _ (s : Seen) (r : Role) (h : is_misplaced s r ≡ false) where
+  first_four : (((misses s.opens r || leaves_nothing s.opens r) || comes_late s r) || (in_mask s.opens && not (fits_mask r))) ≡ false
+  first_four = (or_false (((misses s.opens r || leaves_nothing s.opens r) || comes_late s r) || (in_mask s.opens && not (fits_mask r))) (s.ended && not (is_passed r)) h).0
+
+  first_three : ((misses s.opens r || leaves_nothing s.opens r) || comes_late s r) ≡ false
+  first_three = (or_false ((misses s.opens r || leaves_nothing s.opens r) || comes_late s r) (in_mask s.opens && not (fits_mask r)) first_four).0
+
+  pub placed : misses s.opens r ≡ false
+  placed = (or_false (misses s.opens r) (leaves_nothing s.opens r) (or_false (misses s.opens r || leaves_nothing s.opens r) (comes_late s r) first_three).0).0
+
+  pub in_time : comes_late s r ≡ false
+  in_time = (or_false (misses s.opens r || leaves_nothing s.opens r) (comes_late s r) first_three).1
+
+  pub going : is_passed r ≡ false → s.ended ≡ false
+  going e =
+      let f = (or_false (((misses s.opens r || leaves_nothing s.opens r) || comes_late s r) || (in_mask s.opens && not (fits_mask r))) (s.ended && not (is_passed r)) h).1 in
+      and_false s.ended (sym (ap (λ b. s.ended && not b) e) ∙ f)
+
+-- a pending INDEPENDENT lets no line pass that isn't passed over or that it stands before
+pub marked_here : (p : Option Bool) (r : Role) (rs : List Role) → is_inner r ≡ true → IsMarked p (r ∷ rs) → fits_mark p r ≡ true
+marked_here None r rs h m = refl
+marked_here (Some lists) role.Program rs h m = absurd cc
+marked_here (Some lists) (role.Declaration d) rs h m = absurd cc
+marked_here (Some lists) role.Passed rs h m = absurd cc
+marked_here (Some lists) (role.Opens construct.Do) rs h m = m
+marked_here (Some lists) (role.Opens construct.Forall) rs h m = m
+marked_here (Some lists) (role.One construct.Forall) rs h m = m
+marked_here (Some lists) r rs h m = m
+
+pub marked_behind : (p : Option Bool) (r : Role) (rs : List Role) → (is_declared r || is_program r) ≡ true → IsMarked p (r ∷ rs) → IsMarked p rs
+marked_behind None r rs h m = tt
+marked_behind (Some lists) role.Program rs h m = absurd cc
+marked_behind (Some lists) (role.Declaration d) rs h m = absurd cc
+marked_behind (Some lists) role.Passed rs h m = m
+marked_behind (Some lists) r rs h m = absurd cc
+
+truly : (b : Bool) → not b ≡ false → b ≡ true
+truly true h = refl
+truly false h = absurd cc
+
+-- what INDEPENDENT asks of the lines behind it
+pub marked_next : (s : Seen) (r : Role) (rs : List Role) → is_misdirected s r rs ≡ false → IsMarked (pending_behind r) rs
+marked_next s (role.Independent lists) rs h = truly (takes_mark lists rs) (or_false (not s.stated && declaration_comes rs) _ h).1
+marked_next s r rs h = tt
+
+-- behind a line that isn't a declaration, either the declarations are over or none comes before they are
+pub stated_next : (s : Seen) (r : Role) (rs : List Role) → is_inner r ≡ true → is_misdirected s r rs ≡ false → ((s.stated || is_statement r) ≡ true) ⊎ (declaration_comes rs ≡ false)
+stated_next s r rs i h = by_role r i h
+  where
+    or_true : (b : Bool) → (b || true) ≡ true
+    or_true true = refl
+    or_true false = refl
+
+    either : (b c : Bool) → (not b && c) ≡ false → ((b || false) ≡ true) ⊎ (c ≡ false)
+    either true c h = inl refl
+    either false c h = inr h
+
+    by_role : (r : Role) → is_inner r ≡ true → is_misdirected s r rs ≡ false → ((s.stated || is_statement r) ≡ true) ⊎ (declaration_comes rs ≡ false)
+    by_role role.Program i h = absurd cc
+    by_role (role.Declaration d) i h = absurd cc
+    by_role role.Passed i h = absurd cc
+    by_role role.Redistribute i h = either s.stated (declaration_comes rs) h
+    by_role (role.Independent lists) i h = either s.stated (declaration_comes rs) (or_false (not s.stated && declaration_comes rs) _ h).0
+    by_role r i h = inl (or_true s.stated)
+
+-- more lines on both sides, at the end
+pub are_behind : (x es fs : List Entry) (l : Line) → ((ls : List Line) → Are es ls → Are fs (ls ++ l ∷ [])) → (ls : List Line) → Are (x ++ es) ls → Are (x ++ fs) (ls ++ l ∷ [])
+are_behind [] es fs l f ls h = f ls h
+are_behind (e ∷ x) es fs l f [] h = absurd h
+are_behind (e ∷ x) es fs l f (k ∷ ls) h = (h.0, are_behind x es fs l f ls h.1)

@@ -1,0 +1,9 @@
+pub mod Rows
+pub mod Lists
+pub mod Arms
+pub mod Behind
+pub mod Taken
+pub mod Kept
+pub mod Further
+pub mod Starts
+pub mod Same

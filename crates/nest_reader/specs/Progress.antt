@@ -1,0 +1,54 @@
+-- How far a program has been read.
+use Rattle.std.specs.Prelude.{◌≡◌, ℕ, Bool, true, false, List, [], ◌++◌, map, Option, Some, None, ◌⊎◌, if◌then◌else◌}
+use Rattle.hpf_base.specs.Refusal.{NoBreach}
+use Rattle.statement_reader.specs.declared.kind.Kind.TheVariants as kind
+use Rattle.statement_reader.specs.Forms as statements
+use Rattle.nest_rules.specs.declared.role.Role.{Role}
+use Rattle.nest_rules.specs.Breaches.{BreachFrom, declaration_comes, roles, takes_mark}
+use Rattle.nest_rules.specs.Lines.{Line, line_of}
+use Rattle.nest_rules.specs.Roles.{role_of}
+use Rattle.nest_rules.specs.Seen.{Seen}
+use Rattle.nest_reader.specs.declared.reading.Progress.{Progress}
+use Rattle.nest_reader.specs.declared.reading.Sort.{Sort}
+use Rattle.nest_reader.specs.declared.reading.Sort.TheVariants as sort
+use Rattle.nest_reader.specs.Views.{declaration_line}
+use Rattle.nest_reader.specs.Formed.{AreDeclared}
+use Rattle.nest_reader.specs.Printed.{Entry, Are, from_name, has_name, kept_behind_name, kept_lines, name_lines, numbered, without_passed}
+use Rattle.nest_reader.specs.Draft.{IsDraft, draft_lines, is_inner, status}
+use Rattle.nest_reader.specs.Takes.{said}
+
+abbrev pub IsInner : Line → Type 0
+IsInner l = is_inner (role_of l.what) ≡ true
+
+abbrev pub IsSorted : Line → Sort → Type 0
+IsSorted l (sort.Name x) = said l.number (statements.Plain kind.Program x) ≡ l
+IsSorted l (sort.Decl d) = declaration_line d ≡ l
+IsSorted l (sort.Inner i) = (line_of i ≡ l) × IsInner (line_of i)
+
+abbrev pub front_lines : Progress → List Entry
+front_lines p = name_lines p.name ++ map numbered (map declaration_line p.decls.items)
+
+-- the lines that a tree keeps are some so far, and then those of the rest: before PROGRAM and the declarations, among
+-- them, or behind them
+pub data IsPhase (s : Seen) (p : Progress) (ls rest kept : List Line) : Type 0 where
+  Before : p.over ≡ false → s.begun ≡ false → p.name ≡ None → draft_lines p.draft ≡ [] → kept_lines ls ≡ (if has_name rest then from_name rest else kept ++ kept_behind_name rest) → IsPhase s p ls rest kept
+  Among : p.over ≡ false → s.begun ≡ true → draft_lines p.draft ≡ [] → kept_lines ls ≡ kept ++ kept_behind_name rest → IsPhase s p ls rest kept
+  Over : p.over ≡ true → s.begun ≡ true → (s.stated ≡ true) ⊎ (declaration_comes (roles rest) ≡ false) → kept_lines ls ≡ kept ++ without_passed rest → IsPhase s p ls rest kept
+
+-- what a pending INDEPENDENT asks of the lines behind it
+abbrev pub IsMarked : Option Bool → List Role → Type 0
+IsMarked None rs = Unit {0}
+IsMarked (Some lists) rs = takes_mark lists rs ≡ true
+
+-- the lines `ls` have been read up to `rest`
+pub record IsProgress (ls : List Line) (last : ℕ) (p : Progress) (rest : List Line) : Type 0 where
+  pub seen : Seen
+  pub free : NoBreach (BreachFrom seen last rest)
+  pub opens : seen.opens ≡ (status p.draft).opens
+  pub ended : seen.ended ≡ (status p.draft).ended
+  pub marks : IsMarked (status p.draft).pending (roles rest)
+  pub sound : IsDraft p.draft
+  pub declared : AreDeclared (map declaration_line p.decls.items)
+  pub kept : List Line
+  pub lines : Are (front_lines p ++ draft_lines p.draft) kept
+  pub phase : IsPhase seen p ls rest kept

@@ -1,0 +1,140 @@
+-- The program that a tree is.
+use Rattle.std.specs.Prelude.{ℕ, nat_eq, Bool, true, false, not, ◌&&◌, if◌then◌else◌, List, [], ◌∷◌, map, Option, Some, None, option_map}
+use Rattle.syntax_tree.specs.declared.decl.Decl.{Decl}
+use Rattle.syntax_tree.specs.declared.decl.DeclKind.{DeclKind}
+use Rattle.syntax_tree.specs.declared.decl.DeclKind.TheVariants as declared
+use Rattle.syntax_tree.specs.declared.decl.EndForm.{EndForm}
+use Rattle.syntax_tree.specs.declared.decl.Tree.{Tree}
+use Rattle.syntax_tree.specs.declared.expr.Expr.TheVariants as expr
+use Rattle.syntax_tree.specs.declared.stmt.Arm.{Arm as HeldArm}
+use Rattle.syntax_tree.specs.declared.stmt.Mark.{Mark as HeldMark}
+use Rattle.syntax_tree.specs.declared.stmt.Stmt.{Stmt}
+use Rattle.syntax_tree.specs.declared.stmt.Kind.{Kind as HeldKind}
+use Rattle.syntax_tree.specs.declared.stmt.Kind.TheBlock.{Assign, IfOne', If', Do, Where', Forall', Print, Stop, Exit, Cycle, Continue, Redistribute, struct-Arm, struct-DoLoop, Row_of-Stmt, end_of-Stmt, more_of-Stmt, Row_of-Arm, end_of-Arm, more_of-Arm, Held-Kind-If-1, None', Some'}
+use Rattle.syntax_tree.specs.Expression.{Expression, expression}
+use Rattle.line_forms.specs.Grammar.{Value}
+use Rattle.statement_reader.specs.declared.kind.Kind.TheVariants as kind
+use Rattle.statement_reader.specs.Forms as statements
+use Rattle.statement_reader.specs.Forms.{assignment}
+use Rattle.statement_reader.specs.Views.{IsOfKind, axis_of, constant_of, declaration_of, items_of, end_of}
+use Rattle.directive_reader.specs.declared.kind.Kind.TheVariants as directive
+use Rattle.directive_reader.specs.Forms as directives
+use Rattle.directive_reader.specs.Views.{mapping_of, distribution_of}
+use Rattle.nest_rules.specs.Lines.{What, Said, Directed, Line}
+use Rattle.nest_reader.specs.Program.{Mark, Block, Done, Then, Statement, Single, Marked, Branches, Loop, Masked, Indexed, Arms, NoArm, Arm, Otherwise, Without, With, End, Program}
+
+-- what is no statement: no lines spell it
+abbrev pub no_statement : Statement
+no_statement = Branches NoArm Without false
+
+-- an assignment of line `m` in a statement of line `n`
+abbrev pub assignment_at : ℕ → ℕ → HeldKind → Option (Value assignment)
+assignment_at n m (Assign left right) = if nat_eq m n then Some (expression (expr.Ref left), expression right) else None
+assignment_at n m k = None
+
+-- a block that is one assignment, in the line of this number
+abbrev pub assignment_in : ℕ → {m : _} → Row_of-Stmt m → Option (Value assignment)
+assignment_in n (more_of-Stmt m k end_of-Stmt) = assignment_at n m k
+assignment_in n row = None
+
+abbrev pub where_one : Expression → Value assignment → IsOfKind
+where_one mask a = (kind.Where, (mask, Some a))
+
+abbrev pub forall_one : Value statements.forall_head → Value assignment → IsOfKind
+forall_one head a = (kind.Forall, (head, Some a))
+
+-- a statement that may be the action of an IF, in the line of this number
+abbrev pub action_in : ℕ → HeldKind → Option IsOfKind
+action_in n (Assign left right) = Some (kind.Assign, (expression (expr.Ref left), expression right))
+action_in n (Where' mask shape row None' true false) = option_map (where_one (expression mask)) (assignment_in n row)
+action_in n (Forall' axes mask shape row true false false) = option_map (forall_one (map axis_of axes.items, option_map expression mask)) (assignment_in n row)
+action_in n (Print items) = Some (kind.Print, items_of items.items)
+action_in n Stop = Some (kind.Stop, tt)
+action_in n Exit = Some (kind.Exit, tt)
+action_in n Cycle = Some (kind.Cycle, tt)
+action_in n Continue = Some (kind.Continue, tt)
+action_in n k = None
+
+abbrev pub single : ℕ → Option IsOfKind → Statement
+single n None = no_statement
+single n (Some a) = Single record { number = n; what = Said (statements.Plain a.0 a.1) }
+
+-- the action of an IF has the number of its line
+abbrev pub if_one : ℕ → Expression → ℕ → Option IsOfKind → Statement
+if_one n cond m None = no_statement
+if_one n cond m (Some a) = if nat_eq m n then Single record { number = n; what = Said (statements.IfOne cond a.0 a.1) } else no_statement
+
+abbrev pub marked_one : ℕ → Value statements.forall_head → Option (Value assignment) → Statement
+marked_one n head None = no_statement
+marked_one n head (Some a) = Marked record { number = n; what = Said (statements.Plain kind.Forall (head, Some a)) }
+
+-- an IF construct begins with the arm of its own line, which has no ELSE
+abbrev pub begins : ℕ → {m : _} → Row_of-Arm m → Bool
+begins n end_of-Arm = false
+begins n (more_of-Arm (struct-Arm m cond shape row glued) arms) = nat_eq m n && not glued
+
+abbrev pub mark_of : HeldMark → Mark
+mark_of m = record { number = m.line; new = m.new; reduction = m.reduction }
+
+abbrev mutual
+  pub kind_of : ℕ → HeldKind → Statement
+  kind_of n (IfOne' cond box m k) = if_one n (expression cond) m (action_in n k)
+  kind_of n (If' shape arms rest glued) = if begins n arms then Branches (arms_row arms) (rest_of rest) glued else no_statement
+  kind_of n (Do d) = loop_of n d
+  kind_of n (Where' mask shape row rest false glued) = Masked n (expression mask) (row_of row) (rest_of rest) glued
+  kind_of n (Forall' axes mask shape row false glued marked) = Indexed marked n (map axis_of axes.items, option_map expression mask) (row_of row) glued
+  kind_of n (Forall' axes mask shape row true false true) = marked_one n (map axis_of axes.items, option_map expression mask) (assignment_in n row)
+  kind_of n (Redistribute d) = Single record { number = n; what = Directed (directives.Known (directive.Redistribute d.colons) (distribution_of d.colons d)) }
+  kind_of n k = single n (action_in n k)
+
+  pub loop_of : ℕ → Rattle.syntax_tree.specs.declared.stmt.DoLoop.DoLoop → Statement
+  loop_of n (struct-DoLoop index first last step mark shape row glued) =
+      Loop (option_map mark_of mark) n (index, (expression first, (expression last, option_map expression step))) (row_of row) glued
+
+  pub row_of : {m : _} → Row_of-Stmt m → Block
+  row_of end_of-Stmt = Done
+  row_of (more_of-Stmt n k row) = Then (kind_of n k) (row_of row)
+
+  pub rest_of : Held-Kind-If-1 → Otherwise
+  rest_of None' = Without
+  rest_of (Some' shape row) = With (row_of row)
+
+  pub arms_row : {m : _} → Row_of-Arm m → Arms
+  arms_row end_of-Arm = NoArm
+  arms_row (more_of-Arm (struct-Arm n cond shape row glued) arms) = Arm n (expression cond) (row_of row) glued (arms_row arms)
+
+abbrev pub statement_of : Stmt → Statement
+statement_of s = kind_of s.line s.what
+
+-- statements one behind the other
+abbrev pub block_of : List Stmt → Block
+block_of [] = Done
+block_of (s ∷ ss) = Then (statement_of s) (block_of ss)
+
+-- an arm before others
+abbrev pub arm_before : HeldArm → Arms → Arms
+arm_before (struct-Arm n cond shape row glued) arms = Arm n (expression cond) (row_of row) glued arms
+
+abbrev pub arms_of : List HeldArm → Arms
+arms_of [] = NoArm
+arms_of (a ∷ arms) = arm_before a (arms_of arms)
+
+abbrev pub declared_of : DeclKind → What
+declared_of declared.ImplicitNone = Said (statements.Plain kind.ImplicitNone tt)
+declared_of (declared.Integer d) = Said (statements.Plain kind.Integer (declaration_of d))
+declared_of (declared.Parameter cs) = Said (statements.Plain kind.Parameter (map constant_of cs.items))
+declared_of (declared.Directive d) = Directed (mapping_of d)
+
+abbrev pub declaration_line : Decl → Line
+declaration_line d = record { number = d.line; what = declared_of d.what }
+
+abbrev pub finish_of : EndForm → End
+finish_of e = record { what = end_of e.word e.name; number = e.line }
+
+abbrev pub program_of : Tree → Program
+program_of t = record {
+  name = t.name;
+  declarations = map declaration_line t.decls.items;
+  body = block_of t.body.items;
+  finish = finish_of t.end;
+}

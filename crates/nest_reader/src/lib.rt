@@ -1,0 +1,20 @@
+//! From the lines of a program to its tree.
+//!
+//! Comes in: the lines of a text as statements and directives, in order, which break no rule of constructs, declarations
+//! and directives. Goes out: the tree that they spell. What holds in between: a draft says the lines that have been read,
+//! those of the open constructs too, and its lines with those that are left are the lines of the text; no line is read
+//! twice, and no other program has these lines.
+#![tactic(auto)]
+
+mod close;
+mod draft;
+mod laws;
+mod made;
+mod reading;
+mod steps;
+mod take;
+#[cfg(test)]
+mod tests;
+
+pub use laws::one_program;
+pub use reading::read_nest;
