@@ -4,3 +4,5 @@ pub mod LineForms
 pub mod FirstPlaces
 pub mod OneReading
 pub mod FirstValidity
+pub mod LineBreaches
+pub mod Programs

@@ -1,3 +1,4 @@
+pub mod ProgramText
 pub mod FirstBody
 pub mod FirstForm
 pub mod FirstReading

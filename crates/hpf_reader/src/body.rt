@@ -6,7 +6,7 @@ ghost use Rattle.hpf_reader.specs.FirstForm.{IsArrayName};
 ghost use Rattle.hpf_reader.specs.FirstBody.{IsFurther, IsBody, IsBodyStop};
 
 use crate::first::{FirstError, FirstStmt};
-use crate::line_forms::{is_end, statement};
+use crate::first_forms::{is_end, statement};
 use crate::line_split::next_line;
 use std::alloc::Global;
 

@@ -1,6 +1,6 @@
 //! Lines, one after another.
 
-ghost use Rattle.std.specs.Prelude.{◌≡◌, ◌==◌, MatchOption, position, [], ◌∷◌};
+ghost use Rattle.std.specs.Prelude.{◌≡◌, ◌≤◌, ◌==◌, length, MatchOption, position, [], ◌∷◌};
 ghost use Rattle.hpf_base.specs.Text.{lines_of};
 
 /// The place of the first line feed.
@@ -24,4 +24,18 @@ pub(crate) fn next_line(text: &[u8]) -> Option<(&[u8], &[u8])>
         }
         None => Some(text.split_at(text.len())),
     }
+}
+
+/// How many lines a text has.
+pub(crate) fn line_count(text: &[u8]) -> u32
+    requires { length (lines_of text.now) ≤ 20000 }
+    ensures { result ≡ length (lines_of text.now) }
+{
+    let mut count = 0;
+    let mut rest = text;
+    while let Some((_, behind)) = next_line(rest) {
+        count += 1;
+        rest = behind;
+    }
+    count
 }

@@ -7,7 +7,7 @@ ghost use Rattle.hpf_reader.specs.FirstValid.{IsValid};
 
 use crate::body::statements;
 use crate::first::{FirstError, FirstProgram};
-use crate::line_forms::{declaration, is_directive};
+use crate::first_forms::{declaration, is_directive};
 use crate::line_split::next_line;
 use std::alloc::Global;
 

@@ -2,7 +2,7 @@ use Rattle.std.proofs.Common.{◌≡◌, [], ◌∷◌}
 use Rattle.std.specs.Prelude.{codes, nat_eq}
 use Rattle.std.specs.Cmp.Lexicographic.{pointwise}
 use Rattle.hpf_reader.proofs.Texts.{three_texts}
-use Rattle.hpf_reader.proofs.line_forms.is_directive.Goals as goal
+use Rattle.hpf_reader.proofs.first_forms.is_directive.Goals as goal
 
 pub returns : goal.returns
 returns c =

@@ -1,0 +1,67 @@
+//! Reading a text as a program.
+
+ghost use Rattle.std.specs.Prelude.{◌≡◌, ◌*◌, ◌≤◌, All, IfOk, IfErr, OnOk, length};
+ghost use Rattle.hpf_base.specs.Refusal.{IsRefusalBy, NoBreach};
+ghost use Rattle.nest_rules.specs.Lines.{lines_of};
+ghost use Rattle.hpf_base.specs.Text.{lines_of as text_lines};
+ghost use Rattle.source_lines.specs.Lines.{logical_lines};
+ghost use Rattle.nest_reader.specs.Printed.{IsSpelled};
+ghost use Rattle.nest_reader.specs.Formed.{IsProgram};
+ghost use Rattle.nest_reader.specs.Views.{program_of};
+ghost use Rattle.hpf_reader.specs.ProgramText.{AreLinesOf, IsFine, IsProgramRefusal, IsProgramText, NestBreaks};
+
+use crate::forms::forms;
+use crate::line_split::line_count;
+use crate::scan::scan;
+use hpf_base::StaticError;
+use nest_reader::read_nest;
+use nest_rules::{Line, first_breach};
+use source_lines::logical_lines;
+use std::alloc::Global;
+use syntax_tree::Tree;
+
+/// The tree of the one program that a text of the free form reads as (Fortran 95, 2 and 3; HPF 2.0, 2.3).
+///
+/// It is refused exactly where it has a breach: with the first one of the first stage that has any, which is that of the
+/// least line and, on one line, of the least reason. The stages are:
+///
+/// - The lines (`BadLine`, `Limit`), as `logical_lines` says.
+/// - Their tokens (`BadLine`, `Limit`), as `tokens` says.
+/// - Each statement (`NotAStatement`, `Limit`, `LeftOut`) and each directive (`BadDirective`, `Limit`, `LeftOut`) alone, as
+///   `read_statement` and `read_directive` say.
+/// - The nest (`BadNest`, `BadDirective`, `Limit`, `LeftOut`), as `first_breach` says.
+///
+/// `Memory` comes only where a growth was refused.
+pub fn read_program(alloc: Global, text: &[u8]) -> Result<Tree, StaticError>
+    ensures read { IfOk result (λ t. IsProgramText text.now (program_of t)) }
+    ensures fine { OnOk result (IsFine text.now) }
+    ensures refused { IfErr result (IsProgramRefusal text.now) }
+{
+    let lines = match logical_lines(alloc, text) {
+        Ok(lines) => lines,
+        Err(error) => return Err(error),
+    };
+    if let Err(error) = scan(alloc, &lines) {
+        return Err(error);
+    }
+    let forms = match forms(alloc, &lines) {
+        Ok(forms) => forms,
+        Err(error) => return Err(error),
+    };
+    nest(alloc, text, forms)
+}
+
+/// The tree of a text whose lines are these statements and directives.
+fn nest(alloc: Global, text: &[u8], forms: Vec<Line>) -> Result<Tree, StaticError>
+    requires few { length (text_lines text.now) ≤ 20000 }
+    requires read { AreLinesOf (logical_lines text.now) (lines_of forms.items) }
+    ensures spelled { IfOk result (λ t. IsSpelled (lines_of forms.items) (program_of t)) }
+    ensures formed { IfOk result (λ t. IsProgram (program_of t)) }
+    ensures fine { OnOk result (NoBreach (NestBreaks text.now)) }
+    ensures refused { IfErr result (IsRefusalBy (NestBreaks text.now)) }
+{
+    if let Some(refusal) = first_breach(alloc, line_count(text), &forms)? {
+        return Err(StaticError::Refused(refusal));
+    }
+    Ok(read_nest(alloc, forms)?)
+}
