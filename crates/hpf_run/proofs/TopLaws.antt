@@ -1,26 +1,30 @@
 -- From what the parts answer to what the top call means.
 use Rattle.std.proofs.Common.{◌≡◌, ℕ, ◌+◌, ◌<◌, ◌≤◌, List, [], ◌++◌, length, take, Option, None, Some, refl, sym, ◌∙◌, ap, subst, arith}
 use Rattle.std.proofs.lemmas.List.{append-nil, length-append, take_at}
-use Rattle.hpf_base.specs.declared.refusal.Reason.TheVariants.{LeftOut}
+use Rattle.hpf_base.specs.declared.refusal.Refusal.{Refusal}
 use Rattle.hpf_base.specs.declared.status.Status.TheVariants.{Done, Refused, TooLong, Usage, WriteFault}
 use Rattle.hpf_base.specs.declared.status.Status.{Status}
 use Rattle.hpf_ports.specs.Ports.{Gave, IsAtEnd, Rose, Took}
 use Rattle.hpf_reader.specs.FirstForm.{Program, ReadsAs}
-use Rattle.hpf_reader.specs.FirstRefusal.{IsLeftOut}
+use Rattle.hpf_reader.specs.ProgramText.{IsFine}
 use Rattle.array_meaning.specs.First.{printed_of}
-use Rattle.hpf_run.specs.Outcome.{is_done, is_refused, is_too_long, is_usage, means_memory, means_outcome, text_done, text_memory, text_refused, all_written, err_failed, out_failed, Delivered, Had, Meant, Outcome, Port, TextMeant, refusal_line, source_limit, too_long_line, usage_line}
+use Rattle.hpf_run.specs.Outcome.{is_done, is_refused, is_too_long, is_usage, means_memory, means_outcome, text_done, text_memory, text_refused, all_written, err_failed, out_failed, Delivered, Had, IsRefusal, IsReplyOf, Meant, reply_memory, reply_refused, Outcome, Port, TextMeant, refusal_line, source_limit, too_long_line, usage_line}
 use Rattle.hpf_run.specs.Words.{IsJob, IsNoJob}
 
 -- a text whose program prints the bytes
-pub text-done : (text bytes : List ℕ) (p : Program) → ReadsAs text p → bytes ≡ printed_of p → TextMeant text record { status = Done; out = bytes; err = [] }
-text-done text bytes p reads is =
-    subst (λ b. TextMeant text record { status = Done; out = b; err = [] }) (sym is) (text_done p reads)
+pub text-done : (text bytes : List ℕ) (p : Program) → IsFine text → ReadsAs text p → bytes ≡ printed_of p → TextMeant text record { status = Done; out = bytes; err = [] }
+text-done text bytes p fine reads is =
+    subst (λ b. TextMeant text record { status = Done; out = b; err = [] }) (sym is) (text_done fine p reads)
 
 -- a text that is refused with the line
-pub text-refused : (text bytes : List ℕ) (number : ℕ) → IsLeftOut text number → bytes ≡ refusal_line record { line = number; reason = LeftOut }
-    → TextMeant text record { status = Refused; out = []; err = bytes }
-text-refused text bytes number is line =
-    subst (λ b. TextMeant text record { status = Refused; out = []; err = b }) (sym line) (text_refused number is)
+pub text-refused : (text bytes : List ℕ) (r : Refusal) → IsRefusal text r → bytes ≡ refusal_line r → TextMeant text record { status = Refused; out = []; err = bytes }
+text-refused text bytes r is line =
+    subst (λ b. TextMeant text record { status = Refused; out = []; err = b }) (sym line) (text_refused r is)
+
+-- the reply to a refusal is what the text comes to
+pub refused-meant : (text : List ℕ) (r : Refusal) (o : Outcome) → IsRefusal text r → IsReplyOf r o → TextMeant text o
+refused-meant text r o is (reply_refused line line_is) = text-refused text line r is line_is
+refused-meant text r o is reply_memory = text_memory
 
 -- what a source had left, whether it tells it or not
 some_had : (left : Option (List ℕ)) → (bytes : List ℕ) × Had left bytes
@@ -41,10 +45,10 @@ read_had (Some left) left' bytes gave end =
 -- what the text comes to is what the call means
 pub text-meant : (words : List (List ℕ)) (source source' : Port) (nodes : ℕ) (text : List ℕ) (o : Outcome) → IsJob words nodes
     → Gave source.bytes source'.bytes text → IsAtEnd source'.bytes → length text ≤ source_limit → TextMeant text o → Meant words source source' o
-text-meant words source source' nodes text o job gave end short (text_refused number is) =
-    means_outcome text _ (read_had source.bytes source'.bytes text gave end) (is_refused nodes job short number is) (gave, end)
-text-meant words source source' nodes text o job gave end short (text_done p reads) =
-    means_outcome text _ (read_had source.bytes source'.bytes text gave end) (is_done nodes job short p reads) (gave, end)
+text-meant words source source' nodes text o job gave end short (text_refused r is) =
+    means_outcome text _ (read_had source.bytes source'.bytes text gave end) (is_refused nodes job short r is) (gave, end)
+text-meant words source source' nodes text o job gave end short (text_done fine p reads) =
+    means_outcome text _ (read_had source.bytes source'.bytes text gave end) (is_done nodes job short fine p reads) (gave, end)
 text-meant words source source' nodes text o job gave end short text_memory = means_memory nodes job text short gave
 
 -- a source of which a byte past the limit was taken

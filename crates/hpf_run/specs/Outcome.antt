@@ -8,6 +8,7 @@ use Rattle.hpf_base.specs.Refusal.{name_of, number_of}
 use Rattle.hpf_ports.specs.Ports.{Gave, IsAtEnd, Rose, Took}
 use Rattle.hpf_reader.specs.FirstForm.{Program, ReadsAs}
 use Rattle.hpf_reader.specs.FirstRefusal.{IsLeftOut}
+use Rattle.hpf_reader.specs.ProgramText.{IsFine, IsRefused}
 use Rattle.array_meaning.specs.First.{printed_of}
 use Rattle.hpf_run.specs.Words.{IsJob, IsNoJob}
 
@@ -39,14 +40,20 @@ refusal_line refusal =
 abbrev pub source_limit : ℕ
 source_limit = 1048576
 
+-- a text is refused for its first breach as a program of the language or, where it has none, for the first line that isn't
+-- of the form that runs
+pub data IsRefusal (text : List ℕ) : Refusal → Type 0 where
+  by_reader : (r : Refusal) → IsRefused text r → IsRefusal text r
+  by_form : (number : ℕ) → IsFine text → IsLeftOut text number → IsRefusal text record { line = number; reason = LeftOut }
+
 -- the outcome of words and a source's bytes
 pub data TopOutcome (words : List (List ℕ)) (bytes : List ℕ) : Outcome → Type 0 where
   is_usage : IsNoJob words → TopOutcome words bytes record { status = Usage; out = []; err = usage_line }
   is_too_long : (nodes : ℕ) → IsJob words nodes → source_limit < length bytes
       → TopOutcome words bytes record { status = TooLong; out = []; err = too_long_line }
-  is_refused : (nodes : ℕ) → IsJob words nodes → length bytes ≤ source_limit → (number : ℕ) → IsLeftOut bytes number
-      → TopOutcome words bytes record { status = Refused; out = []; err = refusal_line record { line = number; reason = LeftOut } }
-  is_done : (nodes : ℕ) → IsJob words nodes → length bytes ≤ source_limit → (p : Program) → ReadsAs bytes p
+  is_refused : (nodes : ℕ) → IsJob words nodes → length bytes ≤ source_limit → (r : Refusal) → IsRefusal bytes r
+      → TopOutcome words bytes record { status = Refused; out = []; err = refusal_line r }
+  is_done : (nodes : ℕ) → IsJob words nodes → length bytes ≤ source_limit → IsFine bytes → (p : Program) → ReadsAs bytes p
       → TopOutcome words bytes record { status = Done; out = printed_of p; err = [] }
 
 -- what a port tells: its bytes, where it tells them, and its count of faults
@@ -86,7 +93,11 @@ pub data Delivered (o : Outcome) (out out' err err' : Port) : Status → Type 0 
 
 -- what a text comes to: its refusal, or what its program prints, or want of memory
 pub data TextMeant (text : List ℕ) : Outcome → Type 0 where
-  text_refused : (number : ℕ) → IsLeftOut text number
-      → TextMeant text record { status = Refused; out = []; err = refusal_line record { line = number; reason = LeftOut } }
-  text_done : (p : Program) → ReadsAs text p → TextMeant text record { status = Done; out = printed_of p; err = [] }
+  text_refused : (r : Refusal) → IsRefusal text r → TextMeant text record { status = Refused; out = []; err = refusal_line r }
+  text_done : IsFine text → (p : Program) → ReadsAs text p → TextMeant text record { status = Done; out = printed_of p; err = [] }
   text_memory : TextMeant text record { status = Memory; out = []; err = memory_line }
+
+-- a refusal is answered, or want of memory
+pub data IsReplyOf (r : Refusal) : Outcome → Type 0 where
+  reply_refused : (line : List ℕ) → line ≡ refusal_line r → IsReplyOf r record { status = Refused; out = []; err = line }
+  reply_memory : IsReplyOf r record { status = Memory; out = []; err = memory_line }

@@ -99,16 +99,26 @@ fn any_grid(rt: HostRuntime) -> Result<(), Fail> {
 #[test]
 fn refusals(rt: HostRuntime) -> Result<(), Fail> {
     let words = ["run", "--grid", "4"];
-    let second: &[u8] = b"hpf: line 2: refused 11 LeftOut\n";
-    gives(
-        &rt,
-        rt.alloc(),
-        &words,
-        b"INTEGER A(3)\nEND\n",
-        (Status::Refused, b"", second),
-    )?;
-    let first: &[u8] = b"hpf: line 1: refused 11 LeftOut\n";
-    gives(&rt, rt.alloc(), &words, b"", (Status::Refused, b"", first))?;
+    let cases: [(&[u8], &[u8]); 6] = [
+        (b"INTEGER A(3)\nEND\n", b"hpf: line 2: refused 11 LeftOut\n"),
+        (b"END\n", b"hpf: line 1: refused 11 LeftOut\n"),
+        (b"", b"hpf: line 1: refused 3 BadNest\n"),
+        (
+            b"INTEGER A(3)\nA(1) = #\n",
+            b"hpf: line 2: refused 1 BadLine\n",
+        ),
+        (
+            b"INTEGER A(3)\nA(1) = 1 1\nEND\n",
+            b"hpf: line 2: refused 2 NotAStatement\n",
+        ),
+        (
+            b"!HPF$ DISTRIBUT A(BLOCK)\nEND\n",
+            b"hpf: line 1: refused 6 BadDirective\n",
+        ),
+    ];
+    for (text, line) in cases {
+        gives(&rt, rt.alloc(), &words, text, (Status::Refused, b"", line))?;
+    }
     Ok(())
 }
 
@@ -184,7 +194,7 @@ fn lengths(rt: HostRuntime) -> Result<(), Fail> {
     let alloc = rt.alloc();
     let read = marks(&rt, alloc, 1_048_576)?;
     assert_eq!(rt; read.status, Status::Refused);
-    assert!(rt; read.err.as_slice() == b"hpf: line 1: refused 11 LeftOut\n".as_slice());
+    assert!(rt; read.err.as_slice() == b"hpf: line 1: refused 1 BadLine\n".as_slice());
     let long = marks(&rt, alloc, 1_048_577)?;
     assert_eq!(rt; long.status, Status::TooLong);
     assert!(rt; long.out.is_empty());

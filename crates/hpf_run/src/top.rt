@@ -1,22 +1,34 @@
 //! The top call: from words and a source to a status and two texts.
 
-ghost use Rattle.std.specs.Prelude.{◌≡◌, ◌≤◌, map, string_bytes};
-ghost use Rattle.hpf_run.specs.Outcome.{Delivered, Meant, Outcome, TextMeant};
+ghost use Rattle.std.specs.Prelude.{◌≡◌, ◌≤◌, map, string_bytes, IfNone, IfSome};
+ghost use Rattle.hpf_run.specs.Outcome.{Delivered, IsReplyOf, Meant, Outcome, TextMeant};
+ghost use Rattle.hpf_reader.specs.ProgramText.{IsFine, IsProgramRefusal};
 ghost use Rattle.hpf_run.specs.Reply.{outcome_of};
 ghost use Rattle.hpf_run.specs.Words.{IsNoJob};
 
 use crate::first_run::run_first;
 use crate::reply::{Reply, refusal_text};
 use crate::words::nodes_of;
-use hpf_base::{Reason, Refusal, Status};
+use hpf_base::{Reason, Refusal, StaticError, Status};
 use hpf_ports::{Gate, ReadAll, Sink, Source, read_all, write_all};
-use hpf_reader::{FirstError, read_first};
+use hpf_reader::{FirstError, read_first, read_program};
 use std::alloc::Global;
 
-/// What a text comes to on so many nodes.
-fn reply_to_text(alloc: Global, nodes: u32, text: &[u8]) -> Reply
+/// The reply to a text that is refused.
+fn reply_refused(alloc: Global, refusal: Refusal) -> Reply
+    ensures { IsReplyOf refusal (outcome_of result) }
+{
+    match refusal_text(alloc, refusal) {
+        Ok(text) => Reply::Refused(text),
+        Err(_) => Reply::Memory,
+    }
+}
+
+/// What a program of the language comes to on so many nodes: it runs where it is of the form that runs.
+fn reply_to_program(alloc: Global, nodes: u32, text: &[u8]) -> Reply
     requires some_nodes { 1 ≤ nodes }
     requires few_nodes { nodes ≤ 64 }
+    requires fine { IsFine text.now }
     ensures { TextMeant text.now (outcome_of result) }
 {
     match read_first(alloc, text) {
@@ -29,12 +41,33 @@ fn reply_to_text(alloc: Global, nodes: u32, text: &[u8]) -> Reply
                 line,
                 reason: Reason::LeftOut,
             };
-            match refusal_text(alloc, refusal) {
-                Ok(text) => Reply::Refused(text),
-                Err(_) => Reply::Memory,
-            }
+            reply_refused(alloc, refusal)
         }
         Err(FirstError::Memory) => Reply::Memory,
+    }
+}
+
+/// Why a text isn't a program of the language, if it isn't; or want of memory.
+fn fault_of(alloc: Global, text: &[u8]) -> Option<StaticError>
+    ensures fine { IfNone result (IsFine text.now) }
+    ensures refused { IfSome result (IsProgramRefusal text.now) }
+{
+    match read_program(alloc, text) {
+        Ok(_) => None,
+        Err(error) => Some(error),
+    }
+}
+
+/// What a text comes to on so many nodes.
+fn reply_to_text(alloc: Global, nodes: u32, text: &[u8]) -> Reply
+    requires some_nodes { 1 ≤ nodes }
+    requires few_nodes { nodes ≤ 64 }
+    ensures { TextMeant text.now (outcome_of result) }
+{
+    match fault_of(alloc, text) {
+        None => reply_to_program(alloc, nodes, text),
+        Some(StaticError::Refused(refusal)) => reply_refused(alloc, refusal),
+        Some(StaticError::Memory) => Reply::Memory,
     }
 }
 
@@ -72,7 +105,8 @@ fn deliver<O: Sink, E: Sink>(reply: &Reply, out: &mut O, err: &mut E) -> Status
 
 /// Runs the program on words, a source and two sinks, and answers its status.
 ///
-/// The answer is what the words and the source mean: the outcome of the text, or a read fault where the source's
+/// The answer is what the words and the source mean: the outcome of the text, which is refused for its first breach as
+/// a program of the language or, where it has none, for the first line that isn't of the form that runs; or a read fault where the source's
 /// count of faults rose in this call, or want of memory, which may come without a cause. It is delivered whole,
 /// or the answer is `WriteFault`: then the count of the sink at fault rose in this call, and that sink holds a
 /// proper prefix of its text. For words that are no job the source isn't touched. `rt` and `gate` have no part
