@@ -1,6 +1,7 @@
 pub mod Alignment
 pub mod Cores
 pub mod ElementOrder
+pub mod FirstBreach
 pub mod Grid
 pub mod LocalOrder
 pub mod Mapping
