@@ -19,8 +19,6 @@ mod node;
 mod refusal;
 mod status;
 mod stepped;
-#[cfg(test)]
-mod tests;
 
 pub use act::Act;
 pub use first_breach::{at_line, earlier};
