@@ -2,14 +2,14 @@
 use Rattle.std.proofs.Common.{◌≡◌, ℕ, suc, ◌<◌, ◌≢◌, ◌⊎◌, inl, inr, true, IsTrue, is_some, IsSome, List, length, get_or, Option, Some, None, refl, sym, ◌∙◌, ap, subst, arith}
 use Rattle.std.specs.List.{slice_get}
 use Rattle.std.proofs.lemmas.Option.{slice_get_within, slice_get-get_or}
-use Rattle.hpf_base.specs.declared.act.Act.{Act}
-use Rattle.hpf_base.specs.declared.act.Act.TheVariants.{Local, Send, Take, Done}
-use Rattle.hpf_base.specs.declared.stepped.Stepped.{Stepped}
-use Rattle.hpf_base.specs.declared.stepped.Stepped.TheVariants.{Moved}
-use Rattle.hpf_base.specs.NodeSteps.{NodeSteps, Move, IsDoneAt}
-use Rattle.hpf_base.specs.Phases.{next_number}
-use Rattle.hpf_base.specs.Cores.{CoreState, start, core_move, core_run, IsEnabled}
-use Rattle.hpf_base.specs.Reached.{RunsTo, IsStep, answer_by}
+use Rattle.node_law.specs.declared.act.Act.{Act}
+use Rattle.node_law.specs.declared.act.Act.TheVariants.{Local, Send, Take, Done}
+use Rattle.node_law.specs.declared.stepped.Stepped.{Stepped}
+use Rattle.node_law.specs.declared.stepped.Stepped.TheVariants.{Moved}
+use Rattle.node_law.specs.NodeSteps.{NodeSteps, Move, IsDoneAt}
+use Rattle.node_law.specs.Phases.{next_number}
+use Rattle.node_law.specs.Cores.{CoreState, start, core_move, core_run, IsEnabled}
+use Rattle.node_law.specs.Reached.{RunsTo, IsStep, answer_by}
 use Rattle.node_law.proofs.PhaseAlone.{only_phase}
 use Rattle.node_law.proofs.UnderWay.{IsNext, Passes, next-passes}
 use Rattle.node_law.proofs.Passing.{UnfinishedAt, local-empty, local-keeps, alone-on, all-passed, passed-done, passed-empty, passed-phased, same-end}

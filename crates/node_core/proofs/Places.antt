@@ -10,14 +10,14 @@ use Rattle.std.proofs.lemmas.Bool.Decides.{eqb_tells}
 use Rattle.std.proofs.lemmas.List.{get_or-set_same, get_or-set_other}
 use Rattle.std.proofs.Math.ListN.{length-set}
 use Rattle.std.proofs.lemmas.Option.{slice_get_within}
-use Rattle.hpf_base.specs.declared.act.Act.{Act}
-use Rattle.hpf_base.specs.declared.act.Act.TheVariants.{Local, Send, Take, Done}
+use Rattle.node_law.specs.declared.act.Act.{Act}
+use Rattle.node_law.specs.declared.act.Act.TheVariants.{Local, Send, Take, Done}
 use Rattle.hpf_base.specs.declared.node.NodeId.{NodeId}
-use Rattle.hpf_base.specs.declared.stepped.Stepped.{Stepped}
-use Rattle.hpf_base.specs.declared.stepped.Stepped.TheVariants.{Moved, NotReady, Ended}
-use Rattle.hpf_base.specs.NodeSteps.{NodeSteps, Move, Worked, Sent, Took, after}
-use Rattle.hpf_base.specs.Cores.{capacity, CoreState, start, put, tail, queue_after, take_of, move_by, move_at, moved, core_move, core_step, made_in, nodes_after}
-use Rattle.hpf_base.specs.Reached.{IsStep, answer_by, unmoved}
+use Rattle.node_law.specs.declared.stepped.Stepped.{Stepped}
+use Rattle.node_law.specs.declared.stepped.Stepped.TheVariants.{Moved, NotReady, Ended}
+use Rattle.node_law.specs.NodeSteps.{NodeSteps, Move, Worked, Sent, Took, after}
+use Rattle.node_law.specs.Cores.{capacity, CoreState, start, put, tail, queue_after, take_of, move_by, move_at, moved, core_move, core_step, made_in, nodes_after}
+use Rattle.node_law.specs.Reached.{IsStep, answer_by, unmoved}
 use Rattle.node_core.specs.CoreLists.{pair_queue, CoreLists, core_of, IsCore}
 use Rattle.node_law.proofs.History.{IsHistory, history-reached}
 use Rattle.node_law.proofs.MovesLeft.{reached-step}

@@ -4,17 +4,17 @@ use Rattle.std.proofs.Common.{map, take, get_or, false, if◌then◌else◌, nat
 use Rattle.std.proofs.Math.Path.{fun_ext}
 use Rattle.std.proofs.lemmas.List.{take_more, map-append, take-map, get_or-map, length-map}
 use Rattle.std.proofs.Common.{Result, Ok, Err, OnErr}
-use Rattle.hpf_base.specs.declared.act.Act.TheVariants.{Local}
+use Rattle.node_law.specs.declared.act.Act.TheVariants.{Local}
 use Rattle.std.specs.List.{slice_get}
 use Rattle.hpf_base.specs.declared.node.NodeId.{NodeId}
 use Rattle.std.proofs.lemmas.Bool.{cases_lt, cases_eq}
 use Rattle.std.proofs.lemmas.Option.{slice_get_past}
-use Rattle.hpf_base.specs.declared.stepped.Stepped.{Stepped}
-use Rattle.hpf_base.specs.declared.stepped.Stepped.TheVariants.{Moved, NotReady, Ended}
-use Rattle.hpf_base.specs.NodeSteps.{NodeSteps, Move, after_at}
-use Rattle.hpf_base.specs.Phases.{Lockstep, all_moves}
-use Rattle.hpf_base.specs.Cores.{CoreState, start, core_run, core_step, core_move, move_at, moved, nodes_after, made_in, IsFinished}
-use Rattle.hpf_base.specs.Reached.{IsStep, IsReached, RunsTo, EndsInLockstep, answer_by, ActsAt}
+use Rattle.node_law.specs.declared.stepped.Stepped.{Stepped}
+use Rattle.node_law.specs.declared.stepped.Stepped.TheVariants.{Moved, NotReady, Ended}
+use Rattle.node_law.specs.NodeSteps.{NodeSteps, Move, after_at}
+use Rattle.node_law.specs.Phases.{Lockstep, all_moves}
+use Rattle.node_law.specs.Cores.{CoreState, start, core_run, core_step, core_move, move_at, moved, nodes_after, made_in, IsFinished}
+use Rattle.node_law.specs.Reached.{IsStep, IsReached, RunsTo, EndsInLockstep, answer_by, ActsAt}
 use Rattle.node_core.specs.Stage.{WantsLocal}
 use Rattle.node_core.specs.CoreLists.{CoreData, lists, core_of, StopsAt}
 use Rattle.node_law.proofs.NeverStuck.{never_stuck, all-done, done-at}

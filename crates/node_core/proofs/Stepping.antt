@@ -4,15 +4,15 @@ use Rattle.std.specs.List.{slice_get}
 use Rattle.std.proofs.lemmas.Option.{slice_get_read}
 use Rattle.std.proofs.lemmas.List.{get_or_default}
 use Rattle.std.proofs.lemmas.Bool.{eqb-false}
-use Rattle.hpf_base.specs.declared.act.Act.{Act}
-use Rattle.hpf_base.specs.declared.act.Act.TheVariants.{Local, Send, Take, Done}
+use Rattle.node_law.specs.declared.act.Act.{Act}
+use Rattle.node_law.specs.declared.act.Act.TheVariants.{Local, Send, Take, Done}
 use Rattle.hpf_base.specs.declared.node.NodeId.{NodeId}
-use Rattle.hpf_base.specs.declared.stepped.Stepped.{Stepped}
-use Rattle.hpf_base.specs.declared.stepped.Stepped.TheVariants.{Moved, NotReady, Ended}
+use Rattle.node_law.specs.declared.stepped.Stepped.{Stepped}
+use Rattle.node_law.specs.declared.stepped.Stepped.TheVariants.{Moved, NotReady, Ended}
 use Rattle.std.proofs.Common.{suc, true, is_some, IsSome, Result, Ok, Err, IfOk, OnErr}
-use Rattle.hpf_base.specs.NodeSteps.{NodeSteps, Move}
-use Rattle.hpf_base.specs.Cores.{capacity, CoreState, core_step, core_move}
-use Rattle.hpf_base.specs.Reached.{IsStep, ActsAt, IsReached, MovesLeft, answer_by, unmoved, IsWaiting}
+use Rattle.node_law.specs.NodeSteps.{NodeSteps, Move}
+use Rattle.node_law.specs.Cores.{capacity, CoreState, core_step, core_move}
+use Rattle.node_law.specs.Reached.{IsStep, ActsAt, IsReached, MovesLeft, answer_by, unmoved, IsWaiting}
 use Rattle.node_core.specs.CoreLists.{CoreLists, CoreData, core_of, IsCore}
 use Rattle.node_law.proofs.OneMovesLeft.{left-is}
 use Rattle.node_law.proofs.StepAnswers.{not_ready-waits, ended-done}

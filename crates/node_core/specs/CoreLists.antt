@@ -1,9 +1,9 @@
 -- Cores as their fields hold them: lists of nodes and of queues.
 use Rattle.std.specs.Prelude.{◌≡◌, ℕ, ◌+◌, ◌*◌, ◌<◌, ◌^◌, List, [], length, take, slice_index_or, if◌then◌else◌, nat_lt}
-use Rattle.hpf_base.specs.declared.act.Act.TheVariants.{Local}
-use Rattle.hpf_base.specs.NodeSteps.{NodeSteps}
-use Rattle.hpf_base.specs.Cores.{CoreState, core_run}
-use Rattle.hpf_base.specs.Reached.{IsReached, ActsAt}
+use Rattle.node_law.specs.declared.act.Act.TheVariants.{Local}
+use Rattle.node_law.specs.NodeSteps.{NodeSteps}
+use Rattle.node_law.specs.Cores.{CoreState, core_run}
+use Rattle.node_law.specs.Reached.{IsReached, ActsAt}
 
 -- the queue from p to q, where the queues of all pairs of n nodes stand one source after another
 abbrev pub pair_queue : {M : Type 0} → ℕ → List (List M) → ℕ → ℕ → List M

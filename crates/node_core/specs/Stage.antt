@@ -1,12 +1,12 @@
 -- The stages of a phase, and what a core does in it.
 use Rattle.std.specs.Prelude.{◌≡◌, ℕ, ◌<◌, ◌⊎◌, Bool, true, false, IsTrue, List, Some}
 use Rattle.std.specs.List.{slice_get}
-use Rattle.hpf_base.specs.declared.act.Act.{Act}
-use Rattle.hpf_base.specs.declared.act.Act.TheVariants.{Local, Send, Take, Done}
-use Rattle.hpf_base.specs.NodeSteps.{NodeSteps, after_at}
-use Rattle.hpf_base.specs.Phases.{Lockstep, all_moves}
-use Rattle.hpf_base.specs.Cores.{CoreState, start, IsEnabled}
-use Rattle.hpf_base.specs.Reached.{RunsTo, ActsAt}
+use Rattle.node_law.specs.declared.act.Act.{Act}
+use Rattle.node_law.specs.declared.act.Act.TheVariants.{Local, Send, Take, Done}
+use Rattle.node_law.specs.NodeSteps.{NodeSteps, after_at}
+use Rattle.node_law.specs.Phases.{Lockstep, all_moves}
+use Rattle.node_law.specs.Cores.{CoreState, start, IsEnabled}
+use Rattle.node_law.specs.Reached.{RunsTo, ActsAt}
 use Rattle.node_core.specs.declared.stage.Stage.{Stage}
 use Rattle.node_core.specs.declared.stage.Stage.TheVariants.{Steps, Sends, Takes}
 use Rattle.node_core.specs.CoreLists.{CoreData, core_of}

@@ -3,9 +3,9 @@
 ghost use Rattle.std.specs.Prelude.{◌≡◌, ◌↔◌, map, ◌≢◌, suc, ◌<◌, ◌≤◌, ◌*◌, ◌+◌, ◌^◌, List, length, slice_get, slice_set, IfOk, IfSome, OnErr, OnOk, IsTrue, Some, None, ℕ};
 ghost use Rattle.std.specs.List.{All};
 ghost use Rattle.hpf_base.specs.declared.node.NodeId.{NodeId};
-ghost use Rattle.hpf_base.specs.Cores.{start, core_run, IsEnabled, IsFinished};
-ghost use Rattle.hpf_base.specs.Phases.{Lockstep};
-ghost use Rattle.hpf_base.specs.Reached.{RunsTo, EndsInLockstep, IsStep, IsWaiting, ActsAt, MovesLeft};
+ghost use Rattle.node_law.specs.Cores.{start, core_run, IsEnabled, IsFinished};
+ghost use Rattle.node_law.specs.Phases.{Lockstep};
+ghost use Rattle.node_law.specs.Reached.{RunsTo, EndsInLockstep, IsStep, IsWaiting, ActsAt, MovesLeft};
 ghost use Rattle.node_core.specs.CoreLists.{StopsAt, CoreLists, lists, CoreData, core_of, IsCore};
 ghost use Rattle.node_core.specs.Stage.{IsInStage, CanStep, IsReady, WantsLocal};
 ghost use Rattle.node_law.proofs.Passing.{UnfinishedAt, IsChosen};

@@ -1,9 +1,9 @@
 //! The lockstep run of a core: one phase after another.
 
 ghost use Rattle.std.specs.Prelude.{◌≡◌, ◌≢◌, ◌↔◌, ◌<◌, ◌⊎◌, ℕ, length, slice_get, IfSome, OnErr, OnOk, Some, None};
-ghost use Rattle.hpf_base.specs.Cores.{start, IsFinished};
-ghost use Rattle.hpf_base.specs.Phases.{Lockstep};
-ghost use Rattle.hpf_base.specs.Reached.{RunsTo, EndsInLockstep};
+ghost use Rattle.node_law.specs.Cores.{start, IsFinished};
+ghost use Rattle.node_law.specs.Phases.{Lockstep};
+ghost use Rattle.node_law.specs.Reached.{RunsTo, EndsInLockstep};
 ghost use Rattle.node_core.specs.CoreLists.{core_of};
 ghost use Rattle.node_core.specs.Stage.{CanStep, Advances, IsReady, EndAlike, WantsLocal};
 ghost use Rattle.node_law.proofs.Passing.{UnfinishedAt};

@@ -2,8 +2,8 @@
 use Rattle.std.proofs.Common.{◌≡◌, ℕ, zero, suc, ◌==◌, false, [], ◌∷◌, Option, Some, None, refl, arith}
 use Rattle.std.proofs.lemmas.Bool.{ne_eqb}
 use Rattle.std.specs.List.{slice_get}
-use Rattle.hpf_base.specs.NodeSteps.{Worked, Sent, Took, sent, taken, after_at}
-use Rattle.hpf_base.specs.Phases.{Part, moves, next_number, IsPartAt, IsPhase, IsEndAt, Lockstep}
+use Rattle.node_law.specs.NodeSteps.{Worked, Sent, Took, sent, taken, after_at}
+use Rattle.node_law.specs.Phases.{Part, moves, next_number, IsPartAt, IsPhase, IsEndAt, Lockstep}
 use Rattle.node_core_tests.specs.declared.passer.Passer.{Passer}
 use Rattle.node_core_tests.specs.Passer.{passer_steps}
 use Rattle.node_core_tests.specs.Three.{at_start, three}

@@ -1,9 +1,9 @@
 -- What a node of the ring does.
 use Rattle.std.specs.Prelude.{ℕ, ◌+◌, ◌==◌, true, if◌then◌else◌}
-use Rattle.hpf_base.specs.declared.act.Act.{Act}
-use Rattle.hpf_base.specs.declared.act.Act.TheVariants.{Local, Send, Take, Done}
-use Rattle.hpf_base.specs.NodeSteps.{NodeSteps}
-use Rattle.hpf_base.specs.Phases.{next_number}
+use Rattle.node_law.specs.declared.act.Act.{Act}
+use Rattle.node_law.specs.declared.act.Act.TheVariants.{Local, Send, Take, Done}
+use Rattle.node_law.specs.NodeSteps.{NodeSteps}
+use Rattle.node_law.specs.Phases.{next_number}
 use Rattle.node_core_tests.specs.declared.passer.Passer.{Passer}
 
 -- the act in a phase after the first: node 0 sends to node 1, which takes, and node 2 is idle

@@ -1,7 +1,7 @@
 //! The core of three nodes.
 
 ghost use Rattle.std.specs.Prelude.{◌≡◌, IfOk, length};
-ghost use Rattle.hpf_base.specs.Cores.{start};
+ghost use Rattle.node_law.specs.Cores.{start};
 ghost use Rattle.node_core.specs.CoreLists.{core_of};
 ghost use Rattle.node_core.specs.Stage.{IsReady};
 ghost use Rattle.node_core_tests.specs.Passer.{passer_steps};

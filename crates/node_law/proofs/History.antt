@@ -3,10 +3,10 @@ use Rattle.std.proofs.Common.{◌≡◌, ℕ, zero, suc, ◌<◌, ◌==◌, ◌&
 use Rattle.std.proofs.lemmas.Bool.{ltb-true, eqb-true}
 use Rattle.std.proofs.lemmas.Bool.Decides.{eqb_tells}
 use Rattle.std.specs.List.{slice_get}
-use Rattle.hpf_base.specs.declared.act.Act.{Act}
-use Rattle.hpf_base.specs.declared.act.Act.TheVariants.{Local, Send, Take, Done}
-use Rattle.hpf_base.specs.NodeSteps.{NodeSteps, Move, Worked, Sent, Took, after, IsMoveOf, AreMovesAt, after_at, sent, taken}
-use Rattle.hpf_base.specs.Cores.{capacity, CoreState, start, tail, queue_after, take_of, move_by, move_at, core_move, nodes_after, moved, core_step, core_run, moves_in, made_in}
+use Rattle.node_law.specs.declared.act.Act.{Act}
+use Rattle.node_law.specs.declared.act.Act.TheVariants.{Local, Send, Take, Done}
+use Rattle.node_law.specs.NodeSteps.{NodeSteps, Move, Worked, Sent, Took, after, IsMoveOf, AreMovesAt, after_at, sent, taken}
+use Rattle.node_law.specs.Cores.{capacity, CoreState, start, tail, queue_after, take_of, move_by, move_at, core_move, nodes_after, moved, core_step, core_run, moves_in, made_in}
 use Rattle.node_law.proofs.Prefixes.{sent-append, taken-append, append_at, after_at-append}
 
 -- there is room for the move: a send finds fewer letters than fit, and a take finds its letter in front

@@ -1,8 +1,8 @@
 -- A piece of a lockstep run followed by another piece, or by a lockstep run.
 use Rattle.std.proofs.Common.{◌≡◌, ℕ, List, [], ◌∷◌, ◌++◌, Option, Some, None, refl, sym, ◌∙◌, ap, subst, append_assoc, append-nil}
 use Rattle.std.proofs.Math.Path.{fun_ext}
-use Rattle.hpf_base.specs.NodeSteps.{NodeSteps, Move, Worked, Sent, Took, after, after_all, after_at, IsDoneAt, sent}
-use Rattle.hpf_base.specs.Phases.{Part, moves, AreLocal, IsFront, next_number, TurnsNumber, KeepsNumber, IsPart, IsPartAt, IsPhase, IsEndAt, IsLockstep, all_moves, StaysAt, IsBetween, LeadsTo, number_after, begun_by, joined, joined_last}
+use Rattle.node_law.specs.NodeSteps.{NodeSteps, Move, Worked, Sent, Took, after, after_all, after_at, IsDoneAt, sent}
+use Rattle.node_law.specs.Phases.{Part, moves, AreLocal, IsFront, next_number, TurnsNumber, KeepsNumber, IsPart, IsPartAt, IsPhase, IsEndAt, IsLockstep, all_moves, StaysAt, IsBetween, LeadsTo, number_after, begun_by, joined, joined_last}
 use Rattle.node_law.proofs.Prefixes.{sent-append, moves-append, after_all-append}
 use Rattle.node_law.proofs.LawOfPrefixes.{local-sent}
 use Rattle.node_law.proofs.NextMove.{local-awaited, awaited-append}

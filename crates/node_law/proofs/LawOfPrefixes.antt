@@ -1,7 +1,7 @@
 -- The law of prefixes.
 use Rattle.std.proofs.Common.{◌≡◌, ℕ, ◌+◌, List, [], ◌∷◌, ◌++◌, Option, Some, None, refl, sym, append_assoc, append-nil}
-use Rattle.hpf_base.specs.NodeSteps.{NodeSteps, Move, Worked, Sent, Took, AreMovesAt, after_at, IsDoneAt, sent, taken, IsPrefix}
-use Rattle.hpf_base.specs.Phases.{Part, moves, AreLocal, AreSends, AreTakes, IsFront, next_number, IsPartAt, IsPhase, IsEndAt, IsLockstep, Lockstep, all_moves}
+use Rattle.node_law.specs.NodeSteps.{NodeSteps, Move, Worked, Sent, Took, AreMovesAt, after_at, IsDoneAt, sent, taken, IsPrefix}
+use Rattle.node_law.specs.Phases.{Part, moves, AreLocal, AreSends, AreTakes, IsFront, next_number, IsPartAt, IsPhase, IsEndAt, IsLockstep, Lockstep, all_moves}
 use Rattle.node_law.proofs.Prefixes.{AreComparable, comparable-swap, prefix-comparable, sent-append, taken-append, sent-comparable, taken-comparable, moves-comparable_at, append_at, after_at-append, front_at, done-begins_at}
 
 module _ {M : Type 0} where

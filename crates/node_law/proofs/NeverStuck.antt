@@ -4,10 +4,10 @@ use Rattle.std.specs.List.{slice_get, All}
 use Rattle.std.proofs.lemmas.Bool.{lt-ltb, ne_eqb, cases_eq}
 use Rattle.std.proofs.lemmas.Bool.Decides.{eqb_tells}
 use Rattle.std.proofs.lemmas.Option.{slice_get_past, slice_get-get_or}
-use Rattle.hpf_base.specs.declared.act.Act.TheVariants.{Done}
-use Rattle.hpf_base.specs.NodeSteps.{NodeSteps, Move, Worked, Sent, Took, IsMoveOf, after_all, AreMovesOf, AreMovesAt, after_at, IsDoneAt, sent, taken, IsPrefix}
-use Rattle.hpf_base.specs.Phases.{Part, moves, AreSends, IsFront, next_number, IsPartAt, IsEndAt, IsLockstep, Lockstep, all_moves}
-use Rattle.hpf_base.specs.Cores.{capacity, CoreState, start, take_of, core_run, made_in, IsEnabled, IsFinished}
+use Rattle.node_law.specs.declared.act.Act.TheVariants.{Done}
+use Rattle.node_law.specs.NodeSteps.{NodeSteps, Move, Worked, Sent, Took, IsMoveOf, after_all, AreMovesOf, AreMovesAt, after_at, IsDoneAt, sent, taken, IsPrefix}
+use Rattle.node_law.specs.Phases.{Part, moves, AreSends, IsFront, next_number, IsPartAt, IsEndAt, IsLockstep, Lockstep, all_moves}
+use Rattle.node_law.specs.Cores.{capacity, CoreState, start, take_of, core_run, made_in, IsEnabled, IsFinished}
 use Rattle.node_law.proofs.Prefixes.{prefix-refl, sent-append, taken-append, append_at, after_at-append, moves-back}
 use Rattle.node_law.proofs.LawOfPrefixes.{PartFacts, part-facts, AllTaken, all_taken-start, all_taken-next, end-taken, end-made, end-done, local-sent, law_of_prefixes}
 use Rattle.node_law.proofs.History.{IsHistory, history-reached}

@@ -3,11 +3,11 @@ use Rattle.std.proofs.Common.{◌≡◌, ℕ, ◌+◌, ◌<◌, ◌≤◌, ◌�
 use Rattle.std.specs.List.{slice_get}
 use Rattle.std.proofs.lemmas.Option.{slice_get_past}
 use Rattle.std.proofs.lemmas.Bool.{cases_lt}
-use Rattle.hpf_base.specs.declared.act.Act.TheVariants.{Send, Take, Done}
+use Rattle.node_law.specs.declared.act.Act.TheVariants.{Send, Take, Done}
 use Rattle.hpf_base.specs.declared.node.NodeId.{NodeId}
-use Rattle.hpf_base.specs.NodeSteps.{NodeSteps, Move, Worked, Sent, Took, IsMoveOf, after_all, AreMovesOf, AreMovesAt, after_at, IsDoneAt, sent, taken, IsPrefix}
-use Rattle.hpf_base.specs.Phases.{Part, moves, AreLocal, AreAwaited, next_number, IsPartAt, IsEndAt, IsLockstep, Lockstep, all_moves}
-use Rattle.hpf_base.specs.Cores.{CoreState, core_move, core_step, moves_in}
+use Rattle.node_law.specs.NodeSteps.{NodeSteps, Move, Worked, Sent, Took, IsMoveOf, after_all, AreMovesOf, AreMovesAt, after_at, IsDoneAt, sent, taken, IsPrefix}
+use Rattle.node_law.specs.Phases.{Part, moves, AreLocal, AreAwaited, next_number, IsPartAt, IsEndAt, IsLockstep, Lockstep, all_moves}
+use Rattle.node_law.specs.Cores.{CoreState, core_move, core_step, moves_in}
 use Rattle.node_law.proofs.Prefixes.{sent-append, taken-append, append_at, after_at-append, moves-back, number-eq}
 use Rattle.node_law.proofs.LawOfPrefixes.{PartFacts, part-facts, end-taken, end-made, end-done}
 use Rattle.node_law.proofs.History.{IsHistory, history-step}

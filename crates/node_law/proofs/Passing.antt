@@ -3,12 +3,12 @@ use Rattle.std.proofs.Common.{◌≡◌, ℕ, zero, suc, ◌≢◌, ◌⊎◌, i
 use Rattle.std.specs.List.{slice_get}
 use Rattle.std.proofs.Math.Path.{fun_ext}
 use Rattle.std.proofs.lemmas.Bool.Decides.{eqb_tells}
-use Rattle.hpf_base.specs.declared.act.Act.TheVariants.{Local, Done}
-use Rattle.hpf_base.specs.declared.stepped.Stepped.{Stepped}
-use Rattle.hpf_base.specs.NodeSteps.{NodeSteps, Move, Worked, Sent, Took, IsMoveOf, AreMovesAt, after_at, IsDoneAt, sent, taken, IsPrefix}
-use Rattle.hpf_base.specs.Phases.{Part, moves, next_number, TurnsNumber, IsPart, IsPhase, IsLockstep, Lockstep, all_moves}
-use Rattle.hpf_base.specs.Cores.{CoreState, start, core_move, core_step, move_at, moved, nodes_after, queue_after, made_in, IsEnabled}
-use Rattle.hpf_base.specs.Reached.{RunsTo, IsStep}
+use Rattle.node_law.specs.declared.act.Act.TheVariants.{Local, Done}
+use Rattle.node_law.specs.declared.stepped.Stepped.{Stepped}
+use Rattle.node_law.specs.NodeSteps.{NodeSteps, Move, Worked, Sent, Took, IsMoveOf, AreMovesAt, after_at, IsDoneAt, sent, taken, IsPrefix}
+use Rattle.node_law.specs.Phases.{Part, moves, next_number, TurnsNumber, IsPart, IsPhase, IsLockstep, Lockstep, all_moves}
+use Rattle.node_law.specs.Cores.{CoreState, start, core_move, core_step, move_at, moved, nodes_after, queue_after, made_in, IsEnabled}
+use Rattle.node_law.specs.Reached.{RunsTo, IsStep}
 use Rattle.node_law.proofs.Prefixes.{prefix-refl, sent-append, taken-append, append_at, after_at-append, no-move-done, done-whole_at}
 use Rattle.node_law.proofs.LawOfPrefixes.{law_of_prefixes}
 use Rattle.node_law.proofs.History.{IsHistory, history-reached, nodes_after_same, nodes_after_other}

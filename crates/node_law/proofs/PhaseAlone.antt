@@ -3,14 +3,14 @@ use Rattle.std.proofs.Common.{◌≡◌, ℕ, ◌+◌, ◌≢◌, List, [], ◌�
 use Rattle.std.specs.List.{slice_get}
 use Rattle.std.proofs.Common.{◌==◌, if◌then◌else◌}
 use Rattle.std.proofs.lemmas.Bool.{eq-eqb, ne_eqb}
-use Rattle.hpf_base.specs.declared.act.Act.TheVariants.{Done}
-use Rattle.hpf_base.specs.NodeSteps.{NodeSteps, Move, Worked, Sent, Took, after, IsMoveOf, after_all, AreMovesOf, after_at, sent, taken}
-use Rattle.hpf_base.specs.Phases.{Part, moves, next_number, TurnsNumber, AreAwaited, IsPartAt, IsPhase, IsEndAt, Lockstep, all_moves}
+use Rattle.node_law.specs.declared.act.Act.TheVariants.{Done}
+use Rattle.node_law.specs.NodeSteps.{NodeSteps, Move, Worked, Sent, Took, after, IsMoveOf, after_all, AreMovesOf, after_at, sent, taken}
+use Rattle.node_law.specs.Phases.{Part, moves, next_number, TurnsNumber, AreAwaited, IsPartAt, IsPhase, IsEndAt, Lockstep, all_moves}
 use Rattle.node_law.proofs.NextMove.{run-letters}
-use Rattle.hpf_base.specs.Cores.{CoreState, start, core_run, core_move, move_by, made_in}
-use Rattle.hpf_base.specs.Reached.{IsReached}
+use Rattle.node_law.specs.Cores.{CoreState, start, core_run, core_move, move_by, made_in}
+use Rattle.node_law.specs.Reached.{IsReached}
 use Rattle.node_law.proofs.MovesLeft.{history-is, done-all}
-use Rattle.hpf_base.specs.NodeSteps.{IsDoneAt}
+use Rattle.node_law.specs.NodeSteps.{IsDoneAt}
 
 -- a number is not the next one, also where the count wraps
 pub number-turns : (n : ℕ) → n ≢ next_number n

@@ -1,8 +1,8 @@
 -- A node's moves are a function of the letters that it takes.
 use Rattle.std.proofs.Common.{◌≡◌, ℕ, ◌==◌, Bool, true, false, List, [], ◌∷◌, ◌++◌, Option, Some, None, if◌then◌else◌, refl, sym, ◌∙◌, ap, eq-eqb}
-use Rattle.hpf_base.specs.declared.act.Act.TheVariants.{Done}
+use Rattle.node_law.specs.declared.act.Act.TheVariants.{Done}
 use Rattle.hpf_base.specs.declared.node.NodeId.{NodeId}
-use Rattle.hpf_base.specs.NodeSteps.{IsMoveOf, NodeSteps, Move, Worked, Sent, Took, after, after_all, AreMovesOf, AreMovesAt, after_at, IsDoneAt, sent, taken, IsPrefix}
+use Rattle.node_law.specs.NodeSteps.{IsMoveOf, NodeSteps, Move, Worked, Sent, Took, after, after_all, AreMovesOf, AreMovesAt, after_at, IsDoneAt, sent, taken, IsPrefix}
 
 -- one of the lists is a prefix of the other
 abbrev pub AreComparable : {A : Type 0} → List A → List A → Type 0

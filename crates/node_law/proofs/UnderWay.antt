@@ -3,9 +3,9 @@ use Rattle.std.proofs.Common.{◌≡◌, ℕ, ◌+◌, ◌≢◌, inl, inr, List
 use Rattle.std.specs.List.{slice_get}
 use Rattle.std.proofs.Math.Path.{fun_ext}
 use Rattle.std.proofs.Common.{◌==◌, if◌then◌else◌, ◌⊎◌, zero, suc}
-use Rattle.hpf_base.specs.declared.act.Act.TheVariants.{Local, Done}
-use Rattle.hpf_base.specs.NodeSteps.{NodeSteps, Move, Worked, Sent, Took, after_all, after_at, sent, taken}
-use Rattle.hpf_base.specs.Phases.{Part, moves, AreSends, AreTakes, next_number, TurnsNumber, IsPart, IsPartAt, IsPhase, IsEndAt, IsLockstep, Lockstep, all_moves}
+use Rattle.node_law.specs.declared.act.Act.TheVariants.{Local, Done}
+use Rattle.node_law.specs.NodeSteps.{NodeSteps, Move, Worked, Sent, Took, after_all, after_at, sent, taken}
+use Rattle.node_law.specs.Phases.{Part, moves, AreSends, AreTakes, next_number, TurnsNumber, IsPart, IsPartAt, IsPhase, IsEndAt, IsLockstep, Lockstep, all_moves}
 use Rattle.std.proofs.lemmas.Bool.Decides.{eqb_tells}
 use Rattle.node_law.proofs.PhaseAlone.{number-turns, only_phase, inside, outside, phase-alone}
 

@@ -2,9 +2,9 @@
 
 ghost use Rattle.std.specs.Prelude.{◌≡◌, ℕ, ◌⊎◌, List, ◌++◌, Option};
 ghost use Rattle.std.specs.List.{slice_get};
-ghost use Rattle.hpf_base.specs.NodeSteps.{Move, AreMovesAt, after_at, IsDoneAt, sent, taken, IsPrefix};
-ghost use Rattle.hpf_base.specs.Phases.{Lockstep, all_moves};
-ghost use Rattle.hpf_base.specs.Cores.{start, core_run, made_in, IsFinished, IsEnabled, IsStuck};
+ghost use Rattle.node_law.specs.NodeSteps.{Move, AreMovesAt, after_at, IsDoneAt, sent, taken, IsPrefix};
+ghost use Rattle.node_law.specs.Phases.{Lockstep, all_moves};
+ghost use Rattle.node_law.specs.Cores.{start, core_run, made_in, IsFinished, IsEnabled, IsStuck};
 
 use crate::node::PhasedNode;
 

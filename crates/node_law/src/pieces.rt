@@ -1,8 +1,8 @@
 //! Laws of lockstep runs made of pieces, as functions that do nothing.
 
 ghost use Rattle.std.specs.Prelude.{◌≡◌, ℕ, ◌++◌, List, Option};
-ghost use Rattle.hpf_base.specs.NodeSteps.{Move, IsDoneAt};
-ghost use Rattle.hpf_base.specs.Phases.{Part, IsLockstep, LeadsTo, number_after, joined, joined_last, all_moves};
+ghost use Rattle.node_law.specs.NodeSteps.{Move, IsDoneAt};
+ghost use Rattle.node_law.specs.Phases.{Part, IsLockstep, LeadsTo, number_after, joined, joined_last, all_moves};
 
 use crate::node::PhasedNode;
 

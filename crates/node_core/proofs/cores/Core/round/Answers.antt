@@ -1,5 +1,5 @@
 use Rattle.std.proofs.Common.{◌≡◌, ◌≤◌, arith, ap, subst, length}
-use Rattle.hpf_base.specs.Reached.{IsReached}
+use Rattle.node_law.specs.Reached.{IsReached}
 use Rattle.node_core.specs.CoreLists.{CoreData, core_of}
 use Rattle.node_core.proofs.Rounds.{wants-local, round-goes, round-ends}
 use Rattle.node_core.proofs.cores.Core.round.Goals as goal

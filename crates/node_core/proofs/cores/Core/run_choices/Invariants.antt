@@ -1,6 +1,6 @@
 use Rattle.std.proofs.Common.{◌≡◌, length, map, take}
 use Rattle.hpf_base.specs.declared.node.NodeId.{NodeId}
-use Rattle.hpf_base.specs.Cores.{core_run}
+use Rattle.node_law.specs.Cores.{core_run}
 use Rattle.node_core.specs.CoreLists.{core_of}
 use Rattle.node_core.proofs.cores.Core.run_choices.Given as goal
 

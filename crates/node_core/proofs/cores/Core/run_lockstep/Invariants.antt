@@ -1,4 +1,4 @@
-use Rattle.hpf_base.specs.Reached.{RunsTo}
+use Rattle.node_law.specs.Reached.{RunsTo}
 use Rattle.node_core.specs.CoreLists.{core_of}
 use Rattle.node_core.specs.Stage.{IsReady}
 use Rattle.node_core.proofs.cores.Core.run_lockstep.Given as goal

@@ -1,14 +1,14 @@
 -- Cores that are reached from phased nodes, what one step of them answers, and where they end.
 use Rattle.std.specs.Prelude.{◌≡◌, ℕ, zero, suc, ◌-◌, ◌+◌, ◌⊎◌, List, [], length, Option, Some, None}
 use Rattle.std.specs.List.{slice_get}
-use Rattle.hpf_base.specs.declared.act.Act.{Act}
-use Rattle.hpf_base.specs.declared.act.Act.TheVariants.{Local, Send, Take, Done}
+use Rattle.node_law.specs.declared.act.Act.{Act}
+use Rattle.node_law.specs.declared.act.Act.TheVariants.{Local, Send, Take, Done}
 use Rattle.hpf_base.specs.declared.node.NodeId.{NodeId}
-use Rattle.hpf_base.specs.declared.stepped.Stepped.{Stepped}
-use Rattle.hpf_base.specs.declared.stepped.Stepped.TheVariants.{Moved, NotReady, Ended}
-use Rattle.hpf_base.specs.NodeSteps.{NodeSteps, Move, after_at}
-use Rattle.hpf_base.specs.Phases.{Lockstep, all_moves}
-use Rattle.hpf_base.specs.Cores.{CoreState, capacity, start, core_run, made_in, core_move, core_step}
+use Rattle.node_law.specs.declared.stepped.Stepped.{Stepped}
+use Rattle.node_law.specs.declared.stepped.Stepped.TheVariants.{Moved, NotReady, Ended}
+use Rattle.node_law.specs.NodeSteps.{NodeSteps, Move, after_at}
+use Rattle.node_law.specs.Phases.{Lockstep, all_moves}
+use Rattle.node_law.specs.Cores.{CoreState, capacity, start, core_run, made_in, core_move, core_step}
 
 -- the sum of f at the numbers below n
 abbrev pub total : ℕ → (ℕ → ℕ) → ℕ

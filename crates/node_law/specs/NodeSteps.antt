@@ -1,7 +1,7 @@
 -- The steps of nodes that pass letters: functions of the node, and of the letter that it takes.
 use Rattle.std.specs.Prelude.{◌≡◌, ℕ, ◌==◌, Bool, List, [], ◌∷◌, Option, Some, None, if◌then◌else◌}
-use Rattle.hpf_base.specs.declared.act.Act.{Act}
-use Rattle.hpf_base.specs.declared.act.Act.TheVariants.{Local, Send, Take, Done}
+use Rattle.node_law.specs.declared.act.Act.{Act}
+use Rattle.node_law.specs.declared.act.Act.TheVariants.{Local, Send, Take, Done}
 
 -- the step functions of nodes N over letters M: what a node does next, its phase number, the node after a local
 -- step, the letter that it sends, the node after a send and after a take, and whether it awaits a letter

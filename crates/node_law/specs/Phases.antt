@@ -1,6 +1,6 @@
 -- Phases, and the lockstep run of nodes. `ns p` is the node at the number p, or None past the last node.
 use Rattle.std.specs.Prelude.{◌≡◌, ℕ, ◌+◌, ◌%◌, ◌^◌, ◌≤◌, IsTrue, List, [], ◌∷◌, ◌++◌, Option, Some, None}
-use Rattle.hpf_base.specs.NodeSteps.{NodeSteps, Move, Worked, Sent, Took, after, AreMovesOf, after_at, IsDoneAt, sent, taken}
+use Rattle.node_law.specs.NodeSteps.{NodeSteps, Move, Worked, Sent, Took, after, AreMovesOf, after_at, IsDoneAt, sent, taken}
 
 -- what one node does in one phase: its local steps and its sends, and then its takes
 pub record Part (M : Type 0) : Type 0 where

@@ -1,6 +1,6 @@
 //! What a node does next.
 
-use crate::node::NodeId;
+use hpf_base::NodeId;
 
 /// The next atomic step of a node.
 #[derive(Clone, Copy, Debug, PartialEq, Eq)]

@@ -1,0 +1,4 @@
+pub mod Cores
+pub mod NodeSteps
+pub mod Phases
+pub mod Reached
