@@ -80,14 +80,15 @@ pub record NestBreaks (text : List ℕ) (number : ℕ) (reason : Reason) : Type 
   pub read : AreLinesOf (logical_lines text) lines
   pub broken : IsNestBreach (length (physical_lines text)) lines number reason
 
--- the breaches of a text in four stages: of its lines, of their tokens, of each statement and directive alone, and of the
--- nest. The refusal is the first breach of the first stage that has one
-abbrev pub IsRefused : List ℕ → Refusal → Type 0
-IsRefused text r =
-    IsFirstBreach (IsLineBreach text) r
-    ⊎ (NoBreach (IsLineBreach text) × (IsFirstBreach (TokensBreak (logical_lines text)) r
-    ⊎ (NoBreach (TokensBreak (logical_lines text)) × (IsFirstBreach (FormsBreak (logical_lines text)) r
-    ⊎ (NoBreach (FormsBreak (logical_lines text)) × IsFirstBreach (NestBreaks text) r)))))
+-- the breaches of a text stand in four stages: of its lines, of their tokens, of each statement and directive alone, and of
+-- the nest. The text is refused for the first breach of the first stage that has one
+pub data IsRefused (text : List ℕ) (r : Refusal) : Type 0 where
+  by_lines : IsFirstBreach (IsLineBreach text) r → IsRefused text r
+  by_tokens : NoBreach (IsLineBreach text) → IsFirstBreach (TokensBreak (logical_lines text)) r → IsRefused text r
+  by_forms : NoBreach (IsLineBreach text) → NoBreach (TokensBreak (logical_lines text))
+      → IsFirstBreach (FormsBreak (logical_lines text)) r → IsRefused text r
+  by_nest : NoBreach (IsLineBreach text) → NoBreach (TokensBreak (logical_lines text)) → NoBreach (FormsBreak (logical_lines text))
+      → IsFirstBreach (NestBreaks text) r → IsRefused text r
 
 -- no stage has a breach
 pub record IsFine (text : List ℕ) : Type 0 where

@@ -1,6 +1,6 @@
 //! Reading a text as a program.
 
-ghost use Rattle.std.specs.Prelude.{◌≡◌, ◌*◌, ◌≤◌, All, IfOk, IfErr, OnOk, length};
+ghost use Rattle.std.specs.Prelude.{◌≤◌, IfOk, IfErr, OnOk, length};
 ghost use Rattle.hpf_base.specs.Refusal.{IsRefusalBy, NoBreach};
 ghost use Rattle.nest_rules.specs.Lines.{lines_of};
 ghost use Rattle.hpf_base.specs.Text.{lines_of as text_lines};
@@ -11,12 +11,11 @@ ghost use Rattle.nest_reader.specs.Views.{program_of};
 ghost use Rattle.hpf_reader.specs.ProgramText.{AreLinesOf, IsFine, IsProgramRefusal, IsProgramText, NestBreaks};
 
 use crate::forms::forms;
-use crate::line_split::line_count;
 use crate::scan::scan;
 use hpf_base::StaticError;
 use nest_reader::read_nest;
 use nest_rules::{Line, first_breach};
-use source_lines::logical_lines;
+use source_lines::{line_count, logical_lines};
 use std::alloc::Global;
 use syntax_tree::Tree;
 

@@ -1,6 +1,6 @@
 //! The tokens of all lines.
 
-ghost use Rattle.std.specs.Prelude.{◌≡◌, ◌*◌, ◌≤◌, All, IfErr, IfOk, OnOk, length};
+ghost use Rattle.std.specs.Prelude.{◌*◌, ◌≤◌, All, IfErr, IfOk, OnOk, length};
 ghost use Rattle.hpf_base.specs.Refusal.{IsRefusalBy, NoBreach};
 ghost use Rattle.nest_rules.specs.Firsts.{Firsts};
 ghost use Rattle.token_scan.specs.Tokens.{IsTokenBreach};

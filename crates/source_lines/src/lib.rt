@@ -21,5 +21,6 @@ mod token;
 
 pub use bytes::Bytes;
 pub use line::{LineKind, LogicalLine};
+pub use line_split::{first_line, line_count};
 pub use text::logical_lines;
 pub use token::{Token, TokenKind};
