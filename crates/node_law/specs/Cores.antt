@@ -3,7 +3,7 @@ use Rattle.std.specs.Prelude.{◌≡◌, ℕ, zero, suc, ◌==◌, ◌&&◌, Lis
 use Rattle.std.specs.List.{slice_get, All}
 use Rattle.node_law.specs.declared.act.Act.{Act}
 use Rattle.node_law.specs.declared.act.Act.TheVariants.{Local, Send, Take, Done}
-use Rattle.node_law.specs.NodeSteps.{NodeSteps, Move, Worked, Sent, Took, after}
+use Rattle.node_law.specs.NodeSteps.{NodeSteps, Move, Worked, Sent, Taken, node_after}
 
 -- the most letters that a queue holds
 abbrev pub capacity : ℕ
@@ -31,13 +31,13 @@ tail (x ∷ xs) = xs
 abbrev pub queue_after : {M : Type 0} → (ℕ → ℕ → List M) → ℕ → Move M → ℕ → ℕ → List M
 queue_after queue p Worked = queue
 queue_after queue p (Sent q m) = put queue p q (queue p q ++ (m ∷ []))
-queue_after queue p (Took q m) = put queue q p (tail (queue q p))
+queue_after queue p (Taken q m) = put queue q p (tail (queue q p))
 
 module _ {N M : Type 0} (S : NodeSteps N M) where
   -- the take of the front letter, if there is one
   abbrev pub take_of : ℕ → List M → Option (Move M)
   take_of q [] = None
-  take_of q (m ∷ ms) = Some (Took q m)
+  take_of q (m ∷ ms) = Some (Taken q m)
 
   -- the move that the node a at p can make where the queues are so
   abbrev pub move_by : (ℕ → ℕ → List M) → ℕ → N → Act → Option (Move M)
@@ -46,7 +46,7 @@ module _ {N M : Type 0} (S : NodeSteps N M) where
   move_by queue p a (Take q) = take_of q.0 (queue q.0 p)
   move_by queue p a Done = None
 
-  -- the same at a place among nodes
+  -- the same at a number, where there may be no node
   abbrev pub move_at : (ℕ → ℕ → List M) → ℕ → Option N → Option (Move M)
   move_at queue p None = None
   move_at queue p (Some a) = move_by queue p a (S.act a)
@@ -58,7 +58,7 @@ module _ {N M : Type 0} (S : NodeSteps N M) where
   -- the nodes after a move of the node p
   abbrev pub nodes_after : List N → ℕ → Move M → List N
   nodes_after [] p x = []
-  nodes_after (a ∷ rest) zero x = after S a x ∷ rest
+  nodes_after (a ∷ rest) zero x = node_after S a x ∷ rest
   nodes_after (a ∷ rest) (suc p) x = a ∷ nodes_after rest p x
 
   -- the core after a move of the node p, if there is one

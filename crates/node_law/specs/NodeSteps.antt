@@ -18,32 +18,32 @@ pub record NodeSteps (N M : Type 0) : Type 0 where
 pub data Move (M : Type 0) : Type 0 where
   Worked : Move M
   Sent : (target : ℕ) → (mail : M) → Move M
-  Took : (source : ℕ) → (mail : M) → Move M
+  Taken : (source : ℕ) → (mail : M) → Move M
 
 module _ {N M : Type 0} (S : NodeSteps N M) where
   -- the node after a move
-  abbrev pub after : N → Move M → N
-  after a Worked = S.after_local a
-  after a (Sent q m) = S.after_send a
-  after a (Took p m) = S.after_take m a
+  abbrev pub node_after : N → Move M → N
+  node_after a Worked = S.after_local a
+  node_after a (Sent q m) = S.after_send a
+  node_after a (Taken p m) = S.after_take m a
 
   -- the move is the one that the node's act names, and a letter sent is the node's
   abbrev pub IsMoveOf : N → Move M → Type 0
   IsMoveOf a Worked = S.act a ≡ Local
   IsMoveOf a (Sent q m) = (S.act a ≡ Send (record { 0 = q })) × (m ≡ S.letter a)
-  IsMoveOf a (Took p m) = S.act a ≡ Take (record { 0 = p })
+  IsMoveOf a (Taken p m) = S.act a ≡ Take (record { 0 = p })
 
   -- the node after these moves, one after another
   abbrev pub after_all : N → List (Move M) → N
   after_all a [] = a
-  after_all a (x ∷ xs) = after_all (after a x) xs
+  after_all a (x ∷ xs) = after_all (node_after a x) xs
 
   -- each of these moves is the one that the node's act names then
   abbrev pub AreMovesOf : N → List (Move M) → Type 0
   AreMovesOf a [] = Unit {0}
-  AreMovesOf a (x ∷ xs) = IsMoveOf a x × AreMovesOf (after a x) xs
+  AreMovesOf a (x ∷ xs) = IsMoveOf a x × AreMovesOf (node_after a x) xs
 
-  -- the same at a place among nodes, where there may be none: then there are no moves
+  -- the same at a number, where there may be no node: then there are no moves
   abbrev pub AreMovesAt : Option N → List (Move M) → Type 0
   AreMovesAt None xs = xs ≡ []
   AreMovesAt (Some a) xs = AreMovesOf a xs
@@ -61,14 +61,14 @@ abbrev pub sent : {M : Type 0} → ℕ → List (Move M) → List M
 sent q [] = []
 sent q (Worked ∷ xs) = sent q xs
 sent q (Sent t m ∷ xs) = if t == q then m ∷ sent q xs else sent q xs
-sent q (Took t m ∷ xs) = sent q xs
+sent q (Taken t m ∷ xs) = sent q xs
 
 -- the letters that moves take from a source, in order
 abbrev pub taken : {M : Type 0} → ℕ → List (Move M) → List M
 taken p [] = []
 taken p (Worked ∷ xs) = taken p xs
 taken p (Sent t m ∷ xs) = taken p xs
-taken p (Took t m ∷ xs) = if t == p then m ∷ taken p xs else taken p xs
+taken p (Taken t m ∷ xs) = if t == p then m ∷ taken p xs else taken p xs
 
 -- the first list is a prefix of the second
 abbrev pub IsPrefix : {A : Type 0} → List A → List A → Type 0

@@ -61,7 +61,7 @@ module _ {N M : Type 0} (S : NodeSteps N M) where
 
   -- from old, a core step of the node p leads to new and answers so
   pub record IsStep (old : CoreState N M) (p : ℕ) (stepped : Stepped) (new : CoreState N M) : Type 0 where
-    pub after : new ≡ core_step S old p
+    pub leads : new ≡ core_step S old p
     pub answers : stepped ≡ answer old p
 
 -- this many moves are left

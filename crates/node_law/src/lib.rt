@@ -11,12 +11,14 @@
 mod act;
 mod laws;
 mod node;
-mod pieces;
+mod segments;
 mod stepped;
 
 pub use act::Act;
 pub use hpf_base::NodeId;
-pub use laws::{confluence, law_of_ends, law_of_prefixes, never_stuck, one_lockstep};
+pub use laws::{
+    confluence, law_of_ends, law_of_prefixes, letters_to_others, never_stuck, one_lockstep,
+};
 pub use node::PhasedNode;
-pub use pieces::{lockstep_of_pieces, pieces_joined};
+pub use segments::{lockstep_of_segments, segments_joined};
 pub use stepped::Stepped;

@@ -15,7 +15,7 @@ use Rattle.node_law.specs.declared.act.Act.TheVariants.{Local, Send, Take, Done}
 use Rattle.hpf_base.specs.declared.node.NodeId.{NodeId}
 use Rattle.node_law.specs.declared.stepped.Stepped.{Stepped}
 use Rattle.node_law.specs.declared.stepped.Stepped.TheVariants.{Moved, NotReady, Ended}
-use Rattle.node_law.specs.NodeSteps.{NodeSteps, Move, Worked, Sent, Took, after}
+use Rattle.node_law.specs.NodeSteps.{NodeSteps, Move, Worked, Sent, Taken, node_after}
 use Rattle.node_law.specs.Cores.{capacity, CoreState, start, put, tail, queue_after, take_of, move_by, move_at, moved, core_move, core_step, made_in, nodes_after}
 use Rattle.node_law.specs.Reached.{IsStep, answer_by, unmoved}
 use Rattle.node_core.specs.CoreLists.{pair_queue, CoreLists, core_of, IsCore}
@@ -23,12 +23,12 @@ use Rattle.node_law.proofs.History.{IsHistory, history-reached}
 use Rattle.node_law.proofs.MovesLeft.{reached-step}
 use Rattle.node_law.proofs.NextMove.{target-in, source-in, awaited-in}
 
--- the place of a pair
-pub place-in : (n p q : ℕ) → p < n → q < n → p * n + q < n * n
-place-in n p q hp hq = mul-add-lt p n q n hp hq
+-- the index of the queue of a pair
+pub index-in : (n p q : ℕ) → p < n → q < n → p * n + q < n * n
+index-in n p q hp hq = mul-add-lt p n q n hp hq
 
-pub place-same : (n p q s t : ℕ) → q < n → t < n → p * n + q ≡ s * n + t → (p ≡ s) × (q ≡ t)
-place-same n p q s t hq ht e =
+pub index-same : (n p q s t : ℕ) → q < n → t < n → p * n + q ≡ s * n + t → (p ≡ s) × (q ≡ t)
+index-same n p q s t hq ht e =
     elim (cases_order p s) [
       | inl h ↦ (h, (let k : p * n ≡ s * n = rw h refl in omega arith))
       | inr h ↦ elim h [
@@ -46,15 +46,15 @@ pair_queue-set {M} n queues p q v e hp hq = fun_ext (λ s. fun_ext (λ t. at s t
           | inl lt ↦ elim (eqb_tells p s) [
             | inl ps ↦ elim (eqb_tells q t) [
               | inl qt ↦
-                  (let place : p * n + q < length queues = rw e (place-in n p q hp hq) in
-                  let f : get_or (set queues (p * n + q) v) (s * n + t) [] ≡ v = rw (← ps.1, ← qt.1) (get_or-set_same queues (p * n + q) v [] place) in
+                  (let index : p * n + q < length queues = rw e (index-in n p q hp hq) in
+                  let f : get_or (set queues (p * n + q) v) (s * n + t) [] ≡ v = rw (← ps.1, ← qt.1) (get_or-set_same queues (p * n + q) v [] index) in
                   rw (lt-ltb t n lt, ps.0, qt.0) f)
               | inr qt ↦
-                  (let d : s * n + t ≢ p * n + q = λ h. qt.1 (sym (place-same n s t p q lt hq h).1) in
+                  (let d : s * n + t ≢ p * n + q = λ h. qt.1 (sym (index-same n s t p q lt hq h).1) in
                   rw (lt-ltb t n lt, ps.0, qt.0) (get_or-set_other queues (p * n + q) (s * n + t) v [] d))
             ]
             | inr ps ↦
-                (let d : s * n + t ≢ p * n + q = λ h. ps.1 (sym (place-same n s t p q lt hq h).0) in
+                (let d : s * n + t ≢ p * n + q = λ h. ps.1 (sym (index-same n s t p q lt hq h).0) in
                 rw (lt-ltb t n lt, ps.0) (get_or-set_other queues (p * n + q) (s * n + t) v [] d))
           ]
           | inr ge ↦
@@ -63,7 +63,7 @@ pair_queue-set {M} n queues p q v e hp hq = fun_ext (λ s. fun_ext (λ t. at s t
         ]
 
 module _ {N M : Type 0} (S : NodeSteps N M) where
-  pub nodes_after-set : (ns : List N) (p : ℕ) (x : Move M) (a : N) → slice_get ns p ≡ Some a → nodes_after S ns p x ≡ set ns p (after S a x)
+  pub nodes_after-set : (ns : List N) (p : ℕ) (x : Move M) (a : N) → slice_get ns p ≡ Some a → nodes_after S ns p x ≡ set ns p (node_after S a x)
   nodes_after-set [] p x a h = refl
   nodes_after-set (b ∷ ns) zero x a h = let e : b ≡ a = cc in rw e refl
   nodes_after-set (b ∷ ns) (suc p) x a h = ap (λ (l : List N). b ∷ l) (nodes_after-set ns p x a h)
@@ -86,21 +86,21 @@ module _ {N M : Type 0} (S : NodeSteps N M) where
       core = record {
         pairs = rw (ln, lq) ok.pairs;
         few = rw ln ok.few;
-        reached = rw step.after (reached-step S (core_of c) p ok.reached);
+        reached = rw step.leads (reached-step S (core_of c) p ok.reached);
       };
     }
 
     move-at : {o : Option N} {act : Act} → slice_get c.nodes p ≡ o → S.act a ≡ act → core_move S (core_of c) p ≡ move_by S (core_of c).queue p a act
     move-at e act = ap (move_at S (core_of c).queue p) is ∙ ap (move_by S (core_of c).queue p a) act
 
-    place-p : p < length c.nodes
-    place-p = slice_get_within c.nodes p a is
+    index-p : p < length c.nodes
+    index-p = slice_get_within c.nodes p a is
 
     pub local-step : (b : N) → S.act a ≡ Local → b ≡ S.after_local a → StepTo Moved (record { nodes = set c.nodes p b; queues = c.queues })
     local-step b act e =
         kept Moved (record { nodes = set c.nodes p b; queues = c.queues }) (length-set c.nodes p b) refl
         (record {
-          after = rw (is, act, nodes_after-set c.nodes p Worked a is, length-set, e) refl;
+          leads = rw (is, act, nodes_after-set c.nodes p Worked a is, length-set, e) refl;
           answers = rw (is, act) refl;
         })
 
@@ -121,17 +121,17 @@ module _ {N M : Type 0} (S : NodeSteps N M) where
     read s t lt = rw (lt-ltb t (length c.nodes) lt) refl
 
     -- the places that a send and a take use
-    pub target-place : (q : NodeId) → S.act a ≡ Send q → p * length c.nodes + q.0 < length c.queues
-    target-place q act = rw ok.pairs (place-in (length c.nodes) p q.0 place-p (target q act))
+    pub target-index : (q : NodeId) → S.act a ≡ Send q → p * length c.nodes + q.0 < length c.queues
+    target-index q act = rw ok.pairs (index-in (length c.nodes) p q.0 index-p (target q act))
 
-    pub source-place : (q : NodeId) → S.act a ≡ Take q → q.0 * length c.nodes + p < length c.queues
-    source-place q act = rw ok.pairs (place-in (length c.nodes) q.0 p (source q act) place-p)
+    pub source-index : (q : NodeId) → S.act a ≡ Take q → q.0 * length c.nodes + p < length c.queues
+    source-index q act = rw ok.pairs (index-in (length c.nodes) q.0 p (source q act) index-p)
 
-    pub awaited-place : (q : NodeId) (m : M) (letters : List M) → S.act a ≡ Take q → get_or c.queues (q.0 * length c.nodes + p) [] ≡ m ∷ letters → IsTrue (S.awaits a m)
-    awaited-place q m letters act f = awaited-in S ok.reached.from ok.reached.run (core_of c) H history p a q m letters is act (read q.0 p place-p ∙ f)
+    pub awaited-index : (q : NodeId) (m : M) (letters : List M) → S.act a ≡ Take q → get_or c.queues (q.0 * length c.nodes + p) [] ≡ m ∷ letters → IsTrue (S.awaits a m)
+    awaited-index q m letters act f = awaited-in S ok.reached.from ok.reached.run (core_of c) H history p a q m letters is act (read q.0 p index-p ∙ f)
 
     -- the core after changes at the places of p and of a pair
-    changed : (b : N) (s t : ℕ) (letters : List M) (x : Move M) → s < length c.nodes → t < length c.nodes → b ≡ after S a x → put (pair_queue (length c.nodes) c.queues) s t letters ≡ queue_after (pair_queue (length c.nodes) c.queues) p x → core_move S (core_of c) p ≡ Some x → core_of (record { nodes = set c.nodes p b; queues = set c.queues (s * length c.nodes + t) letters }) ≡ core_step S (core_of c) p
+    changed : (b : N) (s t : ℕ) (letters : List M) (x : Move M) → s < length c.nodes → t < length c.nodes → b ≡ node_after S a x → put (pair_queue (length c.nodes) c.queues) s t letters ≡ queue_after (pair_queue (length c.nodes) c.queues) p x → core_move S (core_of c) p ≡ Some x → core_of (record { nodes = set c.nodes p b; queues = set c.queues (s * length c.nodes + t) letters }) ≡ core_step S (core_of c) p
     changed b s t letters x ls lt e f move =
         core-same (set c.nodes p b) (nodes_after S c.nodes p x) (pair_queue (length (set c.nodes p b)) (set c.queues (s * length c.nodes + t) letters)) (queue_after (pair_queue (length c.nodes) c.queues) p x)
         (rw e (sym (nodes_after-set c.nodes p x a is)))
@@ -147,24 +147,24 @@ module _ {N M : Type 0} (S : NodeSteps N M) where
         let letters_are : letters ≡ pair_queue (length c.nodes) c.queues p q.0 ++ (S.letter a ∷ []) = f ∙ ap (λ (l : List M). l ++ (S.letter a ∷ [])) (sym r) in
         kept Moved (record { nodes = set c.nodes p b; queues = set c.queues (p * length c.nodes + q.0) letters }) (length-set c.nodes p b) (length-set c.queues (p * length c.nodes + q.0) letters)
         (record {
-          after = changed b p q.0 letters x place-p (target q act) e (ap (put (pair_queue (length c.nodes) c.queues) p q.0) letters_are) move;
+          leads = changed b p q.0 letters x index-p (target q act) e (ap (put (pair_queue (length c.nodes) c.queues) p q.0) letters_are) move;
           answers = sym (ap (answer_by S (slice_get c.nodes p)) move);
         })
 
     pub take-step : (b : N) (q : NodeId) (m : M) (letters : List M) → S.act a ≡ Take q → b ≡ S.after_take m a → get_or c.queues (q.0 * length c.nodes + p) [] ≡ m ∷ letters → StepTo Moved (record { nodes = set c.nodes p b; queues = set c.queues (q.0 * length c.nodes + p) letters })
     take-step b q m letters act e f =
-        let x : Move M = Took q.0 m in
-        let r : pair_queue (length c.nodes) c.queues q.0 p ≡ m ∷ letters = read q.0 p place-p ∙ f in
+        let x : Move M = Taken q.0 m in
+        let r : pair_queue (length c.nodes) c.queues q.0 p ≡ m ∷ letters = read q.0 p index-p ∙ f in
         let move : core_move S (core_of c) p ≡ Some x = move-at is act ∙ ap (take_of S q.0) r in
         kept Moved (record { nodes = set c.nodes p b; queues = set c.queues (q.0 * length c.nodes + p) letters }) (length-set c.nodes p b) (length-set c.queues (q.0 * length c.nodes + p) letters)
         (record {
-          after = changed b q.0 p letters x (source q act) place-p e (ap (λ (l : List M). put (pair_queue (length c.nodes) c.queues) q.0 p (tail l)) (sym r)) move;
+          leads = changed b q.0 p letters x (source q act) index-p e (ap (λ (l : List M). put (pair_queue (length c.nodes) c.queues) q.0 p (tail l)) (sym r)) move;
           answers = sym (ap (answer_by S (slice_get c.nodes p)) move);
         })
 
     stays : (act : Act) → S.act a ≡ act → (stepped : Stepped) → stepped ≡ unmoved act → core_move S (core_of c) p ≡ None → IsStep S (core_of c) p stepped (core_of c)
     stays act e stepped k move = record {
-      after = sym (ap (moved S (core_of c) p) move);
+      leads = sym (ap (moved S (core_of c) p) move);
       answers = k ∙ sym (ap unmoved e) ∙ sym (ap (λ (o : Option N). answer_by S o None) is) ∙ sym (ap (answer_by S (slice_get c.nodes p)) move);
     }
 
@@ -177,7 +177,7 @@ module _ {N M : Type 0} (S : NodeSteps N M) where
 
     pub take-waits : (q : NodeId) → S.act a ≡ Take q → length (get_or c.queues (q.0 * length c.nodes + p) []) ≡ 0 → IsStep S (core_of c) p NotReady (core_of c)
     take-waits q act none =
-        let r : pair_queue (length c.nodes) c.queues q.0 p ≡ [] = read q.0 p place-p ∙ empty (get_or c.queues (q.0 * length c.nodes + p) []) none in
+        let r : pair_queue (length c.nodes) c.queues q.0 p ≡ [] = read q.0 p index-p ∙ empty (get_or c.queues (q.0 * length c.nodes + p) []) none in
         stays (Take q) act NotReady refl (move-at is act ∙ ap (take_of S q.0) r)
       where
         empty : (l : List M) → length l ≡ 0 → l ≡ []
@@ -203,7 +203,7 @@ module _ {N M : Type 0} (S : NodeSteps N M) where
         go false = refl
 
     pub take-enabled : (q : NodeId) (l : List M) (b : Bool) → S.act a ≡ Take q → get_or c.queues (q.0 * length c.nodes + p) [] ≡ l → (length l == 0) ≡ b → is_some (core_move S (core_of c) p) ≡ not b
-    take-enabled q l b act e f = ap is_some (move-at is act ∙ ap (take_of S q.0) (read q.0 p place-p ∙ e)) ∙ go l b f
+    take-enabled q l b act e f = ap is_some (move-at is act ∙ ap (take_of S q.0) (read q.0 p index-p ∙ e)) ∙ go l b f
       where
         go : (l : List M) (b : Bool) → (length l == 0) ≡ b → is_some (take_of S q.0 l) ≡ not b
         go [] b f = ap not f

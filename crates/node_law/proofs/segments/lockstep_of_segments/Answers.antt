@@ -1,5 +1,5 @@
 use Rattle.node_law.proofs.Joined.{lockstep-joined, lockstep-ended}
-use Rattle.node_law.proofs.pieces.lockstep_of_pieces.Goals as goal
+use Rattle.node_law.proofs.segments.lockstep_of_segments.Goals as goal
 
 pub returns-clause-rest : goal.returns-clause-rest
 returns-clause-rest g c n ns middle first second between last h k = lockstep-joined g.N.PhasedNode.steps first n ns middle second between last h k
