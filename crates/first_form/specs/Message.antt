@@ -1,4 +1,5 @@
--- Who sends what to whom for a statement: the owner of the left element computes (HPF 2.0, 1.3).
+-- Who sends what to whom for a statement: the owner of the left element computes, which is this
+-- compiler's choice.
 use Rattle.std.specs.Prelude.{ℕ, ◌+◌, ◌-◌, Bool, false, not, ◌&&◌, ◌==◌, List, filter}
 use Rattle.std.specs.List.{list_any}
 use Rattle.hpf_base.specs.declared.mapping.Line.{Line}
