@@ -18,8 +18,6 @@ mod lines;
 mod mapping;
 mod reading;
 mod refusal;
-#[cfg(test)]
-mod tests;
 
 pub use directive::DirectiveLine;
 pub use kind::Kind;

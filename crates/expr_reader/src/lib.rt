@@ -12,8 +12,6 @@ mod depth;
 mod laws;
 mod reading;
 mod signs;
-#[cfg(test)]
-mod tests;
 
 pub use depth::{MAX_DEPTH, fits};
 pub use laws::{front_exact, one_expression};

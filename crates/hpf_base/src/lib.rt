@@ -17,8 +17,6 @@ mod node;
 mod refusal;
 mod status;
 mod stepped;
-#[cfg(test)]
-mod tests;
 
 pub use act::Act;
 pub use grid::{Grid, MAX_NODES};

@@ -12,8 +12,6 @@ mod read;
 mod sink;
 mod source;
 mod standard;
-#[cfg(test)]
-mod tests;
 mod write;
 
 pub use gate::{Gate, OpenGate};

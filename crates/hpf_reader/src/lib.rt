@@ -14,12 +14,8 @@ mod laws;
 mod line_split;
 mod numeral;
 mod program;
-#[cfg(test)]
-mod program_tests;
 mod reading;
 mod scan;
-#[cfg(test)]
-mod tests;
 
 pub use first::{FirstError, FirstProgram, FirstStmt};
 pub use laws::one_tree;

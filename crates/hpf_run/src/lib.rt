@@ -17,8 +17,6 @@ mod piece;
 mod reply;
 mod section;
 mod store;
-#[cfg(test)]
-mod tests;
 mod top;
 mod words;
 

@@ -19,8 +19,6 @@ mod miss;
 mod names;
 mod parts;
 mod signs;
-#[cfg(test)]
-mod tests;
 
 pub use bounds::Bounds;
 pub use items::{ListedItems, item};

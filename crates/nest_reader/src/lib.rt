@@ -13,8 +13,6 @@ mod made;
 mod reading;
 mod steps;
 mod take;
-#[cfg(test)]
-mod tests;
 
 pub use laws::one_program;
 pub use reading::read_nest;

@@ -13,8 +13,6 @@ mod role;
 mod roles;
 mod rules;
 mod seen;
-#[cfg(test)]
-mod tests;
 
 pub use breaches::first_breach;
 pub use firsts::{at_line, earlier};

@@ -13,8 +13,6 @@ mod op;
 mod reserved;
 mod statements;
 mod table;
-#[cfg(test)]
-mod tests;
 
 pub use dots::{DOT_WORDS, dot_word};
 pub use intrinsics::{INTRINSIC_WORDS, intrinsic_word};

@@ -16,8 +16,6 @@ mod marks;
 mod parts;
 mod rows;
 mod statements;
-#[cfg(test)]
-mod tests;
 mod text;
 mod token;
 

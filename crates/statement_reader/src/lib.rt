@@ -20,8 +20,6 @@ mod lists;
 mod parts;
 mod reading;
 mod statement;
-#[cfg(test)]
-mod tests;
 mod words;
 
 pub use answer::read_statement;

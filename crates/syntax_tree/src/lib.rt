@@ -13,8 +13,6 @@ mod names;
 mod operators;
 mod sign;
 mod stmt;
-#[cfg(test)]
-mod tests;
 
 pub use decl::{Bound, ConstDef, Decl, DeclKind, EndForm, Entity, IntegerDecl, Tree};
 pub use directive::{AlignSpec, Directive, DistSpec, Format, Source, Target};

@@ -10,8 +10,6 @@ mod line_tokens;
 mod number;
 mod piece;
 mod run;
-#[cfg(test)]
-mod tests;
 mod text;
 
 pub use line_tokens::tokens;
