@@ -1,0 +1,48 @@
+//! Which elements a node of the narrow form sends to which.
+
+use hpf_base::NodeId;
+use hpf_reader::FirstStmt;
+use hpf_run::{FirstNodes, first_message};
+use std::test::Fail;
+
+/// The blocks of ten elements on four nodes are 1:3, 4:6, 7:9 and 10, so a shift by one to the left sends the first
+/// element of each block to the node before.
+#[test]
+fn messages(rt: HostRuntime) -> Result<(), Fail> {
+    let shift = FirstStmt::Shift {
+        line: 4,
+        first: 1,
+        last: 9,
+        from: 2,
+        add: 1,
+    };
+    let show = FirstStmt::Show { line: 5, place: 9 };
+    for from in 0..4u32 {
+        for to in 0..4u32 {
+            if from != to {
+                let sent = first_message(rt.alloc(), 10, 4, &shift, NodeId(from), NodeId(to))?;
+                let want: &[u64] = match (from, to) {
+                    (1, 0) => &[4],
+                    (2, 1) => &[7],
+                    (3, 2) => &[10],
+                    _ => &[],
+                };
+                assert!(rt; sent.as_slice() == want);
+                let shown = first_message(rt.alloc(), 10, 4, &show, NodeId(from), NodeId(to))?;
+                let want: &[u64] = if from == 2 && to == 0 { &[9] } else { &[] };
+                assert!(rt; shown.as_slice() == want);
+            }
+        }
+    }
+    Ok(())
+}
+
+/// Nodes that were made hold zeros.
+#[test]
+fn nodes(rt: HostRuntime) -> Result<(), Fail> {
+    let mut nodes = FirstNodes::new(rt.alloc(), 5, 4)?;
+    let mut printed = Vec::new(rt.alloc());
+    nodes.run_stmt(&FirstStmt::Show { line: 3, place: 3 }, &mut printed)?;
+    assert!(rt; printed.as_slice() == b"0\n".as_slice());
+    Ok(())
+}

@@ -1,0 +1,52 @@
+//! Cases, as they stand in the input.
+
+use crate::stream::Stream;
+use std::alloc::{AllocError, Global};
+
+/// The words and the text as they are written, and how the three streams behave.
+#[derive(Drop)]
+pub struct Case {
+    pub words: String,
+    pub text: String,
+    pub source: Stream,
+    pub out: Stream,
+    pub err: Stream,
+}
+
+/// The word in front of a line, and what stands behind it.
+fn parted(line: &str) -> (&str, &str) {
+    line.split_once(' ').unwrap_or((line, ""))
+}
+
+impl Case {
+    /// The case that begins with a line; None where none does.
+    pub fn begin(alloc: Global, line: &str) -> Result<Option<Case>, AllocError> {
+        let ("words", words) = parted(line) else {
+            return Ok(None);
+        };
+        Ok(Some(Case {
+            words: String::from_str(alloc, words)?,
+            text: String::new(alloc),
+            source: Stream::new(alloc),
+            out: Stream::new(alloc),
+            err: Stream::new(alloc),
+        }))
+    }
+
+    /// Whether a line goes on with the case; what it says is taken up.
+    pub fn go_on(&mut self, line: &str) -> Result<bool, AllocError> {
+        if line.starts_with('|') {
+            self.text.push_str(line)?;
+            return Ok(true);
+        }
+        let (word, rest) = parted(line);
+        match word {
+            "text" => self.text.push_str(rest)?,
+            "source" => self.source.set(rest)?,
+            "out" => self.out.set(rest)?,
+            "err" => self.err.set(rest)?,
+            _ => return Ok(false),
+        }
+        Ok(true)
+    }
+}

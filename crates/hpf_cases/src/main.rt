@@ -1,0 +1,47 @@
+//! Tries the top call on cases: words, sources and sinks whose answers are known.
+//!
+//! Comes in: cases on standard input. Goes out: the same lines, and behind each case its answer: the status, how many
+//! bytes the source has left, and what standard output and standard error then hold. What holds in between: `words`
+//! begins a case, with the words of the command line behind it, a blank between two. These lines go on with it:
+//!
+//! - `text`: the source, written as `case_texts` says; on further lines that begin with a bar it goes on.
+//! - `source`, `out` or `err`: how that stream behaves. Behind `piece` stands how many bytes it gives or takes in a call, behind
+//!   `room` how many a sink holds at most, and behind `fails` the numbers of the calls that fail, from 1.
+//!
+//! Any other line ends it.
+#![tactic(auto)]
+
+mod answer;
+mod case;
+mod stream;
+
+use crate::answer::answer_to;
+use crate::case::Case;
+use std::io;
+use std::io::{BufRead, BufReader};
+
+/// Prints the answer to a case.
+fn print_answer(rt: &(impl Print + AllocGlobal), case: Option<Case>) -> io::Result<()> {
+    if let Some(case) = case {
+        print!(rt; "{}", answer_to(rt.alloc(), case)?)?;
+    }
+    Ok(())
+}
+
+fn main(rt: HostRuntime) -> io::Result<()> {
+    let alloc = rt.alloc();
+    let mut open: Option<Case> = None;
+    for line in BufReader::new(alloc, rt.reader())?.lines(alloc) {
+        let line = line?;
+        let goes_on = match &mut open {
+            Some(case) => case.go_on(line.as_str())?,
+            None => false,
+        };
+        if !goes_on {
+            print_answer(&rt, open.take())?;
+            open = Case::begin(alloc, line.as_str())?;
+        }
+        println!(rt; "{line}")?;
+    }
+    print_answer(&rt, open)
+}

@@ -1,0 +1,242 @@
+//! Statements, each on a line of its own with its number first. A part of a construct whose number the tree doesn't keep
+//! has none, and what is inside a statement stands two blanks further to the right.
+
+use crate::write_directive::write_distribution;
+use crate::write_expr::{write_expr, write_optional, write_ref};
+use crate::write_list::{write_comma, write_name, write_names};
+use case_texts::write_text;
+use std::alloc::AllocError;
+use std::fmt::Write;
+use syntax_tree::{Arm, DoLoop, Expr, Header, Item, Kind, Mark, Stmt};
+
+/// Writes statements, one behind the other, `depth` deep.
+#[cycle(statement)]
+pub fn write_block(out: &mut String, depth: usize, block: &[Stmt]) -> Result<(), AllocError> {
+    for stmt in block {
+        write_stmt(out, depth, stmt)?;
+    }
+    Ok(())
+}
+
+#[cycle(statement)]
+fn write_stmt(out: &mut String, depth: usize, stmt: &Stmt) -> Result<(), AllocError> {
+    match &stmt.what {
+        Kind::IfOne { cond, body } => {
+            write_number(out, depth, stmt.line)?;
+            write_condition(out, "IF ", cond, "\n")?;
+            write_stmt(out, depth.saturating_add(1), body)
+        }
+        Kind::If { arms, rest, glued } => {
+            write_arms(out, depth, stmt.line, arms)?;
+            if let Some(block) = rest {
+                write_word(out, depth, "ELSE\n")?;
+                write_block(out, depth.saturating_add(1), block)?;
+            }
+            write_end(out, depth, "IF", *glued)
+        }
+        Kind::Do(head) => write_loop(out, depth, stmt.line, head),
+        Kind::Where {
+            mask,
+            body,
+            rest,
+            one,
+            glued,
+        } => {
+            write_number(out, depth, stmt.line)?;
+            write_condition(out, "WHERE ", mask, "\n")?;
+            write_block(out, depth.saturating_add(1), body)?;
+            if let Some(block) = rest {
+                write_word(out, depth, "ELSEWHERE\n")?;
+                write_block(out, depth.saturating_add(1), block)?;
+            }
+            write_end_unless(out, *one, depth, "WHERE", *glued)
+        }
+        Kind::Forall {
+            axes,
+            mask,
+            body,
+            one,
+            glued,
+            marked,
+        } => {
+            if *marked {
+                write_word(out, depth, "INDEPENDENT\n")?;
+            }
+            write_number(out, depth, stmt.line)?;
+            write_forall(out, axes, mask)?;
+            write_block(out, depth.saturating_add(1), body)?;
+            write_end_unless(out, *one, depth, "FORALL", *glued)
+        }
+        what => {
+            write_number(out, depth, stmt.line)?;
+            write_action(out, what)
+        }
+    }
+}
+
+/// Writes the arms of an IF construct; the first one's number is written again where it isn't the construct's.
+#[cycle(statement)]
+fn write_arms(out: &mut String, depth: usize, line: u32, arms: &[Arm]) -> Result<(), AllocError> {
+    for (place, arm) in arms.iter().enumerate() {
+        let word = match (place, arm.glued) {
+            (0, _) => "IF ",
+            (_, true) => "ELSEIF ",
+            (_, false) => "ELSE IF ",
+        };
+        if place == 0 && arm.line != line {
+            write_number(out, depth, line)?;
+        }
+        write_number(out, depth, arm.line)?;
+        write_condition(out, word, &arm.cond, " THEN\n")?;
+        write_block(out, depth.saturating_add(1), &arm.body)?;
+    }
+    Ok(())
+}
+
+#[cycle(statement)]
+fn write_loop(out: &mut String, depth: usize, line: u32, head: &DoLoop) -> Result<(), AllocError> {
+    if let Some(mark) = &head.mark {
+        write_mark(out, depth, mark)?;
+    }
+    write_number(out, depth, line)?;
+    out.push_str("DO ")?;
+    write_name(out, &head.index)?;
+    out.push_str(" = ")?;
+    write_expr(out, &head.first)?;
+    out.push_str(", ")?;
+    write_expr(out, &head.last)?;
+    if head.step.is_some() {
+        write_optional(out, ", ", &head.step)?;
+    }
+    out.push_str("\n")?;
+    write_block(out, depth.saturating_add(1), &head.body)?;
+    write_end(out, depth, "DO", head.glued)
+}
+
+fn write_mark(out: &mut String, depth: usize, mark: &Mark) -> Result<(), AllocError> {
+    write_number(out, depth, mark.line)?;
+    out.push_str("INDEPENDENT")?;
+    if !mark.new.as_slice().is_empty() {
+        out.push_str(", NEW(")?;
+        write_names(out, mark.new.as_slice())?;
+        out.push_str(")")?;
+    }
+    if !mark.reduction.as_slice().is_empty() {
+        out.push_str(", REDUCTION(")?;
+        write_names(out, mark.reduction.as_slice())?;
+        out.push_str(")")?;
+    }
+    out.push_str("\n")
+}
+
+/// Writes a word that has no number.
+fn write_word(out: &mut String, depth: usize, word: &str) -> Result<(), AllocError> {
+    write_margin(out, depth)?;
+    out.push_str(word)
+}
+
+/// Writes FORALL, its indices and its mask.
+fn write_forall(out: &mut String, axes: &[Header], mask: &Option<Expr>) -> Result<(), AllocError> {
+    out.push_str("FORALL (")?;
+    for (place, axis) in axes.iter().enumerate() {
+        write_comma(out, place)?;
+        write_name(out, &axis.name)?;
+        out.push_str(" = ")?;
+        write_expr(out, &axis.first)?;
+        out.push_str(":")?;
+        write_expr(out, &axis.last)?;
+        if axis.step.is_some() {
+            write_optional(out, ":", &axis.step)?;
+        }
+    }
+    if mask.is_some() {
+        write_optional(out, ", ", mask)?;
+    }
+    out.push_str(")\n")
+}
+
+/// Writes a statement that has no others inside it.
+fn write_action(out: &mut String, what: &Kind) -> Result<(), AllocError> {
+    match what {
+        Kind::Assign { left, right } => {
+            write_ref(out, left)?;
+            out.push_str(" = ")?;
+            write_expr(out, right)?;
+        }
+        Kind::Print(items) => write_print(out, items)?,
+        Kind::Stop => out.push_str("STOP")?,
+        Kind::Exit => out.push_str("EXIT")?,
+        Kind::Cycle => out.push_str("CYCLE")?,
+        Kind::Continue => out.push_str("CONTINUE")?,
+        Kind::Redistribute(spec) => {
+            out.push_str("REDISTRIBUTE ")?;
+            write_distribution(out, spec)?;
+        }
+        _ => out.push_str("?")?,
+    }
+    out.push_str("\n")
+}
+
+/// Writes PRINT; a text stands between apostrophes as `case_texts` writes it.
+fn write_print(out: &mut String, items: &[Item]) -> Result<(), AllocError> {
+    out.push_str("PRINT *")?;
+    for item in items {
+        out.push_str(", ")?;
+        match item {
+            Item::Value(expr) => write_expr(out, expr)?,
+            Item::Text(text) => {
+                out.push_str("'")?;
+                write_text(out, text.as_slice())?;
+                out.push_str("'")?;
+            }
+        }
+    }
+    Ok(())
+}
+
+/// Writes a word, a condition or mask, and what stands behind it.
+fn write_condition(
+    out: &mut String,
+    word: &str,
+    cond: &Expr,
+    behind: &str,
+) -> Result<(), AllocError> {
+    out.push_str(word)?;
+    write_expr(out, cond)?;
+    out.push_str(behind)
+}
+
+/// Writes the last line of a construct.
+fn write_end(out: &mut String, depth: usize, word: &str, glued: bool) -> Result<(), AllocError> {
+    write_margin(out, depth)?;
+    let gap = if glued { "" } else { " " };
+    writeln!(out, "END{gap}{word}")
+}
+
+/// Writes the last line of a construct, which a statement in one line doesn't have.
+fn write_end_unless(
+    out: &mut String,
+    one: bool,
+    depth: usize,
+    word: &str,
+    glued: bool,
+) -> Result<(), AllocError> {
+    if one {
+        return Ok(());
+    }
+    write_end(out, depth, word, glued)
+}
+
+/// Writes the margin and the number of a line.
+fn write_number(out: &mut String, depth: usize, line: u32) -> Result<(), AllocError> {
+    write_margin(out, depth)?;
+    write!(out, "{line}: ")
+}
+
+fn write_margin(out: &mut String, depth: usize) -> Result<(), AllocError> {
+    out.push_str("  ")?;
+    for _ in 0..depth {
+        out.push_str("  ")?;
+    }
+    Ok(())
+}
