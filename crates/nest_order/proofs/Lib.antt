@@ -1,4 +1,4 @@
-mod MemoryLemmas
+mod StorageLemmas
 mod Parting
 mod Flattening
 mod Touching

@@ -1,5 +1,5 @@
 pub mod Turns
-pub mod Memory
+pub mod Storage
 pub mod Effect
 pub mod Orders
 pub mod Items

@@ -1,7 +1,7 @@
 //! A small nest on which the laws are seen to be met.
 
 ghost use Rattle.std.specs.Prelude.{◌≡◌, ℕ, ◌<◌, ◌≤◌, List, [], ◌∷◌, length, pos, Ok, Err};
-ghost use Rattle.nest_order.specs.Memory.{row};
+ghost use Rattle.nest_order.specs.Storage.{row_of};
 ghost use Rattle.nest_order.specs.Effect.{Fail};
 ghost use Rattle.nest_order.specs.Orders.{parted, kept, IsLeastKept};
 ghost use Rattle.nest_order.specs.Nest.{nest_effects, nest_act, plain_loops, IsParallel};
@@ -35,7 +35,7 @@ pub fn example_last_value()
     ensures plain { scalar_after (kept (nest_act interpretation 4 body) fine 3) 2 9 (pos 5) 3 ≡ pos 2 }
     ensures loops { observed_loops interpretation (note_scalar 2) body fine (pos 5) 3
         ≡ Ok (record {
-          memory = three 6 12 3 ∷ (pos 3 ∷ pos 2 ∷ pos 1 ∷ pos 4 ∷ []) ∷ three 3 2 5 ∷ three 6 4 2
+          storage = three 6 12 3 ∷ (pos 3 ∷ pos 2 ∷ pos 1 ∷ pos 4 ∷ []) ∷ three 3 2 5 ∷ three 6 4 2
               ∷ three 0 0 0 ∷ three 0 0 0 ∷ [];
           noted_so_far = pos 2;
         }) }
@@ -46,10 +46,10 @@ pub fn example_last_value()
 /// After the nest S is its entry value 100 with the fold of its copies.
 pub fn example_reduction()
     ensures copies { copies_of (unit_of Sum) (all_assigned Sum sums)
-        ≡ row (parted (nest_act interpretation 4 body) fine 3 9) 3 }
+        ≡ row_of (parted (nest_act interpretation 4 body) fine 3 9) 3 }
     ensures plain { plain_value (pos 100) (all_assigned Sum sums) ≡ pos 112 }
     ensures joined { joined Sum (pos 100)
-        (folded (joined Sum) (unit_of Sum) (row (parted (nest_act interpretation 4 body) fine 3 9) 3))
+        (folded (joined Sum) (unit_of Sum) (row_of (parted (nest_act interpretation 4 body) fine 3 9) 3))
         ≡ pos 112 }
 {}
 

@@ -1,16 +1,16 @@
 //! The order of parallel iterations: a nest taken apart means what its loops mean.
 //!
-//! Comes in: a memory of spots, what the parts of a nest do at its iterations, or the statements of each iteration, with
+//! Comes in: a storage of spots, what the parts of a nest do at its iterations, or the statements of each iteration, with
 //! their conditions and inner loops, and what these name. There is no program and no text here, and no code that runs.
 //! Goes out: laws, each the contract of a function with an empty body, over the definitions in `specs/`.
 //!
 //! What holds in between, from the bottom up:
 //!
 //! - `orders`: the law of fission over any acts of parts. Where no iteration stores what another one touches, the parts
-//!   may run one after another, each at all iterations: the plain order ends with the memory of the parted order, or with
+//!   may run one after another, each at all iterations: the plain order ends with the storage of the parted order, or with
 //!   the fault of the least key.
 //! - `items`: statements flatten to guarded parts that do the same, and what an iteration touches is listed for it.
-//! - `nest`: both together. The statements of a nest are acts of parts on a memory that also has the stored conditions, and
+//! - `nest`: both together. The statements of a nest are acts of parts on a storage that also has the stored conditions, and
 //!   where the lists of its iterations don't interfere, its plain loops end as the parted order does, and with its stores.
 //! - `last_value` and `reduction`: what the scalars are after the nest, by the copies that its iterations have of them.
 //! - `nest_index`: several loops are one count of iterations, the innermost fastest.

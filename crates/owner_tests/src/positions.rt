@@ -1,4 +1,6 @@
-use super::*;
+//! Owners of positions of a line (HPF 2.0, DISTRIBUTE).
+
+use distribution::{owned_count, owner, rank};
 use hpf_base::{Form, Line};
 
 #[test]

@@ -1,6 +1,6 @@
 use Rattle.hpf_base.specs.Mapping.{MapsInside}
-use Rattle.local_address.proofs.ElementLaws.{plane-elements}
-use Rattle.local_address.proofs.tests.ends_of.Goals as goal
+use Rattle.owner_tests.proofs.SmallArrays.{plane-elements}
+use Rattle.owner_tests.proofs.pieces.ends_of.Goals as goal
 
 pub new-requires-3-clause-inside : goal.new-requires-3-clause-inside
 new-requires-3-clause-inside c =

@@ -2,8 +2,8 @@ use Rattle.std.proofs.Common.{◌∷◌, [], ◌∙◌, ap}
 use Rattle.std.proofs.lemmas.Int.{to_z-of_z}
 use Rattle.std.specs.Int.{w64}
 use Rattle.hpf_base.specs.Mapping.{MapsInside}
-use Rattle.local_address.proofs.ElementLaws.{vector-elements}
-use Rattle.local_address.proofs.tests.owned_of.Goals as goal
+use Rattle.owner_tests.proofs.SmallArrays.{vector-elements}
+use Rattle.owner_tests.proofs.pieces.owned_of.Goals as goal
 
 pub new-requires-3-clause-inside : goal.new-requires-3-clause-inside
 new-requires-3-clause-inside c =

@@ -1,35 +1,16 @@
-ghost use Rattle.std.specs.Prelude.{◌≡◌, ◌≢◌, ◌<◌, ◌^◌, ◌∷◌, [], ℤ, pos, ◌≤ℤ◌, IfSome};
-ghost use Rattle.hpf_base.specs.ElementOrder.{product};
-ghost use Rattle.hpf_base.specs.declared.mapping.Form.TheVariants.{Whole};
-ghost use Rattle.hpf_base.specs.Mapping.{IsAlign, IsLine, IsMapping, MapsInside};
+//! Nodes' pieces of mapped arrays, in array-element order.
 
-use super::*;
-use crate::element::{element_count, nth_element};
-use hpf_base::{AlignDim, Form, Grid, Index, Line, MapDim, MapDims, Mapping, NodeId, Shape};
+ghost use Rattle.std.specs.Prelude.{◌≡◌, ◌<◌, ◌^◌, ◌∷◌, [], ℤ, pos, ◌≤ℤ◌};
+ghost use Rattle.hpf_base.specs.ElementOrder.{product};
+ghost use Rattle.hpf_base.specs.Mapping.{IsMapping, MapsInside};
+
+use crate::maps::{line_map, plane, strided};
+use hpf_base::{AlignDim, Form, Grid, Index, Line, MapDims, Mapping, NodeId, Shape};
+use local_address::Piece;
 use std::alloc::Global;
 use std::test::*;
 
-/// The mapping of an array that is aligned with a template of one dimension.
-fn line_map(alloc: Global, line: Line, align: AlignDim) -> Option<Mapping>
-    requires line { IsLine line }
-    requires distributed { line.form ≢ Whole }
-    requires align { IsAlign 1 align }
-    ensures valid { IfSome result (IsMapping 1) }
-    ensures grid { IfSome result (λ map. map.grid ≡ line.procs ∷ []) }
-    ensures dims { IfSome result (λ map. map.dims ≡ record { line = line; grid_dim = 0; align = align } ∷ []) }
-{
-    let entry = MapDim {
-        line,
-        grid_dim: 0,
-        align,
-    };
-    Some(Mapping {
-        grid: Grid::new(alloc, &[line.procs])?,
-        dims: MapDims::new(vec![in alloc; entry].ok()?),
-    })
-}
-
-/// What the node owns of a vector with the subscripts 1 to `extent`; None where an address isn't an element's place.
+/// What the node owns of a vector with the subscripts 1 to `extent`; None where an element's address isn't the one that it was read at.
 fn owned_of(alloc: Global, map: &Mapping, extent: i64, node: u32) -> Option<Vec<i64>>
     requires mapping { IsMapping 1 map.now }
     requires inside { (i : ℤ) → pos 1 ≤ℤ i → i ≤ℤ extent → MapsInside map.now (i ∷ []) }
@@ -43,9 +24,9 @@ fn owned_of(alloc: Global, map: &Mapping, extent: i64, node: u32) -> Option<Vec<
     };
     let piece = Piece::new(alloc, map, &shape, NodeId(node)).ok()?;
     let mut owned = Vec::new(alloc);
-    for place in 0..piece.len() {
-        let element = piece.element(place)?;
-        if piece.address(&element) != Some(place) {
+    for address in 0..piece.len() {
+        let element = piece.element(address)?;
+        if piece.address(&element) != Some(address) {
             return None;
         }
         owned.push(*element.numbers().first()?).ok()?;
@@ -78,18 +59,7 @@ fn cyclic_by_twos(rt: HostRuntime) -> Result<(), Fail> {
 
 #[test]
 fn strided_alignment(rt: HostRuntime) -> Result<(), Fail> {
-    let line = Line {
-        lower: 1,
-        extent: 15,
-        form: Form::Cyclic(3),
-        procs: 2,
-    };
-    let align = AlignDim::Linear {
-        dim: 0,
-        a: 2,
-        b: -1,
-    };
-    let map = line_map(rt.alloc(), line, align).ok_or("a mapping")?;
+    let map = strided(rt.alloc()).ok_or("a mapping")?;
     let first = owned_of(rt.alloc(), &map, 8, 0).ok_or("a piece")?;
     assert_eq!(rt; first.as_slice(), [1, 2, 4, 5, 7, 8].as_slice());
     let second = owned_of(rt.alloc(), &map, 8, 1).ok_or("a piece")?;
@@ -114,41 +84,6 @@ fn at_the_limits(rt: HostRuntime) -> Result<(), Fail> {
     let second = owned_of(rt.alloc(), &map, 130, 1).ok_or("a piece")?;
     assert_eq!(rt; second.as_slice(), [2, 66, 130].as_slice());
     Ok(())
-}
-
-/// The mapping of A(4,4) that is distributed (CYCLIC,BLOCK) on a grid of 2 by 2.
-fn plane(alloc: Global) -> Option<Mapping>
-    ensures valid { IfSome result (IsMapping 2) }
-    ensures grid { IfSome result (λ map. map.grid ≡ 2 ∷ 2 ∷ []) }
-    ensures inside { IfSome result (λ map. (i j : ℤ) → pos 1 ≤ℤ i → i ≤ℤ pos 4 → pos 1 ≤ℤ j → j ≤ℤ pos 4 → MapsInside map (i ∷ j ∷ [])) }
-{
-    let first = MapDim {
-        line: Line {
-            lower: 1,
-            extent: 4,
-            form: Form::Cyclic(1),
-            procs: 2,
-        },
-        grid_dim: 0,
-        align: AlignDim::Linear { dim: 0, a: 1, b: 0 },
-    };
-    let second = MapDim {
-        line: Line {
-            lower: 1,
-            extent: 4,
-            form: Form::Block(2),
-            procs: 2,
-        },
-        grid_dim: 1,
-        align: AlignDim::Linear { dim: 1, a: 1, b: 0 },
-    };
-    let mut dims = Vec::new(alloc);
-    dims.push(first).ok()?;
-    dims.push(second).ok()?;
-    Some(Mapping {
-        grid: Grid::new(alloc, &[2, 2])?,
-        dims: MapDims::new(dims),
-    })
 }
 
 /// The subscripts of the first and of the last element of A(4,4) that the node owns; None where it doesn't own four.
@@ -189,16 +124,30 @@ fn two_dimensions(rt: HostRuntime) -> Result<(), Fail> {
     Ok(())
 }
 
-#[test]
-fn first_subscript_fastest(rt: HostRuntime) -> Result<(), Fail> {
-    let shape = Shape {
-        lower: Index::new(rt.alloc(), &[0, 5]).ok_or("two numbers")?,
-        extent: Index::new(rt.alloc(), &[2, 3]).ok_or("two numbers")?,
+/// The element at each address of the array A(0:1,5:7), all of which one node owns.
+fn element_at(alloc: Global, address: usize) -> Option<[i64; 2]> {
+    let map = Mapping {
+        grid: Grid::new(alloc, &[1])?,
+        dims: MapDims::new(Vec::new(alloc)),
     };
-    assert_eq!(rt; element_count(&shape), 6);
-    for (number, element) in [(0, [0, 5]), (1, [1, 5]), (2, [0, 6]), (5, [1, 7])] {
-        let index = nth_element(rt.alloc(), &shape, number);
-        assert_eq!(rt; index.numbers(), element.as_slice());
+    let shape = Shape {
+        lower: Index::new(alloc, &[0, 5])?,
+        extent: Index::new(alloc, &[2, 3])?,
+    };
+    let piece = Piece::new(alloc, &map, &shape, NodeId(0)).ok()?;
+    let element = piece.element(address)?;
+    Some([*element.numbers().first()?, *element.numbers().get(1)?])
+}
+
+#[test]
+fn first_subscript_fastest(rt: HostRuntime) {
+    for (address, element) in [
+        (0, Some([0, 5])),
+        (1, Some([1, 5])),
+        (2, Some([0, 6])),
+        (5, Some([1, 7])),
+        (6, None),
+    ] {
+        assert_eq!(rt; element_at(rt.alloc(), address), element);
     }
-    Ok(())
 }
