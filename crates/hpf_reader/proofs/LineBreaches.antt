@@ -16,10 +16,10 @@ use Rattle.token_scan.specs.Tokens.{tokens}
 use Rattle.syntax_tree.specs.Lexeme.{lexemes}
 use Rattle.statement_reader.specs.Breaches.{IsStatementBreach}
 use Rattle.directive_reader.specs.Breach.{IsDirectiveBreach}
-use Rattle.nest_rules.specs.declared.line.Line.{Line as HeldLine}
-use Rattle.nest_rules.specs.Firsts.{Firsts, is_before, earlier}
-use Rattle.nest_rules.specs.Lines.{Line, line_of, lines_of}
-use Rattle.nest_rules.proofs.FirstBreaches.{first_both, first_same}
+use Rattle.nest_rules.specs.declared.program_line.ProgramLine.{ProgramLine as HeldLine}
+use Rattle.hpf_base.specs.FirstBreach.{IsFirstOrNone, is_before, earlier}
+use Rattle.nest_rules.specs.ProgramLine.{ProgramLine, line_of, lines_of}
+use Rattle.hpf_base.proofs.FirstBreaches.{first_both, first_same}
 use Rattle.hpf_reader.specs.ProgramText.{OneBreaks, IsLineOf, AreLinesOf, Added, FormBreaks, IsWrong, lexemes_of}
 
 -- an error of lines without a breach is want of memory
@@ -42,9 +42,9 @@ module _ (breach : LogicalLine → ℕ → Reason → Type 0) where
   more_from (k ∷ ls) l line reason (inr x) = ⊎_elim (λ y. inl (inr y)) (λ y. inr y) (more_from ls l line reason x)
 
   -- with a line more, the one at a place
-  pub first_more : (ls : List LogicalLine) (i : ℕ) (l : LogicalLine) (a b : Option Refusal) → i < length ls → l ≡ get_or ls i l → Firsts (OneBreaks breach (take i ls)) a → Firsts (breach l) b → Firsts (OneBreaks breach (take (i + 1) ls)) (earlier a b)
+  pub first_more : (ls : List LogicalLine) (i : ℕ) (l : LogicalLine) (a b : Option Refusal) → i < length ls → l ≡ get_or ls i l → IsFirstOrNone (OneBreaks breach (take i ls)) a → IsFirstOrNone (breach l) b → IsFirstOrNone (OneBreaks breach (take (i + 1) ls)) (earlier a b)
   first_more ls i l a b lt is h k =
-      subst (λ ls. Firsts (OneBreaks breach ls) (earlier a b)) (sym (take_more ls i l lt ∙ ap (λ l. take i ls ++ l ∷ []) (sym is)))
+      subst (λ ls. IsFirstOrNone (OneBreaks breach ls) (earlier a b)) (sym (take_more ls i l lt ∙ ap (λ l. take i ls ++ l ∷ []) (sym is)))
       (first_same _ _ (earlier a b) (more_to (take i ls) l) (more_from (take i ls) l) (first_both (OneBreaks breach (take i ls)) (breach l) a b h k))
 
   -- where no line has a breach, one of them hasn't

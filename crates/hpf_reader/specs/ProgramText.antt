@@ -15,11 +15,11 @@ use Rattle.token_scan.specs.Tokens.{tokens, IsTokenBreach}
 use Rattle.syntax_tree.specs.Lexeme.{Lexeme, lexemes}
 use Rattle.statement_reader.specs.Breaches.{IsStatement, IsStatementBreach}
 use Rattle.directive_reader.specs.Breach.{IsDirective, IsDirectiveBreach}
-use Rattle.nest_rules.specs.declared.line.Line.{Line as HeldLine}
-use Rattle.nest_rules.specs.Lines.{line_of, Line, What, Said, Directed}
+use Rattle.nest_rules.specs.declared.program_line.ProgramLine.{ProgramLine as HeldLine}
+use Rattle.nest_rules.specs.ProgramLine.{line_of, ProgramLine, LineContent, OfStatement, OfDirective}
 use Rattle.nest_rules.specs.Breaches.{IsNestBreach}
-use Rattle.nest_reader.specs.Program.{Program}
-use Rattle.nest_reader.specs.Printed.{IsSpelled}
+use Rattle.nest_reader.specs.SpelledProgram.{SpelledProgram}
+use Rattle.nest_reader.specs.ProgramLines.{IsSpelled}
 use Rattle.nest_reader.specs.Formed.{IsProgram}
 
 -- the lexemes of a logical line
@@ -27,16 +27,16 @@ abbrev pub lexemes_of : LogicalLine → List Lexeme
 lexemes_of l = lexemes (tokens l.bytes)
 
 -- the statement or the directive that lexemes are
-abbrev pub IsWhat : LineKind → List Lexeme → What → Type 0
-IsWhat line.Statement ts (Said form) = IsStatement ts form
-IsWhat line.Directive ts (Directed form) = IsDirective ts form
+abbrev pub IsWhat : LineKind → List Lexeme → LineContent → Type 0
+IsWhat line.Statement ts (OfStatement form) = IsStatement ts form
+IsWhat line.Directive ts (OfDirective form) = IsDirective ts form
 IsWhat kind ts what = ⊥
 
-abbrev pub IsLineOf : LogicalLine → Line → Type 0
+abbrev pub IsLineOf : LogicalLine → ProgramLine → Type 0
 IsLineOf l s = (s.number ≡ l.line) × IsWhat l.kind (lexemes_of l) s.what
 
 -- the logical lines are these statements and directives, in order
-abbrev pub AreLinesOf : List LogicalLine → List Line → Type 0
+abbrev pub AreLinesOf : List LogicalLine → List ProgramLine → Type 0
 AreLinesOf [] [] = Unit {0}
 AreLinesOf [] (s ∷ ss) = ⊥
 AreLinesOf (l ∷ ls) [] = ⊥
@@ -47,8 +47,8 @@ abbrev pub Added : LogicalLine → List HeldLine → List HeldLine → Type 0
 Added l before after = (s : HeldLine) × (after ≡ before ++ s ∷ []) × IsLineOf l (line_of s)
 
 -- the text reads as the program: its logical lines are statements and directives that spell it
-pub record IsProgramText (text : List ℕ) (p : Program) : Type 0 where
-  pub lines : List Line
+pub record IsProgramText (text : List ℕ) (p : SpelledProgram) : Type 0 where
+  pub lines : List ProgramLine
   pub read : AreLinesOf (logical_lines text) lines
   pub spelled : IsSpelled lines p
   pub formed : IsProgram p
@@ -76,7 +76,7 @@ FormsBreak ls number reason = OneBreaks FormBreaks ls number reason
 
 -- the lines are statements and directives, and one of them stands where it may not
 pub record NestBreaks (text : List ℕ) (number : ℕ) (reason : Reason) : Type 0 where
-  pub lines : List Line
+  pub lines : List ProgramLine
   pub read : AreLinesOf (logical_lines text) lines
   pub broken : IsNestBreach (length (physical_lines text)) lines number reason
 

@@ -2,14 +2,14 @@
 
 ghost use Rattle.std.specs.Prelude.{◌≡◌, ◌*◌, ◌≤◌, All, IfErr, IfNone, IfOk, OnOk, length};
 ghost use Rattle.hpf_base.specs.Refusal.{IsRefusalBy, NoBreach};
-ghost use Rattle.nest_rules.specs.Firsts.{Firsts};
-ghost use Rattle.nest_rules.specs.Lines.{line_of, lines_of};
+ghost use Rattle.hpf_base.specs.FirstBreach.{IsFirstOrNone};
+ghost use Rattle.nest_rules.specs.ProgramLine.{line_of, lines_of};
 ghost use Rattle.token_scan.specs.Tokens.{IsTokenBreach, tokens};
 ghost use Rattle.hpf_reader.specs.ProgramText.{Added, AreLinesOf, FormBreaks, FormsBreak, IsLineOf, TokensBreak};
 
 use directive_reader::read_directive;
 use hpf_base::{Refusal, StaticError};
-use nest_rules::{Line, What, earlier};
+use nest_rules::{ProgramLine, LineContent, earlier};
 use source_lines::{LineKind, LogicalLine, Token};
 use statement_reader::read_statement;
 use std::alloc::{AllocError, Global};
@@ -28,7 +28,7 @@ fn line_tokens(alloc: Global, line: &LogicalLine) -> Result<Vec<Token>, AllocErr
 }
 
 /// The statement or the directive that a line is.
-fn form(alloc: Global, line: &LogicalLine) -> Result<Line, StaticError>
+fn form(alloc: Global, line: &LogicalLine) -> Result<ProgramLine, StaticError>
     requires short { length line.now.bytes ≤ 40 * 133 }
     requires clean { NoBreach (IsTokenBreach line.now) }
     ensures read { IfOk result (λ s. IsLineOf line.now (line_of s)) }
@@ -39,16 +39,16 @@ fn form(alloc: Global, line: &LogicalLine) -> Result<Line, StaticError>
     let number = line.line;
     match line.kind {
         LineKind::Statement => match read_statement(alloc, number, &tokens) {
-            Ok(statement) => Ok(Line {
+            Ok(statement) => Ok(ProgramLine {
                 number,
-                what: What::Statement(statement),
+                what: LineContent::Statement(statement),
             }),
             Err(error) => Err(error),
         },
         LineKind::Directive => match read_directive(alloc, number, &tokens) {
-            Ok(directive) => Ok(Line {
+            Ok(directive) => Ok(ProgramLine {
                 number,
-                what: What::Directive(directive),
+                what: LineContent::Directive(directive),
             }),
             Err(error) => Err(error),
         },
@@ -56,7 +56,7 @@ fn form(alloc: Global, line: &LogicalLine) -> Result<Line, StaticError>
 }
 
 /// The statements and directives that lines are; else the refusal is that of the first one that is none.
-pub(crate) fn forms(alloc: Global, lines: &[LogicalLine]) -> Result<Vec<Line>, StaticError>
+pub(crate) fn forms(alloc: Global, lines: &[LogicalLine]) -> Result<Vec<ProgramLine>, StaticError>
     requires short { All (λ line. length line.bytes ≤ 40 * 133) lines.now }
     requires clean { NoBreach (TokensBreak lines.now) }
     ensures read { IfOk result (λ v. AreLinesOf lines.now (lines_of v.items)) }
@@ -78,11 +78,11 @@ pub(crate) fn forms(alloc: Global, lines: &[LogicalLine]) -> Result<Vec<Line>, S
 fn add_form(
     alloc: Global,
     line: &LogicalLine,
-    forms: &mut Vec<Line>,
+    forms: &mut Vec<ProgramLine>,
 ) -> Result<Option<Refusal>, AllocError>
     requires short { length line.now.bytes ≤ 40 * 133 }
     requires clean { NoBreach (IsTokenBreach line.now) }
-    ensures first { IfOk result (Firsts (FormBreaks line.now)) }
+    ensures first { IfOk result (IsFirstOrNone (FormBreaks line.now)) }
     ensures added { IfOk result (λ first. IfNone first (Added line.now forms.old.items forms.new.items)) }
 {
     match form(alloc, line) {

@@ -2,12 +2,12 @@
 
 ghost use Rattle.std.specs.Prelude.{◌≡◌, ◌*◌, ◌≤◌, All, IfOk, IfErr, OnOk, length};
 ghost use Rattle.hpf_base.specs.Refusal.{IsRefusalBy, NoBreach};
-ghost use Rattle.nest_rules.specs.Lines.{lines_of};
+ghost use Rattle.nest_rules.specs.ProgramLine.{lines_of};
 ghost use Rattle.hpf_base.specs.Text.{lines_of as text_lines};
 ghost use Rattle.source_lines.specs.Lines.{logical_lines};
-ghost use Rattle.nest_reader.specs.Printed.{IsSpelled};
+ghost use Rattle.nest_reader.specs.ProgramLines.{IsSpelled};
 ghost use Rattle.nest_reader.specs.Formed.{IsProgram};
-ghost use Rattle.nest_reader.specs.Views.{program_of};
+ghost use Rattle.nest_reader.specs.Views.{spelled_program};
 ghost use Rattle.hpf_reader.specs.ProgramText.{AreLinesOf, IsFine, IsProgramRefusal, IsProgramText, NestBreaks};
 
 use crate::forms::forms;
@@ -15,7 +15,7 @@ use crate::line_split::line_count;
 use crate::scan::scan;
 use hpf_base::StaticError;
 use nest_reader::read_nest;
-use nest_rules::{Line, first_breach};
+use nest_rules::{ProgramLine, first_breach};
 use source_lines::logical_lines;
 use std::alloc::Global;
 use syntax_tree::Tree;
@@ -33,7 +33,7 @@ use syntax_tree::Tree;
 ///
 /// `Memory` comes only where a growth was refused.
 pub fn read_program(alloc: Global, text: &[u8]) -> Result<Tree, StaticError>
-    ensures read { IfOk result (λ t. IsProgramText text.now (program_of t)) }
+    ensures read { IfOk result (λ t. IsProgramText text.now (spelled_program t)) }
     ensures fine { OnOk result (IsFine text.now) }
     ensures refused { IfErr result (IsProgramRefusal text.now) }
 {
@@ -52,11 +52,11 @@ pub fn read_program(alloc: Global, text: &[u8]) -> Result<Tree, StaticError>
 }
 
 /// The tree of a text whose lines are these statements and directives.
-fn nest(alloc: Global, text: &[u8], forms: Vec<Line>) -> Result<Tree, StaticError>
+fn nest(alloc: Global, text: &[u8], forms: Vec<ProgramLine>) -> Result<Tree, StaticError>
     requires few { length (text_lines text.now) ≤ 20000 }
     requires read { AreLinesOf (logical_lines text.now) (lines_of forms.items) }
-    ensures spelled { IfOk result (λ t. IsSpelled (lines_of forms.items) (program_of t)) }
-    ensures formed { IfOk result (λ t. IsProgram (program_of t)) }
+    ensures spelled { IfOk result (λ t. IsSpelled (lines_of forms.items) (spelled_program t)) }
+    ensures formed { IfOk result (λ t. IsProgram (spelled_program t)) }
     ensures fine { OnOk result (NoBreach (NestBreaks text.now)) }
     ensures refused { IfErr result (IsRefusalBy (NestBreaks text.now)) }
 {

@@ -2,7 +2,7 @@
 
 ghost use Rattle.std.specs.Prelude.{◌≡◌, ◌*◌, ◌≤◌, All, IfErr, IfOk, OnOk, length};
 ghost use Rattle.hpf_base.specs.Refusal.{IsRefusalBy, NoBreach};
-ghost use Rattle.nest_rules.specs.Firsts.{Firsts};
+ghost use Rattle.hpf_base.specs.FirstBreach.{IsFirstOrNone};
 ghost use Rattle.token_scan.specs.Tokens.{IsTokenBreach};
 ghost use Rattle.hpf_reader.specs.ProgramText.{TokensBreak};
 
@@ -15,7 +15,7 @@ use token_scan::tokens;
 /// Why a line isn't made of tokens, if it isn't.
 fn scan_line(alloc: Global, line: &LogicalLine) -> Result<Option<Refusal>, AllocError>
     requires { length line.now.bytes ≤ 40 * 133 }
-    ensures { IfOk result (Firsts (IsTokenBreach line.now)) }
+    ensures { IfOk result (IsFirstOrNone (IsTokenBreach line.now)) }
 {
     match tokens(alloc, line) {
         Ok(_) => Ok(None),

@@ -2,7 +2,7 @@ use Rattle.std.proofs.Common.{sym, subst, take, ◌+◌, ◌∙◌}
 use Rattle.std.specs.Prelude.{◌≡◌, Option, Some, None, IfNone}
 use Rattle.hpf_base.specs.declared.refusal.Refusal.{Refusal}
 use Rattle.token_scan.specs.Tokens.{IsTokenBreach}
-use Rattle.nest_rules.specs.Firsts.{Firsts}
+use Rattle.hpf_base.specs.FirstBreach.{IsFirstOrNone}
 use Rattle.hpf_reader.specs.ProgramText.{FormBreaks, FormsBreak}
 use Rattle.hpf_reader.proofs.LineBreaches.{added, first_more, none_both, one_clean}
 use Rattle.hpf_reader.proofs.forms.forms.Goals as goal
@@ -16,7 +16,7 @@ add_form-requires-clause-clean c = one_clean IsTokenBreach c.args.lines.now c.lo
 
 pub loop-line-preserved : goal.loop-line-preserved
 loop-line-preserved c = (
-  subst (λ o. Firsts (FormsBreak (take (c.loop-line.line-index + 1) c.args.lines.now)) o) (sym c.earlier-first.ensures)
+  subst (λ o. IsFirstOrNone (FormsBreak (take (c.loop-line.line-index + 1) c.args.lines.now)) o) (sym c.earlier-first.ensures)
       (first_more FormBreaks c.args.lines.now c.loop-line.line-index c.line-item.result c.loop-line.first c.in_ok-add_form.field-0 c.loop-line-test.true c.line-item.is c.loop-line.invariant.0 c.in_ok-add_form.ensures.first),
   λ e.
       let none = none_both c.loop-line.first c.in_ok-add_form.field-0 (sym c.earlier-first.ensures ∙ e) in
