@@ -5,9 +5,9 @@ use Rattle.hpf_base.specs.declared.refusal.Refusal.{Refusal}
 use Rattle.hpf_base.specs.declared.status.Status.TheVariants.{Done, Refused, TooLong, Usage, WriteFault}
 use Rattle.hpf_base.specs.declared.status.Status.{Status}
 use Rattle.hpf_ports.specs.Ports.{Gave, IsAtEnd, Rose, Took}
-use Rattle.hpf_reader.specs.FirstForm.{Program, ReadsAs}
+use Rattle.first_form.specs.Form.{Program, ReadsAs}
 use Rattle.hpf_reader.specs.ProgramText.{IsFine}
-use Rattle.array_meaning.specs.First.{printed_of}
+use Rattle.first_form.specs.Meaning.{printed_of}
 use Rattle.hpf_run.specs.Outcome.{is_done, is_refused, is_too_long, is_usage, means_memory, means_outcome, text_done, text_memory, text_refused, all_written, err_failed, out_failed, Delivered, Had, IsRefusal, IsReplyOf, Meant, reply_memory, reply_refused, Outcome, Port, TextMeant, refusal_line, source_limit, too_long_line, usage_line}
 use Rattle.hpf_run.specs.Words.{IsJob, IsNoJob}
 

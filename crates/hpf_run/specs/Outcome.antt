@@ -6,10 +6,10 @@ use Rattle.hpf_base.specs.declared.status.Status.{Status}
 use Rattle.hpf_base.specs.declared.status.Status.TheVariants.{Done, Refused, Usage, ReadFault, WriteFault, Memory, TooLong}
 use Rattle.hpf_base.specs.Refusal.{name_of, number_of}
 use Rattle.hpf_ports.specs.Ports.{Gave, IsAtEnd, Rose, Took}
-use Rattle.hpf_reader.specs.FirstForm.{Program, ReadsAs}
-use Rattle.hpf_reader.specs.FirstRefusal.{IsLeftOut}
+use Rattle.first_form.specs.Form.{Program, ReadsAs}
+use Rattle.first_form.specs.Refusal.{IsLeftOut}
 use Rattle.hpf_reader.specs.ProgramText.{IsFine, IsRefused}
-use Rattle.array_meaning.specs.First.{printed_of}
+use Rattle.first_form.specs.Meaning.{printed_of}
 use Rattle.hpf_run.specs.Words.{IsJob, IsNoJob}
 
 -- a status, and the bytes for standard output and standard error

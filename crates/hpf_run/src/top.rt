@@ -6,12 +6,12 @@ ghost use Rattle.hpf_reader.specs.ProgramText.{IsFine, IsProgramRefusal};
 ghost use Rattle.hpf_run.specs.Reply.{outcome_of};
 ghost use Rattle.hpf_run.specs.Words.{IsNoJob};
 
-use crate::first_run::run_first;
 use crate::reply::{Reply, refusal_text};
 use crate::words::nodes_of;
+use first_form::{FirstError, read_first, run_first};
 use hpf_base::{Reason, Refusal, StaticError, Status};
 use hpf_ports::{Gate, ReadAll, Sink, Source, read_all, write_all};
-use hpf_reader::{FirstError, read_first, read_program};
+use hpf_reader::read_program;
 use std::alloc::Global;
 
 /// The reply to a text that is refused.

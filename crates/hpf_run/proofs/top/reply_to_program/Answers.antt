@@ -1,6 +1,6 @@
 use Rattle.std.proofs.Common.{subst}
-use Rattle.hpf_reader.specs.FirstForm.{program_of}
-use Rattle.hpf_reader.specs.FirstRefusal.{IsCauseOf}
+use Rattle.first_form.specs.Form.{program_of}
+use Rattle.first_form.specs.Refusal.{IsCauseOf}
 use Rattle.hpf_run.specs.Reply.{outcome_of}
 use Rattle.hpf_run.specs.Outcome.{by_form, text_memory}
 use Rattle.hpf_run.proofs.TopLaws.{text-done, refused-meant}
