@@ -11,5 +11,5 @@ mod line_split;
 mod program;
 mod scan;
 
-pub use laws::one_tree;
+pub use laws::{one_program, one_tree};
 pub use program::read_program;

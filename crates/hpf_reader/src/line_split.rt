@@ -1,6 +1,7 @@
 //! Lines, one after another.
 
 ghost use Rattle.std.specs.Prelude.{◌≡◌, ◌≤◌, ◌==◌, length, MatchOption, position, [], ◌∷◌};
+ghost use Rattle.hpf_base.specs.declared.limits.TheConstants.{MAX_LINES};
 ghost use Rattle.hpf_base.specs.Text.{lines_of};
 
 /// The place of the first line feed.
@@ -28,7 +29,7 @@ pub(crate) fn next_line(text: &[u8]) -> Option<(&[u8], &[u8])>
 
 /// How many lines a text has.
 pub(crate) fn line_count(text: &[u8]) -> u32
-    requires { length (lines_of text.now) ≤ 20000 }
+    requires { length (lines_of text.now) ≤ MAX_LINES }
     ensures { result ≡ length (lines_of text.now) }
 {
     let mut count = 0;
