@@ -3,8 +3,11 @@ use Rattle.std.specs.Prelude.{ℕ, ◌+◌, ◌-◌, ◌==◌, nat_eq, nat_lt, n
 use Rattle.std.specs.Char.{is_ascii_control, to_ascii_uppercase}
 use Rattle.std.specs.List.{concat, ends_with, enumerate_from, list_all, list_any, prefix_len, starts_with, suffix_len}
 use Rattle.hpf_base.specs.Text.{lines_of}
-use Rattle.source_lines.specs.declared.rows.RowKind.{RowKind}
-use Rattle.source_lines.specs.declared.rows.RowKind.TheVariants.{Passed, Statement, Directive}
+use Rattle.hpf_base.specs.declared.limits.TheConstants.{MAX_LINE_BYTES}
+use Rattle.source_lines.specs.declared.line.LineKind.{LineKind}
+use Rattle.source_lines.specs.declared.line.LineKind.TheVariants as logical
+use Rattle.source_lines.specs.declared.physical_lines.PhysicalKind.{PhysicalKind}
+use Rattle.source_lines.specs.declared.physical_lines.PhysicalKind.TheVariants.{Passed, Statement, Directive}
 use Rattle.source_lines.specs.Cut.{cut}
 
 -- a carriage return at the end of a line belongs to the line's end
@@ -28,6 +31,10 @@ without_blanks_behind bytes = take (length bytes - suffix_len is_blank bytes) by
 -- the first bytes, blanks aside, are `!HPF$` in any case
 abbrev pub is_directive : List ℕ → Bool
 is_directive line = starts_with nat_eq (map to_ascii_uppercase (without_blanks line)) (codes "!HPF$")
+
+-- a line is of a directive or else of statements
+abbrev pub line_kind : List ℕ → LineKind
+line_kind line = if is_directive line then logical.Directive else logical.Statement
 
 -- what stands behind the five bytes of a directive line, and all of any other line
 abbrev pub content : List ℕ → List ℕ
@@ -65,12 +72,16 @@ is_control b = is_ascii_control b && not (b == 9)
 abbrev pub is_bad_text : ℕ → List ℕ → Bool
 is_bad_text delimiter bytes = not (ends_with nat_eq bytes (delimiter ∷ [])) || list_any is_control bytes
 
+-- `;` parts statements and may not stand in a directive
+abbrev pub is_barred : LineKind → ℕ → Bool
+is_barred logical.Directive b = b == 59
+is_barred logical.Statement b = false
+
 -- a part with a byte that may not stand there: a control byte, and outside of text constants a byte from 128 and, in a
 -- directive, `;`
-abbrev pub is_bad_part : Bool → List ℕ → Bool
-is_bad_part directive [] = false
-is_bad_part directive (b ∷ bytes) =
-    if is_delimiter b then is_bad_text b bytes else is_control b || nat_le 128 b || (directive && b == 59)
+abbrev pub is_bad_part : LineKind → List ℕ → Bool
+is_bad_part kind [] = false
+is_bad_part kind (b ∷ bytes) = if is_delimiter b then is_bad_text b bytes else is_control b || nat_le 128 b || is_barred kind b
 
 -- the only thing on the line is `&`
 abbrev pub is_lone_ampersand : List ℕ → Bool
@@ -78,21 +89,23 @@ is_lone_ampersand code = bytes_eq (without_blanks (without_blanks_behind code)) 
 
 -- the line breaks a rule, whatever stands on other lines
 abbrev pub is_bad : List ℕ → Bool
-is_bad line = nat_lt 132 (length line) || list_any (is_bad_part (is_directive line)) (parts (content line)) || is_lone_ampersand (code_of (content line))
+is_bad line =
+    nat_lt MAX_LINE_BYTES (length line) || list_any (is_bad_part (line_kind line)) (parts (content line)) || is_lone_ampersand (code_of (content line))
 
 -- a line that is blank or holds only a comment is passed over
-abbrev pub kind_of : List ℕ → RowKind
-kind_of line = if is_directive line then Directive else if list_all is_blank (code_of (content line)) then Passed else Statement
+abbrev pub kind_of : LineKind → List ℕ → PhysicalKind
+kind_of logical.Directive code = Directive
+kind_of logical.Statement code = if list_all is_blank code then Passed else Statement
 
 -- what the rules ask of a line: its number, from 1, and what stands on it
-pub record Row : Type 0 where
+pub record PhysicalLine : Type 0 where
   pub number : ℕ
-  pub kind : RowKind
+  pub kind : PhysicalKind
   pub code : List ℕ
   pub bad : Bool
 
-abbrev pub row_of : ℕ → List ℕ → Row
-row_of number line = record { number = number; kind = kind_of line; code = code_of (content line); bad = is_bad line }
+abbrev pub physical_line : ℕ → List ℕ → PhysicalLine
+physical_line number line = record { number = number; kind = kind_of (line_kind line) (code_of (content line)); code = code_of (content line); bad = is_bad line }
 
-abbrev pub rows_of : List ℕ → List Row
-rows_of text = map (λ x. row_of x.0 x.1) (enumerate_from 1 (physical_lines text))
+abbrev pub numbered_lines : List ℕ → List PhysicalLine
+numbered_lines text = map (λ x. physical_line x.0 x.1) (enumerate_from 1 (physical_lines text))
