@@ -1,1 +1,2 @@
 pub mod ProgramText
+pub mod OneMore

@@ -10,5 +10,5 @@ mod laws;
 mod program;
 mod scan;
 
-pub use laws::one_tree;
+pub use laws::{one_program, one_tree};
 pub use program::read_program;

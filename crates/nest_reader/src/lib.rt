@@ -6,13 +6,13 @@
 //! twice, and no other program has these lines.
 #![tactic(auto)]
 
-mod close;
+mod build;
+mod construct_end;
 mod draft;
+mod draft_step;
 mod laws;
-mod made;
-mod reading;
-mod steps;
-mod take;
+mod next_line;
+mod progress;
 
-pub use laws::one_program;
-pub use reading::read_nest;
+pub use laws::{one_meaning, one_program};
+pub use progress::read_nest;

@@ -49,10 +49,11 @@ abbrev pub items_of : List Item → Option (List Output)
 items_of [] = None
 items_of (i ∷ is) = Some (map item_of (i ∷ is))
 
--- END alone, or with PROGRAM and a name
+-- END alone, or with PROGRAM and a name; a name behind END alone is one that no token spells
 abbrev pub end_of : Bool → Option (List ℕ) → Option (Option (List ℕ))
 end_of true name = Some name
-end_of false name = None
+end_of false None = None
+end_of false (Some x) = Some (Some [])
 
 abbrev pub IsOfKind : Type 0
 IsOfKind = (k : Kind) × Value (grammar k)

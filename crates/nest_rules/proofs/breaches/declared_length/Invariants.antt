@@ -1,7 +1,7 @@
 use Rattle.std.proofs.Common.{◌≡◌, drop}
 use Rattle.nest_rules.specs.Breaches.{roles}
 use Rattle.nest_rules.specs.Found.{declared_length, declared_behind}
-use Rattle.nest_rules.specs.Lines.{lines_of}
+use Rattle.nest_rules.specs.ProgramLine.{lines_of}
 use Rattle.nest_rules.proofs.breaches.declared_length.Given as goal
 
 abbrev pub invariant-loop-i : goal.invariant-loop-i

@@ -1,8 +1,8 @@
 -- Each line is one more of those that the definition goes through.
 use Rattle.std.proofs.Common.{◌∙◌, subst}
 use Rattle.nest_rules.specs.Breaches.{IsNestBreach}
-use Rattle.nest_rules.specs.Firsts.{Firsts}
-use Rattle.nest_rules.specs.Lines.{lines_of}
+use Rattle.hpf_base.specs.FirstBreach.{IsFirstOrNone}
+use Rattle.nest_rules.specs.ProgramLine.{lines_of}
 use Rattle.nest_rules.proofs.Finding.{found, found_next, found_end, stated_before, declared_behind_line, declares_behind}
 use Rattle.nest_rules.proofs.breaches.first_breach.Goals as goal
 
@@ -22,6 +22,6 @@ loop-i-preserved c = (
 
 pub returns : goal.returns
 returns c =
-    subst (Firsts (IsNestBreach c.args.last (lines_of c.args.lines.now)))
+    subst (IsFirstOrNone (IsNestBreach c.args.last (lines_of c.args.lines.now)))
     (c.loop-i.invariant.0 ∙ found_end _ _ _ _ _ _ _ _ _ c.loop-i-test.false c.max.ensures c.end_reason.ensures c.at_line-2.ensures c.earlier.ensures)
     (found c.args.last (lines_of c.args.lines.now))
