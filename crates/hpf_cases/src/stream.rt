@@ -13,6 +13,24 @@ pub struct Stream {
     pub fails: Vec<u64>,
 }
 
+/// What a number says.
+#[derive(Clone, Copy)]
+enum Field {
+    Room,
+    Piece,
+    Fails,
+}
+
+/// What the numbers behind a word say; None behind any other word.
+fn field_of(word: &str) -> Option<Field> {
+    match word {
+        "room" => Some(Field::Room),
+        "piece" => Some(Field::Piece),
+        "fails" => Some(Field::Fails),
+        _ => None,
+    }
+}
+
 impl Stream {
     /// A stream that doesn't fail, with room and pieces that are larger than what most cases need.
     pub fn new(alloc: Global) -> Stream {
@@ -25,22 +43,22 @@ impl Stream {
 
     /// Takes up what a line says: words, each with its numbers behind it. Other words are passed over.
     pub fn set(&mut self, written: &str) -> Result<(), AllocError> {
-        let mut about = "";
+        let mut field = None;
         for word in written.split(' ') {
             match word.parse::<u64>() {
-                Ok(number) => self.set_one(about, number)?,
-                Err(_) => about = word,
+                Ok(number) => self.set_one(field, number)?,
+                Err(_) => field = field_of(word),
             }
         }
         Ok(())
     }
 
-    fn set_one(&mut self, about: &str, number: u64) -> Result<(), AllocError> {
-        match about {
-            "piece" => self.piece = number as usize,
-            "room" => self.room = number as usize,
-            "fails" => self.fails.push(number)?,
-            _ => {}
+    fn set_one(&mut self, field: Option<Field>, number: u64) -> Result<(), AllocError> {
+        match field {
+            Some(Field::Room) => self.room = number as usize,
+            Some(Field::Piece) => self.piece = number as usize,
+            Some(Field::Fails) => self.fails.push(number)?,
+            None => {}
         }
         Ok(())
     }
