@@ -1,0 +1,43 @@
+//! Words of a table at the front of bytes.
+
+ghost use Rattle.std.specs.Prelude.{◌≡◌, MatchOption};
+ghost use Rattle.op_tables.specs.Words.{code_in};
+ghost use Rattle.token_scan.specs.Pieces.{IsLongestWord, NoWordLonger, words_of};
+
+use op_tables::{dot_word, symbol};
+
+/// A table of words.
+#[derive(Clone, Copy)]
+pub(crate) enum Words {
+    /// The words between periods.
+    Dots,
+    /// The operators and delimiters without letters.
+    Symbols,
+}
+
+/// The most bytes of a word of these tables.
+pub(crate) const MAX_WORD_BYTES: usize = 7;
+
+/// The code of a word, if it is in the table.
+fn code_of(words: Words, word: &[u8]) -> Option<u16>
+    ensures { result ≡ code_in (words_of words) word.now }
+{
+    match words {
+        Words::Dots => dot_word(word),
+        Words::Symbols => symbol(word),
+    }
+}
+
+/// The length and the code of the longest front that is a word of the table.
+pub(crate) fn longest_word(words: Words, bytes: &[u8]) -> Option<(usize, u16)>
+    ensures { MatchOption result (NoWordLonger (words_of words) bytes.now 0) (λ x. IsLongestWord (words_of words) bytes.now x.0 x.1) }
+{
+    let mut len = bytes.len().min(MAX_WORD_BYTES);
+    while len > 0 {
+        if let Some(code) = code_of(words, &bytes[..len]) {
+            return Some((len, code));
+        }
+        len -= 1;
+    }
+    None
+}
