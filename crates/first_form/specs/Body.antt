@@ -1,5 +1,6 @@
 -- No public clause cites this file.
 -- The lines behind the directive, read one after another.
+use Rattle.hpf_base.specs.declared.limits.TheConstants.{MAX_LINES}
 use Rattle.std.specs.Prelude.{◌≡◌, ◌≢◌, ℕ, ◌+◌, ◌<◌, ◌≤◌, ◌⊎◌, List, [], ◌∷◌, ◌++◌, length}
 use Rattle.first_form.specs.declared.program.FirstError.{FirstError}
 use Rattle.first_form.specs.declared.program.FirstError.TheVariants.{LeftOut, Memory}
@@ -21,18 +22,18 @@ pub record ReadSoFar (name extent : ℕ) (lines rest : List (List ℕ)) (stmts :
   pub parts : lines ≡ body ++ rest
   pub stated : AreStatements name extent 3 body stmts
   pub counted : count ≡ 2 + length body
-  pub few : count ≤ 20000
+  pub few : count ≤ MAX_LINES
 
 -- the lines are the statements and END
 abbrev pub IsBody : (name extent : ℕ) → List (List ℕ) → List FirstStmt → Type 0
-IsBody name extent lines stmts = (count : ℕ) × ReadSoFar name extent lines (end_line ∷ []) stmts count × (count < 20000)
+IsBody name extent lines stmts = (count : ℕ) × ReadSoFar name extent lines (end_line ∷ []) stmts count × (count < MAX_LINES)
 
 -- reading stops before the lines that are left, and this number is answered
 abbrev pub StopsBefore : (name extent count : ℕ) → List (List ℕ) → ℕ → Type 0
 StopsBefore name extent count [] number = number ≡ count
 StopsBefore name extent count (line ∷ lines) number =
-    ((number ≡ count + 1) × ((20000 ≤ count) ⊎ ((IsSomeStatement name extent line → ⊥) × (line ≢ end_line))))
-    ⊎ ((number ≡ count + 2) × (line ≡ end_line) × (length lines ≢ 0) × (count < 20000))
+    ((number ≡ count + 1) × ((MAX_LINES ≤ count) ⊎ ((IsSomeStatement name extent line → ⊥) × (line ≢ end_line))))
+    ⊎ ((number ≡ count + 2) × (line ≡ end_line) × (length lines ≢ 0) × (count < MAX_LINES))
 
 -- why the lines are not read as statements and END
 abbrev pub IsBodyStop : (name extent : ℕ) → List (List ℕ) → FirstError → Type 0

@@ -1,4 +1,5 @@
 -- The texts of the first form: one array under BLOCK, filled, shifted and printed element by element.
+use Rattle.hpf_base.specs.declared.limits.TheConstants.{MAX_ELEMENTS, MAX_LINES}
 use Rattle.std.specs.Prelude.{◌≡◌, ℕ, ◌+◌, ◌≤◌, ℤ, pos, List, [], ◌∷◌, ◌++◌, length, codes, IsTrue}
 use Rattle.std.specs.Str.{all_ascii_digits}
 use Rattle.std.specs.Str.Parse.{digits_value}
@@ -45,7 +46,7 @@ pub record IsInside (extent first last : ℕ) : Type 0 where
 pub record IsDeclaration (line : List ℕ) (name extent : ℕ) : Type 0 where
   pub letter : IsArrayName name
   pub some : 1 ≤ extent
-  pub few : extent ≤ 1048576
+  pub few : extent ≤ MAX_ELEMENTS
   pub digits : List ℕ
   pub numeral : IsNumeral digits extent
   pub spelled : line ≡ codes "INTEGER " ++ spelled_element name digits
@@ -119,7 +120,7 @@ pub record AreLinesOf (lines : List (List ℕ)) (p : Program) : Type 0 where
   pub body : List (List ℕ)
   pub stated : AreStatements p.name p.extent 3 body p.stmts
   pub whole : lines ≡ declaration ∷ directive_of p.name ∷ body ++ end_line ∷ []
-  pub few : length lines ≤ 20000
+  pub few : length lines ≤ MAX_LINES
 
 -- the text reads as the program
 abbrev pub ReadsAs : List ℕ → Program → Type 0

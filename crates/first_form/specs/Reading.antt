@@ -1,5 +1,6 @@
 -- No public clause cites this file.
 -- Reading a line of the first form from left to right, each step with the bytes that are left.
+use Rattle.hpf_base.specs.declared.limits.TheConstants.{MAX_ELEMENTS}
 use Rattle.std.specs.Prelude.{◌≡◌, ℕ, ◌-◌, ◌==◌, ◌&&◌, nat_le, pos, List, [], ◌∷◌, length, take, drop, slice_get, codes, Option, Some, None, if◌then◌else◌}
 use Rattle.std.specs.List.{prefix_len}
 use Rattle.std.specs.Char.{is_ascii_digit, is_ascii_uppercase}
@@ -68,7 +69,7 @@ declaration_at line = do
   bytes ← after_text (codes "INTEGER ") line
   name ← slice_get bytes 0
   extent ← element_at name bytes
-  if is_ascii_uppercase name && nat_le 1 extent && nat_le extent 1048576 then Some (name, extent) else None
+  if is_ascii_uppercase name && nat_le 1 extent && nat_le extent MAX_ELEMENTS then Some (name, extent) else None
 
 -- `PRINT *, X(i)`
 unfoldable pub show_at : (name extent number : ℕ) → List ℕ → Option FirstStmt

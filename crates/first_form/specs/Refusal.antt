@@ -1,4 +1,5 @@
 -- Where a text stops being of the first form.
+use Rattle.hpf_base.specs.declared.limits.TheConstants.{MAX_LINES}
 use Rattle.std.specs.Prelude.{◌≡◌, ◌≢◌, ℕ, zero, suc, ◌+◌, ◌-◌, ◌<◌, ◌⊎◌, max, List, [], length, slice_index_or}
 use Rattle.hpf_base.specs.Text.{lines_of}
 use Rattle.first_form.specs.declared.program.FirstError.{FirstError}
@@ -21,7 +22,7 @@ Fits lines zero = (name extent : ℕ) × IsDeclaration (line_at lines 0) name ex
 Fits lines (suc zero) = (name extent : ℕ) × IsDeclaration (line_at lines 0) name extent × (line_at lines 1 ≡ directive_of name)
 Fits lines (suc (suc place)) = (name extent : ℕ) × IsDeclaration (line_at lines 0) name extent
     × (IsSomeStatement name extent (line_at lines (suc (suc place))) ⊎ (line_at lines (suc (suc place)) ≡ end_line))
-    × (line_at lines (suc place) ≢ end_line) × (suc (suc place) < 20000)
+    × (line_at lines (suc place) ≢ end_line) × (suc (suc place) < MAX_LINES)
 
 -- the first line that isn't what its place asks
 pub record IsFirstMisfit (lines : List (List ℕ)) (number : ℕ) : Type 0 where

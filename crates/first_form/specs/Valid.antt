@@ -1,4 +1,5 @@
 -- What a program of the first form keeps to.
+use Rattle.hpf_base.specs.declared.limits.TheConstants.{MAX_ELEMENTS}
 use Rattle.std.specs.Prelude.{ℕ, ◌+◌, ◌-◌, ◌≤◌}
 use Rattle.std.specs.List.{AllByRecursion}
 use Rattle.first_form.specs.declared.program.FirstStmt.{FirstStmt}
@@ -14,5 +15,5 @@ IsWithin extent (Show line place) = IsInside extent place place
 -- the array has from 1 to 1,048,576 elements, and each statement stays inside it
 pub record IsValid (p : Program) : Type 0 where
   pub some : 1 ≤ p.extent
-  pub few : p.extent ≤ 1048576
+  pub few : p.extent ≤ MAX_ELEMENTS
   pub within : AllByRecursion (IsWithin p.extent) p.stmts

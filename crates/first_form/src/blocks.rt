@@ -1,5 +1,6 @@
 //! One array dimension under BLOCK.
 
+ghost use Rattle.hpf_base.specs.declared.limits.TheConstants.{MAX_ELEMENTS, MAX_NODES};
 ghost use Rattle.std.specs.Prelude.{◌≡◌, ◌+◌, ◌*◌, ◌<◌, ◌≤◌, min};
 ghost use Rattle.hpf_base.specs.LocalOrder.{owned};
 ghost use Rattle.hpf_base.specs.Owner.{block_line, default_block};
@@ -14,20 +15,20 @@ pub struct Blocks {
     pub nodes: u32,
     pub size: u64,
     ghost some: { 1 ≤ extent },
-    ghost few: { extent ≤ 1048576 },
+    ghost few: { extent ≤ MAX_ELEMENTS },
     ghost some_nodes: { 1 ≤ nodes },
-    ghost few_nodes: { nodes ≤ 64 },
+    ghost few_nodes: { nodes ≤ MAX_NODES },
     ghost size_is: { size ≡ default_block extent nodes },
-    ghost small: { size ≤ 1048576 },
+    ghost small: { size ≤ MAX_ELEMENTS },
 }
 
 impl Blocks {
     /// The blocks where DISTRIBUTE names no size.
     pub fn new(extent: u64, nodes: u32) -> Blocks
         requires some { 1 ≤ extent }
-        requires few { extent ≤ 1048576 }
+        requires few { extent ≤ MAX_ELEMENTS }
         requires some_nodes { 1 ≤ nodes }
-        requires few_nodes { nodes ≤ 64 }
+        requires few_nodes { nodes ≤ MAX_NODES }
         ensures extent { result.extent ≡ extent }
         ensures nodes { result.nodes ≡ nodes }
     {

@@ -6,11 +6,10 @@ ghost use Rattle.first_form.specs.Form.{IsArrayName};
 ghost use Rattle.first_form.specs.Body.{IsFurther, IsBody, IsBodyStop};
 
 use crate::forms::{is_end, statement};
-use source_lines::first_line;
 use crate::program::{FirstError, FirstStmt};
+use hpf_base::MAX_LINES;
+use source_lines::first_line;
 use std::alloc::Global;
-
-const MOST_LINES: u32 = 20_000;
 
 /// What a line behind the directive is.
 #[derive(Clone, Copy)]
@@ -47,7 +46,7 @@ pub(crate) fn statements(
 {
     let mut stmts = Vec::new(alloc);
     let mut rest = text;
-    for count in 2..MOST_LINES {
+    for count in 2..MAX_LINES {
         let Some((line, after)) = first_line(rest) else {
             return Err(FirstError::LeftOut(count));
         };
@@ -60,8 +59,8 @@ pub(crate) fn statements(
         rest = after;
     }
     if rest.is_empty() {
-        Err(FirstError::LeftOut(MOST_LINES))
+        Err(FirstError::LeftOut(MAX_LINES))
     } else {
-        Err(FirstError::LeftOut(MOST_LINES + 1))
+        Err(FirstError::LeftOut(MAX_LINES + 1))
     }
 }

@@ -1,5 +1,6 @@
 //! The nodes of a program of the first form, and its run.
 
+ghost use Rattle.hpf_base.specs.declared.limits.TheConstants.{MAX_ELEMENTS, MAX_NODES};
 ghost use Rattle.std.specs.Prelude.{◌≡◌, ◌+◌, ◌<◌, ◌≤◌, ℤ, List, ◌++◌, length, replicate, pos, IfOk, OnOk};
 ghost use Rattle.hpf_base.specs.LocalOrder.{piece_of, pieces_of};
 ghost use Rattle.hpf_base.specs.Owner.{block_line};
@@ -26,13 +27,14 @@ pub struct FirstNodes {
 
 impl Model for FirstNodes {
     ghost use Rattle.std.specs.Prelude.{◌≤◌, length};
+    ghost use Rattle.hpf_base.specs.declared.limits.TheConstants.{MAX_ELEMENTS, MAX_NODES};
     ghost use Rattle.first_form.specs.Pieces.{Distributed};
 
     ghost Value = { Distributed };
 
     ghost view = { λ n. record { extent = n.extent; pieces = n.pieces.items } };
 
-    ghost invariant = { λ n. (1 ≤ n.extent) × (n.extent ≤ 1048576) × (1 ≤ length n.pieces.items) × (length n.pieces.items ≤ 64) };
+    ghost invariant = { λ n. (1 ≤ n.extent) × (n.extent ≤ MAX_ELEMENTS) × (1 ≤ length n.pieces.items) × (length n.pieces.items ≤ MAX_NODES) };
 }
 
 /// The piece of a node where every element is 0.
@@ -96,9 +98,9 @@ impl FirstNodes {
     /// So many nodes, each with its piece of an array of zeros.
     pub fn new(alloc: Global, extent: u64, nodes: u32) -> Result<FirstNodes, OutOfMemory>
         requires some { 1 ≤ extent }
-        requires few { extent ≤ 1048576 }
+        requires few { extent ≤ MAX_ELEMENTS }
         requires some_nodes { 1 ≤ nodes }
-        requires few_nodes { nodes ≤ 64 }
+        requires few_nodes { nodes ≤ MAX_NODES }
         ensures extent { IfOk result (λ all. all.extent ≡ extent) }
         ensures nodes { IfOk result (λ all. length all.pieces ≡ nodes) }
         ensures zeros { IfOk result (λ all. Holds all (replicate extent (pos 0))) }

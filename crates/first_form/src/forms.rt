@@ -6,8 +6,7 @@ ghost use Rattle.first_form.specs.Reading.{Sees, element_at, section_at, declara
 
 use crate::numeral::{after_text, number, whole_number};
 use crate::program::FirstStmt;
-
-const MOST_ELEMENTS: u64 = 1_048_576;
+use hpf_base::MAX_ELEMENTS;
 
 /// The place in `X(place)`, if that is all of the bytes.
 #[tactic(auto, unfolding(crate::specs::Reading::element_at))]
@@ -46,7 +45,7 @@ pub(crate) fn declaration(line: &[u8]) -> Option<(u8, u64)>
     let rest = after_text(b"INTEGER ", line)?;
     let name = *rest.first()?;
     let extent = element(name, rest)?;
-    if name.is_ascii_uppercase() && 1 <= extent && extent <= MOST_ELEMENTS {
+    if name.is_ascii_uppercase() && 1 <= extent && extent <= MAX_ELEMENTS {
         Some((name, extent))
     } else {
         None

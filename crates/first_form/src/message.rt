@@ -1,5 +1,6 @@
 //! What one node sends to another for a statement.
 
+ghost use Rattle.hpf_base.specs.declared.limits.TheConstants.{MAX_ELEMENTS, MAX_NODES};
 ghost use Rattle.std.specs.Prelude.{◌≡◌, ◌≢◌, ℕ, ◌+◌, ◌<◌, ◌≤◌, IfOk};
 ghost use Rattle.hpf_base.specs.Owner.{block_line};
 ghost use Rattle.hpf_base.specs.Positions.{in_section};
@@ -15,8 +16,8 @@ use std::alloc::Global;
 /// The positions that a section of the left side reads, where position `first` reads `from`.
 fn read_by(computed: Section, first: u64, from: u64) -> Section
     requires begins { first ≤ computed.first }
-    requires small { computed.last ≤ 1048576 }
-    requires from_small { from ≤ 1048576 }
+    requires small { computed.last ≤ MAX_ELEMENTS }
+    requires from_small { from ≤ MAX_ELEMENTS }
     ensures none { computed.last < computed.first → result ≡ record { first = 1; last = 0 } }
     ensures some { computed.first ≤ computed.last → (result.first + first ≡ from + computed.first) × (result.last + first ≡ from + computed.last) }
 {
@@ -92,8 +93,8 @@ pub fn first_message(
     to: NodeId,
 ) -> Result<Vec<u64>, OutOfMemory>
     requires some { 1 ≤ extent }
-    requires few { extent ≤ 1048576 }
-    requires few_nodes { nodes ≤ 64 }
+    requires few { extent ≤ MAX_ELEMENTS }
+    requires few_nodes { nodes ≤ MAX_NODES }
     requires from { from.0 < nodes }
     requires to { to.0 < nodes }
     requires apart { from ≢ to }

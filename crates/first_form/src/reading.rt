@@ -7,8 +7,8 @@ ghost use Rattle.first_form.specs.Valid.{IsValid};
 
 use crate::body::statements;
 use crate::forms::{declaration, is_directive};
-use source_lines::first_line;
 use crate::program::{FirstError, FirstProgram};
+use source_lines::first_line;
 use std::alloc::Global;
 
 /// The one program that the text reads as. Lines end at line feeds, and a last line feed opens no further line.

@@ -1,5 +1,6 @@
 //! The run of a program of the first form.
 
+ghost use Rattle.hpf_base.specs.declared.limits.TheConstants.{MAX_NODES};
 ghost use Rattle.std.specs.Prelude.{◌≡◌, ◌≤◌, IfOk};
 ghost use Rattle.first_form.specs.Meaning.{printed_of};
 ghost use Rattle.first_form.specs.Form.{program_of};
@@ -14,7 +15,7 @@ use std::alloc::Global;
 pub fn run_first(alloc: Global, program: &FirstProgram, nodes: u32) -> Result<Vec<u8>, OutOfMemory>
     requires valid { IsValid (program_of program.now) }
     requires some_nodes { 1 ≤ nodes }
-    requires few_nodes { nodes ≤ 64 }
+    requires few_nodes { nodes ≤ MAX_NODES }
     ensures { IfOk result (λ printed. printed.items ≡ printed_of (program_of program.now)) }
 {
     let mut all = FirstNodes::new(alloc, program.extent, nodes)?;

@@ -1,14 +1,12 @@
 //! Reading a source to its end.
 
 ghost use Rattle.std.specs.Prelude.{◌≡◌, ◌≢◌, ◌+◌, ◌<◌, ◌≤◌, List, ◌++◌, ℕ, length, take, IfOk, IsErrOf, OnErr, vec_len};
-ghost use Rattle.hpf_ports.specs.Ports.{Gave, IsAtEnd, Rose, max_source_bytes};
+ghost use Rattle.hpf_ports.specs.Ports.{Gave, IsAtEnd, Rose};
 
 use crate::source::{Failed, Source};
+use hpf_base::MAX_SOURCE_BYTES;
 use std::alloc::{AllocError, Global};
 use thiserror::Error;
-
-/// The greatest length of a source that is read, in bytes.
-pub const MAX_SOURCE_BYTES: usize = 1_048_576;
 
 // The most bytes that one call of a source is asked for.
 const CHUNK: usize = 65_536;
@@ -35,14 +33,14 @@ pub fn read_all<S: Source>(alloc: Global, src: &mut S) -> Result<Vec<u8>, ReadAl
     // All that was left, and no more is.
     ensures whole { IfOk result (λ text. Gave (S.left src.old) (S.left src.new) text.items) }
     ensures end { IfOk result (λ text. IsAtEnd (S.left src.new)) }
-    ensures short { IfOk result (λ text. length text.items ≤ max_source_bytes) }
+    ensures short { IfOk result (λ text. length text.items ≤ MAX_SOURCE_BYTES) }
 
     // A fault is answered only where the count rose, and `TooLong` exactly where a byte past the limit was taken.
     ensures fault { IsErrOf result ReadAll.Fault → Rose (S.faults src.old) (S.faults src.new) }
     ensures too_long { IsErrOf result ReadAll.TooLong
-        → (bytes : List ℕ) × (length bytes ≡ max_source_bytes + 1) × Gave (S.left src.old) (S.left src.new) bytes }
+        → (bytes : List ℕ) × (length bytes ≡ MAX_SOURCE_BYTES + 1) × Gave (S.left src.old) (S.left src.new) bytes }
     ensures in_time { OnErr result (result ≢ Err ReadAll.TooLong
-        → (bytes : List ℕ) × (length bytes ≤ max_source_bytes) × Gave (S.left src.old) (S.left src.new) bytes) }
+        → (bytes : List ℕ) × (length bytes ≤ MAX_SOURCE_BYTES) × Gave (S.left src.old) (S.left src.new) bytes) }
 
     ensures count { S.faults src.old ≤ S.faults src.new }
 {
@@ -76,11 +74,11 @@ fn read_piece<S: Source>(
     text: &mut Vec<u8>,
 ) -> Result<usize, ReadAll>
     requires some { 0 < length chunk.old }
-    requires short { vec_len text.old ≤ max_source_bytes }
+    requires short { vec_len text.old ≤ MAX_SOURCE_BYTES }
     ensures fits { IfOk result (λ n. n ≤ length chunk.new) }
     ensures gave { IfOk result (λ n. Gave (S.left src.old) (S.left src.new) (take n chunk.new)) }
     ensures text { IfOk result (λ n. text.new.items ≡ text.old.items ++ take n chunk.new) }
-    ensures limit { IfOk result (λ n. vec_len text.old + n ≤ max_source_bytes + 1) }
+    ensures limit { IfOk result (λ n. vec_len text.old + n ≤ MAX_SOURCE_BYTES + 1) }
     ensures end { IfOk result (λ n. n ≡ 0 → IsAtEnd (S.left src.old)) }
     ensures stays { OnErr result (S.left src.new ≡ S.left src.old) }
     ensures fault { IsErrOf result ReadAll.Fault → Rose (S.faults src.old) (S.faults src.new) }

@@ -4,16 +4,17 @@ use Rattle.std.proofs.lemmas.List.{append-nil, length-append, take_at}
 use Rattle.hpf_base.specs.declared.refusal.Refusal.{Refusal}
 use Rattle.hpf_base.specs.declared.status.Status.TheVariants.{Done, Refused, TooLong, Usage, WriteFault}
 use Rattle.hpf_base.specs.declared.status.Status.{Status}
-use Rattle.hpf_ports.specs.Ports.{Gave, IsAtEnd, Rose, Took, max_source_bytes}
+use Rattle.hpf_base.specs.declared.limits.TheConstants.{MAX_SOURCE_BYTES}
+use Rattle.hpf_ports.specs.Ports.{Gave, IsAtEnd, Rose, Took}
 use Rattle.first_form.specs.Form.{Program, ReadsAs}
-use Rattle.hpf_reader.specs.ProgramText.{IsFine}
+use Rattle.hpf_reader.specs.ProgramText.{HasNoBreach}
 use Rattle.first_form.specs.Meaning.{printed_of}
 use Rattle.hpf_run.specs.Outcome.{is_done, is_refused, is_too_long, is_usage, means_memory, means_outcome, all_written, err_failed, out_failed, Delivered, Had, IsRefusal, Meant, Outcome, Port, port, refusal_line, too_long_line, usage_line}
 use Rattle.hpf_run.specs.Reply.{IsReplyOf, TextMeant, reply_memory, reply_refused, text_done, text_memory, text_refused}
 use Rattle.hpf_run.specs.Words.{IsNoCommand, IsRunCommand}
 
 -- a text whose program prints the bytes
-pub text-done : (text bytes : List ℕ) (p : Program) → IsFine text → ReadsAs text p → bytes ≡ printed_of p → TextMeant text record { status = Done; out = bytes; err = [] }
+pub text-done : (text bytes : List ℕ) (p : Program) → HasNoBreach text → ReadsAs text p → bytes ≡ printed_of p → TextMeant text record { status = Done; out = bytes; err = [] }
 text-done text bytes p fine reads is =
     subst (λ b. TextMeant text record { status = Done; out = b; err = [] }) (sym is) (text_done fine p reads)
 
@@ -45,7 +46,7 @@ read_had (Some left) left' bytes gave end =
 
 -- what the text comes to is what the call means
 pub text-meant : (words : List (List ℕ)) (source source' : Port) (nodes : ℕ) (text : List ℕ) (o : Outcome) → IsRunCommand words nodes
-    → Gave source.bytes source'.bytes text → IsAtEnd source'.bytes → length text ≤ max_source_bytes → TextMeant text o → Meant words source source' o
+    → Gave source.bytes source'.bytes text → IsAtEnd source'.bytes → length text ≤ MAX_SOURCE_BYTES → TextMeant text o → Meant words source source' o
 text-meant words source source' nodes text o command gave end short (text_refused r is) =
     means_outcome text _ (read_had source.bytes source'.bytes text gave end) (is_refused nodes command short r is) (gave, end)
 text-meant words source source' nodes text o command gave end short (text_done fine p reads) =
@@ -54,7 +55,7 @@ text-meant words source source' nodes text o command gave end short text_memory 
 
 -- a source of which a byte past the limit was taken
 pub too_long-meant : (words : List (List ℕ)) (source source' : Port) (nodes : ℕ) (taken : List ℕ) → IsRunCommand words nodes
-    → length taken ≡ max_source_bytes + 1 → Gave source.bytes source'.bytes taken
+    → length taken ≡ MAX_SOURCE_BYTES + 1 → Gave source.bytes source'.bytes taken
     → Meant words source source' record { status = TooLong; out = []; err = too_long_line }
 too_long-meant words source source' nodes taken command long gave = cases source.bytes gave
   where
@@ -64,7 +65,7 @@ too_long-meant words source source' nodes taken command long gave = cases source
         means_outcome taken _ tt (is_too_long nodes command (omega arith)) given
     cases (Some left) given =
         let count : length left ≡ length taken + length given.0 = ap length given.2 ∙ length-append taken given.0 in
-        let front : take (max_source_bytes + 1) left ≡ taken = ap (take (max_source_bytes + 1)) given.2 ∙ take_at taken given.0 (max_source_bytes + 1) long in
+        let front : take (MAX_SOURCE_BYTES + 1) left ≡ taken = ap (take (MAX_SOURCE_BYTES + 1)) given.2 ∙ take_at taken given.0 (MAX_SOURCE_BYTES + 1) long in
         means_outcome left _ refl (is_too_long nodes command (omega arith)) (given.0, given.1, given.2 ∙ ap (λ l. l ++ given.0) (sym front))
 
 -- what is delivered, from what the writes of texts that are equal to an outcome's answer

@@ -5,10 +5,11 @@ use Rattle.hpf_base.specs.declared.refusal.Reason.TheVariants.{LeftOut}
 use Rattle.hpf_base.specs.declared.status.Status.{Status}
 use Rattle.hpf_base.specs.declared.status.Status.TheVariants.{Done, Refused, Usage, ReadFault, WriteFault, Memory, TooLong}
 use Rattle.hpf_base.specs.Refusal.{name_of, number_of}
-use Rattle.hpf_ports.specs.Ports.{Gave, IsAtEnd, Rose, Took, max_source_bytes}
+use Rattle.hpf_base.specs.declared.limits.TheConstants.{MAX_SOURCE_BYTES}
+use Rattle.hpf_ports.specs.Ports.{Gave, IsAtEnd, Rose, Took}
 use Rattle.first_form.specs.Form.{Program, ReadsAs}
 use Rattle.first_form.specs.Refusal.{IsLeftOut}
-use Rattle.hpf_reader.specs.ProgramText.{IsFine, IsRefused}
+use Rattle.hpf_reader.specs.ProgramText.{HasNoBreach, IsRefused}
 use Rattle.first_form.specs.Meaning.{printed_of}
 use Rattle.hpf_run.specs.Words.{IsNoCommand, IsRunCommand}
 
@@ -40,16 +41,16 @@ refusal_line refusal =
 -- of the form that runs
 pub data IsRefusal (text : List ℕ) : Refusal → Type 0 where
   by_reader : (r : Refusal) → IsRefused text r → IsRefusal text r
-  by_form : (number : ℕ) → IsFine text → IsLeftOut text number → IsRefusal text record { line = number; reason = LeftOut }
+  by_form : (number : ℕ) → HasNoBreach text → IsLeftOut text number → IsRefusal text record { line = number; reason = LeftOut }
 
 -- the outcome of words and a source's bytes
 pub data TopOutcome (words : List (List ℕ)) (bytes : List ℕ) : Outcome → Type 0 where
   is_usage : IsNoCommand words → TopOutcome words bytes record { status = Usage; out = []; err = usage_line }
-  is_too_long : (nodes : ℕ) → IsRunCommand words nodes → max_source_bytes < length bytes
+  is_too_long : (nodes : ℕ) → IsRunCommand words nodes → MAX_SOURCE_BYTES < length bytes
       → TopOutcome words bytes record { status = TooLong; out = []; err = too_long_line }
-  is_refused : (nodes : ℕ) → IsRunCommand words nodes → length bytes ≤ max_source_bytes → (r : Refusal) → IsRefusal bytes r
+  is_refused : (nodes : ℕ) → IsRunCommand words nodes → length bytes ≤ MAX_SOURCE_BYTES → (r : Refusal) → IsRefusal bytes r
       → TopOutcome words bytes record { status = Refused; out = []; err = refusal_line r }
-  is_done : (nodes : ℕ) → IsRunCommand words nodes → length bytes ≤ max_source_bytes → IsFine bytes → (p : Program) → ReadsAs bytes p
+  is_done : (nodes : ℕ) → IsRunCommand words nodes → length bytes ≤ MAX_SOURCE_BYTES → HasNoBreach bytes → (p : Program) → ReadsAs bytes p
       → TopOutcome words bytes record { status = Done; out = printed_of p; err = [] }
 
 -- what a port tells: its bytes, where it tells them, and its count of faults
@@ -68,7 +69,7 @@ Had (Some left) bytes = left ≡ bytes
 -- how far a source was read for a status: not at all, one byte past the limit, or to its end
 abbrev pub IsRead : Status → Option (List ℕ) → Option (List ℕ) → List ℕ → Type 0
 IsRead Usage left left' bytes = left' ≡ left
-IsRead TooLong left left' bytes = Gave left left' (take (max_source_bytes + 1) bytes)
+IsRead TooLong left left' bytes = Gave left left' (take (MAX_SOURCE_BYTES + 1) bytes)
 IsRead status left left' bytes = Gave left left' bytes × IsAtEnd left'
 
 -- what a call means to answer: the outcome of its words and its source, or a counted read fault, or want of
@@ -76,9 +77,9 @@ IsRead status left left' bytes = Gave left left' bytes × IsAtEnd left'
 pub data Meant (words : List (List ℕ)) (source source' : Port) : Outcome → Type 0 where
   means_outcome : (bytes : List ℕ) (o : Outcome) → Had source.bytes bytes → TopOutcome words bytes o → IsRead o.status source.bytes source'.bytes bytes
       → Meant words source source' o
-  means_read_fault : (nodes : ℕ) → IsRunCommand words nodes → Rose source.faults source'.faults → (taken : List ℕ) → length taken ≤ max_source_bytes
+  means_read_fault : (nodes : ℕ) → IsRunCommand words nodes → Rose source.faults source'.faults → (taken : List ℕ) → length taken ≤ MAX_SOURCE_BYTES
       → Gave source.bytes source'.bytes taken → Meant words source source' record { status = ReadFault; out = []; err = read_fault_line }
-  means_memory : (nodes : ℕ) → IsRunCommand words nodes → (taken : List ℕ) → length taken ≤ max_source_bytes
+  means_memory : (nodes : ℕ) → IsRunCommand words nodes → (taken : List ℕ) → length taken ≤ MAX_SOURCE_BYTES
       → Gave source.bytes source'.bytes taken → Meant words source source' record { status = Memory; out = []; err = memory_line }
 
 -- what is written of it, and the status: all of it, or a proper prefix of one sink's text where that sink's count

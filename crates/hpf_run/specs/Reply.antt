@@ -5,7 +5,7 @@ use Rattle.hpf_base.specs.declared.refusal.Refusal.{Refusal}
 use Rattle.hpf_base.specs.declared.status.Status.TheVariants as status
 use Rattle.first_form.specs.Form.{Program, ReadsAs}
 use Rattle.first_form.specs.Meaning.{printed_of}
-use Rattle.hpf_reader.specs.ProgramText.{IsFine}
+use Rattle.hpf_reader.specs.ProgramText.{HasNoBreach}
 use Rattle.hpf_run.specs.declared.reply.Reply.{Reply}
 use Rattle.hpf_run.specs.declared.reply.Reply.TheVariants.{Done, Refused, Usage, ReadFault, TooLong, Memory}
 use Rattle.hpf_run.specs.Outcome.{IsRefusal, Outcome, memory_line, read_fault_line, refusal_line, too_long_line, usage_line}
@@ -22,7 +22,7 @@ outcome_of Memory = record { status = status.Memory; out = []; err = memory_line
 -- what a text comes to: its refusal, or what its program prints, or want of memory
 pub data TextMeant (text : List ℕ) : Outcome → Type 0 where
   text_refused : (r : Refusal) → IsRefusal text r → TextMeant text record { status = status.Refused; out = []; err = refusal_line r }
-  text_done : IsFine text → (p : Program) → ReadsAs text p → TextMeant text record { status = status.Done; out = printed_of p; err = [] }
+  text_done : HasNoBreach text → (p : Program) → ReadsAs text p → TextMeant text record { status = status.Done; out = printed_of p; err = [] }
   text_memory : TextMeant text record { status = status.Memory; out = []; err = memory_line }
 
 -- a refusal is answered, or want of memory

@@ -1,8 +1,9 @@
 //! The top call: from words and a source to a status and two texts.
 
+ghost use Rattle.hpf_base.specs.declared.limits.TheConstants.{MAX_NODES};
 ghost use Rattle.std.specs.Prelude.{◌≡◌, ◌≤◌, map, string_bytes, IfNone, IfSome};
 ghost use Rattle.hpf_run.specs.Outcome.{Delivered, IsAnswer, Meant, port};
-ghost use Rattle.hpf_reader.specs.ProgramText.{IsFine, IsProgramRefusal};
+ghost use Rattle.hpf_reader.specs.ProgramText.{HasNoBreach, IsProgramRefusal};
 ghost use Rattle.hpf_run.specs.Reply.{IsReplyOf, TextMeant, outcome_of};
 ghost use Rattle.hpf_run.specs.Words.{IsNoCommand};
 
@@ -27,8 +28,8 @@ fn reply_refused(alloc: Global, refusal: Refusal) -> Reply
 /// What a program of the language comes to on so many nodes: it runs where it is of the form that runs.
 fn reply_to_program(alloc: Global, nodes: u32, text: &[u8]) -> Reply
     requires some_nodes { 1 ≤ nodes }
-    requires few_nodes { nodes ≤ 64 }
-    requires fine { IsFine text.now }
+    requires few_nodes { nodes ≤ MAX_NODES }
+    requires fine { HasNoBreach text.now }
     ensures { TextMeant text.now (outcome_of result) }
 {
     match read_first(alloc, text) {
@@ -49,7 +50,7 @@ fn reply_to_program(alloc: Global, nodes: u32, text: &[u8]) -> Reply
 
 /// Why a text isn't a program of the language, if it isn't; or want of memory.
 fn fault_of(alloc: Global, text: &[u8]) -> Option<StaticError>
-    ensures fine { IfNone result (IsFine text.now) }
+    ensures fine { IfNone result (HasNoBreach text.now) }
     ensures refused { IfSome result (IsProgramRefusal text.now) }
 {
     match read_program(alloc, text) {
@@ -61,7 +62,7 @@ fn fault_of(alloc: Global, text: &[u8]) -> Option<StaticError>
 /// What a text comes to on so many nodes.
 fn reply_to_text(alloc: Global, nodes: u32, text: &[u8]) -> Reply
     requires some_nodes { 1 ≤ nodes }
-    requires few_nodes { nodes ≤ 64 }
+    requires few_nodes { nodes ≤ MAX_NODES }
     ensures { TextMeant text.now (outcome_of result) }
 {
     match fault_of(alloc, text) {
