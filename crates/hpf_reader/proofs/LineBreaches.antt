@@ -1,14 +1,12 @@
 -- Breaches of lines.
-use Rattle.std.proofs.Common.{◌≡◌, ◌≤◌, ◌<◌, ℕ, zero, suc, ◌+◌, List, [], ◌∷◌, ◌++◌, length, get_or, take, map, Option, Some, None, Bool, true, false, ◌⊎◌, inl, inr, refl, sym, ap, ◌∙◌, subst, arith, ⊎_elim}
+use Rattle.std.proofs.Common.{◌≡◌, ◌<◌, ℕ, zero, suc, ◌+◌, List, [], ◌∷◌, ◌++◌, length, get_or, take, Option, Some, None, Bool, true, false, ◌⊎◌, inl, inr, refl, sym, ap, ◌∙◌, subst, arith, ⊎_elim}
 use Rattle.std.specs.Prelude.{if◌then◌else◌}
 use Rattle.std.proofs.lemmas.List.{take_more}
-use Rattle.std.proofs.lemmas.Bool.{cases_lt}
-use Rattle.hpf_base.specs.Text.{lines_of as text_lines}
 use Rattle.hpf_base.specs.declared.refusal.Reason.{Reason}
 use Rattle.hpf_base.specs.declared.refusal.Refusal.{Refusal}
 use Rattle.hpf_base.specs.declared.refusal.StaticError.{StaticError}
 use Rattle.hpf_base.specs.declared.refusal.StaticError.TheVariants.{Refused, Memory}
-use Rattle.hpf_base.specs.Refusal.{IsFirstBreach, IsRefusalBy, NoBreach}
+use Rattle.hpf_base.specs.Refusal.{IsRefusalBy, NoBreach}
 use Rattle.source_lines.specs.declared.line.LogicalLine.{LogicalLine}
 use Rattle.source_lines.specs.declared.line.LineKind.TheVariants as line
 use Rattle.source_lines.specs.declared.token.Token.{Token}
@@ -18,7 +16,7 @@ use Rattle.statement_reader.specs.Breaches.{IsStatementBreach}
 use Rattle.directive_reader.specs.Breach.{IsDirectiveBreach}
 use Rattle.nest_rules.specs.declared.line.Line.{Line as HeldLine}
 use Rattle.nest_rules.specs.Firsts.{Firsts, is_before, earlier}
-use Rattle.nest_rules.specs.Lines.{Line, line_of, lines_of}
+use Rattle.nest_rules.specs.Lines.{line_of, lines_of}
 use Rattle.nest_rules.proofs.FirstBreaches.{first_both, first_same}
 use Rattle.hpf_reader.specs.ProgramText.{OneBreaks, IsLineOf, AreLinesOf, Added, FormBreaks, IsWrong, lexemes_of}
 

@@ -1,7 +1,6 @@
 -- The lines of a text, and what is wrong with their nest.
-use Rattle.std.proofs.Common.{◌≡◌, ◌≤◌, ℕ, List, [], ◌∷◌, length, map, true, Option, Some, None, refl, sym, ap, ◌∙◌, subst, arith}
+use Rattle.std.proofs.Common.{◌≡◌, ◌≤◌, ℕ, List, [], ◌∷◌, length, true, Option, refl, sym, ap, ◌∙◌, subst, arith}
 use Rattle.hpf_base.specs.Text.{lines_of as text_lines}
-use Rattle.hpf_base.specs.declared.refusal.Reason.{Reason}
 use Rattle.hpf_base.specs.declared.refusal.Refusal.{Refusal}
 use Rattle.hpf_base.specs.Refusal.{NoBreach}
 use Rattle.source_lines.specs.declared.line.LogicalLine.{LogicalLine}

@@ -1,5 +1,5 @@
 use Rattle.std.proofs.Common.{◌∙◌}
-use Rattle.hpf_reader.proofs.LineBreaches.{statement_fine, statement_wrong, directive_fine, directive_wrong}
+use Rattle.hpf_reader.proofs.LineBreaches.{statement_wrong, directive_fine, directive_wrong}
 use Rattle.hpf_reader.proofs.forms.form.Goals as goal
 
 pub returns-in-Statement-clause-refused : goal.returns-in-Statement-clause-refused

@@ -1,4 +1,4 @@
-use Rattle.std.proofs.Common.{◌∙◌, ap, subst, sym}
+use Rattle.std.proofs.Common.{ap, subst}
 use Rattle.nest_rules.specs.Firsts.{Firsts}
 use Rattle.nest_rules.specs.Lines.{lines_of}
 use Rattle.nest_rules.specs.Breaches.{IsNestBreach}
