@@ -89,37 +89,3 @@ pub scanned_past_limit : (bytes : List ℕ) (place len : ℕ) (found : List Toke
     → IsScanned bytes (place + len) found true
 scanned_past_limit bytes place len found past_limit is (kind, token, above) =
     scanned_past bytes place len token.0 found past_limit (rw token.1 refl) (rw (token.1, above) refl) is
-
--- at the end of a line no piece is left
-none_left : (test : List ℕ → Bool) (bytes : List ℕ) (place : ℕ) → length bytes ≤ place → any_behind test bytes place ≡ false
-none_left test bytes place all = ap (λ (l : List ℕ). list_any test (pieces l)) (drop_all place bytes all)
-
--- what a line that is read to its end has
-module _ (line : LogicalLine) (place : ℕ) (found : List Token) (past_limit : Bool) (is : IsScanned line.bytes place found past_limit) where
-  fine_bad : length line.bytes ≤ place → any_behind is_no_token line.bytes 0 ≡ true → ⊥
-  fine_bad all h = absurd (let no : any_behind is_no_token line.bytes 0 ≡ false = is.bad ∙ none_left is_no_token line.bytes place all in cc)
-
-  pub end_fine : past_limit ≡ false → length line.bytes ≤ place → NoBreach (IsTokenBreach line)
-  end_fine kept all number reason breach = none reason breach.1
-    where
-      none : (reason : Reason) → HasBreach reason (pieces line.bytes) → ⊥
-      none BadLine h = fine_bad all h
-      none Limit h = absurd (let no : any_behind is_past_limit line.bytes 0 ≡ false = is.limit ∙ rw (kept, none_left is_past_limit line.bytes place all) refl in cc)
-      none reason h = h
-
-  pub end_past_limit : past_limit ≡ true → length line.bytes ≤ place → IsFirstBreach (IsTokenBreach line) (record { line = line.line; reason = Limit })
-  end_past_limit past all =
-      record { stands = (refl, is.limit ∙ rw past refl); first = λ number reason breach. inr (sym breach.0, least reason breach.1) }
-    where
-      least : (reason : Reason) → HasBreach reason (pieces line.bytes) → 10 ≤ number_of reason
-      least BadLine h = absurd (fine_bad all h)
-      least Limit h = omega arith
-      least reason h = absurd h
-
-  pub bad_here : IsPiece (drop place line.bytes) piece.NoToken → IsFirstBreach (IsTokenBreach line) (record { line = line.line; reason = BadLine })
-  bad_here bad =
-      record { stands = (refl, is.bad ∙ bad); first = λ number reason breach. inr (sym breach.0, least reason) }
-    where
-      least : (reason : Reason) → 1 ≤ number_of reason
-      least BadLine = omega arith
-      least reason = omega arith

@@ -1,6 +1,4 @@
-use Rattle.std.proofs.Common.{List, ◌+◌, ◌++◌, ◌∷◌, [], sym, ap, subst, ◌∙◌}
-use Rattle.source_lines.specs.declared.token.Token.{Token}
-use Rattle.token_scan.proofs.LineScan.{IsScanned, bad_here, end_fine, end_past_limit, read_at, scanned_blank, scanned_past_limit, scanned_token}
+use Rattle.token_scan.proofs.LineScan.{read_at, scanned_blank, scanned_past_limit}
 use Rattle.token_scan.proofs.line_tokens.tokens.Goals as goal
 
 pub loop-place-preserved-in-Blank : goal.loop-place-preserved-in-Blank
