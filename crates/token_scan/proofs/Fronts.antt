@@ -1,5 +1,5 @@
 -- The longest front that is a token, by the class of the first byte, and the first piece.
-use Rattle.std.proofs.Common.{◌≡◌, ℕ, zero, suc, ◌<◌, ◌≤◌, Bool, true, false, List, [], ◌∷◌, length, take, Some, None, is_some, if◌then◌else◌, refl, ap, ◌∙◌, arith}
+use Rattle.std.proofs.Common.{◌≡◌, ℕ, zero, suc, ◌<◌, ◌≤◌, Bool, true, false, List, [], ◌∷◌, length, take, Some, None, is_some, refl, ap, ◌∙◌, arith}
 use Rattle.std.specs.Prelude.{nat_lt}
 use Rattle.std.specs.List.{list_any}
 use Rattle.std.proofs.lemmas.Bool.{ltb-true, ltb-false}
@@ -52,12 +52,14 @@ longest-at class bytes n is within passes fails =
 pub token_front : (class : ByteClass) (bytes : List ℕ) (n : ℕ) (kind : TokenKind) → first_class bytes ≡ class → 1 ≤ n → n ≤ length bytes → spelled class (take n bytes) ≡ Some kind
     → NoneLonger class bytes n → IsToken bytes n kind
 token_front class bytes n kind is some within spells fails =
-    let token : kind_of (take n bytes) ≡ Some kind = kind_of-front class bytes n is some ∙ spells in
-    (record {
-      some = some;
-      within = within;
-      cut = cut-first longest bytes n (longest-at class bytes n is within (λ h. ap is_some token) fails) some within;
-    }, token)
+    let token : kind_of (take n bytes) ≡ Some kind = kind_of-front class bytes n is some ∙ spells in (
+      record {
+        some = some;
+        within = within;
+        cut = cut-first longest bytes n (longest-at class bytes n is within (λ h. ap is_some token) fails) some within;
+      },
+      token,
+    )
 
 -- the same above its limit
 pub past_front : (bytes : List ℕ) (n : ℕ) (kind : TokenKind) → IsToken bytes n kind → is_above_limit kind ≡ true → IsPiece bytes (piece.PastLimit n)

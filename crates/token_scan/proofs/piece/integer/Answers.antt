@@ -1,6 +1,5 @@
-use Rattle.std.proofs.Common.{SFits, w64, ℤ, pos, sym, subst, take, ◌∙◌, rules}
+use Rattle.std.proofs.Common.{SFits, w64, ℤ, sym, subst, take, ◌∙◌, rules}
 use Rattle.std.specs.Char.{is_ascii_digit}
-use Rattle.std.specs.Str.Parse.{digits_value}
 use Rattle.std.proofs.lemmas.Bool.{le-leb, lt-leb}
 use Rattle.std.proofs.lemmas.Int.{to_z-of_z}
 use Rattle.hpf_base.proofs.Digits.{list_all-digits}
