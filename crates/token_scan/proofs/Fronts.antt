@@ -1,5 +1,5 @@
 -- The longest front that is a token, by the class of the first byte, and the first piece.
-use Rattle.std.proofs.Common.{◌≡◌, ℕ, zero, suc, ◌<◌, ◌≤◌, Bool, true, false, List, [], ◌∷◌, length, take, Some, None, is_some, if◌then◌else◌, refl, ap, ◌∙◌, arith}
+use Rattle.std.proofs.Common.{◌≡◌, ℕ, zero, suc, ◌<◌, ◌≤◌, Bool, true, false, List, [], ◌∷◌, length, take, Some, None, is_some, refl, ap, ◌∙◌, arith}
 use Rattle.std.specs.Prelude.{nat_lt}
 use Rattle.std.specs.List.{list_any}
 use Rattle.std.proofs.lemmas.Bool.{ltb-true, ltb-false}
@@ -8,7 +8,7 @@ use Rattle.hpf_base.specs.declared.refusal.Reason.TheVariants.{BadLine}
 use Rattle.source_lines.specs.PhysicalLines.{is_blank}
 use Rattle.source_lines.specs.declared.token.TokenKind.{TokenKind}
 use Rattle.source_lines.proofs.Cuts.{cut-cons, cut-first}
-use Rattle.token_scan.specs.Tokens.{class_of, first_byte, first_class, greatest, is_no_token, kind_of, longest, pieces, spelled, HasBreach}
+use Rattle.token_scan.specs.Tokens.{class_of, first_byte, first_class, greatest, is_above_limit, is_no_token, kind_of, longest, pieces, spelled, HasBreach}
 use Rattle.token_scan.specs.Pieces.{IsFirst, IsPiece, IsToken}
 use Rattle.token_scan.specs.declared.byte_class.ByteClass.{ByteClass}
 use Rattle.token_scan.specs.declared.byte_class.ByteClass.TheVariants as begins
@@ -52,12 +52,18 @@ longest-at class bytes n is within passes fails =
 pub token_front : (class : ByteClass) (bytes : List ℕ) (n : ℕ) (kind : TokenKind) → first_class bytes ≡ class → 1 ≤ n → n ≤ length bytes → spelled class (take n bytes) ≡ Some kind
     → NoneLonger class bytes n → IsToken bytes n kind
 token_front class bytes n kind is some within spells fails =
-    let token : kind_of (take n bytes) ≡ Some kind = kind_of-front class bytes n is some ∙ spells in
-    (record {
-      some = some;
-      within = within;
-      cut = cut-first longest bytes n (longest-at class bytes n is within (λ h. ap is_some token) fails) some within;
-    }, token)
+    let token : kind_of (take n bytes) ≡ Some kind = kind_of-front class bytes n is some ∙ spells in (
+      record {
+        some = some;
+        within = within;
+        cut = cut-first longest bytes n (longest-at class bytes n is within (λ h. ap is_some token) fails) some within;
+      },
+      token,
+    )
+
+-- the same above its limit
+pub past_front : (bytes : List ℕ) (n : ℕ) (kind : TokenKind) → IsToken bytes n kind → is_above_limit kind ≡ true → IsPiece bytes (piece.PastLimit n)
+past_front bytes n kind token above = (token.0, rw token.1 refl, rw (token.1, above) refl)
 
 -- where no front spells a token, the first piece is one byte
 byte_front : (class : ByteClass) (b : ℕ) (bytes : List ℕ) → class_of b ≡ class → NoneLonger class (b ∷ bytes) 0 → IsFirst (b ∷ bytes) 1 × (kind_of (b ∷ []) ≡ None)
@@ -81,4 +87,4 @@ pub blank_front : (bytes : List ℕ) → 1 ≤ length bytes → first_class byte
 blank_front [] some is = absurd (omega arith)
 blank_front (b ∷ bytes) some is =
     let first = byte_front begins.Blank b bytes is (λ m above below. refl) in
-    (first.0, first.1, rw (blank-class b is) refl)
+    (first.0, first.1, rw (first.1, blank-class b is) refl)

@@ -1,15 +1,10 @@
 -- The tokens of a line, one piece after another.
-use Rattle.std.proofs.Common.{◌≡◌, ℕ, ◌+◌, ◌-◌, ◌<◌, ◌≤◌, Bool, true, false, ◌||◌, List, [], ◌∷◌, ◌++◌, length, take, drop, option_to_list, inr, refl, ap, sym, subst, ◌∙◌, append_assoc, arith}
+use Rattle.std.proofs.Common.{◌≡◌, ℕ, ◌+◌, ◌-◌, ◌≤◌, Bool, false, ◌||◌, List, [], ◌∷◌, ◌++◌, length, take, drop, refl, ap, subst, ◌∙◌, arith}
 use Rattle.std.specs.List.{list_any}
-use Rattle.std.proofs.lemmas.List.{append-nil, take_rest, drop-drop, drop_all, length-take, length-drop}
-use Rattle.hpf_base.specs.Refusal.{number_of, IsFirstBreach, NoBreach}
-use Rattle.hpf_base.specs.declared.refusal.Reason.{Reason}
-use Rattle.hpf_base.specs.declared.refusal.Reason.TheVariants.{BadLine, Limit}
-use Rattle.source_lines.specs.declared.line.LogicalLine.{LogicalLine}
+use Rattle.std.proofs.lemmas.List.{take_rest, drop-drop, length-take, length-drop}
 use Rattle.source_lines.specs.declared.token.Token.{Token}
-use Rattle.source_lines.specs.declared.token.TokenKind.{TokenKind}
-use Rattle.token_scan.specs.Tokens.{is_no_token, is_past_limit, kind_of, pieces, token_at, tokens, tokens_from, HasBreach, IsTokenBreach}
-use Rattle.token_scan.specs.Pieces.{IsFirst, IsPiece}
+use Rattle.token_scan.specs.Tokens.{is_no_token, is_past_limit, pieces, tokens, tokens_from}
+use Rattle.token_scan.specs.Pieces.{IsPiece}
 use Rattle.token_scan.specs.declared.piece.Piece.{Piece}
 use Rattle.token_scan.specs.declared.piece.Piece.TheVariants as piece
 
@@ -28,98 +23,20 @@ pub record IsScanned (bytes : List ℕ) (place : ℕ) (found : List Token) (past
 pub scanned_none : (bytes : List ℕ) → IsScanned bytes 0 [] false
 scanned_none bytes = record { within = omega arith; bad = refl; limit = refl; given = λ h. refl }
 
--- what is read of the bytes behind a place
-pub read_at : (bytes all : List ℕ) (place : ℕ) (read is : Piece) → bytes ≡ all → read ≡ is → IsPiece (take (length bytes - place) (drop place bytes)) read → IsPiece (drop place all) is
-read_at bytes all place read is e same h =
-    subst (λ (p : Piece). IsPiece (drop place all) p) same
-    (subst (λ (l : List ℕ). IsPiece (drop place l) read) e
-    (subst (λ (l : List ℕ). IsPiece l read) (take_rest bytes place) h))
-
-or-true : (t u : Bool) → u ≡ true → (t || u) ≡ true
-or-true true u e = refl
-or-true false u e = e
-
--- one piece more
-module _ (bytes : List ℕ) (place len : ℕ) (first : IsFirst (drop place bytes) len) where
-  -- the pieces behind the place
-  rest_cut : pieces (drop place bytes) ≡ take len (drop place bytes) ∷ pieces (drop (place + len) bytes)
-  rest_cut = first.cut ∙ ap (λ (l : List ℕ). take len (drop place bytes) ∷ pieces l) (drop-drop len place bytes)
-
-  size : length (take len (drop place bytes)) ≡ len
-  size = omega (arith, length-take len (drop place bytes), first.within)
-
-  any_more : (test : List ℕ → Bool) → any_behind test bytes place ≡ (test (take len (drop place bytes)) || any_behind test bytes (place + len))
-  any_more test = ap (list_any test) rest_cut
-
-  end-within : place ≤ length bytes → place + len ≤ length bytes
-  end-within within = omega (arith, first.within, length-drop place bytes, within)
-
-  -- a piece within its limit, and the tokens that it gives
-  scanned_within : (found more : List Token) (past_limit : Bool) → is_no_token (take len (drop place bytes)) ≡ false → is_past_limit (take len (drop place bytes)) ≡ false
-      → option_to_list (token_at place (take len (drop place bytes))) ≡ more → IsScanned bytes place found past_limit → IsScanned bytes (place + len) (found ++ more) past_limit
-  scanned_within found more past_limit token limit gives is = record {
-    within = end-within is.within;
-    bad = is.bad ∙ any_more is_no_token ∙ rw token refl;
-    limit = is.limit ∙ ap (λ t. past_limit || t) (any_more is_past_limit ∙ rw limit refl);
-    given = λ h. is.given h ∙ ap (λ (l : List (List ℕ)). found ++ tokens_from place l) rest_cut ∙ rw (gives, size) (sym (append_assoc found more _));
-  }
-
-  -- a piece past its limit
-  scanned_past : (found : List Token) (past_limit : Bool) → is_no_token (take len (drop place bytes)) ≡ false → is_past_limit (take len (drop place bytes)) ≡ true
-      → IsScanned bytes place found past_limit → IsScanned bytes (place + len) found true
-  scanned_past found past_limit token limit is = record {
-    within = end-within is.within;
-    bad = is.bad ∙ any_more is_no_token ∙ rw token refl;
-    limit = is.limit ∙ or-true past_limit _ (any_more is_past_limit ∙ rw limit refl);
-    given = λ h. absurd cc;
-  }
-
-pub scanned_blank : (bytes : List ℕ) (place : ℕ) (found : List Token) (past_limit : Bool) → IsScanned bytes place found past_limit → IsPiece (drop place bytes) piece.Blank → IsScanned bytes (place + 1) found past_limit
-scanned_blank bytes place found past_limit is blank =
-    subst (λ (l : List Token). IsScanned bytes (place + 1) l past_limit) (append-nil found)
-    (scanned_within bytes place 1 blank.0 found [] past_limit (rw (blank.1, blank.2) refl) (rw blank.1 refl) (rw blank.1 refl) is)
-
-pub scanned_token : (bytes : List ℕ) (place len : ℕ) (kind : TokenKind) (found : List Token) (past_limit : Bool) → IsScanned bytes place found past_limit → IsPiece (drop place bytes) (piece.Token len kind)
-    → IsScanned bytes (place + len) (found ++ record { from = place; to = place + len; kind = kind } ∷ []) past_limit
-scanned_token bytes place len kind found past_limit is token =
-    scanned_within bytes place len token.0.0 found (record { from = place; to = place + len; kind = kind } ∷ []) past_limit (rw token.0.1 refl) (rw (token.0.1, token.1) refl)
-    (rw (token.0.1, size bytes place len token.0.0) refl) is
-
-pub scanned_past_limit : (bytes : List ℕ) (place len : ℕ) (found : List Token) (past_limit : Bool) → IsScanned bytes place found past_limit → IsPiece (drop place bytes) (piece.PastLimit len)
-    → IsScanned bytes (place + len) found true
-scanned_past_limit bytes place len found past_limit is (kind, token, above) =
-    scanned_past bytes place len token.0 found past_limit (rw token.1 refl) (rw (token.1, above) refl) is
-
--- at the end of a line no piece is left
-none_left : (test : List ℕ → Bool) (bytes : List ℕ) (place : ℕ) → length bytes ≤ place → any_behind test bytes place ≡ false
-none_left test bytes place all = ap (λ (l : List ℕ). list_any test (pieces l)) (drop_all place bytes all)
-
--- what a line that is read to its end has
-module _ (line : LogicalLine) (place : ℕ) (found : List Token) (past_limit : Bool) (is : IsScanned line.bytes place found past_limit) where
-  fine_bad : length line.bytes ≤ place → any_behind is_no_token line.bytes 0 ≡ true → ⊥
-  fine_bad all h = absurd (let no : any_behind is_no_token line.bytes 0 ≡ false = is.bad ∙ none_left is_no_token line.bytes place all in cc)
-
-  pub end_fine : past_limit ≡ false → length line.bytes ≤ place → NoBreach (IsTokenBreach line)
-  end_fine kept all number reason breach = none reason breach.1
-    where
-      none : (reason : Reason) → HasBreach reason (pieces line.bytes) → ⊥
-      none BadLine h = fine_bad all h
-      none Limit h = absurd (let no : any_behind is_past_limit line.bytes 0 ≡ false = is.limit ∙ rw (kept, none_left is_past_limit line.bytes place all) refl in cc)
-      none reason h = h
-
-  pub end_past_limit : past_limit ≡ true → length line.bytes ≤ place → IsFirstBreach (IsTokenBreach line) (record { line = line.line; reason = Limit })
-  end_past_limit past all =
-      record { stands = (refl, is.limit ∙ rw past refl); first = λ number reason breach. inr (sym breach.0, least reason breach.1) }
-    where
-      least : (reason : Reason) → HasBreach reason (pieces line.bytes) → 10 ≤ number_of reason
-      least BadLine h = absurd (fine_bad all h)
-      least Limit h = omega arith
-      least reason h = absurd h
-
-  pub bad_here : IsPiece (drop place line.bytes) piece.NoToken → IsFirstBreach (IsTokenBreach line) (record { line = line.line; reason = BadLine })
-  bad_here bad =
-      record { stands = (refl, is.bad ∙ bad); first = λ number reason breach. inr (sym breach.0, least reason) }
-    where
-      least : (reason : Reason) → 1 ≤ number_of reason
-      least BadLine = omega arith
-      least reason = omega arith
+-- a blank more, as it is read of the bytes behind the place
+pub scanned_blank : (bytes all : List ℕ) (place : ℕ) (found : List Token) (past_limit : Bool) (read : Piece) → IsScanned all place found past_limit → bytes ≡ all → read ≡ piece.Blank
+    → IsPiece (take (length bytes - place) (drop place bytes)) read → IsScanned all (place + 1) found past_limit
+scanned_blank bytes all place found past_limit read is e same h =
+    let there : IsPiece (drop place bytes) read = subst (λ (l : List ℕ). IsPiece l read) (take_rest bytes place) h in
+    blank (subst (λ (l : List ℕ). IsPiece (drop place l) piece.Blank) e (subst (λ (p : Piece). IsPiece (drop place bytes) p) same there))
+  where
+    blank : IsPiece (drop place all) piece.Blank → IsScanned all (place + 1) found past_limit
+    blank b =
+        let rest : pieces (drop place all) ≡ take 1 (drop place all) ∷ pieces (drop (place + 1) all) = b.0.cut ∙ ap (λ (l : List ℕ). take 1 (drop place all) ∷ pieces l) (drop-drop 1 place all) in
+        let size : length (take 1 (drop place all)) ≡ 1 = omega (arith, length-take 1 (drop place all), b.0.within) in
+        record {
+          within = omega (arith, b.0.within, length-drop place all, is.within);
+          bad = is.bad ∙ ap (list_any is_no_token) rest ∙ rw b.2 refl;
+          limit = is.limit ∙ ap (λ t. past_limit || t) (ap (list_any is_past_limit) rest ∙ rw b.1 refl);
+          given = λ h. is.given h ∙ ap (λ (l : List (List ℕ)). found ++ tokens_from place l) rest ∙ rw (b.1, size) refl;
+        }

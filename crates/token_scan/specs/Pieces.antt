@@ -2,11 +2,9 @@
 -- What stands at the front of bytes, as it is read.
 use Rattle.std.specs.Prelude.{◌≡◌, ℕ, ℤ, pos, ◌<◌, ◌≤◌, ◌==◌, ◌^◌, Bool, not, IsTrue, IsFalse, List, [], ◌∷◌, length, take, drop, Option, Some, None, if◌then◌else◌}
 use Rattle.std.specs.Char.{is_ascii_digit}
-use Rattle.std.specs.List.{list_all}
 use Rattle.std.specs.Str.Parse.{digits_value}
 use Rattle.hpf_base.specs.declared.refusal.Reason.TheVariants.{BadLine}
 use Rattle.op_tables.specs.Words.{code_in, dot_words, symbols}
-use Rattle.source_lines.specs.PhysicalLines.{is_blank}
 use Rattle.source_lines.specs.declared.token.TokenKind.{TokenKind}
 use Rattle.token_scan.specs.declared.piece.Piece.{Piece}
 use Rattle.token_scan.specs.declared.piece.Piece.TheVariants.{Blank, Token, PastLimit, NoToken}
@@ -14,7 +12,7 @@ use Rattle.token_scan.specs.declared.run.Run.{Run}
 use Rattle.token_scan.specs.declared.run.Run.TheVariants.{Word, Digits, Without}
 use Rattle.token_scan.specs.declared.table_word.Words.{Words}
 use Rattle.token_scan.specs.declared.table_word.Words.TheVariants.{Dots, Symbols}
-use Rattle.token_scan.specs.Tokens.{characters, is_above_limit, is_word_byte, kind_of, pieces, HasBreach}
+use Rattle.token_scan.specs.Tokens.{characters, is_above_limit, is_no_token, is_past_limit, is_word_byte, kind_of, pieces, HasBreach}
 
 -- a byte that may stand in the run
 abbrev pub is_in : Run → ℕ → Bool
@@ -63,7 +61,7 @@ IsToken bytes len kind = IsFirst bytes len × (kind_of (take len bytes) ≡ Some
 
 -- what is read is what stands there
 abbrev pub IsPiece : List ℕ → Piece → Type 0
-IsPiece bytes Blank = IsFirst bytes 1 × (kind_of (take 1 bytes) ≡ None) × IsTrue (list_all is_blank (take 1 bytes))
+IsPiece bytes Blank = IsFirst bytes 1 × (kind_of (take 1 bytes) ≡ None) × IsFalse (is_no_token (take 1 bytes))
 IsPiece bytes (Token len kind) = IsToken bytes len kind × IsFalse (is_above_limit kind)
-IsPiece bytes (PastLimit len) = (kind : TokenKind) × IsToken bytes len kind × IsTrue (is_above_limit kind)
+IsPiece bytes (PastLimit len) = IsFirst bytes len × IsFalse (is_no_token (take len bytes)) × IsTrue (is_past_limit (take len bytes))
 IsPiece bytes NoToken = HasBreach BadLine (pieces bytes)

@@ -1,12 +1,12 @@
-use Rattle.std.proofs.Common.{SFits, w64, ℤ, pos, sym, subst, take, ◌∙◌, rules}
+use Rattle.std.proofs.Common.{SFits, w64, ℤ, sym, subst, take, ◌∙◌, rules}
 use Rattle.std.specs.Char.{is_ascii_digit}
-use Rattle.std.specs.Str.Parse.{digits_value}
 use Rattle.std.proofs.lemmas.Bool.{le-leb, lt-leb}
 use Rattle.std.proofs.lemmas.Int.{to_z-of_z}
 use Rattle.hpf_base.proofs.Digits.{list_all-digits}
 use Rattle.source_lines.specs.declared.token.TokenKind.TheVariants.{Integer}
 use Rattle.token_scan.specs.Pieces.{IsPiece}
 use Rattle.token_scan.specs.declared.piece.Piece.TheVariants.{Token}
+use Rattle.token_scan.proofs.Fronts.{past_front}
 use Rattle.token_scan.proofs.Runs.{literal_front, run-within}
 use Rattle.token_scan.proofs.piece.integer.Goals as goal
 
@@ -21,4 +21,4 @@ returns-in-Some c =
 
 pub returns-in-None : goal.returns-in-None
 returns-in-None c =
-    (Integer (pos (digits_value 10 (take c.run_len-len.result c.args.bytes.now))), literal_front c.args.bytes.now c.run_len-len.result c.requires c.run_len-len.ensures.count, le-leb _ _ c.in-None.ensures)
+    past_front c.args.bytes.now c.run_len-len.result _ (literal_front c.args.bytes.now c.run_len-len.result c.requires c.run_len-len.ensures.count) (le-leb _ _ c.in-None.ensures)

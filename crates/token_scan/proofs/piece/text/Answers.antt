@@ -1,5 +1,5 @@
 use Rattle.std.proofs.Common.{ℕ, ◌+◌, ◌≤◌, ◌∷◌, [], List, length, take, Some, refl, sym, ap, subst, ◌∙◌, append_assoc, arith}
-use Rattle.std.proofs.lemmas.List.{length-drop, length-take, take_rest}
+use Rattle.std.proofs.lemmas.List.{length-drop, take_rest}
 use Rattle.token_scan.specs.Pieces.{NoneQuoted, quoted}
 use Rattle.token_scan.specs.Tokens.{first_byte}
 use Rattle.token_scan.proofs.Fronts.{first_byte-take}

@@ -7,6 +7,7 @@ use Rattle.source_lines.specs.declared.token.TokenKind.TheVariants.{Word}
 use Rattle.token_scan.specs.Pieces.{IsPiece, IsToken}
 use Rattle.token_scan.specs.Tokens.{is_word_byte, upper}
 use Rattle.token_scan.specs.declared.piece.Piece.TheVariants.{Token}
+use Rattle.token_scan.proofs.Fronts.{past_front}
 use Rattle.token_scan.proofs.Runs.{run-within, word_front, word_long}
 use Rattle.token_scan.proofs.piece.word.Goals as goal
 
@@ -24,5 +25,5 @@ returns c =
     let spelled : c.deref.result.now ≡ upper (take len bytes) = c.deref.ensures.value ∙ c.in_ok-upper.ensures in
     let front : IsToken bytes len (Word (upper (take len bytes))) = word_front bytes len c.requires c.run_len-len.ensures.count in
     let some : 1 ≤ length (take len bytes) = omega (arith, length-take len bytes, front.0.some, front.0.within) in
-    (Word (upper (take len bytes)), front, word_long (take len bytes) some (rw c.run_len-len.ensures.count (run-within is_word_byte bytes))
+    past_front bytes len (Word (upper (take len bytes))) front (word_long (take len bytes) some (rw c.run_len-len.ensures.count (run-within is_word_byte bytes))
     (λ name. let named : false ≡ true = c.in-None.ensures.some.1 (subst IsName (sym spelled) name) in absurd cc))
