@@ -7,6 +7,8 @@
 #[cfg(test)]
 mod bases;
 #[cfg(test)]
+mod deepest;
+#[cfg(test)]
 mod messages;
 #[cfg(test)]
 mod ports;

@@ -7,9 +7,7 @@ use op_tables::{
 };
 use source_lines::{Bytes, TokenKind};
 use std::test::Fail;
-use syntax_tree::{
-    Names, Sign, binary, intrinsic, left_place, level, right_place, sign_of, unary,
-};
+use syntax_tree::{Names, Sign, binary, intrinsic, left_place, level, right_place, sign_of, unary};
 
 /// The word's code in each of the five tables.
 fn codes_of(word: &str) -> [Option<u16>; 5] {

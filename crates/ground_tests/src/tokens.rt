@@ -31,7 +31,10 @@ fn places_of_tokens(rt: HostRuntime) -> Result<(), Fail> {
         (b"1A".as_slice(), [(0, 1), (1, 2)].as_slice()),
         (b"A\tB C".as_slice(), [(0, 1), (2, 3), (4, 5)].as_slice()),
         (b"1.EQ.2".as_slice(), [(0, 1), (1, 5), (5, 6)].as_slice()),
-        (b"A***B".as_slice(), [(0, 1), (1, 3), (3, 4), (4, 5)].as_slice()),
+        (
+            b"A***B".as_slice(),
+            [(0, 1), (1, 3), (3, 4), (4, 5)].as_slice(),
+        ),
         (b"'it''s' 'b'".as_slice(), [(0, 7), (8, 11)].as_slice()),
     ] {
         assert!(rt; places(rt.alloc(), line)?.as_slice() == want);
