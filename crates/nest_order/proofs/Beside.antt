@@ -3,11 +3,11 @@ use Rattle.std.proofs.Common.{◌≡◌, ℕ, zero, suc, ◌+◌, ◌<◌, ◌�
 use Rattle.std.specs.Prelude.{◌&&◌, ◌||◌, nat_eq, FitsSigned}
 use Rattle.std.specs.Int.{w64}
 use Rattle.std.specs.List.{Contains, list_all}
-use Rattle.std.proofs.lemmas.Bool.{cases_eq, or_cases, and_parts}
+use Rattle.std.proofs.lemmas.Bool.{cases_eq, cases_lt, or_cases, and_parts}
 use Rattle.std.proofs.lemmas.Bool.Decides.{nat_tests}
 use Rattle.std.proofs.lemmas.List.Elements.{Contains-append_left, Contains-append_right}
 use Rattle.std.proofs.lemmas.List.Sums.{AllPass-from_list_all, fold_more}
-use Rattle.std.proofs.lemmas.List.{take_all}
+use Rattle.std.proofs.lemmas.List.{get_or_past, take_all}
 use Rattle.nest_order.specs.Turns.{◌>>=◌, in_turn, joined_up_to, after_turns}
 use Rattle.nest_order.specs.Storage.{Storage, Spot, row_of, read, write, Alike}
 use Rattle.nest_order.specs.Effect.{Effect, Skip, Put, Fail, then_apply}
@@ -15,10 +15,10 @@ use Rattle.nest_order.specs.Items.{Items, Done, Then, If, Repeat, Branches, EndI
 use Rattle.nest_order.specs.Listed.{counted, Names, listed, listed_branches, AreKnown}
 use Rattle.nest_order.specs.Nest.{Interpretation, evaluated, writes, AgreeOn, plain_loops}
 use Rattle.nest_order.specs.LastValue.{copy_at}
-use Rattle.nest_order.specs.Reduction.{Operator, Statement, assigned, joined, unit_of}
+use Rattle.nest_order.specs.Reduction.{Operator, Or, Statement, assigned, joined, unit_of}
 use Rattle.nest_order.specs.Copies.{Kind, Shared, New, Assigned, Reduced, has_copies, scalar_at, InIteration, in_iteration, items_in, branches_in, seen_by, own_spot, own_effect, with_copies, copied}
-use Rattle.nest_order.specs.Scalars.{assigns_row, assigned_by, assigned_by_branches, AreAssigned, ReadsLate, ReadsLateBranches, MayName, MayNameAll, Reducing, reduced_effect, IsPlain, IsReduction, IsPlainOr, IsAction, IsCondition, Touches, MayCopy, CopiesAgree}
-use Rattle.nest_order.proofs.StorageLemmas.{Alike-trans, Alike-refl, Alike-write, read-write_other, read-write_rows, read-write_at}
+use Rattle.nest_order.specs.Scalars.{assigns_row, assigned_by, assigned_by_branches, AreAssigned, ReadsLate, ReadsLateBranches, MayName, MayNameAll, AllFit, Reducing, reduced_effect, IsPlain, IsReduction, IsPlainOr, IsAction, IsCondition, Touches, MayCopy, CopiesAgree}
+use Rattle.nest_order.proofs.StorageLemmas.{Alike-trans, Alike-refl, Alike-write, spots, read-write_other, read-write_rows, read-write_at}
 use Rattle.nest_order.proofs.Joins.{operator_joins}
 use Rattle.nest_order.proofs.Reducing.{reduces}
 use Rattle.nest_order.proofs.Touching.{AllIn, in_turn_of, taken_in, later_in}
@@ -36,6 +36,19 @@ assigns spots row spot all c =
     let t : nat_eq spot.row row ≡ true = subst (λ s. nat_eq s.row row ≡ true) c.2 (AllPass-from_list_all (λ s. nat_eq s.row row) spots all c.0 spot c.1) in
     grind (arith, nat_tests)
 
+zero_fits : FitsSigned w64 (pos 0)
+zero_fits = (operator_joins Or).unit_in
+
+-- a store of a value of 64 bits leaves values of 64 bits
+fit-write : (m : Storage) (l : Spot) (v : ℤ) → AllFit m → FitsSigned w64 v → AllFit (write m l v)
+fit-write m l v fit fits l' = ⊎_elim
+    (λ same. subst (λ q. FitsSigned w64 (read (write m l v) q)) same (⊎_elim
+    (λ lt. subst (FitsSigned w64) (sym (read-write_at m l v lt)) fits)
+    (λ le. subst (FitsSigned w64) (sym (get_or_past (row_of (write m l v) l.row) l.at (pos 0) (omega (arith, le, (Alike-write m l v).extent l.row)))) zero_fits)
+    (cases_lt l.at (length (row_of m l.row)))))
+    (λ d. subst (FitsSigned w64) (sym (read-write_other m l l' v d)) (fit l'))
+    (spots l l')
+
 -- `y` is the storage with copies and what is kept beside it: it holds the storage `store y`, and `put` stores a value in it
 module _ {A C F M : Type 0} (one : Interpretation A C F) (kinds : ℕ → Kind) (reads : Names A C Spot) (written : A → List Spot) (reducing : A → Option (Reducing F)) (start : Storage) (n : ℕ)
     (scalars : (row : ℕ) → has_copies (kinds row) ≡ true → length (row_of start row) ≡ 1)
@@ -52,7 +65,7 @@ module _ {A C F M : Type 0} (one : Interpretation A C F) (kinds : ℕ → Kind) 
   does i (Fail f) y = Err f
 
   -- iteration i, with what is listed for it as read and as written, from the storages at its beginning
-  module _ (i : ℕ) (lt : i < n) (listed_reads listed_writes : List Spot) (s0 m0 : Storage) (fits0 : (row : ℕ) (op : Operator) → kinds row ≡ Reduced op → FitsSigned w64 (read s0 (scalar_at row))) where
+  module _ (i : ℕ) (lt : i < n) (listed_reads listed_writes : List Spot) (s0 m0 : Storage) (fit0 : AllFit s0) where
     abbrev Touched : Spot → Type 0
     Touched spot = Contains listed_reads spot ⊎ Contains listed_writes spot
 
@@ -60,6 +73,7 @@ module _ {A C F M : Type 0} (one : Interpretation A C F) (kinds : ℕ → Kind) 
     pub record Beside (before : ℕ → Bool) (s : Storage) (y : M) : Type 0 where
       pub alike_s : Alike s start
       pub alike_m : Alike (store y) copies0
+      pub fit : AllFit s
       pub shared : (spot : Spot) → kinds spot.row ≡ Shared → read s spot ≡ read (store y) spot
       pub new : (row : ℕ) → kinds row ≡ New → before row ≡ true → read s (scalar_at row) ≡ read (store y) (copy_at row i)
       pub assigned : (row : ℕ) → kinds row ≡ Assigned → Touched (scalar_at row) → read s (scalar_at row) ≡ read (store y) (copy_at row i)
@@ -73,6 +87,7 @@ module _ {A C F M : Type 0} (one : Interpretation A C F) (kinds : ℕ → Kind) 
     fewer before after s y less h = record {
       alike_s = h.alike_s;
       alike_m = h.alike_m;
+      fit = h.fit;
       shared = h.shared;
       new = λ row k t. h.new row k (less row t);
       assigned = h.assigned;
@@ -98,9 +113,9 @@ module _ {A C F M : Type 0} (one : Interpretation A C F) (kinds : ℕ → Kind) 
         go (Reduced op) e m = absurd m
 
     -- a store to what is shared
-    put_shared : (before after : ℕ → Bool) (spot : Spot) (v : ℤ) (s : Storage) (y : M) → kinds spot.row ≡ Shared → ((row : ℕ) → after row ≡ true → (before row ≡ true) ⊎ (spot.row ≡ row)) →
+    put_shared : (before after : ℕ → Bool) (spot : Spot) (v : ℤ) (s : Storage) (y : M) → kinds spot.row ≡ Shared → FitsSigned w64 v → ((row : ℕ) → after row ≡ true → (before row ≡ true) ⊎ (spot.row ≡ row)) →
         Beside before s y → Beside after (write s spot v) (put i (own_spot kinds i spot) v y)
-    put_shared before after spot v s y e flags h =
+    put_shared before after spot v s y e fits flags h =
         let here : store (put i (own_spot kinds i spot) v y) ≡ write (store y) spot v = puts i (own_spot kinds i spot) v y ∙ ap (λ l. write (store y) l v) (own-shared kinds i spot e) in
         let apart : (row : ℕ) → has_copies (kinds row) ≡ true → spot.row ≡ row → ⊥ = λ row c same. let z : has_copies (kinds spot.row) ≡ true = ap (λ r. has_copies (kinds r)) same ∙ c in let z2 : false ≡ true = sym (ap has_copies e) ∙ z in absurd cc in
         let one_side : (row : ℕ) → has_copies (kinds row) ≡ true → read (write s spot v) (scalar_at row) ≡ read s (scalar_at row) = λ row c. read-write_other s spot (scalar_at row) v (other_rows spot (scalar_at row) (apart row c)) in
@@ -109,6 +124,7 @@ module _ {A C F M : Type 0} (one : Interpretation A C F) (kinds : ℕ → Kind) 
         record {
           alike_s = Alike-trans (write s spot v) s start (Alike-write s spot v) h.alike_s;
           alike_m = subst (λ m. Alike m copies0) (sym here) (Alike-trans (write (store y) spot v) (store y) copies0 (Alike-write (store y) spot v) h.alike_m);
+          fit = fit-write s spot v h.fit fits;
           shared = λ l k. read-write_rows s (store y) spot l v (h.alike_s.extent spot.row ∙ sym (ap length (copies-shared kinds n start spot.row e)) ∙ sym (h.alike_m.extent spot.row)) (h.shared l k) ∙ ap (λ m. read m l) (sym here);
           new = λ row k t. let c : has_copies (kinds row) ≡ true = ap has_copies k in one_side row c
               ∙ ⊎_elim (λ b. h.new row k b) (λ same. absurd (apart row c same)) (flags row t) ∙ sym (other_side row i c);
@@ -121,12 +137,12 @@ module _ {A C F M : Type 0} (one : Interpretation A C F) (kinds : ℕ → Kind) 
         }
 
     -- a store to a scalar, and to its copy
-    put_copy : (before after : ℕ → Bool) (r : ℕ) (v w : ℤ) (s : Storage) (y : M) → has_copies (kinds r) ≡ true → ((row : ℕ) → after row ≡ true → (before row ≡ true) ⊎ (r ≡ row)) →
+    put_copy : (before after : ℕ → Bool) (r : ℕ) (v w : ℤ) (s : Storage) (y : M) → has_copies (kinds r) ≡ true → FitsSigned w64 v → ((row : ℕ) → after row ≡ true → (before row ≡ true) ⊎ (r ≡ row)) →
         (kinds r ≡ New → v ≡ w) → (kinds r ≡ Assigned → (v ≡ w) × Contains listed_writes (scalar_at r)) →
         ((op : Operator) → kinds r ≡ Reduced op → (v ≡ joined op (read s0 (scalar_at r)) w) × FitsSigned w64 w) →
         Holds (write s (scalar_at r) v) (put i (copy_at r i) w y) →
         Beside before s y → Beside after (write s (scalar_at r) v) (put i (copy_at r i) w y)
-    put_copy before after r v w s y e flags is_new is_assigned is_reduced holds h =
+    put_copy before after r v w s y e fits flags is_new is_assigned is_reduced holds h =
         let here : store (put i (copy_at r i) w y) ≡ write (store y) (copy_at r i) w = puts i (copy_at r i) w y in
         let at_one : (row : ℕ) → r ≡ row → read (write s (scalar_at r) v) (scalar_at row) ≡ v =
         λ row same. subst (λ q. read (write s (scalar_at r) v) (scalar_at q) ≡ v) same (read-write_at s (scalar_at r) v (omega (arith, h.alike_s.extent r, scalars r e))) in
@@ -138,6 +154,7 @@ module _ {A C F M : Type 0} (one : Interpretation A C F) (kinds : ℕ → Kind) 
         record {
           alike_s = Alike-trans (write s (scalar_at r) v) s start (Alike-write s (scalar_at r) v) h.alike_s;
           alike_m = subst (λ m. Alike m copies0) (sym here) (Alike-trans (write (store y) (copy_at r i) w) (store y) copies0 (Alike-write (store y) (copy_at r i) w) h.alike_m);
+          fit = fit-write s (scalar_at r) v h.fit fits;
           shared = λ l k.
               let d : r ≡ l.row → ⊥ = λ same. let z : false ≡ true = sym (ap has_copies k) ∙ ap (λ q. has_copies (kinds q)) (sym same) ∙ e in absurd cc in
               one_other l d ∙ h.shared l k ∙ sym (copy_other l d);
@@ -196,8 +213,8 @@ module _ {A C F M : Type 0} (one : Interpretation A C F) (kinds : ℕ → Kind) 
         flags : (spot : Spot) → Contains (written a) spot → (row : ℕ) → assigned_too before a row ≡ true → (before row ≡ true) ⊎ (spot.row ≡ row)
         flags spot c row t = ⊎_elim (λ b. inl b) (λ all. inr (assigns (written a) row spot all c)) (or_cases (before row) (assigns_row kinds reads written a row) t)
 
-        plain_put : (spot : Spot) (v : ℤ) → Contains (written a) spot → MayNameAll kinds (written a) → Beside (assigned_too before a) (write s spot v) (put i (own_spot kinds i spot) v y)
-        plain_put spot v c writable = go (kinds spot.row) refl (writable spot c)
+        plain_put : (spot : Spot) (v : ℤ) → Contains (written a) spot → FitsSigned w64 v → MayNameAll kinds (written a) → Beside (assigned_too before a) (write s spot v) (put i (own_spot kinds i spot) v y)
+        plain_put spot v c fits writable = go (kinds spot.row) refl (writable spot c)
           where
             scalar : spot.at ≡ 0 → has_copies (kinds spot.row) ≡ true → MayName (kinds spot.row) spot → ((op : Operator) → kinds spot.row ≡ Reduced op → ⊥) → Beside (assigned_too before a) (write s spot v) (put i (own_spot kinds i spot) v y)
             scalar z e m not_reduced =
@@ -207,10 +224,10 @@ module _ {A C F M : Type 0} (one : Interpretation A C F) (kinds : ℕ → Kind) 
                 subst (λ l. Holds (write s (scalar_at spot.row) v) (put i l v y)) own (subst (λ l. Holds (write s l v) (put i (own_spot kinds i spot) v y)) at (keeps i spot v s y lt h.alike_s m h.holds)) in
                 subst (λ l. Beside (assigned_too before a) (write s l v) (put i (own_spot kinds i spot) v y)) (sym at)
                 (subst (λ l. Beside (assigned_too before a) (write s (scalar_at spot.row) v) (put i l v y)) (sym own)
-                (put_copy before (assigned_too before a) spot.row v v s y e (flags spot c) (λ k. refl) (λ k. (refl, subst (Contains listed_writes) at (in_writes spot c))) (λ op k. absurd (not_reduced op k)) kept h))
+                (put_copy before (assigned_too before a) spot.row v v s y e fits (flags spot c) (λ k. refl) (λ k. (refl, subst (Contains listed_writes) at (in_writes spot c))) (λ op k. absurd (not_reduced op k)) kept h))
 
             go : (k : Kind) → kinds spot.row ≡ k → MayName k spot → Beside (assigned_too before a) (write s spot v) (put i (own_spot kinds i spot) v y)
-            go Shared e m = put_shared before (assigned_too before a) spot v s y e (flags spot c) h
+            go Shared e m = put_shared before (assigned_too before a) spot v s y e fits (flags spot c) h
             go New e m = scalar m (ap has_copies e) (subst (λ k. MayName k spot) (sym e) m) (λ op k. let z : New ≡ Reduced op = sym e ∙ k in absurd cc)
             go Assigned e m = scalar m (ap has_copies e) (subst (λ k. MayName k spot) (sym e) m) (λ op k. let z : Assigned ≡ Reduced op = sym e ∙ k in absurd cc)
             go (Reduced op) e m = absurd m
@@ -222,7 +239,7 @@ module _ {A C F M : Type 0} (one : Interpretation A C F) (kinds : ℕ → Kind) 
           where
             go : (e : Effect F) → one.effect a s ≡ e → Follows (assigned_too before a) (then_apply e s) (does i (own_effect kinds i e) y)
             go Skip e = absurd (plain.ends s e)
-            go (Put spot v) e = (put i (own_spot kinds i spot) v y, refl, plain_put spot v (plain.stores s spot v e) plain.writable)
+            go (Put spot v) e = (put i (own_spot kinds i spot) v y, refl, plain_put spot v (plain.stores s spot v e) (plain.fits s spot v h.fit e) plain.writable)
             go (Fail f) e = refl
 
         reduction : (by : Reducing F) → IsReduction one kinds reads written reducing start a by → Follows (assigned_too before a) (then_apply (one.effect a s) s) (E.action (in_iteration i a) y)
@@ -242,17 +259,17 @@ module _ {A C F M : Type 0} (one : Interpretation A C F) (kinds : ℕ → Kind) 
                 let r = by.row in
                 let b : ℤ = read (store y) (copy_at r i) in
                 let acc : ℤ = read s0 (scalar_at r) in
-                let step = reduces op st (red.good s st e) in
+                let step = reduces op st (red.good s st h.fit e) in
                 let has : has_copies (kinds r) ≡ true = ap has_copies red.kind in
                 let v : ℤ = assigned op st (read s (scalar_at r)) in
                 let w : ℤ = assigned op st b in
-                let passes : v ≡ joined op acc w = ap (assigned op st) (h.reduced r op red.kind) ∙ step.passes acc b (fits0 r op red.kind) (h.fits r op red.kind) in
+                let passes : v ≡ joined op acc w = ap (assigned op st) (h.reduced r op red.kind) ∙ step.passes acc b (fit0 (scalar_at r)) (h.fits r op red.kind) in
                 let same_op : (op' : Operator) → kinds r ≡ Reduced op' → op ≡ op' = λ op' k. let z : Reduced op ≡ Reduced op' = sym red.kind ∙ k in cc in
                 (
                   put i (own_spot kinds i (scalar_at r)) w y,
                   refl,
                   subst (λ l. Beside (assigned_too before a) (write s (scalar_at r) v) (put i l w y)) (sym (own-copy kinds i r has))
-                  (put_copy before (assigned_too before a) r v w s y has (flags (scalar_at r) red.stores)
+                  (put_copy before (assigned_too before a) r v w s y has (step.stays (read s (scalar_at r)) (h.fit (scalar_at r))) (flags (scalar_at r) red.stores)
                   (λ k. let z : New ≡ Reduced op = sym k ∙ red.kind in absurd cc)
                   (λ k. let z : Assigned ≡ Reduced op = sym k ∙ red.kind in absurd cc)
                   (λ op' k. (subst (λ o. v ≡ joined o acc w) (same_op op' k) passes, step.stays b (h.fits r op red.kind)))
@@ -395,7 +412,7 @@ module _ {A C F M : Type 0} (one : Interpretation A C F) (kinds : ℕ → Kind) 
       pub entry : (row i : ℕ) → kinds row ≡ Assigned → k ≤ i → i < n → Touches one kinds reads written reducing start (items i) (scalar_at row) → read s (scalar_at row) ≡ read start (scalar_at row)
       pub copies : (row i : ℕ) → has_copies (kinds row) ≡ true → k ≤ i → i < n → read (store y) (copy_at row i) ≡ read copies0 (copy_at row i)
       pub reduced : (row : ℕ) (op : Operator) → kinds row ≡ Reduced op → read s (scalar_at row) ≡ up op row (store y) (read start (scalar_at row)) k
-      pub fits_s : (row : ℕ) (op : Operator) → kinds row ≡ Reduced op → FitsSigned w64 (read s (scalar_at row))
+      pub fit : AllFit s
       pub fits : (row : ℕ) (op : Operator) → kinds row ≡ Reduced op → (i : ℕ) → i < n → FitsSigned w64 (read (store y) (copy_at row i))
       pub holds : Holds s y
 
@@ -410,7 +427,7 @@ module _ {A C F M : Type 0} (one : Interpretation A C F) (kinds : ℕ → Kind) 
       entry = λ row i e le lt t. refl;
       copies = λ row i e le lt. ap (λ m. read m (copy_at row i)) is;
       reduced = λ row op e. refl;
-      fits_s = free.fit;
+      fit = free.fit;
       fits = λ row op e i lt. subst (FitsSigned w64) (sym (ap (λ m. read m (copy_at row i)) is ∙ unit_at row i op e lt)) (operator_joins op).unit_in;
       holds = holds;
     }
@@ -423,18 +440,19 @@ module _ {A C F M : Type 0} (one : Interpretation A C F) (kinds : ℕ → Kind) 
       all_writes = listed (writes reads written) (items k)
 
       abbrev BesideHere : (ℕ → Bool) → Storage → M → Type 0
-      BesideHere = Beside k lt all_reads all_writes s (store y) b.fits_s
+      BesideHere = Beside k lt all_reads all_writes s (store y) b.fit
 
       at_first : BesideHere (λ row. false) s y
       at_first = record {
         alike_s = b.alike_s;
         alike_m = b.alike_m;
+        fit = b.fit;
         shared = b.shared;
         new = λ row e t. absurd cc;
         assigned = λ row e t.
             b.entry row k e (omega arith) lt t ∙ sym (b.copies row k (ap has_copies e) (omega arith) lt ∙ copies-value kinds n start scalars row k (ap has_copies e) lt ∙ ap (λ kind. entry_value kinds n start kind (row_of start row)) e);
         kept = λ row e none. refl;
-        reduced = λ row op e. sym (ap (joined op (read s (scalar_at row))) (b.copies row k (ap has_copies e) (omega arith) lt ∙ unit_at row k op e lt) ∙ (operator_joins op).neutral (read s (scalar_at row)) (b.fits_s row op e));
+        reduced = λ row op e. sym (ap (joined op (read s (scalar_at row))) (b.copies row k (ap has_copies e) (omega arith) lt ∙ unit_at row k op e lt) ∙ (operator_joins op).neutral (read s (scalar_at row)) (b.fit (scalar_at row)));
         fits = λ row op e. b.fits row op e k lt;
         others = λ row i e d. refl;
         holds = b.holds;
@@ -450,7 +468,7 @@ module _ {A C F M : Type 0} (one : Interpretation A C F) (kinds : ℕ → Kind) 
         reduced = λ row op e.
             h.reduced row op e
             ∙ ap (λ x. joined op x (read (store y') (copy_at row k))) (b.reduced row op e ∙ up-same op row (store y) (store y') (read start (scalar_at row)) k (λ i lti. sym (h.others row i (ap has_copies e) (λ same. omega arith))));
-        fits_s = λ row op e. subst (FitsSigned w64) (sym (h.reduced row op e)) ((operator_joins op).closed (read s (scalar_at row)) (read (store y') (copy_at row k)) (b.fits_s row op e) (h.fits row op e));
+        fit = h.fit;
         fits = λ row op e i lti. ⊎_elim
             (λ same. subst (λ j. FitsSigned w64 (read (store y') (copy_at row j))) same (h.fits row op e))
             (λ d. subst (FitsSigned w64) (sym (h.others row i (ap has_copies e) d)) (b.fits row op e i lti))
@@ -465,9 +483,9 @@ module _ {A C F M : Type 0} (one : Interpretation A C F) (kinds : ℕ → Kind) 
     one_iteration : (k : ℕ) (lt : k < n) (s : Storage) (y : M) → Between k s y → LoopsFollow (suc k) (exec (evaluated one) (items k) s) (exec (E k) (items_in k (items k)) y)
     one_iteration k lt s y b =
         go (assigned_by kinds reads written (items k) (λ row. false)) (exec (evaluated one) (items k) s) (exec (E k) (items_in k (items k)) y)
-        (items_follow k lt (all_reads k lt s y b) (all_writes k lt s y b) s (store y) b.fits_s (E k) (acts k) (tests k) (items k) (λ row. false) s y (free.texts k lt) (free.known k lt) (free.late k lt) (λ l c. c) (λ l c. c) (at_first k lt s y b))
+        (items_follow k lt (all_reads k lt s y b) (all_writes k lt s y b) s (store y) b.fit (E k) (acts k) (tests k) (items k) (λ row. false) s y (free.texts k lt) (free.known k lt) (free.late k lt) (λ l c. c) (λ l c. c) (at_first k lt s y b))
       where
-        go : (flags : ℕ → Bool) (x : Result Storage F) (r : Result M F) → Follows k lt (all_reads k lt s y b) (all_writes k lt s y b) s (store y) b.fits_s flags x r → LoopsFollow (suc k) x r
+        go : (flags : ℕ → Bool) (x : Result Storage F) (r : Result M F) → Follows k lt (all_reads k lt s y b) (all_writes k lt s y b) s (store y) b.fit flags x r → LoopsFollow (suc k) x r
         go flags (Ok s') r h = (h.0, h.1, at_last k lt s y b flags s' h.0 h.2)
         go flags (Err f) r h = h
 
@@ -488,7 +506,7 @@ module _ {A C F M : Type 0} (one : Interpretation A C F) (kinds : ℕ → Kind) 
           let long : length (row_of (store y) row) ≡ n = b.alike_m.extent row ∙ copies-length kinds n start scalars row (ap has_copies e) in
           let joins = operator_joins op in
           b.reduced row op e
-          ∙ ap (λ a. up op row (store y) a n) (sym (joins.neutral entry (free.fit row op e)))
-          ∙ up-joined op row (store y) entry (unit_of op) n (free.fit row op e) joins.unit_in (b.fits row op e)
+          ∙ ap (λ a. up op row (store y) a n) (sym (joins.neutral entry (free.fit (scalar_at row))))
+          ∙ up-joined op row (store y) entry (unit_of op) n (free.fit (scalar_at row)) joins.unit_in (b.fits row op e)
           ∙ ap (joined op entry) (up-fold op row (store y) (unit_of op) n (omega (arith, long)) ∙ ap (fold (joined op) (unit_of op)) (take_all n (row_of (store y) row) (omega (arith, long))));
     }

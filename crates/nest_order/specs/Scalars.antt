@@ -60,6 +60,10 @@ MayName (Reduced op) spot = ⊥
 abbrev pub MayNameAll : (ℕ → Kind) → List Spot → Type 0
 MayNameAll kinds spots = (spot : Spot) → Contains spots spot → MayName (kinds spot.row) spot
 
+-- all values fit 64 bits
+abbrev pub AllFit : Storage → Type 0
+AllFit m = (spot : Spot) → FitsSigned w64 (read m spot)
+
 -- an assignment that is a reduction statement: the row of its variable, and the statement with the value that its expression
 -- has in a storage
 pub record Reducing (F : Type 0) : Type 0 where
@@ -72,12 +76,14 @@ reduced_effect row op (Ok statement) value = Put (scalar_at row) (assigned op st
 reduced_effect row op (Err fault) value = Fail fault
 
 module _ {A C F : Type 0} (one : Interpretation A C F) (kinds : ℕ → Kind) (reads : Names A C Spot) (written : A → List Spot) (reducing : A → Option (Reducing F)) (start : Storage) where
-  -- an assignment that is no reduction statement depends on what it reads alone, and writes one spot unless it faults
+  -- an assignment that is no reduction statement depends on what it reads alone, and writes one value of 64 bits unless it
+  -- faults
   pub record IsPlain (action : A) : Type 0 where
     pub near : (m m' : Storage) → Alike m start → Alike m' start → AgreeOn (reads.of_action action) m m' → one.effect action m ≡ one.effect action m'
     pub stores : (m : Storage) (spot : Spot) (value : ℤ) → one.effect action m ≡ Put spot value → Contains (written action) spot
     pub ends : (m : Storage) → one.effect action m ≡ Skip → ⊥
     pub writable : MayNameAll kinds (written action)
+    pub fits : (m : Storage) (spot : Spot) (value : ℤ) → AllFit m → one.effect action m ≡ Put spot value → FitsSigned w64 value
 
   -- a reduction statement is one of its variable's operator, over 64 bits. Its expression depends on what it reads alone
   pub record IsReduction (action : A) (by : Reducing F) : Type 0 where
@@ -85,7 +91,7 @@ module _ {A C F : Type 0} (one : Interpretation A C F) (kinds : ℕ → Kind) (r
     pub kind : kinds by.row ≡ Reduced op
     pub near : (m m' : Storage) → Alike m start → Alike m' start → AgreeOn (reads.of_action action) m m' → by.statement m ≡ by.statement m'
     pub is : (m : Storage) → one.effect action m ≡ reduced_effect by.row op (by.statement m) (read m (scalar_at by.row))
-    pub good : (m : Storage) (statement : Statement) → by.statement m ≡ Ok statement → IsOf op statement × FitsSigned w64 (value_in statement)
+    pub good : (m : Storage) (statement : Statement) → AllFit m → by.statement m ≡ Ok statement → IsOf op statement × FitsSigned w64 (value_in statement)
     pub stores : Contains (written action) (scalar_at by.row)
 
   abbrev pub IsPlainOr : A → Option (Reducing F) → Type 0
@@ -107,7 +113,7 @@ module _ {A C F : Type 0} (one : Interpretation A C F) (kinds : ℕ → Kind) (r
   -- assigns is touched by no other one. A REDUCTION variable is named in reduction statements alone
   pub record MayCopy (n : ℕ) (items : ℕ → Items A C) : Type 0 where
     pub scalars : (row : ℕ) → has_copies (kinds row) ≡ true → length (row_of start row) ≡ 1
-    pub fit : (row : ℕ) (op : Operator) → kinds row ≡ Reduced op → FitsSigned w64 (read start (scalar_at row))
+    pub fit : AllFit start
     pub texts : (i : ℕ) → i < n → EachIn IsAction IsCondition (items i)
     pub known : (i : ℕ) → i < n → AreKnown (evaluated one) reads (items i)
     pub late : (i : ℕ) → i < n → ReadsLate kinds reads written (items i) (λ row. false)
