@@ -3,6 +3,9 @@ mod Parting
 mod Flattening
 mod Touching
 mod LastCopy
+mod Copying
+mod Beside
+mod ScalarLaws
 mod Numbering
 mod Joins
 mod Reducing

@@ -46,24 +46,27 @@ spots l l' = ⊎_elim
     (λ n. inr (λ h. n (ap (λ s. s.row) h)))
     (cases_eq l.row l'.row)
 
--- a write keeps two alike storages equal where they are
-pub read-write_both : (m m' : Storage) (l l' : Spot) (v : ℤ) → Alike m m' → read m l' ≡ read m' l' → read (write m l v) l' ≡ read (write m' l v) l'
-read-write_both m m' l l' v alike same = ⊎_elim
-    (λ e. subst (λ q. read (write m l v) q ≡ read (write m' l v) q) e (at_spot m m' l v alike))
+-- a write keeps two storages equal where they are, if the row that is written has one length
+pub read-write_rows : (m m' : Storage) (l l' : Spot) (v : ℤ) → length (row_of m l.row) ≡ length (row_of m' l.row) → read m l' ≡ read m' l' → read (write m l v) l' ≡ read (write m' l v) l'
+read-write_rows m m' l l' v long same = ⊎_elim
+    (λ e. subst (λ q. read (write m l v) q ≡ read (write m' l v) q) e (at_spot m m' l v long))
     (λ n. read-write_other m l l' v n ∙ same ∙ sym (read-write_other m' l l' v n))
     (spots l l')
   where
-    at_spot : (m m' : Storage) (l : Spot) (v : ℤ) → Alike m m' → read (write m l v) l ≡ read (write m' l v) l
-    at_spot m m' l v alike =
+    at_spot : (m m' : Storage) (l : Spot) (v : ℤ) → length (row_of m l.row) ≡ length (row_of m' l.row) → read (write m l v) l ≡ read (write m' l v) l
+    at_spot m m' l v long =
         let a = row_of-set_same m l.row l.at v in
         let b = row_of-set_same m' l.row l.at v in
         ap (λ r. get_or r l.at (pos 0)) a ∙ ⊎_elim
         (λ lt. get_or-set_same (row_of m l.row) l.at v (pos 0) lt
-        ∙ sym (get_or-set_same (row_of m' l.row) l.at v (pos 0) (omega (arith, alike.extent l.row))))
+        ∙ sym (get_or-set_same (row_of m' l.row) l.at v (pos 0) (omega (arith, long))))
         (λ le. get_or_past (set (row_of m l.row) l.at v) l.at (pos 0) (omega (arith, length-set (row_of m l.row) l.at v))
-        ∙ sym (get_or_past (set (row_of m' l.row) l.at v) l.at (pos 0) (omega (arith, length-set (row_of m' l.row) l.at v, alike.extent l.row))))
+        ∙ sym (get_or_past (set (row_of m' l.row) l.at v) l.at (pos 0) (omega (arith, length-set (row_of m' l.row) l.at v, long))))
         (cases_lt l.at (length (row_of m l.row)))
         ∙ ap (λ r. get_or r l.at (pos 0)) (sym b)
+
+pub read-write_both : (m m' : Storage) (l l' : Spot) (v : ℤ) → Alike m m' → read m l' ≡ read m' l' → read (write m l v) l' ≡ read (write m' l v) l'
+read-write_both m m' l l' v alike = read-write_rows m m' l l' v (alike.extent l.row)
 
 pub Storage-ext : (m m' : Storage) → Alike m m' → ((l : Spot) → read m l ≡ read m' l) → m ≡ m'
 Storage-ext m m' alike same =

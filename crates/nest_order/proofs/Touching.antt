@@ -35,12 +35,12 @@ in_turn_of lists (suc t) x lt name h = ⊎_elim
     last : (x t : ℕ) → x < suc t → (x < t) ⊎ (x ≡ t)
     last x t lt = grind arith
 
-taken_in : {L : Type 0} (known : Option Bool) (one two : List L) → ((v : Bool) → known ≡ Some v → v ≡ true) → AllIn one (counted known one two)
+pub taken_in : {L : Type 0} (known : Option Bool) (one two : List L) → ((v : Bool) → known ≡ Some v → v ≡ true) → AllIn one (counted known one two)
 taken_in None one two is = in_left one two
 taken_in (Some true) one two is = λ x h. h
 taken_in (Some false) one two is = absurd (true≢false (sym (is false refl)))
 
-later_in : {L : Type 0} (known : Option Bool) (one two : List L) → ((v : Bool) → known ≡ Some v → v ≡ false) → AllIn two (counted known one two)
+pub later_in : {L : Type 0} (known : Option Bool) (one two : List L) → ((v : Bool) → known ≡ Some v → v ≡ false) → AllIn two (counted known one two)
 later_in None one two is = in_right one two
 later_in (Some false) one two is = λ x h. h
 later_in (Some true) one two is = absurd (true≢false (is true refl))

@@ -26,6 +26,7 @@ mod nest;
 mod nest_index;
 mod orders;
 mod reduction;
+mod scalars;
 
 pub use example::{
     example_faults, example_finishes, example_is_parallel, example_last_value, example_reduction,
@@ -36,3 +37,4 @@ pub use nest::{fault_keys, law_of_nests, parallel_nest, plain_nest, stores_of_ne
 pub use nest_index::{nested_loops, numbered_tuples};
 pub use orders::{law_of_fission, parts_agree};
 pub use reduction::{operators_join, reduction_by_join, reduction_variable};
+pub use scalars::{one_scalar_or_copies, scalar_by_its_copies};

@@ -1,7 +1,7 @@
 -- No node sends a letter to itself.
-use Rattle.std.proofs.Common.{◌≡◌, ℕ, ◌+◌, inl, inr, List, [], ◌∷◌, ◌++◌, length, Option, Some, None, refl, sym, ◌∙◌, ap, arith, append-nil, length-append, eq-eqb}
+use Rattle.std.proofs.Common.{◌≡◌, ℕ, ◌+◌, inl, inr, List, [], ◌∷◌, ◌++◌, length, Option, Some, refl, sym, ◌∙◌, ap, arith, append-nil, length-append, eq-eqb}
 use Rattle.std.specs.List.{slice_get}
-use Rattle.node_law.specs.declared.act.Act.TheVariants.{Send, Take, Done}
+use Rattle.node_law.specs.declared.act.Act.TheVariants.{Send, Take}
 use Rattle.hpf_base.specs.declared.node.NodeId.{NodeId}
 use Rattle.node_law.specs.NodeSteps.{NodeSteps, Move, Worked, Sent, Taken, IsMoveOf, after_at, sent, taken, IsPrefix}
 use Rattle.node_law.specs.Phases.{PhaseShare, moves, next_number, IsLockstep, Lockstep, all_moves}

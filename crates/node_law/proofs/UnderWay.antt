@@ -7,7 +7,7 @@ use Rattle.node_law.specs.declared.act.Act.TheVariants.{Local, Done}
 use Rattle.node_law.specs.NodeSteps.{NodeSteps, Move, Worked, Sent, Taken, after_all, after_at, sent, taken}
 use Rattle.node_law.specs.Phases.{PhaseShare, moves, AreSends, AreTakes, next_number, TurnsNumber, IsShare, IsShareAt, IsPhase, IsEndAt, IsLockstep, Lockstep, all_moves}
 use Rattle.std.proofs.lemmas.Bool.Decides.{eqb_tells}
-use Rattle.node_law.specs.NextPhase.{UnderWay, AreEnding, IsNextPhase}
+use Rattle.node_law.specs.NextPhase.{UnderWay, IsNextPhase}
 use Rattle.node_law.proofs.PhaseAlone.{number-turns, only_phase, inside, outside, phase-alone}
 
 -- there is no local step among the moves
