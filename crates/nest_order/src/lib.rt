@@ -35,7 +35,8 @@ mod reduction;
 mod scalars;
 
 pub use example::{
-    example_faults, example_finishes, example_is_parallel, example_last_value, example_reduction,
+    example_faults, example_finishes, example_is_parallel, example_last_value, example_reads_early,
+    example_reduction, example_with_scalars,
 };
 pub use items::{flattened_items, listed_items};
 pub use last_value::{last_value_in_nest, last_value_of_scalar};

@@ -15,7 +15,7 @@ use Rattle.node_law.proofs.PhaseAlone.{only_phase}
 use Rattle.node_law.proofs.UnderWay.{Passes, next-passes}
 use Rattle.node_law.proofs.Passing.{local-empty, local-keeps, alone-on, all-passed, passed-done, passed-empty, passed-phased, same-end}
 use Rattle.node_core.specs.declared.stage.Stage.{Stage}
-use Rattle.node_core.specs.declared.stage.Stage.TheVariants.{Steps, Sends, Takes}
+use Rattle.node_core.specs.declared.stage.Stage.TheVariants.{Steps}
 use Rattle.node_core.specs.CoreView.{state, CoreView, IsReady, EndAlike}
 use Rattle.node_core.specs.Stage.{CanStep, CanPass, Advances}
 use Rattle.node_core.proofs.Rounds.{runs-on}
