@@ -35,9 +35,9 @@ named start (Add to from) = record {
 }
 named start (Divide line to from) = record {
   near = λ m m' h g agree.
-      ap (λ d. if is_set d then Put to (int_div (read m to) d) else Fail line) (agree from (second_of_two to from))
-      ∙ ap (λ v. if is_set (read m' from) then Put to (int_div v (read m' from)) else Fail line) (agree to (first_of_two to from));
-  stores = λ m spot value put. stored_in to from spot (divided (is_set (read m from)) (int_div (read m to) (read m from)) spot value put);
+      ap (λ d. if is_set d then Put to (int_wrap w64 (int_div (read m to) d)) else Fail line) (agree from (second_of_two to from))
+      ∙ ap (λ v. if is_set (read m' from) then Put to (int_wrap w64 (int_div v (read m' from))) else Fail line) (agree to (first_of_two to from));
+  stores = λ m spot value put. stored_in to from spot (divided (is_set (read m from)) (int_wrap w64 (int_div (read m to) (read m from))) spot value put);
 }
   where
     divided : (b : Bool) (v : ℤ) (spot : Spot) (value : ℤ) → (if b then Put to v else Fail line) ≡ Put spot value → to ≡ spot

@@ -15,3 +15,4 @@ mod Outcomes
 mod Observing
 mod Following
 mod Examples
+mod ExampleScalars

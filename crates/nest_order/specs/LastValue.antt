@@ -30,8 +30,8 @@ module _ {F : Type 0} where
     assigns i zero = false
     assigns i (suc j) = stores_to (effect i j) (copy_at row i) || assigns i j
 
-    -- the one scalar of the plain order after the first iterations: each store to a copy is a store to it, whichever
-    -- iteration's copy it is
+    -- one scalar after the first iterations, where each store to a copy is a store to it, whichever iteration's copy it is.
+    -- No iteration reads it here
     abbrev pub scalar_after : (parts : ℕ) → ℤ → ℕ → ℤ
     scalar_after parts entry n = noted_by_all (note_scalar row) effect parts entry n
 

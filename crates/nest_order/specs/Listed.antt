@@ -69,4 +69,5 @@ module _ {A C M F : Type 0} (evaluation : Evaluation A C M F) where
 
   -- a condition that is called known goes that way in every storage. One that would fault isn't known
   abbrev pub AreKnown : {L : Type 0} → Names A C L → Items A C → Type 0
-  AreKnown names items = EachIn (λ action. Unit {0}) (λ condition. (holds : Bool) → names.known condition ≡ Some holds → (m : M) → evaluation.condition condition m ≡ Ok holds) items
+  AreKnown names items =
+      EachIn (λ action. Unit {0}) (λ condition. (holds : Bool) → names.known condition ≡ Some holds → (m : M) → evaluation.condition condition m ≡ Ok holds) items

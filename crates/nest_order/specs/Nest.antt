@@ -92,12 +92,16 @@ AgreeOn spots m m' = (spot : Spot) → Contains spots spot → read m spot ≡ r
 module _ {A C F : Type 0} (interpretation : Interpretation A C F) (names : Names A C Spot) (written : A → List Spot) (start : Storage) where
   -- what an assignment does depends on what it names alone, and it writes only what it names as written
   pub record IsNamed (action : A) : Type 0 where
-    pub near : (m m' : Storage) → Alike m start → Alike m' start → AgreeOn (names.of_action action) m m' → interpretation.effect action m ≡ interpretation.effect action m'
-    pub stores : (m : Storage) (spot : Spot) (value : ℤ) → interpretation.effect action m ≡ Put spot value → Contains (written action) spot × Contains (names.of_action action) spot
+    pub near : (m m' : Storage) → Alike m start → Alike m' start → AgreeOn (names.of_action action) m m'
+        → interpretation.effect action m ≡ interpretation.effect action m'
+    pub stores : (m : Storage) (spot : Spot) (value : ℤ) → interpretation.effect action m ≡ Put spot value
+        → Contains (written action) spot × Contains (names.of_action action) spot
 
   -- what a condition is depends on what it names alone
   abbrev pub IsNear : C → Type 0
-  IsNear condition = (m m' : Storage) → Alike m start → Alike m' start → AgreeOn (names.of_condition condition) m m' → interpretation.condition condition m ≡ interpretation.condition condition m'
+  IsNear condition =
+      (m m' : Storage) → Alike m start → Alike m' start → AgreeOn (names.of_condition condition) m m'
+      → interpretation.condition condition m ≡ interpretation.condition condition m'
 
   module _ (row n : ℕ) (items : ℕ → Items A C) where
     -- No two of the n iterations interfere: none writes what is listed for another one. Two that write one value to one spot do.
@@ -107,7 +111,8 @@ module _ {A C F : Type 0} (interpretation : Interpretation A C F) (names : Names
       pub known : (i : ℕ) → i < n → AreKnown (evaluated interpretation) names (items i)
       pub rows : (i number : ℕ) → i < n → number < count_items (items i) → i < length (row_of start (row + number))
       pub below : (i : ℕ) (spot : Spot) → i < n → Contains (listed names (items i)) spot → spot.row < row
-      pub apart : (i i' : ℕ) (spot : Spot) → i < n → i' < n → (i ≡ i' → ⊥) → Contains (listed (writes names written) (items i)) spot → Contains (listed names (items i')) spot → ⊥
+      pub apart : (i i' : ℕ) (spot : Spot) → i < n → i' < n → (i ≡ i' → ⊥)
+          → Contains (listed (writes names written) (items i)) spot → Contains (listed names (items i')) spot → ⊥
 
     -- what is listed for an iteration, and its stored conditions: what it may touch, also where it touches less
     abbrev pub touches_of : ℕ → List Spot
@@ -126,6 +131,8 @@ EndAlike row (Err fault) (Ok m) = ⊥
 EndAlike row (Err fault) (Err other) = fault ≡ other
 
 module _ {A C F : Type 0} (interpretation : Interpretation A C F) where
-  -- the plain loops: the statements of one iteration after those of another, up to the first fault, with no stored conditions
+  -- the plain loops: the statements of one iteration after those of another, up to the first fault, with no stored conditions.
+  -- Whether a scalar is one object or has a copy for each iteration, the statements say: where they name copies, an iteration
+  -- reads its own, and not what an earlier one assigned
   abbrev pub plain_loops : (ℕ → Items A C) → Storage → ℕ → Result Storage F
   plain_loops items start n = in_turn n (λ i. exec (evaluated interpretation) (items i)) start

@@ -45,6 +45,8 @@ module _ {F : Type 0} (act : ℕ → ℕ → Storage → Effect F) (start : Stor
   -- No iteration stores where another one touches, and what its parts do depends on what it touches alone. This is
   -- asked of the iteration alone, and not of every storage: a part is free where the iteration never comes
   pub record Apart (n parts : ℕ) (touches : ℕ → List Spot) : Type 0 where
-    pub local : (i j : ℕ) (m : Storage) → i < n → j < parts → Alike m start → ((spot : Spot) → Contains (touches i) spot → read m spot ≡ read (alone i j) spot) → act i j m ≡ act i j (alone i j)
+    pub local : (i j : ℕ) (m : Storage) → i < n → j < parts → Alike m start
+        → ((spot : Spot) → Contains (touches i) spot → read m spot ≡ read (alone i j) spot) → act i j m ≡ act i j (alone i j)
     pub stores : (i j : ℕ) (spot : Spot) (value : ℤ) → i < n → j < parts → act i j (alone i j) ≡ Put spot value → Contains (touches i) spot
-    pub apart : (i i' j : ℕ) (spot : Spot) (value : ℤ) → i < n → i' < n → j < parts → (i ≡ i' → ⊥) → act i j (alone i j) ≡ Put spot value → Contains (touches i') spot → ⊥
+    pub apart : (i i' j : ℕ) (spot : Spot) (value : ℤ) → i < n → i' < n → j < parts → (i ≡ i' → ⊥)
+        → act i j (alone i j) ≡ Put spot value → Contains (touches i') spot → ⊥

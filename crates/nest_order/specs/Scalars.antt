@@ -75,7 +75,8 @@ abbrev pub reduced_effect : {F : Type 0} → ℕ → Operator → Result Stateme
 reduced_effect row op (Ok statement) value = Put (scalar_at row) (assigned op statement value)
 reduced_effect row op (Err fault) value = Fail fault
 
-module _ {A C F : Type 0} (one : Interpretation A C F) (kinds : ℕ → Kind) (reads : Names A C Spot) (written : A → List Spot) (reducing : A → Option (Reducing F)) (start : Storage) where
+module _ {A C F : Type 0} (one : Interpretation A C F) (kinds : ℕ → Kind) (reads : Names A C Spot) (written : A → List Spot)
+    (reducing : A → Option (Reducing F)) (start : Storage) where
   -- an assignment that is no reduction statement depends on what it reads alone, and writes one value of 64 bits unless it
   -- faults
   pub record IsPlain (action : A) : Type 0 where
@@ -103,7 +104,8 @@ module _ {A C F : Type 0} (one : Interpretation A C F) (kinds : ℕ → Kind) (r
 
   pub record IsCondition (condition : C) : Type 0 where
     pub readable : MayNameAll kinds (reads.of_condition condition)
-    pub near : (m m' : Storage) → Alike m start → Alike m' start → AgreeOn (reads.of_condition condition) m m' → one.condition condition m ≡ one.condition condition m'
+    pub near : (m m' : Storage) → Alike m start → Alike m' start → AgreeOn (reads.of_condition condition) m m'
+        → one.condition condition m ≡ one.condition condition m'
 
   -- what is listed for an iteration as read or written
   abbrev pub Touches : Items A C → Spot → Type 0
@@ -117,13 +119,15 @@ module _ {A C F : Type 0} (one : Interpretation A C F) (kinds : ℕ → Kind) (r
     pub texts : (i : ℕ) → i < n → EachIn IsAction IsCondition (items i)
     pub known : (i : ℕ) → i < n → AreKnown (evaluated one) reads (items i)
     pub late : (i : ℕ) → i < n → ReadsLate kinds reads written (items i) (λ row. false)
-    pub apart : (i i' : ℕ) (row : ℕ) → i < n → i' < n → (i ≡ i' → ⊥) → kinds row ≡ Assigned → Contains (listed (writes reads written) (items i)) (scalar_at row) → Touches (items i') (scalar_at row) → ⊥
+    pub apart : (i i' : ℕ) (row : ℕ) → i < n → i' < n → (i ≡ i' → ⊥) → kinds row ≡ Assigned
+        → Contains (listed (writes reads written) (items i)) (scalar_at row) → Touches (items i') (scalar_at row) → ⊥
 
 -- The storages agree: what is shared has the same values, and a REDUCTION variable is its entry value joined with the fold of
 -- its copies
 pub record CopiesAgree (kinds : ℕ → Kind) (start m copies : Storage) : Type 0 where
   pub shared : (spot : Spot) → kinds spot.row ≡ Shared → read m spot ≡ read copies spot
-  pub reduced : (row : ℕ) (op : Operator) → kinds row ≡ Reduced op → read m (scalar_at row) ≡ joined op (read start (scalar_at row)) (folded (joined op) (unit_of op) (row_of copies row))
+  pub reduced : (row : ℕ) (op : Operator) → kinds row ≡ Reduced op
+      → read m (scalar_at row) ≡ joined op (read start (scalar_at row)) (folded (joined op) (unit_of op) (row_of copies row))
 
 -- both loops end with such storages, or both with one fault
 abbrev pub EndWithCopies : {F : Type 0} → (ℕ → Kind) → Storage → Result Storage F → Result Storage F → Type 0

@@ -10,8 +10,8 @@ ghost use Rattle.nest_order.specs.Nest.{Interpretation, nest_effects, nest_act, 
 ghost use Rattle.nest_order.specs.Stores.{observed_loops};
 ghost use Rattle.nest_order.specs.LastValue.{note_scalar, scalar_after, last_value};
 
-/// The last value of a scalar that some iterations assign, each in its copy. In the plain order there is one scalar, and
-/// each store to a copy is a store to it. After all iterations it is the copy of the last iteration that assigned it, as
+/// The last value of a scalar that some iterations assign, each in its copy. Let each store to a copy be a store to one
+/// scalar, iteration by iteration. After all iterations it is the copy of the last iteration that assigned it, as
 /// the parted order leaves that copy; where no iteration assigns it, it is the entry value.
 pub fn last_value_of_scalar<F>()
     ensures { (act : ℕ → ℕ → Storage → Effect F) (start : Storage) (n parts : ℕ)

@@ -15,9 +15,9 @@ use Rattle.node_law.proofs.PhaseAlone.{only_phase}
 use Rattle.node_law.proofs.UnderWay.{Passes, next-passes}
 use Rattle.node_law.proofs.Passing.{local-empty, local-keeps, alone-on, all-passed, passed-done, passed-empty, passed-phased, same-end}
 use Rattle.node_core.specs.declared.stage.Stage.{Stage}
-use Rattle.node_core.specs.declared.stage.Stage.TheVariants.{Steps, Sends, Takes}
+use Rattle.node_core.specs.declared.stage.Stage.TheVariants.{Steps}
 use Rattle.node_core.specs.CoreView.{state, CoreView, IsReady, EndAlike}
-use Rattle.node_core.specs.Stage.{CanStep, Advances}
+use Rattle.node_core.specs.Stage.{CanStep, CanPass, Advances}
 use Rattle.node_core.proofs.Rounds.{runs-on}
 
 module _ {N M : Type 0} (S : NodeSteps N M) where
@@ -49,7 +49,7 @@ module _ {N M : Type 0} (S : NodeSteps N M) where
   module _ (n : ℕ) where
     -- local steps of the phase lead from the core i to the core a
     pub record LocalSteps (i a : CoreView N M) : Type 0 where
-      pub empty : (state a) ≡ start a.lists.nodes
+      pub empty : state a ≡ start a.lists.nodes
       pub next : IsNextPhase S n (slice_get a.lists.nodes)
       pub advances : Advances S i a
 
@@ -74,7 +74,7 @@ module _ {N M : Type 0} (S : NodeSteps N M) where
     }
 
     -- where no node can send or take any more, the phase is passed
-    module _ (i a : CoreView N M) (empty : (state i) ≡ start i.lists.nodes) (next : IsNextPhase S n (slice_get i.lists.nodes)) (none : (p : ℕ) → ¬ CanStep S n Steps (state i) p) (h : Letters i a) (over : (p : ℕ) → ¬ CanStep S n Sends (state a) p × ¬ CanStep S n Takes (state a) p) where
+    module _ (i a : CoreView N M) (empty : state i ≡ start i.lists.nodes) (next : IsNextPhase S n (slice_get i.lists.nodes)) (none : (p : ℕ) → ¬ CanStep S n Steps (state i) p) (h : Letters i a) (over : (p : ℕ) → ¬ CanPass S n (state a) p) where
       passes : Passes S n (slice_get i.lists.nodes)
       passes = next-passes S n i.lists.nodes (λ p x is e local. none p (x, is, (e, local), rw (is, local) refl)) next
 
@@ -83,8 +83,8 @@ module _ {N M : Type 0} (S : NodeSteps N M) where
 
       cannot : (p : ℕ) (x : N) → slice_get a.lists.nodes p ≡ Some x → S.phase x ≡ n → (act : Act) → S.act x ≡ act → act ≢ Local → ¬ IsEnabled S (state a) p
       cannot p x is e Local act d enabled = d refl
-      cannot p x is e (Send q) act d enabled = (over p).0 (x, is, (e, (q, act)), enabled)
-      cannot p x is e (Take q) act d enabled = (over p).1 (x, is, (e, (q, act)), enabled)
+      cannot p x is e (Send q) act d enabled = over p (inl (x, is, (e, (q, act)), enabled))
+      cannot p x is e (Take q) act d enabled = over p (inr (x, is, (e, (q, act)), enabled))
       cannot p x is e Done act d enabled = let t : is_some {T = Move M} None ≡ true = rw (is, act) at enabled in cc
 
       done : (p : ℕ) → IsDoneAt (only_phase S n) (slice_get a.lists.nodes p)
@@ -109,5 +109,5 @@ module _ {N M : Type 0} (S : NodeSteps N M) where
         go (inr lt) (inl f) = let l : b.left ≡ a.left = ap (λ (x : CoreView N M). x.left) f in omega arith
         go (inr lt) (inr lt2) = omega arith
 
-  pub ready-alike : (i a : CoreView N M) → (state i) ≡ start i.lists.nodes → (state a) ≡ start a.lists.nodes → RunsTo S (state i) (state a) → EndAlike S i.lists.nodes a.lists.nodes
+  pub ready-alike : (i a : CoreView N M) → state i ≡ start i.lists.nodes → state a ≡ start a.lists.nodes → RunsTo S (state i) (state a) → EndAlike S i.lists.nodes a.lists.nodes
   ready-alike i a empty ready r = same-end S i.lists.nodes a.lists.nodes (r.0, sym ready ∙ r.1 ∙ ap (λ (c : CoreState N M). core_run S c r.0) empty)

@@ -56,7 +56,7 @@ module _ {N M : Type 0} (S : NodeSteps N M) where
       (step.leads ∙ ap (λ (x : CoreState N M). core_step S x (get_or choices k d).0) e ∙ sym (run-append S (map (λ (n : NodeId). n.0) (take k choices)) ((get_or choices k d).0 ∷ []) i))
 
   -- the choice at k wants memory
-  pub stops : {E : Type 0} (r : Result (Unit {0}) E) (i a b : CoreView N M) (choices : List NodeId) (k : ℕ) (d : NodeId) → k < length choices → (state a) ≡ core_run S (state i) (map (λ (n : NodeId). n.0) (take k choices)) → b ≡ a → ActsAt S a.lists.nodes (get_or choices k d).0 Local → OnErr r (StopsAt S (state i) (map (λ (n : NodeId). n.0) choices) (state b))
+  pub stops : {E : Type 0} (r : Result (Unit {0}) E) (i a b : CoreView N M) (choices : List NodeId) (k : ℕ) (d : NodeId) → k < length choices → state a ≡ core_run S (state i) (map (λ (n : NodeId). n.0) (take k choices)) → b ≡ a → ActsAt S a.lists.nodes (get_or choices k d).0 Local → OnErr r (StopsAt S (state i) (map (λ (n : NodeId). n.0) choices) (state b))
   stops (Ok u) i a b choices k d lt e same acts = tt
   stops (Err x) i a b choices k d lt e same acts = (
     k,

@@ -27,6 +27,10 @@ module _ {N M : Type 0} (S : NodeSteps N M) where
   abbrev pub CanStep : ℕ → Stage → CoreState N M → ℕ → Type 0
   CanStep n stage c p = (a : N) × (slice_get c.nodes p ≡ Some a) × IsInStage n stage a × IsEnabled S c p
 
+  -- the node p can send or take a letter of the phase n
+  abbrev pub CanPass : ℕ → CoreState N M → ℕ → Type 0
+  CanPass n c p = CanStep n Sends c p ⊎ CanStep n Takes c p
+
   -- core steps lead from old to new, which is old itself or nearer to the end
   pub record Advances (old new : CoreView N M) : Type 0 where
     pub runs : RunsTo S (state old) (state new)

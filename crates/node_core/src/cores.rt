@@ -45,7 +45,8 @@ fn step_in<N: PhasedNode>(
 ) -> Result<Stepped, OutOfMemory>
     requires core { IsCore N.steps (lists nodes.old.items queues.old.items) }
     requires there { node.0 < length nodes.old.items }
-    ensures step { IfOk result (λ stepped. IsStep N.steps (core_of (lists nodes.old.items queues.old.items)) node.0 stepped (core_of (lists nodes.new.items queues.new.items))) }
+    ensures step { IfOk result (λ stepped. IsStep N.steps (core_of (lists nodes.old.items queues.old.items)) node.0 stepped
+        (core_of (lists nodes.new.items queues.new.items))) }
     ensures core { IsCore N.steps (lists nodes.new.items queues.new.items) }
     ensures stays { IfOk result (λ stepped. stepped ≢ Stepped.Moved → lists nodes.new.items queues.new.items ≡ lists nodes.old.items queues.old.items) }
     ensures same { OnErr result (lists nodes.new.items queues.new.items ≡ lists nodes.old.items queues.old.items) }

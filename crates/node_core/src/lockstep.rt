@@ -1,12 +1,12 @@
 //! The lockstep run of a core: one phase after another.
 
-ghost use Rattle.std.specs.Prelude.{◌≡◌, ◌≢◌, ◌↔◌, ◌<◌, ◌⊎◌, ℕ, length, slice_get, IfSome, OnErr, OnOk, Some, None};
+ghost use Rattle.std.specs.Prelude.{◌≡◌, ◌≢◌, ◌↔◌, ◌<◌, ℕ, length, slice_get, IfSome, OnErr, OnOk, Some, None};
 ghost use Rattle.node_law.specs.Cores.{start, IsFinished};
 ghost use Rattle.node_law.specs.NextPhase.{UnfinishedAt, IsNextPhase};
 ghost use Rattle.node_law.specs.Phases.{Lockstep};
 ghost use Rattle.node_law.specs.Reached.{RunsTo, EndsInLockstep};
 ghost use Rattle.node_core.specs.CoreView.{state, WantsLocal, IsReady, EndAlike};
-ghost use Rattle.node_core.specs.Stage.{CanStep, Advances};
+ghost use Rattle.node_core.specs.Stage.{CanStep, CanPass, Advances};
 
 use crate::cores::Core;
 use crate::stage::Stage;
@@ -32,8 +32,8 @@ impl<N: PhasedNode> Core<N> {
 
     // The least node that can send a letter of the phase of this number, or take one where none can send.
     fn next_letter(&self, number: u64) -> Option<NodeId>
-        ensures some { IfSome result (λ node. (node.0 < length self.now.lists.nodes) × (CanStep N.steps number Stage.Sends (state self.now) node.0 ⊎ CanStep N.steps number Stage.Takes (state self.now) node.0)) }
-        ensures none { result ≡ None → (p : ℕ) → ¬ CanStep N.steps number Stage.Sends (state self.now) p × ¬ CanStep N.steps number Stage.Takes (state self.now) p }
+        ensures some { IfSome result (λ node. (node.0 < length self.now.lists.nodes) × CanPass N.steps number (state self.now) node.0) }
+        ensures none { result ≡ None → (p : ℕ) → ¬ CanPass N.steps number (state self.now) p }
     {
         match self.find(number, Stage::Sends) {
             Some(node) => Some(node),

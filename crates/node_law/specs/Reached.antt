@@ -40,7 +40,9 @@ module _ {N M : Type 0} (S : NodeSteps N M) where
 
   -- from whichever phased nodes the core is reached, these are the last nodes of their lockstep run
   abbrev pub EndsInLockstep : CoreState N M → List N → Type 0
-  EndsInLockstep c ns = (from : List N) (run : Lockstep S (slice_get from)) (before : List ℕ) → c ≡ core_run S (start from) before → (p : ℕ) → slice_get ns p ≡ after_at S (slice_get from p) (all_moves run.phases run.last p)
+  EndsInLockstep c ns =
+      (from : List N) (run : Lockstep S (slice_get from)) (before : List ℕ) → c ≡ core_run S (start from) before
+      → (p : ℕ) → slice_get ns p ≡ after_at S (slice_get from p) (all_moves run.phases run.last p)
 
   -- the node at p does this next
   abbrev pub ActsAt : List N → ℕ → Act → Type 0
@@ -48,7 +50,9 @@ module _ {N M : Type 0} (S : NodeSteps N M) where
 
   -- the node p is to send to a queue of four letters, or to take from an empty one
   abbrev pub IsWaiting : CoreState N M → ℕ → Type 0
-  IsWaiting c p = ((q : NodeId) × ActsAt c.nodes p (Send q) × (length (c.queue p q.0) ≡ capacity)) ⊎ ((q : NodeId) × ActsAt c.nodes p (Take q) × (c.queue q.0 p ≡ []))
+  IsWaiting c p =
+      ((q : NodeId) × ActsAt c.nodes p (Send q) × (length (c.queue p q.0) ≡ capacity))
+      ⊎ ((q : NodeId) × ActsAt c.nodes p (Take q) × (c.queue q.0 p ≡ []))
 
   -- what a step of the node p answers
   abbrev pub answer_by : Option N → Option (Move M) → Stepped
