@@ -1,6 +1,6 @@
 -- No public clause cites this file.
 -- What stands at the front of bytes, as it is read.
-use Rattle.std.specs.Prelude.{◌≡◌, ℕ, ℤ, pos, ◌<◌, ◌≤◌, ◌==◌, ◌^◌, Bool, not, IsTrue, IsFalse, List, [], ◌∷◌, length, take, drop, Option, Some, None, if◌then◌else◌}
+use Rattle.std.specs.Prelude.{◌≡◌, ℕ, ◌+◌, ℤ, pos, ◌<◌, ◌≤◌, ◌==◌, ◌^◌, Bool, not, IsTrue, IsFalse, List, [], ◌∷◌, length, take, drop, Option, Some, None, if◌then◌else◌}
 use Rattle.std.specs.Char.{is_ascii_digit}
 use Rattle.std.specs.Str.Parse.{digits_value}
 use Rattle.hpf_base.specs.declared.refusal.Reason.TheVariants.{BadLine}
@@ -48,6 +48,10 @@ IsValue digits n = (n ≡ pos (digits_value 10 digits)) × (digits_value 10 digi
 -- no front is a text between these delimiters
 abbrev pub NoneQuoted : ℕ → List ℕ → Type 0
 NoneQuoted delimiter bytes = (n : ℕ) → n ≤ length bytes → quoted delimiter (take n bytes) ≡ None
+
+-- a text between these delimiters stands at the front, without a doubled one in it
+abbrev pub IsQuoted : ℕ → List ℕ → List ℕ → Type 0
+IsQuoted delimiter bytes run = (length run + 2 ≤ length bytes) × (quoted delimiter (take (length run + 2) bytes) ≡ Some run)
 
 -- the first piece is of so many bytes
 pub record IsFirst (bytes : List ℕ) (len : ℕ) : Type 0 where
