@@ -10,6 +10,7 @@ use Rattle.token_scan.specs.declared.piece.Piece.{Piece}
 use Rattle.token_scan.specs.declared.piece.Piece.TheVariants.{Blank, Token, PastLimit, NoToken}
 use Rattle.token_scan.specs.declared.run.Run.{Run}
 use Rattle.token_scan.specs.declared.run.Run.TheVariants.{Word, Digits, Without}
+use Rattle.token_scan.specs.declared.table_word.TheConstants.{MAX_DOT_BYTES, MAX_SYMBOL_BYTES}
 use Rattle.token_scan.specs.declared.table_word.Words.{Words}
 use Rattle.token_scan.specs.declared.table_word.Words.TheVariants.{Dots, Symbols}
 use Rattle.token_scan.specs.Tokens.{characters, is_above_limit, is_no_token, is_past_limit, is_word_byte, kind_of, pieces, HasBreach}
@@ -24,6 +25,11 @@ is_in (Without byte) b = not (b == byte)
 abbrev pub words_of : Words → List (List ℕ)
 words_of Dots = dot_words
 words_of Symbols = symbols
+
+-- the most bytes of one of them
+abbrev pub most_bytes : Words → ℕ
+most_bytes Dots = MAX_DOT_BYTES
+most_bytes Symbols = MAX_SYMBOL_BYTES
 
 -- no front of more than so many bytes is one of the words
 abbrev pub NoWordLonger : List (List ℕ) → List ℕ → ℕ → Type 0
