@@ -3,5 +3,4 @@ pub mod Tables
 pub mod Runs
 pub mod TableWords
 pub mod Texts
-pub mod Values
 pub mod LineScan

@@ -9,24 +9,24 @@ use Rattle.hpf_base.specs.declared.refusal.Reason.TheVariants.{BadLine}
 use Rattle.op_tables.specs.Words.{code_in, dot_words, symbols}
 use Rattle.source_lines.specs.declared.token.TokenKind.TheVariants.{Dot, Symbol}
 use Rattle.token_scan.specs.Tokens.{first_class, pieces, upper, HasBreach}
-use Rattle.token_scan.specs.Pieces.{IsLongestWord, IsToken, NoWordLonger, words_of}
+use Rattle.token_scan.specs.Pieces.{IsLongestWord, IsToken, NoWordLonger, most_bytes, words_of}
 use Rattle.token_scan.specs.declared.byte_class.ByteClass.TheVariants.{Other, Period}
-use Rattle.token_scan.specs.declared.table_word.TheConstants.{MAX_WORD_BYTES}
+use Rattle.token_scan.specs.declared.table_word.TheConstants.{MAX_DOT_BYTES}
 use Rattle.token_scan.specs.declared.table_word.Words.{Words}
 use Rattle.token_scan.specs.declared.table_word.Words.TheVariants.{Dots, Symbols}
 use Rattle.token_scan.proofs.Fronts.{NoneLonger, no_front, token_front}
 use Rattle.token_scan.proofs.Runs.{length-upper}
 use Rattle.token_scan.proofs.Tables.{code_in-outside}
 
-words-short : (words : Words) → list_all (λ w. nat_le (length w) MAX_WORD_BYTES) (words_of words) ≡ true
+words-short : (words : Words) → list_all (λ w. nat_le (length w) (most_bytes words)) (words_of words) ≡ true
 words-short Dots = refl
 words-short Symbols = refl
 
 -- no word is longer than the longest
-word-none : (words : Words) (bytes : List ℕ) → MAX_WORD_BYTES < length bytes → code_in (words_of words) bytes ≡ None
-word-none words bytes long = code_in-outside (λ w. nat_le (length w) MAX_WORD_BYTES) (words_of words) bytes (words-short words) (lt-leb _ _ long)
+word-none : (words : Words) (bytes : List ℕ) → most_bytes words < length bytes → code_in (words_of words) bytes ≡ None
+word-none words bytes long = code_in-outside (λ w. nat_le (length w) (most_bytes words)) (words_of words) bytes (words-short words) (lt-leb _ _ long)
 
-pub no_word_longer : (words : Words) (bytes : List ℕ) (n : ℕ) → n ≡ min (length bytes) MAX_WORD_BYTES → NoWordLonger (words_of words) bytes n
+pub no_word_longer : (words : Words) (bytes : List ℕ) (n : ℕ) → n ≡ min (length bytes) (most_bytes words) → NoWordLonger (words_of words) bytes n
 no_word_longer words bytes n is m above below = word-none words (take m bytes) (omega (arith, length-take m bytes))
 
 take-fewer : (bytes : List ℕ) (m k : ℕ) → m ≤ k → take m (take k bytes) ≡ take m bytes
@@ -42,20 +42,20 @@ length-front : (bytes : List ℕ) (k : ℕ) → k ≤ length bytes → length (u
 length-front bytes k within = length-upper (take k bytes) ∙ omega (arith, length-take k bytes)
 
 -- of the fronts of all bytes none is a word that isn't one of a front that is long enough for any
-dots-none : (bytes : List ℕ) (n k : ℕ) → k ≡ min (length bytes) MAX_WORD_BYTES → NoWordLonger dot_words (upper (take k bytes)) n → NoneLonger Period bytes n
+dots-none : (bytes : List ℕ) (n k : ℕ) → k ≡ min (length bytes) MAX_DOT_BYTES → NoWordLonger dot_words (upper (take k bytes)) n → NoneLonger Period bytes n
 dots-none bytes n k e none m above below =
-    ap (option_map Dot) (elim (cases_lt MAX_WORD_BYTES m) [
+    ap (option_map Dot) (elim (cases_lt MAX_DOT_BYTES m) [
       | inl long ↦ word-none Dots (upper (take m bytes)) (omega (arith, length-front bytes m below))
       | inr short ↦ sym (ap (code_in dot_words) (upper-fewer bytes m k (omega arith))) ∙ none m above (omega (arith, length-front bytes k (omega arith)))
     ])
 
-pub dot_front : (bytes : List ℕ) (k len code : ℕ) → k ≡ min (length bytes) MAX_WORD_BYTES → first_class bytes ≡ Period → IsLongestWord dot_words (upper (take k bytes)) len code → IsToken bytes len (Dot code)
+pub dot_front : (bytes : List ℕ) (k len code : ℕ) → k ≡ min (length bytes) MAX_DOT_BYTES → first_class bytes ≡ Period → IsLongestWord dot_words (upper (take k bytes)) len code → IsToken bytes len (Dot code)
 dot_front bytes k len code e is word =
     let within : len ≤ k = omega (arith, word.within, length-front bytes k (omega arith)) in
     token_front Period bytes len (Dot code) is word.some (omega arith) (ap (λ w. option_map Dot (code_in dot_words w)) (sym (upper-fewer bytes len k within)) ∙ ap (option_map Dot) word.is)
     (dots-none bytes len k e word.longest)
 
-pub no_dot : (bytes : List ℕ) (k : ℕ) → k ≡ min (length bytes) MAX_WORD_BYTES → first_class bytes ≡ Period → NoWordLonger dot_words (upper (take k bytes)) 0 → HasBreach BadLine (pieces bytes)
+pub no_dot : (bytes : List ℕ) (k : ℕ) → k ≡ min (length bytes) MAX_DOT_BYTES → first_class bytes ≡ Period → NoWordLonger dot_words (upper (take k bytes)) 0 → HasBreach BadLine (pieces bytes)
 no_dot [] k e is none = absurd cc
 no_dot (b ∷ bytes) k e is none = no_front Period (b ∷ bytes) (omega arith) is (λ blank. absurd cc) (dots-none (b ∷ bytes) 0 k e none)
 

@@ -1,6 +1,6 @@
 -- No public clause cites this file.
 -- What stands at the front of bytes, as it is read.
-use Rattle.std.specs.Prelude.{◌≡◌, ℕ, ℤ, pos, ◌<◌, ◌≤◌, ◌==◌, ◌^◌, Bool, not, IsTrue, IsFalse, List, [], ◌∷◌, length, take, drop, Option, Some, None, if◌then◌else◌}
+use Rattle.std.specs.Prelude.{◌≡◌, ℕ, ◌+◌, ℤ, pos, ◌<◌, ◌≤◌, ◌==◌, ◌^◌, Bool, not, IsTrue, IsFalse, List, [], ◌∷◌, length, take, drop, Option, Some, None, if◌then◌else◌}
 use Rattle.std.specs.Char.{is_ascii_digit}
 use Rattle.std.specs.Str.Parse.{digits_value}
 use Rattle.hpf_base.specs.declared.refusal.Reason.TheVariants.{BadLine}
@@ -10,6 +10,7 @@ use Rattle.token_scan.specs.declared.piece.Piece.{Piece}
 use Rattle.token_scan.specs.declared.piece.Piece.TheVariants.{Blank, Token, PastLimit, NoToken}
 use Rattle.token_scan.specs.declared.run.Run.{Run}
 use Rattle.token_scan.specs.declared.run.Run.TheVariants.{Word, Digits, Without}
+use Rattle.token_scan.specs.declared.table_word.TheConstants.{MAX_DOT_BYTES, MAX_SYMBOL_BYTES}
 use Rattle.token_scan.specs.declared.table_word.Words.{Words}
 use Rattle.token_scan.specs.declared.table_word.Words.TheVariants.{Dots, Symbols}
 use Rattle.token_scan.specs.Tokens.{characters, is_above_limit, is_no_token, is_past_limit, is_word_byte, kind_of, pieces, HasBreach}
@@ -24,6 +25,11 @@ is_in (Without byte) b = not (b == byte)
 abbrev pub words_of : Words → List (List ℕ)
 words_of Dots = dot_words
 words_of Symbols = symbols
+
+-- the most bytes of one of them
+abbrev pub most_bytes : Words → ℕ
+most_bytes Dots = MAX_DOT_BYTES
+most_bytes Symbols = MAX_SYMBOL_BYTES
 
 -- no front of more than so many bytes is one of the words
 abbrev pub NoWordLonger : List (List ℕ) → List ℕ → ℕ → Type 0
@@ -48,6 +54,10 @@ IsValue digits n = (n ≡ pos (digits_value 10 digits)) × (digits_value 10 digi
 -- no front is a text between these delimiters
 abbrev pub NoneQuoted : ℕ → List ℕ → Type 0
 NoneQuoted delimiter bytes = (n : ℕ) → n ≤ length bytes → quoted delimiter (take n bytes) ≡ None
+
+-- a text between these delimiters stands at the front, without a doubled one in it
+abbrev pub IsQuoted : ℕ → List ℕ → List ℕ → Type 0
+IsQuoted delimiter bytes run = (length run + 2 ≤ length bytes) × (quoted delimiter (take (length run + 2) bytes) ≡ Some run)
 
 -- the first piece is of so many bytes
 pub record IsFirst (bytes : List ℕ) (len : ℕ) : Type 0 where

@@ -9,7 +9,7 @@ use crate::case::upper_case;
 use crate::number::value_of;
 use crate::quoted::quoted;
 use crate::run::{Run, run_len};
-use crate::table_word::{MAX_WORD_BYTES, Words, longest_word};
+use crate::table_word::{MAX_DOT_BYTES, Words, longest_word};
 use hpf_base::Name;
 use source_lines::{Bytes, TokenKind};
 use std::alloc::{AllocError, Global};
@@ -75,7 +75,7 @@ fn dot(alloc: Global, bytes: &[u8]) -> Result<Piece, AllocError>
     requires { first_class bytes.now ≡ ByteClass.Period }
     ensures { IfOk result (IsPiece bytes.now) }
 {
-    let front = upper_case(alloc, &bytes[..bytes.len().min(MAX_WORD_BYTES)])?;
+    let front = upper_case(alloc, &bytes[..bytes.len().min(MAX_DOT_BYTES)])?;
     match longest_word(Words::Dots, &front) {
         Some((len, code)) => Ok(Piece::Token(len, TokenKind::Dot(code))),
         None => Ok(Piece::NoToken),

@@ -1,13 +1,13 @@
 //! Character constants (Fortran 95, 4.3.2.1).
 
-ghost use Rattle.std.specs.Prelude.{◌≡◌, ◌+◌, ◌≤◌, MatchOption, Some, length, take};
-ghost use Rattle.token_scan.specs.Pieces.{NoneQuoted, quoted};
+ghost use Rattle.std.specs.Prelude.{MatchOption};
+ghost use Rattle.token_scan.specs.Pieces.{IsQuoted, NoneQuoted};
 
 use crate::run::{Run, run_len};
 
 /// The bytes between a delimiter at the front and the next one.
 pub(crate) fn quoted(delimiter: u8, bytes: &[u8]) -> Option<&[u8]>
-    ensures { MatchOption result (NoneQuoted delimiter bytes.now) (λ run. (length run.now + 2 ≤ length bytes.now) × (quoted delimiter (take (length run.now + 2) bytes.now) ≡ Some run.now)) }
+    ensures { MatchOption result (NoneQuoted delimiter bytes.now) (λ run. IsQuoted delimiter bytes.now run.now) }
 {
     let (first, rest) = bytes.split_first()?;
     if *first != delimiter {
