@@ -7,7 +7,6 @@
 
 mod forms;
 mod laws;
-mod line_split;
 mod program;
 mod scan;
 
