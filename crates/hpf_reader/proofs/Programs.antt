@@ -1,19 +1,14 @@
 -- The lines of a text, and what is wrong with their nest.
-use Rattle.std.proofs.Common.{◌≡◌, ◌≤◌, ℕ, List, [], ◌∷◌, length, map, true, Option, Some, None, refl, sym, ap, ◌∙◌, subst, arith}
+use Rattle.std.proofs.Common.{◌≡◌, ℕ, List, [], ◌∷◌, length, true, Some, None, refl, sym, ap, ◌∙◌, subst}
 use Rattle.hpf_base.specs.declared.refusal.Reason.{Reason}
-use Rattle.hpf_base.specs.declared.refusal.Refusal.{Refusal}
 use Rattle.hpf_base.specs.declared.refusal.StaticError.{StaticError}
 use Rattle.hpf_base.specs.declared.refusal.StaticError.TheVariants.{Refused, Memory}
 use Rattle.hpf_base.specs.Refusal.{IsRefusalBy, NoBreach}
-use Rattle.source_lines.specs.declared.line.LogicalLine.{LogicalLine}
 use Rattle.source_lines.specs.declared.line.LineKind.{LineKind}
 use Rattle.source_lines.specs.declared.line.LineKind.TheVariants as line
 use Rattle.source_lines.specs.PhysicalLines.{physical_lines}
 use Rattle.source_lines.specs.Breaches.{IsLineBreach}
 use Rattle.source_lines.specs.LogicalLines.{logical_lines}
-use Rattle.std.specs.List.{enumerate_from}
-use Rattle.std.proofs.lemmas.List.{length-map}
-use Rattle.std.proofs.lemmas.List.FromFn.{length-enumerate_from}
 use Rattle.syntax_tree.specs.Lexeme.{Lexeme}
 use Rattle.statement_reader.specs.Forms as statements
 use Rattle.statement_reader.specs.Breaches.{IsStatement}
@@ -23,7 +18,6 @@ use Rattle.directive_reader.specs.Breach.{IsDirective}
 use Rattle.directive_reader.specs.Reading.{directive}
 use Rattle.directive_reader.proofs.Verdicts.{found}
 use Rattle.line_forms.specs.Reading.{Reading, Found, Stopped}
-use Rattle.hpf_base.specs.FirstBreach.{IsFirstOrNone}
 use Rattle.nest_rules.specs.ProgramLine.{ProgramLine, LineContent, OfStatement, OfDirective}
 use Rattle.nest_rules.specs.Breaches.{IsNestBreach}
 use Rattle.hpf_base.proofs.FirstBreaches.{first_same}

@@ -1,5 +1,5 @@
 -- The program that a tree's lines mean is the tree's abstract syntax.
-use Rattle.std.proofs.Common.{◌≡◌, ℕ, Bool, true, false, not, ◌&&◌, if◌then◌else◌, List, [], ◌∷◌, map, Option, Some, None, option_map, refl, ap, sym, subst, ◌∙◌, nat_eq, inl, inr, Global}
+use Rattle.std.proofs.Common.{◌≡◌, ℕ, Bool, true, false, not, if◌then◌else◌, List, [], ◌∷◌, map, Option, Some, None, option_map, refl, ap, sym, ◌∙◌, nat_eq, Global}
 use Rattle.std.specs.Prelude.{is_some, Vec}
 use Rattle.syntax_tree.specs.declared.stmt.Header.{Header}
 use Rattle.nest_rules.specs.ProgramLine.{OfStatement}
@@ -30,10 +30,9 @@ use Rattle.syntax_tree.specs.declared.stmt.Item.{Item}
 use Rattle.syntax_tree.specs.declared.stmt.Item.TheVariants as held_item
 use Rattle.syntax_tree.specs.declared.stmt.Mark.{Mark as HeldMark}
 use Rattle.syntax_tree.specs.declared.stmt.Stmt.{Stmt}
-use Rattle.syntax_tree.specs.declared.stmt.DoLoop.{DoLoop}
 use Rattle.syntax_tree.specs.declared.stmt.Kind.{Kind as HeldKind}
 use Rattle.syntax_tree.specs.declared.stmt.Kind.TheBlock.{Assign, IfOne', If', Do, Where', Forall', Print, Stop, Exit, Cycle, Continue, Redistribute, struct-Arm, struct-DoLoop, Row_of-Stmt, end_of-Stmt, more_of-Stmt, Row_of-Arm, end_of-Arm, more_of-Arm, Held-Kind-If-1, None', Some'}
-use Rattle.syntax_tree.specs.Expression.{Expression, expression, reference}
+use Rattle.syntax_tree.specs.Expression.{expression, reference}
 use Rattle.syntax_tree.specs.Directive as directive
 use Rattle.syntax_tree.specs.Statement as syntax
 use Rattle.syntax_tree.specs.MainProgram as main

@@ -1,5 +1,5 @@
 -- No public clause cites this file. How far a program has been read.
-use Rattle.std.specs.Prelude.{◌≡◌, ℕ, Bool, true, false, List, [], ◌++◌, map, Option, Some, None, ◌⊎◌, if◌then◌else◌}
+use Rattle.std.specs.Prelude.{◌≡◌, ℕ, true, false, List, [], ◌++◌, map, Option, Some, None, ◌⊎◌, if◌then◌else◌}
 use Rattle.hpf_base.specs.Refusal.{NoBreach}
 use Rattle.statement_reader.specs.declared.kind.Kind.TheVariants as kind
 use Rattle.statement_reader.specs.Forms as statements

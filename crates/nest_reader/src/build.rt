@@ -85,7 +85,12 @@ pub(crate) fn whole(alloc: Global, line: u32, action: Action) -> Result<Stmt, Al
 }
 
 /// IF with an action.
-pub(crate) fn if_one(alloc: Global, line: u32, cond: Expr, action: Action) -> Result<Stmt, AllocError>
+pub(crate) fn if_one(
+    alloc: Global,
+    line: u32,
+    cond: Expr,
+    action: Action,
+) -> Result<Stmt, AllocError>
     ensures { IfOk result (λ s. spelled_statement s ≡ if_one_of line (expression cond) (action_of action)) }
 {
     let what = action_kind(alloc, line, action)?;

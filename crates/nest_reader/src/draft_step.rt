@@ -15,9 +15,9 @@ ghost use Rattle.nest_reader.specs.ProgramLines.{else_if};
 ghost use Rattle.nest_reader.specs.Draft.{AreOpen, IsAppended, IsBehind, IsDraft, IsNested, IsOpened, Takes, end_part, clauses_in, innermost, shape, status};
 ghost use Rattle.nest_reader.specs.NextLine.{action_line, finish_line, if_line, independent_line, redistribute_line, statement_line, single_or_marked};
 
+use crate::build::{if_one, marked_forall, redistributed, whole};
 use crate::construct_end::{ended, finished};
 use crate::draft::{Draft, Open, Opened};
-use crate::build::{if_one, marked_forall, redistributed, whole};
 use statement_reader::{Action, DoHead, ForallHead};
 use std::alloc::{AllocError, Global};
 use syntax_tree::{DistSpec, EndForm, Expr, Mark, Stmt};
@@ -89,7 +89,10 @@ pub(crate) fn take_action(
     ensures { IfOk result (λ d. IsBehind draft (action_line line action) d) }
 {
     let Draft {
-        opens, block, mark, ..
+        opens,
+        block,
+        mark,
+        ..
     } = draft;
     let stmt = single(alloc, line, mark.is_some(), action)?;
     appended(opens, block, stmt)
@@ -153,7 +156,10 @@ pub(crate) fn open_do(
     ensures { IfOk result (λ d. IsBehind draft (statement_line line (statements.Plain kind.Do (do_of head))) d) }
 {
     let Draft {
-        opens, block, mark, ..
+        opens,
+        block,
+        mark,
+        ..
     } = draft;
     nested(alloc, opens, block, Opened::Do { line, head, mark })
 }
@@ -185,7 +191,10 @@ pub(crate) fn open_forall(
     ensures { IfOk result (λ d. IsBehind draft (statement_line line (statements.Plain kind.Forall (forall_of head, None))) d) }
 {
     let Draft {
-        opens, block, mark, ..
+        opens,
+        block,
+        mark,
+        ..
     } = draft;
     let marked = mark.is_some();
     nested(alloc, opens, block, Opened::Forall { line, head, marked })

@@ -14,7 +14,7 @@ use crate::draft_step::{
     otherwise, take_action, take_if_one, take_redistribute,
 };
 use directive_reader::DirectiveLine;
-use nest_rules::{ProgramLine, LineContent};
+use nest_rules::{LineContent, ProgramLine};
 use statement_reader::Statement;
 use std::alloc::{AllocError, Global};
 use syntax_tree::{EndForm, Mark};

@@ -17,7 +17,7 @@ use crate::draft::Draft;
 use crate::next_line::behind;
 use directive_reader::DirectiveLine;
 use hpf_base::Name;
-use nest_rules::{ProgramLine, LineContent};
+use nest_rules::{LineContent, ProgramLine};
 use statement_reader::Statement;
 use std::alloc::{AllocError, Global};
 use syntax_tree::{Decl, DeclKind, Tree};

@@ -6,11 +6,11 @@ ghost use Rattle.hpf_base.specs.FirstBreach.{IsFirstOrNone};
 ghost use Rattle.nest_rules.specs.Found.{declared_length, end_reason, is_declaration};
 ghost use Rattle.nest_rules.specs.ProgramLine.{lines_of};
 
+use crate::nest_state::{NestState, is_statement};
 use crate::program_line::ProgramLine;
 use crate::role::Role;
 use crate::roles::role_of;
 use crate::rules::least_reason;
-use crate::nest_state::{NestState, is_statement};
 use hpf_base::{Reason, Refusal, at_line, earlier};
 use std::alloc::{AllocError, Global};
 
@@ -63,7 +63,11 @@ fn declared_length(roles: &[Role]) -> usize
 /// of the text: the breach of the least line, and of those on one line the one of the least reason; None where no line
 /// breaks a rule. `last` is the number of the text's last line, and 0 where the text has none: a text without END is refused
 /// there, and at line 1 where it has no line. An `Err` is want of memory, which it takes for the roles of the lines and the open constructs.
-pub fn first_breach(alloc: Global, last: u32, lines: &[ProgramLine]) -> Result<Option<Refusal>, AllocError>
+pub fn first_breach(
+    alloc: Global,
+    last: u32,
+    lines: &[ProgramLine],
+) -> Result<Option<Refusal>, AllocError>
     ensures { IfOk result (λ r. IsFirstOrNone (IsNestBreach last (lines_of lines.now)) r) }
 {
     let roles = roles_of(alloc, lines)?;

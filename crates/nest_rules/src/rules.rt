@@ -5,9 +5,9 @@ ghost use Rattle.nest_rules.specs.Rules.{comes_late, declaration_comes, fits_whe
 ghost use Rattle.nest_rules.specs.Found.{least_reason};
 ghost use Rattle.nest_rules.specs.NestState.{is_statement};
 
+use crate::nest_state::{NestState, is_passed};
 use crate::open_constructs::{Opens, is_where_or_forall};
 use crate::role::{Clauses, Construct, Role};
-use crate::nest_state::{NestState, is_passed};
 use hpf_base::{MAX_NESTING, Reason};
 
 /// An END part that doesn't close the innermost open construct, or an ELSE part out of place.
