@@ -2,7 +2,7 @@
 use Rattle.std.proofs.Common.{◌≡◌, ℕ, zero, suc, ◌+◌, ◌-◌, ◌*◌, ◌<◌, ◌≤◌, Bool, true, false, cond, List, [], ◌∷◌, ◌++◌, length, take, drop, get_or, map, refl, sym, ap, subst, inl, arith}
 use Rattle.std.specs.Prelude.{All, filter, bytes_eq, if◌then◌else◌, nat_eq, nat_lt, not, ◌||◌}
 use Rattle.std.specs.List.{concat, enumerate_from, flat_map, join_with_byte, prefix_len, list_all, list_any, starts_with}
-use Rattle.std.proofs.lemmas.Bool.{ltb-false, false≢true}
+use Rattle.std.proofs.lemmas.Bool.{false_from_ne_true, ltb-false, false≢true}
 use Rattle.std.proofs.lemmas.List.{length-take, length-drop, length-append, get_or_default}
 use Rattle.std.proofs.lemmas.List.Elements.{All-append, All-cons, All-filter, All-head, All-map, All-nil, All-tail, All-take}
 use Rattle.hpf_base.specs.Refusal.{NoBreach}
@@ -79,17 +79,13 @@ sound_lines : (text : List ℕ) → All (λ line. line.bad ≡ false → IsShort
 sound_lines text =
     All-map (λ line. line.bad ≡ false → IsShort line) (λ (x : ℕ × List ℕ). physical_line x.0 x.1) (enumerate_from 1 (physical_lines text)) (λ k d lt fine. code-short (get_or (enumerate_from 1 (physical_lines text)) k d).1 fine)
 
-false_if : (t : Bool) → (t ≡ true → ⊥) → t ≡ false
-false_if true h = absurd (h refl)
-false_if false h = refl
-
 -- where a text has no breach, its lines are short
 fine_lines : (text : List ℕ) → IsClear (numbered_lines text) (length (numbered_lines text)) → All IsShort (numbered_lines text)
 fine_lines text clear k d lt =
     let line = get_or (numbered_lines text) k d in
     let whole = parted_at (numbered_lines text) k line lt (get_or_default (numbered_lines text) k d line lt) in
     let front : length (take k (numbered_lines text)) < length (numbered_lines text) = omega (arith, length-take k (numbered_lines text), lt) in
-    sound_lines text k d lt (false_if line.bad (λ bad. clear (take k (numbered_lines text)) line (drop (k + 1) (numbered_lines text)) BadLine whole front (inl bad)))
+    sound_lines text k d lt (false_from_ne_true line.bad (λ bad. clear (take k (numbered_lines text)) line (drop (k + 1) (numbered_lines text)) BadLine whole front (inl bad)))
 
 -- lists of at most so many elements
 abbrev AreWithin : ℕ → List (List ℕ) → Type 0

@@ -40,7 +40,8 @@ goes_on kind (line ∷ lines) = meets line.kind (goes_on kind lines)
 -- why the line between these is a breach
 abbrev pub IsBreachAt : List PhysicalLine → PhysicalLine → List PhysicalLine → Reason → Type 0
 IsBreachAt before line after BadLine = IsTrue line.bad ⊎ (IsTrue (is_continued line) × IsFalse (goes_on line.kind after))
-IsBreachAt before line after Limit = (line.number ≡ MAX_LINES + 1) ⊎ (IsFalse (is_passed line.kind) × (suffix_len is_continued (standing before) ≡ MAX_CONTINUATIONS + 1))
+IsBreachAt before line after Limit =
+    (line.number ≡ MAX_LINES + 1) ⊎ (IsFalse (is_passed line.kind) × (suffix_len is_continued (standing before) ≡ MAX_CONTINUATIONS + 1))
 IsBreachAt before line after reason = ⊥
 
 -- of the reasons for which the line between these is a breach the least, if there is one

@@ -105,7 +105,9 @@ pub record PhysicalLine : Type 0 where
   pub bad : Bool
 
 abbrev pub physical_line : ℕ → List ℕ → PhysicalLine
-physical_line number line = record { number = number; kind = kind_of (line_kind line) (code_of (content line)); code = code_of (content line); bad = is_bad line }
+physical_line number line =
+    let code = code_of (content line) in
+    record { number = number; kind = kind_of (line_kind line) code; code = code; bad = is_bad line }
 
 abbrev pub numbered_lines : List ℕ → List PhysicalLine
 numbered_lines text = map (λ x. physical_line x.0 x.1) (enumerate_from 1 (physical_lines text))
