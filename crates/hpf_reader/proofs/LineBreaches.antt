@@ -1,24 +1,20 @@
 -- Breaches of lines.
-use Rattle.std.proofs.Common.{◌≡◌, ◌≤◌, ◌<◌, ℕ, zero, suc, ◌+◌, List, [], ◌∷◌, ◌++◌, length, get_or, take, map, Option, Some, None, Bool, true, false, ◌⊎◌, inl, inr, refl, sym, ap, ◌∙◌, subst, arith, ⊎_elim}
+use Rattle.std.proofs.Common.{◌≡◌, ◌<◌, ℕ, zero, suc, ◌+◌, List, [], ◌∷◌, ◌++◌, length, get_or, take, map, Option, Some, None, Bool, true, false, ◌⊎◌, inl, inr, refl, sym, ap, ◌∙◌, subst, arith, ⊎_elim}
 use Rattle.std.specs.Prelude.{if◌then◌else◌, IfNone}
 use Rattle.std.proofs.lemmas.List.{take_more}
-use Rattle.std.proofs.lemmas.Bool.{cases_lt}
-use Rattle.hpf_base.specs.Text.{lines_of as text_lines}
 use Rattle.hpf_base.specs.declared.refusal.Reason.{Reason}
 use Rattle.hpf_base.specs.declared.refusal.Refusal.{Refusal}
 use Rattle.hpf_base.specs.declared.refusal.StaticError.{StaticError}
 use Rattle.hpf_base.specs.declared.refusal.StaticError.TheVariants.{Refused, Memory}
-use Rattle.hpf_base.specs.Refusal.{IsFirstBreach, IsRefusalBy, NoBreach}
+use Rattle.hpf_base.specs.Refusal.{IsRefusalBy, NoBreach}
 use Rattle.source_lines.specs.declared.line.LogicalLine.{LogicalLine}
 use Rattle.source_lines.specs.declared.line.LineKind.TheVariants as line
-use Rattle.source_lines.specs.declared.token.Token.{Token}
-use Rattle.token_scan.specs.Tokens.{tokens}
 use Rattle.syntax_tree.specs.Lexeme.{Lexeme}
 use Rattle.statement_reader.specs.Breaches.{IsStatementBreach}
 use Rattle.directive_reader.specs.Breach.{IsDirectiveBreach}
 use Rattle.nest_rules.specs.declared.program_line.ProgramLine.{ProgramLine as HeldLine}
 use Rattle.hpf_base.specs.FirstBreach.{IsFirstOrNone, is_before, earlier}
-use Rattle.nest_rules.specs.ProgramLine.{ProgramLine, line_of, lines_of}
+use Rattle.nest_rules.specs.ProgramLine.{line_of, lines_of}
 use Rattle.hpf_base.proofs.FirstBreaches.{first_both, first_same}
 use Rattle.hpf_reader.specs.ProgramText.{LexemeLine, lexeme_line, OneBreaks, IsLineOf, AreLinesOf, FormBreaks, IsWrong}
 use Rattle.hpf_reader.specs.OneMore.{IsRead, IsScanned}

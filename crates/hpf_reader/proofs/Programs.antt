@@ -1,20 +1,14 @@
 -- The lines of a text, and what is wrong with their nest.
-use Rattle.std.proofs.Common.{◌≡◌, ◌≤◌, ℕ, List, [], ◌∷◌, length, map, true, Option, Some, None, refl, sym, ap, ◌∙◌, subst, arith}
-use Rattle.hpf_base.specs.declared.limits.TheConstants.{MAX_LINES}
-use Rattle.hpf_base.specs.Text.{lines_of as text_lines}
+use Rattle.std.proofs.Common.{◌≡◌, ℕ, List, [], ◌∷◌, length, true, Some, None, refl, sym, ap, ◌∙◌, subst}
 use Rattle.hpf_base.specs.declared.refusal.Reason.{Reason}
-use Rattle.hpf_base.specs.declared.refusal.Refusal.{Refusal}
-use Rattle.hpf_base.specs.Refusal.{NoBreach}
-use Rattle.source_lines.specs.declared.line.LogicalLine.{LogicalLine}
+use Rattle.hpf_base.specs.declared.refusal.StaticError.{StaticError}
+use Rattle.hpf_base.specs.declared.refusal.StaticError.TheVariants.{Refused, Memory}
+use Rattle.hpf_base.specs.Refusal.{IsRefusalBy, NoBreach}
 use Rattle.source_lines.specs.declared.line.LineKind.{LineKind}
 use Rattle.source_lines.specs.declared.line.LineKind.TheVariants as line
-use Rattle.source_lines.specs.Rows.{physical_lines, rows_of, row_of, without_return}
+use Rattle.source_lines.specs.PhysicalLines.{physical_lines}
 use Rattle.source_lines.specs.Breaches.{IsLineBreach}
-use Rattle.source_lines.specs.Lines.{logical_lines}
-use Rattle.source_lines.proofs.BreachLaws.{clear_few, fine_clear, rows_numbered}
-use Rattle.std.specs.List.{enumerate_from}
-use Rattle.std.proofs.lemmas.List.{length-map}
-use Rattle.std.proofs.lemmas.List.FromFn.{length-enumerate_from}
+use Rattle.source_lines.specs.LogicalLines.{logical_lines}
 use Rattle.syntax_tree.specs.Lexeme.{Lexeme}
 use Rattle.statement_reader.specs.Forms as statements
 use Rattle.statement_reader.specs.Breaches.{IsStatement}
@@ -24,7 +18,6 @@ use Rattle.directive_reader.specs.Breach.{IsDirective}
 use Rattle.directive_reader.specs.Reading.{directive}
 use Rattle.directive_reader.proofs.Verdicts.{found}
 use Rattle.line_forms.specs.Reading.{Reading, Found, Stopped}
-use Rattle.hpf_base.specs.FirstBreach.{IsFirstOrNone}
 use Rattle.nest_rules.specs.ProgramLine.{ProgramLine, LineContent, OfStatement, OfDirective}
 use Rattle.nest_rules.specs.Breaches.{IsNestBreach}
 use Rattle.hpf_base.proofs.FirstBreaches.{first_same}
@@ -36,15 +29,7 @@ use Rattle.syntax_tree.specs.MainProgram.{MainProgram, main_program}
 use Rattle.nest_reader.specs.Meant.{meant}
 use Rattle.nest_reader.specs.Views.{spelled_program}
 use Rattle.nest_reader.proofs.Meanings.{meant_is}
-use Rattle.hpf_reader.specs.ProgramText.{LexemeLine, lexeme_lines, IsContent, IsLineOf, AreLinesOf, IsProgramText, IsMeantBy, NestBreaks}
-
--- a text without a breach in its lines has at most MAX_LINES of them
-pub few_lines : (text : List ℕ) → NoBreach (IsLineBreach text) → length (text_lines text) ≤ MAX_LINES
-few_lines text h =
-    let few = clear_few (rows_of text) (length (rows_of text)) (rows_numbered (rows_of text) (text, refl)) (fine_clear (rows_of text) h) (omega arith) in
-    let long : length (rows_of text) ≡ length (text_lines text) =
-    length-map (enumerate_from 1 (physical_lines text)) (λ x. row_of x.0 x.1) ∙ length-enumerate_from 1 (physical_lines text) ∙ length-map (text_lines text) without_return in
-    omega (arith, few, long)
+use Rattle.hpf_reader.specs.ProgramText.{LexemeLine, lexeme_lines, IsContent, IsLineOf, AreLinesOf, IsProgramText, IsMeantBy, TokensBreak, FormsBreak, NestBreaks, IsProgramRefusal, by_nest}
 
 abbrev found_in : (d : directives.Form) → Reading directives.Form → directives.Form
 found_in d (Found x) = x.0
@@ -81,14 +66,26 @@ same_lines (l ∷ ls) [] b h i = absurd h
 same_lines (l ∷ ls) (x ∷ a) [] h i = absurd i
 same_lines (l ∷ ls) (x ∷ a) (y ∷ b) h i = λ k. same_line l x y h.0 i.0 k ∷ same_lines ls a b h.1 i.1 k
 
--- the first breach of the nest of a text is that of its lines
-pub first_of_nest : (text : List ℕ) (n : ℕ) (ss : List ProgramLine) (o : Option Refusal) → n ≡ length (text_lines text) → AreLinesOf (lexeme_lines text) ss → IsFirstOrNone (IsNestBreach n ss) o → IsFirstOrNone (NestBreaks text) o
-first_of_nest text n ss o count read h =
-    let last : n ≡ length (physical_lines text) = count ∙ sym (length-map (text_lines text) without_return) in
-    first_same (IsNestBreach n ss) (NestBreaks text) o
-    (λ line why b. record { lines = ss; read = read; broken = subst (λ n. IsNestBreach n ss line why) last b })
-    (λ line why b. subst (λ n. IsNestBreach n ss line why) (sym last) (subst (λ ss. IsNestBreach (length (physical_lines text)) ss line why) (same_lines (lexeme_lines text) b.lines ss b.read read) b.broken))
-    h
+-- the breaches of the nest of a text are those of its lines
+module _ (text : List ℕ) (n : ℕ) (ss : List ProgramLine) (last : n ≡ length (physical_lines text)) (read : AreLinesOf (lexeme_lines text) ss) where
+  of_text : (line : ℕ) (why : Reason) → IsNestBreach n ss line why → NestBreaks text line why
+  of_text line why b = record { lines = ss; read = read; broken = subst (λ n. IsNestBreach n ss line why) last b }
+
+  of_lines : (line : ℕ) (why : Reason) → NestBreaks text line why → IsNestBreach n ss line why
+  of_lines line why b =
+      subst (λ n. IsNestBreach n ss line why) (sym last)
+      (subst (λ ss. IsNestBreach (length (physical_lines text)) ss line why) (same_lines (lexeme_lines text) b.lines ss b.read read) b.broken)
+
+  pub nest_free : NoBreach (IsNestBreach n ss) → NoBreach (NestBreaks text)
+  nest_free = first_same (IsNestBreach n ss) (NestBreaks text) None of_text of_lines
+
+  pub nest_refused : (e : StaticError) → IsRefusalBy (IsNestBreach n ss) e → IsRefusalBy (NestBreaks text) e
+  nest_refused (Refused r) h = first_same (IsNestBreach n ss) (NestBreaks text) (Some r) of_text of_lines h
+  nest_refused Memory h = tt
+
+pub refused_by_nest : (text : List ℕ) (e : StaticError) → NoBreach (IsLineBreach text) → NoBreach (TokensBreak (logical_lines text)) → NoBreach (FormsBreak (lexeme_lines text)) → IsRefusalBy (NestBreaks text) e → IsProgramRefusal text e
+refused_by_nest text (Refused r) lines tokens forms h = by_nest lines tokens forms h
+refused_by_nest text Memory lines tokens forms h = tt
 
 -- a text spells one program at most
 pub one_tree : (text : List ℕ) (p q : SpelledProgram) → IsProgramText text p → IsProgramText text q → p ≡ q

@@ -8,9 +8,9 @@ use Rattle.hpf_base.specs.Refusal.{IsFirstBreach, NoBreach}
 use Rattle.source_lines.specs.declared.line.LogicalLine.{LogicalLine}
 use Rattle.source_lines.specs.declared.line.LineKind.{LineKind}
 use Rattle.source_lines.specs.declared.line.LineKind.TheVariants as line
-use Rattle.source_lines.specs.Rows.{physical_lines}
+use Rattle.source_lines.specs.PhysicalLines.{physical_lines}
 use Rattle.source_lines.specs.Breaches.{IsLineBreach}
-use Rattle.source_lines.specs.Lines.{logical_lines}
+use Rattle.source_lines.specs.LogicalLines.{logical_lines}
 use Rattle.token_scan.specs.Tokens.{tokens, IsTokenBreach}
 use Rattle.syntax_tree.specs.Lexeme.{Lexeme, lexemes}
 use Rattle.syntax_tree.specs.MainProgram.{MainProgram}

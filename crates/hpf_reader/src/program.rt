@@ -1,18 +1,16 @@
 //! Reading a text as a program.
 
-ghost use Rattle.std.specs.Prelude.{◌≡◌, ◌≤◌, IfOk, IfErr, OnOk, length};
-ghost use Rattle.hpf_base.specs.declared.limits.TheConstants.{MAX_LINES};
+ghost use Rattle.std.specs.Prelude.{◌≡◌, IfOk, IfErr, OnOk};
 ghost use Rattle.hpf_base.specs.Refusal.{IsRefusalBy, NoBreach};
-ghost use Rattle.hpf_base.specs.Text.{lines_of as text_lines};
 ghost use Rattle.syntax_tree.specs.MainProgram.{main_program};
+ghost use Rattle.nest_rules.specs.Breaches.{IsNestBreach};
 ghost use Rattle.nest_rules.specs.ProgramLine.{lines_of};
 ghost use Rattle.nest_reader.specs.Formed.{IsProgram};
 ghost use Rattle.nest_reader.specs.ProgramLines.{IsSpelled};
 ghost use Rattle.nest_reader.specs.Views.{spelled_program};
-ghost use Rattle.hpf_reader.specs.ProgramText.{AreLinesOf, HasNoBreach, IsMeantBy, IsProgramRefusal, IsProgramText, NestBreaks, lexeme_lines};
+ghost use Rattle.hpf_reader.specs.ProgramText.{HasNoBreach, IsMeantBy, IsProgramRefusal, IsProgramText};
 
 use crate::forms::forms;
-use crate::line_split::line_count;
 use crate::scan::scan;
 use hpf_base::StaticError;
 use nest_reader::read_nest;
@@ -40,11 +38,11 @@ pub fn read_program(alloc: Global, text: &[u8]) -> Result<Tree, StaticError>
     ensures fine { OnOk result (HasNoBreach text.now) }
     ensures refused { IfErr result (IsProgramRefusal text.now) }
 {
-    let lines = match logical_lines(alloc, text) {
-        Ok(lines) => lines,
+    let text_lines = match logical_lines(alloc, text) {
+        Ok(found) => found,
         Err(error) => return Err(error),
     };
-    let scanned = match scan(alloc, &lines) {
+    let scanned = match scan(alloc, &text_lines.lines) {
         Ok(scanned) => scanned,
         Err(error) => return Err(error),
     };
@@ -52,19 +50,20 @@ pub fn read_program(alloc: Global, text: &[u8]) -> Result<Tree, StaticError>
         Ok(forms) => forms,
         Err(error) => return Err(error),
     };
-    nest(alloc, text, forms)
+    match nest(alloc, text_lines.line_count, forms) {
+        Ok(tree) => Ok(tree),
+        Err(error) => Err(error),
+    }
 }
 
-/// The tree of a text whose lines are these statements and directives.
-fn nest(alloc: Global, text: &[u8], forms: Vec<ProgramLine>) -> Result<Tree, StaticError>
-    requires few { length (text_lines text.now) ≤ MAX_LINES }
-    requires read { AreLinesOf (lexeme_lines text.now) (lines_of forms.items) }
-    ensures read { IfOk result (λ t. IsProgramText text.now (spelled_program t)) }
-    ensures meant { IfOk result (λ t. IsMeantBy text.now (main_program t)) }
-    ensures fine { OnOk result (NoBreach (NestBreaks text.now)) }
-    ensures refused { IfErr result (IsRefusalBy (NestBreaks text.now)) }
+/// The tree of a text whose lines are these statements and directives; `last` is the number of its last line.
+fn nest(alloc: Global, last: u32, forms: Vec<ProgramLine>) -> Result<Tree, StaticError>
+    ensures spelled { IfOk result (λ t. IsSpelled (lines_of forms.items) (spelled_program t)) }
+    ensures formed { IfOk result (λ t. IsProgram (spelled_program t)) }
+    ensures fine { OnOk result (NoBreach (IsNestBreach last (lines_of forms.items))) }
+    ensures refused { IfErr result (IsRefusalBy (IsNestBreach last (lines_of forms.items))) }
 {
-    if let Some(refusal) = first_breach(alloc, line_count(text), &forms)? {
+    if let Some(refusal) = first_breach(alloc, last, &forms)? {
         return Err(StaticError::Refused(refusal));
     }
     Ok(read_nest(alloc, forms)?)

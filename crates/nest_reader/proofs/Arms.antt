@@ -9,7 +9,7 @@ use Rattle.nest_reader.specs.declared.draft.Opened.TheVariants as opened
 use Rattle.nest_reader.specs.SpelledProgram.{SpelledBlock, IfBlocks, IfBlock, NoIfBlock}
 use Rattle.nest_reader.specs.Views.{arm_before, spelled_if_blocks}
 use Rattle.nest_reader.specs.Formed.{IsBlock, AreMore}
-use Rattle.nest_reader.specs.ProgramLines.{arms_lines, block_lines, first_lines, else_if}
+use Rattle.nest_reader.specs.ProgramLines.{else_if_lines, block_lines, if_lines, else_if}
 use Rattle.nest_reader.specs.Draft.{AreFinished, IsOpened}
 use Rattle.nest_reader.proofs.Lists.{arms_push, arms_sound, begun_push}
 
@@ -17,9 +17,9 @@ pub next_finished : (first : ℕ) (v : Vec HeldArm Global) (n : ℕ) (cond : Exp
 next_finished first v n cond glued b a ys is h g e = subst (λ ys. AreFinished (opened.ElseIf first v n cond glued) b first ys) (sym e) record {
   lines =
       arms_push first v.items a h.0
-      ∙ ap (λ as'. first_lines (spelled_if_blocks v.items) ++ arms_lines as') (is NoIfBlock)
-      ∙ ap (λ l. first_lines (spelled_if_blocks v.items) ++ (Some n, OfStatement (else_if glued (expression cond))) ∷ l) (append-nil (block_lines b))
-      ∙ sym (append_assoc (first_lines (spelled_if_blocks v.items)) ((Some n, OfStatement (else_if glued (expression cond))) ∷ []) (block_lines b));
+      ∙ ap (λ as'. if_lines (spelled_if_blocks v.items) ++ else_if_lines as') (is NoIfBlock)
+      ∙ ap (λ l. if_lines (spelled_if_blocks v.items) ++ (Some n, OfStatement (else_if glued (expression cond))) ∷ l) (append-nil (block_lines b))
+      ∙ sym (append_assoc (if_lines (spelled_if_blocks v.items)) ((Some n, OfStatement (else_if glued (expression cond))) ∷ []) (block_lines b));
   begun = begun_push first v.items a h.0;
   sound = arms_sound v.items a h.1 (subst AreMore (sym (is NoIfBlock)) (g, tt));
 }

@@ -22,12 +22,12 @@ use Rattle.nest_rules.specs.NestState.{Open, NestState, state_at_start, is_end, 
 use Rattle.nest_reader.specs.declared.draft.Draft.{Draft}
 use Rattle.nest_reader.specs.declared.draft.Open.{Open as HeldOpen}
 use Rattle.nest_reader.specs.declared.progress.Progress.{Progress}
-use Rattle.nest_reader.specs.Views.{spelled_block, declaration_line, finish_of, spelled_independent, spelled_program}
+use Rattle.nest_reader.specs.Views.{spelled_block, declaration_line, spelled_end, spelled_independent, spelled_program}
 use Rattle.nest_reader.specs.Formed.{AreDeclared, IsBlock, IsProgram}
-use Rattle.nest_reader.specs.ProgramLines.{AreEntriesOf, IsSpelled, block_lines, end_line, from_name, is_declared, is_program, kept_behind_name, kept_lines, mark_lines, name_lines, numbered, program_lines, without_passed}
+use Rattle.nest_reader.specs.ProgramLines.{AreEntriesOf, IsSpelled, block_lines, end_line, from_name, is_declared, is_program, kept_behind_name, kept_lines, independent_lines, name_lines, numbered, program_lines, without_passed}
 use Rattle.nest_reader.specs.Draft.{AreOpen, IsBehind, Takes, draft_lines, end_lines, is_inner, opens_lines, shape, status}
 use Rattle.nest_reader.specs.Progress.{IsMarked, IsPhase, Before, Among, Over, IsProgress, front_lines}
-use Rattle.nest_reader.specs.NextLine.{said}
+use Rattle.nest_reader.specs.NextLine.{statement_line}
 use Rattle.nest_reader.proofs.Lists.{are_push}
 use Rattle.nest_reader.proofs.Kept.{are_behind, declared_behind, freed, going, in_time, inner_behind, inner_declared, inner_passed, inner_program, kept_without, marked_behind, marked_here, marked_next, not_misdirected, not_misplaced, other_name, passed_from, passed_name, passed_without, placed, stated_next}
 
@@ -46,7 +46,7 @@ clash false h g = absurd cc
 -- PROGRAM
 module _ (ls : List ProgramLine) (last n : ℕ) (x : List ℕ) (rest : List ProgramLine) (v w : Vec Decl Global) (o : Option (List ℕ)) (draft : Draft) (over : Bool) (empty : w.items ≡ []) where
   abbrev named_line : ProgramLine
-  named_line = said n (statements.Plain kind.Program x)
+  named_line = statement_line n (statements.Plain kind.Program x)
 
   abbrev before_name : Progress
   before_name = record { name = o; decls = v; draft = draft; over = over }
@@ -326,8 +326,8 @@ module _ (ls : List ProgramLine) (last : ℕ) (o : Option (List ℕ)) (v : Vec D
     closed : (draft.opens.items ≡ []) × (draft.mark ≡ None)
     closed = subst (λ o. IfSome o (λ e. (draft.opens.items ≡ []) × (draft.mark ≡ None))) ends p.sound.2
 
-    last_lines : draft_lines draft ≡ block_lines (spelled_block draft.block.items) ++ end_line (finish_of e) ∷ []
-    last_lines = (λ i. (opens_lines (closed.0 i) ++ block_lines (spelled_block draft.block.items)) ++ (mark_lines (option_map spelled_independent (closed.1 i)) ++ end_lines (ends i)))
+    last_lines : draft_lines draft ≡ block_lines (spelled_block draft.block.items) ++ end_line (spelled_end e) ∷ []
+    last_lines = (λ i. (opens_lines (closed.0 i) ++ block_lines (spelled_block draft.block.items)) ++ (independent_lines (option_map spelled_independent (closed.1 i)) ++ end_lines (ends i)))
 
     abbrev the_tree : Tree
     the_tree = record { name = o; decls = v; body = draft.block; end = e }
@@ -336,4 +336,4 @@ module _ (ls : List ProgramLine) (last : ℕ) (o : Option (List ℕ)) (v : Vec D
     tree_spelled = (subst (AreEntriesOf (program_lines (spelled_program the_tree))) (sym all_kept) (subst (λ es. AreEntriesOf es p.kept) grouped p.lines), (p.declared, p.sound.1))
       where
         grouped : (name_lines o ++ map numbered (map declaration_line v.items)) ++ draft_lines draft ≡ program_lines (spelled_program the_tree)
-        grouped = ap (λ es. (name_lines o ++ map numbered (map declaration_line v.items)) ++ es) last_lines ∙ sym (append_assoc (name_lines o ++ map numbered (map declaration_line v.items)) (block_lines (spelled_block draft.block.items)) (end_line (finish_of e) ∷ []))
+        grouped = ap (λ es. (name_lines o ++ map numbered (map declaration_line v.items)) ++ es) last_lines ∙ sym (append_assoc (name_lines o ++ map numbered (map declaration_line v.items)) (block_lines (spelled_block draft.block.items)) (end_line (spelled_end e) ∷ []))

@@ -9,10 +9,10 @@ use Rattle.statement_reader.specs.Forms as statements
 use Rattle.nest_rules.specs.ProgramLine.{OfStatement, ProgramLine}
 use Rattle.nest_reader.specs.declared.draft.Open.{Open as HeldOpen}
 use Rattle.nest_reader.specs.SpelledProgram.{NoIfBlock}
-use Rattle.nest_reader.specs.Views.{arm_before, spelled_if_blocks, spelled_block, row_of, spelled_statement}
+use Rattle.nest_reader.specs.Views.{arm_before, spelled_if_blocks, spelled_block, spelled_row, spelled_statement}
 use Rattle.nest_reader.specs.Build.{are_begun}
 use Rattle.nest_reader.specs.Formed.{IsBlock, IsStatement, AreArms, AreMore}
-use Rattle.nest_reader.specs.ProgramLines.{Entry, IsEntryOf, AreEntriesOf, arms_lines, block_lines, else_if, first_lines, statement_lines}
+use Rattle.nest_reader.specs.ProgramLines.{Entry, IsEntryOf, AreEntriesOf, else_if_lines, block_lines, else_if, if_lines, statement_lines}
 use Rattle.nest_reader.specs.Draft.{AreOpen, IsOpened, open_of, opened_lines, opens_lines, shape}
 
 pub block_push : (ss : List Stmt) (s : Stmt) → block_lines (spelled_block (ss ++ s ∷ [])) ≡ block_lines (spelled_block ss) ++ statement_lines (spelled_statement s)
@@ -45,18 +45,18 @@ pub shape_push : (os : List HeldOpen) (o : HeldOpen) → shape (os ++ o ∷ []) 
 shape_push [] o = refl
 shape_push (p ∷ os) o = ap (λ l. l ++ open_of p.what ∷ []) (shape_push os o)
 
-more_push : (xs : List HeldArm) (a : HeldArm) → arms_lines (spelled_if_blocks (xs ++ a ∷ [])) ≡ arms_lines (spelled_if_blocks xs) ++ arms_lines (arm_before a NoIfBlock)
+more_push : (xs : List HeldArm) (a : HeldArm) → else_if_lines (spelled_if_blocks (xs ++ a ∷ [])) ≡ else_if_lines (spelled_if_blocks xs) ++ else_if_lines (arm_before a NoIfBlock)
 more_push [] a = refl
 more_push (struct-Arm n cond shape row glued ∷ xs) a =
-    ap (λ l. (Some n, OfStatement (else_if glued (expression cond))) ∷ (block_lines (row_of row) ++ l)) (more_push xs a)
-    ∙ ap (λ l. (Some n, OfStatement (else_if glued (expression cond))) ∷ l) (sym (append_assoc (block_lines (row_of row)) (arms_lines (spelled_if_blocks xs)) (arms_lines (arm_before a NoIfBlock))))
+    ap (λ l. (Some n, OfStatement (else_if glued (expression cond))) ∷ (block_lines (spelled_row row) ++ l)) (more_push xs a)
+    ∙ ap (λ l. (Some n, OfStatement (else_if glued (expression cond))) ∷ l) (sym (append_assoc (block_lines (spelled_row row)) (else_if_lines (spelled_if_blocks xs)) (else_if_lines (arm_before a NoIfBlock))))
 
 -- arms with one more behind them
-pub arms_push : (n : ℕ) (xs : List HeldArm) (a : HeldArm) → are_begun n xs ≡ true → first_lines (spelled_if_blocks (xs ++ a ∷ [])) ≡ first_lines (spelled_if_blocks xs) ++ arms_lines (arm_before a NoIfBlock)
+pub arms_push : (n : ℕ) (xs : List HeldArm) (a : HeldArm) → are_begun n xs ≡ true → if_lines (spelled_if_blocks (xs ++ a ∷ [])) ≡ if_lines (spelled_if_blocks xs) ++ else_if_lines (arm_before a NoIfBlock)
 arms_push n [] a h = absurd cc
 arms_push n (struct-Arm m cond shape row glued ∷ xs) a h =
-    ap (λ l. (Some m, OfStatement (statements.Plain kind.IfThen (expression cond))) ∷ (block_lines (row_of row) ++ l)) (more_push xs a)
-    ∙ ap (λ l. (Some m, OfStatement (statements.Plain kind.IfThen (expression cond))) ∷ l) (sym (append_assoc (block_lines (row_of row)) (arms_lines (spelled_if_blocks xs)) (arms_lines (arm_before a NoIfBlock))))
+    ap (λ l. (Some m, OfStatement (statements.Plain kind.IfThen (expression cond))) ∷ (block_lines (spelled_row row) ++ l)) (more_push xs a)
+    ∙ ap (λ l. (Some m, OfStatement (statements.Plain kind.IfThen (expression cond))) ∷ l) (sym (append_assoc (block_lines (spelled_row row)) (else_if_lines (spelled_if_blocks xs)) (else_if_lines (arm_before a NoIfBlock))))
 
 more_sound : (xs : List HeldArm) (a : HeldArm) → AreMore (spelled_if_blocks xs) → AreMore (arm_before a NoIfBlock) → AreMore (spelled_if_blocks (xs ++ a ∷ []))
 more_sound [] a h g = g

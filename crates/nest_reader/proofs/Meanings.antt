@@ -1,5 +1,5 @@
 -- The program that a tree's lines mean is the tree's abstract syntax.
-use Rattle.std.proofs.Common.{◌≡◌, ℕ, Bool, true, false, not, ◌&&◌, if◌then◌else◌, List, [], ◌∷◌, map, Option, Some, None, option_map, refl, ap, sym, subst, ◌∙◌, nat_eq, inl, inr, Global}
+use Rattle.std.proofs.Common.{◌≡◌, ℕ, Bool, true, false, not, if◌then◌else◌, List, [], ◌∷◌, map, Option, Some, None, option_map, refl, ap, sym, ◌∙◌, nat_eq, Global}
 use Rattle.std.specs.Prelude.{is_some, Vec}
 use Rattle.syntax_tree.specs.declared.stmt.Header.{Header}
 use Rattle.nest_rules.specs.ProgramLine.{OfStatement}
@@ -30,10 +30,9 @@ use Rattle.syntax_tree.specs.declared.stmt.Item.{Item}
 use Rattle.syntax_tree.specs.declared.stmt.Item.TheVariants as held_item
 use Rattle.syntax_tree.specs.declared.stmt.Mark.{Mark as HeldMark}
 use Rattle.syntax_tree.specs.declared.stmt.Stmt.{Stmt}
-use Rattle.syntax_tree.specs.declared.stmt.DoLoop.{DoLoop}
 use Rattle.syntax_tree.specs.declared.stmt.Kind.{Kind as HeldKind}
 use Rattle.syntax_tree.specs.declared.stmt.Kind.TheBlock.{Assign, IfOne', If', Do, Where', Forall', Print, Stop, Exit, Cycle, Continue, Redistribute, struct-Arm, struct-DoLoop, Row_of-Stmt, end_of-Stmt, more_of-Stmt, Row_of-Arm, end_of-Arm, more_of-Arm, Held-Kind-If-1, None', Some'}
-use Rattle.syntax_tree.specs.Expression.{Expression, expression, reference}
+use Rattle.syntax_tree.specs.Expression.{expression, reference}
 use Rattle.syntax_tree.specs.Directive as directive
 use Rattle.syntax_tree.specs.Statement as syntax
 use Rattle.syntax_tree.specs.MainProgram as main
@@ -42,7 +41,7 @@ use Rattle.statement_reader.specs.Views as statement_views
 use Rattle.directive_reader.specs.Views as directive_views
 use Rattle.nest_reader.specs.SpelledProgram as nest
 use Rattle.nest_reader.specs.Views as views
-use Rattle.nest_reader.specs.Views.{kind_of, loop_of, row_of, rest_of, arms_row, action_in, assignment_in, assignment_at, begins, spelled_program}
+use Rattle.nest_reader.specs.Views.{spelled_kind, spelled_do, spelled_row, spelled_else, spelled_arms, action_in, assignment_in, assignment_at, begins, spelled_program}
 use Rattle.nest_reader.specs.Formed.{IsBlock, IsStatement, AreArms, AreMore, IsOtherwise, IsProgram}
 use Rattle.nest_reader.specs.Meant as meant
 
@@ -189,22 +188,22 @@ false_true : {A : Type 0} → false ≡ true → A
 false_true h = absurd cc
 
 -- an IF construct begins in its own line, with a part that isn't ELSE IF
-begun_line : {m : _} (n : ℕ) (arms : Row_of-Arm m) → begins n arms ≡ true → meant.first_line (arms_row arms) ≡ n
+begun_line : {m : _} (n : ℕ) (arms : Row_of-Arm m) → begins n arms ≡ true → meant.first_line (spelled_arms arms) ≡ n
 begun_line n end_of-Arm e = false_true e
 begun_line n (more_of-Arm (struct-Arm m cond shape row glued) arms) e = eqb-true m n (first_so (nat_eq m n) (not glued) e)
 
 abbrev IfMeans : {m : _} → ℕ → Row_of-Arm m → Held-Kind-If-1 → nest.SpelledStatement → Type 0
 IfMeans n arms rest s = (meant.line_of s ≡ n) × (meant.statement s ≡ syntax.If (syntax.arms arms) (syntax.otherwise rest))
 
-if_is : {m : _} (n : ℕ) (arms : Row_of-Arm m) (rest : Held-Kind-If-1) (glued : Bool) → (AreArms (arms_row arms) → meant.arms (arms_row arms) ≡ syntax.arms arms) →
-    (IsOtherwise (rest_of rest) → meant.otherwise (rest_of rest) ≡ syntax.otherwise rest) → (b : Bool) → begins n arms ≡ b →
-    IsStatement (if b then nest.IfConstruct (arms_row arms) (rest_of rest) glued else views.no_statement) →
-    IfMeans n arms rest (if b then nest.IfConstruct (arms_row arms) (rest_of rest) glued else views.no_statement)
+if_is : {m : _} (n : ℕ) (arms : Row_of-Arm m) (rest : Held-Kind-If-1) (glued : Bool) → (AreArms (spelled_arms arms) → meant.arms (spelled_arms arms) ≡ syntax.arms arms) →
+    (IsOtherwise (spelled_else rest) → meant.otherwise (spelled_else rest) ≡ syntax.otherwise rest) → (b : Bool) → begins n arms ≡ b →
+    IsStatement (if b then nest.IfConstruct (spelled_arms arms) (spelled_else rest) glued else views.no_statement) →
+    IfMeans n arms rest (if b then nest.IfConstruct (spelled_arms arms) (spelled_else rest) glued else views.no_statement)
 if_is n arms rest glued f g true e h = (begun_line n arms e, λ i. syntax.If (f h.0 i) (g h.1 i))
 if_is n arms rest glued f g false e h = absurd h.0
 
 mutual
-  kind_is : (n : ℕ) (k : HeldKind) → IsStatement (kind_of n k) → StatementMeans n k (kind_of n k)
+  kind_is : (n : ℕ) (k : HeldKind) → IsStatement (spelled_kind n k) → StatementMeans n k (spelled_kind n k)
   kind_is n (Assign left right) h = single_is n (Assign left right) (action_in n (Assign left right)) (action_is n (Assign left right)) h
   kind_is n (IfOne' cond box m k) h = if_one_is n m cond box k (action_in n k) (action_is n k) h
   kind_is n (If' shape arms rest glued) h = if_is n arms rest glued (λ g. arms_are arms g) (λ g. rest_is rest g) (begins n arms) refl h
@@ -225,27 +224,27 @@ mutual
   kind_is n Continue h = (refl, refl)
   kind_is n (Redistribute d) h = (refl, ap syntax.Redistribute (distribution_is d))
 
-  block_is : {m : _} (row : Row_of-Stmt m) → IsBlock (row_of row) → meant.block (row_of row) ≡ syntax.block row
+  block_is : {m : _} (row : Row_of-Stmt m) → IsBlock (spelled_row row) → meant.block (spelled_row row) ≡ syntax.block row
   block_is end_of-Stmt h = refl
   block_is (more_of-Stmt n k row) h = λ i. syntax.Then ((kind_is n k h.0).0 i) ((kind_is n k h.0).1 i) (block_is row h.1 i)
 
-  assignments_are : {m : _} (row : Row_of-Stmt m) → IsBlock (row_of row) → meant.assignments (row_of row) ≡ syntax.assignments row
+  assignments_are : {m : _} (row : Row_of-Stmt m) → IsBlock (spelled_row row) → meant.assignments (spelled_row row) ≡ syntax.assignments row
   assignments_are end_of-Stmt h = refl
   assignments_are (more_of-Stmt n k row) h = (λ i. meant.taken ((kind_is n k h.0).0 i) ((kind_is n k h.0).1 i) (assignments_are row h.1 i)) ∙ taken_is n k row
 
-  others_are : (rest : Held-Kind-If-1) → IsOtherwise (rest_of rest) → meant.other_assignments (rest_of rest) ≡ syntax.rest_assignments rest
+  others_are : (rest : Held-Kind-If-1) → IsOtherwise (spelled_else rest) → meant.other_assignments (spelled_else rest) ≡ syntax.rest_assignments rest
   others_are None' h = refl
   others_are (Some' shape row) h = assignments_are row h
 
-  rest_is : (rest : Held-Kind-If-1) → IsOtherwise (rest_of rest) → meant.otherwise (rest_of rest) ≡ syntax.otherwise rest
+  rest_is : (rest : Held-Kind-If-1) → IsOtherwise (spelled_else rest) → meant.otherwise (spelled_else rest) ≡ syntax.otherwise rest
   rest_is None' h = refl
   rest_is (Some' shape row) h = ap syntax.With (block_is row h)
 
-  arms_are : {m : _} (arms : Row_of-Arm m) → AreArms (arms_row arms) → meant.arms (arms_row arms) ≡ syntax.arms arms
+  arms_are : {m : _} (arms : Row_of-Arm m) → AreArms (spelled_arms arms) → meant.arms (spelled_arms arms) ≡ syntax.arms arms
   arms_are end_of-Arm h = refl
   arms_are (more_of-Arm (struct-Arm n cond shape row glued) rest) h = λ i. syntax.Arm n (expression cond) (block_is row h.1 i) (more_are rest h.2 i)
 
-  more_are : {m : _} (arms : Row_of-Arm m) → AreMore (arms_row arms) → meant.arms (arms_row arms) ≡ syntax.arms arms
+  more_are : {m : _} (arms : Row_of-Arm m) → AreMore (spelled_arms arms) → meant.arms (spelled_arms arms) ≡ syntax.arms arms
   more_are end_of-Arm h = refl
   more_are (more_of-Arm (struct-Arm n cond shape row glued) rest) h = λ i. syntax.Arm n (expression cond) (block_is row h.0 i) (more_are rest h.1 i)
 

@@ -15,7 +15,7 @@ use Rattle.nest_rules.specs.ProgramLine.{LineContent, OfStatement, OfDirective, 
 use Rattle.nest_rules.specs.Roles.{role_of}
 use Rattle.nest_reader.specs.SpelledProgram.{SpelledIndependent, SpelledBlock, EmptyBlock, StatementThen, SpelledStatement, SimpleStatement, IndependentForall, IfConstruct, DoConstruct, WhereConstruct, ForallConstruct, IfBlocks, NoIfBlock, IfBlock, ElsePart, NoElse, Else, ProgramEnd, SpelledProgram}
 use Rattle.nest_reader.specs.Formed.{IsBlock, IsStatement, AreArms, AreDeclared, AreMore, IsOtherwise, IsProgram}
-use Rattle.nest_reader.specs.ProgramLines.{Entry, AreEntriesOf, IsEntryOf, IsSpelled, is_declared, arms_lines, block_lines, else_if, else_lines, end_do, end_forall, end_if, end_line, end_where, first_lines, kept_lines, name_lines, numbered, part, statement_lines}
+use Rattle.nest_reader.specs.ProgramLines.{Entry, AreEntriesOf, IsEntryOf, IsSpelled, is_declared, else_if_lines, block_lines, else_if, else_lines, end_do, end_forall, end_if, end_line, end_where, if_lines, kept_lines, name_lines, numbered, unnumbered, statement_lines}
 use Rattle.nest_reader.proofs.Starts.{alike, code, else_if_starts, end_do_starts, end_forall_starts, end_if_starts, end_where_starts, entry_roles, role_start, starts, statement_starts}
 
 -- two things are the same, and the same lines are behind them
@@ -131,13 +131,13 @@ abbrev IsBehindArms : List Entry → Type 0
 IsBehindArms r = (nat_eq (starts r) 1 ≡ false) × (nat_lt (starts r) 3 ≡ true)
 
 abbrev SameFirst : IfBlocks → Type 0
-SameFirst a = (b : IfBlocks) (r q : List Entry) (ls : List ProgramLine) → AreArms a → AreArms b → IsBehindArms r → IsBehindArms q → AreEntriesOf (first_lines a ++ r) ls → AreEntriesOf (first_lines b ++ q) ls → Same a b r q
+SameFirst a = (b : IfBlocks) (r q : List Entry) (ls : List ProgramLine) → AreArms a → AreArms b → IsBehindArms r → IsBehindArms q → AreEntriesOf (if_lines a ++ r) ls → AreEntriesOf (if_lines b ++ q) ls → Same a b r q
 
 abbrev SameMore : IfBlocks → Type 0
-SameMore a = (b : IfBlocks) (r q : List Entry) (ls : List ProgramLine) → AreMore a → AreMore b → IsBehindArms r → IsBehindArms q → AreEntriesOf (arms_lines a ++ r) ls → AreEntriesOf (arms_lines b ++ q) ls → Same a b r q
+SameMore a = (b : IfBlocks) (r q : List Entry) (ls : List ProgramLine) → AreMore a → AreMore b → IsBehindArms r → IsBehindArms q → AreEntriesOf (else_if_lines a ++ r) ls → AreEntriesOf (else_if_lines b ++ q) ls → Same a b r q
 
 abbrev SameOther : ElsePart → Type 0
-SameOther a = (w : LineContent) (b : ElsePart) (r q : List Entry) (ls : List ProgramLine) → ((x : List Entry) → starts (part w ∷ x) ≡ 2) → IsOtherwise a → IsOtherwise b → starts r ≡ 0 → starts q ≡ 0 → AreEntriesOf (else_lines w a ++ r) ls → AreEntriesOf (else_lines w b ++ q) ls → Same a b r q
+SameOther a = (w : LineContent) (b : ElsePart) (r q : List Entry) (ls : List ProgramLine) → ((x : List Entry) → starts (unnumbered w ∷ x) ≡ 2) → IsOtherwise a → IsOtherwise b → starts r ≡ 0 → starts q ≡ 0 → AreEntriesOf (else_lines w a ++ r) ls → AreEntriesOf (else_lines w b ++ q) ls → Same a b r q
 
 -- blocks
 code_large : (s : SpelledStatement) → nat_lt (code s) 3 ≡ false
@@ -168,41 +168,41 @@ then_step s b f k (StatementThen t c) r q ls is it hr hq h g =
     record { same = λ i. StatementThen (x.same i) (y.same i); rest = y.rest; left = y.left; right = y.right }
 
 -- ELSE and ELSEWHERE
-other_tail : (w : LineContent) (a : ElsePart) (r : List Entry) → ((x : List Entry) → starts (part w ∷ x) ≡ 2) → starts r ≡ 0 → IsBehindArms (else_lines w a ++ r)
+other_tail : (w : LineContent) (a : ElsePart) (r : List Entry) → ((x : List Entry) → starts (unnumbered w ∷ x) ≡ 2) → starts r ≡ 0 → IsBehindArms (else_lines w a ++ r)
 other_tail w NoElse r two e = (ap (λ n. nat_eq n 1) e, ap (λ n. nat_lt n 3) e)
 other_tail w (Else b) r two e = (ap (λ n. nat_eq n 1) (two (block_lines b ++ r)), ap (λ n. nat_lt n 3) (two (block_lines b ++ r)))
 
 without_step : SameOther NoElse
 without_step w NoElse r q ls two is it hr hq h g = record { same = refl; rest = ls; left = h; right = g }
-without_step w (Else b) r q ls two is it hr hq h g = apart 0 2 (sym hr ∙ alike r (part w ∷ (block_lines b ++ q)) ls h g ∙ two (block_lines b ++ q)) refl
+without_step w (Else b) r q ls two is it hr hq h g = apart 0 2 (sym hr ∙ alike r (unnumbered w ∷ (block_lines b ++ q)) ls h g ∙ two (block_lines b ++ q)) refl
 
 with_step : (b : SpelledBlock) → SameBlock b → SameOther (Else b)
-with_step b f w NoElse r q ls two is it hr hq h g = apart 0 2 (sym hq ∙ alike q (part w ∷ (block_lines b ++ r)) ls g h ∙ two (block_lines b ++ r)) refl
+with_step b f w NoElse r q ls two is it hr hq h g = apart 0 2 (sym hq ∙ alike q (unnumbered w ∷ (block_lines b ++ r)) ls g h ∙ two (block_lines b ++ r)) refl
 with_step b f w (Else c) r q [] two is it hr hq h g = absurd h
 with_step b f w (Else c) r q (l ∷ ls) two is it hr hq h g =
     let x = f c r q ls is it (ap (λ n. nat_lt n 3) hr) (ap (λ n. nat_lt n 3) hq) h.1 g.1 in
     record { same = ap Else x.same; rest = x.rest; left = x.left; right = x.right }
 
 -- arms
-more_tail : (a : IfBlocks) (r : List Entry) → nat_lt (starts r) 3 ≡ true → nat_lt (starts (arms_lines a ++ r)) 3 ≡ true
+more_tail : (a : IfBlocks) (r : List Entry) → nat_lt (starts r) 3 ≡ true → nat_lt (starts (else_if_lines a ++ r)) 3 ≡ true
 more_tail NoIfBlock r h = h
-more_tail (IfBlock n cond body glued arms) r h = ap (λ n. nat_lt n 3) (else_if_starts (Some n) glued cond ((block_lines body ++ arms_lines arms) ++ r))
+more_tail (IfBlock n cond body glued arms) r h = ap (λ n. nat_lt n 3) (else_if_starts (Some n) glued cond ((block_lines body ++ else_if_lines arms) ++ r))
 
 no_more_step : SameMore NoIfBlock
 no_more_step NoIfBlock r q ls is it hr hq h g = record { same = refl; rest = ls; left = h; right = g }
 no_more_step (IfBlock n cond body glued arms) r q ls is it hr hq h g =
-    let x = (block_lines body ++ arms_lines arms) ++ q in
+    let x = (block_lines body ++ else_if_lines arms) ++ q in
     apart (starts r) 1 (alike r ((Some n, OfStatement (else_if glued cond)) ∷ x) ls h g ∙ else_if_starts (Some n) glued cond x) hr.0
 
 more_step : (n : ℕ) (cond : Expression) (body : SpelledBlock) (glued : Bool) (arms : IfBlocks) → SameBlock body → SameMore arms → SameMore (IfBlock n cond body glued arms)
 more_step n cond body glued arms f k NoIfBlock r q ls is it hr hq h g =
-    let x = (block_lines body ++ arms_lines arms) ++ r in
+    let x = (block_lines body ++ else_if_lines arms) ++ r in
     apart (starts q) 1 (alike q ((Some n, OfStatement (else_if glued cond)) ∷ x) ls g h ∙ else_if_starts (Some n) glued cond x) hq.0
 more_step n cond body glued arms f k (IfBlock n' cond' body' glued' arms') r q [] is it hr hq h g = absurd h
 more_step n cond body glued arms f k (IfBlock n' cond' body' glued' arms') r q (l ∷ ls) is it hr hq h g =
     let e = else_if_same glued glued' cond cond' l.what h.0.0 g.0.0 in
     let m = h.0.1 ∙ sym g.0.1 in
-    let x = f body' (arms_lines arms ++ r) (arms_lines arms' ++ q) ls is.0 it.0 (more_tail arms r hr.1) (more_tail arms' q hq.1) (grouped (block_lines body) (arms_lines arms) ls r h.1) (grouped (block_lines body') (arms_lines arms') ls q g.1) in
+    let x = f body' (else_if_lines arms ++ r) (else_if_lines arms' ++ q) ls is.0 it.0 (more_tail arms r hr.1) (more_tail arms' q hq.1) (grouped (block_lines body) (else_if_lines arms) ls r h.1) (grouped (block_lines body') (else_if_lines arms') ls q g.1) in
     let y = k arms' r q x.rest is.1 it.1 hr hq x.left x.right in
     record { same = λ i. IfBlock (m i) (e.1 i) (x.same i) (e.0 i) (y.same i); rest = y.rest; left = y.left; right = y.right }
 
@@ -217,7 +217,7 @@ first_step n cond body glued arms f k (IfBlock n' cond' body' glued' arms') r q 
     let e : cond ≡ cond' = ap cond_in (h.0.0 ∙ sym g.0.0) in
     let m = h.0.1 ∙ sym g.0.1 in
     let d : glued ≡ glued' = is.0 ∙ sym it.0 in
-    let x = f body' (arms_lines arms ++ r) (arms_lines arms' ++ q) ls is.1 it.1 (more_tail arms r hr.1) (more_tail arms' q hq.1) (grouped (block_lines body) (arms_lines arms) ls r h.1) (grouped (block_lines body') (arms_lines arms') ls q g.1) in
+    let x = f body' (else_if_lines arms ++ r) (else_if_lines arms' ++ q) ls is.1 it.1 (more_tail arms r hr.1) (more_tail arms' q hq.1) (grouped (block_lines body) (else_if_lines arms) ls r h.1) (grouped (block_lines body') (else_if_lines arms') ls q g.1) in
     let y = k arms' r q x.rest is.2 it.2 hr hq x.left x.right in
     record { same = λ i. IfBlock (m i) (e i) (x.same i) (d i) (y.same i); rest = y.rest; left = y.left; right = y.right }
 
@@ -275,35 +275,35 @@ marked_step l t r q ls is it h g = apart 1 (kind_code t) (same_kind (Independent
 branches_step : (arms : IfBlocks) (other : ElsePart) (glued : Bool) → SameFirst arms → SameOther other → SameStatement (IfConstruct arms other glued)
 branches_step arms other glued f k (IfConstruct arms' other' glued') r q ls is it h g =
     let w = OfStatement (statements.Plain kind.Else tt) in
-    let e = part (OfStatement (end_if glued)) ∷ r in
-    let e' = part (OfStatement (end_if glued')) ∷ q in
+    let e = unnumbered (OfStatement (end_if glued)) ∷ r in
+    let e' = unnumbered (OfStatement (end_if glued')) ∷ q in
     let x =
     f arms' (else_lines w other ++ e) (else_lines w other' ++ e') ls is.0 it.0
     (other_tail w other e (λ x. refl) (end_if_starts glued r)) (other_tail w other' e' (λ x. refl) (end_if_starts glued' q))
-    (grouped (first_lines arms) (else_lines w other) ls e (grouped (first_lines arms ++ else_lines w other) (part (OfStatement (end_if glued)) ∷ []) ls r h))
-    (grouped (first_lines arms') (else_lines w other') ls e' (grouped (first_lines arms' ++ else_lines w other') (part (OfStatement (end_if glued')) ∷ []) ls q g)) in
+    (grouped (if_lines arms) (else_lines w other) ls e (grouped (if_lines arms ++ else_lines w other) (unnumbered (OfStatement (end_if glued)) ∷ []) ls r h))
+    (grouped (if_lines arms') (else_lines w other') ls e' (grouped (if_lines arms' ++ else_lines w other') (unnumbered (OfStatement (end_if glued')) ∷ []) ls q g)) in
     let y = k w other' e e' x.rest (λ x. refl) is.1 it.1 (end_if_starts glued r) (end_if_starts glued' q) x.left x.right in
     ends y.rest y.left y.right x.same y.same
   where
-    ends : (ls : List ProgramLine) → AreEntriesOf (part (OfStatement (end_if glued)) ∷ r) ls → AreEntriesOf (part (OfStatement (end_if glued')) ∷ q) ls → arms ≡ arms' → other ≡ other' → Same (IfConstruct arms other glued) (IfConstruct arms' other' glued') r q
+    ends : (ls : List ProgramLine) → AreEntriesOf (unnumbered (OfStatement (end_if glued)) ∷ r) ls → AreEntriesOf (unnumbered (OfStatement (end_if glued')) ∷ q) ls → arms ≡ arms' → other ≡ other' → Same (IfConstruct arms other glued) (IfConstruct arms' other' glued') r q
     ends [] h g x y = absurd h
     ends (l ∷ ls) h g x y = record { same = λ i. IfConstruct (x i) (y i) (end_if_same glued glued' l.what h.0.0 g.0.0 i); rest = ls; left = h.1; right = g.1 }
 branches_step arms other glued f k t r q ls is it h g = apart 2 (kind_code t) (same_kind (IfConstruct arms other glued) t r q ls is it h g) refl
 
 -- DO
 module _ (F : ℕ → Value do_head → SpelledBlock → Bool → SpelledStatement) where
-  loop_core : (n n' : ℕ) (head head' : Value do_head) (body body' : SpelledBlock) (glued glued' : Bool) → SameBlock body → (r q : List Entry) (ls : List ProgramLine) → IsBlock body → IsBlock body' → AreEntriesOf ((Some n, OfStatement (statements.Plain kind.Do head)) ∷ ((block_lines body ++ part (OfStatement (end_do glued)) ∷ []) ++ r)) ls → AreEntriesOf ((Some n', OfStatement (statements.Plain kind.Do head')) ∷ ((block_lines body' ++ part (OfStatement (end_do glued')) ∷ []) ++ q)) ls → Same (F n head body glued) (F n' head' body' glued') r q
+  loop_core : (n n' : ℕ) (head head' : Value do_head) (body body' : SpelledBlock) (glued glued' : Bool) → SameBlock body → (r q : List Entry) (ls : List ProgramLine) → IsBlock body → IsBlock body' → AreEntriesOf ((Some n, OfStatement (statements.Plain kind.Do head)) ∷ ((block_lines body ++ unnumbered (OfStatement (end_do glued)) ∷ []) ++ r)) ls → AreEntriesOf ((Some n', OfStatement (statements.Plain kind.Do head')) ∷ ((block_lines body' ++ unnumbered (OfStatement (end_do glued')) ∷ []) ++ q)) ls → Same (F n head body glued) (F n' head' body' glued') r q
   unfolding do_in
   loop_core n n' head head' body body' glued glued' f r q [] is it h g = absurd h
   loop_core n n' head head' body body' glued glued' f r q (l ∷ ls) is it h g =
-      let e = part (OfStatement (end_do glued)) ∷ r in
-      let e' = part (OfStatement (end_do glued')) ∷ q in
+      let e = unnumbered (OfStatement (end_do glued)) ∷ r in
+      let e' = unnumbered (OfStatement (end_do glued')) ∷ q in
       let x =
       f body' e e' ls is it (ap (λ n. nat_lt n 3) (end_do_starts glued r)) (ap (λ n. nat_lt n 3) (end_do_starts glued' q))
-      (grouped (block_lines body) (part (OfStatement (end_do glued)) ∷ []) ls r h.1) (grouped (block_lines body') (part (OfStatement (end_do glued')) ∷ []) ls q g.1) in
+      (grouped (block_lines body) (unnumbered (OfStatement (end_do glued)) ∷ []) ls r h.1) (grouped (block_lines body') (unnumbered (OfStatement (end_do glued')) ∷ []) ls q g.1) in
       ends x.rest x.left x.right x.same (ap (do_in head) (h.0.0 ∙ sym g.0.0)) (h.0.1 ∙ sym g.0.1)
     where
-      ends : (ls : List ProgramLine) → AreEntriesOf (part (OfStatement (end_do glued)) ∷ r) ls → AreEntriesOf (part (OfStatement (end_do glued')) ∷ q) ls → body ≡ body' → head ≡ head' → n ≡ n' → Same (F n head body glued) (F n' head' body' glued') r q
+      ends : (ls : List ProgramLine) → AreEntriesOf (unnumbered (OfStatement (end_do glued)) ∷ r) ls → AreEntriesOf (unnumbered (OfStatement (end_do glued')) ∷ q) ls → body ≡ body' → head ≡ head' → n ≡ n' → Same (F n head body glued) (F n' head' body' glued') r q
       ends [] h g x y z = absurd h
       ends (l ∷ ls) h g x y z = record { same = λ i. F (z i) (y i) (x i) (end_do_same glued glued' l.what h.0.0 g.0.0 i); rest = ls; left = h.1; right = g.1 }
 
@@ -334,34 +334,34 @@ unfolding cond_in
 masked_step n mask body other glued f k (WhereConstruct n' mask' body' other' glued') r q [] is it h g = absurd h
 masked_step n mask body other glued f k (WhereConstruct n' mask' body' other' glued') r q (l ∷ ls) is it h g =
     let w = OfStatement (statements.Plain (kind.ElseWhere true) tt) in
-    let e = part (OfStatement (end_where glued)) ∷ r in
-    let e' = part (OfStatement (end_where glued')) ∷ q in
+    let e = unnumbered (OfStatement (end_where glued)) ∷ r in
+    let e' = unnumbered (OfStatement (end_where glued')) ∷ q in
     let x =
     f body' (else_lines w other ++ e) (else_lines w other' ++ e') ls is.0 it.0
     (other_tail w other e (λ x. refl) (end_where_starts glued r)).1 (other_tail w other' e' (λ x. refl) (end_where_starts glued' q)).1
-    (grouped (block_lines body) (else_lines w other) ls e (grouped (block_lines body ++ else_lines w other) (part (OfStatement (end_where glued)) ∷ []) ls r h.1))
-    (grouped (block_lines body') (else_lines w other') ls e' (grouped (block_lines body' ++ else_lines w other') (part (OfStatement (end_where glued')) ∷ []) ls q g.1)) in
+    (grouped (block_lines body) (else_lines w other) ls e (grouped (block_lines body ++ else_lines w other) (unnumbered (OfStatement (end_where glued)) ∷ []) ls r h.1))
+    (grouped (block_lines body') (else_lines w other') ls e' (grouped (block_lines body' ++ else_lines w other') (unnumbered (OfStatement (end_where glued')) ∷ []) ls q g.1)) in
     let y = k w other' e e' x.rest (λ x. refl) is.1 it.1 (end_where_starts glued r) (end_where_starts glued' q) x.left x.right in
     ends y.rest y.left y.right x.same y.same (ap cond_in (h.0.0 ∙ sym g.0.0)) (h.0.1 ∙ sym g.0.1)
   where
-    ends : (ls : List ProgramLine) → AreEntriesOf (part (OfStatement (end_where glued)) ∷ r) ls → AreEntriesOf (part (OfStatement (end_where glued')) ∷ q) ls → body ≡ body' → other ≡ other' → mask ≡ mask' → n ≡ n' → Same (WhereConstruct n mask body other glued) (WhereConstruct n' mask' body' other' glued') r q
+    ends : (ls : List ProgramLine) → AreEntriesOf (unnumbered (OfStatement (end_where glued)) ∷ r) ls → AreEntriesOf (unnumbered (OfStatement (end_where glued')) ∷ q) ls → body ≡ body' → other ≡ other' → mask ≡ mask' → n ≡ n' → Same (WhereConstruct n mask body other glued) (WhereConstruct n' mask' body' other' glued') r q
     ends [] h g x y z u = absurd h
     ends (l ∷ ls) h g x y z u = record { same = λ i. WhereConstruct (u i) (z i) (x i) (y i) (end_where_same glued glued' l.what h.0.0 g.0.0 i); rest = ls; left = h.1; right = g.1 }
 masked_step n mask body other glued f k t r q ls is it h g = apart 4 (kind_code t) (same_kind (WhereConstruct n mask body other glued) t r q ls is it h g) refl
 
 -- FORALL
-forall_core : (marked : Bool) (n n' : ℕ) (head head' : Value forall_head) (body body' : SpelledBlock) (glued glued' : Bool) → SameBlock body → (r q : List Entry) (ls : List ProgramLine) → IsBlock body → IsBlock body' → AreEntriesOf ((Some n, OfStatement (statements.Plain kind.Forall (head, None))) ∷ ((block_lines body ++ part (OfStatement (end_forall glued)) ∷ []) ++ r)) ls → AreEntriesOf ((Some n', OfStatement (statements.Plain kind.Forall (head', None))) ∷ ((block_lines body' ++ part (OfStatement (end_forall glued')) ∷ []) ++ q)) ls → Same (ForallConstruct marked n head body glued) (ForallConstruct marked n' head' body' glued') r q
+forall_core : (marked : Bool) (n n' : ℕ) (head head' : Value forall_head) (body body' : SpelledBlock) (glued glued' : Bool) → SameBlock body → (r q : List Entry) (ls : List ProgramLine) → IsBlock body → IsBlock body' → AreEntriesOf ((Some n, OfStatement (statements.Plain kind.Forall (head, None))) ∷ ((block_lines body ++ unnumbered (OfStatement (end_forall glued)) ∷ []) ++ r)) ls → AreEntriesOf ((Some n', OfStatement (statements.Plain kind.Forall (head', None))) ∷ ((block_lines body' ++ unnumbered (OfStatement (end_forall glued')) ∷ []) ++ q)) ls → Same (ForallConstruct marked n head body glued) (ForallConstruct marked n' head' body' glued') r q
 unfolding forall_in
 forall_core marked n n' head head' body body' glued glued' f r q [] is it h g = absurd h
 forall_core marked n n' head head' body body' glued glued' f r q (l ∷ ls) is it h g =
-    let e = part (OfStatement (end_forall glued)) ∷ r in
-    let e' = part (OfStatement (end_forall glued')) ∷ q in
+    let e = unnumbered (OfStatement (end_forall glued)) ∷ r in
+    let e' = unnumbered (OfStatement (end_forall glued')) ∷ q in
     let x =
     f body' e e' ls is it (ap (λ n. nat_lt n 3) (end_forall_starts glued r)) (ap (λ n. nat_lt n 3) (end_forall_starts glued' q))
-    (grouped (block_lines body) (part (OfStatement (end_forall glued)) ∷ []) ls r h.1) (grouped (block_lines body') (part (OfStatement (end_forall glued')) ∷ []) ls q g.1) in
+    (grouped (block_lines body) (unnumbered (OfStatement (end_forall glued)) ∷ []) ls r h.1) (grouped (block_lines body') (unnumbered (OfStatement (end_forall glued')) ∷ []) ls q g.1) in
     ends x.rest x.left x.right x.same (ap (forall_in head) (h.0.0 ∙ sym g.0.0)) (h.0.1 ∙ sym g.0.1)
   where
-    ends : (ls : List ProgramLine) → AreEntriesOf (part (OfStatement (end_forall glued)) ∷ r) ls → AreEntriesOf (part (OfStatement (end_forall glued')) ∷ q) ls → body ≡ body' → head ≡ head' → n ≡ n' → Same (ForallConstruct marked n head body glued) (ForallConstruct marked n' head' body' glued') r q
+    ends : (ls : List ProgramLine) → AreEntriesOf (unnumbered (OfStatement (end_forall glued)) ∷ r) ls → AreEntriesOf (unnumbered (OfStatement (end_forall glued')) ∷ q) ls → body ≡ body' → head ≡ head' → n ≡ n' → Same (ForallConstruct marked n head body glued) (ForallConstruct marked n' head' body' glued') r q
     ends [] h g x y z = absurd h
     ends (l ∷ ls) h g x y z = record { same = λ i. ForallConstruct marked (z i) (y i) (x i) (end_forall_same glued glued' l.what h.0.0 g.0.0 i); rest = ls; left = h.1; right = g.1 }
 

@@ -9,7 +9,7 @@ use Rattle.nest_rules.specs.ProgramLine.{OfStatement, ProgramLine}
 use Rattle.nest_rules.specs.Roles.{role_of}
 use Rattle.nest_reader.specs.SpelledProgram.{SpelledStatement, SimpleStatement, IndependentForall, IfConstruct, DoConstruct, WhereConstruct, ForallConstruct, NoIfBlock, IfBlock}
 use Rattle.nest_reader.specs.Formed.{IsStatement, is_whole}
-use Rattle.nest_reader.specs.ProgramLines.{Entry, AreEntriesOf, else_if, end_do, end_forall, end_if, end_where, part, statement_lines}
+use Rattle.nest_reader.specs.ProgramLines.{Entry, AreEntriesOf, else_if, end_do, end_forall, end_if, end_where, unnumbered, statement_lines}
 
 -- behind INDEPENDENT
 abbrev pub marked_start : List Role → ℕ
@@ -95,18 +95,18 @@ pub else_if_starts : (n : Option ℕ) (glued : Bool) (cond : Expression) (r : Li
 else_if_starts n true cond r = refl
 else_if_starts n false cond r = refl
 
-pub end_if_starts : (glued : Bool) (r : List Entry) → starts (part (OfStatement (end_if glued)) ∷ r) ≡ 0
+pub end_if_starts : (glued : Bool) (r : List Entry) → starts (unnumbered (OfStatement (end_if glued)) ∷ r) ≡ 0
 end_if_starts true r = refl
 end_if_starts false r = refl
 
-pub end_do_starts : (glued : Bool) (r : List Entry) → starts (part (OfStatement (end_do glued)) ∷ r) ≡ 0
+pub end_do_starts : (glued : Bool) (r : List Entry) → starts (unnumbered (OfStatement (end_do glued)) ∷ r) ≡ 0
 end_do_starts true r = refl
 end_do_starts false r = refl
 
-pub end_where_starts : (glued : Bool) (r : List Entry) → starts (part (OfStatement (end_where glued)) ∷ r) ≡ 0
+pub end_where_starts : (glued : Bool) (r : List Entry) → starts (unnumbered (OfStatement (end_where glued)) ∷ r) ≡ 0
 end_where_starts true r = refl
 end_where_starts false r = refl
 
-pub end_forall_starts : (glued : Bool) (r : List Entry) → starts (part (OfStatement (end_forall glued)) ∷ r) ≡ 0
+pub end_forall_starts : (glued : Bool) (r : List Entry) → starts (unnumbered (OfStatement (end_forall glued)) ∷ r) ≡ 0
 end_forall_starts true r = refl
 end_forall_starts false r = refl

@@ -31,11 +31,11 @@ use Rattle.nest_reader.specs.declared.draft.Draft.{Draft}
 use Rattle.nest_reader.specs.declared.draft.Open.{Open as HeldOpen}
 use Rattle.nest_reader.specs.declared.draft.Opened.{Opened}
 use Rattle.nest_reader.specs.declared.draft.Opened.TheVariants as opened
-use Rattle.nest_reader.specs.Views.{spelled_block, finish_of, spelled_independent, spelled_statement}
+use Rattle.nest_reader.specs.Views.{spelled_block, spelled_end, spelled_independent, spelled_statement}
 use Rattle.nest_reader.specs.Formed.{IsBlock, IsStatement, is_whole}
-use Rattle.nest_reader.specs.ProgramLines.{Entry, IsEntryOf, AreEntriesOf, bare_mark_lines, block_lines, else_if, end_line, mark_lines, numbered, part, statement_lines}
+use Rattle.nest_reader.specs.ProgramLines.{Entry, IsEntryOf, AreEntriesOf, bare_independent_lines, block_lines, else_if, end_line, independent_lines, numbered, unnumbered, statement_lines}
 use Rattle.nest_reader.specs.Draft.{AreOpen, IsAppended, IsBehind, IsDraft, IsEnded, IsNested, IsOpened, Status, Takes, base_lines, draft_lines, end_lines, end_part, fits_mark, clauses_in, innermost, is_inner, opened_lines, opens_lines, open_of, shape, status, status_behind}
-use Rattle.nest_reader.specs.NextLine.{action_line, finish_line, if_line, independent_line, said, single_or_marked}
+use Rattle.nest_reader.specs.NextLine.{action_line, finish_line, if_line, independent_line, statement_line, single_or_marked}
 use Rattle.nest_reader.proofs.Lists.{are_push, opens_push, open_front, open_last, shape_push}
 
 pub on_ok : {A E : Type 0} (P Q : A → Type 0) → ((x : A) → P x → Q x) → (r : Result A E) → IfOk r P → IfOk r Q
@@ -79,32 +79,32 @@ no_names None None h = refl
 no_names None (Some y) h = absurd cc
 no_names (Some x) b h = absurd cc
 
-pub bare_under : (m : Option HeldMark) → IfSome m (λ m. clauses_in m ≡ clauses.Absent) → (ls : List ProgramLine) → AreEntriesOf (mark_lines (option_map spelled_independent m)) ls → AreEntriesOf (bare_mark_lines (is_some m)) ls
+pub bare_under : (m : Option HeldMark) → IfSome m (λ m. clauses_in m ≡ clauses.Absent) → (ls : List ProgramLine) → AreEntriesOf (independent_lines (option_map spelled_independent m)) ls → AreEntriesOf (bare_independent_lines (is_some m)) ls
 bare_under None h ls g = g
 bare_under (Some m) h [] g = g
 bare_under (Some m) h (l ∷ []) g = ((ap (λ v. OfDirective (directives.Known directive.Independent v)) (no_names (names_in m.new) (names_in m.reduction) h) ∙ g.0.0, tt), tt)
 bare_under (Some m) h (l ∷ k ∷ ls) g = absurd g.1
 
-pub none_under : (m : Option HeldMark) → m ≡ None → (ls : List ProgramLine) → AreEntriesOf (mark_lines (option_map spelled_independent m)) ls → AreEntriesOf [] ls
-none_under m e ls h = subst (λ m. AreEntriesOf (mark_lines (option_map spelled_independent m)) ls) e h
+pub none_under : (m : Option HeldMark) → m ≡ None → (ls : List ProgramLine) → AreEntriesOf (independent_lines (option_map spelled_independent m)) ls → AreEntriesOf [] ls
+none_under m e ls h = subst (λ m. AreEntriesOf (independent_lines (option_map spelled_independent m)) ls) e h
 
-step : (d b : Draft) (l : ProgramLine) (e : Entry) (ms : List Entry) → d.end ≡ None → ((ls : List ProgramLine) → AreEntriesOf (mark_lines (option_map spelled_independent d.mark)) ls → AreEntriesOf ms ls) → draft_lines b ≡ base_lines d ++ (ms ++ e ∷ []) → IsEntryOf e l → IsDraft b → status b ≡ status_behind (status d) (role_of l.what) → IsBehind d l b
+step : (d b : Draft) (l : ProgramLine) (e : Entry) (ms : List Entry) → d.end ≡ None → ((ls : List ProgramLine) → AreEntriesOf (independent_lines (option_map spelled_independent d.mark)) ls → AreEntriesOf ms ls) → draft_lines b ≡ base_lines d ++ (ms ++ e ∷ []) → IsEntryOf e l → IsDraft b → status b ≡ status_behind (status d) (role_of l.what) → IsBehind d l b
 step d b l e ms going under h is s t = record {
   lines = λ ls are.
-      let plain : AreEntriesOf (base_lines d ++ mark_lines (option_map spelled_independent d.mark)) ls =
-      subst (λ es. AreEntriesOf (base_lines d ++ es) ls) (append-nil (mark_lines (option_map spelled_independent d.mark))) (subst (λ o. AreEntriesOf (base_lines d ++ (mark_lines (option_map spelled_independent d.mark) ++ end_lines o)) ls) going are) in
-      let more : AreEntriesOf ((base_lines d ++ ms) ++ e ∷ []) (ls ++ l ∷ []) = are_push (base_lines d ++ ms) e ls l (are_under (base_lines d) (mark_lines (option_map spelled_independent d.mark)) ms under ls plain) is in
+      let plain : AreEntriesOf (base_lines d ++ independent_lines (option_map spelled_independent d.mark)) ls =
+      subst (λ es. AreEntriesOf (base_lines d ++ es) ls) (append-nil (independent_lines (option_map spelled_independent d.mark))) (subst (λ o. AreEntriesOf (base_lines d ++ (independent_lines (option_map spelled_independent d.mark) ++ end_lines o)) ls) going are) in
+      let more : AreEntriesOf ((base_lines d ++ ms) ++ e ∷ []) (ls ++ l ∷ []) = are_push (base_lines d ++ ms) e ls l (are_under (base_lines d) (independent_lines (option_map spelled_independent d.mark)) ms under ls plain) is in
       subst (λ es. AreEntriesOf es (ls ++ l ∷ [])) (append_assoc (base_lines d) ms (e ∷ []) ∙ sym h) more;
   sound = s;
   stands = t;
 }
 
 -- the first line of a construct
-pub opened_behind : (d b : Draft) (l : ProgramLine) (w : Opened) (e : Entry) (ms : List Entry) → is_some d.end ≡ false → ((ls : List ProgramLine) → AreEntriesOf (mark_lines (option_map spelled_independent d.mark)) ls → AreEntriesOf ms ls) → opened_lines w ≡ ms ++ e ∷ [] → IsEntryOf e l → record { opens = open_of w ∷ shape d.opens.items; pending = None; ended = false } ≡ status_behind (status d) (role_of l.what) → IsNested d.opens.items d.block.items w b → IsBehind d l b
+pub opened_behind : (d b : Draft) (l : ProgramLine) (w : Opened) (e : Entry) (ms : List Entry) → is_some d.end ≡ false → ((ls : List ProgramLine) → AreEntriesOf (independent_lines (option_map spelled_independent d.mark)) ls → AreEntriesOf ms ls) → opened_lines w ≡ ms ++ e ∷ [] → IsEntryOf e l → record { opens = open_of w ∷ shape d.opens.items; pending = None; ended = false } ≡ status_behind (status d) (role_of l.what) → IsNested d.opens.items d.block.items w b → IsBehind d l b
 opened_behind d b l w e ms going under h is t n = step d b l e ms (none d.end going) under (n.lines ∙ ap (λ es. base_lines d ++ es) h) is n.sound (n.stands ∙ t)
 
 -- a statement that is whole in its line
-pub appended_behind : (d b : Draft) (l : ProgramLine) (s : Stmt) (e : Entry) (ms : List Entry) → is_some d.end ≡ false → ((ls : List ProgramLine) → AreEntriesOf (mark_lines (option_map spelled_independent d.mark)) ls → AreEntriesOf ms ls) → statement_lines (spelled_statement s) ≡ ms ++ e ∷ [] → IsEntryOf e l → record { opens = shape d.opens.items; pending = None; ended = false } ≡ status_behind (status d) (role_of l.what) → IsAppended d.opens.items d.block.items s b → IsBehind d l b
+pub appended_behind : (d b : Draft) (l : ProgramLine) (s : Stmt) (e : Entry) (ms : List Entry) → is_some d.end ≡ false → ((ls : List ProgramLine) → AreEntriesOf (independent_lines (option_map spelled_independent d.mark)) ls → AreEntriesOf ms ls) → statement_lines (spelled_statement s) ≡ ms ++ e ∷ [] → IsEntryOf e l → record { opens = shape d.opens.items; pending = None; ended = false } ≡ status_behind (status d) (role_of l.what) → IsAppended d.opens.items d.block.items s b → IsBehind d l b
 appended_behind d b l s e ms going under h is t n = step d b l e ms (none d.end going) under (n.lines ∙ ap (λ es. base_lines d ++ es) h) is n.sound (n.stands ∙ t)
 
 regroup : (a b c d e : List Entry) → (a ++ b) ++ ((c ++ d) ++ e) ≡ ((a ++ (b ++ c)) ++ d) ++ e
@@ -218,7 +218,7 @@ pub marked_lists : (m : Option HeldMark) (r : Role) → is_whole r ≡ true → 
 marked_lists None r h g = tt
 marked_lists (Some m) r h g = (marked_one (clauses_in m) r h g).1
 
-pub marked_lines : (b : Bool) (l : ProgramLine) → statement_lines (single_or_marked b l) ≡ bare_mark_lines b ++ numbered l ∷ []
+pub marked_lines : (b : Bool) (l : ProgramLine) → statement_lines (single_or_marked b l) ≡ bare_independent_lines b ++ numbered l ∷ []
 marked_lines true l = refl
 marked_lines false l = refl
 
@@ -229,11 +229,11 @@ else_behind d b l os o w e going unmarked innermost h is t n =
     (n.stands ∙ t ∙ ap (λ os. status_behind record { opens = os; pending = (status d).pending; ended = (status d).ended } (role_of l.what)) (sym (shaped d os o innermost)))
 
 -- an END part
-pub end_behind : (d b : Draft) (n : ℕ) (glued : Bool) (os : List HeldOpen) (o : HeldOpen) (s : Stmt) → Takes (status d) (role.Closes (innermost (shape d.opens.items))) → d.opens.items ≡ os ++ o ∷ [] → IsEnded o.what (spelled_block d.block.items) glued (spelled_statement s) → IsAppended os o.before.items s b → IsBehind d (said n (end_part (innermost (shape d.opens.items)) glued)) b
+pub end_behind : (d b : Draft) (n : ℕ) (glued : Bool) (os : List HeldOpen) (o : HeldOpen) (s : Stmt) → Takes (status d) (role.Closes (innermost (shape d.opens.items))) → d.opens.items ≡ os ++ o ∷ [] → IsEnded o.what (spelled_block d.block.items) glued (spelled_statement s) → IsAppended os o.before.items s b → IsBehind d (statement_line n (end_part (innermost (shape d.opens.items)) glued)) b
 end_behind d b n glued os o s takes e h a =
     let c = innermost (shape d.opens.items) in
     let same : (open_of o.what).construct ≡ c = sym (ap innermost (shaped d os o e)) in
-    part_behind d b (said n (end_part c glued)) os o (part (OfStatement (end_part (open_of o.what).construct glued))) (statement_lines (spelled_statement s)) takes.going
+    part_behind d b (statement_line n (end_part c glued)) os o (unnumbered (OfStatement (end_part (open_of o.what).construct glued))) (statement_lines (spelled_statement s)) takes.going
     (mark_none d.mark (role.Closes c) takes.marks refl) e a.lines h.lines
     (ap (λ c. OfStatement (end_part c glued)) same, tt)
     a.sound
@@ -269,7 +269,7 @@ empty_open (o ∷ os) h = full (shape os) h
 -- END
 pub finish_behind : (d : Draft) (e : EndForm) → IsDraft d → Takes (status d) role.End → IsBehind d (finish_line e) record { opens = d.opens; block = d.block; mark = None; end = Some e }
 finish_behind d e s takes =
-    step d record { opens = d.opens; block = d.block; mark = None; end = Some e } (finish_line e) (end_line (finish_of e)) [] (none d.end takes.going)
+    step d record { opens = d.opens; block = d.block; mark = None; end = Some e } (finish_line e) (end_line (spelled_end e)) [] (none d.end takes.going)
     (none_under d.mark (mark_none d.mark role.End takes.marks refl))
     refl (refl, refl) (s.0, s.1, (empty_open d.opens.items takes.placed, refl)) refl
 

@@ -1,4 +1,4 @@
--- Blocks and arms of trees, as lists.
+-- No public clause cites this file. Blocks, arms and single statements of trees, as lines spell them.
 use Rattle.std.specs.Prelude.{ℕ, nat_eq, Bool, true, false, not, ◌&&◌, List, [], ◌∷◌, Option, Some, None, Vec}
 use Rattle.std.proofs.Common.{Global}
 use Rattle.syntax_tree.specs.declared.stmt.Arm.{Arm as HeldArm}
@@ -39,6 +39,6 @@ abbrev pub if_one_of : ℕ → Expression → IsOfKind → SpelledStatement
 if_one_of n cond a = SimpleStatement record { number = n; what = OfStatement (statements.IfOne cond a.0 a.1) }
 
 -- the block of ELSE or ELSEWHERE
-abbrev pub otherwise_of : Option (Vec Stmt Global) → ElsePart
-otherwise_of None = NoElse
-otherwise_of (Some v) = Else (spelled_block v.items)
+abbrev pub spelled_else_of : Option (Vec Stmt Global) → ElsePart
+spelled_else_of None = NoElse
+spelled_else_of (Some v) = Else (spelled_block v.items)

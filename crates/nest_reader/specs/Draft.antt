@@ -1,4 +1,4 @@
--- The lines of a draft, and what may stand behind them.
+-- No public clause cites this file. The lines of a draft, and what may stand behind them.
 use Rattle.std.specs.Prelude.{◌≡◌, ℕ, Bool, true, false, ◌||◌, List, [], ◌∷◌, ◌++◌, Option, Some, None, IfSome, is_some, option_map}
 use Rattle.syntax_tree.specs.declared.decl.EndForm.{EndForm}
 use Rattle.syntax_tree.specs.declared.stmt.Arm.{Arm as HeldArm}
@@ -22,22 +22,22 @@ use Rattle.nest_reader.specs.declared.draft.Draft.{Draft}
 use Rattle.nest_reader.specs.declared.draft.Open.{Open as HeldOpen}
 use Rattle.nest_reader.specs.declared.draft.Opened.{Opened}
 use Rattle.nest_reader.specs.declared.draft.Opened.TheVariants as opened
-use Rattle.nest_reader.specs.Views.{spelled_if_blocks, spelled_block, finish_of, spelled_independent, spelled_statement}
+use Rattle.nest_reader.specs.Views.{spelled_if_blocks, spelled_block, spelled_end, spelled_independent, spelled_statement}
 use Rattle.nest_reader.specs.Build.{are_begun}
 use Rattle.nest_reader.specs.SpelledProgram.{SpelledBlock, SpelledStatement}
 use Rattle.nest_reader.specs.Formed.{IsBlock, IsStatement, AreArms}
-use Rattle.nest_reader.specs.ProgramLines.{Entry, AreEntriesOf, part, mark_lines, bare_mark_lines, block_lines, first_lines, statement_lines, else_if, end_if, end_do, end_where, end_forall, end_line}
+use Rattle.nest_reader.specs.ProgramLines.{Entry, AreEntriesOf, unnumbered, independent_lines, bare_independent_lines, block_lines, if_lines, statement_lines, else_if, end_if, end_do, end_where, end_forall, end_line}
 
 -- the lines of an open construct before its innermost block
 abbrev pub opened_lines : Opened → List Entry
 opened_lines (opened.If n cond) = (Some n, OfStatement (statements.Plain kind.IfThen (expression cond))) ∷ []
-opened_lines (opened.ElseIf first arms n cond glued) = first_lines (spelled_if_blocks arms.items) ++ (Some n, OfStatement (else_if glued (expression cond))) ∷ []
-opened_lines (opened.Else first arms) = first_lines (spelled_if_blocks arms.items) ++ part (OfStatement (statements.Plain kind.Else tt)) ∷ []
-opened_lines (opened.Do n head mark) = mark_lines (option_map spelled_independent mark) ++ (Some n, OfStatement (statements.Plain kind.Do (do_of head))) ∷ []
+opened_lines (opened.ElseIf first arms n cond glued) = if_lines (spelled_if_blocks arms.items) ++ (Some n, OfStatement (else_if glued (expression cond))) ∷ []
+opened_lines (opened.Else first arms) = if_lines (spelled_if_blocks arms.items) ++ unnumbered (OfStatement (statements.Plain kind.Else tt)) ∷ []
+opened_lines (opened.Do n head mark) = independent_lines (option_map spelled_independent mark) ++ (Some n, OfStatement (statements.Plain kind.Do (do_of head))) ∷ []
 opened_lines (opened.Where n mask) = (Some n, OfStatement (statements.Plain kind.Where (expression mask, None))) ∷ []
 opened_lines (opened.ElseWhere n mask body) =
-    (Some n, OfStatement (statements.Plain kind.Where (expression mask, None))) ∷ (block_lines (spelled_block body.items) ++ part (OfStatement (statements.Plain (kind.ElseWhere true) tt)) ∷ [])
-opened_lines (opened.Forall n head marked) = bare_mark_lines marked ++ (Some n, OfStatement (statements.Plain kind.Forall (forall_of head, None))) ∷ []
+    (Some n, OfStatement (statements.Plain kind.Where (expression mask, None))) ∷ (block_lines (spelled_block body.items) ++ unnumbered (OfStatement (statements.Plain (kind.ElseWhere true) tt)) ∷ [])
+opened_lines (opened.Forall n head marked) = bare_independent_lines marked ++ (Some n, OfStatement (statements.Plain kind.Forall (forall_of head, None))) ∷ []
 
 abbrev pub opens_lines : List HeldOpen → List Entry
 opens_lines [] = []
@@ -45,14 +45,14 @@ opens_lines (o ∷ os) = (block_lines (spelled_block o.before.items) ++ opened_l
 
 abbrev pub end_lines : Option EndForm → List Entry
 end_lines None = []
-end_lines (Some e) = end_line (finish_of e) ∷ []
+end_lines (Some e) = end_line (spelled_end e) ∷ []
 
 -- the lines before an INDEPENDENT that is pending, and before END
 abbrev pub base_lines : Draft → List Entry
 base_lines d = opens_lines d.opens.items ++ block_lines (spelled_block d.block.items)
 
 abbrev pub draft_lines : Draft → List Entry
-draft_lines d = base_lines d ++ (mark_lines (option_map spelled_independent d.mark) ++ end_lines d.end)
+draft_lines d = base_lines d ++ (independent_lines (option_map spelled_independent d.mark) ++ end_lines d.end)
 
 -- the open constructs, the innermost one first
 abbrev pub open_of : Opened → Open
@@ -139,12 +139,12 @@ pub record IsBehind (d : Draft) (l : ProgramLine) (b : Draft) : Type 0 where
 
 -- a statement is an open construct with its innermost block and its END part
 pub record IsEnded (w : Opened) (b : SpelledBlock) (glued : Bool) (s : SpelledStatement) : Type 0 where
-  pub lines : statement_lines s ≡ (opened_lines w ++ block_lines b) ++ part (OfStatement (end_part (open_of w).construct glued)) ∷ []
+  pub lines : statement_lines s ≡ (opened_lines w ++ block_lines b) ++ unnumbered (OfStatement (end_part (open_of w).construct glued)) ∷ []
   pub sound : IsStatement s
 
 -- arms are those of an open IF, with its innermost block
 pub record AreFinished (w : Opened) (b : SpelledBlock) (first : ℕ) (arms : List HeldArm) : Type 0 where
-  pub lines : first_lines (spelled_if_blocks arms) ≡ opened_lines w ++ block_lines b
+  pub lines : if_lines (spelled_if_blocks arms) ≡ opened_lines w ++ block_lines b
   pub begun : are_begun first arms ≡ true
   pub sound : AreArms (spelled_if_blocks arms)
 

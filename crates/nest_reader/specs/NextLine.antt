@@ -1,4 +1,4 @@
--- Lines as they are taken.
+-- No public clause cites this file. The lines of which a draft gets one more.
 use Rattle.std.specs.Prelude.{ℕ, Bool, true, false}
 use Rattle.syntax_tree.specs.declared.decl.EndForm.{EndForm}
 use Rattle.syntax_tree.specs.declared.directive.DistSpec.{DistSpec}
@@ -15,17 +15,17 @@ use Rattle.directive_reader.specs.Views.{distribution_of, names_in}
 use Rattle.nest_rules.specs.ProgramLine.{OfStatement, OfDirective, ProgramLine}
 use Rattle.nest_reader.specs.SpelledProgram.{SpelledStatement, SimpleStatement, IndependentForall}
 
-abbrev pub said : ℕ → statements.Form → ProgramLine
-said n f = record { number = n; what = OfStatement f }
+abbrev pub statement_line : ℕ → statements.Form → ProgramLine
+statement_line n f = record { number = n; what = OfStatement f }
 
-abbrev pub directed : ℕ → directives.Form → ProgramLine
-directed n f = record { number = n; what = OfDirective f }
+abbrev pub directive_line : ℕ → directives.Form → ProgramLine
+directive_line n f = record { number = n; what = OfDirective f }
 
 abbrev pub action_line : ℕ → Action → ProgramLine
-action_line n a = said n (statements.Plain (action_of a).0 (action_of a).1)
+action_line n a = statement_line n (statements.Plain (action_of a).0 (action_of a).1)
 
 abbrev pub if_line : ℕ → Expr → Action → ProgramLine
-if_line n cond a = said n (statements.IfOne (expression cond) (action_of a).0 (action_of a).1)
+if_line n cond a = statement_line n (statements.IfOne (expression cond) (action_of a).0 (action_of a).1)
 
 abbrev pub redistribute_line : ℕ → DistSpec → ProgramLine
 redistribute_line n d = record { number = n; what = OfDirective (directives.Known (directive.Redistribute d.colons) (distribution_of d.colons d)) }
@@ -34,7 +34,7 @@ abbrev pub independent_line : Mark → ProgramLine
 independent_line m = record { number = m.line; what = OfDirective (directives.Known directive.Independent (names_in m.new, names_in m.reduction)) }
 
 abbrev pub finish_line : EndForm → ProgramLine
-finish_line e = said e.line (statements.Plain kind.End (end_of e.word e.name))
+finish_line e = statement_line e.line (statements.Plain kind.End (end_of e.word e.name))
 
 -- INDEPENDENT stands before it, or not
 abbrev pub single_or_marked : Bool → ProgramLine → SpelledStatement

@@ -1,4 +1,4 @@
--- Which lines spell a program.
+-- The lines of a program, and which lines spell it.
 use Rattle.std.specs.Prelude.{◌≡◌, ℕ, Bool, true, false, not, ◌&&◌, ◌||◌, if◌then◌else◌, IfSome, List, [], ◌∷◌, ◌++◌, map, Option, Some, None}
 use Rattle.std.specs.List.{filter}
 use Rattle.syntax_tree.specs.Expression.{Expression}
@@ -22,19 +22,19 @@ abbrev pub numbered : ProgramLine → Entry
 numbered l = (Some l.number, l.what)
 
 -- the lines of INDEPENDENT
-abbrev pub mark_lines : Option SpelledIndependent → List Entry
-mark_lines None = []
-mark_lines (Some m) = (Some m.number, OfDirective (directives.Known directive.Independent (names_in m.new, names_in m.reduction))) ∷ []
+abbrev pub independent_lines : Option SpelledIndependent → List Entry
+independent_lines None = []
+independent_lines (Some m) = (Some m.number, OfDirective (directives.Known directive.Independent (names_in m.new, names_in m.reduction))) ∷ []
 
-abbrev pub bare_mark_lines : Bool → List Entry
-bare_mark_lines true = (None, OfDirective (directives.Known directive.Independent (None, None))) ∷ []
-bare_mark_lines false = []
+abbrev pub bare_independent_lines : Bool → List Entry
+bare_independent_lines true = (None, OfDirective (directives.Known directive.Independent (None, None))) ∷ []
+bare_independent_lines false = []
 
 -- a line whose number a tree doesn't keep
-abbrev pub part : LineContent → Entry
-part w = (None, w)
+abbrev pub unnumbered : LineContent → Entry
+unnumbered w = (None, w)
 
--- the parts of constructs that are one word or two
+-- END parts and ELSE IF, as one word or two
 abbrev pub end_if : Bool → statements.Form
 end_if true = statements.Plain (kind.EndIf true) tt
 end_if false = statements.Plain (kind.EndIf false) tt
@@ -62,31 +62,31 @@ abbrev mutual
 
   pub statement_lines : SpelledStatement → List Entry
   statement_lines (SimpleStatement l) = numbered l ∷ []
-  statement_lines (IndependentForall l) = bare_mark_lines true ++ numbered l ∷ []
+  statement_lines (IndependentForall l) = bare_independent_lines true ++ numbered l ∷ []
   statement_lines (IfConstruct arms other glued) =
-      first_lines arms ++ else_lines (OfStatement (statements.Plain kind.Else tt)) other ++ part (OfStatement (end_if glued)) ∷ []
+      if_lines arms ++ else_lines (OfStatement (statements.Plain kind.Else tt)) other ++ unnumbered (OfStatement (end_if glued)) ∷ []
   statement_lines (DoConstruct mark number head body glued) =
-      mark_lines mark ++ (Some number, OfStatement (statements.Plain kind.Do head)) ∷ (block_lines body ++ part (OfStatement (end_do glued)) ∷ [])
+      independent_lines mark ++ (Some number, OfStatement (statements.Plain kind.Do head)) ∷ (block_lines body ++ unnumbered (OfStatement (end_do glued)) ∷ [])
   statement_lines (WhereConstruct number mask body other glued) =
-      (Some number, OfStatement (statements.Plain kind.Where (mask, None))) ∷ (block_lines body ++ else_lines (OfStatement (statements.Plain (kind.ElseWhere true) tt)) other ++ part (OfStatement (end_where glued)) ∷ [])
+      (Some number, OfStatement (statements.Plain kind.Where (mask, None))) ∷ (block_lines body ++ else_lines (OfStatement (statements.Plain (kind.ElseWhere true) tt)) other ++ unnumbered (OfStatement (end_where glued)) ∷ [])
   statement_lines (ForallConstruct marked number head body glued) =
-      bare_mark_lines marked ++ (Some number, OfStatement (statements.Plain kind.Forall (head, None))) ∷ (block_lines body ++ part (OfStatement (end_forall glued)) ∷ [])
+      bare_independent_lines marked ++ (Some number, OfStatement (statements.Plain kind.Forall (head, None))) ∷ (block_lines body ++ unnumbered (OfStatement (end_forall glued)) ∷ [])
 
-  pub first_lines : IfBlocks → List Entry
-  first_lines NoIfBlock = []
-  first_lines (IfBlock number cond body glued arms) = (Some number, OfStatement (statements.Plain kind.IfThen cond)) ∷ (block_lines body ++ arms_lines arms)
+  pub if_lines : IfBlocks → List Entry
+  if_lines NoIfBlock = []
+  if_lines (IfBlock number cond body glued arms) = (Some number, OfStatement (statements.Plain kind.IfThen cond)) ∷ (block_lines body ++ else_if_lines arms)
 
-  pub arms_lines : IfBlocks → List Entry
-  arms_lines NoIfBlock = []
-  arms_lines (IfBlock number cond body glued arms) = (Some number, OfStatement (else_if glued cond)) ∷ (block_lines body ++ arms_lines arms)
+  pub else_if_lines : IfBlocks → List Entry
+  else_if_lines NoIfBlock = []
+  else_if_lines (IfBlock number cond body glued arms) = (Some number, OfStatement (else_if glued cond)) ∷ (block_lines body ++ else_if_lines arms)
 
   pub else_lines : LineContent → ElsePart → List Entry
   else_lines w NoElse = []
-  else_lines w (Else body) = part w ∷ block_lines body
+  else_lines w (Else body) = unnumbered w ∷ block_lines body
 
 abbrev pub name_lines : Option (List ℕ) → List Entry
 name_lines None = []
-name_lines (Some name) = part (OfStatement (statements.Plain kind.Program name)) ∷ []
+name_lines (Some name) = unnumbered (OfStatement (statements.Plain kind.Program name)) ∷ []
 
 abbrev pub end_line : ProgramEnd → Entry
 end_line e = (Some e.number, OfStatement (statements.Plain kind.End e.what))

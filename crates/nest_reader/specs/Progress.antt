@@ -1,5 +1,5 @@
--- How far a program has been read.
-use Rattle.std.specs.Prelude.{◌≡◌, ℕ, Bool, true, false, List, [], ◌++◌, map, Option, Some, None, ◌⊎◌, if◌then◌else◌}
+-- No public clause cites this file. How far a program has been read.
+use Rattle.std.specs.Prelude.{◌≡◌, ℕ, true, false, List, [], ◌++◌, map, Option, Some, None, ◌⊎◌, if◌then◌else◌}
 use Rattle.hpf_base.specs.Refusal.{NoBreach}
 use Rattle.statement_reader.specs.declared.kind.Kind.TheVariants as kind
 use Rattle.statement_reader.specs.Forms as statements
@@ -17,13 +17,13 @@ use Rattle.nest_reader.specs.Views.{declaration_line}
 use Rattle.nest_reader.specs.Formed.{AreDeclared}
 use Rattle.nest_reader.specs.ProgramLines.{Entry, AreEntriesOf, from_name, has_name, kept_behind_name, kept_lines, name_lines, numbered, without_passed}
 use Rattle.nest_reader.specs.Draft.{IsDraft, draft_lines, is_inner, status}
-use Rattle.nest_reader.specs.NextLine.{said}
+use Rattle.nest_reader.specs.NextLine.{statement_line}
 
 abbrev pub IsInner : ProgramLine → Type 0
 IsInner l = is_inner (role_of l.what) ≡ true
 
 abbrev pub IsClassOf : ProgramLine → LineClass → Type 0
-IsClassOf l (sort.Name x) = said l.number (statements.Plain kind.Program x) ≡ l
+IsClassOf l (sort.Name x) = statement_line l.number (statements.Plain kind.Program x) ≡ l
 IsClassOf l (sort.Decl d) = declaration_line d ≡ l
 IsClassOf l (sort.Inner i) = (line_of i ≡ l) × IsInner (line_of i)
 

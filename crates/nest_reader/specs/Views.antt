@@ -1,4 +1,4 @@
--- The program that a tree is.
+-- The program that the lines of a tree spell.
 use Rattle.std.specs.Prelude.{ℕ, nat_eq, Bool, true, false, not, ◌&&◌, if◌then◌else◌, List, [], ◌∷◌, map, Option, Some, None, option_map}
 use Rattle.syntax_tree.specs.declared.decl.Decl.{Decl}
 use Rattle.syntax_tree.specs.declared.decl.DeclKind.{DeclKind}
@@ -77,34 +77,34 @@ abbrev pub spelled_independent : HeldMark → SpelledIndependent
 spelled_independent m = record { number = m.line; new = m.new; reduction = m.reduction }
 
 abbrev mutual
-  pub kind_of : ℕ → HeldKind → SpelledStatement
-  kind_of n (IfOne' cond box m k) = if_one n (expression cond) m (action_in n k)
-  kind_of n (If' shape arms rest glued) = if begins n arms then IfConstruct (arms_row arms) (rest_of rest) glued else no_statement
-  kind_of n (Do d) = loop_of n d
-  kind_of n (Where' mask shape row rest false glued) = WhereConstruct n (expression mask) (row_of row) (rest_of rest) glued
-  kind_of n (Forall' axes mask shape row false glued marked) = ForallConstruct marked n (map axis_of axes.items, option_map expression mask) (row_of row) glued
-  kind_of n (Forall' axes mask shape row true false true) = marked_one n (map axis_of axes.items, option_map expression mask) (assignment_in n row)
-  kind_of n (Redistribute d) = SimpleStatement record { number = n; what = OfDirective (directives.Known (directive.Redistribute d.colons) (distribution_of d.colons d)) }
-  kind_of n k = single n (action_in n k)
+  pub spelled_kind : ℕ → HeldKind → SpelledStatement
+  spelled_kind n (IfOne' cond box m k) = if_one n (expression cond) m (action_in n k)
+  spelled_kind n (If' shape arms rest glued) = if begins n arms then IfConstruct (spelled_arms arms) (spelled_else rest) glued else no_statement
+  spelled_kind n (Do d) = spelled_do n d
+  spelled_kind n (Where' mask shape row rest false glued) = WhereConstruct n (expression mask) (spelled_row row) (spelled_else rest) glued
+  spelled_kind n (Forall' axes mask shape row false glued marked) = ForallConstruct marked n (map axis_of axes.items, option_map expression mask) (spelled_row row) glued
+  spelled_kind n (Forall' axes mask shape row true false true) = marked_one n (map axis_of axes.items, option_map expression mask) (assignment_in n row)
+  spelled_kind n (Redistribute d) = SimpleStatement record { number = n; what = OfDirective (directives.Known (directive.Redistribute d.colons) (distribution_of d.colons d)) }
+  spelled_kind n k = single n (action_in n k)
 
-  pub loop_of : ℕ → Rattle.syntax_tree.specs.declared.stmt.DoLoop.DoLoop → SpelledStatement
-  loop_of n (struct-DoLoop index first last step mark shape row glued) =
-      DoConstruct (option_map spelled_independent mark) n (index, (expression first, (expression last, option_map expression step))) (row_of row) glued
+  pub spelled_do : ℕ → Rattle.syntax_tree.specs.declared.stmt.DoLoop.DoLoop → SpelledStatement
+  spelled_do n (struct-DoLoop index first last step mark shape row glued) =
+      DoConstruct (option_map spelled_independent mark) n (index, (expression first, (expression last, option_map expression step))) (spelled_row row) glued
 
-  pub row_of : {m : _} → Row_of-Stmt m → SpelledBlock
-  row_of end_of-Stmt = EmptyBlock
-  row_of (more_of-Stmt n k row) = StatementThen (kind_of n k) (row_of row)
+  pub spelled_row : {m : _} → Row_of-Stmt m → SpelledBlock
+  spelled_row end_of-Stmt = EmptyBlock
+  spelled_row (more_of-Stmt n k row) = StatementThen (spelled_kind n k) (spelled_row row)
 
-  pub rest_of : Held-Kind-If-1 → ElsePart
-  rest_of None' = NoElse
-  rest_of (Some' shape row) = Else (row_of row)
+  pub spelled_else : Held-Kind-If-1 → ElsePart
+  spelled_else None' = NoElse
+  spelled_else (Some' shape row) = Else (spelled_row row)
 
-  pub arms_row : {m : _} → Row_of-Arm m → IfBlocks
-  arms_row end_of-Arm = NoIfBlock
-  arms_row (more_of-Arm (struct-Arm n cond shape row glued) arms) = IfBlock n (expression cond) (row_of row) glued (arms_row arms)
+  pub spelled_arms : {m : _} → Row_of-Arm m → IfBlocks
+  spelled_arms end_of-Arm = NoIfBlock
+  spelled_arms (more_of-Arm (struct-Arm n cond shape row glued) arms) = IfBlock n (expression cond) (spelled_row row) glued (spelled_arms arms)
 
 abbrev pub spelled_statement : Stmt → SpelledStatement
-spelled_statement s = kind_of s.line s.what
+spelled_statement s = spelled_kind s.line s.what
 
 -- statements one behind the other
 abbrev pub spelled_block : List Stmt → SpelledBlock
@@ -113,7 +113,7 @@ spelled_block (s ∷ ss) = StatementThen (spelled_statement s) (spelled_block ss
 
 -- an arm before others
 abbrev pub arm_before : HeldArm → IfBlocks → IfBlocks
-arm_before (struct-Arm n cond shape row glued) arms = IfBlock n (expression cond) (row_of row) glued arms
+arm_before (struct-Arm n cond shape row glued) arms = IfBlock n (expression cond) (spelled_row row) glued arms
 
 abbrev pub spelled_if_blocks : List HeldArm → IfBlocks
 spelled_if_blocks [] = NoIfBlock
@@ -128,13 +128,13 @@ declared_of (declared.Directive d) = OfDirective (mapping_of d)
 abbrev pub declaration_line : Decl → ProgramLine
 declaration_line d = record { number = d.line; what = declared_of d.what }
 
-abbrev pub finish_of : EndForm → ProgramEnd
-finish_of e = record { what = end_of e.word e.name; number = e.line }
+abbrev pub spelled_end : EndForm → ProgramEnd
+spelled_end e = record { what = end_of e.word e.name; number = e.line }
 
 abbrev pub spelled_program : Tree → SpelledProgram
 spelled_program t = record {
   name = t.name;
   declarations = map declaration_line t.decls.items;
   body = spelled_block t.body.items;
-  finish = finish_of t.end;
+  finish = spelled_end t.end;
 }

@@ -1,4 +1,4 @@
-//! Statements and arms, made of what lines say.
+//! Building statements and arms from what lines say.
 
 ghost use Rattle.std.specs.Prelude.{◌≡◌, true, not, IfOk, Some, None, List, option_map};
 ghost use Rattle.syntax_tree.specs.Expression.{expression};
@@ -8,8 +8,8 @@ ghost use Rattle.directive_reader.specs.Views.{distribution_of};
 ghost use Rattle.statement_reader.specs.Views.{action_of, assignment_of, do_of, forall_of};
 ghost use Rattle.nest_rules.specs.ProgramLine.{OfDirective};
 ghost use Rattle.nest_reader.specs.SpelledProgram.{IfBlock, IfBlocks, IfConstruct, ForallConstruct, DoConstruct, WhereConstruct, SimpleStatement};
-ghost use Rattle.nest_reader.specs.Views.{action_in, arm_before, spelled_if_blocks, spelled_block, forall_one, kind_of, spelled_independent, spelled_statement, where_one};
-ghost use Rattle.nest_reader.specs.Build.{are_begun, arm_begins, forall_of_line, if_one_of, one_assignment, otherwise_of, single_of};
+ghost use Rattle.nest_reader.specs.Views.{action_in, arm_before, spelled_if_blocks, spelled_block, forall_one, spelled_kind, spelled_independent, spelled_statement, where_one};
+ghost use Rattle.nest_reader.specs.Build.{are_begun, arm_begins, forall_of_line, if_one_of, one_assignment, spelled_else_of, single_of};
 
 use statement_reader::{Action, Assignment, DoHead, ForallHead};
 use std::alloc::{AllocError, Global};
@@ -60,7 +60,7 @@ fn forall_one(
 }
 
 /// The action of an IF.
-fn action(alloc: Global, line: u32, action: Action) -> Result<Kind, AllocError>
+fn action_kind(alloc: Global, line: u32, action: Action) -> Result<Kind, AllocError>
     ensures { IfOk result (λ k. action_in line k ≡ Some (action_of action)) }
 {
     match action {
@@ -77,18 +77,23 @@ fn action(alloc: Global, line: u32, action: Action) -> Result<Kind, AllocError>
 
 /// A statement that is whole in its line.
 #[tactic(auto, using(crate::proofs::Rows::whole_kind))]
-pub(crate) fn whole(alloc: Global, line: u32, said: Action) -> Result<Stmt, AllocError>
-    ensures { IfOk result (λ s. spelled_statement s ≡ single_of line (action_of said)) }
+pub(crate) fn whole(alloc: Global, line: u32, action: Action) -> Result<Stmt, AllocError>
+    ensures { IfOk result (λ s. spelled_statement s ≡ single_of line (action_of action)) }
 {
-    let what = action(alloc, line, said)?;
+    let what = action_kind(alloc, line, action)?;
     Ok(Stmt { line, what })
 }
 
 /// IF with an action.
-pub(crate) fn if_one(alloc: Global, line: u32, cond: Expr, said: Action) -> Result<Stmt, AllocError>
-    ensures { IfOk result (λ s. spelled_statement s ≡ if_one_of line (expression cond) (action_of said)) }
+pub(crate) fn if_one(
+    alloc: Global,
+    line: u32,
+    cond: Expr,
+    action: Action,
+) -> Result<Stmt, AllocError>
+    ensures { IfOk result (λ s. spelled_statement s ≡ if_one_of line (expression cond) (action_of action)) }
 {
-    let what = action(alloc, line, said)?;
+    let what = action_kind(alloc, line, action)?;
     let body = Box::new(alloc, Stmt { line, what })?;
     let what = Kind::IfOne { cond, body };
     Ok(Stmt { line, what })
@@ -135,7 +140,7 @@ pub(crate) fn arm(line: u32, cond: Expr, body: Vec<Stmt>, glued: bool) -> Arm
 #[tactic(auto, using(crate::proofs::Rows::arms_hidden, crate::proofs::Rows::begun_hidden, crate::proofs::Rows::rest_hidden))]
 pub(crate) fn branches(line: u32, arms: Vec<Arm>, rest: Option<Vec<Stmt>>, glued: bool) -> Stmt
     requires { are_begun line arms.items ≡ true }
-    ensures { spelled_statement result ≡ IfConstruct (spelled_if_blocks arms.items) (otherwise_of rest) glued }
+    ensures { spelled_statement result ≡ IfConstruct (spelled_if_blocks arms.items) (spelled_else_of rest) glued }
 {
     let what = Kind::If { arms, rest, glued };
     Stmt { line, what }
@@ -179,7 +184,7 @@ pub(crate) fn masked(
     rest: Option<Vec<Stmt>>,
     glued: bool,
 ) -> Stmt
-    ensures { spelled_statement result ≡ WhereConstruct line (expression mask) (spelled_block body.items) (otherwise_of rest) glued }
+    ensures { spelled_statement result ≡ WhereConstruct line (expression mask) (spelled_block body.items) (spelled_else_of rest) glued }
 {
     let what = Kind::Where {
         mask,

@@ -9,11 +9,11 @@ ghost use Rattle.nest_reader.specs.declared.draft.Opened.TheVariants as opened;
 ghost use Rattle.nest_reader.specs.Views.{spelled_if_blocks, spelled_block, spelled_statement};
 ghost use Rattle.nest_reader.specs.Build.{are_begun};
 ghost use Rattle.nest_reader.specs.Formed.{AreArms, IsBlock};
-ghost use Rattle.nest_reader.specs.ProgramLines.{block_lines, else_if, first_lines};
+ghost use Rattle.nest_reader.specs.ProgramLines.{block_lines, else_if, if_lines};
 ghost use Rattle.nest_reader.specs.Draft.{AreFinished, IsEnded, IsOpened, open_of};
 
-use crate::draft::Opened;
 use crate::build::{arm, branches, indexed, looped, masked};
+use crate::draft::Opened;
 use std::alloc::{AllocError, Global};
 use syntax_tree::{Arm, Expr, Stmt};
 

@@ -13,11 +13,11 @@ ghost use Rattle.nest_reader.specs.Views.{spelled_block, spelled_statement};
 ghost use Rattle.nest_reader.specs.Formed.{IsBlock, IsStatement};
 ghost use Rattle.nest_reader.specs.ProgramLines.{else_if};
 ghost use Rattle.nest_reader.specs.Draft.{AreOpen, IsAppended, IsBehind, IsDraft, IsNested, IsOpened, Takes, end_part, clauses_in, innermost, shape, status};
-ghost use Rattle.nest_reader.specs.NextLine.{action_line, finish_line, if_line, independent_line, redistribute_line, said, single_or_marked};
+ghost use Rattle.nest_reader.specs.NextLine.{action_line, finish_line, if_line, independent_line, redistribute_line, statement_line, single_or_marked};
 
+use crate::build::{if_one, marked_forall, redistributed, whole};
 use crate::construct_end::{ended, finished};
 use crate::draft::{Draft, Open, Opened};
-use crate::build::{if_one, marked_forall, redistributed, whole};
 use statement_reader::{Action, DoHead, ForallHead};
 use std::alloc::{AllocError, Global};
 use syntax_tree::{DistSpec, EndForm, Expr, Mark, Stmt};
@@ -67,13 +67,13 @@ fn innermost(mut opens: Vec<Open>) -> (Vec<Open>, Open)
 }
 
 /// A statement that is whole in its line, or FORALL with one assignment behind INDEPENDENT.
-fn single(alloc: Global, line: u32, marked: bool, said: Action) -> Result<Stmt, AllocError>
-    requires { marked ≡ true → plain_role (action_of said).0 (action_of said).1 ≡ role.One construct.Forall }
-    ensures { IfOk result (λ s. spelled_statement s ≡ single_or_marked marked (action_line line said)) }
+fn single(alloc: Global, line: u32, marked: bool, action: Action) -> Result<Stmt, AllocError>
+    requires { marked ≡ true → plain_role (action_of action).0 (action_of action).1 ≡ role.One construct.Forall }
+    ensures { IfOk result (λ s. spelled_statement s ≡ single_or_marked marked (action_line line action)) }
 {
-    match said {
+    match action {
         Action::Forall { head, one } if marked => marked_forall(alloc, line, head, one),
-        said => whole(alloc, line, said),
+        action => whole(alloc, line, action),
     }
 }
 
@@ -82,19 +82,19 @@ pub(crate) fn take_action(
     alloc: Global,
     draft: Draft,
     line: u32,
-    said: Action,
+    action: Action,
 ) -> Result<Draft, AllocError>
     requires sound { IsDraft draft }
-    requires takes { Takes (status draft) (role_of (action_line line said).what) }
-    ensures { IfOk result (λ d. IsBehind draft (action_line line said) d) }
+    requires takes { Takes (status draft) (role_of (action_line line action).what) }
+    ensures { IfOk result (λ d. IsBehind draft (action_line line action) d) }
 {
     let Draft {
         opens,
         block,
         mark,
-        end: _,
+        ..
     } = draft;
-    let stmt = single(alloc, line, mark.is_some(), said)?;
+    let stmt = single(alloc, line, mark.is_some(), action)?;
     appended(opens, block, stmt)
 }
 
@@ -104,19 +104,14 @@ pub(crate) fn take_if_one(
     draft: Draft,
     line: u32,
     cond: Expr,
-    said: Action,
+    action: Action,
 ) -> Result<Draft, AllocError>
     requires sound { IsDraft draft }
-    requires takes { Takes (status draft) (role_of (if_line line cond said).what) }
-    ensures { IfOk result (λ d. IsBehind draft (if_line line cond said) d) }
+    requires takes { Takes (status draft) (role_of (if_line line cond action).what) }
+    ensures { IfOk result (λ d. IsBehind draft (if_line line cond action) d) }
 {
-    let Draft {
-        opens,
-        block,
-        mark: _,
-        end: _,
-    } = draft;
-    let stmt = if_one(alloc, line, cond, said)?;
+    let Draft { opens, block, .. } = draft;
+    let stmt = if_one(alloc, line, cond, action)?;
     appended(opens, block, stmt)
 }
 
@@ -130,12 +125,7 @@ pub(crate) fn take_redistribute(
     requires takes { Takes (status draft) role.Redistribute }
     ensures { IfOk result (λ d. IsBehind draft (redistribute_line line spec) d) }
 {
-    let Draft {
-        opens,
-        block,
-        mark: _,
-        end: _,
-    } = draft;
+    let Draft { opens, block, .. } = draft;
     appended(opens, block, redistributed(line, spec))
 }
 
@@ -148,14 +138,9 @@ pub(crate) fn open_if(
 ) -> Result<Draft, AllocError>
     requires sound { IsDraft draft }
     requires takes { Takes (status draft) (role.Opens construct.If) }
-    ensures { IfOk result (λ d. IsBehind draft (said line (statements.Plain kind.IfThen (expression cond))) d) }
+    ensures { IfOk result (λ d. IsBehind draft (statement_line line (statements.Plain kind.IfThen (expression cond))) d) }
 {
-    let Draft {
-        opens,
-        block,
-        mark: _,
-        end: _,
-    } = draft;
+    let Draft { opens, block, .. } = draft;
     nested(alloc, opens, block, Opened::If { line, cond })
 }
 
@@ -168,13 +153,13 @@ pub(crate) fn open_do(
 ) -> Result<Draft, AllocError>
     requires sound { IsDraft draft }
     requires takes { Takes (status draft) (role.Opens construct.Do) }
-    ensures { IfOk result (λ d. IsBehind draft (said line (statements.Plain kind.Do (do_of head))) d) }
+    ensures { IfOk result (λ d. IsBehind draft (statement_line line (statements.Plain kind.Do (do_of head))) d) }
 {
     let Draft {
         opens,
         block,
         mark,
-        end: _,
+        ..
     } = draft;
     nested(alloc, opens, block, Opened::Do { line, head, mark })
 }
@@ -188,14 +173,9 @@ pub(crate) fn open_where(
 ) -> Result<Draft, AllocError>
     requires sound { IsDraft draft }
     requires takes { Takes (status draft) (role.Opens construct.Where) }
-    ensures { IfOk result (λ d. IsBehind draft (said line (statements.Plain kind.Where (expression mask, None))) d) }
+    ensures { IfOk result (λ d. IsBehind draft (statement_line line (statements.Plain kind.Where (expression mask, None))) d) }
 {
-    let Draft {
-        opens,
-        block,
-        mark: _,
-        end: _,
-    } = draft;
+    let Draft { opens, block, .. } = draft;
     nested(alloc, opens, block, Opened::Where { line, mask })
 }
 
@@ -208,13 +188,13 @@ pub(crate) fn open_forall(
 ) -> Result<Draft, AllocError>
     requires sound { IsDraft draft }
     requires takes { Takes (status draft) (role.Opens construct.Forall) }
-    ensures { IfOk result (λ d. IsBehind draft (said line (statements.Plain kind.Forall (forall_of head, None))) d) }
+    ensures { IfOk result (λ d. IsBehind draft (statement_line line (statements.Plain kind.Forall (forall_of head, None))) d) }
 {
     let Draft {
         opens,
         block,
         mark,
-        end: _,
+        ..
     } = draft;
     let marked = mark.is_some();
     nested(alloc, opens, block, Opened::Forall { line, head, marked })
@@ -230,14 +210,9 @@ pub(crate) fn else_if(
 ) -> Result<Draft, AllocError>
     requires sound { IsDraft draft }
     requires takes { Takes (status draft) role.ElseIf }
-    ensures { IfOk result (λ d. IsBehind draft (said line (else_if glued (expression cond))) d) }
+    ensures { IfOk result (λ d. IsBehind draft (statement_line line (else_if glued (expression cond))) d) }
 {
-    let Draft {
-        opens,
-        block,
-        mark: _,
-        end: _,
-    } = draft;
+    let Draft { opens, block, .. } = draft;
     let (opens, open) = innermost(opens);
     let Open { before, what } = open;
     let (first, arms) = finished(alloc, what, block)?;
@@ -255,14 +230,9 @@ pub(crate) fn else_if(
 pub(crate) fn otherwise(alloc: Global, draft: Draft, line: u32) -> Result<Draft, AllocError>
     requires sound { IsDraft draft }
     requires takes { Takes (status draft) role.Else }
-    ensures { IfOk result (λ d. IsBehind draft (said line (statements.Plain kind.Else tt)) d) }
+    ensures { IfOk result (λ d. IsBehind draft (statement_line line (statements.Plain kind.Else tt)) d) }
 {
-    let Draft {
-        opens,
-        block,
-        mark: _,
-        end: _,
-    } = draft;
+    let Draft { opens, block, .. } = draft;
     let (opens, open) = innermost(opens);
     let Open { before, what } = open;
     let (first, arms) = finished(alloc, what, block)?;
@@ -273,14 +243,9 @@ pub(crate) fn otherwise(alloc: Global, draft: Draft, line: u32) -> Result<Draft,
 pub(crate) fn elsewhere(alloc: Global, draft: Draft, line: u32) -> Result<Draft, AllocError>
     requires sound { IsDraft draft }
     requires takes { Takes (status draft) role.ElseWhere }
-    ensures { IfOk result (λ d. IsBehind draft (said line (statements.Plain (kind.ElseWhere true) tt)) d) }
+    ensures { IfOk result (λ d. IsBehind draft (statement_line line (statements.Plain (kind.ElseWhere true) tt)) d) }
 {
-    let Draft {
-        opens,
-        block,
-        mark: _,
-        end: _,
-    } = draft;
+    let Draft { opens, block, .. } = draft;
     let (opens, open) = innermost(opens);
     let Open { before, what } = open;
     let Opened::Where { line, mask } = what else {
@@ -298,14 +263,9 @@ pub(crate) fn elsewhere(alloc: Global, draft: Draft, line: u32) -> Result<Draft,
 pub(crate) fn close(alloc: Global, draft: Draft, glued: bool) -> Result<Draft, AllocError>
     requires sound { IsDraft draft }
     requires takes { Takes (status draft) (role.Closes (innermost (status draft).opens)) }
-    ensures { IfOk result (λ d. (n : ℕ) → IsBehind draft (said n (end_part (innermost (status draft).opens) glued)) d) }
+    ensures { IfOk result (λ d. (n : ℕ) → IsBehind draft (statement_line n (end_part (innermost (status draft).opens) glued)) d) }
 {
-    let Draft {
-        opens,
-        block,
-        mark: _,
-        end: _,
-    } = draft;
+    let Draft { opens, block, .. } = draft;
     let (opens, open) = innermost(opens);
     let Open { before, what } = open;
     let stmt = ended(alloc, what, block, glued)?;
@@ -318,12 +278,7 @@ pub(crate) fn independent(draft: Draft, mark: Mark) -> Draft
     requires takes { Takes (status draft) (role.Independent (clauses_in mark)) }
     ensures { IsBehind draft (independent_line mark) result }
 {
-    let Draft {
-        opens,
-        block,
-        mark: _,
-        end: _,
-    } = draft;
+    let Draft { opens, block, .. } = draft;
     Draft {
         opens,
         block,
@@ -338,12 +293,7 @@ pub(crate) fn finish(draft: Draft, end: EndForm) -> Draft
     requires takes { Takes (status draft) role.End }
     ensures { IsBehind draft (finish_line end) result }
 {
-    let Draft {
-        opens,
-        block,
-        mark: _,
-        end: _,
-    } = draft;
+    let Draft { opens, block, .. } = draft;
     Draft {
         opens,
         block,

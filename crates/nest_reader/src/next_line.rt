@@ -6,7 +6,7 @@ ghost use Rattle.directive_reader.specs.Views as directive_views;
 ghost use Rattle.nest_rules.specs.ProgramLine.{line_of};
 ghost use Rattle.nest_rules.specs.Roles.{directive_role, role_of, statement_role};
 ghost use Rattle.nest_reader.specs.Draft.{IsBehind, IsDraft, Takes, status};
-ghost use Rattle.nest_reader.specs.NextLine.{directed, said};
+ghost use Rattle.nest_reader.specs.NextLine.{directive_line, statement_line};
 
 use crate::draft::Draft;
 use crate::draft_step::{
@@ -14,7 +14,7 @@ use crate::draft_step::{
     otherwise, take_action, take_if_one, take_redistribute,
 };
 use directive_reader::DirectiveLine;
-use nest_rules::{ProgramLine, LineContent};
+use nest_rules::{LineContent, ProgramLine};
 use statement_reader::Statement;
 use std::alloc::{AllocError, Global};
 use syntax_tree::{EndForm, Mark};
@@ -23,10 +23,10 @@ use syntax_tree::{EndForm, Mark};
 fn statement(alloc: Global, draft: Draft, line: u32, what: Statement) -> Result<Draft, AllocError>
     requires sound { IsDraft draft }
     requires takes { Takes (status draft) (statement_role (statement_views.form_of what)) }
-    ensures { IfOk result (λ d. IsBehind draft (said line (statement_views.form_of what)) d) }
+    ensures { IfOk result (λ d. IsBehind draft (statement_line line (statement_views.form_of what)) d) }
 {
     match what {
-        Statement::Action(said) => take_action(alloc, draft, line, said),
+        Statement::Action(action) => take_action(alloc, draft, line, action),
         Statement::IfOne { cond, action } => take_if_one(alloc, draft, line, cond, action),
         Statement::IfThen(cond) => open_if(alloc, draft, line, cond),
         Statement::ElseIf { cond, glued } => else_if(alloc, draft, line, cond, glued),
@@ -51,7 +51,7 @@ fn statement(alloc: Global, draft: Draft, line: u32, what: Statement) -> Result<
 fn directive(draft: Draft, line: u32, what: DirectiveLine) -> Result<Draft, AllocError>
     requires sound { IsDraft draft }
     requires takes { Takes (status draft) (directive_role (directive_views.form_of what)) }
-    ensures { IfOk result (λ d. IsBehind draft (directed line (directive_views.form_of what)) d) }
+    ensures { IfOk result (λ d. IsBehind draft (directive_line line (directive_views.form_of what)) d) }
 {
     match what {
         DirectiveLine::Redistribute(spec) => take_redistribute(draft, line, spec),

@@ -10,14 +10,14 @@ ghost use Rattle.nest_rules.specs.ProgramLine.{ProgramLine as PlainLine, line_of
 ghost use Rattle.nest_reader.specs.Formed.{IsProgram};
 ghost use Rattle.nest_reader.specs.ProgramLines.{IsSpelled};
 ghost use Rattle.nest_reader.specs.Progress.{IsInner, IsProgress, IsClassOf};
-ghost use Rattle.nest_reader.specs.NextLine.{said};
+ghost use Rattle.nest_reader.specs.NextLine.{statement_line};
 ghost use Rattle.nest_reader.specs.Views.{declaration_line, spelled_program};
 
 use crate::draft::Draft;
 use crate::next_line::behind;
 use directive_reader::DirectiveLine;
 use hpf_base::Name;
-use nest_rules::{ProgramLine, LineContent};
+use nest_rules::{LineContent, ProgramLine};
 use statement_reader::Statement;
 use std::alloc::{AllocError, Global};
 use syntax_tree::{Decl, DeclKind, Tree};
@@ -59,7 +59,7 @@ fn classify(line: ProgramLine) -> LineClass
 
 /// What a statement is to a program.
 fn classify_statement(line: u32, what: Statement) -> LineClass
-    ensures { IsClassOf (said line (form_of what)) result }
+    ensures { IsClassOf (statement_line line (form_of what)) result }
 {
     match what {
         Statement::Program(name) => LineClass::Name(name),
@@ -84,7 +84,7 @@ fn classify_statement(line: u32, what: Statement) -> LineClass
 
 /// PROGRAM. What was passed over before it is no part of the tree.
 fn named(alloc: Global, so_far: Progress, name: Name) -> Progress
-    ensures { (ls : List PlainLine) (last n : ℕ) (rest : List PlainLine) → IsProgress ls last so_far (said n (statements.Plain kind.Program name) ∷ rest) → IsProgress ls last result rest }
+    ensures { (ls : List PlainLine) (last n : ℕ) (rest : List PlainLine) → IsProgress ls last so_far (statement_line n (statements.Plain kind.Program name) ∷ rest) → IsProgress ls last result rest }
 {
     let Progress {
         name: _,

@@ -3,7 +3,7 @@ use Rattle.std.proofs.Common.{◌≡◌, ℕ, zero, suc, ◌+◌, ◌-◌, ◌�
 use Rattle.std.specs.Prelude.{if◌then◌else◌, nat_lt, ◌||◌}
 use Rattle.std.proofs.lemmas.Bool.Decides.{nat_tests}
 use Rattle.std.proofs.lemmas.Grind.{common_steps}
-use Rattle.std.proofs.lemmas.List.{drop_all}
+use Rattle.std.proofs.lemmas.List.{drop_all, length-map}
 use Rattle.hpf_base.specs.declared.refusal.Reason.{Reason}
 use Rattle.hpf_base.specs.declared.refusal.Reason.TheVariants as reason
 use Rattle.hpf_base.specs.declared.refusal.Refusal.{Refusal}
@@ -11,7 +11,7 @@ use Rattle.hpf_base.specs.Refusal.{number_of}
 use Rattle.nest_rules.specs.declared.role.Role.{Role}
 use Rattle.nest_rules.specs.declared.role.Role.TheVariants as role
 use Rattle.nest_rules.specs.declared.program_line.ProgramLine.{ProgramLine as HeldLine}
-use Rattle.nest_rules.specs.ProgramLine.{ProgramLine, content_of, lines_of}
+use Rattle.nest_rules.specs.ProgramLine.{ProgramLine, content_of, line_of, lines_of}
 use Rattle.nest_rules.specs.Roles.{role_of}
 use Rattle.nest_rules.specs.NestState.{NestState, state_behind, state_at_start, is_statement}
 use Rattle.nest_rules.specs.Breaches.{roles, NoEnd, BreachFrom, IsNestBreach}
@@ -134,49 +134,69 @@ declares (role.Redistribute ∷ rs) = declares rs ∙ counted (declared_length r
 declares (role.Independent cs ∷ rs) = declares rs ∙ counted (declared_length rs)
 declares (r ∷ rs) = refl
 
-line_at : (lines : List HeldLine) (i : ℕ) (l : HeldLine) → i < length lines → l ≡ get_or lines i l → drop i lines ≡ l ∷ drop (i + 1) lines
-line_at lines i l lt e = rw (add-one, drop-cons lines i l lt) (ap (λ x. x ∷ drop (suc i) lines) (sym e))
+at : {A : Type 0} (xs : List A) (i : ℕ) (x : A) → i < length xs → x ≡ get_or xs i x → drop i xs ≡ x ∷ drop (i + 1) xs
+at xs i x lt e = rw (add-one, drop-cons xs i x lt) (ap (λ y. y ∷ drop (suc i) xs) (sym e))
 
-rest_at : (lines : List HeldLine) (i : ℕ) → i < length lines → take (length lines - (i + 1)) (drop (i + 1) lines) ≡ drop (i + 1) lines
-rest_at lines i lt = grind (arith, common_steps)
+rest_at : {A : Type 0} (xs : List A) (i : ℕ) → i < length xs → take (length xs - (i + 1)) (drop (i + 1) xs) ≡ drop (i + 1) xs
+rest_at xs i lt = grind (arith, common_steps)
+
+-- the roles of lines, at a place and behind it
+roles_behind : (i : ℕ) (ls : List HeldLine) → drop i (roles (lines_of ls)) ≡ roles (lines_of (drop i ls))
+roles_behind zero ls = refl
+roles_behind (suc i) [] = refl
+roles_behind (suc i) (l ∷ ls) = roles_behind i ls
+
+module _ (lines : List HeldLine) (rs : List Role) (are : rs ≡ roles (lines_of lines)) (i : ℕ) (lt : i < length lines) where
+  pub in_roles : i < length rs
+  in_roles =
+      let n : length rs ≡ length lines = ap length are ∙ length-map (lines_of lines) (λ l. role_of l.what) ∙ length-map lines line_of in
+      omega (arith, lt, n)
+
+  pub role_at : (l : HeldLine) (r : Role) → l ≡ get_or lines i l → r ≡ get_or rs i r → r ≡ role_of (content_of l.what)
+  role_at l r el er =
+      let both : r ∷ drop (i + 1) rs ≡ role_of (content_of l.what) ∷ roles (lines_of (drop (i + 1) lines)) =
+      sym (at rs i r in_roles er) ∙ ap (drop i) are ∙ roles_behind i lines ∙ ap (λ ls. roles (lines_of ls)) (at lines i l lt el) in
+      cc
+
+  pub roles_left : take (length rs - (i + 1)) (drop (i + 1) rs) ≡ roles (lines_of (drop (i + 1) lines))
+  roles_left = rest_at rs i in_roles ∙ ap (drop (i + 1)) are ∙ roles_behind (i + 1) lines
 
 -- one more line behind those that some stand before
-pub found_next : (best : Option Refusal) (s : NestState) (last : ℕ) (lines : List HeldLine) (i : ℕ) (l : HeldLine) (r : Role) (why : Option Reason) (here best' : Option Refusal) (s' : NestState)
+pub found_next : (best : Option Refusal) (s : NestState) (last : ℕ) (lines : List HeldLine) (i : ℕ) (l : HeldLine) (r : Role) (left : List Role) (why : Option Reason) (here best' : Option Refusal) (s' : NestState)
     → i < length lines → l ≡ get_or lines i l
     → r ≡ role_of (content_of l.what)
-    → why ≡ least_reason s r (roles (lines_of (take (length lines - (i + 1)) (drop (i + 1) lines))))
+    → left ≡ roles (lines_of (drop (i + 1) lines))
+    → why ≡ least_reason s r left
     → here ≡ at_line l.number why
     → best' ≡ earlier best here
     → s' ≡ state_behind s r
     → found_from best s last (lines_of (drop i lines)) ≡ found_from best' s' last (lines_of (drop (i + 1) lines))
-found_next best s last lines i l r why here best' s' lt el er ew eh eb es =
-    let e = line_at lines i l lt el in
-    let all = rest_at lines i lt in
+found_next best s last lines i l r left why here best' s' lt el er all ew eh eb es =
+    let e = at lines i l lt el in
     rw (es, eb, eh, ew, all, er, e)
 
 -- and the declarations behind it
-pub declared_behind_line : (lines : List HeldLine) (i declared : ℕ) (l : HeldLine) (r : Role)
-    → i < length lines → l ≡ get_or lines i l
-    → r ≡ role_of (content_of l.what)
+pub declared_behind_line : (rs : List Role) (i declared : ℕ) (r : Role)
+    → i < length rs → r ≡ get_or rs i r
     → is_statement r ≡ false
-    → declared_length (roles (lines_of (drop i lines))) ≡ declared - i
-    → declared_length (roles (lines_of (drop (i + 1) lines))) ≡ declared - (i + 1)
-declared_behind_line lines i declared l r lt el er no_statement h =
-    let e = line_at lines i l lt el in
-    let h' = rw (e, ← er) at h in
-    let next = declared_next r (roles (lines_of (drop (i + 1) lines))) no_statement in
+    → declared_length (drop i rs) ≡ declared - i
+    → declared_length (drop (i + 1) rs) ≡ declared - (i + 1)
+declared_behind_line rs i declared r lt er no_statement h =
+    let e = at rs i r lt er in
+    let h' = rw e at h in
+    let next = declared_next r (drop (i + 1) rs) no_statement in
     omega (arith, h', next)
 
-pub declares_behind : (lines : List HeldLine) (i declared : ℕ) (l : HeldLine) (r : Role)
-    → i < length lines → l ≡ get_or lines i l
-    → r ≡ role_of (content_of l.what)
+pub declares_behind : (rs ts : List Role) (i declared : ℕ) (r : Role)
+    → ts ≡ rs
+    → i < length rs → r ≡ get_or rs i r
     → is_statement r ≡ false
-    → declared_length (roles (lines_of (drop i lines))) ≡ declared - i
-    → nat_lt (i + 1) declared ≡ declaration_comes (roles (lines_of (take (length lines - (i + 1)) (drop (i + 1) lines))))
-declares_behind lines i declared l r lt el er no_statement h =
-    let all = rest_at lines i lt in
-    let d : declared_length (roles (lines_of (drop (i + 1) lines))) ≡ declared - (i + 1) = declared_behind_line lines i declared l r lt el er no_statement h in
-    rw (all, declares, d) (grind (arith, nat_tests))
+    → declared_length (drop i rs) ≡ declared - i
+    → nat_lt (i + 1) declared ≡ declaration_comes (take (length ts - (i + 1)) (drop (i + 1) ts))
+declares_behind rs ts i declared r same lt er no_statement h =
+    let all = rest_at rs i lt in
+    let d : declared_length (drop (i + 1) rs) ≡ declared - (i + 1) = declared_behind_line rs i declared r lt er no_statement h in
+    rw (same, all, declares, d) (grind (arith, nat_tests))
 
 -- before the first statement no line was one
 pub stated_before : (s s' : NestState) (r : Role) → s' ≡ state_behind s r → s'.stated ≡ false → (s.stated ≡ false) × (is_statement r ≡ false)

@@ -1,17 +1,13 @@
 //! The rules of constructs, declarations and directives, for one line.
 
 ghost use Rattle.std.specs.Prelude.{◌≡◌, false};
-ghost use Rattle.nest_rules.specs.Breaches.{roles};
 ghost use Rattle.nest_rules.specs.Rules.{comes_late, declaration_comes, fits_where_or_forall, nests_where_or_forall, is_misdirected, is_misplaced, is_too_deep, leaves_nothing, closes_wrongly, is_independent_target};
 ghost use Rattle.nest_rules.specs.Found.{least_reason};
-ghost use Rattle.nest_rules.specs.ProgramLine.{lines_of};
 ghost use Rattle.nest_rules.specs.NestState.{is_statement};
 
-use crate::program_line::ProgramLine;
+use crate::nest_state::{NestState, is_passed};
 use crate::open_constructs::{Opens, is_where_or_forall};
 use crate::role::{Clauses, Construct, Role};
-use crate::roles::role_of;
-use crate::nest_state::{NestState, is_passed};
 use hpf_base::{MAX_NESTING, Reason};
 
 /// An END part that doesn't close the innermost open construct, or an ELSE part out of place.
@@ -99,11 +95,11 @@ fn is_too_deep(opens: &Opens, role: Role) -> bool
 
 /// The first of these lines that isn't passed over is what an INDEPENDENT with or without clauses may stand before: a DO
 /// or, without clauses, a FORALL.
-fn is_independent_target(clauses: Clauses, behind: &[ProgramLine]) -> bool
-    ensures { result ≡ is_independent_target clauses (roles (lines_of behind.now)) }
+fn is_independent_target(clauses: Clauses, behind: &[Role]) -> bool
+    ensures { result ≡ is_independent_target clauses behind.now }
 {
-    for line in behind {
-        match role_of(&line.what) {
+    for role in behind {
+        match *role {
             Role::Passed => {}
             Role::Opens(Construct::Do) => return true,
             Role::Opens(Construct::Forall) | Role::One(Construct::Forall) => {
@@ -117,9 +113,9 @@ fn is_independent_target(clauses: Clauses, behind: &[ProgramLine]) -> bool
 
 /// A directive that stands where it may not; `declares` says, before the first statement, whether a declaration comes
 /// behind it.
-fn is_misdirected(state: &NestState, role: Role, declares: bool, behind: &[ProgramLine]) -> bool
-    requires { is_statement role ≡ false → state.now.stated ≡ false → declares ≡ declaration_comes (roles (lines_of behind.now)) }
-    ensures { result ≡ is_misdirected state.now role (roles (lines_of behind.now)) }
+fn is_misdirected(state: &NestState, role: Role, declares: bool, behind: &[Role]) -> bool
+    requires { is_statement role ≡ false → state.now.stated ≡ false → declares ≡ declaration_comes behind.now }
+    ensures { result ≡ is_misdirected state.now role behind.now }
 {
     match role {
         Role::SpecificationDirective => state.stated,
@@ -136,10 +132,10 @@ pub(crate) fn least_reason(
     state: &NestState,
     role: Role,
     declares: bool,
-    behind: &[ProgramLine],
+    behind: &[Role],
 ) -> Option<Reason>
-    requires { is_statement role ≡ false → state.now.stated ≡ false → declares ≡ declaration_comes (roles (lines_of behind.now)) }
-    ensures { result ≡ least_reason state.now role (roles (lines_of behind.now)) }
+    requires { is_statement role ≡ false → state.now.stated ≡ false → declares ≡ declaration_comes behind.now }
+    ensures { result ≡ least_reason state.now role behind.now }
 {
     if is_misplaced(state, role) {
         Some(Reason::BadNest)

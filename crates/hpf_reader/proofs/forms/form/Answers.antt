@@ -1,5 +1,5 @@
 -- What is read of the tokens is said of the line.
-use Rattle.std.proofs.Common.{◌≡◌, ap, subst}
+use Rattle.std.proofs.Common.{ap, subst}
 use Rattle.hpf_base.specs.Refusal.{IsRefusalBy, NoBreach}
 use Rattle.syntax_tree.specs.Lexeme.{lexemes}
 use Rattle.hpf_reader.specs.ProgramText.{FormBreaks}

@@ -7,7 +7,7 @@ use Rattle.nest_rules.specs.Roles.{role_of}
 use Rattle.nest_reader.specs.declared.draft.Opened.TheVariants as opened
 use Rattle.nest_reader.specs.ProgramLines.{else_if}
 use Rattle.nest_reader.specs.Draft.{IsBehind, IsNested, open_of, shape, status}
-use Rattle.nest_reader.specs.NextLine.{said}
+use Rattle.nest_reader.specs.NextLine.{statement_line}
 use Rattle.nest_reader.proofs.Taken.{around, else_behind, else_if_role, if_stays, inside, mark_none, on_ok, takes_if, takes_part}
 use Rattle.nest_reader.proofs.draft_step.else_if.Goals as goal
 
@@ -34,9 +34,9 @@ returns c =
     let is = takes_if o.what (takes_part c.args.draft os o construct.If c.innermost-opens.ensures c.requires.takes.placed) in
     on_ok
     (IsNested os o.before.items w)
-    (IsBehind c.args.draft (said c.args.line form))
+    (IsBehind c.args.draft (statement_line c.args.line form))
     (λ d n.
-    else_behind c.args.draft d (said c.args.line form) os o w (Some c.args.line, OfStatement form) c.requires.takes.going
+    else_behind c.args.draft d (statement_line c.args.line form) os o w (Some c.args.line, OfStatement form) c.requires.takes.going
     (mark_none c.args.draft.mark role.ElseIf c.requires.takes.marks refl)
     c.innermost-opens.ensures
     (ap (λ es. es ++ (Some c.args.line, OfStatement form) ∷ []) c.in_ok-first.ensures.lines)

@@ -6,9 +6,9 @@ use Rattle.nest_rules.specs.declared.role.Role.TheVariants as role
 use Rattle.nest_rules.specs.ProgramLine.{OfStatement}
 use Rattle.nest_reader.specs.declared.draft.Opened.TheVariants as opened
 use Rattle.nest_reader.specs.Views.{spelled_block}
-use Rattle.nest_reader.specs.ProgramLines.{block_lines, part}
+use Rattle.nest_reader.specs.ProgramLines.{block_lines, unnumbered}
 use Rattle.nest_reader.specs.Draft.{IsBehind, IsNested, open_of, opened_lines, shape, status}
-use Rattle.nest_reader.specs.NextLine.{said}
+use Rattle.nest_reader.specs.NextLine.{statement_line}
 use Rattle.nest_reader.proofs.Taken.{around, else_behind, inside, mark_none, on_ok, only_where, takes_part, where_told}
 use Rattle.nest_reader.proofs.draft_step.elsewhere.Goals as goal
 
@@ -33,12 +33,12 @@ returns c =
     let w = opened.ElseWhere c.in-Where.line c.in-Where.mask c.args.draft.block in
     on_ok
     (IsNested os o.before.items w)
-    (IsBehind c.args.draft (said c.args.line form))
+    (IsBehind c.args.draft (statement_line c.args.line form))
     (λ d n.
-    else_behind c.args.draft d (said c.args.line form) os o w (part (OfStatement form)) c.requires.takes.going
+    else_behind c.args.draft d (statement_line c.args.line form) os o w (unnumbered (OfStatement form)) c.requires.takes.going
     (mark_none c.args.draft.mark role.ElseWhere c.requires.takes.marks refl)
     c.innermost-opens.ensures
-    (ap (λ w. (opened_lines w ++ block_lines (spelled_block c.args.draft.block.items)) ++ part (OfStatement form) ∷ []) (sym c.in-Where.is))
+    (ap (λ w. (opened_lines w ++ block_lines (spelled_block c.args.draft.block.items)) ++ unnumbered (OfStatement form) ∷ []) (sym c.in-Where.is))
     (refl, tt)
     (where_told (open_of o.what) (shape os) (status c.args.draft).pending (status c.args.draft).ended (ap open_of c.in-Where.is))
     n)

@@ -7,7 +7,7 @@ use Rattle.nest_rules.specs.declared.role.Role.TheVariants as role
 use Rattle.nest_rules.specs.ProgramLine.{OfStatement}
 use Rattle.nest_reader.specs.declared.draft.Opened.TheVariants as opened
 use Rattle.nest_reader.specs.Draft.{IsBehind, IsNested}
-use Rattle.nest_reader.specs.NextLine.{said}
+use Rattle.nest_reader.specs.NextLine.{statement_line}
 use Rattle.nest_reader.proofs.Taken.{mark_none, none_under, on_ok, opened_behind}
 use Rattle.nest_reader.proofs.draft_step.open_where.Goals as goal
 
@@ -17,9 +17,9 @@ returns c =
     let w = opened.Where c.args.line c.args.mask in
     on_ok
     (IsNested c.args.draft.opens.items c.args.draft.block.items w)
-    (IsBehind c.args.draft (said c.args.line form))
+    (IsBehind c.args.draft (statement_line c.args.line form))
     (λ d n.
-    opened_behind c.args.draft d (said c.args.line form) w (Some c.args.line, OfStatement form) [] c.requires.takes.going
+    opened_behind c.args.draft d (statement_line c.args.line form) w (Some c.args.line, OfStatement form) [] c.requires.takes.going
     (none_under c.args.draft.mark (mark_none c.args.draft.mark (role.Opens construct.Where) c.requires.takes.marks refl))
     refl (refl, refl) refl n)
     c.nested.result

@@ -5,9 +5,9 @@ use Rattle.nest_rules.specs.declared.role.Construct.TheVariants as construct
 use Rattle.nest_rules.specs.declared.role.Role.TheVariants as role
 use Rattle.nest_rules.specs.ProgramLine.{OfStatement}
 use Rattle.nest_reader.specs.declared.draft.Opened.TheVariants as opened
-use Rattle.nest_reader.specs.ProgramLines.{part}
+use Rattle.nest_reader.specs.ProgramLines.{unnumbered}
 use Rattle.nest_reader.specs.Draft.{IsBehind, IsNested, open_of, shape, status}
-use Rattle.nest_reader.specs.NextLine.{said}
+use Rattle.nest_reader.specs.NextLine.{statement_line}
 use Rattle.nest_reader.proofs.Taken.{around, else_behind, if_told, inside, mark_none, on_ok, takes_if, takes_part}
 use Rattle.nest_reader.proofs.draft_step.otherwise.Goals as goal
 
@@ -34,12 +34,12 @@ returns c =
     let is = takes_if o.what (takes_part c.args.draft os o construct.If c.innermost-opens.ensures c.requires.takes.placed) in
     on_ok
     (IsNested os o.before.items w)
-    (IsBehind c.args.draft (said c.args.line form))
+    (IsBehind c.args.draft (statement_line c.args.line form))
     (λ d n.
-    else_behind c.args.draft d (said c.args.line form) os o w (part (OfStatement form)) c.requires.takes.going
+    else_behind c.args.draft d (statement_line c.args.line form) os o w (unnumbered (OfStatement form)) c.requires.takes.going
     (mark_none c.args.draft.mark role.Else c.requires.takes.marks refl)
     c.innermost-opens.ensures
-    (ap (λ es. es ++ part (OfStatement form) ∷ []) c.in_ok-first.ensures.lines)
+    (ap (λ es. es ++ unnumbered (OfStatement form) ∷ []) c.in_ok-first.ensures.lines)
     (refl, tt)
     (if_told (open_of o.what) (shape os) (status c.args.draft).pending (status c.args.draft).ended is)
     n)
