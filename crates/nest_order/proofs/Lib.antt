@@ -6,6 +6,7 @@ mod LastCopy
 mod Copying
 mod Beside
 mod ScalarLaws
+mod WholeNest
 mod Numbering
 mod Joins
 mod Reducing

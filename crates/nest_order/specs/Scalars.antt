@@ -8,6 +8,7 @@ use Rattle.nest_order.specs.Effect.{Effect, Skip, Put, Fail}
 use Rattle.nest_order.specs.Items.{Items, Done, Then, If, Repeat, Branches, EndIf, Branch, EachIn}
 use Rattle.nest_order.specs.Listed.{Names, names_in, listed, AreKnown}
 use Rattle.nest_order.specs.Nest.{Interpretation, evaluated, writes, AgreeOn}
+use Rattle.nest_order.specs.LastValue.{last_value}
 use Rattle.nest_order.specs.Reduction.{Operator, Statement, IsOf, value_in, assigned, joined, unit_of, folded}
 use Rattle.nest_order.specs.Copies.{Kind, Shared, New, Assigned, Reduced, has_copies, scalar_at}
 
@@ -135,3 +136,13 @@ EndWithCopies kinds start (Ok m) (Ok copies) = CopiesAgree kinds start m copies
 EndWithCopies kinds start (Ok m) (Err fault) = ⊥
 EndWithCopies kinds start (Err fault) (Ok copies) = ⊥
 EndWithCopies kinds start (Err fault) (Err other) = fault ≡ other
+
+-- What Fortran's loops leave, against what the parted order leaves in the rows before those of the conditions. What is shared
+-- is the same. A REDUCTION variable is its entry value joined with the fold of its copies. Any other scalar is the copy of the
+-- last iteration that assigned it, or its entry value
+pub record PartedAgrees {F : Type 0} (kinds : ℕ → Kind) (conditions : ℕ) (effect : ℕ → ℕ → Effect F) (parts n : ℕ) (start m last : Storage) : Type 0 where
+  pub shared : (spot : Spot) → spot.row < conditions → kinds spot.row ≡ Shared → read m spot ≡ read last spot
+  pub reduced : (row : ℕ) (op : Operator) → row < conditions → kinds row ≡ Reduced op
+      → read m (scalar_at row) ≡ joined op (read start (scalar_at row)) (folded (joined op) (unit_of op) (row_of last row))
+  pub scalars : (row : ℕ) → row < conditions → (kinds row ≡ New) ⊎ (kinds row ≡ Assigned)
+      → read m (scalar_at row) ≡ last_value effect row parts (read start (scalar_at row)) last n

@@ -18,7 +18,7 @@
 //! - `last_value` and `reduction`: what the scalars are after the nest, by the copies that its iterations have of them.
 //! - `scalars`: Fortran's loops end as the plain loops with copies do, where each NEW variable is assigned before it is read,
 //!   no two iterations touch another scalar that one of them assigns, and REDUCTION variables stand in reduction statements
-//!   alone.
+//!   alone. So, where the copies' lists don't interfere, Fortran's loops end as the parted order does, scalars included.
 //! - `nest_index`: several loops are one count of iterations, the innermost fastest.
 //! - `example`: a small nest that meets the premises, and what the laws say of it.
 //!
@@ -44,4 +44,4 @@ pub use nest::{fault_keys, law_of_nests, parallel_nest, plain_nest, stores_of_ne
 pub use nest_index::{nested_loops, numbered_tuples};
 pub use orders::{law_of_fission, parts_agree};
 pub use reduction::{operators_join, reduction_by_join, reduction_variable};
-pub use scalars::{one_scalar_or_copies, scalar_by_its_copies};
+pub use scalars::{law_of_fortran_nests, one_scalar_or_copies, scalar_by_its_copies};
