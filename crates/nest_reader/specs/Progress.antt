@@ -1,5 +1,5 @@
 -- No public clause cites this file. How far a program has been read.
-use Rattle.std.specs.Prelude.{◌≡◌, ℕ, true, false, List, [], ◌++◌, map, Option, Some, None, ◌⊎◌, if◌then◌else◌}
+use Rattle.std.specs.Prelude.{◌≡◌, ℕ, true, false, List, [], ◌∷◌, ◌++◌, map, Option, Some, None, ◌⊎◌, if◌then◌else◌}
 use Rattle.hpf_base.specs.Refusal.{NoBreach}
 use Rattle.statement_reader.specs.declared.kind.Kind.TheVariants as kind
 use Rattle.statement_reader.specs.Forms as statements
@@ -33,9 +33,11 @@ front_lines p = name_lines p.name ++ map numbered (map declaration_line p.decls.
 -- the lines that a tree keeps are some so far, and then those of the rest: before PROGRAM and the declarations, among
 -- them, or behind them
 pub data IsPhase (s : NestState) (p : Progress) (ls rest kept : List ProgramLine) : Type 0 where
-  Before : p.over ≡ false → s.begun ≡ false → p.name ≡ None → draft_lines p.draft ≡ [] → kept_lines ls ≡ (if has_name rest then from_name rest else kept ++ kept_behind_name rest) → IsPhase s p ls rest kept
+  Before : p.over ≡ false → s.begun ≡ false → p.name ≡ None → draft_lines p.draft ≡ []
+      → kept_lines ls ≡ (if has_name rest then from_name rest else kept ++ kept_behind_name rest) → IsPhase s p ls rest kept
   Among : p.over ≡ false → s.begun ≡ true → draft_lines p.draft ≡ [] → kept_lines ls ≡ kept ++ kept_behind_name rest → IsPhase s p ls rest kept
-  Over : p.over ≡ true → s.begun ≡ true → (s.stated ≡ true) ⊎ (declaration_comes (roles rest) ≡ false) → kept_lines ls ≡ kept ++ without_passed rest → IsPhase s p ls rest kept
+  Over : p.over ≡ true → s.begun ≡ true → (s.stated ≡ true) ⊎ (declaration_comes (roles rest) ≡ false)
+      → kept_lines ls ≡ kept ++ without_passed rest → IsPhase s p ls rest kept
 
 -- what a pending INDEPENDENT asks of the lines behind it
 abbrev pub IsMarked : Option Clauses → List Role → Type 0
@@ -54,3 +56,11 @@ pub record IsProgress (ls : List ProgramLine) (last : ℕ) (p : Progress) (rest 
   pub kept : List ProgramLine
   pub lines : AreEntriesOf (front_lines p ++ draft_lines p.draft) kept
   pub phase : IsPhase state p ls rest kept
+
+-- the lines of some text have been read up to this one
+abbrev pub IsBefore : Progress → ProgramLine → Type 0
+IsBefore p l = (ls : List ProgramLine) × (last : ℕ) × (rest : List ProgramLine) × IsProgress ls last p (l ∷ rest)
+
+-- where they have been read up to this line, they have now been read up to those behind it
+abbrev pub GoesPast : Progress → ProgramLine → Progress → Type 0
+GoesPast p l q = (ls : List ProgramLine) (last : ℕ) (rest : List ProgramLine) → IsProgress ls last p (l ∷ rest) → IsProgress ls last q rest

@@ -7,6 +7,7 @@ ghost use Rattle.directive_reader.specs.Forms as directives;
 ghost use Rattle.directive_reader.specs.Views.{distribution_of};
 ghost use Rattle.statement_reader.specs.Views.{action_of, assignment_of, do_of, forall_of};
 ghost use Rattle.nest_rules.specs.ProgramLine.{OfDirective};
+ghost use Rattle.nest_reader.specs.NextLine.{redistribute_line};
 ghost use Rattle.nest_reader.specs.SpelledProgram.{IfBlock, IfBlocks, IfConstruct, ForallConstruct, DoConstruct, WhereConstruct, SimpleStatement};
 ghost use Rattle.nest_reader.specs.Views.{action_in, arm_before, spelled_if_blocks, spelled_block, forall_one, spelled_kind, spelled_independent, spelled_statement, where_one};
 ghost use Rattle.nest_reader.specs.Build.{are_begun, arm_begins, forall_of_line, if_one_of, one_assignment, spelled_else_of, single_of};
@@ -221,7 +222,7 @@ pub(crate) fn indexed(
 
 /// A REDISTRIBUTE.
 pub(crate) fn redistributed(line: u32, spec: DistSpec) -> Stmt
-    ensures { spelled_statement result ≡ SimpleStatement record { number = line; what = OfDirective (directives.Known (directive.Redistribute spec.colons) (distribution_of spec.colons spec)) } }
+    ensures { spelled_statement result ≡ SimpleStatement (redistribute_line line spec) }
 {
     Stmt {
         line,

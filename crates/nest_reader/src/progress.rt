@@ -9,7 +9,7 @@ ghost use Rattle.nest_rules.specs.Breaches.{IsNestBreach};
 ghost use Rattle.nest_rules.specs.ProgramLine.{ProgramLine as PlainLine, line_of, lines_of};
 ghost use Rattle.nest_reader.specs.Formed.{IsProgram};
 ghost use Rattle.nest_reader.specs.ProgramLines.{IsSpelled};
-ghost use Rattle.nest_reader.specs.Progress.{IsInner, IsProgress, IsClassOf};
+ghost use Rattle.nest_reader.specs.Progress.{GoesPast, IsBefore, IsClassOf, IsInner, IsProgress};
 ghost use Rattle.nest_reader.specs.NextLine.{statement_line};
 ghost use Rattle.nest_reader.specs.Views.{declaration_line, spelled_program};
 
@@ -84,7 +84,7 @@ fn classify_statement(line: u32, what: Statement) -> LineClass
 
 /// PROGRAM. What was passed over before it is no part of the tree.
 fn named(alloc: Global, so_far: Progress, name: Name) -> Progress
-    ensures { (ls : List PlainLine) (last n : ℕ) (rest : List PlainLine) → IsProgress ls last so_far (statement_line n (statements.Plain kind.Program name) ∷ rest) → IsProgress ls last result rest }
+    ensures { (n : ℕ) → GoesPast so_far (statement_line n (statements.Plain kind.Program name)) result }
 {
     let Progress {
         name: _,
@@ -102,7 +102,7 @@ fn named(alloc: Global, so_far: Progress, name: Name) -> Progress
 
 /// A declaration. Behind the declarations it is one that is passed over, and no part of the tree.
 fn declared(so_far: Progress, decl: Decl) -> Result<Progress, AllocError>
-    ensures { IfOk result (λ r. (ls : List PlainLine) (last : ℕ) (rest : List PlainLine) → IsProgress ls last so_far (declaration_line decl ∷ rest) → IsProgress ls last r rest) }
+    ensures { IfOk result (GoesPast so_far (declaration_line decl)) }
 {
     let Progress {
         name,
@@ -124,8 +124,8 @@ fn declared(so_far: Progress, decl: Decl) -> Result<Progress, AllocError>
 /// A line behind the declarations.
 fn inner(alloc: Global, so_far: Progress, line: ProgramLine) -> Result<Progress, AllocError>
     requires inside { IsInner (line_of line) }
-    requires held { (ls : List PlainLine) × (last : ℕ) × (rest : List PlainLine) × IsProgress ls last so_far (line_of line ∷ rest) }
-    ensures { IfOk result (λ r. (ls : List PlainLine) (last : ℕ) (rest : List PlainLine) → IsProgress ls last so_far (line_of line ∷ rest) → IsProgress ls last r rest) }
+    requires held { IsBefore so_far (line_of line) }
+    ensures { IfOk result (GoesPast so_far (line_of line)) }
 {
     let Progress {
         name,
@@ -144,8 +144,8 @@ fn inner(alloc: Global, so_far: Progress, line: ProgramLine) -> Result<Progress,
 
 /// One line more.
 fn further(alloc: Global, so_far: Progress, line: ProgramLine) -> Result<Progress, AllocError>
-    requires held { (ls : List PlainLine) × (last : ℕ) × (rest : List PlainLine) × IsProgress ls last so_far (line_of line ∷ rest) }
-    ensures { IfOk result (λ r. (ls : List PlainLine) (last : ℕ) (rest : List PlainLine) → IsProgress ls last so_far (line_of line ∷ rest) → IsProgress ls last r rest) }
+    requires held { IsBefore so_far (line_of line) }
+    ensures { IfOk result (GoesPast so_far (line_of line)) }
 {
     match classify(line) {
         LineClass::Name(name) => Ok(named(alloc, so_far, name)),
