@@ -264,16 +264,15 @@ module _ {A C F M : Type 0} (one : Interpretation A C F) (kinds : ℕ → Kind) 
                 let v : ℤ = assigned op st (read s (scalar_at r)) in
                 let w : ℤ = assigned op st b in
                 let passes : v ≡ joined op acc w = ap (assigned op st) (h.reduced r op red.kind) ∙ step.passes acc b (fit0 (scalar_at r)) (h.fits r op red.kind) in
-                let same_op : (op' : Operator) → kinds r ≡ Reduced op' → op ≡ op' = λ op' k. let z : Reduced op ≡ Reduced op' = sym red.kind ∙ k in cc in
-                (
+                let same_op : (op' : Operator) → kinds r ≡ Reduced op' → op ≡ op' = λ op' k. let z : Reduced op ≡ Reduced op' = sym red.kind ∙ k in cc in (
                   put i (own_spot kinds i (scalar_at r)) w y,
                   refl,
                   subst (λ l. Beside (assigned_too before a) (write s (scalar_at r) v) (put i l w y)) (sym (own-copy kinds i r has))
-                  (put_copy before (assigned_too before a) r v w s y has (step.stays (read s (scalar_at r)) (h.fit (scalar_at r))) (flags (scalar_at r) red.stores)
-                  (λ k. let z : New ≡ Reduced op = sym k ∙ red.kind in absurd cc)
-                  (λ k. let z : Assigned ≡ Reduced op = sym k ∙ red.kind in absurd cc)
-                  (λ op' k. (subst (λ o. v ≡ joined o acc w) (same_op op' k) passes, step.stays b (h.fits r op red.kind)))
-                  (keeps_reduced i r op v w s y lt red.kind h.holds) h),
+                      (put_copy before (assigned_too before a) r v w s y has (step.stays (read s (scalar_at r)) (h.fit (scalar_at r))) (flags (scalar_at r) red.stores)
+                      (λ k. let z : New ≡ Reduced op = sym k ∙ red.kind in absurd cc)
+                      (λ k. let z : Assigned ≡ Reduced op = sym k ∙ red.kind in absurd cc)
+                      (λ op' k. (subst (λ o. v ≡ joined o acc w) (same_op op' k) passes, step.stays b (h.fits r op red.kind)))
+                      (keeps_reduced i r op v w s y lt red.kind h.holds) h),
                 )
 
         pub action_follows : IsPlainOr one kinds reads written reducing start a (reducing a) → Follows (assigned_too before a) (then_apply (one.effect a s) s) (E.action (in_iteration i a) y)

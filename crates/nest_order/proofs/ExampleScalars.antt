@@ -1,19 +1,19 @@
 -- The example nest's scalars may have copies.
-use Rattle.std.proofs.Common.{◌≡◌, ℕ, zero, suc, ◌+◌, ◌<◌, List, [], ◌∷◌, length, get_or, Bool, true, false, Some, None, Ok, if◌then◌else◌, refl, ap, sym, ◌∙◌, subst, arith, ◌⊎◌, inl, inr, ⊎_elim, ℤ, pos}
-use Rattle.std.specs.Prelude.{◌+ℤ◌, int_lt, int_div, FitsSigned}
+use Rattle.std.proofs.Common.{◌≡◌, ℕ, zero, suc, ◌+◌, ◌<◌, List, [], ◌∷◌, length, get_or, Bool, true, false, Ok, if◌then◌else◌, refl, ap, sym, ◌∙◌, subst, arith, ℤ, pos}
+use Rattle.std.specs.Prelude.{int_lt, int_div, FitsSigned}
 use Rattle.std.specs.Int.{int_wrap}
 use mir.Syntax.{w64}
 use Rattle.std.specs.List.{Contains, AllByRecursion}
 use Rattle.std.proofs.lemmas.Int.{SFits-int_wrap}
 use Rattle.std.proofs.Math.Facts.{sfits_lit}
-use Rattle.nest_order.specs.Storage.{Storage, Spot, row_of, read, Alike}
-use Rattle.nest_order.specs.Effect.{Effect, Skip, Put, Fail}
+use Rattle.nest_order.specs.Storage.{Storage, Spot, row_of, read}
+use Rattle.nest_order.specs.Effect.{Skip, Put, Fail}
 use Rattle.nest_order.specs.Items.{EachIn}
-use Rattle.nest_order.specs.Nest.{is_set, AgreeOn}
-use Rattle.nest_order.specs.Reduction.{Sum, Statement, OnRight, IsOf, value_in, assigned}
-use Rattle.nest_order.specs.Copies.{Kind, Shared, New, Assigned, Reduced, has_copies, scalar_at}
-use Rattle.nest_order.specs.Scalars.{AllFit, MayName, MayNameAll, ReadsLate, IsPlain, IsReduction, IsAction, IsCondition, MayCopy}
-use Rattle.nest_order.specs.Example.{Assignment, Set, Add, Divide, Comparison, Exceeds, interpretation, spots_written, a_at, b_at, kinds, body_of_scalars, spots_read, reads, reducing, fine_scalars}
+use Rattle.nest_order.specs.Nest.{is_set}
+use Rattle.nest_order.specs.Reduction.{Sum, OnRight, IsOf, value_in}
+use Rattle.nest_order.specs.Copies.{Shared, New, Assigned, has_copies, scalar_at}
+use Rattle.nest_order.specs.Scalars.{AllFit, MayName, MayNameAll, ReadsLate, IsAction, IsCondition, MayCopy}
+use Rattle.nest_order.specs.Example.{Set, Add, Divide, Exceeds, interpretation, spots_written, a_at, b_at, kinds, body_of_scalars, reads, reducing, fine_scalars}
 
 fits_row : (xs : List ℤ) (k : ℕ) → AllByRecursion (FitsSigned w64) xs → FitsSigned w64 (get_or xs k (pos 0))
 fits_row [] k all = sfits_lit tt
@@ -42,25 +42,31 @@ may_two a b may_a may_b spot (suc zero, lt, e) = subst (λ l. MayName (kinds l.r
 may_two a b may_a may_b spot (suc (suc k), lt, e) = absurd (omega arith)
 
 set_is : (to from : Spot) → MayName (kinds to.row) to → MayName (kinds from.row) from → IsAction interpretation kinds reads spots_written reducing fine_scalars (Set to from)
-set_is to from may_to may_from = (may_one from may_from, record {
-  near = λ m m' h g agree. ap (Put to) (agree from (0, omega arith, refl));
-  stores = λ m spot value put. let e : to ≡ spot = cc in (0, omega arith, e);
-  ends = λ m e. cc;
-  writable = may_one to may_to;
-  fits = λ m spot value fit put. let e : read m from ≡ value = cc in subst (FitsSigned w64) e (fit from);
-})
+set_is to from may_to may_from = (
+  may_one from may_from,
+  record {
+    near = λ m m' h g agree. ap (Put to) (agree from (0, omega arith, refl));
+    stores = λ m spot value put. let e : to ≡ spot = cc in (0, omega arith, e);
+    ends = λ m e. cc;
+    writable = may_one to may_to;
+    fits = λ m spot value fit put. let e : read m from ≡ value = cc in subst (FitsSigned w64) e (fit from);
+  },
+)
 
 divide_is : (line : ℕ) (to from : Spot) → MayName (kinds to.row) to → MayName (kinds from.row) from → IsAction interpretation kinds reads spots_written reducing fine_scalars (Divide line to from)
-divide_is line to from may_to may_from = (may_two to from may_to may_from, record {
-  near = λ m m' h g agree.
-      ap (λ d. if is_set d then Put to (int_wrap w64 (int_div (read m to) d)) else Fail line) (agree from (1, omega arith, refl))
-      ∙ ap (λ v. if is_set (read m' from) then Put to (int_wrap w64 (int_div v (read m' from))) else Fail line) (agree to (0, omega arith, refl));
-  stores = λ m spot value put. (0, omega arith, (divided (is_set (read m from)) (int_wrap w64 (int_div (read m to) (read m from))) spot value put).0);
-  ends = λ m e. never (is_set (read m from)) (int_wrap w64 (int_div (read m to) (read m from))) e;
-  writable = may_one to may_to;
-  fits = λ m spot value fit put.
-      subst (FitsSigned w64) (divided (is_set (read m from)) (int_wrap w64 (int_div (read m to) (read m from))) spot value put).1 (SFits-int_wrap w64 (int_div (read m to) (read m from)));
-})
+divide_is line to from may_to may_from = (
+  may_two to from may_to may_from,
+  record {
+    near = λ m m' h g agree.
+        ap (λ d. if is_set d then Put to (int_wrap w64 (int_div (read m to) d)) else Fail line) (agree from (1, omega arith, refl))
+        ∙ ap (λ v. if is_set (read m' from) then Put to (int_wrap w64 (int_div v (read m' from))) else Fail line) (agree to (0, omega arith, refl));
+    stores = λ m spot value put. (0, omega arith, (divided (is_set (read m from)) (int_wrap w64 (int_div (read m to) (read m from))) spot value put).0);
+    ends = λ m e. never (is_set (read m from)) (int_wrap w64 (int_div (read m to) (read m from))) e;
+    writable = may_one to may_to;
+    fits = λ m spot value fit put.
+        subst (FitsSigned w64) (divided (is_set (read m from)) (int_wrap w64 (int_div (read m to) (read m from))) spot value put).1 (SFits-int_wrap w64 (int_div (read m to) (read m from)));
+  },
+)
   where
     divided : (b : Bool) (v : ℤ) (spot : Spot) (value : ℤ) → (if b then Put to v else Fail line) ≡ Put spot value → (to ≡ spot) × (v ≡ value)
     divided true v spot value h = (cc, cc)
@@ -71,14 +77,17 @@ divide_is line to from may_to may_from = (may_two to from may_to may_from, recor
     never false v h = cc
 
 add_is : (from : Spot) → MayName (kinds from.row) from → IsAction interpretation kinds reads spots_written reducing fine_scalars (Add (scalar_at 3) from)
-add_is from may_from = (may_one from may_from, record {
-  op = Sum;
-  kind = refl;
-  near = λ m m' h g agree. ap (λ v. Ok (OnRight v)) (agree from (0, omega arith, refl));
-  is = λ m. refl;
-  good = λ m statement fit e. let same : OnRight (read m from) ≡ statement = cc in subst (λ s. IsOf Sum s × FitsSigned w64 (value_in s)) same (tt, fit from);
-  stores = (0, omega arith, refl);
-})
+add_is from may_from = (
+  may_one from may_from,
+  record {
+    op = Sum;
+    kind = refl;
+    near = λ m m' h g agree. ap (λ v. Ok (OnRight v)) (agree from (0, omega arith, refl));
+    is = λ m. refl;
+    good = λ m statement fit e. let same : OnRight (read m from) ≡ statement = cc in subst (λ s. IsOf Sum s × FitsSigned w64 (value_in s)) same (tt, fit from);
+    stores = (0, omega arith, refl);
+  },
+)
 
 is_condition : (element : Spot) (bound : ℤ) → MayName (kinds element.row) element → IsCondition interpretation kinds reads spots_written reducing fine_scalars (Exceeds element bound)
 is_condition element bound may = record {

@@ -1,12 +1,12 @@
 -- One scalar and its copies, for loops alone and for loops whose stores to the copies are noted.
-use Rattle.std.proofs.Common.{◌≡◌, ℕ, ◌<◌, ◌≤◌, List, length, Result, Ok, Err, Option, Bool, true, false, if◌then◌else◌, refl, ap, sym, ◌∙◌, subst, arith, ℤ, ◌⊎◌, ⊎_elim}
+use Rattle.std.proofs.Common.{◌≡◌, ℕ, ◌<◌, List, Result, Ok, Err, Option, true, false, if◌then◌else◌, refl, ap, sym, ◌∙◌, subst, arith, ℤ, ◌⊎◌, ⊎_elim}
 use Rattle.std.specs.Prelude.{◌&&◌, nat_eq}
 use Rattle.std.proofs.lemmas.Bool.{cases_eq}
 use Rattle.std.proofs.lemmas.Bool.Decides.{nat_tests}
-use Rattle.nest_order.specs.Turns.{◌>>=◌, in_turn}
-use Rattle.nest_order.specs.Storage.{Storage, Spot, row_of, read, write, Alike}
+use Rattle.nest_order.specs.Turns.{◌>>=◌}
+use Rattle.nest_order.specs.Storage.{Storage, Spot, read, write, Alike}
 use Rattle.nest_order.specs.Effect.{Effect, Skip, Put, Fail, then_apply}
-use Rattle.nest_order.specs.Items.{Items, exec}
+use Rattle.nest_order.specs.Items.{Items}
 use Rattle.nest_order.specs.Listed.{Names}
 use Rattle.nest_order.specs.Nest.{Interpretation, evaluated, plain_loops}
 use Rattle.nest_order.specs.LastValue.{copy_at, is_same_spot, note_scalar}
@@ -144,5 +144,5 @@ module _ {A C F : Type 0} (one : Interpretation A C F) (kinds : ℕ → Kind) (r
           h.0.storage,
           h.1 ∙ ap (λ w. let q : Result Noted F = Ok (record { storage = h.0.storage; noted_so_far = w }) in q) (sym h.2.holds),
           copies_agree one kinds reads written reducing start n free.scalars store put (λ i spot v y. refl) Holds keeps keeps_reduced
-          items free (λ i. observed (copied kinds one) (note_scalar row i)) (λ i a y. noted_acts i ((copied kinds one).effect (record { iteration = i; text = a }) y.storage) y) (λ i c y. refl) m h.0 h.2,
+              items free (λ i. observed (copied kinds one) (note_scalar row i)) (λ i a y. noted_acts i ((copied kinds one).effect (record { iteration = i; text = a }) y.storage) y) (λ i c y. refl) m h.0 h.2,
         )

@@ -1,5 +1,5 @@
 -- Fortran's loops of a nest end as its parted order does.
-use Rattle.std.proofs.Common.{◌≡◌, ℕ, ◌<◌, ◌≤◌, List, length, Option, Result, Ok, Err, true, refl, ap, sym, ◌∙◌, subst, arith, ℤ, pos, ◌⊎◌, ⊎_elim}
+use Rattle.std.proofs.Common.{◌≡◌, ℕ, ◌<◌, ◌≤◌, List, length, Option, Result, Ok, Err, true, refl, ap, sym, ◌∙◌, arith, ℤ, pos, ◌⊎◌, ⊎_elim}
 use Rattle.std.proofs.lemmas.List.{ext_get_or}
 use Rattle.nest_order.specs.Storage.{Storage, Spot, row_of, read}
 use Rattle.nest_order.specs.Effect.{Effect}
@@ -8,7 +8,7 @@ use Rattle.nest_order.specs.Items.{Items}
 use Rattle.nest_order.specs.Listed.{Names}
 use Rattle.nest_order.specs.Nest.{Interpretation, nest_effects, nest_act, plain_loops, EndAlike, SameBelow, IsParallel, touches_of}
 use Rattle.nest_order.specs.LastValue.{note_scalar, last_value}
-use Rattle.nest_order.specs.Stores.{Observed, observed_loops}
+use Rattle.nest_order.specs.Stores.{Observed}
 use Rattle.nest_order.specs.Reduction.{joined, unit_of, folded}
 use Rattle.nest_order.specs.Copies.{Kind, New, Assigned, has_copies, scalar_at, InIteration, items_in, with_copies, copied}
 use Rattle.nest_order.specs.Scalars.{Reducing, MayCopy, CopiesAgree, EndWithCopies, PartedAgrees}

@@ -1,5 +1,5 @@
 -- What has to hold for the copies of a nest's scalars to do what the scalars do.
-use Rattle.std.specs.Prelude.{◌≡◌, ℕ, zero, suc, ◌<◌, ◌⊎◌, List, length, nat_eq, ℤ, Option, Some, None, Result, Ok, Err, Bool, true, false, ◌&&◌, ◌||◌, FitsSigned}
+use Rattle.std.specs.Prelude.{◌≡◌, ℕ, ◌<◌, ◌⊎◌, List, length, nat_eq, ℤ, Option, Some, None, Result, Ok, Err, Bool, true, false, ◌&&◌, ◌||◌, FitsSigned}
 use Rattle.std.specs.Int.{w64}
 use Rattle.std.specs.List.{Contains, list_all}
 use Rattle.nest_order.specs.Turns.{after_turns}
