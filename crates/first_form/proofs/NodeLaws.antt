@@ -12,7 +12,8 @@ use Rattle.first_form.specs.Form.{IsInside}
 use Rattle.first_form.specs.declared.program.FirstStmt.{FirstStmt}
 use Rattle.first_form.specs.declared.program.FirstStmt.TheVariants.{Show}
 use Rattle.first_form.specs.Message.{needs}
-use Rattle.first_form.specs.Pieces.{Distributed, Holds, letter_of, letters_of, outboxes_of, values_needed}
+use Rattle.first_form.specs.Letters.{letter_of, letters_of, outboxes_of, values_needed}
+use Rattle.first_form.specs.Pieces.{Distributed, Holds}
 use Rattle.first_form.proofs.Needs.{needs-show_first}
 use Rattle.hpf_base.specs.LocalOrder.{owned, piece_of, pieces_of}
 use Rattle.hpf_base.specs.Owner.{block_line}

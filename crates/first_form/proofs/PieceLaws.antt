@@ -15,7 +15,7 @@ use Rattle.first_form.specs.declared.program.FirstStmt.{FirstStmt}
 use Rattle.first_form.specs.declared.section.Section.{Section}
 use Rattle.first_form.specs.Message.{message_of, needs}
 use Rattle.first_form.proofs.Needs.{message-section}
-use Rattle.first_form.specs.Pieces.{letter_of, letters_of, outboxes_of, shared}
+use Rattle.first_form.specs.Letters.{letter_of, letters_of, outboxes_of, shared}
 
 -- a position that the sender owns lies in its block
 sent_within : (extent procs from j : ℕ) (needed other : Bool) → 1 ≤ j

@@ -17,7 +17,7 @@ use Rattle.first_form.specs.declared.program.FirstStmt.{FirstStmt}
 use Rattle.first_form.specs.declared.program.FirstStmt.TheVariants.{Fill, Shift, Show}
 use Rattle.first_form.specs.declared.section.Section.{Section}
 use Rattle.first_form.specs.Message.{needs}
-use Rattle.first_form.specs.Pieces.{overwritten, shared, values_needed}
+use Rattle.first_form.specs.Letters.{overwritten, shared, values_needed}
 use Rattle.first_form.proofs.Needs.{needs-shift}
 
 -- the array behind a statement, element by element

@@ -1,3 +1,4 @@
+-- No public clause cites this file.
 -- The lines behind the directive, read one after another.
 use Rattle.std.specs.Prelude.{◌≡◌, ◌≢◌, ℕ, ◌+◌, ◌<◌, ◌≤◌, ◌⊎◌, List, [], ◌∷◌, ◌++◌, length}
 use Rattle.first_form.specs.declared.program.FirstError.{FirstError}

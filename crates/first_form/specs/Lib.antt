@@ -1,5 +1,6 @@
 pub mod Body
 pub mod Form
+pub mod Letters
 pub mod Meaning
 pub mod Message
 pub mod Pieces

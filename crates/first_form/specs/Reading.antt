@@ -1,3 +1,4 @@
+-- No public clause cites this file.
 -- Reading a line of the first form from left to right, each step with the bytes that are left.
 use Rattle.std.specs.Prelude.{◌≡◌, ℕ, ◌-◌, ◌==◌, ◌&&◌, nat_le, pos, List, [], ◌∷◌, length, take, drop, slice_get, codes, Option, Some, None, if◌then◌else◌}
 use Rattle.std.specs.List.{prefix_len}

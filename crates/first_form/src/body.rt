@@ -6,7 +6,7 @@ ghost use Rattle.first_form.specs.Form.{IsArrayName};
 ghost use Rattle.first_form.specs.Body.{IsFurther, IsBody, IsBodyStop};
 
 use crate::forms::{is_end, statement};
-use crate::line_split::next_line;
+use source_lines::first_line;
 use crate::program::{FirstError, FirstStmt};
 use std::alloc::Global;
 
@@ -48,7 +48,7 @@ pub(crate) fn statements(
     let mut stmts = Vec::new(alloc);
     let mut rest = text;
     for count in 2..MOST_LINES {
-        let Some((line, after)) = next_line(rest) else {
+        let Some((line, after)) = first_line(rest) else {
             return Err(FirstError::LeftOut(count));
         };
         match further_line(name, extent, count + 1, line) {

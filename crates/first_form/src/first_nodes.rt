@@ -1,11 +1,10 @@
 //! The nodes of a program of the first form, and its run.
 
-ghost use Rattle.std.specs.Prelude.{◌≡◌, ℕ, ◌+◌, ◌<◌, ◌≤◌, ℤ, List, ◌++◌, length, replicate, pos, IfOk, OnOk};
+ghost use Rattle.std.specs.Prelude.{◌≡◌, ◌+◌, ◌<◌, ◌≤◌, ℤ, List, ◌++◌, length, replicate, pos, IfOk, OnOk};
 ghost use Rattle.hpf_base.specs.LocalOrder.{piece_of, pieces_of};
 ghost use Rattle.hpf_base.specs.Owner.{block_line};
-ghost use Rattle.first_form.specs.Meaning.{after, array_after, printed_by, printed_of};
-ghost use Rattle.first_form.specs.Form.{program_of};
-ghost use Rattle.first_form.specs.Valid.{IsValid, IsWithin};
+ghost use Rattle.first_form.specs.Meaning.{array_after, printed_by};
+ghost use Rattle.first_form.specs.Valid.{IsWithin};
 ghost use Rattle.first_form.specs.Pieces.{Holds};
 
 use crate::blocks::Blocks;

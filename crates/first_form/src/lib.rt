@@ -10,7 +10,6 @@ mod blocks;
 mod body;
 mod first_nodes;
 mod forms;
-mod line_split;
 mod message;
 mod node;
 mod nodes;

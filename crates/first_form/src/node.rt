@@ -1,13 +1,12 @@
 //! The steps of one node for a statement. A node reads and writes its own piece alone.
 
-ghost use Rattle.std.specs.Prelude.{◌≡◌, ◌≢◌, ℕ, ◌+◌, ◌-◌, ◌<◌, ◌≤◌, ℤ, List, All, length, map, IfOk, IsSomeAnd, Some, slice_get};
-ghost use Rattle.std.specs.List.{range_with_len};
+ghost use Rattle.std.specs.Prelude.{◌≡◌, ℕ, ◌-◌, ◌<◌, ◌≤◌, ℤ, List, All, length, map, IfOk, IsSomeAnd, Some, slice_get};
 ghost use Rattle.hpf_base.specs.LocalOrder.{owned, piece_of};
 ghost use Rattle.hpf_base.specs.Owner.{block_line};
 ghost use Rattle.hpf_base.specs.Positions.{element, in_section};
 ghost use Rattle.first_form.specs.Valid.{IsWithin};
 ghost use Rattle.first_form.specs.Message.{needs};
-ghost use Rattle.first_form.specs.Pieces.{letter_of, letters_of, outboxes_of, shared, values_needed};
+ghost use Rattle.first_form.specs.Letters.{letter_of, letters_of, outboxes_of, shared, values_needed};
 
 use crate::blocks::Blocks;
 use crate::message::{message, needed};

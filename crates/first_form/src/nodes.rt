@@ -1,15 +1,15 @@
 //! The nodes of a run, stepped in rotation.
 
-ghost use Rattle.std.specs.Prelude.{◌≡◌, ℕ, ◌+◌, ◌<◌, ◌≤◌, ℤ, List, ◌∷◌, [], ◌++◌, All, length, map, replicate, pos, IfOk, OnOk};
+ghost use Rattle.std.specs.Prelude.{◌≡◌, ℕ, ◌+◌, ◌<◌, ℤ, List, ◌∷◌, [], ◌++◌, All, length, IfOk, OnOk};
 ghost use Rattle.std.specs.Fmt.{signed_decimal};
 ghost use Rattle.hpf_base.specs.LocalOrder.{piece_of, pieces_of};
 ghost use Rattle.hpf_base.specs.Owner.{block_line};
 ghost use Rattle.hpf_base.specs.Positions.{element};
-ghost use Rattle.first_form.specs.Meaning.{after, array_after, printed_by};
+ghost use Rattle.first_form.specs.Meaning.{array_after, printed_by};
 ghost use Rattle.first_form.specs.Form.{IsInside};
 ghost use Rattle.first_form.specs.Valid.{IsWithin};
 ghost use Rattle.first_form.specs.declared.program.FirstStmt.TheVariants.{Fill, Shift, Show};
-ghost use Rattle.first_form.specs.Pieces.{Holds, outboxes_of};
+ghost use Rattle.first_form.specs.Letters.{outboxes_of};
 
 use crate::blocks::Blocks;
 use crate::node::{send, take};

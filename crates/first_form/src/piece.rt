@@ -1,7 +1,7 @@
 //! A node's piece of the array.
 
-ghost use Rattle.std.specs.Prelude.{◌≡◌, ℕ, ◌+◌, ◌-◌, ◌<◌, ◌≤◌, ℤ, pos, All, length, map, replicate, slice_index_or, IfOk};
-ghost use Rattle.first_form.specs.Pieces.{overwritten};
+ghost use Rattle.std.specs.Prelude.{◌≡◌, ◌+◌, ◌-◌, ◌<◌, ◌≤◌, ℤ, pos, All, length, map, replicate, slice_index_or, IfOk};
+ghost use Rattle.first_form.specs.Letters.{overwritten};
 
 use hpf_base::OutOfMemory;
 use std::alloc::Global;

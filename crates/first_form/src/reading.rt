@@ -7,7 +7,7 @@ ghost use Rattle.first_form.specs.Valid.{IsValid};
 
 use crate::body::statements;
 use crate::forms::{declaration, is_directive};
-use crate::line_split::next_line;
+use source_lines::first_line;
 use crate::program::{FirstError, FirstProgram};
 use std::alloc::Global;
 
@@ -22,13 +22,13 @@ pub fn read_first(alloc: Global, text: &[u8]) -> Result<FirstProgram, FirstError
     ensures one_reading { IfOk result (λ p. (q : Program) → ReadsAs text.now q → program_of p ≡ q) }
     ensures refused { IfErr result (IsCauseOf text.now) }
 {
-    let Some((first, rest)) = next_line(text) else {
+    let Some((first, rest)) = first_line(text) else {
         return Err(FirstError::LeftOut(1));
     };
     let Some((name, extent)) = declaration(first) else {
         return Err(FirstError::LeftOut(1));
     };
-    let Some((second, rest)) = next_line(rest) else {
+    let Some((second, rest)) = first_line(rest) else {
         return Err(FirstError::LeftOut(1));
     };
     if !is_directive(name, second) {

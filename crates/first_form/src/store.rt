@@ -8,7 +8,7 @@ ghost use Rattle.first_form.specs.Meaning.{array_after};
 ghost use Rattle.first_form.specs.Form.{IsInside};
 ghost use Rattle.first_form.specs.Valid.{IsWithin};
 ghost use Rattle.first_form.specs.declared.program.FirstStmt.TheVariants.{Fill, Shift};
-ghost use Rattle.first_form.specs.Pieces.{shared, values_needed};
+ghost use Rattle.first_form.specs.Letters.{shared, values_needed};
 
 use crate::blocks::Blocks;
 use crate::piece::Piece;
@@ -60,7 +60,8 @@ pub fn store(
     requires inside { IsInside blocks.extent left.first left.last }
     requires sized { length piece.old ≡ length (owned (block_line blocks.extent blocks.nodes) node) }
     requires counted { length values.now ≡ length (shared left blocks.extent blocks.size node) }
-    ensures { (line from : ℕ) (xs : List ℤ) → IsWithin blocks.extent (Shift line left.first left.last from add) → length xs ≡ blocks.extent → piece.old ≡ piece_of (block_line blocks.extent blocks.nodes) xs node
+    ensures { (line from : ℕ) (xs : List ℤ) → IsWithin blocks.extent (Shift line left.first left.last from add) → length xs ≡ blocks.extent
+        → piece.old ≡ piece_of (block_line blocks.extent blocks.nodes) xs node
         → values.now ≡ values_needed (block_line blocks.extent blocks.nodes) (Shift line left.first left.last from add) xs node
         → OnOk result (piece.new ≡ piece_of (block_line blocks.extent blocks.nodes) (array_after (Shift line left.first left.last from add) xs) node) }
 {

@@ -1,6 +1,10 @@
 -- What a call of a source or a sink does, as far as the object tells its bytes.
 use Rattle.std.specs.Prelude.{◌≡◌, ℕ, ◌+◌, ◌-◌, ◌^◌, ◌<◌, ◌⊎◌, min, List, [], ◌++◌, Option, None, Some}
 
+-- the greatest length of a source that is read, in bytes
+abbrev pub max_source_bytes : ℕ
+max_source_bytes = 1048576
+
 -- the count of faults rose in a call, or it stands at its greatest value after it
 abbrev pub Rose : ℕ → ℕ → Type 0
 Rose before after = (before < after) ⊎ (after ≡ 2 ^ 64 - 1)

@@ -12,10 +12,10 @@ pub record IsNodeCount (digits : List ℕ) (nodes : ℕ) : Type 0 where
   pub least : 1 ≤ nodes
   pub greatest : nodes ≤ 64
 
--- `run --grid N`
-abbrev pub IsJob : List (List ℕ) → ℕ → Type 0
-IsJob words nodes = (digits : List ℕ) × (words ≡ codes "run" ∷ codes "--grid" ∷ digits ∷ []) × IsNodeCount digits nodes
+-- the words are `run --grid N`, where N stands for so many nodes
+abbrev pub IsRunCommand : List (List ℕ) → ℕ → Type 0
+IsRunCommand words nodes = (digits : List ℕ) × (words ≡ codes "run" ∷ codes "--grid" ∷ digits ∷ []) × IsNodeCount digits nodes
 
--- the words are no job
-abbrev pub IsNoJob : List (List ℕ) → Type 0
-IsNoJob words = (nodes : ℕ) → IsJob words nodes → ⊥
+-- the words are no such command
+abbrev pub IsNoCommand : List (List ℕ) → Type 0
+IsNoCommand words = (nodes : ℕ) → IsRunCommand words nodes → ⊥

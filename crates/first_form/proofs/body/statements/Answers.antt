@@ -8,7 +8,7 @@ use Rattle.first_form.proofs.body.statements.Goals as goal
 pub loop-count-preserved : goal.loop-count-preserved
 loop-count-preserved c =
     rw c.in_ok-push-in-Statement.ensures.items
-    (read_more c.args.name c.args.extent (lines_of c.args.text.now) (lines_of c.loop-count.rest.now) (lines_of c.in-Some.after.now) c.loop-count.stmts.items c.loop-count.count c.in-Some.line.now c.in-Statement.stmt c.loop-count.invariant c.in-Some.ensures c.loop-count-test.true c.in-Statement.ensures)
+    (read_more c.args.name c.args.extent (lines_of c.args.text.now) (lines_of c.loop-count.rest.now) (lines_of c.in-Some.after.now) c.loop-count.stmts.items c.loop-count.count c.in-Some.line.now c.in-Statement.stmt c.loop-count.invariant c.in-Some.ensures.lines c.loop-count-test.true c.in-Statement.ensures)
 
 pub returns-in-End-2-clause-stopped : goal.returns-in-End-2-clause-stopped
 returns-in-End-2-clause-stopped c = (
@@ -16,7 +16,7 @@ returns-in-End-2-clause-stopped c = (
   c.loop-count.stmts.items,
   c.loop-count.count,
   c.loop-count.invariant,
-  stops_after_end c.args.name c.args.extent c.loop-count.count _ (lines_of c.in-Some.after.now) c.in-Some.line.now c.in-Some.ensures c.in-End-2.ensures
+  stops_after_end c.args.name c.args.extent c.loop-count.count _ (lines_of c.in-Some.after.now) c.in-Some.line.now c.in-Some.ensures.lines c.in-End-2.ensures
       (lines_remain c.in-Some.after.now (eqb-false _ _ (sym c.if-is_empty.ensures))) c.loop-count-test.true,
 )
 

@@ -1,6 +1,6 @@
 use Rattle.hpf_base.specs.Owner.{block_line}
 use Rattle.hpf_base.proofs.Sections.{map-range_push}
-use Rattle.first_form.specs.Pieces.{letter_of}
+use Rattle.first_form.specs.Letters.{letter_of}
 use Rattle.first_form.proofs.node.send.Goals as goal
 
 pub loop-to-preserved : goal.loop-to-preserved

@@ -2,7 +2,7 @@ use Rattle.std.proofs.Common.{◌≡◌, List, ℤ, map}
 use Rattle.std.specs.List.{range_with_len}
 use Rattle.hpf_base.specs.LocalOrder.{piece_of}
 use Rattle.hpf_base.specs.Owner.{block_line}
-use Rattle.first_form.specs.Pieces.{letter_of}
+use Rattle.first_form.specs.Letters.{letter_of}
 use Rattle.first_form.proofs.node.send.Given as goal
 
 abbrev pub invariant-loop-to : goal.invariant-loop-to

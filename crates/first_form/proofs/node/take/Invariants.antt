@@ -2,7 +2,7 @@ use Rattle.std.proofs.Common.{◌≡◌, ◌*◌, List, ℤ, map, min}
 use Rattle.hpf_base.specs.LocalOrder.{piece_of}
 use Rattle.hpf_base.specs.Owner.{block_line}
 use Rattle.hpf_base.specs.Positions.{element, section}
-use Rattle.first_form.specs.Pieces.{outboxes_of}
+use Rattle.first_form.specs.Letters.{outboxes_of}
 use Rattle.first_form.proofs.node.take.Given as goal
 
 -- what was needed of the blocks so far

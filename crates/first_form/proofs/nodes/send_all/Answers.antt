@@ -2,7 +2,7 @@ use Rattle.std.proofs.Common.{arith}
 use Rattle.hpf_base.specs.Owner.{block_line}
 use Rattle.hpf_base.proofs.Sections.{map-range_push}
 use Rattle.first_form.proofs.NodeLaws.{pieces-count, piece-is, piece-sized}
-use Rattle.first_form.specs.Pieces.{letters_of}
+use Rattle.first_form.specs.Letters.{letters_of}
 use Rattle.first_form.proofs.nodes.send_all.Goals as goal
 
 pub bounds-pieces-node : goal.bounds-pieces-node

@@ -2,7 +2,7 @@ use Rattle.std.proofs.Common.{◌≡◌, List, ℤ, map}
 use Rattle.std.specs.List.{range_with_len}
 use Rattle.hpf_base.specs.LocalOrder.{pieces_of}
 use Rattle.hpf_base.specs.Owner.{block_line}
-use Rattle.first_form.specs.Pieces.{letters_of}
+use Rattle.first_form.specs.Letters.{letters_of}
 use Rattle.first_form.proofs.nodes.send_all.Given as goal
 
 abbrev pub invariant-loop-node : goal.invariant-loop-node

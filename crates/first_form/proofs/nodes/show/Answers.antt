@@ -8,7 +8,7 @@ use Rattle.hpf_base.specs.Owner.{block_line}
 use Rattle.hpf_base.specs.Positions.{element}
 use Rattle.first_form.specs.Valid.{IsWithin}
 use Rattle.first_form.proofs.NodeLaws.{outboxes-count, outboxes-each, piece-is, shown-value}
-use Rattle.first_form.specs.Pieces.{values_needed}
+use Rattle.first_form.specs.Letters.{values_needed}
 use Rattle.first_form.proofs.nodes.show.Goals as goal
 
 pub take-requires-clause-sent : goal.take-requires-clause-sent

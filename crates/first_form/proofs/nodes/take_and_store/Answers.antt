@@ -6,7 +6,7 @@ use Rattle.first_form.specs.Meaning.{array_after}
 use Rattle.hpf_base.specs.LocalOrder.{piece_of}
 use Rattle.hpf_base.specs.Owner.{block_line}
 use Rattle.first_form.specs.Valid.{IsWithin}
-use Rattle.first_form.specs.Pieces.{values_needed}
+use Rattle.first_form.specs.Letters.{values_needed}
 use Rattle.first_form.proofs.NodeLaws.{outboxes-count, outboxes-each}
 use Rattle.first_form.proofs.StoreLaws.{shifted-count}
 use Rattle.first_form.proofs.nodes.take_and_store.Goals as goal

@@ -4,7 +4,7 @@ use Rattle.std.specs.Int.{w64}
 use Rattle.first_form.specs.declared.program.FirstStmt.TheVariants.{Fill}
 use Rattle.first_form.proofs.PieceLaws.{owned-count}
 use Rattle.first_form.proofs.StoreLaws.{fill-leaves, filled-values, outside_block, outside_common, outside_is, piece-kept, piece-stored}
-use Rattle.first_form.specs.Pieces.{overwritten}
+use Rattle.first_form.specs.Letters.{overwritten}
 use Rattle.first_form.proofs.store.fill.Goals as goal
 
 pub returns-then-computed : goal.returns-then-computed

@@ -6,7 +6,7 @@ use Rattle.std.specs.Int.{int_wrapping_add, w64}
 use Rattle.first_form.specs.declared.program.FirstStmt.TheVariants.{Shift}
 use Rattle.first_form.proofs.PieceLaws.{common-shared, owned-count}
 use Rattle.first_form.proofs.StoreLaws.{outside_block, outside_common, outside_is, piece-kept, piece-stored, shift-leaves, shifted-values}
-use Rattle.first_form.specs.Pieces.{overwritten}
+use Rattle.first_form.specs.Letters.{overwritten}
 use Rattle.first_form.proofs.store.store.Goals as goal
 
 pub returns-then-computed : goal.returns-then-computed
