@@ -59,7 +59,7 @@ pub record IsProgramText (text : List ℕ) (p : SpelledProgram) : Type 0 where
   pub spelled : IsSpelled lines p
   pub formed : IsProgram p
 
--- the text means the program: it spells one that means it
+-- the text means the program: it spells lines that mean it
 pub record IsMeantBy (text : List ℕ) (p : MainProgram) : Type 0 where
   pub spelled : SpelledProgram
   pub reads : IsProgramText text spelled

@@ -1,8 +1,9 @@
-//! From the bytes of a text to the one program that it reads as.
+//! From the bytes of a text to the one program that it means.
 //!
-//! Comes in: any bytes. Goes out: the tree of the program that the text is, or its first breach. What holds in between: a
-//! text is read exactly where it is spelled as the language asks, and is refused at the stated line, for the stated reason,
-//! exactly where it isn't.
+//! Comes in: any bytes. Goes out: the tree of the program that the text spells, or its first breach. What holds in between:
+//! a text is read exactly where it is spelled as the language asks, and is refused at the stated line, for the stated
+//! reason, exactly where it isn't; it spells one program at most, and the abstract syntax of its tree is the one program
+//! that it means.
 #![tactic(auto)]
 
 mod forms;

@@ -3,7 +3,7 @@
 //! Comes in: the lines of a text as statements and directives, in order, which break no rule of constructs, declarations
 //! and directives. Goes out: the tree that they spell. What holds in between: a draft says the lines that have been read,
 //! those of the open constructs too, and its lines with those that are left are the lines of the text; no line is read
-//! twice, and no other program has these lines.
+//! twice, no other program has these lines, and what they mean is the abstract syntax of the tree.
 #![tactic(auto)]
 
 mod build;
