@@ -4,9 +4,8 @@ ghost use Rattle.std.specs.Prelude.{◌≡◌, ℕ, List, bytes_eq, codes, is_so
 ghost use Rattle.std.specs.Option.{option_copied};
 ghost use Rattle.op_tables.specs.Tables.{IsTableOf, row_of};
 ghost use Rattle.op_tables.specs.Words.{code_in, left_out_words};
-ghost use Rattle.syntax_tree.specs.Lexeme.{Word, lexeme_of, lexemes};
-ghost use Rattle.line_forms.specs.Marks.{same};
-ghost use Rattle.statement_reader.specs.Breaches.{begins_left_out, is_left_out_do, names_shape};
+ghost use Rattle.syntax_tree.specs.Lexeme.{lexemes};
+ghost use Rattle.statement_reader.specs.LeftOut.{begins_left_out, is_left_out_do};
 
 use line_forms::{is_sign, is_word};
 use op_tables::{LEFT_OUT_WORDS, Row, Table};
@@ -76,22 +75,5 @@ fn is_left_out_do(tokens: &[Token]) -> bool
     match &first.kind {
         TokenKind::Integer(_) => true,
         _ => is_word(tokens, b"WHILE"),
-    }
-}
-
-/// Whether PROCESSORS_SHAPE stands anywhere in the line.
-pub(crate) fn names_shape(tokens: &[Token]) -> bool
-    ensures { result ≡ names_shape (lexemes tokens.now) }
-{
-    tokens.iter().any(|token| is_shape(&token.kind))
-}
-
-/// Whether a token is PROCESSORS_SHAPE.
-fn is_shape(kind: &TokenKind) -> bool
-    ensures { result ≡ same (Word (codes "PROCESSORS_SHAPE")) (lexeme_of kind.now) }
-{
-    match kind {
-        TokenKind::Word(word) => b"PROCESSORS_SHAPE".as_slice() == word.bytes(),
-        _ => false,
     }
 }
