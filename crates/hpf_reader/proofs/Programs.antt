@@ -12,11 +12,11 @@ use Rattle.source_lines.specs.LogicalLines.{logical_lines}
 use Rattle.syntax_tree.specs.Lexeme.{Lexeme}
 use Rattle.statement_reader.specs.Forms as statements
 use Rattle.statement_reader.specs.Breaches.{IsStatement}
-use Rattle.statement_reader.proofs.Theorem.{one_form}
+use Rattle.statement_reader.proofs.Spelled.{one_form}
 use Rattle.directive_reader.specs.Forms as directives
 use Rattle.directive_reader.specs.Breach.{IsDirective}
 use Rattle.directive_reader.specs.Reading.{directive}
-use Rattle.directive_reader.proofs.Verdicts.{found}
+use Rattle.directive_reader.proofs.Verdicts.{one_directive}
 use Rattle.line_forms.specs.Reading.{Reading, Found, Stopped}
 use Rattle.nest_rules.specs.ProgramLine.{ProgramLine, LineContent, OfStatement, OfDirective}
 use Rattle.nest_rules.specs.Breaches.{IsNestBreach}
@@ -31,20 +31,13 @@ use Rattle.nest_reader.specs.Views.{spelled_program}
 use Rattle.nest_reader.proofs.Meanings.{meant_is}
 use Rattle.hpf_reader.specs.ProgramText.{LexemeLine, lexeme_lines, IsContent, IsLineOf, AreLinesOf, IsProgramText, IsMeantBy, TokensBreak, FormsBreak, NestBreaks, IsProgramRefusal, by_nest}
 
-abbrev found_in : (d : directives.Form) → Reading directives.Form → directives.Form
-found_in d (Found x) = x.0
-found_in d (Stopped why) = d
-
-reads_directive : (ts : List Lexeme) (f : directives.Form) → IsDirective ts f → directive true ts ≡ Found (f, [])
-reads_directive ts f h = ap (directive true) (sym h.spelled) ∙ found true h.written h.well ∙ ap (λ f. Found (f, [])) h.same
-
 -- lexemes are one directive to a tree
 same_directive : (ts : List Lexeme) (f g : directives.Form) → IsDirective ts f → IsDirective ts g → f ≡ g
-same_directive ts f g h i = ap (found_in f) (sym (reads_directive ts f h) ∙ reads_directive ts g i)
+same_directive ts f g h i = sym h.same ∙ one_directive h.written i.written h.well i.well (h.spelled ∙ sym i.spelled) ∙ i.same
 
 -- lexemes are one statement to a tree
 same_statement : (ts : List Lexeme) (f g : statements.Form) → IsStatement ts f → IsStatement ts g → f ≡ g
-same_statement ts f g h i = sym h.same ∙ one_form true h.written i.written h.formed i.formed (h.parts ∙ sym i.parts) ∙ i.same
+same_statement ts f g h i = sym h.same ∙ one_form h.written i.written h.formed i.formed (h.parts ∙ sym i.parts) ∙ i.same
 
 same_content : (k : LineKind) (ts : List Lexeme) (a b : LineContent) → IsContent k ts a → IsContent k ts b → a ≡ b
 same_content line.Statement ts (OfStatement f) (OfStatement g) h i = ap OfStatement (same_statement ts f g h i)
