@@ -28,7 +28,9 @@ use Rattle.syntax_tree.specs.declared.decl.Tree.{Tree}
 use Rattle.syntax_tree.specs.MainProgram.{MainProgram, main_program}
 use Rattle.nest_reader.specs.Meant.{meant}
 use Rattle.nest_reader.specs.Views.{spelled_program}
+use Rattle.nest_reader.specs.Said.{IsSaid, AreSaid}
 use Rattle.nest_reader.proofs.Meanings.{meant_is}
+use Rattle.nest_reader.proofs.Said.{declarations_said}
 use Rattle.hpf_reader.specs.ProgramText.{LexemeLine, lexeme_lines, IsContent, IsLineOf, AreLinesOf, IsProgramText, IsMeantBy, TokensBreak, FormsBreak, NestBreaks, IsProgramRefusal, by_nest}
 
 -- lexemes are one directive to a tree
@@ -89,6 +91,22 @@ one_tree text p q h i =
 pub one_program : (text : List ℕ) (p q : MainProgram) → IsMeantBy text p → IsMeantBy text q → p ≡ q
 one_program text p q h i = sym h.means ∙ ap meant (one_tree text h.spelled i.spelled h.reads i.reads) ∙ i.means
 
+content_said : (k : LineKind) (ts : List Lexeme) (what : LineContent) → IsContent k ts what → IsSaid what
+content_said line.Statement ts (OfStatement f) h = (h.written, h.same, h.formed)
+content_said line.Statement ts (OfDirective f) h = absurd h
+content_said line.Directive ts (OfStatement f) h = absurd h
+content_said line.Directive ts (OfDirective f) h = tt
+
+lines_said : (ls : List LexemeLine) (ss : List ProgramLine) → AreLinesOf ls ss → AreSaid ss
+lines_said [] [] h = tt
+lines_said [] (s ∷ ss) h = absurd h
+lines_said (l ∷ ls) [] h = absurd h
+lines_said (l ∷ ls) (s ∷ ss) h = (content_said l.kind l.lexemes s.what h.0.1, lines_said ls ss h.1)
+
 -- what a text spells means the abstract syntax of its tree
 pub tree_meant : (text : List ℕ) (t : Tree) → IsProgramText text (spelled_program t) → IsMeantBy text (main_program t)
-tree_meant text t h = record { spelled = spelled_program t; reads = h; means = meant_is t h.formed }
+tree_meant text t h = record {
+  spelled = spelled_program t;
+  reads = h;
+  means = meant_is t h.formed (declarations_said h.lines (spelled_program t) h.spelled (lines_said (lexeme_lines text) h.lines h.read));
+}

@@ -8,3 +8,4 @@ pub mod Further
 pub mod Starts
 pub mod Same
 pub mod Meanings
+pub mod Said

@@ -1,6 +1,6 @@
 -- The program that a tree's lines mean is the tree's abstract syntax.
 use Rattle.std.proofs.Common.{◌≡◌, ℕ, Bool, true, false, not, if◌then◌else◌, List, [], ◌∷◌, map, Option, Some, None, option_map, refl, ap, sym, ◌∙◌, nat_eq, Global}
-use Rattle.std.specs.Prelude.{is_some, Vec}
+use Rattle.std.specs.Prelude.{Vec}
 use Rattle.syntax_tree.specs.declared.stmt.Header.{Header}
 use Rattle.nest_rules.specs.ProgramLine.{OfStatement}
 use Rattle.statement_reader.specs.Forms as statements
@@ -24,15 +24,16 @@ use Rattle.syntax_tree.specs.declared.directive.Target.{Target}
 use Rattle.syntax_tree.specs.declared.directive.Target.TheVariants as held_target
 use Rattle.syntax_tree.specs.declared.expr.Expr.{Expr}
 use Rattle.syntax_tree.specs.declared.expr.Ref.{Ref}
-use Rattle.syntax_tree.specs.declared.expr.Expr.TheVariants as expr
-use Rattle.syntax_tree.specs.declared.expr.Expr.TheBlock.{Held-Ref-subs, Ref-subs-None', Ref-subs-Some', back-Ref-subs}
 use Rattle.syntax_tree.specs.declared.stmt.Item.{Item}
 use Rattle.syntax_tree.specs.declared.stmt.Item.TheVariants as held_item
 use Rattle.syntax_tree.specs.declared.stmt.Mark.{Mark as HeldMark}
 use Rattle.syntax_tree.specs.declared.stmt.Stmt.{Stmt}
 use Rattle.syntax_tree.specs.declared.stmt.Kind.{Kind as HeldKind}
 use Rattle.syntax_tree.specs.declared.stmt.Kind.TheBlock.{Assign, IfOne', If', Do, Where', Forall', Print, Stop, Exit, Cycle, Continue, Redistribute, struct-Arm, struct-DoLoop, Row_of-Stmt, end_of-Stmt, more_of-Stmt, Row_of-Arm, end_of-Arm, more_of-Arm, Held-Kind-If-1, None', Some'}
-use Rattle.syntax_tree.specs.Expression.{expression, reference}
+use Rattle.syntax_tree.specs.declared.decl.IntegerDecl.{IntegerDecl}
+use Rattle.syntax_tree.specs.declared.expr.Subscript.{Subscript}
+use Rattle.syntax_tree.specs.Expression.{More, expression, parts_of, subscript}
+use Rattle.syntax_tree.proofs.Rows.{subscripts_vec}
 use Rattle.syntax_tree.specs.Directive as directive
 use Rattle.syntax_tree.specs.Statement as syntax
 use Rattle.syntax_tree.specs.MainProgram as main
@@ -44,6 +45,8 @@ use Rattle.nest_reader.specs.Views as views
 use Rattle.nest_reader.specs.Views.{spelled_kind, spelled_do, spelled_row, spelled_else, spelled_arms, action_in, assignment_in, assignment_at, begins, spelled_program}
 use Rattle.nest_reader.specs.Formed.{IsBlock, IsStatement, AreArms, AreMore, IsOtherwise, IsProgram}
 use Rattle.nest_reader.specs.Meant as meant
+use Rattle.nest_reader.specs.Said.{IsSaid, AreSaid}
+use Rattle.nest_reader.proofs.Said.{HasList, HasBounds, Each, SomeEach, Shaped, said_shaped}
 
 -- ---- lists
 
@@ -53,12 +56,15 @@ twice f g h e (x ∷ xs) = λ i. e x i ∷ twice f g h e xs i
 
 -- ---- parts of lines
 
-variable_held : (x : List ℕ) (s : Held-Ref-subs) → meant.variable (reference x s) ≡ record { name = x; subscripts = syntax.subscripts_of s }
-variable_held x Ref-subs-None' = refl
-variable_held x (Ref-subs-Some' shape row) = refl
+parts_are : (ss : List Subscript) → meant.parts (map subscript ss) ≡ parts_of ss
+parts_are [] = refl
+parts_are (s ∷ ss) = ap (More (subscript s)) (parts_are ss)
 
-pub variable_is : (r : Ref) → meant.variable (expression (expr.Ref r)) ≡ syntax.variable r
-variable_is r = variable_held r.name (back-Ref-subs r.subs)
+pub variable_is : (r : Ref) → meant.variable (parts.variable_of r) ≡ syntax.variable r
+variable_is r = cases r.subs where
+  cases : (subs : Option (Vec Subscript Global)) → meant.variable (parts.variable_of record r { subs = subs }) ≡ syntax.variable (record r { subs = subs })
+  cases None = refl
+  cases (Some v) = ap (λ x. record { name = r.name; subscripts = x }) (ap Some (parts_are v.items) ∙ sym (subscripts_vec v))
 
 item_is : (i : Item) → meant.item (statement_views.item_of i) ≡ syntax.item_of i
 item_is (held_item.Value e) = refl
@@ -95,7 +101,7 @@ AssignmentMeans n row (Some a) = meant.assigned n a ∷ [] ≡ syntax.assignment
 one_is : {m : _} (n : ℕ) (row : Row_of-Stmt m) → AssignmentMeans n row (assignment_in n row)
 one_is n end_of-Stmt = tt {0}
 one_is n (more_of-Stmt m (Assign left right) end_of-Stmt) = cases (nat_eq m n) refl where
-  cases : (b : Bool) → nat_eq m n ≡ b → AssignmentMeans n (more_of-Stmt m (Assign left right) end_of-Stmt) (if b then Some (expression (expr.Ref left), expression right) else None)
+  cases : (b : Bool) → nat_eq m n ≡ b → AssignmentMeans n (more_of-Stmt m (Assign left right) end_of-Stmt) (if b then Some (parts.variable_of left, expression right) else None)
   cases true e = λ i. record { line = sym (eqb-true m n e) i; left = variable_is left i; right = expression right } ∷ []
   cases false e = tt {0}
 one_is n (more_of-Stmt m (IfOne' cond box l k) end_of-Stmt) = tt {0}
@@ -305,23 +311,59 @@ directive_is (held_directive.Distribute d) = ap directive.Distribute (distributi
 directive_is (held_directive.Align a) = ap directive.Align (alignment_is a)
 directive_is held_directive.Passed = refl
 
-flag_is : (b : Bool) → is_some (parts.flag b) ≡ b
-flag_is true = refl
-flag_is false = refl
-
 dims_are : (dims : Option (Vec Bound Global)) → option_map (map meant.bound_of) (option_map (λ (v : Vec Bound Global). map parts.bound_of v.items) dims) ≡ option_map (λ (bs : Vec Bound Global). map directive.bound bs.items) dims
 dims_are None = refl
 dims_are (Some bs) = ap Some (twice parts.bound_of meant.bound_of directive.bound bound_is bs.items)
 
-declared_is : (d : DeclKind) → meant.declared_of (views.declared_of d) ≡ main.declared_of d
-declared_is declared.ImplicitNone = refl
-declared_is (declared.Integer d) =
-    λ i. main.Integer record { constant = flag_is d.constant i; bounds = dims_are d.dims i; entities = twice statement_views.entity_of meant.entity_of directive.entity entity_is d.entities.items i }
-declared_is (declared.Parameter cs) = ap main.Parameter (twice statement_views.constant_of (λ c. record { name = c.0; value = c.1 }) main.named_constant (λ c. refl) cs.items)
-declared_is (declared.Directive d) = ap main.Directed (directive_is d)
+constant_is : (e : Entity) → HasList (statement_views.constant_entity_of e).1.1 → meant.constant_entity_of (statement_views.constant_entity_of e) ≡ directive.entity e
+constant_is e = cases e.start where
+  cases : (start : Option Expr) → HasList (statement_views.constant_entity_of record e { start = start }).1.1
+      → meant.constant_entity_of (statement_views.constant_entity_of record e { start = start }) ≡ directive.entity (record e { start = start })
+  cases None h = absurd h
+  cases (Some v) h = ap (λ x. record { name = e.name; bounds = x; start = Some (expression v) }) (dims_are e.dims)
 
-declaration_is : (d : Decl) → meant.declaration_of (views.declaration_line d) ≡ main.declaration d
-declaration_is d = ap (λ w. record { line = d.line; what = w }) (declared_is d.what)
+plain_is : (e : Entity) → HasBounds (statement_views.plain_entity_of e).1 → meant.plain_entity_of (statement_views.plain_entity_of e) ≡ directive.entity e
+plain_is e = cases e.start where
+  cases : (start : Option Expr) → HasBounds (statement_views.plain_entity_of record e { start = start }).1
+      → meant.plain_entity_of (statement_views.plain_entity_of record e { start = start }) ≡ directive.entity (record e { start = start })
+  cases None h = ap (λ x. record { name = e.name; bounds = x; start = None }) (dims_are e.dims)
+  cases (Some v) h = absurd h
+
+-- two steps to a list and one, where something holds of each behind the first
+module _ {A B C : Type 0} (P : B → Type 0) (f : A → B) (g : B → C) (k : A → C) (e : (a : A) → P (f a) → g (f a) ≡ k a) where
+  twice_each : (xs : List A) → Each P (map f xs) → map g (map f xs) ≡ map k xs
+  twice_each [] h = refl
+  twice_each (x ∷ xs) h = λ i. e x h.0 i ∷ twice_each xs h.1 i
+
+  twice_some : (xs : List A) → SomeEach P (map f xs) → map g (map f xs) ≡ map k xs
+  twice_some [] h = refl
+  twice_some (x ∷ xs) h = λ i. e x h.0 i ∷ twice_each xs h.1 i
+
+integer_is : (d : IntegerDecl) → Shaped (statement_views.declaration_of d) → meant.type_declaration (statement_views.declaration_of d) ≡ main.type_declaration d
+integer_is d = cases d.constant d.colons d.dims where
+  cases : (constant colons : Bool) (dims : Option (Vec Bound Global)) → Shaped (statement_views.declaration_of record d { constant = constant; colons = colons; dims = dims })
+      → meant.type_declaration (statement_views.declaration_of record d { constant = constant; colons = colons; dims = dims })
+      ≡ main.type_declaration (record d { constant = constant; colons = colons; dims = dims })
+  cases true true dims h =
+      λ i. record { constant = true; bounds = dims_are dims i; entities = twice_some (λ e. HasList e.1.1) statement_views.constant_entity_of meant.constant_entity_of directive.entity constant_is d.entities.items h i }
+  cases false true None h =
+      ap (λ es. record { constant = false; bounds = None; entities = es }) (twice statement_views.entity_of meant.entity_of directive.entity entity_is d.entities.items)
+  cases false true (Some bs) h =
+      λ i. record { constant = false; bounds = dims_are (Some bs) i; entities = twice statement_views.entity_of meant.entity_of directive.entity entity_is d.entities.items i }
+  cases false false None h =
+      ap (λ es. record { constant = false; bounds = None; entities = es }) (twice_some (λ e. HasBounds e.1) statement_views.plain_entity_of meant.plain_entity_of directive.entity plain_is d.entities.items h)
+  cases false false (Some bs) h = absurd h
+  cases true false dims h = absurd h
+
+declared_is : (d : DeclKind) → IsSaid (views.declared_of d) → meant.declared_of (views.declared_of d) ≡ main.declared_of d
+declared_is declared.ImplicitNone h = refl
+declared_is (declared.Integer d) h = ap main.Integer (integer_is d (said_shaped (statement_views.declaration_of d) h))
+declared_is (declared.Parameter cs) h = ap main.Parameter (twice statement_views.constant_of (λ c. record { name = c.0; value = c.1 }) main.named_constant (λ c. refl) cs.items)
+declared_is (declared.Directive d) h = ap main.Directed (directive_is d)
+
+declarations_are : (ds : List Decl) → AreSaid (map views.declaration_line ds) → map meant.declaration_of (map views.declaration_line ds) ≡ map main.declaration ds
+declarations_are [] h = refl
+declarations_are (d ∷ ds) h = λ i. record { line = d.line; what = declared_is d.what h.0 i } ∷ declarations_are ds h.1 i
 
 end_is : (word : Bool) (name : Option (List ℕ)) → meant.end_name (statement_views.end_of word name) ≡ main.end_name_of word name
 end_is true name = refl
@@ -329,10 +371,10 @@ end_is false None = refl
 end_is false (Some x) = refl
 
 -- the lines of a tree mean its abstract syntax
-pub meant_is : (t : Tree) → IsProgram (spelled_program t) → meant.meant (spelled_program t) ≡ main.main_program t
-meant_is t h = λ i. record {
+pub meant_is : (t : Tree) → IsProgram (spelled_program t) → AreSaid (spelled_program t).declarations → meant.meant (spelled_program t) ≡ main.main_program t
+meant_is t h said = λ i. record {
   name = t.name;
-  declarations = twice views.declaration_line meant.declaration_of main.declaration declaration_is t.decls.items i;
+  declarations = declarations_are t.decls.items said i;
   body = body_is t.body.items h.1 i;
   end_name = end_is t.end.word t.end.name i;
   end_line = t.end.line;

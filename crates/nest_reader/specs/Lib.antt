@@ -1,3 +1,4 @@
+pub mod Said
 pub mod SpelledProgram
 pub mod ProgramLines
 pub mod Views

@@ -1,16 +1,17 @@
 -- What the lines of a program mean: its abstract syntax.
-use Rattle.std.specs.Prelude.{ℕ, Bool, true, false, List, [], ◌∷◌, map, Option, Some, None, option_map, is_some}
+use Rattle.std.specs.Prelude.{ℕ, Bool, true, false, List, [], ◌∷◌, map, Option, Some, None, option_map}
 use Rattle.std.proofs.Common.{inl, inr}
-use Rattle.syntax_tree.specs.Expression.{Expression, Name, Element}
+use Rattle.syntax_tree.specs.Expression.{Expression, Part, Parts, End, More}
 use Rattle.syntax_tree.specs.Directive as directive
 use Rattle.syntax_tree.specs.Statement as syntax
 use Rattle.syntax_tree.specs.MainProgram as main
 use Rattle.line_forms.specs.Grammar.{Value, Output, Shown, Characters}
+use Rattle.line_forms.specs.Parts as forms
 use Rattle.line_forms.specs.Parts.{bound}
 use Rattle.statement_reader.specs.declared.kind.Kind.{Kind}
 use Rattle.statement_reader.specs.declared.kind.Kind.TheVariants as kind
 use Rattle.statement_reader.specs.Forms as statements
-use Rattle.statement_reader.specs.Forms.{grammar, assignment, axis, entity, constant, declaration, do_head, forall_head}
+use Rattle.statement_reader.specs.Forms.{grammar, assignment, axis, entity, constant_entity, plain_entity, declaration}
 use Rattle.directive_reader.specs.declared.kind.Kind.TheVariants as directed
 use Rattle.directive_reader.specs.Forms as directives
 use Rattle.directive_reader.specs.Forms.{arrangement, format, source, target}
@@ -19,10 +20,12 @@ use Rattle.nest_reader.specs.SpelledProgram.{SpelledIndependent, SpelledBlock, E
 
 -- ---- parts of lines
 
-abbrev pub variable : Expression → syntax.Variable
-variable (Name x) = record { name = x; subscripts = None }
-variable (Element x ps) = record { name = x; subscripts = Some ps }
-variable e = record { name = []; subscripts = None }
+abbrev pub parts : List Part → Parts
+parts [] = End
+parts (p ∷ ps) = More p (parts ps)
+
+abbrev pub variable : Value forms.variable → syntax.Variable
+variable v = record { name = v.0; subscripts = option_map parts v.1 }
 
 abbrev pub assigned : ℕ → Value assignment → syntax.Assignment
 assigned n a = record { line = n; left = variable a.0; right = a.1 }
@@ -84,11 +87,22 @@ directive_of d = directive.Passed
 abbrev pub entity_of : Value entity → directive.Entity
 entity_of e = record { name = e.0; bounds = option_map (map bound_of) e.1.0; start = e.1.1 }
 
+abbrev pub constant_entity_of : Value constant_entity → directive.Entity
+constant_entity_of e = record { name = e.0; bounds = option_map (map bound_of) e.1.0; start = Some e.1.1 }
+
+abbrev pub plain_entity_of : Value plain_entity → directive.Entity
+plain_entity_of e = record { name = e.0; bounds = option_map (map bound_of) e.1; start = None }
+
 -- ---- declarations
 
+abbrev pub type_declaration : Value declaration → main.TypeDeclaration
+type_declaration (inl c) = record { constant = true; bounds = option_map (map bound_of) c.0; entities = map constant_entity_of c.1 }
+type_declaration (inr (inl d)) = record { constant = false; bounds = Some (map bound_of d.0); entities = map entity_of d.1 }
+type_declaration (inr (inr (inl es))) = record { constant = false; bounds = None; entities = map entity_of es }
+type_declaration (inr (inr (inr es))) = record { constant = false; bounds = None; entities = map plain_entity_of es }
+
 abbrev pub declared_of : LineContent → main.Declared
-declared_of (OfStatement (statements.Plain kind.Integer v)) =
-    main.Integer record { constant = is_some v.0; bounds = option_map (map bound_of) v.1.0; entities = map entity_of v.1.1.1 }
+declared_of (OfStatement (statements.Plain kind.Integer v)) = main.Integer (type_declaration v)
 declared_of (OfStatement (statements.Plain kind.Parameter v)) = main.Parameter (map (λ c. record { name = c.0; value = c.1 }) v)
 declared_of (OfStatement s) = main.ImplicitNone
 declared_of (OfDirective d) = main.Directed (directive_of d)

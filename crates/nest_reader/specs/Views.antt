@@ -5,7 +5,6 @@ use Rattle.syntax_tree.specs.declared.decl.DeclKind.{DeclKind}
 use Rattle.syntax_tree.specs.declared.decl.DeclKind.TheVariants as declared
 use Rattle.syntax_tree.specs.declared.decl.EndForm.{EndForm}
 use Rattle.syntax_tree.specs.declared.decl.Tree.{Tree}
-use Rattle.syntax_tree.specs.declared.expr.Expr.TheVariants as expr
 use Rattle.syntax_tree.specs.declared.stmt.Arm.{Arm as HeldArm}
 use Rattle.syntax_tree.specs.declared.stmt.Mark.{Mark as HeldMark}
 use Rattle.syntax_tree.specs.declared.stmt.Stmt.{Stmt}
@@ -13,6 +12,7 @@ use Rattle.syntax_tree.specs.declared.stmt.Kind.{Kind as HeldKind}
 use Rattle.syntax_tree.specs.declared.stmt.Kind.TheBlock.{Assign, IfOne', If', Do, Where', Forall', Print, Stop, Exit, Cycle, Continue, Redistribute, struct-Arm, struct-DoLoop, Row_of-Stmt, end_of-Stmt, more_of-Stmt, Row_of-Arm, end_of-Arm, more_of-Arm, Held-Kind-If-1, None', Some'}
 use Rattle.syntax_tree.specs.Expression.{Expression, expression}
 use Rattle.line_forms.specs.Grammar.{Value}
+use Rattle.line_forms.specs.Parts.{variable_of}
 use Rattle.statement_reader.specs.declared.kind.Kind.TheVariants as kind
 use Rattle.statement_reader.specs.Forms as statements
 use Rattle.statement_reader.specs.Forms.{assignment}
@@ -29,7 +29,7 @@ no_statement = IfConstruct NoIfBlock NoElse false
 
 -- an assignment of line `m` in a statement of line `n`
 abbrev pub assignment_at : ℕ → ℕ → HeldKind → Option (Value assignment)
-assignment_at n m (Assign left right) = if nat_eq m n then Some (expression (expr.Ref left), expression right) else None
+assignment_at n m (Assign left right) = if nat_eq m n then Some (variable_of left, expression right) else None
 assignment_at n m k = None
 
 -- a block that is one assignment, in the line of this number
@@ -45,7 +45,7 @@ forall_one head a = (kind.Forall, (head, Some a))
 
 -- a statement that may be the action of an IF, in the line of this number
 abbrev pub action_in : ℕ → HeldKind → Option IsOfKind
-action_in n (Assign left right) = Some (kind.Assign, (expression (expr.Ref left), expression right))
+action_in n (Assign left right) = Some (kind.Assign, (variable_of left, expression right))
 action_in n (Where' mask shape row None' true false) = option_map (where_one (expression mask)) (assignment_in n row)
 action_in n (Forall' axes mask shape row true false false) = option_map (forall_one (map axis_of axes.items, option_map expression mask)) (assignment_in n row)
 action_in n (Print items) = Some (kind.Print, items_of items.items)
