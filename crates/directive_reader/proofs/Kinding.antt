@@ -1,5 +1,5 @@
 -- The kind of a line in front of which a directive of a kind stands.
-use Rattle.std.proofs.Common.{◌≡◌, ℕ, Bool, true, false, ◌&&◌, ◌||◌, List, [], ◌∷◌, ◌++◌, Option, Some, None, refl, sym, ap, ◌∙◌, subst}
+use Rattle.std.proofs.Common.{◌≡◌, ℕ, Bool, true, false, ◌&&◌, ◌||◌, List, [], ◌∷◌, ◌++◌, Some, None, refl, sym, ap, ◌∙◌, subst}
 use Rattle.std.specs.Prelude.{bytes_eq, codes, not}
 use Rattle.syntax_tree.specs.Lexeme.{Lexeme, Word}
 use Rattle.line_forms.specs.declared.depths.Depths.{Depths}

@@ -11,8 +11,8 @@ ghost use Rattle.directive_reader.specs.Views.{arrangement_of, format_of, source
 
 use hpf_base::Name;
 use line_forms::{
-    Bounds, Depths, Element, ReadError, after_sign, after_word, behind, enclosed, expr, is_sign, is_word,
-    name, subscript,
+    Bounds, Depths, Element, ReadError, after_sign, after_word, behind, enclosed, expr, is_sign,
+    is_word, name, subscript,
 };
 use source_lines::Token;
 use std::alloc::Global;
@@ -28,7 +28,11 @@ impl Element for Arrangements {
 
     ghost view = { arrangement_of };
 
-    fn read(alloc: Global, depths: Depths, tokens: &[Token]) -> Result<(Entity, &[Token]), ReadError> {
+    fn read(
+        alloc: Global,
+        depths: Depths,
+        tokens: &[Token],
+    ) -> Result<(Entity, &[Token]), ReadError> {
         let (name, rest) = match name(tokens) {
             Ok(found) => found,
             Err(why) => return Err(why),
@@ -49,7 +53,11 @@ impl Element for Formats {
 
     ghost view = { format_of };
 
-    fn read(alloc: Global, depths: Depths, tokens: &[Token]) -> Result<(Format, &[Token]), ReadError> {
+    fn read(
+        alloc: Global,
+        depths: Depths,
+        tokens: &[Token],
+    ) -> Result<(Format, &[Token]), ReadError> {
         if is_sign(tokens, Sign::Star) {
             return Ok((Format::Star, behind(tokens, 1)));
         }
@@ -64,7 +72,11 @@ impl Element for Formats {
 }
 
 /// The size of the blocks that may stand behind a format's word.
-fn size(alloc: Global, depths: Depths, tokens: &[Token]) -> Result<(Option<Expr>, &[Token]), ReadError>
+fn size(
+    alloc: Global,
+    depths: Depths,
+    tokens: &[Token],
+) -> Result<(Option<Expr>, &[Token]), ReadError>
     ensures { Gives (λ x. (option_map expression x.0, lexemes x.1.now)) result (read depths size (lexemes tokens.now)) }
 {
     if !is_sign(tokens, Sign::Open) {
@@ -98,7 +110,11 @@ impl Element for Sources {
 
     ghost view = { source_of };
 
-    fn read(_alloc: Global, _depths: Depths, tokens: &[Token]) -> Result<(Source, &[Token]), ReadError> {
+    fn read(
+        _alloc: Global,
+        _depths: Depths,
+        tokens: &[Token],
+    ) -> Result<(Source, &[Token]), ReadError> {
         if is_sign(tokens, Sign::Colon) {
             return Ok((Source::Colon, behind(tokens, 1)));
         }
@@ -122,7 +138,11 @@ impl Element for Targets {
 
     ghost view = { target_of };
 
-    fn read(alloc: Global, depths: Depths, tokens: &[Token]) -> Result<(Target, &[Token]), ReadError> {
+    fn read(
+        alloc: Global,
+        depths: Depths,
+        tokens: &[Token],
+    ) -> Result<(Target, &[Token]), ReadError> {
         if is_sign(tokens, Sign::Star) {
             return Ok((Target::Star, behind(tokens, 1)));
         }

@@ -12,11 +12,11 @@ ghost use Rattle.directive_reader.specs.Breach.{IsBreachAt, IsDirective, IsDirec
 ghost use Rattle.directive_reader.specs.declared.kind.Kind.TheVariants.{Processors, Template, Dynamic, Distribute, Redistribute, Align, Independent};
 
 use crate::directive::DirectiveLine;
-use crate::first_words::{is_passed, directive_kind};
-use crate::kind::Kind;
-use crate::specifications::{distribution_spec, alignment_spec, listed, names_behind};
 use crate::elements::Arrangements;
+use crate::first_words::{directive_kind, is_passed};
+use crate::kind::Kind;
 use crate::refusal::{is_left_out, left_out, not_read};
+use crate::specifications::{alignment_spec, distribution_spec, listed, names_behind};
 use hpf_base::StaticError;
 use line_forms::{Depths, ListedNames, ReadError, after_word};
 use source_lines::Token;
@@ -54,7 +54,11 @@ pub fn read_directive(
 }
 
 /// The directive that the whole line is, with expressions as deep as `depths` says.
-pub fn directive(alloc: Global, depths: Depths, tokens: &[Token]) -> Result<DirectiveLine, ReadError>
+pub fn directive(
+    alloc: Global,
+    depths: Depths,
+    tokens: &[Token],
+) -> Result<DirectiveLine, ReadError>
     ensures { Gives (λ d. (form_of d, [])) result (directive depths (lexemes tokens.now)) }
 {
     if is_passed(tokens) {
@@ -117,7 +121,11 @@ fn template(
     Ok((DirectiveLine::Mapping(Directive::Template(entities)), rest))
 }
 
-fn dynamic(alloc: Global, depths: Depths, tokens: &[Token]) -> Result<(DirectiveLine, &[Token]), ReadError>
+fn dynamic(
+    alloc: Global,
+    depths: Depths,
+    tokens: &[Token],
+) -> Result<(DirectiveLine, &[Token]), ReadError>
     ensures { Gives (λ x. (form_of x.0, lexemes x.1.now)) result (known depths Dynamic (lexemes tokens.now)) }
 {
     let rest = after_word(tokens, b"DYNAMIC")?;

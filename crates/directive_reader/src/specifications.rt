@@ -14,8 +14,8 @@ ghost use Rattle.directive_reader.specs.Views.{distribution_spec_of, alignment_s
 use crate::elements::{Formats, Sources, Targets, onto};
 use hpf_base::Name;
 use line_forms::{
-    Depths, Element, ListedNames, ReadError, after_sign, after_word, attribute, behind, enclosed, is_sign, name,
-    optional_enclosed, comma_list,
+    Depths, Element, ListedNames, ReadError, after_sign, after_word, attribute, behind, comma_list,
+    enclosed, is_sign, name, optional_enclosed,
 };
 use source_lines::Token;
 use std::alloc::{AllocError, Global};
@@ -60,7 +60,11 @@ pub fn distribution_spec(
 }
 
 /// `name ( format list ) [ONTO name]`.
-fn one_distribution_spec(alloc: Global, depths: Depths, tokens: &[Token]) -> Result<(DistSpec, &[Token]), ReadError>
+fn one_distribution_spec(
+    alloc: Global,
+    depths: Depths,
+    tokens: &[Token],
+) -> Result<(DistSpec, &[Token]), ReadError>
     ensures { Gives (λ x. (distribution_spec_of x.0, lexemes x.1.now)) result (distribution_spec depths false (lexemes tokens.now)) }
 {
     let (name, rest) = match name(tokens) {
@@ -85,7 +89,11 @@ fn one_distribution_spec(alloc: Global, depths: Depths, tokens: &[Token]) -> Res
 }
 
 /// `( format list ) [ONTO name] :: name list`.
-fn many_distribution_spec(alloc: Global, depths: Depths, tokens: &[Token]) -> Result<(DistSpec, &[Token]), ReadError>
+fn many_distribution_spec(
+    alloc: Global,
+    depths: Depths,
+    tokens: &[Token],
+) -> Result<(DistSpec, &[Token]), ReadError>
     ensures { Gives (λ x. (distribution_spec_of x.0, lexemes x.1.now)) result (distribution_spec depths true (lexemes tokens.now)) }
 {
     let (formats, rest) = enclosed::<Formats>(alloc, depths, tokens)?;
@@ -123,7 +131,11 @@ pub fn alignment_spec(
 }
 
 /// `name [( source list )] WITH name [( target list )]`.
-fn one_alignment_spec(alloc: Global, depths: Depths, tokens: &[Token]) -> Result<(AlignSpec, &[Token]), ReadError>
+fn one_alignment_spec(
+    alloc: Global,
+    depths: Depths,
+    tokens: &[Token],
+) -> Result<(AlignSpec, &[Token]), ReadError>
     ensures { Gives (λ x. (alignment_spec_of x.0, lexemes x.1.now)) result (alignment_spec depths false (lexemes tokens.now)) }
 {
     let (alignee, rest) = match name(tokens) {
@@ -151,7 +163,11 @@ fn one_alignment_spec(alloc: Global, depths: Depths, tokens: &[Token]) -> Result
 }
 
 /// `[( source list )] WITH name [( target list )] :: name list`.
-fn many_alignment_spec(alloc: Global, depths: Depths, tokens: &[Token]) -> Result<(AlignSpec, &[Token]), ReadError>
+fn many_alignment_spec(
+    alloc: Global,
+    depths: Depths,
+    tokens: &[Token],
+) -> Result<(AlignSpec, &[Token]), ReadError>
     ensures { Gives (λ x. (alignment_spec_of x.0, lexemes x.1.now)) result (alignment_spec depths true (lexemes tokens.now)) }
 {
     let (source, rest) = optional_enclosed::<Sources>(alloc, depths, tokens)?;

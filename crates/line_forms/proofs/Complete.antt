@@ -15,15 +15,15 @@ use Rattle.line_forms.specs.Marks.{starts, comma, equals}
 use Rattle.line_forms.specs.Reading.{Reading, Found, Stopped, ◌>>=◌}
 use Rattle.line_forms.specs.Grammar.{Grammar, Value, Nothing, Identifier, Expr, Item, Subscript, Prefixed, Suffixed, Sequence, Optional, Choice, Skipped, CommaList, Header, OptionalToEnd}
 use Rattle.line_forms.specs.Printed.{with_commas, behind_comma, printed, IfFormed, Some_and_all, IsWell, value_kept}
-use Rattle.line_forms.specs.DeepFront.{is_too_deep, preceded, front_or, list_front, expr_front, mask_front, deep_front, IsTooDeep}
+use Rattle.line_forms.specs.DeepFront.{is_too_deep, preceded, list_front, expr_front, mask_front, deep_front, IsTooDeep}
 use Rattle.line_forms.specs.Read.{after, name, expr, is_index, index_next, comma_list, mask, read}
 use Rattle.line_forms.specs.Ll1.{FirstItem, Finish, Exactly, begins, Begins, first_set, are_marks, disjoint, ends_expression, is_finish, is_filled, is_indexed, is_ll1}
 use Rattle.line_forms.proofs.Sound.{both_true}
 use Rattle.line_forms.proofs.Shallow.{any_shallow}
 use Rattle.line_forms.proofs.Begins.{second_true, starts_all, disjoint_starts, ends_all, finish_all, filled_all, no_index, subscript_all}
 use Rattle.line_forms.proofs.Leaves.{if_false, if_true, expr_reads, item_reads, subscript_reads}
-use Rattle.line_forms.proofs.Standing.{StandsAs, Stands, stands_whole, stands_deep, behind_prefix, then_reads, then_begins, unmapped, followed, mapped, text_stands}
-use Rattle.line_forms.proofs.Starting.{three_true, marks_begin, unsuffixed, head_stands, mask_begins, starting}
+use Rattle.line_forms.proofs.Standing.{StandsAs, Stands, stands_whole, stands_deep, behind_prefix, then_reads, then_begins, unmapped, followed, mapped}
+use Rattle.line_forms.proofs.Starting.{three_true, marks_begin, head_stands, mask_begins, starting}
 
 -- a well-formed part that stands in front is read, or stops the reading
 abbrev pub Complete : Depths → Grammar → List FirstItem → Type 0
@@ -97,8 +97,7 @@ module _ (depths : Depths) where
 
   -- a list whose elements follow commas, where what stands behind it doesn't go on with it
   module _ (g : Grammar) (fs : List FirstItem) (next : List Lexeme → Bool) (ih : Complete depths g (Exactly comma ∷ fs)) (Behind : List Lexeme → Type 0) (begins : (us : List Lexeme) → Behind us → Begins (Exactly comma ∷ fs) us) (stops : (us : List Lexeme) → Behind us → next us ≡ false)
-    (goes : (v : Value g) (vs : List (Value g)) (z : List (Value g)) (us : List Lexeme) (r : Reading (List (Value g))) → StandsAs (list_front (deep_front depths g) (printed g) (v ∷ vs)) (with_commas (map (printed g) (v ∷ vs))) z Behind us r → next (comma ++ us) ≡ true) where
-
+      (goes : (v : Value g) (vs : List (Value g)) (z : List (Value g)) (us : List Lexeme) (r : Reading (List (Value g))) → StandsAs (list_front (deep_front depths g) (printed g) (v ∷ vs)) (with_commas (map (printed g) (v ∷ vs))) z Behind us r → next (comma ++ us) ≡ true) where
     row_reads : (most : ℕ) (v : Value g) (vs : List (Value g)) → IsWell g v → All (IsWell g) vs → (ts : List Lexeme) (r : Reading (List (Value g)))
         → StandsAs (list_front (deep_front depths g) (printed g) (v ∷ vs)) (with_commas (map (printed g) (v ∷ vs))) (map (value_kept g) (v ∷ vs)) Behind ts r → length ts < most → comma_list next (read depths g) most ts ≡ r
     unfolding comma_list

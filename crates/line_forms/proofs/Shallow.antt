@@ -5,7 +5,7 @@ use Rattle.syntax_tree.specs.Lexeme.{Lexeme}
 use Rattle.syntax_tree.specs.Expression.{Expression, Part, One, Range, Glued, Maybe, Absent, Present}
 use Rattle.syntax_tree.specs.Spelling.{maybe_spelling}
 use Rattle.line_forms.specs.declared.depths.Depths.TheVariants.{Any}
-use Rattle.line_forms.specs.Marks.{comma, colon, colons}
+use Rattle.line_forms.specs.Marks.{comma, colon}
 use Rattle.line_forms.specs.Grammar.{Grammar, Value, Output, Shown, Characters, Nothing, Identifier, Expr, Item, Subscript, Prefixed, Suffixed, Sequence, Optional, Choice, Skipped, CommaList, Header, OptionalToEnd}
 use Rattle.line_forms.specs.Printed.{printed, with_commas}
 use Rattle.line_forms.specs.DeepFront.{preceded, front_or, list_front, maybe_front, step_front, mask_front, output_front, part_front, deep_front}

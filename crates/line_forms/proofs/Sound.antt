@@ -1,13 +1,12 @@
 -- What is read is spelled so, and a reading stops as too deep behind such a front.
 use Rattle.std.proofs.Common.{◌≡◌, ◌≤◌, ℕ, zero, suc, ◌&&◌, Bool, true, false, List, [], ◌∷◌, ◌++◌, length, drop, Option, Some, None, inl, inr, rules, refl, sym, ap, ◌∙◌, subst, arith, append_assoc, length-append}
-use Rattle.std.specs.Prelude.{if◌then◌else◌, map, All, not, nat_le, option_map, codes}
+use Rattle.std.specs.Prelude.{if◌then◌else◌, map, not, nat_le, option_map, codes}
 use Rattle.std.proofs.lemmas.Slice.Eq.{bytes_eq-Decides}
 use Rattle.std.proofs.lemmas.List.Elements.{All-nil, All-cons}
 use denote.Enum.Bare.{same_true}
 use Rattle.hpf_base.specs.declared.limits.TheConstants.{MAX_DEPTH}
 use Rattle.op_tables.specs.Words.{is_reserved}
 use Rattle.syntax_tree.specs.declared.sign.Sign.{Sign}
-use Rattle.syntax_tree.specs.declared.sign.Sign.TheVariants as sign
 use Rattle.syntax_tree.specs.contracts.sign.Sign.{the_type}
 use Rattle.syntax_tree.specs.contracts.sign.SignPartialEq.TheImpl.{eq-value}
 use Rattle.syntax_tree.specs.Lexeme.{Lexeme, Word, Text, Fixed}
@@ -23,7 +22,7 @@ use Rattle.line_forms.specs.Marks.{same, starts, comma, colon, colons}
 use Rattle.line_forms.specs.Reading.{Reading, Found, Stopped, ◌>>=◌}
 use Rattle.line_forms.specs.Grammar.{Grammar, Value, Shown, Characters, Nothing, Identifier, Expr, Item, Subscript, Prefixed, Suffixed, Sequence, Optional, Choice, Skipped, CommaList, Header, OptionalToEnd}
 use Rattle.line_forms.specs.Printed.{with_commas, behind_comma, printed, IfFormed, Some_and_all, IsWell, value_kept}
-use Rattle.line_forms.specs.DeepFront.{is_too_deep, preceded, front_or, list_front, expr_front, maybe_front, mask_front, deep_front, IsTooDeep}
+use Rattle.line_forms.specs.DeepFront.{is_too_deep, preceded, front_or, expr_front, maybe_front, mask_front, deep_front, IsTooDeep}
 use Rattle.line_forms.specs.Read.{after, name, within_depth, expr, if_there, optional_expr, item, step, triplet, stepped, one, part_from, subscript, is_index, index_next, comma_list, mask, read}
 use Rattle.line_forms.specs.InFront.{On, Holds, IsInFront}
 
@@ -259,6 +258,7 @@ wrapped_sound ks g g' depths w ts us is r h =
       parts = is ∙ ap (λ l. ks ++ l) a.parts ∙ sym (append_assoc ks (printed g a.written) v.1) ∙ ap (λ l. l ++ v.1) (sym (w.text a.written));
     })
     (wrapped_deep ks g g' depths w ts us is)
+
 module _ (depths : Depths) where
   abbrev prefixed : (ks : List Lexeme) (g : Grammar) → Wraps ks g (Prefixed ks g) depths
   prefixed ks g = record { wrap = λ v. v; keeps = λ v. refl; well = λ v w. w; front = λ v. refl; text = λ v. refl }

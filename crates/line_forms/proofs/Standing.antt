@@ -1,9 +1,8 @@
 -- A well-formed part in front: whole, or up to and with its first expression that is too deep.
-use Rattle.std.proofs.Common.{◌≡◌, ◌&&◌, Bool, true, false, List, [], ◌∷◌, ◌++◌, Option, Some, None, ◌⊎◌, inl, inr, ⊎_elim, refl, sym, ap, ◌∙◌, subst, append_assoc}
+use Rattle.std.proofs.Common.{◌≡◌, Bool, true, false, List, ◌++◌, Option, Some, None, ◌⊎◌, inl, inr, ⊎_elim, refl, sym, ap, ◌∙◌, subst, append_assoc}
 use Rattle.std.specs.Prelude.{if◌then◌else◌}
 use Rattle.syntax_tree.specs.Lexeme.{Lexeme}
 use Rattle.line_forms.specs.declared.depths.Depths.{Depths}
-use Rattle.line_forms.specs.declared.depths.Depths.TheVariants.{Any}
 use Rattle.line_forms.specs.declared.read_error.ReadError.TheVariants.{TooDeep}
 use Rattle.line_forms.specs.Reading.{Reading, Found, Stopped, ◌>>=◌}
 use Rattle.line_forms.specs.Grammar.{Grammar, Value}

@@ -1,11 +1,10 @@
 -- A part of a line begins as it may.
 use Rattle.std.proofs.Common.{◌≡◌, ◌&&◌, Bool, true, false, List, [], ◌∷◌, ◌++◌, Option, Some, None, inl, inr, refl, sym, ap, ◌∙◌, subst, append_assoc}
-use Rattle.std.specs.Prelude.{if◌then◌else◌, map, not, All}
+use Rattle.std.specs.Prelude.{map, not}
 use Rattle.std.specs.List.{list_all}
-use Rattle.std.proofs.lemmas.List.Elements.{All-head, All-tail}
 use Rattle.syntax_tree.specs.Lexeme.{Lexeme, Word}
-use Rattle.syntax_tree.specs.Expression.{Expression, Part, One, Range, Glued, Maybe, Absent, Present}
-use Rattle.syntax_tree.specs.Spelling.{spelling, part_spelling, maybe_spelling, step_spelling, IsFormed, IsMaybe}
+use Rattle.syntax_tree.specs.Expression.{Expression, One, Range, Glued, Maybe, Absent, Present}
+use Rattle.syntax_tree.specs.Spelling.{spelling, maybe_spelling, step_spelling, IsFormed, IsMaybe}
 use Rattle.line_forms.specs.declared.depths.Depths.{Depths}
 use Rattle.line_forms.specs.declared.read_error.ReadError.TheVariants.{TooDeep}
 use Rattle.line_forms.specs.Marks.{starts, comma, colon, colons, equals}

@@ -1,6 +1,8 @@
 -- What the functions of the code gave.
-use Rattle.std.specs.Prelude.{◌≡◌, ◌≢◌, suc, Bool, false, true, List, ◌++◌, length, Option, Some, None, Result, Ok, Err}
+use Rattle.std.specs.Prelude.{◌≡◌, ◌≢◌, suc, Bool, List, ◌++◌, length, Result, Ok, Err}
 use Rattle.syntax_tree.specs.Lexeme.{Lexeme}
+use Rattle.line_forms.specs.declared.lists.ListKind.{ListKind}
+use Rattle.line_forms.specs.declared.lists.ListKind.TheVariants.{Plain, Indices}
 use Rattle.line_forms.specs.declared.read_error.ReadError.{ReadError}
 use Rattle.line_forms.specs.declared.read_error.ReadError.TheVariants.{Memory}
 use Rattle.line_forms.specs.Reading.{Reading, Found, Stopped}
@@ -18,10 +20,10 @@ with_front front (Found x) = Found (front ++ x.0, x.1)
 with_front front (Stopped why) = Stopped why
 
 -- a list goes on behind an element: with a comma, and where its elements are indices with a comma and an index
-abbrev pub goes_on : Bool → List Lexeme → Bool
-goes_on true ts = index_next ts
-goes_on false ts = starts comma ts
+abbrev pub goes_on : ListKind → List Lexeme → Bool
+goes_on Plain ts = starts comma ts
+goes_on Indices ts = index_next ts
 
 -- the elements in front
-abbrev pub elements : {A : Type 0} → Bool → (List Lexeme → Reading A) → List Lexeme → Reading (List A)
-elements indices part ts = comma_list (goes_on indices) part (suc (length ts)) ts
+abbrev pub elements : {A : Type 0} → ListKind → (List Lexeme → Reading A) → List Lexeme → Reading (List A)
+elements kind part ts = comma_list (goes_on kind) part (suc (length ts)) ts

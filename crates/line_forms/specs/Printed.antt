@@ -1,5 +1,5 @@
 -- What spells the parts of a line, and which are well formed.
-use Rattle.std.specs.Prelude.{◌≡◌, Bool, true, false, List, [], ◌∷◌, ◌++◌, map, All, Option, Some, None, option_map}
+use Rattle.std.specs.Prelude.{◌≡◌, true, false, List, [], ◌∷◌, ◌++◌, map, All, Option, Some, None, option_map}
 use Rattle.std.proofs.Common.{inl, inr}
 use Rattle.op_tables.specs.Words.{is_reserved}
 use Rattle.syntax_tree.specs.Lexeme.{Lexeme, Word, Text}

@@ -1,5 +1,5 @@
 -- Reading the parts of a line from left to right, as functions on lists of lexemes.
-use Rattle.std.specs.Prelude.{ℕ, zero, suc, Bool, true, false, ◌&&◌, List, [], ◌∷◌, length, drop, Option, Some, None, if◌then◌else◌}
+use Rattle.std.specs.Prelude.{ℕ, zero, suc, Bool, false, ◌&&◌, List, [], ◌∷◌, length, drop, Option, Some, None, if◌then◌else◌}
 use Rattle.std.proofs.Common.{inl, inr}
 use Rattle.op_tables.specs.Words.{is_reserved}
 use Rattle.syntax_tree.specs.Lexeme.{Lexeme, Word, Text}

@@ -4,8 +4,8 @@ ghost use Rattle.line_forms.specs.Parts.{bound, bound_of};
 
 use crate::depths::Depths;
 use crate::lists::Element;
-use crate::read_error::ReadError;
 use crate::parts::expr;
+use crate::read_error::ReadError;
 use crate::signs::{behind, is_sign};
 use source_lines::Token;
 use std::alloc::Global;
@@ -21,7 +21,11 @@ impl Element for Bounds {
 
     ghost view = { bound_of };
 
-    fn read(alloc: Global, depths: Depths, tokens: &[Token]) -> Result<(Bound, &[Token]), ReadError> {
+    fn read(
+        alloc: Global,
+        depths: Depths,
+        tokens: &[Token],
+    ) -> Result<(Bound, &[Token]), ReadError> {
         let (first, rest) = expr(alloc, depths, tokens)?;
         if !is_sign(rest, Sign::Colon) {
             let (lower, upper) = (None, first);

@@ -8,8 +8,8 @@ ghost use Rattle.syntax_tree.specs.Lexeme.{lexemes};
 
 use crate::depths::Depths;
 use crate::lists::Element;
-use crate::read_error::ReadError;
 use crate::parts::expr;
+use crate::read_error::ReadError;
 use source_lines::{Bytes, Token, TokenKind};
 use std::alloc::Global;
 use syntax_tree::Item;
@@ -24,7 +24,11 @@ impl Element for ListedItems {
 
     ghost view = { output_of };
 
-    fn read(alloc: Global, depths: Depths, tokens: &[Token]) -> Result<(Item, &[Token]), ReadError> {
+    fn read(
+        alloc: Global,
+        depths: Depths,
+        tokens: &[Token],
+    ) -> Result<(Item, &[Token]), ReadError> {
         item(alloc, depths, tokens)
     }
 }

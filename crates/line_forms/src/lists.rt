@@ -9,12 +9,21 @@ ghost use Rattle.line_forms.specs.Parts.{enclosed, optional_enclosed};
 ghost use Rattle.line_forms.specs.Gives.{Gives, elements, goes_on};
 
 use crate::depths::Depths;
-use crate::read_error::ReadError;
 use crate::parts::expr;
+use crate::read_error::ReadError;
 use crate::signs::{after_sign, behind, is_sign};
 use source_lines::{Token, TokenKind};
 use std::alloc::Global;
 use syntax_tree::{Expr, Sign};
+
+/// What the elements of a list are.
+#[derive(Clone, Copy, Debug, PartialEq, Eq)]
+enum ListKind {
+    /// Any: a comma goes on with the list.
+    Plain,
+    /// Indices, each a name with `=` behind it: only a comma with an index behind it goes on with the list.
+    Indices,
+}
 
 /// What stands between the commas of a list.
 pub trait Element {
@@ -28,7 +37,11 @@ pub trait Element {
     ghost view: { Self.Part → Value grammar };
 
     /// The one in front, and the tokens behind it.
-    fn read(alloc: Global, depths: Depths, tokens: &[Token]) -> Result<(Self::Part, &[Token]), ReadError>
+    fn read(
+        alloc: Global,
+        depths: Depths,
+        tokens: &[Token],
+    ) -> Result<(Self::Part, &[Token]), ReadError>
         ensures { Gives (λ x. (view x.0, lexemes x.1.now)) result (read depths grammar (lexemes tokens.now)) };
 }
 
@@ -40,7 +53,7 @@ pub fn comma_list<T: Element>(
 ) -> Result<(Vec<T::Part>, &[Token]), ReadError>
     ensures { Gives (λ x. (map T.view x.0.items, lexemes x.1.now)) result (read depths (CommaList T.grammar) (lexemes tokens.now)) }
 {
-    elements::<T>(alloc, depths, false, tokens)
+    elements::<T>(alloc, depths, ListKind::Plain, tokens)
 }
 
 /// The indices in front with the expression that may stand behind them and a comma, and the tokens behind these.
@@ -51,13 +64,17 @@ pub fn header<T: Element>(
 ) -> Result<((Vec<T::Part>, Option<Expr>), &[Token]), ReadError>
     ensures { Gives (λ x. ((map T.view x.0.0.items, option_map expression x.0.1), lexemes x.1.now)) result (read depths (Header T.grammar) (lexemes tokens.now)) }
 {
-    let (indices, rest) = elements::<T>(alloc, depths, true, tokens)?;
+    let (indices, rest) = elements::<T>(alloc, depths, ListKind::Indices, tokens)?;
     let (mask, rest) = mask(alloc, depths, rest)?;
     Ok(((indices, mask), rest))
 }
 
 /// The expression behind a comma, if one stands in front, and the tokens behind it.
-fn mask(alloc: Global, depths: Depths, tokens: &[Token]) -> Result<(Option<Expr>, &[Token]), ReadError>
+fn mask(
+    alloc: Global,
+    depths: Depths,
+    tokens: &[Token],
+) -> Result<(Option<Expr>, &[Token]), ReadError>
     ensures { Gives (λ x. (option_map expression x.0, lexemes x.1.now)) result (mask depths (lexemes tokens.now)) }
 {
     if !is_sign(tokens, Sign::Comma) {
@@ -67,22 +84,21 @@ fn mask(alloc: Global, depths: Depths, tokens: &[Token]) -> Result<(Option<Expr>
     Ok((Some(tree), rest))
 }
 
-/// The elements in front, and the tokens behind them. A comma goes on with the list, and where the elements are indices
-/// one that has an index behind it.
+/// The elements in front, and the tokens behind them.
 fn elements<T: Element>(
     alloc: Global,
     depths: Depths,
-    indices: bool,
+    kind: ListKind,
     tokens: &[Token],
 ) -> Result<(Vec<T::Part>, &[Token]), ReadError>
-    ensures { Gives (λ x. (map T.view x.0.items, lexemes x.1.now)) result (elements indices (read depths T.grammar) (lexemes tokens.now)) }
+    ensures { Gives (λ x. (map T.view x.0.items, lexemes x.1.now)) result (elements kind (read depths T.grammar) (lexemes tokens.now)) }
 {
     let mut elements = Vec::new(alloc);
     let mut rest = tokens;
     'elements: loop {
         let (element, behind_it) = T::read(alloc, depths, rest)?;
         elements.push(element)?;
-        if !goes_on(behind_it, indices) {
+        if !goes_on(behind_it, kind) {
             return Ok((elements, behind_it));
         }
         rest = behind(behind_it, 1);
@@ -90,15 +106,13 @@ fn elements<T: Element>(
 }
 
 /// Whether a list goes on behind an element.
-fn goes_on(tokens: &[Token], indices: bool) -> bool
+fn goes_on(tokens: &[Token], kind: ListKind) -> bool
     ensures within { IsTrue result → 1 ≤ length tokens.now }
-    ensures value { result ≡ goes_on indices (lexemes tokens.now) }
+    ensures value { result ≡ goes_on kind (lexemes tokens.now) }
 {
-    let comma = is_sign(tokens, Sign::Comma);
-    if indices {
-        comma && is_index(behind(tokens, 1))
-    } else {
-        comma
+    match kind {
+        ListKind::Plain => is_sign(tokens, Sign::Comma),
+        ListKind::Indices => is_sign(tokens, Sign::Comma) && is_index(behind(tokens, 1)),
     }
 }
 

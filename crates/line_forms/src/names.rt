@@ -4,8 +4,8 @@ ghost use Rattle.line_forms.specs.Grammar.{Identifier};
 
 use crate::depths::Depths;
 use crate::lists::Element;
-use crate::read_error::ReadError;
 use crate::parts::name;
+use crate::read_error::ReadError;
 use hpf_base::Name;
 use source_lines::Token;
 use std::alloc::Global;
@@ -20,7 +20,11 @@ impl Element for ListedNames {
 
     ghost view = { λ n. n };
 
-    fn read(_alloc: Global, _depths: Depths, tokens: &[Token]) -> Result<(Name, &[Token]), ReadError> {
+    fn read(
+        _alloc: Global,
+        _depths: Depths,
+        tokens: &[Token],
+    ) -> Result<(Name, &[Token]), ReadError> {
         name(tokens)
     }
 }

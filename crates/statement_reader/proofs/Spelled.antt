@@ -1,12 +1,11 @@
 -- What spells a statement is read as it, and what is read is spelled so; the same of a line that is too deep.
-use Rattle.std.proofs.Common.{◌≡◌, Bool, true, false, List, [], ◌∷◌, ◌++◌, drop, Option, Some, None, ◌⊎◌, inl, inr, ⊎_elim, refl, sym, ap, ◌∙◌, subst, append-nil, append_assoc}
+use Rattle.std.proofs.Common.{◌≡◌, Bool, true, false, List, [], ◌∷◌, ◌++◌, drop, Option, Some, None, ⊎_elim, refl, sym, ap, ◌∙◌, subst, append-nil, append_assoc}
 use Rattle.std.specs.Prelude.{codes, if◌then◌else◌}
 use Rattle.syntax_tree.specs.Lexeme.{Lexeme}
 use Rattle.syntax_tree.specs.Expression.{Expression, kept}
 use Rattle.syntax_tree.specs.Spelling.{IsFormed}
 use Rattle.line_forms.specs.declared.depths.Depths.{Depths}
 use Rattle.line_forms.specs.declared.depths.Depths.TheVariants.{Limited, Any}
-use Rattle.line_forms.specs.declared.read_error.ReadError.{ReadError}
 use Rattle.line_forms.specs.declared.read_error.ReadError.TheVariants as read_error
 use Rattle.line_forms.specs.InFront.{On, IsInFront}
 use Rattle.line_forms.specs.Marks.{starts, key}

@@ -1,5 +1,5 @@
 -- What a line is answered with.
-use Rattle.std.proofs.Common.{◌≡◌, ◌≤◌, ℕ, Bool, true, false, ◌&&◌, List, [], ◌∷◌, ◌++◌, map, Option, Some, None, ◌⊎◌, inl, inr, refl, sym, ap, ◌∙◌, subst, arith}
+use Rattle.std.proofs.Common.{◌≡◌, ◌≤◌, ℕ, Bool, true, false, List, [], ◌∷◌, ◌++◌, map, Option, Some, None, inr, refl, sym, ap, ◌∙◌, arith}
 use Rattle.std.specs.Prelude.{◌||◌, is_some}
 use Rattle.std.specs.List.{list_any}
 use Rattle.hpf_base.specs.declared.refusal.Reason.{Reason}
@@ -19,8 +19,8 @@ use Rattle.line_forms.specs.DeepFront.{deep_front}
 use Rattle.line_forms.proofs.Shallow.{any_shallow}
 use Rattle.line_forms.proofs.Fronts.{front_printed, front_parted}
 use Rattle.line_forms.proofs.Complete.{whole as read_whole}
-use Rattle.statement_reader.specs.Forms.{entity, constants, dimension_key, loose_constants, grammar, if_head, Form, Plain, IfOne, form_printed, form_kept, form_front, IsForm}
-use Rattle.statement_reader.specs.Breaches.{IsSpelled, IsTooDeep, IsNone, IsStatementBreach, IsBreachOn, IsStatement}
+use Rattle.statement_reader.specs.Forms.{entity, constants, dimension_key, loose_constants, grammar, if_head, Form, Plain, IfOne, form_printed, form_front}
+use Rattle.statement_reader.specs.Breaches.{IsSpelled, IsTooDeep, IsStatementBreach, IsBreachOn, IsStatement}
 use Rattle.statement_reader.specs.Gives.{Tells}
 use Rattle.statement_reader.specs.LeftOut.{IsConstantArray, IsLeftOut}
 use Rattle.statement_reader.specs.Reading.{ended, has_bounds, constant_array, statement}

@@ -1,5 +1,5 @@
 -- Which lines are statements, and what is wrong with the others.
-use Rattle.std.specs.Prelude.{◌≡◌, ℕ, List, ◌++◌, Option, Some, None}
+use Rattle.std.specs.Prelude.{◌≡◌, ℕ, List, ◌++◌, Some, None}
 use Rattle.hpf_base.specs.declared.refusal.Reason.{Reason}
 use Rattle.hpf_base.specs.declared.refusal.Reason.TheVariants.{NotAStatement, Limit, LeftOut}
 use Rattle.syntax_tree.specs.Lexeme.{Lexeme}

@@ -12,7 +12,8 @@ ghost use Rattle.statement_reader.specs.Views.{declaration_of};
 
 use crate::lists::{ConstantEntities, Entities, PlainEntities};
 use line_forms::{
-    Bounds, Depths, Element, ReadError, after_sign, attribute, behind, comma_list, enclosed, is_sign,
+    Bounds, Depths, Element, ReadError, after_sign, attribute, behind, comma_list, enclosed,
+    is_sign,
 };
 use source_lines::Token;
 use std::alloc::Global;
@@ -26,42 +27,57 @@ pub(crate) fn declaration(
     ensures { Gives (λ x. (declaration_of x.0, lexemes x.1.now)) result (read Limited declaration (lexemes tokens.now)) }
 {
     if attribute(tokens, b"PARAMETER") {
-        let ((dims, entities), rest) =
-            constants::<ConstantEntities>(alloc, Depths::Limited, behind(tokens, 2))?;
-        return Ok((IntegerDecl {
-            constant: true,
-            dims,
-            colons: true,
-            entities,
-        }, rest));
+        let ((dims, entities), rest) = constants::<ConstantEntities>(
+            alloc,
+            Depths::Limited,
+            behind(tokens, 2),
+        )?;
+        return Ok((
+            IntegerDecl {
+                constant: true,
+                dims,
+                colons: true,
+                entities,
+            },
+            rest,
+        ));
     }
     if attribute(tokens, b"DIMENSION") {
         let (bounds, rest) = enclosed::<Bounds>(alloc, Depths::Limited, behind(tokens, 2))?;
         let rest = after_sign(rest, Sign::Colons)?;
         let (entities, rest) = comma_list::<Entities>(alloc, Depths::Limited, rest)?;
-        return Ok((IntegerDecl {
-            constant: false,
-            dims: Some(bounds),
-            colons: true,
-            entities,
-        }, rest));
+        return Ok((
+            IntegerDecl {
+                constant: false,
+                dims: Some(bounds),
+                colons: true,
+                entities,
+            },
+            rest,
+        ));
     }
     if is_sign(tokens, Sign::Colons) {
         let (entities, rest) = comma_list::<Entities>(alloc, Depths::Limited, behind(tokens, 1))?;
-        return Ok((IntegerDecl {
-            constant: false,
-            dims: None,
-            colons: true,
-            entities,
-        }, rest));
+        return Ok((
+            IntegerDecl {
+                constant: false,
+                dims: None,
+                colons: true,
+                entities,
+            },
+            rest,
+        ));
     }
     let (entities, rest) = comma_list::<PlainEntities>(alloc, Depths::Limited, tokens)?;
-    Ok((IntegerDecl {
+    Ok((
+        IntegerDecl {
             constant: false,
             dims: None,
             colons: false,
             entities,
-        }, rest))
+        },
+        rest,
+    ))
 }
 
 /// What stands behind PARAMETER: the bounds of DIMENSION, if it is there, and the entities behind `::`.

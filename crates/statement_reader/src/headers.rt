@@ -19,10 +19,7 @@ use std::alloc::Global;
 use syntax_tree::{Expr, Sign};
 
 /// The index of a DO and the values that it takes.
-pub(crate) fn do_head(
-    alloc: Global,
-    tokens: &[Token],
-) -> Result<(DoHead, &[Token]), ReadError>
+pub(crate) fn do_head(alloc: Global, tokens: &[Token]) -> Result<(DoHead, &[Token]), ReadError>
     ensures { Gives (λ x. (do_of x.0, lexemes x.1.now)) result (read Limited do_head (lexemes tokens.now)) }
 {
     match name(tokens) {

@@ -12,8 +12,8 @@ ghost use Rattle.line_forms.specs.Gives.{Gives};
 
 use crate::parts::{optional_behind, values};
 use line_forms::{
-    Bounds, Depths, Element, ListedItems, ReadError, after_sign, behind, expr, is_sign, name,
-    optional_enclosed, comma_list,
+    Bounds, Depths, Element, ListedItems, ReadError, after_sign, behind, comma_list, expr, is_sign,
+    name, optional_enclosed,
 };
 use source_lines::Token;
 use std::alloc::Global;
@@ -29,7 +29,11 @@ impl Element for Entities {
 
     ghost view = { entity_of };
 
-    fn read(alloc: Global, depths: Depths, tokens: &[Token]) -> Result<(Entity, &[Token]), ReadError> {
+    fn read(
+        alloc: Global,
+        depths: Depths,
+        tokens: &[Token],
+    ) -> Result<(Entity, &[Token]), ReadError> {
         match name(tokens) {
             Ok((name, rest)) => {
                 let (dims, rest) = optional_enclosed::<Bounds>(alloc, depths, rest)?;
@@ -69,11 +73,7 @@ impl Element for ConstantEntities {
 }
 
 /// A value behind `=`.
-fn value(
-    alloc: Global,
-    depths: Depths,
-    tokens: &[Token],
-) -> Result<(Expr, &[Token]), ReadError>
+fn value(alloc: Global, depths: Depths, tokens: &[Token]) -> Result<(Expr, &[Token]), ReadError>
     ensures { Gives (λ x. (expression x.0, lexemes x.1.now)) result (read depths (Prefixed equals OneExpr) (lexemes tokens.now)) }
 {
     let rest = after_sign(tokens, Sign::Equals)?;
@@ -116,7 +116,11 @@ impl Element for Constants {
 
     ghost view = { constant_of };
 
-    fn read(alloc: Global, depths: Depths, tokens: &[Token]) -> Result<(ConstDef, &[Token]), ReadError> {
+    fn read(
+        alloc: Global,
+        depths: Depths,
+        tokens: &[Token],
+    ) -> Result<(ConstDef, &[Token]), ReadError> {
         match name(tokens) {
             Ok((name, rest)) => {
                 let rest = after_sign(rest, Sign::Equals)?;
@@ -138,7 +142,11 @@ impl Element for Axes {
 
     ghost view = { axis_of };
 
-    fn read(alloc: Global, depths: Depths, tokens: &[Token]) -> Result<(Header, &[Token]), ReadError> {
+    fn read(
+        alloc: Global,
+        depths: Depths,
+        tokens: &[Token],
+    ) -> Result<(Header, &[Token]), ReadError> {
         match name(tokens) {
             Ok((name, rest)) => {
                 let rest = after_sign(rest, Sign::Equals)?;

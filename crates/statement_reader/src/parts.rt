@@ -49,10 +49,7 @@ pub(crate) fn values(
 }
 
 /// An expression in parentheses.
-pub(crate) fn condition(
-    alloc: Global,
-    tokens: &[Token],
-) -> Result<(Expr, &[Token]), ReadError>
+pub(crate) fn condition(alloc: Global, tokens: &[Token]) -> Result<(Expr, &[Token]), ReadError>
     ensures { Gives (λ x. (expression x.0, lexemes x.1.now)) result (read Limited condition (lexemes tokens.now)) }
 {
     let rest = after_sign(tokens, Sign::Open)?;

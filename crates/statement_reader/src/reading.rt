@@ -13,12 +13,12 @@ ghost use Rattle.statement_reader.specs.Views.{action_of, form_of};
 
 use crate::first_words::statement_kind;
 use crate::kind::Kind;
+use crate::parts::condition;
+use crate::statement::{Action, Statement};
 use crate::whole_lines::{
     assign, do_line, else_if, else_if_glued, end, forall_line, integer, parameter, print, program,
     where_line,
 };
-use crate::parts::condition;
-use crate::statement::{Action, Statement};
 use crate::word_lines::{alone, finish, pair};
 use line_forms::{ReadError, after_word, behind, is_word};
 use source_lines::Token;

@@ -1,4 +1,4 @@
-use Rattle.std.proofs.Common.{◌≡◌, Bool, true, List, [], ◌∷◌, map, drop, Some, None, refl, ap, ◌∙◌, sym}
+use Rattle.std.proofs.Common.{◌≡◌, true, List, [], ◌∷◌, map, drop, Some, None, refl, ap, ◌∙◌, sym}
 use Rattle.std.specs.Prelude.{if◌then◌else◌}
 use Rattle.syntax_tree.specs.Lexeme.{Lexeme, lexemes}
 use Rattle.syntax_tree.specs.declared.stmt.Item.{Item}
