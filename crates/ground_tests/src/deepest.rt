@@ -1,7 +1,8 @@
 //! The statements that nest most deeply: 40 lines of 132 bytes, read and let go in the stack of a process.
 
-use hpf_base::{Reason, StaticError};
-use hpf_reader::read_program;
+use hpf_base::OutOfMemory;
+use hpf_ports::{MemSink, MemSource, OpenGate};
+use hpf_run::hpf_top;
 use std::alloc::{AllocError, Global};
 use std::test::Fail;
 
@@ -30,13 +31,13 @@ impl Lines {
     }
 }
 
-/// The reason for which the assignment of 1 between so many openings and closings is refused, at line 1.
-fn reason_of(
+/// What is said on standard error of the assignment of 1 between so many openings and closings.
+fn said_of(
     alloc: Global,
     opening: &str,
     count: usize,
     closing: &str,
-) -> Result<Option<Reason>, AllocError> {
+) -> Result<Vec<u8>, OutOfMemory> {
     let mut lines = Lines {
         text: String::new(alloc),
         column: 0,
@@ -46,10 +47,16 @@ fn reason_of(
     lines.push("1", 1)?;
     lines.push(closing, count)?;
     lines.text.push_str("\nEND\n")?;
-    match read_program(alloc, lines.text.as_bytes()) {
-        Err(StaticError::Refused(refusal)) if refusal.line == 1 => Ok(Some(refusal.reason)),
-        _ => Ok(None),
+    let mut words = Vec::new(alloc);
+    for word in ["run", "--grid", "4"] {
+        words.push(String::from_str(alloc, word)?)?;
     }
+    let bytes = lines.text.as_bytes().to_vec(alloc)?;
+    let mut src = MemSource::new(bytes, 4096, Vec::new(alloc));
+    let mut out = MemSink::new(alloc, 64, 64, Vec::new(alloc))?;
+    let mut err = MemSink::new(alloc, 64, 64, Vec::new(alloc))?;
+    let _ = hpf_top(&(), alloc, &words, &mut src, &mut out, &mut err, &OpenGate);
+    Ok(err.bytes().to_vec(alloc)?)
 }
 
 #[test]
@@ -63,11 +70,8 @@ fn deepest_statements(rt: HostRuntime) -> Result<(), Fail> {
         ("2**", 1710, ""),
         ("1+", 2590, ""),
     ] {
-        assert_eq!(rt;
-            reason_of(rt.alloc(), opening, count, closing)?,
-            Some(Reason::Limit),
-            "of {opening}"
-        );
+        let said = said_of(rt.alloc(), opening, count, closing)?;
+        assert!(rt; said.as_slice() == b"hpf: line 1: refused 10 Limit\n".as_slice());
     }
     Ok(())
 }
@@ -75,11 +79,8 @@ fn deepest_statements(rt: HostRuntime) -> Result<(), Fail> {
 #[test]
 fn deepest_statements_that_are_not_closed(rt: HostRuntime) -> Result<(), Fail> {
     for (opening, count) in [("-A(", 1710), ("(", 5220), ("A(:", 1710)] {
-        assert_eq!(rt;
-            reason_of(rt.alloc(), opening, count, "")?,
-            Some(Reason::NotAStatement),
-            "of {opening}"
-        );
+        let said = said_of(rt.alloc(), opening, count, "")?;
+        assert!(rt; said.as_slice() == b"hpf: line 1: refused 2 NotAStatement\n".as_slice());
     }
     Ok(())
 }
