@@ -11,8 +11,6 @@ mod composition;
 mod laws;
 mod owners;
 mod subscripts;
-#[cfg(test)]
-mod tests;
 
 pub use composition::compose;
 pub use laws::composed_owners;

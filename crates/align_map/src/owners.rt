@@ -55,7 +55,7 @@ fn entry_agrees(grid: &Grid, entry: &MapDim, index: &Index, node: NodeId) -> boo
     match subscript(&entry.align, index) {
         Some(subscript) => {
             let pos = position(&entry.line, subscript);
-            owner(&entry.line, pos) == coordinate(grid, node, entry.grid_dim)
+            owner(&entry.line, pos) == node_coordinate(grid, node, entry.grid_dim)
         }
         None => true,
     }
@@ -85,7 +85,7 @@ fn position(line: &Line, subscript: i128) -> u64
 }
 
 /// The node's coordinate, from 0, in a dimension of the grid, counted from 0.
-fn coordinate(grid: &Grid, node: NodeId, dim: u32) -> u32
+fn node_coordinate(grid: &Grid, node: NodeId, dim: u32) -> u32
     requires node { node.0 < product grid.now }
     requires dim { dim < length grid.now }
     ensures { result ≡ slice_index (node_coordinates grid.now node.0) dim }

@@ -1,5 +1,4 @@
 pub mod Lists
 pub mod Parted
-pub mod Deep
-pub mod Said
+pub mod Kinding
 pub mod Verdicts

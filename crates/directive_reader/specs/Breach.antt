@@ -1,44 +1,47 @@
 -- The directive that a line is, and why it is none.
-use Rattle.std.specs.Prelude.{◌≡◌, ◌≢◌, ℕ, Bool, true, false, ◌||◌, List, [], codes, Option, Some, None, ◌⊎◌}
-use Rattle.std.specs.List.{list_any}
+use Rattle.std.specs.Prelude.{◌≡◌, ◌≢◌, ℕ, Bool, true, false, ◌||◌, List, [], ◌++◌, codes, Option, Some, None}
 use Rattle.hpf_base.specs.declared.refusal.Reason.{Reason}
 use Rattle.hpf_base.specs.declared.refusal.Reason.TheVariants.{BadDirective, Limit, LeftOut}
-use Rattle.syntax_tree.specs.Lexeme.{Lexeme, Word}
-use Rattle.line_forms.specs.declared.miss.Miss.{Miss}
-use Rattle.line_forms.specs.declared.miss.Miss.TheVariants as miss
-use Rattle.line_forms.specs.Marks.{same, starts, key}
+use Rattle.syntax_tree.specs.Lexeme.{Lexeme}
+use Rattle.line_forms.specs.declared.depths.Depths.TheVariants.{Limited}
+use Rattle.line_forms.specs.declared.read_error.ReadError.{ReadError}
+use Rattle.line_forms.specs.declared.read_error.ReadError.TheVariants as read_error
+use Rattle.line_forms.specs.Marks.{starts, key}
 use Rattle.line_forms.specs.Reading.{Reading, Found, Stopped}
-use Rattle.directive_reader.specs.Forms.{Form, IsForm, form_printed, form_kept}
-use Rattle.directive_reader.specs.Reading.{directive}
+use Rattle.line_forms.specs.Shape.{names_shape}
+use Rattle.directive_reader.specs.Forms.{Form, IsForm, form_front, form_printed, form_kept}
 
--- the directive of a well-formed one that is spelled so and has no expression deeper than 200
+-- what a tree keeps of a well-formed directive that spells the line and has no expression deeper than 200
 pub record IsDirective (ts : List Lexeme) (form : Form) : Type 0 where
   pub written : Form
-  pub well : IsForm true written
+  pub well : IsForm written
+  pub shallow : form_front Limited written ≡ None
   pub spelled : form_printed written ≡ ts
   pub same : form_kept written ≡ form
 
--- a well-formed directive is spelled so; `strict` asks for one that has no expression deeper than 200
-abbrev pub IsSpelled : Bool → List Lexeme → Type 0
-IsSpelled strict ts = (written : Form) × IsForm strict written × (form_printed written ≡ ts)
-
-abbrev pub is_shape : Lexeme → Bool
-is_shape l = same (Word (codes "PROCESSORS_SHAPE")) l
+-- a well-formed directive spells the line, its expressions as deep as may be
+abbrev pub IsSpelled : List Lexeme → Type 0
+IsSpelled ts = (written : Form) × IsForm written × (form_printed written ≡ ts)
 
 -- it begins with REALIGN, or names PROCESSORS_SHAPE (HPF 2.0, 7 and 8)
 abbrev pub is_left_out : List Lexeme → Bool
-is_left_out ts = starts (key (codes "REALIGN")) ts || list_any is_shape ts
+is_left_out ts = starts (key (codes "REALIGN")) ts || names_shape ts
 
--- an expression in it is deeper than 200: it is well formed but for that; or it is left out, and, read from left to
--- right as a directive of its kind, comes to such an expression before anything that may not stand there
-abbrev pub IsTooDeep : List Lexeme → Type 0
-IsTooDeep ts = (IsSpelled false ts × (IsSpelled true ts → ⊥)) ⊎ ((is_left_out ts ≡ true) × (directive true ts ≡ Stopped miss.Depth))
+-- a front of the line is that of a well-formed directive up to and with its first expression that is deeper than 200,
+-- whatever stands behind
+pub record IsTooDeep (ts : List Lexeme) : Type 0 where
+  pub written : Form
+  pub well : IsForm written
+  pub front : List Lexeme
+  pub deep : form_front Limited written ≡ Some front
+  pub rest : List Lexeme
+  pub parts : ts ≡ front ++ rest
 
 -- the rules of a directive alone that a line breaks
 abbrev pub IsDirectiveBreach : List Lexeme → Reason → Type 0
 IsDirectiveBreach ts LeftOut = is_left_out ts ≡ true
 IsDirectiveBreach ts Limit = IsTooDeep ts
-IsDirectiveBreach ts BadDirective = (is_left_out ts ≡ false) × (IsSpelled false ts → ⊥)
+IsDirectiveBreach ts BadDirective = (is_left_out ts ≡ false) × (IsSpelled ts → ⊥)
 IsDirectiveBreach ts reason = ⊥
 
 -- those at the number of the line
@@ -46,6 +49,6 @@ abbrev pub IsBreachAt : ℕ → List Lexeme → ℕ → Reason → Type 0
 IsBreachAt line ts n reason = (n ≡ line) × IsDirectiveBreach ts reason
 
 -- what a reading stopped at, if it did; want of memory has no cause in the lexemes
-abbrev pub Lacks : Option Miss → Reading Form → Type 0
-Lacks None r = (form : Form) × (r ≡ Found (form, []))
-Lacks (Some why) r = why ≢ miss.Memory → r ≡ Stopped why
+abbrev pub WhyNotRead : Option ReadError → Reading Form → Type 0
+WhyNotRead None r = (form : Form) × (r ≡ Found (form, []))
+WhyNotRead (Some why) r = why ≢ read_error.Memory → r ≡ Stopped why

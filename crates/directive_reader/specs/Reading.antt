@@ -1,7 +1,8 @@
 -- Reading a directive as the kind that its first lexemes say.
 use Rattle.std.specs.Prelude.{Bool, true, false, ◌&&◌, ◌||◌, not, if◌then◌else◌, List, [], ◌∷◌, drop, Option, Some, None, codes}
 use Rattle.syntax_tree.specs.Lexeme.{Lexeme, Word}
-use Rattle.line_forms.specs.declared.miss.Miss.TheVariants as miss
+use Rattle.line_forms.specs.declared.depths.Depths.{Depths}
+use Rattle.line_forms.specs.declared.read_error.ReadError.TheVariants as read_error
 use Rattle.line_forms.specs.Marks.{starts, key, opening}
 use Rattle.line_forms.specs.Grammar.{Value}
 use Rattle.line_forms.specs.Reading.{Reading, Found, Stopped, ◌>>=◌}
@@ -24,8 +25,8 @@ abbrev pub is_many : List Lexeme → Bool
 is_many ts = starts opening ts || (starts (key (codes "WITH")) ts && not (is_alignee (drop 1 ts)))
 
 -- the kind of the directive that may stand there
-abbrev pub kind_of : List Lexeme → Option Kind
-kind_of ts =
+abbrev pub directive_kind : List Lexeme → Option Kind
+directive_kind ts =
     if starts (key (codes "PROCESSORS")) ts then Some kind.Processors else
     if starts (key (codes "TEMPLATE")) ts then Some kind.Template else
     if starts (key (codes "DYNAMIC")) ts then Some kind.Dynamic else
@@ -35,32 +36,32 @@ kind_of ts =
     if starts (key (codes "INDEPENDENT")) ts then Some kind.Independent else None
 
 -- a directive of the kind in front
-abbrev pub known : Bool → Kind → List Lexeme → Reading Form
-known strict k ts = read strict (grammar k) ts >>= λ v. Found (Known k v.0, v.1)
+abbrev pub known : Depths → Kind → List Lexeme → Reading Form
+known depths k ts = read depths (grammar k) ts >>= λ v. Found (Known k v.0, v.1)
 
-abbrev pub of_kind : Bool → Option Kind → List Lexeme → Reading Form
-of_kind strict None ts = Stopped miss.Form
-of_kind strict (Some k) ts = known strict k ts
+abbrev pub of_kind : Depths → Option Kind → List Lexeme → Reading Form
+of_kind depths None ts = Stopped read_error.Malformed
+of_kind depths (Some k) ts = known depths k ts
 
 -- with nothing left
 abbrev pub ended : Form × List Lexeme → Reading Form
 ended (form, []) = Found (form, [])
-ended (form, t ∷ ts) = Stopped miss.Form
+ended (form, t ∷ ts) = Stopped read_error.Malformed
 
 -- the whole line
-abbrev pub directive : Bool → List Lexeme → Reading Form
-directive strict ts = if is_passed ts then Found (Passed [], []) else (of_kind strict (kind_of ts) ts >>= ended)
+abbrev pub directive : Depths → List Lexeme → Reading Form
+directive depths ts = if is_passed ts then Found (Passed [], []) else (of_kind depths (directive_kind ts) ts >>= ended)
 
 -- the formats of a DISTRIBUTE or REDISTRIBUTE, behind its word
-abbrev pub Dealt : Type 0
-Dealt = (many : Bool) × Value (distribution many)
+abbrev pub DistributionSpec : Type 0
+DistributionSpec = (many : Bool) × Value (distribution many)
 
-abbrev pub dealt : Bool → Bool → List Lexeme → Reading Dealt
-dealt strict many ts = read strict (distribution many) ts >>= λ v. Found ((many, v.0), v.1)
+abbrev pub distribution_spec : Depths → Bool → List Lexeme → Reading DistributionSpec
+distribution_spec depths many ts = read depths (distribution many) ts >>= λ v. Found ((many, v.0), v.1)
 
 -- the alignees and the target of an ALIGN, behind its word
-abbrev pub Laid : Type 0
-Laid = (many : Bool) × Value (alignment many)
+abbrev pub AlignmentSpec : Type 0
+AlignmentSpec = (many : Bool) × Value (alignment many)
 
-abbrev pub laid : Bool → Bool → List Lexeme → Reading Laid
-laid strict many ts = read strict (alignment many) ts >>= λ v. Found ((many, v.0), v.1)
+abbrev pub alignment_spec : Depths → Bool → List Lexeme → Reading AlignmentSpec
+alignment_spec depths many ts = read depths (alignment many) ts >>= λ v. Found ((many, v.0), v.1)

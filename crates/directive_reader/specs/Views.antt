@@ -19,7 +19,7 @@ use Rattle.line_forms.specs.Parts.{bound, bound_of}
 use Rattle.directive_reader.specs.declared.kind.Kind.TheVariants as kind
 use Rattle.directive_reader.specs.declared.directive.DirectiveLine.{DirectiveLine}
 use Rattle.directive_reader.specs.declared.directive.DirectiveLine.TheVariants as line
-use Rattle.directive_reader.specs.Reading.{Dealt, Laid}
+use Rattle.directive_reader.specs.Reading.{DistributionSpec, AlignmentSpec}
 use Rattle.directive_reader.specs.Forms.{arrangement, format, distribution, source, target, alignment, Form, Known, Passed}
 
 -- an arrangement has bounds always, and no initial value
@@ -58,11 +58,11 @@ alignment_of false a = (first_of a.names, (option_map (λ v. map source_of v.ite
 alignment_of true a = (option_map (λ v. map source_of v.items) a.source, (a.target, (option_map (λ v. map target_of v.items) a.subs, a.names)))
 
 -- what stands behind the words DISTRIBUTE and REDISTRIBUTE, and behind ALIGN
-abbrev pub dealt_of : DistSpec → Dealt
-dealt_of d = (d.colons, distribution_of d.colons d)
+abbrev pub distribution_spec_of : DistSpec → DistributionSpec
+distribution_spec_of d = (d.colons, distribution_of d.colons d)
 
-abbrev pub laid_of : AlignSpec → Laid
-laid_of a = (a.colons, alignment_of a.colons a)
+abbrev pub alignment_spec_of : AlignSpec → AlignmentSpec
+alignment_spec_of a = (a.colons, alignment_of a.colons a)
 
 -- a list that may be left out
 abbrev pub names_in : List (List ℕ) → Option (List (List ℕ))

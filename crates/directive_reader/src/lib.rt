@@ -11,15 +11,15 @@
 #![tactic(auto)]
 
 mod directive;
-mod heads;
+mod elements;
+mod first_words;
 mod kind;
 mod laws;
-mod lines;
-mod mapping;
-mod reading;
+mod read;
 mod refusal;
+mod specifications;
 
 pub use directive::DirectiveLine;
 pub use kind::Kind;
 pub use laws::one_directive;
-pub use reading::read_directive;
+pub use read::read_directive;

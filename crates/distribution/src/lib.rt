@@ -8,8 +8,6 @@
 
 mod counts;
 mod owners;
-#[cfg(test)]
-mod tests;
 
 pub use counts::{owned_count, rank};
 pub use owners::owner;

@@ -1,6 +1,6 @@
 -- What is spelled is read: expressions by what they begin with, and by their operators.
 use Rattle.std.proofs.Common.{◌≡◌, ◌≤◌, ◌<◌, ℕ, ℤ, suc, ◌+◌, List, [], ◌∷◌, ◌++◌, length, length-append, length-drop, drop, Option, Some, None, Bool, true, false, refl, sym, ap, ◌∙◌, subst, arith, rules, tests, append_assoc}
-use Rattle.std.specs.Prelude.{◌&&◌, ◌||◌, is_some, nat_le, if◌then◌else◌}
+use Rattle.std.specs.Prelude.{◌&&◌, ◌||◌, is_some, max, nat_le, if◌then◌else◌}
 use Rattle.op_tables.specs.declared.op.Op.{Op}
 use Rattle.op_tables.specs.declared.op.Op.TheVariants as op
 use Rattle.op_tables.specs.Words.{is_reserved, code_in, statement_words, left_out_words, intrinsic_words}
@@ -8,7 +8,7 @@ use Rattle.syntax_tree.specs.declared.sign.Sign.TheVariants as sign
 use Rattle.syntax_tree.specs.Lexeme.{Lexeme, Word, Integer, Fixed, sign_of}
 use Rattle.syntax_tree.specs.Operators.{procedure_at, binary_of, unary_of, operator_lexeme, level, left_place, right_place, intrinsic, intrinsic_word}
 use Rattle.syntax_tree.specs.Expression.{Expression, Number, Truth, Name, Element, Call, Unary, Binary, Closed, Glued, Parts}
-use Rattle.syntax_tree.specs.Spelling.{binds, spelling, parts_spelling}
+use Rattle.syntax_tree.specs.Spelling.{binds, spelling, parts_spelling, depth}
 use Rattle.expr_reader.specs.Reading.{◌>>=◌, Readers, is_open, is_close, name_with, name_at, arguments_at, call_at, unary_at, operand_at, joined_at, goes_with, more_with, reading, on}
 use Rattle.expr_reader.specs.Spelled.{Spelled, Ifs}
 use Rattle.expr_reader.proofs.Equations.{core_reading, reading_at_end}
@@ -78,6 +78,10 @@ stops (t ∷ ts) k e n h = ap (λ c. c.more k e n) (core_reading Glued t ts) ∙
     none None h = refl
     none (Some o) h = if_false _ (Some o) None (one_false _ _ (test_of_lt k (level o) h))
 
+pub has_depth : (e : Expression) → 1 ≤ depth e
+has_depth (Number n) = omega arith
+has_depth e = omega arith
+
 -- where the reading of an expression's lexemes comes to, with more lexemes behind them
 pub record Comes (e : Expression) (us : List Lexeme) : Type 0 where
   pub tree : Expression
@@ -86,6 +90,7 @@ pub record Comes (e : Expression) (us : List Lexeme) : Type 0 where
   pub short : length rest ≤ length us
   pub reads : (k : ℕ) → k ≤ binds e → (reading Glued (spelling e ++ us)).core.expr k ≡ Some ((reading Glued rest).core.more k tree (length (spelling tree)))
   pub exact : Stops (inner e) us → (tree ≡ e) × (rest ≡ us)
+  pub deep : depth e ≤ depth tree
 
 -- what is read of an expression's lexemes, with more lexemes behind them
 pub record Finds (k : ℕ) (e : Expression) (us : List Lexeme) : Type 0 where
@@ -94,6 +99,7 @@ pub record Finds (k : ℕ) (e : Expression) (us : List Lexeme) : Type 0 where
   pub spelled : Spelled k (spelling e ++ us) found
   pub long : length (spelling e) ≤ found.1
   pub exact : Stops (inner e) us → Stops k us → found ≡ (e, length (spelling e))
+  pub deep : depth e ≤ depth found.0
 
 pub finds : (k : ℕ) (e : Expression) (us : List Lexeme) → k ≤ 9 → k ≤ binds e → Comes e us → Finds k e us
 finds k e us few le c =
@@ -106,6 +112,7 @@ finds k e us few le c =
       spelled = subst (λ o. Ifs o (Spelled k (spelling e ++ us))) is ((sound (spelling e ++ us)).expr k few);
       long = let g = (sound c.rest).grows k c.tree (length (spelling c.tree)) in omega (arith, g, lengths, c.short);
       exact = λ h g. let e = c.exact h in (λ i. (reading Glued (e.1 i)).core.more k (e.0 i) (length (spelling (e.0 i)))) ∙ stops us k _ _ g;
+      deep = let d = (sound c.rest).deepens k c.tree (length (spelling c.tree)) in omega (arith, d, c.deep);
     }
 
 -- the same, for an expression whose first lexeme begins its last operand
@@ -117,6 +124,7 @@ pub record Starts (e : Expression) (us : List Lexeme) : Type 0 where
   pub reads : (k : ℕ) → k ≤ binds e → operand_at (on Glued behind) k first ≡ Some operand
   pub long : length (spelling e) ≤ operand.1 + 1
   pub exact : Stops (inner e) us → operand.0 ≡ e
+  pub deep : depth e ≤ depth operand.0
 
 pub comes_from : (e : Expression) (us : List Lexeme) → Starts e us → Comes e us
 comes_from e us s =
@@ -140,6 +148,7 @@ comes_from e us s =
           let t = s.exact h in
           let same' : spelling x.0 ++ us ≡ spelling x.0 ++ drop x.1 s.behind = ap (λ t. spelling t ++ us) t ∙ same in
           (t, sym (sym (drop_taken (spelling x.0) us (x.1 + 1) count) ∙ ap (drop (x.1 + 1)) same' ∙ drop_taken (spelling x.0) (drop x.1 s.behind) (x.1 + 1) count));
+      deep = s.deep;
     }
 
 -- the operator or delimiter at the front
@@ -159,6 +168,7 @@ starts_number n us = record {
   reads = λ k le. refl;
   long = omega arith;
   exact = λ h. refl;
+  deep = omega arith;
 }
 
 pub starts_truth : (b : Bool) (us : List Lexeme) → Starts (Truth b) us
@@ -170,6 +180,7 @@ starts_truth true us = record {
   reads = λ k le. refl;
   long = omega arith;
   exact = λ h. refl;
+  deep = omega arith;
 }
 starts_truth false us = record {
   first = Fixed sign.False;
@@ -179,6 +190,7 @@ starts_truth false us = record {
   reads = λ k le. refl;
   long = omega arith;
   exact = λ h. refl;
+  deep = omega arith;
 }
 
 not_opened : (us : List Lexeme) → Stops 9 us → is_open (on Glued us 0).core.head ≡ false
@@ -194,6 +206,7 @@ starts_name x us free = record {
   reads = λ k le. if_false (is_reserved x) (call_at (on Glued us) (intrinsic x)) (Some (name_at (on Glued us) x)) free;
   long = omega arith;
   exact = λ h. ap (λ r. r.0) (if_false _ (name_with x (on Glued us 1).list) (Name x, 0) (not_opened us h));
+  deep = has_depth (name_at (on Glued us) x).0;
 }
 
 pub starts_element : (x : List ℕ) (ps : Parts) (us : List Lexeme) → is_reserved x ≡ false → (reading Glued (parts_spelling ps ++ us)).list ≡ Some (ps, length (parts_spelling ps)) → Starts (Element x ps) us
@@ -208,6 +221,7 @@ starts_element x ps us free h =
       reads = λ k le. if_false (is_reserved x) (call_at (on Glued vs) (intrinsic x)) (Some (name_at (on Glued vs) x)) free ∙ ap Some named;
       long = omega arith;
       exact = λ h. refl;
+      deep = omega arith;
     }
 
 -- a word that names an intrinsic procedure is no name
@@ -236,6 +250,7 @@ starts_call o ps us named h =
           ∙ ap (λ a. a >>= λ ps. Some (Call o ps.0, ps.1 + 1)) h;
       long = omega arith;
       exact = λ h. refl;
+      deep = omega arith;
     }
 
 pub starts_closed : (a : Expression) (us : List Lexeme) → ((us : List Lexeme) → Finds 0 a us) → Starts (Closed a) us
@@ -253,6 +268,7 @@ starts_closed a us find =
       reads = λ k le. ap (λ o. o >>= λ e. if is_close (on Glued vs e.1).core.head then Some (Closed e.0, e.1 + 1) else None) found ∙ if_true _ (Some (Closed a, length (spelling a) + 1)) None head;
       long = omega (arith, length-append (spelling a) (Fixed sign.Close ∷ []));
       exact = λ h. refl;
+      deep = omega arith;
     }
 
 operand_unary : (f : ℕ → Readers) (k : ℕ) (o : Op) → unary_of (operator_lexeme o) ≡ Some o → operand_at f k (operator_lexeme o) ≡ unary_at f k (Some o)
@@ -275,6 +291,7 @@ starts_unary o a us is le find =
           ∙ if_true _ ((on Glued vs 0).core.expr (level o + 1) >>= λ a. Some (Unary o a.0, a.1)) None (test_of_le k (level o) low)
           ∙ ap (λ r. r >>= λ a. Some (Unary o a.0, a.1)) f.reads;
       long = omega (arith, f.long);
+      deep = omega (arith, f.deep);
       exact = λ h. ap (λ x. Unary o x.0) (f.exact (stops_more (level o + 1) (inner a) us (omega (arith, inner_binds a)) h) h);
     }
 
@@ -314,4 +331,5 @@ comes_binary o a b us is left right come f =
       exact = λ h.
           let e = f.exact (stops_more (right_place o) (inner b) us (omega (arith, inner_binds b)) h) h in
           (ap (λ x. Binary o a x.0) e, ap (λ x. drop x.1 vs) e ∙ drop_taken (spelling b) us (length (spelling b)) refl);
+      deep = let d = f.deep in omega (arith, d);
     }

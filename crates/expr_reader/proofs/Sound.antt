@@ -1,6 +1,6 @@
 -- What is read is well formed, and is spelled by the lexemes that were taken.
 use Rattle.std.proofs.Common.{◌≡◌, ◌≤◌, ℕ, zero, suc, ◌+◌, List, [], ◌∷◌, ◌++◌, length, length-append, drop, Option, Some, None, Bool, true, false, refl, sym, ap, ◌∙◌, subst, arith, rules, tests, append_assoc, append-nil}
-use Rattle.std.specs.Prelude.{◌&&◌, nat_le, if◌then◌else◌}
+use Rattle.std.specs.Prelude.{◌&&◌, max, nat_le, if◌then◌else◌}
 use Rattle.std.proofs.Math.Seq.{drop-append_seam}
 use Rattle.op_tables.specs.declared.op.Op.{Op}
 use Rattle.op_tables.specs.declared.op.Op.TheVariants as op
@@ -11,7 +11,7 @@ use Rattle.syntax_tree.specs.Lexeme.{Lexeme, Word, Integer, Fixed, sign_of}
 use Rattle.syntax_tree.specs.Operators.{binary_of, unary_of, operator_lexeme, level, left_place, right_place, intrinsic, intrinsic_word}
 use Rattle.syntax_tree.proofs.Intrinsics.{IsNamed, intrinsic_is_named}
 use Rattle.syntax_tree.specs.Expression.{Expression, Name, Binary, Closed, Part, One, Range, Glued, Parts, End, More, Maybe, Absent, Present}
-use Rattle.syntax_tree.specs.Spelling.{binds, spelling, part_spelling, maybe_spelling, step_spelling, parts_spelling, rest_spelling, IsFormed, IsPart, IsMaybe, IsList, AreParts, AreArguments}
+use Rattle.syntax_tree.specs.Spelling.{binds, spelling, part_spelling, maybe_spelling, step_spelling, parts_spelling, rest_spelling, IsFormed, IsPart, IsMaybe, IsList, AreParts, AreArguments, depth}
 use Rattle.expr_reader.specs.Reading.{◌>>=◌, Core, Readers, is_open, is_close, is_colon, is_colons, name_with, name_at, are_arguments, if_arguments, arguments_at, call_at, word_at, closed_at, unary_at, operand_at, expr_at, joined_at, goes_with, goes_on, more_with, more_at, rest_at, core_at, from_here, maybe_at, step_at, range_at, one_at, glued_at, part_at, list_at, at_lexeme, at_end, behind, reading}
 use Rattle.expr_reader.specs.Spelled.{Takes, Spelled, Ifs}
 
@@ -59,6 +59,7 @@ pub record Sound (ts : List Lexeme) (r : Readers) : Type 0 where
   pub expr : (k : ℕ) → k ≤ 9 → Ifs (r.core.expr k) (Spelled k ts)
   pub more : (k : ℕ) (e : Expression) (n : ℕ) → IsFormed e → k ≤ binds e → n ≡ length (spelling e) → Spelled k (spelling e ++ ts) (r.core.more k e n)
   pub grows : (k : ℕ) (e : Expression) (n : ℕ) → n ≤ (r.core.more k e n).1
+  pub deepens : (k : ℕ) (e : Expression) (n : ℕ) → depth e ≤ depth (r.core.more k e n).0
   pub rest : Ifs r.core.rest (λ s. AreParts s.0 × Takes (rest_spelling s.0) ts s.1)
   pub list : Ifs r.list (λ s. IsList s.0 × Takes (parts_spelling s.0) ts s.1)
 
@@ -68,6 +69,7 @@ sound_at_end ts = record {
   expr = λ k h. tt;
   more = λ k e n w b h. record { formed = w; bound = b; takes = takes_front (spelling e) ts n h };
   grows = λ k e n. omega arith;
+  deepens = λ k e n. omega arith;
   rest = tt;
   list = tt;
 }
@@ -255,6 +257,14 @@ module _ (f : ℕ → Readers) (us : List Lexeme) (ih : (d : ℕ) → Sound (dro
   grows_more k e n None = omega arith
   grows_more k e n (Some o) = grows_joined k e n o ((f 0).core.expr (right_place o))
 
+  deepens_joined : (k : ℕ) (e : Expression) (n : ℕ) (o : Op) (b : Option (Expression × ℕ)) → depth e ≤ depth (joined_at f k e n o b).0
+  deepens_joined k e n o None = omega arith
+  deepens_joined k e n o (Some b) = let g = (ih b.1).deepens k (Binary o e b.0) (n + (b.1 + 1)) in omega (arith, g)
+
+  deepens_more : (k : ℕ) (e : Expression) (n : ℕ) (o : Option Op) → depth e ≤ depth (more_with f k e n o).0
+  deepens_more k e n None = omega arith
+  deepens_more k e n (Some o) = deepens_joined k e n o ((f 0).core.expr (right_place o))
+
   sound_rest : (t : Lexeme) → Ifs (rest_at f t) (λ s. AreParts s.0 × Takes (rest_spelling s.0) (t ∷ us) s.1)
   sound_rest (Fixed sign.Close) = (tt, takes_one (Fixed sign.Close) us [] 0 (takes_none us))
   sound_rest (Fixed sign.Comma) =
@@ -354,6 +364,7 @@ sound_at_lexeme f t us ih = record {
   expr = λ k le. sound_expr f us ih k t le;
   more = λ k e n w low len. sound_more f us ih k t e n w low len;
   grows = λ k e n. grows_more f us ih k e n (goes_on k e (sign_of t));
+  deepens = λ k e n. deepens_more f us ih k e n (goes_on k e (sign_of t));
   rest = sound_rest f us ih t;
   list = sound_list (from_here (core_at f t) f) (t ∷ us) cores;
 }

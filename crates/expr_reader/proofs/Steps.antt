@@ -11,7 +11,7 @@ use Rattle.syntax_tree.specs.Lexeme.{Lexeme, lexeme_of, lexemes, sign_of, Fixed}
 use Rattle.syntax_tree.specs.Operators.{right_place}
 use Rattle.syntax_tree.specs.Expression.{Expression, Name, Element, Call, Binary, Parts, Part, One, Range, Glued, End, More, expression, subscripts, arguments, reference, subscript}
 use Rattle.expr_reader.specs.Reading.{◌>>=◌, Readers, are_arguments, arguments_at, call_at, operand_at, more_with, joined_at, goes_on, apart, part_at, rest_at, is_open, is_close, is_comma, name_with, name_at, at_lexeme, at_end, core_at, list_at, reading}
-use Rattle.expr_reader.specs.Seen.{EndsWithin, ahead, expression_of, read, arguments_of, parts_of, with_front, joined}
+use Rattle.expr_reader.specs.CodeViews.{EndsWithin, ahead, expression_of, read, arguments_of, parts_of, with_front, joined}
 use Rattle.expr_reader.proofs.Equations.{reading_at, reading_at_end, list_all}
 
 subscript_items : {m : _} (row : Row_of-Subscript m) → subscripts row ≡ parts_of (items-the_row-Subscript m row)

@@ -9,7 +9,7 @@ use Rattle.syntax_tree.specs.Spelling.{spelling, IsFormed, depth, part_depth, li
 use Rattle.expr_reader.specs.Reading.{◌>>=◌, reading, apart}
 use Rattle.expr_reader.specs.Spelled.{Spelled, Ifs}
 use Rattle.expr_reader.specs.Longest.{IsLongest, NoneBegins}
-use Rattle.expr_reader.specs.Front.{front, Ends, IsFront}
+use Rattle.expr_reader.specs.Front.{front, Ends, IsFront, IsAsDeep}
 use Rattle.expr_reader.proofs.Sound.{sound, drop_taken}
 use Rattle.expr_reader.proofs.Operands.{Finds, finds, Stops, inner}
 use Rattle.expr_reader.proofs.Complete.{comes}
@@ -92,10 +92,6 @@ mutual
   same_maybe_depth Absent = refl
   same_maybe_depth (Present e) = same_depth e
 
-pub has_depth : (e : Expression) → 1 ≤ depth e
-has_depth (Number n) = omega arith
-has_depth e = omega arith
-
 pub too_deep : (b : Bool) (d l : ℕ) → (IsTrue b ↔ (d ≤ l)) → b ≡ false → l < d
 too_deep b d l h e = ⊎_elim (λ lt. lt) (λ le. let t : IsTrue b = h.1 le in absurd cc) (cases_lt l d)
 
@@ -119,3 +115,11 @@ front_found e us w h =
     let f = found_at e w us in
     ap (λ o. o >>= λ x. Some (x.0, drop x.1 (spelling e ++ us))) (sym ((agree (spelling e ++ us)).expr 0) ∙ ap (mapped kept) (f.reads ∙ ap Some (f.exact (ends_stop us (inner e) h) (ends_stop us 0 h))))
     ∙ ap (λ k. Some (kept e, k)) (drop_taken (spelling e) us (length (spelling e)) refl)
+
+-- a well-formed expression at the front is found, or one that is at least as deep
+pub front_deep : (e : Expression) (us : List Lexeme) → IsFormed e → IsAsDeep e (front (spelling e ++ us))
+unfolding front
+front_deep e us w =
+    let f = found_at e w us in
+    let is = sym ((agree (spelling e ++ us)).expr 0) ∙ ap (mapped kept) f.reads in
+    subst (λ o. IsAsDeep e (o >>= λ x. Some (x.0, drop x.1 (spelling e ++ us)))) (sym is) (omega (arith, f.deep, same_depth f.found.0))

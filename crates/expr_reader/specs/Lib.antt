@@ -1,5 +1,5 @@
 pub mod Reading
-pub mod Seen
+pub mod CodeViews
 pub mod Spelled
 pub mod Longest
 pub mod Front

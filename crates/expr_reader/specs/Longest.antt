@@ -1,5 +1,6 @@
 -- The longest expression that begins at a token (Fortran 95, 7.1).
 use Rattle.std.specs.Prelude.{◌≡◌, ◌≤◌, ◌<◌, ℕ, ◌-◌, List, ◌++◌, length, drop}
+use Rattle.hpf_base.specs.declared.limits.TheConstants.{MAX_DEPTH}
 use Rattle.hpf_base.specs.declared.refusal.Reason.{Reason}
 use Rattle.hpf_base.specs.declared.refusal.Reason.TheVariants.{NotAStatement, Limit}
 use Rattle.hpf_base.specs.declared.refusal.StaticError.{StaticError}
@@ -25,12 +26,12 @@ pub record IsRead (tokens : List Token) (from : ℕ) (tree : Expression) (to : �
   pub written : Expression
   pub same : kept written ≡ tree
   pub longest : IsLongest (drop from (lexemes tokens)) (written, to - from)
-  pub shallow : depth written ≤ 200
+  pub shallow : depth written ≤ MAX_DEPTH
 
 -- why no expression is read
 abbrev pub Why : List Lexeme → Reason → Type 0
 Why ts NotAStatement = NoneBegins ts
-Why ts Limit = (x : Expression × ℕ) × IsLongest ts x × (200 < depth x.0)
+Why ts Limit = (x : Expression × ℕ) × IsLongest ts x × (MAX_DEPTH < depth x.0)
 Why ts reason = ⊥
 
 abbrev pub IsRefused : ℕ → List Token → ℕ → StaticError → Type 0

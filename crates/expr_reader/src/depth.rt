@@ -3,12 +3,9 @@
 ghost use Rattle.std.specs.Prelude.{◌≡◌, ◌≤◌, ◌↔◌, IsTrue};
 ghost use Rattle.syntax_tree.specs.Expression.{expression, subscript};
 ghost use Rattle.syntax_tree.specs.Spelling.{depth, part_depth, list_depth, maybe_depth};
-ghost use Rattle.expr_reader.specs.Seen.{arguments_of, maybe_in, parts_of};
+ghost use Rattle.expr_reader.specs.CodeViews.{arguments_of, maybe_in, parts_of};
 
 use syntax_tree::{Expr, Subscript};
-
-/// The greatest depth of an expression that is read: the number of expressions on a path from its root to a leaf.
-pub const MAX_DEPTH: usize = 200;
 
 /// Whether an expression has at most so many levels.
 #[cycle(depth)]

@@ -13,6 +13,6 @@ mod laws;
 mod reading;
 mod signs;
 
-pub use depth::{MAX_DEPTH, fits};
+pub use depth::fits;
 pub use laws::{front_exact, one_expression};
 pub use reading::{front_expr, read_expr};

@@ -6,14 +6,14 @@ ghost use Rattle.op_tables.specs.Words.{is_reserved};
 ghost use Rattle.syntax_tree.specs.Operators.{intrinsic, unary};
 ghost use Rattle.syntax_tree.specs.Expression.{expression, subscript};
 ghost use Rattle.syntax_tree.specs.Spelling.{binds};
-ghost use Rattle.expr_reader.specs.Front.{front, Sees};
+ghost use Rattle.expr_reader.specs.Front.{front, Gives};
 ghost use Rattle.expr_reader.specs.Longest.{IsRead, IsRefused};
 ghost use Rattle.expr_reader.specs.Reading.{apart, arguments_at, call_at, closed_at, glued_at, goes_on, maybe_at, name_at, operand_at, part_at, part_from, range_at, unary_at, word_at};
-ghost use Rattle.expr_reader.specs.Seen.{ahead, AreExpressions, arguments_of, EndsWithin, expression_of, maybe_in, parts_of, read, seen};
+ghost use Rattle.expr_reader.specs.CodeViews.{ahead, AreExpressions, arguments_of, EndsWithin, expression_of, maybe_in, parts_of, read, viewed};
 
-use crate::depth::{MAX_DEPTH, fits};
+use crate::depth::fits;
 use crate::signs::{behind, closes, opens, ranges, separates, sign_at, steps};
-use hpf_base::{Name, Reason, Refusal, StaticError};
+use hpf_base::{MAX_DEPTH, Name, Reason, StaticError};
 use op_tables::{Op, is_reserved};
 use source_lines::{Token, TokenKind};
 use std::alloc::{AllocError, Global};
@@ -36,16 +36,10 @@ pub fn read_expr(
     ensures refused { IfErr result (IsRefused line tokens.now from) }
 {
     let Some((tree, taken)) = expr(alloc, behind(tokens, from), 0)? else {
-        return Err(StaticError::Refused(Refusal {
-            line,
-            reason: Reason::NotAStatement,
-        }));
+        return Err(StaticError::at(line, Reason::NotAStatement));
     };
     if !fits(&tree, MAX_DEPTH) {
-        return Err(StaticError::Refused(Refusal {
-            line,
-            reason: Reason::Limit,
-        }));
+        return Err(StaticError::at(line, Reason::Limit));
     }
     Ok((tree, from + taken))
 }
@@ -53,7 +47,7 @@ pub fn read_expr(
 /// The longest expression at the front, however deep, and the tokens behind it; None where none begins there.
 #[tactic(auto, unfolding(crate::specs::Front::front))]
 pub fn front_expr(alloc: Global, tokens: &[Token]) -> Result<Option<(Expr, &[Token])>, AllocError>
-    ensures { IfOk result (λ r. Sees (λ x. (expression x.0, lexemes x.1.now)) r (front (lexemes tokens.now))) }
+    ensures { IfOk result (λ r. Gives (λ x. (expression x.0, lexemes x.1.now)) r (front (lexemes tokens.now))) }
 {
     let Some((tree, taken)) = expr(alloc, tokens, 0)? else {
         return Ok(None);
@@ -65,7 +59,7 @@ pub fn front_expr(alloc: Global, tokens: &[Token]) -> Result<Option<(Expr, &[Tok
 #[cycle(reading)]
 fn expr(alloc: Global, tokens: &[Token], place: u8) -> Result<Option<(Expr, usize)>, AllocError>
     ensures within { IfOk result (λ r. EndsWithin r (length tokens.now)) }
-    ensures value { IfOk result (λ r. seen expression r ≡ (read tokens.now).core.expr place) }
+    ensures value { IfOk result (λ r. viewed expression r ≡ (read tokens.now).core.expr place) }
 {
     let Some((first, rest)) = tokens.split_first() else {
         return Ok(None);
@@ -86,7 +80,7 @@ fn operand(
     place: u8,
 ) -> Result<Option<(Expr, usize)>, AllocError>
     ensures within { IfOk result (λ r. EndsWithin r (length rest.now)) }
-    ensures value { IfOk result (λ r. seen expression r ≡ operand_at (ahead rest.now) place (lexeme_of first.now)) }
+    ensures value { IfOk result (λ r. viewed expression r ≡ operand_at (ahead rest.now) place (lexeme_of first.now)) }
 {
     match first {
         TokenKind::Integer(value) => Ok(Some((Expr::Int(*value), 0))),
@@ -105,7 +99,7 @@ fn from_sign(
     place: u8,
 ) -> Result<Option<(Expr, usize)>, AllocError>
     ensures within { IfOk result (λ r. EndsWithin r (length rest.now)) }
-    ensures value { IfOk result (λ r. seen expression r ≡ operand_at (ahead rest.now) place (fixed first)) }
+    ensures value { IfOk result (λ r. viewed expression r ≡ operand_at (ahead rest.now) place (fixed first)) }
 {
     match first {
         Some(Sign::True) => Ok(Some((Expr::Bool(true), 0))),
@@ -120,7 +114,7 @@ fn from_sign(
 #[cycle(reading)]
 fn from_word(alloc: Global, word: Name, rest: &[Token]) -> Result<Option<(Expr, usize)>, AllocError>
     ensures within { IfOk result (λ r. EndsWithin r (length rest.now)) }
-    ensures value { IfOk result (λ r. seen expression r ≡ word_at (ahead rest.now) word) }
+    ensures value { IfOk result (λ r. viewed expression r ≡ word_at (ahead rest.now) word) }
 {
     if is_no_name(&word) {
         return call(alloc, procedure(&word), rest);
@@ -155,7 +149,7 @@ fn call(
     rest: &[Token],
 ) -> Result<Option<(Expr, usize)>, AllocError>
     ensures within { IfOk result (λ r. EndsWithin r (length rest.now)) }
-    ensures value { IfOk result (λ r. seen expression r ≡ call_at (ahead rest.now) procedure) }
+    ensures value { IfOk result (λ r. viewed expression r ≡ call_at (ahead rest.now) procedure) }
 {
     let Some(op) = procedure else {
         return Ok(None);
@@ -173,7 +167,7 @@ fn call(
 #[cycle(reading)]
 fn arguments(alloc: Global, tokens: &[Token]) -> Result<Option<(Vec<Expr>, usize)>, AllocError>
     ensures within { IfOk result (λ r. EndsWithin r (length tokens.now)) }
-    ensures value { IfOk result (λ r. seen (λ v. arguments_of v.items) r ≡ arguments_at (read tokens.now)) }
+    ensures value { IfOk result (λ r. viewed (λ v. arguments_of v.items) r ≡ arguments_at (read tokens.now)) }
 {
     if closes(tokens, 0) {
         return Ok(Some((Vec::new(alloc), 1)));
@@ -206,7 +200,7 @@ fn reference(alloc: Global, name: Name, rest: &[Token]) -> Result<(Ref, usize), 
 #[cycle(reading)]
 fn closed(alloc: Global, rest: &[Token]) -> Result<Option<(Expr, usize)>, AllocError>
     ensures within { IfOk result (λ r. EndsWithin r (length rest.now)) }
-    ensures value { IfOk result (λ r. seen expression r ≡ closed_at (ahead rest.now)) }
+    ensures value { IfOk result (λ r. viewed expression r ≡ closed_at (ahead rest.now)) }
 {
     let Some((tree, taken)) = expr(alloc, rest, 0)? else {
         return Ok(None);
@@ -227,7 +221,7 @@ fn signed(
     place: u8,
 ) -> Result<Option<(Expr, usize)>, AllocError>
     ensures within { IfOk result (λ r. EndsWithin r (length rest.now)) }
-    ensures value { IfOk result (λ r. seen expression r ≡ unary_at (ahead rest.now) place (unary first)) }
+    ensures value { IfOk result (λ r. viewed expression r ≡ unary_at (ahead rest.now) place (unary first)) }
 {
     let Some(op) = unary(first) else {
         return Ok(None);
@@ -290,7 +284,7 @@ fn tightness(tree: &Expr) -> u8
 #[cycle(reading)]
 fn list(alloc: Global, tokens: &[Token]) -> Result<Option<(Vec<Subscript>, usize)>, AllocError>
     ensures within { IfOk result (λ r. EndsWithin r (length tokens.now)) }
-    ensures value { IfOk result (λ r. seen (λ v. parts_of v.items) r ≡ (read tokens.now).list) }
+    ensures value { IfOk result (λ r. viewed (λ v. parts_of v.items) r ≡ (read tokens.now).list) }
 {
     let mut parts = Vec::new(alloc);
     let mut taken = 0;
@@ -314,7 +308,7 @@ fn list(alloc: Global, tokens: &[Token]) -> Result<Option<(Vec<Subscript>, usize
 #[cycle(reading)]
 fn part(alloc: Global, tokens: &[Token]) -> Result<Option<(Subscript, usize)>, AllocError>
     ensures within { IfOk result (λ r. EndsWithin r (length tokens.now)) }
-    ensures value { IfOk result (λ r. seen subscript r ≡ part_at apart (λ d. (ahead tokens.now d).core)) }
+    ensures value { IfOk result (λ r. viewed subscript r ≡ part_at apart (λ d. (ahead tokens.now d).core)) }
 {
     let (first, taken) = maybe(alloc, tokens)?;
     if ranges(tokens, taken) {
@@ -352,7 +346,7 @@ fn range(
 ) -> Result<Option<(Subscript, usize)>, AllocError>
     requires { taken < length tokens.now }
     ensures within { IfOk result (λ r. EndsWithin r (length tokens.now)) }
-    ensures value { IfOk result (λ r. seen subscript r ≡ range_at (λ d. (ahead tokens.now d).core) (maybe_in first) taken) }
+    ensures value { IfOk result (λ r. viewed subscript r ≡ range_at (λ d. (ahead tokens.now d).core) (maybe_in first) taken) }
 {
     let (last, count) = maybe(alloc, behind(tokens, taken + 1))?;
     let taken = taken + 1 + count;
@@ -378,7 +372,7 @@ fn stepped(
 ) -> Result<Option<(Subscript, usize)>, AllocError>
     requires { taken < length tokens.now }
     ensures within { IfOk result (λ r. EndsWithin r (length tokens.now)) }
-    ensures value { IfOk result (λ r. seen subscript r ≡ glued_at apart (λ d. (ahead tokens.now d).core) (maybe_in first) taken) }
+    ensures value { IfOk result (λ r. viewed subscript r ≡ glued_at apart (λ d. (ahead tokens.now d).core) (maybe_in first) taken) }
 {
     let Some((step, count)) = expr(alloc, behind(tokens, taken + 1), 0)? else {
         return Ok(None);

@@ -19,7 +19,7 @@ fn words(rt: &(impl Env + AllocGlobal), alloc: Global) -> io::Result<Vec<String>
     Ok(words)
 }
 
-/// Words that can't be had as texts are no job, and are answered as no words are.
+/// Words that can't be had as texts are no command, and are answered as no words are.
 fn main(rt: HostRuntime) -> ExitCode {
     let alloc = rt.alloc();
     let words = match words(&rt, alloc) {

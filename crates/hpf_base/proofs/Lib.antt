@@ -1,5 +1,6 @@
 pub mod Blocks
 pub mod Digits
+pub mod FirstBreaches
 pub mod FirstLine
 pub mod Sections
 pub mod ElementOrder

@@ -1,15 +1,12 @@
 pub mod Alignment
-pub mod Cores
 pub mod ElementOrder
+pub mod FirstBreach
 pub mod Grid
 pub mod LocalOrder
 pub mod Mapping
 pub mod Name
-pub mod NodeSteps
 pub mod Owner
-pub mod Phases
 pub mod Positions
-pub mod Reached
 pub mod Refusal
 pub mod Status
 pub mod Text

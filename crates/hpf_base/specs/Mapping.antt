@@ -2,6 +2,7 @@
 use Rattle.std.specs.Prelude.{◌≡◌, ◌≢◌, ℕ, ◌+◌, ◌*◌, ◌^◌, ◌≤◌, ◌<◌, ℤ, pos, ◌≤ℤ◌, FitsSigned, unsigned_abs, cond, ⊤, List, length, map, All, AllPairs, slice_get, Option, Some, None}
 use Rattle.std.specs.Int.{w64}
 use Rattle.std.specs.Ordering.{int_eq}
+use Rattle.hpf_base.specs.declared.limits.TheConstants.{MAX_BLOCK, MAX_BOUND, MAX_CYCLIC, MAX_ELEMENTS, MAX_NODES, MAX_TEMPLATE_EXTENT}
 use Rattle.hpf_base.specs.declared.index.Shape.{Shape}
 use Rattle.hpf_base.specs.declared.mapping.AlignDim.{AlignDim}
 use Rattle.hpf_base.specs.declared.mapping.AlignDim.TheVariants.{Linear, At, Every}
@@ -16,21 +17,21 @@ use Rattle.hpf_base.specs.ElementOrder.{extents_of, product}
 -- a format that deals out so many positions to so many processors (HPF 2.0, DISTRIBUTE)
 abbrev pub IsForm : Form → ℕ → ℕ → Type 0
 IsForm Whole extent procs = procs ≡ 1
-IsForm (Block m) extent procs = (1 ≤ m) × (m ≤ 2 ^ 40) × (extent ≤ m * procs)
-IsForm (Cyclic k) extent procs = (1 ≤ k) × (k ≤ 65536)
+IsForm (Block m) extent procs = (1 ≤ m) × (m ≤ MAX_BLOCK) × (extent ≤ m * procs)
+IsForm (Cyclic k) extent procs = (1 ≤ k) × (k ≤ MAX_CYCLIC)
 
 pub record IsLine (line : Line) : Type 0 where
   pub some : 1 ≤ line.procs
-  pub few : line.procs ≤ 64
-  pub extent : line.extent ≤ 2 ^ 40
-  pub lower : unsigned_abs line.lower ≤ 2 ^ 41
+  pub few : line.procs ≤ MAX_NODES
+  pub extent : line.extent ≤ MAX_TEMPLATE_EXTENT
+  pub lower : unsigned_abs line.lower ≤ MAX_BOUND
   pub form : IsForm line.form line.extent line.procs
 
 pub record IsShape (shape : Shape) : Type 0 where
   pub rank : length shape.lower ≡ length shape.extent
-  pub lower : All (λ lower. unsigned_abs lower ≤ 2 ^ 41) shape.lower
-  pub extent : All (λ extent. (pos 0 ≤ℤ extent) × (extent ≤ℤ pos (2 ^ 42 + 1))) shape.extent
-  pub size : product (extents_of shape) ≤ 2 ^ 20
+  pub lower : All (λ lower. unsigned_abs lower ≤ MAX_BOUND) shape.lower
+  pub extent : All (λ extent. (pos 0 ≤ℤ extent) × (extent ≤ℤ pos (2 * MAX_BOUND + 1))) shape.extent
+  pub size : product (extents_of shape) ≤ MAX_ELEMENTS
 
 -- an alignment of an array of so many dimensions
 abbrev pub IsAlign : ℕ → AlignDim → Type 0

@@ -1,4 +1,5 @@
--- Who owns a position of a distributed dimension (HPF 2.0, DISTRIBUTE).
+-- Who owns a position of a distributed dimension (HPF 2.0, 3.3). Positions past the extent have a coordinate by this
+-- definition too; each public call asks for a position from 1 to the extent.
 use Rattle.std.specs.Prelude.{ℕ, ◌-◌, ◌%◌, max, pos}
 use Rattle.std.specs.Int.{div_ceil}
 use Rattle.hpf_base.specs.declared.mapping.Form.{Form}

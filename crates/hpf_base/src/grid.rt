@@ -4,19 +4,16 @@ ghost use Rattle.std.specs.Prelude.{◌≡◌, ◌<◌, ◌≤◌, ◌^◌, ◌�
 ghost use Rattle.hpf_base.specs.Grid.{IsGrid};
 ghost use Rattle.hpf_base.specs.ElementOrder.{product};
 
-use crate::index::MAX_RANK;
+use crate::limits::{MAX_NODES, MAX_RANK};
 use smallvec::SmallVec;
 use std::alloc::Global;
 use std::marker::Model;
-
-/// The greatest number of nodes.
-pub const MAX_NODES: u32 = 64;
 
 /// A rectangular arrangement of nodes (HPF 2.0, PROCESSORS): its extents, the first dimension first. Contracts
 /// see their list: 1 to 7 numbers, none of them 0, whose product, the number of nodes, is at most 64.
 #[derive(Debug, Drop)]
 pub struct Grid {
-    dims: SmallVec<u32, 7>,
+    dims: SmallVec<u32, MAX_RANK>,
 }
 
 impl Model for Grid {
@@ -69,7 +66,7 @@ impl Grid {
 /// The product of the extents; None exactly where it exceeds 64 or one of them is 0.
 fn nodes_of(dims: &[u32]) -> Option<u32>
     requires { length dims.now < 2 ^ 63 }
-    ensures some { IsSome result ↔ (All (λ extent. 1 ≤ extent) dims.now × (product dims.now ≤ 64)) }
+    ensures some { IsSome result ↔ (All (λ extent. 1 ≤ extent) dims.now × (product dims.now ≤ MAX_NODES)) }
     ensures value { IfSome result (λ nodes. nodes ≡ product dims.now) }
 {
     let mut nodes = 1u32;

@@ -2,33 +2,32 @@
 
 ghost use Rattle.std.specs.Prelude.{◌≡◌, ◌≤◌, ◌↔◌, length, IsSome, IfSome};
 
+use crate::limits::MAX_RANK;
 use smallvec::SmallVec;
 use std::alloc::Global;
 use std::marker::Model;
 
-/// The greatest number of dimensions of an array (Fortran 95, 2.4.5).
-pub const MAX_RANK: usize = 7;
-
 /// The subscripts of an element, the first dimension first. It needs no memory. Contracts see the list.
 #[derive(Debug, Drop)]
 pub struct Index {
-    numbers: SmallVec<i64, 7>,
+    numbers: SmallVec<i64, MAX_RANK>,
 }
 
 impl Model for Index {
     ghost use Rattle.std.specs.Prelude.{◌≤◌, List, ℤ, length};
+    ghost use Rattle.hpf_base.specs.declared.limits.TheConstants.{MAX_RANK};
 
     ghost Value = { List ℤ };
 
     ghost view = { λ i. i.numbers.items };
 
-    ghost invariant = { λ i. length i.numbers.items ≤ 7 };
+    ghost invariant = { λ i. length i.numbers.items ≤ MAX_RANK };
 }
 
 impl Index {
     /// The tuple of these numbers, in their order; None exactly where they are more than 7. It takes no memory.
     pub fn new(alloc: Global, numbers: &[i64]) -> Option<Index>
-        ensures some { IsSome result ↔ (length numbers.now ≤ 7) }
+        ensures some { IsSome result ↔ (length numbers.now ≤ MAX_RANK) }
         ensures value { IfSome result (λ index. index ≡ numbers.now) }
     {
         if numbers.len() > MAX_RANK {
@@ -43,7 +42,7 @@ impl Index {
     /// The numbers, at most 7, in order. It takes no memory.
     pub fn numbers(&self) -> &[i64]
         ensures value { result.now ≡ self.now }
-        ensures short { length self.now ≤ 7 }
+        ensures short { length self.now ≤ MAX_RANK }
     {
         self.numbers.as_slice()
     }

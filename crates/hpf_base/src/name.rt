@@ -6,15 +6,13 @@ ghost use Rattle.std.specs.Cmp.{partial_equiv_from_equiv};
 ghost use Rattle.std.specs.Cmp.Lexicographic.{pointwise, nat_list_eq_equiv};
 ghost use Rattle.hpf_base.specs.Name.{IsName, is_name_byte};
 
+use crate::limits::MAX_NAME_BYTES;
 use std::marker::Model;
-
-/// The greatest number of bytes of a name (Fortran 95, 3.2.1).
-pub const MAX_NAME: usize = 31;
 
 /// A name in upper case. Contracts see the list of its bytes: 1 to 31 of `A` to `Z`, `0` to `9` and `_`.
 #[derive(Clone, Copy, Debug)]
 pub struct Name {
-    bytes: [u8; 31],
+    bytes: [u8; MAX_NAME_BYTES],
     len: u8,
 }
 
@@ -41,10 +39,10 @@ impl Name {
         ensures some { IsSome result ↔ IsName bytes.now }
         ensures value { IfSome result (λ name. name ≡ bytes.now) }
     {
-        if bytes.is_empty() || bytes.len() > MAX_NAME || !are_name_bytes(bytes) {
+        if bytes.is_empty() || bytes.len() > MAX_NAME_BYTES || !are_name_bytes(bytes) {
             return None;
         }
-        let mut held = [0; MAX_NAME];
+        let mut held = [0; MAX_NAME_BYTES];
         held[..bytes.len()].copy_from_slice(bytes);
         Some(Name {
             bytes: held,

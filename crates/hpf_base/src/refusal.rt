@@ -2,7 +2,7 @@
 
 ghost use Rattle.std.specs.Prelude.{◌≡◌};
 ghost use Rattle.hpf_base.specs.Refusal.{name_of, number_of};
-ghost use Rattle.hpf_base.specs.declared.refusal.StaticError.TheVariants.{Memory};
+ghost use Rattle.hpf_base.specs.declared.refusal.StaticError.TheVariants.{Memory, Refused};
 
 use std::alloc::{AllocError, AllocFailed};
 
@@ -77,6 +77,15 @@ pub struct Refusal {
 pub enum StaticError {
     Refused(Refusal),
     Memory,
+}
+
+impl StaticError {
+    /// The refusal of a line for a reason.
+    pub fn at(line: u32, reason: Reason) -> StaticError
+        ensures { result ≡ Refused (record { line = line; reason = reason }) }
+    {
+        StaticError::Refused(Refusal { line, reason })
+    }
 }
 
 impl From<AllocError> for StaticError {

@@ -16,7 +16,7 @@ mod write;
 
 pub use gate::{Gate, OpenGate};
 pub use mem::{MemSink, MemSource};
-pub use read::{ReadAll, SOURCE_LIMIT, read_all};
+pub use read::{ReadAll, read_all};
 pub use sink::Sink;
 pub use source::{Failed, Source};
 pub use standard::{StdSink, StdSource};

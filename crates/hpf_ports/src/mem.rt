@@ -1,6 +1,6 @@
 //! Sources and sinks over memory, for tests: they give and take in pieces, and fail where they are told to.
 
-ghost use Rattle.std.specs.Prelude.{◌≡◌, ℕ, ◌<◌, ◌≤◌, List, [], length, take, drop, min, Some, IsErr, IsOk, is_err, IfOk, OnOk, OnErr, vec_capacity};
+ghost use Rattle.std.specs.Prelude.{◌≡◌, ◌<◌, ◌≤◌, [], length, take, drop, min, Some, IsErr, IsOk, is_err, IfOk, OnOk, OnErr, vec_capacity};
 ghost use Rattle.hpf_ports.specs.Ports.{Gave, IsAtEnd, Rose, Took, next_count};
 ghost use Rattle.hpf_ports.specs.Mem.{SourceState, SinkState, read_fails, write_fails, read_len, write_len};
 

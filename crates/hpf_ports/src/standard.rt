@@ -1,7 +1,7 @@
 //! Sources and sinks over the readers and writers of the standard library. As a `Source` or a `Sink` they
 //! tell no bytes.
 
-ghost use Rattle.std.specs.Prelude.{◌≡◌, ℕ, ◌<◌, ◌≤◌, length, take, None, IfOk, OnOk, OnErr};
+ghost use Rattle.std.specs.Prelude.{◌≡◌, ◌<◌, ◌≤◌, length, take, None, IfOk, OnOk, OnErr};
 ghost use Rattle.std.specs.Io.KnownBytes.{ReadConsumes, WriteAppends};
 ghost use Rattle.hpf_ports.specs.Ports.{Rose, next_count};
 ghost use Rattle.hpf_ports.specs.Standard.{StdState};

@@ -1,6 +1,6 @@
 //! Writing all bytes to a sink.
 
-ghost use Rattle.std.specs.Prelude.{◌≡◌, ℕ, ◌<◌, ◌≤◌, length, take, OnOk, OnErr};
+ghost use Rattle.std.specs.Prelude.{ℕ, ◌<◌, ◌≤◌, length, take, OnOk, OnErr};
 ghost use Rattle.hpf_ports.specs.Ports.{Took, Rose};
 
 use crate::sink::Sink;

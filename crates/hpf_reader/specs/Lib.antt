@@ -1,6 +1,2 @@
 pub mod ProgramText
-pub mod FirstBody
-pub mod FirstForm
-pub mod FirstReading
-pub mod FirstRefusal
-pub mod FirstValid
+pub mod OneMore

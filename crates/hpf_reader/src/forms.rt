@@ -1,64 +1,66 @@
 //! The statements and directives of all lines.
 
-ghost use Rattle.std.specs.Prelude.{◌≡◌, ◌*◌, ◌≤◌, All, IfErr, IfNone, IfOk, OnOk, length};
+ghost use Rattle.std.specs.Prelude.{◌≡◌, IfErr, IfNone, IfOk, OnOk};
+ghost use Rattle.hpf_base.specs.FirstBreach.{IsFirstOrNone};
 ghost use Rattle.hpf_base.specs.Refusal.{IsRefusalBy, NoBreach};
-ghost use Rattle.nest_rules.specs.Firsts.{Firsts};
-ghost use Rattle.nest_rules.specs.Lines.{line_of, lines_of};
-ghost use Rattle.token_scan.specs.Tokens.{IsTokenBreach, tokens};
-ghost use Rattle.hpf_reader.specs.ProgramText.{Added, AreLinesOf, FormBreaks, FormsBreak, IsLineOf, TokensBreak};
+ghost use Rattle.nest_rules.specs.ProgramLine.{line_of, lines_of};
+ghost use Rattle.hpf_reader.specs.OneMore.{IsRead};
+ghost use Rattle.hpf_reader.specs.ProgramText.{AreLinesOf, FormBreaks, FormsBreak, IsLineOf};
 
+use crate::scan::TokenLine;
 use directive_reader::read_directive;
-use hpf_base::{Refusal, StaticError};
-use nest_rules::{Line, What, earlier};
-use source_lines::{LineKind, LogicalLine, Token};
+use hpf_base::{Refusal, StaticError, earlier};
+use nest_rules::{LineContent, ProgramLine};
+use source_lines::LineKind;
 use statement_reader::read_statement;
 use std::alloc::{AllocError, Global};
-use token_scan::tokens;
-
-/// The tokens of a line that is made of tokens.
-fn line_tokens(alloc: Global, line: &LogicalLine) -> Result<Vec<Token>, AllocError>
-    requires short { length line.now.bytes ≤ 40 * 133 }
-    requires clean { NoBreach (IsTokenBreach line.now) }
-    ensures { IfOk result (λ ts. ts.items ≡ tokens line.now.bytes) }
-{
-    match tokens(alloc, line) {
-        Ok(tokens) => Ok(tokens),
-        Err(_) => Err(AllocError),
-    }
-}
 
 /// The statement or the directive that a line is.
-fn form(alloc: Global, line: &LogicalLine) -> Result<Line, StaticError>
-    requires short { length line.now.bytes ≤ 40 * 133 }
-    requires clean { NoBreach (IsTokenBreach line.now) }
+fn form(alloc: Global, line: &TokenLine) -> Result<ProgramLine, StaticError>
     ensures read { IfOk result (λ s. IsLineOf line.now (line_of s)) }
     ensures fine { OnOk result (NoBreach (FormBreaks line.now)) }
     ensures refused { IfErr result (IsRefusalBy (FormBreaks line.now)) }
 {
-    let tokens = line_tokens(alloc, line)?;
-    let number = line.line;
+    let number = line.number;
     match line.kind {
-        LineKind::Statement => match read_statement(alloc, number, &tokens) {
-            Ok(statement) => Ok(Line {
+        LineKind::Statement => match read_statement(alloc, number, &line.tokens) {
+            Ok(statement) => Ok(ProgramLine {
                 number,
-                what: What::Statement(statement),
+                what: LineContent::Statement(statement),
             }),
             Err(error) => Err(error),
         },
-        LineKind::Directive => match read_directive(alloc, number, &tokens) {
-            Ok(directive) => Ok(Line {
+        LineKind::Directive => match read_directive(alloc, number, &line.tokens) {
+            Ok(directive) => Ok(ProgramLine {
                 number,
-                what: What::Directive(directive),
+                what: LineContent::Directive(directive),
             }),
             Err(error) => Err(error),
         },
     }
 }
 
+/// The statement or the directive that a line is, behind those before it; or why it is none.
+fn add_form(
+    alloc: Global,
+    line: &TokenLine,
+    forms: &mut Vec<ProgramLine>,
+) -> Result<Option<Refusal>, AllocError>
+    ensures first { IfOk result (IsFirstOrNone (FormBreaks line.now)) }
+    ensures added { IfOk result (λ first. IfNone first (IsRead line.now forms.old.items forms.new.items)) }
+{
+    match form(alloc, line) {
+        Ok(read) => {
+            forms.push(read)?;
+            Ok(None)
+        }
+        Err(StaticError::Refused(refusal)) => Ok(Some(refusal)),
+        Err(StaticError::Memory) => Err(AllocError),
+    }
+}
+
 /// The statements and directives that lines are; else the refusal is that of the first one that is none.
-pub(crate) fn forms(alloc: Global, lines: &[LogicalLine]) -> Result<Vec<Line>, StaticError>
-    requires short { All (λ line. length line.bytes ≤ 40 * 133) lines.now }
-    requires clean { NoBreach (TokensBreak lines.now) }
+pub(crate) fn forms(alloc: Global, lines: &[TokenLine]) -> Result<Vec<ProgramLine>, StaticError>
     ensures read { IfOk result (λ v. AreLinesOf lines.now (lines_of v.items)) }
     ensures fine { OnOk result (NoBreach (FormsBreak lines.now)) }
     ensures refused { IfErr result (IsRefusalBy (FormsBreak lines.now)) }
@@ -71,26 +73,5 @@ pub(crate) fn forms(alloc: Global, lines: &[LogicalLine]) -> Result<Vec<Line>, S
     match first {
         Some(refusal) => Err(StaticError::Refused(refusal)),
         None => Ok(forms),
-    }
-}
-
-/// The statement or the directive that a line is, behind those before it; or why it is none.
-fn add_form(
-    alloc: Global,
-    line: &LogicalLine,
-    forms: &mut Vec<Line>,
-) -> Result<Option<Refusal>, AllocError>
-    requires short { length line.now.bytes ≤ 40 * 133 }
-    requires clean { NoBreach (IsTokenBreach line.now) }
-    ensures first { IfOk result (Firsts (FormBreaks line.now)) }
-    ensures added { IfOk result (λ first. IfNone first (Added line.now forms.old.items forms.new.items)) }
-{
-    match form(alloc, line) {
-        Ok(read) => {
-            forms.push(read)?;
-            Ok(None)
-        }
-        Err(StaticError::Refused(refusal)) => Ok(Some(refusal)),
-        Err(StaticError::Memory) => Err(AllocError),
     }
 }

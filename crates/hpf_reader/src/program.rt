@@ -1,29 +1,29 @@
 //! Reading a text as a program.
 
-ghost use Rattle.std.specs.Prelude.{◌≡◌, ◌*◌, ◌≤◌, All, IfOk, IfErr, OnOk, length};
+ghost use Rattle.std.specs.Prelude.{◌≡◌, IfOk, IfErr, OnOk};
 ghost use Rattle.hpf_base.specs.Refusal.{IsRefusalBy, NoBreach};
-ghost use Rattle.nest_rules.specs.Lines.{lines_of};
-ghost use Rattle.hpf_base.specs.Text.{lines_of as text_lines};
-ghost use Rattle.source_lines.specs.Lines.{logical_lines};
-ghost use Rattle.nest_reader.specs.Printed.{IsSpelled};
+ghost use Rattle.syntax_tree.specs.MainProgram.{main_program};
+ghost use Rattle.nest_rules.specs.Breaches.{IsNestBreach};
+ghost use Rattle.nest_rules.specs.ProgramLine.{lines_of};
 ghost use Rattle.nest_reader.specs.Formed.{IsProgram};
-ghost use Rattle.nest_reader.specs.Views.{program_of};
-ghost use Rattle.hpf_reader.specs.ProgramText.{AreLinesOf, IsFine, IsProgramRefusal, IsProgramText, NestBreaks};
+ghost use Rattle.nest_reader.specs.ProgramLines.{IsSpelled};
+ghost use Rattle.nest_reader.specs.Views.{spelled_program};
+ghost use Rattle.hpf_reader.specs.ProgramText.{HasNoBreach, IsMeantBy, IsProgramRefusal, IsProgramText};
 
 use crate::forms::forms;
-use crate::line_split::line_count;
 use crate::scan::scan;
 use hpf_base::StaticError;
 use nest_reader::read_nest;
-use nest_rules::{Line, first_breach};
+use nest_rules::{ProgramLine, first_breach};
 use source_lines::logical_lines;
 use std::alloc::Global;
 use syntax_tree::Tree;
 
-/// The tree of the one program that a text of the free form reads as (Fortran 95, 2 and 3; HPF 2.0, 2.3).
+/// The tree of the one program that a text of the free form spells (Fortran 95, 2 and 3; HPF 2.0, 2.3). Its abstract syntax
+/// is the one program that the text means.
 ///
-/// It is refused exactly where it has a breach: with the first one of the first stage that has any, which is that of the
-/// least line and, on one line, of the least reason. The stages are:
+/// The text is refused exactly where it has a breach: with the first one of the first stage that has any, which is that of
+/// the least line and, on one line, of the least reason. The stages are:
 ///
 /// - The lines (`BadLine`, `Limit`), as `logical_lines` says.
 /// - Their tokens (`BadLine`, `Limit`), as `tokens` says.
@@ -33,34 +33,37 @@ use syntax_tree::Tree;
 ///
 /// `Memory` comes only where a growth was refused.
 pub fn read_program(alloc: Global, text: &[u8]) -> Result<Tree, StaticError>
-    ensures read { IfOk result (λ t. IsProgramText text.now (program_of t)) }
-    ensures fine { OnOk result (IsFine text.now) }
+    ensures read { IfOk result (λ t. IsProgramText text.now (spelled_program t)) }
+    ensures meant { IfOk result (λ t. IsMeantBy text.now (main_program t)) }
+    ensures fine { OnOk result (HasNoBreach text.now) }
     ensures refused { IfErr result (IsProgramRefusal text.now) }
 {
-    let lines = match logical_lines(alloc, text) {
-        Ok(lines) => lines,
+    let text_lines = match logical_lines(alloc, text) {
+        Ok(found) => found,
         Err(error) => return Err(error),
     };
-    if let Err(error) = scan(alloc, &lines) {
-        return Err(error);
-    }
-    let forms = match forms(alloc, &lines) {
+    let scanned = match scan(alloc, &text_lines.lines) {
+        Ok(scanned) => scanned,
+        Err(error) => return Err(error),
+    };
+    let forms = match forms(alloc, &scanned) {
         Ok(forms) => forms,
         Err(error) => return Err(error),
     };
-    nest(alloc, text, forms)
+    match nest(alloc, text_lines.line_count, forms) {
+        Ok(tree) => Ok(tree),
+        Err(error) => Err(error),
+    }
 }
 
-/// The tree of a text whose lines are these statements and directives.
-fn nest(alloc: Global, text: &[u8], forms: Vec<Line>) -> Result<Tree, StaticError>
-    requires few { length (text_lines text.now) ≤ 20000 }
-    requires read { AreLinesOf (logical_lines text.now) (lines_of forms.items) }
-    ensures spelled { IfOk result (λ t. IsSpelled (lines_of forms.items) (program_of t)) }
-    ensures formed { IfOk result (λ t. IsProgram (program_of t)) }
-    ensures fine { OnOk result (NoBreach (NestBreaks text.now)) }
-    ensures refused { IfErr result (IsRefusalBy (NestBreaks text.now)) }
+/// The tree of a text whose lines are these statements and directives; `last` is the number of its last line.
+fn nest(alloc: Global, last: u32, forms: Vec<ProgramLine>) -> Result<Tree, StaticError>
+    ensures spelled { IfOk result (λ t. IsSpelled (lines_of forms.items) (spelled_program t)) }
+    ensures formed { IfOk result (λ t. IsProgram (spelled_program t)) }
+    ensures fine { OnOk result (NoBreach (IsNestBreach last (lines_of forms.items))) }
+    ensures refused { IfErr result (IsRefusalBy (IsNestBreach last (lines_of forms.items))) }
 {
-    if let Some(refusal) = first_breach(alloc, line_count(text), &forms)? {
+    if let Some(refusal) = first_breach(alloc, last, &forms)? {
         return Err(StaticError::Refused(refusal));
     }
     Ok(read_nest(alloc, forms)?)

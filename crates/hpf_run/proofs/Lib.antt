@@ -1,5 +1,1 @@
-pub mod Needs
-pub mod NodeLaws
-pub mod PieceLaws
-pub mod StoreLaws
 pub mod TopLaws

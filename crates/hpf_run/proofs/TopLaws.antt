@@ -4,15 +4,17 @@ use Rattle.std.proofs.lemmas.List.{append-nil, length-append, take_at}
 use Rattle.hpf_base.specs.declared.refusal.Refusal.{Refusal}
 use Rattle.hpf_base.specs.declared.status.Status.TheVariants.{Done, Refused, TooLong, Usage, WriteFault}
 use Rattle.hpf_base.specs.declared.status.Status.{Status}
+use Rattle.hpf_base.specs.declared.limits.TheConstants.{MAX_SOURCE_BYTES}
 use Rattle.hpf_ports.specs.Ports.{Gave, IsAtEnd, Rose, Took}
-use Rattle.hpf_reader.specs.FirstForm.{Program, ReadsAs}
-use Rattle.hpf_reader.specs.ProgramText.{IsFine}
-use Rattle.array_meaning.specs.First.{printed_of}
-use Rattle.hpf_run.specs.Outcome.{is_done, is_refused, is_too_long, is_usage, means_memory, means_outcome, text_done, text_memory, text_refused, all_written, err_failed, out_failed, Delivered, Had, IsRefusal, IsReplyOf, Meant, reply_memory, reply_refused, Outcome, Port, TextMeant, refusal_line, source_limit, too_long_line, usage_line}
-use Rattle.hpf_run.specs.Words.{IsJob, IsNoJob}
+use Rattle.first_form.specs.Form.{Program, ReadsAs}
+use Rattle.hpf_reader.specs.ProgramText.{HasNoBreach}
+use Rattle.first_form.specs.Meaning.{printed_of}
+use Rattle.hpf_run.specs.Outcome.{is_done, is_refused, is_too_long, is_usage, means_memory, means_outcome, all_written, err_failed, out_failed, Delivered, Had, IsRefusal, Meant, Outcome, Port, port, refusal_line, too_long_line, usage_line}
+use Rattle.hpf_run.specs.Reply.{IsReplyOf, TextMeant, reply_memory, reply_refused, text_done, text_memory, text_refused}
+use Rattle.hpf_run.specs.Words.{IsNoCommand, IsRunCommand}
 
 -- a text whose program prints the bytes
-pub text-done : (text bytes : List ℕ) (p : Program) → IsFine text → ReadsAs text p → bytes ≡ printed_of p → TextMeant text record { status = Done; out = bytes; err = [] }
+pub text-done : (text bytes : List ℕ) (p : Program) → HasNoBreach text → ReadsAs text p → bytes ≡ printed_of p → TextMeant text record { status = Done; out = bytes; err = [] }
 text-done text bytes p fine reads is =
     subst (λ b. TextMeant text record { status = Done; out = b; err = [] }) (sym is) (text_done fine p reads)
 
@@ -31,9 +33,9 @@ some_had : (left : Option (List ℕ)) → (bytes : List ℕ) × Had left bytes
 some_had None = ([], tt)
 some_had (Some left) = (left, refl)
 
--- words that are no job
-pub usage-meant : (words : List (List ℕ)) (source : Port) → IsNoJob words → Meant words source source record { status = Usage; out = []; err = usage_line }
-usage-meant words source no_job = let had = some_had source.bytes in means_outcome had.0 _ had.1 (is_usage no_job) refl
+-- words that are no such command
+pub usage-meant : (words : List (List ℕ)) (source : Port) → IsNoCommand words → Meant words source source record { status = Usage; out = []; err = usage_line }
+usage-meant words source no_command = let had = some_had source.bytes in means_outcome had.0 _ had.1 (is_usage no_command) refl
 
 -- a source that was read to its end had just those bytes
 read_had : (left left' : Option (List ℕ)) (bytes : List ℕ) → Gave left left' bytes → IsAtEnd left' → Had left bytes
@@ -43,28 +45,28 @@ read_had (Some left) left' bytes gave end =
     gave.2 ∙ ap (λ rest. bytes ++ rest) none ∙ append-nil bytes
 
 -- what the text comes to is what the call means
-pub text-meant : (words : List (List ℕ)) (source source' : Port) (nodes : ℕ) (text : List ℕ) (o : Outcome) → IsJob words nodes
-    → Gave source.bytes source'.bytes text → IsAtEnd source'.bytes → length text ≤ source_limit → TextMeant text o → Meant words source source' o
-text-meant words source source' nodes text o job gave end short (text_refused r is) =
-    means_outcome text _ (read_had source.bytes source'.bytes text gave end) (is_refused nodes job short r is) (gave, end)
-text-meant words source source' nodes text o job gave end short (text_done fine p reads) =
-    means_outcome text _ (read_had source.bytes source'.bytes text gave end) (is_done nodes job short fine p reads) (gave, end)
-text-meant words source source' nodes text o job gave end short text_memory = means_memory nodes job text short gave
+pub text-meant : (words : List (List ℕ)) (source source' : Port) (nodes : ℕ) (text : List ℕ) (o : Outcome) → IsRunCommand words nodes
+    → Gave source.bytes source'.bytes text → IsAtEnd source'.bytes → length text ≤ MAX_SOURCE_BYTES → TextMeant text o → Meant words source source' o
+text-meant words source source' nodes text o command gave end short (text_refused r is) =
+    means_outcome text _ (read_had source.bytes source'.bytes text gave end) (is_refused nodes command short r is) (gave, end)
+text-meant words source source' nodes text o command gave end short (text_done fine p reads) =
+    means_outcome text _ (read_had source.bytes source'.bytes text gave end) (is_done nodes command short fine p reads) (gave, end)
+text-meant words source source' nodes text o command gave end short text_memory = means_memory nodes command text short gave
 
 -- a source of which a byte past the limit was taken
-pub too_long-meant : (words : List (List ℕ)) (source source' : Port) (nodes : ℕ) (taken : List ℕ) → IsJob words nodes
-    → length taken ≡ source_limit + 1 → Gave source.bytes source'.bytes taken
+pub too_long-meant : (words : List (List ℕ)) (source source' : Port) (nodes : ℕ) (taken : List ℕ) → IsRunCommand words nodes
+    → length taken ≡ MAX_SOURCE_BYTES + 1 → Gave source.bytes source'.bytes taken
     → Meant words source source' record { status = TooLong; out = []; err = too_long_line }
-too_long-meant words source source' nodes taken job long gave = cases source.bytes gave
+too_long-meant words source source' nodes taken command long gave = cases source.bytes gave
   where
     cases : (left : Option (List ℕ)) → Gave left source'.bytes taken
-        → Meant words record { bytes = left; faults = source.faults } source' record { status = TooLong; out = []; err = too_long_line }
+        → Meant words (port left source.faults) source' record { status = TooLong; out = []; err = too_long_line }
     cases None given =
-        means_outcome taken _ tt (is_too_long nodes job (omega arith)) given
+        means_outcome taken _ tt (is_too_long nodes command (omega arith)) given
     cases (Some left) given =
         let count : length left ≡ length taken + length given.0 = ap length given.2 ∙ length-append taken given.0 in
-        let front : take (source_limit + 1) left ≡ taken = ap (take (source_limit + 1)) given.2 ∙ take_at taken given.0 (source_limit + 1) long in
-        means_outcome left _ refl (is_too_long nodes job (omega arith)) (given.0, given.1, given.2 ∙ ap (λ l. l ++ given.0) (sym front))
+        let front : take (MAX_SOURCE_BYTES + 1) left ≡ taken = ap (take (MAX_SOURCE_BYTES + 1)) given.2 ∙ take_at taken given.0 (MAX_SOURCE_BYTES + 1) long in
+        means_outcome left _ refl (is_too_long nodes command (omega arith)) (given.0, given.1, given.2 ∙ ap (λ l. l ++ given.0) (sym front))
 
 -- what is delivered, from what the writes of texts that are equal to an outcome's answer
 pub delivered-out : (o : Outcome) (out out' err : Port) (text : List ℕ) → text ≡ o.out → Rose out.faults out'.faults

@@ -5,12 +5,13 @@ use Rattle.hpf_base.specs.declared.refusal.Reason.TheVariants.{LeftOut}
 use Rattle.hpf_base.specs.declared.status.Status.{Status}
 use Rattle.hpf_base.specs.declared.status.Status.TheVariants.{Done, Refused, Usage, ReadFault, WriteFault, Memory, TooLong}
 use Rattle.hpf_base.specs.Refusal.{name_of, number_of}
+use Rattle.hpf_base.specs.declared.limits.TheConstants.{MAX_SOURCE_BYTES}
 use Rattle.hpf_ports.specs.Ports.{Gave, IsAtEnd, Rose, Took}
-use Rattle.hpf_reader.specs.FirstForm.{Program, ReadsAs}
-use Rattle.hpf_reader.specs.FirstRefusal.{IsLeftOut}
-use Rattle.hpf_reader.specs.ProgramText.{IsFine, IsRefused}
-use Rattle.array_meaning.specs.First.{printed_of}
-use Rattle.hpf_run.specs.Words.{IsJob, IsNoJob}
+use Rattle.first_form.specs.Form.{Program, ReadsAs}
+use Rattle.first_form.specs.Refusal.{IsLeftOut}
+use Rattle.hpf_reader.specs.ProgramText.{HasNoBreach, IsRefused}
+use Rattle.first_form.specs.Meaning.{printed_of}
+use Rattle.hpf_run.specs.Words.{IsNoCommand, IsRunCommand}
 
 -- a status, and the bytes for standard output and standard error
 pub record Outcome : Type 0 where
@@ -36,30 +37,29 @@ abbrev pub refusal_line : Refusal → List ℕ
 refusal_line refusal =
     codes "hpf: line " ++ decimal refusal.line ++ codes ": refused " ++ decimal (number_of refusal.reason) ++ codes " " ++ name_of refusal.reason ++ codes "\n"
 
--- the greatest length of a source, in bytes
-abbrev pub source_limit : ℕ
-source_limit = 1048576
-
 -- a text is refused for its first breach as a program of the language or, where it has none, for the first line that isn't
 -- of the form that runs
 pub data IsRefusal (text : List ℕ) : Refusal → Type 0 where
   by_reader : (r : Refusal) → IsRefused text r → IsRefusal text r
-  by_form : (number : ℕ) → IsFine text → IsLeftOut text number → IsRefusal text record { line = number; reason = LeftOut }
+  by_form : (number : ℕ) → HasNoBreach text → IsLeftOut text number → IsRefusal text record { line = number; reason = LeftOut }
 
 -- the outcome of words and a source's bytes
 pub data TopOutcome (words : List (List ℕ)) (bytes : List ℕ) : Outcome → Type 0 where
-  is_usage : IsNoJob words → TopOutcome words bytes record { status = Usage; out = []; err = usage_line }
-  is_too_long : (nodes : ℕ) → IsJob words nodes → source_limit < length bytes
+  is_usage : IsNoCommand words → TopOutcome words bytes record { status = Usage; out = []; err = usage_line }
+  is_too_long : (nodes : ℕ) → IsRunCommand words nodes → MAX_SOURCE_BYTES < length bytes
       → TopOutcome words bytes record { status = TooLong; out = []; err = too_long_line }
-  is_refused : (nodes : ℕ) → IsJob words nodes → length bytes ≤ source_limit → (r : Refusal) → IsRefusal bytes r
+  is_refused : (nodes : ℕ) → IsRunCommand words nodes → length bytes ≤ MAX_SOURCE_BYTES → (r : Refusal) → IsRefusal bytes r
       → TopOutcome words bytes record { status = Refused; out = []; err = refusal_line r }
-  is_done : (nodes : ℕ) → IsJob words nodes → length bytes ≤ source_limit → IsFine bytes → (p : Program) → ReadsAs bytes p
+  is_done : (nodes : ℕ) → IsRunCommand words nodes → length bytes ≤ MAX_SOURCE_BYTES → HasNoBreach bytes → (p : Program) → ReadsAs bytes p
       → TopOutcome words bytes record { status = Done; out = printed_of p; err = [] }
 
 -- what a port tells: its bytes, where it tells them, and its count of faults
 pub record Port : Type 0 where
   pub bytes : Option (List ℕ)
   pub faults : ℕ
+
+abbrev pub port : Option (List ℕ) → ℕ → Port
+port bytes faults = record { bytes = bytes; faults = faults }
 
 -- the bytes that a source had left, where it tells them
 abbrev pub Had : Option (List ℕ) → List ℕ → Type 0
@@ -69,7 +69,7 @@ Had (Some left) bytes = left ≡ bytes
 -- how far a source was read for a status: not at all, one byte past the limit, or to its end
 abbrev pub IsRead : Status → Option (List ℕ) → Option (List ℕ) → List ℕ → Type 0
 IsRead Usage left left' bytes = left' ≡ left
-IsRead TooLong left left' bytes = Gave left left' (take (source_limit + 1) bytes)
+IsRead TooLong left left' bytes = Gave left left' (take (MAX_SOURCE_BYTES + 1) bytes)
 IsRead status left left' bytes = Gave left left' bytes × IsAtEnd left'
 
 -- what a call means to answer: the outcome of its words and its source, or a counted read fault, or want of
@@ -77,9 +77,9 @@ IsRead status left left' bytes = Gave left left' bytes × IsAtEnd left'
 pub data Meant (words : List (List ℕ)) (source source' : Port) : Outcome → Type 0 where
   means_outcome : (bytes : List ℕ) (o : Outcome) → Had source.bytes bytes → TopOutcome words bytes o → IsRead o.status source.bytes source'.bytes bytes
       → Meant words source source' o
-  means_read_fault : (nodes : ℕ) → IsJob words nodes → Rose source.faults source'.faults → (taken : List ℕ) → length taken ≤ source_limit
+  means_read_fault : (nodes : ℕ) → IsRunCommand words nodes → Rose source.faults source'.faults → (taken : List ℕ) → length taken ≤ MAX_SOURCE_BYTES
       → Gave source.bytes source'.bytes taken → Meant words source source' record { status = ReadFault; out = []; err = read_fault_line }
-  means_memory : (nodes : ℕ) → IsJob words nodes → (taken : List ℕ) → length taken ≤ source_limit
+  means_memory : (nodes : ℕ) → IsRunCommand words nodes → (taken : List ℕ) → length taken ≤ MAX_SOURCE_BYTES
       → Gave source.bytes source'.bytes taken → Meant words source source' record { status = Memory; out = []; err = memory_line }
 
 -- what is written of it, and the status: all of it, or a proper prefix of one sink's text where that sink's count
@@ -91,13 +91,9 @@ pub data Delivered (o : Outcome) (out out' err err' : Port) : Status → Type 0 
   err_failed : Rose err.faults err'.faults → Took out.bytes out'.bytes o.out → (n : ℕ) → n < length o.err → Took err.bytes err'.bytes (take n o.err)
       → Delivered o out out' err err' WriteFault
 
--- what a text comes to: its refusal, or what its program prints, or want of memory
-pub data TextMeant (text : List ℕ) : Outcome → Type 0 where
-  text_refused : (r : Refusal) → IsRefusal text r → TextMeant text record { status = Refused; out = []; err = refusal_line r }
-  text_done : IsFine text → (p : Program) → ReadsAs text p → TextMeant text record { status = Done; out = printed_of p; err = [] }
-  text_memory : TextMeant text record { status = Memory; out = []; err = memory_line }
-
--- a refusal is answered, or want of memory
-pub data IsReplyOf (r : Refusal) : Outcome → Type 0 where
-  reply_refused : (line : List ℕ) → line ≡ refusal_line r → IsReplyOf r record { status = Refused; out = []; err = line }
-  reply_memory : IsReplyOf r record { status = Memory; out = []; err = memory_line }
+-- what a call of the program answers, where its source and its two sinks stood so before it and so behind it: the status of
+-- what the call means, which is delivered
+pub record IsAnswer (words : List (List ℕ)) (source source' out out' err err' : Port) (status : Status) : Type 0 where
+  pub outcome : Outcome
+  pub meant : Meant words source source' outcome
+  pub delivered : Delivered outcome out out' err err' status

@@ -1,4 +1,5 @@
 -- The words that the program is called with.
+use Rattle.hpf_base.specs.declared.limits.TheConstants.{MAX_NODES}
 use Rattle.std.specs.Prelude.{◌≡◌, ℕ, ◌≤◌, List, [], ◌∷◌, length, codes, IsTrue}
 use Rattle.std.specs.Str.{all_ascii_digits}
 use Rattle.std.specs.Str.Parse.{digits_value}
@@ -10,12 +11,12 @@ pub record IsNodeCount (digits : List ℕ) (nodes : ℕ) : Type 0 where
   pub few : length digits ≤ 2
   pub value : nodes ≡ digits_value 10 digits
   pub least : 1 ≤ nodes
-  pub greatest : nodes ≤ 64
+  pub greatest : nodes ≤ MAX_NODES
 
--- `run --grid N`
-abbrev pub IsJob : List (List ℕ) → ℕ → Type 0
-IsJob words nodes = (digits : List ℕ) × (words ≡ codes "run" ∷ codes "--grid" ∷ digits ∷ []) × IsNodeCount digits nodes
+-- the words are `run --grid N`, where N stands for so many nodes
+abbrev pub IsRunCommand : List (List ℕ) → ℕ → Type 0
+IsRunCommand words nodes = (digits : List ℕ) × (words ≡ codes "run" ∷ codes "--grid" ∷ digits ∷ []) × IsNodeCount digits nodes
 
--- the words are no job
-abbrev pub IsNoJob : List (List ℕ) → Type 0
-IsNoJob words = (nodes : ℕ) → IsJob words nodes → ⊥
+-- the words are no such command
+abbrev pub IsNoCommand : List (List ℕ) → Type 0
+IsNoCommand words = (nodes : ℕ) → IsRunCommand words nodes → ⊥

@@ -1,17 +1,18 @@
 //! The top call: from words and a source to a status and two texts.
 
+ghost use Rattle.hpf_base.specs.declared.limits.TheConstants.{MAX_NODES};
 ghost use Rattle.std.specs.Prelude.{◌≡◌, ◌≤◌, map, string_bytes, IfNone, IfSome};
-ghost use Rattle.hpf_run.specs.Outcome.{Delivered, IsReplyOf, Meant, Outcome, TextMeant};
-ghost use Rattle.hpf_reader.specs.ProgramText.{IsFine, IsProgramRefusal};
-ghost use Rattle.hpf_run.specs.Reply.{outcome_of};
-ghost use Rattle.hpf_run.specs.Words.{IsNoJob};
+ghost use Rattle.hpf_run.specs.Outcome.{Delivered, IsAnswer, Meant, port};
+ghost use Rattle.hpf_reader.specs.ProgramText.{HasNoBreach, IsProgramRefusal};
+ghost use Rattle.hpf_run.specs.Reply.{IsReplyOf, TextMeant, outcome_of};
+ghost use Rattle.hpf_run.specs.Words.{IsNoCommand};
 
-use crate::first_run::run_first;
 use crate::reply::{Reply, refusal_text};
 use crate::words::nodes_of;
+use first_form::{FirstError, read_first, run_first};
 use hpf_base::{Reason, Refusal, StaticError, Status};
 use hpf_ports::{Gate, ReadAll, Sink, Source, read_all, write_all};
-use hpf_reader::{FirstError, read_first, read_program};
+use hpf_reader::read_program;
 use std::alloc::Global;
 
 /// The reply to a text that is refused.
@@ -27,8 +28,8 @@ fn reply_refused(alloc: Global, refusal: Refusal) -> Reply
 /// What a program of the language comes to on so many nodes: it runs where it is of the form that runs.
 fn reply_to_program(alloc: Global, nodes: u32, text: &[u8]) -> Reply
     requires some_nodes { 1 ≤ nodes }
-    requires few_nodes { nodes ≤ 64 }
-    requires fine { IsFine text.now }
+    requires few_nodes { nodes ≤ MAX_NODES }
+    requires fine { HasNoBreach text.now }
     ensures { TextMeant text.now (outcome_of result) }
 {
     match read_first(alloc, text) {
@@ -49,7 +50,7 @@ fn reply_to_program(alloc: Global, nodes: u32, text: &[u8]) -> Reply
 
 /// Why a text isn't a program of the language, if it isn't; or want of memory.
 fn fault_of(alloc: Global, text: &[u8]) -> Option<StaticError>
-    ensures fine { IfNone result (IsFine text.now) }
+    ensures fine { IfNone result (HasNoBreach text.now) }
     ensures refused { IfSome result (IsProgramRefusal text.now) }
 {
     match read_program(alloc, text) {
@@ -61,7 +62,7 @@ fn fault_of(alloc: Global, text: &[u8]) -> Option<StaticError>
 /// What a text comes to on so many nodes.
 fn reply_to_text(alloc: Global, nodes: u32, text: &[u8]) -> Reply
     requires some_nodes { 1 ≤ nodes }
-    requires few_nodes { nodes ≤ 64 }
+    requires few_nodes { nodes ≤ MAX_NODES }
     ensures { TextMeant text.now (outcome_of result) }
 {
     match fault_of(alloc, text) {
@@ -71,11 +72,11 @@ fn reply_to_text(alloc: Global, nodes: u32, text: &[u8]) -> Reply
     }
 }
 
-/// What the words and the source come to. For words that are no job the source isn't touched.
+/// What the words and the source come to. For words that are no command the source isn't touched.
 fn reply_to<S: Source>(alloc: Global, words: &[String], src: &mut S) -> Reply
-    ensures untouched { IsNoJob (map string_bytes words.now) → src.new ≡ src.old }
-    ensures meant { Meant (map string_bytes words.now) record { bytes = S.left src.old; faults = S.faults src.old }
-        record { bytes = S.left src.new; faults = S.faults src.new } (outcome_of result) }
+    ensures untouched { IsNoCommand (map string_bytes words.now) → src.new ≡ src.old }
+    ensures meant { Meant (map string_bytes words.now)
+        (port (S.left src.old) (S.faults src.old)) (port (S.left src.new) (S.faults src.new)) (outcome_of result) }
 {
     let Some(nodes) = nodes_of(words) else {
         return Reply::Usage;
@@ -90,9 +91,8 @@ fn reply_to<S: Source>(alloc: Global, words: &[String], src: &mut S) -> Reply
 
 /// Writes a reply: first standard output, then standard error.
 fn deliver<O: Sink, E: Sink>(reply: &Reply, out: &mut O, err: &mut E) -> Status
-    ensures { Delivered (outcome_of reply.now) record { bytes = O.held out.old; faults = O.faults out.old }
-        record { bytes = O.held out.new; faults = O.faults out.new } record { bytes = E.held err.old; faults = E.faults err.old }
-        record { bytes = E.held err.new; faults = E.faults err.new } result }
+    ensures { Delivered (outcome_of reply.now) (port (O.held out.old) (O.faults out.old)) (port (O.held out.new) (O.faults out.new))
+        (port (E.held err.old) (E.faults err.old)) (port (E.held err.new) (E.faults err.new)) result }
 {
     let Ok(()) = write_all(out, reply.out()) else {
         return Status::WriteFault;
@@ -109,7 +109,7 @@ fn deliver<O: Sink, E: Sink>(reply: &Reply, out: &mut O, err: &mut E) -> Status
 /// a program of the language or, where it has none, for the first line that isn't of the form that runs; or a read fault where the source's
 /// count of faults rose in this call, or want of memory, which may come without a cause. It is delivered whole,
 /// or the answer is `WriteFault`: then the count of the sink at fault rose in this call, and that sink holds a
-/// proper prefix of its text. For words that are no job the source isn't touched. `rt` and `gate` have no part
+/// proper prefix of its text. For words that are no command the source isn't touched. `rt` and `gate` have no part
 /// in any answer.
 pub fn hpf_top<R, S: Source, O: Sink, E: Sink, G: Gate>(
     _rt: &R,
@@ -120,12 +120,10 @@ pub fn hpf_top<R, S: Source, O: Sink, E: Sink, G: Gate>(
     err: &mut E,
     _gate: &G,
 ) -> Status
-    ensures untouched { IsNoJob (map string_bytes words.now) → src.new ≡ src.old }
-    ensures answer { (o : Outcome)
-        × Meant (map string_bytes words.now) record { bytes = S.left src.old; faults = S.faults src.old }
-        record { bytes = S.left src.new; faults = S.faults src.new } o
-        × Delivered o record { bytes = O.held out.old; faults = O.faults out.old } record { bytes = O.held out.new; faults = O.faults out.new }
-        record { bytes = E.held err.old; faults = E.faults err.old } record { bytes = E.held err.new; faults = E.faults err.new } result }
+    ensures untouched { IsNoCommand (map string_bytes words.now) → src.new ≡ src.old }
+    ensures answer { IsAnswer (map string_bytes words.now) (port (S.left src.old) (S.faults src.old)) (port (S.left src.new) (S.faults src.new))
+        (port (O.held out.old) (O.faults out.old)) (port (O.held out.new) (O.faults out.new))
+        (port (E.held err.old) (E.faults err.old)) (port (E.held err.new) (E.faults err.new)) result }
 {
     let reply = reply_to(alloc, words, src);
     deliver(&reply, out, err)

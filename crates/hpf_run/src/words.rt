@@ -3,7 +3,7 @@
 ghost use Rattle.std.specs.Prelude.{◌≡◌, ℕ, ◌↔◌, IsTrue, IfSome, IfNone, map, string_bytes};
 ghost use Rattle.std.specs.List.{list_all};
 ghost use Rattle.std.specs.Char.{is_ascii_digit};
-ghost use Rattle.hpf_run.specs.Words.{IsJob, IsNoJob, IsNodeCount};
+ghost use Rattle.hpf_run.specs.Words.{IsRunCommand, IsNoCommand, IsNodeCount};
 
 use hpf_base::MAX_NODES;
 
@@ -41,8 +41,8 @@ fn is_word(word: &String, text: &str) -> bool
 
 /// The number of nodes, where the words are `run --grid N`.
 pub fn nodes_of(words: &[String]) -> Option<u32>
-    ensures some { IfSome result (IsJob (map string_bytes words.now)) }
-    ensures none { IfNone result (IsNoJob (map string_bytes words.now)) }
+    ensures some { IfSome result (IsRunCommand (map string_bytes words.now)) }
+    ensures none { IfNone result (IsNoCommand (map string_bytes words.now)) }
 {
     if words.len() != 3 {
         return None;

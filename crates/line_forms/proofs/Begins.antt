@@ -1,5 +1,5 @@
 -- How lexemes begin, and what that excludes.
-use Rattle.std.proofs.Common.{◌≡◌, ◌&&◌, ◌||◌, Bool, true, false, List, [], ◌∷◌, ◌++◌, drop, Option, Some, None, ◌⊎◌, inl, inr, ⊎_elim, refl, sym, ap, ◌∙◌, subst, append_assoc}
+use Rattle.std.proofs.Common.{◌≡◌, ℕ, ◌&&◌, ◌||◌, Bool, true, false, List, [], ◌∷◌, ◌++◌, drop, Option, Some, None, ◌⊎◌, inl, inr, ⊎_elim, refl, sym, ap, ◌∙◌, subst, append_assoc}
 use Rattle.std.specs.Prelude.{not, is_none, is_some}
 use Rattle.std.specs.List.{list_all}
 use Rattle.std.proofs.lemmas.Slice.Eq.{bytes_eq-Decides}
@@ -16,7 +16,7 @@ use Rattle.expr_reader.specs.Front.{Ends, front}
 use Rattle.expr_reader.proofs.Equations.{reading_at, reading_at_end}
 use Rattle.line_forms.specs.Marks.{same, starts, colon, colons, equals}
 use Rattle.line_forms.specs.Read.{is_index}
-use Rattle.line_forms.specs.Sane.{First, Finish, Exactly, AnyName, Operand, AnyText, is_operand, is_first, begins, Begins, is_mark, are_marks, differ, may_be_name, apart_from, apart, is_end, is_subscript_end, ends_expression, ends_subscript, is_finish, is_filled}
+use Rattle.line_forms.specs.Ll1.{FirstItem, Finish, Exactly, AnyName, Operand, AnyText, is_operand, is_first, begins, Begins, is_mark, are_marks, differ, may_be_name, disjoint_from, disjoint, is_end, is_subscript_end, ends_expression, ends_subscript, is_finish, is_filled}
 use Rattle.line_forms.proofs.Sound.{both_true, same_is}
 
 pub either_true : (a b : Bool) → (a || b) ≡ true → (a ≡ true) ⊎ (b ≡ true)
@@ -40,18 +40,18 @@ none_of None h = refl
 none_of (Some x) h = absurd cc
 
 -- from a test that all ways to begin pass
-pub each : {Q : Type 0} (p : First → Bool) (fs : List First) (ts : List Lexeme) → list_all p fs ≡ true → Begins fs ts → ((f : First) → p f ≡ true → is_first f ts ≡ true → Q) → Q
+pub each : {Q : Type 0} (p : FirstItem → Bool) (fs : List FirstItem) (ts : List Lexeme) → list_all p fs ≡ true → Begins fs ts → ((f : FirstItem) → p f ≡ true → is_first f ts ≡ true → Q) → Q
 each p [] ts a b k = absurd cc
 each p (f ∷ fs) ts a b k =
     let h = both_true (p f) (list_all p fs) a in
     ⊎_elim (λ one. k f h.0 one) (λ more. each p fs ts h.1 more k) (either_true (is_first f ts) (begins fs ts) b)
 
-pub begins_left : (fs gs : List First) (ts : List Lexeme) → Begins fs ts → Begins (fs ++ gs) ts
+pub begins_left : (fs gs : List FirstItem) (ts : List Lexeme) → Begins fs ts → Begins (fs ++ gs) ts
 begins_left [] gs ts h = absurd cc
 begins_left (f ∷ fs) gs ts h =
     ⊎_elim (λ one. first_true (is_first f ts) (begins (fs ++ gs) ts) one) (λ more. second_true (is_first f ts) (begins (fs ++ gs) ts) (begins_left fs gs ts more)) (either_true (is_first f ts) (begins fs ts) h)
 
-pub begins_right : (fs gs : List First) (ts : List Lexeme) → Begins gs ts → Begins (fs ++ gs) ts
+pub begins_right : (fs gs : List FirstItem) (ts : List Lexeme) → Begins gs ts → Begins (fs ++ gs) ts
 begins_right [] gs ts h = h
 begins_right (f ∷ fs) gs ts h = second_true (is_first f ts) (begins (fs ++ gs) ts) (begins_right fs gs ts h)
 
@@ -90,27 +90,27 @@ other p k t a b = at (same k t) refl
     at true h = let e : p k ≡ p t = ap p (same_is k t h) in absurd cc
     at false h = refl
 
-apart_first : (ks : List Lexeme) (f : First) (ts : List Lexeme) → apart_from ks f ≡ true → is_first f ts ≡ true → starts ks ts ≡ false
-apart_first [] f ts a h = absurd cc
-apart_first (k ∷ ks) Finish [] a h = refl
-apart_first (k ∷ ks) (Exactly js) ts a h = differ_starts (k ∷ ks) js ts a h
-apart_first (k ∷ ks) AnyName (Word x ∷ ts) a h = ap (λ b. b && starts ks ts) (other may_be_name k (Word x) (not_true (may_be_name k) a) h)
-apart_first (k ∷ ks) Operand (t ∷ ts) a h = ap (λ b. b && starts ks ts) (other is_operand k t (not_true (is_operand k) a) h)
-apart_first (Word x ∷ ks) AnyText (Text bytes ∷ ts) a h = refl
-apart_first (Fixed s ∷ ks) AnyText (Text bytes ∷ ts) a h = refl
-apart_first (k ∷ ks) AnyText (Text bytes ∷ ts) a h = refl
-apart_first (k ∷ ks) f ts a h = absurd cc
+disjoint_first : (ks : List Lexeme) (f : FirstItem) (ts : List Lexeme) → disjoint_from ks f ≡ true → is_first f ts ≡ true → starts ks ts ≡ false
+disjoint_first [] f ts a h = absurd cc
+disjoint_first (k ∷ ks) Finish [] a h = refl
+disjoint_first (k ∷ ks) (Exactly js) ts a h = differ_starts (k ∷ ks) js ts a h
+disjoint_first (k ∷ ks) AnyName (Word x ∷ ts) a h = ap (λ b. b && starts ks ts) (other may_be_name k (Word x) (not_true (may_be_name k) a) h)
+disjoint_first (k ∷ ks) Operand (t ∷ ts) a h = ap (λ b. b && starts ks ts) (other is_operand k t (not_true (is_operand k) a) h)
+disjoint_first (Word x ∷ ks) AnyText (Text bytes ∷ ts) a h = refl
+disjoint_first (Fixed s ∷ ks) AnyText (Text bytes ∷ ts) a h = refl
+disjoint_first (k ∷ ks) AnyText (Text bytes ∷ ts) a h = refl
+disjoint_first (k ∷ ks) f ts a h = absurd cc
 
 -- fixed lexemes don't stand in front
-pub apart_starts : (ks : List Lexeme) (fs : List First) (ts : List Lexeme) → apart ks fs ≡ true → Begins fs ts → starts ks ts ≡ false
-apart_starts ks fs ts a b = each (apart_from ks) fs ts a b (λ f p h. apart_first ks f ts p h)
+pub disjoint_starts : (ks : List Lexeme) (fs : List FirstItem) (ts : List Lexeme) → disjoint ks fs ≡ true → Begins fs ts → starts ks ts ≡ false
+disjoint_starts ks fs ts a b = each (disjoint_from ks) fs ts a b (λ f p h. disjoint_first ks f ts p h)
 
 end_is : (t : Lexeme) (ts : List Lexeme) → is_end t ≡ true → Ends (t ∷ ts)
 end_is t ts h =
     let b = both_true (not (is_open (sign_of t))) (is_none (binary_of t)) h in
     (not_true (is_open (sign_of t)) b.0, none_of (binary_of t) b.1)
 
-ends_first : (f : First) (ts : List Lexeme) → ends_expression f ≡ true → is_first f ts ≡ true → Ends ts
+ends_first : (f : FirstItem) (ts : List Lexeme) → ends_expression f ≡ true → is_first f ts ≡ true → Ends ts
 ends_first Finish [] a h = tt
 ends_first (Exactly (k ∷ ks)) (t ∷ ts) a h = end_is t ts (subst (λ k. is_end k ≡ true) (same_is k t (both_true (same k t) (starts ks ts) h).0) a)
 ends_first AnyName (Word x ∷ ts) a h = (refl, refl)
@@ -118,22 +118,22 @@ ends_first AnyText (Text bytes ∷ ts) a h = (refl, refl)
 ends_first f ts a h = absurd cc
 
 -- no expression goes on with what is behind it
-pub ends_all : (fs : List First) (ts : List Lexeme) → list_all ends_expression fs ≡ true → Begins fs ts → Ends ts
+pub ends_all : (fs : List FirstItem) (ts : List Lexeme) → list_all ends_expression fs ≡ true → Begins fs ts → Ends ts
 ends_all fs ts a b = each ends_expression fs ts a b (λ f p h. ends_first f ts p h)
 
 -- nothing is left
-pub finish_all : (fs : List First) (ts : List Lexeme) → list_all is_finish fs ≡ true → Begins fs ts → ts ≡ []
+pub finish_all : (fs : List FirstItem) (ts : List Lexeme) → list_all is_finish fs ≡ true → Begins fs ts → ts ≡ []
 finish_all fs ts a b = each is_finish fs ts a b (λ f p h. finish f ts p h)
   where
-    finish : (f : First) (ts : List Lexeme) → is_finish f ≡ true → is_first f ts ≡ true → ts ≡ []
+    finish : (f : FirstItem) (ts : List Lexeme) → is_finish f ≡ true → is_first f ts ≡ true → ts ≡ []
     finish Finish [] p h = refl
     finish f ts p h = absurd cc
 
 -- a lexeme is there
-pub filled_all : (fs : List First) → list_all is_filled fs ≡ true → Begins fs [] → ⊥
+pub filled_all : (fs : List FirstItem) → list_all is_filled fs ≡ true → Begins fs [] → ⊥
 filled_all fs a b = each is_filled fs [] a b (λ f p h. filled f p h)
   where
-    filled : (f : First) → is_filled f ≡ true → is_first f [] ≡ true → ⊥
+    filled : (f : FirstItem) → is_filled f ≡ true → is_first f [] ≡ true → ⊥
     filled (Exactly (k ∷ ks)) p h = absurd cc
     filled Finish p h = absurd cc
     filled f p h = absurd cc
@@ -160,12 +160,12 @@ operand_first (Closed a) us w = refl
 equals_binary : (t : Lexeme) (ts : List Lexeme) (o : Op) → binary_of t ≡ Some o → starts equals (t ∷ ts) ≡ false
 equals_binary t ts o h = ap (λ b. b && true) (other (λ t. is_some (binary_of t)) (Fixed sign.Equals) t refl (ap is_some h))
 
--- no expression begins with a name and `=`
-pub no_index : (e : Expression) (us : List Lexeme) → IsFormed e → starts equals us ≡ false → is_index (spelling e ++ us) ≡ false
+-- no expression begins with a name and `=`, but for a name before `=`
+pub no_index : (e : Expression) (us : List Lexeme) → IsFormed e → ((x : List ℕ) → e ≡ Name x → starts equals us ≡ false) → is_index (spelling e ++ us) ≡ false
 no_index (Number n) us w h = refl
 no_index (Truth true) us w h = refl
 no_index (Truth false) us w h = refl
-no_index (Name x) us w h = h
+no_index (Name x) us w h = h x refl
 no_index (Element x ps) us w h = refl
 no_index (Call o ps) us w h = refl
 no_index (Unary o a) us w h = no_sign (operator_lexeme o) o (spelling a ++ us) w.0
@@ -175,7 +175,7 @@ no_index (Unary o a) us w h = no_sign (operator_lexeme o) o (spelling a ++ us) w
     no_sign t o ts h = refl
 no_index (Binary o a b) us w h =
     ap is_index (append_assoc (spelling a) (operator_lexeme o ∷ spelling b) us)
-    ∙ no_index a (operator_lexeme o ∷ (spelling b ++ us)) w.1 (equals_binary (operator_lexeme o) (spelling b ++ us) o w.0)
+    ∙ no_index a (operator_lexeme o ∷ (spelling b ++ us)) w.1 (λ x is. equals_binary (operator_lexeme o) (spelling b ++ us) o w.0)
 no_index (Closed a) us w h = refl
 
 -- nothing is read where no expression may begin
@@ -221,11 +221,11 @@ subscript_end t ts h =
       no_colons = ap (λ b. b && true) (other (λ t. not (is_colons (sign_of t))) (Fixed sign.Colons) t refl a.1);
     }
 
-subscript_first : (f : First) (ts : List Lexeme) → ends_subscript f ≡ true → is_first f ts ≡ true → EndsSubscript ts
+subscript_first : (f : FirstItem) (ts : List Lexeme) → ends_subscript f ≡ true → is_first f ts ≡ true → EndsSubscript ts
 subscript_first Finish [] a h = record { ends = tt; none = front_end; no_colon = refl; no_colons = refl }
 subscript_first AnyText (Text bytes ∷ ts) a h = record { ends = (refl, refl); none = front_none (Text bytes) ts refl; no_colon = refl; no_colons = refl }
 subscript_first (Exactly (k ∷ ks)) (t ∷ ts) a h = subscript_end t ts (subst (λ k. is_subscript_end k ≡ true) (same_is k t (both_true (same k t) (starts ks ts) h).0) a)
 subscript_first f ts a h = absurd cc
 
-pub subscript_all : (fs : List First) (ts : List Lexeme) → list_all ends_subscript fs ≡ true → Begins fs ts → EndsSubscript ts
+pub subscript_all : (fs : List FirstItem) (ts : List Lexeme) → list_all ends_subscript fs ≡ true → Begins fs ts → EndsSubscript ts
 subscript_all fs ts a b = each ends_subscript fs ts a b (λ f p h. subscript_first f ts p h)

@@ -1,20 +1,26 @@
--- What is spelled is read: expressions, variables, items and subscripts.
-use Rattle.std.proofs.Common.{◌≡◌, ◌≤◌, ℕ, ◌&&◌, Bool, true, false, List, ◌∷◌, ◌++◌, drop, Some, None, refl, sym, ap, ◌∙◌, subst, arith, append_assoc}
+-- What is spelled is read: expressions, items and subscripts.
+use Rattle.std.proofs.Common.{◌≡◌, ◌≤◌, ◌<◌, ℕ, ◌&&◌, Bool, true, false, List, [], ◌∷◌, ◌++◌, drop, Option, Some, None, refl, sym, ap, ◌∙◌, subst, arith, append_assoc, rules, tests}
 use Rattle.std.specs.Prelude.{if◌then◌else◌, not, nat_le}
+use Rattle.hpf_base.specs.declared.limits.TheConstants.{MAX_DEPTH}
 use Rattle.syntax_tree.specs.declared.sign.Sign.TheVariants as sign
 use Rattle.syntax_tree.specs.Lexeme.{Lexeme, Text, Fixed}
-use Rattle.syntax_tree.specs.Expression.{Expression, Name, Element, Part, One, Range, Glued, Maybe, Absent, Present, kept, part_kept, maybe_kept}
-use Rattle.syntax_tree.specs.Spelling.{spelling, part_spelling, maybe_spelling, step_spelling, IsFormed, IsPart, IsMaybe, depth, part_depth, maybe_depth}
-use Rattle.expr_reader.specs.Front.{Ends, front}
-use Rattle.expr_reader.proofs.Theorem.{front_found, same_depth}
+use Rattle.syntax_tree.specs.Expression.{Expression, Part, One, Range, Glued, Maybe, Absent, Present, kept, part_kept, maybe_kept}
+use Rattle.syntax_tree.specs.Spelling.{spelling, part_spelling, maybe_spelling, step_spelling, IsFormed, IsPart, IsMaybe, depth}
+use Rattle.expr_reader.specs.Front.{Ends, IsAsDeep, front}
+use Rattle.expr_reader.proofs.Theorem.{front_found, front_deep}
+use Rattle.line_forms.specs.declared.depths.Depths.{Depths}
+use Rattle.line_forms.specs.declared.depths.Depths.TheVariants.{Limited, Any}
+use Rattle.line_forms.specs.declared.read_error.ReadError.TheVariants.{TooDeep}
 use Rattle.line_forms.specs.Marks.{starts, colon, colons}
-use Rattle.line_forms.specs.Reading.{Found, Stopped, ◌>>=◌}
-use Rattle.line_forms.specs.declared.miss.Miss.TheVariants.{Form, Depth}
+use Rattle.line_forms.specs.Reading.{Reading, Found, Stopped, ◌>>=◌}
 use Rattle.line_forms.specs.Grammar.{Output, Shown, Characters}
-use Rattle.line_forms.specs.Printed.{output_spelling, IsExpression, IsVariable, IsOutput, output_kept}
-use Rattle.line_forms.specs.Read.{shallow, formula, if_there, perhaps, is_variable, as_variable, variable, shown, item, step, part_from, subscript}
-use Rattle.line_forms.specs.Sane.{AnyName, Operand, is_first}
+use Rattle.line_forms.specs.Printed.{output_spelling, IsOutput, output_kept}
+use Rattle.line_forms.specs.DeepFront.{is_too_deep, preceded, front_or, expr_front, maybe_front, step_front, output_front, part_front}
+use Rattle.line_forms.specs.Read.{within_depth, expr, if_there, optional_expr, shown, item, step, part_from, subscript}
+use Rattle.line_forms.specs.Ll1.{Operand, is_first}
+use Rattle.line_forms.proofs.Sound.{deep_kept}
 use Rattle.line_forms.proofs.Begins.{operand_first, EndsSubscript, front_none}
+use Rattle.line_forms.proofs.Standing.{StandsAs, behind_prefix, then_reads, followed, mapped, text_stands}
 
 pub if_false : {A : Type 0} (b : Bool) (x y : A) → b ≡ false → (if b then x else y) ≡ y
 if_false b x y h = ap (λ b. if b then x else y) h
@@ -22,84 +28,108 @@ if_false b x y h = ap (λ b. if b then x else y) h
 pub if_true : {A : Type 0} (b : Bool) (x y : A) → b ≡ true → (if b then x else y) ≡ x
 if_true b x y h = ap (λ b. if b then x else y) h
 
--- a test of the depth lets through what isn't too deep
-passes : (strict : Bool) (d l : ℕ) → (strict ≡ true → d ≤ l) → (strict && not (nat_le d l)) ≡ false
-passes true d l h = let le : d ≤ l = h refl in grind arith
-passes false d l h = refl
+over : (a l : ℕ) → not (nat_le a l) ≡ true → l < a
+over a l h = grind arith
 
-shallow_found : (strict : Bool) (e : Expression) (us : List Lexeme) → (strict ≡ true → depth e ≤ 200) → shallow strict (Some (kept e, us)) ≡ Found (kept e, us)
-shallow_found strict e us h =
-    if_false (strict && not (nat_le (depth (kept e)) 200)) (Stopped Depth) (Found (kept e, us)) (passes strict (depth (kept e)) 200 (λ s. subst (λ n. n ≤ 200) (sym (same_depth e)) (h s)))
+over_test : (a l : ℕ) → l < a → not (nat_le a l) ≡ true
+over_test a l h = search (rules, tests)
 
-pub formula_found : (strict : Bool) (e : Expression) (us : List Lexeme) → IsExpression strict e → Ends us → formula strict (spelling e ++ us) ≡ Found (kept e, us)
-formula_found strict e us w h = ap (shallow strict) (front_found e us w.0 h) ∙ shallow_found strict e us w.1
+-- what is at least as deep is too deep
+deeper : (depths : Depths) (e x : Expression) → depth e ≤ depth x → is_too_deep depths e ≡ true → is_too_deep depths x ≡ true
+deeper Limited e x le h = let o = over (depth e) MAX_DEPTH h in over_test (depth x) MAX_DEPTH (omega (arith, o, le))
+deeper Any e x le h = absurd cc
 
-variable_kept : (e : Expression) → is_variable e ≡ true → is_variable (kept e) ≡ true
-variable_kept (Name x) h = refl
-variable_kept (Element x ps) h = refl
-variable_kept e h = absurd cc
+deep_stops : (depths : Depths) (e : Expression) (o : Option (Expression × List Lexeme)) → IsAsDeep e o → is_too_deep depths e ≡ true → within_depth depths o ≡ Stopped TooDeep
+deep_stops depths e None le h = absurd le
+deep_stops depths e (Some x) le h = if_true (is_too_deep depths x.0) (Stopped TooDeep) (Found x) (deeper depths e x.0 le h)
 
-pub variable_found : (strict : Bool) (e : Expression) (us : List Lexeme) → IsVariable strict e → Ends us → variable strict (spelling e ++ us) ≡ Found (kept e, us)
-variable_found strict e us w h =
-    let v = variable_kept e w.1 in
-    ap (as_variable strict) (front_found e us w.0 h)
-    ∙ ap (λ b. if strict && not (nat_le (depth (kept e)) (if b then 201 else 200)) then Stopped Depth else (if b then Found (kept e, us) else Stopped Form)) v
-    ∙ if_false (strict && not (nat_le (depth (kept e)) 201)) (Stopped Depth) (Found (kept e, us)) (passes strict (depth (kept e)) 201 (λ s. subst (λ n. n ≤ 201) (sym (same_depth e)) (w.2 s)))
+deep_stops_there : (depths : Depths) (e : Expression) (ts : List Lexeme) (o : Option (Expression × List Lexeme)) → IsAsDeep e o → is_too_deep depths e ≡ true → if_there depths ts o ≡ Stopped TooDeep
+deep_stops_there depths e ts None le h = absurd le
+deep_stops_there depths e ts (Some x) le h = ap (λ r. r >>= λ x. Found (Present x.0, x.1)) (deep_stops depths e (Some x) le h)
 
--- a variable begins with a name
-pub name_first : (e : Expression) (us : List Lexeme) → IsFormed e → is_variable e ≡ true → is_first AnyName (spelling e ++ us) ≡ true
-name_first (Name x) us w h = ap not w
-name_first (Element x ps) us w h = ap not w.0
-name_first e us w h = absurd cc
+module _ (depths : Depths) (Behind : List Lexeme → Type 0) where
+  within_found : (e : Expression) (us : List Lexeme) → is_too_deep depths e ≡ false → within_depth depths (Some (kept e, us)) ≡ Found (kept e, us)
+  within_found e us h = if_false (is_too_deep depths (kept e)) (Stopped TooDeep) (Found (kept e, us)) (deep_kept depths e ∙ h)
 
-item_shown : (strict : Bool) (ts : List Lexeme) → is_first Operand ts ≡ true → item strict ts ≡ shown strict ts
-item_shown strict (Text bytes ∷ ts) h = absurd cc
-item_shown strict ts h = refl
+  pub expr_reads : (e : Expression) → IsFormed e → ((us : List Lexeme) → Behind us → Ends us) → (ts : List Lexeme) (r : Reading Expression) → StandsAs (expr_front depths e) (spelling e) (kept e) Behind ts r → expr depths ts ≡ r
+  expr_reads e w ends ts r s = at (is_too_deep depths e) refl s
+    where
+      at : (b : Bool) → is_too_deep depths e ≡ b → StandsAs (if b then Some (spelling e) else None) (spelling e) (kept e) Behind ts r → expr depths ts ≡ r
+      at true h s = ap (expr depths) s.1 ∙ deep_stops depths e (front (spelling e ++ s.0)) (front_deep e s.0 w) h ∙ sym s.2
+      at false h s = ap (expr depths) s.2 ∙ ap (within_depth depths) (front_found e s.0 w (ends s.0 s.1)) ∙ within_found e s.0 h ∙ sym s.3
 
-pub item_found : (strict : Bool) (i : Output) (us : List Lexeme) → IsOutput strict i → Ends us → item strict (output_spelling i ++ us) ≡ Found (output_kept i, us)
-item_found strict (Shown e) us w h =
-    item_shown strict (spelling e ++ us) (operand_first e us w.0)
-    ∙ ap (λ r. r >>= λ x. Found (Shown x.0, x.1)) (formula_found strict e us w h)
-item_found strict (Characters bytes) us w h = refl
+  item_shown : (ts : List Lexeme) → is_first Operand ts ≡ true → item depths ts ≡ shown depths ts
+  item_shown (Text bytes ∷ ts) h = absurd cc
+  item_shown ts h = refl
 
-perhaps_found : (strict : Bool) (a : Maybe) (us : List Lexeme) → IsMaybe a → (strict ≡ true → maybe_depth a ≤ 200) → Ends us → front us ≡ None → perhaps strict (maybe_spelling a ++ us) ≡ Found (maybe_kept a, us)
-perhaps_found strict Absent us w d h none = ap (if_there strict us) none
-perhaps_found strict (Present e) us w d h none =
-    ap (if_there strict (spelling e ++ us)) (front_found e us w h)
-    ∙ ap (λ r. r >>= λ x. Found (Present x.0, x.1)) (shallow_found strict e us d)
+  pub item_reads : (i : Output) → IsOutput i → ((us : List Lexeme) → Behind us → Ends us) → (ts : List Lexeme) (r : Reading Output) → StandsAs (output_front depths i) (output_spelling i) (output_kept i) Behind ts r → item depths ts ≡ r
+  item_reads (Shown e) w ends ts r s =
+      let t = text_stands (is_too_deep depths e) (spelling e) (Shown (kept e)) Behind ts r s in
+      item_shown ts (ap (is_first Operand) t.1 ∙ operand_first e t.0 w)
+      ∙ mapped (expr_front depths e) (spelling e) (kept e) Shown Behind ts r s (expr depths ts) (expr_reads e w ends ts)
+  item_reads (Characters bytes) w ends ts r s = ap (item depths) s.2 ∙ sym s.3
 
-colon_ends : (us : List Lexeme) → Ends (Fixed sign.Colon ∷ us)
-colon_ends us = (refl, refl)
+  -- behind an expression that may be there
+  abbrev pub EndsMaybe : List Lexeme → Type 0
+  EndsMaybe us = Ends us × (front us ≡ None)
 
-colons_ends : (us : List Lexeme) → Ends (Fixed sign.Colons ∷ us)
-colons_ends us = (refl, refl)
+  pub maybe_reads : (a : Maybe) → IsMaybe a → ((us : List Lexeme) → Behind us → EndsMaybe us) → (ts : List Lexeme) (r : Reading Maybe) → StandsAs (maybe_front depths a) (maybe_spelling a) (maybe_kept a) Behind ts r → optional_expr depths ts ≡ r
+  maybe_reads Absent w ends ts r s = ap (optional_expr depths) s.2 ∙ ap (if_there depths s.0) (ends s.0 s.1).1 ∙ sym s.3
+  maybe_reads (Present e) w ends ts r s = at (is_too_deep depths e) refl s
+    where
+      at : (b : Bool) → is_too_deep depths e ≡ b → StandsAs (if b then Some (spelling e) else None) (spelling e) (Present (kept e)) Behind ts r → optional_expr depths ts ≡ r
+      at true h s = ap (optional_expr depths) s.1 ∙ deep_stops_there depths e (spelling e ++ s.0) (front (spelling e ++ s.0)) (front_deep e s.0 w) h ∙ sym s.2
+      at false h s =
+          ap (optional_expr depths) s.2 ∙ ap (if_there depths (spelling e ++ s.0)) (front_found e s.0 w (ends s.0 s.1).0)
+          ∙ ap (λ r. r >>= λ x. Found (Present x.0, x.1)) (within_found e s.0 h) ∙ sym s.3
 
-step_found : (strict : Bool) (a b c : Maybe) (us : List Lexeme) → IsMaybe c → (strict ≡ true → maybe_depth c ≤ 200) → EndsSubscript us → step strict a (b, step_spelling c ++ us) ≡ Found (Range a b (maybe_kept c), us)
-step_found strict a b Absent us w d h = if_false (starts colon us) (formula strict (drop 1 us) >>= λ c. Found (Range a b (Present c.0), c.1)) (Found (Range a b Absent, us)) h.no_colon
-step_found strict a b (Present e) us w d h = ap (λ r. r >>= λ c. Found (Range a b (Present c.0), c.1)) (formula_found strict e us (w, d) h.ends)
+colon_ends : (us vs : List Lexeme) → vs ≡ colon ++ us → Ends vs × (front vs ≡ None)
+colon_ends us vs is = subst (λ vs. Ends vs × (front vs ≡ None)) (sym is) ((refl, refl), front_none (Fixed sign.Colon) us refl)
 
--- behind the last part of a triplet
-step_ends : (c : Maybe) (us : List Lexeme) → EndsSubscript us → Ends (step_spelling c ++ us) × (front (step_spelling c ++ us) ≡ None)
-step_ends Absent us h = (h.ends, h.none)
-step_ends (Present e) us h = (colon_ends (spelling e ++ us), front_none (Fixed sign.Colon) (spelling e ++ us) refl)
+colons_ends : (us vs : List Lexeme) → vs ≡ colons ++ us → Ends vs × (front vs ≡ None)
+colons_ends us vs is = subst (λ vs. Ends vs × (front vs ≡ None)) (sym is) ((refl, refl), front_none (Fixed sign.Colons) us refl)
 
-pub subscript_found : (strict : Bool) (p : Part) (us : List Lexeme) → IsPart p → (strict ≡ true → part_depth p ≤ 200) → EndsSubscript us → subscript strict (part_spelling p ++ us) ≡ Found (part_kept p, us)
-subscript_found strict (One e) us w d h =
-    ap (λ r. r >>= part_from strict) (perhaps_found strict (Present e) us w d h.ends h.none)
-    ∙ if_false (starts colon us) _ _ h.no_colon
-    ∙ if_false (starts colons us) _ _ h.no_colons
-subscript_found strict (Range a b c) us w d h =
-    let after_colon = maybe_spelling b ++ (step_spelling c ++ us) in
-    let e = step_ends c us h in
-    ap (subscript strict) (grouped (maybe_spelling a) (maybe_spelling b) (step_spelling c))
-    ∙ ap (λ r. r >>= part_from strict) (perhaps_found strict a (Fixed sign.Colon ∷ after_colon) w.0 (λ s. let n = d s in omega arith) (colon_ends after_colon) (front_none (Fixed sign.Colon) after_colon refl))
-    ∙ ap (λ r. r >>= step strict (maybe_kept a)) (perhaps_found strict b (step_spelling c ++ us) w.1 (λ s. let n = d s in omega arith) e.0 e.1)
-    ∙ step_found strict (maybe_kept a) (maybe_kept b) c us w.2 (λ s. let n = d s in omega arith) h
-  where
-    grouped : (xs ys zs : List Lexeme) → (xs ++ Fixed sign.Colon ∷ (ys ++ zs)) ++ us ≡ xs ++ Fixed sign.Colon ∷ (ys ++ (zs ++ us))
-    grouped xs ys zs = simp append_assoc
-subscript_found strict (Glued a c) us w d h =
-    let after_colons = spelling c ++ us in
-    ap (subscript strict) (append_assoc (maybe_spelling a) (Fixed sign.Colons ∷ spelling c) us)
-    ∙ ap (λ r. r >>= part_from strict) (perhaps_found strict a (Fixed sign.Colons ∷ after_colons) w.0 (λ s. let n = d s in omega arith) (colons_ends after_colons) (front_none (Fixed sign.Colons) after_colons refl))
-    ∙ ap (λ r. r >>= λ c. Found (Range (maybe_kept a) Absent (Present c.0), c.1)) (formula_found strict c us (w.1, (λ s. let n = d s in omega arith)) h.ends)
+module _ (depths : Depths) (Behind : List Lexeme → Type 0) (ends : (us : List Lexeme) → Behind us → EndsSubscript us) (r : Reading Part) where
+  step_reads : (a b c : Maybe) → IsMaybe c → (ts : List Lexeme) → StandsAs (step_front depths c) (step_spelling c) (Range a b (maybe_kept c)) Behind ts r → step depths a (b, ts) ≡ r
+  step_reads a b Absent w ts s =
+      ap (λ l. step depths a (b, l)) s.2
+      ∙ if_false (starts colon s.0) (expr depths (drop 1 s.0) >>= λ c. Found (Range a b (Present c.0), c.1)) (Found (Range a b Absent, s.0)) (ends s.0 s.1).no_colon
+      ∙ sym s.3
+  step_reads a b (Present e) w ts s =
+      let q = behind_prefix colon (expr_front depths e) (spelling e) (Range a b (Present (kept e))) Behind ts r s in
+      ap (λ l. step depths a (b, l)) q.1
+      ∙ mapped (expr_front depths e) (spelling e) (kept e) (λ c. Range a b (Present c)) Behind q.0 r q.2 (expr depths q.0) (expr_reads depths Behind e w (λ us h. (ends us h).ends) q.0)
+
+  -- behind the last part of a triplet
+  step_ends : (c : Maybe) (z : Part) (ts : List Lexeme) → StandsAs (step_front depths c) (step_spelling c) z Behind ts r → Ends ts × (front ts ≡ None)
+  step_ends Absent z ts s = subst (λ ts. Ends ts × (front ts ≡ None)) (sym s.2) ((ends s.0 s.1).ends, (ends s.0 s.1).none)
+  step_ends (Present e) z ts s = let q = behind_prefix colon (expr_front depths e) (spelling e) z Behind ts r s in colon_ends q.0 ts q.1
+
+  pub subscript_reads : (p : Part) → IsPart p → (ts : List Lexeme) → StandsAs (part_front depths p) (part_spelling p) (part_kept p) Behind ts r → subscript depths ts ≡ r
+  subscript_reads (One e) w ts s =
+      followed (expr_front depths e) (spelling e) (Present (kept e)) (One (kept e)) Behind Behind ts r s (λ us b. b) (optional_expr depths ts)
+      (maybe_reads depths Behind (Present e) w (λ us h. ((ends us h).ends, (ends us h).none)) ts) (part_from depths)
+      (λ us h. if_false (starts colon us) _ _ (ends us h).no_colon ∙ if_false (starts colons us) _ _ (ends us h).no_colons)
+  subscript_reads (Range a b c) w ts s =
+      let a' = maybe_kept a in
+      let b' = maybe_kept b in
+      let z : Part = Range a' b' (maybe_kept c) in
+      let last = front_or (maybe_front depths b) (maybe_spelling b) (step_front depths c) in
+      let text = maybe_spelling b ++ step_spelling c in
+      then_reads (maybe_front depths a) (maybe_spelling a) a' (λ us. Ends us × (front us ≡ None)) (preceded colon last) (colon ++ text) z Behind ts r s (optional_expr depths ts)
+      (maybe_reads depths (λ us. Ends us × (front us ≡ None)) a w.0 (λ us h. h) ts) (part_from depths)
+      (λ us q. let p = behind_prefix colon last text z Behind us r q in colon_ends p.0 us p.1)
+      (λ us _ q. let p = behind_prefix colon last text z Behind us r q in
+      ap (λ l. part_from depths (a', l)) p.1
+      ∙ then_reads (maybe_front depths b) (maybe_spelling b) b' (λ us. Ends us × (front us ≡ None)) (step_front depths c) (step_spelling c) z Behind p.0 r p.2 (optional_expr depths p.0)
+      (maybe_reads depths (λ us. Ends us × (front us ≡ None)) b w.1 (λ us h. h) p.0) (step depths a')
+      (λ us q. step_ends c z us q) (λ us _ q. step_reads a' b' c w.2 us q))
+  subscript_reads (Glued a c) w ts s =
+      let a' = maybe_kept a in
+      let z : Part = Range a' Absent (Present (kept c)) in
+      then_reads (maybe_front depths a) (maybe_spelling a) a' (λ us. Ends us × (front us ≡ None)) (preceded colons (expr_front depths c)) (colons ++ spelling c) z Behind ts r s (optional_expr depths ts)
+      (maybe_reads depths (λ us. Ends us × (front us ≡ None)) a w.0 (λ us h. h) ts) (part_from depths)
+      (λ us q. let p = behind_prefix colons (expr_front depths c) (spelling c) z Behind us r q in colons_ends p.0 us p.1)
+      (λ us _ q. let p = behind_prefix colons (expr_front depths c) (spelling c) z Behind us r q in
+      ap (λ l. part_from depths (a', l)) p.1
+      ∙ mapped (expr_front depths c) (spelling c) (kept c) (λ c. Range a' Absent (Present c)) Behind p.0 r p.2 (expr depths p.0) (expr_reads depths Behind c w.1 (λ us h. (ends us h).ends) p.0))

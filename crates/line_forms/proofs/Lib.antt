@@ -2,6 +2,9 @@ pub mod Marks
 pub mod Rows
 pub mod Sound
 pub mod Begins
+pub mod Standing
+pub mod Shallow
+pub mod Fronts
 pub mod Leaves
 pub mod Starting
 pub mod Complete

@@ -1,123 +1,139 @@
 -- A part of a line begins as it may.
-use Rattle.std.proofs.Common.{◌≡◌, ◌≤◌, ◌&&◌, Bool, true, false, List, [], ◌∷◌, ◌++◌, length, Option, Some, None, inl, inr, refl, ap, ◌∙◌, arith, append_assoc, length-append}
-use Rattle.std.specs.Prelude.{map, not}
+use Rattle.std.proofs.Common.{◌≡◌, ◌&&◌, Bool, true, false, List, [], ◌∷◌, ◌++◌, Option, Some, None, inl, inr, refl, sym, ap, ◌∙◌, subst, append_assoc}
+use Rattle.std.specs.Prelude.{if◌then◌else◌, map, not, All}
 use Rattle.std.specs.List.{list_all}
-use Rattle.syntax_tree.specs.declared.sign.Sign.TheVariants as sign
-use Rattle.syntax_tree.specs.Lexeme.{Lexeme, Word, Fixed}
-use Rattle.syntax_tree.specs.Expression.{Expression, One, Range, Glued, Absent, Present}
-use Rattle.syntax_tree.specs.Spelling.{spelling, maybe_spelling, step_spelling}
-use Rattle.line_forms.specs.Marks.{starts, comma, equals}
-use Rattle.line_forms.specs.Grammar.{Grammar, Value, Shown, Characters, Nothing, Identifier, Formula, Variable, Item, Subscript, Behind, Before, Both, Perhaps, Either, Ignored, Series, Header, Rest}
-use Rattle.line_forms.specs.Printed.{with_commas, behind_comma, printed, Some_and_all, IsWell}
-use Rattle.line_forms.specs.Sane.{First, Exactly, AnyName, Operand, is_first, begins, Begins, firsts, are_marks, apart, ends_expression, is_finish, is_filled, is_indexed, sane}
+use Rattle.std.proofs.lemmas.List.Elements.{All-head, All-tail}
+use Rattle.syntax_tree.specs.Lexeme.{Lexeme, Word}
+use Rattle.syntax_tree.specs.Expression.{Expression, Part, One, Range, Glued, Maybe, Absent, Present}
+use Rattle.syntax_tree.specs.Spelling.{spelling, part_spelling, maybe_spelling, step_spelling, IsFormed, IsMaybe}
+use Rattle.line_forms.specs.declared.depths.Depths.{Depths}
+use Rattle.line_forms.specs.declared.read_error.ReadError.TheVariants.{TooDeep}
+use Rattle.line_forms.specs.Marks.{starts, comma, colon, colons, equals}
+use Rattle.line_forms.specs.Reading.{Reading, Found, Stopped}
+use Rattle.line_forms.specs.Grammar.{Grammar, Value, Shown, Characters, Nothing, Identifier, Expr, Item, Subscript, Prefixed, Suffixed, Sequence, Optional, Choice, Skipped, CommaList, Header, OptionalToEnd}
+use Rattle.line_forms.specs.Printed.{with_commas, behind_comma, printed, Some_and_all, IsWell, value_kept}
+use Rattle.line_forms.specs.DeepFront.{is_too_deep, preceded, front_or, list_front, expr_front, maybe_front, step_front, mask_front, deep_front}
+use Rattle.line_forms.specs.Ll1.{FirstItem, Exactly, AnyName, AnyText, Operand, is_first, begins, Begins, first_set, are_marks, disjoint, ends_expression, is_finish, is_filled, is_indexed, is_ll1}
 use Rattle.line_forms.proofs.Sound.{both_true}
 use Rattle.line_forms.proofs.Begins.{first_true, second_true, begins_left, begins_right, starts_all, operand_first}
-use Rattle.line_forms.proofs.Leaves.{name_first}
+use Rattle.line_forms.proofs.Standing.{StandsAs, Stands, behind_prefix, then_begins, unmapped, text_stands}
 
 pub three_true : (a b c : Bool) → (a && b && c) ≡ true → (a ≡ true) × (b ≡ true) × (c ≡ true)
 three_true a b c h = let x = both_true (a && b) c h in let y = both_true a b x.0 in (y.0, y.1, x.1)
 
--- fixed lexemes that stand in front, as the one way to begin
-pub marks_begin : (ks us : List Lexeme) → are_marks ks ≡ true → Begins (Exactly ks ∷ []) (ks ++ us)
-marks_begin ks us m = first_true (starts ks (ks ++ us)) false (starts_all ks us m)
-
--- what stands behind the first element of a list
-abbrev pub tail : (g : Grammar) → List (Value g) → List Lexeme → List Lexeme
-tail g [] us = us
-tail g (v ∷ vs) us = comma ++ (with_commas (map (printed g) (v ∷ vs)) ++ us)
-
-pub row_split : (g : Grammar) (v : Value g) (vs : List (Value g)) (us : List Lexeme) → with_commas (map (printed g) (v ∷ vs)) ++ us ≡ printed g v ++ tail g vs us
-row_split g v [] us = refl
-row_split g v (w ∷ ws) us =
-    append_assoc (printed g v ++ comma) (with_commas (map (printed g) (w ∷ ws))) us
-    ∙ append_assoc (printed g v) comma (with_commas (map (printed g) (w ∷ ws)) ++ us)
-
-pub tail_begins : (g : Grammar) (vs : List (Value g)) (fs : List First) (us : List Lexeme) → Begins (Exactly comma ∷ fs) us → Begins (Exactly comma ∷ fs) (tail g vs us)
-tail_begins g [] fs us b = b
-tail_begins g (v ∷ vs) fs us b = first_true (starts comma (tail g (v ∷ vs) us)) (begins fs (tail g (v ∷ vs) us)) refl
-
--- a list as long as its elements' commas ask
-pub rows_long : (g : Grammar) (v : Value g) (vs : List (Value g)) (us : List Lexeme) → length vs ≤ length (with_commas (map (printed g) (v ∷ vs)) ++ us)
-rows_long g v [] us = omega arith
-rows_long g v (w ∷ ws) us =
-    let more = rows_long g w ws us in
-    omega (arith, ap length (row_split g v (w ∷ ws) us), length-append (printed g v) (tail g (w ∷ ws) us))
-
--- a part that begins as it may
-abbrev pub Starting : Bool → Grammar → List First → Type 0
-Starting strict g fs = (v : Value g) → IsWell strict g v → (us : List Lexeme) → Begins fs us → Begins (firsts g fs) (printed g v ++ us)
-
-part_starts : (strict : Bool) (fs : List First) → Starting strict Subscript fs
-part_starts strict fs (One e) w us b = first_true (is_first Operand (spelling e ++ us)) _ (operand_first e us w.0)
-part_starts strict fs (Range Absent b c) w us _ = refl
-part_starts strict fs (Range (Present e) b c) w us _ =
-    ap (begins (firsts Subscript fs)) (append_assoc (spelling e) (Fixed sign.Colon ∷ (maybe_spelling b ++ step_spelling c)) us)
-    ∙ first_true (is_first Operand (spelling e ++ (Fixed sign.Colon ∷ (maybe_spelling b ++ step_spelling c) ++ us))) _ (operand_first e _ w.0.0)
-part_starts strict fs (Glued Absent c) w us b = refl
-part_starts strict fs (Glued (Present e) c) w us b =
-    ap (begins (firsts Subscript fs)) (append_assoc (spelling e) (Fixed sign.Colons ∷ spelling c) us)
-    ∙ first_true (is_first Operand (spelling e ++ (Fixed sign.Colons ∷ spelling c ++ us))) _ (operand_first e _ w.0.0)
-
-item_starts : (strict : Bool) (fs : List First) → Starting strict Item fs
-item_starts strict fs (Shown e) w us b = first_true (is_first Operand (spelling e ++ us)) _ (operand_first e us w.0)
-item_starts strict fs (Characters bytes) w us b = refl
-
--- fixed lexemes with something behind them
-marks_first : (ks xs us : List Lexeme) (fs : List First) → are_marks ks ≡ true → Begins (Exactly ks ∷ fs) ((ks ++ xs) ++ us)
-marks_first ks xs us fs m = first_true (starts ks ((ks ++ xs) ++ us)) (begins fs ((ks ++ xs) ++ us)) (ap (starts ks) (append_assoc ks xs us) ∙ starts_all ks (xs ++ us) m)
-
-perhaps_starts : (strict : Bool) (ks : List Lexeme) (g : Grammar) (fs : List First) → are_marks ks ≡ true → Starting strict (Perhaps ks g) fs
-perhaps_starts strict ks g fs m None w us b = second_true (starts ks us) (begins fs us) b
-perhaps_starts strict ks g fs m (Some v) w us b = marks_first ks (printed g v) us fs m
-
-either_starts : (strict : Bool) (ks : List Lexeme) (g h : Grammar) (fs : List First) → are_marks ks ≡ true → Starting strict h fs → Starting strict (Either ks g h) fs
-either_starts strict ks g h fs m ih (inl v) w us b = marks_first ks (printed g v) us (firsts h fs) m
-either_starts strict ks g h fs m ih (inr v) w us b = second_true (starts ks (printed h v ++ us)) (begins (firsts h fs) (printed h v ++ us)) (ih v w us b)
-
-ignored_starts : (strict : Bool) (ks : List Lexeme) (fs : List First) → are_marks ks ≡ true → Starting strict (Ignored ks) fs
-ignored_starts strict ks fs m true w us b = first_true (starts ks (ks ++ us)) (begins fs (ks ++ us)) (starts_all ks us m)
-ignored_starts strict ks fs m false w us b = second_true (starts ks us) (begins fs us) b
-
-row_starts : (strict : Bool) (g : Grammar) (fs : List First) → Starting strict g (Exactly comma ∷ fs) → (vs : List (Value g)) → Some_and_all (IsWell strict g) vs → (us : List Lexeme) → Begins (Exactly comma ∷ fs) us → Begins (firsts g (Exactly comma ∷ fs)) (with_commas (map (printed g) vs) ++ us)
-row_starts strict g fs ih [] w us b = absurd w
-row_starts strict g fs ih (v ∷ vs) w us b = ap (begins (firsts g (Exactly comma ∷ fs))) (row_split g v vs us) ∙ ih v w.0 (tail g vs us) (tail_begins g vs fs us b)
-
--- behind the indices of a header
-pub mask_begins : (m : Option Expression) (fs : List First) (us : List Lexeme) → Begins fs us → Begins (Exactly comma ∷ fs) (behind_comma m ++ us)
-mask_begins None fs us b = second_true (starts comma us) (begins fs us) b
-mask_begins (Some e) fs us b = first_true (starts comma (behind_comma (Some e) ++ us)) (begins fs (behind_comma (Some e) ++ us)) refl
-
-rest_starts : (strict : Bool) (g : Grammar) (fs : List First) → Starting strict g fs → Starting strict (Rest g) fs
-rest_starts strict g fs ih None w us b = begins_right (firsts g fs) fs us b
-rest_starts strict g fs ih (Some v) w us b = begins_left (firsts g fs) fs (printed g v ++ us) (ih v w us b)
+-- fixed lexemes that stand in front, as one way to begin
+pub marks_begin : (ks us ts : List Lexeme) (fs : List FirstItem) → are_marks ks ≡ true → ts ≡ ks ++ us → Begins (Exactly ks ∷ fs) ts
+marks_begin ks us ts fs m is = first_true (starts ks ts) (begins fs ts) (ap (starts ks) is ∙ starts_all ks us m)
 
 -- a part begins as it may
-pub starting : (strict : Bool) (g : Grammar) (fs : List First) → sane g fs ≡ true → Starting strict g fs
-starting strict Nothing fs s v w us b = b
-starting strict Identifier fs s x w us b = first_true (is_first AnyName (Word x ∷ us)) false (ap not w)
-starting strict Formula fs s e w us b = first_true (is_first Operand (spelling e ++ us)) false (operand_first e us w.0)
-starting strict Variable fs s e w us b = first_true (is_first AnyName (spelling e ++ us)) false (name_first e us w.0 w.1)
-starting strict Item fs s v w us b = item_starts strict fs v w us b
-starting strict Subscript fs s v w us b = part_starts strict fs v w us b
-starting strict (Behind ks g) fs s v w us b = marks_first ks (printed g v) us [] (both_true (are_marks ks) (sane g fs) s).0
-starting strict (Before g ks) fs s v w us b =
-    let m = both_true (are_marks ks) (sane g (Exactly ks ∷ [])) s in
-    ap (begins (firsts g (Exactly ks ∷ []))) (append_assoc (printed g v) ks us)
-    ∙ starting strict g (Exactly ks ∷ []) m.1 v w (ks ++ us) (marks_begin ks us m.0)
-starting strict (Both g h) fs s v w us b =
-    let m = both_true (sane g (firsts h fs)) (sane h fs) s in
-    ap (begins (firsts g (firsts h fs))) (append_assoc (printed g v.0) (printed h v.1) us)
-    ∙ starting strict g (firsts h fs) m.0 v.0 w.0 (printed h v.1 ++ us) (starting strict h fs m.1 v.1 w.1 us b)
-starting strict (Perhaps ks g) fs s v w us b = perhaps_starts strict ks g fs (three_true (are_marks ks) (apart ks fs) (sane g fs) s).0 v w us b
-starting strict (Either ks g h) fs s v w us b =
-    let m = both_true (are_marks ks && apart ks (firsts h fs) && sane g fs) (sane h fs) s in
-    either_starts strict ks g h fs (three_true (are_marks ks) (apart ks (firsts h fs)) (sane g fs) m.0).0 (starting strict h fs m.1) v w us b
-starting strict (Ignored ks) fs s v w us b = ignored_starts strict ks fs (both_true (are_marks ks) (apart ks fs) s).0 v w us b
-starting strict (Series g) fs s v w us b =
-    let m = both_true (apart comma fs) (sane g (Exactly comma ∷ fs)) s in
-    row_starts strict g fs (starting strict g (Exactly comma ∷ fs) m.1) v w us (second_true (starts comma us) (begins fs us) b)
-starting strict (Header g) fs s v w us b =
-    let m = both_true (is_indexed g && list_all ends_expression fs && apart comma fs && apart equals fs) (sane g (Exactly comma ∷ fs)) s in
-    ap (begins (firsts g (Exactly comma ∷ fs))) (append_assoc (with_commas (map (printed g) v.0)) (behind_comma v.1) us)
-    ∙ row_starts strict g fs (starting strict g (Exactly comma ∷ fs) m.1) v.0 w.0 (behind_comma v.1 ++ us) (mask_begins v.1 fs us b)
-starting strict (Rest g) fs s v w us b = rest_starts strict g fs (starting strict g fs (three_true (list_all is_finish fs) (list_all is_filled (firsts g fs)) (sane g fs) s).2) v w us b
+abbrev pub Starting : Depths → Grammar → List FirstItem → Type 0
+Starting depths g fs = (v : Value g) → IsWell g v → (ts : List Lexeme) (r : Reading (Value g)) → Stands depths g v fs ts r → Begins (first_set g fs) ts
+
+operand_begins : (e : Expression) (fs : List FirstItem) → IsFormed e → (ts : List Lexeme) → ((us : List Lexeme) × (ts ≡ spelling e ++ us)) → Begins (Operand ∷ fs) ts
+operand_begins e fs w ts t = first_true (is_first Operand ts) (begins fs ts) (ap (is_first Operand) t.1 ∙ operand_first e t.0 w)
+
+-- a part before fixed lexemes
+pub unsuffixed : {A : Type 0} (o : Option (List Lexeme)) (text ks : List Lexeme) (x : A) (fs : List FirstItem) (ts : List Lexeme) (r : Reading A) → are_marks ks ≡ true → StandsAs o (text ++ ks) x (Begins fs) ts r → (r' : Reading A) × StandsAs o text x (Begins (Exactly ks ∷ [])) ts r'
+unsuffixed None text ks x fs ts r m s = (Found (x, ks ++ s.0), (ks ++ s.0, marks_begin ks s.0 (ks ++ s.0) [] m refl, s.2 ∙ append_assoc text ks s.0, refl))
+unsuffixed (Some front) text ks x fs ts r m s = (Stopped TooDeep, (s.0, s.1, refl))
+
+module _ (depths : Depths) where
+  maybe_begins : {A : Type 0} (a : Maybe) (x : A) (fs : List FirstItem) → IsMaybe a → (ts : List Lexeme) (r : Reading A) → StandsAs (maybe_front depths a) (maybe_spelling a) x (Begins (Operand ∷ fs)) ts r → Begins (Operand ∷ fs) ts
+  maybe_begins Absent x fs w ts r s = subst (Begins (Operand ∷ fs)) (sym s.2) s.1
+  maybe_begins (Present e) x fs w ts r s = operand_begins e fs w ts (text_stands (is_too_deep depths e) (spelling e) x (Begins (Operand ∷ fs)) ts r s)
+
+  part_starts : (fs : List FirstItem) → Starting depths Subscript fs
+  part_starts fs (One e) w ts r s = operand_begins e (Exactly colon ∷ Exactly colons ∷ []) w ts (text_stands (is_too_deep depths e) (spelling e) _ (Begins fs) ts r s)
+  part_starts fs (Range a b c) w ts r s =
+      let last = front_or (maybe_front depths b) (maybe_spelling b) (step_front depths c) in
+      let text = maybe_spelling b ++ step_spelling c in
+      let all = first_set Subscript fs in
+      then_begins (maybe_front depths a) (maybe_spelling a) a (Begins all) (preceded colon last) (colon ++ text) _ (Begins fs) ts r s
+      (maybe_begins a a (Exactly colon ∷ Exactly colons ∷ []) w.0 ts)
+      (λ us q. let p = behind_prefix colon last text _ (Begins fs) us r q in subst (Begins all) (sym p.1) refl)
+  part_starts fs (Glued a c) w ts r s =
+      let all = first_set Subscript fs in
+      then_begins (maybe_front depths a) (maybe_spelling a) a (Begins all) (preceded colons (expr_front depths c)) (colons ++ spelling c) _ (Begins fs) ts r s
+      (maybe_begins a a (Exactly colon ∷ Exactly colons ∷ []) w.0 ts)
+      (λ us q. let p = behind_prefix colons (expr_front depths c) (spelling c) _ (Begins fs) us r q in subst (Begins all) (sym p.1) refl)
+
+  item_starts : (fs : List FirstItem) → Starting depths Item fs
+  item_starts fs (Shown e) w ts r s = operand_begins e (AnyText ∷ []) w ts (text_stands (is_too_deep depths e) (spelling e) _ (Begins fs) ts r s)
+  item_starts fs (Characters bytes) w ts r s = subst (Begins (first_set Item fs)) (sym s.2) refl
+
+  optional_starts : (ks : List Lexeme) (g : Grammar) (fs : List FirstItem) → are_marks ks ≡ true → Starting depths (Optional ks g) fs
+  optional_starts ks g fs m None w ts r s = second_true (starts ks ts) (begins fs ts) (subst (Begins fs) (sym s.2) s.1)
+  optional_starts ks g fs m (Some v) w ts r s = let p = behind_prefix ks (deep_front depths g v) (printed g v) _ (Begins fs) ts r s in marks_begin ks p.0 ts fs m p.1
+
+  choice_starts : (ks : List Lexeme) (g h : Grammar) (fs : List FirstItem) → are_marks ks ≡ true → Starting depths h fs → Starting depths (Choice ks g h) fs
+  choice_starts ks g h fs m ih (inl v) w ts r s = let p = behind_prefix ks (deep_front depths g v) (printed g v) _ (Begins fs) ts r s in marks_begin ks p.0 ts (first_set h fs) m p.1
+  choice_starts ks g h fs m ih (inr v) w ts r s =
+      let u = unmapped (deep_front depths h v) (printed h v) (value_kept h v) (λ v. inr v) (Begins fs) (Begins fs) ts r (λ us b. b) s in
+      second_true (starts ks ts) (begins (first_set h fs) ts) (ih v w ts u.0 u.1)
+
+  skipped_starts : (ks : List Lexeme) (fs : List FirstItem) → are_marks ks ≡ true → Starting depths (Skipped ks) fs
+  skipped_starts ks fs m true w ts r s = marks_begin ks s.0 ts fs m s.2
+  skipped_starts ks fs m false w ts r s = second_true (starts ks ts) (begins fs ts) (subst (Begins fs) (sym s.2) s.1)
+
+  -- the first of the elements of a list
+  pub head_stands : {A Q : Type 0} (g : Grammar) (v : Value g) (vs : List (Value g)) (z : A) (Behind First : List Lexeme → Type 0) (ts : List Lexeme) (r : Reading A)
+      → StandsAs (list_front (deep_front depths g) (printed g) (v ∷ vs)) (with_commas (map (printed g) (v ∷ vs))) z Behind ts r
+      → ((us : List Lexeme) → Behind us → First us) → ((us vs : List Lexeme) → us ≡ comma ++ vs → First us)
+      → ((r' : Reading A) → StandsAs (deep_front depths g v) (printed g v) z First ts r' → Q) → Q
+  head_stands g v [] z Behind First ts r s begins commas ih = let u = unmapped (deep_front depths g v) (printed g v) z (λ z. z) Behind First ts r begins s in ih u.0 u.1
+  head_stands g v (w ∷ ws) z Behind First ts r s begins commas ih =
+      let more = list_front (deep_front depths g) (printed g) (w ∷ ws) in
+      let text = with_commas (map (printed g) (w ∷ ws)) in
+      then_begins (deep_front depths g v) (printed g v) z First (preceded comma more) (comma ++ text) z Behind ts r s ih
+      (λ us q. let p = behind_prefix comma more text z Behind us r q in commas us p.0 p.1)
+
+  list_starts : {A : Type 0} (g : Grammar) (fs : List FirstItem) → Starting depths g (Exactly comma ∷ fs) → (vs : List (Value g)) (z : A) → Some_and_all (IsWell g) vs → (ts : List Lexeme) (r : Reading A) → StandsAs (list_front (deep_front depths g) (printed g) vs) (with_commas (map (printed g) vs)) z (Begins (Exactly comma ∷ fs)) ts r → Begins (first_set g (Exactly comma ∷ fs)) ts
+  list_starts g fs ih [] z w ts r s = absurd w
+  list_starts g fs ih (v ∷ vs) z w ts r s =
+      head_stands g v vs z (Begins (Exactly comma ∷ fs)) (Begins (Exactly comma ∷ fs)) ts r s (λ us b. b) (λ us vs is. marks_begin comma vs us fs refl is)
+      (λ r' q. let u = unmapped (deep_front depths g v) (printed g v) (value_kept g v) (λ x. z) (Begins (Exactly comma ∷ fs)) (Begins (Exactly comma ∷ fs)) ts r' (λ us b. b) q in ih v w.0 ts u.0 u.1)
+
+  -- behind the indices of a header
+  pub mask_begins : {A : Type 0} (m : Option Expression) (z : A) (fs : List FirstItem) (ts : List Lexeme) (r : Reading A) → StandsAs (mask_front depths m) (behind_comma m) z (Begins fs) ts r → Begins (Exactly comma ∷ fs) ts
+  mask_begins None z fs ts r s = second_true (starts comma ts) (begins fs ts) (subst (Begins fs) (sym s.2) s.1)
+  mask_begins (Some e) z fs ts r s = let p = behind_prefix comma (expr_front depths e) (spelling e) z (Begins fs) ts r s in marks_begin comma p.0 ts fs refl p.1
+
+  to_end_starts : (g : Grammar) (fs : List FirstItem) → Starting depths g fs → Starting depths (OptionalToEnd g) fs
+  to_end_starts g fs ih None w ts r s = begins_right (first_set g fs) fs ts (subst (Begins fs) (sym s.2) s.1)
+  to_end_starts g fs ih (Some v) w ts r s =
+      let u = unmapped (deep_front depths g v) (printed g v) (value_kept g v) (λ v. Some v) (Begins fs) (Begins fs) ts r (λ us b. b) s in
+      begins_left (first_set g fs) fs ts (ih v w ts u.0 u.1)
+
+  pub starting : (g : Grammar) (fs : List FirstItem) → is_ll1 g fs ≡ true → Starting depths g fs
+  starting Nothing fs l v w ts r s = subst (Begins fs) (sym s.2) s.1
+  starting Identifier fs l x w ts r s = subst (Begins (AnyName ∷ [])) (sym s.2) (first_true (is_first AnyName (Word x ∷ s.0)) false (ap not w))
+  starting Expr fs l e w ts r s = operand_begins e [] w ts (text_stands (is_too_deep depths e) (spelling e) _ (Begins fs) ts r s)
+  starting Item fs l v w ts r s = item_starts fs v w ts r s
+  starting Subscript fs l v w ts r s = part_starts fs v w ts r s
+  starting (Prefixed ks g) fs l v w ts r s =
+      let p = behind_prefix ks (deep_front depths g v) (printed g v) (value_kept g v) (Begins fs) ts r s in
+      marks_begin ks p.0 ts [] (both_true (are_marks ks) (is_ll1 g fs) l).0 p.1
+  starting (Suffixed g ks) fs l v w ts r s =
+      let m = both_true (are_marks ks) (is_ll1 g (Exactly ks ∷ [])) l in
+      let u = unsuffixed (deep_front depths g v) (printed g v) ks (value_kept g v) fs ts r m.0 s in
+      starting g (Exactly ks ∷ []) m.1 v w ts u.0 u.1
+  starting (Sequence g h) fs l v w ts r s =
+      let m = both_true (is_ll1 g (first_set h fs)) (is_ll1 h fs) l in
+      then_begins (deep_front depths g v.0) (printed g v.0) (value_kept g v.0) (Begins (first_set h fs)) (deep_front depths h v.1) (printed h v.1) (value_kept g v.0, value_kept h v.1) (Begins fs) ts r s
+      (starting g (first_set h fs) m.0 v.0 w.0 ts)
+      (λ us q. let u = unmapped (deep_front depths h v.1) (printed h v.1) (value_kept h v.1) (λ x. (value_kept g v.0, x)) (Begins fs) (Begins fs) us r (λ us b. b) q in starting h fs m.1 v.1 w.1 us u.0 u.1)
+  starting (Optional ks g) fs l v w ts r s = optional_starts ks g fs (three_true (are_marks ks) (disjoint ks fs) (is_ll1 g fs) l).0 v w ts r s
+  starting (Choice ks g h) fs l v w ts r s =
+      let m = both_true (are_marks ks && disjoint ks (first_set h fs) && is_ll1 g fs) (is_ll1 h fs) l in
+      choice_starts ks g h fs (three_true (are_marks ks) (disjoint ks (first_set h fs)) (is_ll1 g fs) m.0).0 (starting h fs m.1) v w ts r s
+  starting (Skipped ks) fs l v w ts r s = skipped_starts ks fs (both_true (are_marks ks) (disjoint ks fs) l).0 v w ts r s
+  starting (CommaList g) fs l v w ts r s =
+      let m = both_true (disjoint comma fs) (is_ll1 g (Exactly comma ∷ fs)) l in
+      let u = unmapped (list_front (deep_front depths g) (printed g) v) (with_commas (map (printed g) v)) (map (value_kept g) v) (λ x. x) (Begins fs) (Begins (Exactly comma ∷ fs)) ts r (λ us b. second_true (starts comma us) (begins fs us) b) s in
+      list_starts g fs (starting g (Exactly comma ∷ fs) m.1) v (map (value_kept g) v) w ts u.0 u.1
+  starting (Header g) fs l v w ts r s =
+      let m = both_true (is_indexed g && list_all ends_expression fs && disjoint comma fs && disjoint equals fs) (is_ll1 g (Exactly comma ∷ fs)) l in
+      then_begins (list_front (deep_front depths g) (printed g) v.0) (with_commas (map (printed g) v.0)) (map (value_kept g) v.0) (Begins (Exactly comma ∷ fs)) (mask_front depths v.1) (behind_comma v.1) (value_kept (Header g) v) (Begins fs) ts r s
+      (λ r' q. list_starts g fs (starting g (Exactly comma ∷ fs) m.1) v.0 (map (value_kept g) v.0) w.0 ts r' q)
+      (λ us q. mask_begins v.1 (value_kept (Header g) v) fs us r q)
+  starting (OptionalToEnd g) fs l v w ts r s = to_end_starts g fs (starting g fs (three_true (list_all is_finish fs) (list_all is_filled (first_set g fs)) (is_ll1 g fs) l).2) v w ts r s

@@ -10,44 +10,42 @@ pub data Output : Type 0 where
 
 pub data Grammar : Type 0 where
   Nothing : Grammar
-  -- a name, an expression, a name with or without subscripts, an item of PRINT, a subscript
+  -- a name, an expression, an item of PRINT, a subscript
   Identifier : Grammar
-  Formula : Grammar
-  Variable : Grammar
+  Expr : Grammar
   Item : Grammar
   Subscript : Grammar
   -- fixed lexemes, and a part behind them or before them
-  Behind : List Lexeme → Grammar → Grammar
-  Before : Grammar → List Lexeme → Grammar
+  Prefixed : List Lexeme → Grammar → Grammar
+  Suffixed : Grammar → List Lexeme → Grammar
   -- one part behind another
-  Both : Grammar → Grammar → Grammar
+  Sequence : Grammar → Grammar → Grammar
   -- a part that may be left out, and has fixed lexemes in front where it stands
-  Perhaps : List Lexeme → Grammar → Grammar
+  Optional : List Lexeme → Grammar → Grammar
   -- a part with fixed lexemes in front, or else another
-  Either : List Lexeme → Grammar → Grammar → Grammar
+  Choice : List Lexeme → Grammar → Grammar → Grammar
   -- fixed lexemes that change nothing
-  Ignored : List Lexeme → Grammar
+  Skipped : List Lexeme → Grammar
   -- parts with commas between
-  Series : Grammar → Grammar
+  CommaList : Grammar → Grammar
   -- indices with commas between, and an expression behind a comma that may be left out
   Header : Grammar → Grammar
   -- a part that may be left out at the end of a line
-  Rest : Grammar → Grammar
+  OptionalToEnd : Grammar → Grammar
 
 -- what is said by a part
 abbrev pub Value : Grammar → Type 0
 Value Nothing = Unit {0}
 Value Identifier = List ℕ
-Value Formula = Expression
-Value Variable = Expression
+Value Expr = Expression
 Value Item = Output
 Value Subscript = Part
-Value (Behind ks g) = Value g
-Value (Before g ks) = Value g
-Value (Both g h) = Value g × Value h
-Value (Perhaps ks g) = Option (Value g)
-Value (Either ks g h) = Value g ⊎ Value h
-Value (Ignored ks) = Bool
-Value (Series g) = List (Value g)
+Value (Prefixed ks g) = Value g
+Value (Suffixed g ks) = Value g
+Value (Sequence g h) = Value g × Value h
+Value (Optional ks g) = Option (Value g)
+Value (Choice ks g h) = Value g ⊎ Value h
+Value (Skipped ks) = Bool
+Value (CommaList g) = List (Value g)
 Value (Header g) = List (Value g) × Option Expression
-Value (Rest g) = Option (Value g)
+Value (OptionalToEnd g) = Option (Value g)

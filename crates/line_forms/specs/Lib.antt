@@ -2,8 +2,10 @@ pub mod Marks
 pub mod Reading
 pub mod Grammar
 pub mod Printed
+pub mod DeepFront
 pub mod Read
-pub mod Found
+pub mod InFront
 pub mod Parts
-pub mod Seen
-pub mod Sane
+pub mod Gives
+pub mod Ll1
+pub mod Shape

@@ -1,19 +1,18 @@
 -- What spells the parts of a line, and which are well formed.
-use Rattle.std.specs.Prelude.{◌≡◌, ◌≤◌, Bool, true, false, List, [], ◌∷◌, ◌++◌, map, All, Option, Some, None, option_map}
+use Rattle.std.specs.Prelude.{◌≡◌, Bool, true, false, List, [], ◌∷◌, ◌++◌, map, All, Option, Some, None, option_map}
 use Rattle.std.proofs.Common.{inl, inr}
 use Rattle.op_tables.specs.Words.{is_reserved}
 use Rattle.syntax_tree.specs.Lexeme.{Lexeme, Word, Text}
 use Rattle.syntax_tree.specs.Expression.{Expression, kept, part_kept}
-use Rattle.syntax_tree.specs.Spelling.{spelling, part_spelling, IsFormed, IsPart, depth, part_depth}
+use Rattle.syntax_tree.specs.Spelling.{spelling, part_spelling, IsFormed, IsPart}
 use Rattle.line_forms.specs.Marks.{comma}
-use Rattle.line_forms.specs.Read.{is_variable}
-use Rattle.line_forms.specs.Grammar.{Grammar, Value, Output, Shown, Characters, Nothing, Identifier, Formula, Variable, Item, Subscript, Behind, Before, Both, Perhaps, Either, Ignored, Series, Header, Rest}
+use Rattle.line_forms.specs.Grammar.{Grammar, Value, Output, Shown, Characters, Nothing, Identifier, Expr, Item, Subscript, Prefixed, Suffixed, Sequence, Optional, Choice, Skipped, CommaList, Header, OptionalToEnd}
 
 -- lists with commas between
 abbrev pub with_commas : List (List Lexeme) → List Lexeme
 with_commas [] = []
 with_commas (a ∷ []) = a
-with_commas (a ∷ b ∷ rest) = a ++ comma ++ with_commas (b ∷ rest)
+with_commas (a ∷ b ∷ rest) = a ++ (comma ++ with_commas (b ∷ rest))
 
 abbrev pub behind_comma : Option Expression → List Lexeme
 behind_comma None = []
@@ -26,64 +25,55 @@ output_spelling (Characters bytes) = Text bytes ∷ []
 abbrev pub printed : (g : Grammar) → Value g → List Lexeme
 printed Nothing v = []
 printed Identifier x = Word x ∷ []
-printed Formula e = spelling e
-printed Variable e = spelling e
+printed Expr e = spelling e
 printed Item i = output_spelling i
 printed Subscript p = part_spelling p
-printed (Behind ks g) v = ks ++ printed g v
-printed (Before g ks) v = printed g v ++ ks
-printed (Both g h) v = printed g v.0 ++ printed h v.1
-printed (Perhaps ks g) None = []
-printed (Perhaps ks g) (Some v) = ks ++ printed g v
-printed (Either ks g h) (inl v) = ks ++ printed g v
-printed (Either ks g h) (inr v) = printed h v
-printed (Ignored ks) true = ks
-printed (Ignored ks) false = []
-printed (Series g) vs = with_commas (map (printed g) vs)
+printed (Prefixed ks g) v = ks ++ printed g v
+printed (Suffixed g ks) v = printed g v ++ ks
+printed (Sequence g h) v = printed g v.0 ++ printed h v.1
+printed (Optional ks g) None = []
+printed (Optional ks g) (Some v) = ks ++ printed g v
+printed (Choice ks g h) (inl v) = ks ++ printed g v
+printed (Choice ks g h) (inr v) = printed h v
+printed (Skipped ks) true = ks
+printed (Skipped ks) false = []
+printed (CommaList g) vs = with_commas (map (printed g) vs)
 printed (Header g) v = with_commas (map (printed g) v.0) ++ behind_comma v.1
-printed (Rest g) None = []
-printed (Rest g) (Some v) = printed g v
+printed (OptionalToEnd g) None = []
+printed (OptionalToEnd g) (Some v) = printed g v
 
--- an expression that stands alone in a line; `strict` asks that it isn't too deep
-abbrev pub IsExpression : Bool → Expression → Type 0
-IsExpression strict e = IsFormed e × (strict ≡ true → depth e ≤ 200)
+abbrev pub IsOutput : Output → Type 0
+IsOutput (Shown e) = IsFormed e
+IsOutput (Characters bytes) = Unit {0}
 
--- a name with or without subscripts, which is assigned to
-abbrev pub IsVariable : Bool → Expression → Type 0
-IsVariable strict e = IsFormed e × (is_variable e ≡ true) × (strict ≡ true → depth e ≤ 201)
-
-abbrev pub IsOutput : Bool → Output → Type 0
-IsOutput strict (Shown e) = IsExpression strict e
-IsOutput strict (Characters bytes) = Unit {0}
-
-abbrev pub IfExpression : Bool → Option Expression → Type 0
-IfExpression strict None = Unit {0}
-IfExpression strict (Some e) = IsExpression strict e
+abbrev pub IfFormed : Option Expression → Type 0
+IfFormed None = Unit {0}
+IfFormed (Some e) = IsFormed e
 
 -- there is one, and each is so
 abbrev pub Some_and_all : {A : Type 0} → (A → Type 0) → List A → Type 0
 Some_and_all P [] = ⊥
 Some_and_all P (x ∷ xs) = P x × All P xs
 
-abbrev pub IsWell : Bool → (g : Grammar) → Value g → Type 0
-IsWell strict Nothing v = Unit {0}
-IsWell strict Identifier x = is_reserved x ≡ false
-IsWell strict Formula e = IsExpression strict e
-IsWell strict Variable e = IsVariable strict e
-IsWell strict Item i = IsOutput strict i
-IsWell strict Subscript p = IsPart p × (strict ≡ true → part_depth p ≤ 200)
-IsWell strict (Behind ks g) v = IsWell strict g v
-IsWell strict (Before g ks) v = IsWell strict g v
-IsWell strict (Both g h) v = IsWell strict g v.0 × IsWell strict h v.1
-IsWell strict (Perhaps ks g) None = Unit {0}
-IsWell strict (Perhaps ks g) (Some v) = IsWell strict g v
-IsWell strict (Either ks g h) (inl v) = IsWell strict g v
-IsWell strict (Either ks g h) (inr v) = IsWell strict h v
-IsWell strict (Ignored ks) b = Unit {0}
-IsWell strict (Series g) vs = Some_and_all (IsWell strict g) vs
-IsWell strict (Header g) v = Some_and_all (IsWell strict g) v.0 × IfExpression strict v.1
-IsWell strict (Rest g) None = Unit {0}
-IsWell strict (Rest g) (Some v) = IsWell strict g v
+-- well formed, however deep its expressions are
+abbrev pub IsWell : (g : Grammar) → Value g → Type 0
+IsWell Nothing v = Unit {0}
+IsWell Identifier x = is_reserved x ≡ false
+IsWell Expr e = IsFormed e
+IsWell Item i = IsOutput i
+IsWell Subscript p = IsPart p
+IsWell (Prefixed ks g) v = IsWell g v
+IsWell (Suffixed g ks) v = IsWell g v
+IsWell (Sequence g h) v = IsWell g v.0 × IsWell h v.1
+IsWell (Optional ks g) None = Unit {0}
+IsWell (Optional ks g) (Some v) = IsWell g v
+IsWell (Choice ks g h) (inl v) = IsWell g v
+IsWell (Choice ks g h) (inr v) = IsWell h v
+IsWell (Skipped ks) b = Unit {0}
+IsWell (CommaList g) vs = Some_and_all (IsWell g) vs
+IsWell (Header g) v = Some_and_all (IsWell g) v.0 × IfFormed v.1
+IsWell (OptionalToEnd g) None = Unit {0}
+IsWell (OptionalToEnd g) (Some v) = IsWell g v
 
 abbrev pub output_kept : Output → Output
 output_kept (Shown e) = Shown (kept e)
@@ -93,19 +83,18 @@ output_kept (Characters bytes) = Characters bytes
 abbrev pub value_kept : (g : Grammar) → Value g → Value g
 value_kept Nothing v = v
 value_kept Identifier x = x
-value_kept Formula e = kept e
-value_kept Variable e = kept e
+value_kept Expr e = kept e
 value_kept Item i = output_kept i
 value_kept Subscript p = part_kept p
-value_kept (Behind ks g) v = value_kept g v
-value_kept (Before g ks) v = value_kept g v
-value_kept (Both g h) v = (value_kept g v.0, value_kept h v.1)
-value_kept (Perhaps ks g) None = None
-value_kept (Perhaps ks g) (Some v) = Some (value_kept g v)
-value_kept (Either ks g h) (inl v) = inl (value_kept g v)
-value_kept (Either ks g h) (inr v) = inr (value_kept h v)
-value_kept (Ignored ks) b = false
-value_kept (Series g) vs = map (value_kept g) vs
+value_kept (Prefixed ks g) v = value_kept g v
+value_kept (Suffixed g ks) v = value_kept g v
+value_kept (Sequence g h) v = (value_kept g v.0, value_kept h v.1)
+value_kept (Optional ks g) None = None
+value_kept (Optional ks g) (Some v) = Some (value_kept g v)
+value_kept (Choice ks g h) (inl v) = inl (value_kept g v)
+value_kept (Choice ks g h) (inr v) = inr (value_kept h v)
+value_kept (Skipped ks) b = false
+value_kept (CommaList g) vs = map (value_kept g) vs
 value_kept (Header g) v = (map (value_kept g) v.0, option_map kept v.1)
-value_kept (Rest g) None = None
-value_kept (Rest g) (Some v) = Some (value_kept g v)
+value_kept (OptionalToEnd g) None = None
+value_kept (OptionalToEnd g) (Some v) = Some (value_kept g v)

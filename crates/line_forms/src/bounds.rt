@@ -2,9 +2,10 @@
 
 ghost use Rattle.line_forms.specs.Parts.{bound, bound_of};
 
+use crate::depths::Depths;
 use crate::lists::Element;
-use crate::miss::Miss;
-use crate::parts::formula;
+use crate::read_error::ReadError;
+use crate::parts::expr;
 use crate::signs::{behind, is_sign};
 use source_lines::Token;
 use std::alloc::Global;
@@ -20,13 +21,13 @@ impl Element for Bounds {
 
     ghost view = { bound_of };
 
-    fn read(alloc: Global, strict: bool, tokens: &[Token]) -> Result<(Bound, &[Token]), Miss> {
-        let (first, rest) = formula(alloc, strict, tokens)?;
+    fn read(alloc: Global, depths: Depths, tokens: &[Token]) -> Result<(Bound, &[Token]), ReadError> {
+        let (first, rest) = expr(alloc, depths, tokens)?;
         if !is_sign(rest, Sign::Colon) {
             let (lower, upper) = (None, first);
             return Ok((Bound { lower, upper }, rest));
         }
-        let (upper, rest) = formula(alloc, strict, behind(rest, 1))?;
+        let (upper, rest) = expr(alloc, depths, behind(rest, 1))?;
         let lower = Some(first);
         Ok((Bound { lower, upper }, rest))
     }

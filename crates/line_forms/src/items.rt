@@ -3,12 +3,13 @@
 ghost use Rattle.line_forms.specs.Grammar.{Item as Printed};
 ghost use Rattle.line_forms.specs.Parts.{output_of};
 ghost use Rattle.line_forms.specs.Read.{item, shown};
-ghost use Rattle.line_forms.specs.Seen.{Sees};
+ghost use Rattle.line_forms.specs.Gives.{Gives};
 ghost use Rattle.syntax_tree.specs.Lexeme.{lexemes};
 
+use crate::depths::Depths;
 use crate::lists::Element;
-use crate::miss::Miss;
-use crate::parts::formula;
+use crate::read_error::ReadError;
+use crate::parts::expr;
 use source_lines::{Bytes, Token, TokenKind};
 use std::alloc::Global;
 use syntax_tree::Item;
@@ -23,20 +24,20 @@ impl Element for ListedItems {
 
     ghost view = { output_of };
 
-    fn read(alloc: Global, strict: bool, tokens: &[Token]) -> Result<(Item, &[Token]), Miss> {
-        item(alloc, strict, tokens)
+    fn read(alloc: Global, depths: Depths, tokens: &[Token]) -> Result<(Item, &[Token]), ReadError> {
+        item(alloc, depths, tokens)
     }
 }
 
 /// The item in front, a text or else an expression, and the tokens behind it.
-pub fn item(alloc: Global, strict: bool, tokens: &[Token]) -> Result<(Item, &[Token]), Miss>
-    ensures { Sees (λ x. (output_of x.0, lexemes x.1.now)) result (item strict (lexemes tokens.now)) }
+pub fn item(alloc: Global, depths: Depths, tokens: &[Token]) -> Result<(Item, &[Token]), ReadError>
+    ensures { Gives (λ x. (output_of x.0, lexemes x.1.now)) result (item depths (lexemes tokens.now)) }
 {
     let Some((first, rest)) = tokens.split_first() else {
-        return shown(alloc, strict, tokens);
+        return shown(alloc, depths, tokens);
     };
     let TokenKind::Text(text) = &first.kind else {
-        return shown(alloc, strict, tokens);
+        return shown(alloc, depths, tokens);
     };
     let mut bytes = Vec::new(alloc);
     bytes.extend_from_slice(text.as_slice())?;
@@ -44,9 +45,9 @@ pub fn item(alloc: Global, strict: bool, tokens: &[Token]) -> Result<(Item, &[To
 }
 
 /// The expression in front, as an item.
-fn shown(alloc: Global, strict: bool, tokens: &[Token]) -> Result<(Item, &[Token]), Miss>
-    ensures { Sees (λ x. (output_of x.0, lexemes x.1.now)) result (shown strict (lexemes tokens.now)) }
+fn shown(alloc: Global, depths: Depths, tokens: &[Token]) -> Result<(Item, &[Token]), ReadError>
+    ensures { Gives (λ x. (output_of x.0, lexemes x.1.now)) result (shown depths (lexemes tokens.now)) }
 {
-    let (tree, rest) = formula(alloc, strict, tokens)?;
+    let (tree, rest) = expr(alloc, depths, tokens)?;
     Ok((Item::Value(tree), rest))
 }

@@ -3,13 +3,14 @@
 ghost use Rattle.std.specs.Prelude.{◌≡◌, ◌≤◌, IsTrue, length, map, option_map};
 ghost use Rattle.syntax_tree.specs.Expression.{expression};
 ghost use Rattle.syntax_tree.specs.Lexeme.{lexemes};
-ghost use Rattle.line_forms.specs.Grammar.{Grammar, Header, Series, Value};
+ghost use Rattle.line_forms.specs.Grammar.{Grammar, Header, CommaList, Value};
 ghost use Rattle.line_forms.specs.Read.{is_index, mask, read};
-ghost use Rattle.line_forms.specs.Parts.{enclosed, enclosed_perhaps};
-ghost use Rattle.line_forms.specs.Seen.{Sees, elements, goes_on};
+ghost use Rattle.line_forms.specs.Parts.{enclosed, optional_enclosed};
+ghost use Rattle.line_forms.specs.Gives.{Gives, elements, goes_on};
 
-use crate::miss::Miss;
-use crate::parts::formula;
+use crate::depths::Depths;
+use crate::read_error::ReadError;
+use crate::parts::expr;
 use crate::signs::{after_sign, behind, is_sign};
 use source_lines::{Token, TokenKind};
 use std::alloc::Global;
@@ -27,42 +28,42 @@ pub trait Element {
     ghost view: { Self.Part → Value grammar };
 
     /// The one in front, and the tokens behind it.
-    fn read(alloc: Global, strict: bool, tokens: &[Token]) -> Result<(Self::Part, &[Token]), Miss>
-        ensures { Sees (λ x. (view x.0, lexemes x.1.now)) result (read strict grammar (lexemes tokens.now)) };
+    fn read(alloc: Global, depths: Depths, tokens: &[Token]) -> Result<(Self::Part, &[Token]), ReadError>
+        ensures { Gives (λ x. (view x.0, lexemes x.1.now)) result (read depths grammar (lexemes tokens.now)) };
 }
 
 /// The elements in front, and the tokens behind them.
-pub fn series<T: Element>(
+pub fn comma_list<T: Element>(
     alloc: Global,
-    strict: bool,
+    depths: Depths,
     tokens: &[Token],
-) -> Result<(Vec<T::Part>, &[Token]), Miss>
-    ensures { Sees (λ x. (map T.view x.0.items, lexemes x.1.now)) result (read strict (Series T.grammar) (lexemes tokens.now)) }
+) -> Result<(Vec<T::Part>, &[Token]), ReadError>
+    ensures { Gives (λ x. (map T.view x.0.items, lexemes x.1.now)) result (read depths (CommaList T.grammar) (lexemes tokens.now)) }
 {
-    elements::<T>(alloc, strict, false, tokens)
+    elements::<T>(alloc, depths, false, tokens)
 }
 
 /// The indices in front with the expression that may stand behind them and a comma, and the tokens behind these.
 pub fn header<T: Element>(
     alloc: Global,
-    strict: bool,
+    depths: Depths,
     tokens: &[Token],
-) -> Result<((Vec<T::Part>, Option<Expr>), &[Token]), Miss>
-    ensures { Sees (λ x. ((map T.view x.0.0.items, option_map expression x.0.1), lexemes x.1.now)) result (read strict (Header T.grammar) (lexemes tokens.now)) }
+) -> Result<((Vec<T::Part>, Option<Expr>), &[Token]), ReadError>
+    ensures { Gives (λ x. ((map T.view x.0.0.items, option_map expression x.0.1), lexemes x.1.now)) result (read depths (Header T.grammar) (lexemes tokens.now)) }
 {
-    let (indices, rest) = elements::<T>(alloc, strict, true, tokens)?;
-    let (mask, rest) = mask(alloc, strict, rest)?;
+    let (indices, rest) = elements::<T>(alloc, depths, true, tokens)?;
+    let (mask, rest) = mask(alloc, depths, rest)?;
     Ok(((indices, mask), rest))
 }
 
 /// The expression behind a comma, if one stands in front, and the tokens behind it.
-fn mask(alloc: Global, strict: bool, tokens: &[Token]) -> Result<(Option<Expr>, &[Token]), Miss>
-    ensures { Sees (λ x. (option_map expression x.0, lexemes x.1.now)) result (mask strict (lexemes tokens.now)) }
+fn mask(alloc: Global, depths: Depths, tokens: &[Token]) -> Result<(Option<Expr>, &[Token]), ReadError>
+    ensures { Gives (λ x. (option_map expression x.0, lexemes x.1.now)) result (mask depths (lexemes tokens.now)) }
 {
     if !is_sign(tokens, Sign::Comma) {
         return Ok((None, tokens));
     }
-    let (tree, rest) = formula(alloc, strict, behind(tokens, 1))?;
+    let (tree, rest) = expr(alloc, depths, behind(tokens, 1))?;
     Ok((Some(tree), rest))
 }
 
@@ -70,16 +71,16 @@ fn mask(alloc: Global, strict: bool, tokens: &[Token]) -> Result<(Option<Expr>, 
 /// one that has an index behind it.
 fn elements<T: Element>(
     alloc: Global,
-    strict: bool,
+    depths: Depths,
     indices: bool,
     tokens: &[Token],
-) -> Result<(Vec<T::Part>, &[Token]), Miss>
-    ensures { Sees (λ x. (map T.view x.0.items, lexemes x.1.now)) result (elements indices (read strict T.grammar) (lexemes tokens.now)) }
+) -> Result<(Vec<T::Part>, &[Token]), ReadError>
+    ensures { Gives (λ x. (map T.view x.0.items, lexemes x.1.now)) result (elements indices (read depths T.grammar) (lexemes tokens.now)) }
 {
     let mut elements = Vec::new(alloc);
     let mut rest = tokens;
     'elements: loop {
-        let (element, behind_it) = T::read(alloc, strict, rest)?;
+        let (element, behind_it) = T::read(alloc, depths, rest)?;
         elements.push(element)?;
         if !goes_on(behind_it, indices) {
             return Ok((elements, behind_it));
@@ -117,29 +118,29 @@ fn is_index(tokens: &[Token]) -> bool
 /// The elements in parentheses in front, and the tokens behind them.
 pub fn enclosed<T: Element>(
     alloc: Global,
-    strict: bool,
+    depths: Depths,
     tokens: &[Token],
-) -> Result<(Vec<T::Part>, &[Token]), Miss>
-    ensures { Sees (λ x. (map T.view x.0.items, lexemes x.1.now)) result (read strict (enclosed T.grammar) (lexemes tokens.now)) }
+) -> Result<(Vec<T::Part>, &[Token]), ReadError>
+    ensures { Gives (λ x. (map T.view x.0.items, lexemes x.1.now)) result (read depths (enclosed T.grammar) (lexemes tokens.now)) }
 {
     let rest = after_sign(tokens, Sign::Open)?;
-    let (elements, rest) = series::<T>(alloc, strict, rest)?;
+    let (elements, rest) = comma_list::<T>(alloc, depths, rest)?;
     let rest = after_sign(rest, Sign::Close)?;
     Ok((elements, rest))
 }
 
 /// The elements that may be in parentheses in front, and the tokens behind them.
-pub fn perhaps_enclosed<T: Element>(
+pub fn optional_enclosed<T: Element>(
     alloc: Global,
-    strict: bool,
+    depths: Depths,
     tokens: &[Token],
-) -> Result<(Option<Vec<T::Part>>, &[Token]), Miss>
-    ensures { Sees (λ x. (option_map (λ v. map T.view v.items) x.0, lexemes x.1.now)) result (read strict (enclosed_perhaps T.grammar) (lexemes tokens.now)) }
+) -> Result<(Option<Vec<T::Part>>, &[Token]), ReadError>
+    ensures { Gives (λ x. (option_map (λ v. map T.view v.items) x.0, lexemes x.1.now)) result (read depths (optional_enclosed T.grammar) (lexemes tokens.now)) }
 {
     if !is_sign(tokens, Sign::Open) {
         return Ok((None, tokens));
     }
-    let (elements, rest) = series::<T>(alloc, strict, behind(tokens, 1))?;
+    let (elements, rest) = comma_list::<T>(alloc, depths, behind(tokens, 1))?;
     let rest = after_sign(rest, Sign::Close)?;
     Ok((Some(elements), rest))
 }

@@ -2,8 +2,9 @@
 
 ghost use Rattle.line_forms.specs.Grammar.{Identifier};
 
+use crate::depths::Depths;
 use crate::lists::Element;
-use crate::miss::Miss;
+use crate::read_error::ReadError;
 use crate::parts::name;
 use hpf_base::Name;
 use source_lines::Token;
@@ -19,7 +20,7 @@ impl Element for ListedNames {
 
     ghost view = { λ n. n };
 
-    fn read(_alloc: Global, _strict: bool, tokens: &[Token]) -> Result<(Name, &[Token]), Miss> {
+    fn read(_alloc: Global, _depths: Depths, tokens: &[Token]) -> Result<(Name, &[Token]), ReadError> {
         name(tokens)
     }
 }

@@ -5,9 +5,9 @@ ghost use Rattle.syntax_tree.specs.Lexeme.{Word, Fixed, lexeme_of, lexemes};
 ghost use Rattle.syntax_tree.specs.declared.sign.Sign.TheVariants.{Comma};
 ghost use Rattle.line_forms.specs.Marks.{same, starts};
 ghost use Rattle.line_forms.specs.Read.{after};
-ghost use Rattle.line_forms.specs.Seen.{Sees};
+ghost use Rattle.line_forms.specs.Gives.{Gives};
 
-use crate::miss::Miss;
+use crate::read_error::ReadError;
 use source_lines::{Token, TokenKind};
 use syntax_tree::{Sign, sign_of};
 
@@ -69,21 +69,21 @@ pub fn behind(tokens: &[Token], count: usize) -> &[Token]
 }
 
 /// The tokens behind an operator or delimiter.
-pub fn after_sign(tokens: &[Token], sign: Sign) -> Result<&[Token], Miss>
-    ensures { Sees (λ x. (tt, lexemes x.now)) result (after (Fixed sign ∷ []) (lexemes tokens.now)) }
+pub fn after_sign(tokens: &[Token], sign: Sign) -> Result<&[Token], ReadError>
+    ensures { Gives (λ x. (tt, lexemes x.now)) result (after (Fixed sign ∷ []) (lexemes tokens.now)) }
 {
     if !is_sign(tokens, sign) {
-        return Err(Miss::Form);
+        return Err(ReadError::Malformed);
     }
     Ok(behind(tokens, 1))
 }
 
 /// The tokens behind a word.
-pub fn after_word<'a>(tokens: &'a [Token], word: &[u8]) -> Result<&'a [Token], Miss>
-    ensures { Sees (λ x. (tt, lexemes x.now)) result (after (Word word.now ∷ []) (lexemes tokens.now)) }
+pub fn after_word<'a>(tokens: &'a [Token], word: &[u8]) -> Result<&'a [Token], ReadError>
+    ensures { Gives (λ x. (tt, lexemes x.now)) result (after (Word word.now ∷ []) (lexemes tokens.now)) }
 {
     if !is_word(tokens, word) {
-        return Err(Miss::Form);
+        return Err(ReadError::Malformed);
     }
     Ok(behind(tokens, 1))
 }

@@ -1,12 +1,11 @@
 -- The number of elements of a shape, and an element by its number, one dimension after another.
-use Rattle.std.proofs.Common.{◌≡◌, inl, inr, ℕ, zero, suc, ◌+◌, ◌*◌, ◌/◌, ◌%◌, ◌<◌, ◌≤◌, ℤ, pos, negsuc, ◌+ℤ◌, ◌≤ℤ◌, unsigned_abs, true, false, List, [], ◌∷◌, ◌++◌, refl, sym, ◌∙◌, ap, subst, arith, length, map, get_or, set, take, All, Some, slice_get}
+use Rattle.std.proofs.Common.{◌≡◌, inl, inr, ℕ, zero, suc, ◌+◌, ◌*◌, ◌<◌, ◌≤◌, ℤ, pos, negsuc, ◌+ℤ◌, ◌≤ℤ◌, unsigned_abs, true, false, List, [], ◌∷◌, ◌++◌, refl, sym, ◌∙◌, ap, arith, length, map, get_or, set, take, All, Some, slice_get}
 use Rattle.std.proofs.Math.Nat.{mul_comm, mul-zero, zero-mul}
 use Rattle.std.proofs.lemmas.Bool.{both_ways, or_cases, or_parts}
 use Rattle.std.proofs.lemmas.Bool.Decides.{Decides-int_eq}
 use Rattle.std.proofs.lemmas.Int.{ints}
 use Rattle.std.proofs.lemmas.List.{length-map, take_all, take_more, take_more_set}
 use Rattle.std.proofs.lemmas.List.Elements.{All-cons, All-head, All-map, All-tail}
-use Rattle.std.proofs.lemmas.Nat.{mod_below}
 use Rattle.std.proofs.lemmas.Option.{slice_get-get_or}
 use Rattle.std.specs.List.{list_any}
 use Rattle.std.specs.Ordering.{int_eq}
@@ -96,38 +95,3 @@ written_all shape index dim n valid below all written =
     take_all dim (index_at shape.lower place) (omega (arith, length-index_at shape.lower place rank)) in
     slice_get-get_or (elements shape) n [] (omega (arith, below, length-elements shape))
     ∙ ap Some (elements-get shape n [] below ∙ sym whole ∙ sym written)
-
--- the elements of a vector that begins at 1
-vector-elements_from_one : (P : List ℤ → Type 0) (extent : ℤ) → ((i : ℤ) → pos 1 ≤ℤ i → i ≤ℤ extent → P (i ∷ [])) → pos 0 ≤ℤ extent
-    → All P (elements (record { lower = pos 1 ∷ []; extent = extent ∷ [] }))
-vector-elements_from_one P (negsuc n) each positive = absurd (omega (arith, ints))
-vector-elements_from_one P (pos n) each positive = λ k d within.
-    let shape : Shape = record { lower = pos 1 ∷ []; extent = pos n ∷ [] } in
-    let below : k < n = omega (arith, within, length-elements shape) in
-    let place : k % n < n = mod_below k n (omega arith) in
-    subst P (sym (elements-get shape k d (omega arith))) (each (pos 1 +ℤ pos (k % n)) (omega (arith, ints)) (omega (arith, ints)))
-
-pub vector-elements : (P : List ℤ → Type 0) (extent : ℤ) (lower extents : List ℤ) → lower ≡ pos 1 ∷ [] → extents ≡ extent ∷ []
-    → ((i : ℤ) → pos 1 ≤ℤ i → i ≤ℤ extent → P (i ∷ [])) → pos 0 ≤ℤ extent → All P (elements (record { lower = lower; extent = extents }))
-vector-elements P extent lower extents lower-is extents-is each positive =
-    subst (λ ls. All P (elements (record { lower = ls; extent = extents }))) (sym lower-is)
-    (subst (λ es. All P (elements (record { lower = pos 1 ∷ []; extent = es }))) (sym extents-is) (vector-elements_from_one P extent each positive))
-
--- the elements of an array of 4 by 4 that begins at 1
-plane-elements_from_one : (P : List ℤ → Type 0)
-    → ((i j : ℤ) → pos 1 ≤ℤ i → i ≤ℤ pos 4 → pos 1 ≤ℤ j → j ≤ℤ pos 4 → P (i ∷ j ∷ []))
-    → All P (elements (record { lower = pos 1 ∷ pos 1 ∷ []; extent = pos 4 ∷ pos 4 ∷ [] }))
-plane-elements_from_one P each = λ k d within.
-    let shape : Shape = record { lower = pos 1 ∷ pos 1 ∷ []; extent = pos 4 ∷ pos 4 ∷ [] } in
-    let below : k < 16 = omega (arith, within, length-elements shape) in
-    let row : k % 4 < 4 = mod_below k 4 (omega arith) in
-    let column : k / 4 % 4 < 4 = mod_below (k / 4) 4 (omega arith) in
-    subst P (sym (elements-get shape k d below))
-    (each (pos 1 +ℤ pos (k % 4)) (pos 1 +ℤ pos (k / 4 % 4)) (omega (arith, ints)) (omega (arith, ints)) (omega (arith, ints)) (omega (arith, ints)))
-
-pub plane-elements : (P : List ℤ → Type 0) (lower extents : List ℤ) → lower ≡ pos 1 ∷ pos 1 ∷ [] → extents ≡ pos 4 ∷ pos 4 ∷ []
-    → ((i j : ℤ) → pos 1 ≤ℤ i → i ≤ℤ pos 4 → pos 1 ≤ℤ j → j ≤ℤ pos 4 → P (i ∷ j ∷ []))
-    → All P (elements (record { lower = lower; extent = extents }))
-plane-elements P lower extents lower-is extents-is each =
-    subst (λ ls. All P (elements (record { lower = ls; extent = extents }))) (sym lower-is)
-    (subst (λ es. All P (elements (record { lower = pos 1 ∷ pos 1 ∷ []; extent = es }))) (sym extents-is) (plane-elements_from_one P each))

@@ -15,7 +15,7 @@ use std::alloc::Global;
 use std::marker::Model;
 
 /// The elements of an array that a node owns, in array-element order: the first subscript fastest (Fortran 95,
-/// 6.2.2.2). Contracts see the list of them. An element's local address is its place in the list, from 0.
+/// 6.2.2.2). Contracts see the list of them. An element's local address is its number in the list, from 0.
 #[derive(Drop)]
 pub struct Piece {
     elements: Vec<Index>,
@@ -65,25 +65,24 @@ impl Piece {
         self.elements.len()
     }
 
-    /// The place, from 0, at which the element lies in the piece; None exactly where the node doesn't own it. It takes
-    /// no memory.
+    /// The element's local address, from 0; None exactly where the node doesn't own it. It takes no memory.
     pub fn address(&self, index: &Index) -> Option<usize>
-        ensures place { (place : ℕ) → (result ≡ Some place) ↔ (slice_get self.now place ≡ Some index.now) }
+        ensures address { (address : ℕ) → (result ≡ Some address) ↔ (slice_get self.now address ≡ Some index.now) }
         ensures none { (mapping : Mapping) (shape : Shape) (node : ℕ) → self.now ≡ local_elements mapping shape node → IsShape shape → IsInside shape index.now → (IsNone result ↔ (owns mapping index.now node ≡ false)) }
     {
-        for (place, element) in self.elements.iter().enumerate() {
+        for (address, element) in self.elements.iter().enumerate() {
             if is_same(element, index) {
-                return Some(place);
+                return Some(address);
             }
         }
         None
     }
 
-    /// The element that lies at a place, from 0; None exactly where the place is at least `len`. It takes no memory.
-    pub fn element(&self, place: usize) -> Option<Index>
-        ensures { result ≡ slice_get self.now place }
+    /// The element with this local address, from 0; None exactly where it is at least `len`. It takes no memory.
+    pub fn element(&self, address: usize) -> Option<Index>
+        ensures { result ≡ slice_get self.now address }
     {
-        let element = self.elements.get(place)?;
+        let element = self.elements.get(address)?;
         Index::new(self.alloc, element.numbers())
     }
 }

@@ -5,7 +5,7 @@ use Rattle.std.specs.Int.{int_wrap}
 use mir.Syntax.{w64}
 use Rattle.std.specs.List.{Contains, AllByRecursion}
 use Rattle.std.proofs.lemmas.List.Elements.{All-contains, All-from_recursion}
-use Rattle.nest_order.specs.Memory.{Memory, Spot, row, read}
+use Rattle.nest_order.specs.Storage.{Storage, Spot, row_of, read}
 use Rattle.nest_order.specs.Effect.{Effect, Skip, Put, Fail}
 use Rattle.nest_order.specs.Orders.{kept, IsLeastKept}
 use Rattle.nest_order.specs.Items.{EachIn}
@@ -22,7 +22,7 @@ second_of_two x y = (1, omega arith, refl)
 stored_in : (to from spot : Spot) → to ≡ spot → Contains (to ∷ []) spot × Contains (to ∷ from ∷ []) spot
 stored_in to from spot e = subst (λ s. Contains (to ∷ []) s × Contains (to ∷ from ∷ []) s) e ((0, omega arith, refl), first_of_two to from)
 
-named : (start : Memory) (a : Assignment) → IsNamed interpretation names spots_written start a
+named : (start : Storage) (a : Assignment) → IsNamed interpretation names spots_written start a
 named start (Set to from) = record {
   near = λ m m' h g agree. ap (Put to) (agree from (second_of_two to from));
   stores = λ m spot value put. stored_in to from spot cc;
@@ -35,19 +35,19 @@ named start (Add to from) = record {
 }
 named start (Divide line to from) = record {
   near = λ m m' h g agree.
-      ap (λ d. if is_set d then Put to (int_div (read m to) d) else Fail line) (agree from (second_of_two to from))
-      ∙ ap (λ v. if is_set (read m' from) then Put to (int_div v (read m' from)) else Fail line) (agree to (first_of_two to from));
-  stores = λ m spot value put. stored_in to from spot (divided (is_set (read m from)) (int_div (read m to) (read m from)) spot value put);
+      ap (λ d. if is_set d then Put to (int_wrap w64 (int_div (read m to) d)) else Fail line) (agree from (second_of_two to from))
+      ∙ ap (λ v. if is_set (read m' from) then Put to (int_wrap w64 (int_div v (read m' from))) else Fail line) (agree to (first_of_two to from));
+  stores = λ m spot value put. stored_in to from spot (divided (is_set (read m from)) (int_wrap w64 (int_div (read m to) (read m from))) spot value put);
 }
   where
     divided : (b : Bool) (v : ℤ) (spot : Spot) (value : ℤ) → (if b then Put to v else Fail line) ≡ Put spot value → to ≡ spot
     divided true v spot value h = cc
     divided false v spot value h = absurd cc
 
-near : (start : Memory) (c : Comparison) → IsNear interpretation names spots_written start c
+near : (start : Storage) (c : Comparison) → IsNear interpretation names spots_written start c
 near start (Exceeds element bound) = λ m m' h g agree. ap (λ v. Ok (int_lt bound v)) (agree element (0, omega arith, refl))
 
-each_named : (start : Memory) (i : ℕ) → EachIn (IsNamed interpretation names spots_written start) (IsNear interpretation names spots_written start) (body i)
+each_named : (start : Storage) (i : ℕ) → EachIn (IsNamed interpretation names spots_written start) (IsNear interpretation names spots_written start) (body i)
 each_named start i =
     let set = named start (Set (x_at i) (b_at i)) in
     let first = named start (Divide 4 (a_at i) (b_at (i + 1))) in
@@ -57,10 +57,10 @@ each_named start i =
 
 -- an iteration names B, and else its own position alone, in the rows before the conditions
 abbrev IsOwn : ℕ → Spot → Type 0
-IsOwn i spot = (spot.place < 4) × ((spot.place ≡ 1) ⊎ (spot.at ≡ i))
+IsOwn i spot = (spot.row < 4) × ((spot.row ≡ 1) ⊎ (spot.at ≡ i))
 
 abbrev IsOwnWritten : ℕ → Spot → Type 0
-IsOwnWritten i spot = (spot.place ≡ 1 → ⊥) × (spot.at ≡ i)
+IsOwnWritten i spot = (spot.row ≡ 1 → ⊥) × (spot.at ≡ i)
 
 all_own : (i : ℕ) → AllByRecursion (IsOwn i) (listed names (body i))
 all_own i =
@@ -97,7 +97,7 @@ is_parallel b = record {
     written i spot h =
         All-contains (IsOwnWritten i) (listed (writes names spots_written) (body i)) spot (All-from_recursion (IsOwnWritten i) (listed (writes names spots_written) (body i)) (all_own_written i)) h
 
-    in_row : (i number : ℕ) → i < 3 → number < 2 → i < length (row (entry b) (4 + number))
+    in_row : (i number : ℕ) → i < 3 → number < 2 → i < length (row_of (entry b) (4 + number))
     in_row i zero lt ltn = lt
     in_row i (suc zero) lt ltn = lt
     in_row i (suc (suc number)) lt ltn = absurd (omega arith)

@@ -4,7 +4,7 @@ use Rattle.std.specs.Prelude.{nat_eq, ◌&&◌, not, if◌then◌else◌}
 use Rattle.std.proofs.lemmas.Bool.Decides.{nat_tests}
 use Rattle.nest_order.specs.Turns.{◌>>=◌, in_turn, joined_up_to}
 use Rattle.nest_order.specs.Items.{Items, Done, Then, If, Repeat, Branches, EndIf, Branch, Evaluation, holds_in, exec, exec_branches}
-use Rattle.nest_order.specs.Parts.{most, Conditions, set_condition, guard_holds, none_holds, IsBelow, Iteration, Part, count_items, count_branches, flat, flat_branches, do_part, do_parts, Matches}
+use Rattle.nest_order.specs.Parts.{most, Conditions, set_condition, guard_holds, none_holds, IsBelow, Iteration, NestPart, count_items, count_branches, flat, flat_branches, do_part, do_parts, Matches}
 
 pub set_at : (c : Conditions) (n : ℕ) (b : Bool) → set_condition c n b n ≡ b
 set_at c n b = let e : nat_eq n n ≡ true = grind (arith, nat_tests) in ap (λ t. if t then b else c n) e
@@ -80,14 +80,14 @@ pub tested_off : (g : Option ℕ) (es : List ℕ) (k : ℕ) (c : Conditions) →
 tested_off g es k c off = and_middle (guard_holds g c) (not (c k)) (none_holds es c) off
 
 abbrev at : {M : Type 0} → M → Conditions → Iteration M
-at m c = record { memory = m; conditions = c }
+at m c = record { storage = m; conditions = c }
 
 Matches-below : {M F : Type 0} (k k' : ℕ) (c c' : Conditions) (r : Result (Iteration M) F) (q : Result M F) → k ≤ k' → Kept k c c' → Matches k' c' r q → Matches k c r q
 Matches-below k k' c c' r (Ok m) le kept h = (h.0, h.1, λ x lt. h.2 x (omega arith) ∙ kept x lt)
 Matches-below k k' c c' r (Err f) le kept h = h
 
 module _ {A C M F : Type 0} (E : Evaluation A C M F) where
-  parts_append : (ps qs : List (Part A C)) (s : Iteration M) → do_parts E (ps ++ qs) s ≡ do_parts E ps s >>= do_parts E qs
+  parts_append : (ps qs : List (NestPart A C)) (s : Iteration M) → do_parts E (ps ++ qs) s ≡ do_parts E ps s >>= do_parts E qs
   parts_append [] qs s = refl
   parts_append (p ∷ ps) qs s = after (λ t. parts_append ps qs t) (do_part E p s)
     where
@@ -95,22 +95,22 @@ module _ {A C M F : Type 0} (E : Evaluation A C M F) where
       after rec (Ok t) = rec t
       after rec (Err f) = refl
 
-  leads : (ps qs : List (Part A C)) (s t : Iteration M) → do_parts E ps s ≡ Ok t → do_parts E (ps ++ qs) s ≡ do_parts E qs t
+  leads : (ps qs : List (NestPart A C)) (s t : Iteration M) → do_parts E ps s ≡ Ok t → do_parts E (ps ++ qs) s ≡ do_parts E qs t
   leads ps qs s t e = parts_append ps qs s ∙ ap (λ r. r >>= do_parts E qs) e
 
-  -- the parts leave the memory and the conditions below k
-  abbrev Skipped : ℕ → List (Part A C) → M → Conditions → Type 0
+  -- the parts leave the storage and the conditions below k
+  abbrev Skipped : ℕ → List (NestPart A C) → M → Conditions → Type 0
   Skipped k ps m c = (d : Conditions) × (do_parts E ps (at m c) ≡ Ok (at m d)) × Kept k c d
 
-  skipped_below : (k k' : ℕ) (ps : List (Part A C)) (m : M) (c : Conditions) → k ≤ k' → Skipped k' ps m c → Skipped k ps m c
+  skipped_below : (k k' : ℕ) (ps : List (NestPart A C)) (m : M) (c : Conditions) → k ≤ k' → Skipped k' ps m c → Skipped k ps m c
   skipped_below k k' ps m c le h = (h.0, h.1, kept-below k k' c h.0 le h.2)
 
-  skipped_append : (k : ℕ) (ps qs : List (Part A C)) (m : M) (c : Conditions) → Skipped k ps m c → ((d : Conditions) → Kept k c d → Skipped k qs m d) → Skipped k (ps ++ qs) m c
+  skipped_append : (k : ℕ) (ps qs : List (NestPart A C)) (m : M) (c : Conditions) → Skipped k ps m c → ((d : Conditions) → Kept k c d → Skipped k qs m d) → Skipped k (ps ++ qs) m c
   skipped_append k ps qs m c h next =
       let g = next h.0 h.2 in
       (g.0, leads ps qs (at m c) (at m h.0) h.1 ∙ g.1, kept-trans k c h.0 g.0 h.2 g.2)
 
-  skipped_turns : (k : ℕ) (g : Option ℕ) (lists : ℕ → List (Part A C)) (m : M) → IsBelow g k → ((x : ℕ) (c : Conditions) → guard_holds g c ≡ false → Skipped k (lists x) m c) →
+  skipped_turns : (k : ℕ) (g : Option ℕ) (lists : ℕ → List (NestPart A C)) (m : M) → IsBelow g k → ((x : ℕ) (c : Conditions) → guard_holds g c ≡ false → Skipped k (lists x) m c) →
       (t : ℕ) (c : Conditions) → guard_holds g c ≡ false → Skipped k (joined_up_to t lists) m c
   skipped_turns k g lists m below each zero c off = (c, refl, λ x lt. refl)
   skipped_turns k g lists m below each (suc t) c off =
@@ -149,20 +149,20 @@ module _ {A C M F : Type 0} (E : Evaluation A C M F) where
         )
 
   -- one list of parts after another
-  then_matches : (k k' : ℕ) (c c' : Conditions) (s : Iteration M) (ps qs : List (Part A C)) (q : Result M F) (f : M → Result M F) → Matches k' c' (do_parts E ps s) q →
+  then_matches : (k k' : ℕ) (c c' : Conditions) (s : Iteration M) (ps qs : List (NestPart A C)) (q : Result M F) (f : M → Result M F) → Matches k' c' (do_parts E ps s) q →
       ((m : M) (d : Conditions) → Kept k' c' d → Matches k c (do_parts E qs (at m d)) (f m)) → Matches k c (do_parts E (ps ++ qs) s) (q >>= f)
   then_matches k k' c c' s ps qs (Err e) f h next = parts_append ps qs s ∙ ap (λ r. r >>= do_parts E qs) h
   then_matches k k' c c' s ps qs (Ok m) f h next = subst (λ r. Matches k c r (f m)) (sym (leads ps qs s (at m h.0) h.1)) (next m h.0 h.2)
 
   -- parts that are skipped behind a list of parts
-  then_skipped : (k k' : ℕ) (c c' : Conditions) (s : Iteration M) (ps qs : List (Part A C)) (q : Result M F) → Matches k' c' (do_parts E ps s) q →
+  then_skipped : (k k' : ℕ) (c c' : Conditions) (s : Iteration M) (ps qs : List (NestPart A C)) (q : Result M F) → Matches k' c' (do_parts E ps s) q →
       ((m : M) (d : Conditions) → Kept k' c' d → (Skipped k qs m d) × Kept k c d) → Matches k c (do_parts E (ps ++ qs) s) q
   then_skipped k k' c c' s ps qs (Err e) h next = parts_append ps qs s ∙ ap (λ r. r >>= do_parts E qs) h
   then_skipped k k' c c' s ps qs (Ok m) h next =
       let n = next m h.0 h.2 in
       (n.0.0, leads ps qs s (at m h.0) h.1 ∙ n.0.1, kept-trans k c h.0 n.0.0 n.1 n.0.2)
 
-  matches_turns : (k : ℕ) (g : Option ℕ) (lists : ℕ → List (Part A C)) (body : ℕ → M → Result M F) → IsBelow g k →
+  matches_turns : (k : ℕ) (g : Option ℕ) (lists : ℕ → List (NestPart A C)) (body : ℕ → M → Result M F) → IsBelow g k →
       ((x : ℕ) (m : M) (c : Conditions) → guard_holds g c ≡ true → Matches k c (do_parts E (lists x) (at m c)) (body x m)) →
       (t : ℕ) (m : M) (c : Conditions) → guard_holds g c ≡ true → Matches k c (do_parts E (joined_up_to t lists) (at m c)) (in_turn t body m)
   matches_turns k g lists body below each zero m c on = (c, refl, λ x lt. refl)

@@ -1,8 +1,12 @@
-mod MemoryLemmas
+mod StorageLemmas
 mod Parting
 mod Flattening
 mod Touching
 mod LastCopy
+mod Copying
+mod Beside
+mod ScalarLaws
+mod WholeNest
 mod Numbering
 mod Joins
 mod Reducing
@@ -12,3 +16,4 @@ mod Outcomes
 mod Observing
 mod Following
 mod Examples
+mod ExampleScalars

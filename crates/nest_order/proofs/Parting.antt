@@ -4,11 +4,11 @@ use Rattle.std.proofs.Common.{◌≡◌, ℕ, zero, suc, ◌<◌, ◌≤◌, ◌
 use Rattle.std.proofs.lemmas.Bool.{cases_eq, cases_lt}
 use Rattle.std.proofs.lemmas.Bool.Decides.{nat_tests}
 use Rattle.std.specs.List.{Contains}
-use Rattle.nest_order.specs.Memory.{Memory, Spot, read, write, Alike}
+use Rattle.nest_order.specs.Storage.{Storage, Spot, read, write, Alike}
 use Rattle.nest_order.specs.Turns.{◌>>=◌}
 use Rattle.nest_order.specs.Effect.{Effect, Skip, Put, Fail, apply, then_apply, scatter}
 use Rattle.nest_order.specs.Orders.{alone, plain_parts, plain, parted, kept, Apart, IsLeastKept, NoneKept}
-use Rattle.nest_order.proofs.MemoryLemmas.{Alike-write, Alike-refl, Alike-trans, Alike-sym, spots, read-write_other, read-write_both, Memory-ext}
+use Rattle.nest_order.proofs.StorageLemmas.{Alike-write, Alike-refl, Alike-trans, Alike-sym, spots, read-write_other, read-write_both, Storage-ext}
 
 -- the least number below n that has a decided fact, or none has it
 bounded : (P : ℕ → Type 0) (n : ℕ) → ((i : ℕ) → P i ⊎ (P i → ⊥)) → ((i : ℕ) × (i < n) × P i × ((x : ℕ) → x < i → P x → ⊥)) ⊎ ((i : ℕ) → i < n → P i → ⊥)
@@ -58,17 +58,17 @@ module _ {F : Type 0} where
   bound (Ok a) f b h = (a, refl, h)
   bound (Err e) f b h = absurd cc
 
-  apply_both : (e : Effect F) (m m' : Memory) (l : Spot) → Alike m m' → read m l ≡ read m' l → read (apply e m) l ≡ read (apply e m') l
+  apply_both : (e : Effect F) (m m' : Storage) (l : Spot) → Alike m m' → read m l ≡ read m' l → read (apply e m) l ≡ read (apply e m') l
   apply_both Skip m m' l alike same = same
   apply_both (Put s v) m m' l alike same = read-write_both m m' s l v alike same
   apply_both (Fail f) m m' l alike same = same
 
-  apply_other : (e : Effect F) (m : Memory) (l : Spot) → ((v : ℤ) → e ≡ Put l v → ⊥) → read (apply e m) l ≡ read m l
+  apply_other : (e : Effect F) (m : Storage) (l : Spot) → ((v : ℤ) → e ≡ Put l v → ⊥) → read (apply e m) l ≡ read m l
   apply_other Skip m l never = refl
   apply_other (Put s v) m l never = read-write_other m s l v (λ e. never v (ap (λ x. Put x v) e))
   apply_other (Fail f) m l never = refl
 
-  Alike-apply : (e : Effect F) (m : Memory) → Alike (apply e m) m
+  Alike-apply : (e : Effect F) (m : Storage) → Alike (apply e m) m
   Alike-apply Skip m = Alike-refl m
   Alike-apply (Put s v) m = Alike-write m s v
   Alike-apply (Fail f) m = Alike-refl m
@@ -81,7 +81,7 @@ module _ {F : Type 0} where
       (λ ne. inr (λ h. let e = h.1 in ne cc))
       (spots s l)
 
-  applied : (e : Effect F) (m m' : Memory) → then_apply e m ≡ Ok m' → apply e m ≡ m'
+  applied : (e : Effect F) (m m' : Storage) → then_apply e m ≡ Ok m' → apply e m ≡ m'
   applied Skip m m' h = ok_same m m' h
   applied (Put s v) m m' h = ok_same (write m s v) m' h
   applied (Fail f) m m' h = cc
@@ -91,12 +91,12 @@ module _ {F : Type 0} where
   fails (Put s v) = inr (λ h. let e = h.1 in cc)
   fails (Fail f) = inl (f, refl)
 
-  goes_on : (e : Effect F) (m : Memory) → ((f : F) → e ≡ Fail f → ⊥) → then_apply e m ≡ Ok (apply e m)
+  goes_on : (e : Effect F) (m : Storage) → ((f : F) → e ≡ Fail f → ⊥) → then_apply e m ≡ Ok (apply e m)
   goes_on Skip m never = refl
   goes_on (Put s v) m never = refl
   goes_on (Fail f) m never = absurd (never f refl)
 
-  module _ (act : ℕ → ℕ → Memory → Effect F) (start : Memory) where
+  module _ (act : ℕ → ℕ → Storage → Effect F) (start : Storage) where
     pub Alike-alone : (i j : ℕ) → Alike (alone act start i j) start
     Alike-alone i zero = Alike-refl start
     Alike-alone i (suc j) = Alike-trans (alone act start i (suc j)) (alone act start i j) start (Alike-apply (act i j (alone act start i j)) (alone act start i j)) (Alike-alone i j)
@@ -138,13 +138,13 @@ module _ {F : Type 0} where
       abbrev Unwritten : Spot → Type 0
       Unwritten l = (i j : ℕ) (v : ℤ) → i < n → j < k → act i j (alone act start i j) ≡ Put l v → ⊥
 
-      -- a memory after p i parts of each iteration i, in some order
-      record Merged (p : ℕ → ℕ) (m : Memory) : Type 0 where
+      -- a storage after p i parts of each iteration i, in some order
+      record Merged (p : ℕ → ℕ) (m : Storage) : Type 0 where
         alike : Alike m start
         touched : (i : ℕ) (l : Spot) → i < n → Contains (touches i) l → read m l ≡ read (alone act start i (p i)) l
         rest : (l : Spot) → Unwritten l → read m l ≡ read start l
 
-      Merged-same : (p q : ℕ → ℕ) (m : Memory) → ((i : ℕ) → i < n → q i ≡ p i) → Merged p m → Merged q m
+      Merged-same : (p q : ℕ → ℕ) (m : Storage) → ((i : ℕ) → i < n → q i ≡ p i) → Merged p m → Merged q m
       Merged-same p q m same h = record {
         alike = h.alike;
         touched = λ i l lt t. h.touched i l lt t ∙ ap (λ x. read (alone act start i x) l) (sym (same i lt));
@@ -152,7 +152,7 @@ module _ {F : Type 0} where
       }
 
       -- one more part of one iteration
-      step : (p q : ℕ → ℕ) (m : Memory) (i j : ℕ) → i < n → j < k → p i ≡ j → q i ≡ suc j → ((x : ℕ) → (i ≡ x → ⊥) → q x ≡ p x) → Merged p m →
+      step : (p q : ℕ → ℕ) (m : Storage) (i j : ℕ) → i < n → j < k → p i ≡ j → q i ≡ suc j → ((x : ℕ) → (i ≡ x → ⊥) → q x ≡ p x) → Merged p m →
           Merged q (apply (act i j (alone act start i j)) m)
       step p q m i j lt lt' at after others h =
           let s = alone act start i j in
@@ -170,8 +170,8 @@ module _ {F : Type 0} where
             rest = λ l un. apply_other e m l (λ v is. un i j v lt lt' is) ∙ h.rest l un;
           }
 
-      -- what a part does in such a memory is what it does alone
-      as_alone : (p : ℕ → ℕ) (m : Memory) (i j : ℕ) → i < n → j < k → p i ≡ j → Merged p m → act i j m ≡ act i j (alone act start i j)
+      -- what a part does in such a storage is what it does alone
+      as_alone : (p : ℕ → ℕ) (m : Storage) (i j : ℕ) → i < n → j < k → p i ≡ j → Merged p m → act i j m ≡ act i j (alone act start i j)
       as_alone p m i j lt lt' at h =
           free.local i j m lt lt' h.alike (λ l t. h.touched i l lt t ∙ ap (λ y. read (alone act start i y) l) at)
 
@@ -179,7 +179,7 @@ module _ {F : Type 0} where
       Merged-start = record { alike = Alike-refl start; touched = λ i l lt t. refl; rest = λ l un. refl }
 
       -- part j for the first i iterations
-      scatter_merged : (j : ℕ) (m : Memory) → j < k → Merged (λ i. j) m → (i : ℕ) → i ≤ n → Merged (below i (suc j) j) (scatter (λ x. act x j m) i m)
+      scatter_merged : (j : ℕ) (m : Storage) → j < k → Merged (λ i. j) m → (i : ℕ) → i ≤ n → Merged (below i (suc j) j) (scatter (λ x. act x j m) i m)
       scatter_merged j m lt h zero le = Merged-same (λ i. j) (below 0 (suc j) j) m (λ i ltn. below_out 0 (suc j) j i (omega arith)) h
       scatter_merged j m lt h (suc i) le =
           let so_far = scatter_merged j m lt h i (omega arith) in
@@ -202,7 +202,7 @@ module _ {F : Type 0} where
       Clean i j = (x y : ℕ) (f : F) → x < n → y < k → (x < i) ⊎ ((x ≡ i) × (y < j)) → act x y (alone act start x y) ≡ Fail f → ⊥
 
       -- the plain order as far as it comes
-      parts_merged : (i : ℕ) → i < n → (m : Memory) → Merged (below i k 0) m → (j : ℕ) → j ≤ k → (m' : Memory) → plain_parts act start i j m ≡ Ok m' → Merged (here i j (below i k 0)) m'
+      parts_merged : (i : ℕ) → i < n → (m : Storage) → Merged (below i k 0) m → (j : ℕ) → j ≤ k → (m' : Storage) → plain_parts act start i j m ≡ Ok m' → Merged (here i j (below i k 0)) m'
       parts_merged i lt m h zero le m' e =
           let p = below i k 0 in
           subst (Merged (here i 0 p)) (ok_same m m' e)
@@ -218,7 +218,7 @@ module _ {F : Type 0} where
           (step (here i j p) (here i (suc j) p) r.0 i j lt (omega arith) (here_at i j p) (here_at i (suc j) p)
           (λ x ne. here_other i (suc j) p x ne ∙ sym (here_other i j p x ne)) so_far)
 
-      plain_merged : (i : ℕ) → i ≤ n → (m : Memory) → plain act start k i ≡ Ok m → Merged (below i k 0) m
+      plain_merged : (i : ℕ) → i ≤ n → (m : Storage) → plain act start k i ≡ Ok m → Merged (below i k 0) m
       plain_merged zero le m e = subst (Merged (below 0 k 0)) (ok_same start m e) (Merged-same (λ i. 0) (below 0 k 0) start (λ i lt. below_out 0 k 0 i (omega arith)) Merged-start)
       plain_merged (suc i) le m e =
           let p = below i k 0 in
@@ -229,16 +229,16 @@ module _ {F : Type 0} where
           (parts_merged i (omega arith) r.0 (plain_merged i (omega arith) r.0 r.1) k (omega arith) m r.2)
 
       -- what a part does where the plain order comes to it is what it does alone
-      plain_alone : (i j : ℕ) → i < n → j < k → (before m : Memory) → plain act start k i ≡ Ok before → plain_parts act start i j before ≡ Ok m → act i j m ≡ act i j (alone act start i j)
+      plain_alone : (i j : ℕ) → i < n → j < k → (before m : Storage) → plain act start k i ≡ Ok before → plain_parts act start i j before ≡ Ok m → act i j m ≡ act i j (alone act start i j)
       plain_alone i j lt lt' before m come at =
           let p = here i j (below i k 0) in
           as_alone p m i j lt lt' (here_at i j (below i k 0)) (parts_merged i lt before (plain_merged i (omega arith) before come) j (omega arith) m at)
 
-      pub plain_kept : (i j : ℕ) (before m : Memory) → i < n → j < k → plain act start k i ≡ Ok before → plain_parts act start i j before ≡ Ok m → act i j m ≡ kept act start n i j
+      pub plain_kept : (i j : ℕ) (before m : Storage) → i < n → j < k → plain act start k i ≡ Ok before → plain_parts act start i j before ≡ Ok m → act i j m ≡ kept act start n i j
       plain_kept i j before m lt lt' come at = plain_alone i j lt lt' before m come at ∙ sym (kept_alone i j lt lt')
 
       -- the plain order comes to (i, j)
-      parts_come : (i : ℕ) → i < n → (before : Memory) → plain act start k i ≡ Ok before → (j : ℕ) → j ≤ k → Clean i j → (m : Memory) × (plain_parts act start i j before ≡ Ok m)
+      parts_come : (i : ℕ) → i < n → (before : Storage) → plain act start k i ≡ Ok before → (j : ℕ) → j ≤ k → Clean i j → (m : Storage) × (plain_parts act start i j before ≡ Ok m)
       parts_come i lt before come zero le clean = (before, refl)
       parts_come i lt before come (suc j) le clean =
           let r = parts_come i lt before come j (omega arith) (λ x y f ltx lty sooner. clean x y f ltx lty (⊎_elim (λ a. inl a) (λ b. inr (b.0, let z : y < j = b.1 in omega arith)) sooner)) in
@@ -249,7 +249,7 @@ module _ {F : Type 0} where
                 ∙ goes_on (act i j s) r.0 (λ f is. clean i j f lt (omega arith) (inr (refl, omega arith)) is),
           )
 
-      plain_comes : (i : ℕ) → i ≤ n → Clean i 0 → (m : Memory) × (plain act start k i ≡ Ok m)
+      plain_comes : (i : ℕ) → i ≤ n → Clean i 0 → (m : Storage) × (plain act start k i ≡ Ok m)
       plain_comes zero le clean = (start, refl)
       plain_comes (suc i) le clean =
           let r = plain_comes i (omega arith) (λ x y f ltx lty sooner. clean x y f ltx lty (⊎_elim (λ a. inl (let z : x < i = a in omega arith)) (λ b. absurd (let z : y < 0 = b.1 in omega arith)) sooner)) in
@@ -257,8 +257,8 @@ module _ {F : Type 0} where
           (t.0, ap (λ x. x >>= plain_parts act start i k) r.1 ∙ t.1)
 
       -- all parts of all iterations, in any two orders
-      ends_alike : (m m' : Memory) → Merged (λ i. k) m → Merged (λ i. k) m' → m ≡ m'
-      ends_alike m m' h g = Memory-ext m m' (Alike-trans m start m' h.alike (Alike-sym m' start g.alike)) (λ l. ⊎_elim
+      ends_alike : (m m' : Storage) → Merged (λ i. k) m → Merged (λ i. k) m' → m ≡ m'
+      ends_alike m m' h g = Storage-ext m m' (Alike-trans m start m' h.alike (Alike-sym m' start g.alike)) (λ l. ⊎_elim
           (λ w. let i = w.0 in let t = free.stores i w.2.0 l w.2.2.0 w.1 w.2.1 w.2.2.1 in h.touched i l w.1 t ∙ sym (g.touched i l w.1 t))
           (λ none. let un : Unwritten l = λ i j v lt lt' is. none i lt (j, lt', (v, is)) in h.rest l un ∙ sym (g.rest l un))
           (writer l))
@@ -283,7 +283,7 @@ module _ {F : Type 0} where
           r.1 ∙ ap Ok (ends_alike r.0 (parted act start n k)
           (Merged-same (below n k 0) (λ i. k) r.0 (λ i lt. sym (below_in n k 0 i lt)) (plain_merged n (omega arith) r.0 r.1)) (parted_merged k (omega arith)))
 
-      parts_stop : (i j d : ℕ) (m : Memory) (f : F) → plain_parts act start i j m ≡ Err f → plain_parts act start i (d + j) m ≡ Err f
+      parts_stop : (i j d : ℕ) (m : Storage) (f : F) → plain_parts act start i j m ≡ Err f → plain_parts act start i (d + j) m ≡ Err f
       parts_stop i j zero m f e = let z : j ≡ 0 + j = omega arith in subst (λ x. plain_parts act start i x m ≡ Err f) z e
       parts_stop i j (suc d) m f e =
           let z : suc (d + j) ≡ suc d + j = omega arith in
@@ -306,7 +306,7 @@ module _ {F : Type 0} where
           let same = plain_kept i j r.0 t.0 lt lt' r.1 t.1 ∙ least.here in
           let at : plain_parts act start i (suc j) r.0 ≡ Err f = ap (λ x. x >>= (λ m. then_apply (act i j m) m)) t.1 ∙ ap (λ e. then_apply e t.0) same in
           let z : k - suc j + suc j ≡ k = omega arith in
-          let row = subst (λ x. plain_parts act start i x r.0 ≡ Err f) z (parts_stop i (suc j) (k - suc j) r.0 f at) in
-          let all = ap (λ x. x >>= plain_parts act start i k) r.1 ∙ row in
+          let row_of = subst (λ x. plain_parts act start i x r.0 ≡ Err f) z (parts_stop i (suc j) (k - suc j) r.0 f at) in
+          let all = ap (λ x. x >>= plain_parts act start i k) r.1 ∙ row_of in
           let y : n - suc i + suc i ≡ n = omega arith in
           subst (λ x. plain act start k x ≡ Err f) y (plain_stops (suc i) (n - suc i) f all)

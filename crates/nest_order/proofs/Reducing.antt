@@ -38,10 +38,10 @@ module _ {V : Type 0} (InRange : V → Type 0) (join : V → V → V) (unit : V)
   pub reduced : (entry : V) (iterations : List (List (V → V))) → InRange entry → AllByRecursion AllReduce iterations → plain_value entry iterations ≡ join entry (folded join unit (copies_of unit iterations))
   reduced entry iterations f all = ap (λ x. plain_value x iterations) (sym (joins.neutral entry f)) ∙ from_joined iterations all entry unit f joins.unit_in
 
-abbrev InBits : ℤ → Type 0
+abbrev pub InBits : ℤ → Type 0
 InBits z = FitsSigned w64 z
 
-abbrev IsGood : Operator → Statement → Type 0
+abbrev pub IsGood : Operator → Statement → Type 0
 IsGood op s = IsOf op s × FitsSigned w64 (value_in s)
 
 subtracted : (e : ℤ) → IsReducing InBits (joined Sum) (assigned Sum (Subtracted e))
@@ -53,7 +53,7 @@ subtracted e = record {
       ap (int_wrap w64) one ∙ int_wrap-add_left w64 (a +ℤ b) (neg_ℤ e) ∙ ap (int_wrap w64) two ∙ sym (int_wrap-add_right w64 a (b -ℤ e));
 }
 
-reduces : (op : Operator) (s : Statement) → IsGood op s → IsReducing InBits (joined op) (assigned op s)
+pub reduces : (op : Operator) (s : Statement) → IsGood op s → IsReducing InBits (joined op) (assigned op s)
 reduces op (OnRight e) good =
     let j = operator_joins op in
     record { stays = λ a f. j.closed a e f good.1; passes = λ a b f g. j.associative a b e f g good.1 }

@@ -19,12 +19,12 @@ module _ (A C : Type 0) where
       EndIf : Branches
       Branch : Option C → Items → Branches → Branches
 
--- what an assignment makes of a memory, and what a condition is in it, where they don't fault. A condition changes nothing
+-- what an assignment makes of a storage, and what a condition is in it, where they don't fault. A condition changes nothing
 pub record Evaluation (A C M F : Type 0) : Type 0 where
   pub action : A → M → Result M F
   pub condition : C → M → Result Bool F
 
--- a branch's condition in a memory. ELSE always holds; whether an earlier branch was taken is asked before
+-- a branch's condition in a storage. ELSE always holds; whether an earlier branch was taken is asked before
 abbrev pub holds_in : {A C M F : Type 0} → Evaluation A C M F → Option C → M → Result Bool F
 holds_in evaluation None m = Ok true
 holds_in evaluation (Some condition) m = evaluation.condition condition m

@@ -1,10 +1,12 @@
 pub mod Turns
-pub mod Memory
+pub mod Storage
+pub mod Copies
 pub mod Effect
 pub mod Orders
 pub mod Items
 pub mod Parts
 pub mod Listed
+pub mod Scalars
 pub mod Stores
 pub mod LastValue
 pub mod Reduction

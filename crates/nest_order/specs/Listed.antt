@@ -2,7 +2,7 @@
 use Rattle.std.specs.Prelude.{◌≡◌, List, [], ◌∷◌, ◌++◌, Option, Some, None, Result, Ok, Err, Bool, true, false, ◌&&◌, if◌then◌else◌}
 use Rattle.nest_order.specs.Turns.{joined_up_to}
 use Rattle.nest_order.specs.Items.{Items, Done, Then, If, Repeat, Branches, EndIf, Branch, Evaluation, holds_in, EachIn}
-use Rattle.nest_order.specs.Parts.{set_condition, guard_holds, none_holds, Iteration, Part, Acts, Tests, is_evaluated}
+use Rattle.nest_order.specs.Parts.{set_condition, guard_holds, none_holds, Iteration, NestPart, Acts, Tests, is_evaluated}
 
 -- the value, or where there is a fault what stood there before
 abbrev pub value_or : {A F : Type 0} → Result A F → A → A
@@ -34,7 +34,7 @@ module _ {A C L : Type 0} (names : Names A C L) where
   known_in (Some condition) = names.known condition
 
   -- what a part names, whether it is evaluated or not. A guard is no name: an iteration has its own conditions
-  abbrev pub names_of : Part A C → List L
+  abbrev pub names_of : NestPart A C → List L
   names_of (Acts guard action) = names.of_action action
   names_of (Tests number guard earlier test) = names_in test
 
@@ -52,21 +52,22 @@ module _ {A C L : Type 0} (names : Names A C L) where
 
 module _ {A C M F : Type 0} (evaluation : Evaluation A C M F) where
   -- a part that goes on past a fault: it stores nothing then, and a condition is 0
-  abbrev pub go_on : Part A C → Iteration M → Iteration M
-  go_on (Acts guard action) s = record s { memory = if guard_holds guard s.conditions then value_or (evaluation.action action s.memory) s.memory else s.memory }
+  abbrev pub go_on : NestPart A C → Iteration M → Iteration M
+  go_on (Acts guard action) s = record s { storage = if guard_holds guard s.conditions then value_or (evaluation.action action s.storage) s.storage else s.storage }
   go_on (Tests number guard earlier test) s =
-      record s { conditions = set_condition s.conditions number (if guard_holds guard s.conditions && none_holds earlier s.conditions then value_or (holds_in evaluation test s.memory) false else false) }
+      record s { conditions = set_condition s.conditions number (if guard_holds guard s.conditions && none_holds earlier s.conditions then value_or (holds_in evaluation test s.storage) false else false) }
 
   -- the parts in order, each of them
-  abbrev pub go_on_all : List (Part A C) → Iteration M → Iteration M
+  abbrev pub go_on_all : List (NestPart A C) → Iteration M → Iteration M
   go_on_all [] s = s
   go_on_all (part ∷ parts) s = go_on_all parts (go_on part s)
 
   -- what the parts that are evaluated name, faults and what follows them included. A part that isn't evaluated touches nothing
-  abbrev pub touched : {L : Type 0} → Names A C L → List (Part A C) → Iteration M → List L
+  abbrev pub touched : {L : Type 0} → Names A C L → List (NestPart A C) → Iteration M → List L
   touched names [] s = []
   touched names (part ∷ parts) s = (if is_evaluated part s.conditions then names_of names part else []) ++ touched names parts (go_on part s)
 
-  -- a condition that is called known goes that way in every memory. One that would fault isn't known
+  -- a condition that is called known goes that way in every storage. One that would fault isn't known
   abbrev pub AreKnown : {L : Type 0} → Names A C L → Items A C → Type 0
-  AreKnown names items = EachIn (λ action. Unit {0}) (λ condition. (holds : Bool) → names.known condition ≡ Some holds → (m : M) → evaluation.condition condition m ≡ Ok holds) items
+  AreKnown names items =
+      EachIn (λ action. Unit {0}) (λ condition. (holds : Bool) → names.known condition ≡ Some holds → (m : M) → evaluation.condition condition m ≡ Ok holds) items

@@ -26,16 +26,16 @@ abbrev pub IsBelow : Option ℕ → ℕ → Type 0
 IsBelow None k = Unit {0}
 IsBelow (Some number) k = number < k
 
--- what the parts of an iteration work on: a memory, and beside it the conditions that were stored
+-- what the parts of an iteration work on: a storage, and beside it the conditions that were stored
 pub record Iteration (M : Type 0) : Type 0 where
-  pub memory : M
+  pub storage : M
   pub conditions : Conditions
 
 -- a part that acts where its guard holds, or one that stores a condition: with the number, the guard of the IF, and the
 -- conditions of the earlier branches
-pub data Part (A C : Type 0) : Type 0 where
-  Acts : (guard : Option ℕ) → A → Part A C
-  Tests : (number : ℕ) → (guard : Option ℕ) → (earlier : List ℕ) → Option C → Part A C
+pub data NestPart (A C : Type 0) : Type 0 where
+  Acts : (guard : Option ℕ) → A → NestPart A C
+  Tests : (number : ℕ) → (guard : Option ℕ) → (earlier : List ℕ) → Option C → NestPart A C
 
 -- the greatest of the first numbers, or 0
 abbrev pub most : ℕ → (ℕ → ℕ) → ℕ
@@ -57,38 +57,38 @@ module _ {A C : Type 0} where
 
   abbrev mutual
     -- the parts behind a guard, with conditions numbered from k on in text order. Each trip of an inner loop applies the
-    -- same parts anew, so the place in this list is the number of parts applied before
-    pub flat : Items A C → Option ℕ → ℕ → List (Part A C)
+    -- same parts anew, so the row in this list is the number of parts applied before
+    pub flat : Items A C → Option ℕ → ℕ → List (NestPart A C)
     flat Done guard k = []
     flat (Then action rest) guard k = Acts guard action ∷ flat rest guard k
     flat (If branches rest) guard k = flat_branches branches guard [] k ++ flat rest guard (k + count_branches branches)
     flat (Repeat trips body rest) guard k = joined_up_to trips (λ x. flat (body x) guard k) ++ flat rest guard (k + most trips (λ x. count_items (body x)))
 
-    pub flat_branches : Branches A C → Option ℕ → List ℕ → ℕ → List (Part A C)
+    pub flat_branches : Branches A C → Option ℕ → List ℕ → ℕ → List (NestPart A C)
     flat_branches EndIf guard earlier k = []
     flat_branches (Branch test body others) guard earlier k =
         Tests k guard earlier test ∷ (flat body (Some k) (k + 1) ++ flat_branches others guard (k ∷ earlier) (k + 1 + count_items body))
 
   -- the part is evaluated: its guard holds, and of the earlier branches of its IF none was taken
-  abbrev pub is_evaluated : Part A C → Conditions → Bool
+  abbrev pub is_evaluated : NestPart A C → Conditions → Bool
   is_evaluated (Acts guard action) conditions = guard_holds guard conditions
   is_evaluated (Tests number guard earlier test) conditions = guard_holds guard conditions && none_holds earlier conditions
 
 module _ {A C M F : Type 0} (evaluation : Evaluation A C M F) where
   -- a part at an iteration. A condition that isn't evaluated is made anew with 0: it doesn't keep its value of an earlier trip
-  abbrev pub do_part : Part A C → Iteration M → Result (Iteration M) F
-  do_part (Acts guard action) s = (if guard_holds guard s.conditions then evaluation.action action s.memory else Ok s.memory) >>= (λ m. Ok (record s { memory = m }))
+  abbrev pub do_part : NestPart A C → Iteration M → Result (Iteration M) F
+  do_part (Acts guard action) s = (if guard_holds guard s.conditions then evaluation.action action s.storage else Ok s.storage) >>= (λ m. Ok (record s { storage = m }))
   do_part (Tests number guard earlier test) s =
-      (if guard_holds guard s.conditions && none_holds earlier s.conditions then holds_in evaluation test s.memory else Ok false)
+      (if guard_holds guard s.conditions && none_holds earlier s.conditions then holds_in evaluation test s.storage else Ok false)
       >>= (λ holds. Ok (record s { conditions = set_condition s.conditions number holds }))
 
   -- the parts in order, up to the first fault
-  abbrev pub do_parts : List (Part A C) → Iteration M → Result (Iteration M) F
+  abbrev pub do_parts : List (NestPart A C) → Iteration M → Result (Iteration M) F
   do_parts [] s = Ok s
   do_parts (part ∷ parts) s = do_part part s >>= do_parts parts
 
--- the parts end with the memory that the statements end with, and with the first k conditions as they were; or with the
+-- the parts end with the storage that the statements end with, and with the first k conditions as they were; or with the
 -- statements' fault
 abbrev pub Matches : {M F : Type 0} → ℕ → Conditions → Result (Iteration M) F → Result M F → Type 0
-Matches k conditions result (Ok m) = (after : Conditions) × (result ≡ Ok (record { memory = m; conditions = after })) × ((x : ℕ) → x < k → after x ≡ conditions x)
+Matches k conditions result (Ok m) = (new : Conditions) × (result ≡ Ok (record { storage = m; conditions = new })) × ((x : ℕ) → x < k → new x ≡ conditions x)
 Matches k conditions result (Err fault) = result ≡ Err fault

@@ -1,7 +1,7 @@
 -- What is noted of the stores of a nest, in the order of its plain loops.
 use Rattle.std.specs.Prelude.{ℕ, zero, suc, ℤ, Result, Ok}
 use Rattle.nest_order.specs.Turns.{◌>>=◌, in_turn}
-use Rattle.nest_order.specs.Memory.{Memory, Spot}
+use Rattle.nest_order.specs.Storage.{Storage, Spot}
 use Rattle.nest_order.specs.Effect.{Effect, Skip, Put, Fail, then_apply}
 use Rattle.nest_order.specs.Items.{Items, Evaluation, exec}
 use Rattle.nest_order.specs.Nest.{Interpretation}
@@ -24,9 +24,9 @@ module _ {V F : Type 0} (note : ℕ → Spot → ℤ → V → V) (effect : ℕ 
   noted_by_all parts first zero = first
   noted_by_all parts first (suc i) = noted_by_parts i parts (noted_by_all parts first i)
 
--- a memory, and what was noted of the stores so far
+-- a storage, and what was noted of the stores so far
 pub record Observed (V : Type 0) : Type 0 where
-  pub memory : Memory
+  pub storage : Storage
   pub noted_so_far : V
 
 module _ {A C F V : Type 0} (interpretation : Interpretation A C F) where
@@ -34,11 +34,11 @@ module _ {A C F V : Type 0} (interpretation : Interpretation A C F) where
   abbrev pub observed : (Spot → ℤ → V → V) → Evaluation A C (Observed V) F
   observed note = record {
     action = λ action s.
-        then_apply (interpretation.effect action s.memory) s.memory
-        >>= (λ m. Ok (record { memory = m; noted_so_far = noted note (interpretation.effect action s.memory) s.noted_so_far }));
-    condition = λ condition s. interpretation.condition condition s.memory;
+        then_apply (interpretation.effect action s.storage) s.storage
+        >>= (λ m. Ok (record { storage = m; noted_so_far = noted note (interpretation.effect action s.storage) s.noted_so_far }));
+    condition = λ condition s. interpretation.condition condition s.storage;
   }
 
   -- the plain loops, with their stores noted
-  abbrev pub observed_loops : (ℕ → Spot → ℤ → V → V) → (ℕ → Items A C) → Memory → V → ℕ → Result (Observed V) F
-  observed_loops note items start first n = in_turn n (λ i. exec (observed (note i)) (items i)) (record { memory = start; noted_so_far = first })
+  abbrev pub observed_loops : (ℕ → Spot → ℤ → V → V) → (ℕ → Items A C) → Storage → V → ℕ → Result (Observed V) F
+  observed_loops note items start first n = in_turn n (λ i. exec (observed (note i)) (items i)) (record { storage = start; noted_so_far = first })

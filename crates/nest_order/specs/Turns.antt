@@ -16,3 +16,8 @@ in_turn (suc turns) body m = in_turn turns body m >>= body turns
 abbrev pub joined_up_to : {A : Type 0} → ℕ → (ℕ → List A) → List A
 joined_up_to zero lists = []
 joined_up_to (suc turns) lists = joined_up_to turns lists ++ lists turns
+
+-- a value after the first turns, each of which makes it anew
+abbrev pub after_turns : {X : Type 0} → ℕ → (ℕ → X → X) → X → X
+after_turns zero body x = x
+after_turns (suc turns) body x = body turns (after_turns turns body x)

@@ -4,22 +4,22 @@ use Rattle.std.specs.Prelude.{Vec}
 use Rattle.syntax_tree.specs.declared.expr.Expr.{Expr}
 use Rattle.syntax_tree.specs.declared.stmt.Arm.{Arm as HeldArm}
 use Rattle.syntax_tree.specs.Expression.{expression}
-use Rattle.nest_rules.specs.Lines.{Said}
+use Rattle.nest_rules.specs.ProgramLine.{OfStatement}
 use Rattle.nest_reader.specs.declared.draft.Opened.TheVariants as opened
-use Rattle.nest_reader.specs.Program.{Block, Arms, Arm, NoArm}
-use Rattle.nest_reader.specs.Views.{arm_before, arms_of}
+use Rattle.nest_reader.specs.SpelledProgram.{SpelledBlock, IfBlocks, IfBlock, NoIfBlock}
+use Rattle.nest_reader.specs.Views.{arm_before, spelled_if_blocks}
 use Rattle.nest_reader.specs.Formed.{IsBlock, AreMore}
-use Rattle.nest_reader.specs.Printed.{arms_lines, block_lines, first_lines, else_if}
+use Rattle.nest_reader.specs.ProgramLines.{else_if_lines, block_lines, if_lines, else_if}
 use Rattle.nest_reader.specs.Draft.{AreFinished, IsOpened}
 use Rattle.nest_reader.proofs.Lists.{arms_push, arms_sound, begun_push}
 
-pub next_finished : (first : ℕ) (v : Vec HeldArm Global) (n : ℕ) (cond : Expr) (glued : Bool) (b : Block) (a : HeldArm) (ys : List HeldArm) → ((arms : Arms) → arm_before a arms ≡ Arm n (expression cond) b glued arms) → IsOpened (opened.ElseIf first v n cond glued) → IsBlock b → ys ≡ v.items ++ a ∷ [] → AreFinished (opened.ElseIf first v n cond glued) b first ys
+pub next_finished : (first : ℕ) (v : Vec HeldArm Global) (n : ℕ) (cond : Expr) (glued : Bool) (b : SpelledBlock) (a : HeldArm) (ys : List HeldArm) → ((arms : IfBlocks) → arm_before a arms ≡ IfBlock n (expression cond) b glued arms) → IsOpened (opened.ElseIf first v n cond glued) → IsBlock b → ys ≡ v.items ++ a ∷ [] → AreFinished (opened.ElseIf first v n cond glued) b first ys
 next_finished first v n cond glued b a ys is h g e = subst (λ ys. AreFinished (opened.ElseIf first v n cond glued) b first ys) (sym e) record {
   lines =
       arms_push first v.items a h.0
-      ∙ ap (λ as'. first_lines (arms_of v.items) ++ arms_lines as') (is NoArm)
-      ∙ ap (λ l. first_lines (arms_of v.items) ++ (Some n, Said (else_if glued (expression cond))) ∷ l) (append-nil (block_lines b))
-      ∙ sym (append_assoc (first_lines (arms_of v.items)) ((Some n, Said (else_if glued (expression cond))) ∷ []) (block_lines b));
+      ∙ ap (λ as'. if_lines (spelled_if_blocks v.items) ++ else_if_lines as') (is NoIfBlock)
+      ∙ ap (λ l. if_lines (spelled_if_blocks v.items) ++ (Some n, OfStatement (else_if glued (expression cond))) ∷ l) (append-nil (block_lines b))
+      ∙ sym (append_assoc (if_lines (spelled_if_blocks v.items)) ((Some n, OfStatement (else_if glued (expression cond))) ∷ []) (block_lines b));
   begun = begun_push first v.items a h.0;
-  sound = arms_sound v.items a h.1 (subst AreMore (sym (is NoArm)) (g, tt));
+  sound = arms_sound v.items a h.1 (subst AreMore (sym (is NoIfBlock)) (g, tt));
 }

@@ -14,19 +14,20 @@ use Rattle.syntax_tree.specs.declared.directive.Directive.TheVariants as mapping
 use Rattle.syntax_tree.specs.declared.stmt.Stmt.{Stmt}
 use Rattle.nest_rules.specs.declared.role.Role.{Role}
 use Rattle.nest_rules.specs.declared.role.Role.TheVariants as role
-use Rattle.nest_rules.specs.Breaches.{IsNestBreach, declaration_comes, is_misdirected, is_misplaced, misses, roles}
-use Rattle.nest_rules.specs.Lines.{Line}
+use Rattle.nest_rules.specs.Breaches.{IsNestBreach, roles}
+use Rattle.nest_rules.specs.Rules.{declaration_comes, is_misdirected, is_misplaced, closes_wrongly}
+use Rattle.nest_rules.specs.ProgramLine.{ProgramLine}
 use Rattle.nest_rules.specs.Roles.{role_of}
-use Rattle.nest_rules.specs.Seen.{Open, Seen, nothing_seen, is_end, is_passed, is_statement, opens_behind, seen_behind}
+use Rattle.nest_rules.specs.NestState.{Open, NestState, state_at_start, is_end, is_passed, is_statement, opens_behind, state_behind}
 use Rattle.nest_reader.specs.declared.draft.Draft.{Draft}
 use Rattle.nest_reader.specs.declared.draft.Open.{Open as HeldOpen}
-use Rattle.nest_reader.specs.declared.reading.Progress.{Progress}
-use Rattle.nest_reader.specs.Views.{block_of, declaration_line, finish_of, mark_of, program_of}
+use Rattle.nest_reader.specs.declared.progress.Progress.{Progress}
+use Rattle.nest_reader.specs.Views.{spelled_block, declaration_line, spelled_end, spelled_independent, spelled_program}
 use Rattle.nest_reader.specs.Formed.{AreDeclared, IsBlock, IsProgram}
-use Rattle.nest_reader.specs.Printed.{Are, IsSpelled, block_lines, end_line, from_name, is_declared, is_program, kept_behind_name, kept_lines, mark_lines, name_lines, numbered, program_lines, without_passed}
+use Rattle.nest_reader.specs.ProgramLines.{AreEntriesOf, IsSpelled, block_lines, end_line, from_name, is_declared, is_program, kept_behind_name, kept_lines, independent_lines, name_lines, numbered, program_lines, without_passed}
 use Rattle.nest_reader.specs.Draft.{AreOpen, IsBehind, Takes, draft_lines, end_lines, is_inner, opens_lines, shape, status}
 use Rattle.nest_reader.specs.Progress.{IsMarked, IsPhase, Before, Among, Over, IsProgress, front_lines}
-use Rattle.nest_reader.specs.Takes.{said}
+use Rattle.nest_reader.specs.NextLine.{statement_line}
 use Rattle.nest_reader.proofs.Lists.{are_push}
 use Rattle.nest_reader.proofs.Kept.{are_behind, declared_behind, freed, going, in_time, inner_behind, inner_declared, inner_passed, inner_program, kept_without, marked_behind, marked_here, marked_next, not_misdirected, not_misplaced, other_name, passed_from, passed_name, passed_without, placed, stated_next}
 
@@ -43,9 +44,9 @@ clash true h g = absurd cc
 clash false h g = absurd cc
 
 -- PROGRAM
-module _ (ls : List Line) (last n : ℕ) (x : List ℕ) (rest : List Line) (v w : Vec Decl Global) (o : Option (List ℕ)) (draft : Draft) (over : Bool) (empty : w.items ≡ []) where
-  abbrev named_line : Line
-  named_line = said n (statements.Plain kind.Program x)
+module _ (ls : List ProgramLine) (last n : ℕ) (x : List ℕ) (rest : List ProgramLine) (v w : Vec Decl Global) (o : Option (List ℕ)) (draft : Draft) (over : Bool) (empty : w.items ≡ []) where
+  abbrev named_line : ProgramLine
+  named_line = statement_line n (statements.Plain kind.Program x)
 
   abbrev before_name : Progress
   before_name = record { name = o; decls = v; draft = draft; over = over }
@@ -53,36 +54,36 @@ module _ (ls : List Line) (last n : ℕ) (x : List ℕ) (rest : List Line) (v w 
   abbrev behind_name : Progress
   behind_name = record { name = Some x; decls = w; draft = draft; over = over }
 
-  first_lines : draft_lines draft ≡ [] → Are (front_lines behind_name ++ draft_lines draft) (named_line ∷ [])
-  first_lines e = subst (λ es. Are ((name_lines (Some x) ++ map numbered (map declaration_line w.items)) ++ es) (named_line ∷ [])) (sym e) (subst (λ ds. Are ((name_lines (Some x) ++ map numbered (map declaration_line ds)) ++ []) (named_line ∷ [])) (sym empty) ((refl, tt), tt))
+  first_lines : draft_lines draft ≡ [] → AreEntriesOf (front_lines behind_name ++ draft_lines draft) (named_line ∷ [])
+  first_lines e = subst (λ es. AreEntriesOf ((name_lines (Some x) ++ map numbered (map declaration_line w.items)) ++ es) (named_line ∷ [])) (sym e) (subst (λ ds. AreEntriesOf ((name_lines (Some x) ++ map numbered (map declaration_line ds)) ++ []) (named_line ∷ [])) (sym empty) ((refl, tt), tt))
 
   pub named_progress : IsProgress ls last before_name (named_line ∷ rest) → IsProgress ls last behind_name rest
   named_progress p = by_phase p.phase
     where
-      free : is_misplaced p.seen role.Program ≡ false
-      free = not_misplaced p.seen last named_line rest p.free
+      free : is_misplaced p.state role.Program ≡ false
+      free = not_misplaced p.state last named_line rest p.free
 
-      begun : p.seen.begun ≡ false
-      begun = in_time p.seen role.Program free
+      begun : p.state.begun ≡ false
+      begun = in_time p.state role.Program free
 
       moved : draft_lines draft ≡ [] → kept_lines ls ≡ named_line ∷ kept_behind_name rest → over ≡ false → IsProgress ls last behind_name rest
       moved e k o = record {
-        seen = seen_behind p.seen role.Program;
-        free = freed p.seen last named_line rest p.free;
+        state = state_behind p.state role.Program;
+        free = freed p.state last named_line rest p.free;
         opens = p.opens;
-        ended = ended_same p.seen.ended ∙ p.ended;
+        ended = ended_same p.state.ended ∙ p.ended;
         marks = marked_behind (status draft).pending role.Program (roles rest) refl p.marks;
         sound = p.sound;
         declared = subst (λ ds. AreDeclared (map declaration_line ds)) (sym empty) tt;
         kept = named_line ∷ [];
         lines = first_lines e;
-        phase = Among o (begun_true p.seen.begun) e k;
+        phase = Among o (begun_true p.state.begun) e k;
       }
 
-      by_phase : IsPhase p.seen before_name ls (named_line ∷ rest) p.kept → IsProgress ls last behind_name rest
+      by_phase : IsPhase p.state before_name ls (named_line ∷ rest) p.kept → IsProgress ls last behind_name rest
       by_phase (Before o b name e k) = moved e k o
-      by_phase (Among o b e k) = absurd (clash p.seen.begun begun b)
-      by_phase (Over o b d k) = absurd (clash p.seen.begun begun b)
+      by_phase (Among o b e k) = absurd (clash p.state.begun begun b)
+      by_phase (Over o b d k) = absurd (clash p.state.begun begun b)
 
 -- the role of a declaration
 decl_declared : (d : Decl) → is_declared (role_of (declaration_line d).what) ≡ true
@@ -101,55 +102,59 @@ decl_declared d = by_what d.what
 
 passed_or_not : (r : Role) → is_declared r ≡ true → (r ≡ role.Passed) ⊎ ((is_passed r ≡ false) × (is_program r ≡ false))
 passed_or_not role.Passed h = inl refl
-passed_or_not (role.Declaration d) h = inr (refl, refl)
+passed_or_not role.Declaration h = inr (refl, refl)
+passed_or_not role.SpecificationDirective h = inr (refl, refl)
 passed_or_not r h = absurd cc
 
 declared_opens : (r : Role) (os : List Open) → is_declared r ≡ true → opens_behind r os ≡ os
 declared_opens role.Passed os h = refl
-declared_opens (role.Declaration d) os h = refl
+declared_opens role.Declaration os h = refl
+declared_opens role.SpecificationDirective os h = refl
 declared_opens r os h = absurd cc
 
 declared_no_end : (r : Role) → is_declared r ≡ true → is_end r ≡ false
 declared_no_end role.Passed h = refl
-declared_no_end (role.Declaration d) h = refl
+declared_no_end role.Declaration h = refl
+declared_no_end role.SpecificationDirective h = refl
 declared_no_end r h = absurd cc
 
 declared_or_program : (r : Role) → is_declared r ≡ true → (is_declared r || is_program r) ≡ true
 declared_or_program r h = ap (λ b. b || is_program r) h
 
 -- behind the declarations none comes but those that are passed over
-over_passed : (s : Seen) (r : Role) (rs : List Role) → is_declared r ≡ true → is_misplaced s r ≡ false → is_misdirected s r rs ≡ false → (s.stated ≡ true) ⊎ (declaration_comes (r ∷ rs) ≡ false) → r ≡ role.Passed
+over_passed : (s : NestState) (r : Role) (rs : List Role) → is_declared r ≡ true → is_misplaced s r ≡ false → is_misdirected s r rs ≡ false → (s.stated ≡ true) ⊎ (declaration_comes (r ∷ rs) ≡ false) → r ≡ role.Passed
 over_passed s role.Passed rs h p d g = refl
-over_passed s (role.Declaration true) rs h p d (inl g) = absurd cc
-over_passed s (role.Declaration false) rs h p d (inl g) = let late = in_time s (role.Declaration false) p in absurd cc
-over_passed s (role.Declaration b) rs h p d (inr g) = absurd cc
+over_passed s role.SpecificationDirective rs h p d (inl g) = absurd cc
+over_passed s role.Declaration rs h p d (inl g) = let late = in_time s role.Declaration p in absurd cc
+over_passed s role.Declaration rs h p d (inr g) = absurd cc
+over_passed s role.SpecificationDirective rs h p d (inr g) = absurd cc
 over_passed s r rs h p d g = absurd cc
 
 map_push : {A B : Type 0} (f : A → B) (xs : List A) (x : A) → map f (xs ++ x ∷ []) ≡ map f xs ++ f x ∷ []
 map_push f [] x = refl
 map_push f (y ∷ xs) x = ap (λ l. f y ∷ l) (map_push f xs x)
 
-declared_push : (ls : List Line) (l : Line) → AreDeclared ls → is_declared (role_of l.what) ≡ true → AreDeclared (ls ++ l ∷ [])
+declared_push : (ls : List ProgramLine) (l : ProgramLine) → AreDeclared ls → is_declared (role_of l.what) ≡ true → AreDeclared (ls ++ l ∷ [])
 declared_push [] l h g = (g, tt)
 declared_push (k ∷ ls) l h g = (h.0, declared_push ls l h.1 g)
 
 -- a declaration
-module _ (ls : List Line) (last : ℕ) (d : Decl) (rest : List Line) (o : Option (List ℕ)) (v : Vec Decl Global) (draft : Draft) (over : Bool) where
-  abbrev decl_line : Line
+module _ (ls : List ProgramLine) (last : ℕ) (d : Decl) (rest : List ProgramLine) (o : Option (List ℕ)) (v : Vec Decl Global) (draft : Draft) (over : Bool) where
+  abbrev decl_line : ProgramLine
   decl_line = declaration_line d
 
   abbrev with_decls : Vec Decl Global → Progress
   with_decls v = record { name = o; decls = v; draft = draft; over = over }
 
   module _ (p : IsProgress ls last (with_decls v) (decl_line ∷ rest)) where
-    abbrev behind_decl : Seen
-    behind_decl = seen_behind p.seen (role_of decl_line.what)
+    abbrev behind_decl : NestState
+    behind_decl = state_behind p.state (role_of decl_line.what)
 
     decl_ended : behind_decl.ended ≡ (status draft).ended
-    decl_ended = ap (λ b. p.seen.ended || b) (declared_no_end (role_of decl_line.what) (decl_declared d)) ∙ ended_same p.seen.ended ∙ p.ended
+    decl_ended = ap (λ b. p.state.ended || b) (declared_no_end (role_of decl_line.what) (decl_declared d)) ∙ ended_same p.state.ended ∙ p.ended
 
     decl_opens : behind_decl.opens ≡ (status draft).opens
-    decl_opens = declared_opens (role_of decl_line.what) p.seen.opens (decl_declared d) ∙ p.opens
+    decl_opens = declared_opens (role_of decl_line.what) p.state.opens (decl_declared d) ∙ p.opens
 
     decl_marks : IsMarked (status draft).pending (roles rest)
     decl_marks = marked_behind (status draft).pending (role_of decl_line.what) (roles rest) (declared_or_program (role_of decl_line.what) (decl_declared d)) p.marks
@@ -158,10 +163,10 @@ module _ (ls : List Line) (last : ℕ) (d : Decl) (rest : List Line) (o : Option
     pub dropped_progress : over ≡ true → IsProgress ls last (with_decls v) rest
     dropped_progress is_over = by_phase p.phase
       where
-        moved : (p.seen.stated ≡ true) ⊎ (declaration_comes (role_of decl_line.what ∷ roles rest) ≡ false) → p.seen.begun ≡ true → kept_lines ls ≡ p.kept ++ without_passed (decl_line ∷ rest) → IsProgress ls last (with_decls v) rest
+        moved : (p.state.stated ≡ true) ⊎ (declaration_comes (role_of decl_line.what ∷ roles rest) ≡ false) → p.state.begun ≡ true → kept_lines ls ≡ p.kept ++ without_passed (decl_line ∷ rest) → IsProgress ls last (with_decls v) rest
         moved g b k = record {
-          seen = behind_decl;
-          free = freed p.seen last decl_line rest p.free;
+          state = behind_decl;
+          free = freed p.state last decl_line rest p.free;
           opens = decl_opens;
           ended = decl_ended;
           marks = decl_marks;
@@ -173,13 +178,13 @@ module _ (ls : List Line) (last : ℕ) (d : Decl) (rest : List Line) (o : Option
         }
           where
             passed : role_of decl_line.what ≡ role.Passed
-            passed = over_passed p.seen (role_of decl_line.what) (roles rest) (decl_declared d) (not_misplaced p.seen last decl_line rest p.free) (not_misdirected p.seen last decl_line rest p.free) g
+            passed = over_passed p.state (role_of decl_line.what) (roles rest) (decl_declared d) (not_misplaced p.state last decl_line rest p.free) (not_misdirected p.state last decl_line rest p.free) g
 
-            still : (p.seen.stated ≡ true) ⊎ (declaration_comes (role_of decl_line.what ∷ roles rest) ≡ false) → (behind_decl.stated ≡ true) ⊎ (declaration_comes (roles rest) ≡ false)
+            still : (p.state.stated ≡ true) ⊎ (declaration_comes (role_of decl_line.what ∷ roles rest) ≡ false) → (behind_decl.stated ≡ true) ⊎ (declaration_comes (roles rest) ≡ false)
             still (inl h) = inl (ap (λ b. b || is_statement (role_of decl_line.what)) h)
             still (inr h) = inr (sym (ap (λ r. declaration_comes (r ∷ roles rest)) passed) ∙ h)
 
-        by_phase : IsPhase p.seen (with_decls v) ls (decl_line ∷ rest) p.kept → IsProgress ls last (with_decls v) rest
+        by_phase : IsPhase p.state (with_decls v) ls (decl_line ∷ rest) p.kept → IsProgress ls last (with_decls v) rest
         by_phase (Before o b name e k) = absurd (clash over o is_over)
         by_phase (Among o b e k) = absurd (clash over o is_over)
         by_phase (Over o b g k) = moved g b k
@@ -196,16 +201,16 @@ module _ (ls : List Line) (last : ℕ) (d : Decl) (rest : List Line) (o : Option
           ∙ ap (λ ds. name_lines o ++ ds) (map_push numbered (map declaration_line v.items) decl_line)
           ∙ sym (append_assoc (name_lines o) (map numbered (map declaration_line v.items)) (numbered decl_line ∷ []))
 
-      push_lines : draft_lines draft ≡ [] → Are (front_lines (with_decls w) ++ draft_lines draft) (p.kept ++ decl_line ∷ [])
+      push_lines : draft_lines draft ≡ [] → AreEntriesOf (front_lines (with_decls w) ++ draft_lines draft) (p.kept ++ decl_line ∷ [])
       push_lines e =
-          let old : Are (front_lines (with_decls v)) p.kept = subst (λ es. Are es p.kept) (append-nil (front_lines (with_decls v))) (subst (λ es. Are (front_lines (with_decls v) ++ es) p.kept) e p.lines) in
-          let new : Are (front_lines (with_decls v) ++ numbered decl_line ∷ []) (p.kept ++ decl_line ∷ []) = are_push (front_lines (with_decls v)) (numbered decl_line) p.kept decl_line old (refl, refl) in
-          subst (λ es. Are (front_lines (with_decls w) ++ es) (p.kept ++ decl_line ∷ [])) (sym e) (subst (λ es. Are es (p.kept ++ decl_line ∷ [])) (sym (append-nil (front_lines (with_decls v) ++ numbered decl_line ∷ [])) ∙ ap (λ es. es ++ []) (sym push_front)) new)
+          let old : AreEntriesOf (front_lines (with_decls v)) p.kept = subst (λ es. AreEntriesOf es p.kept) (append-nil (front_lines (with_decls v))) (subst (λ es. AreEntriesOf (front_lines (with_decls v) ++ es) p.kept) e p.lines) in
+          let new : AreEntriesOf (front_lines (with_decls v) ++ numbered decl_line ∷ []) (p.kept ++ decl_line ∷ []) = are_push (front_lines (with_decls v)) (numbered decl_line) p.kept decl_line old (refl, refl) in
+          subst (λ es. AreEntriesOf (front_lines (with_decls w) ++ es) (p.kept ++ decl_line ∷ [])) (sym e) (subst (λ es. AreEntriesOf es (p.kept ++ decl_line ∷ [])) (sym (append-nil (front_lines (with_decls v) ++ numbered decl_line ∷ [])) ∙ ap (λ es. es ++ []) (sym push_front)) new)
 
       push_moved : draft_lines draft ≡ [] → IsPhase behind_decl (with_decls w) ls rest (p.kept ++ decl_line ∷ []) → IsProgress ls last (with_decls w) rest
       push_moved e phase = record {
-        seen = behind_decl;
-        free = freed p.seen last decl_line rest p.free;
+        state = behind_decl;
+        free = freed p.state last decl_line rest p.free;
         opens = decl_opens;
         ended = decl_ended;
         marks = decl_marks;
@@ -222,7 +227,7 @@ module _ (ls : List Line) (last : ℕ) (d : Decl) (rest : List Line) (o : Option
       pub pushed_progress : IsProgress ls last (with_decls w) rest
       pushed_progress = by_phase p.phase (passed_or_not (role_of decl_line.what) (decl_declared d))
         where
-          by_phase : IsPhase p.seen (with_decls v) ls (decl_line ∷ rest) p.kept → (role_of decl_line.what ≡ role.Passed) ⊎ ((is_passed (role_of decl_line.what) ≡ false) × (is_program (role_of decl_line.what) ≡ false)) → IsProgress ls last (with_decls w) rest
+          by_phase : IsPhase p.state (with_decls v) ls (decl_line ∷ rest) p.kept → (role_of decl_line.what ≡ role.Passed) ⊎ ((is_passed (role_of decl_line.what) ≡ false) × (is_program (role_of decl_line.what) ≡ false)) → IsProgress ls last (with_decls w) rest
           by_phase (Before o b name e k) (inl h) =
               push_moved e
               (Before o
@@ -231,21 +236,21 @@ module _ (ls : List Line) (last : ℕ) (d : Decl) (rest : List Line) (o : Option
               (k ∙ (λ i. if passed_name decl_line rest h i then passed_from decl_line rest h i else more_kept i)))
           by_phase (Before o b name e k) (inr h) =
               push_moved e
-              (Among o (ap (λ c. p.seen.begun || not c) h.0 ∙ begun_true p.seen.begun) e
+              (Among o (ap (λ c. p.state.begun || not c) h.0 ∙ begun_true p.state.begun) e
               (k ∙ ap (λ b. if b then from_name (decl_line ∷ rest) else p.kept ++ kept_behind_name (decl_line ∷ rest)) (other_name decl_line rest h.1 h.0) ∙ more_kept))
           by_phase (Among o b e k) h = push_moved e (Among o (ap (λ b. b || not (is_passed (role_of decl_line.what))) b) e (k ∙ more_kept))
           by_phase (Over o b g k) h = absurd (clash over is_open o)
 
 -- a line behind the declarations
-module _ (ls : List Line) (last : ℕ) (l : Line) (rest : List Line) (o : Option (List ℕ)) (v : Vec Decl Global) (draft : Draft) (over : Bool) (inner : is_inner (role_of l.what) ≡ true) (p : IsProgress ls last record { name = o; decls = v; draft = draft; over = over } (l ∷ rest)) where
-  free_here : is_misplaced p.seen (role_of l.what) ≡ false
-  free_here = not_misplaced p.seen last l rest p.free
+module _ (ls : List ProgramLine) (last : ℕ) (l : ProgramLine) (rest : List ProgramLine) (o : Option (List ℕ)) (v : Vec Decl Global) (draft : Draft) (over : Bool) (inner : is_inner (role_of l.what) ≡ true) (p : IsProgress ls last record { name = o; decls = v; draft = draft; over = over } (l ∷ rest)) where
+  free_here : is_misplaced p.state (role_of l.what) ≡ false
+  free_here = not_misplaced p.state last l rest p.free
 
   pub takes_inner : Takes (status draft) (role_of l.what)
   takes_inner = record {
     inner = inner;
-    going = sym p.ended ∙ going p.seen (role_of l.what) free_here (inner_passed (role_of l.what) inner);
-    placed = sym (ap (λ os. misses os (role_of l.what)) p.opens) ∙ placed p.seen (role_of l.what) free_here;
+    going = sym p.ended ∙ going p.state (role_of l.what) free_here (inner_passed (role_of l.what) inner);
+    placed = sym (ap (λ os. closes_wrongly os (role_of l.what)) p.opens) ∙ placed p.state (role_of l.what) free_here;
     marks = marked_here (status draft).pending (role_of l.what) (roles rest) inner p.marks;
   }
 
@@ -259,7 +264,7 @@ module _ (ls : List Line) (last : ℕ) (l : Line) (rest : List Line) (o : Option
         more : p.kept ++ (l ∷ without_passed rest) ≡ (p.kept ++ l ∷ []) ++ without_passed rest
         more = sym (append_assoc p.kept (l ∷ []) (without_passed rest))
 
-        by_phase : IsPhase p.seen record { name = o; decls = v; draft = draft; over = over } ls (l ∷ rest) p.kept → kept_lines ls ≡ (p.kept ++ l ∷ []) ++ without_passed rest
+        by_phase : IsPhase p.state record { name = o; decls = v; draft = draft; over = over } ls (l ∷ rest) p.kept → kept_lines ls ≡ (p.kept ++ l ∷ []) ++ without_passed rest
         by_phase (Before o b name e k) =
             k
             ∙ ap (λ b. if b then from_name (l ∷ rest) else p.kept ++ kept_behind_name (l ∷ rest)) (other_name l rest (inner_program (role_of l.what) inner) (inner_passed (role_of l.what) inner))
@@ -270,49 +275,49 @@ module _ (ls : List Line) (last : ℕ) (l : Line) (rest : List Line) (o : Option
 
     pub inner_progress : IsProgress ls last behind_inner rest
     inner_progress = record {
-      seen = seen_behind p.seen (role_of l.what);
-      free = freed p.seen last l rest p.free;
+      state = state_behind p.state (role_of l.what);
+      free = freed p.state last l rest p.free;
       opens = ap (opens_behind (role_of l.what)) p.opens ∙ sym (ap (λ s. s.opens) behind.stands);
-      ended = ap (λ b. b || is_end (role_of l.what)) (going p.seen (role_of l.what) free_here (inner_passed (role_of l.what) inner)) ∙ sym (ap (λ s. s.ended) behind.stands);
-      marks = subst (λ p. IsMarked p (roles rest)) (sym (ap (λ s. s.pending) behind.stands)) (marked_next p.seen (role_of l.what) (roles rest) (not_misdirected p.seen last l rest p.free));
+      ended = ap (λ b. b || is_end (role_of l.what)) (going p.state (role_of l.what) free_here (inner_passed (role_of l.what) inner)) ∙ sym (ap (λ s. s.ended) behind.stands);
+      marks = subst (λ p. IsMarked p (roles rest)) (sym (ap (λ s. s.pending) behind.stands)) (marked_next p.state (role_of l.what) (roles rest) (not_misdirected p.state last l rest p.free));
       sound = behind.sound;
       declared = p.declared;
       kept = p.kept ++ l ∷ [];
       lines = are_behind (front_lines behind_inner) (draft_lines draft) (draft_lines b) l behind.lines p.kept p.lines;
-      phase = Over refl (ap (λ c. p.seen.begun || not c) (inner_passed (role_of l.what) inner) ∙ begun_true p.seen.begun) (stated_next p.seen (role_of l.what) (roles rest) inner (not_misdirected p.seen last l rest p.free)) inner_kept;
+      phase = Over refl (ap (λ c. p.state.begun || not c) (inner_passed (role_of l.what) inner) ∙ begun_true p.state.begun) (stated_next p.state (role_of l.what) (roles rest) inner (not_misdirected p.state last l rest p.free)) inner_kept;
     }
 
 -- before the first line
-pub nothing_progress : (ls : List Line) (last : ℕ) (v : Vec Decl Global) (os : Vec HeldOpen Global) (b : Vec Stmt Global) → v.items ≡ [] → os.items ≡ [] → b.items ≡ [] → NoBreach (IsNestBreach last ls) → IsProgress ls last record { name = None; decls = v; draft = record { opens = os; block = b; mark = None; end = None }; over = false } ls
+pub nothing_progress : (ls : List ProgramLine) (last : ℕ) (v : Vec Decl Global) (os : Vec HeldOpen Global) (b : Vec Stmt Global) → v.items ≡ [] → os.items ≡ [] → b.items ≡ [] → NoBreach (IsNestBreach last ls) → IsProgress ls last record { name = None; decls = v; draft = record { opens = os; block = b; mark = None; end = None }; over = false } ls
 nothing_progress ls last v os b e f g h = record {
-  seen = nothing_seen;
+  state = state_at_start;
   free = h;
   opens = sym (ap shape f);
   ended = refl;
   marks = tt;
-  sound = (subst AreOpen (sym f) tt, subst (λ ss. IsBlock (block_of ss)) (sym g) tt, tt);
+  sound = (subst AreOpen (sym f) tt, subst (λ ss. IsBlock (spelled_block ss)) (sym g) tt, tt);
   declared = subst (λ ds. AreDeclared (map declaration_line ds)) (sym e) tt;
   kept = [];
-  lines = subst (λ ds. Are (map numbered (map declaration_line ds) ++ draft_lines record { opens = os; block = b; mark = None; end = None }) []) (sym e) (subst (λ es. Are es []) (sym no_lines) tt);
+  lines = subst (λ ds. AreEntriesOf (map numbered (map declaration_line ds) ++ draft_lines record { opens = os; block = b; mark = None; end = None }) []) (sym e) (subst (λ es. AreEntriesOf es []) (sym no_lines) tt);
   phase = Before refl refl refl no_lines refl;
 }
   where
     no_lines : draft_lines record { opens = os; block = b; mark = None; end = None } ≡ []
-    no_lines = (λ i. (opens_lines (f i) ++ block_lines (block_of (g i))) ++ [])
+    no_lines = (λ i. (opens_lines (f i) ++ block_lines (spelled_block (g i))) ++ [])
 
 -- behind the last line
-module _ (ls : List Line) (last : ℕ) (o : Option (List ℕ)) (v : Vec Decl Global) (draft : Draft) (over : Bool) (p : IsProgress ls last record { name = o; decls = v; draft = draft; over = over } []) where
-  no_more : (b : Bool) → p.seen.ended ≡ b → b ≡ true
+module _ (ls : List ProgramLine) (last : ℕ) (o : Option (List ℕ)) (v : Vec Decl Global) (draft : Draft) (over : Bool) (p : IsProgress ls last record { name = o; decls = v; draft = draft; over = over } []) where
+  no_more : (b : Bool) → p.state.ended ≡ b → b ≡ true
   no_more true e = refl
   no_more false e = absurd (p.free (max last 1) reason.BadNest (e, refl))
 
   pub tree_ready : draft.end ≡ None → ⊥
-  tree_ready e = clash false refl (sym (p.ended ∙ ap is_some e) ∙ no_more p.seen.ended refl)
+  tree_ready e = clash false refl (sym (p.ended ∙ ap is_some e) ∙ no_more p.state.ended refl)
 
   all_kept : kept_lines ls ≡ p.kept
   all_kept = by_phase p.phase
     where
-      by_phase : IsPhase p.seen record { name = o; decls = v; draft = draft; over = over } ls [] p.kept → kept_lines ls ≡ p.kept
+      by_phase : IsPhase p.state record { name = o; decls = v; draft = draft; over = over } ls [] p.kept → kept_lines ls ≡ p.kept
       by_phase (Before o b name e k) = k ∙ append-nil p.kept
       by_phase (Among o b e k) = k ∙ append-nil p.kept
       by_phase (Over o b g k) = k ∙ append-nil p.kept
@@ -321,14 +326,14 @@ module _ (ls : List Line) (last : ℕ) (o : Option (List ℕ)) (v : Vec Decl Glo
     closed : (draft.opens.items ≡ []) × (draft.mark ≡ None)
     closed = subst (λ o. IfSome o (λ e. (draft.opens.items ≡ []) × (draft.mark ≡ None))) ends p.sound.2
 
-    last_lines : draft_lines draft ≡ block_lines (block_of draft.block.items) ++ end_line (finish_of e) ∷ []
-    last_lines = (λ i. (opens_lines (closed.0 i) ++ block_lines (block_of draft.block.items)) ++ (mark_lines (option_map mark_of (closed.1 i)) ++ end_lines (ends i)))
+    last_lines : draft_lines draft ≡ block_lines (spelled_block draft.block.items) ++ end_line (spelled_end e) ∷ []
+    last_lines = (λ i. (opens_lines (closed.0 i) ++ block_lines (spelled_block draft.block.items)) ++ (independent_lines (option_map spelled_independent (closed.1 i)) ++ end_lines (ends i)))
 
     abbrev the_tree : Tree
     the_tree = record { name = o; decls = v; body = draft.block; end = e }
 
-    pub tree_spelled : IsSpelled ls (program_of the_tree) × IsProgram (program_of the_tree)
-    tree_spelled = (subst (Are (program_lines (program_of the_tree))) (sym all_kept) (subst (λ es. Are es p.kept) grouped p.lines), (p.declared, p.sound.1))
+    pub tree_spelled : IsSpelled ls (spelled_program the_tree) × IsProgram (spelled_program the_tree)
+    tree_spelled = (subst (AreEntriesOf (program_lines (spelled_program the_tree))) (sym all_kept) (subst (λ es. AreEntriesOf es p.kept) grouped p.lines), (p.declared, p.sound.1))
       where
-        grouped : (name_lines o ++ map numbered (map declaration_line v.items)) ++ draft_lines draft ≡ program_lines (program_of the_tree)
-        grouped = ap (λ es. (name_lines o ++ map numbered (map declaration_line v.items)) ++ es) last_lines ∙ sym (append_assoc (name_lines o ++ map numbered (map declaration_line v.items)) (block_lines (block_of draft.block.items)) (end_line (finish_of e) ∷ []))
+        grouped : (name_lines o ++ map numbered (map declaration_line v.items)) ++ draft_lines draft ≡ program_lines (spelled_program the_tree)
+        grouped = ap (λ es. (name_lines o ++ map numbered (map declaration_line v.items)) ++ es) last_lines ∙ sym (append_assoc (name_lines o ++ map numbered (map declaration_line v.items)) (block_lines (spelled_block draft.block.items)) (end_line (spelled_end e) ∷ []))

@@ -5,17 +5,19 @@ use Rattle.std.proofs.Common.{inl, inr}
 use Rattle.hpf_base.specs.declared.refusal.Reason.TheVariants as reason
 use Rattle.hpf_base.specs.Refusal.{NoBreach}
 use Rattle.nest_rules.specs.declared.role.Construct.TheVariants as construct
+use Rattle.nest_rules.specs.declared.role.Clauses.{Clauses}
 use Rattle.nest_rules.specs.declared.role.Role.{Role}
 use Rattle.nest_rules.specs.declared.role.Role.TheVariants as role
-use Rattle.nest_rules.specs.Breaches.{BreachFrom, comes_late, declaration_comes, is_misdirected, is_misplaced, misses, roles, takes_mark, leaves_nothing, fits_mask}
-use Rattle.nest_rules.specs.Lines.{Line}
+use Rattle.nest_rules.specs.Breaches.{BreachFrom, roles}
+use Rattle.nest_rules.specs.Rules.{comes_late, declaration_comes, is_misdirected, is_misplaced, closes_wrongly, is_independent_target, leaves_nothing, fits_where_or_forall}
+use Rattle.nest_rules.specs.ProgramLine.{ProgramLine}
 use Rattle.nest_rules.specs.Roles.{role_of}
-use Rattle.nest_rules.specs.Seen.{Seen, in_mask, is_passed, is_statement, seen_behind}
-use Rattle.nest_reader.specs.Printed.{Entry, Are, from_name, has_name, is_declared, is_program, kept_behind_name, without_passed}
+use Rattle.nest_rules.specs.NestState.{NestState, in_where_or_forall, is_passed, is_statement, state_behind}
+use Rattle.nest_reader.specs.ProgramLines.{Entry, AreEntriesOf, from_name, has_name, is_declared, is_program, kept_behind_name, without_passed}
 use Rattle.nest_reader.specs.Draft.{fits_mark, is_inner, pending_behind}
 use Rattle.nest_reader.specs.Progress.{IsMarked}
 
-module _ (l : Line) (ls : List Line) where
+module _ (l : ProgramLine) (ls : List ProgramLine) where
   pub passed_name : role_of l.what ≡ role.Passed → has_name (l ∷ ls) ≡ has_name ls
   passed_name e = ap (λ r. is_program r || (is_passed r && has_name ls)) e
 
@@ -46,7 +48,8 @@ inner_passed role.Passed h = absurd cc
 inner_passed r h = refl
 
 pub inner_declared : (r : Role) → is_inner r ≡ true → is_declared r ≡ false
-inner_declared (role.Declaration d) h = absurd cc
+inner_declared role.Declaration h = absurd cc
+inner_declared role.SpecificationDirective h = absurd cc
 inner_declared role.Passed h = absurd cc
 inner_declared r h = refl
 
@@ -59,70 +62,72 @@ and_false true h = absurd cc
 and_false false h = refl
 
 -- what breaks no rule
-pub not_misplaced : (s : Seen) (last : ℕ) (l : Line) (rest : List Line) → NoBreach (BreachFrom s last (l ∷ rest)) → is_misplaced s (role_of l.what) ≡ false
+pub not_misplaced : (s : NestState) (last : ℕ) (l : ProgramLine) (rest : List ProgramLine) → NoBreach (BreachFrom s last (l ∷ rest)) → is_misplaced s (role_of l.what) ≡ false
 not_misplaced s last l rest free = falsely (is_misplaced s (role_of l.what)) (λ h. free l.number reason.BadNest (inl (refl, h)))
   where
     falsely : (b : Bool) → (b ≡ true → ⊥) → b ≡ false
     falsely true f = absurd (f refl)
     falsely false f = refl
 
-pub not_misdirected : (s : Seen) (last : ℕ) (l : Line) (rest : List Line) → NoBreach (BreachFrom s last (l ∷ rest)) → is_misdirected s (role_of l.what) (roles rest) ≡ false
+pub not_misdirected : (s : NestState) (last : ℕ) (l : ProgramLine) (rest : List ProgramLine) → NoBreach (BreachFrom s last (l ∷ rest)) → is_misdirected s (role_of l.what) (roles rest) ≡ false
 not_misdirected s last l rest free = falsely (is_misdirected s (role_of l.what) (roles rest)) (λ h. free l.number reason.BadDirective (inl (refl, h)))
   where
     falsely : (b : Bool) → (b ≡ true → ⊥) → b ≡ false
     falsely true f = absurd (f refl)
     falsely false f = refl
 
-pub freed : (s : Seen) (last : ℕ) (l : Line) (rest : List Line) → NoBreach (BreachFrom s last (l ∷ rest)) → NoBreach (BreachFrom (seen_behind s (role_of l.what)) last rest)
+pub freed : (s : NestState) (last : ℕ) (l : ProgramLine) (rest : List ProgramLine) → NoBreach (BreachFrom s last (l ∷ rest)) → NoBreach (BreachFrom (state_behind s (role_of l.what)) last rest)
 freed s last l rest free = λ line why h. free line why (inr h)
 
-module _ (s : Seen) (r : Role) (h : is_misplaced s r ≡ false) where
-  first_four : (((misses s.opens r || leaves_nothing s.opens r) || comes_late s r) || (in_mask s.opens && not (fits_mask r))) ≡ false
-  first_four = (or_false (((misses s.opens r || leaves_nothing s.opens r) || comes_late s r) || (in_mask s.opens && not (fits_mask r))) (s.ended && not (is_passed r)) h).0
+module _ (s : NestState) (r : Role) (h : is_misplaced s r ≡ false) where
+  first_four : (((closes_wrongly s.opens r || leaves_nothing s.opens r) || comes_late s r) || (in_where_or_forall s.opens && not (fits_where_or_forall r))) ≡ false
+  first_four = (or_false (((closes_wrongly s.opens r || leaves_nothing s.opens r) || comes_late s r) || (in_where_or_forall s.opens && not (fits_where_or_forall r))) (s.ended && not (is_passed r)) h).0
 
-  first_three : ((misses s.opens r || leaves_nothing s.opens r) || comes_late s r) ≡ false
-  first_three = (or_false ((misses s.opens r || leaves_nothing s.opens r) || comes_late s r) (in_mask s.opens && not (fits_mask r)) first_four).0
+  first_three : ((closes_wrongly s.opens r || leaves_nothing s.opens r) || comes_late s r) ≡ false
+  first_three = (or_false ((closes_wrongly s.opens r || leaves_nothing s.opens r) || comes_late s r) (in_where_or_forall s.opens && not (fits_where_or_forall r)) first_four).0
 
-  pub placed : misses s.opens r ≡ false
-  placed = (or_false (misses s.opens r) (leaves_nothing s.opens r) (or_false (misses s.opens r || leaves_nothing s.opens r) (comes_late s r) first_three).0).0
+  pub placed : closes_wrongly s.opens r ≡ false
+  placed = (or_false (closes_wrongly s.opens r) (leaves_nothing s.opens r) (or_false (closes_wrongly s.opens r || leaves_nothing s.opens r) (comes_late s r) first_three).0).0
 
   pub in_time : comes_late s r ≡ false
-  in_time = (or_false (misses s.opens r || leaves_nothing s.opens r) (comes_late s r) first_three).1
+  in_time = (or_false (closes_wrongly s.opens r || leaves_nothing s.opens r) (comes_late s r) first_three).1
 
   pub going : is_passed r ≡ false → s.ended ≡ false
   going e =
-      let f = (or_false (((misses s.opens r || leaves_nothing s.opens r) || comes_late s r) || (in_mask s.opens && not (fits_mask r))) (s.ended && not (is_passed r)) h).1 in
+      let f = (or_false (((closes_wrongly s.opens r || leaves_nothing s.opens r) || comes_late s r) || (in_where_or_forall s.opens && not (fits_where_or_forall r))) (s.ended && not (is_passed r)) h).1 in
       and_false s.ended (sym (ap (λ b. s.ended && not b) e) ∙ f)
 
 -- a pending INDEPENDENT lets no line pass that isn't passed over or that it stands before
-pub marked_here : (p : Option Bool) (r : Role) (rs : List Role) → is_inner r ≡ true → IsMarked p (r ∷ rs) → fits_mark p r ≡ true
+pub marked_here : (p : Option Clauses) (r : Role) (rs : List Role) → is_inner r ≡ true → IsMarked p (r ∷ rs) → fits_mark p r ≡ true
 marked_here None r rs h m = refl
-marked_here (Some lists) role.Program rs h m = absurd cc
-marked_here (Some lists) (role.Declaration d) rs h m = absurd cc
-marked_here (Some lists) role.Passed rs h m = absurd cc
-marked_here (Some lists) (role.Opens construct.Do) rs h m = m
-marked_here (Some lists) (role.Opens construct.Forall) rs h m = m
-marked_here (Some lists) (role.One construct.Forall) rs h m = m
-marked_here (Some lists) r rs h m = m
+marked_here (Some cs) role.Program rs h m = absurd cc
+marked_here (Some cs) role.Declaration rs h m = absurd cc
+marked_here (Some cs) role.SpecificationDirective rs h m = absurd cc
+marked_here (Some cs) role.Passed rs h m = absurd cc
+marked_here (Some cs) (role.Opens construct.Do) rs h m = m
+marked_here (Some cs) (role.Opens construct.Forall) rs h m = m
+marked_here (Some cs) (role.One construct.Forall) rs h m = m
+marked_here (Some cs) r rs h m = m
 
-pub marked_behind : (p : Option Bool) (r : Role) (rs : List Role) → (is_declared r || is_program r) ≡ true → IsMarked p (r ∷ rs) → IsMarked p rs
+pub marked_behind : (p : Option Clauses) (r : Role) (rs : List Role) → (is_declared r || is_program r) ≡ true → IsMarked p (r ∷ rs) → IsMarked p rs
 marked_behind None r rs h m = tt
-marked_behind (Some lists) role.Program rs h m = absurd cc
-marked_behind (Some lists) (role.Declaration d) rs h m = absurd cc
-marked_behind (Some lists) role.Passed rs h m = m
-marked_behind (Some lists) r rs h m = absurd cc
+marked_behind (Some cs) role.Program rs h m = absurd cc
+marked_behind (Some cs) role.Declaration rs h m = absurd cc
+marked_behind (Some cs) role.SpecificationDirective rs h m = absurd cc
+marked_behind (Some cs) role.Passed rs h m = m
+marked_behind (Some cs) r rs h m = absurd cc
 
 truly : (b : Bool) → not b ≡ false → b ≡ true
 truly true h = refl
 truly false h = absurd cc
 
 -- what INDEPENDENT asks of the lines behind it
-pub marked_next : (s : Seen) (r : Role) (rs : List Role) → is_misdirected s r rs ≡ false → IsMarked (pending_behind r) rs
-marked_next s (role.Independent lists) rs h = truly (takes_mark lists rs) (or_false (not s.stated && declaration_comes rs) _ h).1
+pub marked_next : (s : NestState) (r : Role) (rs : List Role) → is_misdirected s r rs ≡ false → IsMarked (pending_behind r) rs
+marked_next s (role.Independent cs) rs h = truly (is_independent_target cs rs) (or_false (not s.stated && declaration_comes rs) _ h).1
 marked_next s r rs h = tt
 
 -- behind a line that isn't a declaration, either the declarations are over or none comes before they are
-pub stated_next : (s : Seen) (r : Role) (rs : List Role) → is_inner r ≡ true → is_misdirected s r rs ≡ false → ((s.stated || is_statement r) ≡ true) ⊎ (declaration_comes rs ≡ false)
+pub stated_next : (s : NestState) (r : Role) (rs : List Role) → is_inner r ≡ true → is_misdirected s r rs ≡ false → ((s.stated || is_statement r) ≡ true) ⊎ (declaration_comes rs ≡ false)
 stated_next s r rs i h = by_role r i h
   where
     or_true : (b : Bool) → (b || true) ≡ true
@@ -135,14 +140,15 @@ stated_next s r rs i h = by_role r i h
 
     by_role : (r : Role) → is_inner r ≡ true → is_misdirected s r rs ≡ false → ((s.stated || is_statement r) ≡ true) ⊎ (declaration_comes rs ≡ false)
     by_role role.Program i h = absurd cc
-    by_role (role.Declaration d) i h = absurd cc
+    by_role role.Declaration i h = absurd cc
+    by_role role.SpecificationDirective i h = absurd cc
     by_role role.Passed i h = absurd cc
     by_role role.Redistribute i h = either s.stated (declaration_comes rs) h
-    by_role (role.Independent lists) i h = either s.stated (declaration_comes rs) (or_false (not s.stated && declaration_comes rs) _ h).0
+    by_role (role.Independent cs) i h = either s.stated (declaration_comes rs) (or_false (not s.stated && declaration_comes rs) _ h).0
     by_role r i h = inl (or_true s.stated)
 
 -- more lines on both sides, at the end
-pub are_behind : (x es fs : List Entry) (l : Line) → ((ls : List Line) → Are es ls → Are fs (ls ++ l ∷ [])) → (ls : List Line) → Are (x ++ es) ls → Are (x ++ fs) (ls ++ l ∷ [])
+pub are_behind : (x es fs : List Entry) (l : ProgramLine) → ((ls : List ProgramLine) → AreEntriesOf es ls → AreEntriesOf fs (ls ++ l ∷ [])) → (ls : List ProgramLine) → AreEntriesOf (x ++ es) ls → AreEntriesOf (x ++ fs) (ls ++ l ∷ [])
 are_behind [] es fs l f ls h = f ls h
 are_behind (e ∷ x) es fs l f [] h = absurd h
 are_behind (e ∷ x) es fs l f (k ∷ ls) h = (h.0, are_behind x es fs l f ls h.1)

@@ -7,3 +7,4 @@ pub mod Kept
 pub mod Further
 pub mod Starts
 pub mod Same
+pub mod Meanings

@@ -19,21 +19,23 @@ use Rattle.syntax_tree.specs.declared.directive.Directive.{Directive}
 use Rattle.syntax_tree.specs.declared.directive.Directive.TheVariants as mapping
 use Rattle.nest_rules.specs.declared.role.Construct.{Construct}
 use Rattle.nest_rules.specs.declared.role.Construct.TheVariants as construct
+use Rattle.nest_rules.specs.declared.role.Clauses.{Clauses}
+use Rattle.nest_rules.specs.declared.role.Clauses.TheVariants as clauses
 use Rattle.nest_rules.specs.declared.role.Role.{Role}
 use Rattle.nest_rules.specs.declared.role.Role.TheVariants as role
-use Rattle.nest_rules.specs.Breaches.{is_empty, takes_mark}
-use Rattle.nest_rules.specs.Lines.{Said, Directed, Line}
-use Rattle.nest_rules.specs.Roles.{role_of, statement_role}
-use Rattle.nest_rules.specs.Seen.{Open, is_innermost, same_construct, takes_else}
+use Rattle.nest_rules.specs.Rules.{is_absent, is_empty, is_independent_target}
+use Rattle.nest_rules.specs.ProgramLine.{OfStatement, OfDirective, ProgramLine}
+use Rattle.nest_rules.specs.Roles.{clauses_of, role_of, statement_role}
+use Rattle.nest_rules.specs.NestState.{Open, is_innermost, same_construct, takes_else}
 use Rattle.nest_reader.specs.declared.draft.Draft.{Draft}
 use Rattle.nest_reader.specs.declared.draft.Open.{Open as HeldOpen}
 use Rattle.nest_reader.specs.declared.draft.Opened.{Opened}
 use Rattle.nest_reader.specs.declared.draft.Opened.TheVariants as opened
-use Rattle.nest_reader.specs.Views.{block_of, finish_of, mark_of, statement_of}
+use Rattle.nest_reader.specs.Views.{spelled_block, spelled_end, spelled_independent, spelled_statement}
 use Rattle.nest_reader.specs.Formed.{IsBlock, IsStatement, is_whole}
-use Rattle.nest_reader.specs.Printed.{Entry, Is, Are, bare_mark_lines, block_lines, else_if, end_line, mark_lines, numbered, part, statement_lines}
-use Rattle.nest_reader.specs.Draft.{AreOpen, IsAppended, IsBehind, IsDraft, IsEnded, IsNested, IsOpened, Status, Takes, base_lines, draft_lines, end_lines, end_part, fits_mark, has_lists, innermost, is_inner, opened_lines, opens_lines, open_of, shape, status, status_behind}
-use Rattle.nest_reader.specs.Takes.{action_line, finish_line, if_line, independent_line, said, single_or_marked}
+use Rattle.nest_reader.specs.ProgramLines.{Entry, IsEntryOf, AreEntriesOf, bare_independent_lines, block_lines, else_if, end_line, independent_lines, numbered, unnumbered, statement_lines}
+use Rattle.nest_reader.specs.Draft.{AreOpen, IsAppended, IsBehind, IsDraft, IsEnded, IsNested, IsOpened, Status, Takes, base_lines, draft_lines, end_lines, end_part, fits_mark, clauses_in, innermost, is_inner, opened_lines, opens_lines, open_of, shape, status, status_behind}
+use Rattle.nest_reader.specs.NextLine.{action_line, finish_line, if_line, independent_line, statement_line, single_or_marked}
 use Rattle.nest_reader.proofs.Lists.{are_push, opens_push, open_front, open_last, shape_push}
 
 pub on_ok : {A E : Type 0} (P Q : A → Type 0) → ((x : A) → P x → Q x) → (r : Result A E) → IfOk r P → IfOk r Q
@@ -44,27 +46,27 @@ none : {A : Type 0} (o : Option A) → is_some o ≡ false → o ≡ None
 none None h = refl
 none (Some x) h = absurd cc
 
-takes_either : (lists : Bool) (r : Role) → takes_mark lists (r ∷ []) ≡ true → takes_mark false (r ∷ []) ≡ true
-takes_either lists (role.Opens construct.Do) h = refl
-takes_either lists (role.Opens construct.Forall) h = refl
-takes_either lists (role.One construct.Forall) h = refl
-takes_either lists r h = h
+takes_either : (cs : Clauses) (r : Role) → is_independent_target cs (r ∷ []) ≡ true → is_independent_target clauses.Absent (r ∷ []) ≡ true
+takes_either cs (role.Opens construct.Do) h = refl
+takes_either cs (role.Opens construct.Forall) h = refl
+takes_either cs (role.One construct.Forall) h = refl
+takes_either cs r h = h
 
 -- no INDEPENDENT is pending where a line comes that none stands before
-pub mark_none : (m : Option HeldMark) (r : Role) → fits_mark (option_map has_lists m) r ≡ true → takes_mark false (r ∷ []) ≡ false → m ≡ None
+pub mark_none : (m : Option HeldMark) (r : Role) → fits_mark (option_map clauses_in m) r ≡ true → is_independent_target clauses.Absent (r ∷ []) ≡ false → m ≡ None
 mark_none None r h g = refl
-mark_none (Some m) r h g = let e : takes_mark false (r ∷ []) ≡ true = takes_either (has_lists m) r h in absurd cc
+mark_none (Some m) r h g = let e : is_independent_target clauses.Absent (r ∷ []) ≡ true = takes_either (clauses_in m) r h in absurd cc
 
--- and one without lists is where FORALL comes
-pub bare : (m : Option HeldMark) → (r : Role) → ((lists : Bool) → takes_mark lists (r ∷ []) ≡ not lists) → fits_mark (option_map has_lists m) r ≡ true → IfSome m (λ m. has_lists m ≡ false)
+-- and one without clauses is where FORALL comes
+pub bare : (m : Option HeldMark) → (r : Role) → ((cs : Clauses) → is_independent_target cs (r ∷ []) ≡ is_absent cs) → fits_mark (option_map clauses_in m) r ≡ true → IfSome m (λ m. clauses_in m ≡ clauses.Absent)
 bare None r e h = tt
-bare (Some m) r e h = falsely (has_lists m) (sym (e (has_lists m)) ∙ h)
+bare (Some m) r e h = absent (clauses_in m) (sym (e (clauses_in m)) ∙ h)
   where
-    falsely : (b : Bool) → not b ≡ true → b ≡ false
-    falsely true h = absurd cc
-    falsely false h = refl
+    absent : (cs : Clauses) → is_absent cs ≡ true → cs ≡ clauses.Absent
+    absent clauses.Absent h = refl
+    absent clauses.Given h = absurd cc
 
-are_under : (x es fs : List Entry) → ((ls : List Line) → Are es ls → Are fs ls) → (ls : List Line) → Are (x ++ es) ls → Are (x ++ fs) ls
+are_under : (x es fs : List Entry) → ((ls : List ProgramLine) → AreEntriesOf es ls → AreEntriesOf fs ls) → (ls : List ProgramLine) → AreEntriesOf (x ++ es) ls → AreEntriesOf (x ++ fs) ls
 are_under [] es fs f ls h = f ls h
 are_under (e ∷ x) es fs f [] h = h
 are_under (e ∷ x) es fs f (l ∷ ls) h = (h.0, are_under x es fs f ls h.1)
@@ -72,56 +74,56 @@ are_under (e ∷ x) es fs f (l ∷ ls) h = (h.0, are_under x es fs f ls h.1)
 abbrev Names : Type 0
 Names = Option (List (List ℕ)) × Option (List (List ℕ))
 
-no_names : (a b : Option (List (List ℕ))) → (is_some a || is_some b) ≡ false → ◌≡◌ {A = Names} (None, None) (a, b)
+no_names : (a b : Option (List (List ℕ))) → clauses_of (is_some a || is_some b) ≡ clauses.Absent → ◌≡◌ {A = Names} (None, None) (a, b)
 no_names None None h = refl
 no_names None (Some y) h = absurd cc
 no_names (Some x) b h = absurd cc
 
-pub bare_under : (m : Option HeldMark) → IfSome m (λ m. has_lists m ≡ false) → (ls : List Line) → Are (mark_lines (option_map mark_of m)) ls → Are (bare_mark_lines (is_some m)) ls
+pub bare_under : (m : Option HeldMark) → IfSome m (λ m. clauses_in m ≡ clauses.Absent) → (ls : List ProgramLine) → AreEntriesOf (independent_lines (option_map spelled_independent m)) ls → AreEntriesOf (bare_independent_lines (is_some m)) ls
 bare_under None h ls g = g
 bare_under (Some m) h [] g = g
-bare_under (Some m) h (l ∷ []) g = ((ap (λ v. Directed (directives.Known directive.Independent v)) (no_names (names_in m.new) (names_in m.reduction) h) ∙ g.0.0, tt), tt)
+bare_under (Some m) h (l ∷ []) g = ((ap (λ v. OfDirective (directives.Known directive.Independent v)) (no_names (names_in m.new) (names_in m.reduction) h) ∙ g.0.0, tt), tt)
 bare_under (Some m) h (l ∷ k ∷ ls) g = absurd g.1
 
-pub none_under : (m : Option HeldMark) → m ≡ None → (ls : List Line) → Are (mark_lines (option_map mark_of m)) ls → Are [] ls
-none_under m e ls h = subst (λ m. Are (mark_lines (option_map mark_of m)) ls) e h
+pub none_under : (m : Option HeldMark) → m ≡ None → (ls : List ProgramLine) → AreEntriesOf (independent_lines (option_map spelled_independent m)) ls → AreEntriesOf [] ls
+none_under m e ls h = subst (λ m. AreEntriesOf (independent_lines (option_map spelled_independent m)) ls) e h
 
-step : (d b : Draft) (l : Line) (e : Entry) (ms : List Entry) → d.end ≡ None → ((ls : List Line) → Are (mark_lines (option_map mark_of d.mark)) ls → Are ms ls) → draft_lines b ≡ base_lines d ++ (ms ++ e ∷ []) → Is e l → IsDraft b → status b ≡ status_behind (status d) (role_of l.what) → IsBehind d l b
+step : (d b : Draft) (l : ProgramLine) (e : Entry) (ms : List Entry) → d.end ≡ None → ((ls : List ProgramLine) → AreEntriesOf (independent_lines (option_map spelled_independent d.mark)) ls → AreEntriesOf ms ls) → draft_lines b ≡ base_lines d ++ (ms ++ e ∷ []) → IsEntryOf e l → IsDraft b → status b ≡ status_behind (status d) (role_of l.what) → IsBehind d l b
 step d b l e ms going under h is s t = record {
   lines = λ ls are.
-      let plain : Are (base_lines d ++ mark_lines (option_map mark_of d.mark)) ls =
-      subst (λ es. Are (base_lines d ++ es) ls) (append-nil (mark_lines (option_map mark_of d.mark))) (subst (λ o. Are (base_lines d ++ (mark_lines (option_map mark_of d.mark) ++ end_lines o)) ls) going are) in
-      let more : Are ((base_lines d ++ ms) ++ e ∷ []) (ls ++ l ∷ []) = are_push (base_lines d ++ ms) e ls l (are_under (base_lines d) (mark_lines (option_map mark_of d.mark)) ms under ls plain) is in
-      subst (λ es. Are es (ls ++ l ∷ [])) (append_assoc (base_lines d) ms (e ∷ []) ∙ sym h) more;
+      let plain : AreEntriesOf (base_lines d ++ independent_lines (option_map spelled_independent d.mark)) ls =
+      subst (λ es. AreEntriesOf (base_lines d ++ es) ls) (append-nil (independent_lines (option_map spelled_independent d.mark))) (subst (λ o. AreEntriesOf (base_lines d ++ (independent_lines (option_map spelled_independent d.mark) ++ end_lines o)) ls) going are) in
+      let more : AreEntriesOf ((base_lines d ++ ms) ++ e ∷ []) (ls ++ l ∷ []) = are_push (base_lines d ++ ms) e ls l (are_under (base_lines d) (independent_lines (option_map spelled_independent d.mark)) ms under ls plain) is in
+      subst (λ es. AreEntriesOf es (ls ++ l ∷ [])) (append_assoc (base_lines d) ms (e ∷ []) ∙ sym h) more;
   sound = s;
   stands = t;
 }
 
 -- the first line of a construct
-pub opened_behind : (d b : Draft) (l : Line) (w : Opened) (e : Entry) (ms : List Entry) → is_some d.end ≡ false → ((ls : List Line) → Are (mark_lines (option_map mark_of d.mark)) ls → Are ms ls) → opened_lines w ≡ ms ++ e ∷ [] → Is e l → record { opens = open_of w ∷ shape d.opens.items; pending = None; ended = false } ≡ status_behind (status d) (role_of l.what) → IsNested d.opens.items d.block.items w b → IsBehind d l b
+pub opened_behind : (d b : Draft) (l : ProgramLine) (w : Opened) (e : Entry) (ms : List Entry) → is_some d.end ≡ false → ((ls : List ProgramLine) → AreEntriesOf (independent_lines (option_map spelled_independent d.mark)) ls → AreEntriesOf ms ls) → opened_lines w ≡ ms ++ e ∷ [] → IsEntryOf e l → record { opens = open_of w ∷ shape d.opens.items; pending = None; ended = false } ≡ status_behind (status d) (role_of l.what) → IsNested d.opens.items d.block.items w b → IsBehind d l b
 opened_behind d b l w e ms going under h is t n = step d b l e ms (none d.end going) under (n.lines ∙ ap (λ es. base_lines d ++ es) h) is n.sound (n.stands ∙ t)
 
 -- a statement that is whole in its line
-pub appended_behind : (d b : Draft) (l : Line) (s : Stmt) (e : Entry) (ms : List Entry) → is_some d.end ≡ false → ((ls : List Line) → Are (mark_lines (option_map mark_of d.mark)) ls → Are ms ls) → statement_lines (statement_of s) ≡ ms ++ e ∷ [] → Is e l → record { opens = shape d.opens.items; pending = None; ended = false } ≡ status_behind (status d) (role_of l.what) → IsAppended d.opens.items d.block.items s b → IsBehind d l b
+pub appended_behind : (d b : Draft) (l : ProgramLine) (s : Stmt) (e : Entry) (ms : List Entry) → is_some d.end ≡ false → ((ls : List ProgramLine) → AreEntriesOf (independent_lines (option_map spelled_independent d.mark)) ls → AreEntriesOf ms ls) → statement_lines (spelled_statement s) ≡ ms ++ e ∷ [] → IsEntryOf e l → record { opens = shape d.opens.items; pending = None; ended = false } ≡ status_behind (status d) (role_of l.what) → IsAppended d.opens.items d.block.items s b → IsBehind d l b
 appended_behind d b l s e ms going under h is t n = step d b l e ms (none d.end going) under (n.lines ∙ ap (λ es. base_lines d ++ es) h) is n.sound (n.stands ∙ t)
 
 regroup : (a b c d e : List Entry) → (a ++ b) ++ ((c ++ d) ++ e) ≡ ((a ++ (b ++ c)) ++ d) ++ e
 regroup a b c d e = simp append_assoc
 
 -- a part of the innermost construct
-pub part_behind : (d b : Draft) (l : Line) (os : List HeldOpen) (o : HeldOpen) (e : Entry) (es : List Entry) → is_some d.end ≡ false → d.mark ≡ None → d.opens.items ≡ os ++ o ∷ [] → draft_lines b ≡ (opens_lines os ++ block_lines (block_of o.before.items)) ++ es → es ≡ (opened_lines o.what ++ block_lines (block_of d.block.items)) ++ e ∷ [] → Is e l → IsDraft b → status b ≡ status_behind (status d) (role_of l.what) → IsBehind d l b
+pub part_behind : (d b : Draft) (l : ProgramLine) (os : List HeldOpen) (o : HeldOpen) (e : Entry) (es : List Entry) → is_some d.end ≡ false → d.mark ≡ None → d.opens.items ≡ os ++ o ∷ [] → draft_lines b ≡ (opens_lines os ++ block_lines (spelled_block o.before.items)) ++ es → es ≡ (opened_lines o.what ++ block_lines (spelled_block d.block.items)) ++ e ∷ [] → IsEntryOf e l → IsDraft b → status b ≡ status_behind (status d) (role_of l.what) → IsBehind d l b
 part_behind d b l os o e es going unmarked innermost h g is s t =
     step d b l e [] (none d.end going) (none_under d.mark unmarked)
     (h
-    ∙ ap (λ es. (opens_lines os ++ block_lines (block_of o.before.items)) ++ es) g
-    ∙ regroup (opens_lines os) (block_lines (block_of o.before.items)) (opened_lines o.what) (block_lines (block_of d.block.items)) (e ∷ [])
-    ∙ ap (λ os. (os ++ block_lines (block_of d.block.items)) ++ e ∷ []) (sym (opens_push os o) ∙ ap opens_lines (sym innermost)))
+    ∙ ap (λ es. (opens_lines os ++ block_lines (spelled_block o.before.items)) ++ es) g
+    ∙ regroup (opens_lines os) (block_lines (spelled_block o.before.items)) (opened_lines o.what) (block_lines (spelled_block d.block.items)) (e ∷ [])
+    ∙ ap (λ os. (os ++ block_lines (spelled_block d.block.items)) ++ e ∷ []) (sym (opens_push os o) ∙ ap opens_lines (sym innermost)))
     is
     s
     t
 
 -- whole lines open and close nothing
-pub whole_stands : (os : List Open) (p : Option Bool) (ended : Bool) (r : Role) → is_whole r ≡ true → record { opens = os; pending = None; ended = false } ≡ status_behind record { opens = os; pending = p; ended = ended } r
+pub whole_stands : (os : List Open) (p : Option Clauses) (ended : Bool) (r : Role) → is_whole r ≡ true → record { opens = os; pending = None; ended = false } ≡ status_behind record { opens = os; pending = p; ended = ended } r
 whole_stands os p ended role.Assign h = refl
 whole_stands os p ended (role.One c) h = refl
 whole_stands os p ended role.Jump h = refl
@@ -136,7 +138,7 @@ shaped d os o e = ap shape e ∙ shape_push os o
 pub around : (d : Draft) (os : List HeldOpen) (o : HeldOpen) → IsDraft d → d.opens.items ≡ os ++ o ∷ [] → AreOpen os
 around d os o s e = open_front os o (subst AreOpen e s.0)
 
-pub inside : (d : Draft) (os : List HeldOpen) (o : HeldOpen) → IsDraft d → d.opens.items ≡ os ++ o ∷ [] → IsBlock (block_of o.before.items) × IsOpened o.what
+pub inside : (d : Draft) (os : List HeldOpen) (o : HeldOpen) → IsDraft d → d.opens.items ≡ os ++ o ∷ [] → IsBlock (spelled_block o.before.items) × IsOpened o.what
 inside d os o s e = open_last os o (subst AreOpen e s.0)
 
 -- it has no ELSE yet where one comes
@@ -156,7 +158,7 @@ pub takes_where : (w : Opened) → takes_else construct.Where (open_of w ∷ [])
 takes_where (opened.Where n mask) h = refl
 takes_where w h = absurd cc
 
-pub end_role : (c : Construct) (glued : Bool) → role_of (Said (end_part c glued)) ≡ role.Closes c
+pub end_role : (c : Construct) (glued : Bool) → role_of (OfStatement (end_part c glued)) ≡ role.Closes c
 end_role construct.If true = refl
 end_role construct.If false = refl
 end_role construct.Do true = refl
@@ -188,7 +190,7 @@ if_whole n cond action.Cycle = refl
 if_whole n cond action.Continue = refl
 
 -- INDEPENDENT stands before no IF
-pub if_unmarked : (n : ℕ) (cond : Expr) (a : Action) → takes_mark false (role_of (if_line n cond a).what ∷ []) ≡ false
+pub if_unmarked : (n : ℕ) (cond : Expr) (a : Action) → is_independent_target clauses.Absent (role_of (if_line n cond a).what ∷ []) ≡ false
 if_unmarked n cond (action.Assign a) = refl
 if_unmarked n cond (action.Where mask one) = refl
 if_unmarked n cond (action.Forall head one) = refl
@@ -199,41 +201,41 @@ if_unmarked n cond action.Cycle = refl
 if_unmarked n cond action.Continue = refl
 
 -- of the whole statements it stands before FORALL alone
-marked_one : (lists : Bool) (r : Role) → is_whole r ≡ true → takes_mark lists (r ∷ []) ≡ true → (r ≡ role.One construct.Forall) × (lists ≡ false)
-marked_one true (role.One construct.Forall) h g = absurd cc
-marked_one false (role.One construct.Forall) h g = (refl, refl)
-marked_one lists r h g = absurd cc
+marked_one : (cs : Clauses) (r : Role) → is_whole r ≡ true → is_independent_target cs (r ∷ []) ≡ true → (r ≡ role.One construct.Forall) × (cs ≡ clauses.Absent)
+marked_one clauses.Given (role.One construct.Forall) h g = absurd cc
+marked_one clauses.Absent (role.One construct.Forall) h g = (refl, refl)
+marked_one cs r h g = absurd cc
 
-pub marked_sound : (m : Option HeldMark) (l : Line) → is_whole (role_of l.what) ≡ true → fits_mark (option_map has_lists m) (role_of l.what) ≡ true → IsStatement (single_or_marked (is_some m) l)
+pub marked_sound : (m : Option HeldMark) (l : ProgramLine) → is_whole (role_of l.what) ≡ true → fits_mark (option_map clauses_in m) (role_of l.what) ≡ true → IsStatement (single_or_marked (is_some m) l)
 marked_sound None l h g = h
-marked_sound (Some m) l h g = (marked_one (has_lists m) (role_of l.what) h g).0
+marked_sound (Some m) l h g = (marked_one (clauses_in m) (role_of l.what) h g).0
 
-pub marked_forall : (m : Option HeldMark) (r : Role) → is_whole r ≡ true → fits_mark (option_map has_lists m) r ≡ true → is_some m ≡ true → r ≡ role.One construct.Forall
+pub marked_forall : (m : Option HeldMark) (r : Role) → is_whole r ≡ true → fits_mark (option_map clauses_in m) r ≡ true → is_some m ≡ true → r ≡ role.One construct.Forall
 marked_forall None r h g e = absurd cc
-marked_forall (Some m) r h g e = (marked_one (has_lists m) r h g).0
+marked_forall (Some m) r h g e = (marked_one (clauses_in m) r h g).0
 
-pub marked_lists : (m : Option HeldMark) (r : Role) → is_whole r ≡ true → fits_mark (option_map has_lists m) r ≡ true → IfSome m (λ m. has_lists m ≡ false)
+pub marked_lists : (m : Option HeldMark) (r : Role) → is_whole r ≡ true → fits_mark (option_map clauses_in m) r ≡ true → IfSome m (λ m. clauses_in m ≡ clauses.Absent)
 marked_lists None r h g = tt
-marked_lists (Some m) r h g = (marked_one (has_lists m) r h g).1
+marked_lists (Some m) r h g = (marked_one (clauses_in m) r h g).1
 
-pub marked_lines : (b : Bool) (l : Line) → statement_lines (single_or_marked b l) ≡ bare_mark_lines b ++ numbered l ∷ []
+pub marked_lines : (b : Bool) (l : ProgramLine) → statement_lines (single_or_marked b l) ≡ bare_independent_lines b ++ numbered l ∷ []
 marked_lines true l = refl
 marked_lines false l = refl
 
 -- ELSE IF, ELSE or ELSEWHERE: the innermost construct is told something more
-pub else_behind : (d b : Draft) (l : Line) (os : List HeldOpen) (o : HeldOpen) (w : Opened) (e : Entry) → is_some d.end ≡ false → d.mark ≡ None → d.opens.items ≡ os ++ o ∷ [] → opened_lines w ≡ (opened_lines o.what ++ block_lines (block_of d.block.items)) ++ e ∷ [] → Is e l → record { opens = open_of w ∷ shape os; pending = None; ended = false } ≡ status_behind record { opens = open_of o.what ∷ shape os; pending = (status d).pending; ended = (status d).ended } (role_of l.what) → IsNested os o.before.items w b → IsBehind d l b
+pub else_behind : (d b : Draft) (l : ProgramLine) (os : List HeldOpen) (o : HeldOpen) (w : Opened) (e : Entry) → is_some d.end ≡ false → d.mark ≡ None → d.opens.items ≡ os ++ o ∷ [] → opened_lines w ≡ (opened_lines o.what ++ block_lines (spelled_block d.block.items)) ++ e ∷ [] → IsEntryOf e l → record { opens = open_of w ∷ shape os; pending = None; ended = false } ≡ status_behind record { opens = open_of o.what ∷ shape os; pending = (status d).pending; ended = (status d).ended } (role_of l.what) → IsNested os o.before.items w b → IsBehind d l b
 else_behind d b l os o w e going unmarked innermost h is t n =
     part_behind d b l os o e (opened_lines w) going unmarked innermost n.lines h is n.sound
     (n.stands ∙ t ∙ ap (λ os. status_behind record { opens = os; pending = (status d).pending; ended = (status d).ended } (role_of l.what)) (sym (shaped d os o innermost)))
 
 -- an END part
-pub end_behind : (d b : Draft) (n : ℕ) (glued : Bool) (os : List HeldOpen) (o : HeldOpen) (s : Stmt) → Takes (status d) (role.Closes (innermost (shape d.opens.items))) → d.opens.items ≡ os ++ o ∷ [] → IsEnded o.what (block_of d.block.items) glued (statement_of s) → IsAppended os o.before.items s b → IsBehind d (said n (end_part (innermost (shape d.opens.items)) glued)) b
+pub end_behind : (d b : Draft) (n : ℕ) (glued : Bool) (os : List HeldOpen) (o : HeldOpen) (s : Stmt) → Takes (status d) (role.Closes (innermost (shape d.opens.items))) → d.opens.items ≡ os ++ o ∷ [] → IsEnded o.what (spelled_block d.block.items) glued (spelled_statement s) → IsAppended os o.before.items s b → IsBehind d (statement_line n (end_part (innermost (shape d.opens.items)) glued)) b
 end_behind d b n glued os o s takes e h a =
     let c = innermost (shape d.opens.items) in
     let same : (open_of o.what).construct ≡ c = sym (ap innermost (shaped d os o e)) in
-    part_behind d b (said n (end_part c glued)) os o (part (Said (end_part (open_of o.what).construct glued))) (statement_lines (statement_of s)) takes.going
+    part_behind d b (statement_line n (end_part c glued)) os o (unnumbered (OfStatement (end_part (open_of o.what).construct glued))) (statement_lines (spelled_statement s)) takes.going
     (mark_none d.mark (role.Closes c) takes.marks refl) e a.lines h.lines
-    (ap (λ c. Said (end_part c glued)) same, tt)
+    (ap (λ c. OfStatement (end_part c glued)) same, tt)
     a.sound
     (a.stands
     ∙ closed (open_of o.what) (shape os) c (sym same)
@@ -250,10 +252,10 @@ end_behind d b n glued os o s takes e h a =
     closed o os c e = ap (λ b. record { opens = if b then os else o ∷ os; pending = None; ended = false }) (sym (ap (λ c. same_construct c o.construct) e ∙ same_is o.construct))
 
 -- INDEPENDENT
-pub independent_behind : (d : Draft) (m : HeldMark) → IsDraft d → Takes (status d) (role.Independent (has_lists m)) → IsBehind d (independent_line m) record { opens = d.opens; block = d.block; mark = Some m; end = None }
+pub independent_behind : (d : Draft) (m : HeldMark) → IsDraft d → Takes (status d) (role.Independent (clauses_in m)) → IsBehind d (independent_line m) record { opens = d.opens; block = d.block; mark = Some m; end = None }
 independent_behind d m s takes =
     step d record { opens = d.opens; block = d.block; mark = Some m; end = None } (independent_line m) (Some m.line, (independent_line m).what) [] (none d.end takes.going)
-    (none_under d.mark (mark_none d.mark (role.Independent (has_lists m)) takes.marks refl))
+    (none_under d.mark (mark_none d.mark (role.Independent (clauses_in m)) takes.marks refl))
     refl (refl, refl) (s.0, s.1, tt) refl
 
 empty_open : (os : List HeldOpen) → not (is_empty (shape os)) ≡ false → os ≡ []
@@ -267,11 +269,11 @@ empty_open (o ∷ os) h = full (shape os) h
 -- END
 pub finish_behind : (d : Draft) (e : EndForm) → IsDraft d → Takes (status d) role.End → IsBehind d (finish_line e) record { opens = d.opens; block = d.block; mark = None; end = Some e }
 finish_behind d e s takes =
-    step d record { opens = d.opens; block = d.block; mark = None; end = Some e } (finish_line e) (end_line (finish_of e)) [] (none d.end takes.going)
+    step d record { opens = d.opens; block = d.block; mark = None; end = Some e } (finish_line e) (end_line (spelled_end e)) [] (none d.end takes.going)
     (none_under d.mark (mark_none d.mark role.End takes.marks refl))
     refl (refl, refl) (s.0, s.1, (empty_open d.opens.items takes.placed, refl)) refl
 
-pub else_if_role : (glued : Bool) (cond : Expression) → role_of (Said (else_if glued cond)) ≡ role.ElseIf
+pub else_if_role : (glued : Bool) (cond : Expression) → role_of (OfStatement (else_if glued cond)) ≡ role.ElseIf
 else_if_role true cond = refl
 else_if_role false cond = refl
 
@@ -281,13 +283,13 @@ fresh c = record { construct = c; otherwise = false }
 abbrev standing : List Open → Status
 standing os = record { opens = os; pending = None; ended = false }
 
-pub if_stays : (o : Open) (os : List Open) (p : Option Bool) (ended : Bool) (r : Role) → o ≡ fresh construct.If → r ≡ role.ElseIf → standing (fresh construct.If ∷ os) ≡ status_behind record { opens = o ∷ os; pending = p; ended = ended } r
+pub if_stays : (o : Open) (os : List Open) (p : Option Clauses) (ended : Bool) (r : Role) → o ≡ fresh construct.If → r ≡ role.ElseIf → standing (fresh construct.If ∷ os) ≡ status_behind record { opens = o ∷ os; pending = p; ended = ended } r
 if_stays o os p ended r h e = ap (λ o. standing (o ∷ os)) (sym h) ∙ ap (status_behind record { opens = o ∷ os; pending = p; ended = ended }) (sym e)
 
-pub if_told : (o : Open) (os : List Open) (p : Option Bool) (ended : Bool) → o ≡ fresh construct.If → standing (record { construct = construct.If; otherwise = true } ∷ os) ≡ status_behind record { opens = o ∷ os; pending = p; ended = ended } role.Else
+pub if_told : (o : Open) (os : List Open) (p : Option Clauses) (ended : Bool) → o ≡ fresh construct.If → standing (record { construct = construct.If; otherwise = true } ∷ os) ≡ status_behind record { opens = o ∷ os; pending = p; ended = ended } role.Else
 if_told o os p ended h = ap (λ o. status_behind record { opens = o ∷ os; pending = p; ended = ended } role.Else) (sym h)
 
-pub where_told : (o : Open) (os : List Open) (p : Option Bool) (ended : Bool) → o ≡ fresh construct.Where → standing (record { construct = construct.Where; otherwise = true } ∷ os) ≡ status_behind record { opens = o ∷ os; pending = p; ended = ended } role.ElseWhere
+pub where_told : (o : Open) (os : List Open) (p : Option Clauses) (ended : Bool) → o ≡ fresh construct.Where → standing (record { construct = construct.Where; otherwise = true } ∷ os) ≡ status_behind record { opens = o ∷ os; pending = p; ended = ended } role.ElseWhere
 where_told o os p ended h = ap (λ o. status_behind record { opens = o ∷ os; pending = p; ended = ended } role.ElseWhere) (sym h)
 
 pub only_where : (w : Opened) → takes_else construct.Where (open_of w ∷ []) ≡ true → ((n : ℕ) (mask : Expr) → w ≡ opened.Where n mask → ⊥) → ⊥
@@ -336,7 +338,7 @@ pub else_if_form : (cond : Expr) (glued : Bool) → else_if glued (expression co
 else_if_form cond true = refl
 else_if_form cond false = refl
 
-pub mapping_outer : (d : Directive) → is_inner (role_of (Directed (mapping_of d))) ≡ false
+pub mapping_outer : (d : Directive) → is_inner (role_of (OfDirective (mapping_of d))) ≡ false
 mapping_outer (mapping.Processors es) = refl
 mapping_outer (mapping.Template es) = refl
 mapping_outer (mapping.Dynamic names) = refl

@@ -1,8 +1,9 @@
-pub mod Program
-pub mod Printed
+pub mod SpelledProgram
+pub mod ProgramLines
 pub mod Views
-pub mod Rows
+pub mod Build
 pub mod Formed
+pub mod Meant
 pub mod Draft
-pub mod Takes
+pub mod NextLine
 pub mod Progress

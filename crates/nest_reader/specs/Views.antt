@@ -1,4 +1,4 @@
--- The program that a tree is.
+-- The program that the lines of a tree spell.
 use Rattle.std.specs.Prelude.{ℕ, nat_eq, Bool, true, false, not, ◌&&◌, if◌then◌else◌, List, [], ◌∷◌, map, Option, Some, None, option_map}
 use Rattle.syntax_tree.specs.declared.decl.Decl.{Decl}
 use Rattle.syntax_tree.specs.declared.decl.DeclKind.{DeclKind}
@@ -20,12 +20,12 @@ use Rattle.statement_reader.specs.Views.{IsOfKind, axis_of, constant_of, declara
 use Rattle.directive_reader.specs.declared.kind.Kind.TheVariants as directive
 use Rattle.directive_reader.specs.Forms as directives
 use Rattle.directive_reader.specs.Views.{mapping_of, distribution_of}
-use Rattle.nest_rules.specs.Lines.{What, Said, Directed, Line}
-use Rattle.nest_reader.specs.Program.{Mark, Block, Done, Then, Statement, Single, Marked, Branches, Loop, Masked, Indexed, Arms, NoArm, Arm, Otherwise, Without, With, End, Program}
+use Rattle.nest_rules.specs.ProgramLine.{LineContent, OfStatement, OfDirective, ProgramLine}
+use Rattle.nest_reader.specs.SpelledProgram.{SpelledIndependent, SpelledBlock, EmptyBlock, StatementThen, SpelledStatement, SimpleStatement, IndependentForall, IfConstruct, DoConstruct, WhereConstruct, ForallConstruct, IfBlocks, NoIfBlock, IfBlock, ElsePart, NoElse, Else, ProgramEnd, SpelledProgram}
 
 -- what is no statement: no lines spell it
-abbrev pub no_statement : Statement
-no_statement = Branches NoArm Without false
+abbrev pub no_statement : SpelledStatement
+no_statement = IfConstruct NoIfBlock NoElse false
 
 -- an assignment of line `m` in a statement of line `n`
 abbrev pub assignment_at : ℕ → ℕ → HeldKind → Option (Value assignment)
@@ -55,86 +55,86 @@ action_in n Cycle = Some (kind.Cycle, tt)
 action_in n Continue = Some (kind.Continue, tt)
 action_in n k = None
 
-abbrev pub single : ℕ → Option IsOfKind → Statement
+abbrev pub single : ℕ → Option IsOfKind → SpelledStatement
 single n None = no_statement
-single n (Some a) = Single record { number = n; what = Said (statements.Plain a.0 a.1) }
+single n (Some a) = SimpleStatement record { number = n; what = OfStatement (statements.Plain a.0 a.1) }
 
 -- the action of an IF has the number of its line
-abbrev pub if_one : ℕ → Expression → ℕ → Option IsOfKind → Statement
+abbrev pub if_one : ℕ → Expression → ℕ → Option IsOfKind → SpelledStatement
 if_one n cond m None = no_statement
-if_one n cond m (Some a) = if nat_eq m n then Single record { number = n; what = Said (statements.IfOne cond a.0 a.1) } else no_statement
+if_one n cond m (Some a) = if nat_eq m n then SimpleStatement record { number = n; what = OfStatement (statements.IfOne cond a.0 a.1) } else no_statement
 
-abbrev pub marked_one : ℕ → Value statements.forall_head → Option (Value assignment) → Statement
+abbrev pub marked_one : ℕ → Value statements.forall_head → Option (Value assignment) → SpelledStatement
 marked_one n head None = no_statement
-marked_one n head (Some a) = Marked record { number = n; what = Said (statements.Plain kind.Forall (head, Some a)) }
+marked_one n head (Some a) = IndependentForall record { number = n; what = OfStatement (statements.Plain kind.Forall (head, Some a)) }
 
 -- an IF construct begins with the arm of its own line, which has no ELSE
 abbrev pub begins : ℕ → {m : _} → Row_of-Arm m → Bool
 begins n end_of-Arm = false
 begins n (more_of-Arm (struct-Arm m cond shape row glued) arms) = nat_eq m n && not glued
 
-abbrev pub mark_of : HeldMark → Mark
-mark_of m = record { number = m.line; new = m.new; reduction = m.reduction }
+abbrev pub spelled_independent : HeldMark → SpelledIndependent
+spelled_independent m = record { number = m.line; new = m.new; reduction = m.reduction }
 
 abbrev mutual
-  pub kind_of : ℕ → HeldKind → Statement
-  kind_of n (IfOne' cond box m k) = if_one n (expression cond) m (action_in n k)
-  kind_of n (If' shape arms rest glued) = if begins n arms then Branches (arms_row arms) (rest_of rest) glued else no_statement
-  kind_of n (Do d) = loop_of n d
-  kind_of n (Where' mask shape row rest false glued) = Masked n (expression mask) (row_of row) (rest_of rest) glued
-  kind_of n (Forall' axes mask shape row false glued marked) = Indexed marked n (map axis_of axes.items, option_map expression mask) (row_of row) glued
-  kind_of n (Forall' axes mask shape row true false true) = marked_one n (map axis_of axes.items, option_map expression mask) (assignment_in n row)
-  kind_of n (Redistribute d) = Single record { number = n; what = Directed (directives.Known (directive.Redistribute d.colons) (distribution_of d.colons d)) }
-  kind_of n k = single n (action_in n k)
+  pub spelled_kind : ℕ → HeldKind → SpelledStatement
+  spelled_kind n (IfOne' cond box m k) = if_one n (expression cond) m (action_in n k)
+  spelled_kind n (If' shape arms rest glued) = if begins n arms then IfConstruct (spelled_arms arms) (spelled_else rest) glued else no_statement
+  spelled_kind n (Do d) = spelled_do n d
+  spelled_kind n (Where' mask shape row rest false glued) = WhereConstruct n (expression mask) (spelled_row row) (spelled_else rest) glued
+  spelled_kind n (Forall' axes mask shape row false glued marked) = ForallConstruct marked n (map axis_of axes.items, option_map expression mask) (spelled_row row) glued
+  spelled_kind n (Forall' axes mask shape row true false true) = marked_one n (map axis_of axes.items, option_map expression mask) (assignment_in n row)
+  spelled_kind n (Redistribute d) = SimpleStatement record { number = n; what = OfDirective (directives.Known (directive.Redistribute d.colons) (distribution_of d.colons d)) }
+  spelled_kind n k = single n (action_in n k)
 
-  pub loop_of : ℕ → Rattle.syntax_tree.specs.declared.stmt.DoLoop.DoLoop → Statement
-  loop_of n (struct-DoLoop index first last step mark shape row glued) =
-      Loop (option_map mark_of mark) n (index, (expression first, (expression last, option_map expression step))) (row_of row) glued
+  pub spelled_do : ℕ → Rattle.syntax_tree.specs.declared.stmt.DoLoop.DoLoop → SpelledStatement
+  spelled_do n (struct-DoLoop index first last step mark shape row glued) =
+      DoConstruct (option_map spelled_independent mark) n (index, (expression first, (expression last, option_map expression step))) (spelled_row row) glued
 
-  pub row_of : {m : _} → Row_of-Stmt m → Block
-  row_of end_of-Stmt = Done
-  row_of (more_of-Stmt n k row) = Then (kind_of n k) (row_of row)
+  pub spelled_row : {m : _} → Row_of-Stmt m → SpelledBlock
+  spelled_row end_of-Stmt = EmptyBlock
+  spelled_row (more_of-Stmt n k row) = StatementThen (spelled_kind n k) (spelled_row row)
 
-  pub rest_of : Held-Kind-If-1 → Otherwise
-  rest_of None' = Without
-  rest_of (Some' shape row) = With (row_of row)
+  pub spelled_else : Held-Kind-If-1 → ElsePart
+  spelled_else None' = NoElse
+  spelled_else (Some' shape row) = Else (spelled_row row)
 
-  pub arms_row : {m : _} → Row_of-Arm m → Arms
-  arms_row end_of-Arm = NoArm
-  arms_row (more_of-Arm (struct-Arm n cond shape row glued) arms) = Arm n (expression cond) (row_of row) glued (arms_row arms)
+  pub spelled_arms : {m : _} → Row_of-Arm m → IfBlocks
+  spelled_arms end_of-Arm = NoIfBlock
+  spelled_arms (more_of-Arm (struct-Arm n cond shape row glued) arms) = IfBlock n (expression cond) (spelled_row row) glued (spelled_arms arms)
 
-abbrev pub statement_of : Stmt → Statement
-statement_of s = kind_of s.line s.what
+abbrev pub spelled_statement : Stmt → SpelledStatement
+spelled_statement s = spelled_kind s.line s.what
 
 -- statements one behind the other
-abbrev pub block_of : List Stmt → Block
-block_of [] = Done
-block_of (s ∷ ss) = Then (statement_of s) (block_of ss)
+abbrev pub spelled_block : List Stmt → SpelledBlock
+spelled_block [] = EmptyBlock
+spelled_block (s ∷ ss) = StatementThen (spelled_statement s) (spelled_block ss)
 
 -- an arm before others
-abbrev pub arm_before : HeldArm → Arms → Arms
-arm_before (struct-Arm n cond shape row glued) arms = Arm n (expression cond) (row_of row) glued arms
+abbrev pub arm_before : HeldArm → IfBlocks → IfBlocks
+arm_before (struct-Arm n cond shape row glued) arms = IfBlock n (expression cond) (spelled_row row) glued arms
 
-abbrev pub arms_of : List HeldArm → Arms
-arms_of [] = NoArm
-arms_of (a ∷ arms) = arm_before a (arms_of arms)
+abbrev pub spelled_if_blocks : List HeldArm → IfBlocks
+spelled_if_blocks [] = NoIfBlock
+spelled_if_blocks (a ∷ arms) = arm_before a (spelled_if_blocks arms)
 
-abbrev pub declared_of : DeclKind → What
-declared_of declared.ImplicitNone = Said (statements.Plain kind.ImplicitNone tt)
-declared_of (declared.Integer d) = Said (statements.Plain kind.Integer (declaration_of d))
-declared_of (declared.Parameter cs) = Said (statements.Plain kind.Parameter (map constant_of cs.items))
-declared_of (declared.Directive d) = Directed (mapping_of d)
+abbrev pub declared_of : DeclKind → LineContent
+declared_of declared.ImplicitNone = OfStatement (statements.Plain kind.ImplicitNone tt)
+declared_of (declared.Integer d) = OfStatement (statements.Plain kind.Integer (declaration_of d))
+declared_of (declared.Parameter cs) = OfStatement (statements.Plain kind.Parameter (map constant_of cs.items))
+declared_of (declared.Directive d) = OfDirective (mapping_of d)
 
-abbrev pub declaration_line : Decl → Line
+abbrev pub declaration_line : Decl → ProgramLine
 declaration_line d = record { number = d.line; what = declared_of d.what }
 
-abbrev pub finish_of : EndForm → End
-finish_of e = record { what = end_of e.word e.name; number = e.line }
+abbrev pub spelled_end : EndForm → ProgramEnd
+spelled_end e = record { what = end_of e.word e.name; number = e.line }
 
-abbrev pub program_of : Tree → Program
-program_of t = record {
+abbrev pub spelled_program : Tree → SpelledProgram
+spelled_program t = record {
   name = t.name;
   declarations = map declaration_line t.decls.items;
-  body = block_of t.body.items;
-  finish = finish_of t.end;
+  body = spelled_block t.body.items;
+  finish = spelled_end t.end;
 }

@@ -1,12 +1,21 @@
 //! Laws of programs and their lines.
 
 ghost use Rattle.std.specs.Prelude.{◌≡◌, List};
-ghost use Rattle.nest_rules.specs.Lines.{Line as SeenLine};
+ghost use Rattle.nest_rules.specs.ProgramLine.{ProgramLine};
 ghost use Rattle.nest_reader.specs.Formed.{IsProgram};
-ghost use Rattle.nest_reader.specs.Printed.{IsSpelled};
-ghost use Rattle.nest_reader.specs.Program.{Program};
+ghost use Rattle.nest_reader.specs.Meant.{meant};
+ghost use Rattle.nest_reader.specs.ProgramLines.{IsSpelled};
+ghost use Rattle.nest_reader.specs.SpelledProgram.{SpelledProgram};
+ghost use Rattle.nest_reader.specs.Views.{spelled_program};
+ghost use Rattle.syntax_tree.specs.MainProgram.{main_program};
+ghost use Rattle.syntax_tree.specs.declared.decl.Tree.{Tree};
 
 /// Lines spell one program at most.
 pub fn one_program()
-    ensures { (p q : Program) → IsProgram p → IsProgram q → (ls : List SeenLine) → IsSpelled ls p → IsSpelled ls q → p ≡ q }
+    ensures { (p q : SpelledProgram) → IsProgram p → IsProgram q → (ls : List ProgramLine) → IsSpelled ls p → IsSpelled ls q → p ≡ q }
+{}
+
+/// What the lines of a tree mean is its abstract syntax, so lines determine the program that they spell and what it says.
+pub fn one_meaning()
+    ensures { (t : Tree) → IsProgram (spelled_program t) → meant (spelled_program t) ≡ main_program t }
 {}

@@ -3,16 +3,16 @@
 //! Comes in: the lines of a text as statements and directives, in order, which break no rule of constructs, declarations
 //! and directives. Goes out: the tree that they spell. What holds in between: a draft says the lines that have been read,
 //! those of the open constructs too, and its lines with those that are left are the lines of the text; no line is read
-//! twice, and no other program has these lines.
+//! twice, no other program has these lines, and what they mean is the abstract syntax of the tree.
 #![tactic(auto)]
 
-mod close;
+mod build;
+mod construct_end;
 mod draft;
+mod draft_step;
 mod laws;
-mod made;
-mod reading;
-mod steps;
-mod take;
+mod next_line;
+mod progress;
 
-pub use laws::one_program;
-pub use reading::read_nest;
+pub use laws::{one_meaning, one_program};
+pub use progress::read_nest;

@@ -3,59 +3,60 @@ use Rattle.std.proofs.Common.{◌≡◌, ℕ, zero, suc, ◌+◌, ◌-◌, ◌�
 use Rattle.std.specs.Prelude.{if◌then◌else◌, nat_lt, ◌||◌}
 use Rattle.std.proofs.lemmas.Bool.Decides.{nat_tests}
 use Rattle.std.proofs.lemmas.Grind.{common_steps}
-use Rattle.std.proofs.lemmas.List.{drop_all}
+use Rattle.std.proofs.lemmas.List.{drop_all, length-map}
 use Rattle.hpf_base.specs.declared.refusal.Reason.{Reason}
 use Rattle.hpf_base.specs.declared.refusal.Reason.TheVariants as reason
 use Rattle.hpf_base.specs.declared.refusal.Refusal.{Refusal}
 use Rattle.hpf_base.specs.Refusal.{number_of}
 use Rattle.nest_rules.specs.declared.role.Role.{Role}
 use Rattle.nest_rules.specs.declared.role.Role.TheVariants as role
-use Rattle.nest_rules.specs.declared.line.Line.{Line as HeldLine}
-use Rattle.nest_rules.specs.Lines.{Line, what_of, lines_of}
+use Rattle.nest_rules.specs.declared.program_line.ProgramLine.{ProgramLine as HeldLine}
+use Rattle.nest_rules.specs.ProgramLine.{ProgramLine, content_of, line_of, lines_of}
 use Rattle.nest_rules.specs.Roles.{role_of}
-use Rattle.nest_rules.specs.Seen.{Seen, seen_behind, nothing_seen, is_statement}
-use Rattle.nest_rules.specs.Breaches.{is_misplaced, is_misdirected, is_too_deep, is_mask_in_mask, roles, declaration_comes, Breaks, NoEnd, BreachFrom, IsNestBreach}
-use Rattle.nest_rules.specs.Firsts.{Firsts, earlier, at_line}
+use Rattle.nest_rules.specs.NestState.{NestState, state_behind, state_at_start, is_statement}
+use Rattle.nest_rules.specs.Breaches.{roles, NoEnd, BreachFrom, IsNestBreach}
+use Rattle.nest_rules.specs.Rules.{is_misplaced, is_misdirected, is_too_deep, nests_where_or_forall, declaration_comes, Breaks}
+use Rattle.hpf_base.specs.FirstBreach.{IsFirstOrNone, earlier, at_line}
 use Rattle.nest_rules.specs.Found.{least_reason, end_reason, found_from, declared_length, is_declaration, one_more}
-use Rattle.nest_rules.proofs.FirstBreaches.{first_none, first_same, first_both, first_at, Leads, IsLeastReason}
+use Rattle.hpf_base.proofs.FirstBreaches.{first_none, first_same, first_both, first_at, Leads, IsLeastReason}
 
-from_nest : (s : Seen) (r : Role) (rs : List Role) (why : Reason) → Breaks s r rs why → 3 ≤ number_of why
+from_nest : (s : NestState) (r : Role) (rs : List Role) (why : Reason) → Breaks s r rs why → 3 ≤ number_of why
 from_nest s r rs reason.BadNest h = omega arith
 from_nest s r rs reason.BadDirective h = omega arith
 from_nest s r rs reason.Limit h = omega arith
 from_nest s r rs reason.LeftOut h = omega arith
 from_nest s r rs why h = absurd h
 
-from_directive : (s : Seen) (r : Role) (rs : List Role) (why : Reason) → is_misplaced s r ≡ false → Breaks s r rs why → 6 ≤ number_of why
+from_directive : (s : NestState) (r : Role) (rs : List Role) (why : Reason) → is_misplaced s r ≡ false → Breaks s r rs why → 6 ≤ number_of why
 from_directive s r rs reason.BadNest nest h = absurd cc
 from_directive s r rs reason.BadDirective nest h = omega arith
 from_directive s r rs reason.Limit nest h = omega arith
 from_directive s r rs reason.LeftOut nest h = omega arith
 from_directive s r rs why nest h = absurd h
 
-from_limit : (s : Seen) (r : Role) (rs : List Role) (why : Reason) → is_misplaced s r ≡ false → is_misdirected s r rs ≡ false → Breaks s r rs why → 10 ≤ number_of why
+from_limit : (s : NestState) (r : Role) (rs : List Role) (why : Reason) → is_misplaced s r ≡ false → is_misdirected s r rs ≡ false → Breaks s r rs why → 10 ≤ number_of why
 from_limit s r rs reason.BadNest nest dir h = absurd cc
 from_limit s r rs reason.BadDirective nest dir h = absurd cc
 from_limit s r rs reason.Limit nest dir h = omega arith
 from_limit s r rs reason.LeftOut nest dir h = omega arith
 from_limit s r rs why nest dir h = absurd h
 
-from_left_out : (s : Seen) (r : Role) (rs : List Role) (why : Reason) → is_misplaced s r ≡ false → is_misdirected s r rs ≡ false → is_too_deep s.opens r ≡ false → Breaks s r rs why → 11 ≤ number_of why
+from_left_out : (s : NestState) (r : Role) (rs : List Role) (why : Reason) → is_misplaced s r ≡ false → is_misdirected s r rs ≡ false → is_too_deep s.opens r ≡ false → Breaks s r rs why → 11 ≤ number_of why
 from_left_out s r rs reason.BadNest nest dir deep h = absurd cc
 from_left_out s r rs reason.BadDirective nest dir deep h = absurd cc
 from_left_out s r rs reason.Limit nest dir deep h = absurd cc
 from_left_out s r rs reason.LeftOut nest dir deep h = omega arith
 from_left_out s r rs why nest dir deep h = absurd h
 
-from_none : (s : Seen) (r : Role) (rs : List Role) (why : Reason) → is_misplaced s r ≡ false → is_misdirected s r rs ≡ false → is_too_deep s.opens r ≡ false → is_mask_in_mask s.opens r ≡ false → Breaks s r rs why → ⊥
+from_none : (s : NestState) (r : Role) (rs : List Role) (why : Reason) → is_misplaced s r ≡ false → is_misdirected s r rs ≡ false → is_too_deep s.opens r ≡ false → nests_where_or_forall s.opens r ≡ false → Breaks s r rs why → ⊥
 from_none s r rs reason.BadNest nest dir deep mask h = absurd cc
 from_none s r rs reason.BadDirective nest dir deep mask h = absurd cc
 from_none s r rs reason.Limit nest dir deep mask h = absurd cc
 from_none s r rs reason.LeftOut nest dir deep mask h = absurd cc
 from_none s r rs why nest dir deep mask h = h
 
-least_of_tests : (s : Seen) (r : Role) (rs : List Role) (a b c d : Bool)
-    → is_misplaced s r ≡ a → is_misdirected s r rs ≡ b → is_too_deep s.opens r ≡ c → is_mask_in_mask s.opens r ≡ d
+least_of_tests : (s : NestState) (r : Role) (rs : List Role) (a b c d : Bool)
+    → is_misplaced s r ≡ a → is_misdirected s r rs ≡ b → is_too_deep s.opens r ≡ c → nests_where_or_forall s.opens r ≡ d
     → IsLeastReason (Breaks s r rs) (if a then Some reason.BadNest else (if b then Some reason.BadDirective else (if c then Some reason.Limit else (if d then Some reason.LeftOut else None))))
 least_of_tests s r rs true b c d ea eb ec ed = (ea, λ why h. from_nest s r rs why h)
 least_of_tests s r rs false true c d ea eb ec ed = (eb, λ why h. from_directive s r rs why ea h)
@@ -63,11 +64,11 @@ least_of_tests s r rs false false true d ea eb ec ed = (ec, λ why h. from_limit
 least_of_tests s r rs false false false true ea eb ec ed = (ed, λ why h. from_left_out s r rs why ea eb ec h)
 least_of_tests s r rs false false false false ea eb ec ed = λ why h. from_none s r rs why ea eb ec ed h
 
-pub least_is_least : (s : Seen) (r : Role) (rs : List Role) → IsLeastReason (Breaks s r rs) (least_reason s r rs)
+pub least_is_least : (s : NestState) (r : Role) (rs : List Role) → IsLeastReason (Breaks s r rs) (least_reason s r rs)
 least_is_least s r rs = least_of_tests s r rs _ _ _ _ refl refl refl refl
 
 -- a text without END is refused once, at its end
-end_is_first : (s : Seen) (last : ℕ) → Firsts (NoEnd s last) (at_line (max last 1) (end_reason s))
+end_is_first : (s : NestState) (last : ℕ) → IsFirstOrNone (NoEnd s last) (at_line (max last 1) (end_reason s))
 end_is_first s last = step s.ended refl
   where
     none : s.ended ≡ true → (line : ℕ) (why : Reason) → NoEnd s last line why → ⊥
@@ -78,12 +79,12 @@ end_is_first s last = step s.ended refl
     some line reason.BadNest h = inr (sym h.1, omega arith)
     some line why h = absurd h
 
-    step : (t : Bool) → s.ended ≡ t → Firsts (NoEnd s last) (at_line (max last 1) (if t then None else Some reason.BadNest))
+    step : (t : Bool) → s.ended ≡ t → IsFirstOrNone (NoEnd s last) (at_line (max last 1) (if t then None else Some reason.BadNest))
     step true e = none e
     step false e = record { stands = (e, refl); first = some }
 
 -- the breaches of the first line
-abbrev BreachAt : Seen → Line → List Line → ℕ → Reason → Type 0
+abbrev BreachAt : NestState → ProgramLine → List ProgramLine → ℕ → Reason → Type 0
 BreachAt s l ls line why = (line ≡ l.number) × Breaks s (role_of l.what) (roles ls) why
 
 regroup : (A B C : Type 0) → (A ⊎ B) ⊎ C → A ⊎ (B ⊎ C)
@@ -96,18 +97,18 @@ regroup_back A B C (inl a) = inl (inl a)
 regroup_back A B C (inr (inl b)) = inl (inr b)
 regroup_back A B C (inr (inr c)) = inr c
 
-found_is_first : (A : ℕ → Reason → Type 0) (best : Option Refusal) (s : Seen) (last : ℕ) (ls : List Line) → Firsts A best → Firsts (λ line why. A line why ⊎ BreachFrom s last ls line why) (found_from best s last ls)
+found_is_first : (A : ℕ → Reason → Type 0) (best : Option Refusal) (s : NestState) (last : ℕ) (ls : List ProgramLine) → IsFirstOrNone A best → IsFirstOrNone (λ line why. A line why ⊎ BreachFrom s last ls line why) (found_from best s last ls)
 found_is_first A best s last [] h = first_both A (NoEnd s last) best _ h (end_is_first s last)
 found_is_first A best s last (l ∷ ls) h =
     first_same _ _ _ (λ line why. regroup _ _ _) (λ line why. regroup_back _ _ _)
-    (found_is_first (λ line why. A line why ⊎ BreachAt s l ls line why) _ (seen_behind s (role_of l.what)) last ls
+    (found_is_first (λ line why. A line why ⊎ BreachAt s l ls line why) _ (state_behind s (role_of l.what)) last ls
     (first_both A (BreachAt s l ls) best _ h (first_at l.number (Breaks s (role_of l.what) (roles ls)) _ (least_is_least s (role_of l.what) (roles ls)))))
 
 -- what is found is the first breach of the lines
-pub found : (last : ℕ) (ls : List Line) → Firsts (IsNestBreach last ls) (found_from None nothing_seen last ls)
+pub found : (last : ℕ) (ls : List ProgramLine) → IsFirstOrNone (IsNestBreach last ls) (found_from None state_at_start last ls)
 found last ls =
     first_same _ _ _ (λ line why b. elim b [ inl x ↦ absurd x | inr y ↦ y ]) (λ line why b. inr b)
-    (found_is_first (λ line why. ⊥) None nothing_seen last ls first_none)
+    (found_is_first (λ line why. ⊥) None state_at_start last ls first_none)
 
 -- behind a line that is no statement, one line fewer
 pub declared_next : (r : Role) (rs : List Role) → is_statement r ≡ false → declared_length rs ≡ declared_length (r ∷ rs) - 1
@@ -125,59 +126,80 @@ counted (suc n) = grind (arith, nat_tests)
 -- a declaration comes where one counts
 pub declares : (rs : List Role) → declaration_comes rs ≡ nat_lt 0 (declared_length rs)
 declares [] = refl
-declares (role.Declaration d ∷ rs) = grind (arith, nat_tests)
+declares (role.Declaration ∷ rs) = grind (arith, nat_tests)
+declares (role.SpecificationDirective ∷ rs) = grind (arith, nat_tests)
 declares (role.Program ∷ rs) = declares rs ∙ counted (declared_length rs)
 declares (role.Passed ∷ rs) = declares rs ∙ counted (declared_length rs)
 declares (role.Redistribute ∷ rs) = declares rs ∙ counted (declared_length rs)
-declares (role.Independent lists ∷ rs) = declares rs ∙ counted (declared_length rs)
+declares (role.Independent cs ∷ rs) = declares rs ∙ counted (declared_length rs)
 declares (r ∷ rs) = refl
 
-line_at : (lines : List HeldLine) (i : ℕ) (l : HeldLine) → i < length lines → l ≡ get_or lines i l → drop i lines ≡ l ∷ drop (i + 1) lines
-line_at lines i l lt e = rw (add-one, drop-cons lines i l lt) (ap (λ x. x ∷ drop (suc i) lines) (sym e))
+at : {A : Type 0} (xs : List A) (i : ℕ) (x : A) → i < length xs → x ≡ get_or xs i x → drop i xs ≡ x ∷ drop (i + 1) xs
+at xs i x lt e = rw (add-one, drop-cons xs i x lt) (ap (λ y. y ∷ drop (suc i) xs) (sym e))
 
-rest_at : (lines : List HeldLine) (i : ℕ) → i < length lines → take (length lines - (i + 1)) (drop (i + 1) lines) ≡ drop (i + 1) lines
-rest_at lines i lt = grind (arith, common_steps)
+rest_at : {A : Type 0} (xs : List A) (i : ℕ) → i < length xs → take (length xs - (i + 1)) (drop (i + 1) xs) ≡ drop (i + 1) xs
+rest_at xs i lt = grind (arith, common_steps)
+
+-- the roles of lines, at a place and behind it
+roles_behind : (i : ℕ) (ls : List HeldLine) → drop i (roles (lines_of ls)) ≡ roles (lines_of (drop i ls))
+roles_behind zero ls = refl
+roles_behind (suc i) [] = refl
+roles_behind (suc i) (l ∷ ls) = roles_behind i ls
+
+module _ (lines : List HeldLine) (rs : List Role) (are : rs ≡ roles (lines_of lines)) (i : ℕ) (lt : i < length lines) where
+  pub in_roles : i < length rs
+  in_roles =
+      let n : length rs ≡ length lines = ap length are ∙ length-map (lines_of lines) (λ l. role_of l.what) ∙ length-map lines line_of in
+      omega (arith, lt, n)
+
+  pub role_at : (l : HeldLine) (r : Role) → l ≡ get_or lines i l → r ≡ get_or rs i r → r ≡ role_of (content_of l.what)
+  role_at l r el er =
+      let both : r ∷ drop (i + 1) rs ≡ role_of (content_of l.what) ∷ roles (lines_of (drop (i + 1) lines)) =
+      sym (at rs i r in_roles er) ∙ ap (drop i) are ∙ roles_behind i lines ∙ ap (λ ls. roles (lines_of ls)) (at lines i l lt el) in
+      cc
+
+  pub roles_left : take (length rs - (i + 1)) (drop (i + 1) rs) ≡ roles (lines_of (drop (i + 1) lines))
+  roles_left = rest_at rs i in_roles ∙ ap (drop (i + 1)) are ∙ roles_behind (i + 1) lines
 
 -- one more line behind those that some stand before
-pub found_next : (best : Option Refusal) (s : Seen) (last : ℕ) (lines : List HeldLine) (i : ℕ) (l : HeldLine) (r : Role) (why : Option Reason) (here best' : Option Refusal) (s' : Seen)
+pub found_next : (best : Option Refusal) (s : NestState) (last : ℕ) (lines : List HeldLine) (i : ℕ) (l : HeldLine) (r : Role) (left : List Role) (why : Option Reason) (here best' : Option Refusal) (s' : NestState)
     → i < length lines → l ≡ get_or lines i l
-    → r ≡ role_of (what_of l.what)
-    → why ≡ least_reason s r (roles (lines_of (take (length lines - (i + 1)) (drop (i + 1) lines))))
+    → r ≡ role_of (content_of l.what)
+    → left ≡ roles (lines_of (drop (i + 1) lines))
+    → why ≡ least_reason s r left
     → here ≡ at_line l.number why
     → best' ≡ earlier best here
-    → s' ≡ seen_behind s r
+    → s' ≡ state_behind s r
     → found_from best s last (lines_of (drop i lines)) ≡ found_from best' s' last (lines_of (drop (i + 1) lines))
-found_next best s last lines i l r why here best' s' lt el er ew eh eb es =
-    let e = line_at lines i l lt el in
-    let all = rest_at lines i lt in
+found_next best s last lines i l r left why here best' s' lt el er all ew eh eb es =
+    let e = at lines i l lt el in
     rw (es, eb, eh, ew, all, er, e)
 
 -- and the declarations behind it
-pub declared_behind_line : (lines : List HeldLine) (i declared : ℕ) (l : HeldLine) (r : Role)
-    → i < length lines → l ≡ get_or lines i l
-    → r ≡ role_of (what_of l.what)
+pub declared_behind_line : (rs : List Role) (i declared : ℕ) (r : Role)
+    → i < length rs → r ≡ get_or rs i r
     → is_statement r ≡ false
-    → declared_length (roles (lines_of (drop i lines))) ≡ declared - i
-    → declared_length (roles (lines_of (drop (i + 1) lines))) ≡ declared - (i + 1)
-declared_behind_line lines i declared l r lt el er no_statement h =
-    let e = line_at lines i l lt el in
-    let h' = rw (e, ← er) at h in
-    let next = declared_next r (roles (lines_of (drop (i + 1) lines))) no_statement in
+    → declared_length (drop i rs) ≡ declared - i
+    → declared_length (drop (i + 1) rs) ≡ declared - (i + 1)
+declared_behind_line rs i declared r lt er no_statement h =
+    let e = at rs i r lt er in
+    let h' = rw e at h in
+    let next = declared_next r (drop (i + 1) rs) no_statement in
     omega (arith, h', next)
 
-pub declares_behind : (lines : List HeldLine) (i declared : ℕ) (l : HeldLine) (r : Role)
-    → i < length lines → l ≡ get_or lines i l
-    → r ≡ role_of (what_of l.what)
+pub declares_behind : (rs ts : List Role) (i declared : ℕ) (r : Role)
+    → ts ≡ rs
+    → i < length rs → r ≡ get_or rs i r
     → is_statement r ≡ false
-    → declared_length (roles (lines_of (drop i lines))) ≡ declared - i
-    → nat_lt (i + 1) declared ≡ declaration_comes (roles (lines_of (take (length lines - (i + 1)) (drop (i + 1) lines))))
-declares_behind lines i declared l r lt el er no_statement h =
-    let all = rest_at lines i lt in
-    let d : declared_length (roles (lines_of (drop (i + 1) lines))) ≡ declared - (i + 1) = declared_behind_line lines i declared l r lt el er no_statement h in
-    rw (all, declares, d) (grind (arith, nat_tests))
+    → declared_length (drop i rs) ≡ declared - i
+    → nat_lt (i + 1) declared ≡ declaration_comes (take (length ts - (i + 1)) (drop (i + 1) ts))
+declares_behind rs ts i declared r same lt er no_statement h =
+    let all = rest_at rs i lt in
+    let d : declared_length (drop (i + 1) rs) ≡ declared - (i + 1) = declared_behind_line rs i declared r lt er no_statement h in
+    rw (same, all, declares, d) (grind (arith, nat_tests))
 
 -- before the first statement no line was one
-pub stated_before : (s s' : Seen) (r : Role) → s' ≡ seen_behind s r → s'.stated ≡ false → (s.stated ≡ false) × (is_statement r ≡ false)
+pub stated_before : (s s' : NestState) (r : Role) → s' ≡ state_behind s r → s'.stated ≡ false → (s.stated ≡ false) × (is_statement r ≡ false)
 stated_before s s' r es h = let h' = rw es at h in step s.stated (is_statement r) h'
   where
     step : (a b : Bool) → (a || b) ≡ false → (a ≡ false) × (b ≡ false)
@@ -185,7 +207,7 @@ stated_before s s' r es h = let h' = rw es at h in step s.stated (is_statement r
     step true b h = absurd cc
 
 -- no line is left
-pub found_end : (best : Option Refusal) (s : Seen) (last : ℕ) (lines : List HeldLine) (i most : ℕ) (why : Option Reason) (here best' : Option Refusal)
+pub found_end : (best : Option Refusal) (s : NestState) (last : ℕ) (lines : List HeldLine) (i most : ℕ) (why : Option Reason) (here best' : Option Refusal)
     → length lines ≤ i
     → most ≡ max last 1
     → why ≡ end_reason s

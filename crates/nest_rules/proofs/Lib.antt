@@ -1,2 +1,1 @@
-pub mod FirstBreaches
 pub mod Finding

@@ -1,37 +1,39 @@
--- How the first breach is found, one line after the other.
+-- No public clause cites this file. How the first breach is found, one line after the other.
 use Rattle.std.specs.Prelude.{ℕ, zero, suc, ◌+◌, max, Bool, true, false, List, [], ◌∷◌, Option, Some, None, if◌then◌else◌}
 use Rattle.hpf_base.specs.declared.refusal.Reason.{Reason}
 use Rattle.hpf_base.specs.declared.refusal.Reason.TheVariants as reason
 use Rattle.hpf_base.specs.declared.refusal.Refusal.{Refusal}
 use Rattle.nest_rules.specs.declared.role.Role.{Role}
 use Rattle.nest_rules.specs.declared.role.Role.TheVariants as role
-use Rattle.nest_rules.specs.Lines.{Line}
+use Rattle.nest_rules.specs.ProgramLine.{ProgramLine}
 use Rattle.nest_rules.specs.Roles.{role_of}
-use Rattle.nest_rules.specs.Seen.{Seen, seen_behind, is_statement}
-use Rattle.nest_rules.specs.Breaches.{is_misplaced, is_misdirected, is_too_deep, is_mask_in_mask, roles}
-use Rattle.nest_rules.specs.Firsts.{earlier, at_line}
+use Rattle.nest_rules.specs.NestState.{NestState, state_behind, is_statement}
+use Rattle.nest_rules.specs.Breaches.{roles}
+use Rattle.nest_rules.specs.Rules.{is_misplaced, is_misdirected, is_too_deep, nests_where_or_forall}
+use Rattle.hpf_base.specs.FirstBreach.{earlier, at_line}
 
 -- the least reason for which a line may not stand where it stands
-abbrev pub least_reason : Seen → Role → List Role → Option Reason
+abbrev pub least_reason : NestState → Role → List Role → Option Reason
 least_reason s r rs =
     if is_misplaced s r then Some reason.BadNest
     else (if is_misdirected s r rs then Some reason.BadDirective
     else (if is_too_deep s.opens r then Some reason.Limit
-    else (if is_mask_in_mask s.opens r then Some reason.LeftOut else None)))
+    else (if nests_where_or_forall s.opens r then Some reason.LeftOut else None)))
 
 -- the reason for which a text may not end where it ends
-abbrev pub end_reason : Seen → Option Reason
+abbrev pub end_reason : NestState → Option Reason
 end_reason s = if s.ended then None else Some reason.BadNest
 
 -- the earliest of this breach and those of lines, where so much has been seen before them
-abbrev pub found_from : Option Refusal → Seen → ℕ → List Line → Option Refusal
+abbrev pub found_from : Option Refusal → NestState → ℕ → List ProgramLine → Option Refusal
 found_from best s last [] = earlier best (at_line (max last 1) (end_reason s))
 found_from best s last (l ∷ ls) =
-    found_from (earlier best (at_line l.number (least_reason s (role_of l.what) (roles ls)))) (seen_behind s (role_of l.what)) last ls
+    found_from (earlier best (at_line l.number (least_reason s (role_of l.what) (roles ls)))) (state_behind s (role_of l.what)) last ls
 
--- a declaration
+-- a declaration, also one that is a directive
 abbrev pub is_declaration : Role → Bool
-is_declaration (role.Declaration d) = true
+is_declaration role.Declaration = true
+is_declaration role.SpecificationDirective = true
 is_declaration r = false
 
 -- one more, where there is one

@@ -1,7 +1,7 @@
-pub mod Lines
+pub mod ProgramLine
 pub mod Roles
-pub mod Seen
+pub mod NestState
+pub mod Rules
 pub mod Breaches
-pub mod Firsts
 pub mod Found
-pub mod Levels
+pub mod OpenConstructs

@@ -7,11 +7,13 @@ use Rattle.statement_reader.specs.Forms as statements
 use Rattle.directive_reader.specs.declared.kind.Kind.{Kind as DirectiveKind}
 use Rattle.directive_reader.specs.declared.kind.Kind.TheVariants as directive
 use Rattle.directive_reader.specs.Forms as directives
+use Rattle.nest_rules.specs.declared.role.Clauses.{Clauses}
+use Rattle.nest_rules.specs.declared.role.Clauses.TheVariants as clauses
 use Rattle.nest_rules.specs.declared.role.Construct.{Construct}
 use Rattle.nest_rules.specs.declared.role.Construct.TheVariants as construct
 use Rattle.nest_rules.specs.declared.role.Role.{Role}
 use Rattle.nest_rules.specs.declared.role.Role.TheVariants as role
-use Rattle.nest_rules.specs.Lines.{What, Said, Directed}
+use Rattle.nest_rules.specs.ProgramLine.{LineContent, OfStatement, OfDirective}
 
 -- WHERE and FORALL are whole in their line where an assignment stands behind them, and else open a construct
 abbrev pub whole_or_opens : Construct → Bool → Role
@@ -20,9 +22,9 @@ whole_or_opens c false = role.Opens c
 
 abbrev pub plain_role : (k : Kind) → Value (statements.grammar k) → Role
 plain_role kind.Program v = role.Program
-plain_role kind.ImplicitNone v = role.Declaration false
-plain_role kind.Integer v = role.Declaration false
-plain_role kind.Parameter v = role.Declaration false
+plain_role kind.ImplicitNone v = role.Declaration
+plain_role kind.Integer v = role.Declaration
+plain_role kind.Parameter v = role.Declaration
 plain_role kind.Assign v = role.Assign
 plain_role kind.IfThen v = role.Opens construct.If
 plain_role (kind.ElseIf glued) v = role.ElseIf
@@ -52,15 +54,20 @@ abbrev pub statement_role : statements.Form → Role
 statement_role (statements.Plain k v) = plain_role k v
 statement_role (statements.IfOne cond k v) = action_role k
 
+-- NEW or REDUCTION stands in an INDEPENDENT
+abbrev pub clauses_of : Bool → Clauses
+clauses_of true = clauses.Given
+clauses_of false = clauses.Absent
+
 abbrev pub known_role : (k : DirectiveKind) → Value (directives.grammar k) → Role
 known_role (directive.Redistribute many) v = role.Redistribute
-known_role directive.Independent v = role.Independent (is_some v.0 || is_some v.1)
-known_role k v = role.Declaration true
+known_role directive.Independent v = role.Independent (clauses_of (is_some v.0 || is_some v.1))
+known_role k v = role.SpecificationDirective
 
 abbrev pub directive_role : directives.Form → Role
 directive_role (directives.Known k v) = known_role k v
 directive_role (directives.Passed ts) = role.Passed
 
-abbrev pub role_of : What → Role
-role_of (Said s) = statement_role s
-role_of (Directed d) = directive_role d
+abbrev pub role_of : LineContent → Role
+role_of (OfStatement s) = statement_role s
+role_of (OfDirective d) = directive_role d

@@ -6,16 +6,14 @@
 #![tactic(auto)]
 
 mod breaches;
-mod firsts;
-mod line;
-mod opens;
+mod nest_state;
+mod open_constructs;
+mod program_line;
 mod role;
 mod roles;
 mod rules;
-mod seen;
 
 pub use breaches::first_breach;
-pub use firsts::{at_line, earlier};
-pub use line::{Line, What};
-pub use role::{Construct, Role};
+pub use program_line::{LineContent, ProgramLine};
+pub use role::{Clauses, Construct, Role};
 pub use roles::role_of;

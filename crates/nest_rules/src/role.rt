@@ -9,17 +9,25 @@ pub enum Construct {
     Forall,
 }
 
+/// Whether an INDEPENDENT has a NEW or a REDUCTION clause (HPF 2.0, 5.1).
+#[derive(Clone, Copy, Debug, PartialEq, Eq)]
+pub enum Clauses {
+    Absent,
+    Given,
+}
+
 /// What a line is to the lines round it.
 #[derive(Clone, Copy, Debug, PartialEq, Eq)]
 pub enum Role {
     Program,
-    /// A declaration; whether it is a directive.
-    Declaration(bool),
+    /// IMPLICIT NONE, INTEGER or PARAMETER.
+    Declaration,
+    /// A directive among the declarations: PROCESSORS, TEMPLATE, DYNAMIC, DISTRIBUTE or ALIGN.
+    SpecificationDirective,
     /// A directive that is passed over.
     Passed,
     Redistribute,
-    /// INDEPENDENT; whether it has lists of names.
-    Independent(bool),
+    Independent(Clauses),
     /// The first line of a construct.
     Opens(Construct),
     ElseIf,
@@ -32,7 +40,7 @@ pub enum Role {
     One(Construct),
     /// EXIT or CYCLE, alone or as the action of an IF.
     Jump,
-    /// Another statement, whole in its line.
+    /// PRINT, STOP or CONTINUE, or an IF with an action that doesn't leave a loop.
     Plain,
     End,
 }

@@ -1,24 +1,24 @@
 //! What lines are to the nest, by their form.
 
-ghost use Rattle.std.specs.Prelude.{◌≡◌, is_some};
+ghost use Rattle.std.specs.Prelude.{◌≡◌, is_some, ◌||◌};
 ghost use Rattle.statement_reader.specs.Views.{action_of, form_of};
 ghost use Rattle.directive_reader.specs.Views.{form_of as directive_form, mapping_of, names_in};
-ghost use Rattle.nest_rules.specs.Lines.{what_of};
-ghost use Rattle.nest_rules.specs.Roles.{action_role, directive_role, plain_role, role_of, statement_role};
+ghost use Rattle.nest_rules.specs.ProgramLine.{content_of};
+ghost use Rattle.nest_rules.specs.Roles.{action_role, clauses_of, directive_role, plain_role, role_of, statement_role};
 
-use crate::line::What;
-use crate::role::{Construct, Role};
+use crate::program_line::LineContent;
+use crate::role::{Clauses, Construct, Role};
 use directive_reader::DirectiveLine;
 use statement_reader::{Action, Statement};
 use syntax_tree::{Directive, Names};
 
 /// What a line is to the lines round it.
-pub fn role_of(what: &What) -> Role
-    ensures { result ≡ role_of (what_of what.now) }
+pub fn role_of(what: &LineContent) -> Role
+    ensures { result ≡ role_of (content_of what.now) }
 {
     match what {
-        What::Statement(s) => statement_role(s),
-        What::Directive(d) => directive_role(d),
+        LineContent::Statement(s) => statement_role(s),
+        LineContent::Directive(d) => directive_role(d),
     }
 }
 
@@ -29,7 +29,7 @@ fn statement_role(s: &Statement) -> Role
     match s {
         Statement::Program(_) => Role::Program,
         Statement::ImplicitNone | Statement::Integer(_) | Statement::Parameter(_) => {
-            Role::Declaration(false)
+            Role::Declaration
         }
         Statement::Action(a) => whole_role(a),
         Statement::IfOne { action, .. } => action_role(action),
@@ -84,7 +84,7 @@ fn directive_role(d: &DirectiveLine) -> Role
         DirectiveLine::Mapping(m) => mapping_role(m),
         DirectiveLine::Redistribute(_) => Role::Redistribute,
         DirectiveLine::Independent { new, reduction } => {
-            Role::Independent(has_names(new) || has_names(reduction))
+            Role::Independent(clauses(new, reduction))
         }
     }
 }
@@ -99,7 +99,7 @@ fn mapping_role(d: &Directive) -> Role
         | Directive::Template(_)
         | Directive::Dynamic(_)
         | Directive::Distribute(_)
-        | Directive::Align(_) => Role::Declaration(true),
+        | Directive::Align(_) => Role::SpecificationDirective,
     }
 }
 
@@ -108,4 +108,15 @@ fn has_names(names: &Names) -> bool
     ensures { result ≡ is_some (names_in names.now) }
 {
     !names.as_slice().is_empty()
+}
+
+/// Whether INDEPENDENT with these lists has a clause.
+fn clauses(new: &Names, reduction: &Names) -> Clauses
+    ensures { result ≡ clauses_of (is_some (names_in new.now) || is_some (names_in reduction.now)) }
+{
+    if has_names(new) || has_names(reduction) {
+        Clauses::Given
+    } else {
+        Clauses::Absent
+    }
 }

@@ -1,24 +1,18 @@
 //! The rules of constructs, declarations and directives, for one line.
 
 ghost use Rattle.std.specs.Prelude.{◌≡◌, false};
-ghost use Rattle.nest_rules.specs.Breaches.{comes_late, declaration_comes, fits_mask, is_mask_in_mask, is_misdirected, is_misplaced, is_too_deep, leaves_nothing, misses, roles, takes_mark};
+ghost use Rattle.nest_rules.specs.Rules.{comes_late, declaration_comes, fits_where_or_forall, nests_where_or_forall, is_misdirected, is_misplaced, is_too_deep, leaves_nothing, closes_wrongly, is_independent_target};
 ghost use Rattle.nest_rules.specs.Found.{least_reason};
-ghost use Rattle.nest_rules.specs.Lines.{lines_of};
-ghost use Rattle.nest_rules.specs.Seen.{is_statement};
+ghost use Rattle.nest_rules.specs.NestState.{is_statement};
 
-use crate::line::Line;
-use crate::opens::{Opens, is_mask};
-use crate::role::{Construct, Role};
-use crate::roles::role_of;
-use crate::seen::{Seen, is_passed};
-use hpf_base::Reason;
-
-/// The greatest nesting.
-const MAX_NESTING: usize = 64;
+use crate::nest_state::{NestState, is_passed};
+use crate::open_constructs::{Opens, is_where_or_forall};
+use crate::role::{Clauses, Construct, Role};
+use hpf_base::{MAX_NESTING, Reason};
 
 /// An END part that doesn't close the innermost open construct, or an ELSE part out of place.
-fn misses(opens: &Opens, role: Role) -> bool
-    ensures { result ≡ misses opens.now role }
+fn closes_wrongly(opens: &Opens, role: Role) -> bool
+    ensures { result ≡ closes_wrongly opens.now role }
 {
     match role {
         Role::Closes(c) => !opens.is_innermost(c),
@@ -37,22 +31,22 @@ fn leaves_nothing(opens: &Opens, role: Role) -> bool
 }
 
 /// A PROGRAM statement before which something stands, or after a statement a declaration that is no directive.
-fn comes_late(seen: &Seen, role: Role) -> bool
-    ensures { result ≡ comes_late seen.now role }
+fn comes_late(state: &NestState, role: Role) -> bool
+    ensures { result ≡ comes_late state.now role }
 {
     match role {
-        Role::Program => seen.begun,
-        Role::Declaration(false) => seen.stated,
+        Role::Program => state.begun,
+        Role::Declaration => state.stated,
         _ => false,
     }
 }
 
-/// It may stand inside WHERE and FORALL, as far as these rules go.
-fn fits_mask(role: Role) -> bool
-    ensures { result ≡ fits_mask role }
+/// It may stand inside a WHERE or FORALL construct, as far as these rules go.
+fn fits_where_or_forall(role: Role) -> bool
+    ensures { result ≡ fits_where_or_forall role }
 {
     match role {
-        Role::Opens(c) => is_mask(c),
+        Role::Opens(c) => is_where_or_forall(c),
         Role::Assign
         | Role::One(_)
         | Role::ElseIf
@@ -62,7 +56,8 @@ fn fits_mask(role: Role) -> bool
         | Role::Passed
         | Role::End => true,
         Role::Program
-        | Role::Declaration(_)
+        | Role::Declaration
+        | Role::SpecificationDirective
         | Role::Redistribute
         | Role::Independent(_)
         | Role::Jump
@@ -71,42 +66,45 @@ fn fits_mask(role: Role) -> bool
 }
 
 /// It is out of its place in the nest.
-fn is_misplaced(seen: &Seen, role: Role) -> bool
-    ensures { result ≡ is_misplaced seen.now role }
+fn is_misplaced(state: &NestState, role: Role) -> bool
+    ensures { result ≡ is_misplaced state.now role }
 {
-    misses(&seen.opens, role)
-        || leaves_nothing(&seen.opens, role)
-        || comes_late(seen, role)
-        || seen.opens.in_mask() && !fits_mask(role)
-        || seen.ended && !is_passed(role)
+    closes_wrongly(&state.opens, role)
+        || leaves_nothing(&state.opens, role)
+        || comes_late(state, role)
+        || state.opens.in_where_or_forall() && !fits_where_or_forall(role)
+        || state.ended && !is_passed(role)
 }
 
-/// FORALL or WHERE inside a FORALL or WHERE construct.
-fn is_mask_in_mask(opens: &Opens, role: Role) -> bool
-    ensures { result ≡ is_mask_in_mask opens.now role }
+/// WHERE or FORALL inside a WHERE or FORALL construct.
+fn nests_where_or_forall(opens: &Opens, role: Role) -> bool
+    ensures { result ≡ nests_where_or_forall opens.now role }
 {
     match role {
-        Role::Opens(c) | Role::One(c) => is_mask(c) && opens.in_mask(),
+        Role::Opens(c) | Role::One(c) => is_where_or_forall(c) && opens.in_where_or_forall(),
         _ => false,
     }
 }
 
-/// Nesting above 64.
+/// It opens one construct more than may be open at one place.
 fn is_too_deep(opens: &Opens, role: Role) -> bool
     ensures { result ≡ is_too_deep opens.now role }
 {
     matches!(role, Role::Opens(_)) && opens.depth() >= MAX_NESTING
 }
 
-/// The first of these lines that isn't passed over is a DO or, where INDEPENDENT has no lists, a FORALL.
-fn takes_mark(lists: bool, behind: &[Line]) -> bool
-    ensures { result ≡ takes_mark lists (roles (lines_of behind.now)) }
+/// The first of these lines that isn't passed over is what an INDEPENDENT with or without clauses may stand before: a DO
+/// or, without clauses, a FORALL.
+fn is_independent_target(clauses: Clauses, behind: &[Role]) -> bool
+    ensures { result ≡ is_independent_target clauses behind.now }
 {
-    for line in behind {
-        match role_of(&line.what) {
+    for role in behind {
+        match *role {
             Role::Passed => {}
             Role::Opens(Construct::Do) => return true,
-            Role::Opens(Construct::Forall) | Role::One(Construct::Forall) => return !lists,
+            Role::Opens(Construct::Forall) | Role::One(Construct::Forall) => {
+                return matches!(clauses, Clauses::Absent);
+            }
             _ => return false,
         }
     }
@@ -115,35 +113,37 @@ fn takes_mark(lists: bool, behind: &[Line]) -> bool
 
 /// A directive that stands where it may not; `declares` says, before the first statement, whether a declaration comes
 /// behind it.
-fn is_misdirected(seen: &Seen, role: Role, declares: bool, behind: &[Line]) -> bool
-    requires { is_statement role ≡ false → seen.now.stated ≡ false → declares ≡ declaration_comes (roles (lines_of behind.now)) }
-    ensures { result ≡ is_misdirected seen.now role (roles (lines_of behind.now)) }
+fn is_misdirected(state: &NestState, role: Role, declares: bool, behind: &[Role]) -> bool
+    requires { is_statement role ≡ false → state.now.stated ≡ false → declares ≡ declaration_comes behind.now }
+    ensures { result ≡ is_misdirected state.now role behind.now }
 {
     match role {
-        Role::Declaration(true) => seen.stated,
-        Role::Redistribute => !seen.stated && declares,
-        Role::Independent(lists) => !seen.stated && declares || !takes_mark(lists, behind),
+        Role::SpecificationDirective => state.stated,
+        Role::Redistribute => !state.stated && declares,
+        Role::Independent(clauses) => {
+            !state.stated && declares || !is_independent_target(clauses, behind)
+        }
         _ => false,
     }
 }
 
 /// The least reason for which a line may not stand where it stands; `declares` as above.
 pub(crate) fn least_reason(
-    seen: &Seen,
+    state: &NestState,
     role: Role,
     declares: bool,
-    behind: &[Line],
+    behind: &[Role],
 ) -> Option<Reason>
-    requires { is_statement role ≡ false → seen.now.stated ≡ false → declares ≡ declaration_comes (roles (lines_of behind.now)) }
-    ensures { result ≡ least_reason seen.now role (roles (lines_of behind.now)) }
+    requires { is_statement role ≡ false → state.now.stated ≡ false → declares ≡ declaration_comes behind.now }
+    ensures { result ≡ least_reason state.now role behind.now }
 {
-    if is_misplaced(seen, role) {
+    if is_misplaced(state, role) {
         Some(Reason::BadNest)
-    } else if is_misdirected(seen, role, declares, behind) {
+    } else if is_misdirected(state, role, declares, behind) {
         Some(Reason::BadDirective)
-    } else if is_too_deep(&seen.opens, role) {
+    } else if is_too_deep(&state.opens, role) {
         Some(Reason::Limit)
-    } else if is_mask_in_mask(&seen.opens, role) {
+    } else if nests_where_or_forall(&state.opens, role) {
         Some(Reason::LeftOut)
     } else {
         None

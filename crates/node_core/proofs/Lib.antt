@@ -1,4 +1,4 @@
 pub mod PhaseSteps
-pub mod Places
+pub mod Indices
 pub mod Rounds
 pub mod Stepping

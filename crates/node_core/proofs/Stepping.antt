@@ -4,27 +4,28 @@ use Rattle.std.specs.List.{slice_get}
 use Rattle.std.proofs.lemmas.Option.{slice_get_read}
 use Rattle.std.proofs.lemmas.List.{get_or_default}
 use Rattle.std.proofs.lemmas.Bool.{eqb-false}
-use Rattle.hpf_base.specs.declared.act.Act.{Act}
-use Rattle.hpf_base.specs.declared.act.Act.TheVariants.{Local, Send, Take, Done}
+use Rattle.node_law.specs.declared.act.Act.{Act}
+use Rattle.node_law.specs.declared.act.Act.TheVariants.{Local, Send, Take, Done}
 use Rattle.hpf_base.specs.declared.node.NodeId.{NodeId}
-use Rattle.hpf_base.specs.declared.stepped.Stepped.{Stepped}
-use Rattle.hpf_base.specs.declared.stepped.Stepped.TheVariants.{Moved, NotReady, Ended}
+use Rattle.node_law.specs.declared.stepped.Stepped.{Stepped}
+use Rattle.node_law.specs.declared.stepped.Stepped.TheVariants.{Moved, NotReady, Ended}
 use Rattle.std.proofs.Common.{suc, true, is_some, IsSome, Result, Ok, Err, IfOk, OnErr}
-use Rattle.hpf_base.specs.NodeSteps.{NodeSteps, Move}
-use Rattle.hpf_base.specs.Cores.{capacity, CoreState, core_step, core_move}
-use Rattle.hpf_base.specs.Reached.{IsStep, ActsAt, IsReached, MovesLeft, answer_by, unmoved, IsWaiting}
-use Rattle.node_core.specs.CoreLists.{CoreLists, CoreData, core_of, IsCore}
+use Rattle.node_law.specs.NodeSteps.{NodeSteps, Move}
+use Rattle.node_law.specs.Cores.{capacity, CoreState, core_step, core_move}
+use Rattle.node_law.specs.Reached.{IsStep, ActsAt, IsReached, MovesLeft, answer_by, unmoved, IsWaiting}
+use Rattle.node_core.specs.CoreLists.{CoreLists, core_of, IsCore}
+use Rattle.node_core.specs.CoreView.{CoreView, state}
 use Rattle.node_law.proofs.OneMovesLeft.{left-is}
 use Rattle.node_law.proofs.StepAnswers.{not_ready-waits, ended-done}
 use Rattle.node_law.proofs.MovesLeft.{step-left, reached-step}
 use Rattle.std.proofs.Common.{Bool, not, nat_lt, ◌↔◌}
 use Rattle.std.proofs.lemmas.Bool.{lt-ltb, le-ltb}
-use Rattle.node_core.proofs.Places.{local-enabled, done-enabled, send-enabled, take-enabled, StepTo, local-step, send-step, take-step, send-waits, take-waits, done-step, target-place, source-place, awaited-place}
+use Rattle.node_core.proofs.Indices.{local-enabled, done-enabled, send-enabled, take-enabled, StepTo, local-step, send-step, take-step, send-waits, take-waits, done-step, target-index, source-index, awaited-index}
 
--- K is the core's fields and self its value; a is the node p, read there
-module _ {N M : Type 0} {S : NodeSteps N M} {K self : CoreLists N M} (ok : IsCore S K) (v : K ≡ self) (p : ℕ) (req : p < length self.nodes) where
+-- K is the core's fields and self the core; a is the node p, read there
+module _ {N M : Type 0} {S : NodeSteps N M} {K : CoreLists N M} {self : CoreState N M} (ok : IsCore S K) (v : core_of K ≡ self) (p : ℕ) (req : p < length self.nodes) where
   pub in-nodes : p < length K.nodes
-  in-nodes = rw v req
+  in-nodes = subst (λ (c : CoreState N M). p < length c.nodes) (sym v) req
 
   pub is-node : (a : N) → a ≡ get_or K.nodes p a → slice_get K.nodes p ≡ Some a
   is-node a at = slice_get_read K.nodes (length K.nodes) p a refl in-nodes at
@@ -40,10 +41,10 @@ module _ {N M : Type 0} {S : NodeSteps N M} {K self : CoreLists N M} (ok : IsCor
     acts act e = (a, rw (← v) (is-node a at), e)
 
     pub target-fits : (n : ℕ) (q : NodeId) → n ≡ length K.nodes → S.act a ≡ Send q → p * n + q.0 < length K.queues
-    target-fits n q e act = rw e (target-place S K ok p a (is-node a at) q act)
+    target-fits n q e act = rw e (target-index S K ok p a (is-node a at) q act)
 
     pub source-fits : (n : ℕ) (q : NodeId) → n ≡ length K.nodes → S.act a ≡ Take q → q.0 * n + p < length K.queues
-    source-fits n q e act = rw e (source-place S K ok p a (is-node a at) q act)
+    source-fits n q e act = rw e (source-index S K ok p a (is-node a at) q act)
 
     pub local-done : (b d : N) → S.act a ≡ Local → b ≡ get_or K.nodes p b → d ≡ S.after_local b → StepTo S K ok p a (is-node a at) Moved (record { nodes = set K.nodes p d; queues = K.queues })
     local-done b d act hb e = local-step S K ok p a (is-node a at) d act (e ∙ ap S.after_local (same-node b a hb at))
@@ -64,14 +65,14 @@ module _ {N M : Type 0} {S : NodeSteps N M} {K self : CoreLists N M} (ok : IsCor
     pub take-awaited : (n : ℕ) (q : NodeId) (b : N) (l letters : List M) (m : M) → n ≡ length K.nodes → S.act a ≡ Take q → b ≡ get_or K.nodes p b → l ≡ get_or K.queues (q.0 * n + p) l → l ≡ m ∷ letters → IsTrue (S.awaits b m)
     take-awaited n q b l letters m en act hb hl el =
         let w : get_or K.queues (q.0 * length K.nodes + p) [] ≡ l = letters-at (q.0 * length K.nodes + p) l (source-fits (length K.nodes) q refl act) (rw en at hl) in
-        rw (same-node b a hb at) (awaited-place S K ok p a (is-node a at) q m letters act (w ∙ el))
+        rw (same-node b a hb at) (awaited-index S K ok p a (is-node a at) q m letters act (w ∙ el))
 
-    pub send-full : (n : ℕ) (q : NodeId) (l : List M) → n ≡ length K.nodes → S.act a ≡ Send q → l ≡ get_or K.queues (p * n + q.0) l → length l ≡ capacity → IsStep S (core_of self) p NotReady (core_of self)
+    pub send-full : (n : ℕ) (q : NodeId) (l : List M) → n ≡ length K.nodes → S.act a ≡ Send q → l ≡ get_or K.queues (p * n + q.0) l → length l ≡ capacity → IsStep S self p NotReady self
     send-full n q l en act hl full =
         let w : get_or K.queues (p * length K.nodes + q.0) [] ≡ l = letters-at (p * length K.nodes + q.0) l (target-fits (length K.nodes) q refl act) (rw en at hl) in
         rw (← v) (send-waits S K ok p a (is-node a at) q act (ap length w ∙ full))
 
-    pub take-empty : (n : ℕ) (q : NodeId) (l : List M) → n ≡ length K.nodes → S.act a ≡ Take q → l ≡ get_or K.queues (q.0 * n + p) l → length l ≡ 0 → IsStep S (core_of self) p NotReady (core_of self)
+    pub take-empty : (n : ℕ) (q : NodeId) (l : List M) → n ≡ length K.nodes → S.act a ≡ Take q → l ≡ get_or K.queues (q.0 * n + p) l → length l ≡ 0 → IsStep S self p NotReady self
     take-empty n q l en act hl none =
         let w : get_or K.queues (q.0 * length K.nodes + p) [] ≡ l = letters-at (q.0 * length K.nodes + p) l (source-fits (length K.nodes) q refl act) (rw en at hl) in
         rw (← v) (take-waits S K ok p a (is-node a at) q act (ap length w ∙ none))
@@ -88,13 +89,13 @@ module _ {N M : Type 0} {S : NodeSteps N M} {K self : CoreLists N M} (ok : IsCor
         rw (← e) (let d : length l ≢ 0 = eqb-false (length l) 0 some in omega arith)
 
     -- whether the node can move, as tests of the code
-    pub local-can : S.act a ≡ Local → is_some (core_move S (core_of self) p) ≡ true
+    pub local-can : S.act a ≡ Local → is_some (core_move S self p) ≡ true
     local-can act = rw (← v) (local-enabled S K ok p a (is-node a at) act)
 
-    pub done-can : S.act a ≡ Done → is_some (core_move S (core_of self) p) ≡ false
+    pub done-can : S.act a ≡ Done → is_some (core_move S self p) ≡ false
     done-can act = rw (← v) (done-enabled S K ok p a (is-node a at) act)
 
-    pub send-can : (n : ℕ) (q : NodeId) (l : List M) (full : Bool) → n ≡ length K.nodes → S.act a ≡ Send q → l ≡ get_or K.queues (p * n + q.0) l → (IsTrue full → length l ≡ capacity) → (full ≡ false → length l < capacity) → is_some (core_move S (core_of self) p) ≡ not full
+    pub send-can : (n : ℕ) (q : NodeId) (l : List M) (full : Bool) → n ≡ length K.nodes → S.act a ≡ Send q → l ≡ get_or K.queues (p * n + q.0) l → (IsTrue full → length l ≡ capacity) → (full ≡ false → length l < capacity) → is_some (core_move S self p) ≡ not full
     send-can n q l full en act hl full_is room_is =
         let w : get_or K.queues (p * length K.nodes + q.0) [] ≡ l = letters-at (p * length K.nodes + q.0) l (target-fits (length K.nodes) q refl act) (rw en at hl) in
         rw (← v) (send-enabled S K ok p a (is-node a at) q (not full) act (ap (λ (x : List M). nat_lt (length x) capacity) w ∙ go full full_is room_is))
@@ -103,16 +104,16 @@ module _ {N M : Type 0} {S : NodeSteps N M} {K self : CoreLists N M} (ok : IsCor
         go true full_is room_is = le-ltb (length l) capacity (let e : length l ≡ capacity = full_is refl in omega arith)
         go false full_is room_is = lt-ltb (length l) capacity (room_is refl)
 
-    pub take-can : (n : ℕ) (q : NodeId) (l : List M) (empty : Bool) → n ≡ length K.nodes → S.act a ≡ Take q → l ≡ get_or K.queues (q.0 * n + p) l → empty ≡ (length l == 0) → is_some (core_move S (core_of self) p) ≡ not empty
+    pub take-can : (n : ℕ) (q : NodeId) (l : List M) (empty : Bool) → n ≡ length K.nodes → S.act a ≡ Take q → l ≡ get_or K.queues (q.0 * n + p) l → empty ≡ (length l == 0) → is_some (core_move S self p) ≡ not empty
     take-can n q l empty en act hl e =
         let w : get_or K.queues (q.0 * length K.nodes + p) [] ≡ l = letters-at (q.0 * length K.nodes + p) l (source-fits (length K.nodes) q refl act) (rw en at hl) in
         rw (← v) (take-enabled S K ok p a (is-node a at) q l empty act w (sym e))
 
-    pub done-ends : S.act a ≡ Done → IsStep S (core_of self) p Ended (core_of self)
+    pub done-ends : S.act a ≡ Done → IsStep S self p Ended self
     done-ends act = rw (← v) (done-step S K ok p a (is-node a at) act)
 
     -- what such a step is from the core's value
-    pub from-value : (stepped : Stepped) (d : CoreLists N M) → StepTo S K ok p a (is-node a at) stepped d → IsStep S (core_of self) p stepped (core_of d)
+    pub from-value : (stepped : Stepped) (d : CoreLists N M) → StepTo S K ok p a (is-node a at) stepped d → IsStep S self p stepped (core_of d)
     from-value stepped d h = rw (← v) h.step
 
 -- what a step does to the number of moves left
@@ -137,49 +138,49 @@ module _ {N M : Type 0} (S : NodeSteps N M) where
   pub left-moved : (c d : CoreState N M) (p : ℕ) (l : MovesLeft S c) (k : MovesLeft S d) → IsReached S c → IsStep S c p Moved d → suc k.0 ≡ l.0
   left-moved c d p l k w step =
       let u : IsReached S (core_step S c p) = reached-step S c p w in
-      let v : IsReached S d = record { from = u.from; run = u.run; choices = u.choices; is = step.after ∙ u.is } in
+      let v : IsReached S d = record { from = u.from; run = u.run; choices = u.choices; is = step.leads ∙ u.is } in
       ap suc (left-is S d k v) ∙ sym (step-left S c w p (moved-enabled (slice_get c.nodes p) (core_move S c p) step.answers)) ∙ sym (left-is S c l w)
 
-  -- the answers in the words of the clauses: K is the core's fields before, D after, and old is its lists before
-  module _ (K D old : CoreLists N M) (v : K ≡ old) (w : IsReached S (core_of K)) where
+  -- the answers in the words of the clauses: K is the core's fields before, D after, and old the core before
+  module _ (K D : CoreLists N M) (old : CoreState N M) (v : core_of K ≡ old) (w : IsReached S (core_of K)) where
     here : (p : ℕ) → p < length old.nodes → p < length K.nodes
-    here p lt = subst (λ (x : CoreLists N M). p < length x.nodes) (sym v) lt
+    here p lt = subst (λ (x : CoreState N M). p < length x.nodes) (sym v) lt
 
-    pub not_ready-clause : {E : Type 0} → (p : ℕ) (r : Result Stepped E) → p < length old.nodes → IfOk r (λ stepped. IsStep S (core_of K) p stepped (core_of D)) → IfOk r (λ stepped. stepped ≡ NotReady ↔ IsWaiting S (core_of old) p)
+    pub not_ready-clause : {E : Type 0} → (p : ℕ) (r : Result Stepped E) → p < length old.nodes → IfOk r (λ stepped. IsStep S (core_of K) p stepped (core_of D)) → IfOk r (λ stepped. stepped ≡ NotReady ↔ IsWaiting S old p)
     not_ready-clause p (Ok stepped) lt step =
-        subst (λ (x : CoreLists N M). stepped ≡ NotReady ↔ IsWaiting S (core_of x) p) v (not_ready-waits S (core_of K) p stepped (core_of D) w (here p lt) step)
+        subst (λ (x : CoreState N M). stepped ≡ NotReady ↔ IsWaiting S x p) v (not_ready-waits S (core_of K) p stepped (core_of D) w (here p lt) step)
     not_ready-clause p (Err e) lt step = tt
 
     pub ended-clause : {E : Type 0} → (p : ℕ) (r : Result Stepped E) → p < length old.nodes → IfOk r (λ stepped. IsStep S (core_of K) p stepped (core_of D)) → IfOk r (λ stepped. stepped ≡ Ended ↔ ActsAt S old.nodes p Done)
     ended-clause p (Ok stepped) lt step =
-        subst (λ (x : CoreLists N M). stepped ≡ Ended ↔ ActsAt S x.nodes p Done) v (ended-done S (core_of K) p stepped (core_of D) (here p lt) step)
+        subst (λ (x : CoreState N M). stepped ≡ Ended ↔ ActsAt S x.nodes p Done) v (ended-done S (core_of K) p stepped (core_of D) (here p lt) step)
     ended-clause p (Err e) lt step = tt
 
   -- the moves left in the words of the clauses: old is the core's value before
-  module _ (K D : CoreLists N M) (l : MovesLeft S (core_of K)) (k : MovesLeft S (core_of D)) (old : CoreData N M) (v : (let x : CoreData N M = record { lists = K; left = l.0 } in x ≡ old)) (w : IsReached S (core_of K)) where
+  module _ (K D : CoreLists N M) (l : MovesLeft S (core_of K)) (k : MovesLeft S (core_of D)) (old : CoreView N M) (v : (let x : CoreView N M = record { lists = K; left = l.0 } in x ≡ old)) (w : IsReached S (core_of K)) where
     pub left-clause : {E : Type 0} → (p : ℕ) (r : Result Stepped E) → IfOk r (λ stepped. IsStep S (core_of K) p stepped (core_of D)) → IfOk r (λ stepped. stepped ≡ Moved → suc k.0 ≡ old.left)
     left-clause p (Ok stepped) step = λ e.
         let s : IsStep S (core_of K) p Moved (core_of D) = subst (λ (t : Stepped). IsStep S (core_of K) p t (core_of D)) e step in
-        left-moved (core_of K) (core_of D) p l k w s ∙ ap (λ (x : CoreData N M). x.left) v
+        left-moved (core_of K) (core_of D) p l k w s ∙ ap (λ (x : CoreView N M). x.left) v
     left-clause p (Err e) step = tt
 
-    kept-value : D ≡ K → (let x : CoreData N M = record { lists = D; left = k.0 } in x ≡ old)
+    kept-value : D ≡ K → (let x : CoreView N M = record { lists = D; left = k.0 } in x ≡ old)
     kept-value e =
         same D K k.0 l.0 e (left-kept (core_of K) (core_of D) l k w (ap core_of e)) ∙ v
       where
-        same : (a b : CoreLists N M) (m n : ℕ) → a ≡ b → m ≡ n → (let x : CoreData N M = record { lists = a; left = m } in let y : CoreData N M = record { lists = b; left = n } in x ≡ y)
-        same a b m n h g = ap (λ (t : CoreLists N M). let x : CoreData N M = record { lists = t; left = m } in x) h ∙ ap (λ (t : ℕ). let x : CoreData N M = record { lists = b; left = t } in x) g
+        same : (a b : CoreLists N M) (m n : ℕ) → a ≡ b → m ≡ n → (let x : CoreView N M = record { lists = a; left = m } in let y : CoreView N M = record { lists = b; left = n } in x ≡ y)
+        same a b m n h g = ap (λ (t : CoreLists N M). let x : CoreView N M = record { lists = t; left = m } in x) h ∙ ap (λ (t : ℕ). let x : CoreView N M = record { lists = b; left = t } in x) g
 
-    pub stays-clause : {E : Type 0} → (r : Result Stepped E) → IfOk r (λ stepped. stepped ≢ Moved → D ≡ K) → IfOk r (λ stepped. stepped ≢ Moved → (let x : CoreData N M = record { lists = D; left = k.0 } in x ≡ old))
+    pub stays-clause : {E : Type 0} → (r : Result Stepped E) → IfOk r (λ stepped. stepped ≢ Moved → D ≡ K) → IfOk r (λ stepped. stepped ≢ Moved → (let x : CoreView N M = record { lists = D; left = k.0 } in x ≡ old))
     stays-clause (Ok stepped) h = λ d. kept-value (h d)
     stays-clause (Err e) h = tt
 
-    pub same-clause : {E : Type 0} → (r : Result Stepped E) → OnErr r (D ≡ K) → OnErr r (let x : CoreData N M = record { lists = D; left = k.0 } in x ≡ old)
+    pub same-clause : {E : Type 0} → (r : Result Stepped E) → OnErr r (D ≡ K) → OnErr r (let x : CoreView N M = record { lists = D; left = k.0 } in x ≡ old)
     same-clause (Ok stepped) h = tt
     same-clause (Err e) h = kept-value h
 
-pub lists-of : {N M : Type 0} (x y : CoreData N M) → x ≡ y → x.lists ≡ y.lists
-lists-of x y e = ap (λ z. z.lists) e
+pub state-of : {N M : Type 0} (x y : CoreView N M) → x ≡ y → state x ≡ state y
+state-of x y e = ap state e
 
 pub same-test : (b t : Bool) → t ≡ b → IsTrue b ↔ (t ≡ true)
 same-test b t e = (λ h. e ∙ h, λ h. sym e ∙ h)

@@ -1,9 +1,8 @@
 -- Cores as their fields hold them: lists of nodes and of queues.
-use Rattle.std.specs.Prelude.{◌≡◌, ℕ, ◌+◌, ◌*◌, ◌<◌, ◌^◌, List, [], length, take, slice_index_or, if◌then◌else◌, nat_lt}
-use Rattle.hpf_base.specs.declared.act.Act.TheVariants.{Local}
-use Rattle.hpf_base.specs.NodeSteps.{NodeSteps}
-use Rattle.hpf_base.specs.Cores.{CoreState, core_run}
-use Rattle.hpf_base.specs.Reached.{IsReached, ActsAt}
+use Rattle.std.specs.Prelude.{◌≡◌, ℕ, ◌+◌, ◌*◌, ◌<◌, ◌^◌, List, [], length, slice_index_or, if◌then◌else◌, nat_lt}
+use Rattle.node_law.specs.NodeSteps.{NodeSteps}
+use Rattle.node_law.specs.Cores.{CoreState}
+use Rattle.node_law.specs.Reached.{IsReached}
 
 -- the queue from p to q, where the queues of all pairs of n nodes stand one source after another
 abbrev pub pair_queue : {M : Type 0} → ℕ → List (List M) → ℕ → ℕ → List M
@@ -21,18 +20,8 @@ lists ns qs = record { nodes = ns; queues = qs }
 abbrev pub core_of : {N M : Type 0} → CoreLists N M → CoreState N M
 core_of c = record { nodes = c.nodes; queue = pair_queue (length c.nodes) c.queues }
 
-module _ {N M : Type 0} (S : NodeSteps N M) where
-  -- from old, the first of the choices lead to new, and there the next one is a local step
-  abbrev pub StopsAt : CoreLists N M → List ℕ → CoreLists N M → Type 0
-  StopsAt old choices new = (k : ℕ) × (k < length choices) × (core_of new ≡ core_run S (core_of old) (take k choices)) × ActsAt S new.nodes (slice_index_or choices k 0) Local
-
-  -- what is true of each core: there is a queue for each pair, node numbers fit, and phased nodes reach it
-  pub record IsCore (c : CoreLists N M) : Type 0 where
-    pub pairs : length c.queues ≡ length c.nodes * length c.nodes
-    pub few : length c.nodes < 2 ^ 32
-    pub reached : IsReached S (core_of c)
-
--- a core as contracts see it: its lists, and how many moves of the lockstep run are left
-pub record CoreData (N M : Type 0) : Type 0 where
-  pub lists : CoreLists N M
-  pub left : ℕ
+-- what is true of each core: there is a queue for each pair, node numbers fit, and phased nodes reach it
+pub record IsCore {N M : Type 0} (S : NodeSteps N M) (c : CoreLists N M) : Type 0 where
+  pub pairs : length c.queues ≡ length c.nodes * length c.nodes
+  pub few : length c.nodes < 2 ^ 32
+  pub reached : IsReached S (core_of c)

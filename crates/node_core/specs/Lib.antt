@@ -1,2 +1,3 @@
 pub mod CoreLists
+pub mod CoreView
 pub mod Stage

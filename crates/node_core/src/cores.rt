@@ -3,13 +3,13 @@
 ghost use Rattle.std.specs.Prelude.{◌≡◌, ◌↔◌, map, ◌≢◌, suc, ◌<◌, ◌≤◌, ◌*◌, ◌+◌, ◌^◌, List, length, slice_get, slice_set, IfOk, IfSome, OnErr, OnOk, IsTrue, Some, None, ℕ};
 ghost use Rattle.std.specs.List.{All};
 ghost use Rattle.hpf_base.specs.declared.node.NodeId.{NodeId};
-ghost use Rattle.hpf_base.specs.Cores.{start, core_run, IsEnabled, IsFinished};
-ghost use Rattle.hpf_base.specs.Phases.{Lockstep};
-ghost use Rattle.hpf_base.specs.Reached.{RunsTo, EndsInLockstep, IsStep, IsWaiting, ActsAt, MovesLeft};
-ghost use Rattle.node_core.specs.CoreLists.{StopsAt, CoreLists, lists, CoreData, core_of, IsCore};
-ghost use Rattle.node_core.specs.Stage.{IsInStage, CanStep, IsReady, WantsLocal};
-ghost use Rattle.node_law.proofs.Passing.{UnfinishedAt, IsChosen};
-ghost use Rattle.node_law.proofs.UnderWay.{IsNext};
+ghost use Rattle.node_law.specs.Cores.{start, core_run, IsEnabled, IsFinished};
+ghost use Rattle.node_law.specs.NextPhase.{UnfinishedAt, IsEarlierNumber, IsNextPhase};
+ghost use Rattle.node_law.specs.Phases.{Lockstep};
+ghost use Rattle.node_law.specs.Reached.{RunsTo, EndsInLockstep, IsStep, IsWaiting, ActsAt, MovesLeft};
+ghost use Rattle.node_core.specs.CoreLists.{CoreLists, lists, core_of, IsCore};
+ghost use Rattle.node_core.specs.CoreView.{CoreView, state, StopsAt, WantsLocal, IsReady};
+ghost use Rattle.node_core.specs.Stage.{IsInStage, CanStep};
 ghost use Rattle.node_law.proofs.OneMovesLeft.{left-prop};
 
 use crate::queue::Queue;
@@ -26,15 +26,15 @@ use std::marker::Model;
 pub struct Core<N: PhasedNode> {
     nodes: Vec<N>,
     queues: Vec<Queue<N::Mail>>,
-    ghost left: { MovesLeft N.steps (core_of (record { nodes = nodes.items; queues = queues.items })) } by { left-prop N.steps (core_of (record { nodes = nodes.items; queues = queues.items })) },
+    ghost left: { MovesLeft N.steps (core_of (lists nodes.items queues.items)) } by { left-prop N.steps (core_of (lists nodes.items queues.items)) },
 }
 
 impl<N: PhasedNode> Model for Core<N> {
-    ghost Value = { CoreData N N.Mail };
+    ghost Value = { CoreView N N.Mail };
 
-    ghost view = { λ c. record { lists = record { nodes = c.nodes.items; queues = c.queues.items }; left = c.left.0 } };
+    ghost view = { λ c. record { lists = lists c.nodes.items c.queues.items; left = c.left.0 } };
 
-    ghost invariant = { λ c. IsCore N.steps (record { nodes = c.nodes.items; queues = c.queues.items }) };
+    ghost invariant = { λ c. IsCore N.steps (lists c.nodes.items c.queues.items) };
 }
 
 // One core step of the node, on the fields of a core.
@@ -45,35 +45,36 @@ fn step_in<N: PhasedNode>(
 ) -> Result<Stepped, OutOfMemory>
     requires core { IsCore N.steps (lists nodes.old.items queues.old.items) }
     requires there { node.0 < length nodes.old.items }
-    ensures step { IfOk result (λ stepped. IsStep N.steps (core_of (lists nodes.old.items queues.old.items)) node.0 stepped (core_of (lists nodes.new.items queues.new.items))) }
+    ensures step { IfOk result (λ stepped. IsStep N.steps (core_of (lists nodes.old.items queues.old.items)) node.0 stepped
+        (core_of (lists nodes.new.items queues.new.items))) }
     ensures core { IsCore N.steps (lists nodes.new.items queues.new.items) }
     ensures stays { IfOk result (λ stepped. stepped ≢ Stepped.Moved → lists nodes.new.items queues.new.items ≡ lists nodes.old.items queues.old.items) }
     ensures same { OnErr result (lists nodes.new.items queues.new.items ≡ lists nodes.old.items queues.old.items) }
     ensures wants { OnErr result (ActsAt N.steps nodes.old.items node.0 Act.Local) }
     ensures count { length nodes.new.items ≡ length nodes.old.items }
 {
-    let place = node.0 as usize;
-    match nodes[place].next_act() {
+    let index = node.0 as usize;
+    match nodes[index].next_act() {
         Act::Local => {
-            nodes[place].local()?;
+            nodes[index].local()?;
             Ok(Stepped::Moved)
         }
         Act::Send(target) => {
-            let pair = place * nodes.len() + target.0 as usize;
+            let pair = index * nodes.len() + target.0 as usize;
             if queues[pair].is_full() {
                 return Ok(Stepped::NotReady);
             }
-            let letter = nodes[place].send();
+            let letter = nodes[index].send();
             queues[pair].push(letter);
             Ok(Stepped::Moved)
         }
         Act::Take(source) => {
-            let pair = source.0 as usize * nodes.len() + place;
+            let pair = source.0 as usize * nodes.len() + index;
             if queues[pair].is_empty() {
                 return Ok(Stepped::NotReady);
             }
             let letter = queues[pair].pop();
-            nodes[place].take(letter);
+            nodes[index].take(letter);
             Ok(Stepped::Moved)
         }
         Act::Done => Ok(Stepped::Ended),
@@ -100,7 +101,7 @@ impl<N: PhasedNode> Core<N> {
     pub fn new(alloc: Global, nodes: Vec<N>) -> Result<Core<N>, OutOfMemory>
         requires phased { Lockstep N.steps (slice_get nodes.items) }
         requires few { length nodes.items < 2 ^ 32 }
-        ensures start { IfOk result (λ core. core_of core.lists ≡ start nodes.items) }
+        ensures start { IfOk result (λ core. state core ≡ start nodes.items) }
         ensures ready { IfOk result (λ core. IsReady N.steps core) }
     {
         let count = nodes.len();
@@ -123,8 +124,8 @@ impl<N: PhasedNode> Core<N> {
     /// comes only from a local step, and changes nothing.
     pub fn step(&mut self, node: NodeId) -> Result<Stepped, OutOfMemory>
         requires { node.0 < length self.old.lists.nodes }
-        ensures step { IfOk result (λ stepped. IsStep N.steps (core_of self.old.lists) node.0 stepped (core_of self.new.lists)) }
-        ensures not_ready { IfOk result (λ stepped. stepped ≡ Stepped.NotReady ↔ IsWaiting N.steps (core_of self.old.lists) node.0) }
+        ensures step { IfOk result (λ stepped. IsStep N.steps (state self.old) node.0 stepped (state self.new)) }
+        ensures not_ready { IfOk result (λ stepped. stepped ≡ Stepped.NotReady ↔ IsWaiting N.steps (state self.old) node.0) }
         ensures ended { IfOk result (λ stepped. stepped ≡ Stepped.Ended ↔ ActsAt N.steps self.old.lists.nodes node.0 Act.Done) }
         ensures stays { IfOk result (λ stepped. stepped ≢ Stepped.Moved → self.new ≡ self.old) }
 
@@ -140,16 +141,16 @@ impl<N: PhasedNode> Core<N> {
     /// Whether the node is enabled: whether a step of it would be a move.
     pub fn enabled(&self, node: NodeId) -> bool
         requires { node.0 < length self.now.lists.nodes }
-        ensures { IsTrue result ↔ IsEnabled N.steps (core_of self.now.lists) node.0 }
+        ensures { IsTrue result ↔ IsEnabled N.steps (state self.now) node.0 }
     {
-        let place = node.0 as usize;
-        match self.nodes[place].next_act() {
+        let index = node.0 as usize;
+        match self.nodes[index].next_act() {
             Act::Local => true,
             Act::Send(target) => {
-                !self.queues[place * self.nodes.len() + target.0 as usize].is_full()
+                !self.queues[index * self.nodes.len() + target.0 as usize].is_full()
             }
             Act::Take(source) => {
-                !self.queues[source.0 as usize * self.nodes.len() + place].is_empty()
+                !self.queues[source.0 as usize * self.nodes.len() + index].is_empty()
             }
             Act::Done => false,
         }
@@ -157,7 +158,7 @@ impl<N: PhasedNode> Core<N> {
 
     /// Whether all nodes are Done.
     pub fn finished(&self) -> bool
-        ensures { IsTrue result ↔ IsFinished N.steps (core_of self.now.lists) }
+        ensures { IsTrue result ↔ IsFinished N.steps (state self.now) }
     {
         for node in &self.nodes {
             if !is_done(node) {
@@ -170,18 +171,18 @@ impl<N: PhasedNode> Core<N> {
     /// Whether the node is at this stage of the phase of this number, and is enabled.
     pub(crate) fn can_step(&self, node: NodeId, number: u64, stage: Stage) -> bool
         requires { node.0 < length self.now.lists.nodes }
-        ensures { IsTrue result ↔ CanStep N.steps number stage (core_of self.now.lists) node.0 }
+        ensures { IsTrue result ↔ CanStep N.steps number stage (state self.now) node.0 }
     {
         is_in_stage(&self.nodes[node.0 as usize], number, stage) && self.enabled(node)
     }
 
     /// The least node at this stage of the phase of this number that is enabled.
     pub(crate) fn find(&self, number: u64, stage: Stage) -> Option<NodeId>
-        ensures some { IfSome result (λ node. (node.0 < length self.now.lists.nodes) × CanStep N.steps number stage (core_of self.now.lists) node.0) }
-        ensures none { result ≡ None → (p : ℕ) → ¬ CanStep N.steps number stage (core_of self.now.lists) p }
+        ensures some { IfSome result (λ node. (node.0 < length self.now.lists.nodes) × CanStep N.steps number stage (state self.now) node.0) }
+        ensures none { result ≡ None → (p : ℕ) → ¬ CanStep N.steps number stage (state self.now) p }
     {
-        for place in 0..self.nodes.len() {
-            let node = NodeId(place as u32);
+        for index in 0..self.nodes.len() {
+            let node = NodeId(index as u32);
             if self.can_step(node, number, stage) {
                 return Some(node);
             }
@@ -191,7 +192,7 @@ impl<N: PhasedNode> Core<N> {
 
     // The number of the first node that is not Done.
     fn first_number(&self) -> u64
-        requires { ¬ IsFinished N.steps (core_of self.now.lists) }
+        requires { ¬ IsFinished N.steps (state self.now) }
         ensures { UnfinishedAt N.steps self.now.lists.nodes result }
     {
         for node in &self.nodes {
@@ -204,7 +205,7 @@ impl<N: PhasedNode> Core<N> {
 
     // The number before `first`, if a node that is not Done has it, and else `first`.
     fn number_before(&self, first: u64) -> u64
-        ensures { IsChosen N.steps self.now.lists.nodes first result }
+        ensures { IsEarlierNumber N.steps self.now.lists.nodes first result }
     {
         for node in &self.nodes {
             if !is_done(node) && node.phase().wrapping_add(1) == first {
@@ -216,9 +217,9 @@ impl<N: PhasedNode> Core<N> {
 
     /// The number of the next phase, which nodes that are not Done have, or that of such a node where no phase is left.
     pub(crate) fn next_phase(&self) -> u64
-        requires unfinished { ¬ IsFinished N.steps (core_of self.now.lists) }
+        requires unfinished { ¬ IsFinished N.steps (state self.now) }
         requires phased { Lockstep N.steps (slice_get self.now.lists.nodes) }
-        ensures next { IsNext N.steps result (slice_get self.now.lists.nodes) }
+        ensures next { IsNextPhase N.steps result (slice_get self.now.lists.nodes) }
         ensures there { UnfinishedAt N.steps self.now.lists.nodes result }
     {
         self.number_before(self.first_number())
@@ -227,8 +228,8 @@ impl<N: PhasedNode> Core<N> {
     /// The steps of these nodes in order. On want of memory those before the refused one stand.
     pub fn run_choices(&mut self, choices: &[NodeId]) -> Result<(), OutOfMemory>
         requires { All (λ (node : NodeId). node.0 < length self.old.lists.nodes) choices.now }
-        ensures ok { OnOk result (core_of self.new.lists ≡ core_run N.steps (core_of self.old.lists) (map (λ (node : NodeId). node.0) choices.now)) }
-        ensures err { OnErr result (StopsAt N.steps self.old.lists (map (λ (node : NodeId). node.0) choices.now) self.new.lists) }
+        ensures ok { OnOk result (state self.new ≡ core_run N.steps (state self.old) (map (λ (node : NodeId). node.0) choices.now)) }
+        ensures err { OnErr result (StopsAt N.steps (state self.old) (map (λ (node : NodeId). node.0) choices.now) (state self.new)) }
         ensures count { length self.new.lists.nodes ≡ length self.old.lists.nodes }
     {
         for node in choices {
@@ -239,14 +240,14 @@ impl<N: PhasedNode> Core<N> {
 
     // A step of each node in turn, which brings the end nearer.
     fn round(&mut self) -> Result<(), OutOfMemory>
-        requires { ¬ IsFinished N.steps (core_of self.old.lists) }
+        requires { ¬ IsFinished N.steps (state self.old) }
         ensures less { OnOk result (self.new.left < self.old.left) }
-        ensures reached { RunsTo N.steps (core_of self.old.lists) (core_of self.new.lists) }
+        ensures reached { RunsTo N.steps (state self.old) (state self.new) }
         ensures wants { OnErr result (WantsLocal N.steps self.new.lists.nodes) }
     {
         let count = self.nodes.len();
-        for place in 0..count {
-            self.step(NodeId(place as u32))?;
+        for index in 0..count {
+            self.step(NodeId(index as u32))?;
         }
         Ok(())
     }
@@ -254,9 +255,9 @@ impl<N: PhasedNode> Core<N> {
     /// Steps nodes 0, 1 and so on again and again until all are Done. The nodes are then the last ones of the lockstep
     /// run. Want of memory comes only from a local step, and then the steps done stand.
     pub fn run_rotation(&mut self) -> Result<(), OutOfMemory>
-        ensures finished { OnOk result (IsFinished N.steps (core_of self.new.lists)) }
-        ensures reached { RunsTo N.steps (core_of self.old.lists) (core_of self.new.lists) }
-        ensures last { OnOk result (EndsInLockstep N.steps (core_of self.old.lists) self.new.lists.nodes) }
+        ensures finished { OnOk result (IsFinished N.steps (state self.new)) }
+        ensures reached { RunsTo N.steps (state self.old) (state self.new) }
+        ensures last { OnOk result (EndsInLockstep N.steps (state self.old) self.new.lists.nodes) }
         ensures wants { OnErr result (WantsLocal N.steps self.new.lists.nodes) }
         ensures count { length self.new.lists.nodes ≡ length self.old.lists.nodes }
     {

@@ -1,13 +1,12 @@
 //! The lockstep run of a core: one phase after another.
 
-ghost use Rattle.std.specs.Prelude.{◌≡◌, ◌≢◌, ◌↔◌, ◌<◌, ◌⊎◌, ℕ, length, slice_get, IfSome, OnErr, OnOk, Some, None};
-ghost use Rattle.hpf_base.specs.Cores.{start, IsFinished};
-ghost use Rattle.hpf_base.specs.Phases.{Lockstep};
-ghost use Rattle.hpf_base.specs.Reached.{RunsTo, EndsInLockstep};
-ghost use Rattle.node_core.specs.CoreLists.{core_of};
-ghost use Rattle.node_core.specs.Stage.{CanStep, Advances, IsReady, EndAlike, WantsLocal};
-ghost use Rattle.node_law.proofs.Passing.{UnfinishedAt};
-ghost use Rattle.node_law.proofs.UnderWay.{IsNext};
+ghost use Rattle.std.specs.Prelude.{◌≡◌, ◌≢◌, ◌↔◌, ◌<◌, ℕ, length, slice_get, IfSome, OnErr, OnOk, Some, None};
+ghost use Rattle.node_law.specs.Cores.{start, IsFinished};
+ghost use Rattle.node_law.specs.NextPhase.{UnfinishedAt, IsNextPhase};
+ghost use Rattle.node_law.specs.Phases.{Lockstep};
+ghost use Rattle.node_law.specs.Reached.{RunsTo, EndsInLockstep};
+ghost use Rattle.node_core.specs.CoreView.{state, WantsLocal, IsReady, EndAlike};
+ghost use Rattle.node_core.specs.Stage.{CanStep, CanPass, Advances};
 
 use crate::cores::Core;
 use crate::stage::Stage;
@@ -17,11 +16,11 @@ use node_law::{NodeId, PhasedNode};
 impl<N: PhasedNode> Core<N> {
     // The local steps of the phase of this number, in ascending order of nodes.
     fn local_steps(&mut self, number: u64) -> Result<(), OutOfMemory>
-        requires empty { core_of self.old.lists ≡ start self.old.lists.nodes }
-        requires next { IsNext N.steps number (slice_get self.old.lists.nodes) }
-        ensures empty { core_of self.new.lists ≡ start self.new.lists.nodes }
-        ensures next { IsNext N.steps number (slice_get self.new.lists.nodes) }
-        ensures none { OnOk result ((p : ℕ) → ¬ CanStep N.steps number Stage.Steps (core_of self.new.lists) p) }
+        requires empty { state self.old ≡ start self.old.lists.nodes }
+        requires next { IsNextPhase N.steps number (slice_get self.old.lists.nodes) }
+        ensures empty { state self.new ≡ start self.new.lists.nodes }
+        ensures next { IsNextPhase N.steps number (slice_get self.new.lists.nodes) }
+        ensures none { OnOk result ((p : ℕ) → ¬ CanStep N.steps number Stage.Steps (state self.new) p) }
         ensures advances { Advances N.steps self.old self.new }
         ensures wants { OnErr result (WantsLocal N.steps self.new.lists.nodes) }
     {
@@ -33,8 +32,8 @@ impl<N: PhasedNode> Core<N> {
 
     // The least node that can send a letter of the phase of this number, or take one where none can send.
     fn next_letter(&self, number: u64) -> Option<NodeId>
-        ensures some { IfSome result (λ node. (node.0 < length self.now.lists.nodes) × (CanStep N.steps number Stage.Sends (core_of self.now.lists) node.0 ⊎ CanStep N.steps number Stage.Takes (core_of self.now.lists) node.0)) }
-        ensures none { result ≡ None → (p : ℕ) → ¬ CanStep N.steps number Stage.Sends (core_of self.now.lists) p × ¬ CanStep N.steps number Stage.Takes (core_of self.now.lists) p }
+        ensures some { IfSome result (λ node. (node.0 < length self.now.lists.nodes) × CanPass N.steps number (state self.now) node.0) }
+        ensures none { result ≡ None → (p : ℕ) → ¬ CanPass N.steps number (state self.now) p }
     {
         match self.find(number, Stage::Sends) {
             Some(node) => Some(node),
@@ -44,9 +43,9 @@ impl<N: PhasedNode> Core<N> {
 
     // The sends and then the takes of the phase of this number, in ascending order of nodes.
     fn letters(&mut self, number: u64)
-        requires empty { core_of self.old.lists ≡ start self.old.lists.nodes }
-        requires next { IsNext N.steps number (slice_get self.old.lists.nodes) }
-        requires none { (p : ℕ) → ¬ CanStep N.steps number Stage.Steps (core_of self.old.lists) p }
+        requires empty { state self.old ≡ start self.old.lists.nodes }
+        requires next { IsNextPhase N.steps number (slice_get self.old.lists.nodes) }
+        requires none { (p : ℕ) → ¬ CanStep N.steps number Stage.Steps (state self.old) p }
         ensures ready { IsReady N.steps self.new }
         ensures passed { ¬ UnfinishedAt N.steps self.new.lists.nodes number }
         ensures advances { Advances N.steps self.old self.new }
@@ -61,12 +60,12 @@ impl<N: PhasedNode> Core<N> {
 
     // The phase of this number.
     fn pass(&mut self, number: u64) -> Result<(), OutOfMemory>
-        requires empty { core_of self.old.lists ≡ start self.old.lists.nodes }
-        requires next { IsNext N.steps number (slice_get self.old.lists.nodes) }
+        requires empty { state self.old ≡ start self.old.lists.nodes }
+        requires next { IsNextPhase N.steps number (slice_get self.old.lists.nodes) }
         requires there { UnfinishedAt N.steps self.old.lists.nodes number }
         ensures ready { IsReady N.steps self.new }
         ensures less { OnOk result (self.new.left < self.old.left) }
-        ensures reached { RunsTo N.steps (core_of self.old.lists) (core_of self.new.lists) }
+        ensures reached { RunsTo N.steps (state self.old) (state self.new) }
         ensures wants { OnErr result (WantsLocal N.steps self.new.lists.nodes) }
     {
         self.local_steps(number)?;
@@ -80,9 +79,9 @@ impl<N: PhasedNode> Core<N> {
     /// steps done stand, and the same is true again with the same last nodes, so that a further call goes on from there.
     pub fn run_lockstep(&mut self) -> Result<(), OutOfMemory>
         requires ready { IsReady N.steps self.old }
-        ensures finished { OnOk result (IsFinished N.steps (core_of self.new.lists)) }
-        ensures reached { RunsTo N.steps (core_of self.old.lists) (core_of self.new.lists) }
-        ensures last { OnOk result (EndsInLockstep N.steps (core_of self.old.lists) self.new.lists.nodes) }
+        ensures finished { OnOk result (IsFinished N.steps (state self.new)) }
+        ensures reached { RunsTo N.steps (state self.old) (state self.new) }
+        ensures last { OnOk result (EndsInLockstep N.steps (state self.old) self.new.lists.nodes) }
         ensures ready { IsReady N.steps self.new }
         ensures wants { OnErr result (WantsLocal N.steps self.new.lists.nodes) }
         ensures alike { EndAlike N.steps self.old.lists.nodes self.new.lists.nodes }

@@ -2,7 +2,7 @@
 
 ghost use Rattle.std.specs.Prelude.{◌≡◌, ◌<◌, ◌≤◌, List, [], ◌∷◌, ◌++◌, ◌==◌, false, length, IfOk, IsTrue};
 ghost use Rattle.std.specs.VecDeque.{deque_len, deque_capacity};
-ghost use Rattle.hpf_base.specs.Cores.{capacity};
+ghost use Rattle.node_law.specs.Cores.{capacity};
 
 use hpf_base::OutOfMemory;
 use std::alloc::Global;

@@ -1,7 +1,7 @@
 //! The stages of a phase.
 
-ghost use Rattle.std.specs.Prelude.{◌≡◌};
-ghost use Rattle.node_core.specs.Stage.{of_stage};
+ghost use Rattle.std.specs.Prelude.{◌↔◌, IsTrue};
+ghost use Rattle.node_core.specs.Stage.{IsOfStage};
 
 use node_law::Act;
 
@@ -15,7 +15,7 @@ pub enum Stage {
 
 /// Whether the act belongs to the stage.
 pub fn is_of_stage(act: Act, stage: Stage) -> bool
-    ensures { result ≡ of_stage stage act }
+    ensures { IsTrue result ↔ IsOfStage stage act }
 {
     match stage {
         Stage::Steps => matches!(act, Act::Local),

@@ -1,9 +1,8 @@
 //! The core of three nodes.
 
 ghost use Rattle.std.specs.Prelude.{◌≡◌, IfOk, length};
-ghost use Rattle.hpf_base.specs.Cores.{start};
-ghost use Rattle.node_core.specs.CoreLists.{core_of};
-ghost use Rattle.node_core.specs.Stage.{IsReady};
+ghost use Rattle.node_law.specs.Cores.{start};
+ghost use Rattle.node_core.specs.CoreView.{state, IsReady};
 ghost use Rattle.node_core_tests.specs.Passer.{passer_steps};
 ghost use Rattle.node_core_tests.specs.Three.{three, at_start};
 
@@ -27,7 +26,7 @@ fn passer(next: u32, before: u32, number: u64) -> Passer
 
 /// Three nodes with these numbers at the beginning of their first phase.
 pub fn three_nodes(alloc: Global, a: u64, b: u64, c: u64) -> Result<Core<Passer>, OutOfMemory>
-    ensures start { IfOk result (λ core. core_of core.lists ≡ start (three a b c)) }
+    ensures start { IfOk result (λ core. state core ≡ start (three a b c)) }
     ensures ready { IfOk result (λ core. IsReady passer_steps core) }
 {
     let mut nodes = Vec::new(alloc);

@@ -3,17 +3,17 @@ use Rattle.std.proofs.Common.{◌≡◌, ℕ, zero, suc, ◌<◌, ◌==◌, ◌&
 use Rattle.std.proofs.lemmas.Bool.{ltb-true, eqb-true}
 use Rattle.std.proofs.lemmas.Bool.Decides.{eqb_tells}
 use Rattle.std.specs.List.{slice_get}
-use Rattle.hpf_base.specs.declared.act.Act.{Act}
-use Rattle.hpf_base.specs.declared.act.Act.TheVariants.{Local, Send, Take, Done}
-use Rattle.hpf_base.specs.NodeSteps.{NodeSteps, Move, Worked, Sent, Took, after, IsMoveOf, AreMovesAt, after_at, sent, taken}
-use Rattle.hpf_base.specs.Cores.{capacity, CoreState, start, tail, queue_after, take_of, move_by, move_at, core_move, nodes_after, moved, core_step, core_run, moves_in, made_in}
+use Rattle.node_law.specs.declared.act.Act.{Act}
+use Rattle.node_law.specs.declared.act.Act.TheVariants.{Local, Send, Take, Done}
+use Rattle.node_law.specs.NodeSteps.{NodeSteps, Move, Worked, Sent, Taken, node_after, IsMoveOf, AreMovesAt, after_at, sent, taken}
+use Rattle.node_law.specs.Cores.{capacity, CoreState, start, tail, queue_after, take_of, move_by, move_at, core_move, nodes_after, moved, core_step, core_run, moves_in, made_in}
 use Rattle.node_law.proofs.Prefixes.{sent-append, taken-append, append_at, after_at-append}
 
 -- there is room for the move: a send finds fewer letters than fit, and a take finds its letter in front
 abbrev pub HasRoom : {M : Type 0} → (ℕ → ℕ → List M) → ℕ → Move M → Type 0
 HasRoom queue p Worked = Unit {0}
 HasRoom queue p (Sent q m) = length (queue p q) < capacity
-HasRoom queue p (Took q m) = queue q p ≡ m ∷ tail (queue q p)
+HasRoom queue p (Taken q m) = queue q p ≡ m ∷ tail (queue q p)
 
 module _ {N M : Type 0} (S : NodeSteps N M) where
   -- the node p can make the move x
@@ -26,7 +26,7 @@ module _ {N M : Type 0} (S : NodeSteps N M) where
   take-can : (c : CoreState N M) (p q : ℕ) (a : N) (x : Move M) → slice_get c.nodes p ≡ Some a → S.act a ≡ Take (record { 0 = q }) → (letters : List M) → c.queue q p ≡ letters → take_of S q letters ≡ Some x → CanMove c p x
   take-can c p q a x is e [] le h = cc
   take-can c p q a x is e (m ∷ ms) le h =
-      let k : x ≡ Took q m = cc in
+      let k : x ≡ Taken q m = cc in
       rw k (record { node = a; is = is; does = e; room = rw le refl })
 
   send-can : (c : CoreState N M) (p q : ℕ) (a : N) (x : Move M) → slice_get c.nodes p ≡ Some a → S.act a ≡ Send (record { 0 = q }) → (b : Bool) → nat_lt (length (c.queue p q)) capacity ≡ b → (if b then Some (Sent q (S.letter a)) else None) ≡ Some x → CanMove c p x
@@ -51,7 +51,7 @@ module _ {N M : Type 0} (S : NodeSteps N M) where
   can-move c p x h = node-can c p x (slice_get c.nodes p) refl h
 
   -- the node at p after its move
-  pub nodes_after_same : (ns : List N) (p : ℕ) (x : Move M) (a : N) → slice_get ns p ≡ Some a → slice_get (nodes_after S ns p x) p ≡ Some (after S a x)
+  pub nodes_after_same : (ns : List N) (p : ℕ) (x : Move M) (a : N) → slice_get ns p ≡ Some a → slice_get (nodes_after S ns p x) p ≡ Some (node_after S a x)
   nodes_after_same [] p x a h = cc
   nodes_after_same (b ∷ ns) zero x a h = let e : b ≡ a = cc in rw e refl
   nodes_after_same (b ∷ ns) (suc p) x a h = nodes_after_same ns p x a h
@@ -74,18 +74,18 @@ module _ {N M : Type 0} (S : NodeSteps N M) where
   sent-one true false s t k K m e h = simp append-nil e
   sent-one false b2 s t k K m e h = simp append-nil e
 
-  took-one : (b1 b2 : Bool) (s t k K : List M) (m : M) → s ≡ t ++ k → (b1 ≡ true → b2 ≡ true → k ≡ m ∷ K) → s ≡ (t ++ (if b2 && b1 then m ∷ [] else [])) ++ (if b1 && b2 then K else k)
-  took-one true true s t k K m e h = e ∙ rw (h refl refl) (sym (append_assoc t (m ∷ []) K))
-  took-one true false s t k K m e h = simp append-nil e
-  took-one false true s t k K m e h = simp append-nil e
-  took-one false false s t k K m e h = simp append-nil e
+  taken-one : (b1 b2 : Bool) (s t k K : List M) (m : M) → s ≡ t ++ k → (b1 ≡ true → b2 ≡ true → k ≡ m ∷ K) → s ≡ (t ++ (if b2 && b1 then m ∷ [] else [])) ++ (if b1 && b2 then K else k)
+  taken-one true true s t k K m e h = e ∙ rw (h refl refl) (sym (append_assoc t (m ∷ []) K))
+  taken-one true false s t k K m e h = simp append-nil e
+  taken-one false true s t k K m e h = simp append-nil e
+  taken-one false false s t k K m e h = simp append-nil e
 
   -- what one move sends and takes
   one-sent : (b : Bool) (q r : ℕ) (m : M) → sent r (if b then Sent q m ∷ [] else []) ≡ (if b && (q == r) then m ∷ [] else [])
   one-sent true q r m = refl
   one-sent false q r m = refl
 
-  one-taken : (b : Bool) (q r : ℕ) (m : M) → taken r (if b then Took q m ∷ [] else []) ≡ (if b && (q == r) then m ∷ [] else [])
+  one-taken : (b : Bool) (q r : ℕ) (m : M) → taken r (if b then Taken q m ∷ [] else []) ≡ (if b && (q == r) then m ∷ [] else [])
   one-taken true q r m = refl
   one-taken false q r m = refl
 
@@ -93,9 +93,9 @@ module _ {N M : Type 0} (S : NodeSteps N M) where
   sent-taken true q r m = refl
   sent-taken false q r m = refl
 
-  took-sent : (b : Bool) (q r : ℕ) (m : M) → sent r (if b then Took q m ∷ [] else []) ≡ []
-  took-sent true q r m = refl
-  took-sent false q r m = refl
+  taken-sent : (b : Bool) (q r : ℕ) (m : M) → sent r (if b then Taken q m ∷ [] else []) ≡ []
+  taken-sent true q r m = refl
+  taken-sent false q r m = refl
 
   work-sent : (b : Bool) (r : ℕ) → sent {M = M} r (if b then Worked ∷ [] else []) ≡ []
   work-sent true r = refl
@@ -112,16 +112,16 @@ module _ {N M : Type 0} (S : NodeSteps N M) where
       let e : (p == s) ≡ true → (q == t) ≡ true → c.queue p q ≡ c.queue s t = λ e1 e2. rw (eqb-true p s e1, eqb-true q t e2) refl in
       simp (sent-append, taken-append, one-sent (p == s) q t m, sent-taken (p == t) q s m, append-nil)
       (sent-one (p == s) (q == t) (sent t (H s)) (taken s (H t)) (c.queue s t) (c.queue p q) m (history.letters s t) e)
-  letters-after ns c H p (Took q m) room history s t =
+  letters-after ns c H p (Taken q m) room history s t =
       let e : (q == s) ≡ true → (p == t) ≡ true → c.queue s t ≡ m ∷ tail (c.queue q p) = λ e1 e2. rw (← (eqb-true q s e1), ← (eqb-true p t e2)) room in
-      rw (sent-append, taken-append, took-sent (p == s) q t m, one-taken (p == t) q s m, append-nil)
-      (took-one (q == s) (p == t) (sent t (H s)) (taken s (H t)) (c.queue s t) (tail (c.queue q p)) m (history.letters s t) e)
+      rw (sent-append, taken-append, taken-sent (p == s) q t m, one-taken (p == t) q s m, append-nil)
+      (taken-one (q == s) (p == t) (sent t (H s)) (taken s (H t)) (c.queue s t) (tail (c.queue q p)) m (history.letters s t) e)
 
   -- the state of one node after one more move
   made-one : (o : Option N) (xs : List (Move M)) (a : N) (x : Move M) → AreMovesAt S o xs → Some a ≡ after_at S o xs → IsMoveOf S a x → AreMovesAt S o (xs ++ (x ∷ []))
   made-one o xs a x made now does = append_at S o xs (x ∷ []) made (subst (λ (n : Option N). AreMovesAt S n (x ∷ [])) now (does, tt))
 
-  now-one : (o : Option N) (xs : List (Move M)) (a : N) (x : Move M) → Some a ≡ after_at S o xs → Some (after S a x) ≡ after_at S o (xs ++ (x ∷ []))
+  now-one : (o : Option N) (xs : List (Move M)) (a : N) (x : Move M) → Some a ≡ after_at S o xs → Some (node_after S a x) ≡ after_at S o (xs ++ (x ∷ []))
   now-one o xs a x now = rw (after_at-append S o xs (x ∷ []), ← now) refl
 
   history-moved : (ns : List N) (c : CoreState N M) (H : ℕ → List (Move M)) (p : ℕ) (m : Option (Move M)) → core_move S c p ≡ m → IsHistory ns c H → IsHistory ns (moved S c p m) (λ q. H q ++ moves_in S p q m)

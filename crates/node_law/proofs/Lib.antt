@@ -9,4 +9,5 @@ pub mod Passing
 pub mod PhaseAlone
 pub mod Prefixes
 pub mod StepAnswers
+pub mod ToOthers
 pub mod UnderWay

@@ -3,11 +3,11 @@ use Rattle.std.proofs.Common.{◌≡◌, ℕ, zero, suc, ◌+◌, ◌-◌, ◌<�
 use Rattle.std.specs.List.{slice_get}
 use Rattle.std.proofs.lemmas.Bool.{cases_lt, cases_eq, eq-eqb, ne_eqb}
 use Rattle.std.proofs.lemmas.Option.{slice_get_past, slice_get_within}
-use Rattle.hpf_base.specs.declared.act.Act.TheVariants.{Done}
-use Rattle.hpf_base.specs.NodeSteps.{NodeSteps, Move, after_all, AreMovesOf, AreMovesAt, after_at, IsDoneAt, IsPrefix}
-use Rattle.hpf_base.specs.Phases.{all_moves}
-use Rattle.hpf_base.specs.Cores.{CoreState, start, core_move, core_step, core_run, moves_in, made_in, IsEnabled}
-use Rattle.hpf_base.specs.Reached.{IsReached, total, moves_left}
+use Rattle.node_law.specs.declared.act.Act.TheVariants.{Done}
+use Rattle.node_law.specs.NodeSteps.{NodeSteps, Move, after_all, AreMovesOf, AreMovesAt, after_at, IsDoneAt, IsPrefix}
+use Rattle.node_law.specs.Phases.{all_moves}
+use Rattle.node_law.specs.Cores.{CoreState, start, core_move, core_step, core_run, moves_in, made_in, IsEnabled}
+use Rattle.node_law.specs.Reached.{IsReached, total, moves_left}
 use Rattle.node_law.proofs.History.{IsHistory, can-move, history-reached, history-step}
 use Rattle.node_law.proofs.NeverStuck.{prefix-rest, confluence, never_stuck}
 use Rattle.node_law.proofs.NextMove.{run-made, run-done}

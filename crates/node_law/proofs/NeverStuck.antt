@@ -4,12 +4,12 @@ use Rattle.std.specs.List.{slice_get, All}
 use Rattle.std.proofs.lemmas.Bool.{lt-ltb, ne_eqb, cases_eq}
 use Rattle.std.proofs.lemmas.Bool.Decides.{eqb_tells}
 use Rattle.std.proofs.lemmas.Option.{slice_get_past, slice_get-get_or}
-use Rattle.hpf_base.specs.declared.act.Act.TheVariants.{Done}
-use Rattle.hpf_base.specs.NodeSteps.{NodeSteps, Move, Worked, Sent, Took, IsMoveOf, after_all, AreMovesOf, AreMovesAt, after_at, IsDoneAt, sent, taken, IsPrefix}
-use Rattle.hpf_base.specs.Phases.{Part, moves, AreSends, IsFront, next_number, IsPartAt, IsEndAt, IsLockstep, Lockstep, all_moves}
-use Rattle.hpf_base.specs.Cores.{capacity, CoreState, start, take_of, core_run, made_in, IsEnabled, IsFinished}
+use Rattle.node_law.specs.declared.act.Act.TheVariants.{Done}
+use Rattle.node_law.specs.NodeSteps.{NodeSteps, Move, Worked, Sent, Taken, IsMoveOf, after_all, AreMovesOf, AreMovesAt, after_at, IsDoneAt, sent, taken, IsPrefix}
+use Rattle.node_law.specs.Phases.{PhaseShare, moves, AreSends, IsFront, next_number, IsShareAt, IsEndAt, IsLockstep, Lockstep, all_moves}
+use Rattle.node_law.specs.Cores.{capacity, CoreState, start, take_of, core_run, made_in, IsEnabled, IsFinished}
 use Rattle.node_law.proofs.Prefixes.{prefix-refl, sent-append, taken-append, append_at, after_at-append, moves-back}
-use Rattle.node_law.proofs.LawOfPrefixes.{PartFacts, part-facts, AllTaken, all_taken-start, all_taken-next, end-taken, end-made, end-done, local-sent, law_of_prefixes}
+use Rattle.node_law.proofs.LawOfPrefixes.{ShareFacts, share-facts, AllTaken, all_taken-start, all_taken-next, end-taken, end-made, end-done, local-sent, law_of_prefixes}
 use Rattle.node_law.proofs.History.{IsHistory, history-reached}
 
 -- a prefix of a list is followed there by the rest
@@ -74,7 +74,7 @@ module _ {M : Type 0} where
   sends-past least q (Sent t m ∷ xs) h lt =
       let d : t ≡ q → ⊥ = λ e. absurd (omega arith) in
       rw (ne_eqb t q d) (sends-past (t + 1) q xs h.1 (omega arith))
-  sends-past least q (Took t m ∷ xs) h lt = absurd h
+  sends-past least q (Taken t m ∷ xs) h lt = absurd h
 
   -- at most one letter goes to each target
   sends-one : (least q : ℕ) (xs : List (Move M)) → AreSends least xs → length (sent q xs) ≤ 1
@@ -85,32 +85,32 @@ module _ {M : Type 0} where
         | inl e ↦ (let none : sent q xs ≡ [] = sends-past (t + 1) q xs h.1 (omega arith) in rw (e.0, none) (omega arith))
         | inr e ↦ rw e.0 (sends-one (t + 1) q xs h.1)
       ]
-  sends-one least q (Took t m ∷ xs) h = absurd h
+  sends-one least q (Taken t m ∷ xs) h = absurd h
 
   front-one : (q : ℕ) (xs : List (Move M)) → IsFront xs → length (sent q xs) ≤ 1
   front-one q [] h = omega arith
   front-one q (Worked ∷ xs) h = front-one q xs h
   front-one q (Sent t m ∷ xs) h = sends-one t q (Sent t m ∷ xs) h
-  front-one q (Took t m ∷ xs) h = absurd h
+  front-one q (Taken t m ∷ xs) h = absurd h
 
 module _ {N M : Type 0} (S : NodeSteps N M) where
-  part-one : (n : ℕ) (o : Option N) (part : Part M) → IsPartAt S n o part → (q : ℕ) → length (sent q part.front) ≤ 1
-  part-one n None part h q = let e : part.front ≡ [] = none part.front part.back h in rw e (omega arith)
+  share-one : (n : ℕ) (o : Option N) (share : PhaseShare M) → IsShareAt S n o share → (q : ℕ) → length (sent q share.front) ≤ 1
+  share-one n None share h q = let e : share.front ≡ [] = none share.front share.back h in rw e (omega arith)
     where
       none : (xs ys : List (Move M)) → xs ++ ys ≡ [] → xs ≡ []
       none [] ys e = refl
       none (x ∷ xs) ys e = cc
-  part-one n (Some a) part h q = front-one q part.front h.front
+  share-one n (Some a) share h q = front-one q share.front h.front
 
   pub end-sent : (o : Option N) (xs : List (Move M)) (q : ℕ) → IsEndAt S o xs → sent q xs ≡ []
   end-sent None xs q h = rw h refl
   end-sent (Some a) xs q h = local-sent q xs h.1
 
   -- a node whose next move has room is enabled
-  enabled-by : (c : CoreState N M) (p : ℕ) (a : N) (x : Move M) → slice_get c.nodes p ≡ Some a → IsMoveOf S a x → ((q : ℕ) (m : M) → x ≡ Sent q m → length (c.queue p q) < capacity) → ((q : ℕ) (m : M) → x ≡ Took q m → 0 < length (c.queue q p)) → IsEnabled S c p
+  enabled-by : (c : CoreState N M) (p : ℕ) (a : N) (x : Move M) → slice_get c.nodes p ≡ Some a → IsMoveOf S a x → ((q : ℕ) (m : M) → x ≡ Sent q m → length (c.queue p q) < capacity) → ((q : ℕ) (m : M) → x ≡ Taken q m → 0 < length (c.queue q p)) → IsEnabled S c p
   enabled-by c p a Worked is does send take = rw (is, does) refl
   enabled-by c p a (Sent q m) is does send take = rw (is, does.0, lt-ltb (length (c.queue p q)) capacity (send q m refl)) refl
-  enabled-by c p a (Took q m) is does send take = rw (is, does) (front q (c.queue q p) (take q m refl))
+  enabled-by c p a (Taken q m) is does send take = rw (is, does) (front q (c.queue q p) (take q m refl))
     where
       front : (q : ℕ) (ms : List M) → 0 < length ms → IsSome (take_of S q ms)
       front q [] h = absurd (omega arith)
@@ -147,7 +147,7 @@ module _ {N M : Type 0} (S : NodeSteps N M) where
             let g = sends q in
             omega arith)
             (λ q m e.
-            let t : length (taken q (H p ++ (x ∷ []))) ≡ length (taken q (H p)) + 1 = rw (e, taken-append q (H p) (Took q m ∷ []), length-append, eq-eqb q q refl) refl in
+            let t : length (taken q (H p ++ (x ∷ []))) ≡ length (taken q (H p)) + 1 = rw (e, taken-append q (H p) (Taken q m ∷ []), length-append, eq-eqb q q refl) refl in
             let l = taken-longer q (H p ++ (x ∷ [])) G prefix in
             let k = lengths q p in
             let g = takes q in
@@ -167,7 +167,7 @@ module _ {N M : Type 0} (S : NodeSteps N M) where
         none None xs ys e h = rw h tt
         none (Some a) xs ys e h = cc
 
-    stuck-from : (phases : List (ℕ → Part M)) (n : ℕ) (last : ℕ → List (Move M)) (ms : ℕ → Option N) (X : ℕ → List (Move M)) → AllTaken S (slice_get ns) ms X → ((p : ℕ) → IsPrefix (X p) (H p)) → IsLockstep S n ms phases last → ((p : ℕ) → X p ++ all_moves phases last p ≡ all_moves run.phases run.last p) → ((p : ℕ) → IsDoneAt S (slice_get c.nodes p)) ⊎ ((p : ℕ) × IsEnabled S c p)
+    stuck-from : (phases : List (ℕ → PhaseShare M)) (n : ℕ) (last : ℕ → List (Move M)) (ms : ℕ → Option N) (X : ℕ → List (Move M)) → AllTaken S (slice_get ns) ms X → ((p : ℕ) → IsPrefix (X p) (H p)) → IsLockstep S n ms phases last → ((p : ℕ) → X p ++ all_moves phases last p ≡ all_moves run.phases run.last p) → ((p : ℕ) → IsDoneAt S (slice_get c.nodes p)) ⊎ ((p : ℕ) × IsEnabled S c p)
     stuck-from [] n last ms X e passed h whole =
         let G : ℕ → List (Move M) = λ p. X p ++ last p in
         let made : (p : ℕ) → AreMovesAt S (slice_get ns p) (G p) = λ p. append_at S (slice_get ns p) (X p) (last p) (e.made p) (rw (e.now p) at (end-made S (ms p) (last p) (h p))) in
@@ -182,21 +182,21 @@ module _ {N M : Type 0} (S : NodeSteps N M) where
               rw (history.now p, same, after_at-append S (slice_get ns p) (X p) (last p), ← (e.now p)) (end-done S (ms p) (last p) (h p)))
           | inr some ↦ inr some
         ]
-    stuck-from (parts ∷ phases) n last ms X e passed h whole =
-        let f : (p : ℕ) → PartFacts S (ms p) (parts p) = λ p. part-facts S n (ms p) (parts p) (h.0.each p) in
-        let F : ℕ → List (Move M) = λ p. X p ++ (parts p).front in
-        let Y : ℕ → List (Move M) = λ p. X p ++ moves (parts p) in
-        let next : AllTaken S (slice_get ns) (λ p. after_at S (ms p) (moves (parts p))) Y = all_taken-next S n (slice_get ns) ms X parts e h.0 in
-        let rest : (p : ℕ) → Y p ++ all_moves phases last p ≡ all_moves run.phases run.last p = λ p. append_assoc (X p) (moves (parts p)) (all_moves phases last p) ∙ whole p in
+    stuck-from (shares ∷ phases) n last ms X e passed h whole =
+        let f : (p : ℕ) → ShareFacts S (ms p) (shares p) = λ p. share-facts S n (ms p) (shares p) (h.0.each p) in
+        let F : ℕ → List (Move M) = λ p. X p ++ (shares p).front in
+        let Y : ℕ → List (Move M) = λ p. X p ++ moves (shares p) in
+        let next : AllTaken S (slice_get ns) (λ p. after_at S (ms p) (moves (shares p))) Y = all_taken-next S n (slice_get ns) ms X shares e h.0 in
+        let rest : (p : ℕ) → Y p ++ all_moves phases last p ≡ all_moves run.phases run.last p = λ p. append_assoc (X p) (moves (shares p)) (all_moves phases last p) ∙ whole p in
         let prefixY : (p : ℕ) → IsPrefix (Y p) (all_moves run.phases run.last p) = λ p. rw (← (rest p)) (prefix-append (Y p) (all_moves phases last p)) in
-        let joined : (p : ℕ) → F p ++ (parts p).back ≡ Y p = λ p. append_assoc (X p) (parts p).front (parts p).back in
-        let prefixF : (p : ℕ) → IsPrefix (F p) (all_moves run.phases run.last p) = λ p. prefix-trans (F p) (Y p) (all_moves run.phases run.last p) (rw (← (joined p)) (prefix-append (F p) (parts p).back)) (prefixY p) in
-        let madeF : (p : ℕ) → AreMovesAt S (slice_get ns p) (F p) = λ p. append_at S (slice_get ns p) (X p) (parts p).front (e.made p) (rw (e.now p) at (f p).made_front) in
+        let joined : (p : ℕ) → F p ++ (shares p).back ≡ Y p = λ p. append_assoc (X p) (shares p).front (shares p).back in
+        let prefixF : (p : ℕ) → IsPrefix (F p) (all_moves run.phases run.last p) = λ p. prefix-trans (F p) (Y p) (all_moves run.phases run.last p) (rw (← (joined p)) (prefix-append (F p) (shares p).back)) (prefixY p) in
+        let madeF : (p : ℕ) → AreMovesAt S (slice_get ns p) (F p) = λ p. append_at S (slice_get ns p) (X p) (shares p).front (e.made p) (rw (e.now p) at (f p).made_front) in
         let takesF : (p q : ℕ) → length (taken q (F p)) ≤ length (sent p (H q)) = λ p q.
         simp (taken-append, (f p).front_taken q, append-nil, ← (e.letters q p)) (sent-longer p (X q) (H q) (passed q)) in
         let sendsF : (p q : ℕ) → length (sent q (F p)) ≤ length (taken p (H q)) + capacity = λ p q.
         let l = taken-longer p (X q) (H q) (passed q) in
-        let one = part-one n (ms p) (parts p) (h.0.each p) q in
+        let one = share-one n (ms p) (shares p) (h.0.each p) q in
         simp (sent-append, length-append, e.letters p q) (omega arith) in
         elim (stage F madeF prefixF takesF sendsF) [
           | inl allF ↦
@@ -207,7 +207,7 @@ module _ {N M : Type 0} (S : NodeSteps N M) where
               let t : sent q (Y p) ≡ sent q (F p) = simp (sent-append, (f p).back_sent q, append-nil) in
               rw t (sendsF p q) in
               elim (stage Y next.made prefixY takesY sendsY) [
-                | inl allY ↦ stuck-from phases (next_number n) last (λ p. after_at S (ms p) (moves (parts p))) Y next allY h.1 rest
+                | inl allY ↦ stuck-from phases (next_number n) last (λ p. after_at S (ms p) (moves (shares p))) Y next allY h.1 rest
                 | inr some ↦ inr some
               ])
           | inr some ↦ inr some

@@ -4,9 +4,9 @@ use Rattle.std.proofs.Math.Logic.{∥∥₁_elim, ∥∥₁_prop}
 use Rattle.std.proofs.Math.Nat.{ℕ_set}
 use Rattle.std.proofs.Math.Path.{Σ_path}
 use mathlib.Core.HLevel.{is_prop→PathP}
-use Rattle.hpf_base.specs.NodeSteps.{NodeSteps}
-use Rattle.hpf_base.specs.Cores.{CoreState}
-use Rattle.hpf_base.specs.Reached.{IsReached, moves_left, HasLeft, MovesLeft}
+use Rattle.node_law.specs.NodeSteps.{NodeSteps}
+use Rattle.node_law.specs.Cores.{CoreState}
+use Rattle.node_law.specs.Reached.{IsReached, moves_left, HasLeft, MovesLeft}
 use Rattle.node_law.proofs.MovesLeft.{left-same}
 
 module _ {N M : Type 0} (S : NodeSteps N M) where

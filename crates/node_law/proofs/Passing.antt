@@ -3,12 +3,13 @@ use Rattle.std.proofs.Common.{◌≡◌, ℕ, zero, suc, ◌≢◌, ◌⊎◌, i
 use Rattle.std.specs.List.{slice_get}
 use Rattle.std.proofs.Math.Path.{fun_ext}
 use Rattle.std.proofs.lemmas.Bool.Decides.{eqb_tells}
-use Rattle.hpf_base.specs.declared.act.Act.TheVariants.{Local, Done}
-use Rattle.hpf_base.specs.declared.stepped.Stepped.{Stepped}
-use Rattle.hpf_base.specs.NodeSteps.{NodeSteps, Move, Worked, Sent, Took, IsMoveOf, AreMovesAt, after_at, IsDoneAt, sent, taken, IsPrefix}
-use Rattle.hpf_base.specs.Phases.{Part, moves, next_number, TurnsNumber, IsPart, IsPhase, IsLockstep, Lockstep, all_moves}
-use Rattle.hpf_base.specs.Cores.{CoreState, start, core_move, core_step, move_at, moved, nodes_after, queue_after, made_in, IsEnabled}
-use Rattle.hpf_base.specs.Reached.{RunsTo, IsStep}
+use Rattle.node_law.specs.declared.act.Act.TheVariants.{Local, Done}
+use Rattle.node_law.specs.declared.stepped.Stepped.{Stepped}
+use Rattle.node_law.specs.NodeSteps.{NodeSteps, Move, Worked, Sent, Taken, IsMoveOf, AreMovesAt, after_at, IsDoneAt, sent, taken, IsPrefix}
+use Rattle.node_law.specs.Phases.{PhaseShare, moves, next_number, TurnsNumber, IsShare, IsPhase, IsLockstep, Lockstep, all_moves}
+use Rattle.node_law.specs.NextPhase.{UnfinishedAt, IsEarlierNumber, IsNextPhase}
+use Rattle.node_law.specs.Cores.{CoreState, start, core_move, core_step, move_at, moved, nodes_after, queue_after, made_in, IsEnabled}
+use Rattle.node_law.specs.Reached.{RunsTo, IsStep}
 use Rattle.node_law.proofs.Prefixes.{prefix-refl, sent-append, taken-append, append_at, after_at-append, no-move-done, done-whole_at}
 use Rattle.node_law.proofs.LawOfPrefixes.{law_of_prefixes}
 use Rattle.node_law.proofs.History.{IsHistory, history-reached, nodes_after_same, nodes_after_other}
@@ -16,36 +17,28 @@ use Rattle.node_law.proofs.NeverStuck.{never_stuck}
 use Rattle.node_law.proofs.NextMove.{next-move, run-made, run-done, run-letters}
 use Rattle.node_law.proofs.MovesLeft.{history-is, run-append}
 use Rattle.node_law.proofs.PhaseAlone.{only_phase, inside, after-same, phase-passed, step-inside, step-outside, number-turns}
-use Rattle.node_law.proofs.UnderWay.{HasNoWork, IsNext, Passes, local-next}
+use Rattle.node_law.proofs.UnderWay.{HasNoWork, Passes, local-next}
 
 module _ {N M : Type 0} (S : NodeSteps N M) where
-  -- a node that is not Done has this number
-  abbrev pub UnfinishedAt : List N → ℕ → Type 0
-  UnfinishedAt ns n = (p : ℕ) × (a : N) × (slice_get ns p ≡ Some a) × (S.act a ≢ Done) × (S.phase a ≡ n)
-
-  -- the number that the code chooses: that of an unfinished node, or the one before it where an unfinished node has that
-  abbrev pub IsChosen : List N → ℕ → ℕ → Type 0
-  IsChosen ns first n = ((n ≡ first) × ((m : ℕ) → UnfinishedAt ns m → next_number m ≢ first)) ⊎ ((next_number n ≡ first) × UnfinishedAt ns n)
-
-  module _ (ns : List N) (k : ℕ) (parts : ℕ → Part M) (h : IsPhase S k (slice_get ns) parts) where
-    phase-number : (m : ℕ) → UnfinishedAt ns m → (m ≡ k) ⊎ (m ≡ next_number k)
-    phase-number m (p, a, is, d, e) = go (moves (parts p)) (let part : IsPart S k a (parts p) = rw is at (h.each p) in part.number)
+  module _ (ns : List N) (k : ℕ) (shares : ℕ → PhaseShare M) (h : IsPhase S k (slice_get ns) shares) where
+    phase-number : (m : ℕ) → UnfinishedAt S ns m → (m ≡ k) ⊎ (m ≡ next_number k)
+    phase-number m (p, a, is, d, e) = go (moves (shares p)) (let share : IsShare S k a (shares p) = rw is at (h.each p) in share.number)
       where
         go : (xs : List (Move M)) → TurnsNumber S k a xs → (m ≡ k) ⊎ (m ≡ next_number k)
         go [] t = inr (sym e ∙ t)
         go (x ∷ xs) t = inl (sym e ∙ t.0)
 
-    begun-unfinished : UnfinishedAt ns k
+    begun-unfinished : UnfinishedAt S ns k
     begun-unfinished =
         let b = h.begun in
-        let part : IsPart S k b.1 (parts b.0) = rw b.2 at (h.each b.0) in
-        (b.0, b.1, b.2, go b.1 b.3 (moves (parts b.0)) part.made part.number, b.3)
+        let share : IsShare S k b.1 (shares b.0) = rw b.2 at (h.each b.0) in
+        (b.0, b.1, b.2, go b.1 b.3 (moves (shares b.0)) share.made share.number, b.3)
       where
         go : (a : N) → S.phase a ≡ k → (xs : List (Move M)) → AreMovesAt S (Some a) xs → TurnsNumber S k a xs → S.act a ≢ Done
         go a e [] made t d = number-turns k (sym e ∙ t)
         go a e (x ∷ xs) made t d = no-move-done S a x made.0 d
 
-    chosen-is : (first n : ℕ) → UnfinishedAt ns first → IsChosen ns first n → n ≡ k
+    chosen-is : (first n : ℕ) → UnfinishedAt S ns first → IsEarlierNumber S ns first n → n ≡ k
     chosen-is first n u (inl (e, none)) = elim (phase-number first u) [
       | inl f ↦ e ∙ f
       | inr f ↦ absurd (none k begun-unfinished (sym f))
@@ -59,14 +52,14 @@ module _ {N M : Type 0} (S : NodeSteps N M) where
     ]
 
   -- it is the number of the next phase
-  pub chosen-next : (ns : List N) (run : Lockstep S (slice_get ns)) (first n : ℕ) → UnfinishedAt ns first → IsChosen ns first n → IsNext S n (slice_get ns)
+  pub chosen-next : (ns : List N) (run : Lockstep S (slice_get ns)) (first n : ℕ) → UnfinishedAt S ns first → IsEarlierNumber S ns first n → IsNextPhase S n (slice_get ns)
   chosen-next ns run first n u c = go run.phases run.run
     where
-      go : (phases : List (ℕ → Part M)) → IsLockstep S run.number (slice_get ns) phases run.last → IsNext S n (slice_get ns)
+      go : (phases : List (ℕ → PhaseShare M)) → IsLockstep S run.number (slice_get ns) phases run.last → IsNextPhase S n (slice_get ns)
       go [] h = inr (run.last, h)
-      go (parts ∷ phases) h =
-          let e : n ≡ run.number = chosen-is ns run.number parts h.0 first n u c in
-          rw e (inl (record { parts = parts; each = h.0.each; letters = h.0.letters; phases = phases; last = run.last; rest = h.1 }))
+      go (shares ∷ phases) h =
+          let e : n ≡ run.number = chosen-is ns run.number shares h.0 first n u c in
+          rw e (inl (record { shares = shares; each = h.0.each; letters = h.0.letters; to_others = h.0.to_others; phases = phases; last = run.last; rest = h.1 }))
 
   empty-queues : (c : CoreState N M) → ((p q : ℕ) → c.queue p q ≡ []) → c ≡ start c.nodes
   empty-queues c h = ap (λ (f : ℕ → ℕ → List M). let x : CoreState N M = record { nodes = c.nodes; queue = f } in x) (fun_ext (λ p. fun_ext (λ q. h p q)))
@@ -74,12 +67,12 @@ module _ {N M : Type 0} (S : NodeSteps N M) where
   -- a local step of a node at the number of the next phase
   module _ (c d : CoreState N M) (p : ℕ) (a : N) (stepped : Stepped) (is : slice_get c.nodes p ≡ Some a) (act : S.act a ≡ Local) (step : IsStep S c p stepped d) where
     after-local : (let x : CoreState N M = record { nodes = nodes_after S c.nodes p Worked; queue = c.queue } in d ≡ x)
-    after-local = step.after ∙ ap (moved S c p) (let e : core_move S c p ≡ Some Worked = rw (is, act) refl in e)
+    after-local = step.leads ∙ ap (moved S c p) (let e : core_move S c p ≡ Some Worked = rw (is, act) refl in e)
 
     pub local-empty : c ≡ start c.nodes → d ≡ start d.nodes
     local-empty e = empty-queues d (λ s t. ap (λ (x : CoreState N M). x.queue s t) after-local ∙ ap (λ (x : CoreState N M). x.queue s t) e)
 
-    pub local-keeps : (n : ℕ) → S.phase a ≡ n → IsNext S n (slice_get c.nodes) → IsNext S n (slice_get d.nodes)
+    pub local-keeps : (n : ℕ) → S.phase a ≡ n → IsNextPhase S n (slice_get c.nodes) → IsNextPhase S n (slice_get d.nodes)
     local-keeps n e next =
         let ne : d.nodes ≡ nodes_after S c.nodes p Worked = ap (λ (x : CoreState N M). x.nodes) after-local in
         local-next S n (slice_get c.nodes) (slice_get d.nodes) p a is act e
@@ -114,18 +107,18 @@ module _ {N M : Type 0} (S : NodeSteps N M) (n : ℕ) where
   pub alone-on : (c d e : CoreState N M) (p : ℕ) (a : N) (stepped : Stepped) → RunsTo (only_phase S n) c d → slice_get d.nodes p ≡ Some a → S.phase a ≡ n → IsStep S d p stepped e → RunsTo (only_phase S n) c e
   alone-on c d e p a stepped r is at step = (
     r.0 ++ (p ∷ []),
-    step.after ∙ sym (moved-same d p (core_move S d p)) ∙ sym (ap (moved (only_phase S n) d p) (step-inside S n d p a is at)) ∙ ap (λ (x : CoreState N M). core_step (only_phase S n) x p) r.1 ∙ sym (run-append (only_phase S n) r.0 (p ∷ []) c),
+    step.leads ∙ sym (moved-same d p (core_move S d p)) ∙ sym (ap (moved (only_phase S n) d p) (step-inside S n d p a is at)) ∙ ap (λ (x : CoreState N M). core_step (only_phase S n) x p) r.1 ∙ sym (run-append (only_phase S n) r.0 (p ∷ []) c),
   )
 
   no-work : (h all : List (Move M)) → HasNoWork all → IsPrefix (h ++ (Worked ∷ [])) all → ⊥
   no-work [] [] w b = b
   no-work [] (Worked ∷ all) w b = w
   no-work [] (Sent q m ∷ all) w b = cc
-  no-work [] (Took q m ∷ all) w b = cc
+  no-work [] (Taken q m ∷ all) w b = cc
   no-work (x ∷ h) [] w b = b
   no-work (x ∷ h) (Worked ∷ all) w b = w
   no-work (x ∷ h) (Sent q m ∷ all) w b = no-work h all w b.1
-  no-work (x ∷ h) (Took q m ∷ all) w b = no-work h all w b.1
+  no-work (x ∷ h) (Taken q m ∷ all) w b = no-work h all w b.1
 
   -- a core that is reached in the phase alone, where no local step of it was left
   module _ (ns : List N) (w : Passes S n (slice_get ns)) (c : CoreState N M) (r : RunsTo (only_phase S n) (start ns) c) where
@@ -146,7 +139,7 @@ module _ {N M : Type 0} (S : NodeSteps N M) (n : ℕ) where
         go : (x : Move M) → IsPrefix (H p ++ (x ∷ [])) (all_moves w.alone.phases w.alone.last p) → IsMoveOf (only_phase S n) a x → ⊥
         go Worked b does = no-work (H p) (all_moves w.alone.phases w.alone.last p) (w.letters_only p) b
         go (Sent q m) b does = let k = sym does.0 ∙ inside S n a e ∙ local in cc
-        go (Took q m) b does = let k = sym does ∙ inside S n a e ∙ local in cc
+        go (Taken q m) b does = let k = sym does ∙ inside S n a e ∙ local in cc
 
     -- where none of its nodes can make a move in the phase, all have passed it
     pub all-passed : ((p : ℕ) (a : N) → slice_get c.nodes p ≡ Some a → S.phase a ≡ n → S.act a ≢ Local → ¬ IsEnabled S c p) → (p : ℕ) → IsDoneAt (only_phase S n) (slice_get c.nodes p)
@@ -171,4 +164,4 @@ module _ {N M : Type 0} (S : NodeSteps N M) (n : ℕ) where
       passed-empty = empty-queues S c (phase-passed S n ns w.alone r.0 c r.1 done).1
 
       pub passed-phased : Lockstep S (slice_get c.nodes)
-      passed-phased = subst (λ (K : ℕ → Option N). Lockstep S K) (fun_ext (λ p. sym ((phase-passed S n ns w.alone r.0 c r.1 done).0 p))) w.after
+      passed-phased = subst (λ (K : ℕ → Option N). Lockstep S K) (fun_ext (λ p. sym ((phase-passed S n ns w.alone r.0 c r.1 done).0 p))) w.rest

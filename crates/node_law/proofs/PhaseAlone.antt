@@ -3,14 +3,14 @@ use Rattle.std.proofs.Common.{◌≡◌, ℕ, ◌+◌, ◌≢◌, List, [], ◌�
 use Rattle.std.specs.List.{slice_get}
 use Rattle.std.proofs.Common.{◌==◌, if◌then◌else◌}
 use Rattle.std.proofs.lemmas.Bool.{eq-eqb, ne_eqb}
-use Rattle.hpf_base.specs.declared.act.Act.TheVariants.{Done}
-use Rattle.hpf_base.specs.NodeSteps.{NodeSteps, Move, Worked, Sent, Took, after, IsMoveOf, after_all, AreMovesOf, after_at, sent, taken}
-use Rattle.hpf_base.specs.Phases.{Part, moves, next_number, TurnsNumber, AreAwaited, IsPartAt, IsPhase, IsEndAt, Lockstep, all_moves}
+use Rattle.node_law.specs.declared.act.Act.TheVariants.{Done}
+use Rattle.node_law.specs.NodeSteps.{NodeSteps, Move, Worked, Sent, Taken, node_after, IsMoveOf, after_all, AreMovesOf, after_at, sent, taken}
+use Rattle.node_law.specs.Phases.{PhaseShare, moves, next_number, TurnsNumber, AreAwaited, IsShareAt, IsPhase, IsEndAt, Lockstep, all_moves}
 use Rattle.node_law.proofs.NextMove.{run-letters}
-use Rattle.hpf_base.specs.Cores.{CoreState, start, core_run, core_move, move_by, made_in}
-use Rattle.hpf_base.specs.Reached.{IsReached}
+use Rattle.node_law.specs.Cores.{CoreState, start, core_run, core_move, move_by, made_in}
+use Rattle.node_law.specs.Reached.{IsReached}
 use Rattle.node_law.proofs.MovesLeft.{history-is, done-all}
-use Rattle.hpf_base.specs.NodeSteps.{IsDoneAt}
+use Rattle.node_law.specs.NodeSteps.{IsDoneAt}
 
 -- a number is not the next one, also where the count wraps
 pub number-turns : (n : ℕ) → n ≢ next_number n
@@ -30,56 +30,59 @@ module _ {N M : Type 0} (S : NodeSteps N M) (n : ℕ) where
   move-inside : (a : N) (x : Move M) → S.phase a ≡ n → IsMoveOf S a x → IsMoveOf only_phase a x
   move-inside a Worked e h = inside a e ∙ h
   move-inside a (Sent q m) e h = (inside a e ∙ h.0, h.1)
-  move-inside a (Took q m) e h = inside a e ∙ h
+  move-inside a (Taken q m) e h = inside a e ∙ h
 
-  pub after-same : (a : N) (x : Move M) → after only_phase a x ≡ after S a x
+  pub after-same : (a : N) (x : Move M) → node_after only_phase a x ≡ node_after S a x
   after-same a Worked = refl
   after-same a (Sent q m) = refl
-  after-same a (Took q m) = refl
+  after-same a (Taken q m) = refl
 
   moves-inside : (a : N) (xs : List (Move M)) → AreMovesOf S a xs → TurnsNumber S n a xs → AreMovesOf only_phase a xs
   moves-inside a [] h t = tt
-  moves-inside a (x ∷ xs) h t = (move-inside a x t.0 h.0, rw (after-same a x) (moves-inside (after S a x) xs h.1 t.1))
+  moves-inside a (x ∷ xs) h t = (move-inside a x t.0 h.0, rw (after-same a x) (moves-inside (node_after S a x) xs h.1 t.1))
 
   all-same : (a : N) (xs : List (Move M)) → after_all only_phase a xs ≡ after_all S a xs
   all-same a [] = refl
-  all-same a (x ∷ xs) = rw (after-same a x) (all-same (after S a x) xs)
+  all-same a (x ∷ xs) = rw (after-same a x) (all-same (node_after S a x) xs)
 
   turns-same : (a : N) (xs : List (Move M)) → TurnsNumber S n a xs → TurnsNumber only_phase n a xs
   turns-same a [] t = t
-  turns-same a (x ∷ xs) t = (t.0, rw (after-same a x) (turns-same (after S a x) xs t.1))
+  turns-same a (x ∷ xs) t = (t.0, rw (after-same a x) (turns-same (node_after S a x) xs t.1))
 
   awaited-same : (a : N) (xs : List (Move M)) → AreAwaited S a xs → AreAwaited only_phase a xs
   awaited-same a [] h = tt
   awaited-same a (Worked ∷ xs) h = awaited-same (S.after_local a) xs h
   awaited-same a (Sent q m ∷ xs) h = awaited-same (S.after_send a) xs h
-  awaited-same a (Took q m ∷ xs) h = (h.0, awaited-same (S.after_take m a) xs h.1)
+  awaited-same a (Taken q m ∷ xs) h = (h.0, awaited-same (S.after_take m a) xs h.1)
 
   turned : (a : N) (xs : List (Move M)) → TurnsNumber S n a xs → S.phase (after_all S a xs) ≡ next_number n
   turned a [] t = t
-  turned a (x ∷ xs) t = turned (after S a x) xs t.1
+  turned a (x ∷ xs) t = turned (node_after S a x) xs t.1
 
-  pub part-inside : (o : Option N) (part : Part M) → IsPartAt S n o part → IsPartAt only_phase n o part
-  part-inside None part h = h
-  part-inside (Some a) part h = record {
-    made = moves-inside a (moves part) h.made h.number;
+  pub share-inside : (o : Option N) (share : PhaseShare M) → IsShareAt S n o share → IsShareAt only_phase n o share
+  share-inside None share h = h
+  share-inside (Some a) share h = record {
+    made = moves-inside a (moves share) h.made h.number;
     front = h.front;
     back = h.back;
-    number = turns-same a (moves part) h.number;
-    awaited = awaited-same a (moves part) h.awaited;
+    number = turns-same a (moves share) h.number;
+    awaited = awaited-same a (moves share) h.awaited;
   }
 
-  pub part-ends : (o : Option N) (part : Part M) → IsPartAt S n o part → IsEndAt only_phase (after_at only_phase o (moves part)) []
-  part-ends None part h = refl
-  part-ends (Some a) part h = (tt, tt, tt, outside (after_all only_phase a (moves part)) (λ e. number-turns n (sym e ∙ ap S.phase (all-same a (moves part)) ∙ turned a (moves part) h.number)))
+  pub share-ends : (o : Option N) (share : PhaseShare M) → IsShareAt S n o share → IsEndAt only_phase (after_at only_phase o (moves share)) []
+  share-ends None share h = refl
+  share-ends (Some a) share h = (tt, tt, tt, outside (after_all only_phase a (moves share)) (λ e. number-turns n (sym e ∙ ap S.phase (all-same a (moves share)) ∙ turned a (moves share) h.number)))
 
   -- one phase alone
-  unfoldable pub phase-alone : (ns : ℕ → Option N) (parts : ℕ → Part M) → IsPhase S n ns parts → Lockstep only_phase ns
-  phase-alone ns parts h = record {
+  unfoldable pub phase-alone : (ns : ℕ → Option N) (shares : ℕ → PhaseShare M) → IsPhase S n ns shares → Lockstep only_phase ns
+  phase-alone ns shares h = record {
     number = n;
-    phases = parts ∷ [];
+    phases = shares ∷ [];
     last = λ p. [];
-    run = (record { begun = h.begun; each = λ p. part-inside (ns p) (parts p) (h.each p); letters = h.letters }, λ p. part-ends (ns p) (parts p) (h.each p));
+    run = (
+      record { begun = h.begun; each = λ p. share-inside (ns p) (shares p) (h.each p); letters = h.letters; to_others = h.to_others },
+      λ p. share-ends (ns p) (shares p) (h.each p),
+    );
   }
 
   after_at-same : (o : Option N) (xs : List (Move M)) → after_at only_phase o xs ≡ after_at S o xs

@@ -1,8 +1,8 @@
 -- A node's moves are a function of the letters that it takes.
 use Rattle.std.proofs.Common.{◌≡◌, ℕ, ◌==◌, Bool, true, false, List, [], ◌∷◌, ◌++◌, Option, Some, None, if◌then◌else◌, refl, sym, ◌∙◌, ap, eq-eqb}
-use Rattle.hpf_base.specs.declared.act.Act.TheVariants.{Done}
+use Rattle.node_law.specs.declared.act.Act.TheVariants.{Done}
 use Rattle.hpf_base.specs.declared.node.NodeId.{NodeId}
-use Rattle.hpf_base.specs.NodeSteps.{IsMoveOf, NodeSteps, Move, Worked, Sent, Took, after, after_all, AreMovesOf, AreMovesAt, after_at, IsDoneAt, sent, taken, IsPrefix}
+use Rattle.node_law.specs.NodeSteps.{IsMoveOf, NodeSteps, Move, Worked, Sent, Taken, node_after, after_all, AreMovesOf, AreMovesAt, after_at, IsDoneAt, sent, taken, IsPrefix}
 
 -- one of the lists is a prefix of the other
 abbrev pub AreComparable : {A : Type 0} → List A → List A → Type 0
@@ -56,41 +56,41 @@ module _ {M : Type 0} where
   sent-append q [] ys = refl
   sent-append q (Worked ∷ xs) ys = sent-append q xs ys
   sent-append q (Sent t m ∷ xs) ys = rw (sent-append q xs ys) (if-append (t == q) m (sent q xs) (sent q ys))
-  sent-append q (Took t m ∷ xs) ys = sent-append q xs ys
+  sent-append q (Taken t m ∷ xs) ys = sent-append q xs ys
 
   pub taken-append : (q : ℕ) (xs ys : List (Move M)) → taken q (xs ++ ys) ≡ taken q xs ++ taken q ys
   taken-append q [] ys = refl
   taken-append q (Worked ∷ xs) ys = taken-append q xs ys
   taken-append q (Sent t m ∷ xs) ys = taken-append q xs ys
-  taken-append q (Took t m ∷ xs) ys = rw (taken-append q xs ys) (if-append (t == q) m (taken q xs) (taken q ys))
+  taken-append q (Taken t m ∷ xs) ys = rw (taken-append q xs ys) (if-append (t == q) m (taken q xs) (taken q ys))
 
   pub sent-comparable : (q : ℕ) (xs ys : List (Move M)) → AreComparable xs ys → AreComparable (sent q xs) (sent q ys)
   sent-comparable q [] ys h = tt
   sent-comparable q (x ∷ xs) [] h = comparable-swap [] (sent q (x ∷ xs)) tt
   sent-comparable q (Worked ∷ xs) (Worked ∷ ys) h = sent-comparable q xs ys h.1
   sent-comparable q (Worked ∷ xs) (Sent s n ∷ ys) h = cc
-  sent-comparable q (Worked ∷ xs) (Took s n ∷ ys) h = cc
+  sent-comparable q (Worked ∷ xs) (Taken s n ∷ ys) h = cc
   sent-comparable q (Sent t m ∷ xs) (Worked ∷ ys) h = cc
   sent-comparable q (Sent t m ∷ xs) (Sent s n ∷ ys) h =
       let e : s ≡ t = cc in
       rw e (comparable-if (t == q) m n (sent q xs) (sent q ys) (cc) (sent-comparable q xs ys h.1))
-  sent-comparable q (Sent t m ∷ xs) (Took s n ∷ ys) h = cc
-  sent-comparable q (Took t m ∷ xs) (Worked ∷ ys) h = cc
-  sent-comparable q (Took t m ∷ xs) (Sent s n ∷ ys) h = cc
-  sent-comparable q (Took t m ∷ xs) (Took s n ∷ ys) h = sent-comparable q xs ys h.1
+  sent-comparable q (Sent t m ∷ xs) (Taken s n ∷ ys) h = cc
+  sent-comparable q (Taken t m ∷ xs) (Worked ∷ ys) h = cc
+  sent-comparable q (Taken t m ∷ xs) (Sent s n ∷ ys) h = cc
+  sent-comparable q (Taken t m ∷ xs) (Taken s n ∷ ys) h = sent-comparable q xs ys h.1
 
   pub taken-comparable : (q : ℕ) (xs ys : List (Move M)) → AreComparable xs ys → AreComparable (taken q xs) (taken q ys)
   taken-comparable q [] ys h = tt
   taken-comparable q (x ∷ xs) [] h = comparable-swap [] (taken q (x ∷ xs)) tt
   taken-comparable q (Worked ∷ xs) (Worked ∷ ys) h = taken-comparable q xs ys h.1
   taken-comparable q (Worked ∷ xs) (Sent s n ∷ ys) h = cc
-  taken-comparable q (Worked ∷ xs) (Took s n ∷ ys) h = cc
+  taken-comparable q (Worked ∷ xs) (Taken s n ∷ ys) h = cc
   taken-comparable q (Sent t m ∷ xs) (Worked ∷ ys) h = cc
-  taken-comparable q (Sent t m ∷ xs) (Took s n ∷ ys) h = cc
+  taken-comparable q (Sent t m ∷ xs) (Taken s n ∷ ys) h = cc
   taken-comparable q (Sent t m ∷ xs) (Sent s n ∷ ys) h = taken-comparable q xs ys h.1
-  taken-comparable q (Took t m ∷ xs) (Worked ∷ ys) h = cc
-  taken-comparable q (Took t m ∷ xs) (Sent s n ∷ ys) h = cc
-  taken-comparable q (Took t m ∷ xs) (Took s n ∷ ys) h =
+  taken-comparable q (Taken t m ∷ xs) (Worked ∷ ys) h = cc
+  taken-comparable q (Taken t m ∷ xs) (Sent s n ∷ ys) h = cc
+  taken-comparable q (Taken t m ∷ xs) (Taken s n ∷ ys) h =
       let e : s ≡ t = cc in
       rw e (comparable-if (t == q) m n (taken q xs) (taken q ys) (cc) (taken-comparable q xs ys h.1))
 
@@ -101,15 +101,15 @@ module _ {N M : Type 0} (S : NodeSteps N M) where
   moves-comparable a (x ∷ xs) [] hx hy h = tt
   moves-comparable a (Worked ∷ xs) (Worked ∷ ys) hx hy h = (refl, moves-comparable (S.after_local a) xs ys hx.1 hy.1 h)
   moves-comparable a (Worked ∷ xs) (Sent q m ∷ ys) hx hy h = cc
-  moves-comparable a (Worked ∷ xs) (Took q m ∷ ys) hx hy h = cc
+  moves-comparable a (Worked ∷ xs) (Taken q m ∷ ys) hx hy h = cc
   moves-comparable a (Sent q m ∷ xs) (Worked ∷ ys) hx hy h = cc
   moves-comparable a (Sent q m ∷ xs) (Sent r n ∷ ys) hx hy h =
       let e : q ≡ r = number-eq q r cc in
       (cc, moves-comparable (S.after_send a) xs ys hx.1 hy.1 h)
-  moves-comparable a (Sent q m ∷ xs) (Took r n ∷ ys) hx hy h = cc
-  moves-comparable a (Took q m ∷ xs) (Worked ∷ ys) hx hy h = cc
-  moves-comparable a (Took q m ∷ xs) (Sent r n ∷ ys) hx hy h = cc
-  moves-comparable a (Took q m ∷ xs) (Took r n ∷ ys) hx hy h =
+  moves-comparable a (Sent q m ∷ xs) (Taken r n ∷ ys) hx hy h = cc
+  moves-comparable a (Taken q m ∷ xs) (Worked ∷ ys) hx hy h = cc
+  moves-comparable a (Taken q m ∷ xs) (Sent r n ∷ ys) hx hy h = cc
+  moves-comparable a (Taken q m ∷ xs) (Taken r n ∷ ys) hx hy h =
       let e : r ≡ q = number-eq r q cc in
       let k : (p : ℕ) → AreComparable (if q == p then m ∷ taken p xs else taken p xs) (if q == p then n ∷ taken p ys else taken p ys) = λ p. rw e at (h p) in
       let f : m ≡ n = comparable-front (q == q) m n (taken q xs) (taken q ys) (eq-eqb q q refl) (k q) in
@@ -122,27 +122,27 @@ module _ {N M : Type 0} (S : NodeSteps N M) where
 
   pub moves-append : (a : N) (xs ys : List (Move M)) → AreMovesOf S a xs → AreMovesOf S (after_all S a xs) ys → AreMovesOf S a (xs ++ ys)
   moves-append a [] ys hx hy = hy
-  moves-append a (x ∷ xs) ys hx hy = (hx.0, moves-append (after S a x) xs ys hx.1 hy)
+  moves-append a (x ∷ xs) ys hx hy = (hx.0, moves-append (node_after S a x) xs ys hx.1 hy)
 
   pub moves-front : (a : N) (xs ys : List (Move M)) → AreMovesOf S a (xs ++ ys) → AreMovesOf S a xs
   moves-front a [] ys h = tt
-  moves-front a (x ∷ xs) ys h = (h.0, moves-front (after S a x) xs ys h.1)
+  moves-front a (x ∷ xs) ys h = (h.0, moves-front (node_after S a x) xs ys h.1)
 
   pub moves-back : (a : N) (xs ys : List (Move M)) → AreMovesOf S a (xs ++ ys) → AreMovesOf S (after_all S a xs) ys
   moves-back a [] ys h = h
-  moves-back a (x ∷ xs) ys h = moves-back (after S a x) xs ys h.1
+  moves-back a (x ∷ xs) ys h = moves-back (node_after S a x) xs ys h.1
 
   pub after_all-append : (a : N) (xs ys : List (Move M)) → after_all S a (xs ++ ys) ≡ after_all S (after_all S a xs) ys
   after_all-append a [] ys = refl
-  after_all-append a (x ∷ xs) ys = after_all-append (after S a x) xs ys
+  after_all-append a (x ∷ xs) ys = after_all-append (node_after S a x) xs ys
 
   -- moves that are comparable with moves to a node that is Done are a prefix of them
   pub done-prefix : (a : N) (xs ys : List (Move M)) → AreMovesOf S a xs → S.act (after_all S a ys) ≡ Done → AreComparable xs ys → IsPrefix xs ys
   done-prefix a [] ys hx d h = tt
   done-prefix a (Worked ∷ xs) [] hx d h = cc
   done-prefix a (Sent q m ∷ xs) [] hx d h = cc
-  done-prefix a (Took p m ∷ xs) [] hx d h = cc
-  done-prefix a (x ∷ xs) (y ∷ ys) hx d h = (h.0, done-prefix (after S a x) xs ys hx.1 (rw h.0 d) h.1)
+  done-prefix a (Taken p m ∷ xs) [] hx d h = cc
+  done-prefix a (x ∷ xs) (y ∷ ys) hx d h = (h.0, done-prefix (node_after S a x) xs ys hx.1 (rw h.0 d) h.1)
 
   -- the same of the node at a number
   pub append_at : (o : Option N) (xs ys : List (Move M)) → AreMovesAt S o xs → AreMovesAt S (after_at S o xs) ys → AreMovesAt S o (xs ++ ys)
@@ -165,7 +165,7 @@ module _ {N M : Type 0} (S : NodeSteps N M) where
   pub no-move-done : (a : N) (x : Move M) → IsMoveOf S a x → S.act a ≡ Done → ⊥
   no-move-done a Worked h d = cc
   no-move-done a (Sent q m) h d = cc
-  no-move-done a (Took q m) h d = cc
+  no-move-done a (Taken q m) h d = cc
 
   -- moves that are a prefix of others and lead to a node that is Done are all of them
   done-whole : (a : N) (xs ys : List (Move M)) → AreMovesOf S a ys → S.act (after_all S a xs) ≡ Done → IsPrefix xs ys → xs ≡ ys
@@ -173,8 +173,8 @@ module _ {N M : Type 0} (S : NodeSteps N M) where
   done-whole a [] (y ∷ ys) hy d b = absurd (no-move-done a y hy.0 d)
   done-whole a (x ∷ xs) [] hy d b = absurd b
   done-whole a (x ∷ xs) (y ∷ ys) hy d b =
-      let d2 : S.act (after_all S (after S a y) xs) ≡ Done = rw b.0 at d in
-      let rest : xs ≡ ys = done-whole (after S a y) xs ys hy.1 d2 b.1 in
+      let d2 : S.act (after_all S (node_after S a y) xs) ≡ Done = rw b.0 at d in
+      let rest : xs ≡ ys = done-whole (node_after S a y) xs ys hy.1 d2 b.1 in
       cc
 
   pub done-whole_at : (o : Option N) (xs ys : List (Move M)) → AreMovesAt S o xs → AreMovesAt S o ys → IsDoneAt S (after_at S o xs) → IsPrefix xs ys → xs ≡ ys

@@ -2,13 +2,13 @@
 use Rattle.std.proofs.Common.{◌≡◌, ℕ, zero, suc, ◌<◌, ◌≤◌, ◌==◌, ◌&&◌, ◌↔◌, inl, inr, Bool, true, false, List, [], ◌∷◌, ◌++◌, length, Option, Some, None, if◌then◌else◌, nat_lt, refl, sym, ◌∙◌, ap, subst, arith, length-append}
 use Rattle.std.specs.List.{slice_get}
 use Rattle.std.proofs.lemmas.Bool.{ltb-false, le-ltb}
-use Rattle.hpf_base.specs.declared.act.Act.{Act}
-use Rattle.hpf_base.specs.declared.act.Act.TheVariants.{Local, Send, Take, Done}
-use Rattle.hpf_base.specs.declared.stepped.Stepped.{Stepped}
-use Rattle.hpf_base.specs.declared.stepped.Stepped.TheVariants.{Moved, NotReady, Ended}
-use Rattle.hpf_base.specs.NodeSteps.{NodeSteps, Move, Worked, Sent, Took}
-use Rattle.hpf_base.specs.Cores.{capacity, CoreState, start, tail, queue_after, take_of, move_by, move_at, core_move, moved, core_step, core_run}
-use Rattle.hpf_base.specs.Reached.{IsReached, ActsAt, IsWaiting, answer, answer_by, unmoved, IsStep}
+use Rattle.node_law.specs.declared.act.Act.{Act}
+use Rattle.node_law.specs.declared.act.Act.TheVariants.{Local, Send, Take, Done}
+use Rattle.node_law.specs.declared.stepped.Stepped.{Stepped}
+use Rattle.node_law.specs.declared.stepped.Stepped.TheVariants.{Moved, NotReady, Ended}
+use Rattle.node_law.specs.NodeSteps.{NodeSteps, Move, Worked, Sent, Taken}
+use Rattle.node_law.specs.Cores.{capacity, CoreState, start, tail, queue_after, take_of, move_by, move_at, core_move, moved, core_step, core_run}
+use Rattle.node_law.specs.Reached.{IsReached, ActsAt, IsWaiting, answer, answer_by, unmoved, IsStep}
 use Rattle.node_law.proofs.History.{HasRoom, can-move}
 
 module _ {N M : Type 0} (S : NodeSteps N M) where
@@ -32,7 +32,7 @@ module _ {N M : Type 0} (S : NodeSteps N M) where
       go : (y : Move M) → HasRoom c.queue p y → length (queue_after c.queue p y s t) ≤ capacity
       go Worked room = h s t
       go (Sent q m) room = if-fits ((p == s) && (q == t)) (c.queue p q ++ (m ∷ [])) (c.queue s t) (rw length-append (omega arith)) (h s t)
-      go (Took q m) room = if-fits ((q == s) && (p == t)) (tail (c.queue q p)) (c.queue s t) (tail-fits (c.queue q p) (h q p)) (h s t)
+      go (Taken q m) room = if-fits ((q == s) && (p == t)) (tail (c.queue q p)) (c.queue s t) (tail-fits (c.queue q p) (h q p)) (h s t)
 
   fits-run : (ps : List ℕ) (c : CoreState N M) → ((s t : ℕ) → length (c.queue s t) ≤ capacity) → (s t : ℕ) → length ((core_run S c ps).queue s t) ≤ capacity
   fits-run [] c h = h

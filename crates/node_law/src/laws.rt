@@ -1,11 +1,14 @@
 //! Laws of every order of steps, as functions that do nothing.
 
-ghost use Rattle.std.specs.Prelude.{◌≡◌, ℕ, ◌⊎◌, List, ◌++◌, Option};
+ghost use Rattle.std.specs.Prelude.{◌≡◌, ◌≢◌, ℕ, ◌⊎◌, List, [], ◌++◌, Option};
 ghost use Rattle.std.specs.List.{slice_get};
-ghost use Rattle.hpf_base.specs.NodeSteps.{Move, AreMovesAt, after_at, IsDoneAt, sent, taken, IsPrefix};
-ghost use Rattle.hpf_base.specs.Phases.{Lockstep, all_moves};
-ghost use Rattle.hpf_base.specs.Cores.{start, core_run, made_in, IsFinished, IsEnabled, IsStuck};
+ghost use Rattle.hpf_base.specs.declared.node.NodeId.{NodeId};
+ghost use Rattle.node_law.specs.NodeSteps.{Move, AreMovesAt, after_at, IsDoneAt, sent, taken, IsPrefix};
+ghost use Rattle.node_law.specs.Phases.{Lockstep, all_moves};
+ghost use Rattle.node_law.specs.Cores.{start, core_run, made_in, IsFinished, IsEnabled, IsStuck};
+ghost use Rattle.node_law.specs.Reached.{ActsAt};
 
+use crate::act::Act;
 use crate::node::PhasedNode;
 
 /// The law of prefixes. Let each node of phased nodes make moves, and for every ordered pair let the letters that
@@ -51,4 +54,15 @@ pub fn never_stuck<N: PhasedNode>()
         IsFinished N.steps core ⊎ ((p : ℕ) × IsEnabled N.steps core p) }
     ensures not_stuck { (ns : List N) (run : Lockstep N.steps (slice_get ns)) (choices : List ℕ)
         → ¬ IsStuck N.steps (core_run N.steps (start ns) choices) }
+{}
+
+/// No node passes letters to itself. In a core that phased nodes reach by any choices a node is never to send to
+/// itself, nor to take from itself, and the queue from a node to itself is empty.
+pub fn letters_to_others<N: PhasedNode>()
+    ensures sends { (ns : List N) (run : Lockstep N.steps (slice_get ns)) (choices : List ℕ) (p : ℕ) (q : NodeId)
+        → ActsAt N.steps (core_run N.steps (start ns) choices).nodes p (Act.Send q) → q.0 ≢ p }
+    ensures takes { (ns : List N) (run : Lockstep N.steps (slice_get ns)) (choices : List ℕ) (p : ℕ) (q : NodeId)
+        → ActsAt N.steps (core_run N.steps (start ns) choices).nodes p (Act.Take q) → q.0 ≢ p }
+    ensures empty { (ns : List N) (run : Lockstep N.steps (slice_get ns)) (choices : List ℕ) (p : ℕ)
+        → (core_run N.steps (start ns) choices).queue p p ≡ [] }
 {}

@@ -8,11 +8,17 @@
 //! this of moves alone, with no queue and no order in time, and the others follow from it.
 #![tactic(auto)]
 
+mod act;
 mod laws;
 mod node;
-mod pieces;
+mod segments;
+mod stepped;
 
-pub use hpf_base::{Act, NodeId, Stepped};
-pub use laws::{confluence, law_of_ends, law_of_prefixes, never_stuck, one_lockstep};
+pub use act::Act;
+pub use hpf_base::NodeId;
+pub use laws::{
+    confluence, law_of_ends, law_of_prefixes, letters_to_others, never_stuck, one_lockstep,
+};
 pub use node::PhasedNode;
-pub use pieces::{lockstep_of_pieces, pieces_joined};
+pub use segments::{lockstep_of_segments, segments_joined};
+pub use stepped::Stepped;

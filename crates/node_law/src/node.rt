@@ -1,9 +1,10 @@
 //! What a node is to a core.
 
 ghost use Rattle.std.specs.Prelude.{◌≡◌, IsTrue, OnErr, OnOk};
-ghost use Rattle.hpf_base.specs.NodeSteps.{NodeSteps};
+ghost use Rattle.node_law.specs.NodeSteps.{NodeSteps};
 
-use hpf_base::{Act, NodeId, OutOfMemory};
+use crate::act::Act;
+use hpf_base::{NodeId, OutOfMemory};
 
 /// A node that passes phases. Each call's answer, and the node after it, are functions of the node, and for
 /// `take` of the letter. Nothing else is known of a node.

@@ -1,10 +1,11 @@
 //! The words of the language, each with its code.
 //!
-//! Comes in: nothing. Goes out: five tables of words, and the code of a word that is spelled so.
+//! Comes in: nothing. Goes out: six tables of words, and the code of a word that is spelled so.
 //! What holds in between: a table's words are those of `specs/`, distinct and in ascending order, and a word's
 //! code is its place; a look-up gives that code, and None exactly where the word isn't in the table.
 #![tactic(auto)]
 
+mod directives;
 mod dots;
 mod intrinsics;
 mod left_out;
@@ -14,11 +15,12 @@ mod reserved;
 mod statements;
 mod table;
 
-pub use dots::{DOT_WORDS, dot_word};
-pub use intrinsics::{INTRINSIC_WORDS, intrinsic_word};
-pub use left_out::LEFT_OUT_WORDS;
-pub use marks::{SYMBOLS, symbol};
+pub use directives::{directive_word, directive_words};
+pub use dots::{dot_word, dot_words};
+pub use intrinsics::{intrinsic_word, intrinsic_words};
+pub use left_out::{left_out_word, left_out_words};
+pub use marks::{symbol, symbols};
 pub use op::Op;
 pub use reserved::is_reserved;
-pub use statements::STATEMENT_WORDS;
+pub use statements::{statement_word, statement_words};
 pub use table::{Row, Table};

@@ -14,8 +14,32 @@ pub struct Row {
 
 /// A table of words. In the tables of this crate the spellings are distinct and ascend in the order of bytes.
 #[derive(Clone, Copy)]
-pub struct Table<const N: usize> {
-    pub rows: [Row; N],
+pub struct Table {
+    pub rows: &'static [Row],
+}
+
+impl Table {
+    /// The row with this spelling; None exactly where there is none. It takes no memory.
+    pub fn find(&self, word: &str) -> Option<&'static Row>
+        ensures { option_copied result ≡ row_of self.now.rows.now word.now }
+    {
+        find_row(self.rows, word.as_bytes())
+    }
+
+    /// The code of the row with this spelling; None exactly where there is none. Where the rows are the table of some
+    /// words it is the word's code among them. It takes no memory.
+    pub fn code(&self, word: &[u8]) -> Option<u16>
+        ensures { (words : List (List ℕ)) → IsTableOf words self.now.rows.now → result ≡ code_in words word.now }
+    {
+        find_row(self.rows, word).map(|row| row.code)
+    }
+}
+
+/// The row with this spelling; None exactly where there is none.
+fn find_row<'a>(rows: &'a [Row], spelling: &[u8]) -> Option<&'a Row>
+    ensures { option_copied result ≡ row_of rows.now spelling.now }
+{
+    rows.iter().find(|row| row.spelling.as_bytes() == spelling)
 }
 
 /// Rows, from words and their codes.
@@ -26,17 +50,3 @@ macro_rules! rows {
 }
 
 pub(crate) use rows;
-
-/// The row with this spelling; None exactly where there is none.
-pub fn find_row<'a>(rows: &'a [Row], spelling: &[u8]) -> Option<&'a Row>
-    ensures { option_copied result ≡ row_of rows.now spelling.now }
-{
-    rows.iter().find(|row| row.spelling.as_bytes() == spelling)
-}
-
-/// The code of the row with this spelling: where the rows are the table of some words, the word's code among them.
-pub fn code_of(rows: &[Row], spelling: &[u8]) -> Option<u16>
-    ensures { (words : List (List ℕ)) → IsTableOf words rows.now → result ≡ code_in words spelling.now }
-{
-    find_row(rows, spelling).map(|row| row.code)
-}

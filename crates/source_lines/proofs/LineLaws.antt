@@ -6,8 +6,8 @@ use Rattle.std.proofs.Math.Seq.{take-add}
 use Rattle.std.proofs.lemmas.List.{drop-drop, drop_more}
 use Rattle.std.proofs.lemmas.Bool.{ne_eqb}
 use Rattle.source_lines.specs.Cut.{cut}
-use Rattle.source_lines.specs.Rows.{first_part}
-use Rattle.source_lines.specs.Lines.{between_semicolons, statements, together, with_part}
+use Rattle.source_lines.specs.PhysicalLines.{first_part}
+use Rattle.source_lines.specs.LogicalLines.{between_semicolons, statements, together, with_part}
 use Rattle.source_lines.proofs.PartLaws.{cut-part, first_part-some}
 
 -- one piece more, with the byte in front

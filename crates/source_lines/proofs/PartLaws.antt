@@ -4,7 +4,7 @@ use Rattle.std.specs.Prelude.{◌==◌, not, filter, if◌then◌else◌}
 use Rattle.std.specs.List.{prefix_len}
 use Rattle.std.proofs.lemmas.List.{drop_all}
 use Rattle.source_lines.specs.Cut.{cut}
-use Rattle.source_lines.specs.Rows.{first_part, is_delimiter, is_comment, parts}
+use Rattle.source_lines.specs.PhysicalLines.{first_part, is_delimiter, is_comment, parts}
 use Rattle.source_lines.proofs.Cuts.{cut-first, cut_behind-drop}
 
 -- a part stays within its bytes

@@ -2,18 +2,19 @@
 use Rattle.std.proofs.Common.{◌≡◌, ℕ, zero, suc, ◌+◌, ◌-◌, ◌*◌, ◌<◌, ◌≤◌, Bool, true, false, cond, List, [], ◌∷◌, ◌++◌, length, take, drop, get_or, map, refl, sym, ap, subst, inl, arith}
 use Rattle.std.specs.Prelude.{All, filter, bytes_eq, if◌then◌else◌, nat_eq, nat_lt, not, ◌||◌}
 use Rattle.std.specs.List.{concat, enumerate_from, flat_map, join_with_byte, prefix_len, list_all, list_any, starts_with}
-use Rattle.std.proofs.lemmas.Bool.{ltb-false, false≢true}
+use Rattle.std.proofs.lemmas.Bool.{false_from_ne_true, ltb-false, false≢true}
 use Rattle.std.proofs.lemmas.List.{length-take, length-drop, length-append, get_or_default}
 use Rattle.std.proofs.lemmas.List.Elements.{All-append, All-cons, All-filter, All-head, All-map, All-nil, All-tail, All-take}
 use Rattle.hpf_base.specs.Refusal.{NoBreach}
+use Rattle.hpf_base.specs.declared.limits.TheConstants.{MAX_CONTINUATIONS, MAX_LINE_BYTES, MAX_LOGICAL_LINE_BYTES}
 use Rattle.hpf_base.specs.declared.refusal.Reason.TheVariants.{BadLine}
 use Rattle.source_lines.specs.declared.line.LogicalLine.{LogicalLine}
-use Rattle.source_lines.specs.declared.line.LineKind.TheVariants as line
-use Rattle.source_lines.specs.declared.rows.RowKind.{RowKind}
-use Rattle.source_lines.specs.declared.rows.RowKind.TheVariants.{Directive}
+use Rattle.source_lines.specs.declared.line.LineKind.TheVariants as logical
+use Rattle.source_lines.specs.declared.physical_lines.PhysicalKind.{PhysicalKind}
+use Rattle.source_lines.specs.declared.physical_lines.PhysicalKind.TheVariants.{Directive}
 use Rattle.source_lines.specs.Cut.{cut, cut_behind}
-use Rattle.source_lines.specs.Rows.{Row, code_of, content, first_part, is_bad, is_bad_part, is_comment, is_blank, is_directive, is_lone_ampersand, parts, physical_lines, row_of, rows_of, without_blanks, without_blanks_behind}
-use Rattle.source_lines.specs.Lines.{between_semicolons, body, continuing_body, groups, joined, lines_in, lines_of_group, lines_of_kind, logical_line, logical_lines, statements, together, with_part}
+use Rattle.source_lines.specs.PhysicalLines.{PhysicalLine, code_of, content, first_part, is_bad, is_bad_part, is_comment, is_blank, is_directive, line_kind, is_lone_ampersand, parts, physical_lines, physical_line, numbered_lines, without_blanks, without_blanks_behind}
+use Rattle.source_lines.specs.LogicalLines.{between_semicolons, body, continuing_body, groups, joined_bytes, lines_in, lines_of_group, lines_of_kind, logical_line, logical_lines, statements, together, with_part}
 use Rattle.source_lines.specs.Breaches.{is_continued, is_passed, standing, IsLineBreach}
 use Rattle.source_lines.proofs.BreachLaws.{IsClear, fine_clear, parted_at}
 use Rattle.source_lines.proofs.ContinuationLaws.{groups_few}
@@ -43,52 +44,48 @@ content-within line = either-within (is_directive line) (drop 5 (without_blanks 
     (omega (arith, length-drop 5 (without_blanks line), without_blanks-within line)) (omega arith)
 
 -- a line that isn't bad is short
-code-short : (line : List ℕ) → is_bad line ≡ false → length (code_of (content line)) ≤ 132
-code-short line fine = omega (arith, code-within (content line), content-within line, long (nat_lt 132 (length line)) refl fine)
+code-short : (line : List ℕ) → is_bad line ≡ false → length (code_of (content line)) ≤ MAX_LINE_BYTES
+code-short line fine = omega (arith, code-within (content line), content-within line, long (nat_lt MAX_LINE_BYTES (length line)) refl fine)
   where
-    long : (t : Bool) → nat_lt 132 (length line) ≡ t → (t || list_any (is_bad_part (is_directive line)) (parts (content line)) || is_lone_ampersand (code_of (content line))) ≡ false → length line ≤ 132
+    long : (t : Bool) → nat_lt MAX_LINE_BYTES (length line) ≡ t → (t || list_any (is_bad_part (line_kind line)) (parts (content line)) || is_lone_ampersand (code_of (content line))) ≡ false → length line ≤ MAX_LINE_BYTES
     long true e bad = absurd (false≢true (sym bad))
-    long false e bad = ltb-false 132 (length line) e
+    long false e bad = ltb-false MAX_LINE_BYTES (length line) e
 
-body-within : (row : Row) → length (body row) ≤ length row.code
-body-within row = either-within (is_continued row) (take (length (without_blanks_behind row.code) - 1) row.code) row.code (length row.code)
-    (omega (arith, length-take (length (without_blanks_behind row.code) - 1) row.code)) (omega arith)
+body-within : (line : PhysicalLine) → length (body line) ≤ length line.code
+body-within line = either-within (is_continued line) (take (length (without_blanks_behind line.code) - 1) line.code) line.code (length line.code)
+    (omega (arith, length-take (length (without_blanks_behind line.code) - 1) line.code)) (omega arith)
 
-continuing_body-within : (row : Row) → length (continuing_body row) ≤ length row.code
-continuing_body-within row = either-within (starts_with nat_eq (without_blanks (body row)) (38 ∷ [])) (drop 1 (without_blanks (body row))) (body row) (length row.code)
-    (omega (arith, length-drop 1 (without_blanks (body row)), without_blanks-within (body row), body-within row)) (body-within row)
+continuing_body-within : (line : PhysicalLine) → length (continuing_body line) ≤ length line.code
+continuing_body-within line = either-within (starts_with nat_eq (without_blanks (body line)) (38 ∷ [])) (drop 1 (without_blanks (body line))) (body line) (length line.code)
+    (omega (arith, length-drop 1 (without_blanks (body line)), without_blanks-within (body line), body-within line)) (body-within line)
 
 -- what stands on the line is short
-abbrev pub IsShort : Row → Type 0
-IsShort row = length row.code ≤ 132
+abbrev pub IsShort : PhysicalLine → Type 0
+IsShort line = length line.code ≤ MAX_LINE_BYTES
 
-join-within : (piece : List ℕ) (rows : List Row) → length piece ≤ 132 → All IsShort rows → length (join_with_byte 32 (piece ∷ map continuing_body rows)) ≤ 133 * (length rows + 1)
+join-within : (piece : List ℕ) (lines : List PhysicalLine) → length piece ≤ MAX_LINE_BYTES → All IsShort lines → length (join_with_byte 32 (piece ∷ map continuing_body lines)) ≤ (MAX_LINE_BYTES + 1) * (length lines + 1)
 join-within piece [] short all = omega arith
-join-within piece (row ∷ rows) short all =
-    let here : length row.code ≤ 132 = All-head IsShort row rows all in
-    let rest = join-within (continuing_body row) rows (omega (arith, continuing_body-within row, here)) (All-tail IsShort row rows all) in
-    omega (arith, rest, short, length-append piece (32 ∷ join_with_byte 32 (continuing_body row ∷ map continuing_body rows)))
+join-within piece (line ∷ lines) short all =
+    let here : length line.code ≤ MAX_LINE_BYTES = All-head IsShort line lines all in
+    let rest = join-within (continuing_body line) lines (omega (arith, continuing_body-within line, here)) (All-tail IsShort line lines all) in
+    omega (arith, rest, short, length-append piece (32 ∷ join_with_byte 32 (continuing_body line ∷ map continuing_body lines)))
 
-joined-within : (row : Row) (rows : List Row) → All IsShort (row ∷ rows) → length (joined row rows) ≤ 133 * length (row ∷ rows)
-joined-within row rows all =
-    let here : length row.code ≤ 132 = All-head IsShort row rows all in
-    omega (arith, join-within (body row) rows (omega (arith, body-within row, here)) (All-tail IsShort row rows all))
+joined_bytes-within : (line : PhysicalLine) (lines : List PhysicalLine) → All IsShort (line ∷ lines) → length (joined_bytes line lines) ≤ (MAX_LINE_BYTES + 1) * length (line ∷ lines)
+joined_bytes-within line lines all =
+    let here : length line.code ≤ MAX_LINE_BYTES = All-head IsShort line lines all in
+    omega (arith, join-within (body line) lines (omega (arith, body-within line, here)) (All-tail IsShort line lines all))
 
-sound_rows : (text : List ℕ) → All (λ row. row.bad ≡ false → IsShort row) (rows_of text)
-sound_rows text =
-    All-map (λ row. row.bad ≡ false → IsShort row) (λ (x : ℕ × List ℕ). row_of x.0 x.1) (enumerate_from 1 (physical_lines text)) (λ k d lt fine. code-short (get_or (enumerate_from 1 (physical_lines text)) k d).1 fine)
-
-false_if : (t : Bool) → (t ≡ true → ⊥) → t ≡ false
-false_if true h = absurd (h refl)
-false_if false h = refl
+sound_lines : (text : List ℕ) → All (λ line. line.bad ≡ false → IsShort line) (numbered_lines text)
+sound_lines text =
+    All-map (λ line. line.bad ≡ false → IsShort line) (λ (x : ℕ × List ℕ). physical_line x.0 x.1) (enumerate_from 1 (physical_lines text)) (λ k d lt fine. code-short (get_or (enumerate_from 1 (physical_lines text)) k d).1 fine)
 
 -- where a text has no breach, its lines are short
-fine_rows : (text : List ℕ) → IsClear (rows_of text) (length (rows_of text)) → All IsShort (rows_of text)
-fine_rows text clear k d lt =
-    let row = get_or (rows_of text) k d in
-    let whole = parted_at (rows_of text) k row lt (get_or_default (rows_of text) k d row lt) in
-    let front : length (take k (rows_of text)) < length (rows_of text) = omega (arith, length-take k (rows_of text), lt) in
-    sound_rows text k d lt (false_if row.bad (λ bad. clear (take k (rows_of text)) row (drop (k + 1) (rows_of text)) BadLine whole front (inl bad)))
+fine_lines : (text : List ℕ) → IsClear (numbered_lines text) (length (numbered_lines text)) → All IsShort (numbered_lines text)
+fine_lines text clear k d lt =
+    let line = get_or (numbered_lines text) k d in
+    let whole = parted_at (numbered_lines text) k line lt (get_or_default (numbered_lines text) k d line lt) in
+    let front : length (take k (numbered_lines text)) < length (numbered_lines text) = omega (arith, length-take k (numbered_lines text), lt) in
+    sound_lines text k d lt (false_from_ne_true line.bad (λ bad. clear (take k (numbered_lines text)) line (drop (k + 1) (numbered_lines text)) BadLine whole front (inl bad)))
 
 -- lists of at most so many elements
 abbrev AreWithin : ℕ → List (List ℕ) → Type 0
@@ -118,41 +115,41 @@ statements-within bytes =
 
 -- a logical line of no more bytes than forty lines have, a blank behind each
 abbrev IsShortLine : LogicalLine → Type 0
-IsShortLine line = length line.bytes ≤ 40 * 133
+IsShortLine line = length line.bytes ≤ MAX_LOGICAL_LINE_BYTES
 
-lines_of_kind-short : (kind : RowKind) (number : ℕ) (bytes : List ℕ) → length bytes ≤ 40 * 133 → All IsShortLine (lines_of_kind kind number bytes)
-lines_of_kind-short Directive number bytes short = All-cons IsShortLine (logical_line number line.Directive bytes) [] short (All-nil IsShortLine)
+lines_of_kind-short : (kind : PhysicalKind) (number : ℕ) (bytes : List ℕ) → length bytes ≤ MAX_LOGICAL_LINE_BYTES → All IsShortLine (lines_of_kind kind number bytes)
+lines_of_kind-short Directive number bytes short = All-cons IsShortLine (logical_line number logical.Directive bytes) [] short (All-nil IsShortLine)
 lines_of_kind-short kind number bytes short =
-    All-map IsShortLine (logical_line number line.Statement) (statements bytes)
+    All-map IsShortLine (logical_line number logical.Statement) (statements bytes)
     (λ k d lt. let at : length (get_or (statements bytes) k d) ≤ length bytes = statements-within bytes k d lt in omega (arith, at, short))
 
-lines_of_group-short : (rows : List Row) → All IsShort rows → length rows ≤ 40 → All IsShortLine (lines_of_group rows)
+lines_of_group-short : (lines : List PhysicalLine) → All IsShort lines → length lines ≤ MAX_CONTINUATIONS + 1 → All IsShortLine (lines_of_group lines)
 lines_of_group-short [] short few = All-nil IsShortLine
-lines_of_group-short (row ∷ rows) short few =
-    lines_of_kind-short row.kind row.number (joined row rows) (omega (arith, joined-within row rows short, few))
+lines_of_group-short (line ∷ lines) short few =
+    lines_of_kind-short line.kind line.number (joined_bytes line lines) (omega (arith, joined_bytes-within line lines short, few))
 
-groups_behind-short : (first : List Row → ℕ) (rows : List Row) (skipped : ℕ) → All IsShort rows → All (All IsShort) (cut_behind first rows skipped)
+groups_behind-short : (first : List PhysicalLine → ℕ) (lines : List PhysicalLine) (skipped : ℕ) → All IsShort lines → All (All IsShort) (cut_behind first lines skipped)
 groups_behind-short first [] skipped short = All-nil (All IsShort)
-groups_behind-short first (row ∷ rows) zero short =
-    let rest : All IsShort rows = All-tail IsShort row rows short in
-    let taken = take (first (row ∷ rows) - 1) rows in
-    All-cons (All IsShort) (row ∷ taken) (cut_behind first rows (first (row ∷ rows) - 1))
-    (All-cons IsShort row taken (All-head IsShort row rows short) (All-take IsShort (first (row ∷ rows) - 1) rows rest)) (groups_behind-short first rows (first (row ∷ rows) - 1) rest)
-groups_behind-short first (row ∷ rows) (suc skipped) short = groups_behind-short first rows skipped (All-tail IsShort row rows short)
+groups_behind-short first (line ∷ lines) zero short =
+    let rest : All IsShort lines = All-tail IsShort line lines short in
+    let taken = take (first (line ∷ lines) - 1) lines in
+    All-cons (All IsShort) (line ∷ taken) (cut_behind first lines (first (line ∷ lines) - 1))
+    (All-cons IsShort line taken (All-head IsShort line lines short) (All-take IsShort (first (line ∷ lines) - 1) lines rest)) (groups_behind-short first lines (first (line ∷ lines) - 1) rest)
+groups_behind-short first (line ∷ lines) (suc skipped) short = groups_behind-short first lines skipped (All-tail IsShort line lines short)
 
 all_flat : {A B : Type 0} (P : B → Type 0) (f : A → List B) (xs : List A) → All (λ x. All P (f x)) xs → All P (flat_map f xs)
 all_flat P f [] all = All-nil P
 all_flat P f (x ∷ xs) all =
     All-append P (f x) (flat_map f xs) (All-head (λ x. All P (f x)) x xs all) (all_flat P f xs (All-tail (λ x. All P (f x)) x xs all))
 
-lines_in-short : (rows : List Row) → All IsShort rows → IsClear rows (length rows) → All IsShortLine (lines_in rows)
-lines_in-short rows short clear =
-    let here : All IsShort (standing rows) = All-filter (λ row. not (is_passed row.kind)) IsShort rows short in
-    all_flat IsShortLine lines_of_group (groups (standing rows))
-    (λ k d lt. lines_of_group-short (get_or (groups (standing rows)) k d) (groups_behind-short (λ rest. prefix_len is_continued rest + 1) (standing rows) 0 here k d lt) (groups_few rows clear k d lt))
+lines_in-short : (lines : List PhysicalLine) → All IsShort lines → IsClear lines (length lines) → All IsShortLine (lines_in lines)
+lines_in-short lines short clear =
+    let here : All IsShort (standing lines) = All-filter (λ line. not (is_passed line.kind)) IsShort lines short in
+    all_flat IsShortLine lines_of_group (groups (standing lines))
+    (λ k d lt. lines_of_group-short (get_or (groups (standing lines)) k d) (groups_behind-short (λ rest. prefix_len is_continued rest + 1) (standing lines) 0 here k d lt) (groups_few lines clear k d lt))
 
 -- where a text has no breach, its logical lines are short
-pub lines_short : (text : List ℕ) → NoBreach (IsLineBreach text) → All (λ line. length line.bytes ≤ 40 * 133) (logical_lines text)
+pub lines_short : (text : List ℕ) → NoBreach (IsLineBreach text) → All (λ line. length line.bytes ≤ MAX_LOGICAL_LINE_BYTES) (logical_lines text)
 lines_short text fine =
-    let clear = fine_clear (rows_of text) fine in
-    lines_in-short (rows_of text) (fine_rows text clear) clear
+    let clear = fine_clear (numbered_lines text) fine in
+    lines_in-short (numbered_lines text) (fine_lines text clear) clear

@@ -1,4 +1,5 @@
 pub mod Cut
-pub mod Rows
+pub mod PhysicalLines
 pub mod Breaches
-pub mod Lines
+pub mod LogicalLines
+pub mod Steps

@@ -2,7 +2,7 @@
 
 ghost use Rattle.std.specs.Prelude.{◌≡◌, ◌-◌, ◌≤◌, length};
 ghost use Rattle.std.specs.List.{list_all, prefix_len, suffix_len};
-ghost use Rattle.source_lines.specs.Rows.{is_blank, without_blanks, without_blanks_behind};
+ghost use Rattle.source_lines.specs.PhysicalLines.{is_blank, without_blanks, without_blanks_behind};
 
 /// A blank, or a tab, which counts as one.
 fn is_blank(byte: u8) -> bool

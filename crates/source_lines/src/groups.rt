@@ -3,74 +3,82 @@
 ghost use Rattle.std.specs.Prelude.{◌≡◌, ◌≤◌, ◌<◌, ◌^◌, ◌++◌, ◌∷◌, [], All, IfOk, MatchOption, OnOk, ◌+◌, drop, length, ⊤};
 ghost use Rattle.std.specs.List.{flat_map, prefix_len};
 ghost use Rattle.source_lines.specs.Breaches.{is_continued, standing};
-ghost use Rattle.source_lines.specs.Lines.{groups, lines_of_group};
+ghost use Rattle.source_lines.specs.LogicalLines.{groups, lines_of_group};
+ghost use Rattle.source_lines.specs.Steps.{IsFirstGroup};
 
 use crate::breach::{is_continued, is_passed};
-use crate::joined::joined;
+use crate::joined_bytes::joined_bytes;
 use crate::line::{LineKind, LogicalLine};
-use crate::rows::{Row, RowKind};
+use crate::physical_lines::{PhysicalKind, PhysicalLine};
 use crate::statements::{push_line, push_statements};
 use std::alloc::{AllocError, Global};
 
 /// The lines that aren't passed over.
-pub(crate) fn standing(mut rows: Vec<Row<'_>>) -> Vec<Row<'_>>
-    ensures { result.items ≡ standing rows.entry.items }
+pub(crate) fn standing(mut lines: Vec<PhysicalLine<'_>>) -> Vec<PhysicalLine<'_>>
+    ensures { result.items ≡ standing lines.entry.items }
 {
-    rows.retain(|row| !is_passed(row));
-    rows
+    lines.retain(|line| !is_passed(line));
+    lines
 }
 
 /// How many lines in front are continued.
-fn continued_lines(rows: &[Row<'_>]) -> usize
-    ensures { result ≡ prefix_len is_continued rows.now }
+fn continued_lines(lines: &[PhysicalLine<'_>]) -> usize
+    ensures { result ≡ prefix_len is_continued lines.now }
 {
-    for (i, row) in rows.iter().enumerate() {
-        if !is_continued(row) {
+    for (i, line) in lines.iter().enumerate() {
+        if !is_continued(line) {
             return i;
         }
     }
-    rows.len()
+    lines.len()
 }
 
 /// The first line and those that continue it.
-fn first_group<'a, 'b>(rows: &'b [Row<'a>]) -> Option<(&'b Row<'a>, &'b [Row<'a>])>
-    ensures group { MatchOption result (groups rows.now ≡ []) (λ x. groups rows.now ≡ (x.0.now ∷ x.1.now) ∷ groups (drop (length x.1.now + 1) rows.now)) }
-    ensures first { MatchOption result ⊤ (λ x. rows.now ≡ x.0.now ∷ drop 1 rows.now) }
-    ensures within { MatchOption result ⊤ (λ x. length x.1.now + 1 ≤ length rows.now) }
+fn first_group<'a, 'b>(
+    lines: &'b [PhysicalLine<'a>],
+) -> Option<(&'b PhysicalLine<'a>, &'b [PhysicalLine<'a>])>
+    ensures group { MatchOption result (groups lines.now ≡ []) (λ x. IsFirstGroup lines.now x.0.now x.1.now) }
+    ensures first { MatchOption result ⊤ (λ x. lines.now ≡ x.0.now ∷ drop 1 lines.now) }
+    ensures within { MatchOption result ⊤ (λ x. length x.1.now + 1 ≤ length lines.now) }
 {
-    let (row, others) = rows.split_first()?;
-    let (continuing, _) = others.split_at(continued_lines(rows).min(others.len()));
-    Some((row, continuing))
+    let (line, others) = lines.split_first()?;
+    let (continuing, _) = others.split_at(continued_lines(lines).min(others.len()));
+    Some((line, continuing))
 }
 
 /// The logical lines of a line and of those that continue it, behind the others.
 fn push_group(
     alloc: Global,
-    row: &Row<'_>,
-    rows: &[Row<'_>],
-    lines: &mut Vec<LogicalLine>,
+    line: &PhysicalLine<'_>,
+    lines: &[PhysicalLine<'_>],
+    found: &mut Vec<LogicalLine>,
 ) -> Result<(), AllocError>
-    requires { row.now.number < 2 ^ 32 }
-    ensures { OnOk result (lines.new.items ≡ lines.old.items ++ lines_of_group (row.now ∷ rows.now)) }
+    requires { line.now.number < 2 ^ 32 }
+    ensures { OnOk result (found.new.items ≡ found.old.items ++ lines_of_group (line.now ∷ lines.now)) }
 {
-    let bytes = joined(alloc, row, rows)?;
-    let line = row.number() as u32;
-    match row.kind() {
-        RowKind::Directive => push_line(alloc, line, LineKind::Directive, &bytes, lines),
-        RowKind::Passed | RowKind::Statement => push_statements(alloc, line, &bytes, lines),
+    let bytes = joined_bytes(alloc, line, lines)?;
+    let number = line.number() as u32;
+    match line.kind() {
+        PhysicalKind::Directive => push_line(alloc, number, LineKind::Directive, &bytes, found),
+        PhysicalKind::Passed | PhysicalKind::Statement => push_statements(
+            alloc, number, &bytes, found,
+        ),
     }
 }
 
 /// The logical lines of lines of which none is passed over.
-pub(crate) fn lines_in(alloc: Global, rows: &[Row<'_>]) -> Result<Vec<LogicalLine>, AllocError>
-    requires { All (λ row. row.number < 2 ^ 32) rows.now }
-    ensures { IfOk result (λ lines. lines.items ≡ flat_map lines_of_group (groups rows.now)) }
+pub(crate) fn lines_in(
+    alloc: Global,
+    lines: &[PhysicalLine<'_>],
+) -> Result<Vec<LogicalLine>, AllocError>
+    requires { All (λ line. line.number < 2 ^ 32) lines.now }
+    ensures { IfOk result (λ found. found.items ≡ flat_map lines_of_group (groups lines.now)) }
 {
-    let mut lines = Vec::new(alloc);
+    let mut found = Vec::new(alloc);
     let mut done = 0;
-    while let Some((row, continuing)) = first_group(&rows[done..]) {
-        push_group(alloc, row, continuing, &mut lines)?;
+    while let Some((line, continuing)) = first_group(&lines[done..]) {
+        push_group(alloc, line, continuing, &mut found)?;
         done += continuing.len() + 1;
     }
-    Ok(lines)
+    Ok(found)
 }

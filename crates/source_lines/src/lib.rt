@@ -1,25 +1,26 @@
 //! From the bytes of a text to its logical lines, and the types of lines and tokens.
 //!
-//! Comes in: any bytes. Goes out: the statements and directives of the text, each with its line's number, or the
-//! first line that breaks a rule of the source form (Fortran 95, 3.3). What holds in between: the lines are
-//! those of the definition, which splits whole lists; a text is refused exactly where it has a breach.
+//! Comes in: any bytes. Goes out: the statements and directives of the text, each with its line's number, and how many
+//! lines the text has, or the first line that breaks a rule of the source form (Fortran 95, 3.3). What holds in between:
+//! the lines are those of the definition, which splits whole lists; a text is refused exactly where it has a breach.
 #![tactic(auto)]
 
 mod blanks;
 mod breach;
 mod bytes;
 mod groups;
-mod joined;
+mod joined_bytes;
 mod line;
 mod line_split;
 mod marks;
 mod parts;
-mod rows;
+mod physical_lines;
 mod statements;
 mod text;
 mod token;
 
 pub use bytes::Bytes;
-pub use line::{LineKind, LogicalLine};
+pub use line::{LineKind, LogicalLine, LogicalLines};
+pub use line_split::first_line;
 pub use text::logical_lines;
 pub use token::{Token, TokenKind};

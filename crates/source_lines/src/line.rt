@@ -20,3 +20,11 @@ pub struct LogicalLine {
     pub kind: LineKind,
     pub bytes: Bytes,
 }
+
+/// The logical lines of a text, in order, and the number of lines that the text itself has, comments and empty ones
+/// among them.
+#[derive(Debug, Drop)]
+pub struct LogicalLines {
+    pub lines: Vec<LogicalLine>,
+    pub line_count: u32,
+}

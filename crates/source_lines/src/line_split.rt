@@ -2,7 +2,7 @@
 
 ghost use Rattle.std.specs.Prelude.{◌≡◌, ◌==◌, ◌<◌, ⊤, MatchOption, length, position, [], ◌∷◌};
 ghost use Rattle.hpf_base.specs.Text.{lines_of};
-ghost use Rattle.source_lines.specs.Rows.{physical_lines};
+ghost use Rattle.source_lines.specs.PhysicalLines.{physical_lines};
 
 use crate::marks::without_return;
 
@@ -13,8 +13,9 @@ fn line_feed(text: &[u8]) -> Option<usize>
     text.iter().position(|b| *b == b'\n')
 }
 
-/// The first line of a text up to its line feed, if there is one, and the text of the other lines.
-fn first_line(text: &[u8]) -> Option<(&[u8], &[u8])>
+/// The first line of a text, without the line feed at its end, and the text of the lines behind it; None exactly where
+/// the text is empty. It takes no memory.
+pub fn first_line(text: &[u8]) -> Option<(&[u8], &[u8])>
     ensures lines { MatchOption result (lines_of text.now ≡ []) (λ x. lines_of text.now ≡ x.0.now ∷ lines_of x.1.now) }
     ensures shorter { MatchOption result ⊤ (λ x. length x.1.now < length text.now) }
 {
@@ -30,7 +31,7 @@ fn first_line(text: &[u8]) -> Option<(&[u8], &[u8])>
     }
 }
 
-/// The first line of a text without its end, if there is one, and the text of the other lines.
+/// The first line of a text, without a carriage return at its end either.
 pub(crate) fn next_line(text: &[u8]) -> Option<(&[u8], &[u8])>
     ensures lines { MatchOption result (physical_lines text.now ≡ []) (λ x. physical_lines text.now ≡ x.0.now ∷ physical_lines x.1.now) }
     ensures shorter { MatchOption result ⊤ (λ x. length x.1.now < length text.now) }

@@ -3,9 +3,10 @@
 ghost use Rattle.std.specs.Prelude.{◌≡◌, ◌∷◌, [], map, codes, nat_eq};
 ghost use Rattle.std.specs.Char.{to_ascii_uppercase};
 ghost use Rattle.std.specs.List.{ends_with, starts_with};
-ghost use Rattle.source_lines.specs.Rows.{content, is_directive, is_lone_ampersand, without_blanks_behind, without_return};
+ghost use Rattle.source_lines.specs.PhysicalLines.{content, is_lone_ampersand, line_kind, without_blanks_behind, without_return};
 
 use crate::blanks::{without_blanks, without_blanks_behind};
+use crate::line::LineKind;
 
 /// The line without the carriage return that belongs to its end.
 pub(crate) fn without_return(line: &[u8]) -> &[u8]
@@ -31,11 +32,15 @@ fn has_mark(bytes: &[u8]) -> bool
     *b"!HPF$" == upper
 }
 
-/// The line is a directive.
-pub(crate) fn is_directive(line: &[u8]) -> bool
-    ensures { result ≡ is_directive line.now }
+/// Whether the line is of a directive or of statements.
+pub(crate) fn line_kind(line: &[u8]) -> LineKind
+    ensures { result ≡ line_kind line.now }
 {
-    has_mark(without_blanks(line))
+    if has_mark(without_blanks(line)) {
+        LineKind::Directive
+    } else {
+        LineKind::Statement
+    }
 }
 
 /// What stands behind the mark of a directive, and all of any other line.

@@ -2,7 +2,9 @@
 
 ghost use Rattle.std.specs.Prelude.{◌≡◌, ◌==◌, ◌<◌, position, ◌++◌, ◌∷◌, [], MatchOption, ⊤, length};
 ghost use Rattle.std.specs.List.{list_any};
-ghost use Rattle.source_lines.specs.Rows.{first_part, is_bad_part, is_bad_text, is_control, is_delimiter, parts, code_of};
+ghost use Rattle.source_lines.specs.PhysicalLines.{code_of, first_part, is_bad_part, is_bad_text, is_barred, is_control, is_delimiter, parts};
+
+use crate::line::LineKind;
 
 /// A byte that begins and ends a text constant.
 fn is_delimiter(byte: u8) -> bool
@@ -58,9 +60,19 @@ fn is_bad_text(delimiter: u8, bytes: &[u8]) -> bool
     !bytes.ends_with(&[delimiter]) || has_control(bytes)
 }
 
-/// A part that may not stand on a line.
-fn is_bad_part(directive: bool, part: &[u8]) -> bool
-    ensures { result ≡ is_bad_part directive part.now }
+/// A byte that may not stand on a line of this kind, though others may bear it.
+fn is_barred(kind: LineKind, byte: u8) -> bool
+    ensures { result ≡ is_barred kind byte }
+{
+    match kind {
+        LineKind::Directive => byte == b';',
+        LineKind::Statement => false,
+    }
+}
+
+/// A part that may not stand on a line of this kind.
+fn is_bad_part(kind: LineKind, part: &[u8]) -> bool
+    ensures { result ≡ is_bad_part kind part.now }
 {
     let Some((first, rest)) = part.split_first() else {
         return false;
@@ -68,7 +80,7 @@ fn is_bad_part(directive: bool, part: &[u8]) -> bool
     if is_delimiter(*first) {
         is_bad_text(*first, rest)
     } else {
-        is_control(*first) || *first >= 128 || directive && *first == b';'
+        is_control(*first) || *first >= 128 || is_barred(kind, *first)
     }
 }
 
@@ -87,14 +99,14 @@ fn next_part(bytes: &[u8]) -> Option<(&[u8], &[u8])>
 }
 
 /// What stands in the bytes, a comment apart, and whether a part of it may not stand there.
-pub(crate) fn code_of(directive: bool, bytes: &[u8]) -> (&[u8], bool)
+pub(crate) fn code_of(kind: LineKind, bytes: &[u8]) -> (&[u8], bool)
     ensures code { result.0.now ≡ code_of bytes.now }
-    ensures bad { result.1 ≡ list_any (is_bad_part directive) (parts bytes.now) }
+    ensures bad { result.1 ≡ list_any (is_bad_part kind) (parts bytes.now) }
 {
     let mut rest = bytes;
     let mut bad = false;
     while let Some((part, behind)) = next_part(rest) {
-        bad |= is_bad_part(directive, part);
+        bad |= is_bad_part(kind, part);
         rest = behind;
     }
     (&bytes[..bytes.len() - rest.len()], bad)

@@ -1,7 +1,8 @@
 //! The statements of a logical line.
 
 ghost use Rattle.std.specs.Prelude.{◌≡◌, ◌≤◌, ◌<◌, ◌++◌, ◌∷◌, [], MatchOption, OnOk, length, map, take, drop, slice_index, ⊤};
-ghost use Rattle.source_lines.specs.Lines.{between_semicolons, logical_line, statements, with_part, without_empty};
+ghost use Rattle.source_lines.specs.LogicalLines.{between_semicolons, logical_line, statements, with_part, without_empty};
+ghost use Rattle.source_lines.specs.Steps.{IsFirstStatement, IsLastStatement};
 
 use crate::blanks::all_blank;
 use crate::bytes::Bytes;
@@ -24,7 +25,7 @@ fn statement_len(bytes: &[u8]) -> usize
 
 /// The first of the statements, and what is behind its `;`, if there is one.
 fn first_statement(bytes: &[u8]) -> (&[u8], Option<&[u8]>)
-    ensures split { MatchOption result.1 (between_semicolons bytes.now ≡ result.0.now ∷ []) (λ rest. between_semicolons bytes.now ≡ result.0.now ∷ between_semicolons rest.now) }
+    ensures split { MatchOption result.1 (IsLastStatement bytes.now result.0.now) (λ rest. IsFirstStatement bytes.now result.0.now rest.now) }
     ensures shorter { MatchOption result.1 ⊤ (λ rest. length rest.now < length bytes.now) }
 {
     let (statement, rest) = bytes.split_at(statement_len(bytes));

@@ -1,7 +1,6 @@
 pub mod Steps
 pub mod ByKind
+pub mod Bounds
 pub mod Kinding
-pub mod Strictly
 pub mod Spelled
-pub mod Declared
 pub mod Theorem

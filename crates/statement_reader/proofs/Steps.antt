@@ -1,10 +1,10 @@
 -- One step of a reading behind another, and lists.
-use Rattle.std.proofs.Common.{◌≡◌, ℕ, zero, suc, Bool, true, false, List, [], ◌∷◌, refl, drop, map, ap}
-use Rattle.std.specs.Prelude.{◌||◌, if◌then◌else◌}
-use Rattle.std.specs.List.{list_any}
+use Rattle.line_forms.specs.declared.read_error.ReadError.{ReadError}
+use Rattle.std.proofs.Common.{◌⊎◌, inl, inr, ◌≡◌, ℕ, zero, suc, Bool, true, false, List, [], ◌∷◌, refl, drop, ap}
+use Rattle.std.specs.Prelude.{if◌then◌else◌}
 use Rattle.syntax_tree.specs.Lexeme.{Lexeme}
 use Rattle.line_forms.specs.Reading.{Reading, Found, Stopped, ◌>>=◌}
-use Rattle.line_forms.specs.Read.{series}
+use Rattle.line_forms.specs.Read.{comma_list}
 
 -- what was found first, and then
 pub record Steps {A B : Type 0} (r : Reading A) (f : A × List Lexeme → Reading B) (y : B × List Lexeme) : Type 0 where
@@ -20,12 +20,12 @@ pub found_is : {A : Type 0} (x y : A × List Lexeme) → Found x ≡ Found y →
 found_is x y h = cc
 
 -- a list that is read isn't empty
-pub filled : {A : Type 0} (next : List Lexeme → Bool) (part : List Lexeme → Reading A) (n : ℕ) (ts : List Lexeme) (x : List A × List Lexeme) → series next part n ts ≡ Found x → x.0 ≡ [] → ⊥
-unfolding series
+pub filled : {A : Type 0} (next : List Lexeme → Bool) (part : List Lexeme → Reading A) (n : ℕ) (ts : List Lexeme) (x : List A × List Lexeme) → comma_list next part n ts ≡ Found x → x.0 ≡ [] → ⊥
+unfolding comma_list
 filled {A = A} next part zero ts x h e = cc
 filled {A = A} next part (suc n) ts x h e =
     let s = steps (part ts) _ x h in
-    last s.x (series next part n (drop 1 s.x.1)) (next s.x.1) s.next
+    last s.x (comma_list next part n (drop 1 s.x.1)) (next s.x.1) s.next
   where
     more : (y : A) (r : Reading (List A)) → (r >>= λ xs. Found (y ∷ xs.0, xs.1)) ≡ Found x → ⊥
     more y (Found xs) h = cc
@@ -35,6 +35,10 @@ filled {A = A} next part (suc n) ts x h e =
     last y r true h = more y.0 r h
     last y r false h = cc
 
-pub any_map : {X Y : Type 0} (test : X → Bool) (h : Y → X) (ys : List Y) → list_any test (map h ys) ≡ list_any (λ y. test (h y)) ys
-any_map test h [] = refl
-any_map test h (y ∷ ys) = ap (λ b. test (h y) || b) (any_map test h ys)
+stopped_is : {A : Type 0} (e why : ReadError) → ◌≡◌ {A = Reading A} (Stopped e) (Stopped why) → e ≡ why
+stopped_is e why h = cc
+
+-- where a reading stopped
+pub stops : {A B : Type 0} (r : Reading A) (f : A × List Lexeme → Reading B) (why : ReadError) → (r >>= f) ≡ Stopped why → (r ≡ Stopped why) ⊎ ((x : A × List Lexeme) × (r ≡ Found x) × (f x ≡ Stopped why))
+stops (Found x) f why h = inr (x, refl, h)
+stops (Stopped e) f why h = inl (let same : e ≡ why = stopped_is e why h in ap Stopped same)

@@ -1,5 +1,7 @@
 pub mod Forms
 pub mod Views
+pub mod FirstWords
 pub mod Reading
+pub mod LeftOut
 pub mod Breaches
-pub mod Seen
+pub mod Gives

@@ -1,55 +1,20 @@
--- The kind of a line by its first words, and the reading of the whole line from left to right.
-use Rattle.std.specs.Prelude.{ℕ, Bool, true, false, List, [], ◌∷◌, drop, codes, Option, Some, if◌then◌else◌}
+-- The reading of a whole line from left to right.
+use Rattle.std.specs.Prelude.{ℕ, Bool, true, false, ◌||◌, List, [], ◌∷◌, drop, codes, is_some, Option, Some, if◌then◌else◌}
+use Rattle.std.specs.List.{list_any}
 use Rattle.syntax_tree.specs.Lexeme.{Lexeme}
 use Rattle.syntax_tree.specs.Expression.{Expression}
-use Rattle.line_forms.specs.declared.miss.Miss.TheVariants as miss
+use Rattle.line_forms.specs.declared.depths.Depths.{Depths}
+use Rattle.line_forms.specs.declared.depths.Depths.TheVariants.{Limited, Any}
+use Rattle.line_forms.specs.declared.read_error.ReadError.TheVariants as read_error
 use Rattle.line_forms.specs.Marks.{starts, key}
 use Rattle.line_forms.specs.Reading.{Reading, Found, Stopped, ◌>>=◌}
-use Rattle.line_forms.specs.Grammar.{Grammar, Value, Behind, Identifier, Rest}
+use Rattle.line_forms.specs.Grammar.{Grammar, Value, Identifier, OptionalToEnd}
 use Rattle.line_forms.specs.Read.{read}
 use Rattle.statement_reader.specs.declared.kind.Kind.{Kind}
 use Rattle.statement_reader.specs.declared.kind.Kind.TheVariants as kind
-use Rattle.statement_reader.specs.Forms.{grammar, condition, Form, Plain, IfOne, is_action}
+use Rattle.statement_reader.specs.FirstWords.{statement_kind}
+use Rattle.statement_reader.specs.Forms.{grammar, entity, constants, loose_constants, if_head, Form, Plain, IfOne, as_kept, is_action}
 use Rattle.statement_reader.specs.Views.{IsOfKind}
-
--- the kind that a table gives for the word in front; another one where the table hasn't that word
-abbrev pub kind_in : List (List ℕ × Kind) → Kind → List Lexeme → Kind
-kind_in [] k ts = k
-kind_in (row ∷ table) k ts = if starts (key row.0) ts then row.1 else kind_in table k ts
-
--- behind END, and behind ELSE
-abbrev pub end_words : List (List ℕ × Kind)
-end_words =
-    (codes "IF", kind.EndIf false) ∷ (codes "DO", kind.EndDo false) ∷ (codes "WHERE", kind.EndWhere false) ∷
-    (codes "FORALL", kind.EndForall false) ∷ []
-
-abbrev pub else_words : List (List ℕ × Kind)
-else_words = (codes "IF", kind.ElseIf false) ∷ (codes "WHERE", kind.ElseWhere false) ∷ []
-
--- at the front of a line
-abbrev pub unit_words : List (List ℕ × Kind)
-unit_words =
-    (codes "PROGRAM", kind.Program) ∷ (codes "IMPLICIT", kind.ImplicitNone) ∷ (codes "INTEGER", kind.Integer) ∷
-    (codes "PARAMETER", kind.Parameter) ∷ []
-
-abbrev pub construct_words : List (List ℕ × Kind)
-construct_words =
-    (codes "IF", kind.IfThen) ∷ (codes "ELSEIF", kind.ElseIf true) ∷ (codes "ENDIF", kind.EndIf true) ∷
-    (codes "DO", kind.Do) ∷ (codes "ENDDO", kind.EndDo true) ∷ (codes "WHERE", kind.Where) ∷
-    (codes "ELSEWHERE", kind.ElseWhere true) ∷ (codes "ENDWHERE", kind.EndWhere true) ∷ (codes "FORALL", kind.Forall) ∷
-    (codes "ENDFORALL", kind.EndForall true) ∷ []
-
-abbrev pub action_words : List (List ℕ × Kind)
-action_words =
-    (codes "PRINT", kind.Print) ∷ (codes "STOP", kind.Stop) ∷ (codes "EXIT", kind.Exit) ∷ (codes "CYCLE", kind.Cycle) ∷
-    (codes "CONTINUE", kind.Continue) ∷ []
-
--- what kind of statement a line is, if it is one; it is IF for every IF
-abbrev pub kind_of : List Lexeme → Kind
-kind_of ts =
-    if starts (key (codes "END")) ts then kind_in end_words kind.End (drop 1 ts)
-    else if starts (key (codes "ELSE")) ts then kind_in else_words kind.Else (drop 1 ts)
-    else kind_in unit_words (kind_in construct_words (kind_in action_words kind.Assign ts) ts) ts
 
 -- the kinds of which a statement may be the action of an IF
 abbrev pub is_action_kind : Kind → Bool
@@ -69,58 +34,59 @@ is_nothing (t ∷ ts) = false
 
 -- nothing stands behind it
 abbrev pub ended : {A : Type 0} → A × List Lexeme → Reading A
-ended x = if is_nothing x.1 then Found (x.0, []) else Stopped miss.Form
+ended x = if is_nothing x.1 then Found (x.0, []) else Stopped read_error.Malformed
 
 -- a whole line by a grammar, and by that of a kind
-abbrev pub whole_of : Bool → (g : Grammar) → List Lexeme → Reading (Value g)
-whole_of strict g ts = read strict g ts >>= ended
+abbrev pub whole_of : Depths → (g : Grammar) → List Lexeme → Reading (Value g)
+whole_of depths g ts = read depths g ts >>= ended
 
-abbrev pub whole : Bool → (k : Kind) → List Lexeme → Reading (Value (grammar k))
-whole strict k ts = whole_of strict (grammar k) ts
+abbrev pub whole : Depths → (k : Kind) → List Lexeme → Reading (Value (grammar k))
+whole depths k ts = whole_of depths (grammar k) ts
 
 -- a whole line that says nothing more than what it is
 abbrev pub said : Grammar → Form → List Lexeme → Reading Form
-said g form ts = whole_of true g ts >>= λ v. Found (form, v.1)
+said g form ts = whole_of Limited g ts >>= λ v. Found (form, v.1)
 
 -- what may stand behind END PROGRAM
 abbrev pub end_program : List Lexeme → Reading (Option (Option (List ℕ)))
-end_program ts = whole_of true (Rest Identifier) ts >>= λ v. Found (Some v.0, v.1)
+end_program ts = whole_of Limited (OptionalToEnd Identifier) ts >>= λ v. Found (Some v.0, v.1)
 
--- ELSE WHERE and ELSEWHERE are one in what a tree keeps
-abbrev pub as_kept : (k : Kind) → Value (grammar k) → Form
-as_kept (kind.ElseWhere true) v = Plain (kind.ElseWhere true) v
-as_kept (kind.ElseWhere false) v = Plain (kind.ElseWhere true) v
-as_kept k v = Plain k v
-
-abbrev pub line : Bool → Kind → List Lexeme → Reading Form
-line strict k ts = whole strict k ts >>= λ v. Found (as_kept k v.0, v.1)
+abbrev pub line : Depths → Kind → List Lexeme → Reading Form
+line depths k ts = whole depths k ts >>= λ v. Found (as_kept k v.0, v.1)
 
 -- the action of an IF; a WHERE or FORALL has its assignment there
-abbrev pub acting : Bool → Kind → List Lexeme → Reading IsOfKind
-acting strict k ts =
-    if is_action_kind k then (whole strict k ts >>= λ v. if is_action k v.0 then Found ((k, v.0), v.1) else Stopped miss.Form)
-    else Stopped miss.Form
+abbrev pub acting : Depths → Kind → List Lexeme → Reading IsOfKind
+acting depths k ts =
+    if is_action_kind k then (whole depths k ts >>= λ v. if is_action k v.0 then Found ((k, v.0), v.1) else Stopped read_error.Malformed)
+    else Stopped read_error.Malformed
 
 -- an action that says nothing more than what it is
 abbrev pub acted : Grammar → IsOfKind → List Lexeme → Reading IsOfKind
-acted g a ts = whole_of true g ts >>= λ v. Found (a, v.1)
+acted g a ts = whole_of Limited g ts >>= λ v. Found (a, v.1)
 
 -- an IF behind its condition
-abbrev pub if_rest : Bool → Expression → List Lexeme → Reading Form
-if_rest strict cond ts =
+abbrev pub if_rest : Depths → Expression → List Lexeme → Reading Form
+if_rest depths cond ts =
     if starts (key (codes "THEN")) ts then ended (Plain kind.IfThen cond, drop 1 ts)
-    else (acting strict (kind_of ts) ts >>= λ a. Found (IfOne cond a.0.0 a.0.1, a.1))
+    else (acting depths (statement_kind ts) ts >>= λ a. Found (IfOne cond a.0.0 a.0.1, a.1))
 
-abbrev pub if_line : Bool → List Lexeme → Reading Form
-if_line strict ts = read strict (Behind (key (codes "IF")) condition) ts >>= λ c. if_rest strict c.0 c.1
+abbrev pub if_line : Depths → List Lexeme → Reading Form
+if_line depths ts = read depths if_head ts >>= λ c. if_rest depths c.0 c.1
 
-abbrev pub line_of : Bool → Kind → List Lexeme → Reading Form
-line_of strict kind.IfThen ts = if_line strict ts
-line_of strict k ts = line strict k ts
+abbrev pub line_of : Depths → Kind → List Lexeme → Reading Form
+line_of depths kind.IfThen ts = if_line depths ts
+line_of depths k ts = line depths k ts
 
--- the statement that a line is, all but what is asked of a declaration; `strict` asks that no expression is too deep
-abbrev pub reading : Bool → List Lexeme → Reading Form
-reading strict ts = line_of strict (kind_of ts) ts
+-- the statement that a line is
+abbrev pub reading : Depths → List Lexeme → Reading Form
+reading depths ts = line_of depths (statement_kind ts) ts
 
 abbrev pub statement : List Lexeme → Reading Form
-statement ts = reading true ts
+statement ts = reading Limited ts
+
+-- whether an INTEGER with PARAMETER, its values aside, declares arrays: it has DIMENSION, or an entity has bounds
+abbrev pub has_bounds : Value (constants entity) → Bool
+has_bounds d = is_some d.0 || list_any (λ e. is_some e.1.0) d.1
+
+abbrev pub constant_array : List Lexeme → Reading Bool
+constant_array ts = whole_of Any loose_constants ts >>= λ d. Found (has_bounds d.0, d.1)

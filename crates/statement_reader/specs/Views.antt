@@ -5,10 +5,10 @@ use Rattle.syntax_tree.specs.declared.decl.ConstDef.{ConstDef}
 use Rattle.syntax_tree.specs.declared.decl.IntegerDecl.{IntegerDecl}
 use Rattle.syntax_tree.specs.declared.stmt.Header.{Header}
 use Rattle.syntax_tree.specs.declared.stmt.Item.{Item}
-use Rattle.syntax_tree.specs.declared.expr.Expr.TheVariants as expr
-use Rattle.syntax_tree.specs.Expression.{expression}
+use Rattle.std.proofs.Common.{inl, inr}
+use Rattle.syntax_tree.specs.Expression.{Expression, Element, End, expression}
 use Rattle.line_forms.specs.Grammar.{Value, Output}
-use Rattle.line_forms.specs.Parts.{bound_of, flag, output_of}
+use Rattle.line_forms.specs.Parts.{bound, bound_of, output_of, variable_of}
 use Rattle.statement_reader.specs.declared.kind.Kind.{Kind}
 use Rattle.statement_reader.specs.declared.kind.Kind.TheVariants as kind
 use Rattle.statement_reader.specs.declared.statement.Statement.{Statement}
@@ -18,16 +18,32 @@ use Rattle.statement_reader.specs.declared.statement.Action.TheVariants as actio
 use Rattle.statement_reader.specs.declared.statement.Assignment.{Assignment}
 use Rattle.statement_reader.specs.declared.statement.DoHead.{DoHead}
 use Rattle.statement_reader.specs.declared.statement.ForallHead.{ForallHead}
-use Rattle.statement_reader.specs.Forms.{grammar, entity, constant, assignment, axis, do_head, forall_head, declaration, Form, Plain, IfOne}
+use Rattle.statement_reader.specs.Forms.{grammar, plain_entity, entity, constant_entity, constant, assignment, axis, do_head, forall_head, declaration, Form, Plain, IfOne}
 
 abbrev pub entity_of : Entity → Value entity
 entity_of e = (e.name, (option_map (λ v. map bound_of v.items) e.dims, option_map expression e.start))
+
+-- the value of a constant, which it always has: without one it is the view of no line, as no name has an empty list behind it
+abbrev value_in : Option Expression → Expression
+value_in None = Element [] End
+value_in (Some value) = value
+
+abbrev pub constant_entity_of : Entity → Value constant_entity
+constant_entity_of e = (e.name, (option_map (λ v. map bound_of v.items) e.dims, value_in (option_map expression e.start)))
+
+-- the bounds of an entity that has no value: with one it is the view of no line, as no list of bounds is empty
+abbrev plain_bounds : Option Expression → Option (List (Value bound)) → Option (List (Value bound))
+plain_bounds None dims = dims
+plain_bounds (Some value) dims = Some []
+
+abbrev pub plain_entity_of : Entity → Value plain_entity
+plain_entity_of e = (e.name, plain_bounds (option_map expression e.start) (option_map (λ v. map bound_of v.items) e.dims))
 
 abbrev pub constant_of : ConstDef → Value constant
 constant_of c = (c.name, expression c.value)
 
 abbrev pub assignment_of : Assignment → Value assignment
-assignment_of a = (expression (expr.Ref a.left), expression a.right)
+assignment_of a = (variable_of a.left, expression a.right)
 
 abbrev pub axis_of : Header → Value axis
 axis_of h = (h.name, (expression h.first, (expression h.last, option_map expression h.step)))
@@ -38,8 +54,16 @@ do_of d = (d.index, (expression d.first, (expression d.last, option_map expressi
 abbrev pub forall_of : ForallHead → Value forall_head
 forall_of f = (map axis_of f.axes.items, option_map expression f.mask)
 
+-- a declaration by PARAMETER, `::` and DIMENSION; without `::` none of the others stands, and no list of entities is empty
+abbrev declared : Bool → Bool → Option (List (Value bound)) → List Entity → Value declaration
+declared true true dims entities = inl (dims, map constant_entity_of entities)
+declared false true (Some bounds) entities = inr (inl (bounds, map entity_of entities))
+declared false true None entities = inr (inr (inl (map entity_of entities)))
+declared false false None entities = inr (inr (inr (map plain_entity_of entities)))
+declared constant colons dims entities = inr (inr (inr []))
+
 abbrev pub declaration_of : IntegerDecl → Value declaration
-declaration_of d = (flag d.constant, (option_map (λ v. map bound_of v.items) d.dims, (flag d.colons, map entity_of d.entities.items)))
+declaration_of d = declared d.constant d.colons (option_map (λ v. map bound_of v.items) d.dims) d.entities.items
 
 abbrev pub item_of : Item → Output
 item_of i = output_of i
@@ -49,10 +73,11 @@ abbrev pub items_of : List Item → Option (List Output)
 items_of [] = None
 items_of (i ∷ is) = Some (map item_of (i ∷ is))
 
--- END alone, or with PROGRAM and a name
+-- END alone, or with PROGRAM and a name; no name is empty, so that END with a name and no PROGRAM is the view of no line
 abbrev pub end_of : Bool → Option (List ℕ) → Option (Option (List ℕ))
 end_of true name = Some name
-end_of false name = None
+end_of false None = None
+end_of false (Some name) = Some (Some [])
 
 abbrev pub IsOfKind : Type 0
 IsOfKind = (k : Kind) × Value (grammar k)

@@ -1,15 +1,11 @@
 //! Lines that the language leaves out.
 
-ghost use Rattle.std.specs.Prelude.{◌≡◌, ℕ, List, bytes_eq, codes, is_some};
-ghost use Rattle.std.specs.Option.{option_copied};
-ghost use Rattle.op_tables.specs.Tables.{IsTableOf, row_of};
-ghost use Rattle.op_tables.specs.Words.{code_in, left_out_words};
-ghost use Rattle.syntax_tree.specs.Lexeme.{Word, lexeme_of, lexemes};
-ghost use Rattle.line_forms.specs.Marks.{same};
-ghost use Rattle.statement_reader.specs.Breaches.{begins_left_out, is_left_out_do, names_shape};
+ghost use Rattle.std.specs.Prelude.{◌≡◌, bytes_eq, codes};
+ghost use Rattle.syntax_tree.specs.Lexeme.{lexemes};
+ghost use Rattle.statement_reader.specs.LeftOut.{begins_left_out, is_left_out_do};
 
 use line_forms::{is_sign, is_word};
-use op_tables::{LEFT_OUT_WORDS, Row, Table};
+use op_tables::left_out_word;
 use source_lines::{Token, TokenKind};
 use syntax_tree::Sign;
 
@@ -23,40 +19,12 @@ pub(crate) fn begins_left_out(tokens: &[Token]) -> bool
     match &first.kind {
         TokenKind::Integer(_) => true,
         TokenKind::Word(word) => {
-            is_left_out_word(word.bytes())
+            left_out_word(word.bytes()).is_some()
                 || is_sign(rest, Sign::Colon)
                 || (is_do(word.bytes()) && is_left_out_do(rest))
         }
         _ => false,
     }
-}
-
-/// Whether a word is a keyword of a statement that is left out.
-fn is_left_out_word(word: &[u8]) -> bool
-    ensures { result ≡ is_some (code_in left_out_words word.now) }
-{
-    code_of(&words().rows, word).is_some()
-}
-
-/// The code of the row with this spelling: where the rows are the table of some words, the word's code among them.
-fn code_of(rows: &[Row], word: &[u8]) -> Option<u16>
-    ensures { (words : List (List ℕ)) → IsTableOf words rows.now → result ≡ code_in words word.now }
-{
-    find_row(rows, word).map(|row| row.code)
-}
-
-/// The row with this spelling; None exactly where there is none.
-fn find_row<'a>(rows: &'a [Row], word: &[u8]) -> Option<&'a Row>
-    ensures { option_copied result ≡ row_of rows.now word.now }
-{
-    rows.iter().find(|row| row.spelling.as_bytes() == word)
-}
-
-/// The table of these keywords, with the proof of its rows.
-fn words() -> Table<47>
-    ensures { IsTableOf left_out_words result.rows }
-{
-    LEFT_OUT_WORDS
 }
 
 /// Whether a word is DO.
@@ -76,22 +44,5 @@ fn is_left_out_do(tokens: &[Token]) -> bool
     match &first.kind {
         TokenKind::Integer(_) => true,
         _ => is_word(tokens, b"WHILE"),
-    }
-}
-
-/// Whether PROCESSORS_SHAPE stands anywhere in the line.
-pub(crate) fn names_shape(tokens: &[Token]) -> bool
-    ensures { result ≡ names_shape (lexemes tokens.now) }
-{
-    tokens.iter().any(|token| is_shape(&token.kind))
-}
-
-/// Whether a token is PROCESSORS_SHAPE.
-fn is_shape(kind: &TokenKind) -> bool
-    ensures { result ≡ same (Word (codes "PROCESSORS_SHAPE")) (lexeme_of kind.now) }
-{
-    match kind {
-        TokenKind::Word(word) => b"PROCESSORS_SHAPE".as_slice() == word.bytes(),
-        _ => false,
     }
 }

@@ -4,25 +4,26 @@
 //! line is refused as a statement. What holds in between: the kind of a line is told by its first words; the line is
 //! read from left to right by the grammar of its kind; a statement is spelled by its line, whole, and a tree keeps
 //! the same of any other that has this spelling. A line is refused exactly where a definition names a breach: it is
-//! left out of the language, it has an expression deeper than 200 before anything else is wrong with it, or no
-//! statement spells it. Whether a statement stands in its place is no matter of this crate.
+//! left out of the language, a front of it is that of a statement up to and with its first expression deeper than
+//! `MAX_DEPTH`, or no statement spells it. Whether a statement stands in its place is no matter of this crate.
 #![tactic(auto)]
 
-mod answer;
-mod ends;
-mod heads;
-mod judged;
+mod constant_array;
+mod declaration;
+mod first_words;
+mod headers;
 mod kind;
 mod laws;
 mod left_out;
-mod lines;
 mod lists;
 mod parts;
 mod reading;
 mod statement;
-mod words;
+mod verdict;
+mod whole_lines;
+mod word_lines;
 
-pub use answer::read_statement;
 pub use kind::Kind;
 pub use laws::one_form;
 pub use statement::{Action, Assignment, DoHead, ForallHead, Statement};
+pub use verdict::read_statement;

@@ -1,23 +1,25 @@
 //! What statements list.
 
-ghost use Rattle.statement_reader.specs.Forms.{axis, constant, entity};
-ghost use Rattle.statement_reader.specs.Views.{axis_of, constant_of, entity_of, items_of};
-ghost use Rattle.line_forms.specs.Grammar.{Item as OneItem, Perhaps, Series};
+ghost use Rattle.statement_reader.specs.Forms.{axis, constant, constant_entity, entity, plain_entity};
+ghost use Rattle.statement_reader.specs.Views.{axis_of, constant_entity_of, constant_of, entity_of, items_of, plain_entity_of};
+ghost use Rattle.line_forms.specs.Grammar.{CommaList, Expr as OneExpr, Item as OneItem, Optional, Prefixed};
+ghost use Rattle.syntax_tree.specs.Expression.{expression};
 ghost use Rattle.syntax_tree.specs.Lexeme.{lexemes};
-ghost use Rattle.line_forms.specs.Marks.{comma};
+ghost use Rattle.line_forms.specs.declared.depths.Depths.TheVariants.{Limited};
+ghost use Rattle.line_forms.specs.Marks.{comma, equals};
 ghost use Rattle.line_forms.specs.Read.{read};
-ghost use Rattle.line_forms.specs.Seen.{Sees};
+ghost use Rattle.line_forms.specs.Gives.{Gives};
 
-use crate::parts::{perhaps_behind, values};
+use crate::parts::{optional_behind, values};
 use line_forms::{
-    Bounds, Element, ListedItems, Miss, after_sign, behind, formula, is_sign, name,
-    perhaps_enclosed, series,
+    Bounds, Depths, Element, ListedItems, ReadError, after_sign, behind, expr, is_sign, name,
+    optional_enclosed, comma_list,
 };
 use source_lines::Token;
 use std::alloc::Global;
-use syntax_tree::{ConstDef, Entity, Header, Item, Sign};
+use syntax_tree::{ConstDef, Entity, Expr, Header, Item, Sign};
 
-/// Entities of a declaration.
+/// Entities of a declaration that may have values.
 pub(crate) struct Entities {}
 
 impl Element for Entities {
@@ -27,14 +29,79 @@ impl Element for Entities {
 
     ghost view = { entity_of };
 
-    fn read(alloc: Global, strict: bool, tokens: &[Token]) -> Result<(Entity, &[Token]), Miss> {
+    fn read(alloc: Global, depths: Depths, tokens: &[Token]) -> Result<(Entity, &[Token]), ReadError> {
         match name(tokens) {
             Ok((name, rest)) => {
-                let (dims, rest) = perhaps_enclosed::<Bounds>(alloc, strict, rest)?;
-                let (start, rest) = perhaps_behind(alloc, strict, rest, Sign::Equals)?;
+                let (dims, rest) = optional_enclosed::<Bounds>(alloc, depths, rest)?;
+                let (start, rest) = optional_behind(alloc, depths, rest, Sign::Equals)?;
                 Ok((Entity { name, dims, start }, rest))
             }
-            Err(miss) => Err(miss),
+            Err(error) => Err(error),
+        }
+    }
+}
+
+/// Entities of a declaration with PARAMETER, each with its value.
+pub(crate) struct ConstantEntities {}
+
+impl Element for ConstantEntities {
+    type Part = Entity;
+
+    ghost grammar = { constant_entity };
+
+    ghost view = { constant_entity_of };
+
+    fn read(
+        alloc: Global,
+        depths: Depths,
+        tokens: &[Token],
+    ) -> Result<(Entity, &[Token]), ReadError> {
+        match name(tokens) {
+            Ok((name, rest)) => {
+                let (dims, rest) = optional_enclosed::<Bounds>(alloc, depths, rest)?;
+                let (value, rest) = value(alloc, depths, rest)?;
+                let start = Some(value);
+                Ok((Entity { name, dims, start }, rest))
+            }
+            Err(error) => Err(error),
+        }
+    }
+}
+
+/// A value behind `=`.
+fn value(
+    alloc: Global,
+    depths: Depths,
+    tokens: &[Token],
+) -> Result<(Expr, &[Token]), ReadError>
+    ensures { Gives (λ x. (expression x.0, lexemes x.1.now)) result (read depths (Prefixed equals OneExpr) (lexemes tokens.now)) }
+{
+    let rest = after_sign(tokens, Sign::Equals)?;
+    expr(alloc, depths, rest)
+}
+
+/// Entities of a declaration without `::`, which have no values.
+pub(crate) struct PlainEntities {}
+
+impl Element for PlainEntities {
+    type Part = Entity;
+
+    ghost grammar = { plain_entity };
+
+    ghost view = { plain_entity_of };
+
+    fn read(
+        alloc: Global,
+        depths: Depths,
+        tokens: &[Token],
+    ) -> Result<(Entity, &[Token]), ReadError> {
+        match name(tokens) {
+            Ok((name, rest)) => {
+                let (dims, rest) = optional_enclosed::<Bounds>(alloc, depths, rest)?;
+                let start = None;
+                Ok((Entity { name, dims, start }, rest))
+            }
+            Err(error) => Err(error),
         }
     }
 }
@@ -49,14 +116,14 @@ impl Element for Constants {
 
     ghost view = { constant_of };
 
-    fn read(alloc: Global, strict: bool, tokens: &[Token]) -> Result<(ConstDef, &[Token]), Miss> {
+    fn read(alloc: Global, depths: Depths, tokens: &[Token]) -> Result<(ConstDef, &[Token]), ReadError> {
         match name(tokens) {
             Ok((name, rest)) => {
                 let rest = after_sign(rest, Sign::Equals)?;
-                let (value, rest) = formula(alloc, strict, rest)?;
+                let (value, rest) = expr(alloc, depths, rest)?;
                 Ok((ConstDef { name, value }, rest))
             }
-            Err(miss) => Err(miss),
+            Err(error) => Err(error),
         }
     }
 }
@@ -71,11 +138,11 @@ impl Element for Axes {
 
     ghost view = { axis_of };
 
-    fn read(alloc: Global, strict: bool, tokens: &[Token]) -> Result<(Header, &[Token]), Miss> {
+    fn read(alloc: Global, depths: Depths, tokens: &[Token]) -> Result<(Header, &[Token]), ReadError> {
         match name(tokens) {
             Ok((name, rest)) => {
                 let rest = after_sign(rest, Sign::Equals)?;
-                let ((first, last, step), rest) = values(alloc, strict, rest, Sign::Colon)?;
+                let ((first, last, step), rest) = values(alloc, depths, rest, Sign::Colon)?;
                 let axis = Header {
                     name,
                     first,
@@ -84,22 +151,21 @@ impl Element for Axes {
                 };
                 Ok((axis, rest))
             }
-            Err(miss) => Err(miss),
+            Err(error) => Err(error),
         }
     }
 }
 
 /// The items behind a comma, if one is there; none where it isn't.
-pub(crate) fn if_items(
+pub(crate) fn optional_items(
     alloc: Global,
-    strict: bool,
     tokens: &[Token],
-) -> Result<(Vec<Item>, &[Token]), Miss>
-    ensures { Sees (λ x. (items_of x.0.items, lexemes x.1.now)) result (read strict (Perhaps comma (Series OneItem)) (lexemes tokens.now)) }
+) -> Result<(Vec<Item>, &[Token]), ReadError>
+    ensures { Gives (λ x. (items_of x.0.items, lexemes x.1.now)) result (read Limited (Optional comma (CommaList OneItem)) (lexemes tokens.now)) }
 {
     if !is_sign(tokens, Sign::Comma) {
         return Ok((Vec::new(alloc), tokens));
     }
-    let (items, rest) = series::<ListedItems>(alloc, strict, behind(tokens, 1))?;
+    let (items, rest) = comma_list::<ListedItems>(alloc, Depths::Limited, behind(tokens, 1))?;
     Ok((items, rest))
 }

@@ -3,60 +3,60 @@
 ghost use Rattle.std.specs.Prelude.{[], ◌∷◌, option_map};
 ghost use Rattle.syntax_tree.specs.Lexeme.{Fixed, lexemes};
 ghost use Rattle.syntax_tree.specs.Expression.{expression};
-ghost use Rattle.line_forms.specs.Grammar.{Formula, Perhaps, Rest};
+ghost use Rattle.line_forms.specs.declared.depths.Depths.TheVariants.{Limited};
+ghost use Rattle.line_forms.specs.Grammar.{Expr as OneExpr, Optional, OptionalToEnd};
 ghost use Rattle.line_forms.specs.Read.{read};
-ghost use Rattle.line_forms.specs.Seen.{Sees};
+ghost use Rattle.line_forms.specs.Gives.{Gives};
 ghost use Rattle.statement_reader.specs.Forms.{assignment, condition, values};
 ghost use Rattle.statement_reader.specs.Views.{assignment_of};
 
 use crate::statement::Assignment;
-use line_forms::{Miss, after_sign, behind, formula, is_sign, variable};
+use line_forms::{Depths, ReadError, after_sign, behind, expr, is_sign, variable};
 use source_lines::Token;
 use std::alloc::Global;
 use syntax_tree::{Expr, Sign};
 
 /// An expression that may be there behind a sign.
-pub(crate) fn perhaps_behind(
+pub(crate) fn optional_behind(
     alloc: Global,
-    strict: bool,
+    depths: Depths,
     tokens: &[Token],
     sign: Sign,
-) -> Result<(Option<Expr>, &[Token]), Miss>
-    ensures { Sees (λ x. (option_map expression x.0, lexemes x.1.now)) result (read strict (Perhaps (Fixed sign ∷ []) Formula) (lexemes tokens.now)) }
+) -> Result<(Option<Expr>, &[Token]), ReadError>
+    ensures { Gives (λ x. (option_map expression x.0, lexemes x.1.now)) result (read depths (Optional (Fixed sign ∷ []) OneExpr) (lexemes tokens.now)) }
 {
     if !is_sign(tokens, sign) {
         return Ok((None, tokens));
     }
-    let (tree, rest) = formula(alloc, strict, behind(tokens, 1))?;
+    let (tree, rest) = expr(alloc, depths, behind(tokens, 1))?;
     Ok((Some(tree), rest))
 }
 
 /// Two expressions with a sign between, and a third one that may be there behind the sign.
 pub(crate) fn values(
     alloc: Global,
-    strict: bool,
+    depths: Depths,
     tokens: &[Token],
     sign: Sign,
-) -> Result<((Expr, Expr, Option<Expr>), &[Token]), Miss>
-    ensures { Sees (λ x. ((expression x.0.0, (expression x.0.1, option_map expression x.0.2)), lexemes x.1.now)) result (read strict (values (Fixed sign ∷ [])) (lexemes tokens.now)) }
+) -> Result<((Expr, Expr, Option<Expr>), &[Token]), ReadError>
+    ensures { Gives (λ x. ((expression x.0.0, (expression x.0.1, option_map expression x.0.2)), lexemes x.1.now)) result (read depths (values (Fixed sign ∷ [])) (lexemes tokens.now)) }
 {
-    let (first, rest) = formula(alloc, strict, tokens)?;
+    let (first, rest) = expr(alloc, depths, tokens)?;
     let rest = after_sign(rest, sign)?;
-    let (last, rest) = formula(alloc, strict, rest)?;
-    let (step, rest) = perhaps_behind(alloc, strict, rest, sign)?;
+    let (last, rest) = expr(alloc, depths, rest)?;
+    let (step, rest) = optional_behind(alloc, depths, rest, sign)?;
     Ok(((first, last, step), rest))
 }
 
 /// An expression in parentheses.
 pub(crate) fn condition(
     alloc: Global,
-    strict: bool,
     tokens: &[Token],
-) -> Result<(Expr, &[Token]), Miss>
-    ensures { Sees (λ x. (expression x.0, lexemes x.1.now)) result (read strict condition (lexemes tokens.now)) }
+) -> Result<(Expr, &[Token]), ReadError>
+    ensures { Gives (λ x. (expression x.0, lexemes x.1.now)) result (read Limited condition (lexemes tokens.now)) }
 {
     let rest = after_sign(tokens, Sign::Open)?;
-    let (cond, rest) = formula(alloc, strict, rest)?;
+    let (cond, rest) = expr(alloc, Depths::Limited, rest)?;
     let rest = after_sign(rest, Sign::Close)?;
     Ok((cond, rest))
 }
@@ -64,28 +64,26 @@ pub(crate) fn condition(
 /// An assignment.
 pub(crate) fn assignment(
     alloc: Global,
-    strict: bool,
     tokens: &[Token],
-) -> Result<(Assignment, &[Token]), Miss>
-    ensures { Sees (λ x. (assignment_of x.0, lexemes x.1.now)) result (read strict assignment (lexemes tokens.now)) }
+) -> Result<(Assignment, &[Token]), ReadError>
+    ensures { Gives (λ x. (assignment_of x.0, lexemes x.1.now)) result (read Limited assignment (lexemes tokens.now)) }
 {
-    let (left, rest) = variable(alloc, strict, tokens)?;
+    let (left, rest) = variable(alloc, Depths::Limited, tokens)?;
     let rest = after_sign(rest, Sign::Equals)?;
-    let (right, rest) = formula(alloc, strict, rest)?;
+    let (right, rest) = expr(alloc, Depths::Limited, rest)?;
     Ok((Assignment { left, right }, rest))
 }
 
 /// An assignment, where anything stands there.
 pub(crate) fn if_assignment(
     alloc: Global,
-    strict: bool,
     tokens: &[Token],
-) -> Result<(Option<Assignment>, &[Token]), Miss>
-    ensures { Sees (λ x. (option_map assignment_of x.0, lexemes x.1.now)) result (read strict (Rest assignment) (lexemes tokens.now)) }
+) -> Result<(Option<Assignment>, &[Token]), ReadError>
+    ensures { Gives (λ x. (option_map assignment_of x.0, lexemes x.1.now)) result (read Limited (OptionalToEnd assignment) (lexemes tokens.now)) }
 {
     if tokens.is_empty() {
         return Ok((None, tokens));
     }
-    let (one, rest) = assignment(alloc, strict, tokens)?;
+    let (one, rest) = assignment(alloc, tokens)?;
     Ok((Some(one), rest))
 }

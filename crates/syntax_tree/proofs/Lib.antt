@@ -1,2 +1,4 @@
+pub mod Designators
 pub mod Intrinsics
 pub mod Lexemes
+pub mod Rows

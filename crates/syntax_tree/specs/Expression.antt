@@ -1,5 +1,5 @@
 -- Expressions as they are written, apart from where they lie in memory (Fortran 95, 7.1).
-use Rattle.std.specs.Prelude.{ℕ, ℤ, Bool, List}
+use Rattle.std.specs.Prelude.{ℕ, ℤ, Bool, List, [], ◌∷◌}
 use Rattle.op_tables.specs.declared.op.Op.{Op}
 use Rattle.syntax_tree.specs.declared.expr.Expr.{Expr, Int, Bool as Truth', Ref', Unary', Binary', Call', Paren'}
 use Rattle.syntax_tree.specs.declared.expr.Subscript.{Subscript}
@@ -88,3 +88,12 @@ abbrev mutual
   pub maybe : Held-Subscript-Triplet-0 → Maybe
   maybe Subscript-Triplet-0-None' = Absent
   maybe (Subscript-Triplet-0-Some' e) = Present (expression e)
+
+-- the same of lists
+abbrev pub parts_of : List Subscript → Parts
+parts_of [] = End
+parts_of (s ∷ ss) = More (subscript s) (parts_of ss)
+
+abbrev pub arguments_of : List Expr → Parts
+arguments_of [] = End
+arguments_of (e ∷ es) = More (One (expression e)) (arguments_of es)

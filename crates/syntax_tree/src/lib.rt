@@ -1,8 +1,9 @@
-//! The tree of a program, and the definition of what spells it.
+//! The tree of a program, and the abstract syntax that it stands for.
 //!
 //! Comes in: nothing. Goes out: the types of programs, declarations, statements, directives and expressions; in
-//! `specs/` the lexemes that spell a tree, and which trees are well formed. What holds in between: every name
-//! and every choice of spelling that a tree keeps is a field of it, and a tree has one meaning of its own.
+//! `specs/` the abstract syntax of all of these, of which every rule and every meaning speaks, and the lexemes that spell
+//! an expression. What holds in between: every name and every choice of spelling that a tree keeps is a field of it, and a
+//! tree is one program of the abstract syntax (`main_program`), in which choices of spelling that change nothing are gone.
 #![tactic(auto)]
 
 mod codes;

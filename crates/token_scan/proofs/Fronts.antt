@@ -1,109 +1,90 @@
--- How long the longest token at the front is, by which of the fronts are tokens.
-use Rattle.std.proofs.Common.{◌≡◌, ℕ, zero, suc, ◌+◌, ◌<◌, ◌≤◌, ◌⊎◌, Bool, true, false, List, [], ◌∷◌, filter, length, take, Option, Some, None, is_some, inl, inr, refl, ap, ◌∙◌, one-add, arith}
+-- The longest front that is a token, by the class of the first byte, and the first piece.
+use Rattle.std.proofs.Common.{◌≡◌, ℕ, zero, suc, ◌<◌, ◌≤◌, Bool, true, false, List, [], ◌∷◌, length, take, Some, None, is_some, refl, ap, ◌∙◌, arith}
 use Rattle.std.specs.Prelude.{nat_lt}
-use Rattle.std.proofs.lemmas.Bool.{and_from, ltb-true, ltb-false}
-use Rattle.std.specs.List.{last_or, list_all, prefix_len, range_with_len}
-use Rattle.token_scan.specs.Tokens.{kind_of, longest}
+use Rattle.std.specs.List.{list_any}
+use Rattle.std.proofs.lemmas.Bool.{ltb-true, ltb-false}
+use Rattle.std.proofs.lemmas.Bool.Decides.{nat_tests}
+use Rattle.hpf_base.specs.declared.refusal.Reason.TheVariants.{BadLine}
+use Rattle.source_lines.specs.PhysicalLines.{is_blank}
+use Rattle.source_lines.specs.declared.token.TokenKind.{TokenKind}
+use Rattle.source_lines.proofs.Cuts.{cut-cons, cut-first}
+use Rattle.token_scan.specs.Tokens.{class_of, first_byte, first_class, greatest, is_above_limit, is_no_token, kind_of, longest, pieces, spelled, HasBreach}
+use Rattle.token_scan.specs.Pieces.{IsFirst, IsPiece, IsToken}
+use Rattle.token_scan.specs.declared.byte_class.ByteClass.{ByteClass}
+use Rattle.token_scan.specs.declared.byte_class.ByteClass.TheVariants as begins
+use Rattle.token_scan.specs.declared.piece.Piece.TheVariants as piece
 
--- the last of so many numbers from one on that passes a test, or else another value
-abbrev last_that : (ℕ → Bool) → Option ℕ → ℕ → ℕ → Option ℕ
-last_that test other from count = last_or other (filter test (range_with_len from count))
-
--- no number passes the test
-last_that-none : (test : ℕ → Bool) (other : Option ℕ) (from count : ℕ) → ((m : ℕ) → from ≤ m → m < from + count → test m ≡ false) → last_that test other from count ≡ other
-last_that-none test other from zero fails = refl
-last_that-none test other from (suc count) fails =
-    let first : test from ≡ false = fails from (omega arith) (omega arith) in
-    rw first (last_that-none test other (from + 1) count (λ m h g. fails m (omega arith) (omega arith)))
-
--- n passes the test, and no number above it
-last_that-some : (test : ℕ → Bool) (other : Option ℕ) (from count n : ℕ) → from ≤ n → n < from + count → test n ≡ true
-    → ((m : ℕ) → n < m → m < from + count → test m ≡ false) → last_that test other from count ≡ Some n
-last_that-some test other from zero n begins ends passes fails = absurd (omega arith)
-last_that-some test other from (suc count) n begins ends passes fails =
-    step (nat_lt from n) refl (test from) refl
-    (λ (o : Option ℕ) (h : from < n). last_that-some test o (from + 1) count n (omega arith) (omega arith) passes (λ m h g. fails m h (omega arith)))
+-- a number that passes the test, or 0, above which none passes
+greatest-at : (test : ℕ → Bool) (n most : ℕ) → n ≤ most → (1 ≤ n → test n ≡ true) → ((m : ℕ) → n < m → m ≤ most → test m ≡ false) → greatest test most ≡ n
+greatest-at test n zero within passes fails = omega arith
+greatest-at test n (suc most) within passes fails =
+    step (nat_lt n (suc most)) refl (λ (h : n ≤ most). greatest-at test n most h passes (λ m above below. fails m above (omega arith)))
   where
-    step : (later : Bool) → nat_lt from n ≡ later → (t : Bool) → test from ≡ t → ((o : Option ℕ) → from < n → last_that test o (from + 1) count ≡ Some n)
-        → last_that test other from (suc count) ≡ Some n
-    step true h true e behind = rw e (behind (Some from) (ltb-true _ _ h))
-    step true h false e behind = rw e (behind other (ltb-true _ _ h))
-    step false h t e behind =
-        let same : from ≡ n = omega (arith, ltb-false _ _ h) in
-        let here : test from ≡ true = ap test same ∙ passes in
-        rw here (last_that-none test (Some from) (from + 1) count (λ m h g. fails m (omega arith) (omega arith)) ∙ ap Some same)
+    step : (t : Bool) → nat_lt n (suc most) ≡ t → (n ≤ most → greatest test most ≡ n) → greatest test (suc most) ≡ n
+    step true e below =
+        let less : n < suc most = ltb-true _ _ e in
+        let last : test (suc most) ≡ false = fails (suc most) less (omega arith) in
+        rw last (below (omega arith))
+    step false e below =
+        let same : n ≡ suc most = omega (arith, ltb-false _ _ e) in
+        let here : test (suc most) ≡ true = ap test (omega arith) ∙ passes (omega arith) in
+        rw here (omega arith)
 
--- the last is a number from `from` on and before `end` that passes the test
-abbrev IsFound : (ℕ → Bool) → Option ℕ → ℕ → ℕ → Type 0
-IsFound test last from end = (n : ℕ) × (last ≡ Some n) × (from ≤ n) × (n < end) × (test n ≡ true)
+pub first_byte-take : (bytes : List ℕ) (n : ℕ) → 1 ≤ n → first_byte (take n bytes) ≡ first_byte bytes
+first_byte-take bytes zero some = absurd (omega arith)
+first_byte-take [] (suc n) some = refl
+first_byte-take (b ∷ bytes) (suc n) some = refl
 
-last_that-either : (test : ℕ → Bool) (other : Option ℕ) (from count : ℕ) → (last_that test other from count ≡ other) ⊎ IsFound test (last_that test other from count) from (from + count)
-last_that-either test other from zero = inl refl
-last_that-either test other from (suc count) = step (test from) refl (λ (o : Option ℕ). last_that-either test o (from + 1) count)
+-- a front is spelled by the class of the first byte of all
+kind_of-front : (class : ByteClass) (bytes : List ℕ) (n : ℕ) → first_class bytes ≡ class → 1 ≤ n → kind_of (take n bytes) ≡ spelled class (take n bytes)
+kind_of-front class bytes n is some = ap (λ c. spelled c (take n bytes)) (ap class_of (first_byte-take bytes n some) ∙ is)
+
+-- no front of more than so many bytes spells a token of the class
+abbrev pub NoneLonger : ByteClass → List ℕ → ℕ → Type 0
+NoneLonger class bytes n = (m : ℕ) → n < m → m ≤ length bytes → spelled class (take m bytes) ≡ None
+
+longest-at : (class : ByteClass) (bytes : List ℕ) (n : ℕ) → first_class bytes ≡ class → n ≤ length bytes → (1 ≤ n → is_some (kind_of (take n bytes)) ≡ true) → NoneLonger class bytes n → longest bytes ≡ n
+longest-at class bytes n is within passes fails =
+    greatest-at (λ n. is_some (kind_of (take n bytes))) n (length bytes) within passes
+    (λ m above below. ap is_some (kind_of-front class bytes m is (omega arith) ∙ fails m above below))
+
+-- a front that spells a token of its class, and no longer one does, is the first piece
+pub token_front : (class : ByteClass) (bytes : List ℕ) (n : ℕ) (kind : TokenKind) → first_class bytes ≡ class → 1 ≤ n → n ≤ length bytes → spelled class (take n bytes) ≡ Some kind
+    → NoneLonger class bytes n → IsToken bytes n kind
+token_front class bytes n kind is some within spells fails =
+    let token : kind_of (take n bytes) ≡ Some kind = kind_of-front class bytes n is some ∙ spells in (
+      record {
+        some = some;
+        within = within;
+        cut = cut-first longest bytes n (longest-at class bytes n is within (λ h. ap is_some token) fails) some within;
+      },
+      token,
+    )
+
+-- the same above its limit
+pub past_front : (bytes : List ℕ) (n : ℕ) (kind : TokenKind) → IsToken bytes n kind → is_above_limit kind ≡ true → IsPiece bytes (piece.PastLimit n)
+past_front bytes n kind token above = (token.0, rw token.1 refl, rw (token.1, above) refl)
+
+-- where no front spells a token, the first piece is one byte
+byte_front : (class : ByteClass) (b : ℕ) (bytes : List ℕ) → class_of b ≡ class → NoneLonger class (b ∷ bytes) 0 → IsFirst (b ∷ bytes) 1 × (kind_of (b ∷ []) ≡ None)
+byte_front class b bytes is fails =
+    let none : longest (b ∷ bytes) ≡ 0 = longest-at class (b ∷ bytes) 0 is (omega arith) (λ some. absurd (omega arith)) fails in
+    (record { some = omega arith; within = omega arith; cut = cut-cons longest b bytes ∙ rw none refl }, kind_of-front class (b ∷ bytes) 1 is (omega arith) ∙ fails 1 (omega arith) (omega arith))
+
+-- where no front spells a token, and no blank stands, the first piece is a breach
+pub no_front : (class : ByteClass) (bytes : List ℕ) → 1 ≤ length bytes → first_class bytes ≡ class → (begins.Blank ≡ class → ⊥) → NoneLonger class bytes 0 → HasBreach BadLine (pieces bytes)
+no_front class [] some is other fails = absurd (omega arith)
+no_front class (b ∷ bytes) some is other fails = step (is_blank b) refl (byte_front class b bytes is fails)
   where
-    step : (t : Bool) → test from ≡ t → ((o : Option ℕ) → (last_that test o (from + 1) count ≡ o) ⊎ IsFound test (last_that test o (from + 1) count) (from + 1) (from + 1 + count))
-        → (last_that test other from (suc count) ≡ other) ⊎ IsFound test (last_that test other from (suc count)) from (from + suc count)
-    step true e behind = rw e (inr (here (behind (Some from))))
-      where
-        here : (last_that test (Some from) (from + 1) count ≡ Some from) ⊎ IsFound test (last_that test (Some from) (from + 1) count) (from + 1) (from + 1 + count)
-            → IsFound test (last_that test (Some from) (from + 1) count) from (from + suc count)
-        here (inl is) = (from, is, omega arith, omega arith, e)
-        here (inr (n, is, begins, ends, passes)) = (n, is, omega arith, omega arith, passes)
-    step false e behind = rw e (later (behind other))
-      where
-        later : (last_that test other (from + 1) count ≡ other) ⊎ IsFound test (last_that test other (from + 1) count) (from + 1) (from + 1 + count)
-            → (last_that test other (from + 1) count ≡ other) ⊎ IsFound test (last_that test other (from + 1) count) from (from + suc count)
-        later (inl is) = inl is
-        later (inr (n, is, begins, ends, passes)) = inr (n, is, omega arith, omega arith, passes)
+    step : (t : Bool) → is_blank b ≡ t → IsFirst (b ∷ bytes) 1 × (kind_of (b ∷ []) ≡ None) → HasBreach BadLine (pieces (b ∷ bytes))
+    step true e first = absurd (other (let blank : class_of b ≡ begins.Blank = rw e refl in cc))
+    step false e first = ap (list_any is_no_token) first.0.cut ∙ rw (first.1, e) refl
 
--- no front of more than so many bytes is a token
-abbrev pub NoneLonger : List ℕ → ℕ → Type 0
-NoneLonger bytes n = (m : ℕ) → n < m → m ≤ length bytes → is_some (kind_of (take m bytes)) ≡ false
+blank-class : (b : ℕ) → class_of b ≡ begins.Blank → is_blank b ≡ true
+blank-class b is = grind (arith, nat_tests)
 
--- the front of so many bytes is a token
-abbrev pub IsToken : List ℕ → ℕ → Type 0
-IsToken bytes n = (1 ≤ n) × (n ≤ length bytes) × (is_some (kind_of (take n bytes)) ≡ true)
-
-abbrev is_token : List ℕ → ℕ → Bool
-is_token bytes n = is_some (kind_of (take n bytes))
-
-pub longest-some : (bytes : List ℕ) (n : ℕ) → IsToken bytes n → NoneLonger bytes n → longest bytes ≡ n
-longest-some bytes n (some, within, passes) fails =
-    rw (last_that-some (is_token bytes) None 1 (length bytes) n some (omega arith) passes (λ m h g. fails m h (omega arith))) refl
-
-pub longest-none : (bytes : List ℕ) → NoneLonger bytes 0 → longest bytes ≡ 0
-longest-none bytes fails = rw (last_that-none (is_token bytes) None 1 (length bytes) (λ m h g. fails m h (omega arith))) refl
-
-pub longest-either : (bytes : List ℕ) → (longest bytes ≡ 0) ⊎ IsToken bytes (longest bytes)
-longest-either bytes = step (last_that-either (is_token bytes) None 1 (length bytes))
-  where
-    step : (last_that (is_token bytes) None 1 (length bytes) ≡ None) ⊎ IsFound (is_token bytes) (last_that (is_token bytes) None 1 (length bytes)) 1 (1 + length bytes)
-        → (longest bytes ≡ 0) ⊎ IsToken bytes (longest bytes)
-    step (inl is) = inl (rw is refl)
-    step (inr (n, is, begins, ends, passes)) = inr (let e : longest bytes ≡ n = rw is refl in rw e (begins, omega arith, passes))
-
--- a run of bytes that pass a test
-pub list_all-within : (test : ℕ → Bool) (bytes : List ℕ) → list_all test (take (prefix_len test bytes) bytes) ≡ true
-list_all-within test [] = refl
-list_all-within test (b ∷ bytes) = step (test b) refl (list_all-within test bytes)
-  where
-    step : (t : Bool) → test b ≡ t → list_all test (take (prefix_len test bytes) bytes) ≡ true → list_all test (take (prefix_len test (b ∷ bytes)) (b ∷ bytes)) ≡ true
-    step true e h = rw (e, one-add) (and_from (test b) _ e h)
-    step false e h = rw e refl
-
-list_all-past : (test : ℕ → Bool) (bytes : List ℕ) (m : ℕ) → prefix_len test bytes < m → m ≤ length bytes → list_all test (take m bytes) ≡ false
-list_all-past test [] m past within = absurd (omega arith)
-list_all-past test (b ∷ bytes) zero past within = absurd (omega arith)
-list_all-past test (b ∷ bytes) (suc m) past within = step (test b) refl past (list_all-past test bytes m)
-  where
-    step : (t : Bool) → test b ≡ t → prefix_len test (b ∷ bytes) < suc m → (prefix_len test bytes < m → m ≤ length bytes → list_all test (take m bytes) ≡ false) → list_all test (take (suc m) (b ∷ bytes)) ≡ false
-    step true e past ih = let past' = rw e at past in rw e (ih (omega arith) (omega arith))
-    step false e past ih = rw e refl
-
--- where the tokens that begin with this byte are those that go on with bytes that pass a test
-pub none_longer-run : (test : ℕ → Bool) (b : ℕ) (bytes : List ℕ) → ((rest : List ℕ) → is_some (kind_of (b ∷ rest)) ≡ list_all test rest) → NoneLonger (b ∷ bytes) (suc (prefix_len test bytes))
-none_longer-run test b bytes is zero past within = absurd (omega arith)
-none_longer-run test b bytes is (suc m) past within = is (take m bytes) ∙ list_all-past test bytes m (omega arith) (omega arith)
-
-pub token-run : (test : ℕ → Bool) (b : ℕ) (bytes : List ℕ) → ((rest : List ℕ) → is_some (kind_of (b ∷ rest)) ≡ list_all test rest) → is_some (kind_of (b ∷ take (prefix_len test bytes) bytes)) ≡ true
-token-run test b bytes is = is (take (prefix_len test bytes) bytes) ∙ list_all-within test bytes
+pub blank_front : (bytes : List ℕ) → 1 ≤ length bytes → first_class bytes ≡ begins.Blank → IsPiece bytes piece.Blank
+blank_front [] some is = absurd (omega arith)
+blank_front (b ∷ bytes) some is =
+    let first = byte_front begins.Blank b bytes is (λ m above below. refl) in
+    (first.0, first.1, rw (first.1, blank-class b is) refl)

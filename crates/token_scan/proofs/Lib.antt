@@ -1,14 +1,6 @@
 pub mod Fronts
 pub mod Tables
-pub mod FirstBytes
-pub mod FirstPieces
-pub mod TextReading
-pub mod TextFronts
-pub mod OpenTexts
-pub mod WordFronts
-pub mod LiteralFronts
-pub mod DotFronts
-pub mod SymbolFronts
-pub mod Values
-pub mod BlankFronts
+pub mod Runs
+pub mod TableWords
+pub mod Texts
 pub mod LineScan

@@ -1,39 +1,42 @@
 -- The tokens of a logical line (Fortran 95, 3.2 and 3.3.1).
-use Rattle.std.specs.Prelude.{◌≡◌, ℕ, ◌+◌, ◌==◌, ◌^◌, nat_le, nat_lt, pos, Bool, false, not, ◌&&◌, ◌||◌, IsTrue, Any, List, [], ◌∷◌, ◌++◌, map, filter, length, take, Option, Some, None, is_some, is_none, option_map, option_to_list, unwrap_or, if◌then◌else◌}
-use Rattle.std.specs.Char.{is_ascii_alphabetic, is_ascii_alphanumeric, to_ascii_uppercase}
-use Rattle.std.specs.List.{last_or, list_all, range_with_len}
-use Rattle.std.specs.Str.{all_ascii_digits}
+use Rattle.std.specs.Prelude.{◌≡◌, ℕ, ◌+◌, ◌==◌, ◌^◌, ◌++◌, ◌||◌, ◌&&◌, nat_le, nat_lt, pos, Bool, false, not, IsTrue, List, [], ◌∷◌, map, length, get_or, take}
+use Rattle.std.specs.Prelude.{zero, suc, Option, Some, None, is_some, is_none, option_map, option_to_list, if◌then◌else◌}
+use Rattle.std.specs.Char.{is_ascii_alphabetic, is_ascii_alphanumeric, is_ascii_digit, to_ascii_uppercase}
+use Rattle.std.specs.List.{list_all, list_any}
 use Rattle.std.specs.Str.Parse.{digits_value}
+use Rattle.hpf_base.specs.declared.limits.TheConstants.{MAX_NAME_BYTES}
 use Rattle.hpf_base.specs.declared.refusal.Reason.{Reason}
 use Rattle.hpf_base.specs.declared.refusal.Reason.TheVariants.{BadLine, Limit}
 use Rattle.op_tables.specs.Words.{code_in, dot_words, symbols}
+use Rattle.source_lines.specs.Cut.{cut}
+use Rattle.source_lines.specs.PhysicalLines.{is_blank, is_delimiter}
 use Rattle.source_lines.specs.declared.line.LogicalLine.{LogicalLine}
 use Rattle.source_lines.specs.declared.token.Token.{Token}
 use Rattle.source_lines.specs.declared.token.TokenKind.{TokenKind}
 use Rattle.source_lines.specs.declared.token.TokenKind.TheVariants.{Word, Integer, Text, Dot, Symbol}
-use Rattle.source_lines.specs.Cut.{cut}
-use Rattle.source_lines.specs.Rows.{is_blank, is_delimiter}
+use Rattle.token_scan.specs.declared.byte_class.ByteClass.{ByteClass}
+use Rattle.token_scan.specs.declared.byte_class.ByteClass.TheVariants.{Blank, Letter, Digit, Delimiter, Period, Other}
 
--- the first value, or else the second
-abbrev pub or_else : {A : Type 0} → Option A → Option A → Option A
-or_else None y = y
-or_else (Some x) y = Some x
+-- what a byte begins: nothing, a word, digits, a text, a word between periods or a symbol
+abbrev pub class_of : ℕ → ByteClass
+class_of b =
+    if is_blank b then Blank else if is_ascii_alphabetic b then Letter else if is_ascii_digit b then Digit
+    else if is_delimiter b then Delimiter else if b == 46 then Period else Other
+
+-- the byte in front; where there is none, 0, which begins no token
+abbrev pub first_byte : List ℕ → ℕ
+first_byte bytes = get_or bytes 0 0
+
+-- the class of the byte in front
+abbrev pub first_class : List ℕ → ByteClass
+first_class bytes = class_of (first_byte bytes)
 
 abbrev pub upper : List ℕ → List ℕ
 upper bytes = map to_ascii_uppercase bytes
 
+-- a letter, a digit or an underscore
 abbrev pub is_word_byte : ℕ → Bool
 is_word_byte b = is_ascii_alphanumeric b || b == 95
-
--- a letter, then letters, digits and underscores
-abbrev pub is_word : List ℕ → Bool
-is_word [] = false
-is_word (b ∷ bytes) = is_ascii_alphabetic b && list_all is_word_byte bytes
-
--- digits, at least one
-abbrev pub is_integer : List ℕ → Bool
-is_integer [] = false
-is_integer bytes = all_ascii_digits bytes
 
 -- with a byte more at the front
 abbrev pub longer : ℕ → Option (List ℕ) → Option (List ℕ)
@@ -48,21 +51,32 @@ characters delimiter (b ∷ c ∷ bytes) =
     if b == delimiter then (if c == delimiter then longer delimiter (characters delimiter bytes) else None)
     else longer b (characters delimiter (c ∷ bytes))
 
--- the characters between two `'` or two `"`
+-- the characters between two delimiters
 abbrev pub text_of : List ℕ → Option (List ℕ)
 text_of [] = None
-text_of (b ∷ bytes) = if is_delimiter b then characters b bytes else None
+text_of (b ∷ bytes) = characters b bytes
 
--- the token that these bytes spell, all of them; the case of letters makes no difference outside of texts
+-- the token that bytes spell, all of them, by the class of the first; the case of letters makes no difference outside of
+-- texts
+abbrev pub spelled : ByteClass → List ℕ → Option TokenKind
+spelled Blank bytes = None
+spelled Letter bytes = if list_all is_word_byte bytes then Some (Word (upper bytes)) else None
+spelled Digit bytes = if list_all is_ascii_digit bytes then Some (Integer (pos (digits_value 10 bytes))) else None
+spelled Delimiter bytes = option_map Text (text_of bytes)
+spelled Period bytes = option_map Dot (code_in dot_words (upper bytes))
+spelled Other bytes = option_map Symbol (code_in symbols bytes)
+
 abbrev pub kind_of : List ℕ → Option TokenKind
-kind_of bytes =
-    if is_word bytes then Some (Word (upper bytes))
-    else if is_integer bytes then Some (Integer (pos (digits_value 10 bytes)))
-    else or_else (option_map Text (text_of bytes)) (or_else (option_map Dot (code_in dot_words (upper bytes))) (option_map Symbol (code_in symbols bytes)))
+kind_of bytes = spelled (first_class bytes) bytes
+
+-- the greatest number up to this one that passes a test; 0 where none does
+abbrev pub greatest : (ℕ → Bool) → ℕ → ℕ
+greatest test zero = zero
+greatest test (suc n) = if test (suc n) then suc n else greatest test n
 
 -- how long the longest token at the front is; 0 where none begins there
 abbrev pub longest : List ℕ → ℕ
-longest bytes = unwrap_or (last_or None (filter (λ n. is_some (kind_of (take n bytes))) (range_with_len 1 (length bytes)))) 0
+longest bytes = greatest (λ n. is_some (kind_of (take n bytes))) (length bytes)
 
 -- a line cut into its tokens, and single bytes where none begins
 abbrev pub pieces : List ℕ → List (List ℕ)
@@ -85,16 +99,22 @@ tokens bytes = tokens_from 0 (pieces bytes)
 abbrev pub is_no_token : List ℕ → Bool
 is_no_token piece = is_none (kind_of piece) && not (list_all is_blank piece)
 
--- a word of more than 31 bytes, or a number above 2^63 - 1
-abbrev pub is_past_limit : List ℕ → Bool
-is_past_limit piece = (is_word piece && nat_lt 31 (length piece)) || (is_integer piece && nat_le (2 ^ 63) (digits_value 10 piece))
+-- a word of too many bytes, or a number above 2^63 - 1
+abbrev pub is_above_limit : TokenKind → Bool
+is_above_limit (Word name) = nat_lt MAX_NAME_BYTES (length name)
+is_above_limit (Integer (pos value)) = nat_le (2 ^ 63) value
+is_above_limit kind = false
 
--- why a piece is a breach
-abbrev pub IsPieceBreach : Reason → List ℕ → Type 0
-IsPieceBreach BadLine piece = IsTrue (is_no_token piece)
-IsPieceBreach Limit piece = IsTrue (is_past_limit piece)
-IsPieceBreach reason piece = ⊥
+-- a token above its limit
+abbrev pub is_past_limit : List ℕ → Bool
+is_past_limit piece = list_any is_above_limit (option_to_list (kind_of piece))
+
+-- of these pieces one is a breach for this reason
+abbrev pub HasBreach : Reason → List (List ℕ) → Type 0
+HasBreach BadLine pieces = IsTrue (list_any is_no_token pieces)
+HasBreach Limit pieces = IsTrue (list_any is_past_limit pieces)
+HasBreach reason pieces = ⊥
 
 -- the breaches of a line's tokens
 abbrev pub IsTokenBreach : LogicalLine → ℕ → Reason → Type 0
-IsTokenBreach line number reason = (number ≡ line.line) × Any (IsPieceBreach reason) (pieces line.bytes)
+IsTokenBreach line number reason = (number ≡ line.line) × HasBreach reason (pieces line.bytes)

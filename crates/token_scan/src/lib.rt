@@ -5,11 +5,13 @@
 //! tokens are those of the definition, which cuts whole lists, and a line is refused exactly where it has a breach.
 #![tactic(auto)]
 
+mod byte_class;
 mod case;
 mod line_tokens;
 mod number;
 mod piece;
+mod quoted;
 mod run;
-mod text;
+mod table_word;
 
 pub use line_tokens::tokens;

@@ -5,7 +5,7 @@ ghost use Rattle.hpf_base.specs.Refusal.{IsRefusalBy, NoBreach};
 ghost use Rattle.token_scan.specs.Tokens.{IsTokenBreach, tokens};
 
 use crate::piece::{Piece, first_piece};
-use hpf_base::{Reason, Refusal, StaticError};
+use hpf_base::{Reason, StaticError};
 use source_lines::{LogicalLine, Token, TokenKind};
 use std::alloc::Global;
 
@@ -16,7 +16,7 @@ use std::alloc::Global;
 /// `Refused` comes exactly where a piece of the line breaks a rule, with the line's number and the least reason:
 ///
 /// - `BadLine`: a piece that is no token.
-/// - `Limit`: a word of more than 31 bytes, or a literal above 2^63 - 1.
+/// - `Limit`: a word of more than `MAX_NAME_BYTES`, or a literal above 2^63 - 1.
 ///
 /// `Memory` comes only where a growth was refused.
 pub fn tokens(alloc: Global, line: &LogicalLine) -> Result<Vec<Token>, StaticError>
@@ -30,26 +30,21 @@ pub fn tokens(alloc: Global, line: &LogicalLine) -> Result<Vec<Token>, StaticErr
     let mut is_past_limit = false;
     let mut place = 0;
     while place < bytes.len() {
-        let Ok(piece) = first_piece(alloc, &bytes[place..]) else {
-            return Err(StaticError::Memory);
-        };
-        match piece {
+        match first_piece(alloc, &bytes[place..])? {
             Piece::Blank => place += 1,
             Piece::Token(len, kind) => {
-                let Ok(()) = found.push(token(place, place + len, kind)) else {
-                    return Err(StaticError::Memory);
-                };
+                found.push(token(place, place + len, kind))?;
                 place += len;
             }
             Piece::PastLimit(len) => {
                 is_past_limit = true;
                 place += len;
             }
-            Piece::NoToken => return Err(refused(line.line, Reason::BadLine)),
+            Piece::NoToken => return Err(StaticError::at(line.line, Reason::BadLine)),
         }
     }
     if is_past_limit {
-        Err(refused(line.line, Reason::Limit))
+        Err(StaticError::at(line.line, Reason::Limit))
     } else {
         Ok(found)
     }
@@ -66,11 +61,4 @@ fn token(from: usize, to: usize, kind: TokenKind) -> Token
         to: to as u32,
         kind,
     }
-}
-
-/// The refusal of a line for a reason.
-fn refused(line: u32, reason: Reason) -> StaticError
-    ensures { result ≡ StaticError.Refused (record { line = line; reason = reason }) }
-{
-    StaticError::Refused(Refusal { line, reason })
 }

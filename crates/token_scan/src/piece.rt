@@ -1,16 +1,16 @@
 //! What stands at the front of bytes.
 
-ghost use Rattle.std.specs.Prelude.{◌≡◌, ◌<◌, ◌==◌, IfOk, IsTrue, length};
-ghost use Rattle.std.specs.Char.{is_ascii_alphabetic, is_ascii_digit};
-ghost use Rattle.source_lines.specs.Rows.{is_delimiter};
-ghost use Rattle.token_scan.specs.Pieces.{IsPiece, begins_with, is_other};
+ghost use Rattle.std.specs.Prelude.{◌≡◌, ◌<◌, IfOk, length};
+ghost use Rattle.token_scan.specs.Pieces.{IsPiece};
+ghost use Rattle.token_scan.specs.Tokens.{first_class};
 
+use crate::byte_class::{ByteClass, class_of};
 use crate::case::upper_case;
 use crate::number::value_of;
-use crate::run::{Class, run_len};
-use crate::text::closed_text;
+use crate::quoted::quoted;
+use crate::run::{Run, run_len};
+use crate::table_word::{MAX_DOT_BYTES, Words, longest_word};
 use hpf_base::Name;
-use op_tables::{dot_word, symbol};
 use source_lines::{Bytes, TokenKind};
 use std::alloc::{AllocError, Global};
 
@@ -28,10 +28,10 @@ pub(crate) enum Piece {
 
 /// A word: letters, digits and underscores.
 fn word(alloc: Global, bytes: &[u8]) -> Result<Piece, AllocError>
-    requires { IsTrue (begins_with is_ascii_alphabetic bytes.now) }
+    requires { first_class bytes.now ≡ ByteClass.Letter }
     ensures { IfOk result (IsPiece bytes.now) }
 {
-    let len = run_len(Class::InWord, bytes);
+    let len = run_len(Run::Word, bytes);
     let upper = upper_case(alloc, &bytes[..len])?;
     match Name::new(&upper) {
         Some(name) => Ok(Piece::Token(len, TokenKind::Word(name))),
@@ -41,56 +41,55 @@ fn word(alloc: Global, bytes: &[u8]) -> Result<Piece, AllocError>
 
 /// A literal: digits.
 fn integer(bytes: &[u8]) -> Piece
-    requires { IsTrue (begins_with is_ascii_digit bytes.now) }
+    requires { first_class bytes.now ≡ ByteClass.Digit }
     ensures { IsPiece bytes.now result }
 {
-    let len = run_len(Class::Digit, bytes);
+    let len = run_len(Run::Digits, bytes);
     match value_of(&bytes[..len]) {
         Some(value) => Piece::Token(len, TokenKind::Integer(value)),
         None => Piece::PastLimit(len),
     }
 }
 
-/// A character constant.
+/// A character constant: what stands between delimiters, and so on behind each that is doubled.
 fn text(alloc: Global, bytes: &[u8]) -> Result<Piece, AllocError>
-    requires { IsTrue (begins_with is_delimiter bytes.now) }
+    requires { first_class bytes.now ≡ ByteClass.Delimiter }
     ensures { IfOk result (IsPiece bytes.now) }
 {
-    match closed_text(alloc, bytes[0], &bytes[1..])? {
-        Some((characters, len)) => {
-            Ok(Piece::Token(len + 1, TokenKind::Text(Bytes::new(characters))))
-        }
-        None => Ok(Piece::NoToken),
+    let delimiter = bytes[0];
+    let Some(run) = quoted(delimiter, bytes) else {
+        return Ok(Piece::NoToken);
+    };
+    let mut characters = Vec::from_slice(alloc, run)?;
+    let mut len = run.len() + 2;
+    while let Some(run) = quoted(delimiter, &bytes[len..]) {
+        characters.push(delimiter)?;
+        characters.extend_from_slice(run)?;
+        len += run.len() + 2;
     }
+    Ok(Piece::Token(len, TokenKind::Text(Bytes::new(characters))))
 }
 
 /// A word between periods.
 fn dot(alloc: Global, bytes: &[u8]) -> Result<Piece, AllocError>
-    requires { IsTrue (begins_with (λ b. b == 46) bytes.now) }
+    requires { first_class bytes.now ≡ ByteClass.Period }
     ensures { IfOk result (IsPiece bytes.now) }
 {
-    let len = run_len(Class::NoPeriod, &bytes[1..]);
-    if len + 1 == bytes.len() {
-        return Ok(Piece::NoToken);
-    }
-    let spelling = upper_case(alloc, &bytes[..len + 2])?;
-    match dot_word(&spelling) {
-        Some(code) => Ok(Piece::Token(len + 2, TokenKind::Dot(code))),
+    let front = upper_case(alloc, &bytes[..bytes.len().min(MAX_DOT_BYTES)])?;
+    match longest_word(Words::Dots, &front) {
+        Some((len, code)) => Ok(Piece::Token(len, TokenKind::Dot(code))),
         None => Ok(Piece::NoToken),
     }
 }
 
-/// An operator or a delimiter, of two bytes if two bytes are one.
+/// An operator or a delimiter.
 fn other(bytes: &[u8]) -> Piece
-    requires { IsTrue (begins_with is_other bytes.now) }
+    requires some { 0 < length bytes.now }
+    requires class { first_class bytes.now ≡ ByteClass.Other }
     ensures { IsPiece bytes.now result }
 {
-    let two = bytes.len().min(2);
-    if let Some(code) = symbol(&bytes[..two]) {
-        return Piece::Token(two, TokenKind::Symbol(code));
-    }
-    match symbol(&bytes[..1]) {
-        Some(code) => Piece::Token(1, TokenKind::Symbol(code)),
+    match longest_word(Words::Symbols, bytes) {
+        Some((len, code)) => Piece::Token(len, TokenKind::Symbol(code)),
         None => Piece::NoToken,
     }
 }
@@ -100,18 +99,12 @@ pub(crate) fn first_piece(alloc: Global, bytes: &[u8]) -> Result<Piece, AllocErr
     requires { 0 < length bytes.now }
     ensures { IfOk result (IsPiece bytes.now) }
 {
-    let first = bytes[0];
-    if first == b' ' || first == b'\t' {
-        Ok(Piece::Blank)
-    } else if first.is_ascii_alphabetic() {
-        word(alloc, bytes)
-    } else if first.is_ascii_digit() {
-        Ok(integer(bytes))
-    } else if first == b'\'' || first == b'"' {
-        text(alloc, bytes)
-    } else if first == b'.' {
-        dot(alloc, bytes)
-    } else {
-        Ok(other(bytes))
+    match class_of(bytes[0]) {
+        ByteClass::Blank => Ok(Piece::Blank),
+        ByteClass::Letter => word(alloc, bytes),
+        ByteClass::Digit => Ok(integer(bytes)),
+        ByteClass::Delimiter => text(alloc, bytes),
+        ByteClass::Period => dot(alloc, bytes),
+        ByteClass::Other => Ok(other(bytes)),
     }
 }

@@ -1,23 +1,24 @@
-use Rattle.std.proofs.Common.{false, Some, ap, ◌∙◌, subst, sym}
+use Rattle.line_forms.specs.declared.depths.Depths.TheVariants.{Any}
+use Rattle.std.proofs.Common.{Some, ap, ◌∙◌, subst, sym}
 use Rattle.hpf_base.specs.Refusal.{IsRefusalBy}
 use Rattle.syntax_tree.specs.Lexeme.{lexemes}
-use Rattle.line_forms.specs.declared.miss.Miss.TheVariants as miss
+use Rattle.line_forms.specs.declared.read_error.ReadError.TheVariants as read_error
 use Rattle.directive_reader.specs.Reading.{directive}
 use Rattle.directive_reader.specs.Breach.{IsBreachAt}
-use Rattle.directive_reader.proofs.Verdicts.{lacks_form, lacks_depth, deep_found, bad_stopped}
+use Rattle.directive_reader.proofs.Verdicts.{lacks_form, lacks_depth, deep_first, bad_stopped}
 use Rattle.directive_reader.proofs.refusal.too_deep.Goals as goal
 
 pub returns-in-None : goal.returns-in-None
 returns-in-None c =
-    subst (IsRefusalBy (IsBreachAt c.args.line (lexemes c.args.tokens.now))) (sym c.refused.ensures)
-    (deep_found c.args.line (lexemes c.args.tokens.now) c.in-None.ensures.0 c.requires.deep c.in-None.ensures.1)
+    subst (IsRefusalBy (IsBreachAt c.args.line (lexemes c.args.tokens.now))) (sym c.at.ensures)
+    (deep_first c.args.line (lexemes c.args.tokens.now) c.in-None.ensures.0 c.requires.deep c.in-None.ensures.1)
 
-pub returns-in-Some-Form : goal.returns-in-Some-Form
-returns-in-Some-Form c =
-    subst (IsRefusalBy (IsBreachAt c.args.line (lexemes c.args.tokens.now))) (sym c.refused-in-Some-Form.ensures)
-    (bad_stopped c.args.line (lexemes c.args.tokens.now) miss.Form c.requires.known (lacks_form c.lack.result (directive false (lexemes c.args.tokens.now)) (c.in-Some-Form.is ∙ ap Some c.in-Some-Form.field-0-is) c.lack.ensures))
+pub returns-in-Some-Malformed : goal.returns-in-Some-Malformed
+returns-in-Some-Malformed c =
+    subst (IsRefusalBy (IsBreachAt c.args.line (lexemes c.args.tokens.now))) (sym c.at-in-Some-Malformed.ensures)
+    (bad_stopped c.args.line (lexemes c.args.tokens.now) read_error.Malformed c.requires.known (lacks_form c.why_not_read.result (directive Any (lexemes c.args.tokens.now)) (c.in-Some-Malformed.is ∙ ap Some c.in-Some-Malformed.field-0-is) c.why_not_read.ensures))
 
-pub returns-in-Some-Depth : goal.returns-in-Some-Depth
-returns-in-Some-Depth c =
-    subst (IsRefusalBy (IsBreachAt c.args.line (lexemes c.args.tokens.now))) (sym c.refused-in-Some-Depth.ensures)
-    (bad_stopped c.args.line (lexemes c.args.tokens.now) miss.Depth c.requires.known (lacks_depth c.lack.result (directive false (lexemes c.args.tokens.now)) (c.in-Some-Depth.is ∙ ap Some c.in-Some-Depth.field-0-is) c.lack.ensures))
+pub returns-in-Some-TooDeep : goal.returns-in-Some-TooDeep
+returns-in-Some-TooDeep c =
+    subst (IsRefusalBy (IsBreachAt c.args.line (lexemes c.args.tokens.now))) (sym c.at-in-Some-TooDeep.ensures)
+    (bad_stopped c.args.line (lexemes c.args.tokens.now) read_error.TooDeep c.requires.known (lacks_depth c.why_not_read.result (directive Any (lexemes c.args.tokens.now)) (c.in-Some-TooDeep.is ∙ ap Some c.in-Some-TooDeep.field-0-is) c.why_not_read.ensures))

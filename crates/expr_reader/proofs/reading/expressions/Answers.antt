@@ -1,6 +1,6 @@
 use Rattle.std.proofs.Common.{rules, [], ◌∷◌, ◌++◌, sym, ap, ◌∙◌, append_assoc}
 use Rattle.expr_reader.specs.Reading.{are_arguments}
-use Rattle.expr_reader.specs.Seen.{arguments_of, parts_of}
+use Rattle.expr_reader.specs.CodeViews.{arguments_of, parts_of}
 use Rattle.expr_reader.proofs.Steps.{no_arguments, one_more, one_more_same}
 use Rattle.expr_reader.proofs.reading.expressions.Goals as goal
 

@@ -1,5 +1,5 @@
 use Rattle.std.proofs.Common.{◌+◌, ◌-◌, ◌≤◌, ◌<◌, vec_len}
-use Rattle.hpf_ports.specs.declared.read.TheConstants.{SOURCE_LIMIT}
+use Rattle.hpf_base.specs.declared.limits.TheConstants.{MAX_SOURCE_BYTES}
 use Rattle.hpf_ports.specs.Ports.{Gave}
 use Rattle.hpf_ports.proofs.read.read_all.Given as goal
 
@@ -7,10 +7,10 @@ use Rattle.hpf_ports.proofs.read.read_all.Given as goal
 abbrev pub invariant-loop-src : goal.invariant-loop-src
 invariant-loop-src g l = record {
   gave : Gave (g.S.Source.left l.initial.src) (g.S.Source.left l.src) l.text.items;
-  within : vec_len l.text ≤ SOURCE_LIMIT + 1;
+  within : vec_len l.text ≤ MAX_SOURCE_BYTES + 1;
   chunk : 0 < vec_len l.chunk;
   count : g.S.Source.faults l.initial.src ≤ g.S.Source.faults l.src;
 }
 
 abbrev pub decreases-loop-src : goal.decreases-loop-src
-decreases-loop-src g l = SOURCE_LIMIT + 1 - vec_len l.text
+decreases-loop-src g l = MAX_SOURCE_BYTES + 1 - vec_len l.text

@@ -1,17 +1,12 @@
-use Rattle.std.proofs.Common.{◌∙◌, ap, subst, sym}
-use Rattle.nest_rules.specs.Firsts.{Firsts}
-use Rattle.nest_rules.specs.Lines.{lines_of}
+use Rattle.std.proofs.Common.{ap, subst}
+use Rattle.hpf_base.specs.FirstBreach.{IsFirstOrNone}
 use Rattle.nest_rules.specs.Breaches.{IsNestBreach}
-use Rattle.hpf_reader.specs.ProgramText.{NestBreaks}
-use Rattle.hpf_reader.proofs.Programs.{first_of_nest}
+use Rattle.nest_rules.specs.ProgramLine.{lines_of}
 use Rattle.hpf_reader.proofs.program.nest.Goals as goal
 
-pub returns-in-Some-clause-refused : goal.returns-in-Some-clause-refused
-returns-in-Some-clause-refused c =
-    let first = subst (λ ss. Firsts (IsNestBreach c.line_count.result ss) c.in_ok-refusal.field-0) (ap lines_of c.deref.ensures.value) c.in_ok-refusal.ensures in
-    subst (λ o. Firsts (NestBreaks c.args.text.now) o) c.in-Some.is (first_of_nest c.args.text.now c.line_count.result (lines_of c.args.forms.items) c.in_ok-refusal.field-0 c.line_count.ensures c.requires.read first)
-
-pub returns-clause-fine : goal.returns-clause-fine
-returns-clause-fine c =
-    let first = subst (λ ss. Firsts (IsNestBreach c.line_count.result ss) c.in_ok-refusal.field-0) (ap lines_of c.deref.ensures.value) c.in_ok-refusal.ensures in
-    subst (λ o. Firsts (NestBreaks c.args.text.now) o) c.in_default.is (first_of_nest c.args.text.now c.line_count.result (lines_of c.args.forms.items) c.in_ok-refusal.field-0 c.line_count.ensures c.requires.read first)
+pub read_nest-requires : goal.read_nest-requires
+read_nest-requires c = (
+  c.args.last,
+  subst (λ o. IsFirstOrNone (IsNestBreach c.args.last (lines_of c.args.forms.items)) o) c.in_default.is
+      (subst (λ ss. IsFirstOrNone (IsNestBreach c.args.last ss) c.in_ok-refusal.field-0) (ap lines_of c.deref.ensures.value) c.in_ok-refusal.ensures),
+)

@@ -1,3 +1,4 @@
+use Rattle.hpf_run.specs.Outcome.{port}
 use Rattle.hpf_run.specs.Reply.{outcome_of}
 use Rattle.hpf_run.proofs.TopLaws.{delivered-all, delivered-err, delivered-out}
 use Rattle.hpf_run.proofs.top.deliver.Goals as goal
@@ -5,25 +6,25 @@ use Rattle.hpf_run.proofs.top.deliver.Goals as goal
 pub returns-in_default : goal.returns-in_default
 returns-in_default g c =
     delivered-out (outcome_of c.args.reply.now)
-    record { bytes = g.O.Sink.held c.args.out.now; faults = g.O.Sink.faults c.args.out.now }
-    record { bytes = g.O.Sink.held c.write_all.new.out; faults = g.O.Sink.faults c.write_all.new.out }
-    record { bytes = g.E.Sink.held c.args.err.now; faults = g.E.Sink.faults c.args.err.now }
+    (port (g.O.Sink.held c.args.out.now) (g.O.Sink.faults c.args.out.now))
+    (port (g.O.Sink.held c.write_all.new.out) (g.O.Sink.faults c.write_all.new.out))
+    (port (g.E.Sink.held c.args.err.now) (g.E.Sink.faults c.args.err.now))
     c.out.result.now c.out.ensures c.in_default.ensures.failed c.in_default.ensures.prefix
 
 pub returns-in_default-write_all : goal.returns-in_default-write_all
 returns-in_default-write_all g c =
     delivered-err (outcome_of c.args.reply.now)
-    record { bytes = g.O.Sink.held c.args.out.now; faults = g.O.Sink.faults c.args.out.now }
-    record { bytes = g.O.Sink.held c.write_all.new.out; faults = g.O.Sink.faults c.write_all.new.out }
-    record { bytes = g.E.Sink.held c.args.err.now; faults = g.E.Sink.faults c.args.err.now }
-    record { bytes = g.E.Sink.held c.write_all-2.new.out; faults = g.E.Sink.faults c.write_all-2.new.out }
+    (port (g.O.Sink.held c.args.out.now) (g.O.Sink.faults c.args.out.now))
+    (port (g.O.Sink.held c.write_all.new.out) (g.O.Sink.faults c.write_all.new.out))
+    (port (g.E.Sink.held c.args.err.now) (g.E.Sink.faults c.args.err.now))
+    (port (g.E.Sink.held c.write_all-2.new.out) (g.E.Sink.faults c.write_all-2.new.out))
     c.out.result.now c.err.result.now c.out.ensures c.err.ensures c.in-Ok.ensures.ok c.in_default-write_all.ensures.failed c.in_default-write_all.ensures.prefix
 
 pub returns : goal.returns
 returns g c =
     delivered-all (outcome_of c.args.reply.now)
-    record { bytes = g.O.Sink.held c.args.out.now; faults = g.O.Sink.faults c.args.out.now }
-    record { bytes = g.O.Sink.held c.write_all.new.out; faults = g.O.Sink.faults c.write_all.new.out }
-    record { bytes = g.E.Sink.held c.args.err.now; faults = g.E.Sink.faults c.args.err.now }
-    record { bytes = g.E.Sink.held c.write_all-2.new.out; faults = g.E.Sink.faults c.write_all-2.new.out }
+    (port (g.O.Sink.held c.args.out.now) (g.O.Sink.faults c.args.out.now))
+    (port (g.O.Sink.held c.write_all.new.out) (g.O.Sink.faults c.write_all.new.out))
+    (port (g.E.Sink.held c.args.err.now) (g.E.Sink.faults c.args.err.now))
+    (port (g.E.Sink.held c.write_all-2.new.out) (g.E.Sink.faults c.write_all-2.new.out))
     c.out.result.now c.err.result.now c.status.result c.out.ensures c.err.ensures c.status.ensures c.in-Ok.ensures.ok c.in-Ok-write_all.ensures.ok

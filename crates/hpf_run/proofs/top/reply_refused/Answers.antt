@@ -1,4 +1,4 @@
-use Rattle.hpf_run.specs.Outcome.{reply_memory, reply_refused}
+use Rattle.hpf_run.specs.Reply.{reply_memory, reply_refused}
 use Rattle.hpf_run.proofs.top.reply_refused.Goals as goal
 
 pub returns-in-Ok : goal.returns-in-Ok

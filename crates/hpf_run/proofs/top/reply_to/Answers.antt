@@ -1,6 +1,6 @@
 use Rattle.std.proofs.Common.{Err, ap, subst}
-use Rattle.hpf_run.specs.Reply.{outcome_of}
-use Rattle.hpf_run.specs.Outcome.{TextMeant, means_memory, means_read_fault}
+use Rattle.hpf_run.specs.Reply.{TextMeant, outcome_of}
+use Rattle.hpf_run.specs.Outcome.{means_memory, means_read_fault}
 use Rattle.hpf_run.proofs.TopLaws.{text-meant, too_long-meant, usage-meant}
 use Rattle.hpf_run.proofs.top.reply_to.Goals as goal
 

@@ -1,8 +1,8 @@
 use Rattle.std.proofs.Common.{subst}
-use Rattle.hpf_reader.specs.FirstForm.{program_of}
-use Rattle.hpf_reader.specs.FirstRefusal.{IsCauseOf}
-use Rattle.hpf_run.specs.Reply.{outcome_of}
-use Rattle.hpf_run.specs.Outcome.{by_form, text_memory}
+use Rattle.first_form.specs.Form.{program_of}
+use Rattle.first_form.specs.Refusal.{IsCauseOf}
+use Rattle.hpf_run.specs.Reply.{text_memory}
+use Rattle.hpf_run.specs.Outcome.{by_form}
 use Rattle.hpf_run.proofs.TopLaws.{text-done, refused-meant}
 use Rattle.hpf_run.proofs.top.reply_to_program.Goals as goal
 

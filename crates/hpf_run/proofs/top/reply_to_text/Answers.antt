@@ -1,6 +1,7 @@
 use Rattle.std.proofs.Common.{subst}
 use Rattle.hpf_reader.specs.ProgramText.{IsProgramRefusal}
-use Rattle.hpf_run.specs.Outcome.{by_reader, text_memory}
+use Rattle.hpf_run.specs.Outcome.{by_reader}
+use Rattle.hpf_run.specs.Reply.{text_memory}
 use Rattle.hpf_run.proofs.TopLaws.{refused-meant}
 use Rattle.hpf_run.proofs.top.reply_to_text.Goals as goal
 

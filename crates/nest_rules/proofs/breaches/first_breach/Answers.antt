@@ -1,27 +1,30 @@
 -- Each line is one more of those that the definition goes through.
 use Rattle.std.proofs.Common.{◌∙◌, subst}
 use Rattle.nest_rules.specs.Breaches.{IsNestBreach}
-use Rattle.nest_rules.specs.Firsts.{Firsts}
-use Rattle.nest_rules.specs.Lines.{lines_of}
-use Rattle.nest_rules.proofs.Finding.{found, found_next, found_end, stated_before, declared_behind_line, declares_behind}
+use Rattle.hpf_base.specs.FirstBreach.{IsFirstOrNone}
+use Rattle.nest_rules.specs.ProgramLine.{lines_of}
+use Rattle.nest_rules.proofs.Finding.{found, found_next, found_end, stated_before, declared_behind_line, declares_behind, in_roles, role_at, roles_left}
 use Rattle.nest_rules.proofs.breaches.first_breach.Goals as goal
 
 pub least_reason-reason-requires : goal.least_reason-reason-requires
 least_reason-reason-requires c = λ statement stated.
-    declares_behind _ _ _ _ _ c.loop-i-test.true c.index-lines-i.is c.role_of-role.ensures statement (c.loop-i.invariant.1 stated)
+    declares_behind _ _ _ _ _ c.deref-in-loop-i.ensures.value (in_roles c.args.lines.now _ c.in_ok-roles.ensures _ c.loop-i-test.true) c.index-role.ensures statement
+    (c.loop-i.invariant.1 stated)
 
 pub loop-i-preserved : goal.loop-i-preserved
 loop-i-preserved c = (
   c.loop-i.invariant.0
-      ∙ found_next _ _ _ _ _ _ _ _ _ _ _ c.loop-i-test.true c.index-lines-i.is c.role_of-role.ensures
+      ∙ found_next _ _ _ _ _ _ _ _ _ _ _ _ c.loop-i-test.true c.index-lines-i.is
+      (role_at c.args.lines.now _ c.in_ok-roles.ensures _ c.loop-i-test.true _ _ c.index-lines-i.is c.index-role.ensures)
+      (roles_left c.args.lines.now _ (c.deref-in-loop-i.ensures.value ∙ c.in_ok-roles.ensures) _ c.loop-i-test.true)
       c.least_reason-reason.ensures c.at_line.ensures c.earlier-first.ensures c.in_ok-go_behind.ensures,
   λ stated.
       let before = stated_before _ _ _ c.in_ok-go_behind.ensures stated in
-      declared_behind_line _ _ _ _ _ c.loop-i-test.true c.index-lines-i.is c.role_of-role.ensures before.1 (c.loop-i.invariant.1 before.0),
+      declared_behind_line _ _ _ _ (in_roles c.args.lines.now _ c.in_ok-roles.ensures _ c.loop-i-test.true) c.index-role.ensures before.1 (c.loop-i.invariant.1 before.0),
 )
 
 pub returns : goal.returns
 returns c =
-    subst (Firsts (IsNestBreach c.args.last (lines_of c.args.lines.now)))
+    subst (IsFirstOrNone (IsNestBreach c.args.last (lines_of c.args.lines.now)))
     (c.loop-i.invariant.0 ∙ found_end _ _ _ _ _ _ _ _ _ c.loop-i-test.false c.max.ensures c.end_reason.ensures c.at_line-2.ensures c.earlier.ensures)
     (found c.args.last (lines_of c.args.lines.now))

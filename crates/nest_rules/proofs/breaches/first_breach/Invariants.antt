@@ -1,11 +1,10 @@
 use Rattle.std.proofs.Common.{◌≡◌, ◌-◌, false, None, drop}
-use Rattle.nest_rules.specs.Breaches.{roles}
 use Rattle.nest_rules.specs.Found.{declared_length, found_from}
-use Rattle.nest_rules.specs.Lines.{lines_of}
-use Rattle.nest_rules.specs.Seen.{nothing_seen}
+use Rattle.nest_rules.specs.ProgramLine.{lines_of}
+use Rattle.nest_rules.specs.NestState.{state_at_start}
 use Rattle.nest_rules.proofs.breaches.first_breach.Given as goal
 
 abbrev pub invariant-loop-i : goal.invariant-loop-i
 invariant-loop-i l =
-    (found_from None nothing_seen l.last (lines_of l.lines) ≡ found_from l.first l.seen l.last (lines_of (drop l.i l.lines)))
-    × (l.seen.stated ≡ false → declared_length (roles (lines_of (drop l.i l.lines))) ≡ l.declared - l.i)
+    (found_from None state_at_start l.last (lines_of l.lines) ≡ found_from l.first l.state l.last (lines_of (drop l.i l.lines)))
+    × (l.state.stated ≡ false → declared_length (drop l.i l.roles.items) ≡ l.declared - l.i)

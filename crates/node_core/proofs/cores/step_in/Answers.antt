@@ -1,7 +1,7 @@
 -- Each arm of the step is one of the steps of proofs/Stepping.
 use Rattle.std.proofs.Common.{◌∙◌, sym, refl, arith, length}
 use Rattle.std.proofs.lemmas.Bool.{eqb-true}
-use Rattle.hpf_base.specs.declared.stepped.Stepped.TheVariants.{Moved}
+use Rattle.node_law.specs.declared.stepped.Stepped.TheVariants.{Moved}
 use Rattle.node_core.proofs.Stepping.{send-room, take-some, target-fits, source-fits, local-done, send-done, take-done, take-awaited, send-full, take-empty, done-ends, from-value}
 use Rattle.node_core.proofs.cores.step_in.Goals as goal
 

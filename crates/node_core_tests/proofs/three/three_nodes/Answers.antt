@@ -1,6 +1,6 @@
 use Rattle.std.proofs.Common.{◌≡◌, List, refl, sym, subst}
 use Rattle.std.specs.List.{slice_get}
-use Rattle.hpf_base.specs.Phases.{Lockstep}
+use Rattle.node_law.specs.Phases.{Lockstep}
 use Rattle.node_core_tests.specs.declared.passer.Passer.{Passer}
 use Rattle.node_core_tests.specs.Passer.{passer_steps}
 use Rattle.node_core_tests.specs.Three.{three}

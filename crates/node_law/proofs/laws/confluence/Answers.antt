@@ -1,4 +1,4 @@
-use Rattle.hpf_base.specs.Cores.{start, core_run, made_in}
+use Rattle.node_law.specs.Cores.{start, core_run, made_in}
 use Rattle.node_law.proofs.History.{history-reached}
 use Rattle.node_law.proofs.NeverStuck.{confluence}
 use Rattle.node_law.proofs.laws.confluence.Goals as goal

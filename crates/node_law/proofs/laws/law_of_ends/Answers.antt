@@ -1,4 +1,4 @@
-use Rattle.hpf_base.specs.Phases.{all_moves}
+use Rattle.node_law.specs.Phases.{all_moves}
 use Rattle.node_law.proofs.Prefixes.{done-whole_at}
 use Rattle.node_law.proofs.LawOfPrefixes.{law_of_prefixes}
 use Rattle.node_law.proofs.NextMove.{run-made}

@@ -1,6 +1,6 @@
 use Rattle.std.proofs.Common.{ℕ}
-use Rattle.hpf_base.specs.Phases.{all_moves}
-use Rattle.hpf_base.specs.NodeSteps.{sent, taken, IsPrefix}
+use Rattle.node_law.specs.Phases.{all_moves}
+use Rattle.node_law.specs.NodeSteps.{sent, taken, IsPrefix}
 use Rattle.node_law.proofs.LawOfPrefixes.{law_of_prefixes}
 use Rattle.node_law.proofs.Prefixes.{prefix-refl}
 use Rattle.node_law.proofs.NeverStuck.{prefix-both}

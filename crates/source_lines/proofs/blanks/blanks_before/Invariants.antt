@@ -1,6 +1,6 @@
 use Rattle.std.proofs.Common.{◌≡◌, ◌+◌, drop}
 use Rattle.std.specs.List.{prefix_len}
-use Rattle.source_lines.specs.Rows.{is_blank}
+use Rattle.source_lines.specs.PhysicalLines.{is_blank}
 use Rattle.source_lines.proofs.blanks.blanks_before.Given as goal
 
 abbrev pub invariant-loop-i : goal.invariant-loop-i

@@ -1,6 +1,6 @@
 use Rattle.std.proofs.Common.{◌≡◌, ◌≤◌, ◌+◌, length, take}
 use Rattle.std.specs.List.{suffix_len}
-use Rattle.source_lines.specs.Rows.{is_blank}
+use Rattle.source_lines.specs.PhysicalLines.{is_blank}
 use Rattle.source_lines.proofs.blanks.end_of.Given as goal
 
 abbrev pub invariant-loop-end : goal.invariant-loop-end

@@ -1,6 +1,6 @@
 use Rattle.std.proofs.Common.{ap, ◌∙◌}
 use Rattle.std.proofs.lemmas.Bool.{ne_eqb}
-use Rattle.source_lines.specs.Rows.{parts}
+use Rattle.source_lines.specs.PhysicalLines.{parts}
 use Rattle.source_lines.proofs.PartLaws.{parts-comment, parts-part}
 use Rattle.source_lines.proofs.parts.next_part.Goals as goal
 

@@ -1,5 +1,5 @@
 use Rattle.std.proofs.Common.{◌≡◌, ◌++◌, map}
-use Rattle.source_lines.specs.Lines.{logical_line, statements}
+use Rattle.source_lines.specs.LogicalLines.{logical_line, statements}
 use Rattle.source_lines.specs.declared.line.LineKind.TheVariants.{Statement}
 use Rattle.source_lines.proofs.LineLaws.{length_left, statements_left}
 use Rattle.source_lines.proofs.statements.push_statements.Given as goal

@@ -1,6 +1,6 @@
 use Rattle.std.proofs.Common.{◌≡◌, ◌≤◌, length, drop, ap, ◌∙◌, arith}
 use Rattle.std.proofs.lemmas.List.{take_rest, length-drop}
-use Rattle.source_lines.specs.Rows.{first_part}
+use Rattle.source_lines.specs.PhysicalLines.{first_part}
 use Rattle.source_lines.proofs.PartLaws.{first_part-within}
 use Rattle.source_lines.proofs.LineLaws.{between-start, between-more}
 use Rattle.source_lines.proofs.statements.statement_len.Goals as goal

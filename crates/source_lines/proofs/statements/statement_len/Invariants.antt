@@ -1,5 +1,5 @@
 use Rattle.std.proofs.Common.{◌≡◌, ◌≤◌, ◌-◌, length, take, drop}
-use Rattle.source_lines.specs.Lines.{between_semicolons, with_part}
+use Rattle.source_lines.specs.LogicalLines.{between_semicolons, with_part}
 use Rattle.source_lines.proofs.statements.statement_len.Given as goal
 
 abbrev pub invariant-loop-done : goal.invariant-loop-done

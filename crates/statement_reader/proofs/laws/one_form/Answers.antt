@@ -1,4 +1,4 @@
-use Rattle.statement_reader.proofs.Theorem.{one_form}
+use Rattle.statement_reader.proofs.Spelled.{one_form}
 use Rattle.statement_reader.proofs.laws.one_form.Goals as goal
 
 pub returns : goal.returns

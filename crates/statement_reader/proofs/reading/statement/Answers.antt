@@ -14,13 +14,13 @@ pub returns-in-EndIf-true : goal.returns-in-EndIf-true
 returns-in-EndIf-true c = by_kind (kind.EndIf true) (lexemes c.args.tokens.now) _ (cc) c.alone-in-EndIf-true.ensures
 
 pub returns-in-EndIf-false : goal.returns-in-EndIf-false
-returns-in-EndIf-false c = by_kind (kind.EndIf false) (lexemes c.args.tokens.now) _ (cc) c.pair-in-EndIf-false.ensures
+returns-in-EndIf-false c = by_kind (kind.EndIf false) (lexemes c.args.tokens.now) _ (cc) c.end_of.ensures
 
 pub returns-in-EndDo-true : goal.returns-in-EndDo-true
 returns-in-EndDo-true c = by_kind (kind.EndDo true) (lexemes c.args.tokens.now) _ (cc) c.alone-in-EndDo-true.ensures
 
 pub returns-in-EndDo-false : goal.returns-in-EndDo-false
-returns-in-EndDo-false c = by_kind (kind.EndDo false) (lexemes c.args.tokens.now) _ (cc) c.pair-in-EndDo-false.ensures
+returns-in-EndDo-false c = by_kind (kind.EndDo false) (lexemes c.args.tokens.now) _ (cc) c.end_of-in-EndDo-false.ensures
 
 pub returns-in-ElseWhere-true : goal.returns-in-ElseWhere-true
 returns-in-ElseWhere-true c = by_kind (kind.ElseWhere true) (lexemes c.args.tokens.now) _ (cc) c.alone-in-ElseWhere-true.ensures
@@ -32,10 +32,10 @@ pub returns-in-EndWhere-true : goal.returns-in-EndWhere-true
 returns-in-EndWhere-true c = by_kind (kind.EndWhere true) (lexemes c.args.tokens.now) _ (cc) c.alone-in-EndWhere-true.ensures
 
 pub returns-in-EndWhere-false : goal.returns-in-EndWhere-false
-returns-in-EndWhere-false c = by_kind (kind.EndWhere false) (lexemes c.args.tokens.now) _ (cc) c.pair-in-EndWhere-false.ensures
+returns-in-EndWhere-false c = by_kind (kind.EndWhere false) (lexemes c.args.tokens.now) _ (cc) c.end_of-in-EndWhere-false.ensures
 
 pub returns-in-EndForall-true : goal.returns-in-EndForall-true
 returns-in-EndForall-true c = by_kind (kind.EndForall true) (lexemes c.args.tokens.now) _ (cc) c.alone-in-EndForall-true.ensures
 
 pub returns-in-EndForall-false : goal.returns-in-EndForall-false
-returns-in-EndForall-false c = by_kind (kind.EndForall false) (lexemes c.args.tokens.now) _ (cc) c.pair-in-EndForall-false.ensures
+returns-in-EndForall-false c = by_kind (kind.EndForall false) (lexemes c.args.tokens.now) _ (cc) c.end_of-in-EndForall-false.ensures

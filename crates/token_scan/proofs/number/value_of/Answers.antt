@@ -1,5 +1,5 @@
 use Rattle.std.proofs.Common.{◌+◌, arith}
-use Rattle.token_scan.proofs.Values.{value_step, value_within, digit_below}
+use Rattle.hpf_base.proofs.Digits.{value_step, value_within, digit_below}
 use Rattle.token_scan.proofs.number.value_of.Goals as goal
 
 pub returns-then-value-ge-FULL : goal.returns-then-value-ge-FULL

@@ -1,21 +1,40 @@
-use Rattle.std.proofs.Common.{◌≡◌, ℕ, ◌+◌, ◌-◌, List, length, drop, get_or, Some, sym, ap, subst, ◌∙◌, arith}
-use Rattle.std.proofs.lemmas.List.{take_rest, length-take, length-drop}
-use Rattle.source_lines.specs.declared.token.TokenKind.TheVariants.{Text}
-use Rattle.token_scan.specs.Pieces.{IsPiece, closed_text}
-use Rattle.token_scan.specs.declared.piece.Piece.TheVariants.{Token}
-use Rattle.token_scan.proofs.TextFronts.{text_token}
-use Rattle.token_scan.proofs.OpenTexts.{text_open}
+use Rattle.std.proofs.Common.{ℕ, ◌+◌, ◌≤◌, ◌∷◌, [], List, length, take, Some, refl, sym, ap, subst, ◌∙◌, append_assoc, arith}
+use Rattle.std.proofs.lemmas.List.{length-drop, take_rest}
+use Rattle.token_scan.specs.Pieces.{NoneQuoted, quoted}
+use Rattle.token_scan.specs.Tokens.{first_byte}
+use Rattle.token_scan.proofs.Fronts.{first_byte-take}
+use Rattle.token_scan.proofs.Texts.{doubled, no_text, quoted-text, text-more, text_front}
 use Rattle.token_scan.proofs.piece.text.Goals as goal
 
-pub overflow_add-result : goal.overflow_add-result
-overflow_add-result c = let within = rw c.in-Some.is at c.in_ok-characters.ensures.within in omega (arith, within, length-take (length c.args.bytes.now - 1) (drop 1 c.args.bytes.now), length-drop 1 c.args.bytes.now)
+pub returns-in_default : goal.returns-in_default
+returns-in_default c = no_text c.args.bytes.now c.requires c.in_default.ensures
 
-pub returns-in-Some : goal.returns-in-Some
-returns-in-Some c =
-    let read : closed_text (get_or c.args.bytes.now 0 0) (drop 1 c.args.bytes.now) ≡ Some (c.in-Some.characters.items, c.in-Some.len) =
-    ap (closed_text (get_or c.args.bytes.now 0 0)) (sym (take_rest c.args.bytes.now 1)) ∙ sym (rw c.in-Some.is at c.in_ok-characters.ensures.read) in
-    subst (λ (text : List ℕ). IsPiece c.args.bytes.now (Token (c.in-Some.len + 1) (Text text))) (sym c.new.ensures) (text_token c.args.bytes.now c.in-Some.characters.items c.in-Some.len c.requires read)
+pub loop-run-init : goal.loop-run-init
+loop-run-init c =
+    let bytes = c.args.bytes.now in
+    let len : ℕ = length c.in-Some.run'.now + 2 in record {
+      some = omega arith;
+      within = c.in-Some.ensures.0;
+      read = sym (quoted-text (first_byte bytes) (take len bytes) (first_byte-take bytes len (omega arith))) ∙ c.in-Some.ensures.1 ∙ ap Some (sym c.in_ok-characters.ensures.items);
+    }
 
-pub returns-in-None : goal.returns-in-None
-returns-in-None c =
-    text_open c.args.bytes.now c.requires (ap (closed_text (get_or c.args.bytes.now 0 0)) (sym (take_rest c.args.bytes.now 1)) ∙ sym (rw c.in-None.is at c.in_ok-characters.ensures.read))
+pub loop-run-preserved : goal.loop-run-preserved
+loop-run-preserved c =
+    let bytes = c.args.bytes.now in
+    let len = c.loop-run.len in
+    let run = c.in-Some-quoted.run'.now in
+    let k : ℕ = length run + 2 in
+    let read = c.loop-run.characters.items in
+    let within : len + k ≤ length bytes = omega (arith, c.in-Some-quoted.ensures.0, ap length (take_rest bytes len), length-drop len bytes, c.loop-run.invariant.within) in record {
+      some = omega (arith, c.loop-run.invariant.some);
+      within = within;
+      read = text-more bytes read len k c.loop-run.invariant.some (omega arith) within c.loop-run.invariant.read
+          ∙ ap (doubled (first_byte bytes) read) (ap (λ (l : List ℕ). quoted (first_byte bytes) (take k l)) (sym (take_rest bytes len)) ∙ c.in-Some-quoted.ensures.1)
+          ∙ ap Some (sym (rw (c.in_ok-extend_from_slice.ensures.items, c.in_ok-push.ensures.items) (append_assoc read (first_byte bytes ∷ []) run)));
+    }
+
+pub returns : goal.returns
+returns c =
+    let bytes = c.args.bytes.now in
+    let i = c.loop-run.invariant in
+    (text_front bytes c.new.result c.loop-run.len c.requires i.some i.within (i.read ∙ ap Some (sym c.new.ensures)) (subst (NoneQuoted (first_byte bytes)) (take_rest bytes c.loop-run.len) c.in_default-quoted.ensures), refl)

@@ -1,5 +1,5 @@
 use Rattle.std.proofs.Common.{◌≡◌, ℕ, ◌<◌, get_or}
-use Rattle.hpf_base.specs.declared.act.Act.TheVariants.{Done}
+use Rattle.node_law.specs.declared.act.Act.TheVariants.{Done}
 use Rattle.node_core.proofs.cores.Core.first_number.Given as goal
 
 abbrev pub invariant-loop-node : goal.invariant-loop-node

@@ -1,6 +1,6 @@
 use Rattle.std.proofs.Common.{◌≢◌, ℕ, ◌<◌, get_or}
-use Rattle.hpf_base.specs.declared.act.Act.TheVariants.{Done}
-use Rattle.hpf_base.specs.Phases.{next_number}
+use Rattle.node_law.specs.declared.act.Act.TheVariants.{Done}
+use Rattle.node_law.specs.Phases.{next_number}
 use Rattle.node_core.proofs.cores.Core.number_before.Given as goal
 
 abbrev pub invariant-loop-node : goal.invariant-loop-node

@@ -1,5 +1,5 @@
 use Rattle.node_law.proofs.UnderWay.{next-phased}
-use Rattle.node_core.specs.CoreLists.{core_of}
+use Rattle.node_core.specs.CoreView.{state}
 use Rattle.node_core.proofs.Rounds.{runs-trans}
 use Rattle.node_core.proofs.PhaseSteps.{pass-less}
 use Rattle.node_core.proofs.cores.Core.pass.Goals as goal
@@ -12,7 +12,7 @@ returns-in_err-local_steps-clause-ready g c = record {
 
 pub returns-clause-reached : goal.returns-clause-reached
 returns-clause-reached g c =
-    runs-trans g.N.PhasedNode.steps (core_of c.args.self.now.lists) (core_of c.local_steps.new.self.lists) (core_of c.letters.new.self.lists) c.local_steps.ensures.advances.runs c.letters.ensures.advances.runs
+    runs-trans g.N.PhasedNode.steps (state c.args.self.now) (state c.local_steps.new.self) (state c.letters.new.self) c.local_steps.ensures.advances.runs c.letters.ensures.advances.runs
 
 pub returns-clause-less : goal.returns-clause-less
 returns-clause-less g c =

@@ -1,8 +1,0 @@
-use Rattle.syntax_tree.specs.Lexeme.{lexemes}
-use Rattle.directive_reader.specs.Views.{laid_of}
-use Rattle.directive_reader.proofs.Parted.{aligned}
-use Rattle.directive_reader.proofs.reading.align.Goals as goal
-
-pub returns : goal.returns
-returns c =
-    aligned c.args.strict c.args.many (lexemes c.args.tokens.now) (lexemes c.in_ok-rest.rest.now) (laid_of c.in_ok-spec.spec) (lexemes c.in_ok-spec.rest.now) c.in_ok-rest.ensures c.in_ok-spec.ensures

@@ -1,0 +1,10 @@
+pub mod LineForms
+pub mod Needs
+pub mod NodeLaws
+pub mod Numerals
+pub mod OneReading
+pub mod PieceLaws
+pub mod Places
+pub mod StoreLaws
+pub mod Texts
+pub mod Validity

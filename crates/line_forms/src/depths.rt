@@ -1,0 +1,10 @@
+//! How deep expressions may be.
+
+/// Which expressions a reading lets through.
+#[derive(Clone, Copy, Debug, PartialEq, Eq)]
+pub enum Depths {
+    /// Those that are at most `MAX_DEPTH` deep.
+    Limited,
+    /// All, however deep.
+    Any,
+}

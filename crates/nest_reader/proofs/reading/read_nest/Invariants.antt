@@ -1,9 +1,0 @@
-use Rattle.std.proofs.Common.{ℕ}
-use Rattle.hpf_base.specs.Refusal.{NoBreach}
-use Rattle.nest_rules.specs.Breaches.{IsNestBreach}
-use Rattle.nest_rules.specs.Lines.{lines_of}
-use Rattle.nest_reader.specs.Progress.{IsProgress}
-use Rattle.nest_reader.proofs.reading.read_nest.Given as goal
-
-abbrev pub invariant-loop-line : goal.invariant-loop-line
-invariant-loop-line l = (last : ℕ) → NoBreach (IsNestBreach last (lines_of l.fn.lines.items)) → IsProgress (lines_of l.fn.lines.items) last l.so_far (lines_of l.line-iterator.rest.items)

@@ -1,0 +1,5 @@
+pub mod Cores
+pub mod NextPhase
+pub mod NodeSteps
+pub mod Phases
+pub mod Reached

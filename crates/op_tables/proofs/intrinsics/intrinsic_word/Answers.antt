@@ -1,4 +1,0 @@
-use Rattle.op_tables.proofs.intrinsics.intrinsic_word.Goals as goal
-
-pub returns : goal.returns
-returns c = c.code_of.ensures _ c.words.ensures

@@ -1,0 +1,94 @@
+//! What stands behind INTEGER (Fortran 95, 5.1).
+
+ghost use Rattle.std.specs.Prelude.{map, option_map};
+ghost use Rattle.syntax_tree.specs.Lexeme.{lexemes};
+ghost use Rattle.line_forms.specs.declared.depths.Depths.TheVariants.{Limited};
+ghost use Rattle.line_forms.specs.Gives.{Gives};
+ghost use Rattle.line_forms.specs.Grammar.{Optional};
+ghost use Rattle.line_forms.specs.Parts.{bound, bound_of, enclosed};
+ghost use Rattle.line_forms.specs.Read.{read};
+ghost use Rattle.statement_reader.specs.Forms.{constants, declaration, dimension_key};
+ghost use Rattle.statement_reader.specs.Views.{declaration_of};
+
+use crate::lists::{ConstantEntities, Entities, PlainEntities};
+use line_forms::{
+    Bounds, Depths, Element, ReadError, after_sign, attribute, behind, comma_list, enclosed, is_sign,
+};
+use source_lines::Token;
+use std::alloc::Global;
+use syntax_tree::{Bound, IntegerDecl, Sign};
+
+/// The attributes and entities of an INTEGER. With PARAMETER each entity has a value, without `::` none has one.
+pub(crate) fn declaration(
+    alloc: Global,
+    tokens: &[Token],
+) -> Result<(IntegerDecl, &[Token]), ReadError>
+    ensures { Gives (λ x. (declaration_of x.0, lexemes x.1.now)) result (read Limited declaration (lexemes tokens.now)) }
+{
+    if attribute(tokens, b"PARAMETER") {
+        let ((dims, entities), rest) =
+            constants::<ConstantEntities>(alloc, Depths::Limited, behind(tokens, 2))?;
+        return Ok((IntegerDecl {
+            constant: true,
+            dims,
+            colons: true,
+            entities,
+        }, rest));
+    }
+    if attribute(tokens, b"DIMENSION") {
+        let (bounds, rest) = enclosed::<Bounds>(alloc, Depths::Limited, behind(tokens, 2))?;
+        let rest = after_sign(rest, Sign::Colons)?;
+        let (entities, rest) = comma_list::<Entities>(alloc, Depths::Limited, rest)?;
+        return Ok((IntegerDecl {
+            constant: false,
+            dims: Some(bounds),
+            colons: true,
+            entities,
+        }, rest));
+    }
+    if is_sign(tokens, Sign::Colons) {
+        let (entities, rest) = comma_list::<Entities>(alloc, Depths::Limited, behind(tokens, 1))?;
+        return Ok((IntegerDecl {
+            constant: false,
+            dims: None,
+            colons: true,
+            entities,
+        }, rest));
+    }
+    let (entities, rest) = comma_list::<PlainEntities>(alloc, Depths::Limited, tokens)?;
+    Ok((IntegerDecl {
+            constant: false,
+            dims: None,
+            colons: false,
+            entities,
+        }, rest))
+}
+
+/// What stands behind PARAMETER: the bounds of DIMENSION, if it is there, and the entities behind `::`.
+pub(crate) fn constants<T: Element>(
+    alloc: Global,
+    depths: Depths,
+    tokens: &[Token],
+) -> Result<((Option<Vec<Bound>>, Vec<T::Part>), &[Token]), ReadError>
+    ensures { Gives (λ x. ((option_map (λ v. map bound_of v.items) x.0.0, map T.view x.0.1.items), lexemes x.1.now)) result (read depths (constants T.grammar) (lexemes tokens.now)) }
+{
+    let (dims, rest) = dimension(alloc, depths, tokens)?;
+    let rest = after_sign(rest, Sign::Colons)?;
+    let (entities, rest) = comma_list::<T>(alloc, depths, rest)?;
+    Ok(((dims, entities), rest))
+}
+
+/// The bounds of the attribute DIMENSION, where it is there.
+fn dimension(
+    alloc: Global,
+    depths: Depths,
+    tokens: &[Token],
+) -> Result<(Option<Vec<Bound>>, &[Token]), ReadError>
+    ensures { Gives (λ x. (option_map (λ v. map bound_of v.items) x.0, lexemes x.1.now)) result (read depths (Optional dimension_key (enclosed bound)) (lexemes tokens.now)) }
+{
+    if !attribute(tokens, b"DIMENSION") {
+        return Ok((None, tokens));
+    }
+    let (bounds, rest) = enclosed::<Bounds>(alloc, depths, behind(tokens, 2))?;
+    Ok((Some(bounds), rest))
+}
