@@ -1,86 +1,58 @@
-//! The statements that nest most deeply: 40 lines of 132 bytes, read and let go in the stack of a process.
+//! The expressions that nest most deeply in a statement of 40 lines of 132 bytes, read and let go in the stack of a process.
 
-use hpf_base::OutOfMemory;
-use hpf_ports::{MemSink, MemSource, OpenGate};
-use hpf_run::hpf_top;
-use std::alloc::{AllocError, Global};
+use expr_reader::front_expr;
+use source_lines::{Bytes, LineKind, LogicalLine};
+use std::alloc::Global;
 use std::test::Fail;
+use token_scan::tokens;
 
-/// How many bytes of a line stand before its `&`.
-const ROOM: usize = 131;
+/// The greatest number of bytes of a statement.
+const LENGTH: usize = 40 * 132;
 
-/// A text, and how many bytes its last line has.
-#[derive(Drop)]
-struct Lines {
-    text: String,
-    column: usize,
-}
-
-impl Lines {
-    /// Adds a part so many times, each on the last line or on one that goes on with it.
-    fn push(&mut self, part: &str, times: usize) -> Result<(), AllocError> {
-        for _ in 0..times {
-            if self.column.saturating_add(part.len()) > ROOM {
-                self.text.push_str("&\n")?;
-                self.column = 0;
-            }
-            self.text.push_str(part)?;
-            self.column = self.column.saturating_add(part.len());
-        }
-        Ok(())
+/// How many tokens stand behind the expression in front of so many openings, 1, and so many closings; None where none begins there.
+fn left_of(alloc: Global, opening: &str, closing: &str) -> Result<Option<usize>, Fail> {
+    let mut text = Vec::new(alloc);
+    let count = LENGTH / opening.len().saturating_add(closing.len()).max(1);
+    for _ in 1..count {
+        text.extend_from_slice(opening.as_bytes())?;
     }
-}
-
-/// What is said on standard error of the assignment of 1 between so many openings and closings.
-fn said_of(
-    alloc: Global,
-    opening: &str,
-    count: usize,
-    closing: &str,
-) -> Result<Vec<u8>, OutOfMemory> {
-    let mut lines = Lines {
-        text: String::new(alloc),
-        column: 0,
+    text.push(b'1')?;
+    for _ in 1..count {
+        text.extend_from_slice(closing.as_bytes())?;
+    }
+    if text.len() > LENGTH {
+        return Err("it is no longer than a statement".into());
+    }
+    let line = LogicalLine {
+        line: 1,
+        kind: LineKind::Statement,
+        bytes: Bytes::new(text),
     };
-    lines.push("I=", 1)?;
-    lines.push(opening, count)?;
-    lines.push("1", 1)?;
-    lines.push(closing, count)?;
-    lines.text.push_str("\nEND\n")?;
-    let mut words = Vec::new(alloc);
-    for word in ["run", "--grid", "4"] {
-        words.push(String::from_str(alloc, word)?)?;
-    }
-    let bytes = lines.text.as_bytes().to_vec(alloc)?;
-    let mut src = MemSource::new(bytes, 4096, Vec::new(alloc));
-    let mut out = MemSink::new(alloc, 64, 64, Vec::new(alloc))?;
-    let mut err = MemSink::new(alloc, 64, 64, Vec::new(alloc))?;
-    let _ = hpf_top(&(), alloc, &words, &mut src, &mut out, &mut err, &OpenGate);
-    Ok(err.bytes().to_vec(alloc)?)
+    let tokens = tokens(alloc, &line)?;
+    let read = front_expr(alloc, &tokens)?;
+    Ok(read.map(|(_, rest)| rest.len()))
 }
 
 #[test]
-fn deepest_statements(rt: HostRuntime) -> Result<(), Fail> {
-    for (opening, count, closing) in [
-        ("-A(", 1280, ")"),
-        ("(", 2600, ")"),
-        ("A(", 1730, ")"),
-        ("ABS(", 1010, ")"),
-        ("A(:", 1280, ")"),
-        ("2**", 1710, ""),
-        ("1+", 2590, ""),
+fn deepest_expressions(rt: HostRuntime) -> Result<(), Fail> {
+    for (opening, closing) in [
+        ("-A(", ")"),
+        ("(", ")"),
+        ("A(", ")"),
+        ("ABS(", ")"),
+        ("A(:", ")"),
+        ("2**", ""),
+        ("1+", ""),
     ] {
-        let said = said_of(rt.alloc(), opening, count, closing)?;
-        assert!(rt; said.as_slice() == b"hpf: line 1: refused 10 Limit\n".as_slice());
+        assert_eq!(rt; left_of(rt.alloc(), opening, closing)?, Some(0));
     }
     Ok(())
 }
 
 #[test]
-fn deepest_statements_that_are_not_closed(rt: HostRuntime) -> Result<(), Fail> {
-    for (opening, count) in [("-A(", 1710), ("(", 5220), ("A(:", 1710)] {
-        let said = said_of(rt.alloc(), opening, count, "")?;
-        assert!(rt; said.as_slice() == b"hpf: line 1: refused 2 NotAStatement\n".as_slice());
-    }
+fn deepest_expressions_that_are_not_closed(rt: HostRuntime) -> Result<(), Fail> {
+    assert_eq!(rt; left_of(rt.alloc(), "(", "")?, None);
+    assert!(rt; left_of(rt.alloc(), "-A(", "")?.is_some());
+    assert!(rt; left_of(rt.alloc(), "A(:", "")?.is_some());
     Ok(())
 }
