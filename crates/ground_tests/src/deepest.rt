@@ -1,85 +1,58 @@
-//! The statements that nest most deeply: 40 lines of 132 bytes, read and let go in the stack of a process.
+//! The expressions that nest most deeply in a statement of 40 lines of 132 bytes, read and let go in the stack of a process.
 
-use hpf_base::{Reason, StaticError};
-use hpf_reader::read_program;
-use std::alloc::{AllocError, Global};
+use expr_reader::front_expr;
+use source_lines::{Bytes, LineKind, LogicalLine};
+use std::alloc::Global;
 use std::test::Fail;
+use token_scan::tokens;
 
-/// How many bytes of a line stand before its `&`.
-const ROOM: usize = 131;
+/// The greatest number of bytes of a statement.
+const LENGTH: usize = 40 * 132;
 
-/// A text, and how many bytes its last line has.
-#[derive(Drop)]
-struct Lines {
-    text: String,
-    column: usize,
-}
-
-impl Lines {
-    /// Adds a part so many times, each on the last line or on one that goes on with it.
-    fn push(&mut self, part: &str, times: usize) -> Result<(), AllocError> {
-        for _ in 0..times {
-            if self.column.saturating_add(part.len()) > ROOM {
-                self.text.push_str("&\n")?;
-                self.column = 0;
-            }
-            self.text.push_str(part)?;
-            self.column = self.column.saturating_add(part.len());
-        }
-        Ok(())
+/// How many tokens stand behind the expression in front of so many openings, 1, and so many closings; None where none begins there.
+fn left_of(alloc: Global, opening: &str, closing: &str) -> Result<Option<usize>, Fail> {
+    let mut text = Vec::new(alloc);
+    let count = LENGTH / opening.len().saturating_add(closing.len()).max(1);
+    for _ in 1..count {
+        text.extend_from_slice(opening.as_bytes())?;
     }
-}
-
-/// The reason for which the assignment of 1 between so many openings and closings is refused, at line 1.
-fn reason_of(
-    alloc: Global,
-    opening: &str,
-    count: usize,
-    closing: &str,
-) -> Result<Option<Reason>, AllocError> {
-    let mut lines = Lines {
-        text: String::new(alloc),
-        column: 0,
+    text.push(b'1')?;
+    for _ in 1..count {
+        text.extend_from_slice(closing.as_bytes())?;
+    }
+    if text.len() > LENGTH {
+        return Err("it is no longer than a statement".into());
+    }
+    let line = LogicalLine {
+        line: 1,
+        kind: LineKind::Statement,
+        bytes: Bytes::new(text),
     };
-    lines.push("I=", 1)?;
-    lines.push(opening, count)?;
-    lines.push("1", 1)?;
-    lines.push(closing, count)?;
-    lines.text.push_str("\nEND\n")?;
-    match read_program(alloc, lines.text.as_bytes()) {
-        Err(StaticError::Refused(refusal)) if refusal.line == 1 => Ok(Some(refusal.reason)),
-        _ => Ok(None),
-    }
+    let tokens = tokens(alloc, &line)?;
+    let read = front_expr(alloc, &tokens)?;
+    Ok(read.map(|(_, rest)| rest.len()))
 }
 
 #[test]
-fn deepest_statements(rt: HostRuntime) -> Result<(), Fail> {
-    for (opening, count, closing) in [
-        ("-A(", 1280, ")"),
-        ("(", 2600, ")"),
-        ("A(", 1730, ")"),
-        ("ABS(", 1010, ")"),
-        ("A(:", 1280, ")"),
-        ("2**", 1710, ""),
-        ("1+", 2590, ""),
+fn deepest_expressions(rt: HostRuntime) -> Result<(), Fail> {
+    for (opening, closing) in [
+        ("-A(", ")"),
+        ("(", ")"),
+        ("A(", ")"),
+        ("ABS(", ")"),
+        ("A(:", ")"),
+        ("2**", ""),
+        ("1+", ""),
     ] {
-        assert_eq!(rt;
-            reason_of(rt.alloc(), opening, count, closing)?,
-            Some(Reason::Limit),
-            "of {opening}"
-        );
+        assert_eq!(rt; left_of(rt.alloc(), opening, closing)?, Some(0));
     }
     Ok(())
 }
 
 #[test]
-fn deepest_statements_that_are_not_closed(rt: HostRuntime) -> Result<(), Fail> {
-    for (opening, count) in [("-A(", 1710), ("(", 5220), ("A(:", 1710)] {
-        assert_eq!(rt;
-            reason_of(rt.alloc(), opening, count, "")?,
-            Some(Reason::NotAStatement),
-            "of {opening}"
-        );
-    }
+fn deepest_expressions_that_are_not_closed(rt: HostRuntime) -> Result<(), Fail> {
+    assert_eq!(rt; left_of(rt.alloc(), "(", "")?, None);
+    assert!(rt; left_of(rt.alloc(), "-A(", "")?.is_some());
+    assert!(rt; left_of(rt.alloc(), "A(:", "")?.is_some());
     Ok(())
 }

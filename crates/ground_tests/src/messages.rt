@@ -1,8 +1,7 @@
 //! Which elements a node of the narrow form sends to which.
 
+use first_form::{FirstNodes, FirstStmt, first_message};
 use hpf_base::NodeId;
-use hpf_reader::FirstStmt;
-use hpf_run::{FirstNodes, first_message};
 use std::test::Fail;
 
 /// The blocks of ten elements on four nodes are 1:3, 4:6, 7:9 and 10, so a shift by one to the left sends the first

@@ -1,23 +1,10 @@
 //! The tables of words, and what operators and tokens are by them.
 
 use hpf_base::Name;
-use op_tables::{
-    DOT_WORDS, INTRINSIC_WORDS, LEFT_OUT_WORDS, Op, STATEMENT_WORDS, SYMBOLS, dot_word,
-    intrinsic_word, is_reserved, symbol,
-};
+use op_tables::{Op, dot_word, intrinsic_word, is_reserved, symbol};
 use source_lines::TokenKind;
 use std::test::Fail;
 use syntax_tree::{Names, Sign, binary, intrinsic, left_place, level, right_place, sign_of, unary};
-
-#[test]
-fn rows_are_found(rt: HostRuntime) {
-    assert!(rt; DOT_WORDS.find(".LE.").is_some());
-    assert!(rt; SYMBOLS.find(">=").is_some());
-    assert!(rt; STATEMENT_WORDS.find("FORALL").is_some());
-    assert!(rt; LEFT_OUT_WORDS.find("WRITE").is_some());
-    assert!(rt; INTRINSIC_WORDS.find("UBOUND").is_some());
-    assert!(rt; INTRINSIC_WORDS.find("ZZZ").is_none());
-}
 
 #[test]
 fn codes_by_spelling(rt: HostRuntime) {

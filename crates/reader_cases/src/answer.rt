@@ -2,12 +2,12 @@
 
 use crate::case::{Case, Wanted};
 use crate::fronts::write_fronts;
-use crate::write_program::write_program;
 use case_texts::{TextError, text_of};
 use hpf_base::{Refusal, StaticError};
 use hpf_reader::read_program;
 use std::alloc::{AllocError, Global};
 use std::fmt::Write;
+use tree_text::write_program;
 
 /// The answer to a case, in lines.
 pub fn answer_to(alloc: Global, case: &Case) -> Result<String, AllocError> {

@@ -14,12 +14,6 @@
 mod answer;
 mod case;
 mod fronts;
-mod write_decl;
-mod write_directive;
-mod write_expr;
-mod write_list;
-mod write_program;
-mod write_stmt;
 
 use crate::answer::answer_to;
 use crate::case::Case;

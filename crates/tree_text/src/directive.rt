@@ -1,8 +1,8 @@
 //! Directives.
 
-use crate::write_decl::write_entities;
-use crate::write_expr::{write_expr, write_subscript};
-use crate::write_list::{write_comma, write_name, write_names};
+use crate::decl::write_entities;
+use crate::expr::{write_expr, write_subscript};
+use crate::list::{write_comma, write_name, write_names};
 use hpf_base::Name;
 use std::alloc::AllocError;
 use syntax_tree::{AlignSpec, Directive, DistSpec, Expr, Format, Source, Target};

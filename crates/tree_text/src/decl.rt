@@ -1,8 +1,8 @@
 //! Declarations.
 
-use crate::write_directive::write_directive;
-use crate::write_expr::{write_expr, write_optional};
-use crate::write_list::{write_comma, write_name};
+use crate::directive::write_directive;
+use crate::expr::{write_expr, write_optional};
+use crate::list::{write_comma, write_name};
 use std::alloc::AllocError;
 use std::fmt::Write;
 use syntax_tree::{Bound, ConstDef, Decl, DeclKind, Entity, IntegerDecl};

@@ -1,6 +1,6 @@
 //! Expressions, with each operation in parentheses; the parentheses of the text are brackets.
 
-use crate::write_list::{write_comma, write_name};
+use crate::list::{write_comma, write_name};
 use op_tables::Op;
 use std::alloc::AllocError;
 use std::fmt::Write;

@@ -1,9 +1,9 @@
 //! Statements, each on a line of its own with its number first. A part of a construct whose number the tree doesn't keep
 //! has none, and what is inside a statement stands two blanks further to the right.
 
-use crate::write_directive::write_distribution;
-use crate::write_expr::{write_expr, write_optional, write_ref};
-use crate::write_list::{write_comma, write_name, write_names};
+use crate::directive::write_distribution;
+use crate::expr::{write_expr, write_optional, write_ref};
+use crate::list::{write_comma, write_name, write_names};
 use case_texts::write_text;
 use std::alloc::AllocError;
 use std::fmt::Write;

@@ -1,8 +1,8 @@
 //! Programs.
 
-use crate::write_decl::write_decl;
-use crate::write_list::write_name;
-use crate::write_stmt::write_block;
+use crate::decl::write_decl;
+use crate::list::write_name;
+use crate::stmt::write_block;
 use std::alloc::AllocError;
 use std::fmt::Write;
 use syntax_tree::{EndForm, Tree};
