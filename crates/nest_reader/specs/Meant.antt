@@ -20,6 +20,7 @@ use Rattle.nest_reader.specs.SpelledProgram.{SpelledIndependent, SpelledBlock, E
 
 -- ---- parts of lines
 
+-- the left side of an assignment: a name, with subscripts or without
 abbrev pub parts : List Part → Parts
 parts [] = End
 parts (p ∷ ps) = More p (parts ps)
@@ -27,9 +28,11 @@ parts (p ∷ ps) = More p (parts ps)
 abbrev pub variable : Value forms.variable → syntax.Variable
 variable v = record { name = v.0; subscripts = option_map parts v.1 }
 
+-- an assignment of a WHERE or FORALL, in the line of this number
 abbrev pub assigned : ℕ → Value assignment → syntax.Assignment
 assigned n a = record { line = n; left = variable a.0; right = a.1 }
 
+-- the one assignment that stands behind WHERE or FORALL, if one does
 abbrev pub one : ℕ → Option (Value assignment) → List syntax.Assignment
 one n None = []
 one n (Some a) = assigned n a ∷ []
@@ -45,6 +48,7 @@ abbrev pub items : Option (List Output) → List syntax.Item
 items None = []
 items (Some is) = map item is
 
+-- one expression alone is the upper bound
 abbrev pub bound_of : Value bound → directive.Bound
 bound_of b = bounds b.0 b.1 where
   bounds : Expression → Option Expression → directive.Bound
@@ -56,6 +60,7 @@ format_of (inl star) = directive.Undistributed
 format_of (inr (inl m)) = directive.Block m
 format_of (inr (inr k)) = directive.Cyclic k
 
+-- `many` says that the names stand behind `::`; else one name stands first
 abbrev pub distribution : (many : Bool) → Value (directives.distribution many) → directive.Distribution
 distribution false d = record { names = d.0 ∷ []; formats = map format_of d.1.0; onto = d.1.1 }
 distribution true d = record { names = d.1.1; formats = map format_of d.0; onto = d.1.0 }
@@ -112,6 +117,7 @@ declaration_of l = record { line = l.number; what = declared_of l.what }
 
 -- ---- statements
 
+-- a statement that is whole in its line, by its kind
 abbrev pub plain : ℕ → (k : Kind) → Value (grammar k) → syntax.Statement
 plain n kind.Assign v = syntax.Assign (variable v.0) v.1
 plain n kind.Where v = syntax.Where v.0 (one n v.1) []
@@ -122,6 +128,7 @@ plain n kind.Exit v = syntax.Exit
 plain n kind.Cycle v = syntax.Cycle
 plain n k v = syntax.Continue
 
+-- a statement or a REDISTRIBUTE that is whole in its line; IF with an action is the construct with that alone
 abbrev pub single : ℕ → LineContent → syntax.Statement
 single n (OfStatement (statements.Plain k v)) = plain n k v
 single n (OfStatement (statements.IfOne cond k v)) = syntax.If (syntax.Arm n cond (syntax.Then n (plain n k v) syntax.Done) syntax.NoArm) syntax.Without
