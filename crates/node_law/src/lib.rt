@@ -3,9 +3,11 @@
 //!
 //! Comes in: any node type that keeps the clauses of `PhasedNode`, and nodes of it that are phased, so that a
 //! lockstep run passes their phases one after another. Goes out: the laws, each the contract of a function that
-//! does nothing. What holds in between: a node's moves are a function of the letters that it takes, so whatever
-//! the order of the steps, its moves so far are a prefix of those of the lockstep run. The law of prefixes says
-//! this of moves alone, with no queue and no order in time, and the others follow from it.
+//! does nothing, and in `specs/` what they speak of: the steps of nodes, their phases and lockstep run, and cores
+//! with a queue for each ordered pair of nodes. What holds in between: a node's moves are a function of the letters
+//! that it takes, so whatever the order of the steps, its moves so far are a prefix of those of the lockstep run. The
+//! law of prefixes says this of moves alone, with no queue and no order in time, and the others follow from it. In a
+//! phase no node sends to itself, so there is no letter for which a queue from a node to itself would be wanted.
 #![tactic(auto)]
 
 mod act;
