@@ -20,11 +20,11 @@ use Rattle.nest_reader.specs.SpelledProgram.{SpelledIndependent, SpelledBlock, E
 
 -- ---- parts of lines
 
--- the left side of an assignment: a name, with subscripts or without
 abbrev pub parts : List Part → Parts
 parts [] = End
 parts (p ∷ ps) = More p (parts ps)
 
+-- the left side of an assignment: a name, with subscripts or without
 abbrev pub variable : Value forms.variable → syntax.Variable
 variable v = record { name = v.0; subscripts = option_map parts v.1 }
 
