@@ -69,10 +69,10 @@ abbrev mutual
       independent_lines mark ++ (Some number, OfStatement (statements.Plain kind.Do head)) ∷ (block_lines body ++ unnumbered (OfStatement (end_do glued)) ∷ [])
   statement_lines (WhereConstruct number mask body other glued) =
       (Some number, OfStatement (statements.Plain kind.Where (mask, None)))
-          ∷ (block_lines body ++ else_lines (OfStatement (statements.Plain (kind.ElseWhere true) tt)) other ++ unnumbered (OfStatement (end_where glued)) ∷ [])
+      ∷ (block_lines body ++ else_lines (OfStatement (statements.Plain (kind.ElseWhere true) tt)) other ++ unnumbered (OfStatement (end_where glued)) ∷ [])
   statement_lines (ForallConstruct marked number head body glued) =
       bare_independent_lines marked ++ (Some number, OfStatement (statements.Plain kind.Forall (head, None)))
-          ∷ (block_lines body ++ unnumbered (OfStatement (end_forall glued)) ∷ [])
+      ∷ (block_lines body ++ unnumbered (OfStatement (end_forall glued)) ∷ [])
 
   pub if_lines : IfBlocks → List Entry
   if_lines NoIfBlock = []
