@@ -1,5 +1,5 @@
 -- The first of a set of breaches, where there may be none.
-use Rattle.std.specs.Prelude.{ℕ, Bool, ◌==◌, ◌||◌, ◌&&◌, nat_lt, Option, Some, None, if◌then◌else◌}
+use Rattle.std.specs.Prelude.{ℕ, Bool, ◌==◌, ◌||◌, ◌&&◌, nat_lt, List, [], ◌∷◌, ◌≡◌, ◌⊎◌, Option, Some, None, if◌then◌else◌}
 use Rattle.hpf_base.specs.declared.refusal.Reason.{Reason}
 use Rattle.hpf_base.specs.declared.refusal.Refusal.{Refusal}
 use Rattle.hpf_base.specs.Refusal.{number_of, IsFirstBreach, NoBreach}
@@ -23,3 +23,13 @@ earlier (Some a) (Some b) = if is_before b a then Some b else Some a
 abbrev pub at_line : ℕ → Option Reason → Option Refusal
 at_line line None = None
 at_line line (Some why) = Some (record { line = line; reason = why })
+
+-- the breaches of a list, as a set
+abbrev pub Among : List Refusal → ℕ → Reason → Type 0
+Among [] line why = ⊥
+Among (r ∷ rs) line why = (record { line = line; reason = why } ≡ r) ⊎ Among rs line why
+
+-- the first of a list; None where it is empty
+abbrev pub least : List Refusal → Option Refusal
+least [] = None
+least (r ∷ rs) = earlier (Some r) (least rs)

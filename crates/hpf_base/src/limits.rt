@@ -24,6 +24,12 @@ pub const MAX_DEPTH: usize = 200;
 /// The greatest number of constructs that are open at one place.
 pub const MAX_NESTING: usize = 64;
 
+/// The greatest number of names that a program declares.
+pub const MAX_NAMES: usize = 256;
+
+/// The greatest number of indices of a FORALL, or of loops of a nest of INDEPENDENT loops.
+pub const MAX_INDICES: usize = 7;
+
 /// The greatest number of dimensions of an array (Fortran 95, 2.4.5).
 pub const MAX_RANK: usize = 7;
 
@@ -32,6 +38,9 @@ pub const MAX_BOUND: u64 = 2_199_023_255_552;
 
 /// The greatest number of elements of an array.
 pub const MAX_ELEMENTS: u64 = 1_048_576;
+
+/// The greatest number of elements of all arrays of a program together.
+pub const MAX_TOTAL_ELEMENTS: u64 = 4_194_304;
 
 /// The greatest extent of a dimension of a template.
 pub const MAX_TEMPLATE_EXTENT: u64 = 1_099_511_627_776;

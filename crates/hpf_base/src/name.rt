@@ -4,9 +4,13 @@ ghost use Rattle.std.specs.Prelude.{◌≡◌, ◌↔◌, nat_eq, IsSome, IfSome
 ghost use Rattle.std.specs.List.{list_all};
 ghost use Rattle.std.specs.Cmp.{partial_equiv_from_equiv};
 ghost use Rattle.std.specs.Cmp.Lexicographic.{pointwise, nat_list_eq_equiv};
+ghost use Rattle.std.proofs.Common.{rules};
+ghost use Rattle.std.specs.Cmp.Rules.{hashing};
+ghost use Rattle.std.specs.Hash as fed;
 ghost use Rattle.hpf_base.specs.Name.{IsName, is_name_byte};
 
 use crate::limits::MAX_NAME_BYTES;
+use std::hash::{Hash, Hasher};
 use std::marker::Model;
 
 /// A name in upper case. Contracts see the list of its bytes: 1 to 31 of `A` to `Z`, `0` to `9` and `_`.
@@ -71,6 +75,16 @@ impl PartialEq for Name {
 
 impl Eq for Name {
     ghost laws = { nat_list_eq_equiv };
+}
+
+impl Hash for Name {
+    ghost hash_input = { λ a. fed.slice fed.u8 a };
+
+    ghost respects_eq = { Prim.search (hashing, rules) };
+
+    fn hash<H: Hasher>(&self, state: &mut H) {
+        self.bytes().hash(state);
+    }
 }
 
 /// Whether each byte may stand in a name.

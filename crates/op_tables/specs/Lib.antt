@@ -1,2 +1,4 @@
 pub mod Tables
 pub mod Words
+pub mod Arguments
+pub mod Operators
