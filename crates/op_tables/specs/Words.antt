@@ -1,4 +1,4 @@
--- The words of the language, in six tables, each in ascending order of its bytes. A word's code is its place in its
+-- The words of the language, in five tables, each in ascending order of its bytes. A word's code is its place in its
 -- table, from 0.
 use Rattle.std.specs.Prelude.{ℕ, ◌||◌, Bool, bytes_eq, is_some, List, [], ◌∷◌, Option, position, codes}
 
@@ -44,14 +44,6 @@ intrinsic_words =
     codes "IOR" ∷ codes "LBOUND" ∷ codes "MAX" ∷ codes "MAXVAL" ∷ codes "MIN" ∷ codes "MINVAL" ∷ codes "MOD" ∷
     codes "MODULO" ∷ codes "NOT" ∷ codes "NUMBER_OF_PROCESSORS" ∷ codes "PROCESSORS_SHAPE" ∷ codes "PRODUCT" ∷
     codes "SIGN" ∷ codes "SIZE" ∷ codes "SUM" ∷ codes "UBOUND" ∷ []
-
--- the words that begin a directive: of the language, left out of it or passed over (HPF 2.0, 3 to 5, 8 and 9)
-abbrev pub directive_words : List (List ℕ)
-directive_words =
-    codes "ALIGN" ∷ codes "DISTRIBUTE" ∷ codes "DYNAMIC" ∷ codes "END" ∷ codes "INDEPENDENT" ∷
-    codes "INHERIT" ∷ codes "NO" ∷ codes "ON" ∷ codes "PROCESSORS" ∷ codes "RANGE" ∷ codes "REALIGN" ∷
-    codes "REDISTRIBUTE" ∷ codes "RESIDENT" ∷ codes "SEQUENCE" ∷ codes "SHADOW" ∷ codes "TASK_REGION" ∷
-    codes "TEMPLATE" ∷ []
 
 -- the code of a word in a table; None exactly where it isn't there
 abbrev pub code_in : List (List ℕ) → List ℕ → Option ℕ

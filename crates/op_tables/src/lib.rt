@@ -1,12 +1,11 @@
 //! The words of the language, each with its code, and its operators.
 //!
-//! Comes in: nothing. Goes out: six tables of words, and the code of a word that is spelled so.
+//! Comes in: nothing. Goes out: five tables of words, and the code of a word that is spelled so.
 //! What holds in between: a table's words are those of `specs/`, distinct and in ascending order, and a word's
 //! code is its place; a look-up gives that code, and None exactly where the word isn't in the table.
 #![tactic(auto)]
 
 mod arguments;
-mod directives;
 mod dots;
 mod intrinsics;
 mod left_out;
@@ -17,7 +16,6 @@ mod statements;
 mod table;
 
 pub use arguments::{is_inquiry, is_processor_count, is_reduction, takes};
-pub use directives::{directive_word, directive_words};
 pub use dots::{dot_word, dot_words};
 pub use intrinsics::{intrinsic_word, intrinsic_words};
 pub use left_out::{left_out_word, left_out_words};
