@@ -10,11 +10,11 @@ use Rattle.nest_order.specs.Effect.{Effect, Skip, Put, Fail, apply, then_apply}
 use Rattle.nest_order.specs.Orders.{alone, Apart}
 use Rattle.nest_order.specs.Turns.{joined_up_to}
 use Rattle.nest_order.specs.Items.{Items, Done, Then, If, Repeat, Branches, EndIf, Branch, Evaluation, holds_in, EachIn, EachInBranches}
-use Rattle.nest_order.specs.Parts.{most, Conditions, set_condition, guard_holds, IsBelow, Iteration, NestPart, Acts, Tests, count_items, count_branches, flat, flat_branches, is_evaluated}
+use Rattle.nest_order.specs.Parts.{most, Conditions, set_condition, guard_holds, IsBelow, Iteration, NestPart, Acts, Tests, count_items, count_branches, flat, flat_branches, is_evaluated, is_tested}
 use Rattle.nest_order.specs.Listed.{value_or, Names, names_in, names_of, go_on, touched, listed}
 use Rattle.nest_order.specs.Nest.{Interpretation, evaluated, is_set, number_for, condition_at, conditions_in, put_truth, effects, effect_at, nest_effects, nest_act, writes, AgreeOn, IsNamed, IsNear, IsParallel, touches_of}
 use Rattle.nest_order.proofs.StorageLemmas.{Alike-write, Alike-trans, Alike-sym, Alike-refl, read-write_other, read-write_both, read-write_at}
-use Rattle.nest_order.proofs.Flattening.{set_at, set_other, Kept, AllBelow, below-more, all_below-more, holds_kept, is_tested, tested_kept}
+use Rattle.nest_order.proofs.Flattening.{set_at, set_other, Kept, AllBelow, below-more, all_below-more, holds_kept, tested_kept}
 use Rattle.nest_order.proofs.Touching.{AllIn, in_turn_of, touched_listed}
 
 is_set-number_for : (b : Bool) → is_set (number_for b) ≡ b
@@ -76,7 +76,8 @@ module _ {A C F : Type 0} (S : Interpretation A C F) (N : Names A C Spot) (W : A
   good_turns lists (suc t) each = good_append (joined_up_to t lists) (lists t) (good_turns lists t (λ x lt. each x (omega arith))) (each t (omega arith))
 
   mutual
-    pub all_good : (items : Items A C) (g : Option ℕ) (k : ℕ) → EachIn (IsNamed S N W start) (IsNear S N W start) items → IsBelow g k → k + count_items items ≤ count → AreGood (flat items g k)
+    pub all_good : (items : Items A C) (g : Option ℕ) (k : ℕ) → EachIn (IsNamed S N W start) (IsNear S N W start) items → IsBelow g k
+        → k + count_items items ≤ count → AreGood (flat items g k)
     all_good Done g k each below le = tt
     all_good (Then a rest) g k each below le = ((below-more g k count (omega arith) below, each.0), all_good rest g k each.1 below le)
     all_good (If branches rest) g k each below le =
@@ -89,7 +90,9 @@ module _ {A C F : Type 0} (S : Interpretation A C F) (N : Names A C Spot) (W : A
         (good_turns (λ x. flat (body x) g k) t (λ x lt. all_good (body x) g k (each.0 x lt) below (let z = below_most t (λ y. count_items (body y)) x lt in omega arith)))
         (all_good rest g k' each.1 (below-more g k k' (omega arith) below) (omega arith))
 
-    all_branches_good : (branches : Branches A C) (g : Option ℕ) (es : List ℕ) (k : ℕ) → EachInBranches (IsNamed S N W start) (IsNear S N W start) branches → IsBelow g k → AllBelow es k → k + count_branches branches ≤ count → AreGood (flat_branches branches g es k)
+    all_branches_good : (branches : Branches A C) (g : Option ℕ) (es : List ℕ) (k : ℕ)
+        → EachInBranches (IsNamed S N W start) (IsNear S N W start) branches → IsBelow g k → AllBelow es k → k + count_branches branches ≤ count
+        → AreGood (flat_branches branches g es k)
     all_branches_good EndIf g es k each below all le = tt
     all_branches_good (Branch test body others) g es k each below all le =
         let k' = k + 1 + count_items body in (
@@ -106,7 +109,8 @@ module _ {A C F : Type 0} (S : Interpretation A C F) (N : Names A C Spot) (W : A
       pub same : (spot : Spot) → spot.row < row → read s.storage spot ≡ read m spot
       pub stored : Kept count s.conditions (conditions m)
 
-    beside_effect : (s : Iteration Storage) (m : Storage) (e : Effect F) → ((spot : Spot) (v : ℤ) → e ≡ Put spot v → spot.row < row) → Beside s m → Beside (record s { storage = apply e s.storage }) (apply e m)
+    beside_effect : (s : Iteration Storage) (m : Storage) (e : Effect F) → ((spot : Spot) (v : ℤ) → e ≡ Put spot v → spot.row < row) → Beside s m
+        → Beside (record s { storage = apply e s.storage }) (apply e m)
     beside_effect s m Skip low h = h
     beside_effect s m (Fail f) low h = h
     beside_effect s m (Put spot v) low h = record {
@@ -118,36 +122,46 @@ module _ {A C F : Type 0} (S : Interpretation A C F) (N : Names A C Spot) (W : A
           ∙ h.stored x lt;
     }
 
-    pub beside_stored : (s : Iteration Storage) (m : Storage) (c : ℕ) (b : Bool) → c < count → Beside s m → Beside (record s { conditions = set_condition s.conditions c b }) (write m (at c) (number_for b))
+    pub beside_stored : (s : Iteration Storage) (m : Storage) (c : ℕ) (b : Bool) → c < count → Beside s m
+        → Beside (record s { conditions = set_condition s.conditions c b }) (write m (at c) (number_for b))
     beside_stored s m c b lt h = record {
       alike_s = h.alike_s;
       alike_m = Alike-trans (write m (at c) (number_for b)) m start (Alike-write m (at c) (number_for b)) h.alike_m;
       same = λ l low. h.same l low ∙ sym (read-write_other m (at c) l (number_for b) (λ e. let z : row + c ≡ l.row = ap (λ t. t.row) e in omega arith));
       stored = λ x ltx. ⊎_elim
           (λ is. subst (λ y. conditions (write m (at c) (number_for b)) y ≡ set_condition s.conditions c b y) is
-          (ap is_set (read-write_at m (at c) (number_for b) (let z = rows c lt in omega (arith, h.alike_m.extent (row + c)))) ∙ is_set-number_for b ∙ sym (set_at s.conditions c b)))
+          (ap is_set (read-write_at m (at c) (number_for b) (let z = rows c lt in omega (arith, h.alike_m.extent (row + c)))) ∙ is_set-number_for b
+          ∙ sym (set_at s.conditions c b)))
           (λ ne.
           ap is_set (read-write_other m (at c) (at x) (number_for b) (λ e. let z : row + c ≡ row + x = ap (λ t. t.row) e in ne (omega arith)))
           ∙ h.stored x ltx ∙ sym (set_other s.conditions c x b (λ e. ne (sym e))))
           (cases_eq c x);
     }
 
-    beside_again : (s : Iteration Storage) (m : Storage) (c : ℕ) (a b : Bool) → Beside (record s { conditions = set_condition (set_condition s.conditions c a) c b }) m → Beside (record s { conditions = set_condition s.conditions c b }) m
+    beside_again : (s : Iteration Storage) (m : Storage) (c : ℕ) (a b : Bool)
+        → Beside (record s { conditions = set_condition (set_condition s.conditions c a) c b }) m
+        → Beside (record s { conditions = set_condition s.conditions c b }) m
     beside_again s m c a b h = record {
       alike_s = h.alike_s;
       alike_m = h.alike_m;
       same = h.same;
       stored = λ x lt. h.stored x lt ∙ ⊎_elim
-          (λ is. subst (λ y. set_condition (set_condition s.conditions c a) c b y ≡ set_condition s.conditions c b y) is (set_at (set_condition s.conditions c a) c b ∙ sym (set_at s.conditions c b)))
-          (λ ne. set_other (set_condition s.conditions c a) c x b (λ e. ne (sym e)) ∙ set_other s.conditions c x a (λ e. ne (sym e)) ∙ sym (set_other s.conditions c x b (λ e. ne (sym e))))
+          (λ is.
+          subst (λ y. set_condition (set_condition s.conditions c a) c b y ≡ set_condition s.conditions c b y) is
+          (set_at (set_condition s.conditions c a) c b ∙ sym (set_at s.conditions c b)))
+          (λ ne.
+          set_other (set_condition s.conditions c a) c x b (λ e. ne (sym e)) ∙ set_other s.conditions c x a (λ e. ne (sym e))
+          ∙ sym (set_other s.conditions c x b (λ e. ne (sym e))))
           (cases_eq c x);
     }
 
-    pub holds_near : (test : Option C) → IfSome test (IsNear S N W start) → (m m' : Storage) → Alike m start → Alike m' start → AgreeOn (names_in N test) m m' → holds_in E test m ≡ holds_in E test m'
+    pub holds_near : (test : Option C) → IfSome test (IsNear S N W start) → (m m' : Storage) → Alike m start → Alike m' start
+        → AgreeOn (names_in N test) m m' → holds_in E test m ≡ holds_in E test m'
     holds_near None near m m' h g agree = refl
     holds_near (Some c) near m m' h g agree = near m m' h g agree
 
-    module _ (T listed_all listed_writes : List Spot) (in_T : AllIn listed_all T) (conditions_in_T : (c : ℕ) → c < count → Contains T (at c)) (low : (spot : Spot) → Contains listed_all spot → spot.row < row) where
+    module _ (T listed_all listed_writes : List Spot) (in_T : AllIn listed_all T) (conditions_in_T : (c : ℕ) → c < count → Contains T (at c))
+        (low : (spot : Spot) → Contains listed_all spot → spot.row < row) where
       -- an act where the iteration alone comes to it: it depends on what is touched, and stores what is listed or a condition
       pub record Proper (e : Storage → Effect F) (m : Storage) : Type 0 where
         pub local : (m' : Storage) → Alike m' start → AgreeOn T m' m → e m' ≡ e m
@@ -163,7 +177,9 @@ module _ {A C F : Type 0} (S : Interpretation A C F) (N : Names A C Spot) (W : A
 
       pub acts_proper : (g : Option ℕ) (a : A) (s : Iteration Storage) (m : Storage) → IsBelow g count → IsNamed S N W start a → Beside s m →
           (guard_holds g s.conditions ≡ true → AllIn (N.of_action a) listed_all) → (guard_holds g s.conditions ≡ true → AllIn (W a) listed_writes) →
-          (b : Bool) → guard_holds g s.conditions ≡ b → (let e = λ (m : Storage). if guard_holds g (conditions m) then S.effect a m else Skip in Proper e m × Beside (go_on E (let p : NestPart A C = Acts g a in p) s) (apply (e m) m))
+          (b : Bool) → guard_holds g s.conditions ≡ b
+          → (let e = λ (m : Storage). if guard_holds g (conditions m) then S.effect a m else Skip in
+          Proper e m × Beside (go_on E (let p : NestPart A C = Acts g a in p) s) (apply (e m) m))
       acts_proper g a s m below named h names written true on =
           let names_in_T : AllIn (N.of_action a) T = λ l c. in_T l (names on l c) in
           let on_m = holds_kept g count s.conditions (conditions m) below h.stored ∙ on in
@@ -188,7 +204,10 @@ module _ {A C F : Type 0} (S : Interpretation A C F) (N : Names A C Spot) (W : A
           let memory_is : (if guard_holds g s.conditions then value_or (then_apply (S.effect a s.storage) s.storage) s.storage else s.storage) ≡ s.storage =
           ap (λ t. if t then value_or (then_apply (S.effect a s.storage) s.storage) s.storage else s.storage) off in (
             record {
-              local = λ m' alike agree. ap (λ t. if t then S.effect a m' else Skip) (holds_kept g count (conditions m) (conditions m') below (conditions_agree m m' agree) ∙ off_m) ∙ sym is;
+              local =
+                  λ m' alike agree.
+                  ap (λ t. if t then S.effect a m' else Skip)
+                  (holds_kept g count (conditions m) (conditions m') below (conditions_agree m m' agree) ∙ off_m) ∙ sym is;
               stores = λ spot v put. let z : Skip ≡ Put spot v = sym is ∙ put in absurd cc;
             },
             subst (λ x. Beside (record s { storage = x }) (apply (if guard_holds g (conditions m) then S.effect a m else Skip) m)) (sym memory_is)
@@ -199,7 +218,9 @@ module _ {A C F : Type 0} (S : Interpretation A C F) (N : Names A C Spot) (W : A
       put_at c (Ok b) spot v h = cc
       put_at c (Err f) spot v h = absurd cc
 
-      stored_truth : (s : Iteration Storage) (m : Storage) (c : ℕ) (r : Result Bool F) → c < count → Beside s m → Beside (record s { conditions = set_condition s.conditions c (value_or r false) }) (apply (put_truth S row i (at c) r) (write m (at c) (pos 0)))
+      stored_truth : (s : Iteration Storage) (m : Storage) (c : ℕ) (r : Result Bool F) → c < count → Beside s m
+          → Beside (record s { conditions = set_condition s.conditions c (value_or r false) })
+          (apply (put_truth S row i (at c) r) (write m (at c) (pos 0)))
       stored_truth s m c (Ok b) lt h =
           beside_again s (write (write m (at c) (pos 0)) (at c) (number_for b)) c false b
           (beside_stored (record s { conditions = set_condition s.conditions c false }) (write m (at c) (pos 0)) c b lt (beside_stored s m c false lt h))
@@ -209,9 +230,12 @@ module _ {A C F : Type 0} (S : Interpretation A C F) (N : Names A C Spot) (W : A
       abbrev pub test_act : ℕ → Option ℕ → List ℕ → Option C → Storage → Effect F
       test_act k g es test m = if is_tested g es (conditions m) then put_truth S row i (at k) (holds_in E test m) else Skip
 
-      pub tests_proper : (k : ℕ) (g : Option ℕ) (es : List ℕ) (test : Option C) (s : Iteration Storage) (m : Storage) → k < count → IsBelow g k → AllBelow es k → IfSome test (IsNear S N W start) → Beside s m →
+      pub tests_proper : (k : ℕ) (g : Option ℕ) (es : List ℕ) (test : Option C) (s : Iteration Storage) (m : Storage) → k < count → IsBelow g k
+          → AllBelow es k → IfSome test (IsNear S N W start) → Beside s m →
           (is_tested g es s.conditions ≡ true → AllIn (names_in N test) listed_all) → (b : Bool) → is_tested g es s.conditions ≡ b →
-          (let m1 = write m (at k) (pos 0) in Proper (test_act k g es test) m1 × Beside (go_on E (let p : NestPart A C = Tests k g es test in p) s) (apply (test_act k g es test m1) m1))
+          (let m1 = write m (at k) (pos 0) in
+          Proper (test_act k g es test) m1
+          × Beside (go_on E (let p : NestPart A C = Tests k g es test in p) s) (apply (test_act k g es test m1) m1))
       tests_proper k g es test s m lt below all near h names b is =
           let m1 = write m (at k) (pos 0) in
           let h1 = beside_stored s m k false lt h in
@@ -225,8 +249,11 @@ module _ {A C F : Type 0} (S : Interpretation A C F) (N : Names A C Spot) (W : A
           tested_too : (b : Bool) (m m' : Storage) → AgreeOn T m' m → is_tested g es (conditions m) ≡ b → is_tested g es (conditions m') ≡ b
           tested_too b m m' agree on = tested_kept g es k (conditions m) (conditions m') below all (λ x ltx. conditions_agree m m' agree x (omega arith)) ∙ on
 
-          cases : (b : Bool) → Beside (record s { conditions = set_condition s.conditions k false }) (write m (at k) (pos 0)) → is_tested g es (conditions (write m (at k) (pos 0))) ≡ b → is_tested g es s.conditions ≡ b →
-              (let m1 = write m (at k) (pos 0) in Proper (test_act k g es test) m1 × Beside (go_on E (let p : NestPart A C = Tests k g es test in p) s) (apply (test_act k g es test m1) m1))
+          cases : (b : Bool) → Beside (record s { conditions = set_condition s.conditions k false }) (write m (at k) (pos 0))
+              → is_tested g es (conditions (write m (at k) (pos 0))) ≡ b → is_tested g es s.conditions ≡ b →
+              (let m1 = write m (at k) (pos 0) in
+              Proper (test_act k g es test) m1
+              × Beside (go_on E (let p : NestPart A C = Tests k g es test in p) s) (apply (test_act k g es test m1) m1))
           cases true h1 on is =
               let m1 = write m (at k) (pos 0) in
               let r = holds_in E test s.storage in
@@ -257,19 +284,29 @@ module _ {A C F : Type 0} (S : Interpretation A C F) (N : Names A C Spot) (W : A
               )
 
       -- what the first of the parts names where it is evaluated, and what the others touch
-      pub first_named : (names : Names A C Spot) (p : NestPart A C) (ps : List (NestPart A C)) (s : Iteration Storage) (all : List Spot) → AllIn (touched E names (p ∷ ps) s) all → is_evaluated p s.conditions ≡ true → AllIn (names_of names p) all
+      pub first_named : (names : Names A C Spot) (p : NestPart A C) (ps : List (NestPart A C)) (s : Iteration Storage) (all : List Spot)
+          → AllIn (touched E names (p ∷ ps) s) all → is_evaluated p s.conditions ≡ true → AllIn (names_of names p) all
       first_named names p ps s all h on l c =
-          h l (Contains-append_left (if is_evaluated p s.conditions then names_of names p else []) (touched E names ps (go_on E p s)) l (subst (λ t. Contains (if t then names_of names p else []) l) (sym on) c))
+          h l
+          (Contains-append_left (if is_evaluated p s.conditions then names_of names p else []) (touched E names ps (go_on E p s)) l
+          (subst (λ t. Contains (if t then names_of names p else []) l) (sym on) c))
 
-      pub others_named : (names : Names A C Spot) (p : NestPart A C) (ps : List (NestPart A C)) (s : Iteration Storage) (all : List Spot) → AllIn (touched E names (p ∷ ps) s) all → AllIn (touched E names ps (go_on E p s)) all
+      pub others_named : (names : Names A C Spot) (p : NestPart A C) (ps : List (NestPart A C)) (s : Iteration Storage) (all : List Spot)
+          → AllIn (touched E names (p ∷ ps) s) all → AllIn (touched E names ps (go_on E p s)) all
       others_named names p ps s all h l c = h l (Contains-append_right (if is_evaluated p s.conditions then names_of names p else []) (touched E names ps (go_on E p s)) l c)
 
-      parts_proper : (ps : List (NestPart A C)) → AreGood ps → (s : Iteration Storage) (m : Storage) → Beside s m → AllIn (touched E N ps s) listed_all → AllIn (touched E (writes N W) ps s) listed_writes → AllProper (effects S row i ps) m
+      parts_proper : (ps : List (NestPart A C)) → AreGood ps → (s : Iteration Storage) (m : Storage) → Beside s m
+          → AllIn (touched E N ps s) listed_all → AllIn (touched E (writes N W) ps s) listed_writes → AllProper (effects S row i ps) m
       parts_proper [] good s m h names written = tt
       parts_proper (Acts g a ∷ ps) good s m h names written =
           let p : NestPart A C = Acts g a in
-          let r = acts_proper g a s m good.0.0 good.0.1 h (first_named N p ps s listed_all names) (first_named (writes N W) p ps s listed_writes written) (guard_holds g s.conditions) refl in
-          (r.0, parts_proper ps good.1 (go_on E p s) (apply (if guard_holds g (conditions m) then S.effect a m else Skip) m) r.1 (others_named N p ps s listed_all names) (others_named (writes N W) p ps s listed_writes written))
+          let r =
+          acts_proper g a s m good.0.0 good.0.1 h (first_named N p ps s listed_all names) (first_named (writes N W) p ps s listed_writes written)
+          (guard_holds g s.conditions) refl in (
+            r.0,
+            parts_proper ps good.1 (go_on E p s) (apply (if guard_holds g (conditions m) then S.effect a m else Skip) m) r.1
+                (others_named N p ps s listed_all names) (others_named (writes N W) p ps s listed_writes written),
+          )
       parts_proper (Tests k g es test ∷ ps) good s m h names written =
           let p : NestPart A C = Tests k g es test in
           let m1 = write m (at k) (pos 0) in
@@ -278,7 +315,8 @@ module _ {A C F : Type 0} (S : Interpretation A C F) (N : Names A C Spot) (W : A
             record { local = λ m' alike agree. refl; stores = λ spot v put. inr (k, lt, cc) },
             (
               r.0,
-              parts_proper ps good.1 (go_on E p s) (apply (test_act k g es test m1) m1) r.1 (others_named N p ps s listed_all names) (others_named (writes N W) p ps s listed_writes written),
+              parts_proper ps good.1 (go_on E p s) (apply (test_act k g es test m1) m1) r.1 (others_named N p ps s listed_all names)
+                  (others_named (writes N W) p ps s listed_writes written),
             ),
           )
 
@@ -295,7 +333,8 @@ module _ {A C F : Type 0} (S : Interpretation A C F) (N : Names A C Spot) (W : A
       proper_at (e ∷ es) m all zero lt = all.0
       proper_at (e ∷ es) m all (suc j) lt = subst (Proper (acts es i j)) (alone_behind e es m j) (proper_at es (apply (e m) m) all.1 j (omega arith))
 
-module _ {A C F : Type 0} (S : Interpretation A C F) (N : Names A C Spot) (W : A → List Spot) (start : Storage) (row n : ℕ) (items : ℕ → Items A C) (free : IsParallel S N W start row n items) where
+module _ {A C F : Type 0} (S : Interpretation A C F) (N : Names A C Spot) (W : A → List Spot) (start : Storage) (row n : ℕ) (items : ℕ → Items A C)
+    (free : IsParallel S N W start row n items) where
   abbrev pub act : ℕ → ℕ → Storage → Effect F
   act = nest_act S row items
 

@@ -60,7 +60,8 @@ module _ (kinds : ℕ → Kind) where
     entry_value Assigned elements = get_or elements 0 (pos 0)
     entry_value (Reduced op) elements = unit_of op
 
-    at_entry : (k : Kind) (elements : List ℤ) → has_copies k ≡ true → (length (entry_copies k n elements) ≡ n) × ((i : ℕ) → i < n → get_or (entry_copies k n elements) i (pos 0) ≡ entry_value k elements)
+    at_entry : (k : Kind) (elements : List ℤ) → has_copies k ≡ true
+        → (length (entry_copies k n elements) ≡ n) × ((i : ℕ) → i < n → get_or (entry_copies k n elements) i (pos 0) ≡ entry_value k elements)
     at_entry Shared elements e = absurd cc
     at_entry New elements e = (length-replicate n (get_or elements 0 (pos 0)), λ i lt. get_or-replicate n i (get_or elements 0 (pos 0)) (pos 0) lt)
     at_entry Assigned elements e = (length-replicate n (get_or elements 0 (pos 0)), λ i lt. get_or-replicate n i (get_or elements 0 (pos 0)) (pos 0) lt)

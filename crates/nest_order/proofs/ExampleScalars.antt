@@ -53,7 +53,8 @@ set_is to from may_to may_from = (
   },
 )
 
-divide_is : (line : ℕ) (to from : Spot) → MayName (kinds to.row) to → MayName (kinds from.row) from → IsAction interpretation kinds reads spots_written reducing fine_scalars (Divide line to from)
+divide_is : (line : ℕ) (to from : Spot) → MayName (kinds to.row) to → MayName (kinds from.row) from
+    → IsAction interpretation kinds reads spots_written reducing fine_scalars (Divide line to from)
 divide_is line to from may_to may_from = (
   may_two to from may_to may_from,
   record {
@@ -64,7 +65,8 @@ divide_is line to from may_to may_from = (
     ends = λ m e. never (is_set (read m from)) (int_wrap w64 (int_div (read m to) (read m from))) e;
     writable = may_one to may_to;
     fits = λ m spot value fit put.
-        subst (FitsSigned w64) (divided (is_set (read m from)) (int_wrap w64 (int_div (read m to) (read m from))) spot value put).1 (SFits-int_wrap w64 (int_div (read m to) (read m from)));
+        subst (FitsSigned w64) (divided (is_set (read m from)) (int_wrap w64 (int_div (read m to) (read m from))) spot value put).1
+        (SFits-int_wrap w64 (int_div (read m to) (read m from)));
   },
 )
   where
@@ -89,7 +91,8 @@ add_is from may_from = (
   },
 )
 
-is_condition : (element : Spot) (bound : ℤ) → MayName (kinds element.row) element → IsCondition interpretation kinds reads spots_written reducing fine_scalars (Exceeds element bound)
+is_condition : (element : Spot) (bound : ℤ) → MayName (kinds element.row) element
+    → IsCondition interpretation kinds reads spots_written reducing fine_scalars (Exceeds element bound)
 is_condition element bound may = record {
   readable = may_one element may;
   near = λ m m' h g agree. ap (λ v. Ok (int_lt bound v)) (agree element (0, omega arith, refl));
@@ -99,7 +102,8 @@ is_condition element bound may = record {
 none_read : (a : Spot) (before : ℕ → Bool) → kinds a.row ≡ Shared → (spot : Spot) → Contains (a ∷ []) spot → kinds spot.row ≡ New → before spot.row ≡ true
 none_read a before shared spot c e = let z : Shared ≡ New = sym shared ∙ ap (λ l. kinds l.row) (one_spot a spot c) ∙ e in absurd cc
 
-none_read_two : (a b : Spot) (before : ℕ → Bool) → kinds a.row ≡ Shared → kinds b.row ≡ Shared → (spot : Spot) → Contains (a ∷ b ∷ []) spot → kinds spot.row ≡ New → before spot.row ≡ true
+none_read_two : (a b : Spot) (before : ℕ → Bool) → kinds a.row ≡ Shared → kinds b.row ≡ Shared → (spot : Spot) → Contains (a ∷ b ∷ []) spot
+    → kinds spot.row ≡ New → before spot.row ≡ true
 none_read_two a b before first second spot (zero, lt, c) e = let z : Shared ≡ New = sym first ∙ ap (λ l. kinds l.row) c ∙ e in absurd cc
 none_read_two a b before first second spot (suc zero, lt, c) e = let z : Shared ≡ New = sym second ∙ ap (λ l. kinds l.row) c ∙ e in absurd cc
 none_read_two a b before first second spot (suc (suc k), lt, c) e = absurd (omega arith)
@@ -118,7 +122,9 @@ scalar_rows (suc (suc zero)) e = refl
 scalar_rows (suc (suc (suc zero))) e = refl
 scalar_rows (suc (suc (suc (suc row)))) e = absurd cc
 
-texts : (i : ℕ) → EachIn (IsAction interpretation kinds reads spots_written reducing fine_scalars) (IsCondition interpretation kinds reads spots_written reducing fine_scalars) (body_of_scalars i)
+texts : (i : ℕ)
+    → EachIn (IsAction interpretation kinds reads spots_written reducing fine_scalars)
+    (IsCondition interpretation kinds reads spots_written reducing fine_scalars) (body_of_scalars i)
 texts i =
     let set = set_is (scalar_at 2) (b_at i) refl tt in
     let first = divide_is 4 (a_at i) (b_at (i + 1)) tt tt in

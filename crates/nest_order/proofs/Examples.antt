@@ -95,7 +95,8 @@ is_parallel b = record {
 
     written : (i : ℕ) (spot : Spot) → Contains (listed (writes names spots_written) (body i)) spot → IsOwnWritten i spot
     written i spot h =
-        All-contains (IsOwnWritten i) (listed (writes names spots_written) (body i)) spot (All-from_recursion (IsOwnWritten i) (listed (writes names spots_written) (body i)) (all_own_written i)) h
+        All-contains (IsOwnWritten i) (listed (writes names spots_written) (body i)) spot
+        (All-from_recursion (IsOwnWritten i) (listed (writes names spots_written) (body i)) (all_own_written i)) h
 
     in_row : (i number : ℕ) → i < 3 → number < 2 → i < length (row_of (entry b) (4 + number))
     in_row i zero lt ltn = lt

@@ -2,9 +2,10 @@
 use Rattle.std.proofs.Common.{◌≡◌, ℕ, zero, suc, ◌+◌, ◌<◌, ◌≤◌, List, [], ◌∷◌, ◌++◌, Option, Some, None, Result, Ok, Err, Bool, true, false, refl, ap, sym, ◌∙◌, subst, arith, true≢false}
 use Rattle.std.specs.Prelude.{nat_eq, ◌&&◌, not, if◌then◌else◌}
 use Rattle.std.proofs.lemmas.Bool.Decides.{nat_tests}
+use Rattle.std.proofs.Math.Bool.{and-true}
 use Rattle.nest_order.specs.Turns.{◌>>=◌, in_turn, joined_up_to}
 use Rattle.nest_order.specs.Items.{Items, Done, Then, If, Repeat, Branches, EndIf, Branch, Evaluation, holds_in, exec, exec_branches}
-use Rattle.nest_order.specs.Parts.{most, Conditions, set_condition, guard_holds, none_holds, IsBelow, Iteration, NestPart, count_items, count_branches, flat, flat_branches, do_part, do_parts, Matches}
+use Rattle.nest_order.specs.Parts.{most, Conditions, set_condition, guard_holds, none_holds, IsBelow, Iteration, NestPart, count_items, count_branches, flat, flat_branches, do_part, do_parts, Matches, is_tested}
 
 pub set_at : (c : Conditions) (n : ℕ) (b : Bool) → set_condition c n b n ≡ b
 set_at c n b = let e : nat_eq n n ≡ true = grind (arith, nat_tests) in ap (λ t. if t then b else c n) e
@@ -45,19 +46,11 @@ none_kept : (ns : List ℕ) (k : ℕ) (c d : Conditions) → AllBelow ns k → K
 none_kept [] k c d h kept = refl
 none_kept (n ∷ ns) k c d h kept = ap (λ b. not b && none_holds ns d) (kept n h.0) ∙ ap (λ b. not (c n) && b) (none_kept ns k c d h.1 kept)
 
--- a branch is tested: the guard of its IF holds, and no earlier branch was taken
-abbrev pub is_tested : Option ℕ → List ℕ → Conditions → Bool
-is_tested g es c = guard_holds g c && none_holds es c
-
 pub tested_kept : (g : Option ℕ) (es : List ℕ) (k : ℕ) (c d : Conditions) → IsBelow g k → AllBelow es k → Kept k c d → is_tested g es d ≡ is_tested g es c
 tested_kept g es k c d below all kept = ap (λ b. b && none_holds es d) (holds_kept g k c d below kept) ∙ ap (λ b. guard_holds g c && b) (none_kept es k c d all kept)
 
-and_true : (b : Bool) → (b && true) ≡ b
-and_true true = refl
-and_true false = refl
-
 pub tested_first : (g : Option ℕ) (c : Conditions) → is_tested g [] c ≡ guard_holds g c
-tested_first g c = and_true (guard_holds g c)
+tested_first g c = and-true (guard_holds g c)
 
 -- the tests of the branches behind number k, by whether that one was taken
 pub tested_later : (g : Option ℕ) (es : List ℕ) (k : ℕ) (c : Conditions) (b : Bool) → is_tested g es c ≡ b → c k ≡ false → is_tested g (k ∷ es) c ≡ b
@@ -91,7 +84,8 @@ module _ {A C M F : Type 0} (E : Evaluation A C M F) where
   parts_append [] qs s = refl
   parts_append (p ∷ ps) qs s = after (λ t. parts_append ps qs t) (do_part E p s)
     where
-      after : ((t : Iteration M) → do_parts E (ps ++ qs) t ≡ do_parts E ps t >>= do_parts E qs) → (r : Result (Iteration M) F) → r >>= do_parts E (ps ++ qs) ≡ (r >>= do_parts E ps) >>= do_parts E qs
+      after : ((t : Iteration M) → do_parts E (ps ++ qs) t ≡ do_parts E ps t >>= do_parts E qs) → (r : Result (Iteration M) F)
+          → r >>= do_parts E (ps ++ qs) ≡ (r >>= do_parts E ps) >>= do_parts E qs
       after rec (Ok t) = rec t
       after rec (Err f) = refl
 
@@ -128,11 +122,14 @@ module _ {A C M F : Type 0} (E : Evaluation A C M F) where
         (λ d kept. skipped_below k (k + count_branches branches) (flat rest g (k + count_branches branches)) m d (omega arith)
         (skip rest g (k + count_branches branches) (below-more g k (k + count_branches branches) (omega arith) below) m d (holds_kept g k c d below kept ∙ off)))
     skip (Repeat t body rest) g k below m c off =
-        skipped_append k (joined_up_to t (λ x. flat (body x) g k)) (flat rest g (k + most t (λ x. count_items (body x)))) m c (skipped_turns k g (λ x. flat (body x) g k) m below (λ x d h. skip (body x) g k below m d h) t c off)
+        skipped_append k (joined_up_to t (λ x. flat (body x) g k)) (flat rest g (k + most t (λ x. count_items (body x)))) m c
+        (skipped_turns k g (λ x. flat (body x) g k) m below (λ x d h. skip (body x) g k below m d h) t c off)
         (λ d kept. skipped_below k (k + most t (λ x. count_items (body x))) (flat rest g (k + most t (λ x. count_items (body x)))) m d (omega arith)
-        (skip rest g (k + most t (λ x. count_items (body x))) (below-more g k (k + most t (λ x. count_items (body x))) (omega arith) below) m d (holds_kept g k c d below kept ∙ off)))
+        (skip rest g (k + most t (λ x. count_items (body x))) (below-more g k (k + most t (λ x. count_items (body x))) (omega arith) below) m d
+        (holds_kept g k c d below kept ∙ off)))
 
-    skip_branches : (branches : Branches A C) (g : Option ℕ) (es : List ℕ) (k : ℕ) → IsBelow g k → AllBelow es k → (m : M) (c : Conditions) → is_tested g es c ≡ false → Skipped k (flat_branches branches g es k) m c
+    skip_branches : (branches : Branches A C) (g : Option ℕ) (es : List ℕ) (k : ℕ) → IsBelow g k → AllBelow es k → (m : M) (c : Conditions)
+        → is_tested g es c ≡ false → Skipped k (flat_branches branches g es k) m c
     skip_branches EndIf g es k below all m c off = (c, refl, λ x lt. refl)
     skip_branches (Branch test body others) g es k below all m c off =
         let k' = k + 1 + count_items body in
@@ -144,7 +141,10 @@ module _ {A C M F : Type 0} (E : Evaluation A C M F) where
         (skip_branches others g (k ∷ es) k' (below-more g k k' (omega arith) below) (omega arith, all_below-more es k k' (omega arith) all) m d
         (tested_off g es k d (tested_kept g es k c d below all (kept-trans k c c1 d kept1 kept) ∙ off)))) in (
           r.0,
-          ap (λ b. ((if b then holds_in E test m else Ok false) >>= (λ v. let w : Result (Iteration M) F = Ok (at m (set_condition c k v)) in w)) >>= do_parts E (flat body (Some k) (k + 1) ++ flat_branches others g (k ∷ es) k')) off ∙ r.1,
+          ap
+              (λ b.
+              ((if b then holds_in E test m else Ok false) >>= (λ v. let w : Result (Iteration M) F = Ok (at m (set_condition c k v)) in w))
+              >>= do_parts E (flat body (Some k) (k + 1) ++ flat_branches others g (k ∷ es) k')) off ∙ r.1,
           kept-trans k c c1 r.0 kept1 r.2,
         )
 
@@ -172,18 +172,21 @@ module _ {A C M F : Type 0} (E : Evaluation A C M F) where
 
   mutual
     -- behind a guard that holds the parts do what the statements do
-    items_done : (items : Items A C) (g : Option ℕ) (k : ℕ) → IsBelow g k → (m : M) (c : Conditions) → guard_holds g c ≡ true → Matches k c (do_parts E (flat items g k) (at m c)) (exec E items m)
+    items_done : (items : Items A C) (g : Option ℕ) (k : ℕ) → IsBelow g k → (m : M) (c : Conditions) → guard_holds g c ≡ true
+        → Matches k c (do_parts E (flat items g k) (at m c)) (exec E items m)
     items_done Done g k below m c on = (c, refl, λ x lt. refl)
     items_done (Then a rest) g k below m c on =
         subst (λ b. Matches k c (((if b then E.action a m else Ok m) >>= (λ m'. Ok (at m' c))) >>= do_parts E (flat rest g k)) (E.action a m >>= exec E rest)) (sym on)
         (after (λ m'. items_done rest g k below m' c on) (E.action a m))
       where
-        after : ((m' : M) → Matches k c (do_parts E (flat rest g k) (at m' c)) (exec E rest m')) → (r : Result M F) → Matches k c ((r >>= (λ m'. Ok (at m' c))) >>= do_parts E (flat rest g k)) (r >>= exec E rest)
+        after : ((m' : M) → Matches k c (do_parts E (flat rest g k) (at m' c)) (exec E rest m')) → (r : Result M F)
+            → Matches k c ((r >>= (λ m'. Ok (at m' c))) >>= do_parts E (flat rest g k)) (r >>= exec E rest)
         after rec (Ok m') = rec m'
         after rec (Err f) = refl
     items_done (If branches rest) g k below m c on =
         let k' = k + count_branches branches in
-        then_matches k k c c (at m c) (flat_branches branches g [] k) (flat rest g k') (exec_branches E branches m) (exec E rest) (branches_done branches g [] k below tt m c (tested_first g c ∙ on))
+        then_matches k k c c (at m c) (flat_branches branches g [] k) (flat rest g k') (exec_branches E branches m) (exec E rest)
+        (branches_done branches g [] k below tt m c (tested_first g c ∙ on))
         (λ m' d kept. Matches-below k k' c d (do_parts E (flat rest g k') (at m' d)) (exec E rest m') (omega arith) kept
         (items_done rest g k' (below-more g k k' (omega arith) below) m' d (holds_kept g k c d below kept ∙ on)))
     items_done (Repeat t body rest) g k below m c on =
@@ -197,17 +200,23 @@ module _ {A C M F : Type 0} (E : Evaluation A C M F) where
         Matches k c (do_parts E (flat_branches branches g es k) (at m c)) (exec_branches E branches m)
     branches_done EndIf g es k below all m c on = (c, refl, λ x lt. refl)
     branches_done (Branch test body others) g es k below all m c on =
-        subst (λ b. Matches k c (((if b then holds_in E test m else Ok false) >>= (λ v. Ok (at m (set_condition c k v)))) >>= do_parts E (flat body (Some k) (k + 1) ++ flat_branches others g (k ∷ es) (k + 1 + count_items body)))
+        subst (λ b. Matches k c
+        (((if b then holds_in E test m else Ok false) >>= (λ v. Ok (at m (set_condition c k v))))
+        >>= do_parts E (flat body (Some k) (k + 1) ++ flat_branches others g (k ∷ es) (k + 1 + count_items body)))
         (holds_in E test m >>= (λ holds. if holds then exec E body m else exec_branches E others m))) (sym on)
         (chosen (λ d h. items_done body (Some k) (k + 1) (omega arith) m d h)
-        (λ d h. branches_done others g (k ∷ es) (k + 1 + count_items body) (below-more g k (k + 1 + count_items body) (omega arith) below) (omega arith, all_below-more es k (k + 1 + count_items body) (omega arith) all) m d h)
+        (λ d h.
+        branches_done others g (k ∷ es) (k + 1 + count_items body) (below-more g k (k + 1 + count_items body) (omega arith) below)
+        (omega arith, all_below-more es k (k + 1 + count_items body) (omega arith) all) m d h)
         (holds_in E test m))
       where
         k' : ℕ
         k' = k + 1 + count_items body
 
         chosen : ((d : Conditions) → d k ≡ true → Matches (k + 1) d (do_parts E (flat body (Some k) (k + 1)) (at m d)) (exec E body m)) →
-            ((d : Conditions) → is_tested g (k ∷ es) d ≡ true → Matches (k + 1 + count_items body) d (do_parts E (flat_branches others g (k ∷ es) (k + 1 + count_items body)) (at m d)) (exec_branches E others m)) →
+            ((d : Conditions) → is_tested g (k ∷ es) d ≡ true
+            → Matches (k + 1 + count_items body) d (do_parts E (flat_branches others g (k ∷ es) (k + 1 + count_items body)) (at m d))
+            (exec_branches E others m)) →
             (r : Result Bool F) →
             Matches k c ((r >>= (λ v. Ok (at m (set_condition c k v)))) >>= do_parts E (flat body (Some k) (k + 1) ++ flat_branches others g (k ∷ es) (k + 1 + count_items body)))
             (r >>= (λ holds. if holds then exec E body m else exec_branches E others m))
@@ -231,8 +240,10 @@ module _ {A C M F : Type 0} (E : Evaluation A C M F) where
             (Matches-below k k' c s.0 (do_parts E (flat_branches others g (k ∷ es) k') (at m s.0)) (exec_branches E others m) (omega arith) kept
             (later s.0 (tested_later g es k s.0 true (tested_kept g es k c s.0 below all kept ∙ on) (s.2 k (omega arith) ∙ set_at c k false))))
 
-  pub items_taken : (items : Items A C) (g : Option ℕ) (k : ℕ) (m : M) (c : Conditions) → IsBelow g k → guard_holds g c ≡ true → Matches k c (do_parts E (flat items g k) (at m c)) (exec E items m)
+  pub items_taken : (items : Items A C) (g : Option ℕ) (k : ℕ) (m : M) (c : Conditions) → IsBelow g k → guard_holds g c ≡ true
+      → Matches k c (do_parts E (flat items g k) (at m c)) (exec E items m)
   items_taken items g k m c below on = items_done items g k below m c on
 
-  pub items_passed : (items : Items A C) (g : Option ℕ) (k : ℕ) (m : M) (c : Conditions) → IsBelow g k → guard_holds g c ≡ false → Matches k c (do_parts E (flat items g k) (at m c)) (Ok m)
+  pub items_passed : (items : Items A C) (g : Option ℕ) (k : ℕ) (m : M) (c : Conditions) → IsBelow g k → guard_holds g c ≡ false
+      → Matches k c (do_parts E (flat items g k) (at m c)) (Ok m)
   items_passed items g k m c below off = skip items g k below m c off

@@ -109,7 +109,8 @@ or_assoc a b c = same_from_bits (bit_or (bit_or a b) c) (bit_or a (bit_or b c)) 
     ∙ ap (λ x. max (bit_at a i) x) (sym (bit_at_or b c i)) ∙ sym (bit_at_or a (bit_or b c) i))
 
 -- an operator on the bits
-module _ (op : ℕ → ℕ → ℕ) (lt : (a b : ℕ) → a < 2 ^ 64 → b < 2 ^ 64 → op a b < 2 ^ 64) (assoc : (a b c : ℕ) → op (op a b) c ≡ op a (op b c)) (comm : (a b : ℕ) → op a b ≡ op b a) where
+module _ (op : ℕ → ℕ → ℕ) (lt : (a b : ℕ) → a < 2 ^ 64 → b < 2 ^ 64 → op a b < 2 ^ 64) (assoc : (a b c : ℕ) → op (op a b) c ≡ op a (op b c))
+    (comm : (a b : ℕ) → op a b ≡ op b a) where
   abbrev on_bits : ℤ → ℤ → ℤ
   on_bits a b = to_z w64 (op (of_z w64 a) (of_z w64 b))
 

@@ -29,7 +29,8 @@ spot_cases a b = of_places (nat_eq a.row b.row) refl (nat_eq a.at b.at) refl
 
 module _ {F : Type 0} where
   -- one more part: the scalar follows the copy, once that was stored
-  after_effect : (e : Effect F) (m : Storage) (spot : Spot) (assigned : Bool) (before v : ℤ) → spot.at < length (row_of m spot.row) → before ≡ (if assigned then read m spot else v) →
+  after_effect : (e : Effect F) (m : Storage) (spot : Spot) (assigned : Bool) (before v : ℤ) → spot.at < length (row_of m spot.row)
+      → before ≡ (if assigned then read m spot else v) →
       (noted (λ l w b. if is_same_spot l spot then w else b) e before) ≡ (if stores_to e spot || assigned then read (apply e m) spot else v)
   after_effect Skip m spot assigned before v lt h = h
   after_effect (Fail f) m spot assigned before v lt h = h
@@ -50,11 +51,13 @@ module _ {F : Type 0} where
       (λ c. let z = sym c.0 ∙ h in absurd cc)
       (spot_cases s spot)
 
-  module _ (act : ℕ → ℕ → Storage → Effect F) (start : Storage) (n parts : ℕ) (touches : ℕ → List Spot) (free : Apart act start n parts touches) (row : ℕ) (within : n ≤ length (row_of start row)) where
+  module _ (act : ℕ → ℕ → Storage → Effect F) (start : Storage) (n parts : ℕ) (touches : ℕ → List Spot) (free : Apart act start n parts touches)
+      (row : ℕ) (within : n ≤ length (row_of start row)) where
     abbrev effect : ℕ → ℕ → Effect F
     effect = kept act start n
 
-    copied : (i j : ℕ) → i < n → j ≤ parts → (v : ℤ) → noted_by_parts (note_scalar row) effect i j v ≡ (if assigns effect row i j then read (alone act start i j) (copy_at row i) else v)
+    copied : (i j : ℕ) → i < n → j ≤ parts → (v : ℤ)
+        → noted_by_parts (note_scalar row) effect i j v ≡ (if assigns effect row i j then read (alone act start i j) (copy_at row i) else v)
     copied i zero lt le v = refl
     copied i (suc j) lt le v =
         let m = alone act start i j in
@@ -67,7 +70,8 @@ module _ {F : Type 0} where
     assigned_touches i zero lt le h = absurd cc
     assigned_touches i (suc j) lt le h = cases (assigned_touches i j lt (omega arith)) (stores_to (effect i j) (copy_at row i)) refl
       where
-        cases : (assigns effect row i j ≡ true → Contains (touches i) (copy_at row i)) → (b : Bool) → stores_to (effect i j) (copy_at row i) ≡ b → Contains (touches i) (copy_at row i)
+        cases : (assigns effect row i j ≡ true → Contains (touches i) (copy_at row i)) → (b : Bool) → stores_to (effect i j) (copy_at row i) ≡ b
+            → Contains (touches i) (copy_at row i)
         cases rec true is =
             let put = stored_at (effect i j) (copy_at row i) is in
             free.stores i j (copy_at row i) put.0 lt (omega arith) (sym (kept_alone act start n parts touches free i j lt (omega arith)) ∙ put.1)
@@ -75,7 +79,9 @@ module _ {F : Type 0} where
 
     scalar_is_last : (entry : ℤ) (i : ℕ) → i ≤ n → scalar_after effect row parts entry i ≡ last_value effect row parts entry (parted act start n parts) i
     scalar_is_last entry zero le = refl
-    scalar_is_last entry (suc i) le = copied i parts (omega arith) (omega arith) (scalar_after effect row parts entry i) ∙ cases (scalar_is_last entry i (omega arith)) (assigns effect row i parts) refl
+    scalar_is_last entry (suc i) le =
+        copied i parts (omega arith) (omega arith) (scalar_after effect row parts entry i)
+        ∙ cases (scalar_is_last entry i (omega arith)) (assigns effect row i parts) refl
       where
         cases : scalar_after effect row parts entry i ≡ last_value effect row parts entry (parted act start n parts) i → (b : Bool) → assigns effect row i parts ≡ b →
             (if assigns effect row i parts then read (alone act start i parts) (copy_at row i) else scalar_after effect row parts entry i)

@@ -99,7 +99,9 @@ module _ {F : Type 0} where
   module _ (act : ℕ → ℕ → Storage → Effect F) (start : Storage) where
     pub Alike-alone : (i j : ℕ) → Alike (alone act start i j) start
     Alike-alone i zero = Alike-refl start
-    Alike-alone i (suc j) = Alike-trans (alone act start i (suc j)) (alone act start i j) start (Alike-apply (act i j (alone act start i j)) (alone act start i j)) (Alike-alone i j)
+    Alike-alone i (suc j) =
+        Alike-trans (alone act start i (suc j)) (alone act start i j) start (Alike-apply (act i j (alone act start i j)) (alone act start i j))
+        (Alike-alone i j)
 
     -- where a fault is kept, one has the least key
     module _ (n k : ℕ) where
@@ -202,7 +204,8 @@ module _ {F : Type 0} where
       Clean i j = (x y : ℕ) (f : F) → x < n → y < k → (x < i) ⊎ ((x ≡ i) × (y < j)) → act x y (alone act start x y) ≡ Fail f → ⊥
 
       -- the plain order as far as it comes
-      parts_merged : (i : ℕ) → i < n → (m : Storage) → Merged (below i k 0) m → (j : ℕ) → j ≤ k → (m' : Storage) → plain_parts act start i j m ≡ Ok m' → Merged (here i j (below i k 0)) m'
+      parts_merged : (i : ℕ) → i < n → (m : Storage) → Merged (below i k 0) m → (j : ℕ) → j ≤ k → (m' : Storage) → plain_parts act start i j m ≡ Ok m'
+          → Merged (here i j (below i k 0)) m'
       parts_merged i lt m h zero le m' e =
           let p = below i k 0 in
           subst (Merged (here i 0 p)) (ok_same m m' e)
@@ -229,7 +232,8 @@ module _ {F : Type 0} where
           (parts_merged i (omega arith) r.0 (plain_merged i (omega arith) r.0 r.1) k (omega arith) m r.2)
 
       -- what a part does where the plain order comes to it is what it does alone
-      plain_alone : (i j : ℕ) → i < n → j < k → (before m : Storage) → plain act start k i ≡ Ok before → plain_parts act start i j before ≡ Ok m → act i j m ≡ act i j (alone act start i j)
+      plain_alone : (i j : ℕ) → i < n → j < k → (before m : Storage) → plain act start k i ≡ Ok before → plain_parts act start i j before ≡ Ok m
+          → act i j m ≡ act i j (alone act start i j)
       plain_alone i j lt lt' before m come at =
           let p = here i j (below i k 0) in
           as_alone p m i j lt lt' (here_at i j (below i k 0)) (parts_merged i lt before (plain_merged i (omega arith) before come) j (omega arith) m at)
@@ -241,7 +245,9 @@ module _ {F : Type 0} where
       parts_come : (i : ℕ) → i < n → (before : Storage) → plain act start k i ≡ Ok before → (j : ℕ) → j ≤ k → Clean i j → (m : Storage) × (plain_parts act start i j before ≡ Ok m)
       parts_come i lt before come zero le clean = (before, refl)
       parts_come i lt before come (suc j) le clean =
-          let r = parts_come i lt before come j (omega arith) (λ x y f ltx lty sooner. clean x y f ltx lty (⊎_elim (λ a. inl a) (λ b. inr (b.0, let z : y < j = b.1 in omega arith)) sooner)) in
+          let r =
+          parts_come i lt before come j (omega arith)
+          (λ x y f ltx lty sooner. clean x y f ltx lty (⊎_elim (λ a. inl a) (λ b. inr (b.0, let z : y < j = b.1 in omega arith)) sooner)) in
           let s = alone act start i j in (
             apply (act i j s) r.0,
             ap (λ x. x >>= (λ t. then_apply (act i j t) t)) r.1
@@ -252,8 +258,15 @@ module _ {F : Type 0} where
       plain_comes : (i : ℕ) → i ≤ n → Clean i 0 → (m : Storage) × (plain act start k i ≡ Ok m)
       plain_comes zero le clean = (start, refl)
       plain_comes (suc i) le clean =
-          let r = plain_comes i (omega arith) (λ x y f ltx lty sooner. clean x y f ltx lty (⊎_elim (λ a. inl (let z : x < i = a in omega arith)) (λ b. absurd (let z : y < 0 = b.1 in omega arith)) sooner)) in
-          let t = parts_come i (omega arith) r.0 r.1 k (omega arith) (λ x y f ltx lty sooner. clean x y f ltx lty (inl (⊎_elim (λ a. let z : x < i = a in omega arith) (λ b. let z : x ≡ i = b.0 in omega arith) sooner))) in
+          let r =
+          plain_comes i (omega arith)
+          (λ x y f ltx lty sooner.
+          clean x y f ltx lty
+          (⊎_elim (λ a. inl (let z : x < i = a in omega arith)) (λ b. absurd (let z : y < 0 = b.1 in omega arith)) sooner)) in
+          let t =
+          parts_come i (omega arith) r.0 r.1 k (omega arith)
+          (λ x y f ltx lty sooner.
+          clean x y f ltx lty (inl (⊎_elim (λ a. let z : x < i = a in omega arith) (λ b. let z : x ≡ i = b.0 in omega arith) sooner))) in
           (t.0, ap (λ x. x >>= plain_parts act start i k) r.1 ∙ t.1)
 
       -- all parts of all iterations, in any two orders
@@ -266,11 +279,15 @@ module _ {F : Type 0} where
           Writes : Spot → ℕ → ℕ → Type 0
           Writes l i j = (v : ℤ) × (act i j (alone act start i j) ≡ Put l v)
 
-          of_row : (l : Spot) (i : ℕ) → (((j : ℕ) × (j < k) × ((v : ℤ) × (act i j (alone act start i j) ≡ Put l v))) ⊎ ((j : ℕ) × (j < k) × ((v : ℤ) × (act i j (alone act start i j) ≡ Put l v)) → ⊥))
+          of_row : (l : Spot) (i : ℕ)
+              → (((j : ℕ) × (j < k) × ((v : ℤ) × (act i j (alone act start i j) ≡ Put l v)))
+              ⊎ ((j : ℕ) × (j < k) × ((v : ℤ) × (act i j (alone act start i j) ≡ Put l v)) → ⊥))
           of_row l i = ⊎_elim (λ s. inl s) (λ none. inr (λ s. none s.0 s.1 s.2))
               (some_below (λ j. (v : ℤ) × (act i j (alone act start i j) ≡ Put l v)) k (λ j. puts (act i j (alone act start i j)) l))
 
-          writer : (l : Spot) → ((i : ℕ) × (i < n) × ((j : ℕ) × (j < k) × ((v : ℤ) × (act i j (alone act start i j) ≡ Put l v)))) ⊎ ((i : ℕ) → i < n → (j : ℕ) × (j < k) × ((v : ℤ) × (act i j (alone act start i j) ≡ Put l v)) → ⊥)
+          writer : (l : Spot)
+              → ((i : ℕ) × (i < n) × ((j : ℕ) × (j < k) × ((v : ℤ) × (act i j (alone act start i j) ≡ Put l v))))
+              ⊎ ((i : ℕ) → i < n → (j : ℕ) × (j < k) × ((v : ℤ) × (act i j (alone act start i j) ≡ Put l v)) → ⊥)
           writer l = some_below (λ i. (j : ℕ) × (j < k) × ((v : ℤ) × (act i j (alone act start i j) ≡ Put l v))) n (λ i. of_row l i)
 
       pub parted_alone : (i : ℕ) (l : Spot) → i < n → Contains (touches i) l → read (parted act start n k) l ≡ read (alone act start i k) l

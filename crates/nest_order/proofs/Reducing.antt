@@ -16,7 +16,8 @@ module _ {V : Type 0} (InRange : V → Type 0) (join : V → V → V) (unit : V)
   after_in [] all a h = h
   after_in (f ∷ fs) all a h = after_in fs all.1 (f a) (all.0.stays a h)
 
-  after_joined : (statements : List (V → V)) → AllReduce statements → (a b : V) → InRange a → InRange b → after_statements (join a b) statements ≡ join a (after_statements b statements)
+  after_joined : (statements : List (V → V)) → AllReduce statements → (a b : V) → InRange a → InRange b
+      → after_statements (join a b) statements ≡ join a (after_statements b statements)
   after_joined [] all a b f g = refl
   after_joined (s ∷ ss) all a b f g = ap (λ x. after_statements x ss) (all.0.passes a b f g) ∙ after_joined ss all.1 a (s b) f (all.0.stays b g)
 
@@ -35,7 +36,8 @@ module _ {V : Type 0} (InRange : V → Type 0) (join : V → V → V) (unit : V)
       ap (λ x. plain_value x rest) (one_iteration ss all.0 entry a f g)
       ∙ from_joined rest all.1 entry (join a (after_statements unit ss)) f (joins.closed a (after_statements unit ss) g (after_in ss all.0 unit joins.unit_in))
 
-  pub reduced : (entry : V) (iterations : List (List (V → V))) → InRange entry → AllByRecursion AllReduce iterations → plain_value entry iterations ≡ join entry (folded join unit (copies_of unit iterations))
+  pub reduced : (entry : V) (iterations : List (List (V → V))) → InRange entry → AllByRecursion AllReduce iterations
+      → plain_value entry iterations ≡ join entry (folded join unit (copies_of unit iterations))
   reduced entry iterations f all = ap (λ x. plain_value x iterations) (sym (joins.neutral entry f)) ∙ from_joined iterations all entry unit f joins.unit_in
 
 abbrev pub InBits : ℤ → Type 0

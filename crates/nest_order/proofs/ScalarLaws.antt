@@ -27,14 +27,17 @@ same_spot a =
     let f : nat_eq a.at a.at ≡ true = grind (arith, nat_tests) in
     ap (λ t. t && nat_eq a.at a.at) e ∙ f
 
-module _ {A C F : Type 0} (one : Interpretation A C F) (kinds : ℕ → Kind) (reads : Names A C Spot) (written : A → List Spot) (reducing : A → Option (Reducing F)) (start : Storage) (n : ℕ) (items : ℕ → Items A C)
+module _ {A C F : Type 0} (one : Interpretation A C F) (kinds : ℕ → Kind) (reads : Names A C Spot) (written : A → List Spot)
+    (reducing : A → Option (Reducing F)) (start : Storage) (n : ℕ) (items : ℕ → Items A C)
     (free : MayCopy one kinds reads written reducing start n items) where
   -- the loops alone: nothing is kept beside the storage
   abbrev plain_put : ℕ → Spot → ℤ → Storage → Storage
   plain_put i spot v y = write y spot v
 
   abbrev plain_does : ℕ → Effect F → Storage → Result Storage F
-  plain_does = does one kinds reads written reducing start n free.scalars (λ y. y) plain_put (λ i spot v y. refl) (λ s y. Unit {0}) (λ i spot v s y lt alike may h. tt) (λ i row op v w s y lt e h. tt)
+  plain_does =
+      does one kinds reads written reducing start n free.scalars (λ y. y) plain_put (λ i spot v y. refl) (λ s y. Unit {0})
+      (λ i spot v s y lt alike may h. tt) (λ i row op v w s y lt e h. tt)
 
   plain_acts : (i : ℕ) (e : Effect F) (y : Storage) → then_apply e y ≡ plain_does i e y
   plain_acts i Skip y = refl
@@ -44,15 +47,24 @@ module _ {A C F : Type 0} (one : Interpretation A C F) (kinds : ℕ → Kind) (r
   pub loops_end : EndWithCopies kinds start (plain_loops one items start n) (plain_loops (copied kinds one) (λ i. items_in i (items i)) (with_copies kinds n start) n)
   loops_end =
       go (plain_loops one items start n) (plain_loops (copied kinds one) (λ i. items_in i (items i)) (with_copies kinds n start) n)
-      (loops_follow one kinds reads written reducing start n free.scalars (λ y. y) plain_put (λ i spot v y. refl) (λ s y. Unit {0}) (λ i spot v s y lt alike may h. tt) (λ i row op v w s y lt e h. tt)
-      items free (λ i. evaluated (copied kinds one)) (λ i a y. plain_acts i ((copied kinds one).effect (record { iteration = i; text = a }) y) y) (λ i c y. refl) (with_copies kinds n start)
-      (at_start one kinds reads written reducing start n free.scalars (λ y. y) plain_put (λ i spot v y. refl) (λ s y. Unit {0}) (λ i spot v s y lt alike may h. tt) (λ i row op v w s y lt e h. tt)
-      items free (λ i. evaluated (copied kinds one)) (λ i a y. plain_acts i ((copied kinds one).effect (record { iteration = i; text = a }) y) y) (λ i c y. refl) (with_copies kinds n start) refl tt) n (omega arith))
+      (loops_follow one kinds reads written reducing start n free.scalars (λ y. y) plain_put (λ i spot v y. refl) (λ s y. Unit {0})
+      (λ i spot v s y lt alike may h. tt) (λ i row op v w s y lt e h. tt)
+      items free (λ i. evaluated (copied kinds one))
+      (λ i a y. plain_acts i ((copied kinds one).effect (record { iteration = i; text = a }) y) y)
+      (λ i c y. refl) (with_copies kinds n start)
+      (at_start one kinds reads written reducing start n free.scalars (λ y. y) plain_put (λ i spot v y. refl) (λ s y. Unit {0})
+      (λ i spot v s y lt alike may h. tt) (λ i row op v w s y lt e h. tt)
+      items free (λ i. evaluated (copied kinds one))
+      (λ i a y. plain_acts i ((copied kinds one).effect (record { iteration = i; text = a }) y) y) (λ i c y. refl) (with_copies kinds n start) refl tt) n (omega arith))
     where
-      go : (x r : Result Storage F) → LoopsFollow one kinds reads written reducing start n free.scalars (λ y. y) plain_put (λ i spot v y. refl) (λ s y. Unit {0}) (λ i spot v s y lt alike may h. tt) (λ i row op v w s y lt e h. tt)
-          items free (λ i. evaluated (copied kinds one)) (λ i a y. plain_acts i ((copied kinds one).effect (record { iteration = i; text = a }) y) y) (λ i c y. refl) n x r → EndWithCopies kinds start x r
+      go : (x r : Result Storage F)
+          → LoopsFollow one kinds reads written reducing start n free.scalars (λ y. y) plain_put (λ i spot v y. refl) (λ s y. Unit {0})
+          (λ i spot v s y lt alike may h. tt) (λ i row op v w s y lt e h. tt)
+          items free (λ i. evaluated (copied kinds one)) (λ i a y. plain_acts i ((copied kinds one).effect (record { iteration = i; text = a }) y) y)
+          (λ i c y. refl) n x r → EndWithCopies kinds start x r
       go (Ok s) r h = subst (EndWithCopies kinds start (Ok s)) (sym h.1)
-          (copies_agree one kinds reads written reducing start n free.scalars (λ y. y) plain_put (λ i spot v y. refl) (λ s y. Unit {0}) (λ i spot v s y lt alike may h. tt) (λ i row op v w s y lt e h. tt)
+          (copies_agree one kinds reads written reducing start n free.scalars (λ y. y) plain_put (λ i spot v y. refl) (λ s y. Unit {0})
+          (λ i spot v s y lt alike may h. tt) (λ i row op v w s y lt e h. tt)
           items free (λ i. evaluated (copied kinds one)) (λ i a y. plain_acts i ((copied kinds one).effect (record { iteration = i; text = a }) y) y) (λ i c y. refl) s h.0 h.2)
       go (Err f) r h = subst (EndWithCopies kinds start (Err f)) (sym h) refl
 
@@ -84,7 +96,8 @@ module _ {A C F : Type 0} (one : Interpretation A C F) (kinds : ℕ → Kind) (r
     elsewhere i spot own v w s y d d2 h =
         read-write_other s spot (scalar_at row) v (λ e. d (ap (λ l. l.row) e)) ∙ h ∙ sym (ap (λ t. if t then w else y.noted_so_far) (other_spot own (copy_at row i) d2))
 
-    keeps : (i : ℕ) (spot : Spot) (v : ℤ) (s : Storage) (y : Noted) → i < n → Alike s start → MayName (kinds spot.row) spot → Holds s y → Holds (write s spot v) (put i (own_spot kinds i spot) v y)
+    keeps : (i : ℕ) (spot : Spot) (v : ℤ) (s : Storage) (y : Noted) → i < n → Alike s start → MayName (kinds spot.row) spot → Holds s y
+        → Holds (write s spot v) (put i (own_spot kinds i spot) v y)
     keeps i spot v s y lt alike may h = go (kinds spot.row) refl may
       where
         scalar : spot.at ≡ 0 → has_copies (kinds spot.row) ≡ true → Holds (write s spot v) (put i (own_spot kinds i spot) v y)
@@ -95,7 +108,8 @@ module _ {A C F : Type 0} (one : Interpretation A C F) (kinds : ℕ → Kind) (r
             (λ same.
             subst (λ l. Holds (write s l v) (put i (copy_at spot.row i) v y)) (sym at)
             (subst (λ q. Holds (write s (scalar_at q) v) (put i (copy_at q i) v y)) (sym same)
-            (read-write_at s (scalar_at row) v (omega (arith, alike.extent row, free.scalars row has)) ∙ sym (ap (λ t. if t then v else y.noted_so_far) (same_spot (copy_at row i))))))
+            (read-write_at s (scalar_at row) v (omega (arith, alike.extent row, free.scalars row has))
+            ∙ sym (ap (λ t. if t then v else y.noted_so_far) (same_spot (copy_at row i))))))
             (λ d. elsewhere i spot (copy_at spot.row i) v v s y d d h)
             (cases_eq spot.row row))
 
@@ -107,7 +121,8 @@ module _ {A C F : Type 0} (one : Interpretation A C F) (kinds : ℕ → Kind) (r
         go Assigned e m = scalar m (ap has_copies e)
         go (Reduced op) e m = absurd m
 
-    keeps_reduced : (i r : ℕ) (op : Operator) (v w : ℤ) (s : Storage) (y : Noted) → i < n → kinds r ≡ Reduced op → Holds s y → Holds (write s (scalar_at r) v) (put i (copy_at r i) w y)
+    keeps_reduced : (i r : ℕ) (op : Operator) (v w : ℤ) (s : Storage) (y : Noted) → i < n → kinds r ≡ Reduced op → Holds s y
+        → Holds (write s (scalar_at r) v) (put i (copy_at r i) w y)
     keeps_reduced i r op v w s y lt e h =
         let d : r ≡ row → ⊥ = λ same. not_reduced op (ap kinds (sym same) ∙ e) in
         elsewhere i (scalar_at r) (copy_at r i) v w s y d d h
@@ -127,22 +142,30 @@ module _ {A C F : Type 0} (one : Interpretation A C F) (kinds : ℕ → Kind) (r
     abbrev Ends : Storage → Result Noted F → Type 0
     Ends m r = (copies : Storage) × (r ≡ Ok (record { storage = copies; noted_so_far = read m (scalar_at row) })) × CopiesAgree kinds start m copies
 
-    pub noted_end : (m : Storage) → plain_loops one items start n ≡ Ok m → Ends m (observed_loops (copied kinds one) (note_scalar row) (λ i. items_in i (items i)) (with_copies kinds n start) (read start (scalar_at row)) n)
+    pub noted_end : (m : Storage) → plain_loops one items start n ≡ Ok m
+        → Ends m
+        (observed_loops (copied kinds one) (note_scalar row) (λ i. items_in i (items i)) (with_copies kinds n start) (read start (scalar_at row)) n)
     noted_end m is_end =
         go (observed_loops (copied kinds one) (note_scalar row) (λ i. items_in i (items i)) (with_copies kinds n start) (read start (scalar_at row)) n)
         (subst (λ x. LoopsFollow one kinds reads written reducing start n free.scalars store put (λ i spot v y. refl) Holds keeps keeps_reduced
-        items free (λ i. observed (copied kinds one) (note_scalar row i)) (λ i a y. noted_acts i ((copied kinds one).effect (record { iteration = i; text = a }) y.storage) y) (λ i c y. refl) n x
+        items free (λ i. observed (copied kinds one) (note_scalar row i))
+        (λ i a y. noted_acts i ((copied kinds one).effect (record { iteration = i; text = a }) y.storage) y) (λ i c y. refl) n x
         (observed_loops (copied kinds one) (note_scalar row) (λ i. items_in i (items i)) (with_copies kinds n start) (read start (scalar_at row)) n)) is_end
         (loops_follow one kinds reads written reducing start n free.scalars store put (λ i spot v y. refl) Holds keeps keeps_reduced
-        items free (λ i. observed (copied kinds one) (note_scalar row i)) (λ i a y. noted_acts i ((copied kinds one).effect (record { iteration = i; text = a }) y.storage) y) (λ i c y. refl) first
+        items free (λ i. observed (copied kinds one) (note_scalar row i))
+        (λ i a y. noted_acts i ((copied kinds one).effect (record { iteration = i; text = a }) y.storage) y) (λ i c y. refl) first
         (at_start one kinds reads written reducing start n free.scalars store put (λ i spot v y. refl) Holds keeps keeps_reduced
-        items free (λ i. observed (copied kinds one) (note_scalar row i)) (λ i a y. noted_acts i ((copied kinds one).effect (record { iteration = i; text = a }) y.storage) y) (λ i c y. refl) first refl refl) n (omega arith)))
+        items free (λ i. observed (copied kinds one) (note_scalar row i))
+        (λ i a y. noted_acts i ((copied kinds one).effect (record { iteration = i; text = a }) y.storage) y) (λ i c y. refl) first refl refl) n (omega arith)))
       where
         go : (r : Result Noted F) → LoopsFollow one kinds reads written reducing start n free.scalars store put (λ i spot v y. refl) Holds keeps keeps_reduced
-            items free (λ i. observed (copied kinds one) (note_scalar row i)) (λ i a y. noted_acts i ((copied kinds one).effect (record { iteration = i; text = a }) y.storage) y) (λ i c y. refl) n (Ok m) r → Ends m r
+            items free (λ i. observed (copied kinds one) (note_scalar row i))
+            (λ i a y. noted_acts i ((copied kinds one).effect (record { iteration = i; text = a }) y.storage) y) (λ i c y. refl) n (Ok m) r
+            → Ends m r
         go r h = (
           h.0.storage,
           h.1 ∙ ap (λ w. let q : Result Noted F = Ok (record { storage = h.0.storage; noted_so_far = w }) in q) (sym h.2.holds),
           copies_agree one kinds reads written reducing start n free.scalars store put (λ i spot v y. refl) Holds keeps keeps_reduced
-              items free (λ i. observed (copied kinds one) (note_scalar row i)) (λ i a y. noted_acts i ((copied kinds one).effect (record { iteration = i; text = a }) y.storage) y) (λ i c y. refl) m h.0 h.2,
+              items free (λ i. observed (copied kinds one) (note_scalar row i))
+              (λ i a y. noted_acts i ((copied kinds one).effect (record { iteration = i; text = a }) y.storage) y) (λ i c y. refl) m h.0 h.2,
         )

@@ -12,7 +12,8 @@ row_of-set_same m p k v = ⊎_elim
     get_or_past (set m p (set (row_of m p) k v)) p [] (omega (arith, length-set m p (set (row_of m p) k v))) ∙ ap (λ r. set r k v) (sym e))
     (cases_lt p (length m))
 
-row_of-write : (m : Storage) (l : Spot) (v : ℤ) (p : ℕ) → ((row_of (write m l v) p ≡ set (row_of m p) l.at v) × (l.row ≡ p)) ⊎ ((row_of (write m l v) p ≡ row_of m p) × (l.row ≡ p → ⊥))
+row_of-write : (m : Storage) (l : Spot) (v : ℤ) (p : ℕ)
+    → ((row_of (write m l v) p ≡ set (row_of m p) l.at v) × (l.row ≡ p)) ⊎ ((row_of (write m l v) p ≡ row_of m p) × (l.row ≡ p → ⊥))
 row_of-write m l v p = ⊎_elim
     (λ e. inl (subst (λ q. row_of (write m l v) q ≡ set (row_of m q) l.at v) e (row_of-set_same m l.row l.at v), e))
     (λ n. inr (get_or-set_other m l.row p (set (row_of m l.row) l.at v) [] (λ e. n (sym e)), n))
@@ -47,7 +48,8 @@ spots l l' = ⊎_elim
     (cases_eq l.row l'.row)
 
 -- a write keeps two storages equal where they are, if the row that is written has one length
-pub read-write_rows : (m m' : Storage) (l l' : Spot) (v : ℤ) → length (row_of m l.row) ≡ length (row_of m' l.row) → read m l' ≡ read m' l' → read (write m l v) l' ≡ read (write m' l v) l'
+pub read-write_rows : (m m' : Storage) (l l' : Spot) (v : ℤ) → length (row_of m l.row) ≡ length (row_of m' l.row) → read m l' ≡ read m' l'
+    → read (write m l v) l' ≡ read (write m' l v) l'
 read-write_rows m m' l l' v long same = ⊎_elim
     (λ e. subst (λ q. read (write m l v) q ≡ read (write m' l v) q) e (at_spot m m' l v long))
     (λ n. read-write_other m l l' v n ∙ same ∙ sym (read-write_other m' l l' v n))

@@ -1,8 +1,8 @@
 -- What an iteration touches while it goes on past its faults, and what is listed for it.
-use Rattle.std.specs.Prelude.{◌≡◌, List, [], ◌∷◌, ◌++◌, Option, Some, None, Result, Ok, Err, Bool, true, false, ◌&&◌, if◌then◌else◌}
+use Rattle.std.specs.Prelude.{◌≡◌, List, [], ◌∷◌, ◌++◌, Option, Some, None, Result, Ok, Err, Bool, true, false, if◌then◌else◌}
 use Rattle.nest_order.specs.Turns.{joined_up_to}
 use Rattle.nest_order.specs.Items.{Items, Done, Then, If, Repeat, Branches, EndIf, Branch, Evaluation, holds_in, EachIn}
-use Rattle.nest_order.specs.Parts.{set_condition, guard_holds, none_holds, Iteration, NestPart, Acts, Tests, is_evaluated}
+use Rattle.nest_order.specs.Parts.{set_condition, guard_holds, is_tested, Iteration, NestPart, Acts, Tests, is_evaluated}
 
 -- the value, or where there is a fault what stood there before
 abbrev pub value_or : {A F : Type 0} → Result A F → A → A
@@ -55,7 +55,7 @@ module _ {A C M F : Type 0} (evaluation : Evaluation A C M F) where
   abbrev pub go_on : NestPart A C → Iteration M → Iteration M
   go_on (Acts guard action) s = record s { storage = if guard_holds guard s.conditions then value_or (evaluation.action action s.storage) s.storage else s.storage }
   go_on (Tests number guard earlier test) s =
-      record s { conditions = set_condition s.conditions number (if guard_holds guard s.conditions && none_holds earlier s.conditions then value_or (holds_in evaluation test s.storage) false else false) }
+      record s { conditions = set_condition s.conditions number (if is_tested guard earlier s.conditions then value_or (holds_in evaluation test s.storage) false else false) }
 
   -- the parts in order, each of them
   abbrev pub go_on_all : List (NestPart A C) → Iteration M → Iteration M

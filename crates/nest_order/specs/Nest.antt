@@ -1,11 +1,11 @@
 -- A nest of statements as acts of parts on one storage, with the stored conditions in rows of their own.
-use Rattle.std.specs.Prelude.{◌≡◌, ℕ, zero, suc, ◌+◌, ◌<◌, List, [], ◌∷◌, ◌++◌, length, slice_get, ℤ, pos, negsuc, Option, Some, None, Result, Ok, Err, Bool, true, false, ◌&&◌, if◌then◌else◌}
+use Rattle.std.specs.Prelude.{◌≡◌, ℕ, zero, suc, ◌+◌, ◌<◌, List, [], ◌∷◌, ◌++◌, length, slice_get, ℤ, pos, negsuc, Option, Some, None, Result, Ok, Err, Bool, true, false, if◌then◌else◌}
 use Rattle.std.specs.List.{Contains}
 use Rattle.nest_order.specs.Turns.{in_turn, joined_up_to}
 use Rattle.nest_order.specs.Storage.{Storage, Spot, row_of, read, Alike}
 use Rattle.nest_order.specs.Effect.{Effect, Skip, Put, Fail, then_apply}
 use Rattle.nest_order.specs.Items.{Items, Evaluation, holds_in, EachIn, exec}
-use Rattle.nest_order.specs.Parts.{Conditions, guard_holds, none_holds, NestPart, Acts, Tests, flat, count_items}
+use Rattle.nest_order.specs.Parts.{Conditions, guard_holds, is_tested, NestPart, Acts, Tests, flat, count_items}
 use Rattle.nest_order.specs.Listed.{Names, listed, AreKnown}
 
 -- what assignments do to a storage of spots, and what conditions are in it: one store at most, and not a change of any kind
@@ -49,7 +49,7 @@ module _ {A C F : Type 0} (interpretation : Interpretation A C F) (row i : ℕ) 
   effects_of (Acts guard action) = (λ m. if guard_holds guard (conditions_in m) then interpretation.effect action m else Skip) ∷ []
   effects_of (Tests number guard earlier test) =
       (λ m. Put (condition_at number) (pos 0))
-      ∷ (λ m. if guard_holds guard (conditions_in m) && none_holds earlier (conditions_in m) then put_truth (condition_at number) (holds_in (evaluated interpretation) test m) else Skip)
+      ∷ (λ m. if is_tested guard earlier (conditions_in m) then put_truth (condition_at number) (holds_in (evaluated interpretation) test m) else Skip)
       ∷ []
 
   -- the acts of the parts, in order

@@ -21,6 +21,10 @@ abbrev pub none_holds : List ℕ → Conditions → Bool
 none_holds [] conditions = true
 none_holds (number ∷ numbers) conditions = not (conditions number) && none_holds numbers conditions
 
+-- a branch is tested: the guard of its IF holds, and no earlier branch was taken
+abbrev pub is_tested : Option ℕ → List ℕ → Conditions → Bool
+is_tested guard earlier conditions = guard_holds guard conditions && none_holds earlier conditions
+
 -- the guard is one of the first k conditions, so that the parts behind it don't store it anew
 abbrev pub IsBelow : Option ℕ → ℕ → Type 0
 IsBelow None k = Unit {0}
@@ -72,14 +76,14 @@ module _ {A C : Type 0} where
   -- the part is evaluated: its guard holds, and of the earlier branches of its IF none was taken
   abbrev pub is_evaluated : NestPart A C → Conditions → Bool
   is_evaluated (Acts guard action) conditions = guard_holds guard conditions
-  is_evaluated (Tests number guard earlier test) conditions = guard_holds guard conditions && none_holds earlier conditions
+  is_evaluated (Tests number guard earlier test) conditions = is_tested guard earlier conditions
 
 module _ {A C M F : Type 0} (evaluation : Evaluation A C M F) where
   -- a part at an iteration. A condition that isn't evaluated is made anew with 0: it doesn't keep its value of an earlier trip
   abbrev pub do_part : NestPart A C → Iteration M → Result (Iteration M) F
   do_part (Acts guard action) s = (if guard_holds guard s.conditions then evaluation.action action s.storage else Ok s.storage) >>= (λ m. Ok (record s { storage = m }))
   do_part (Tests number guard earlier test) s =
-      (if guard_holds guard s.conditions && none_holds earlier s.conditions then holds_in evaluation test s.storage else Ok false)
+      (if is_tested guard earlier s.conditions then holds_in evaluation test s.storage else Ok false)
       >>= (λ holds. Ok (record s { conditions = set_condition s.conditions number holds }))
 
   -- the parts in order, up to the first fault

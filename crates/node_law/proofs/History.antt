@@ -23,13 +23,15 @@ module _ {N M : Type 0} (S : NodeSteps N M) where
     pub does : IsMoveOf S node x
     pub room : HasRoom c.queue p x
 
-  take-can : (c : CoreState N M) (p q : ℕ) (a : N) (x : Move M) → slice_get c.nodes p ≡ Some a → S.act a ≡ Take (record { 0 = q }) → (letters : List M) → c.queue q p ≡ letters → take_of S q letters ≡ Some x → CanMove c p x
+  take-can : (c : CoreState N M) (p q : ℕ) (a : N) (x : Move M) → slice_get c.nodes p ≡ Some a → S.act a ≡ Take (record { 0 = q })
+      → (letters : List M) → c.queue q p ≡ letters → take_of S q letters ≡ Some x → CanMove c p x
   take-can c p q a x is e [] le h = cc
   take-can c p q a x is e (m ∷ ms) le h =
       let k : x ≡ Taken q m = cc in
       rw k (record { node = a; is = is; does = e; room = rw le refl })
 
-  send-can : (c : CoreState N M) (p q : ℕ) (a : N) (x : Move M) → slice_get c.nodes p ≡ Some a → S.act a ≡ Send (record { 0 = q }) → (b : Bool) → nat_lt (length (c.queue p q)) capacity ≡ b → (if b then Some (Sent q (S.letter a)) else None) ≡ Some x → CanMove c p x
+  send-can : (c : CoreState N M) (p q : ℕ) (a : N) (x : Move M) → slice_get c.nodes p ≡ Some a → S.act a ≡ Send (record { 0 = q }) → (b : Bool)
+      → nat_lt (length (c.queue p q)) capacity ≡ b → (if b then Some (Sent q (S.letter a)) else None) ≡ Some x → CanMove c p x
   send-can c p q a x is e false be h = cc
   send-can c p q a x is e true be h =
       let k : x ≡ Sent q (S.letter a) = cc in
@@ -69,12 +71,14 @@ module _ {N M : Type 0} (S : NodeSteps N M) where
     pub now : (p : ℕ) → slice_get c.nodes p ≡ after_at S (slice_get ns p) (H p)
     pub letters : (p q : ℕ) → sent q (H p) ≡ taken p (H q) ++ c.queue p q
 
-  sent-one : (b1 b2 : Bool) (s t k K : List M) (m : M) → s ≡ t ++ k → (b1 ≡ true → b2 ≡ true → K ≡ k) → s ++ (if b1 && b2 then m ∷ [] else []) ≡ t ++ (if b1 && b2 then K ++ (m ∷ []) else k)
+  sent-one : (b1 b2 : Bool) (s t k K : List M) (m : M) → s ≡ t ++ k → (b1 ≡ true → b2 ≡ true → K ≡ k)
+      → s ++ (if b1 && b2 then m ∷ [] else []) ≡ t ++ (if b1 && b2 then K ++ (m ∷ []) else k)
   sent-one true true s t k K m e h = rw (e, h refl refl) (append_assoc t k (m ∷ []))
   sent-one true false s t k K m e h = simp append-nil e
   sent-one false b2 s t k K m e h = simp append-nil e
 
-  taken-one : (b1 b2 : Bool) (s t k K : List M) (m : M) → s ≡ t ++ k → (b1 ≡ true → b2 ≡ true → k ≡ m ∷ K) → s ≡ (t ++ (if b2 && b1 then m ∷ [] else [])) ++ (if b1 && b2 then K else k)
+  taken-one : (b1 b2 : Bool) (s t k K : List M) (m : M) → s ≡ t ++ k → (b1 ≡ true → b2 ≡ true → k ≡ m ∷ K)
+      → s ≡ (t ++ (if b2 && b1 then m ∷ [] else [])) ++ (if b1 && b2 then K else k)
   taken-one true true s t k K m e h = e ∙ rw (h refl refl) (sym (append_assoc t (m ∷ []) K))
   taken-one true false s t k K m e h = simp append-nil e
   taken-one false true s t k K m e h = simp append-nil e
@@ -105,7 +109,8 @@ module _ {N M : Type 0} (S : NodeSteps N M) where
   work-taken true r = refl
   work-taken false r = refl
 
-  letters-after : (ns : List N) (c : CoreState N M) (H : ℕ → List (Move M)) (p : ℕ) (x : Move M) → HasRoom c.queue p x → IsHistory ns c H → (s t : ℕ) → sent t (H s ++ moves_in S p s (Some x)) ≡ taken s (H t ++ moves_in S p t (Some x)) ++ queue_after c.queue p x s t
+  letters-after : (ns : List N) (c : CoreState N M) (H : ℕ → List (Move M)) (p : ℕ) (x : Move M) → HasRoom c.queue p x → IsHistory ns c H → (s t : ℕ)
+      → sent t (H s ++ moves_in S p s (Some x)) ≡ taken s (H t ++ moves_in S p t (Some x)) ++ queue_after c.queue p x s t
   letters-after ns c H p Worked room history s t =
       simp (sent-append, taken-append, work-sent (p == s) t, work-taken (p == t) s, append-nil) (history.letters s t)
   letters-after ns c H p (Sent q m) room history s t =
@@ -124,7 +129,8 @@ module _ {N M : Type 0} (S : NodeSteps N M) where
   now-one : (o : Option N) (xs : List (Move M)) (a : N) (x : Move M) → Some a ≡ after_at S o xs → Some (node_after S a x) ≡ after_at S o (xs ++ (x ∷ []))
   now-one o xs a x now = rw (after_at-append S o xs (x ∷ []), ← now) refl
 
-  history-moved : (ns : List N) (c : CoreState N M) (H : ℕ → List (Move M)) (p : ℕ) (m : Option (Move M)) → core_move S c p ≡ m → IsHistory ns c H → IsHistory ns (moved S c p m) (λ q. H q ++ moves_in S p q m)
+  history-moved : (ns : List N) (c : CoreState N M) (H : ℕ → List (Move M)) (p : ℕ) (m : Option (Move M)) → core_move S c p ≡ m → IsHistory ns c H
+      → IsHistory ns (moved S c p m) (λ q. H q ++ moves_in S p q m)
   history-moved ns c H p None e history = record {
     made = λ q. rw append-nil (history.made q);
     now = λ q. rw append-nil (history.now q);
@@ -145,7 +151,8 @@ module _ {N M : Type 0} (S : NodeSteps N M) where
         letters = letters-after ns c H p x can.room history;
       }
 
-  pub history-step : (ns : List N) (c : CoreState N M) (H : ℕ → List (Move M)) (p : ℕ) → IsHistory ns c H → IsHistory ns (core_step S c p) (λ q. H q ++ moves_in S p q (core_move S c p))
+  pub history-step : (ns : List N) (c : CoreState N M) (H : ℕ → List (Move M)) (p : ℕ) → IsHistory ns c H
+      → IsHistory ns (core_step S c p) (λ q. H q ++ moves_in S p q (core_move S c p))
   history-step ns c H p history = history-moved ns c H p (core_move S c p) refl history
 
   history-start : (ns : List N) → IsHistory ns (start ns) (λ p. [])

@@ -2,7 +2,7 @@
 use Rattle.std.proofs.Common.{◌≡◌, ℕ, List, [], ◌∷◌, ◌++◌, Option, Some, None, refl, sym, ◌∙◌, ap, subst, append_assoc, append-nil}
 use Rattle.std.proofs.Math.Path.{fun_ext}
 use Rattle.node_law.specs.NodeSteps.{NodeSteps, Move, Worked, Sent, Taken, node_after, after_all, after_at, IsDoneAt, sent}
-use Rattle.node_law.specs.Phases.{PhaseShare, moves, AreLocal, IsFront, next_number, TurnsNumber, KeepsNumber, IsShare, IsShareAt, IsPhase, IsEndAt, IsLockstep, all_moves, StaysAt, IsBetween, LeadsTo, number_after, begun_by, joined, joined_last}
+use Rattle.node_law.specs.Phases.{PhaseShare, moves, AreLocal, IsFront, next_number, TurnsNumber, KeepsNumber, IsShare, IsShareAt, IsPhase, IsEndAt, IsLockstep, all_moves, StaysAt, IsBetween, LeadsTo, number_after, begun_by, joined_phases, joined_last}
 use Rattle.node_law.proofs.Prefixes.{sent-append, moves-append, after_all-append}
 use Rattle.node_law.proofs.LawOfPrefixes.{local-sent}
 use Rattle.node_law.proofs.NextMove.{local-awaited, awaited-append}
@@ -21,10 +21,12 @@ module _ {M : Type 0} where
   local-front (Taken q m ∷ xs) ys h k = absurd h
 
   -- the moves of two segments one after the other
-  pub moves-joined : (first second : List (ℕ → PhaseShare M)) (between last : ℕ → List (Move M)) (p : ℕ) → all_moves (joined first between second) (joined_last between second last) p ≡ all_moves first between p ++ all_moves second last p
+  pub moves-joined : (first second : List (ℕ → PhaseShare M)) (between last : ℕ → List (Move M)) (p : ℕ)
+      → all_moves (joined_phases first between second) (joined_last between second last) p ≡ all_moves first between p ++ all_moves second last p
   moves-joined [] [] between last p = refl
   moves-joined [] (shares ∷ rest) between last p = simp append_assoc refl
-  moves-joined (shares ∷ first) second between last p = rw (moves-joined first second between last p) (sym (append_assoc (moves (shares p)) (all_moves first between p) (all_moves second last p)))
+  moves-joined (shares ∷ first) second between last p =
+      rw (moves-joined first second between last p) (sym (append_assoc (moves (shares p)) (all_moves first between p) (all_moves second last p)))
 
 module _ {N M : Type 0} (S : NodeSteps N M) where
   stays-first : (n : ℕ) (a : N) (xs : List (Move M)) → StaysAt S n a xs → S.phase a ≡ n
@@ -44,7 +46,8 @@ module _ {N M : Type 0} (S : NodeSteps N M) where
   keeps-append n a (x ∷ xs) ys h k = (stays-first n (node_after S a x) xs h.1 ∙ sym h.0, keeps-append n (node_after S a x) xs ys h.1 k)
 
   -- a share of a phase, with the local steps before it
-  share-after : (n : ℕ) (o new : Option N) (xs : List (Move M)) (share : PhaseShare M) → IsBetween S n o xs new → IsShareAt S n new share → IsShareAt S n o (record { front = xs ++ share.front; back = share.back })
+  share-after : (n : ℕ) (o new : Option N) (xs : List (Move M)) (share : PhaseShare M) → IsBetween S n o xs new → IsShareAt S n new share
+      → IsShareAt S n o (record { front = xs ++ share.front; back = share.back })
   share-after n None new xs share h k = rw h.0 (rw h.1 at k)
   share-after n (Some a) new xs share h k =
       let e : (xs ++ share.front) ++ share.back ≡ xs ++ moves share = append_assoc xs share.front share.back in
@@ -105,23 +108,35 @@ module _ {N M : Type 0} (S : NodeSteps N M) where
           to_others = λ p. rw (sent-append p (between p) (shares p).front, between-sent n (ns p) (middle p) (between p) p (h p)) (k.to_others p);
         }
 
-    nodes-after : (let old : ℕ → Option N = λ p. after_at S (middle p) (moves (shares p)) in let new : ℕ → Option N = λ p. after_at S (ns p) (moves (begun_by between shares p)) in old ≡ new)
+    nodes-after : (let old : ℕ → Option N = λ p. after_at S (middle p) (moves (shares p)) in
+        let new : ℕ → Option N = λ p. after_at S (ns p) (moves (begun_by between shares p)) in old ≡ new)
     nodes-after = fun_ext (λ p. sym (rw (append_assoc (between p) (shares p).front (shares p).back) (after-between n (ns p) (middle p) (between p) (moves (shares p)) (h p))))
 
-  pub leads-joined : (first : List (ℕ → PhaseShare M)) (n : ℕ) (ns middle new : ℕ → Option N) (second : List (ℕ → PhaseShare M)) (between last : ℕ → List (Move M)) → LeadsTo S n ns first between middle → LeadsTo S (number_after n first) middle second last new → LeadsTo S n ns (joined first between second) (joined_last between second last) new
+  pub leads-joined : (first : List (ℕ → PhaseShare M)) (n : ℕ) (ns middle new : ℕ → Option N) (second : List (ℕ → PhaseShare M))
+      (between last : ℕ → List (Move M)) → LeadsTo S n ns first between middle → LeadsTo S (number_after n first) middle second last new
+      → LeadsTo S n ns (joined_phases first between second) (joined_last between second last) new
   leads-joined [] n ns middle new [] between last h k = λ p. between-append n (ns p) (middle p) (new p) (between p) (last p) (h p) (k p)
-  leads-joined [] n ns middle new (shares ∷ rest) between last h k = (phase-after n ns middle between h shares k.0, subst (λ (K : ℕ → Option N). LeadsTo S (next_number n) K rest last new) (nodes-after n ns middle between h shares) k.1)
+  leads-joined [] n ns middle new (shares ∷ rest) between last h k = (
+    phase-after n ns middle between h shares k.0,
+    subst (λ (K : ℕ → Option N). LeadsTo S (next_number n) K rest last new) (nodes-after n ns middle between h shares) k.1,
+  )
   leads-joined (shares ∷ first) n ns middle new second between last h k =
       (h.0, leads-joined first (next_number n) (λ p. after_at S (ns p) (moves (shares p))) middle new second between last h.1 k)
 
-  pub lockstep-joined : (first : List (ℕ → PhaseShare M)) (n : ℕ) (ns middle : ℕ → Option N) (second : List (ℕ → PhaseShare M)) (between last : ℕ → List (Move M)) → LeadsTo S n ns first between middle → IsLockstep S (number_after n first) middle second last → IsLockstep S n ns (joined first between second) (joined_last between second last)
+  pub lockstep-joined : (first : List (ℕ → PhaseShare M)) (n : ℕ) (ns middle : ℕ → Option N) (second : List (ℕ → PhaseShare M))
+      (between last : ℕ → List (Move M)) → LeadsTo S n ns first between middle → IsLockstep S (number_after n first) middle second last
+      → IsLockstep S n ns (joined_phases first between second) (joined_last between second last)
   lockstep-joined [] n ns middle [] between last h k = λ p. end-after n (ns p) (middle p) (between p) (last p) (h p) (k p)
-  lockstep-joined [] n ns middle (shares ∷ rest) between last h k = (phase-after n ns middle between h shares k.0, subst (λ (K : ℕ → Option N). IsLockstep S (next_number n) K rest last) (nodes-after n ns middle between h shares) k.1)
+  lockstep-joined [] n ns middle (shares ∷ rest) between last h k = (
+    phase-after n ns middle between h shares k.0,
+    subst (λ (K : ℕ → Option N). IsLockstep S (next_number n) K rest last) (nodes-after n ns middle between h shares) k.1,
+  )
   lockstep-joined (shares ∷ first) n ns middle second between last h k =
       (h.0, lockstep-joined first (next_number n) (λ p. after_at S (ns p) (moves (shares p))) middle second between last h.1 k)
 
   -- a segment that leads to nodes that are all Done
-  pub lockstep-ended : (phases : List (ℕ → PhaseShare M)) (n : ℕ) (ns new : ℕ → Option N) (last : ℕ → List (Move M)) → LeadsTo S n ns phases last new → ((p : ℕ) → IsDoneAt S (new p)) → IsLockstep S n ns phases last
+  pub lockstep-ended : (phases : List (ℕ → PhaseShare M)) (n : ℕ) (ns new : ℕ → Option N) (last : ℕ → List (Move M)) → LeadsTo S n ns phases last new
+      → ((p : ℕ) → IsDoneAt S (new p)) → IsLockstep S n ns phases last
   lockstep-ended [] n ns new last h d = λ p. end-done n (ns p) (new p) (last p) (h p) (d p)
   lockstep-ended (shares ∷ phases) n ns new last h d =
       (h.0, lockstep-ended phases (next_number n) (λ p. after_at S (ns p) (moves (shares p))) new last h.1 d)

@@ -81,7 +81,8 @@ module _ {N M : Type 0} (S : NodeSteps N M) where
     pub now : (p : ℕ) → ms p ≡ after_at S (ns p) (X p)
     pub letters : (p q : ℕ) → sent q (X p) ≡ taken p (X q)
 
-  pub all_taken-next : (n : ℕ) (ns ms : ℕ → Option N) (X : ℕ → List (Move M)) (shares : ℕ → PhaseShare M) → AllTaken ns ms X → IsPhase S n ms shares → AllTaken ns (λ p. after_at S (ms p) (moves (shares p))) (λ p. X p ++ moves (shares p))
+  pub all_taken-next : (n : ℕ) (ns ms : ℕ → Option N) (X : ℕ → List (Move M)) (shares : ℕ → PhaseShare M) → AllTaken ns ms X → IsPhase S n ms shares
+      → AllTaken ns (λ p. after_at S (ms p) (moves (shares p))) (λ p. X p ++ moves (shares p))
   all_taken-next n ns ms X shares e h =
       let f : (p : ℕ) → ShareFacts (ms p) (shares p) = λ p. share-facts n (ms p) (shares p) (h.each p) in
       record {
@@ -103,7 +104,9 @@ module _ {N M : Type 0} (S : NodeSteps N M) where
       none_after (Some a) = refl
 
   module _ (ns : ℕ → Option N) (H : ℕ → List (Move M)) (made : (p : ℕ) → AreMovesAt S (ns p) (H p)) (taken-first : (p q : ℕ) → IsPrefix (taken p (H q)) (sent q (H p))) where
-    pub law-from : (phases : List (ℕ → PhaseShare M)) (n : ℕ) (last : ℕ → List (Move M)) (ms : ℕ → Option N) (X : ℕ → List (Move M)) → AllTaken ns ms X → ((p : ℕ) → AreComparable (H p) (X p)) → IsLockstep S n ms phases last → (p : ℕ) → IsPrefix (H p) (X p ++ all_moves phases last p)
+    pub law-from : (phases : List (ℕ → PhaseShare M)) (n : ℕ) (last : ℕ → List (Move M)) (ms : ℕ → Option N) (X : ℕ → List (Move M))
+        → AllTaken ns ms X → ((p : ℕ) → AreComparable (H p) (X p)) → IsLockstep S n ms phases last → (p : ℕ)
+        → IsPrefix (H p) (X p ++ all_moves phases last p)
     law-from [] n last ms X e comparable h p =
         let end : IsEndAt S (after_at S (ns p) (X p)) (last p) = rw (e.now p) at (h p) in
         let t : (q : ℕ) → taken q (X p) ≡ taken q (X p ++ last p) = λ q. simp (taken-append, end-taken (ms p) (last p) q (h p), append-nil) in
@@ -121,10 +124,13 @@ module _ {N M : Type 0} (S : NodeSteps N M) where
         let whole : (r : ℕ) → AreComparable (H r) (Y r) = λ r.
         moves-comparable_at S (ns r) (H r) (Y r) (made r) (next.made r)
         (λ q. let t : taken q (Y r) ≡ sent r (X q ++ (shares q).front) = simp (sent-append, taken-append, (f r).front_taken q, e.letters q r, h.0.letters q r) in
-        rw t (prefix-comparable (taken q (H r)) (sent r (H q)) (sent r (X q ++ (shares q).front)) (taken-first q r) (sent-comparable r (H q) (X q ++ (shares q).front) (front q)))) in
+        rw t (prefix-comparable (taken q (H r)) (sent r (H q)) (sent r (X q ++ (shares q).front)) (taken-first q r)
+        (sent-comparable r (H q) (X q ++ (shares q).front) (front q)))) in
         rw (← append_assoc) (law-from phases (next_number n) last (λ r. after_at S (ms r) (moves (shares r))) Y next whole h.1 p)
 
 -- the law of prefixes
-pub law_of_prefixes : {N M : Type 0} (S : NodeSteps N M) (ns : ℕ → Option N) (run : Lockstep S ns) (H : ℕ → List (Move M)) → ((p : ℕ) → AreMovesAt S (ns p) (H p)) → ((p q : ℕ) → IsPrefix (taken p (H q)) (sent q (H p))) → (p : ℕ) → IsPrefix (H p) (all_moves run.phases run.last p)
+pub law_of_prefixes : {N M : Type 0} (S : NodeSteps N M) (ns : ℕ → Option N) (run : Lockstep S ns) (H : ℕ → List (Move M))
+    → ((p : ℕ) → AreMovesAt S (ns p) (H p)) → ((p q : ℕ) → IsPrefix (taken p (H q)) (sent q (H p))) → (p : ℕ)
+    → IsPrefix (H p) (all_moves run.phases run.last p)
 law_of_prefixes S ns run H made taken-first p =
     law-from S ns H made taken-first run.phases run.number run.last ns (λ q. []) (all_taken-start S ns) (λ q. comparable-swap [] (H q) tt) run.run p

@@ -74,10 +74,14 @@ module _ {N M : Type 0} (S : NodeSteps N M) where
     -- at the end each node has made all its moves
     pub done-all : (p : ℕ) → IsDoneAt S (slice_get c.nodes p) → made_in S (start w.from) w.choices p ≡ all_moves w.run.phases w.run.last p
     done-all p done =
-        let r = prefix-rest (made_in S (start w.from) w.choices p) (all_moves w.run.phases w.run.last p) (confluence S w.from w.run c (made_in S (start w.from) w.choices) history-is p) in
-        go (slice_get w.from p) (history-is.now p) (all_moves w.run.phases w.run.last p) (run-made S w.run.phases w.run.number w.run.last (slice_get w.from) w.run.run p) (made_in S (start w.from) w.choices p) r.0 r.1 refl
+        let r =
+        prefix-rest (made_in S (start w.from) w.choices p) (all_moves w.run.phases w.run.last p)
+        (confluence S w.from w.run c (made_in S (start w.from) w.choices) history-is p) in
+        go (slice_get w.from p) (history-is.now p) (all_moves w.run.phases w.run.last p)
+        (run-made S w.run.phases w.run.number w.run.last (slice_get w.from) w.run.run p) (made_in S (start w.from) w.choices p) r.0 r.1 refl
       where
-        go : (o : Option N) → slice_get c.nodes p ≡ after_at S o (made_in S (start w.from) w.choices p) → (all : List (Move M)) → AreMovesAt S o all → (h rest : List (Move M)) → h ++ rest ≡ all → h ≡ made_in S (start w.from) w.choices p → h ≡ all
+        go : (o : Option N) → slice_get c.nodes p ≡ after_at S o (made_in S (start w.from) w.choices p) → (all : List (Move M)) → AreMovesAt S o all
+            → (h rest : List (Move M)) → h ++ rest ≡ all → h ≡ made_in S (start w.from) w.choices p → h ≡ all
         go o now all made h [] e same = sym (append-nil h) ∙ e
         go None now all made h (x ∷ rest) e same =
             let l : length (h ++ (x ∷ rest)) ≡ 0 = ap length (e ∙ made) in
@@ -97,7 +101,8 @@ module _ {N M : Type 0} (S : NodeSteps N M) where
           | inl lt ↦
               (let z : length (all_moves w.run.phases w.run.last p) - length (made_in S (start w.from) w.choices p) ≡ 0 =
               total-zero (length w.from) (λ q. length (all_moves w.run.phases w.run.last q) - length (made_in S (start w.from) w.choices q)) e p lt in
-              let l : length (made_in S (start w.from) w.choices p) + length r.0 ≡ length (all_moves w.run.phases w.run.last p) = sym (length-append (made_in S (start w.from) w.choices p) r.0) ∙ ap length r.1 in
+              let l : length (made_in S (start w.from) w.choices p) + length r.0 ≡ length (all_moves w.run.phases w.run.last p) =
+              sym (length-append (made_in S (start w.from) w.choices p) r.0) ∙ ap length r.1 in
               sym (append-nil (made_in S (start w.from) w.choices p)) ∙ ap (λ (t : List (Move M)). made_in S (start w.from) w.choices p ++ t) (sym (empty r.0 (omega arith))) ∙ r.1)
           | inr ge ↦ past (slice_get w.from p) (slice_get_past w.from p ge) (history-is.made p) (run-made S w.run.phases w.run.number w.run.last (slice_get w.from) w.run.run p)
         ] in
@@ -107,27 +112,34 @@ module _ {N M : Type 0} (S : NodeSteps N M) where
         empty [] h = refl
         empty (y ∷ t) h = cc
 
-        past : (o : Option N) → o ≡ None → AreMovesAt S o (made_in S (start w.from) w.choices p) → AreMovesAt S o (all_moves w.run.phases w.run.last p) → made_in S (start w.from) w.choices p ≡ all_moves w.run.phases w.run.last p
+        past : (o : Option N) → o ≡ None → AreMovesAt S o (made_in S (start w.from) w.choices p)
+            → AreMovesAt S o (all_moves w.run.phases w.run.last p) → made_in S (start w.from) w.choices p ≡ all_moves w.run.phases w.run.last p
         past None n h k = h ∙ sym k
         past (Some a) n h k = cc
 
     pub done-left : ((p : ℕ) → IsDoneAt S (slice_get c.nodes p)) → moves_left S w ≡ 0
-    done-left done = none-total (length w.from) (λ p. length (all_moves w.run.phases w.run.last p) - length (made_in S (start w.from) w.choices p)) (λ p. let e = ap length (done-all p (done p)) in omega arith)
+    done-left done =
+        none-total (length w.from) (λ p. length (all_moves w.run.phases w.run.last p) - length (made_in S (start w.from) w.choices p))
+        (λ p. let e = ap length (done-all p (done p)) in omega arith)
 
     -- a step takes one away
     pub step-left : (p : ℕ) → IsEnabled S c p → moves_left S w ≡ suc (moves_left S (reached-step c p w))
     step-left p enabled =
         let x = some-is (core_move S c p) enabled in
         let v : IsReached S (core_step S c p) = reached-step c p w in
-        let next : IsHistory S w.from (core_step S c p) (λ q. made_in S (start w.from) w.choices q ++ moves_in S p q (core_move S c p)) = history-step S w.from c (made_in S (start w.from) w.choices) p history-is in
+        let next : IsHistory S w.from (core_step S c p) (λ q. made_in S (start w.from) w.choices q ++ moves_in S p q (core_move S c p)) =
+        history-step S w.from c (made_in S (start w.from) w.choices) p history-is in
         let after : (q : ℕ) → made_in S (start w.from) (w.choices ++ (p ∷ [])) q ≡ made_in S (start w.from) w.choices q ++ moves_in S p q (core_move S c p) = λ q.
         made-append w.choices (start w.from) p q ∙ ap (λ (d : CoreState N M). made_in S (start w.from) w.choices q ++ moves_in S p q (core_move S d p)) (sym w.is) in
         let can = can-move S c p x.0 x.1 in
         let lt : p < length w.from = from-some (slice_get w.from p) refl (sym can.is ∙ history-is.now p) in
         let prefix : IsPrefix (made_in S (start w.from) w.choices p ++ moves_in S p p (core_move S c p)) (all_moves w.run.phases w.run.last p) =
         confluence S w.from w.run (core_step S c p) (λ q. made_in S (start w.from) w.choices q ++ moves_in S p q (core_move S c p)) next p in
-        let one : length (made_in S (start w.from) (w.choices ++ (p ∷ [])) p) ≡ length (made_in S (start w.from) w.choices p) + 1 = rw (after p, x.1, eq-eqb p p refl) (length-append (made_in S (start w.from) w.choices p) (x.0 ∷ [])) in
-        let fits : length (made_in S (start w.from) (w.choices ++ (p ∷ [])) p) ≤ length (all_moves w.run.phases w.run.last p) = rw (after p) (prefix-length (made_in S (start w.from) w.choices p ++ moves_in S p p (core_move S c p)) (all_moves w.run.phases w.run.last p) prefix) in
+        let one : length (made_in S (start w.from) (w.choices ++ (p ∷ [])) p) ≡ length (made_in S (start w.from) w.choices p) + 1 =
+        rw (after p, x.1, eq-eqb p p refl) (length-append (made_in S (start w.from) w.choices p) (x.0 ∷ [])) in
+        let fits : length (made_in S (start w.from) (w.choices ++ (p ∷ [])) p) ≤ length (all_moves w.run.phases w.run.last p) =
+        rw (after p)
+        (prefix-length (made_in S (start w.from) w.choices p ++ moves_in S p p (core_move S c p)) (all_moves w.run.phases w.run.last p) prefix) in
         total-one (length w.from)
         (λ q. length (all_moves w.run.phases w.run.last q) - length (made_in S (start w.from) w.choices q))
         (λ q. length (all_moves w.run.phases w.run.last q) - length (made_in S (start w.from) (w.choices ++ (p ∷ [])) q))

@@ -107,7 +107,9 @@ module _ {N M : Type 0} (S : NodeSteps N M) where
   end-sent (Some a) xs q h = local-sent q xs h.1
 
   -- a node whose next move has room is enabled
-  enabled-by : (c : CoreState N M) (p : ℕ) (a : N) (x : Move M) → slice_get c.nodes p ≡ Some a → IsMoveOf S a x → ((q : ℕ) (m : M) → x ≡ Sent q m → length (c.queue p q) < capacity) → ((q : ℕ) (m : M) → x ≡ Taken q m → 0 < length (c.queue q p)) → IsEnabled S c p
+  enabled-by : (c : CoreState N M) (p : ℕ) (a : N) (x : Move M) → slice_get c.nodes p ≡ Some a → IsMoveOf S a x
+      → ((q : ℕ) (m : M) → x ≡ Sent q m → length (c.queue p q) < capacity) → ((q : ℕ) (m : M) → x ≡ Taken q m → 0 < length (c.queue q p))
+      → IsEnabled S c p
   enabled-by c p a Worked is does send take = rw (is, does) refl
   enabled-by c p a (Sent q m) is does send take = rw (is, does.0, lt-ltb (length (c.queue p q)) capacity (send q m refl)) refl
   enabled-by c p a (Taken q m) is does send take = rw (is, does) (front q (c.queue q p) (take q m refl))
@@ -123,7 +125,8 @@ module _ {N M : Type 0} (S : NodeSteps N M) where
     confluence p = law_of_prefixes S (slice_get ns) run H history.made (λ s t. rw (history.letters s t) (prefix-append (taken s (H t)) (c.queue s t))) p
 
     -- where the next move of the node p stands in G, which takes no more than was sent to p and sends no more than there is room for
-    enabled-next : (p : ℕ) (G : List (Move M)) (x : Move M) → AreMovesAt S (slice_get ns p) G → IsPrefix (H p ++ (x ∷ [])) G → ((q : ℕ) → length (taken q G) ≤ length (sent p (H q))) → ((q : ℕ) → length (sent q G) ≤ length (taken p (H q)) + capacity) → IsEnabled S c p
+    enabled-next : (p : ℕ) (G : List (Move M)) (x : Move M) → AreMovesAt S (slice_get ns p) G → IsPrefix (H p ++ (x ∷ [])) G
+        → ((q : ℕ) → length (taken q G) ≤ length (sent p (H q))) → ((q : ℕ) → length (sent q G) ≤ length (taken p (H q)) + capacity) → IsEnabled S c p
     enabled-next p G x made prefix takes sends = go (slice_get ns p) refl made
       where
         lengths : (s t : ℕ) → length (sent t (H s)) ≡ length (taken s (H t)) + length (c.queue s t)
@@ -154,7 +157,9 @@ module _ {N M : Type 0} (S : NodeSteps N M) where
             omega arith)
 
     -- each node has passed this stage of the lockstep run, or one is enabled
-    stage : (G : ℕ → List (Move M)) → ((p : ℕ) → AreMovesAt S (slice_get ns p) (G p)) → ((p : ℕ) → IsPrefix (G p) (all_moves run.phases run.last p)) → ((p q : ℕ) → length (taken q (G p)) ≤ length (sent p (H q))) → ((p q : ℕ) → length (sent q (G p)) ≤ length (taken p (H q)) + capacity) → ((p : ℕ) → IsPrefix (G p) (H p)) ⊎ ((p : ℕ) × IsEnabled S c p)
+    stage : (G : ℕ → List (Move M)) → ((p : ℕ) → AreMovesAt S (slice_get ns p) (G p)) → ((p : ℕ) → IsPrefix (G p) (all_moves run.phases run.last p))
+        → ((p q : ℕ) → length (taken q (G p)) ≤ length (sent p (H q))) → ((p q : ℕ) → length (sent q (G p)) ≤ length (taken p (H q)) + capacity)
+        → ((p : ℕ) → IsPrefix (G p) (H p)) ⊎ ((p : ℕ) × IsEnabled S c p)
     stage G made prefix takes sends =
         each-or (λ p. IsPrefix (G p) (H p)) ((p : ℕ) × IsEnabled S c p) (length ns)
         (λ p. elim (prefix-or-on (H p) (G p) (all_moves run.phases run.last p) (confluence p) (prefix p)) [
@@ -167,10 +172,14 @@ module _ {N M : Type 0} (S : NodeSteps N M) where
         none None xs ys e h = rw h tt
         none (Some a) xs ys e h = cc
 
-    stuck-from : (phases : List (ℕ → PhaseShare M)) (n : ℕ) (last : ℕ → List (Move M)) (ms : ℕ → Option N) (X : ℕ → List (Move M)) → AllTaken S (slice_get ns) ms X → ((p : ℕ) → IsPrefix (X p) (H p)) → IsLockstep S n ms phases last → ((p : ℕ) → X p ++ all_moves phases last p ≡ all_moves run.phases run.last p) → ((p : ℕ) → IsDoneAt S (slice_get c.nodes p)) ⊎ ((p : ℕ) × IsEnabled S c p)
+    stuck-from : (phases : List (ℕ → PhaseShare M)) (n : ℕ) (last : ℕ → List (Move M)) (ms : ℕ → Option N) (X : ℕ → List (Move M))
+        → AllTaken S (slice_get ns) ms X → ((p : ℕ) → IsPrefix (X p) (H p)) → IsLockstep S n ms phases last
+        → ((p : ℕ) → X p ++ all_moves phases last p ≡ all_moves run.phases run.last p)
+        → ((p : ℕ) → IsDoneAt S (slice_get c.nodes p)) ⊎ ((p : ℕ) × IsEnabled S c p)
     stuck-from [] n last ms X e passed h whole =
         let G : ℕ → List (Move M) = λ p. X p ++ last p in
-        let made : (p : ℕ) → AreMovesAt S (slice_get ns p) (G p) = λ p. append_at S (slice_get ns p) (X p) (last p) (e.made p) (rw (e.now p) at (end-made S (ms p) (last p) (h p))) in
+        let made : (p : ℕ) → AreMovesAt S (slice_get ns p) (G p) =
+        λ p. append_at S (slice_get ns p) (X p) (last p) (e.made p) (rw (e.now p) at (end-made S (ms p) (last p) (h p))) in
         let takes : (p q : ℕ) → length (taken q (G p)) ≤ length (sent p (H q)) = λ p q.
         simp (taken-append, end-taken S (ms p) (last p) q (h p), append-nil, ← (e.letters q p)) (sent-longer p (X q) (H q) (passed q)) in
         let sends : (p q : ℕ) → length (sent q (G p)) ≤ length (taken p (H q)) + capacity = λ p q.
@@ -190,7 +199,8 @@ module _ {N M : Type 0} (S : NodeSteps N M) where
         let rest : (p : ℕ) → Y p ++ all_moves phases last p ≡ all_moves run.phases run.last p = λ p. append_assoc (X p) (moves (shares p)) (all_moves phases last p) ∙ whole p in
         let prefixY : (p : ℕ) → IsPrefix (Y p) (all_moves run.phases run.last p) = λ p. rw (← (rest p)) (prefix-append (Y p) (all_moves phases last p)) in
         let joined : (p : ℕ) → F p ++ (shares p).back ≡ Y p = λ p. append_assoc (X p) (shares p).front (shares p).back in
-        let prefixF : (p : ℕ) → IsPrefix (F p) (all_moves run.phases run.last p) = λ p. prefix-trans (F p) (Y p) (all_moves run.phases run.last p) (rw (← (joined p)) (prefix-append (F p) (shares p).back)) (prefixY p) in
+        let prefixF : (p : ℕ) → IsPrefix (F p) (all_moves run.phases run.last p) =
+        λ p. prefix-trans (F p) (Y p) (all_moves run.phases run.last p) (rw (← (joined p)) (prefix-append (F p) (shares p).back)) (prefixY p) in
         let madeF : (p : ℕ) → AreMovesAt S (slice_get ns p) (F p) = λ p. append_at S (slice_get ns p) (X p) (shares p).front (e.made p) (rw (e.now p) at (f p).made_front) in
         let takesF : (p q : ℕ) → length (taken q (F p)) ≤ length (sent p (H q)) = λ p q.
         simp (taken-append, (f p).front_taken q, append-nil, ← (e.letters q p)) (sent-longer p (X q) (H q) (passed q)) in
@@ -225,7 +235,8 @@ module _ {N M : Type 0} (S : NodeSteps N M) where
   done-at (a ∷ ns) h zero = h 0 a (omega arith)
   done-at (a ∷ ns) h (suc p) = done-at ns (λ k d lt. h (suc k) d (omega arith)) p
 
-  pub not_stuck : (ns : List N) → Lockstep S (slice_get ns) → (choices : List ℕ) → IsFinished S (core_run S (start ns) choices) ⊎ ((p : ℕ) × IsEnabled S (core_run S (start ns) choices) p)
+  pub not_stuck : (ns : List N) → Lockstep S (slice_get ns) → (choices : List ℕ)
+      → IsFinished S (core_run S (start ns) choices) ⊎ ((p : ℕ) × IsEnabled S (core_run S (start ns) choices) p)
   not_stuck ns run choices =
       let c : CoreState N M = core_run S (start ns) choices in
       elim (never_stuck ns run c (made_in S (start ns) choices) (history-reached S ns choices)) [

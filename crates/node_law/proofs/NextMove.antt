@@ -36,7 +36,8 @@ module _ {N M : Type 0} (S : NodeSteps N M) where
   awaited-back a (Sent q m ∷ xs) ys h = awaited-back (S.after_send a) xs ys h
   awaited-back a (Taken q m ∷ xs) ys h = awaited-back (S.after_take m a) xs ys h.1
 
-  awaited-append_at : (n : ℕ) (o : Option N) (share : PhaseShare M) (ys : List (Move M)) → IsShareAt S n o share → AwaitedAt (after_at S o (moves share)) ys → AwaitedAt o (moves share ++ ys)
+  awaited-append_at : (n : ℕ) (o : Option N) (share : PhaseShare M) (ys : List (Move M)) → IsShareAt S n o share
+      → AwaitedAt (after_at S o (moves share)) ys → AwaitedAt o (moves share ++ ys)
   awaited-append_at n None share ys hx hy = tt
   awaited-append_at n (Some a) share ys hx hy = awaited-append a (moves share) ys hx.awaited hy
 
@@ -45,25 +46,29 @@ module _ {N M : Type 0} (S : NodeSteps N M) where
   awaited-end (Some a) xs h = local-awaited a xs h.1
 
   -- the moves of a whole lockstep run
-  run-awaited : (phases : List (ℕ → PhaseShare M)) (n : ℕ) (last : ℕ → List (Move M)) (ms : ℕ → Option N) → IsLockstep S n ms phases last → (p : ℕ) → AwaitedAt (ms p) (all_moves phases last p)
+  run-awaited : (phases : List (ℕ → PhaseShare M)) (n : ℕ) (last : ℕ → List (Move M)) (ms : ℕ → Option N) → IsLockstep S n ms phases last → (p : ℕ)
+      → AwaitedAt (ms p) (all_moves phases last p)
   run-awaited [] n last ms h p = awaited-end (ms p) (last p) (h p)
   run-awaited (shares ∷ phases) n last ms h p =
       awaited-append_at n (ms p) (shares p) (all_moves phases last p) (h.0.each p)
       (run-awaited phases (next_number n) last (λ r. after_at S (ms r) (moves (shares r))) h.1 p)
 
-  pub run-made : (phases : List (ℕ → PhaseShare M)) (n : ℕ) (last : ℕ → List (Move M)) (ms : ℕ → Option N) → IsLockstep S n ms phases last → (p : ℕ) → AreMovesAt S (ms p) (all_moves phases last p)
+  pub run-made : (phases : List (ℕ → PhaseShare M)) (n : ℕ) (last : ℕ → List (Move M)) (ms : ℕ → Option N) → IsLockstep S n ms phases last → (p : ℕ)
+      → AreMovesAt S (ms p) (all_moves phases last p)
   run-made [] n last ms h p = end-made S (ms p) (last p) (h p)
   run-made (shares ∷ phases) n last ms h p =
       append_at S (ms p) (moves (shares p)) (all_moves phases last p) (share-facts S n (ms p) (shares p) (h.0.each p)).made
       (run-made phases (next_number n) last (λ r. after_at S (ms r) (moves (shares r))) h.1 p)
 
-  pub run-done : (phases : List (ℕ → PhaseShare M)) (n : ℕ) (last : ℕ → List (Move M)) (ms : ℕ → Option N) → IsLockstep S n ms phases last → (p : ℕ) → IsDoneAt S (after_at S (ms p) (all_moves phases last p))
+  pub run-done : (phases : List (ℕ → PhaseShare M)) (n : ℕ) (last : ℕ → List (Move M)) (ms : ℕ → Option N) → IsLockstep S n ms phases last → (p : ℕ)
+      → IsDoneAt S (after_at S (ms p) (all_moves phases last p))
   run-done [] n last ms h p = end-done S (ms p) (last p) (h p)
   run-done (shares ∷ phases) n last ms h p =
       rw (after_at-append S (ms p) (moves (shares p)) (all_moves phases last p))
       (run-done phases (next_number n) last (λ r. after_at S (ms r) (moves (shares r))) h.1 p)
 
-  pub run-letters : (phases : List (ℕ → PhaseShare M)) (n : ℕ) (last : ℕ → List (Move M)) (ms : ℕ → Option N) → IsLockstep S n ms phases last → (p q : ℕ) → sent q (all_moves phases last p) ≡ taken p (all_moves phases last q)
+  pub run-letters : (phases : List (ℕ → PhaseShare M)) (n : ℕ) (last : ℕ → List (Move M)) (ms : ℕ → Option N) → IsLockstep S n ms phases last
+      → (p q : ℕ) → sent q (all_moves phases last p) ≡ taken p (all_moves phases last q)
   run-letters [] n last ms h p q = end-sent S (ms p) (last p) q (h p) ∙ sym (end-taken S (ms q) (last q) p (h q))
   run-letters (shares ∷ phases) n last ms h p q =
       let f : ShareFacts S (ms p) (shares p) = share-facts S n (ms p) (shares p) (h.0.each p) in
@@ -93,7 +98,8 @@ module _ {N M : Type 0} (S : NodeSteps N M) where
         go (Some b) now made = let e : slice_get c.nodes t ≡ None = slice_get_past c.nodes t past in cc
 
     -- a node is Done, or it has a next move in the lockstep run
-    pub next-move : (p : ℕ) (a : N) → slice_get c.nodes p ≡ Some a → (S.act a ≡ Done) ⊎ ((x : Move M) × IsPrefix (H p ++ (x ∷ [])) (all_moves run.phases run.last p) × IsMoveOf S a x)
+    pub next-move : (p : ℕ) (a : N) → slice_get c.nodes p ≡ Some a
+        → (S.act a ≡ Done) ⊎ ((x : Move M) × IsPrefix (H p ++ (x ∷ [])) (all_moves run.phases run.last p) × IsMoveOf S a x)
     next-move p a is =
         let b = from-node p a is in
         let r = prefix-rest (H p) (all_moves run.phases run.last p) (confluence S ns run c H history p) in
@@ -101,7 +107,8 @@ module _ {N M : Type 0} (S : NodeSteps N M) where
         let done : S.act (after_all S b.0 (all_moves run.phases run.last p)) ≡ Done = rw b.1 at (run-done run.phases run.number run.last (slice_get ns) run.run p) in
         go b.0 b.2 (all_moves run.phases run.last p) made done r.0 r.1
       where
-        go : (b : N) → a ≡ after_all S b (H p) → (all : List (Move M)) → AreMovesOf S b all → S.act (after_all S b all) ≡ Done → (rest : List (Move M)) → H p ++ rest ≡ all → (S.act a ≡ Done) ⊎ ((x : Move M) × IsPrefix (H p ++ (x ∷ [])) all × IsMoveOf S a x)
+        go : (b : N) → a ≡ after_all S b (H p) → (all : List (Move M)) → AreMovesOf S b all → S.act (after_all S b all) ≡ Done
+            → (rest : List (Move M)) → H p ++ rest ≡ all → (S.act a ≡ Done) ⊎ ((x : Move M) × IsPrefix (H p ++ (x ∷ [])) all × IsMoveOf S a x)
         go b e all made done [] w =
             let same : all ≡ H p = sym w ∙ append-nil (H p) in
             inl (rw e (rw same at done))
@@ -160,7 +167,8 @@ module _ {N M : Type 0} (S : NodeSteps N M) where
         let x : core_move S c p ≡ Some (Taken q.0 m) = rw (is, e, front) refl in
         let next : IsHistory S ns (core_step S c p) (λ r. H r ++ moves_in S p r (core_move S c p)) = history-step S ns c H p history in
         let same : H p ++ moves_in S p p (core_move S c p) ≡ H p ++ (Taken q.0 m ∷ []) = rw (x, eq-eqb p p refl) refl in
-        let prefix : IsPrefix (H p ++ (Taken q.0 m ∷ [])) (all_moves run.phases run.last p) = rw same at (confluence S ns run (core_step S c p) (λ r. H r ++ moves_in S p r (core_move S c p)) next p) in
+        let prefix : IsPrefix (H p ++ (Taken q.0 m ∷ [])) (all_moves run.phases run.last p) =
+        rw same at (confluence S ns run (core_step S c p) (λ r. H r ++ moves_in S p r (core_move S c p)) next p) in
         let r = prefix-rest (H p ++ (Taken q.0 m ∷ [])) (all_moves run.phases run.last p) prefix in
         let all : AreAwaited S b.0 (all_moves run.phases run.last p) = rw b.1 at (run-awaited run.phases run.number run.last (slice_get ns) run.run p) in
         let w : H p ++ (Taken q.0 m ∷ r.0) ≡ all_moves run.phases run.last p = sym (append_assoc (H p) (Taken q.0 m ∷ []) r.0) ∙ r.1 in

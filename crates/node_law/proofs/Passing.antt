@@ -80,18 +80,34 @@ module _ {N M : Type 0} (S : NodeSteps N M) where
         (λ q d. ap (λ (l : List N). slice_get l q) ne ∙ nodes_after_other S c.nodes p q Worked d) next
 
   -- nodes that are reached with empty queues have the same last nodes
-  pub same-end : (old new : List N) → RunsTo S (start old) (start new) → (run : Lockstep S (slice_get old)) (again : Lockstep S (slice_get new)) → (p : ℕ) → after_at S (slice_get old p) (all_moves run.phases run.last p) ≡ after_at S (slice_get new p) (all_moves again.phases again.last p)
+  pub same-end : (old new : List N) → RunsTo S (start old) (start new) → (run : Lockstep S (slice_get old)) (again : Lockstep S (slice_get new))
+      → (p : ℕ) → after_at S (slice_get old p) (all_moves run.phases run.last p) ≡ after_at S (slice_get new p) (all_moves again.phases again.last p)
   same-end old new r run again p =
       let H : ℕ → List (Move M) = made_in S (start old) r.0 in
       let A : ℕ → List (Move M) = all_moves again.phases again.last in
       let h : IsHistory S old (start new) H = subst (λ (c : CoreState N M). IsHistory S old c H) (sym r.1) (history-reached S old r.0) in
       let G : ℕ → List (Move M) = λ q. H q ++ A q in
-      let made : (q : ℕ) → AreMovesAt S (slice_get old q) (G q) = λ q. append_at S (slice_get old q) (H q) (A q) (h.made q) (rw (h.now q) at (run-made S again.phases again.number again.last (slice_get new) again.run q)) in
-      let letters : (s t : ℕ) → sent t (G s) ≡ taken s (G t) = λ s t. rw (sent-append t (H s) (A s), taken-append s (H t) (A t), h.letters s t, append-nil (taken s (H t)), run-letters S again.phases again.number again.last (slice_get new) again.run s t) refl in
+      let made : (q : ℕ) → AreMovesAt S (slice_get old q) (G q) =
+      λ q.
+      append_at S (slice_get old q) (H q) (A q) (h.made q)
+      (rw (h.now q) at (run-made S again.phases again.number again.last (slice_get new) again.run q)) in
+      let letters : (s t : ℕ) → sent t (G s) ≡ taken s (G t) =
+      λ s t.
+      rw (
+        sent-append t (H s) (A s),
+        taken-append s (H t) (A t),
+        h.letters s t,
+        append-nil (taken s (H t)),
+        run-letters S again.phases again.number again.last (slice_get new) again.run s t,
+      ) refl in
       let prefix : IsPrefix (G p) (all_moves run.phases run.last p) = law_of_prefixes S (slice_get old) run G made (λ s t. rw (letters s t) (prefix-refl (taken s (G t)))) p in
-      let on : after_at S (slice_get old p) (G p) ≡ after_at S (slice_get new p) (A p) = after_at-append S (slice_get old p) (H p) (A p) ∙ ap (λ (o : Option N). after_at S o (A p)) (sym (h.now p)) in
+      let on : after_at S (slice_get old p) (G p) ≡ after_at S (slice_get new p) (A p) =
+      after_at-append S (slice_get old p) (H p) (A p) ∙ ap (λ (o : Option N). after_at S o (A p)) (sym (h.now p)) in
       let done : IsDoneAt S (after_at S (slice_get old p) (G p)) = rw on (run-done S again.phases again.number again.last (slice_get new) again.run p) in
-      ap (after_at S (slice_get old p)) (sym (done-whole_at S (slice_get old p) (G p) (all_moves run.phases run.last p) (made p) (run-made S run.phases run.number run.last (slice_get old) run.run p) done prefix)) ∙ on
+      ap (after_at S (slice_get old p))
+      (sym
+      (done-whole_at S (slice_get old p) (G p) (all_moves run.phases run.last p) (made p)
+      (run-made S run.phases run.number run.last (slice_get old) run.run p) done prefix)) ∙ on
 
 module _ {N M : Type 0} (S : NodeSteps N M) (n : ℕ) where
   nodes-same : (ns : List N) (p : ℕ) (x : Move M) → nodes_after (only_phase S n) ns p x ≡ nodes_after S ns p x
@@ -104,10 +120,12 @@ module _ {N M : Type 0} (S : NodeSteps N M) (n : ℕ) where
   moved-same c p (Some x) = ap (λ (l : List N). let y : CoreState N M = record { nodes = l; queue = queue_after c.queue p x } in y) (nodes-same c.nodes p x)
 
   -- a core step of a node at the number is one of the phase alone
-  pub alone-on : (c d e : CoreState N M) (p : ℕ) (a : N) (stepped : Stepped) → RunsTo (only_phase S n) c d → slice_get d.nodes p ≡ Some a → S.phase a ≡ n → IsStep S d p stepped e → RunsTo (only_phase S n) c e
+  pub alone-on : (c d e : CoreState N M) (p : ℕ) (a : N) (stepped : Stepped) → RunsTo (only_phase S n) c d → slice_get d.nodes p ≡ Some a
+      → S.phase a ≡ n → IsStep S d p stepped e → RunsTo (only_phase S n) c e
   alone-on c d e p a stepped r is at step = (
     r.0 ++ (p ∷ []),
-    step.leads ∙ sym (moved-same d p (core_move S d p)) ∙ sym (ap (moved (only_phase S n) d p) (step-inside S n d p a is at)) ∙ ap (λ (x : CoreState N M). core_step (only_phase S n) x p) r.1 ∙ sym (run-append (only_phase S n) r.0 (p ∷ []) c),
+    step.leads ∙ sym (moved-same d p (core_move S d p)) ∙ sym (ap (moved (only_phase S n) d p) (step-inside S n d p a is at))
+        ∙ ap (λ (x : CoreState N M). core_step (only_phase S n) x p) r.1 ∙ sym (run-append (only_phase S n) r.0 (p ∷ []) c),
   )
 
   no-work : (h all : List (Move M)) → HasNoWork all → IsPrefix (h ++ (Worked ∷ [])) all → ⊥
@@ -142,7 +160,8 @@ module _ {N M : Type 0} (S : NodeSteps N M) (n : ℕ) where
         go (Taken q m) b does = let k = sym does ∙ inside S n a e ∙ local in cc
 
     -- where none of its nodes can make a move in the phase, all have passed it
-    pub all-passed : ((p : ℕ) (a : N) → slice_get c.nodes p ≡ Some a → S.phase a ≡ n → S.act a ≢ Local → ¬ IsEnabled S c p) → (p : ℕ) → IsDoneAt (only_phase S n) (slice_get c.nodes p)
+    pub all-passed : ((p : ℕ) (a : N) → slice_get c.nodes p ≡ Some a → S.phase a ≡ n → S.act a ≢ Local → ¬ IsEnabled S c p) → (p : ℕ)
+        → IsDoneAt (only_phase S n) (slice_get c.nodes p)
     all-passed none = elim (never_stuck (only_phase S n) ns w.alone c H history) [ inl done ↦ done | inr some ↦ absurd (stuck some.0 some.1 (slice_get c.nodes some.0) refl) ]
       where
         clash : (o : Option (Move M)) → o ≡ None → is_some o ≡ true → ⊥

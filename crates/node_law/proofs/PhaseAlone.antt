@@ -71,7 +71,13 @@ module _ {N M : Type 0} (S : NodeSteps N M) (n : ℕ) where
 
   pub share-ends : (o : Option N) (share : PhaseShare M) → IsShareAt S n o share → IsEndAt only_phase (after_at only_phase o (moves share)) []
   share-ends None share h = refl
-  share-ends (Some a) share h = (tt, tt, tt, outside (after_all only_phase a (moves share)) (λ e. number-turns n (sym e ∙ ap S.phase (all-same a (moves share)) ∙ turned a (moves share) h.number)))
+  share-ends (Some a) share h = (
+    tt,
+    tt,
+    tt,
+    outside (after_all only_phase a (moves share))
+        (λ e. number-turns n (sym e ∙ ap S.phase (all-same a (moves share)) ∙ turned a (moves share) h.number)),
+  )
 
   -- one phase alone
   unfoldable pub phase-alone : (ns : ℕ → Option N) (shares : ℕ → PhaseShare M) → IsPhase S n ns shares → Lockstep only_phase ns
@@ -90,15 +96,19 @@ module _ {N M : Type 0} (S : NodeSteps N M) (n : ℕ) where
   after_at-same (Some a) xs = ap Some (all-same a xs)
 
   -- where the phase alone is finished, whatever the order, each node has made its moves of it and no letter is left
-  pub phase-passed : (ns : List N) (run : Lockstep only_phase (slice_get ns)) (choices : List ℕ) (c : CoreState N M) → c ≡ core_run only_phase (start ns) choices → ((p : ℕ) → IsDoneAt only_phase (slice_get c.nodes p)) → ((p : ℕ) → slice_get c.nodes p ≡ after_at S (slice_get ns p) (all_moves run.phases run.last p)) × ((p q : ℕ) → c.queue p q ≡ [])
+  pub phase-passed : (ns : List N) (run : Lockstep only_phase (slice_get ns)) (choices : List ℕ) (c : CoreState N M)
+      → c ≡ core_run only_phase (start ns) choices → ((p : ℕ) → IsDoneAt only_phase (slice_get c.nodes p))
+      → ((p : ℕ) → slice_get c.nodes p ≡ after_at S (slice_get ns p) (all_moves run.phases run.last p)) × ((p q : ℕ) → c.queue p q ≡ [])
   phase-passed ns run choices c e done =
       let w : IsReached only_phase c = record { from = ns; run = run; choices = choices; is = e } in
       let history = history-is only_phase c w in
       let all : (p : ℕ) → made_in only_phase (start ns) choices p ≡ all_moves run.phases run.last p = λ p. done-all only_phase c w p (done p) in (
         λ p. history.now p ∙ ap (after_at only_phase (slice_get ns p)) (all p) ∙ after_at-same (slice_get ns p) (all_moves run.phases run.last p),
         λ p q.
-            let m : sent q (made_in only_phase (start ns) choices p) ≡ taken p (made_in only_phase (start ns) choices q) = rw (all p, all q) (run-letters only_phase run.phases run.number run.last (slice_get ns) run.run p q) in
-            empty (c.queue p q) (let l : length (taken p (made_in only_phase (start ns) choices q)) ≡ length (taken p (made_in only_phase (start ns) choices q)) + length (c.queue p q) =
+            let m : sent q (made_in only_phase (start ns) choices p) ≡ taken p (made_in only_phase (start ns) choices q) =
+            rw (all p, all q) (run-letters only_phase run.phases run.number run.last (slice_get ns) run.run p q) in
+            empty (c.queue p q) (let l : length (taken p (made_in only_phase (start ns) choices q)) ≡ length
+            (taken p (made_in only_phase (start ns) choices q)) + length (c.queue p q) =
             ap length (sym m ∙ history.letters p q) ∙ length-append (taken p (made_in only_phase (start ns) choices q)) (c.queue p q) in omega arith),
       )
     where

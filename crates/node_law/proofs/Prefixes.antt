@@ -116,7 +116,8 @@ module _ {N M : Type 0} (S : NodeSteps N M) where
       let hy1 : AreMovesOf S (S.after_take m a) ys = rw (← f) at hy.1 in
       (cc, moves-comparable (S.after_take m a) xs ys hx.1 hy1 (λ p. comparable-rest (q == p) m n (taken p xs) (taken p ys) (k p)))
 
-  pub moves-comparable_at : (o : Option N) (xs ys : List (Move M)) → AreMovesAt S o xs → AreMovesAt S o ys → ((p : ℕ) → AreComparable (taken p xs) (taken p ys)) → AreComparable xs ys
+  pub moves-comparable_at : (o : Option N) (xs ys : List (Move M)) → AreMovesAt S o xs → AreMovesAt S o ys
+      → ((p : ℕ) → AreComparable (taken p xs) (taken p ys)) → AreComparable xs ys
   moves-comparable_at None xs ys hx hy h = rw hx tt
   moves-comparable_at (Some a) xs ys hx hy h = moves-comparable a xs ys hx hy h
 

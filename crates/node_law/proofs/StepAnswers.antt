@@ -25,7 +25,8 @@ module _ {N M : Type 0} (S : NodeSteps N M) where
   tail-fits [] h = h
   tail-fits (x ∷ xs) h = omega arith
 
-  fits-moved : (c : CoreState N M) (p : ℕ) (o : Option (Move M)) → core_move S c p ≡ o → ((s t : ℕ) → length (c.queue s t) ≤ capacity) → (s t : ℕ) → length ((moved S c p o).queue s t) ≤ capacity
+  fits-moved : (c : CoreState N M) (p : ℕ) (o : Option (Move M)) → core_move S c p ≡ o → ((s t : ℕ) → length (c.queue s t) ≤ capacity) → (s t : ℕ)
+      → length ((moved S c p o).queue s t) ≤ capacity
   fits-moved c p None e h s t = h s t
   fits-moved c p (Some x) e h s t = go x (can-move S c p x e).room
     where
@@ -59,7 +60,8 @@ module _ {N M : Type 0} (S : NodeSteps N M) where
         ∙ answer-of a (move_by S c.queue p a (S.act a))
         ∙ ap (λ (t : Act). answer_of t (move_by S c.queue p a t)) e
 
-    full : (q : ℕ) (m : M) (b : Bool) → nat_lt (length (c.queue p q)) capacity ≡ b → length (c.queue p q) ≤ capacity → NotReady ≡ answer_of (Send (record { 0 = q })) (if b then Some (Sent q m) else None) → length (c.queue p q) ≡ capacity
+    full : (q : ℕ) (m : M) (b : Bool) → nat_lt (length (c.queue p q)) capacity ≡ b → length (c.queue p q) ≤ capacity
+        → NotReady ≡ answer_of (Send (record { 0 = q })) (if b then Some (Sent q m) else None) → length (c.queue p q) ≡ capacity
     full q m true e fits h = cc
     full q m false e fits h = let k = ltb-false (length (c.queue p q)) capacity e in omega arith
 
@@ -67,7 +69,8 @@ module _ {N M : Type 0} (S : NodeSteps N M) where
     empty q [] h = refl
     empty q (m ∷ letters) h = cc
 
-    waits : ((s t : ℕ) → length (c.queue s t) ≤ capacity) → (a : N) → slice_get c.nodes p ≡ Some a → (act : Act) → S.act a ≡ act → NotReady ≡ answer_of act (move_by S c.queue p a act) → IsWaiting S c p
+    waits : ((s t : ℕ) → length (c.queue s t) ≤ capacity) → (a : N) → slice_get c.nodes p ≡ Some a → (act : Act) → S.act a ≡ act
+        → NotReady ≡ answer_of act (move_by S c.queue p a act) → IsWaiting S c p
     waits fits a is Local e h = cc
     waits fits a is (Send q) e h = inl (q, (a, is, e), full q.0 (S.letter a) (nat_lt (length (c.queue p q.0)) capacity) refl (fits p q.0) h)
     waits fits a is (Take q) e h = inr (q, (a, is, e), empty q.0 (c.queue q.0 p) h)

@@ -13,7 +13,8 @@ use Rattle.node_law.proofs.NeverStuck.{confluence, sent-longer, taken-longer, en
 use Rattle.node_law.proofs.NextMove.{run-letters, next-move}
 
 module _ {N M : Type 0} (S : NodeSteps N M) where
-  run-to_others : (phases : List (ℕ → PhaseShare M)) (n : ℕ) (last : ℕ → List (Move M)) (ms : ℕ → Option N) → IsLockstep S n ms phases last → (p : ℕ) → sent p (all_moves phases last p) ≡ []
+  run-to_others : (phases : List (ℕ → PhaseShare M)) (n : ℕ) (last : ℕ → List (Move M)) (ms : ℕ → Option N) → IsLockstep S n ms phases last → (p : ℕ)
+      → sent p (all_moves phases last p) ≡ []
   run-to_others [] n last ms h p = end-sent S (ms p) (last p) p (h p)
   run-to_others (shares ∷ phases) n last ms h p =
       let f : ShareFacts S (ms p) (shares p) = share-facts S n (ms p) (shares p) (h.0.each p) in

@@ -19,7 +19,8 @@ HasNoWork (Taken q m ∷ xs) = HasNoWork xs
 
 module _ {N M : Type 0} (S : NodeSteps N M) where
   -- a node whose act is Local in the phase has a local step in front
-  first-local : (n : ℕ) (a : N) (front back : List (Move M)) → IsShare S n a (record { front = front; back = back }) → S.act a ≡ Local → S.phase a ≡ n → (f : List (Move M)) × (front ≡ Worked ∷ f)
+  first-local : (n : ℕ) (a : N) (front back : List (Move M)) → IsShare S n a (record { front = front; back = back }) → S.act a ≡ Local → S.phase a ≡ n
+      → (f : List (Move M)) × (front ≡ Worked ∷ f)
   first-local n a [] [] h act e = absurd (number-turns n (sym e ∙ h.number))
   first-local n a [] (Worked ∷ back) h act e = absurd h.back
   first-local n a [] (Sent q m ∷ back) h act e = absurd h.back
@@ -28,16 +29,19 @@ module _ {N M : Type 0} (S : NodeSteps N M) where
   first-local n a (Sent q m ∷ f) back h act e = let k = h.made.0.0 in cc
   first-local n a (Taken q m ∷ f) back h act e = absurd h.front
 
-  same-rest : (n : ℕ) (phases : List (ℕ → PhaseShare M)) (last : ℕ → List (Move M)) (F G : ℕ → Option N) → ((p : ℕ) → F p ≡ G p) → IsLockstep S n F phases last → IsLockstep S n G phases last
+  same-rest : (n : ℕ) (phases : List (ℕ → PhaseShare M)) (last : ℕ → List (Move M)) (F G : ℕ → Option N) → ((p : ℕ) → F p ≡ G p)
+      → IsLockstep S n F phases last → IsLockstep S n G phases last
   same-rest n phases last F G e h = subst (λ (K : ℕ → Option N). IsLockstep S n K phases last) (fun_ext e) h
 
   -- a local step in the phase leaves the phase under way, with the same rest
-  pub local-under_way : (n : ℕ) (ns ms : ℕ → Option N) (p : ℕ) (a : N) → ns p ≡ Some a → S.act a ≡ Local → S.phase a ≡ n → ms p ≡ Some (S.after_local a) → ((q : ℕ) → p ≢ q → ms q ≡ ns q) → UnderWay S n ns → UnderWay S n ms
+  pub local-under_way : (n : ℕ) (ns ms : ℕ → Option N) (p : ℕ) (a : N) → ns p ≡ Some a → S.act a ≡ Local → S.phase a ≡ n
+      → ms p ≡ Some (S.after_local a) → ((q : ℕ) → p ≢ q → ms q ≡ ns q) → UnderWay S n ns → UnderWay S n ms
   local-under_way n ns ms p a is act e new same u =
       let here : IsShare S n a (u.shares p) = rw is at (u.each p) in
       let f = first-local n a (u.shares p).front (u.shares p).back here act e in
       let P : PhaseShare M = record { front = f.0; back = (u.shares p).back } in
-      let whole : IsShare S n a (record { front = Worked ∷ f.0; back = (u.shares p).back }) = subst (λ (l : List (Move M)). IsShare S n a (record { front = l; back = (u.shares p).back })) f.1 here in
+      let whole : IsShare S n a (record { front = Worked ∷ f.0; back = (u.shares p).back }) =
+      subst (λ (l : List (Move M)). IsShare S n a (record { front = l; back = (u.shares p).back })) f.1 here in
       let left : IsShare S n (S.after_local a) P = record { made = whole.made.1; front = whole.front; back = whole.back; number = whole.number.1; awaited = whole.awaited } in
       let new_shares : ℕ → PhaseShare M = λ q. if p == q then P else u.shares q in
       let fronts : (s t : ℕ) → sent t (new_shares s).front ≡ sent t (u.shares s).front = λ s t. elim (eqb_tells p s) [
@@ -98,7 +102,8 @@ module _ {N M : Type 0} (S : NodeSteps N M) where
   end-local a (Taken q m ∷ xs) h act = absurd h.1
 
   -- a local step in the phase keeps that it is the next one
-  pub local-next : (n : ℕ) (ns ms : ℕ → Option N) (p : ℕ) (a : N) → ns p ≡ Some a → S.act a ≡ Local → S.phase a ≡ n → ms p ≡ Some (S.after_local a) → ((q : ℕ) → p ≢ q → ms q ≡ ns q) → IsNextPhase S n ns → IsNextPhase S n ms
+  pub local-next : (n : ℕ) (ns ms : ℕ → Option N) (p : ℕ) (a : N) → ns p ≡ Some a → S.act a ≡ Local → S.phase a ≡ n → ms p ≡ Some (S.after_local a)
+      → ((q : ℕ) → p ≢ q → ms q ≡ ns q) → IsNextPhase S n ns → IsNextPhase S n ms
   local-next n ns ms p a is act e new same (inl u) = inl (local-under_way n ns ms p a is act e new same u)
   local-next n ns ms p a is act e new same (inr end) =
       let here = end-local a (end.0 p) (rw is at (end.1 p)) act in
@@ -177,7 +182,8 @@ module _ {N M : Type 0} (S : NodeSteps N M) where
   sends-no-work least (Sent q m ∷ xs) ys h k = sends-no-work (q + 1) xs ys h.1 k
   sends-no-work least (Taken q m ∷ xs) ys h k = absurd h
 
-  share-no-work : (n : ℕ) (o : Option N) (front back : List (Move M)) → IsShareAt S n o (record { front = front; back = back }) → ((a : N) → o ≡ Some a → S.phase a ≡ n → S.act a ≢ Local) → HasNoWork (front ++ back)
+  share-no-work : (n : ℕ) (o : Option N) (front back : List (Move M)) → IsShareAt S n o (record { front = front; back = back })
+      → ((a : N) → o ≡ Some a → S.phase a ≡ n → S.act a ≢ Local) → HasNoWork (front ++ back)
   share-no-work n None front back h d = rw h tt
   share-no-work n (Some a) [] back h d = takes-no-work 0 back h.back
   share-no-work n (Some a) (Worked ∷ front) back h d = absurd (d a refl h.number.0 h.made.0)
@@ -203,7 +209,9 @@ module _ {N M : Type 0} (S : NodeSteps N M) where
                 number = next_number n;
                 phases = u.phases;
                 last = u.last;
-                run = same-rest (next_number n) u.phases u.last (λ p. after_at S (slice_get ns p) (moves (u.shares p))) (λ p. after_at S (slice_get ns p) (moves (u.shares p) ++ [])) (λ p. rw append-nil refl) u.rest;
+                run =
+                    same-rest (next_number n) u.phases u.last (λ p. after_at S (slice_get ns p) (moves (u.shares p)))
+                    (λ p. after_at S (slice_get ns p) (moves (u.shares p) ++ [])) (λ p. rw append-nil refl) u.rest;
               };
             })
         | inr none ↦ still n (slice_get ns) (λ p a is e. absurd (none p a is e)) (over-phased n (slice_get ns) none u)

@@ -131,10 +131,10 @@ module _ {M : Type 0} where
   begun_by steps shares p = record { front = steps p ++ (shares p).front; back = (shares p).back }
 
   -- the phases of two segments one after the other: the local steps after the first segment open the next phase
-  abbrev pub joined : List (ℕ → PhaseShare M) → (ℕ → List (Move M)) → List (ℕ → PhaseShare M) → List (ℕ → PhaseShare M)
-  joined [] between [] = []
-  joined [] between (shares ∷ rest) = begun_by between shares ∷ rest
-  joined (first ∷ phases) between second = first ∷ joined phases between second
+  abbrev pub joined_phases : List (ℕ → PhaseShare M) → (ℕ → List (Move M)) → List (ℕ → PhaseShare M) → List (ℕ → PhaseShare M)
+  joined_phases [] between [] = []
+  joined_phases [] between (shares ∷ rest) = begun_by between shares ∷ rest
+  joined_phases (first ∷ phases) between second = first ∷ joined_phases phases between second
 
   -- the local steps after two segments: where the second has no phase, those after the first come before its own
   abbrev pub joined_last : (ℕ → List (Move M)) → List (ℕ → PhaseShare M) → (ℕ → List (Move M)) → ℕ → List (Move M)

@@ -5,4 +5,5 @@ pub returns-clause-finishes : goal.returns-clause-finishes
 returns-clause-finishes g c interpretation names written start row n parts items free enough = nest_finishes interpretation names written start row n items free parts enough
 
 pub returns-clause-faults : goal.returns-clause-faults
-returns-clause-faults g c interpretation names written start row n parts items i j fault free enough = nest_faults interpretation names written start row n items free parts enough i j fault
+returns-clause-faults g c interpretation names written start row n parts items i j fault free enough =
+    nest_faults interpretation names written start row n items free parts enough i j fault
