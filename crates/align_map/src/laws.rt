@@ -9,5 +9,6 @@ ghost use Rattle.hpf_base.specs.declared.mapping.Mapping.{Mapping};
 /// exactly where it owns, by the target's mapping, what the element is aligned with. A subscript that is `*` stays
 /// one (HPF 2.0, ALIGN).
 pub fn composed_owners()
-    ensures { (target : Mapping) (align : List AlignDim) (subscripts : List (Option ℤ)) (node : ℕ) → owns_at (composed target align) subscripts node ≡ owns_at target (map (λ entry. aligned entry subscripts) align) node }
+    ensures { (target : Mapping) (align : List AlignDim) (subscripts : List (Option ℤ)) (node : ℕ)
+        → owns_at (composed target align) subscripts node ≡ owns_at target (map (λ entry. aligned entry subscripts) align) node }
 {}

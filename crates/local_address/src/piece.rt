@@ -68,7 +68,8 @@ impl Piece {
     /// The element's local address, from 0; None exactly where the node doesn't own it. It takes no memory.
     pub fn address(&self, index: &Index) -> Option<usize>
         ensures address { (address : ℕ) → (result ≡ Some address) ↔ (slice_get self.now address ≡ Some index.now) }
-        ensures none { (mapping : Mapping) (shape : Shape) (node : ℕ) → self.now ≡ local_elements mapping shape node → IsShape shape → IsInside shape index.now → (IsNone result ↔ (owns mapping index.now node ≡ false)) }
+        ensures none { (mapping : Mapping) (shape : Shape) (node : ℕ) → self.now ≡ local_elements mapping shape node
+            → IsShape shape → IsInside shape index.now → (IsNone result ↔ (owns mapping index.now node ≡ false)) }
     {
         for (address, element) in self.elements.iter().enumerate() {
             if is_same(element, index) {

@@ -37,7 +37,8 @@ index-same n p q s t hq ht e =
       ]
     ]
 
-pub pair_queue-set : {M : Type 0} (n : ℕ) (queues : List (List M)) (p q : ℕ) (v : List M) → length queues ≡ n * n → p < n → q < n → pair_queue n (set queues (p * n + q) v) ≡ put (pair_queue n queues) p q v
+pub pair_queue-set : {M : Type 0} (n : ℕ) (queues : List (List M)) (p q : ℕ) (v : List M) → length queues ≡ n * n → p < n → q < n
+    → pair_queue n (set queues (p * n + q) v) ≡ put (pair_queue n queues) p q v
 pair_queue-set {M} n queues p q v e hp hq = fun_ext (λ s. fun_ext (λ t. at s t))
   where
     at : (s t : ℕ) → pair_queue n (set queues (p * n + q) v) s t ≡ put (pair_queue n queues) p q v s t
@@ -68,7 +69,8 @@ module _ {N M : Type 0} (S : NodeSteps N M) where
   nodes_after-set (b ∷ ns) zero x a h = let e : b ≡ a = cc in rw e refl
   nodes_after-set (b ∷ ns) (suc p) x a h = ap (λ (l : List N). b ∷ l) (nodes_after-set ns p x a h)
 
-  core-same : (ns ms : List N) (f g : ℕ → ℕ → List M) → ns ≡ ms → f ≡ g → (let x : CoreState N M = record { nodes = ns; queue = f } in let y : CoreState N M = record { nodes = ms; queue = g } in x ≡ y)
+  core-same : (ns ms : List N) (f g : ℕ → ℕ → List M) → ns ≡ ms → f ≡ g
+      → (let x : CoreState N M = record { nodes = ns; queue = f } in let y : CoreState N M = record { nodes = ms; queue = g } in x ≡ y)
   core-same ns ms f g e h =
       ap (λ (l : List N). let x : CoreState N M = record { nodes = l; queue = f } in x) e
       ∙ ap (λ (k : ℕ → ℕ → List M). let x : CoreState N M = record { nodes = ms; queue = k } in x) h
@@ -80,7 +82,8 @@ module _ {N M : Type 0} (S : NodeSteps N M) where
       pub step : IsStep S (core_of c) p stepped (core_of d)
       pub core : IsCore S d
 
-    kept : (stepped : Stepped) (d : CoreLists N M) → length d.nodes ≡ length c.nodes → length d.queues ≡ length c.queues → IsStep S (core_of c) p stepped (core_of d) → StepTo stepped d
+    kept : (stepped : Stepped) (d : CoreLists N M) → length d.nodes ≡ length c.nodes → length d.queues ≡ length c.queues
+        → IsStep S (core_of c) p stepped (core_of d) → StepTo stepped d
     kept stepped d ln lq step = record {
       step = step;
       core = record {
@@ -109,7 +112,9 @@ module _ {N M : Type 0} (S : NodeSteps N M) where
 
     history : IsHistory S ok.reached.from (core_of c) H
     unfolding H
-    history = subst (λ (d : CoreState N M). IsHistory S ok.reached.from d (made_in S (start ok.reached.from) ok.reached.choices)) (sym ok.reached.is) (history-reached S ok.reached.from ok.reached.choices)
+    history =
+        subst (λ (d : CoreState N M). IsHistory S ok.reached.from d (made_in S (start ok.reached.from) ok.reached.choices)) (sym ok.reached.is)
+        (history-reached S ok.reached.from ok.reached.choices)
 
     target : (q : NodeId) → S.act a ≡ Send q → q.0 < length c.nodes
     target q act = target-in S ok.reached.from ok.reached.run (core_of c) H history p a q is act
@@ -131,32 +136,46 @@ module _ {N M : Type 0} (S : NodeSteps N M) where
     awaited-index q m letters act f = awaited-in S ok.reached.from ok.reached.run (core_of c) H history p a q m letters is act (read q.0 p index-p ∙ f)
 
     -- the core after changes at the places of p and of a pair
-    changed : (b : N) (s t : ℕ) (letters : List M) (x : Move M) → s < length c.nodes → t < length c.nodes → b ≡ node_after S a x → put (pair_queue (length c.nodes) c.queues) s t letters ≡ queue_after (pair_queue (length c.nodes) c.queues) p x → core_move S (core_of c) p ≡ Some x → core_of (record { nodes = set c.nodes p b; queues = set c.queues (s * length c.nodes + t) letters }) ≡ core_step S (core_of c) p
+    changed : (b : N) (s t : ℕ) (letters : List M) (x : Move M) → s < length c.nodes → t < length c.nodes → b ≡ node_after S a x
+        → put (pair_queue (length c.nodes) c.queues) s t letters ≡ queue_after (pair_queue (length c.nodes) c.queues) p x
+        → core_move S (core_of c) p ≡ Some x
+        → core_of (record { nodes = set c.nodes p b; queues = set c.queues (s * length c.nodes + t) letters }) ≡ core_step S (core_of c) p
     changed b s t letters x ls lt e f move =
-        core-same (set c.nodes p b) (nodes_after S c.nodes p x) (pair_queue (length (set c.nodes p b)) (set c.queues (s * length c.nodes + t) letters)) (queue_after (pair_queue (length c.nodes) c.queues) p x)
+        core-same (set c.nodes p b) (nodes_after S c.nodes p x)
+        (pair_queue (length (set c.nodes p b)) (set c.queues (s * length c.nodes + t) letters))
+        (queue_after (pair_queue (length c.nodes) c.queues) p x)
         (rw e (sym (nodes_after-set c.nodes p x a is)))
         (rw (length-set c.nodes p b) (pair_queue-set (length c.nodes) c.queues s t letters ok.pairs ls lt ∙ f))
         ∙ ap (moved S (core_of c) p) (sym move)
 
-    pub send-step : (b : N) (q : NodeId) (letters : List M) → S.act a ≡ Send q → b ≡ S.after_send a → letters ≡ get_or c.queues (p * length c.nodes + q.0) [] ++ (S.letter a ∷ []) → length (get_or c.queues (p * length c.nodes + q.0) []) < capacity → StepTo Moved (record { nodes = set c.nodes p b; queues = set c.queues (p * length c.nodes + q.0) letters })
+    pub send-step : (b : N) (q : NodeId) (letters : List M) → S.act a ≡ Send q → b ≡ S.after_send a
+        → letters ≡ get_or c.queues (p * length c.nodes + q.0) [] ++ (S.letter a ∷ [])
+        → length (get_or c.queues (p * length c.nodes + q.0) []) < capacity
+        → StepTo Moved (record { nodes = set c.nodes p b; queues = set c.queues (p * length c.nodes + q.0) letters })
     send-step b q letters act e f room =
         let x : Move M = Sent q.0 (S.letter a) in
         let r : pair_queue (length c.nodes) c.queues p q.0 ≡ get_or c.queues (p * length c.nodes + q.0) [] = read p q.0 (target q act) in
         let lt : length (pair_queue (length c.nodes) c.queues p q.0) < capacity = subst (λ (l : List M). length l < capacity) (sym r) room in
-        let move : core_move S (core_of c) p ≡ Some x = move-at is act ∙ ap (λ (t : Bool). if t then Some x else None) (lt-ltb (length (pair_queue (length c.nodes) c.queues p q.0)) capacity lt) in
+        let move : core_move S (core_of c) p ≡ Some x =
+        move-at is act
+        ∙ ap (λ (t : Bool). if t then Some x else None) (lt-ltb (length (pair_queue (length c.nodes) c.queues p q.0)) capacity lt) in
         let letters_are : letters ≡ pair_queue (length c.nodes) c.queues p q.0 ++ (S.letter a ∷ []) = f ∙ ap (λ (l : List M). l ++ (S.letter a ∷ [])) (sym r) in
-        kept Moved (record { nodes = set c.nodes p b; queues = set c.queues (p * length c.nodes + q.0) letters }) (length-set c.nodes p b) (length-set c.queues (p * length c.nodes + q.0) letters)
+        kept Moved (record { nodes = set c.nodes p b; queues = set c.queues (p * length c.nodes + q.0) letters }) (length-set c.nodes p b)
+        (length-set c.queues (p * length c.nodes + q.0) letters)
         (record {
           leads = changed b p q.0 letters x index-p (target q act) e (ap (put (pair_queue (length c.nodes) c.queues) p q.0) letters_are) move;
           answers = sym (ap (answer_by S (slice_get c.nodes p)) move);
         })
 
-    pub take-step : (b : N) (q : NodeId) (m : M) (letters : List M) → S.act a ≡ Take q → b ≡ S.after_take m a → get_or c.queues (q.0 * length c.nodes + p) [] ≡ m ∷ letters → StepTo Moved (record { nodes = set c.nodes p b; queues = set c.queues (q.0 * length c.nodes + p) letters })
+    pub take-step : (b : N) (q : NodeId) (m : M) (letters : List M) → S.act a ≡ Take q → b ≡ S.after_take m a
+        → get_or c.queues (q.0 * length c.nodes + p) [] ≡ m ∷ letters
+        → StepTo Moved (record { nodes = set c.nodes p b; queues = set c.queues (q.0 * length c.nodes + p) letters })
     take-step b q m letters act e f =
         let x : Move M = Taken q.0 m in
         let r : pair_queue (length c.nodes) c.queues q.0 p ≡ m ∷ letters = read q.0 p index-p ∙ f in
         let move : core_move S (core_of c) p ≡ Some x = move-at is act ∙ ap (take_of S q.0) r in
-        kept Moved (record { nodes = set c.nodes p b; queues = set c.queues (q.0 * length c.nodes + p) letters }) (length-set c.nodes p b) (length-set c.queues (q.0 * length c.nodes + p) letters)
+        kept Moved (record { nodes = set c.nodes p b; queues = set c.queues (q.0 * length c.nodes + p) letters }) (length-set c.nodes p b)
+        (length-set c.queues (q.0 * length c.nodes + p) letters)
         (record {
           leads = changed b q.0 p letters x (source q act) index-p e (ap (λ (l : List M). put (pair_queue (length c.nodes) c.queues) q.0 p (tail l)) (sym r)) move;
           answers = sym (ap (answer_by S (slice_get c.nodes p)) move);
@@ -172,7 +191,10 @@ module _ {N M : Type 0} (S : NodeSteps N M) where
     send-waits q act full =
         let r : pair_queue (length c.nodes) c.queues p q.0 ≡ get_or c.queues (p * length c.nodes + q.0) [] = read p q.0 (target q act) in
         let ge : capacity ≤ length (pair_queue (length c.nodes) c.queues p q.0) = subst (λ (l : List M). capacity ≤ length l) (sym r) (omega arith) in
-        let move : core_move S (core_of c) p ≡ None = move-at is act ∙ ap (λ (t : Bool). if t then Some (Sent q.0 (S.letter a)) else None) (le-ltb (length (pair_queue (length c.nodes) c.queues p q.0)) capacity ge) in
+        let move : core_move S (core_of c) p ≡ None =
+        move-at is act
+        ∙ ap (λ (t : Bool). if t then Some (Sent q.0 (S.letter a)) else None)
+        (le-ltb (length (pair_queue (length c.nodes) c.queues p q.0)) capacity ge) in
         stays (Send q) act NotReady refl move
 
     pub take-waits : (q : NodeId) → S.act a ≡ Take q → length (get_or c.queues (q.0 * length c.nodes + p) []) ≡ 0 → IsStep S (core_of c) p NotReady (core_of c)
@@ -194,15 +216,18 @@ module _ {N M : Type 0} (S : NodeSteps N M) where
     pub done-enabled : S.act a ≡ Done → is_some (core_move S (core_of c) p) ≡ false
     done-enabled act = ap is_some (move-at is act)
 
-    pub send-enabled : (q : NodeId) (b : Bool) → S.act a ≡ Send q → nat_lt (length (get_or c.queues (p * length c.nodes + q.0) [])) capacity ≡ b → is_some (core_move S (core_of c) p) ≡ b
+    pub send-enabled : (q : NodeId) (b : Bool) → S.act a ≡ Send q → nat_lt (length (get_or c.queues (p * length c.nodes + q.0) [])) capacity ≡ b
+        → is_some (core_move S (core_of c) p) ≡ b
     send-enabled q b act e =
-        ap is_some (move-at is act) ∙ go (nat_lt (length (pair_queue (length c.nodes) c.queues p q.0)) capacity) ∙ ap (λ (l : List M). nat_lt (length l) capacity) (read p q.0 (target q act)) ∙ e
+        ap is_some (move-at is act) ∙ go (nat_lt (length (pair_queue (length c.nodes) c.queues p q.0)) capacity)
+        ∙ ap (λ (l : List M). nat_lt (length l) capacity) (read p q.0 (target q act)) ∙ e
       where
         go : (t : Bool) → is_some (if t then Some (Sent q.0 (S.letter a)) else None) ≡ t
         go true = refl
         go false = refl
 
-    pub take-enabled : (q : NodeId) (l : List M) (b : Bool) → S.act a ≡ Take q → get_or c.queues (q.0 * length c.nodes + p) [] ≡ l → (length l == 0) ≡ b → is_some (core_move S (core_of c) p) ≡ not b
+    pub take-enabled : (q : NodeId) (l : List M) (b : Bool) → S.act a ≡ Take q → get_or c.queues (q.0 * length c.nodes + p) [] ≡ l
+        → (length l == 0) ≡ b → is_some (core_move S (core_of c) p) ≡ not b
     take-enabled q l b act e f = ap is_some (move-at is act ∙ ap (take_of S q.0) (read q.0 p index-p ∙ e)) ∙ go l b f
       where
         go : (l : List M) (b : Bool) → (length l == 0) ≡ b → is_some (take_of S q.0 l) ≡ not b

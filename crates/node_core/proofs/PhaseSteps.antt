@@ -22,7 +22,9 @@ use Rattle.node_core.proofs.Rounds.{runs-on}
 
 module _ {N M : Type 0} (S : NodeSteps N M) where
   -- no unfinished node has the number before
-  pub none-before : (ns : List N) (first : ℕ) → ((k : ℕ) (d : N) → k < length ns → S.act (get_or ns k d) ≢ Done → next_number (S.phase (get_or ns k d)) ≢ first) → (m : ℕ) → UnfinishedAt S ns m → next_number m ≢ first
+  pub none-before : (ns : List N) (first : ℕ)
+      → ((k : ℕ) (d : N) → k < length ns → S.act (get_or ns k d) ≢ Done → next_number (S.phase (get_or ns k d)) ≢ first) → (m : ℕ)
+      → UnfinishedAt S ns m → next_number m ≢ first
   none-before ns first h m (p, a, is, d, e) =
       let g : get_or ns p a ≡ a = (let k = slice_get-get_or ns p a (slice_get_within ns p a is) in cc) in
       let k = h p a (slice_get_within ns p a is) in
@@ -33,7 +35,8 @@ module _ {N M : Type 0} (S : NodeSteps N M) where
   moved-by o (Some x) stepped h e = e
 
   -- a step of an enabled node is a move, and brings the end nearer
-  step-nearer : (a b : CoreView N M) (p : ℕ) (stepped : Stepped) → IsEnabled S (state a) p → IsStep S (state a) p stepped (state b) → (stepped ≡ Moved → suc b.left ≡ a.left) → suc b.left ≡ a.left
+  step-nearer : (a b : CoreView N M) (p : ℕ) (stepped : Stepped) → IsEnabled S (state a) p → IsStep S (state a) p stepped (state b)
+      → (stepped ≡ Moved → suc b.left ≡ a.left) → suc b.left ≡ a.left
   step-nearer a b p stepped enabled step left = left (moved-by (slice_get a.lists.nodes p) (core_move S (state a) p) stepped enabled step.answers)
 
   advances-on : (i a b : CoreView N M) (p : ℕ) (stepped : Stepped) → IsStep S (state a) p stepped (state b) → suc b.left ≡ a.left → Advances S i a → Advances S i b
@@ -53,7 +56,8 @@ module _ {N M : Type 0} (S : NodeSteps N M) where
       pub next : IsNextPhase S n (slice_get a.lists.nodes)
       pub advances : Advances S i a
 
-    pub local-goes : (i a b : CoreView N M) (p : ℕ) (stepped : Stepped) → CanStep S n Steps (state a) p → IsStep S (state a) p stepped (state b) → (stepped ≡ Moved → suc b.left ≡ a.left) → LocalSteps i a → LocalSteps i b
+    pub local-goes : (i a b : CoreView N M) (p : ℕ) (stepped : Stepped) → CanStep S n Steps (state a) p → IsStep S (state a) p stepped (state b)
+        → (stepped ≡ Moved → suc b.left ≡ a.left) → LocalSteps i a → LocalSteps i b
     local-goes i a b p stepped (x, is, stage, enabled) step left h =
         let act : S.act x ≡ Local = stage.1 in
         record {
@@ -67,14 +71,16 @@ module _ {N M : Type 0} (S : NodeSteps N M) where
       pub alone : RunsTo (only_phase S n) (state i) (state a)
       pub advances : Advances S i a
 
-    pub letters-go : (i a b : CoreView N M) (p : ℕ) (stepped : Stepped) (stage : Stage) → CanStep S n stage (state a) p → IsStep S (state a) p stepped (state b) → (stepped ≡ Moved → suc b.left ≡ a.left) → Letters i a → Letters i b
+    pub letters-go : (i a b : CoreView N M) (p : ℕ) (stepped : Stepped) (stage : Stage) → CanStep S n stage (state a) p
+        → IsStep S (state a) p stepped (state b) → (stepped ≡ Moved → suc b.left ≡ a.left) → Letters i a → Letters i b
     letters-go i a b p stepped stage can step left h = record {
       alone = alone-on S n (state i) (state a) (state b) p can.0 stepped h.alone can.1 can.2.0 step;
       advances = advances-on i a b p stepped step (step-nearer a b p stepped can.3 step left) h.advances;
     }
 
     -- where no node can send or take any more, the phase is passed
-    module _ (i a : CoreView N M) (empty : state i ≡ start i.lists.nodes) (next : IsNextPhase S n (slice_get i.lists.nodes)) (none : (p : ℕ) → ¬ CanStep S n Steps (state i) p) (h : Letters i a) (over : (p : ℕ) → ¬ CanPass S n (state a) p) where
+    module _ (i a : CoreView N M) (empty : state i ≡ start i.lists.nodes) (next : IsNextPhase S n (slice_get i.lists.nodes))
+        (none : (p : ℕ) → ¬ CanStep S n Steps (state i) p) (h : Letters i a) (over : (p : ℕ) → ¬ CanPass S n (state a) p) where
       passes : Passes S n (slice_get i.lists.nodes)
       passes = next-passes S n i.lists.nodes (λ p x is e local. none p (x, is, (e, local), rw (is, local) refl)) next
 

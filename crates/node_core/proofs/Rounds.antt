@@ -50,13 +50,18 @@ module _ {N M : Type 0} (S : NodeSteps N M) where
   runs-none c d e = ([], e)
 
   -- one more choice
-  pub choices-go : (i a b : CoreState N M) (choices : List NodeId) (k : ℕ) (d : NodeId) (stepped : Stepped) → k < length choices → a ≡ core_run S i (map (λ (n : NodeId). n.0) (take k choices)) → IsStep S a (get_or choices k d).0 stepped b → b ≡ core_run S i (map (λ (n : NodeId). n.0) (take (k + 1) choices))
+  pub choices-go : (i a b : CoreState N M) (choices : List NodeId) (k : ℕ) (d : NodeId) (stepped : Stepped) → k < length choices
+      → a ≡ core_run S i (map (λ (n : NodeId). n.0) (take k choices)) → IsStep S a (get_or choices k d).0 stepped b
+      → b ≡ core_run S i (map (λ (n : NodeId). n.0) (take (k + 1) choices))
   choices-go i a b choices k d stepped lt e step =
       rw (take_more choices k d lt, map-append)
-      (step.leads ∙ ap (λ (x : CoreState N M). core_step S x (get_or choices k d).0) e ∙ sym (run-append S (map (λ (n : NodeId). n.0) (take k choices)) ((get_or choices k d).0 ∷ []) i))
+      (step.leads ∙ ap (λ (x : CoreState N M). core_step S x (get_or choices k d).0) e
+      ∙ sym (run-append S (map (λ (n : NodeId). n.0) (take k choices)) ((get_or choices k d).0 ∷ []) i))
 
   -- the choice at k wants memory
-  pub stops : {E : Type 0} (r : Result (Unit {0}) E) (i a b : CoreView N M) (choices : List NodeId) (k : ℕ) (d : NodeId) → k < length choices → state a ≡ core_run S (state i) (map (λ (n : NodeId). n.0) (take k choices)) → b ≡ a → ActsAt S a.lists.nodes (get_or choices k d).0 Local → OnErr r (StopsAt S (state i) (map (λ (n : NodeId). n.0) choices) (state b))
+  pub stops : {E : Type 0} (r : Result (Unit {0}) E) (i a b : CoreView N M) (choices : List NodeId) (k : ℕ) (d : NodeId) → k < length choices
+      → state a ≡ core_run S (state i) (map (λ (n : NodeId). n.0) (take k choices)) → b ≡ a → ActsAt S a.lists.nodes (get_or choices k d).0 Local
+      → OnErr r (StopsAt S (state i) (map (λ (n : NodeId). n.0) choices) (state b))
   stops (Ok u) i a b choices k d lt e same acts = tt
   stops (Err x) i a b choices k d lt e same acts = (
     k,
@@ -88,7 +93,9 @@ module _ {N M : Type 0} (S : NodeSteps N M) where
     nearer = inl (refl, λ k lt. absurd (omega arith));
   }
 
-  nearer-stays : (i a b : CoreView N M) (p : ℕ) (stepped : Stepped) → stepped ≢ Moved → b ≡ a → IsStep S (state a) p stepped (state b) → ((a ≡ i) × ((k : ℕ) → k < p → core_move S (state i) k ≡ None)) ⊎ (a.left < i.left) → ((b ≡ i) × ((k : ℕ) → k < p + 1 → core_move S (state i) k ≡ None)) ⊎ (b.left < i.left)
+  nearer-stays : (i a b : CoreView N M) (p : ℕ) (stepped : Stepped) → stepped ≢ Moved → b ≡ a → IsStep S (state a) p stepped (state b)
+      → ((a ≡ i) × ((k : ℕ) → k < p → core_move S (state i) k ≡ None)) ⊎ (a.left < i.left)
+      → ((b ≡ i) × ((k : ℕ) → k < p + 1 → core_move S (state i) k ≡ None)) ⊎ (b.left < i.left)
   nearer-stays i a b p stepped d e step (inl h) =
       let here : core_move S (state a) p ≡ None = no-move (slice_get a.lists.nodes p) (core_move S (state a) p) stepped d step.answers in
       let here2 : core_move S (state i) p ≡ None = subst (λ (x : CoreView N M). core_move S (state x) p ≡ None) h.0 here in
@@ -99,14 +106,16 @@ module _ {N M : Type 0} (S : NodeSteps N M) where
   nearer-moves i a b p e (inl h) = let l : a.left ≡ i.left = ap (λ (x : CoreView N M). x.left) h.0 in omega arith
   nearer-moves i a b p e (inr h) = omega arith
 
-  pub round-goes : (i a b : CoreView N M) (p : ℕ) (stepped : Stepped) → Round i a p → IsStep S (state a) p stepped (state b) → (stepped ≡ Moved → suc b.left ≡ a.left) → (stepped ≢ Moved → b ≡ a) → Round i b (p + 1)
+  pub round-goes : (i a b : CoreView N M) (p : ℕ) (stepped : Stepped) → Round i a p → IsStep S (state a) p stepped (state b)
+      → (stepped ≡ Moved → suc b.left ≡ a.left) → (stepped ≢ Moved → b ≡ a) → Round i b (p + 1)
   round-goes i a b p stepped r step left stays = record {
     same_length = step-length (state a) (state b) p stepped step ∙ r.same_length;
     runs = runs-on (state i) (state a) (state b) p stepped r.runs step;
     nearer = go stepped step left stays;
   }
     where
-      go : (t : Stepped) → IsStep S (state a) p t (state b) → (t ≡ Moved → suc b.left ≡ a.left) → (t ≢ Moved → b ≡ a) → ((b ≡ i) × ((k : ℕ) → k < p + 1 → core_move S (state i) k ≡ None)) ⊎ (b.left < i.left)
+      go : (t : Stepped) → IsStep S (state a) p t (state b) → (t ≡ Moved → suc b.left ≡ a.left) → (t ≢ Moved → b ≡ a)
+          → ((b ≡ i) × ((k : ℕ) → k < p + 1 → core_move S (state i) k ≡ None)) ⊎ (b.left < i.left)
       go Moved step left stays = inr (nearer-moves i a b p (left refl) r.nearer)
       go NotReady step left stays = nearer-stays i a b p NotReady (λ e. cc) (stays (λ e. cc)) step r.nearer
       go Ended step left stays = nearer-stays i a b p Ended (λ e. cc) (stays (λ e. cc)) step r.nearer
@@ -139,7 +148,13 @@ module _ {N M : Type 0} (S : NodeSteps N M) where
   -- a finished core that a core leads to has the last nodes of the lockstep run
   pub ends-last : (c d : CoreState N M) → RunsTo S c d → IsFinished S d → EndsInLockstep S c d.nodes
   ends-last c d r done from run before e p =
-      let w : IsReached S d = record { from = from; run = run; choices = before ++ r.0; is = r.1 ∙ ap (λ (x : CoreState N M). core_run S x r.0) e ∙ sym (run-append S before r.0 (start from)) } in
+      let w : IsReached S d =
+      record {
+        from = from;
+        run = run;
+        choices = before ++ r.0;
+        is = r.1 ∙ ap (λ (x : CoreState N M). core_run S x r.0) e ∙ sym (run-append S before r.0 (start from));
+      } in
       let all : made_in S (start from) (before ++ r.0) p ≡ all_moves run.phases run.last p = done-all S d w p (done-at S d.nodes done p) in
       (history-is S d w).now p ∙ ap (after_at S (slice_get from p)) all
 

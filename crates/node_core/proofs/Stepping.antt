@@ -46,28 +46,35 @@ module _ {N M : Type 0} {S : NodeSteps N M} {K : CoreLists N M} {self : CoreStat
     pub source-fits : (n : ℕ) (q : NodeId) → n ≡ length K.nodes → S.act a ≡ Take q → q.0 * n + p < length K.queues
     source-fits n q e act = rw e (source-index S K ok p a (is-node a at) q act)
 
-    pub local-done : (b d : N) → S.act a ≡ Local → b ≡ get_or K.nodes p b → d ≡ S.after_local b → StepTo S K ok p a (is-node a at) Moved (record { nodes = set K.nodes p d; queues = K.queues })
+    pub local-done : (b d : N) → S.act a ≡ Local → b ≡ get_or K.nodes p b → d ≡ S.after_local b
+        → StepTo S K ok p a (is-node a at) Moved (record { nodes = set K.nodes p d; queues = K.queues })
     local-done b d act hb e = local-step S K ok p a (is-node a at) d act (e ∙ ap S.after_local (same-node b a hb at))
 
-    pub send-done : (n : ℕ) (q : NodeId) (b d : N) (l letters : List M) (m : M) → n ≡ length K.nodes → S.act a ≡ Send q → b ≡ get_or K.nodes p b → d ≡ S.after_send b → m ≡ S.letter b → l ≡ get_or K.queues (p * n + q.0) l → length l < capacity → letters ≡ l ++ (m ∷ []) → StepTo S K ok p a (is-node a at) Moved (record { nodes = set K.nodes p d; queues = set K.queues (p * n + q.0) letters })
+    pub send-done : (n : ℕ) (q : NodeId) (b d : N) (l letters : List M) (m : M) → n ≡ length K.nodes → S.act a ≡ Send q → b ≡ get_or K.nodes p b
+        → d ≡ S.after_send b → m ≡ S.letter b → l ≡ get_or K.queues (p * n + q.0) l → length l < capacity → letters ≡ l ++ (m ∷ [])
+        → StepTo S K ok p a (is-node a at) Moved (record { nodes = set K.nodes p d; queues = set K.queues (p * n + q.0) letters })
     send-done n q b d l letters m en act hb ed em hl room el =
         let same : b ≡ a = same-node b a hb at in
         let w : get_or K.queues (p * length K.nodes + q.0) [] ≡ l = letters-at (p * length K.nodes + q.0) l (target-fits (length K.nodes) q refl act) (rw en at hl) in
         let el2 : letters ≡ get_or K.queues (p * length K.nodes + q.0) [] ++ (S.letter a ∷ []) = rw w (el ∙ ap (λ (x : M). l ++ (x ∷ [])) (em ∙ ap S.letter same)) in
         rw en (send-step S K ok p a (is-node a at) d q letters act (ed ∙ ap S.after_send same) el2 (rw w room))
 
-    pub take-done : (n : ℕ) (q : NodeId) (b d : N) (l letters : List M) (m : M) → n ≡ length K.nodes → S.act a ≡ Take q → b ≡ get_or K.nodes p b → d ≡ S.after_take m b → l ≡ get_or K.queues (q.0 * n + p) l → l ≡ m ∷ letters → StepTo S K ok p a (is-node a at) Moved (record { nodes = set K.nodes p d; queues = set K.queues (q.0 * n + p) letters })
+    pub take-done : (n : ℕ) (q : NodeId) (b d : N) (l letters : List M) (m : M) → n ≡ length K.nodes → S.act a ≡ Take q → b ≡ get_or K.nodes p b
+        → d ≡ S.after_take m b → l ≡ get_or K.queues (q.0 * n + p) l → l ≡ m ∷ letters
+        → StepTo S K ok p a (is-node a at) Moved (record { nodes = set K.nodes p d; queues = set K.queues (q.0 * n + p) letters })
     take-done n q b d l letters m en act hb ed hl el =
         let same : b ≡ a = same-node b a hb at in
         let w : get_or K.queues (q.0 * length K.nodes + p) [] ≡ l = letters-at (q.0 * length K.nodes + p) l (source-fits (length K.nodes) q refl act) (rw en at hl) in
         rw en (take-step S K ok p a (is-node a at) d q m letters act (ed ∙ ap (S.after_take m) same) (w ∙ el))
 
-    pub take-awaited : (n : ℕ) (q : NodeId) (b : N) (l letters : List M) (m : M) → n ≡ length K.nodes → S.act a ≡ Take q → b ≡ get_or K.nodes p b → l ≡ get_or K.queues (q.0 * n + p) l → l ≡ m ∷ letters → IsTrue (S.awaits b m)
+    pub take-awaited : (n : ℕ) (q : NodeId) (b : N) (l letters : List M) (m : M) → n ≡ length K.nodes → S.act a ≡ Take q → b ≡ get_or K.nodes p b
+        → l ≡ get_or K.queues (q.0 * n + p) l → l ≡ m ∷ letters → IsTrue (S.awaits b m)
     take-awaited n q b l letters m en act hb hl el =
         let w : get_or K.queues (q.0 * length K.nodes + p) [] ≡ l = letters-at (q.0 * length K.nodes + p) l (source-fits (length K.nodes) q refl act) (rw en at hl) in
         rw (same-node b a hb at) (awaited-index S K ok p a (is-node a at) q m letters act (w ∙ el))
 
-    pub send-full : (n : ℕ) (q : NodeId) (l : List M) → n ≡ length K.nodes → S.act a ≡ Send q → l ≡ get_or K.queues (p * n + q.0) l → length l ≡ capacity → IsStep S self p NotReady self
+    pub send-full : (n : ℕ) (q : NodeId) (l : List M) → n ≡ length K.nodes → S.act a ≡ Send q → l ≡ get_or K.queues (p * n + q.0) l
+        → length l ≡ capacity → IsStep S self p NotReady self
     send-full n q l en act hl full =
         let w : get_or K.queues (p * length K.nodes + q.0) [] ≡ l = letters-at (p * length K.nodes + q.0) l (target-fits (length K.nodes) q refl act) (rw en at hl) in
         rw (← v) (send-waits S K ok p a (is-node a at) q act (ap length w ∙ full))
@@ -78,12 +85,14 @@ module _ {N M : Type 0} {S : NodeSteps N M} {K : CoreLists N M} {self : CoreStat
         rw (← v) (take-waits S K ok p a (is-node a at) q act (ap length w ∙ none))
 
     -- the same queue is read again
-    pub send-room : (n : ℕ) (q : NodeId) (l l2 : List M) → n ≡ length K.nodes → S.act a ≡ Send q → l ≡ get_or K.queues (p * n + q.0) l → l2 ≡ get_or K.queues (p * n + q.0) l2 → length l < capacity → length l2 < capacity
+    pub send-room : (n : ℕ) (q : NodeId) (l l2 : List M) → n ≡ length K.nodes → S.act a ≡ Send q → l ≡ get_or K.queues (p * n + q.0) l
+        → l2 ≡ get_or K.queues (p * n + q.0) l2 → length l < capacity → length l2 < capacity
     send-room n q l l2 en act h h2 room =
         let e : l ≡ l2 = h ∙ get_or_default K.queues (p * n + q.0) l l2 (target-fits n q en act) ∙ sym h2 in
         rw (← e) room
 
-    pub take-some : (n : ℕ) (q : NodeId) (l l2 : List M) → n ≡ length K.nodes → S.act a ≡ Take q → l ≡ get_or K.queues (q.0 * n + p) l → l2 ≡ get_or K.queues (q.0 * n + p) l2 → (length l == 0) ≡ false → 0 < length l2
+    pub take-some : (n : ℕ) (q : NodeId) (l l2 : List M) → n ≡ length K.nodes → S.act a ≡ Take q → l ≡ get_or K.queues (q.0 * n + p) l
+        → l2 ≡ get_or K.queues (q.0 * n + p) l2 → (length l == 0) ≡ false → 0 < length l2
     take-some n q l l2 en act h h2 some =
         let e : l ≡ l2 = h ∙ get_or_default K.queues (q.0 * n + p) l l2 (source-fits n q en act) ∙ sym h2 in
         rw (← e) (let d : length l ≢ 0 = eqb-false (length l) 0 some in omega arith)
@@ -95,7 +104,8 @@ module _ {N M : Type 0} {S : NodeSteps N M} {K : CoreLists N M} {self : CoreStat
     pub done-can : S.act a ≡ Done → is_some (core_move S self p) ≡ false
     done-can act = rw (← v) (done-enabled S K ok p a (is-node a at) act)
 
-    pub send-can : (n : ℕ) (q : NodeId) (l : List M) (full : Bool) → n ≡ length K.nodes → S.act a ≡ Send q → l ≡ get_or K.queues (p * n + q.0) l → (IsTrue full → length l ≡ capacity) → (full ≡ false → length l < capacity) → is_some (core_move S self p) ≡ not full
+    pub send-can : (n : ℕ) (q : NodeId) (l : List M) (full : Bool) → n ≡ length K.nodes → S.act a ≡ Send q → l ≡ get_or K.queues (p * n + q.0) l
+        → (IsTrue full → length l ≡ capacity) → (full ≡ false → length l < capacity) → is_some (core_move S self p) ≡ not full
     send-can n q l full en act hl full_is room_is =
         let w : get_or K.queues (p * length K.nodes + q.0) [] ≡ l = letters-at (p * length K.nodes + q.0) l (target-fits (length K.nodes) q refl act) (rw en at hl) in
         rw (← v) (send-enabled S K ok p a (is-node a at) q (not full) act (ap (λ (x : List M). nat_lt (length x) capacity) w ∙ go full full_is room_is))
@@ -104,7 +114,8 @@ module _ {N M : Type 0} {S : NodeSteps N M} {K : CoreLists N M} {self : CoreStat
         go true full_is room_is = le-ltb (length l) capacity (let e : length l ≡ capacity = full_is refl in omega arith)
         go false full_is room_is = lt-ltb (length l) capacity (room_is refl)
 
-    pub take-can : (n : ℕ) (q : NodeId) (l : List M) (empty : Bool) → n ≡ length K.nodes → S.act a ≡ Take q → l ≡ get_or K.queues (q.0 * n + p) l → empty ≡ (length l == 0) → is_some (core_move S self p) ≡ not empty
+    pub take-can : (n : ℕ) (q : NodeId) (l : List M) (empty : Bool) → n ≡ length K.nodes → S.act a ≡ Take q → l ≡ get_or K.queues (q.0 * n + p) l
+        → empty ≡ (length l == 0) → is_some (core_move S self p) ≡ not empty
     take-can n q l empty en act hl e =
         let w : get_or K.queues (q.0 * length K.nodes + p) [] ≡ l = letters-at (q.0 * length K.nodes + p) l (source-fits (length K.nodes) q refl act) (rw en at hl) in
         rw (← v) (take-enabled S K ok p a (is-node a at) q l empty act w (sym e))
@@ -146,19 +157,23 @@ module _ {N M : Type 0} (S : NodeSteps N M) where
     here : (p : ℕ) → p < length old.nodes → p < length K.nodes
     here p lt = subst (λ (x : CoreState N M). p < length x.nodes) (sym v) lt
 
-    pub not_ready-clause : {E : Type 0} → (p : ℕ) (r : Result Stepped E) → p < length old.nodes → IfOk r (λ stepped. IsStep S (core_of K) p stepped (core_of D)) → IfOk r (λ stepped. stepped ≡ NotReady ↔ IsWaiting S old p)
+    pub not_ready-clause : {E : Type 0} → (p : ℕ) (r : Result Stepped E) → p < length old.nodes
+        → IfOk r (λ stepped. IsStep S (core_of K) p stepped (core_of D)) → IfOk r (λ stepped. stepped ≡ NotReady ↔ IsWaiting S old p)
     not_ready-clause p (Ok stepped) lt step =
         subst (λ (x : CoreState N M). stepped ≡ NotReady ↔ IsWaiting S x p) v (not_ready-waits S (core_of K) p stepped (core_of D) w (here p lt) step)
     not_ready-clause p (Err e) lt step = tt
 
-    pub ended-clause : {E : Type 0} → (p : ℕ) (r : Result Stepped E) → p < length old.nodes → IfOk r (λ stepped. IsStep S (core_of K) p stepped (core_of D)) → IfOk r (λ stepped. stepped ≡ Ended ↔ ActsAt S old.nodes p Done)
+    pub ended-clause : {E : Type 0} → (p : ℕ) (r : Result Stepped E) → p < length old.nodes
+        → IfOk r (λ stepped. IsStep S (core_of K) p stepped (core_of D)) → IfOk r (λ stepped. stepped ≡ Ended ↔ ActsAt S old.nodes p Done)
     ended-clause p (Ok stepped) lt step =
         subst (λ (x : CoreState N M). stepped ≡ Ended ↔ ActsAt S x.nodes p Done) v (ended-done S (core_of K) p stepped (core_of D) (here p lt) step)
     ended-clause p (Err e) lt step = tt
 
   -- the moves left in the words of the clauses: old is the core's value before
-  module _ (K D : CoreLists N M) (l : MovesLeft S (core_of K)) (k : MovesLeft S (core_of D)) (old : CoreView N M) (v : (let x : CoreView N M = record { lists = K; left = l.0 } in x ≡ old)) (w : IsReached S (core_of K)) where
-    pub left-clause : {E : Type 0} → (p : ℕ) (r : Result Stepped E) → IfOk r (λ stepped. IsStep S (core_of K) p stepped (core_of D)) → IfOk r (λ stepped. stepped ≡ Moved → suc k.0 ≡ old.left)
+  module _ (K D : CoreLists N M) (l : MovesLeft S (core_of K)) (k : MovesLeft S (core_of D)) (old : CoreView N M)
+      (v : (let x : CoreView N M = record { lists = K; left = l.0 } in x ≡ old)) (w : IsReached S (core_of K)) where
+    pub left-clause : {E : Type 0} → (p : ℕ) (r : Result Stepped E) → IfOk r (λ stepped. IsStep S (core_of K) p stepped (core_of D))
+        → IfOk r (λ stepped. stepped ≡ Moved → suc k.0 ≡ old.left)
     left-clause p (Ok stepped) step = λ e.
         let s : IsStep S (core_of K) p Moved (core_of D) = subst (λ (t : Stepped). IsStep S (core_of K) p t (core_of D)) e step in
         left-moved (core_of K) (core_of D) p l k w s ∙ ap (λ (x : CoreView N M). x.left) v
@@ -168,10 +183,14 @@ module _ {N M : Type 0} (S : NodeSteps N M) where
     kept-value e =
         same D K k.0 l.0 e (left-kept (core_of K) (core_of D) l k w (ap core_of e)) ∙ v
       where
-        same : (a b : CoreLists N M) (m n : ℕ) → a ≡ b → m ≡ n → (let x : CoreView N M = record { lists = a; left = m } in let y : CoreView N M = record { lists = b; left = n } in x ≡ y)
-        same a b m n h g = ap (λ (t : CoreLists N M). let x : CoreView N M = record { lists = t; left = m } in x) h ∙ ap (λ (t : ℕ). let x : CoreView N M = record { lists = b; left = t } in x) g
+        same : (a b : CoreLists N M) (m n : ℕ) → a ≡ b → m ≡ n
+            → (let x : CoreView N M = record { lists = a; left = m } in let y : CoreView N M = record { lists = b; left = n } in x ≡ y)
+        same a b m n h g =
+            ap (λ (t : CoreLists N M). let x : CoreView N M = record { lists = t; left = m } in x) h
+            ∙ ap (λ (t : ℕ). let x : CoreView N M = record { lists = b; left = t } in x) g
 
-    pub stays-clause : {E : Type 0} → (r : Result Stepped E) → IfOk r (λ stepped. stepped ≢ Moved → D ≡ K) → IfOk r (λ stepped. stepped ≢ Moved → (let x : CoreView N M = record { lists = D; left = k.0 } in x ≡ old))
+    pub stays-clause : {E : Type 0} → (r : Result Stepped E) → IfOk r (λ stepped. stepped ≢ Moved → D ≡ K)
+        → IfOk r (λ stepped. stepped ≢ Moved → (let x : CoreView N M = record { lists = D; left = k.0 } in x ≡ old))
     stays-clause (Ok stepped) h = λ d. kept-value (h d)
     stays-clause (Err e) h = tt
 

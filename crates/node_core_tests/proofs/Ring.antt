@@ -89,9 +89,27 @@ pair-to_others a (suc (suc zero)) = refl
 pair-to_others a (suc (suc (suc p))) = refl
 
 pub ring-each : (a b c : ℕ) (p : ℕ) → IsShareAt passer_steps 1 (slice_get (three a b c) p) (ring_shares a b c p)
-ring-each a b c zero = record { made = (refl, ((refl, refl), (refl, tt))); front = (omega arith, tt); back = (omega arith, tt); number = (refl, (refl, (refl, refl))); awaited = (refl, tt) }
-ring-each a b c (suc zero) = record { made = (refl, ((refl, refl), (refl, tt))); front = (omega arith, tt); back = (omega arith, tt); number = (refl, (refl, (refl, refl))); awaited = (refl, tt) }
-ring-each a b c (suc (suc zero)) = record { made = (refl, ((refl, refl), (refl, tt))); front = (omega arith, tt); back = (omega arith, tt); number = (refl, (refl, (refl, refl))); awaited = (refl, tt) }
+ring-each a b c zero = record {
+  made = (refl, ((refl, refl), (refl, tt)));
+  front = (omega arith, tt);
+  back = (omega arith, tt);
+  number = (refl, (refl, (refl, refl)));
+  awaited = (refl, tt);
+}
+ring-each a b c (suc zero) = record {
+  made = (refl, ((refl, refl), (refl, tt)));
+  front = (omega arith, tt);
+  back = (omega arith, tt);
+  number = (refl, (refl, (refl, refl)));
+  awaited = (refl, tt);
+}
+ring-each a b c (suc (suc zero)) = record {
+  made = (refl, ((refl, refl), (refl, tt)));
+  front = (omega arith, tt);
+  back = (omega arith, tt);
+  number = (refl, (refl, (refl, refl)));
+  awaited = (refl, tt);
+}
 ring-each a b c (suc (suc (suc p))) = refl
 
 ring-phase : (a b c : ℕ) → IsPhase passer_steps 1 (slice_get (three a b c)) (ring_shares a b c)
@@ -138,5 +156,11 @@ three-run a b c =
       number = 1;
       phases = ring_shares a b c ∷ (pair_shares c ∷ (pair_shares c ∷ (pair_shares c ∷ (pair_shares c ∷ []))));
       last = λ p. [];
-      run = (ring-phase a b c, (pair-phase 2 c a b n1 r1 refl, (pair-phase 3 c c b n2 r2 refl, (pair-phase 4 c c b n3 r3 refl, (pair-phase 5 c c b n4 r4 refl, ended c c b n5 r5)))));
+      run = (
+        ring-phase a b c,
+        (
+          pair-phase 2 c a b n1 r1 refl,
+          (pair-phase 3 c c b n2 r2 refl, (pair-phase 4 c c b n3 r3 refl, (pair-phase 5 c c b n4 r4 refl, ended c c b n5 r5))),
+        ),
+      );
     }

@@ -34,7 +34,8 @@ pub fn strided(alloc: Global) -> Option<Mapping>
     ensures valid { IfSome result (IsMapping 1) }
     ensures grid { IfSome result (λ map. map.grid ≡ 2 ∷ []) }
     ensures inside { IfSome result (λ map. (i : ℤ) → pos 1 ≤ℤ i → i ≤ℤ pos 8 → MapsInside map (i ∷ [])) }
-    ensures align { IfSome result (λ map. map.dims ≡ record { line = record { lower = pos 1; extent = 15; form = Cyclic 3; procs = 2 }; grid_dim = 0; align = Linear 0 (pos 2) (negsuc 0) } ∷ []) }
+    ensures align { IfSome result (λ map. map.dims
+        ≡ record { line = record { lower = pos 1; extent = 15; form = Cyclic 3; procs = 2 }; grid_dim = 0; align = Linear 0 (pos 2) (negsuc 0) } ∷ []) }
 {
     let line = Line {
         lower: 1,
@@ -58,7 +59,8 @@ pub fn beside_a_plane(alloc: Global, second: AlignDim) -> Option<Mapping>
     requires { IsAlign 0 second }
     ensures valid { IfSome result (IsMapping 1) }
     ensures grid { IfSome result (λ map. map.grid ≡ 2 ∷ 2 ∷ []) }
-    ensures inside { IfSome result (λ map. (i : ℤ) → pos 1 ≤ℤ i → i ≤ℤ pos 4 → InLine (record { lower = pos 1; extent = 4; form = Block 2; procs = 2 }) (aligned second []) → MapsInside map (i ∷ [])) }
+    ensures inside { IfSome result (λ map. (i : ℤ) → pos 1 ≤ℤ i → i ≤ℤ pos 4
+        → InLine (record { lower = pos 1; extent = 4; form = Block 2; procs = 2 }) (aligned second []) → MapsInside map (i ∷ [])) }
 {
     let line = Line {
         lower: 1,

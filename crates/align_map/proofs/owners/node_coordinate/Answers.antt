@@ -3,7 +3,9 @@ use Rattle.hpf_base.proofs.Places.{place_at, place_at-next, places-get}
 use Rattle.align_map.proofs.owners.node_coordinate.Goals as goal
 
 pub loop-faster-preserved : goal.loop-faster-preserved
-loop-faster-preserved c = (place_at-next c.dims-dims.result.now c.args.node.0 c.loop-faster.rest c.loop-faster.faster (omega (arith, ap length c.dims-dims.ensures.value)) c.loop-faster.invariant).1
+loop-faster-preserved c =
+    (place_at-next c.dims-dims.result.now c.args.node.0 c.loop-faster.rest c.loop-faster.faster (omega (arith, ap length c.dims-dims.ensures.value))
+    c.loop-faster.invariant).1
 
 pub returns : goal.returns
 returns c =

@@ -12,8 +12,10 @@ returns-in_err-local_steps-clause-ready g c = record {
 
 pub returns-clause-reached : goal.returns-clause-reached
 returns-clause-reached g c =
-    runs-trans g.N.PhasedNode.steps (state c.args.self.now) (state c.local_steps.new.self) (state c.letters.new.self) c.local_steps.ensures.advances.runs c.letters.ensures.advances.runs
+    runs-trans g.N.PhasedNode.steps (state c.args.self.now) (state c.local_steps.new.self) (state c.letters.new.self)
+    c.local_steps.ensures.advances.runs c.letters.ensures.advances.runs
 
 pub returns-clause-less : goal.returns-clause-less
 returns-clause-less g c =
-    pass-less g.N.PhasedNode.steps c.args.number c.args.self.now c.local_steps.new.self c.letters.new.self c.requires.there c.letters.ensures.passed c.local_steps.ensures.advances c.letters.ensures.advances
+    pass-less g.N.PhasedNode.steps c.args.number c.args.self.now c.local_steps.new.self c.letters.new.self c.requires.there c.letters.ensures.passed
+    c.local_steps.ensures.advances c.letters.ensures.advances

@@ -6,7 +6,9 @@ pub loop-self-preserved : goal.loop-self-preserved
 loop-self-preserved g c = runs-trans g.N.PhasedNode.steps (state c.args.self.now) (state c.loop-self.self) (state c.round.new.self) c.loop-self.invariant c.round.ensures.reached
 
 pub returns-in_err-round-clause-reached : goal.returns-in_err-round-clause-reached
-returns-in_err-round-clause-reached g c = runs-trans g.N.PhasedNode.steps (state c.args.self.now) (state c.loop-self.self) (state c.round.new.self) c.loop-self.invariant c.round.ensures.reached
+returns-in_err-round-clause-reached g c =
+    runs-trans g.N.PhasedNode.steps (state c.args.self.now) (state c.loop-self.self) (state c.round.new.self) c.loop-self.invariant
+    c.round.ensures.reached
 
 pub returns-clause-last : goal.returns-clause-last
 returns-clause-last g c =
@@ -17,4 +19,6 @@ returns-clause-count g c = runs-length g.N.PhasedNode.steps (state c.args.self.n
 
 pub returns-in_err-round-clause-count : goal.returns-in_err-round-clause-count
 returns-in_err-round-clause-count g c =
-    runs-length g.N.PhasedNode.steps (state c.args.self.now) (state c.round.new.self) (runs-trans g.N.PhasedNode.steps (state c.args.self.now) (state c.loop-self.self) (state c.round.new.self) c.loop-self.invariant c.round.ensures.reached)
+    runs-length g.N.PhasedNode.steps (state c.args.self.now) (state c.round.new.self)
+    (runs-trans g.N.PhasedNode.steps (state c.args.self.now) (state c.loop-self.self) (state c.round.new.self) c.loop-self.invariant
+    c.round.ensures.reached)
