@@ -58,7 +58,8 @@ clear_few lines n numbered clear within =
     ]
 
 -- the first line that is a breach, by the least of its reasons, is the first breach
-pub first_found : (lines before : List PhysicalLine) (line : PhysicalLine) (after : List PhysicalLine) (number : ℕ) (reason : Reason) → lines ≡ before ++ line ∷ after → IsNumbered lines → IsClear lines (length before)
+pub first_found : (lines before : List PhysicalLine) (line : PhysicalLine) (after : List PhysicalLine) (number : ℕ) (reason : Reason)
+    → lines ≡ before ++ line ∷ after → IsNumbered lines → IsClear lines (length before)
     → number ≡ line.number → IsBreachAt before line after reason → ((other : Reason) → IsBreachAt before line after other → number_of reason ≤ number_of other)
     → IsFirstBreach (IsBreachIn lines) (record { line = number; reason = reason })
 first_found lines before line after number reason whole numbered clear is why least = record {
@@ -68,7 +69,9 @@ first_found lines before line after number reason whole numbered clear is why le
         | inl same ↦
             let s = same_parts b.before before b.line line b.after after (sym b.whole ∙ whole) same in
             let why' : IsBreachAt before line after reason' =
-            subst (λ (x : List PhysicalLine). IsBreachAt x line after reason') s.0 (subst (λ (x : PhysicalLine). IsBreachAt b.before x after reason') s.1 (subst (λ (x : List PhysicalLine). IsBreachAt b.before b.line x reason') s.2 b.why)) in
+            subst (λ (x : List PhysicalLine). IsBreachAt x line after reason') s.0
+            (subst (λ (x : PhysicalLine). IsBreachAt b.before x after reason') s.1
+            (subst (λ (x : List PhysicalLine). IsBreachAt b.before b.line x reason') s.2 b.why)) in
             inr (is ∙ sym (b.numbered ∙ ap (λ (r : PhysicalLine). r.number) s.1), least reason' why')
         | inr other ↦ elim other [
           | inl below ↦ absurd (clear b.before b.line b.after reason' b.whole below b.why)
@@ -83,7 +86,8 @@ pub parted_at : {A : Type 0} (xs : List A) (i : ℕ) (x : A) → i < length xs �
 parted_at xs i x within at =
     sym (take-append-drop i xs) ∙ ap (λ l. take i xs ++ l) (drop_more xs i x within ∙ ap (λ y. y ∷ drop (i + 1) xs) (sym at))
 
-lines_numbered_from : (n : ℕ) (texts : List (List ℕ)) (before : List PhysicalLine) (line : PhysicalLine) (after : List PhysicalLine) → map (λ x. physical_line x.0 x.1) (enumerate_from n texts) ≡ before ++ line ∷ after
+lines_numbered_from : (n : ℕ) (texts : List (List ℕ)) (before : List PhysicalLine) (line : PhysicalLine) (after : List PhysicalLine)
+    → map (λ x. physical_line x.0 x.1) (enumerate_from n texts) ≡ before ++ line ∷ after
     → line.number ≡ n + length before
 lines_numbered_from n [] [] line after e = absurd cc
 lines_numbered_from n [] (r ∷ before) line after e = absurd cc
@@ -97,7 +101,8 @@ pub lines_numbered : (lines : List PhysicalLine) → (text : List ℕ) × (lines
 lines_numbered lines of before line after e = lines_numbered_from 1 (physical_lines of.0) before line after (sym of.1 ∙ e) ∙ add_comm 1 (length before)
 
 -- a line in front of which no line is a breach has a small number
-pub number_few : (lines : List PhysicalLine) (i : ℕ) (line : PhysicalLine) → IsNumbered lines → IsClear lines i → i < length lines → line ≡ get_or lines i line → line.number ≤ MAX_LINES + 1
+pub number_few : (lines : List PhysicalLine) (i : ℕ) (line : PhysicalLine) → IsNumbered lines → IsClear lines i → i < length lines
+    → line ≡ get_or lines i line → line.number ≤ MAX_LINES + 1
 number_few lines i line numbered clear within at =
     let few : i ≤ MAX_LINES = clear_few lines i numbered clear (omega arith) in
     omega (arith, few, length-take i lines, numbered (take i lines) line (drop (i + 1) lines) (parted_at lines i line within at))

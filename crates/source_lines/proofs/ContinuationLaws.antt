@@ -21,7 +21,14 @@ parted_before p [] (y ∷ before) x after e = absurd cc
 parted_before p (y ∷ ys) before x after e = step (p y) refl before e (λ before e. parted_before p ys before x after e)
   where
     step : (t : Bool) → p y ≡ t → (before : List PhysicalLine) → cond t (y ∷ filter p ys) (filter p ys) ≡ before ++ x ∷ after
-        → ((before : List PhysicalLine) → filter p ys ≡ before ++ x ∷ after → record { front : List PhysicalLine; rest : List PhysicalLine; whole : ys ≡ front ++ x ∷ rest; kept : filter p front ≡ before; passes : p x ≡ true })
+        → ((before : List PhysicalLine) → filter p ys ≡ before ++ x ∷ after
+        → record {
+          front : List PhysicalLine;
+          rest : List PhysicalLine;
+          whole : ys ≡ front ++ x ∷ rest;
+          kept : filter p front ≡ before;
+          passes : p x ≡ true;
+        })
         → record { front : List PhysicalLine; rest : List PhysicalLine; whole : y ∷ ys ≡ front ++ x ∷ rest; kept : filter p front ≡ before; passes : p x ≡ true }
     step true t [] e behind = let same : y ≡ x = cc in record { front = []; rest = ys; whole = ap (λ z. z ∷ ys) same; kept = refl; passes = ap p (sym same) ∙ t }
     step true t (z ∷ before) e behind =
@@ -38,7 +45,9 @@ suffix_len_push p xs x = ap (prefix_len p) (reverse-append xs (x ∷ []))
 
 -- no line stands behind more continued ones than may continue one line
 abbrev AreFewContinued : List PhysicalLine → Type 0
-AreFewContinued lines = (before : List PhysicalLine) (line : PhysicalLine) (after : List PhysicalLine) → lines ≡ before ++ line ∷ after → suffix_len is_continued before ≡ MAX_CONTINUATIONS + 1 → ⊥
+AreFewContinued lines =
+    (before : List PhysicalLine) (line : PhysicalLine) (after : List PhysicalLine) → lines ≡ before ++ line ∷ after
+    → suffix_len is_continued before ≡ MAX_CONTINUATIONS + 1 → ⊥
 
 few_continued : (lines : List PhysicalLine) → IsClear lines (length lines) → AreFewContinued (standing lines)
 few_continued lines clear before line after e many =
@@ -48,7 +57,8 @@ few_continued lines clear before line after e many =
 
 module _ (lines : List PhysicalLine) (none : AreFewContinued lines) where
   -- behind so few continued lines one more makes at most one too many
-  run-more : (before : List PhysicalLine) (line : PhysicalLine) (after : List PhysicalLine) → lines ≡ before ++ line ∷ after → suffix_len is_continued before ≤ MAX_CONTINUATIONS + 1
+  run-more : (before : List PhysicalLine) (line : PhysicalLine) (after : List PhysicalLine) → lines ≡ before ++ line ∷ after
+      → suffix_len is_continued before ≤ MAX_CONTINUATIONS + 1
       → (suffix_len is_continued before ≤ MAX_CONTINUATIONS) × (suffix_len is_continued (before ++ line ∷ []) ≤ MAX_CONTINUATIONS + 1)
   run-more before line after e few =
       let fewer : suffix_len is_continued before ≤ MAX_CONTINUATIONS = below (suffix_len is_continued before) few (none before line after e) in
@@ -64,7 +74,8 @@ module _ (lines : List PhysicalLine) (none : AreFewContinued lines) where
   next : (before : List PhysicalLine) (line : PhysicalLine) (after : List PhysicalLine) → lines ≡ before ++ line ∷ after → lines ≡ (before ++ line ∷ []) ++ after
   next before line after e = e ∙ sym (append_assoc before (line ∷ []) after)
 
-  run-few : (before rest : List PhysicalLine) (k : ℕ) → lines ≡ before ++ rest → suffix_len is_continued before ≤ MAX_CONTINUATIONS + 1 → k < length rest → k ≤ prefix_len is_continued rest
+  run-few : (before rest : List PhysicalLine) (k : ℕ) → lines ≡ before ++ rest → suffix_len is_continued before ≤ MAX_CONTINUATIONS + 1
+      → k < length rest → k ≤ prefix_len is_continued rest
       → suffix_len is_continued before + k ≤ MAX_CONTINUATIONS
   run-few before [] k e few within continued = absurd (omega arith)
   run-few before (line ∷ rest) zero e few within continued = omega (arith, (run-more before line rest e few).0)
@@ -89,7 +100,9 @@ module _ (lines : List PhysicalLine) (none : AreFewContinued lines) where
               arith,
               length-take (prefix_len is_continued (line ∷ rest) + 1 - 1) rest,
               many,
-              run-few before (line ∷ rest) (MAX_CONTINUATIONS + 1) e few (omega (arith, length-take (prefix_len is_continued (line ∷ rest) + 1 - 1) rest, many)) (omega (arith, length-take (prefix_len is_continued (line ∷ rest) + 1 - 1) rest, many)),
+              run-few before (line ∷ rest) (MAX_CONTINUATIONS + 1) e few
+                  (omega (arith, length-take (prefix_len is_continued (line ∷ rest) + 1 - 1) rest, many))
+                  (omega (arith, length-take (prefix_len is_continued (line ∷ rest) + 1 - 1) rest, many)),
             ))
         | inr fine ↦ fine
       ])

@@ -12,7 +12,9 @@ pub first_part-within : (bytes : List ℕ) → first_part bytes ≤ length bytes
 first_part-within [] = omega arith
 first_part-within (b ∷ bytes) = step (is_delimiter b) (b == 33)
   where
-    step : (delimiter comment : Bool) → (if delimiter then 1 + min (length bytes) (prefix_len (λ c. not (c == b)) bytes + 1) else if comment then 1 + length bytes else 1) ≤ length (b ∷ bytes)
+    step : (delimiter comment : Bool)
+        → (if delimiter then 1 + min (length bytes) (prefix_len (λ c. not (c == b)) bytes + 1) else if comment then 1 + length bytes else 1)
+        ≤ length (b ∷ bytes)
     step true comment = omega arith
     step false true = omega arith
     step false false = omega arith

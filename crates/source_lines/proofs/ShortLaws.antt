@@ -47,7 +47,9 @@ content-within line = either-within (is_directive line) (drop 5 (without_blanks 
 code-short : (line : List ℕ) → is_bad line ≡ false → length (code_of (content line)) ≤ MAX_LINE_BYTES
 code-short line fine = omega (arith, code-within (content line), content-within line, long (nat_lt MAX_LINE_BYTES (length line)) refl fine)
   where
-    long : (t : Bool) → nat_lt MAX_LINE_BYTES (length line) ≡ t → (t || list_any (is_bad_part (line_kind line)) (parts (content line)) || is_lone_ampersand (code_of (content line))) ≡ false → length line ≤ MAX_LINE_BYTES
+    long : (t : Bool) → nat_lt MAX_LINE_BYTES (length line) ≡ t
+        → (t || list_any (is_bad_part (line_kind line)) (parts (content line)) || is_lone_ampersand (code_of (content line))) ≡ false
+        → length line ≤ MAX_LINE_BYTES
     long true e bad = absurd (false≢true (sym bad))
     long false e bad = ltb-false MAX_LINE_BYTES (length line) e
 
@@ -63,21 +65,24 @@ continuing_body-within line = either-within (starts_with nat_eq (without_blanks 
 abbrev pub IsShort : PhysicalLine → Type 0
 IsShort line = length line.code ≤ MAX_LINE_BYTES
 
-join-within : (piece : List ℕ) (lines : List PhysicalLine) → length piece ≤ MAX_LINE_BYTES → All IsShort lines → length (join_with_byte 32 (piece ∷ map continuing_body lines)) ≤ (MAX_LINE_BYTES + 1) * (length lines + 1)
+join-within : (piece : List ℕ) (lines : List PhysicalLine) → length piece ≤ MAX_LINE_BYTES → All IsShort lines
+    → length (join_with_byte 32 (piece ∷ map continuing_body lines)) ≤ (MAX_LINE_BYTES + 1) * (length lines + 1)
 join-within piece [] short all = omega arith
 join-within piece (line ∷ lines) short all =
     let here : length line.code ≤ MAX_LINE_BYTES = All-head IsShort line lines all in
     let rest = join-within (continuing_body line) lines (omega (arith, continuing_body-within line, here)) (All-tail IsShort line lines all) in
     omega (arith, rest, short, length-append piece (32 ∷ join_with_byte 32 (continuing_body line ∷ map continuing_body lines)))
 
-joined_bytes-within : (line : PhysicalLine) (lines : List PhysicalLine) → All IsShort (line ∷ lines) → length (joined_bytes line lines) ≤ (MAX_LINE_BYTES + 1) * length (line ∷ lines)
+joined_bytes-within : (line : PhysicalLine) (lines : List PhysicalLine) → All IsShort (line ∷ lines)
+    → length (joined_bytes line lines) ≤ (MAX_LINE_BYTES + 1) * length (line ∷ lines)
 joined_bytes-within line lines all =
     let here : length line.code ≤ MAX_LINE_BYTES = All-head IsShort line lines all in
     omega (arith, join-within (body line) lines (omega (arith, body-within line, here)) (All-tail IsShort line lines all))
 
 sound_lines : (text : List ℕ) → All (λ line. line.bad ≡ false → IsShort line) (numbered_lines text)
 sound_lines text =
-    All-map (λ line. line.bad ≡ false → IsShort line) (λ (x : ℕ × List ℕ). physical_line x.0 x.1) (enumerate_from 1 (physical_lines text)) (λ k d lt fine. code-short (get_or (enumerate_from 1 (physical_lines text)) k d).1 fine)
+    All-map (λ line. line.bad ≡ false → IsShort line) (λ (x : ℕ × List ℕ). physical_line x.0 x.1) (enumerate_from 1 (physical_lines text))
+    (λ k d lt fine. code-short (get_or (enumerate_from 1 (physical_lines text)) k d).1 fine)
 
 -- where a text has no breach, its lines are short
 fine_lines : (text : List ℕ) → IsClear (numbered_lines text) (length (numbered_lines text)) → All IsShort (numbered_lines text)
@@ -102,7 +107,8 @@ together-within : (pieces : List (List ℕ)) → AreWithin (length (concat piece
 together-within [] = All-cons (λ (list : List ℕ). length list ≤ 0) [] [] (omega arith) (All-nil (λ (list : List ℕ). length list ≤ 0))
 together-within (piece ∷ pieces) = step (bytes_eq piece (59 ∷ [])) (together-within pieces)
   where
-    step : (t : Bool) → AreWithin (length (concat pieces)) (together pieces) → AreWithin (length (piece ++ concat pieces)) (if t then [] ∷ together pieces else with_part piece (together pieces))
+    step : (t : Bool) → AreWithin (length (concat pieces)) (together pieces)
+        → AreWithin (length (piece ++ concat pieces)) (if t then [] ∷ together pieces else with_part piece (together pieces))
     step true all =
         All-cons (λ (list : List ℕ). length list ≤ length (piece ++ concat pieces)) [] (together pieces) (omega arith)
         (λ k d lt. let at : length (get_or (together pieces) k d) ≤ length (concat pieces) = all k d lt in omega (arith, at, length-append piece (concat pieces)))
@@ -134,7 +140,8 @@ groups_behind-short first (line ∷ lines) zero short =
     let rest : All IsShort lines = All-tail IsShort line lines short in
     let taken = take (first (line ∷ lines) - 1) lines in
     All-cons (All IsShort) (line ∷ taken) (cut_behind first lines (first (line ∷ lines) - 1))
-    (All-cons IsShort line taken (All-head IsShort line lines short) (All-take IsShort (first (line ∷ lines) - 1) lines rest)) (groups_behind-short first lines (first (line ∷ lines) - 1) rest)
+    (All-cons IsShort line taken (All-head IsShort line lines short) (All-take IsShort (first (line ∷ lines) - 1) lines rest))
+    (groups_behind-short first lines (first (line ∷ lines) - 1) rest)
 groups_behind-short first (line ∷ lines) (suc skipped) short = groups_behind-short first lines skipped (All-tail IsShort line lines short)
 
 all_flat : {A B : Type 0} (P : B → Type 0) (f : A → List B) (xs : List A) → All (λ x. All P (f x)) xs → All P (flat_map f xs)
@@ -146,7 +153,9 @@ lines_in-short : (lines : List PhysicalLine) → All IsShort lines → IsClear l
 lines_in-short lines short clear =
     let here : All IsShort (standing lines) = All-filter (λ line. not (is_passed line.kind)) IsShort lines short in
     all_flat IsShortLine lines_of_group (groups (standing lines))
-    (λ k d lt. lines_of_group-short (get_or (groups (standing lines)) k d) (groups_behind-short (λ rest. prefix_len is_continued rest + 1) (standing lines) 0 here k d lt) (groups_few lines clear k d lt))
+    (λ k d lt.
+    lines_of_group-short (get_or (groups (standing lines)) k d)
+    (groups_behind-short (λ rest. prefix_len is_continued rest + 1) (standing lines) 0 here k d lt) (groups_few lines clear k d lt))
 
 -- where a text has no breach, its logical lines are short
 pub lines_short : (text : List ℕ) → NoBreach (IsLineBreach text) → All (λ line. length line.bytes ≤ MAX_LOGICAL_LINE_BYTES) (logical_lines text)

@@ -93,9 +93,9 @@ is_bad line =
     nat_lt MAX_LINE_BYTES (length line) || list_any (is_bad_part (line_kind line)) (parts (content line)) || is_lone_ampersand (code_of (content line))
 
 -- a line that is blank or holds only a comment is passed over
-abbrev pub kind_of : LineKind → List ℕ → PhysicalKind
-kind_of logical.Directive code = Directive
-kind_of logical.Statement code = if list_all is_blank code then Passed else Statement
+abbrev pub physical_kind : LineKind → List ℕ → PhysicalKind
+physical_kind logical.Directive code = Directive
+physical_kind logical.Statement code = if list_all is_blank code then Passed else Statement
 
 -- what the rules ask of a line: its number, from 1, and what stands on it
 pub record PhysicalLine : Type 0 where
@@ -107,7 +107,7 @@ pub record PhysicalLine : Type 0 where
 abbrev pub physical_line : ℕ → List ℕ → PhysicalLine
 physical_line number line =
     let code = code_of (content line) in
-    record { number = number; kind = kind_of (line_kind line) code; code = code; bad = is_bad line }
+    record { number = number; kind = physical_kind (line_kind line) code; code = code; bad = is_bad line }
 
 abbrev pub numbered_lines : List ℕ → List PhysicalLine
 numbered_lines text = map (λ x. physical_line x.0 x.1) (enumerate_from 1 (physical_lines text))

@@ -2,7 +2,7 @@
 
 ghost use Rattle.std.specs.Prelude.{◌≡◌, IfOk};
 ghost use Rattle.source_lines.specs.PhysicalLines as spec;
-ghost use Rattle.source_lines.specs.PhysicalLines.{kind_of, numbered_lines, physical_line};
+ghost use Rattle.source_lines.specs.PhysicalLines.{physical_kind, numbered_lines, physical_line};
 
 use crate::blanks::all_blank;
 use crate::line::LineKind;
@@ -66,8 +66,8 @@ impl<'a> PhysicalLine<'a> {
 }
 
 /// What a line of this kind holds where this stands on it.
-fn kind_of(kind: LineKind, code: &[u8]) -> PhysicalKind
-    ensures { result ≡ kind_of kind code.now }
+fn physical_kind(kind: LineKind, code: &[u8]) -> PhysicalKind
+    ensures { result ≡ physical_kind kind code.now }
 {
     match kind {
         LineKind::Directive => PhysicalKind::Directive,
@@ -84,7 +84,7 @@ fn physical_line(number: usize, bytes: &[u8]) -> PhysicalLine<'_>
     let (code, bad) = code_of(kind, content(bytes));
     PhysicalLine {
         number,
-        kind: kind_of(kind, code),
+        kind: physical_kind(kind, code),
         code,
         bad: bytes.len() > MAX_LINE_BYTES || bad || is_lone_ampersand(code),
     }

@@ -8,7 +8,7 @@ use Rattle.hpf_base.specs.declared.refusal.Reason.TheVariants.{BadLine}
 use Rattle.source_lines.specs.PhysicalLines.{is_blank}
 use Rattle.source_lines.specs.declared.token.TokenKind.{TokenKind}
 use Rattle.source_lines.proofs.Cuts.{cut-cons, cut-first}
-use Rattle.token_scan.specs.Tokens.{class_of, first_byte, first_class, greatest, is_above_limit, is_no_token, kind_of, longest, pieces, spelled, HasBreach}
+use Rattle.token_scan.specs.Tokens.{class_of, first_byte, first_class, greatest, is_above_limit, is_no_token, token_kind, longest, pieces, spelled, HasBreach}
 use Rattle.token_scan.specs.Pieces.{IsFirst, IsPiece, IsToken}
 use Rattle.token_scan.specs.declared.byte_class.ByteClass.{ByteClass}
 use Rattle.token_scan.specs.declared.byte_class.ByteClass.TheVariants as begins
@@ -36,23 +36,24 @@ first_byte-take [] (suc n) some = refl
 first_byte-take (b ∷ bytes) (suc n) some = refl
 
 -- a front is spelled by the class of the first byte of all
-kind_of-front : (class : ByteClass) (bytes : List ℕ) (n : ℕ) → first_class bytes ≡ class → 1 ≤ n → kind_of (take n bytes) ≡ spelled class (take n bytes)
-kind_of-front class bytes n is some = ap (λ c. spelled c (take n bytes)) (ap class_of (first_byte-take bytes n some) ∙ is)
+token_kind-front : (class : ByteClass) (bytes : List ℕ) (n : ℕ) → first_class bytes ≡ class → 1 ≤ n → token_kind (take n bytes) ≡ spelled class (take n bytes)
+token_kind-front class bytes n is some = ap (λ c. spelled c (take n bytes)) (ap class_of (first_byte-take bytes n some) ∙ is)
 
 -- no front of more than so many bytes spells a token of the class
 abbrev pub NoneLonger : ByteClass → List ℕ → ℕ → Type 0
 NoneLonger class bytes n = (m : ℕ) → n < m → m ≤ length bytes → spelled class (take m bytes) ≡ None
 
-longest-at : (class : ByteClass) (bytes : List ℕ) (n : ℕ) → first_class bytes ≡ class → n ≤ length bytes → (1 ≤ n → is_some (kind_of (take n bytes)) ≡ true) → NoneLonger class bytes n → longest bytes ≡ n
+longest-at : (class : ByteClass) (bytes : List ℕ) (n : ℕ) → first_class bytes ≡ class → n ≤ length bytes
+    → (1 ≤ n → is_some (token_kind (take n bytes)) ≡ true) → NoneLonger class bytes n → longest bytes ≡ n
 longest-at class bytes n is within passes fails =
-    greatest-at (λ n. is_some (kind_of (take n bytes))) n (length bytes) within passes
-    (λ m above below. ap is_some (kind_of-front class bytes m is (omega arith) ∙ fails m above below))
+    greatest-at (λ n. is_some (token_kind (take n bytes))) n (length bytes) within passes
+    (λ m above below. ap is_some (token_kind-front class bytes m is (omega arith) ∙ fails m above below))
 
 -- a front that spells a token of its class, and no longer one does, is the first piece
 pub token_front : (class : ByteClass) (bytes : List ℕ) (n : ℕ) (kind : TokenKind) → first_class bytes ≡ class → 1 ≤ n → n ≤ length bytes → spelled class (take n bytes) ≡ Some kind
     → NoneLonger class bytes n → IsToken bytes n kind
 token_front class bytes n kind is some within spells fails =
-    let token : kind_of (take n bytes) ≡ Some kind = kind_of-front class bytes n is some ∙ spells in (
+    let token : token_kind (take n bytes) ≡ Some kind = token_kind-front class bytes n is some ∙ spells in (
       record {
         some = some;
         within = within;
@@ -66,17 +67,20 @@ pub past_front : (bytes : List ℕ) (n : ℕ) (kind : TokenKind) → IsToken byt
 past_front bytes n kind token above = (token.0, rw token.1 refl, rw (token.1, above) refl)
 
 -- where no front spells a token, the first piece is one byte
-byte_front : (class : ByteClass) (b : ℕ) (bytes : List ℕ) → class_of b ≡ class → NoneLonger class (b ∷ bytes) 0 → IsFirst (b ∷ bytes) 1 × (kind_of (b ∷ []) ≡ None)
+byte_front : (class : ByteClass) (b : ℕ) (bytes : List ℕ) → class_of b ≡ class → NoneLonger class (b ∷ bytes) 0 → IsFirst (b ∷ bytes) 1 × (token_kind (b ∷ []) ≡ None)
 byte_front class b bytes is fails =
-    let none : longest (b ∷ bytes) ≡ 0 = longest-at class (b ∷ bytes) 0 is (omega arith) (λ some. absurd (omega arith)) fails in
-    (record { some = omega arith; within = omega arith; cut = cut-cons longest b bytes ∙ rw none refl }, kind_of-front class (b ∷ bytes) 1 is (omega arith) ∙ fails 1 (omega arith) (omega arith))
+    let none : longest (b ∷ bytes) ≡ 0 = longest-at class (b ∷ bytes) 0 is (omega arith) (λ some. absurd (omega arith)) fails in (
+      record { some = omega arith; within = omega arith; cut = cut-cons longest b bytes ∙ rw none refl },
+      token_kind-front class (b ∷ bytes) 1 is (omega arith) ∙ fails 1 (omega arith) (omega arith),
+    )
 
 -- where no front spells a token, and no blank stands, the first piece is a breach
-pub no_front : (class : ByteClass) (bytes : List ℕ) → 1 ≤ length bytes → first_class bytes ≡ class → (begins.Blank ≡ class → ⊥) → NoneLonger class bytes 0 → HasBreach BadLine (pieces bytes)
+pub no_front : (class : ByteClass) (bytes : List ℕ) → 1 ≤ length bytes → first_class bytes ≡ class → (begins.Blank ≡ class → ⊥)
+    → NoneLonger class bytes 0 → HasBreach BadLine (pieces bytes)
 no_front class [] some is other fails = absurd (omega arith)
 no_front class (b ∷ bytes) some is other fails = step (is_blank b) refl (byte_front class b bytes is fails)
   where
-    step : (t : Bool) → is_blank b ≡ t → IsFirst (b ∷ bytes) 1 × (kind_of (b ∷ []) ≡ None) → HasBreach BadLine (pieces (b ∷ bytes))
+    step : (t : Bool) → is_blank b ≡ t → IsFirst (b ∷ bytes) 1 × (token_kind (b ∷ []) ≡ None) → HasBreach BadLine (pieces (b ∷ bytes))
     step true e first = absurd (other (let blank : class_of b ≡ begins.Blank = rw e refl in cc))
     step false e first = ap (list_any is_no_token) first.0.cut ∙ rw (first.1, e) refl
 

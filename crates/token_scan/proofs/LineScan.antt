@@ -24,7 +24,8 @@ pub scanned_none : (bytes : List ℕ) → IsScanned bytes 0 [] false
 scanned_none bytes = record { within = omega arith; bad = refl; limit = refl; given = λ h. refl }
 
 -- a blank more, as it is read of the bytes behind the place
-pub scanned_blank : (bytes all : List ℕ) (place : ℕ) (found : List Token) (past_limit : Bool) (read : Piece) → IsScanned all place found past_limit → bytes ≡ all → read ≡ piece.Blank
+pub scanned_blank : (bytes all : List ℕ) (place : ℕ) (found : List Token) (past_limit : Bool) (read : Piece) → IsScanned all place found past_limit
+    → bytes ≡ all → read ≡ piece.Blank
     → IsPiece (take (length bytes - place) (drop place bytes)) read → IsScanned all (place + 1) found past_limit
 scanned_blank bytes all place found past_limit read is e same h =
     let there : IsPiece (drop place bytes) read = subst (λ (l : List ℕ). IsPiece l read) (take_rest bytes place) h in
@@ -32,7 +33,8 @@ scanned_blank bytes all place found past_limit read is e same h =
   where
     blank : IsPiece (drop place all) piece.Blank → IsScanned all (place + 1) found past_limit
     blank b =
-        let rest : pieces (drop place all) ≡ take 1 (drop place all) ∷ pieces (drop (place + 1) all) = b.0.cut ∙ ap (λ (l : List ℕ). take 1 (drop place all) ∷ pieces l) (drop-drop 1 place all) in
+        let rest : pieces (drop place all) ≡ take 1 (drop place all) ∷ pieces (drop (place + 1) all) =
+        b.0.cut ∙ ap (λ (l : List ℕ). take 1 (drop place all) ∷ pieces l) (drop-drop 1 place all) in
         let size : length (take 1 (drop place all)) ≡ 1 = omega (arith, length-take 1 (drop place all), b.0.within) in
         record {
           within = omega (arith, b.0.within, length-drop place all, is.within);

@@ -31,7 +31,8 @@ run-past test [] m past within = absurd (omega arith)
 run-past test (b ∷ bytes) zero past within = absurd (omega arith)
 run-past test (b ∷ bytes) (suc m) past within = step (test b) refl past (run-past test bytes m)
   where
-    step : (t : Bool) → test b ≡ t → prefix_len test (b ∷ bytes) < suc m → (prefix_len test bytes < m → m ≤ length bytes → list_all test (take m bytes) ≡ false) → list_all test (take (suc m) (b ∷ bytes)) ≡ false
+    step : (t : Bool) → test b ≡ t → prefix_len test (b ∷ bytes) < suc m
+        → (prefix_len test bytes < m → m ≤ length bytes → list_all test (take m bytes) ≡ false) → list_all test (take (suc m) (b ∷ bytes)) ≡ false
     step true e past ih = let past' = rw e at past in rw e (ih (omega arith) (omega arith))
     step false e past ih = rw e refl
 
@@ -40,7 +41,8 @@ run-some test [] none h = absurd cc
 run-some test (b ∷ bytes) none h = rw h (omega arith)
 
 -- where a class spells the bytes that all pass a test, the run of these is the first piece
-pub run_front : (test : ℕ → Bool) (class : ByteClass) (kind : List ℕ → TokenKind) (bytes : List ℕ) → ((front : List ℕ) → spelled class front ≡ (if list_all test front then Some (kind front) else None))
+pub run_front : (test : ℕ → Bool) (class : ByteClass) (kind : List ℕ → TokenKind) (bytes : List ℕ)
+    → ((front : List ℕ) → spelled class front ≡ (if list_all test front then Some (kind front) else None))
     → test 0 ≡ false → test (first_byte bytes) ≡ true → first_class bytes ≡ class → IsToken bytes (prefix_len test bytes) (kind (take (prefix_len test bytes) bytes))
 run_front test class kind bytes spells none first is =
     token_front class bytes (prefix_len test bytes) _ is (run-some test bytes none first) (prefix_len-le-length test bytes) (spells _ ∙ rw (run-within test bytes) refl)
@@ -75,7 +77,8 @@ word_front bytes len is e =
     subst (λ (n : ℕ). IsToken bytes n (Word (upper (take n bytes)))) (sym e)
     (run_front is_word_byte Letter (λ front. Word (upper front)) bytes (λ front. refl) refl (letter-in_word (first_byte bytes) is) is)
 
-pub literal_front : (bytes : List ℕ) (len : ℕ) → first_class bytes ≡ Digit → len ≡ prefix_len is_ascii_digit bytes → IsToken bytes len (Integer (pos (digits_value 10 (take len bytes))))
+pub literal_front : (bytes : List ℕ) (len : ℕ) → first_class bytes ≡ Digit → len ≡ prefix_len is_ascii_digit bytes
+    → IsToken bytes len (Integer (pos (digits_value 10 (take len bytes))))
 literal_front bytes len is e =
     subst (λ (n : ℕ). IsToken bytes n (Integer (pos (digits_value 10 (take n bytes))))) (sym e)
     (run_front is_ascii_digit Digit (λ front. Integer (pos (digits_value 10 front))) bytes (λ front. refl) refl (digit-in_literal (first_byte bytes) is) is)

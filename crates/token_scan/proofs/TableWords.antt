@@ -49,13 +49,16 @@ dots-none bytes n k e none m above below =
       | inr short ↦ sym (ap (code_in dot_words) (upper-fewer bytes m k (omega arith))) ∙ none m above (omega (arith, length-front bytes k (omega arith)))
     ])
 
-pub dot_front : (bytes : List ℕ) (k len code : ℕ) → k ≡ min (length bytes) MAX_DOT_BYTES → first_class bytes ≡ Period → IsLongestWord dot_words (upper (take k bytes)) len code → IsToken bytes len (Dot code)
+pub dot_front : (bytes : List ℕ) (k len code : ℕ) → k ≡ min (length bytes) MAX_DOT_BYTES → first_class bytes ≡ Period
+    → IsLongestWord dot_words (upper (take k bytes)) len code → IsToken bytes len (Dot code)
 dot_front bytes k len code e is word =
     let within : len ≤ k = omega (arith, word.within, length-front bytes k (omega arith)) in
-    token_front Period bytes len (Dot code) is word.some (omega arith) (ap (λ w. option_map Dot (code_in dot_words w)) (sym (upper-fewer bytes len k within)) ∙ ap (option_map Dot) word.is)
+    token_front Period bytes len (Dot code) is word.some (omega arith)
+    (ap (λ w. option_map Dot (code_in dot_words w)) (sym (upper-fewer bytes len k within)) ∙ ap (option_map Dot) word.is)
     (dots-none bytes len k e word.longest)
 
-pub no_dot : (bytes : List ℕ) (k : ℕ) → k ≡ min (length bytes) MAX_DOT_BYTES → first_class bytes ≡ Period → NoWordLonger dot_words (upper (take k bytes)) 0 → HasBreach BadLine (pieces bytes)
+pub no_dot : (bytes : List ℕ) (k : ℕ) → k ≡ min (length bytes) MAX_DOT_BYTES → first_class bytes ≡ Period
+    → NoWordLonger dot_words (upper (take k bytes)) 0 → HasBreach BadLine (pieces bytes)
 no_dot [] k e is none = absurd cc
 no_dot (b ∷ bytes) k e is none = no_front Period (b ∷ bytes) (omega arith) is (λ blank. absurd cc) (dots-none (b ∷ bytes) 0 k e none)
 

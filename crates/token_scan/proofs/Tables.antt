@@ -6,7 +6,8 @@ use Rattle.std.proofs.lemmas.Bool.{and_parts}
 use Rattle.std.proofs.lemmas.Iterator.Adapters.{position_from-zero}
 use Rattle.op_tables.specs.Words.{code_in}
 
-outside-from : (test : List ℕ → Bool) (words : List (List ℕ)) (word : List ℕ) (at : ℕ) → list_all test words ≡ true → test word ≡ false → position_from (λ w. bytes_eq w word) at words ≡ None
+outside-from : (test : List ℕ → Bool) (words : List (List ℕ)) (word : List ℕ) (at : ℕ) → list_all test words ≡ true → test word ≡ false
+    → position_from (λ w. bytes_eq w word) at words ≡ None
 outside-from test [] word at all fails = refl
 outside-from test (w ∷ words) word at all fails = step (bytes_eq w word) refl (and_parts _ _ all) (outside-from test words word (at + 1))
   where

@@ -26,7 +26,9 @@ characters-closed delimiter [] lt = absurd (omega arith)
 characters-closed delimiter (b ∷ bytes) lt = step (b == delimiter) refl lt (characters-closed delimiter bytes)
   where
     step : (t : Bool) → (b == delimiter) ≡ t → prefix_len (is_other delimiter) (b ∷ bytes) < length (b ∷ bytes)
-        → (prefix_len (is_other delimiter) bytes < length bytes → characters delimiter (take (suc (prefix_len (is_other delimiter) bytes)) bytes) ≡ Some (take (prefix_len (is_other delimiter) bytes) bytes))
+        → (prefix_len (is_other delimiter) bytes < length bytes
+        → characters delimiter (take (suc (prefix_len (is_other delimiter) bytes)) bytes)
+        ≡ Some (take (prefix_len (is_other delimiter) bytes) bytes))
         → characters delimiter (take (suc (prefix_len (is_other delimiter) (b ∷ bytes))) (b ∷ bytes)) ≡ Some (take (prefix_len (is_other delimiter) (b ∷ bytes)) (b ∷ bytes))
     step true e lt behind = rw e (rw e refl)
     step false e lt behind =
@@ -39,7 +41,8 @@ characters-open delimiter bytes zero within = refl
 characters-open delimiter [] (suc n) within = refl
 characters-open delimiter (b ∷ bytes) (suc n) within = step (b == delimiter) refl within (characters-open delimiter bytes n)
   where
-    step : (t : Bool) → (b == delimiter) ≡ t → suc n ≤ prefix_len (is_other delimiter) (b ∷ bytes) → (n ≤ prefix_len (is_other delimiter) bytes → characters delimiter (take n bytes) ≡ None)
+    step : (t : Bool) → (b == delimiter) ≡ t → suc n ≤ prefix_len (is_other delimiter) (b ∷ bytes)
+        → (n ≤ prefix_len (is_other delimiter) bytes → characters delimiter (take n bytes) ≡ None)
         → characters delimiter (b ∷ take n bytes) ≡ None
     step true e within behind = let within' = rw e at within in absurd (omega arith)
     step false e within behind = let within' = rw e at within in characters-other delimiter b (take n bytes) e ∙ ap (longer b) (behind (omega arith))
@@ -68,7 +71,8 @@ characters-join delimiter (b ∷ []) x more read e = step (b == delimiter) refl 
     step true e true f is = let empty : read ≡ [] = cc in rw (e, f, empty) refl
     step true e false f is = rw (e, f) refl
     step false e u f is = absurd cc
-characters-join delimiter (b ∷ c ∷ bytes) x more read e = step (b == delimiter) refl (c == delimiter) refl e (characters-join delimiter bytes x more) (characters-join delimiter (c ∷ bytes) x more)
+characters-join delimiter (b ∷ c ∷ bytes) x more read e =
+    step (b == delimiter) refl (c == delimiter) refl e (characters-join delimiter bytes x more) (characters-join delimiter (c ∷ bytes) x more)
   where
     step : (t : Bool) → (b == delimiter) ≡ t → (u : Bool) → (c == delimiter) ≡ u
         → (if t then (if u then longer delimiter (characters delimiter bytes) else None) else longer b (characters delimiter (c ∷ bytes))) ≡ Some read
@@ -84,7 +88,8 @@ characters-join delimiter (b ∷ c ∷ bytes) x more read e = step (b == delimit
         rw (e, r.read) (ap (longer b) (one r.rest r.text) ∙ longer-doubled delimiter b r.rest _)
 
 -- a text constant goes on in the same way
-pub text-join : (bytes more read : List ℕ) → text_of bytes ≡ Some read → 1 ≤ length more → text_of (bytes ++ more) ≡ doubled (first_byte bytes) read (quoted (first_byte bytes) more)
+pub text-join : (bytes more read : List ℕ) → text_of bytes ≡ Some read → 1 ≤ length more
+    → text_of (bytes ++ more) ≡ doubled (first_byte bytes) read (quoted (first_byte bytes) more)
 text-join [] more read e some = absurd cc
 text-join (b ∷ bytes) [] read e some = absurd (omega arith)
 text-join (b ∷ bytes) (x ∷ more) read e some = characters-join b bytes x more read e

@@ -13,7 +13,7 @@ use Rattle.token_scan.specs.declared.run.Run.TheVariants.{Word, Digits, Without}
 use Rattle.token_scan.specs.declared.table_word.TheConstants.{MAX_DOT_BYTES, MAX_SYMBOL_BYTES}
 use Rattle.token_scan.specs.declared.table_word.Words.{Words}
 use Rattle.token_scan.specs.declared.table_word.Words.TheVariants.{Dots, Symbols}
-use Rattle.token_scan.specs.Tokens.{characters, is_above_limit, is_no_token, is_past_limit, is_word_byte, kind_of, pieces, HasBreach}
+use Rattle.token_scan.specs.Tokens.{characters, is_above_limit, is_no_token, is_past_limit, is_word_byte, token_kind, pieces, HasBreach}
 
 -- a byte that may stand in the run
 abbrev pub is_in : Run → ℕ → Bool
@@ -67,11 +67,11 @@ pub record IsFirst (bytes : List ℕ) (len : ℕ) : Type 0 where
 
 -- the first piece is this token, of so many bytes
 abbrev pub IsToken : List ℕ → ℕ → TokenKind → Type 0
-IsToken bytes len kind = IsFirst bytes len × (kind_of (take len bytes) ≡ Some kind)
+IsToken bytes len kind = IsFirst bytes len × (token_kind (take len bytes) ≡ Some kind)
 
 -- what is read is what stands there
 abbrev pub IsPiece : List ℕ → Piece → Type 0
-IsPiece bytes Blank = IsFirst bytes 1 × (kind_of (take 1 bytes) ≡ None) × IsFalse (is_no_token (take 1 bytes))
+IsPiece bytes Blank = IsFirst bytes 1 × (token_kind (take 1 bytes) ≡ None) × IsFalse (is_no_token (take 1 bytes))
 IsPiece bytes (Token len kind) = IsToken bytes len kind × IsFalse (is_above_limit kind)
 IsPiece bytes (PastLimit len) = IsFirst bytes len × IsFalse (is_no_token (take len bytes)) × IsTrue (is_past_limit (take len bytes))
 IsPiece bytes NoToken = HasBreach BadLine (pieces bytes)

@@ -66,8 +66,8 @@ spelled Delimiter bytes = option_map Text (text_of bytes)
 spelled Period bytes = option_map Dot (code_in dot_words (upper bytes))
 spelled Other bytes = option_map Symbol (code_in symbols bytes)
 
-abbrev pub kind_of : List ℕ → Option TokenKind
-kind_of bytes = spelled (first_class bytes) bytes
+abbrev pub token_kind : List ℕ → Option TokenKind
+token_kind bytes = spelled (first_class bytes) bytes
 
 -- the greatest number up to this one that passes a test; 0 where none does
 abbrev pub greatest : (ℕ → Bool) → ℕ → ℕ
@@ -76,7 +76,7 @@ greatest test (suc n) = if test (suc n) then suc n else greatest test n
 
 -- how long the longest token at the front is; 0 where none begins there
 abbrev pub longest : List ℕ → ℕ
-longest bytes = greatest (λ n. is_some (kind_of (take n bytes))) (length bytes)
+longest bytes = greatest (λ n. is_some (token_kind (take n bytes))) (length bytes)
 
 -- a line cut into its tokens, and single bytes where none begins
 abbrev pub pieces : List ℕ → List (List ℕ)
@@ -84,7 +84,7 @@ pieces bytes = cut longest bytes
 
 -- the token of a piece that begins at a place
 abbrev pub token_at : ℕ → List ℕ → Option Token
-token_at from piece = option_map (λ kind. record { from = from; to = from + length piece; kind = kind }) (kind_of piece)
+token_at from piece = option_map (λ kind. record { from = from; to = from + length piece; kind = kind }) (token_kind piece)
 
 -- the tokens of pieces that stand one behind the other from a place on
 abbrev pub tokens_from : ℕ → List (List ℕ) → List Token
@@ -97,7 +97,7 @@ tokens bytes = tokens_from 0 (pieces bytes)
 
 -- neither a token nor blank
 abbrev pub is_no_token : List ℕ → Bool
-is_no_token piece = is_none (kind_of piece) && not (list_all is_blank piece)
+is_no_token piece = is_none (token_kind piece) && not (list_all is_blank piece)
 
 -- a word of too many bytes, or a number above 2^63 - 1
 abbrev pub is_above_limit : TokenKind → Bool
@@ -107,7 +107,7 @@ is_above_limit kind = false
 
 -- a token above its limit
 abbrev pub is_past_limit : List ℕ → Bool
-is_past_limit piece = list_any is_above_limit (option_to_list (kind_of piece))
+is_past_limit piece = list_any is_above_limit (option_to_list (token_kind piece))
 
 -- of these pieces one is a breach for this reason
 abbrev pub HasBreach : Reason → List (List ℕ) → Type 0

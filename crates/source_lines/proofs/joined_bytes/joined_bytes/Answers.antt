@@ -17,4 +17,5 @@ loop-line-preserved c =
     let extended : c.extend_from_slice.new.self.items ≡ c.push.new.self.items ++ c.continuing_body.result.now = c.in_ok-extend_from_slice.ensures.items in
     let pushed : c.push.new.self.items ≡ c.loop-line.bytes.items ++ 32 ∷ [] = c.in_ok-push.ensures.items in
     rw one_more
-    (extended ∙ rw (pushed, c.loop-line.invariant, c.continuing_body.ensures) (append_assoc (join_with_byte 32 (first ∷ pieces)) (32 ∷ []) last) ∙ sym (join_more 32 first pieces last))
+    (extended ∙ rw (pushed, c.loop-line.invariant, c.continuing_body.ensures) (append_assoc (join_with_byte 32 (first ∷ pieces)) (32 ∷ []) last)
+    ∙ sym (join_more 32 first pieces last))

@@ -13,4 +13,5 @@ returns-in-Some c = (
 
 pub returns : goal.returns
 returns c =
-    no_dot c.args.bytes.now c.min.result c.min.ensures c.requires (subst (λ (front : List ℕ). NoWordLonger dot_words front 0) (c.deref.ensures.value ∙ c.in_ok-front.ensures) c.in-None.ensures)
+    no_dot c.args.bytes.now c.min.result c.min.ensures c.requires
+    (subst (λ (front : List ℕ). NoWordLonger dot_words front 0) (c.deref.ensures.value ∙ c.in_ok-front.ensures) c.in-None.ensures)

@@ -36,5 +36,8 @@ loop-run-preserved c =
 pub returns : goal.returns
 returns c =
     let bytes = c.args.bytes.now in
-    let i = c.loop-run.invariant in
-    (text_front bytes c.new.result c.loop-run.len c.requires i.some i.within (i.read ∙ ap Some (sym c.new.ensures)) (subst (NoneQuoted (first_byte bytes)) (take_rest bytes c.loop-run.len) c.in_default-quoted.ensures), refl)
+    let i = c.loop-run.invariant in (
+      text_front bytes c.new.result c.loop-run.len c.requires i.some i.within (i.read ∙ ap Some (sym c.new.ensures))
+          (subst (NoneQuoted (first_byte bytes)) (take_rest bytes c.loop-run.len) c.in_default-quoted.ensures),
+      refl,
+    )
