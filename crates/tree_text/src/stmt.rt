@@ -22,15 +22,13 @@ pub fn write_block(out: &mut String, depth: usize, block: &[Stmt]) -> Result<(),
 fn write_stmt(out: &mut String, depth: usize, stmt: &Stmt) -> Result<(), AllocError> {
     match &stmt.what {
         Kind::IfOne { cond, body } => {
-            write_number(out, depth, stmt.line)?;
-            write_condition(out, "IF ", cond, "\n")?;
+            write_condition(out, depth, stmt.line, "IF ", cond, "\n")?;
             write_stmt(out, depth.saturating_add(1), body)
         }
         Kind::If { arms, rest, glued } => {
             write_arms(out, depth, stmt.line, arms)?;
             if let Some(block) = rest {
-                write_word(out, depth, "ELSE\n")?;
-                write_block(out, depth.saturating_add(1), block)?;
+                write_rest(out, depth, "ELSE\n", block)?;
             }
             write_end(out, depth, "IF", *glued)
         }
@@ -42,12 +40,10 @@ fn write_stmt(out: &mut String, depth: usize, stmt: &Stmt) -> Result<(), AllocEr
             one,
             glued,
         } => {
-            write_number(out, depth, stmt.line)?;
-            write_condition(out, "WHERE ", mask, "\n")?;
+            write_condition(out, depth, stmt.line, "WHERE ", mask, "\n")?;
             write_block(out, depth.saturating_add(1), body)?;
             if let Some(block) = rest {
-                write_word(out, depth, "ELSEWHERE\n")?;
-                write_block(out, depth.saturating_add(1), block)?;
+                write_rest(out, depth, "ELSEWHERE\n", block)?;
             }
             write_end_unless(out, *one, depth, "WHERE", *glued)
         }
@@ -59,19 +55,25 @@ fn write_stmt(out: &mut String, depth: usize, stmt: &Stmt) -> Result<(), AllocEr
             glued,
             marked,
         } => {
-            if *marked {
-                write_word(out, depth, "INDEPENDENT\n")?;
-            }
-            write_number(out, depth, stmt.line)?;
-            write_forall(out, axes, mask)?;
+            write_independent(out, depth, *marked)?;
+            write_forall(out, depth, stmt.line, axes, mask)?;
             write_block(out, depth.saturating_add(1), body)?;
             write_end_unless(out, *one, depth, "FORALL", *glued)
         }
-        what => {
-            write_number(out, depth, stmt.line)?;
-            write_action(out, what)
-        }
+        what => write_action(out, depth, stmt.line, what),
     }
+}
+
+/// Writes a word without a number, as ELSE, and the block behind it.
+#[cycle(statement)]
+fn write_rest(
+    out: &mut String,
+    depth: usize,
+    word: &str,
+    block: &[Stmt],
+) -> Result<(), AllocError> {
+    write_word(out, depth, word)?;
+    write_block(out, depth.saturating_add(1), block)
 }
 
 /// Writes the arms of an IF construct; the first one's number is written again where it isn't the construct's.
@@ -86,8 +88,7 @@ fn write_arms(out: &mut String, depth: usize, line: u32, arms: &[Arm]) -> Result
         if place == 0 && arm.line != line {
             write_number(out, depth, line)?;
         }
-        write_number(out, depth, arm.line)?;
-        write_condition(out, word, &arm.cond, " THEN\n")?;
+        write_condition(out, depth, arm.line, word, &arm.cond, " THEN\n")?;
         write_block(out, depth.saturating_add(1), &arm.body)?;
     }
     Ok(())
@@ -135,8 +136,23 @@ fn write_word(out: &mut String, depth: usize, word: &str) -> Result<(), AllocErr
     out.push_str(word)
 }
 
-/// Writes FORALL, its indices and its mask.
-fn write_forall(out: &mut String, axes: &[Header], mask: &Option<Expr>) -> Result<(), AllocError> {
+/// Writes INDEPENDENT without lists, where it stands before a FORALL.
+fn write_independent(out: &mut String, depth: usize, marked: bool) -> Result<(), AllocError> {
+    if !marked {
+        return Ok(());
+    }
+    write_word(out, depth, "INDEPENDENT\n")
+}
+
+/// Writes the number of a FORALL, its indices and its mask.
+fn write_forall(
+    out: &mut String,
+    depth: usize,
+    line: u32,
+    axes: &[Header],
+    mask: &Option<Expr>,
+) -> Result<(), AllocError> {
+    write_number(out, depth, line)?;
     out.push_str("FORALL (")?;
     for (place, axis) in axes.iter().enumerate() {
         write_comma(out, place)?;
@@ -156,7 +172,8 @@ fn write_forall(out: &mut String, axes: &[Header], mask: &Option<Expr>) -> Resul
 }
 
 /// Writes a statement that has no others inside it.
-fn write_action(out: &mut String, what: &Kind) -> Result<(), AllocError> {
+fn write_action(out: &mut String, depth: usize, line: u32, what: &Kind) -> Result<(), AllocError> {
+    write_number(out, depth, line)?;
     match what {
         Kind::Assign { left, right } => {
             write_ref(out, left)?;
@@ -194,13 +211,16 @@ fn write_print(out: &mut String, items: &[Item]) -> Result<(), AllocError> {
     Ok(())
 }
 
-/// Writes a word, a condition or mask, and what stands behind it.
+/// Writes the number of a line, a word, a condition or mask, and what stands behind it.
 fn write_condition(
     out: &mut String,
+    depth: usize,
+    line: u32,
     word: &str,
     cond: &Expr,
     behind: &str,
 ) -> Result<(), AllocError> {
+    write_number(out, depth, line)?;
     out.push_str(word)?;
     write_expr(out, cond)?;
     out.push_str(behind)
