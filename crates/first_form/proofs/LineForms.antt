@@ -4,7 +4,7 @@ use Rattle.std.specs.Prelude.{codes, pos, nat_le, slice_get, ◌==◌, ◌&&◌,
 use Rattle.std.specs.Char.{is_ascii_digit, is_ascii_uppercase}
 use Rattle.std.proofs.lemmas.Bool.{leb-true, le-leb, and_parts, and_from, and_right, lt-leb, eqb-true, eq-eqb}
 use Rattle.std.proofs.lemmas.List.{nil_from_length}
-use Rattle.first_form.specs.Form.{IsNumeral, IsArrayName, spelled_element, spelled_section, IsInside, IsDeclaration, IsShift, IsShow, IsStatement, end_line}
+use Rattle.first_form.specs.Form.{IsNumeral, IsArrayName, spelled_element, spelled_section, IsSectionWithin, IsDeclaration, IsShift, IsShow, IsStatement, end_line}
 use Rattle.first_form.specs.Refusal.{IsSomeStatement}
 use Rattle.first_form.specs.Reading.{◌>>=◌, after_text, number_at, whole_number, element_at, section_at, declaration_at, show_at, shift_at, right_side_at, assignment_at, statement_at}
 use Rattle.first_form.specs.declared.program.FirstStmt.{FirstStmt}
@@ -43,9 +43,9 @@ element_sound name bytes =
 -- `X(l:u)` inside the extent, and what is behind it
 abbrev IsSection : (name extent : ℕ) → List ℕ → ℕ × ℕ × List ℕ → Type 0
 IsSection name extent bytes x =
-    (first_digits : List ℕ) × IsNumeral first_digits x.0 × (last_digits : List ℕ) × IsNumeral last_digits x.1 × IsInside extent x.0 x.1 × (bytes ≡ spelled_section name first_digits last_digits ++ x.2)
+    (first_digits : List ℕ) × IsNumeral first_digits x.0 × (last_digits : List ℕ) × IsNumeral last_digits x.1 × IsSectionWithin extent x.0 x.1 × (bytes ≡ spelled_section name first_digits last_digits ++ x.2)
 
-section_found : (name extent first last : ℕ) (fs ls rest : List ℕ) → IsNumeral fs first → IsNumeral ls last → IsInside extent first last → section_at name extent (spelled_section name fs ls ++ rest) ≡ Some (first, last, rest)
+section_found : (name extent first last : ℕ) (fs ls rest : List ℕ) → IsNumeral fs first → IsNumeral ls last → IsSectionWithin extent first last → section_at name extent (spelled_section name fs ls ++ rest) ≡ Some (first, last, rest)
 unfolding section_at
 section_found name extent first last fs ls rest f l in' =
     let regrouped : spelled_section name fs ls ++ rest ≡ (name ∷ codes "(") ++ (fs ++ (codes ":" ++ (ls ++ (codes ")" ++ rest)))) = simp append_assoc in
@@ -114,7 +114,7 @@ show_none name extent number rest = step (name == 80)
 
 -- `X(v:w) + c`, under a target that was read
 record IsTarget (line : List ℕ) (name extent first last : ℕ) (bytes : List ℕ) : Type 0 where
-  inside : IsInside extent first last
+  inside : IsSectionWithin extent first last
   first_digits : List ℕ
   first_numeral : IsNumeral first_digits first
   last_digits : List ℕ
@@ -212,7 +212,7 @@ unfolding whole_number
 no_number name rest letter = rw (number_none name rest (no_digit name letter.0)) refl
 
 -- an assignment is read on from its right side
-assigned : (name extent number first last : ℕ) (fs ls bytes : List ℕ) → IsNumeral fs first → IsNumeral ls last → IsInside extent first last → statement_at name extent number (spelled_section name fs ls ++ codes " = " ++ bytes) ≡ right_side_at name extent number first last bytes
+assigned : (name extent number first last : ℕ) (fs ls bytes : List ℕ) → IsNumeral fs first → IsNumeral ls last → IsSectionWithin extent first last → statement_at name extent number (spelled_section name fs ls ++ codes " = " ++ bytes) ≡ right_side_at name extent number first last bytes
 unfolding statement_at assignment_at
 assigned name extent number first last fs ls bytes f l in' =
     let section = section_found name extent first last fs ls (codes " = " ++ bytes) f l in' in

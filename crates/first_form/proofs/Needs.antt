@@ -10,7 +10,7 @@ use Rattle.hpf_base.specs.Positions.{in_section, section}
 use Rattle.hpf_base.proofs.Blocks.{coordinate-within, coordinate-unique, default_block-some}
 use Rattle.hpf_base.specs.declared.mapping.Line.{Line}
 use Rattle.hpf_base.proofs.Sections.{filter-positions, same_test, in_section_true, in_section_holds}
-use Rattle.first_form.specs.Form.{IsInside}
+use Rattle.first_form.specs.Form.{IsSectionWithin}
 use Rattle.first_form.specs.declared.program.FirstStmt.TheVariants.{Fill, Shift, Show}
 use Rattle.first_form.specs.declared.program.FirstStmt.{FirstStmt}
 use Rattle.first_form.specs.Valid.{IsWithin}
@@ -40,7 +40,7 @@ needs-fill extent procs node at first last position value = same_test _ _
     (λ e. let h = in_section_true 1 0 position e in absurd (omega (arith, h.0, h.1)))
 
 -- what is read for the part of the left side that the node owns
-pub needs-shift : (extent procs node at first last from : ℕ) (add : ℤ) (a b : ℕ) → IsInside extent first last
+pub needs-shift : (extent procs node at first last from : ℕ) (add : ℤ) (a b : ℕ) → IsSectionWithin extent first last
     → (let size = default_block extent procs in
     let c = max first (node * size + 1) in
     let d = min last (min ((node + 1) * size) extent) in

@@ -8,7 +8,7 @@ use Rattle.std.specs.Prelude.{All}
 use Rattle.std.proofs.lemmas.List.Elements.{All-map}
 use Rattle.hpf_base.specs.Positions.{element}
 use Rattle.hpf_base.proofs.Sections.{All-range, filter-positions}
-use Rattle.first_form.specs.Form.{IsInside}
+use Rattle.first_form.specs.Form.{IsSectionWithin}
 use Rattle.first_form.specs.declared.program.FirstStmt.{FirstStmt}
 use Rattle.first_form.specs.declared.program.FirstStmt.TheVariants.{Show}
 use Rattle.first_form.specs.Message.{needs}
@@ -83,7 +83,7 @@ outboxes-each extent procs stmt xs outboxes is =
     (λ from low high. length-map-range_with_len (letter_of (block_line extent procs) stmt xs from) 0 procs)))
 
 -- node 0 needs for PRINT the element that it names
-pub shown-value : (extent procs at place : ℕ) (xs : List ℤ) → IsInside extent place place
+pub shown-value : (extent procs at place : ℕ) (xs : List ℤ) → IsSectionWithin extent place place
     → values_needed (block_line extent procs) (Show at place) xs 0 ≡ element xs place ∷ []
 shown-value extent procs at place xs inside =
     let one : place + 1 - place ≡ 1 = omega arith in

@@ -1,7 +1,7 @@
 -- A program that is read stays inside its array.
 use Rattle.std.proofs.Common.{◌≡◌, ℕ, ◌+◌, ◌-◌, List, [], ◌∷◌, arith, subst}
 use Rattle.std.specs.List.{AllByRecursion}
-use Rattle.first_form.specs.Form.{AreLinesOf, AreStatements, IsInside, IsStatement, Program}
+use Rattle.first_form.specs.Form.{AreLinesOf, AreStatements, IsSectionWithin, IsStatement, Program}
 use Rattle.first_form.specs.Valid.{IsValid, IsWithin}
 use Rattle.first_form.specs.declared.program.FirstStmt.{FirstStmt}
 use Rattle.first_form.specs.declared.program.FirstStmt.TheVariants.{Fill, Shift, Show}
@@ -10,7 +10,7 @@ statement_within : (name extent number : ℕ) (line : List ℕ) (stmt : FirstStm
 statement_within name extent number line (Fill at first last value) is = is.1.inside
 statement_within name extent number line (Shift at first last from add) is =
     let to : is.1.to ≡ from + (last - first) = omega (arith, is.1.same_length, is.1.inside.ordered) in
-    (is.1.inside, subst (IsInside extent from) to is.1.from_inside)
+    (is.1.inside, subst (IsSectionWithin extent from) to is.1.from_inside)
 statement_within name extent number line (Show at place) is = record { begins = is.1.begins; ordered = omega arith; ends = is.1.ends }
 
 statements_within : (name extent number : ℕ) (lines : List (List ℕ)) (stmts : List FirstStmt) → AreStatements name extent number lines stmts

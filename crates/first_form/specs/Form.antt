@@ -37,7 +37,7 @@ abbrev pub spelled_section : ℕ → List ℕ → List ℕ → List ℕ
 spelled_section name first last = name ∷ codes "(" ++ first ++ codes ":" ++ last ++ codes ")"
 
 -- the section lies inside the extent and isn't empty
-pub record IsInside (extent first last : ℕ) : Type 0 where
+pub record IsSectionWithin (extent first last : ℕ) : Type 0 where
   pub begins : 1 ≤ first
   pub ordered : first ≤ last
   pub ends : last ≤ extent
@@ -57,7 +57,7 @@ directive_of name = codes "!HPF$ DISTRIBUTE " ++ name ∷ codes "(BLOCK)"
 
 -- `X(l:u) = c`
 pub record IsFill (line : List ℕ) (name extent first last : ℕ) (value : ℤ) : Type 0 where
-  pub inside : IsInside extent first last
+  pub inside : IsSectionWithin extent first last
   pub first_digits : List ℕ
   pub first_numeral : IsNumeral first_digits first
   pub last_digits : List ℕ
@@ -70,10 +70,10 @@ pub record IsFill (line : List ℕ) (name extent first last : ℕ) (value : ℤ)
 
 -- `X(l:u) = X(v:w) + c`, where both sections have one length
 pub record IsShift (line : List ℕ) (name extent first last from : ℕ) (add : ℤ) : Type 0 where
-  pub inside : IsInside extent first last
+  pub inside : IsSectionWithin extent first last
   pub to : ℕ
   pub same_length : from + last ≡ to + first
-  pub from_inside : IsInside extent from to
+  pub from_inside : IsSectionWithin extent from to
   pub first_digits : List ℕ
   pub first_numeral : IsNumeral first_digits first
   pub last_digits : List ℕ

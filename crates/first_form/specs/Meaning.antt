@@ -31,13 +31,13 @@ printed_by (Shift line first last from add) xs = []
 printed_by (Show line place) xs = signed_decimal (element xs place) ++ 10 ∷ []
 
 -- the state behind a statement
-abbrev pub after : FirstStmt → State → State
-after stmt s = record { array = array_after stmt s.array; printed = s.printed ++ printed_by stmt s.array }
+abbrev pub state_after : FirstStmt → State → State
+state_after stmt s = record { array = array_after stmt s.array; printed = s.printed ++ printed_by stmt s.array }
 
 -- the state behind statements in order
 abbrev pub after_all : List FirstStmt → State → State
 after_all [] s = s
-after_all (stmt ∷ stmts) s = after_all stmts (after stmt s)
+after_all (stmt ∷ stmts) s = after_all stmts (state_after stmt s)
 
 -- every element starts at 0, and nothing is printed
 abbrev pub opening : ℕ → State

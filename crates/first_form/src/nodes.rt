@@ -6,7 +6,7 @@ ghost use Rattle.hpf_base.specs.LocalOrder.{piece_of, pieces_of};
 ghost use Rattle.hpf_base.specs.Owner.{block_line};
 ghost use Rattle.hpf_base.specs.Positions.{element};
 ghost use Rattle.first_form.specs.Meaning.{array_after, printed_by};
-ghost use Rattle.first_form.specs.Form.{IsInside};
+ghost use Rattle.first_form.specs.Form.{IsSectionWithin};
 ghost use Rattle.first_form.specs.Valid.{IsWithin};
 ghost use Rattle.first_form.specs.declared.program.FirstStmt.TheVariants.{Fill, Shift, Show};
 ghost use Rattle.first_form.specs.Letters.{outboxes_of};
@@ -25,7 +25,7 @@ use std::marker::Model;
 
 /// Each node in turn fills what it owns of a section.
 pub fn fill_all(blocks: Blocks, pieces: &mut [Piece], first: u64, last: u64, value: i64)
-    requires inside { IsInside blocks.extent first last }
+    requires inside { IsSectionWithin blocks.extent first last }
     requires held { (xs : List ℤ) × (length xs ≡ blocks.extent) × (pieces.old ≡ pieces_of (block_line blocks.extent blocks.nodes) xs) }
     ensures { (line : ℕ) (xs : List ℤ) → length xs ≡ blocks.extent → pieces.old ≡ pieces_of (block_line blocks.extent blocks.nodes) xs
         → pieces.new ≡ pieces_of (block_line blocks.extent blocks.nodes) (array_after (Fill line first last value) xs) }

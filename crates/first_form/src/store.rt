@@ -5,7 +5,7 @@ ghost use Rattle.std.specs.Int.{int_wrapping_add, w64};
 ghost use Rattle.hpf_base.specs.LocalOrder.{owned, piece_of};
 ghost use Rattle.hpf_base.specs.Owner.{block_line};
 ghost use Rattle.first_form.specs.Meaning.{array_after};
-ghost use Rattle.first_form.specs.Form.{IsInside};
+ghost use Rattle.first_form.specs.Form.{IsSectionWithin};
 ghost use Rattle.first_form.specs.Valid.{IsWithin};
 ghost use Rattle.first_form.specs.declared.program.FirstStmt.TheVariants.{Fill, Shift};
 ghost use Rattle.first_form.specs.Letters.{shared, values_needed};
@@ -19,7 +19,7 @@ use std::alloc::Global;
 /// Writes a value to the positions of a section that the node owns.
 pub fn fill(blocks: Blocks, piece: &mut Piece, node: u32, first: u64, last: u64, value: i64)
     requires node { node < blocks.nodes }
-    requires inside { IsInside blocks.extent first last }
+    requires inside { IsSectionWithin blocks.extent first last }
     requires sized { length piece.old ≡ length (owned (block_line blocks.extent blocks.nodes) node) }
     ensures { (line : ℕ) (xs : List ℤ) → length xs ≡ blocks.extent → piece.old ≡ piece_of (block_line blocks.extent blocks.nodes) xs node
         → piece.new ≡ piece_of (block_line blocks.extent blocks.nodes) (array_after (Fill line first last value) xs) node }
@@ -57,7 +57,7 @@ pub fn store(
     values: &[i64],
 ) -> Result<(), OutOfMemory>
     requires node { node < blocks.nodes }
-    requires inside { IsInside blocks.extent left.first left.last }
+    requires inside { IsSectionWithin blocks.extent left.first left.last }
     requires sized { length piece.old ≡ length (owned (block_line blocks.extent blocks.nodes) node) }
     requires counted { length values.now ≡ length (shared left blocks.extent blocks.size node) }
     ensures { (line from : ℕ) (xs : List ℤ) → IsWithin blocks.extent (Shift line left.first left.last from add) → length xs ≡ blocks.extent

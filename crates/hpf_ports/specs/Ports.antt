@@ -20,6 +20,6 @@ IsAtEnd None = Unit {0}
 IsAtEnd (Some left) = left ≡ []
 
 -- the sink took these bytes, behind those that it held
-abbrev pub Took : Option (List ℕ) → Option (List ℕ) → List ℕ → Type 0
-Took None held' bytes = held' ≡ None
-Took (Some held) held' bytes = held' ≡ Some (held ++ bytes)
+abbrev pub AreAppended : Option (List ℕ) → Option (List ℕ) → List ℕ → Type 0
+AreAppended None held' bytes = held' ≡ None
+AreAppended (Some held) held' bytes = held' ≡ Some (held ++ bytes)

@@ -1,7 +1,7 @@
 //! Sources and sinks over memory, for tests: they give and take in pieces, and fail where they are told to.
 
 ghost use Rattle.std.specs.Prelude.{◌≡◌, ◌<◌, ◌≤◌, [], length, take, drop, min, Some, IsErr, IsOk, is_err, IfOk, OnOk, OnErr, vec_capacity};
-ghost use Rattle.hpf_ports.specs.Ports.{Gave, IsAtEnd, Rose, Took, next_count};
+ghost use Rattle.hpf_ports.specs.Ports.{Gave, IsAtEnd, Rose, AreAppended, next_count};
 ghost use Rattle.hpf_ports.specs.Mem.{SourceState, SinkState, read_fails, write_fails, read_len, write_len};
 
 use crate::sink::Sink;
@@ -160,7 +160,7 @@ impl Sink for MemSink {
         requires { 0 < length bytes.now }
         ensures some { IfOk result (λ n. 0 < n) }
         ensures fits { IfOk result (λ n. n ≤ length bytes.now) }
-        ensures took { IfOk result (λ n. Took (Some self.old.held) (Some self.new.held) (take n bytes.now)) }
+        ensures took { IfOk result (λ n. AreAppended (Some self.old.held) (Some self.new.held) (take n bytes.now)) }
         ensures failed { OnErr result (Rose self.old.faults self.new.faults) }
         ensures stays { OnErr result (Some self.new.held ≡ Some self.old.held) }
         ensures count { self.old.faults ≤ self.new.faults }

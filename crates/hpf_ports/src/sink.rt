@@ -1,7 +1,7 @@
 //! Where bytes go.
 
 ghost use Rattle.std.specs.Prelude.{◌≡◌, ℕ, ◌<◌, ◌≤◌, List, length, take, Option, IfOk, OnErr};
-ghost use Rattle.hpf_ports.specs.Ports.{Took, Rose};
+ghost use Rattle.hpf_ports.specs.Ports.{AreAppended, Rose};
 
 use crate::source::Failed;
 
@@ -18,7 +18,7 @@ pub trait Sink {
         requires { 0 < length bytes.now }
         ensures some { IfOk result (λ n. 0 < n) }
         ensures fits { IfOk result (λ n. n ≤ length bytes.now) }
-        ensures took { IfOk result (λ n. Took (held self.old) (held self.new) (take n bytes.now)) }
+        ensures took { IfOk result (λ n. AreAppended (held self.old) (held self.new) (take n bytes.now)) }
 
         // A failure has raised the count and written nothing.
         ensures failed { OnErr result (Rose (faults self.old) (faults self.new)) }

@@ -5,7 +5,7 @@ use Rattle.hpf_base.specs.declared.refusal.Refusal.{Refusal}
 use Rattle.hpf_base.specs.declared.status.Status.TheVariants.{Done, Refused, TooLong, Usage, WriteFault}
 use Rattle.hpf_base.specs.declared.status.Status.{Status}
 use Rattle.hpf_base.specs.declared.limits.TheConstants.{MAX_SOURCE_BYTES}
-use Rattle.hpf_ports.specs.Ports.{Gave, IsAtEnd, Rose, Took}
+use Rattle.hpf_ports.specs.Ports.{Gave, IsAtEnd, Rose, AreAppended}
 use Rattle.first_form.specs.Form.{Program, ReadsAs}
 use Rattle.hpf_reader.specs.ProgramText.{HasNoBreach}
 use Rattle.first_form.specs.Meaning.{printed_of}
@@ -70,19 +70,19 @@ too_long-meant words source source' nodes taken command long gave = cases source
 
 -- what is delivered, from what the writes of texts that are equal to an outcome's answer
 pub delivered-out : (o : Outcome) (out out' err : Port) (text : List ℕ) → text ≡ o.out → Rose out.faults out'.faults
-    → (n : ℕ) × (n < length text) × Took out.bytes out'.bytes (take n text) → Delivered o out out' err err WriteFault
+    → (n : ℕ) × (n < length text) × AreAppended out.bytes out'.bytes (take n text) → Delivered o out out' err err WriteFault
 delivered-out o out out' err text is rose prefix =
     let short : prefix.0 < length o.out = subst (λ t. prefix.0 < length t) is prefix.1 in
-    out_failed rose prefix.0 short (subst (λ t. Took out.bytes out'.bytes (take prefix.0 t)) is prefix.2) refl
+    out_failed rose prefix.0 short (subst (λ t. AreAppended out.bytes out'.bytes (take prefix.0 t)) is prefix.2) refl
 
-pub delivered-err : (o : Outcome) (out out' err err' : Port) (text line : List ℕ) → text ≡ o.out → line ≡ o.err → Took out.bytes out'.bytes text
-    → Rose err.faults err'.faults → (n : ℕ) × (n < length line) × Took err.bytes err'.bytes (take n line) → Delivered o out out' err err' WriteFault
+pub delivered-err : (o : Outcome) (out out' err err' : Port) (text line : List ℕ) → text ≡ o.out → line ≡ o.err → AreAppended out.bytes out'.bytes text
+    → Rose err.faults err'.faults → (n : ℕ) × (n < length line) × AreAppended err.bytes err'.bytes (take n line) → Delivered o out out' err err' WriteFault
 delivered-err o out out' err err' text line text_is line_is took rose prefix =
     let short : prefix.0 < length o.err = subst (λ t. prefix.0 < length t) line_is prefix.1 in
-    err_failed rose (subst (Took out.bytes out'.bytes) text_is took) prefix.0 short (subst (λ t. Took err.bytes err'.bytes (take prefix.0 t)) line_is prefix.2)
+    err_failed rose (subst (AreAppended out.bytes out'.bytes) text_is took) prefix.0 short (subst (λ t. AreAppended err.bytes err'.bytes (take prefix.0 t)) line_is prefix.2)
 
 pub delivered-all : (o : Outcome) (out out' err err' : Port) (text line : List ℕ) (status : Status) → text ≡ o.out → line ≡ o.err → status ≡ o.status
-    → Took out.bytes out'.bytes text → Took err.bytes err'.bytes line → Delivered o out out' err err' status
+    → AreAppended out.bytes out'.bytes text → AreAppended err.bytes err'.bytes line → Delivered o out out' err err' status
 delivered-all o out out' err err' text line status text_is line_is status_is took_text took_line =
     subst (Delivered o out out' err err') (sym status_is)
-    (all_written (subst (Took out.bytes out'.bytes) text_is took_text) (subst (Took err.bytes err'.bytes) line_is took_line))
+    (all_written (subst (AreAppended out.bytes out'.bytes) text_is took_text) (subst (AreAppended err.bytes err'.bytes) line_is took_line))

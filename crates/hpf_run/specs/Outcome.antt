@@ -6,7 +6,7 @@ use Rattle.hpf_base.specs.declared.status.Status.{Status}
 use Rattle.hpf_base.specs.declared.status.Status.TheVariants.{Done, Refused, Usage, ReadFault, WriteFault, Memory, TooLong}
 use Rattle.hpf_base.specs.Refusal.{name_of, number_of}
 use Rattle.hpf_base.specs.declared.limits.TheConstants.{MAX_SOURCE_BYTES}
-use Rattle.hpf_ports.specs.Ports.{Gave, IsAtEnd, Rose, Took}
+use Rattle.hpf_ports.specs.Ports.{Gave, IsAtEnd, Rose, AreAppended}
 use Rattle.first_form.specs.Form.{Program, ReadsAs}
 use Rattle.first_form.specs.Refusal.{IsLeftOut}
 use Rattle.hpf_reader.specs.ProgramText.{HasNoBreach, IsRefused}
@@ -85,10 +85,10 @@ pub data Meant (words : List (List ℕ)) (source source' : Port) : Outcome → T
 -- what is written of it, and the status: all of it, or a proper prefix of one sink's text where that sink's count
 -- of faults rose
 pub data Delivered (o : Outcome) (out out' err err' : Port) : Status → Type 0 where
-  all_written : Took out.bytes out'.bytes o.out → Took err.bytes err'.bytes o.err → Delivered o out out' err err' o.status
-  out_failed : Rose out.faults out'.faults → (n : ℕ) → n < length o.out → Took out.bytes out'.bytes (take n o.out) → err'.bytes ≡ err.bytes
+  all_written : AreAppended out.bytes out'.bytes o.out → AreAppended err.bytes err'.bytes o.err → Delivered o out out' err err' o.status
+  out_failed : Rose out.faults out'.faults → (n : ℕ) → n < length o.out → AreAppended out.bytes out'.bytes (take n o.out) → err'.bytes ≡ err.bytes
       → Delivered o out out' err err' WriteFault
-  err_failed : Rose err.faults err'.faults → Took out.bytes out'.bytes o.out → (n : ℕ) → n < length o.err → Took err.bytes err'.bytes (take n o.err)
+  err_failed : Rose err.faults err'.faults → AreAppended out.bytes out'.bytes o.out → (n : ℕ) → n < length o.err → AreAppended err.bytes err'.bytes (take n o.err)
       → Delivered o out out' err err' WriteFault
 
 -- what a call of the program answers, where its source and its two sinks stood so before it and so behind it: the status of

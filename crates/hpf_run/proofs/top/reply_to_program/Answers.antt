@@ -14,7 +14,9 @@ returns-in-Ok c = text_memory
 
 pub returns-in-Err-LeftOut : goal.returns-in-Err-LeftOut
 returns-in-Err-LeftOut c =
-    refused-meant c.args.text.now _ _ (by_form c.in-Err-LeftOut.line c.requires.fine (subst (IsCauseOf c.args.text.now) c.in-Err-LeftOut.field-0-is c.in-Err-LeftOut.ensures.refused)) c.reply_refused.ensures
+    refused-meant c.args.text.now _ _
+    (by_form c.in-Err-LeftOut.line c.requires.fine (subst (IsCauseOf c.args.text.now) c.in-Err-LeftOut.field-0-is c.in-Err-LeftOut.ensures.refused))
+    c.reply_refused.ensures
 
 pub returns : goal.returns
 returns c = text_memory

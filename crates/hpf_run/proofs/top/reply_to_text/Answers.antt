@@ -7,7 +7,9 @@ use Rattle.hpf_run.proofs.top.reply_to_text.Goals as goal
 
 pub returns-in-Some-Refused : goal.returns-in-Some-Refused
 returns-in-Some-Refused c =
-    refused-meant c.args.text.now c.in-Some-Refused.refusal _ (by_reader c.in-Some-Refused.refusal (subst (IsProgramRefusal c.args.text.now) c.in-Some-Refused.field-0-is c.in-Some-Refused.ensures.refused)) c.reply_refused.ensures
+    refused-meant c.args.text.now c.in-Some-Refused.refusal _
+    (by_reader c.in-Some-Refused.refusal (subst (IsProgramRefusal c.args.text.now) c.in-Some-Refused.field-0-is c.in-Some-Refused.ensures.refused))
+    c.reply_refused.ensures
 
 pub returns-in-Some-Memory : goal.returns-in-Some-Memory
 returns-in-Some-Memory c = text_memory
