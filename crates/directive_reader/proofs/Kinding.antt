@@ -1,6 +1,7 @@
 -- The kind of a line in front of which a directive of a kind stands.
-use Rattle.std.proofs.Common.{◌≡◌, ℕ, Bool, true, false, ◌&&◌, ◌||◌, List, [], ◌∷◌, ◌++◌, Some, None, refl, sym, ap, ◌∙◌, subst}
+use Rattle.std.proofs.Common.{◌≡◌, ℕ, Bool, true, false, ◌&&◌, List, [], ◌∷◌, ◌++◌, Some, None, refl, sym, ap, ◌∙◌, subst}
 use Rattle.std.specs.Prelude.{bytes_eq, codes, not}
+use Rattle.std.proofs.Math.Bool.{and-false, or-false}
 use Rattle.syntax_tree.specs.Lexeme.{Lexeme, Word}
 use Rattle.line_forms.specs.declared.depths.Depths.{Depths}
 use Rattle.line_forms.specs.Marks.{starts, key, attribute_key, opening, closing, colons}
@@ -25,14 +26,6 @@ Ends us = us ≡ []
 pub ends_begin : (us : List Lexeme) → Ends us → Begins (Finish ∷ []) us
 ends_begin us e = subst (Begins (Finish ∷ [])) (sym e) refl
 
-only : (b : Bool) → (b || false) ≡ true → b ≡ true
-only true h = refl
-only false h = h
-
-no_other : (b : Bool) → ((b && true) && false) ≡ false
-no_other true = refl
-no_other false = refl
-
 -- a name, and what isn't one
 named : (ts : List Lexeme) → Begins (AnyName ∷ []) ts → is_named ts ≡ true
 named (Word x ∷ ts) b = refl
@@ -48,40 +41,49 @@ module _ (depths : Depths) {A : Type 0} (z : A) where
   abbrev pub Stands : (g : Grammar) → Value g → List Lexeme → Reading A → Type 0
   Stands g v ts r = StandsAs (deep_front depths g v) (printed g v) z Ends ts r
 
-  begins_so : (g : Grammar) (v : Value g) → is_ll1 g (Finish ∷ []) ≡ true → IsWell g v → (ts : List Lexeme) (r : Reading A) → Stands g v ts r → Begins (first_set g (Finish ∷ [])) ts
+  begins_so : (g : Grammar) (v : Value g) → is_ll1 g (Finish ∷ []) ≡ true → IsWell g v → (ts : List Lexeme) (r : Reading A) → Stands g v ts r
+      → Begins (first_set g (Finish ∷ [])) ts
   begins_so g v l w ts r s =
       let u = unmapped (deep_front depths g v) (printed g v) (value_kept g v) (λ x. z) Ends (Begins (Finish ∷ [])) ts r ends_begin s in
       starting depths g (Finish ∷ []) l v w ts u.0 u.1
 
-  behind_key : (ks : List Lexeme) (g : Grammar) (v : Value g) (ts : List Lexeme) (r : Reading A) → StandsAs (preceded ks (deep_front depths g v)) (ks ++ printed g v) z Ends ts r → (us : List Lexeme) × (ts ≡ ks ++ us) × Stands g v us r
+  behind_key : (ks : List Lexeme) (g : Grammar) (v : Value g) (ts : List Lexeme) (r : Reading A)
+      → StandsAs (preceded ks (deep_front depths g v)) (ks ++ printed g v) z Ends ts r → (us : List Lexeme) × (ts ≡ ks ++ us) × Stands g v us r
   behind_key ks g v ts r s = behind_prefix ks (deep_front depths g v) (printed g v) z Ends ts r s
 
   -- where the names stand in a DISTRIBUTE
-  distributed : (many : Bool) (v : Value (distribution many)) → IsWell (distribution many) v → (us : List Lexeme) (r : Reading A) → Stands (distribution many) v us r → starts opening us ≡ many
+  distributed : (many : Bool) (v : Value (distribution many)) → IsWell (distribution many) v → (us : List Lexeme) (r : Reading A)
+      → Stands (distribution many) v us r → starts opening us ≡ many
   distributed false v w us r s = disjoint_starts opening (AnyName ∷ []) us refl (begins_so (distribution false) v refl w us r s)
-  distributed true v w us r s = only (starts opening us) (begins_so (distribution true) v refl w us r s)
+  distributed true v w us r s = sym (or-false (starts opening us)) ∙ begins_so (distribution true) v refl w us r s
 
   -- behind `name` in an ALIGN stands its list, or WITH and a name
   abbrev one_target : Grammar
   one_target = Sequence Identifier (Sequence (optional_enclosed target) Nothing)
 
-  alignee : (v : Value (Sequence (optional_enclosed source) (aligned_with Nothing))) → IsWell (Sequence (optional_enclosed source) (aligned_with Nothing)) v → (us : List Lexeme) (r : Reading A) → Stands (Sequence (optional_enclosed source) (aligned_with Nothing)) v us r → is_alignee us ≡ true
+  alignee : (v : Value (Sequence (optional_enclosed source) (aligned_with Nothing)))
+      → IsWell (Sequence (optional_enclosed source) (aligned_with Nothing)) v → (us : List Lexeme) (r : Reading A)
+      → Stands (Sequence (optional_enclosed source) (aligned_with Nothing)) v us r → is_alignee us ≡ true
   alignee (None, v) w us r s =
-      then_begins {Q = is_alignee us ≡ true} None [] z (λ l. is_alignee l ≡ true) (deep_front depths (aligned_with Nothing) v) (printed (aligned_with Nothing) v) z Ends us r s (λ r' q. ap is_alignee q.2 ∙ q.1)
+      then_begins {Q = is_alignee us ≡ true} None [] z (λ l. is_alignee l ≡ true) (deep_front depths (aligned_with Nothing) v)
+      (printed (aligned_with Nothing) v) z Ends us r s (λ r' q. ap is_alignee q.2 ∙ q.1)
       (λ l q. let p = behind_key (key (codes "WITH")) one_target v l r q in ap is_alignee p.1 ∙ named p.0 (begins_so one_target v refl w.1 p.0 r p.2))
   alignee (Some list, v) w us r s =
       let inner : Grammar = Suffixed (CommaList source) closing in
-      then_begins {Q = is_alignee us ≡ true} (deep_front depths (optional_enclosed source) (Some list)) (printed (optional_enclosed source) (Some list)) z (λ l. Unit {0}) (deep_front depths (aligned_with Nothing) v) (printed (aligned_with Nothing) v) z Ends us r s
+      then_begins {Q = is_alignee us ≡ true} (deep_front depths (optional_enclosed source) (Some list))
+      (printed (optional_enclosed source) (Some list)) z (λ l. Unit {0}) (deep_front depths (aligned_with Nothing) v)
+      (printed (aligned_with Nothing) v) z Ends us r s
       (λ r' q. let p = behind_prefix opening (deep_front depths inner list) (printed inner list) z (λ l. Unit {0}) us r' q in ap is_alignee p.1) (λ l q. tt)
 
   -- behind WITH stands a name, and no name behind that
   abbrev many_targets : Grammar
   many_targets = Sequence (optional_enclosed target) (Prefixed colons (CommaList Identifier))
 
-  with_target : (v : Value (Sequence Identifier many_targets)) → IsWell (Sequence Identifier many_targets) v → (us : List Lexeme) (r : Reading A) → Stands (Sequence Identifier many_targets) v us r → is_alignee us ≡ false
+  with_target : (v : Value (Sequence Identifier many_targets)) → IsWell (Sequence Identifier many_targets) v → (us : List Lexeme) (r : Reading A)
+      → Stands (Sequence Identifier many_targets) v us r → is_alignee us ≡ false
   with_target v w us r s =
       then_begins {Q = is_alignee us ≡ false} None (Word v.0 ∷ []) z (λ l. is_named l ≡ false) (deep_front depths many_targets v.1) (printed many_targets v.1) z Ends us r s
-      (λ r' q. ap is_alignee q.2 ∙ ap (λ b. (bytes_eq (codes "WITH") v.0 && true) && b) q.1 ∙ no_other (bytes_eq (codes "WITH") v.0))
+      (λ r' q. ap is_alignee q.2 ∙ ap (λ b. (bytes_eq (codes "WITH") v.0 && true) && b) q.1 ∙ and-false (bytes_eq (codes "WITH") v.0 && true))
       (λ l q. unnamed l (begins_so many_targets v.1 refl w.1 l r q))
 
   -- where the alignees stand in an ALIGN
@@ -89,7 +91,7 @@ module _ (depths : Depths) {A : Type 0} (z : A) where
   aligned false v w us r s =
       let h : Grammar = Sequence (optional_enclosed source) (aligned_with Nothing) in
       then_begins {Q = is_many us ≡ false} None (Word v.0 ∷ []) z (λ l. is_alignee l ≡ true) (deep_front depths h v.1) (printed h v.1) z Ends us r s
-      (λ r' q. ap is_many q.2 ∙ ap (λ b. (bytes_eq (codes "WITH") v.0 && true) && not b) q.1 ∙ no_other (bytes_eq (codes "WITH") v.0))
+      (λ r' q. ap is_many q.2 ∙ ap (λ b. (bytes_eq (codes "WITH") v.0 && true) && not b) q.1 ∙ and-false (bytes_eq (codes "WITH") v.0 && true))
       (λ l q. alignee v.1 w.1 l r q)
   aligned true (None, v) w us r s =
       let g : Grammar = aligned_with (Prefixed colons (CommaList Identifier)) in
@@ -98,14 +100,17 @@ module _ (depths : Depths) {A : Type 0} (z : A) where
   aligned true (Some list, v) w us r s =
       let g : Grammar = aligned_with (Prefixed colons (CommaList Identifier)) in
       let inner : Grammar = Suffixed (CommaList source) closing in
-      then_begins {Q = is_many us ≡ true} (deep_front depths (optional_enclosed source) (Some list)) (printed (optional_enclosed source) (Some list)) z (λ l. Unit {0}) (deep_front depths g v) (printed g v) z Ends us r s
+      then_begins {Q = is_many us ≡ true} (deep_front depths (optional_enclosed source) (Some list)) (printed (optional_enclosed source) (Some list))
+      z (λ l. Unit {0}) (deep_front depths g v) (printed g v) z Ends us r s
       (λ r' q. let p = behind_prefix opening (deep_front depths inner list) (printed inner list) z (λ l. Unit {0}) us r' q in ap is_many p.1) (λ l q. tt)
 
   -- the grammar of a kind stands in front of lines of that kind, which aren't passed over
   abbrev pub IsOf : Kind → List Lexeme → Type 0
   IsOf k ts = (directive_kind ts ≡ Some k) × (is_passed ts ≡ false)
 
-  keyed : (k : Kind) (word : List ℕ) (g : Grammar) (v : Value g) (ts : List Lexeme) (r : Reading A) → StandsAs (preceded (key word) (deep_front depths g v)) (key word ++ printed g v) z Ends ts r → ((us : List Lexeme) → Stands g v us r → IsOf k (key word ++ us)) → IsOf k ts
+  keyed : (k : Kind) (word : List ℕ) (g : Grammar) (v : Value g) (ts : List Lexeme) (r : Reading A)
+      → StandsAs (preceded (key word) (deep_front depths g v)) (key word ++ printed g v) z Ends ts r
+      → ((us : List Lexeme) → Stands g v us r → IsOf k (key word ++ us)) → IsOf k ts
   keyed k word g v ts r s h = let p = behind_key (key word) g v ts r s in subst (IsOf k) (sym p.1) (h p.0 p.2)
 
   abbrev lists : Grammar

@@ -9,7 +9,7 @@ use Rattle.line_forms.specs.Reading.{Reading, Found, Stopped, ◌>>=◌}
 use Rattle.line_forms.specs.InFront.{On}
 use Rattle.line_forms.specs.Grammar.{Suffixed, Identifier, Optional, CommaList}
 use Rattle.line_forms.specs.Parts.{enclosed}
-use Rattle.line_forms.specs.Read.{after, name, read, comma_list}
+use Rattle.line_forms.specs.Read.{after_marks, name, read, comma_list}
 use Rattle.directive_reader.specs.Views.{names_in}
 
 pub on_next : {A B : Type 0} (r : Reading A) (f : A × List Lexeme → Reading B) (Q : B × List Lexeme → Type 0) → ((x : A × List Lexeme) → On (f x) Q) → On (r >>= f) Q
@@ -27,19 +27,26 @@ names_listed : (most : ℕ) (ts : List Lexeme) → On (comma_list (starts comma)
 unfolding comma_list
 names_listed zero ts = tt
 names_listed (suc most) ts =
-    on_next (name ts) _ HasNames (λ x. on_both (starts comma x.1) _ _ HasNames (on_next (comma_list (starts comma) name most _) (λ xs. Found (x.0 ∷ xs.0, xs.1)) HasNames (λ xs. refl)) refl)
+    on_next (name ts) _ HasNames
+    (λ x.
+    on_both (starts comma x.1) _ _ HasNames
+    (on_next (comma_list (starts comma) name most _) (λ xs. Found (x.0 ∷ xs.0, xs.1)) HasNames (λ xs. refl)) refl)
 
-kept_names : (r : Reading (List (List ℕ))) → On r HasNames → On (r >>= λ v. after closing v.1 >>= λ x. Found (v.0, x.1)) HasNames
-kept_names (Found v) h = on_next (after closing v.1) (λ x. Found (v.0, x.1)) HasNames (λ x. h)
+kept_names : (r : Reading (List (List ℕ))) → On r HasNames → On (r >>= λ v. after_marks closing v.1 >>= λ x. Found (v.0, x.1)) HasNames
+kept_names (Found v) h = on_next (after_marks closing v.1) (λ x. Found (v.0, x.1)) HasNames (λ x. h)
 kept_names (Stopped why) h = tt
 
 -- a list that is read has an element
 pub some_names : (depths : Depths) (ts : List Lexeme) (xs : List (List ℕ)) (us : List Lexeme) → read depths (enclosed Identifier) ts ≡ Found (xs, us) → names_in xs ≡ Some xs
 some_names depths ts xs us h =
-    subst (λ r. On r HasNames) h (on_next (after opening ts) (λ x. read depths (Suffixed (CommaList Identifier) closing) x.1) HasNames (λ x. kept_names (comma_list (starts comma) name (suc (length x.1)) x.1) (names_listed (suc (length x.1)) x.1)))
+    subst (λ r. On r HasNames) h
+    (on_next (after_marks opening ts) (λ x. read depths (Suffixed (CommaList Identifier) closing) x.1) HasNames
+    (λ x. kept_names (comma_list (starts comma) name (suc (length x.1)) x.1) (names_listed (suc (length x.1)) x.1)))
 
 -- names behind a word that stands there
-pub perhaps_named : (depths : Depths) (word : List ℕ) (ts us : List Lexeme) (xs ys : List (List ℕ)) (vs : List Lexeme) → starts (attribute_key word) ts ≡ true → us ≡ drop 2 ts → read depths (enclosed Identifier) us ≡ Found (map (λ x. x) xs, vs) → ys ≡ xs → read depths (Optional (attribute_key word) (enclosed Identifier)) ts ≡ Found (names_in ys, vs)
+pub perhaps_named : (depths : Depths) (word : List ℕ) (ts us : List Lexeme) (xs ys : List (List ℕ)) (vs : List Lexeme)
+    → starts (attribute_key word) ts ≡ true → us ≡ drop 2 ts → read depths (enclosed Identifier) us ≡ Found (map (λ x. x) xs, vs) → ys ≡ xs
+    → read depths (Optional (attribute_key word) (enclosed Identifier)) ts ≡ Found (names_in ys, vs)
 perhaps_named depths word ts us xs ys vs there behind is same =
     let found : read depths (enclosed Identifier) us ≡ Found (xs, vs) = is ∙ ap (λ l. Found (l, vs)) (map-id xs) in
     ap (λ b. if b then (read depths (enclosed Identifier) (drop 2 ts) >>= λ v. Found (Some v.0, v.1)) else Found (None, ts)) there

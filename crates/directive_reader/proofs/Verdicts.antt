@@ -1,6 +1,7 @@
 -- What a reading says of a line: the directive that it is, or the least reason against it.
 use Rattle.std.proofs.Common.{◌≡◌, ◌≤◌, ℕ, Bool, true, false, List, [], ◌∷◌, ◌++◌, Option, Some, None, inr, refl, sym, ap, ◌∙◌, subst, arith, append-nil}
 use Rattle.std.specs.Prelude.{◌≢◌, if◌then◌else◌}
+use Rattle.std.proofs.lemmas.Bool.{both_ways}
 use Rattle.hpf_base.specs.declared.refusal.Reason.{Reason}
 use Rattle.hpf_base.specs.declared.refusal.Reason.TheVariants as reason
 use Rattle.hpf_base.specs.Refusal.{IsFirstBreach, number_of}
@@ -44,7 +45,9 @@ same_form : (a b : Form) → Found (a, []) ≡ Found (b, []) → a ≡ b
 unfolding form_in
 same_form a b h = ap (λ r. form_in r b) h
 
-written_known : (depths : Depths) (ts : List Lexeme) (form : Form) (k : Kind) (r : Reading (Value (grammar k))) → Holds r (IsInFront depths (grammar k) ts) (IsTooDeepPart depths (grammar k) ts) → ((r >>= λ v. Found (Known k v.0, v.1)) >>= ended) ≡ Found (form, []) → Written depths ts form
+written_known : (depths : Depths) (ts : List Lexeme) (form : Form) (k : Kind) (r : Reading (Value (grammar k)))
+    → Holds r (IsInFront depths (grammar k) ts) (IsTooDeepPart depths (grammar k) ts)
+    → ((r >>= λ v. Found (Known k v.0, v.1)) >>= ended) ≡ Found (form, []) → Written depths ts form
 written_known depths ts form k (Stopped why) s h = absurd cc
 written_known depths ts form k (Found (v, t ∷ us)) s h = absurd cc
 written_known depths ts form k (Found (v, [])) s h = record {
@@ -59,7 +62,8 @@ written_kind : (depths : Depths) (ts : List Lexeme) (form : Form) (o : Option Ki
 written_kind depths ts form None h = absurd cc
 written_kind depths ts form (Some k) h = written_known depths ts form k (read depths (grammar k) ts) (reads depths (grammar k) ts) h
 
-written_line : (depths : Depths) (ts : List Lexeme) (form : Form) (b : Bool) → is_passed ts ≡ b → (if b then Found (Passed [], []) else (of_kind depths (directive_kind ts) ts >>= ended)) ≡ Found (form, []) → Written depths ts form
+written_line : (depths : Depths) (ts : List Lexeme) (form : Form) (b : Bool) → is_passed ts ≡ b
+    → (if b then Found (Passed [], []) else (of_kind depths (directive_kind ts) ts >>= ended)) ≡ Found (form, []) → Written depths ts form
 written_line depths ts form true passed h = record { written = Passed ts; well = passed; shallow = refl; spelled = refl; same = same_form (Passed []) form h }
 written_line depths ts form false other h = written_kind depths ts form (directive_kind ts) h
 
@@ -67,7 +71,9 @@ written_line depths ts form false other h = written_kind depths ts form (directi
 pub written : (depths : Depths) (ts : List Lexeme) (form : Form) → directive depths ts ≡ Found (form, []) → Written depths ts form
 written depths ts form h = written_line depths ts form (is_passed ts) refl h
 
-deep_known : (ts : List Lexeme) (k : Kind) (r : Reading (Value (grammar k))) → Holds r (IsInFront Limited (grammar k) ts) (IsTooDeepPart Limited (grammar k) ts) → ((r >>= λ v. Found (Known k v.0, v.1)) >>= ended) ≡ Stopped read_error.TooDeep → IsTooDeep ts
+deep_known : (ts : List Lexeme) (k : Kind) (r : Reading (Value (grammar k)))
+    → Holds r (IsInFront Limited (grammar k) ts) (IsTooDeepPart Limited (grammar k) ts)
+    → ((r >>= λ v. Found (Known k v.0, v.1)) >>= ended) ≡ Stopped read_error.TooDeep → IsTooDeep ts
 deep_known ts k (Found (v, [])) s h = absurd cc
 deep_known ts k (Found (v, t ∷ us)) s h = absurd cc
 deep_known ts k (Stopped why) s h =
@@ -102,7 +108,9 @@ ll1_kind (kind.Align true) = refl
 ll1_kind kind.Independent = refl
 
 module _ (depths : Depths) where
-  known_reads : (k : Kind) (v : Value (grammar k)) → IsForm (Known k v) → (ts : List Lexeme) (r : Reading Form) → StandsAs (deep_front depths (grammar k) v) (printed (grammar k) v) (Known k (value_kept (grammar k) v)) Ends ts r → (known depths k ts >>= ended) ≡ r
+  known_reads : (k : Kind) (v : Value (grammar k)) → IsForm (Known k v) → (ts : List Lexeme) (r : Reading Form)
+      → StandsAs (deep_front depths (grammar k) v) (printed (grammar k) v) (Known k (value_kept (grammar k) v)) Ends ts r
+      → (known depths k ts >>= ended) ≡ r
   known_reads k v w ts r s =
       let o = deep_front depths (grammar k) v in
       let text = printed (grammar k) v in
@@ -182,7 +190,8 @@ fine ts form within h reason.Limit b = found_shallow ts form h b
 fine ts form within h r b = b
 
 -- a breach at a line of which each breach has a number that isn't less
-least : (line : ℕ) (ts : List Lexeme) (r : Reason) → IsDirectiveBreach ts r → ((q : Reason) → IsDirectiveBreach ts q → number_of r ≤ number_of q) → IsFirstBreach (IsBreachAt line ts) record { line = line; reason = r }
+least : (line : ℕ) (ts : List Lexeme) (r : Reason) → IsDirectiveBreach ts r → ((q : Reason) → IsDirectiveBreach ts q → number_of r ≤ number_of q)
+    → IsFirstBreach (IsBreachAt line ts) record { line = line; reason = r }
 least line ts r b h = record { stands = (refl, b); first = λ n q x. inr (sym x.0, h q x.1) }
 
 -- the numbers: BadDirective is the least of the three
@@ -204,36 +213,38 @@ above_left_out ts h g reason.BadDirective b = absurd (h b)
 above_left_out ts h g reason.Limit b = absurd (g b)
 above_left_out ts h g q b = absurd b
 
-not_both : (b : Bool) → b ≡ true → b ≡ false → ⊥
-not_both true h g = cc
-not_both false h g = cc
-
 -- a directive that is left out, and too deep
-pub left_out_deep : (line : ℕ) (ts : List Lexeme) → is_left_out ts ≡ true → directive Limited ts ≡ Stopped read_error.TooDeep → IsFirstBreach (IsBreachAt line ts) record { line = line; reason = reason.Limit }
-left_out_deep line ts out deep = least line ts reason.Limit (deep_written ts deep) (above_limit ts (λ b. not_both (is_left_out ts) out b.0))
+pub left_out_deep : (line : ℕ) (ts : List Lexeme) → is_left_out ts ≡ true → directive Limited ts ≡ Stopped read_error.TooDeep
+    → IsFirstBreach (IsBreachAt line ts) record { line = line; reason = reason.Limit }
+left_out_deep line ts out deep = least line ts reason.Limit (deep_written ts deep) (above_limit ts (λ b. both_ways (is_left_out ts) b.0 out))
 
 -- one that isn't too deep
 left_out_first : (line : ℕ) (ts : List Lexeme) → is_left_out ts ≡ true → (IsTooDeep ts → ⊥) → IsFirstBreach (IsBreachAt line ts) record { line = line; reason = reason.LeftOut }
-left_out_first line ts out h = least line ts reason.LeftOut out (above_left_out ts (λ b. not_both (is_left_out ts) out b.0) h)
+left_out_first line ts out h = least line ts reason.LeftOut out (above_left_out ts (λ b. both_ways (is_left_out ts) b.0 out) h)
 
-pub left_out_found : (line : ℕ) (ts : List Lexeme) (form : Form) → is_left_out ts ≡ true → directive Limited ts ≡ Found (form, []) → IsFirstBreach (IsBreachAt line ts) record { line = line; reason = reason.LeftOut }
+pub left_out_found : (line : ℕ) (ts : List Lexeme) (form : Form) → is_left_out ts ≡ true → directive Limited ts ≡ Found (form, [])
+    → IsFirstBreach (IsBreachAt line ts) record { line = line; reason = reason.LeftOut }
 left_out_found line ts form out h = left_out_first line ts out (found_shallow ts form h)
 
-pub left_out_stopped : (line : ℕ) (ts : List Lexeme) → is_left_out ts ≡ true → directive Limited ts ≡ Stopped read_error.Malformed → IsFirstBreach (IsBreachAt line ts) record { line = line; reason = reason.LeftOut }
+pub left_out_stopped : (line : ℕ) (ts : List Lexeme) → is_left_out ts ≡ true → directive Limited ts ≡ Stopped read_error.Malformed
+    → IsFirstBreach (IsBreachAt line ts) record { line = line; reason = reason.LeftOut }
 left_out_stopped line ts out h = left_out_first line ts out (form_shallow ts h)
 
 -- a line that is spelled by no well-formed directive
 bad : (line : ℕ) (ts : List Lexeme) → is_left_out ts ≡ false → (IsSpelled ts → ⊥) → IsFirstBreach (IsBreachAt line ts) record { line = line; reason = reason.BadDirective }
 bad line ts within none = least line ts reason.BadDirective (within, none) (above_bad ts)
 
-pub bad_form : (line : ℕ) (ts : List Lexeme) → is_left_out ts ≡ false → directive Limited ts ≡ Stopped read_error.Malformed → IsFirstBreach (IsBreachAt line ts) record { line = line; reason = reason.BadDirective }
+pub bad_form : (line : ℕ) (ts : List Lexeme) → is_left_out ts ≡ false → directive Limited ts ≡ Stopped read_error.Malformed
+    → IsFirstBreach (IsBreachAt line ts) record { line = line; reason = reason.BadDirective }
 bad_form line ts within h = bad line ts within (unspelled ts h)
 
-pub bad_stopped : (line : ℕ) (ts : List Lexeme) (why : ReadError) → is_left_out ts ≡ false → directive Any ts ≡ Stopped why → IsFirstBreach (IsBreachAt line ts) record { line = line; reason = reason.BadDirective }
+pub bad_stopped : (line : ℕ) (ts : List Lexeme) (why : ReadError) → is_left_out ts ≡ false → directive Any ts ≡ Stopped why
+    → IsFirstBreach (IsBreachAt line ts) record { line = line; reason = reason.BadDirective }
 bad_stopped line ts why within h = bad line ts within (stopped_so ts why h)
 
 -- one that is spelled by a well-formed directive, and is too deep
-pub deep_first : (line : ℕ) (ts : List Lexeme) (form : Form) → directive Limited ts ≡ Stopped read_error.TooDeep → directive Any ts ≡ Found (form, []) → IsFirstBreach (IsBreachAt line ts) record { line = line; reason = reason.Limit }
+pub deep_first : (line : ℕ) (ts : List Lexeme) (form : Form) → directive Limited ts ≡ Stopped read_error.TooDeep → directive Any ts ≡ Found (form, [])
+    → IsFirstBreach (IsBreachAt line ts) record { line = line; reason = reason.Limit }
 deep_first line ts form deep h = least line ts reason.Limit (deep_written ts deep) (above_limit ts (λ b. b.1 (is_spelled Any ts form h)))
 
 -- what the code says that a line lacks

@@ -61,7 +61,8 @@ grammar (kind.Distribute many) = Prefixed (key (codes "DISTRIBUTE")) (distributi
 grammar (kind.Redistribute many) = Prefixed (key (codes "REDISTRIBUTE")) (distribution many)
 grammar (kind.Align many) = Prefixed (key (codes "ALIGN")) (alignment many)
 grammar kind.Independent =
-    Prefixed (key (codes "INDEPENDENT")) (Sequence (Optional (attribute_key (codes "NEW")) (enclosed Identifier)) (Optional (attribute_key (codes "REDUCTION")) (enclosed Identifier)))
+    Prefixed (key (codes "INDEPENDENT"))
+    (Sequence (Optional (attribute_key (codes "NEW")) (enclosed Identifier)) (Optional (attribute_key (codes "REDUCTION")) (enclosed Identifier)))
 
 -- the words of HPF that begin a directive which is passed over
 abbrev pub passed_words : List (List ℕ)

@@ -18,7 +18,8 @@ mapped h (Some x) = Some (h x.0, x.1)
 abbrev pub first_kept : Expression × ℕ → Expression × ℕ
 first_kept x = (kept x.0, x.1)
 
-bind_mapped : {A B : Type 0} (h : A → A) (k : B → B) (o : Option (A × ℕ)) (f g : A × ℕ → Option (B × ℕ)) → ((x : A × ℕ) → mapped k (f x) ≡ g (h x.0, x.1)) → mapped k (o >>= f) ≡ (mapped h o >>= g)
+bind_mapped : {A B : Type 0} (h : A → A) (k : B → B) (o : Option (A × ℕ)) (f g : A × ℕ → Option (B × ℕ))
+    → ((x : A × ℕ) → mapped k (f x) ≡ g (h x.0, x.1)) → mapped k (o >>= f) ≡ (mapped h o >>= g)
 bind_mapped h k None f g e = refl
 bind_mapped h k (Some x) f g e = e x
 
@@ -84,7 +85,9 @@ module _ (f g : ℕ → Readers) (ih : (d : ℕ) → Agrees (f d) (g d)) where
       ∙ ap (λ h. if is_open h then (arguments_at (g 1) >>= call_with o) else None) (ih 0).head
 
   kept_word : (x : List ℕ) → mapped kept (word_at f x) ≡ word_at g x
-  kept_word x = cond_mapped kept (is_reserved x) (call_at f (intrinsic x)) (Some (name_at f x)) (call_at g (intrinsic x)) (Some (name_at g x)) (kept_call (intrinsic x)) (ap Some (kept_name x))
+  kept_word x =
+      cond_mapped kept (is_reserved x) (call_at f (intrinsic x)) (Some (name_at f x)) (call_at g (intrinsic x)) (Some (name_at g x))
+      (kept_call (intrinsic x)) (ap Some (kept_name x))
 
   kept_closed : mapped kept (closed_at f) ≡ closed_at g
   kept_closed =
@@ -151,8 +154,10 @@ module _ (f g : ℕ → Core) (ih : (d : ℕ) → AgreeCores (f d) (g d)) where
 
   kept_step : (a b : Maybe) (n : ℕ) → mapped part_kept (step_at f a b n) ≡ step_at g (maybe_kept a) (maybe_kept b) n
   kept_step a b n =
-      cond_mapped part_kept (is_colon (f n).head) _ (Some (Range a b Absent, n)) ((g (n + 1)).expr 0 >>= stepped (maybe_kept a) (maybe_kept b) n) (Some (Range (maybe_kept a) (maybe_kept b) Absent, n))
-      (bind_mapped kept part_kept ((f (n + 1)).expr 0) _ (stepped (maybe_kept a) (maybe_kept b) n) (λ c. refl) ∙ ap (λ o. o >>= stepped (maybe_kept a) (maybe_kept b) n) ((ih (n + 1)).1 0))
+      cond_mapped part_kept (is_colon (f n).head) _ (Some (Range a b Absent, n)) ((g (n + 1)).expr 0 >>= stepped (maybe_kept a) (maybe_kept b) n)
+      (Some (Range (maybe_kept a) (maybe_kept b) Absent, n))
+      (bind_mapped kept part_kept ((f (n + 1)).expr 0) _ (stepped (maybe_kept a) (maybe_kept b) n) (λ c. refl)
+      ∙ ap (λ o. o >>= stepped (maybe_kept a) (maybe_kept b) n) ((ih (n + 1)).1 0))
       refl
       ∙ ap (λ h. if is_colon h then ((g (n + 1)).expr 0 >>= stepped (maybe_kept a) (maybe_kept b) n) else Some (Range (maybe_kept a) (maybe_kept b) Absent, n)) (ih n).0
 
@@ -173,9 +178,11 @@ module _ (f g : ℕ → Core) (ih : (d : ℕ) → AgreeCores (f d) (g d)) where
 
   kept_from : (a : Maybe) (n : ℕ) → mapped part_kept (part_from Glued f a n) ≡ part_from apart g (maybe_kept a) n
   kept_from a n =
-      cond_mapped part_kept (is_colon (f n).head) (range_at f a n) _ (range_at g (maybe_kept a) n) (if is_colons (f n).head then glued_at apart g (maybe_kept a) n else one_at (maybe_kept a) n)
+      cond_mapped part_kept (is_colon (f n).head) (range_at f a n) _ (range_at g (maybe_kept a) n)
+      (if is_colons (f n).head then glued_at apart g (maybe_kept a) n else one_at (maybe_kept a) n)
       (kept_range a n)
-      (cond_mapped part_kept (is_colons (f n).head) (glued_at Glued f a n) (one_at a n) (glued_at apart g (maybe_kept a) n) (one_at (maybe_kept a) n) (kept_glued a n) (kept_one a n))
+      (cond_mapped part_kept (is_colons (f n).head) (glued_at Glued f a n) (one_at a n) (glued_at apart g (maybe_kept a) n) (one_at (maybe_kept a) n)
+      (kept_glued a n) (kept_one a n))
       ∙ ap (λ h. if is_colon h then range_at g (maybe_kept a) n else if is_colons h then glued_at apart g (maybe_kept a) n else one_at (maybe_kept a) n) (ih n).0
 
   kept_part : mapped part_kept (part_at Glued f) ≡ part_at apart g

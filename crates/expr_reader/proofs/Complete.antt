@@ -31,7 +31,8 @@ mutual
   comes_arguments : (ps : Parts) → AreArguments ps → (us : List Lexeme) → arguments_at (reading Glued (parts_spelling ps ++ us)) ≡ Some (ps, length (parts_spelling ps))
   comes_arguments End w us = empty_arguments us
   comes_arguments (More (One e) ps) w us =
-      some_arguments e ps us w.1 (finds 0 e (rest_spelling ps ++ us) (omega arith) (omega arith) (comes e w.0 (rest_spelling ps ++ us))) (finds_list (One e) ps us (comes_part (One e) w.0) (comes_rest ps (arguments_are_parts ps w.1) us))
+      some_arguments e ps us w.1 (finds 0 e (rest_spelling ps ++ us) (omega arith) (omega arith) (comes e w.0 (rest_spelling ps ++ us)))
+      (finds_list (One e) ps us (comes_part (One e) w.0) (comes_rest ps (arguments_are_parts ps w.1) us))
   comes_arguments (More p ps) w us = absurd w
 
   comes_rest : (ps : Parts) → AreParts ps → (us : List Lexeme) → (reading Glued (rest_spelling ps ++ us)).core.rest ≡ Some (ps, length (rest_spelling ps))

@@ -27,7 +27,8 @@ module _ (glue : Maybe → Expression → Part) where
   pub core_reading : (t : Lexeme) (ts : List Lexeme) → (reading glue (t ∷ ts)).core ≡ core_at (λ d. reading glue (drop d ts)) t
   core_reading t ts = ap (λ r. r.core) (reading_at t ts)
 
-  from_here_each : (t : Lexeme) (ts : List Lexeme) (d : ℕ) → from_here (core_at (λ d. reading glue (drop d ts)) t) (λ d. reading glue (drop d ts)) d ≡ (reading glue (drop d (t ∷ ts))).core
+  from_here_each : (t : Lexeme) (ts : List Lexeme) (d : ℕ)
+      → from_here (core_at (λ d. reading glue (drop d ts)) t) (λ d. reading glue (drop d ts)) d ≡ (reading glue (drop d (t ∷ ts))).core
   from_here_each t ts zero = sym (core_reading t ts)
   from_here_each t ts (suc d) = refl
 

@@ -1,5 +1,6 @@
 -- What is spelled is read: parts of a list, lists of parts and arguments.
 use Rattle.std.proofs.Common.{◌≡◌, ℕ, suc, ◌+◌, List, [], ◌∷◌, ◌++◌, length, length-append, Some, None, Bool, true, false, refl, sym, ap, ◌∙◌, arith, append_assoc, append-nil}
+use Rattle.std.proofs.lemmas.Bool.{cond-false, cond-true}
 use Rattle.syntax_tree.specs.declared.sign.Sign.TheVariants as sign
 use Rattle.syntax_tree.specs.Lexeme.{Lexeme, Fixed, sign_of}
 use Rattle.syntax_tree.specs.Expression.{Expression, Part, One, Range, Glued, Parts, End, More, Maybe, Absent, Present}
@@ -7,7 +8,7 @@ use Rattle.syntax_tree.specs.Spelling.{spelling, part_spelling, maybe_spelling, 
 use Rattle.expr_reader.specs.Reading.{◌>>=◌, is_close, is_colon, is_colons, are_arguments, if_arguments, arguments_at, maybe_at, step_at, range_at, one_at, glued_at, part_from, part_at, reading, on}
 use Rattle.expr_reader.proofs.Equations.{core_reading, list_all, reading_at_end}
 use Rattle.expr_reader.proofs.Sound.{drop_taken}
-use Rattle.expr_reader.proofs.Operands.{Stops, inner, if_true, if_false, Finds, head_reading, on_taken}
+use Rattle.expr_reader.proofs.Operands.{Stops, inner, Finds, head_reading, on_taken}
 
 -- what may stand behind a part of a list, or behind an expression in it
 abbrev pub is_halt : Lexeme → Bool
@@ -39,7 +40,8 @@ halts_none (t ∷ ts) h = absurd cc
 halts_none [] h = absurd h
 
 -- an expression of a triplet that may be there
-finds_maybe : (a : Maybe) (ws : List Lexeme) → Halts ws → ((e : Expression) → a ≡ Present e → Finds 0 e ws) → maybe_at ((reading Glued (maybe_spelling a ++ ws)).core.expr 0) ≡ (a, length (maybe_spelling a))
+finds_maybe : (a : Maybe) (ws : List Lexeme) → Halts ws → ((e : Expression) → a ≡ Present e → Finds 0 e ws)
+    → maybe_at ((reading Glued (maybe_spelling a ++ ws)).core.expr 0) ≡ (a, length (maybe_spelling a))
 finds_maybe Absent ws h find = ap maybe_at (halts_none ws h)
 finds_maybe (Present e) ws h find =
     let f = find e refl in
@@ -70,15 +72,18 @@ pub finds_one : (e : Expression) (vs : List Lexeme) → BehindPart vs → Finds 
 finds_one e vs h f =
     let ts = spelling e ++ vs in
     let halt = behind_part_halts vs h in
-    let first : maybe_at ((reading Glued ts).core.expr 0) ≡ (Present e, length (spelling e)) = ap maybe_at (f.reads ∙ ap Some (f.exact (halts_stop vs (inner e) halt) (halts_stop vs 0 halt))) in
+    let first : maybe_at ((reading Glued ts).core.expr 0) ≡ (Present e, length (spelling e)) =
+    ap maybe_at (f.reads ∙ ap Some (f.exact (halts_stop vs (inner e) halt) (halts_stop vs 0 halt))) in
     ap (λ a. part_from Glued (λ d. (on Glued ts d).core) a.0 a.1) first
-    ∙ if_false _ _ _ (ap (λ r. is_colon r.core.head) (on_taken (spelling e) vs) ∙ behind_part_colon vs h)
-    ∙ if_false _ _ (Some (One e, length (spelling e))) (ap (λ r. is_colons r.core.head) (on_taken (spelling e) vs) ∙ behind_part_colons vs h)
+    ∙ cond-false _ _ _ (ap (λ r. is_colon r.core.head) (on_taken (spelling e) vs) ∙ behind_part_colon vs h)
+    ∙ cond-false _ _ (Some (One e, length (spelling e))) (ap (λ r. is_colons r.core.head) (on_taken (spelling e) vs) ∙ behind_part_colons vs h)
 
 -- the step of a triplet, where what stands before it is text
-finds_step : (a b c : Maybe) (ts text vs : List Lexeme) → BehindPart vs → ts ≡ text ++ (step_spelling c ++ vs) → ((e : Expression) → c ≡ Present e → Finds 0 e vs) → step_at (λ d. (on Glued ts d).core) a b (length text) ≡ Some (Range a b c, length (text ++ step_spelling c))
+finds_step : (a b c : Maybe) (ts text vs : List Lexeme) → BehindPart vs → ts ≡ text ++ (step_spelling c ++ vs)
+    → ((e : Expression) → c ≡ Present e → Finds 0 e vs)
+    → step_at (λ d. (on Glued ts d).core) a b (length text) ≡ Some (Range a b c, length (text ++ step_spelling c))
 finds_step a b Absent ts text vs h is find =
-    if_false _ _ (Some (Range a b Absent, length text)) (ap (λ r. is_colon r.core.head) (on_part ts text vs (length text) is refl) ∙ behind_part_colon vs h)
+    cond-false _ _ (Some (Range a b Absent, length text)) (ap (λ r. is_colon r.core.head) (on_part ts text vs (length text) is refl) ∙ behind_part_colon vs h)
     ∙ ap (λ l. Some (Range a b Absent, length l)) (sym (append-nil text))
 finds_step a b (Present e) ts text vs h is find =
     let f = find e refl in
@@ -86,9 +91,12 @@ finds_step a b (Present e) ts text vs h is find =
     let ws = spelling e ++ vs in
     let halt = behind_part_halts vs h in
     let here : on Glued ts n ≡ reading Glued (Fixed sign.Colon ∷ ws) = on_part ts text (Fixed sign.Colon ∷ ws) n is refl in
-    let next : on Glued ts (n + 1) ≡ reading Glued ws = on_part ts (text ++ Fixed sign.Colon ∷ []) ws (n + 1) (is ∙ sym (append_assoc text (Fixed sign.Colon ∷ []) ws)) (omega (arith, length-append text (Fixed sign.Colon ∷ []))) in
+    let next : on Glued ts (n + 1) ≡ reading Glued ws =
+    on_part ts (text ++ Fixed sign.Colon ∷ []) ws (n + 1) (is ∙ sym (append_assoc text (Fixed sign.Colon ∷ []) ws))
+    (omega (arith, length-append text (Fixed sign.Colon ∷ []))) in
     let long : n + 1 + length (spelling e) ≡ length (text ++ Fixed sign.Colon ∷ spelling e) = omega (arith, length-append text (Fixed sign.Colon ∷ spelling e)) in
-    if_true _ ((on Glued ts (n + 1)).core.expr 0 >>= λ c. Some (Range a b (Present c.0), n + 1 + c.1)) (Some (Range a b Absent, n)) (ap (λ r. is_colon r.core.head) here ∙ ap is_colon (head_reading (Fixed sign.Colon) ws))
+    cond-true _ ((on Glued ts (n + 1)).core.expr 0 >>= λ c. Some (Range a b (Present c.0), n + 1 + c.1)) (Some (Range a b Absent, n))
+    (ap (λ r. is_colon r.core.head) here ∙ ap is_colon (head_reading (Fixed sign.Colon) ws))
     ∙ ap (λ r. r.core.expr 0 >>= λ c. Some (Range a b (Present c.0), n + 1 + c.1)) next
     ∙ ap (λ o. o >>= λ c. Some (Range a b (Present c.0), n + 1 + c.1)) (f.reads ∙ ap Some (f.exact (halts_stop vs (inner e) halt) (halts_stop vs 0 halt)))
     ∙ ap (λ m. Some (Range a b (Present e), m)) long
@@ -97,7 +105,9 @@ step_halts : (c : Maybe) (vs : List Lexeme) → BehindPart vs → Halts (step_sp
 step_halts Absent vs h = behind_part_halts vs h
 step_halts (Present e) vs h = refl
 
-pub finds_range : (a b c : Maybe) (vs : List Lexeme) → BehindPart vs → ((e : Expression) (ws : List Lexeme) → a ≡ Present e → Finds 0 e ws) → ((e : Expression) (ws : List Lexeme) → b ≡ Present e → Finds 0 e ws) → ((e : Expression) (ws : List Lexeme) → c ≡ Present e → Finds 0 e ws) → part_at Glued (λ d. (on Glued (part_spelling (Range a b c) ++ vs) d).core) ≡ Some (Range a b c, length (part_spelling (Range a b c)))
+pub finds_range : (a b c : Maybe) (vs : List Lexeme) → BehindPart vs → ((e : Expression) (ws : List Lexeme) → a ≡ Present e → Finds 0 e ws)
+    → ((e : Expression) (ws : List Lexeme) → b ≡ Present e → Finds 0 e ws) → ((e : Expression) (ws : List Lexeme) → c ≡ Present e → Finds 0 e ws)
+    → part_at Glued (λ d. (on Glued (part_spelling (Range a b c) ++ vs) d).core) ≡ Some (Range a b c, length (part_spelling (Range a b c)))
 finds_range a b c vs h fa fb fc =
     let ma = maybe_spelling a in
     let mb = maybe_spelling b in
@@ -106,24 +116,32 @@ finds_range a b c vs h fa fb fc =
     let n = length ma in
     let behind_b = sc ++ vs in
     let behind_colon = mb ++ behind_b in
-    let at_first : ts ≡ ma ++ (Fixed sign.Colon ∷ behind_colon) = append_assoc ma (Fixed sign.Colon ∷ (mb ++ sc)) vs ∙ ap (λ l. ma ++ (Fixed sign.Colon ∷ l)) (append_assoc mb sc vs) in
+    let at_first : ts ≡ ma ++ (Fixed sign.Colon ∷ behind_colon) =
+    append_assoc ma (Fixed sign.Colon ∷ (mb ++ sc)) vs ∙ ap (λ l. ma ++ (Fixed sign.Colon ∷ l)) (append_assoc mb sc vs) in
     let at_last : ts ≡ (ma ++ Fixed sign.Colon ∷ []) ++ behind_colon = at_first ∙ sym (append_assoc ma (Fixed sign.Colon ∷ []) behind_colon) in
     let text = (ma ++ Fixed sign.Colon ∷ []) ++ mb in
     let at_step : ts ≡ text ++ behind_b = at_last ∙ sym (append_assoc (ma ++ Fixed sign.Colon ∷ []) mb behind_b) in
-    let first : maybe_at ((reading Glued ts).core.expr 0) ≡ (a, n) = ap (λ ts. maybe_at ((reading Glued ts).core.expr 0)) at_first ∙ finds_maybe a (Fixed sign.Colon ∷ behind_colon) refl (λ e is. fa e _ is) in
-    let here : is_colon (on Glued ts n).core.head ≡ true = ap (λ r. is_colon r.core.head) (on_part ts ma (Fixed sign.Colon ∷ behind_colon) n at_first refl) ∙ ap is_colon (head_reading (Fixed sign.Colon) behind_colon) in
-    let next : on Glued ts (n + 1) ≡ reading Glued behind_colon = on_part ts (ma ++ Fixed sign.Colon ∷ []) behind_colon (n + 1) at_last (omega (arith, length-append ma (Fixed sign.Colon ∷ []))) in
-    let last : maybe_at ((on Glued ts (n + 1)).core.expr 0) ≡ (b, length mb) = ap (λ r. maybe_at (r.core.expr 0)) next ∙ finds_maybe b behind_b (step_halts c vs h) (λ e is. fb e _ is) in
+    let first : maybe_at ((reading Glued ts).core.expr 0) ≡ (a, n) =
+    ap (λ ts. maybe_at ((reading Glued ts).core.expr 0)) at_first ∙ finds_maybe a (Fixed sign.Colon ∷ behind_colon) refl (λ e is. fa e _ is) in
+    let here : is_colon (on Glued ts n).core.head ≡ true =
+    ap (λ r. is_colon r.core.head) (on_part ts ma (Fixed sign.Colon ∷ behind_colon) n at_first refl)
+    ∙ ap is_colon (head_reading (Fixed sign.Colon) behind_colon) in
+    let next : on Glued ts (n + 1) ≡ reading Glued behind_colon =
+    on_part ts (ma ++ Fixed sign.Colon ∷ []) behind_colon (n + 1) at_last (omega (arith, length-append ma (Fixed sign.Colon ∷ []))) in
+    let last : maybe_at ((on Glued ts (n + 1)).core.expr 0) ≡ (b, length mb) =
+    ap (λ r. maybe_at (r.core.expr 0)) next ∙ finds_maybe b behind_b (step_halts c vs h) (λ e is. fb e _ is) in
     let long : n + 1 + length mb ≡ length text = omega (arith, length-append ma (Fixed sign.Colon ∷ []), length-append (ma ++ Fixed sign.Colon ∷ []) mb) in
     let whole : text ++ sc ≡ part_spelling (Range a b c) = append_assoc (ma ++ Fixed sign.Colon ∷ []) mb sc ∙ append_assoc ma (Fixed sign.Colon ∷ []) (mb ++ sc) in
     ap (λ a. part_from Glued (λ d. (on Glued ts d).core) a.0 a.1) first
-    ∙ if_true _ (range_at (λ d. (on Glued ts d).core) a n) _ here
+    ∙ cond-true _ (range_at (λ d. (on Glued ts d).core) a n) _ here
     ∙ ap (λ b. step_at (λ d. (on Glued ts d).core) a b.0 (n + 1 + b.1)) last
     ∙ ap (step_at (λ d. (on Glued ts d).core) a b) long
     ∙ finds_step a b c ts text vs h at_step (λ e is. fc e vs is)
     ∙ ap (λ l. Some (Range a b c, length l)) whole
 
-pub finds_glued : (a : Maybe) (e : Expression) (vs : List Lexeme) → BehindPart vs → ((x : Expression) (ws : List Lexeme) → a ≡ Present x → Finds 0 x ws) → Finds 0 e vs → part_at Glued (λ d. (on Glued (part_spelling (Glued a e) ++ vs) d).core) ≡ Some (Glued a e, length (part_spelling (Glued a e)))
+pub finds_glued : (a : Maybe) (e : Expression) (vs : List Lexeme) → BehindPart vs
+    → ((x : Expression) (ws : List Lexeme) → a ≡ Present x → Finds 0 x ws) → Finds 0 e vs
+    → part_at Glued (λ d. (on Glued (part_spelling (Glued a e) ++ vs) d).core) ≡ Some (Glued a e, length (part_spelling (Glued a e)))
 finds_glued a e vs h fa f =
     let ma = maybe_spelling a in
     let ts = part_spelling (Glued a e) ++ vs in
@@ -132,13 +150,14 @@ finds_glued a e vs h fa f =
     let halt = behind_part_halts vs h in
     let at_first : ts ≡ ma ++ (Fixed sign.Colons ∷ ws) = append_assoc ma (Fixed sign.Colons ∷ spelling e) vs in
     let at_step : ts ≡ (ma ++ Fixed sign.Colons ∷ []) ++ ws = at_first ∙ sym (append_assoc ma (Fixed sign.Colons ∷ []) ws) in
-    let first : maybe_at ((reading Glued ts).core.expr 0) ≡ (a, n) = ap (λ ts. maybe_at ((reading Glued ts).core.expr 0)) at_first ∙ finds_maybe a (Fixed sign.Colons ∷ ws) refl (λ x is. fa x _ is) in
+    let first : maybe_at ((reading Glued ts).core.expr 0) ≡ (a, n) =
+    ap (λ ts. maybe_at ((reading Glued ts).core.expr 0)) at_first ∙ finds_maybe a (Fixed sign.Colons ∷ ws) refl (λ x is. fa x _ is) in
     let here : on Glued ts n ≡ reading Glued (Fixed sign.Colons ∷ ws) = on_part ts ma (Fixed sign.Colons ∷ ws) n at_first refl in
     let next : on Glued ts (n + 1) ≡ reading Glued ws = on_part ts (ma ++ Fixed sign.Colons ∷ []) ws (n + 1) at_step (omega (arith, length-append ma (Fixed sign.Colons ∷ []))) in
     let long : n + 1 + length (spelling e) ≡ length (part_spelling (Glued a e)) = omega (arith, length-append ma (Fixed sign.Colons ∷ spelling e)) in
     ap (λ a. part_from Glued (λ d. (on Glued ts d).core) a.0 a.1) first
-    ∙ if_false _ _ _ (ap (λ r. is_colon r.core.head) here ∙ ap is_colon (head_reading (Fixed sign.Colons) ws))
-    ∙ if_true _ (glued_at Glued (λ d. (on Glued ts d).core) a n) (one_at a n) (ap (λ r. is_colons r.core.head) here ∙ ap is_colons (head_reading (Fixed sign.Colons) ws))
+    ∙ cond-false _ _ _ (ap (λ r. is_colon r.core.head) here ∙ ap is_colon (head_reading (Fixed sign.Colons) ws))
+    ∙ cond-true _ (glued_at Glued (λ d. (on Glued ts d).core) a n) (one_at a n) (ap (λ r. is_colons r.core.head) here ∙ ap is_colons (head_reading (Fixed sign.Colons) ws))
     ∙ ap (λ r. r.core.expr 0 >>= λ c. Some (Glued a c.0, n + 1 + c.1)) next
     ∙ ap (λ o. o >>= λ c. Some (Glued a c.0, n + 1 + c.1)) (f.reads ∙ ap Some (f.exact (halts_stop vs (inner e) halt) (halts_stop vs 0 halt)))
     ∙ ap (λ m. Some (Glued a e, m)) long
@@ -147,7 +166,10 @@ rest_behind_part : (ps : Parts) (us : List Lexeme) → BehindPart (rest_spelling
 rest_behind_part End us = (refl, refl, refl)
 rest_behind_part (More p ps) us = (refl, refl, refl)
 
-pub finds_list : (p : Part) (ps : Parts) (us : List Lexeme) → ((vs : List Lexeme) → BehindPart vs → part_at Glued (λ d. (on Glued (part_spelling p ++ vs) d).core) ≡ Some (p, length (part_spelling p))) → (reading Glued (rest_spelling ps ++ us)).core.rest ≡ Some (ps, length (rest_spelling ps)) → (reading Glued (parts_spelling (More p ps) ++ us)).list ≡ Some (More p ps, length (parts_spelling (More p ps)))
+pub finds_list : (p : Part) (ps : Parts) (us : List Lexeme)
+    → ((vs : List Lexeme) → BehindPart vs → part_at Glued (λ d. (on Glued (part_spelling p ++ vs) d).core) ≡ Some (p, length (part_spelling p)))
+    → (reading Glued (rest_spelling ps ++ us)).core.rest ≡ Some (ps, length (rest_spelling ps))
+    → (reading Glued (parts_spelling (More p ps) ++ us)).list ≡ Some (More p ps, length (parts_spelling (More p ps)))
 finds_list p ps us find rest =
     let vs = rest_spelling ps ++ us in
     let ts = part_spelling p ++ vs in
@@ -157,7 +179,9 @@ finds_list p ps us find rest =
     ∙ ap (λ o. o >>= λ ps. Some (More p ps.0, length (part_spelling p) + ps.1)) (ap (λ r. r.core.rest) (on_taken (part_spelling p) vs) ∙ rest)
     ∙ ap (λ n. Some (More p ps, n)) (sym (length-append (part_spelling p) (rest_spelling ps)))
 
-pub finds_rest : (p : Part) (ps : Parts) (us : List Lexeme) → (reading Glued (parts_spelling (More p ps) ++ us)).list ≡ Some (More p ps, length (parts_spelling (More p ps))) → (reading Glued (rest_spelling (More p ps) ++ us)).core.rest ≡ Some (More p ps, length (rest_spelling (More p ps)))
+pub finds_rest : (p : Part) (ps : Parts) (us : List Lexeme)
+    → (reading Glued (parts_spelling (More p ps) ++ us)).list ≡ Some (More p ps, length (parts_spelling (More p ps)))
+    → (reading Glued (rest_spelling (More p ps) ++ us)).core.rest ≡ Some (More p ps, length (rest_spelling (More p ps)))
 finds_rest p ps us h =
     let n = length (parts_spelling (More p ps)) in
     let z : n + 1 ≡ suc n = omega arith in
@@ -166,7 +190,7 @@ finds_rest p ps us h =
     ∙ ap (λ n. Some (More p ps, n)) z
 
 pub empty_arguments : (us : List Lexeme) → arguments_at (reading Glued (Fixed sign.Close ∷ us)) ≡ Some (End, 1)
-empty_arguments us = if_true _ (Some (End, 1)) _ (ap is_close (head_reading (Fixed sign.Close) us))
+empty_arguments us = cond-true _ (Some (End, 1)) _ (ap is_close (head_reading (Fixed sign.Close) us))
 
 all_arguments : (ps : Parts) → AreArguments ps → are_arguments ps ≡ true
 all_arguments End w = refl
@@ -184,8 +208,12 @@ not_closed [] x h = ap (λ r. is_close r.core.head) (reading_at_end Glued)
 not_closed (Fixed sign.Close ∷ ts) x h = let none : None ≡ Some x = sym (halts_none (Fixed sign.Close ∷ ts) refl) ∙ h in absurd cc
 not_closed (t ∷ ts) x h = ap is_close (head_reading t ts)
 
-pub some_arguments : (e : Expression) (ps : Parts) (us : List Lexeme) → AreArguments ps → Finds 0 e (rest_spelling ps ++ us) → (reading Glued (parts_spelling (More (One e) ps) ++ us)).list ≡ Some (More (One e) ps, length (parts_spelling (More (One e) ps))) → arguments_at (reading Glued (parts_spelling (More (One e) ps) ++ us)) ≡ Some (More (One e) ps, length (parts_spelling (More (One e) ps)))
+pub some_arguments : (e : Expression) (ps : Parts) (us : List Lexeme) → AreArguments ps → Finds 0 e (rest_spelling ps ++ us)
+    → (reading Glued (parts_spelling (More (One e) ps) ++ us)).list ≡ Some (More (One e) ps, length (parts_spelling (More (One e) ps)))
+    → arguments_at (reading Glued (parts_spelling (More (One e) ps) ++ us)) ≡ Some (More (One e) ps, length (parts_spelling (More (One e) ps)))
 some_arguments e ps us w f h =
-    if_false _ _ _ (ap (λ ts. is_close (reading Glued ts).core.head) (append_assoc (spelling e) (rest_spelling ps) us) ∙ not_closed (spelling e ++ (rest_spelling ps ++ us)) f.found f.reads)
+    cond-false _ _ _
+    (ap (λ ts. is_close (reading Glued ts).core.head) (append_assoc (spelling e) (rest_spelling ps) us)
+    ∙ not_closed (spelling e ++ (rest_spelling ps ++ us)) f.found f.reads)
     ∙ ap (λ o. o >>= if_arguments) h
-    ∙ if_true _ (Some (More (One e) ps, length (parts_spelling (More (One e) ps)))) None (all_arguments ps w)
+    ∙ cond-true _ (Some (More (One e) ps, length (parts_spelling (More (One e) ps)))) None (all_arguments ps w)

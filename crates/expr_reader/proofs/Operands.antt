@@ -1,6 +1,7 @@
 -- What is spelled is read: expressions by what they begin with, and by their operators.
-use Rattle.std.proofs.Common.{◌≡◌, ◌≤◌, ◌<◌, ℕ, ℤ, suc, ◌+◌, List, [], ◌∷◌, ◌++◌, length, length-append, length-drop, drop, Option, Some, None, Bool, true, false, refl, sym, ap, ◌∙◌, subst, arith, rules, tests, append_assoc}
-use Rattle.std.specs.Prelude.{◌&&◌, ◌||◌, is_some, nat_le, if◌then◌else◌}
+use Rattle.std.proofs.Common.{◌≡◌, ◌≤◌, ◌<◌, ℕ, ℤ, suc, ◌+◌, List, [], ◌∷◌, ◌++◌, length, length-append, length-drop, drop, Option, Some, None, Bool, true, false, refl, sym, ap, ◌∙◌, subst, arith, append_assoc}
+use Rattle.std.specs.Prelude.{◌||◌, is_some, if◌then◌else◌}
+use Rattle.std.proofs.lemmas.Bool.{and_from, and_left, cond-false, cond-true, le-leb, lt-leb}
 use Rattle.op_tables.specs.declared.op.Op.{Op}
 use Rattle.op_tables.specs.declared.op.Op.TheVariants as op
 use Rattle.op_tables.specs.Words.{is_reserved, code_in, statement_words, left_out_words, intrinsic_words}
@@ -51,24 +52,6 @@ inner_binds : (a : Expression) → binds a ≤ inner a
 inner_binds (Unary p a) = omega arith
 inner_binds a = omega arith
 
-test_of_le : (a b : ℕ) → a ≤ b → nat_le a b ≡ true
-test_of_le a b h = search (rules, tests)
-
-test_of_lt : (a b : ℕ) → b < a → nat_le a b ≡ false
-test_of_lt a b h = search (rules, tests)
-
-pub if_true : {A : Type 0} (b : Bool) (x y : A) → b ≡ true → (if b then x else y) ≡ x
-if_true b x y h = ap (λ b. if b then x else y) h
-
-pub if_false : {A : Type 0} (b : Bool) (x y : A) → b ≡ false → (if b then x else y) ≡ y
-if_false b x y h = ap (λ b. if b then x else y) h
-
-both_true : (a b : Bool) → a ≡ true → b ≡ true → (a && b) ≡ true
-both_true a b h g = ap (λ a. a && b) h ∙ g
-
-one_false : (a b : Bool) → a ≡ false → (a && b) ≡ false
-one_false a b h = ap (λ a. a && b) h
-
 -- an expression doesn't go on with such lexemes
 stops : (ts : List Lexeme) (k : ℕ) (e : Expression) (n : ℕ) → Stops k ts → (reading Glued ts).core.more k e n ≡ (e, n)
 stops [] k e n h = ap (λ r. r.core.more k e n) (reading_at_end Glued)
@@ -76,7 +59,7 @@ stops (t ∷ ts) k e n h = ap (λ c. c.more k e n) (core_reading Glued t ts) ∙
   where
     none : (o : Option Op) → Ifs o (λ o. level o < k) → goes_with k e o ≡ None
     none None h = refl
-    none (Some o) h = if_false _ (Some o) None (one_false _ _ (test_of_lt k (level o) h))
+    none (Some o) h = cond-false _ (Some o) None (and_left _ _ (lt-leb k (level o) h))
 
 pub has_depth : (e : Expression) → 1 ≤ depth e
 has_depth (Number n) = omega arith
@@ -105,7 +88,8 @@ pub finds : (k : ℕ) (e : Expression) (us : List Lexeme) → k ≤ 9 → k ≤ 
 finds k e us few le c =
     let x = (reading Glued c.rest).core.more k c.tree (length (spelling c.tree)) in
     let is = c.reads k le in
-    let lengths : length (spelling e) + length us ≡ length (spelling c.tree) + length c.rest = omega (arith, ap length c.same, length-append (spelling e) us, length-append (spelling c.tree) c.rest) in
+    let lengths : length (spelling e) + length us ≡ length (spelling c.tree) + length c.rest =
+    omega (arith, ap length c.same, length-append (spelling e) us, length-append (spelling c.tree) c.rest) in
     record {
       found = x;
       reads = is;
@@ -203,22 +187,25 @@ starts_name x us free = record {
   behind = us;
   operand = name_at (on Glued us) x;
   begins = refl;
-  reads = λ k le. if_false (is_reserved x) (call_at (on Glued us) (intrinsic x)) (Some (name_at (on Glued us) x)) free;
+  reads = λ k le. cond-false (is_reserved x) (call_at (on Glued us) (intrinsic x)) (Some (name_at (on Glued us) x)) free;
   long = omega arith;
-  exact = λ h. ap (λ r. r.0) (if_false _ (name_with x (on Glued us 1).list) (Name x, 0) (not_opened us h));
+  exact = λ h. ap (λ r. r.0) (cond-false _ (name_with x (on Glued us 1).list) (Name x, 0) (not_opened us h));
   deep = has_depth (name_at (on Glued us) x).0;
 }
 
-pub starts_element : (x : List ℕ) (ps : Parts) (us : List Lexeme) → is_reserved x ≡ false → (reading Glued (parts_spelling ps ++ us)).list ≡ Some (ps, length (parts_spelling ps)) → Starts (Element x ps) us
+pub starts_element : (x : List ℕ) (ps : Parts) (us : List Lexeme) → is_reserved x ≡ false
+    → (reading Glued (parts_spelling ps ++ us)).list ≡ Some (ps, length (parts_spelling ps)) → Starts (Element x ps) us
 starts_element x ps us free h =
     let vs = Fixed sign.Open ∷ (parts_spelling ps ++ us) in
-    let named : name_at (on Glued vs) x ≡ (Element x ps, length (parts_spelling ps) + 1) = if_true _ (name_with x (on Glued vs 1).list) (Name x, 0) (ap is_open (head_reading (Fixed sign.Open) (parts_spelling ps ++ us))) ∙ ap (name_with x) h in
+    let named : name_at (on Glued vs) x ≡ (Element x ps, length (parts_spelling ps) + 1) =
+    cond-true _ (name_with x (on Glued vs 1).list) (Name x, 0) (ap is_open (head_reading (Fixed sign.Open) (parts_spelling ps ++ us)))
+    ∙ ap (name_with x) h in
     record {
       first = Word x;
       behind = vs;
       operand = (Element x ps, length (parts_spelling ps) + 1);
       begins = refl;
-      reads = λ k le. if_false (is_reserved x) (call_at (on Glued vs) (intrinsic x)) (Some (name_at (on Glued vs) x)) free ∙ ap Some named;
+      reads = λ k le. cond-false (is_reserved x) (call_at (on Glued vs) (intrinsic x)) (Some (name_at (on Glued vs) x)) free ∙ ap Some named;
       long = omega arith;
       exact = λ h. refl;
       deep = omega arith;
@@ -234,7 +221,8 @@ is_some_of false false None o h = absurd cc
 reserved_of_intrinsic : (x : List ℕ) (o : Op) → intrinsic x ≡ Some o → is_reserved x ≡ true
 reserved_of_intrinsic x o h = is_some_of (is_some (code_in statement_words x)) (is_some (code_in left_out_words x)) (code_in intrinsic_words x) o h
 
-pub starts_call : (o : Op) (ps : Parts) (us : List Lexeme) → intrinsic (intrinsic_word o) ≡ Some o → arguments_at (reading Glued (parts_spelling ps ++ us)) ≡ Some (ps, length (parts_spelling ps)) → Starts (Call o ps) us
+pub starts_call : (o : Op) (ps : Parts) (us : List Lexeme) → intrinsic (intrinsic_word o) ≡ Some o
+    → arguments_at (reading Glued (parts_spelling ps ++ us)) ≡ Some (ps, length (parts_spelling ps)) → Starts (Call o ps) us
 starts_call o ps us named h =
     let x = intrinsic_word o in
     let vs = Fixed sign.Open ∷ (parts_spelling ps ++ us) in
@@ -244,9 +232,9 @@ starts_call o ps us named h =
       operand = (Call o ps, length (parts_spelling ps) + 1);
       begins = refl;
       reads = λ k le.
-          if_true (is_reserved x) (call_at (on Glued vs) (intrinsic x)) (Some (name_at (on Glued vs) x)) (reserved_of_intrinsic x o named)
+          cond-true (is_reserved x) (call_at (on Glued vs) (intrinsic x)) (Some (name_at (on Glued vs) x)) (reserved_of_intrinsic x o named)
           ∙ ap (call_at (on Glued vs)) named
-          ∙ if_true _ (arguments_at (on Glued vs 1) >>= λ ps. Some (Call o ps.0, ps.1 + 1)) None (ap is_open (head_reading (Fixed sign.Open) (parts_spelling ps ++ us)))
+          ∙ cond-true _ (arguments_at (on Glued vs 1) >>= λ ps. Some (Call o ps.0, ps.1 + 1)) None (ap is_open (head_reading (Fixed sign.Open) (parts_spelling ps ++ us)))
           ∙ ap (λ a. a >>= λ ps. Some (Call o ps.0, ps.1 + 1)) h;
       long = omega arith;
       exact = λ h. refl;
@@ -259,13 +247,17 @@ starts_closed a us find =
     let vs = spelling a ++ ws in
     let f = find ws in
     let found : (on Glued vs 0).core.expr 0 ≡ Some (a, length (spelling a)) = f.reads ∙ ap Some (f.exact (refl, tt) (refl, tt)) in
-    let head : is_close (on Glued vs (length (spelling a))).core.head ≡ true = ap (λ r. is_close r.core.head) (on_taken (spelling a) ws) ∙ ap is_close (head_reading (Fixed sign.Close) us) in
+    let head : is_close (on Glued vs (length (spelling a))).core.head ≡ true =
+    ap (λ r. is_close r.core.head) (on_taken (spelling a) ws) ∙ ap is_close (head_reading (Fixed sign.Close) us) in
     record {
       first = Fixed sign.Open;
       behind = vs;
       operand = (Closed a, length (spelling a) + 1);
       begins = ap (λ l. Fixed sign.Open ∷ l) (append_assoc (spelling a) (Fixed sign.Close ∷ []) us);
-      reads = λ k le. ap (λ o. o >>= λ e. if is_close (on Glued vs e.1).core.head then Some (Closed e.0, e.1 + 1) else None) found ∙ if_true _ (Some (Closed a, length (spelling a) + 1)) None head;
+      reads =
+          λ k le.
+          ap (λ o. o >>= λ e. if is_close (on Glued vs e.1).core.head then Some (Closed e.0, e.1 + 1) else None) found
+          ∙ cond-true _ (Some (Closed a, length (spelling a) + 1)) None head;
       long = omega (arith, length-append (spelling a) (Fixed sign.Close ∷ []));
       exact = λ h. refl;
       deep = omega arith;
@@ -277,7 +269,8 @@ operand_unary f k op.Plus h = refl
 operand_unary f k op.Neg h = refl
 operand_unary f k o h = absurd cc
 
-pub starts_unary : (o : Op) (a : Expression) (us : List Lexeme) → unary_of (operator_lexeme o) ≡ Some o → level o + 1 ≤ binds a → ((us : List Lexeme) → Finds (level o + 1) a us) → Starts (Unary o a) us
+pub starts_unary : (o : Op) (a : Expression) (us : List Lexeme) → unary_of (operator_lexeme o) ≡ Some o → level o + 1 ≤ binds a
+    → ((us : List Lexeme) → Finds (level o + 1) a us) → Starts (Unary o a) us
 starts_unary o a us is le find =
     let vs = spelling a ++ us in
     let f = find us in
@@ -288,7 +281,7 @@ starts_unary o a us is le find =
       begins = refl;
       reads = λ k low.
           operand_unary (on Glued vs) k o is
-          ∙ if_true _ ((on Glued vs 0).core.expr (level o + 1) >>= λ a. Some (Unary o a.0, a.1)) None (test_of_le k (level o) low)
+          ∙ cond-true _ ((on Glued vs 0).core.expr (level o + 1) >>= λ a. Some (Unary o a.0, a.1)) None (le-leb k (level o) low)
           ∙ ap (λ r. r >>= λ a. Some (Unary o a.0, a.1)) f.reads;
       long = omega (arith, f.long);
       deep = omega (arith, f.deep);
@@ -300,7 +293,8 @@ no_open_behind : (t : Lexeme) (o : Op) → binary_of t ≡ Some o → is_open (s
 no_open_behind (Fixed sign.Open) o h = absurd cc
 no_open_behind t o h = refl
 
-pub comes_binary : (o : Op) (a b : Expression) (us : List Lexeme) → binary_of (operator_lexeme o) ≡ Some o → left_place o ≤ binds a → right_place o ≤ binds b → ((us : List Lexeme) → Comes a us) → Finds (right_place o) b us → Comes (Binary o a b) us
+pub comes_binary : (o : Op) (a b : Expression) (us : List Lexeme) → binary_of (operator_lexeme o) ≡ Some o → left_place o ≤ binds a
+    → right_place o ≤ binds b → ((us : List Lexeme) → Comes a us) → Finds (right_place o) b us → Comes (Binary o a b) us
 comes_binary o a b us is left right come f =
     let vs = spelling b ++ us in
     let ts = operator_lexeme o ∷ vs in
@@ -312,7 +306,9 @@ comes_binary o a b us is left right come f =
     let tree = Binary o a x.0 in
     let rest = drop x.1 vs in
     let split : spelling (Binary o a b) ++ us ≡ spelling a ++ ts = append_assoc (spelling a) (operator_lexeme o ∷ spelling b) us in
-    let same : spelling (Binary o a b) ++ us ≡ spelling tree ++ rest = split ∙ ap (λ l. spelling a ++ (operator_lexeme o ∷ l)) f.spelled.takes.0 ∙ sym (append_assoc (spelling a) (operator_lexeme o ∷ spelling x.0) rest) in
+    let same : spelling (Binary o a b) ++ us ≡ spelling tree ++ rest =
+    split ∙ ap (λ l. spelling a ++ (operator_lexeme o ∷ l)) f.spelled.takes.0
+    ∙ sym (append_assoc (spelling a) (operator_lexeme o ∷ spelling x.0) rest) in
     let count : n + (x.1 + 1) ≡ length (spelling tree) = omega (arith, length-append (spelling a) (operator_lexeme o ∷ spelling x.0), f.spelled.takes.1) in
     record {
       tree = tree;
@@ -325,7 +321,7 @@ comes_binary o a b us is left right come f =
           ∙ (λ i. Some ((reading Glued (at.1 i)).core.more k (at.0 i) (length (spelling (at.0 i)))))
           ∙ ap (λ c. Some (c.more k a n)) (core_reading Glued (operator_lexeme o) vs)
           ∙ ap (λ r. Some (more_with (on Glued vs) k a n (goes_with k a r))) is
-          ∙ ap (λ r. Some (more_with (on Glued vs) k a n r)) (if_true _ (Some o) None (both_true _ _ (test_of_le k (level o) le) (test_of_le (left_place o) (binds a) left)))
+          ∙ ap (λ r. Some (more_with (on Glued vs) k a n r)) (cond-true _ (Some o) None (and_from _ _ (le-leb k (level o) le) (le-leb (left_place o) (binds a) left)))
           ∙ ap (λ r. Some (joined_at (on Glued vs) k a n o r)) f.reads
           ∙ ap (λ m. Some ((on Glued vs x.1).core.more k tree m)) count;
       exact = λ h.

@@ -1,7 +1,8 @@
 -- What is read is well formed, and is spelled by the lexemes that were taken.
-use Rattle.std.proofs.Common.{◌≡◌, ◌≤◌, ℕ, zero, suc, ◌+◌, List, [], ◌∷◌, ◌++◌, length, length-append, drop, Option, Some, None, Bool, true, false, refl, sym, ap, ◌∙◌, subst, arith, rules, tests, append_assoc, append-nil}
-use Rattle.std.specs.Prelude.{◌&&◌, nat_le, if◌then◌else◌}
+use Rattle.std.proofs.Common.{◌≡◌, ◌≤◌, ℕ, zero, suc, ◌+◌, List, [], ◌∷◌, ◌++◌, length, length-append, drop, Option, Some, None, true, false, refl, sym, ap, ◌∙◌, subst, arith, rules, tests, append_assoc, append-nil}
+use Rattle.std.specs.Prelude.{◌&&◌, nat_le}
 use Rattle.std.proofs.Math.Seq.{drop-append_seam}
+use Rattle.std.proofs.lemmas.Bool.{and_parts, cond_both}
 use Rattle.op_tables.specs.declared.op.Op.{Op}
 use Rattle.op_tables.specs.declared.op.Op.TheVariants as op
 use Rattle.op_tables.specs.Words.{is_reserved}
@@ -19,14 +20,6 @@ use Rattle.expr_reader.specs.Spelled.{Takes, Spelled, Ifs}
 pub bind_holds : {A B : Type 0} (o : Option A) (f : A → Option B) (P : A → Type 0) (Q : B → Type 0) → Ifs o P → ((x : A) → P x → Ifs (f x) Q) → Ifs (o >>= f) Q
 bind_holds None f P Q h g = tt
 bind_holds (Some x) f P Q h g = g x h
-
-pub cond_holds : {A : Type 0} (b : Bool) (x y : A) (Q : A → Type 0) → (b ≡ true → Q x) → (b ≡ false → Q y) → Q (if b then x else y)
-cond_holds true x y Q h g = h refl
-cond_holds false x y Q h g = g refl
-
-pub and_both : (a b : Bool) → (a && b) ≡ true → (a ≡ true) × (b ≡ true)
-and_both true b h = (refl, h)
-and_both false b h = absurd cc
 
 -- the lexemes that are taken, one part after another
 pub takes_none : (ts : List Lexeme) → Takes [] ts 0
@@ -151,14 +144,15 @@ module _ (f : ℕ → Readers) (us : List Lexeme) (ih : (d : ℕ) → Sound (dro
   sound_bare : (x : List ℕ) (k : ℕ) → k ≤ 9 → is_reserved x ≡ false → Operand k (Word x) (Name x, 0)
   sound_bare x k le free = record { formed = free; bound = le; takes = takes_one _ us [] 0 (takes_none us) }
 
-  sound_name_with : (x : List ℕ) (k : ℕ) → k ≤ 9 → is_reserved x ≡ false → us ≡ Fixed sign.Open ∷ drop 1 us → (s : Option (Parts × ℕ)) → Ifs s (λ s. IsList s.0 × Takes (parts_spelling s.0) (drop 1 us) s.1) → Operand k (Word x) (name_with x s)
+  sound_name_with : (x : List ℕ) (k : ℕ) → k ≤ 9 → is_reserved x ≡ false → us ≡ Fixed sign.Open ∷ drop 1 us → (s : Option (Parts × ℕ))
+      → Ifs s (λ s. IsList s.0 × Takes (parts_spelling s.0) (drop 1 us) s.1) → Operand k (Word x) (name_with x s)
   sound_name_with x k le free o None h = sound_bare x k le free
   sound_name_with x k le free o (Some s) h =
       record { formed = (free, h.0); bound = le; takes = takes_one _ us (Fixed sign.Open ∷ parts_spelling s.0) (s.1 + 1) (opened o (parts_spelling s.0) s.1 h.1) }
 
   sound_name : (x : List ℕ) (k : ℕ) → k ≤ 9 → is_reserved x ≡ false → Operand k (Word x) (name_at f x)
   sound_name x k le free =
-      cond_holds (is_open (f 0).core.head) (name_with x (f 1).list) (Name x, 0) (Operand k (Word x))
+      cond_both (is_open (f 0).core.head) (name_with x (f 1).list) (Name x, 0) (Operand k (Word x))
       (λ e. sound_name_with x k le free ((ih 0).head sign.Open (open_is _ e)) (f 1).list (ih 1).list)
       (λ e. sound_bare x k le free)
 
@@ -168,18 +162,18 @@ module _ (f : ℕ → Readers) (us : List Lexeme) (ih : (d : ℕ) → Sound (dro
 
   sound_if_arguments : (ps : Parts × ℕ) → IsList ps.0 × Takes (parts_spelling ps.0) (drop 1 us) ps.1 → Ifs (if_arguments ps) IsArguments
   sound_if_arguments ps h =
-      cond_holds (are_arguments ps.0) (Some ps) None (λ r. Ifs r IsArguments) (λ e. (arguments_of_list ps.0 (parts_of_list ps.0 h.0) e, h.1)) (λ e. tt)
+      cond_both (are_arguments ps.0) (Some ps) None (λ r. Ifs r IsArguments) (λ e. (arguments_of_list ps.0 (parts_of_list ps.0 h.0) e, h.1)) (λ e. tt)
 
   sound_arguments : Ifs (arguments_at (f 1)) IsArguments
   sound_arguments =
-      cond_holds (is_close (f 1).core.head) (Some (End, 1)) ((f 1).list >>= if_arguments) (λ r. Ifs r IsArguments)
+      cond_both (is_close (f 1).core.head) (Some (End, 1)) ((f 1).list >>= if_arguments) (λ r. Ifs r IsArguments)
       (λ e. (tt, takes_head (Fixed sign.Close) _ ((ih 1).head sign.Close (close_is _ e))))
       (λ e. bind_holds (f 1).list if_arguments _ IsArguments (ih 1).list sound_if_arguments)
 
   sound_call : (x : List ℕ) (k : ℕ) → k ≤ 9 → (o : Option Op) → IsNamed x o → Ifs (call_at f o) (Operand k (Word x))
   sound_call x k le None h = tt
   sound_call x k le (Some o) h =
-      cond_holds (is_open (f 0).core.head) _ None (λ r. Ifs r (Operand k (Word x)))
+      cond_both (is_open (f 0).core.head) _ None (λ r. Ifs r (Operand k (Word x)))
       (λ e. bind_holds (arguments_at (f 1)) _ IsArguments (Operand k (Word x)) sound_arguments
       (λ ps a. record {
         formed = (h.1, a.0);
@@ -191,18 +185,21 @@ module _ (f : ℕ → Readers) (us : List Lexeme) (ih : (d : ℕ) → Sound (dro
 
   sound_word : (x : List ℕ) (k : ℕ) → k ≤ 9 → Ifs (word_at f x) (Operand k (Word x))
   sound_word x k le =
-      cond_holds (is_reserved x) (call_at f (intrinsic x)) (Some (name_at f x)) (λ r. Ifs r (Operand k (Word x)))
+      cond_both (is_reserved x) (call_at f (intrinsic x)) (Some (name_at f x)) (λ r. Ifs r (Operand k (Word x)))
       (λ e. sound_call x k le (intrinsic x) (intrinsic_is_named x))
       (λ e. sound_name x k le e)
 
   sound_closed : (k : ℕ) → k ≤ 9 → Ifs (closed_at f) (Operand k (Fixed sign.Open))
   sound_closed k le =
       bind_holds ((f 0).core.expr 0) _ (Spelled 0 us) (Operand k (Fixed sign.Open)) ((ih 0).expr 0 (omega arith))
-      (λ e s. cond_holds (is_close (f e.1).core.head) (Some (Closed e.0, e.1 + 1)) None (λ r. Ifs r (Operand k (Fixed sign.Open)))
+      (λ e s. cond_both (is_close (f e.1).core.head) (Some (Closed e.0, e.1 + 1)) None (λ r. Ifs r (Operand k (Fixed sign.Open)))
       (λ c. record {
         formed = s.formed;
         bound = le;
-        takes = takes_one (Fixed sign.Open) us _ (e.1 + 1) (takes_two (spelling e.0) (Fixed sign.Close ∷ []) us e.1 1 s.takes (takes_head (Fixed sign.Close) _ ((ih e.1).head sign.Close (close_is _ c))));
+        takes =
+            takes_one (Fixed sign.Open) us _ (e.1 + 1)
+            (takes_two (spelling e.0) (Fixed sign.Close ∷ []) us e.1 1 s.takes
+            (takes_head (Fixed sign.Close) _ ((ih e.1).head sign.Close (close_is _ c))));
       })
       (λ c. tt))
 
@@ -212,7 +209,7 @@ module _ (f : ℕ → Readers) (us : List Lexeme) (ih : (d : ℕ) → Sound (dro
       sound_unary_with : (o : Option Op) → Ifs o (λ o. (operator_lexeme o ≡ t) × (unary_of (operator_lexeme o) ≡ Some o)) → Ifs (unary_at f k o) (Operand k t)
       sound_unary_with None h = tt
       sound_unary_with (Some o) h =
-          cond_holds (nat_le k (level o)) _ None (λ r. Ifs r (Operand k t))
+          cond_both (nat_le k (level o)) _ None (λ r. Ifs r (Operand k t))
           (λ le. bind_holds ((f 0).core.expr (level o + 1)) _ (Spelled (level o + 1) us) (Operand k t)
           (let few = few_levels o in (ih 0).expr (level o + 1) (omega arith))
           (λ a s. record {
@@ -227,7 +224,9 @@ module _ (f : ℕ → Readers) (us : List Lexeme) (ih : (d : ℕ) → Sound (dro
       append_assoc (spelling e) (operator_lexeme o ∷ spelling b) (drop m us)
       ∙ (λ i. spelling e ++ (is i ∷ sym h.0 i))
 
-  sound_joined : (k : ℕ) (e : Expression) (n : ℕ) (o : Op) (t : Lexeme) → IsFormed e → n ≡ length (spelling e) → k ≤ level o → left_place o ≤ binds e → k ≤ binds e → operator_lexeme o ≡ t → binary_of (operator_lexeme o) ≡ Some o → (b : Option (Expression × ℕ)) → Ifs b (Spelled (right_place o) us) → Spelled k (spelling e ++ (t ∷ us)) (joined_at f k e n o b)
+  sound_joined : (k : ℕ) (e : Expression) (n : ℕ) (o : Op) (t : Lexeme) → IsFormed e → n ≡ length (spelling e) → k ≤ level o → left_place o ≤ binds e
+      → k ≤ binds e → operator_lexeme o ≡ t → binary_of (operator_lexeme o) ≡ Some o → (b : Option (Expression × ℕ))
+      → Ifs b (Spelled (right_place o) us) → Spelled k (spelling e ++ (t ∷ us)) (joined_at f k e n o b)
   sound_joined k e n o t w len le left low is op None h = record { formed = w; bound = low; takes = takes_front (spelling e) (t ∷ us) n len }
   sound_joined k e n o t w len le left low is op (Some b) h =
       let long : n + (b.1 + 1) ≡ length (spelling (Binary o e b.0)) = omega (arith, length-append (spelling e) (operator_lexeme o ∷ spelling b.0), h.takes.1) in
@@ -240,12 +239,13 @@ module _ (f : ℕ → Readers) (us : List Lexeme) (ih : (d : ℕ) → Sound (dro
       as_it_is : Spelled k (spelling e ++ (t ∷ us)) (e, n)
       as_it_is = record { formed = w; bound = low; takes = takes_front (spelling e) (t ∷ us) n len }
 
-      sound_more_with : (o : Option Op) → Ifs o (λ o. (operator_lexeme o ≡ t) × (binary_of (operator_lexeme o) ≡ Some o)) → Spelled k (spelling e ++ (t ∷ us)) (more_with f k e n (goes_with k e o))
+      sound_more_with : (o : Option Op) → Ifs o (λ o. (operator_lexeme o ≡ t) × (binary_of (operator_lexeme o) ≡ Some o))
+          → Spelled k (spelling e ++ (t ∷ us)) (more_with f k e n (goes_with k e o))
       sound_more_with None h = as_it_is
       sound_more_with (Some o) h =
-          cond_holds (nat_le k (level o) && nat_le (left_place o) (binds e)) (Some o) None (λ o. Spelled k (spelling e ++ (t ∷ us)) (more_with f k e n o))
+          cond_both (nat_le k (level o) && nat_le (left_place o) (binds e)) (Some o) None (λ o. Spelled k (spelling e ++ (t ∷ us)) (more_with f k e n o))
           (λ both.
-          let b = and_both (nat_le k (level o)) _ both in
+          let b = and_parts (nat_le k (level o)) _ both in
           sound_joined k e n o t w len (le_of_test _ _ b.0) (le_of_test _ _ b.1) low h.0 h.1 _ (let few = few_levels o in (ih 0).expr (right_place o) few.1))
           (λ _. as_it_is)
 
@@ -295,7 +295,9 @@ module _ (f : ℕ → Readers) (us : List Lexeme) (ih : (d : ℕ) → Sound (dro
 
 -- a list, where the cores from there on are sound
 abbrev SoundCore : List Lexeme → Core → Type 0
-SoundCore ts c = ((s : Sign) → c.head ≡ Some s → ts ≡ Fixed s ∷ drop 1 ts) × ((k : ℕ) → k ≤ 9 → Ifs (c.expr k) (Spelled k ts)) × Ifs c.rest (λ s. AreParts s.0 × Takes (rest_spelling s.0) ts s.1)
+SoundCore ts c =
+    ((s : Sign) → c.head ≡ Some s → ts ≡ Fixed s ∷ drop 1 ts) × ((k : ℕ) → k ≤ 9 → Ifs (c.expr k) (Spelled k ts))
+    × Ifs c.rest (λ s. AreParts s.0 × Takes (rest_spelling s.0) ts s.1)
 
 module _ (g : ℕ → Core) (ts : List Lexeme) (ih : (d : ℕ) → SoundCore (drop d ts) (g d)) where
   sound_maybe : (us : List Lexeme) (o : Option (Expression × ℕ)) → Ifs o (Spelled 0 us) → IsMaybe (maybe_at o).0 × Takes (maybe_spelling (maybe_at o).0) us (maybe_at o).1
@@ -305,16 +307,18 @@ module _ (g : ℕ → Core) (ts : List Lexeme) (ih : (d : ℕ) → SoundCore (dr
   abbrev IsPartAt : Part × ℕ → Type 0
   IsPartAt s = IsPart s.0 × Takes (part_spelling s.0) ts s.1
 
-  sound_step : (a b : Maybe) (n : ℕ) (text : List Lexeme) → ((c : Maybe) → part_spelling (Range a b c) ≡ text ++ step_spelling c) → IsMaybe a → IsMaybe b → Takes text ts n → Ifs (step_at g a b n) IsPartAt
+  sound_step : (a b : Maybe) (n : ℕ) (text : List Lexeme) → ((c : Maybe) → part_spelling (Range a b c) ≡ text ++ step_spelling c) → IsMaybe a
+      → IsMaybe b → Takes text ts n → Ifs (step_at g a b n) IsPartAt
   sound_step a b n text is wa wb h =
-      cond_holds (is_colon (g n).head) _ (Some (Range a b Absent, n)) (λ r. Ifs r IsPartAt)
+      cond_both (is_colon (g n).head) _ (Some (Range a b Absent, n)) (λ r. Ifs r IsPartAt)
       (λ c.
       let colon : Takes (Fixed sign.Colon ∷ []) (drop n ts) 1 = takes_head (Fixed sign.Colon) _ ((ih n).0 sign.Colon (colon_is _ c)) in
       let upto = takes_two text (Fixed sign.Colon ∷ []) ts n 1 h colon in
       bind_holds ((g (n + 1)).expr 0) _ (Spelled 0 (drop (n + 1) ts)) IsPartAt ((ih (n + 1)).1 0 (omega arith))
       (λ x s. (
         (wa, wb, s.formed),
-        subst (λ l. Takes l ts (n + 1 + x.1)) (append_assoc text (Fixed sign.Colon ∷ []) (spelling x.0) ∙ sym (is (Present x.0))) (takes_two (text ++ Fixed sign.Colon ∷ []) (spelling x.0) ts (n + 1) x.1 upto s.takes),
+        subst (λ l. Takes l ts (n + 1 + x.1)) (append_assoc text (Fixed sign.Colon ∷ []) (spelling x.0) ∙ sym (is (Present x.0)))
+            (takes_two (text ++ Fixed sign.Colon ∷ []) (spelling x.0) ts (n + 1) x.1 upto s.takes),
       )))
       (λ c. ((wa, wb, tt), subst (λ l. Takes l ts n) (sym (append-nil text) ∙ sym (is Absent)) h))
 
@@ -326,7 +330,11 @@ module _ (g : ℕ → Core) (ts : List Lexeme) (ih : (d : ℕ) → SoundCore (dr
       let b = maybe_at o in
       let m = sound_maybe (drop (n + 1) ts) o ((ih (n + 1)).1 0 (omega arith)) in
       sound_step a b.0 (n + 1 + b.1) ((maybe_spelling a ++ Fixed sign.Colon ∷ []) ++ maybe_spelling b.0)
-      (λ x. ap (λ l. maybe_spelling a ++ l) refl ∙ sym (append_assoc (maybe_spelling a ++ Fixed sign.Colon ∷ []) (maybe_spelling b.0) (step_spelling x) ∙ append_assoc (maybe_spelling a) (Fixed sign.Colon ∷ []) (maybe_spelling b.0 ++ step_spelling x)))
+      (λ x.
+      ap (λ l. maybe_spelling a ++ l) refl
+      ∙ sym
+      (append_assoc (maybe_spelling a ++ Fixed sign.Colon ∷ []) (maybe_spelling b.0) (step_spelling x)
+      ∙ append_assoc (maybe_spelling a) (Fixed sign.Colon ∷ []) (maybe_spelling b.0 ++ step_spelling x)))
       wa m.0 (takes_two (maybe_spelling a ++ Fixed sign.Colon ∷ []) (maybe_spelling b.0) ts (n + 1) b.1 upto m.1)
 
   sound_one : (a : Maybe) (n : ℕ) → IsMaybe a → Takes (maybe_spelling a) ts n → Ifs (one_at a n) IsPartAt
@@ -340,7 +348,8 @@ module _ (g : ℕ → Core) (ts : List Lexeme) (ih : (d : ℕ) → SoundCore (dr
       bind_holds ((g (n + 1)).expr 0) _ (Spelled 0 (drop (n + 1) ts)) IsPartAt ((ih (n + 1)).1 0 (omega arith))
       (λ x s. (
         (wa, s.formed),
-        subst (λ l. Takes l ts (n + 1 + x.1)) (append_assoc (maybe_spelling a) (Fixed sign.Colons ∷ []) (spelling x.0)) (takes_two (maybe_spelling a ++ Fixed sign.Colons ∷ []) (spelling x.0) ts (n + 1) x.1 upto s.takes),
+        subst (λ l. Takes l ts (n + 1 + x.1)) (append_assoc (maybe_spelling a) (Fixed sign.Colons ∷ []) (spelling x.0))
+            (takes_two (maybe_spelling a ++ Fixed sign.Colons ∷ []) (spelling x.0) ts (n + 1) x.1 upto s.takes),
       ))
 
   sound_part : Ifs (part_at Glued g) IsPartAt
@@ -348,9 +357,11 @@ module _ (g : ℕ → Core) (ts : List Lexeme) (ih : (d : ℕ) → SoundCore (dr
       let o = (g 0).expr 0 in
       let a = maybe_at o in
       let m = sound_maybe ts o ((ih 0).1 0 (omega arith)) in
-      cond_holds (is_colon (g a.1).head) (range_at g a.0 a.1) _ (λ r. Ifs r IsPartAt)
+      cond_both (is_colon (g a.1).head) (range_at g a.0 a.1) _ (λ r. Ifs r IsPartAt)
       (λ c. sound_range a.0 a.1 m.0 m.1 c)
-      (λ c. cond_holds (is_colons (g a.1).head) (glued_at Glued g a.0 a.1) (one_at a.0 a.1) (λ r. Ifs r IsPartAt) (λ d. sound_glued a.0 a.1 m.0 m.1 d) (λ d. sound_one a.0 a.1 m.0 m.1))
+      (λ c.
+      cond_both (is_colons (g a.1).head) (glued_at Glued g a.0 a.1) (one_at a.0 a.1) (λ r. Ifs r IsPartAt) (λ d. sound_glued a.0 a.1 m.0 m.1 d)
+      (λ d. sound_one a.0 a.1 m.0 m.1))
 
   sound_list : Ifs (list_at Glued g) (λ s. IsList s.0 × Takes (parts_spelling s.0) ts s.1)
   sound_list =

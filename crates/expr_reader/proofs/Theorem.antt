@@ -29,7 +29,8 @@ all_read e w =
 -- at most one well-formed expression has a spelling
 pub one_expression : (a b : Expression) → IsFormed a → IsFormed b → spelling a ≡ spelling b → a ≡ b
 one_expression a b wa wb h =
-    let e : ◌≡◌ {A = Option (Expression × ℕ)} (Some (a, length (spelling a))) (Some (b, length (spelling b))) = sym (all_read a wa) ∙ ap (λ ts. (reading Glued ts).core.expr 0) h ∙ all_read b wb in
+    let e : ◌≡◌ {A = Option (Expression × ℕ)} (Some (a, length (spelling a))) (Some (b, length (spelling b))) =
+    sym (all_read a wa) ∙ ap (λ ts. (reading Glued ts).core.expr 0) h ∙ all_read b wb in
     ap (λ p. p.0) (some_is _ _ e)
 
 longest : (ts : List Lexeme) (x : Expression × ℕ) → Some x ≡ (reading Glued ts).core.expr 0 → IsLongest ts x
@@ -113,7 +114,8 @@ pub front_found : (e : Expression) (us : List Lexeme) → IsFormed e → Ends us
 unfolding front
 front_found e us w h =
     let f = found_at e w us in
-    ap (λ o. o >>= λ x. Some (x.0, drop x.1 (spelling e ++ us))) (sym ((agree (spelling e ++ us)).expr 0) ∙ ap (mapped kept) (f.reads ∙ ap Some (f.exact (ends_stop us (inner e) h) (ends_stop us 0 h))))
+    ap (λ o. o >>= λ x. Some (x.0, drop x.1 (spelling e ++ us)))
+    (sym ((agree (spelling e ++ us)).expr 0) ∙ ap (mapped kept) (f.reads ∙ ap Some (f.exact (ends_stop us (inner e) h) (ends_stop us 0 h))))
     ∙ ap (λ k. Some (kept e, k)) (drop_taken (spelling e) us (length (spelling e)) refl)
 
 -- a well-formed expression at the front is found, or one that is at least as deep

@@ -1,5 +1,5 @@
 pub mod Reading
-pub mod CodeViews
+pub mod TokenReading
 pub mod Spelled
 pub mod Longest
 pub mod Front

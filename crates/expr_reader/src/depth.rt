@@ -1,9 +1,9 @@
 //! How deep an expression is.
 
 ghost use Rattle.std.specs.Prelude.{◌≡◌, ◌≤◌, ◌↔◌, IsTrue};
-ghost use Rattle.syntax_tree.specs.Expression.{expression, subscript};
+ghost use Rattle.syntax_tree.specs.Expression.{expression, subscript, arguments_of, parts_of};
 ghost use Rattle.syntax_tree.specs.Spelling.{depth, part_depth, list_depth, maybe_depth};
-ghost use Rattle.expr_reader.specs.CodeViews.{arguments_of, maybe_in, parts_of};
+ghost use Rattle.expr_reader.specs.TokenReading.{maybe_in};
 
 use syntax_tree::{Expr, Subscript};
 

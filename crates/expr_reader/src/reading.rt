@@ -4,12 +4,12 @@ ghost use Rattle.std.specs.Prelude.{◌≡◌, ◌≤◌, ◌<◌, ◌+◌, leng
 ghost use Rattle.syntax_tree.specs.Lexeme.{fixed, lexeme_of, lexemes};
 ghost use Rattle.op_tables.specs.Words.{is_reserved};
 ghost use Rattle.syntax_tree.specs.Operators.{intrinsic, unary};
-ghost use Rattle.syntax_tree.specs.Expression.{expression, subscript};
+ghost use Rattle.syntax_tree.specs.Expression.{expression, subscript, arguments_of, parts_of};
 ghost use Rattle.syntax_tree.specs.Spelling.{binds};
 ghost use Rattle.expr_reader.specs.Front.{front, Gives};
 ghost use Rattle.expr_reader.specs.Longest.{IsRead, IsRefused};
 ghost use Rattle.expr_reader.specs.Reading.{apart, arguments_at, call_at, closed_at, glued_at, goes_on, maybe_at, name_at, operand_at, part_at, part_from, range_at, unary_at, word_at};
-ghost use Rattle.expr_reader.specs.CodeViews.{ahead, AreExpressions, arguments_of, EndsWithin, expression_of, maybe_in, parts_of, read, viewed};
+ghost use Rattle.expr_reader.specs.TokenReading.{ahead, AreExpressions, EndsWithin, expression_of, maybe_in, read, viewed};
 
 use crate::depth::fits;
 use crate::signs::{behind, closes, opens, ranges, separates, sign_at, steps};

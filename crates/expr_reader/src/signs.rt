@@ -2,7 +2,7 @@
 
 ghost use Rattle.std.specs.Prelude.{◌≡◌, ◌≤◌, ◌<◌, length, drop, IsSome, IsTrue};
 ghost use Rattle.expr_reader.specs.Reading.{is_open, is_close, is_comma, is_colon, is_colons};
-ghost use Rattle.expr_reader.specs.CodeViews.{ahead};
+ghost use Rattle.expr_reader.specs.TokenReading.{ahead};
 
 use source_lines::Token;
 use syntax_tree::{Sign, sign_of};

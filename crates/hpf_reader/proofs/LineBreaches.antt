@@ -39,7 +39,8 @@ module _ {A : Type 0} (breach : A → ℕ → Reason → Type 0) where
   more_from (k ∷ ls) l line reason (inr x) = ⊎_elim (λ y. inl (inr y)) (λ y. inr y) (more_from ls l line reason x)
 
   -- with a line more, the one at a place
-  pub first_more : (ls : List A) (i : ℕ) (l : A) (a b : Option Refusal) → i < length ls → l ≡ get_or ls i l → IsFirstOrNone (OneBreaks breach (take i ls)) a → IsFirstOrNone (breach l) b → IsFirstOrNone (OneBreaks breach (take (i + 1) ls)) (earlier a b)
+  pub first_more : (ls : List A) (i : ℕ) (l : A) (a b : Option Refusal) → i < length ls → l ≡ get_or ls i l
+      → IsFirstOrNone (OneBreaks breach (take i ls)) a → IsFirstOrNone (breach l) b → IsFirstOrNone (OneBreaks breach (take (i + 1) ls)) (earlier a b)
   first_more ls i l a b lt is h k =
       subst (λ ls. IsFirstOrNone (OneBreaks breach ls) (earlier a b)) (sym (take_more ls i l lt ∙ ap (λ l. take i ls ++ l ∷ []) (sym is)))
       (first_same _ _ (earlier a b) (more_to (take i ls) l) (more_from (take i ls) l) (first_both (OneBreaks breach (take i ls)) (breach l) a b h k))
@@ -50,20 +51,23 @@ module _ {A : Type 0} (breach : A → ℕ → Reason → Type 0) where
   one_clean (k ∷ ls) zero l lt is h line reason x = h line reason (inl (subst (λ l. breach l line reason) is x))
   one_clean (k ∷ ls) (suc i) l lt is h line reason x = one_clean ls i l (omega (arith, lt)) is (λ line reason y. h line reason (inr y)) line reason x
 
-lines_more : (ls : List LexemeLine) (l : LexemeLine) (ss : List HeldLine) (s : HeldLine) → AreLinesOf ls (lines_of ss) → IsLineOf l (line_of s) → AreLinesOf (ls ++ l ∷ []) (lines_of (ss ++ s ∷ []))
+lines_more : (ls : List LexemeLine) (l : LexemeLine) (ss : List HeldLine) (s : HeldLine) → AreLinesOf ls (lines_of ss) → IsLineOf l (line_of s)
+    → AreLinesOf (ls ++ l ∷ []) (lines_of (ss ++ s ∷ []))
 lines_more [] l [] s h k = (k, tt)
 lines_more [] l (t ∷ ss) s h k = absurd h
 lines_more (m ∷ ls) l [] s h k = absurd h
 lines_more (m ∷ ls) l (t ∷ ss) s h k = (h.0, lines_more ls l ss s h.1 k)
 
 -- one line more was read, the one at a place
-pub added : (ls : List LexemeLine) (i : ℕ) (l : LexemeLine) (before after : List HeldLine) → i < length ls → l ≡ get_or ls i l → AreLinesOf (take i ls) (lines_of before) → IsRead l before after → AreLinesOf (take (i + 1) ls) (lines_of after)
+pub added : (ls : List LexemeLine) (i : ℕ) (l : LexemeLine) (before after : List HeldLine) → i < length ls → l ≡ get_or ls i l
+    → AreLinesOf (take i ls) (lines_of before) → IsRead l before after → AreLinesOf (take (i + 1) ls) (lines_of after)
 added ls i l before after lt is h a =
     subst (λ ls. AreLinesOf ls (lines_of after)) (sym (take_more ls i l lt ∙ ap (λ l. take i ls ++ l ∷ []) (sym is)))
     (subst (λ ss. AreLinesOf (take i ls ++ l ∷ []) (lines_of ss)) (sym a.1) (lines_more (take i ls) l before a.0 h a.2))
 
 -- the tokens of one line more, the one at a place
-pub scanned : (ls : List LogicalLine) (i : ℕ) (l : LogicalLine) (before after : List LexemeLine) → i < length ls → l ≡ get_or ls i l → before ≡ map lexeme_line (take i ls) → IsScanned l before after → after ≡ map lexeme_line (take (i + 1) ls)
+pub scanned : (ls : List LogicalLine) (i : ℕ) (l : LogicalLine) (before after : List LexemeLine) → i < length ls → l ≡ get_or ls i l
+    → before ≡ map lexeme_line (take i ls) → IsScanned l before after → after ≡ map lexeme_line (take (i + 1) ls)
 scanned ls i l before after lt is h a =
     a ∙ ap (λ ks. ks ++ lexeme_line l ∷ []) h ∙ sym (map_push lexeme_line (take i ls) l)
     ∙ ap (map lexeme_line) (sym (take_more ls i l lt ∙ ap (λ l. take i ls ++ l ∷ []) (sym is)))
@@ -88,21 +92,25 @@ none_both (Some a) (Some b) h = absurd (one_of (is_before b a) h)
     one_of false e = cc
 
 -- what is wrong with a statement, by the kind of its line
-pub statement_wrong : (l : LexemeLine) (ts : List Lexeme) (e : StaticError) → ts ≡ l.lexemes → l.kind ≡ line.Statement → IsRefusalBy (λ n reason. (n ≡ l.number) × IsStatementBreach ts reason) e → IsRefusalBy (FormBreaks l) e
+pub statement_wrong : (l : LexemeLine) (ts : List Lexeme) (e : StaticError) → ts ≡ l.lexemes → l.kind ≡ line.Statement
+    → IsRefusalBy (λ n reason. (n ≡ l.number) × IsStatementBreach ts reason) e → IsRefusalBy (FormBreaks l) e
 statement_wrong l ts e same kind h =
     subst (λ k. IsRefusalBy (λ n reason. (n ≡ l.number) × IsWrong k l.lexemes reason) e) (sym kind)
     (subst (λ ts. IsRefusalBy (λ n reason. (n ≡ l.number) × IsStatementBreach ts reason) e) same h)
 
-pub directive_wrong : (l : LexemeLine) (ts : List Lexeme) (e : StaticError) → ts ≡ l.lexemes → l.kind ≡ line.Directive → IsRefusalBy (λ n reason. (n ≡ l.number) × IsDirectiveBreach ts reason) e → IsRefusalBy (FormBreaks l) e
+pub directive_wrong : (l : LexemeLine) (ts : List Lexeme) (e : StaticError) → ts ≡ l.lexemes → l.kind ≡ line.Directive
+    → IsRefusalBy (λ n reason. (n ≡ l.number) × IsDirectiveBreach ts reason) e → IsRefusalBy (FormBreaks l) e
 directive_wrong l ts e same kind h =
     subst (λ k. IsRefusalBy (λ n reason. (n ≡ l.number) × IsWrong k l.lexemes reason) e) (sym kind)
     (subst (λ ts. IsRefusalBy (λ n reason. (n ≡ l.number) × IsDirectiveBreach ts reason) e) same h)
 
 -- a line of a kind in which nothing is wrong
-pub statement_fine : (l : LexemeLine) (ts : List Lexeme) → ts ≡ l.lexemes → l.kind ≡ line.Statement → ((reason : Reason) → IsStatementBreach ts reason → ⊥) → NoBreach (FormBreaks l)
+pub statement_fine : (l : LexemeLine) (ts : List Lexeme) → ts ≡ l.lexemes → l.kind ≡ line.Statement
+    → ((reason : Reason) → IsStatementBreach ts reason → ⊥) → NoBreach (FormBreaks l)
 statement_fine l ts same kind h n reason b =
     h reason (subst (λ ts. IsStatementBreach ts reason) (sym same) (subst (λ k. IsWrong k l.lexemes reason) kind b.1))
 
-pub directive_fine : (l : LexemeLine) (ts : List Lexeme) → ts ≡ l.lexemes → l.kind ≡ line.Directive → ((reason : Reason) → IsDirectiveBreach ts reason → ⊥) → NoBreach (FormBreaks l)
+pub directive_fine : (l : LexemeLine) (ts : List Lexeme) → ts ≡ l.lexemes → l.kind ≡ line.Directive
+    → ((reason : Reason) → IsDirectiveBreach ts reason → ⊥) → NoBreach (FormBreaks l)
 directive_fine l ts same kind h n reason b =
     h reason (subst (λ ts. IsDirectiveBreach ts reason) (sym same) (subst (λ k. IsWrong k l.lexemes reason) kind b.1))

@@ -78,7 +78,8 @@ module _ (text : List ℕ) (n : ℕ) (ss : List ProgramLine) (last : n ≡ lengt
   nest_refused (Refused r) h = first_same (IsNestBreach n ss) (NestBreaks text) (Some r) of_text of_lines h
   nest_refused Memory h = tt
 
-pub refused_by_nest : (text : List ℕ) (e : StaticError) → NoBreach (IsLineBreach text) → NoBreach (TokensBreak (logical_lines text)) → NoBreach (FormsBreak (lexeme_lines text)) → IsRefusalBy (NestBreaks text) e → IsProgramRefusal text e
+pub refused_by_nest : (text : List ℕ) (e : StaticError) → NoBreach (IsLineBreach text) → NoBreach (TokensBreak (logical_lines text))
+    → NoBreach (FormsBreak (lexeme_lines text)) → IsRefusalBy (NestBreaks text) e → IsProgramRefusal text e
 refused_by_nest text (Refused r) lines tokens forms h = by_nest lines tokens forms h
 refused_by_nest text Memory lines tokens forms h = tt
 

@@ -1,8 +1,9 @@
 -- How lexemes begin, and what that excludes.
-use Rattle.std.proofs.Common.{◌≡◌, ℕ, ◌&&◌, ◌||◌, Bool, true, false, List, [], ◌∷◌, ◌++◌, drop, Option, Some, None, ◌⊎◌, inl, inr, ⊎_elim, refl, sym, ap, ◌∙◌, subst, append_assoc}
+use Rattle.std.proofs.Common.{◌≡◌, ℕ, ◌&&◌, Bool, true, false, List, [], ◌∷◌, ◌++◌, drop, Option, Some, None, ⊎_elim, refl, sym, ap, ◌∙◌, subst, append_assoc}
 use Rattle.std.specs.Prelude.{not, is_none, is_some}
 use Rattle.std.specs.List.{list_all}
 use Rattle.std.proofs.lemmas.Slice.Eq.{bytes_eq-Decides}
+use Rattle.std.proofs.lemmas.Bool.{and_parts, and_right, not-true, or_cases, or_left, or_right}
 use denote.Enum.Bare.{true_same}
 use Rattle.op_tables.specs.declared.op.Op.{Op}
 use Rattle.syntax_tree.specs.declared.sign.Sign.TheVariants as sign
@@ -17,43 +18,29 @@ use Rattle.expr_reader.proofs.Equations.{reading_at, reading_at_end}
 use Rattle.line_forms.specs.Marks.{same, starts, colon, colons, equals}
 use Rattle.line_forms.specs.Read.{is_index}
 use Rattle.line_forms.specs.Ll1.{FirstItem, Finish, Exactly, AnyName, Operand, AnyText, is_operand, is_first, begins, Begins, is_mark, are_marks, differ, may_be_name, disjoint_from, disjoint, is_end, is_subscript_end, ends_expression, ends_subscript, is_finish, is_filled}
-use Rattle.line_forms.proofs.Sound.{both_true, same_is}
-
-pub either_true : (a b : Bool) → (a || b) ≡ true → (a ≡ true) ⊎ (b ≡ true)
-either_true true b h = inl refl
-either_true false b h = inr h
-
-pub first_true : (a b : Bool) → a ≡ true → (a || b) ≡ true
-first_true true b h = refl
-first_true false b h = absurd cc
-
-pub second_true : (a b : Bool) → b ≡ true → (a || b) ≡ true
-second_true true b h = refl
-second_true false b h = h
-
-pub not_true : (b : Bool) → not b ≡ true → b ≡ false
-not_true true h = absurd cc
-not_true false h = refl
+use Rattle.line_forms.proofs.Sound.{same_is}
 
 pub none_of : {A : Type 0} (o : Option A) → is_none o ≡ true → o ≡ None
 none_of None h = refl
 none_of (Some x) h = absurd cc
 
 -- from a test that all ways to begin pass
-pub each : {Q : Type 0} (p : FirstItem → Bool) (fs : List FirstItem) (ts : List Lexeme) → list_all p fs ≡ true → Begins fs ts → ((f : FirstItem) → p f ≡ true → is_first f ts ≡ true → Q) → Q
+pub each : {Q : Type 0} (p : FirstItem → Bool) (fs : List FirstItem) (ts : List Lexeme) → list_all p fs ≡ true → Begins fs ts
+    → ((f : FirstItem) → p f ≡ true → is_first f ts ≡ true → Q) → Q
 each p [] ts a b k = absurd cc
 each p (f ∷ fs) ts a b k =
-    let h = both_true (p f) (list_all p fs) a in
-    ⊎_elim (λ one. k f h.0 one) (λ more. each p fs ts h.1 more k) (either_true (is_first f ts) (begins fs ts) b)
+    let h = and_parts (p f) (list_all p fs) a in
+    ⊎_elim (λ one. k f h.0 one) (λ more. each p fs ts h.1 more k) (or_cases (is_first f ts) (begins fs ts) b)
 
 pub begins_left : (fs gs : List FirstItem) (ts : List Lexeme) → Begins fs ts → Begins (fs ++ gs) ts
 begins_left [] gs ts h = absurd cc
 begins_left (f ∷ fs) gs ts h =
-    ⊎_elim (λ one. first_true (is_first f ts) (begins (fs ++ gs) ts) one) (λ more. second_true (is_first f ts) (begins (fs ++ gs) ts) (begins_left fs gs ts more)) (either_true (is_first f ts) (begins fs ts) h)
+    ⊎_elim (λ one. or_left (is_first f ts) (begins (fs ++ gs) ts) one)
+    (λ more. or_right (is_first f ts) (begins (fs ++ gs) ts) (begins_left fs gs ts more)) (or_cases (is_first f ts) (begins fs ts) h)
 
 pub begins_right : (fs gs : List FirstItem) (ts : List Lexeme) → Begins gs ts → Begins (fs ++ gs) ts
 begins_right [] gs ts h = h
-begins_right (f ∷ fs) gs ts h = second_true (is_first f ts) (begins (fs ++ gs) ts) (begins_right fs gs ts h)
+begins_right (f ∷ fs) gs ts h = or_right (is_first f ts) (begins (fs ++ gs) ts) (begins_right fs gs ts h)
 
 same_mark : (k : Lexeme) → is_mark k ≡ true → same k k ≡ true
 same_mark (Word x) h = (bytes_eq-Decides x x).1 refl
@@ -63,7 +50,7 @@ same_mark k h = absurd cc
 pub starts_all : (ks us : List Lexeme) → are_marks ks ≡ true → starts ks (ks ++ us) ≡ true
 starts_all [] us h = refl
 starts_all (k ∷ ks) us h =
-    let b = both_true (is_mark k) (are_marks ks) h in
+    let b = and_parts (is_mark k) (are_marks ks) h in
     (λ i. same_mark k b.0 i && starts ks (ks ++ us)) ∙ starts_all ks us b.1
 
 -- what differs doesn't stand in front
@@ -72,15 +59,11 @@ differ_starts [] js ts d h = absurd cc
 differ_starts (k ∷ ks) [] ts d h = absurd cc
 differ_starts (k ∷ ks) (j ∷ js) [] d h = refl
 differ_starts (k ∷ ks) (j ∷ js) (t ∷ ts) d h =
-    let b = both_true (same j t) (starts js ts) h in
+    let b = and_parts (same j t) (starts js ts) h in
     ⊎_elim
-    (λ no. ap (λ b. b && starts ks ts) (ap (same k) (sym (same_is j t b.0)) ∙ not_true (same k j) no))
-    (λ more. second_false (same k t) (starts ks ts) (differ_starts ks js ts more b.1))
-    (either_true (not (same k j)) (differ ks js) d)
-  where
-    second_false : (a b : Bool) → b ≡ false → (a && b) ≡ false
-    second_false true b h = h
-    second_false false b h = refl
+    (λ no. ap (λ b. b && starts ks ts) (ap (same k) (sym (same_is j t b.0)) ∙ not-true (same k j) no))
+    (λ more. and_right (same k t) (starts ks ts) (differ_starts ks js ts more b.1))
+    (or_cases (not (same k j)) (differ ks js) d)
 
 -- a lexeme that passes a test that another fails is another
 other : (p : Lexeme → Bool) (k t : Lexeme) → p k ≡ false → p t ≡ true → same k t ≡ false
@@ -94,8 +77,8 @@ disjoint_first : (ks : List Lexeme) (f : FirstItem) (ts : List Lexeme) → disjo
 disjoint_first [] f ts a h = absurd cc
 disjoint_first (k ∷ ks) Finish [] a h = refl
 disjoint_first (k ∷ ks) (Exactly js) ts a h = differ_starts (k ∷ ks) js ts a h
-disjoint_first (k ∷ ks) AnyName (Word x ∷ ts) a h = ap (λ b. b && starts ks ts) (other may_be_name k (Word x) (not_true (may_be_name k) a) h)
-disjoint_first (k ∷ ks) Operand (t ∷ ts) a h = ap (λ b. b && starts ks ts) (other is_operand k t (not_true (is_operand k) a) h)
+disjoint_first (k ∷ ks) AnyName (Word x ∷ ts) a h = ap (λ b. b && starts ks ts) (other may_be_name k (Word x) (not-true (may_be_name k) a) h)
+disjoint_first (k ∷ ks) Operand (t ∷ ts) a h = ap (λ b. b && starts ks ts) (other is_operand k t (not-true (is_operand k) a) h)
 disjoint_first (Word x ∷ ks) AnyText (Text bytes ∷ ts) a h = refl
 disjoint_first (Fixed s ∷ ks) AnyText (Text bytes ∷ ts) a h = refl
 disjoint_first (k ∷ ks) AnyText (Text bytes ∷ ts) a h = refl
@@ -107,12 +90,12 @@ disjoint_starts ks fs ts a b = each (disjoint_from ks) fs ts a b (λ f p h. disj
 
 end_is : (t : Lexeme) (ts : List Lexeme) → is_end t ≡ true → Ends (t ∷ ts)
 end_is t ts h =
-    let b = both_true (not (is_open (sign_of t))) (is_none (binary_of t)) h in
-    (not_true (is_open (sign_of t)) b.0, none_of (binary_of t) b.1)
+    let b = and_parts (not (is_open (sign_of t))) (is_none (binary_of t)) h in
+    (not-true (is_open (sign_of t)) b.0, none_of (binary_of t) b.1)
 
 ends_first : (f : FirstItem) (ts : List Lexeme) → ends_expression f ≡ true → is_first f ts ≡ true → Ends ts
 ends_first Finish [] a h = tt
-ends_first (Exactly (k ∷ ks)) (t ∷ ts) a h = end_is t ts (subst (λ k. is_end k ≡ true) (same_is k t (both_true (same k t) (starts ks ts) h).0) a)
+ends_first (Exactly (k ∷ ks)) (t ∷ ts) a h = end_is t ts (subst (λ k. is_end k ≡ true) (same_is k t (and_parts (same k t) (starts ks ts) h).0) a)
 ends_first AnyName (Word x ∷ ts) a h = (refl, refl)
 ends_first AnyText (Text bytes ∷ ts) a h = (refl, refl)
 ends_first f ts a h = absurd cc
@@ -154,7 +137,9 @@ operand_first (Name x) us w = refl
 operand_first (Element x ps) us w = refl
 operand_first (Call o ps) us w = refl
 operand_first (Unary o a) us w = unary_operand (operator_lexeme o) o w.0
-operand_first (Binary o a b) us w = ap (is_first Operand) (append_assoc (spelling a) (operator_lexeme o ∷ spelling b) us) ∙ operand_first a (operator_lexeme o ∷ (spelling b ++ us)) w.1
+operand_first (Binary o a b) us w =
+    ap (is_first Operand) (append_assoc (spelling a) (operator_lexeme o ∷ spelling b) us)
+    ∙ operand_first a (operator_lexeme o ∷ (spelling b ++ us)) w.1
 operand_first (Closed a) us w = refl
 
 equals_binary : (t : Lexeme) (ts : List Lexeme) (o : Op) → binary_of t ≡ Some o → starts equals (t ∷ ts) ≡ false
@@ -211,12 +196,12 @@ pub record EndsSubscript (ts : List Lexeme) : Type 0 where
 
 subscript_end : (t : Lexeme) (ts : List Lexeme) → is_subscript_end t ≡ true → EndsSubscript (t ∷ ts)
 subscript_end t ts h =
-    let a = both_true (is_end t && not (is_operand t) && not (is_colon (sign_of t))) (not (is_colons (sign_of t))) h in
-    let b = both_true (is_end t && not (is_operand t)) (not (is_colon (sign_of t))) a.0 in
-    let c = both_true (is_end t) (not (is_operand t)) b.0 in
+    let a = and_parts (is_end t && not (is_operand t) && not (is_colon (sign_of t))) (not (is_colons (sign_of t))) h in
+    let b = and_parts (is_end t && not (is_operand t)) (not (is_colon (sign_of t))) a.0 in
+    let c = and_parts (is_end t) (not (is_operand t)) b.0 in
     record {
       ends = end_is t ts c.0;
-      none = front_none t ts (not_true (is_operand t) c.1);
+      none = front_none t ts (not-true (is_operand t) c.1);
       no_colon = ap (λ b. b && true) (other (λ t. not (is_colon (sign_of t))) (Fixed sign.Colon) t refl b.1);
       no_colons = ap (λ b. b && true) (other (λ t. not (is_colons (sign_of t))) (Fixed sign.Colons) t refl a.1);
     }
@@ -224,7 +209,7 @@ subscript_end t ts h =
 subscript_first : (f : FirstItem) (ts : List Lexeme) → ends_subscript f ≡ true → is_first f ts ≡ true → EndsSubscript ts
 subscript_first Finish [] a h = record { ends = tt; none = front_end; no_colon = refl; no_colons = refl }
 subscript_first AnyText (Text bytes ∷ ts) a h = record { ends = (refl, refl); none = front_none (Text bytes) ts refl; no_colon = refl; no_colons = refl }
-subscript_first (Exactly (k ∷ ks)) (t ∷ ts) a h = subscript_end t ts (subst (λ k. is_subscript_end k ≡ true) (same_is k t (both_true (same k t) (starts ks ts) h).0) a)
+subscript_first (Exactly (k ∷ ks)) (t ∷ ts) a h = subscript_end t ts (subst (λ k. is_subscript_end k ≡ true) (same_is k t (and_parts (same k t) (starts ks ts) h).0) a)
 subscript_first f ts a h = absurd cc
 
 pub subscript_all : (fs : List FirstItem) (ts : List Lexeme) → list_all ends_subscript fs ≡ true → Begins fs ts → EndsSubscript ts

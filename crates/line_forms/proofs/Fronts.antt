@@ -22,11 +22,13 @@ suffixed_of : (o : Option (List Lexeme)) (text more : List Lexeme) → FrontOf o
 suffixed_of None text more h = tt
 suffixed_of (Some front) text more h = (h.0 ++ more, ap (λ l. l ++ more) h.1 ∙ append_assoc front h.0 more)
 
-or_of : (o : Option (List Lexeme)) (text : List Lexeme) (p : Option (List Lexeme)) (text' : List Lexeme) → FrontOf o text → FrontOf p text' → FrontOf (front_or o text p) (text ++ text')
+or_of : (o : Option (List Lexeme)) (text : List Lexeme) (p : Option (List Lexeme)) (text' : List Lexeme) → FrontOf o text → FrontOf p text'
+    → FrontOf (front_or o text p) (text ++ text')
 or_of None text p text' h g = preceded_of text p text' g
 or_of (Some front) text p text' h g = suffixed_of (Some front) text text' h
 
-list_of : {A : Type 0} (front : A → Option (List Lexeme)) (text : A → List Lexeme) → ((x : A) → FrontOf (front x) (text x)) → (xs : List A) → FrontOf (list_front front text xs) (with_commas (map text xs))
+list_of : {A : Type 0} (front : A → Option (List Lexeme)) (text : A → List Lexeme) → ((x : A) → FrontOf (front x) (text x)) → (xs : List A)
+    → FrontOf (list_front front text xs) (with_commas (map text xs))
 list_of front text h [] = tt
 list_of front text h (x ∷ []) = h x
 list_of front text h (x ∷ y ∷ ys) =
@@ -66,7 +68,8 @@ module _ (depths : Depths) where
       or_of (maybe_front depths a) (maybe_spelling a) (preceded colon last) (colon ++ text) (maybe_of a)
       (preceded_of colon last text (or_of (maybe_front depths b) (maybe_spelling b) (step_front depths c) (step_spelling c) (maybe_of b) (step_of c)))
   part_of (Glued a c) =
-      or_of (maybe_front depths a) (maybe_spelling a) (preceded colons (expr_front depths c)) (colons ++ spelling c) (maybe_of a) (preceded_of colons (expr_front depths c) (spelling c) (expr_of c))
+      or_of (maybe_front depths a) (maybe_spelling a) (preceded colons (expr_front depths c)) (colons ++ spelling c) (maybe_of a)
+      (preceded_of colons (expr_front depths c) (spelling c) (expr_of c))
 
   front_of : (g : Grammar) (v : Value g) → FrontOf (deep_front depths g v) (printed g v)
   front_of Nothing v = tt
@@ -84,7 +87,8 @@ module _ (depths : Depths) where
   front_of (Skipped ks) b = tt
   front_of (CommaList g) vs = list_of (deep_front depths g) (printed g) (front_of g) vs
   front_of (Header g) v =
-      or_of (list_front (deep_front depths g) (printed g) v.0) (with_commas (map (printed g) v.0)) (mask_front depths v.1) (behind_comma v.1) (list_of (deep_front depths g) (printed g) (front_of g) v.0) (mask_of v.1)
+      or_of (list_front (deep_front depths g) (printed g) v.0) (with_commas (map (printed g) v.0)) (mask_front depths v.1) (behind_comma v.1)
+      (list_of (deep_front depths g) (printed g) (front_of g) v.0) (mask_of v.1)
   front_of (OptionalToEnd g) None = tt
   front_of (OptionalToEnd g) (Some v) = front_of g v
 

@@ -1,6 +1,7 @@
 -- What is spelled is read: expressions, items and subscripts.
 use Rattle.std.proofs.Common.{◌≡◌, ◌≤◌, ◌<◌, ℕ, Bool, true, false, List, ◌∷◌, ◌++◌, drop, Option, Some, None, refl, sym, ap, ◌∙◌, subst, arith, rules, tests}
 use Rattle.std.specs.Prelude.{if◌then◌else◌, not, nat_le}
+use Rattle.std.proofs.lemmas.Bool.{cond-false, cond-true}
 use Rattle.hpf_base.specs.declared.limits.TheConstants.{MAX_DEPTH}
 use Rattle.syntax_tree.specs.declared.sign.Sign.TheVariants as sign
 use Rattle.syntax_tree.specs.Lexeme.{Lexeme, Text, Fixed}
@@ -22,12 +23,6 @@ use Rattle.line_forms.proofs.Sound.{deep_kept}
 use Rattle.line_forms.proofs.Begins.{operand_first, EndsSubscript, front_none}
 use Rattle.line_forms.proofs.Standing.{StandsAs, behind_prefix, then_reads, followed, mapped, text_stands}
 
-pub if_false : {A : Type 0} (b : Bool) (x y : A) → b ≡ false → (if b then x else y) ≡ y
-if_false b x y h = ap (λ b. if b then x else y) h
-
-pub if_true : {A : Type 0} (b : Bool) (x y : A) → b ≡ true → (if b then x else y) ≡ x
-if_true b x y h = ap (λ b. if b then x else y) h
-
 over : (a l : ℕ) → not (nat_le a l) ≡ true → l < a
 over a l h = grind arith
 
@@ -41,17 +36,19 @@ deeper Any e x le h = absurd cc
 
 deep_stops : (depths : Depths) (e : Expression) (o : Option (Expression × List Lexeme)) → IsAsDeep e o → is_too_deep depths e ≡ true → within_depth depths o ≡ Stopped TooDeep
 deep_stops depths e None le h = absurd le
-deep_stops depths e (Some x) le h = if_true (is_too_deep depths x.0) (Stopped TooDeep) (Found x) (deeper depths e x.0 le h)
+deep_stops depths e (Some x) le h = cond-true (is_too_deep depths x.0) (Stopped TooDeep) (Found x) (deeper depths e x.0 le h)
 
-deep_stops_there : (depths : Depths) (e : Expression) (ts : List Lexeme) (o : Option (Expression × List Lexeme)) → IsAsDeep e o → is_too_deep depths e ≡ true → if_there depths ts o ≡ Stopped TooDeep
+deep_stops_there : (depths : Depths) (e : Expression) (ts : List Lexeme) (o : Option (Expression × List Lexeme)) → IsAsDeep e o
+    → is_too_deep depths e ≡ true → if_there depths ts o ≡ Stopped TooDeep
 deep_stops_there depths e ts None le h = absurd le
 deep_stops_there depths e ts (Some x) le h = ap (λ r. r >>= λ x. Found (Present x.0, x.1)) (deep_stops depths e (Some x) le h)
 
 module _ (depths : Depths) (Behind : List Lexeme → Type 0) where
   within_found : (e : Expression) (us : List Lexeme) → is_too_deep depths e ≡ false → within_depth depths (Some (kept e, us)) ≡ Found (kept e, us)
-  within_found e us h = if_false (is_too_deep depths (kept e)) (Stopped TooDeep) (Found (kept e, us)) (deep_kept depths e ∙ h)
+  within_found e us h = cond-false (is_too_deep depths (kept e)) (Stopped TooDeep) (Found (kept e, us)) (deep_kept depths e ∙ h)
 
-  pub expr_reads : (e : Expression) → IsFormed e → ((us : List Lexeme) → Behind us → Ends us) → (ts : List Lexeme) (r : Reading Expression) → StandsAs (expr_front depths e) (spelling e) (kept e) Behind ts r → expr depths ts ≡ r
+  pub expr_reads : (e : Expression) → IsFormed e → ((us : List Lexeme) → Behind us → Ends us) → (ts : List Lexeme) (r : Reading Expression)
+      → StandsAs (expr_front depths e) (spelling e) (kept e) Behind ts r → expr depths ts ≡ r
   expr_reads e w ends ts r s = at (is_too_deep depths e) refl s
     where
       at : (b : Bool) → is_too_deep depths e ≡ b → StandsAs (if b then Some (spelling e) else None) (spelling e) (kept e) Behind ts r → expr depths ts ≡ r
@@ -62,7 +59,8 @@ module _ (depths : Depths) (Behind : List Lexeme → Type 0) where
   item_shown (Text bytes ∷ ts) h = absurd cc
   item_shown ts h = refl
 
-  pub item_reads : (i : Output) → IsOutput i → ((us : List Lexeme) → Behind us → Ends us) → (ts : List Lexeme) (r : Reading Output) → StandsAs (output_front depths i) (output_spelling i) (output_kept i) Behind ts r → item depths ts ≡ r
+  pub item_reads : (i : Output) → IsOutput i → ((us : List Lexeme) → Behind us → Ends us) → (ts : List Lexeme) (r : Reading Output)
+      → StandsAs (output_front depths i) (output_spelling i) (output_kept i) Behind ts r → item depths ts ≡ r
   item_reads (Shown e) w ends ts r s =
       let t = text_stands (is_too_deep depths e) (spelling e) (Shown (kept e)) Behind ts r s in
       item_shown ts (ap (is_first Operand) t.1 ∙ operand_first e t.0 w)
@@ -73,7 +71,8 @@ module _ (depths : Depths) (Behind : List Lexeme → Type 0) where
   abbrev pub EndsMaybe : List Lexeme → Type 0
   EndsMaybe us = Ends us × (front us ≡ None)
 
-  pub maybe_reads : (a : Maybe) → IsMaybe a → ((us : List Lexeme) → Behind us → EndsMaybe us) → (ts : List Lexeme) (r : Reading Maybe) → StandsAs (maybe_front depths a) (maybe_spelling a) (maybe_kept a) Behind ts r → optional_expr depths ts ≡ r
+  pub maybe_reads : (a : Maybe) → IsMaybe a → ((us : List Lexeme) → Behind us → EndsMaybe us) → (ts : List Lexeme) (r : Reading Maybe)
+      → StandsAs (maybe_front depths a) (maybe_spelling a) (maybe_kept a) Behind ts r → optional_expr depths ts ≡ r
   maybe_reads Absent w ends ts r s = ap (optional_expr depths) s.2 ∙ ap (if_there depths s.0) (ends s.0 s.1).1 ∙ sym s.3
   maybe_reads (Present e) w ends ts r s = at (is_too_deep depths e) refl s
     where
@@ -90,15 +89,17 @@ colons_ends : (us vs : List Lexeme) → vs ≡ colons ++ us → Ends vs × (fron
 colons_ends us vs is = subst (λ vs. Ends vs × (front vs ≡ None)) (sym is) ((refl, refl), front_none (Fixed sign.Colons) us refl)
 
 module _ (depths : Depths) (Behind : List Lexeme → Type 0) (ends : (us : List Lexeme) → Behind us → EndsSubscript us) (r : Reading Part) where
-  step_reads : (a b c : Maybe) → IsMaybe c → (ts : List Lexeme) → StandsAs (step_front depths c) (step_spelling c) (Range a b (maybe_kept c)) Behind ts r → step depths a (b, ts) ≡ r
+  step_reads : (a b c : Maybe) → IsMaybe c → (ts : List Lexeme)
+      → StandsAs (step_front depths c) (step_spelling c) (Range a b (maybe_kept c)) Behind ts r → step depths a (b, ts) ≡ r
   step_reads a b Absent w ts s =
       ap (λ l. step depths a (b, l)) s.2
-      ∙ if_false (starts colon s.0) (expr depths (drop 1 s.0) >>= λ c. Found (Range a b (Present c.0), c.1)) (Found (Range a b Absent, s.0)) (ends s.0 s.1).no_colon
+      ∙ cond-false (starts colon s.0) (expr depths (drop 1 s.0) >>= λ c. Found (Range a b (Present c.0), c.1)) (Found (Range a b Absent, s.0)) (ends s.0 s.1).no_colon
       ∙ sym s.3
   step_reads a b (Present e) w ts s =
       let q = behind_prefix colon (expr_front depths e) (spelling e) (Range a b (Present (kept e))) Behind ts r s in
       ap (λ l. step depths a (b, l)) q.1
-      ∙ mapped (expr_front depths e) (spelling e) (kept e) (λ c. Range a b (Present c)) Behind q.0 r q.2 (expr depths q.0) (expr_reads depths Behind e w (λ us h. (ends us h).ends) q.0)
+      ∙ mapped (expr_front depths e) (spelling e) (kept e) (λ c. Range a b (Present c)) Behind q.0 r q.2 (expr depths q.0)
+      (expr_reads depths Behind e w (λ us h. (ends us h).ends) q.0)
 
   -- behind the last part of a triplet
   step_ends : (c : Maybe) (z : Part) (ts : List Lexeme) → StandsAs (step_front depths c) (step_spelling c) z Behind ts r → Ends ts × (front ts ≡ None)
@@ -109,7 +110,7 @@ module _ (depths : Depths) (Behind : List Lexeme → Type 0) (ends : (us : List 
   subscript_reads (One e) w ts s =
       followed (expr_front depths e) (spelling e) (Present (kept e)) (One (kept e)) Behind Behind ts r s (λ us b. b) (optional_expr depths ts)
       (maybe_reads depths Behind (Present e) w (λ us h. ((ends us h).ends, (ends us h).none)) ts) (part_from depths)
-      (λ us h. if_false (starts colon us) _ _ (ends us h).no_colon ∙ if_false (starts colons us) _ _ (ends us h).no_colons)
+      (λ us h. cond-false (starts colon us) _ _ (ends us h).no_colon ∙ cond-false (starts colons us) _ _ (ends us h).no_colons)
   subscript_reads (Range a b c) w ts s =
       let a' = maybe_kept a in
       let b' = maybe_kept b in
@@ -121,15 +122,18 @@ module _ (depths : Depths) (Behind : List Lexeme → Type 0) (ends : (us : List 
       (λ us q. let p = behind_prefix colon last text z Behind us r q in colon_ends p.0 us p.1)
       (λ us _ q. let p = behind_prefix colon last text z Behind us r q in
       ap (λ l. part_from depths (a', l)) p.1
-      ∙ then_reads (maybe_front depths b) (maybe_spelling b) b' (λ us. Ends us × (front us ≡ None)) (step_front depths c) (step_spelling c) z Behind p.0 r p.2 (optional_expr depths p.0)
+      ∙ then_reads (maybe_front depths b) (maybe_spelling b) b' (λ us. Ends us × (front us ≡ None)) (step_front depths c) (step_spelling c) z Behind
+      p.0 r p.2 (optional_expr depths p.0)
       (maybe_reads depths (λ us. Ends us × (front us ≡ None)) b w.1 (λ us h. h) p.0) (step depths a')
       (λ us q. step_ends c z us q) (λ us _ q. step_reads a' b' c w.2 us q))
   subscript_reads (Glued a c) w ts s =
       let a' = maybe_kept a in
       let z : Part = Range a' Absent (Present (kept c)) in
-      then_reads (maybe_front depths a) (maybe_spelling a) a' (λ us. Ends us × (front us ≡ None)) (preceded colons (expr_front depths c)) (colons ++ spelling c) z Behind ts r s (optional_expr depths ts)
+      then_reads (maybe_front depths a) (maybe_spelling a) a' (λ us. Ends us × (front us ≡ None)) (preceded colons (expr_front depths c))
+      (colons ++ spelling c) z Behind ts r s (optional_expr depths ts)
       (maybe_reads depths (λ us. Ends us × (front us ≡ None)) a w.0 (λ us h. h) ts) (part_from depths)
       (λ us q. let p = behind_prefix colons (expr_front depths c) (spelling c) z Behind us r q in colons_ends p.0 us p.1)
       (λ us _ q. let p = behind_prefix colons (expr_front depths c) (spelling c) z Behind us r q in
       ap (λ l. part_from depths (a', l)) p.1
-      ∙ mapped (expr_front depths c) (spelling c) (kept c) (λ c. Range a' Absent (Present c)) Behind p.0 r p.2 (expr depths p.0) (expr_reads depths Behind c w.1 (λ us h. (ends us h).ends) p.0))
+      ∙ mapped (expr_front depths c) (spelling c) (kept c) (λ c. Range a' Absent (Present c)) Behind p.0 r p.2 (expr depths p.0)
+      (expr_reads depths Behind c w.1 (λ us h. (ends us h).ends) p.0))

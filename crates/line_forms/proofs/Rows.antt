@@ -31,21 +31,25 @@ module _ {X A : Type 0} (view : X → A) (next : List Lexeme → Bool) (part : L
   stops zero k why is = let no = k.0 in absurd (omega arith)
   stops (suc most) k why is = sym (turn most (Stopped why) is k)
 
-  pub ends : (most : ℕ) → Kept most → (x : X) (us : List Lexeme) → part ts ≡ Found (view x, us) → (more : Bool) → more ≡ next us → more ≡ false → (back : List X) → back ≡ front ++ x ∷ [] → whole ≡ Found (map view back, us)
+  pub ends : (most : ℕ) → Kept most → (x : X) (us : List Lexeme) → part ts ≡ Found (view x, us) → (more : Bool) → more ≡ next us → more ≡ false
+      → (back : List X) → back ≡ front ++ x ∷ [] → whole ≡ Found (map view back, us)
   ends zero k x us is more now h back all = let no = k.0 in absurd (omega arith)
   ends (suc most) k x us is more now h back all =
       sym (turn most (Found (view x, us)) is k)
       ∙ ap (λ b. with_front (map view front) (if b then (comma_list next part most (drop 1 us) >>= λ xs. Found (view x ∷ xs.0, xs.1)) else Found (view x ∷ [], us))) (sym now ∙ h)
       ∙ ap (λ l. Found (l, us)) (sym (map-append view front (x ∷ [])) ∙ sym (ap (map view) all))
 
-  on_more : (most : ℕ) → Kept (suc most) → (x : X) (us : List Lexeme) → part ts ≡ Found (view x, us) → next us ≡ true → with_front (map view (front ++ x ∷ [])) (comma_list next part most (drop 1 us)) ≡ whole
+  on_more : (most : ℕ) → Kept (suc most) → (x : X) (us : List Lexeme) → part ts ≡ Found (view x, us) → next us ≡ true
+      → with_front (map view (front ++ x ∷ [])) (comma_list next part most (drop 1 us)) ≡ whole
   on_more most k x us is h =
       ap (λ l. with_front l (comma_list next part most (drop 1 us))) (map-append view front (x ∷ []))
       ∙ sym (front_twice (map view front) (view x) (comma_list next part most (drop 1 us)))
       ∙ sym (ap (λ b. with_front (map view front) (if b then (comma_list next part most (drop 1 us) >>= λ xs. Found (view x ∷ xs.0, xs.1)) else Found (view x ∷ [], us))) h)
       ∙ turn most (Found (view x, us)) is k
 
-  pub goes : (most : ℕ) → Kept most → (x : X) (us : List Lexeme) → part ts ≡ Found (view x, us) → (more : Bool) → more ≡ next us → more ≡ true → (back : List X) → back ≡ front ++ x ∷ [] → (rest : List Lexeme) → rest ≡ drop 1 us → length rest < length ts → (n : ℕ) × (length rest < n) × (with_front (map view back) (comma_list next part n rest) ≡ whole)
+  pub goes : (most : ℕ) → Kept most → (x : X) (us : List Lexeme) → part ts ≡ Found (view x, us) → (more : Bool) → more ≡ next us → more ≡ true
+      → (back : List X) → back ≡ front ++ x ∷ [] → (rest : List Lexeme) → rest ≡ drop 1 us → length rest < length ts
+      → (n : ℕ) × (length rest < n) × (with_front (map view back) (comma_list next part n rest) ≡ whole)
   goes zero k x us is more now h back all rest behind less = let no = k.0 in absurd (omega arith)
   goes (suc most) k x us is more now h back all rest behind less =
       let within = k.0 in
@@ -53,12 +57,14 @@ module _ {X A : Type 0} (view : X → A) (next : List Lexeme → Bool) (part : L
       (most, omega arith, (λ i. with_front (map view (all i)) (comma_list next part most (behind i))) ∙ on_more most k x us is go)
 
 -- fewer lexemes are behind what was read and one more
-pub fewer : {A : Type 0} (r : Reading A) (ts : List Lexeme) → On r (λ x. length x.1 ≤ length ts) → (x : A) (us : List Lexeme) → r ≡ Found (x, us) → 1 ≤ length us → length (drop 1 us) < length ts
+pub fewer : {A : Type 0} (r : Reading A) (ts : List Lexeme) → On r (λ x. length x.1 ≤ length ts) → (x : A) (us : List Lexeme) → r ≡ Found (x, us)
+    → 1 ≤ length us → length (drop 1 us) < length ts
 fewer r ts h x us is some =
     let le : length us ≤ length ts = subst (λ r. On r (λ x. length x.1 ≤ length ts)) is h in
     omega (arith, length-drop 1 us)
 
 -- what is handed on was the cause
-pub refused : {X A : Type 0} (view : X → A × List Lexeme) (r : Result X ReadError) (whole : Reading A) (why : ReadError) → IsErrAnd r (λ e. e ≡ why) → ((why ≢ Memory) → whole ≡ Stopped why) → Gives view r whole
+pub refused : {X A : Type 0} (view : X → A × List Lexeme) (r : Result X ReadError) (whole : Reading A) (why : ReadError) → IsErrAnd r (λ e. e ≡ why)
+    → ((why ≢ Memory) → whole ≡ Stopped why) → Gives view r whole
 refused view (Ok x) whole why is h = absurd is
 refused view (Err e) whole why is h = λ no. h (subst (λ e. e ≢ Memory) is no) ∙ ap Stopped (sym is)

@@ -1,8 +1,9 @@
 -- What is read is spelled so, and a reading stops as too deep behind such a front.
-use Rattle.std.proofs.Common.{◌≡◌, ◌≤◌, ℕ, zero, suc, ◌&&◌, Bool, true, false, List, [], ◌∷◌, ◌++◌, length, drop, Option, Some, None, inl, inr, rules, refl, sym, ap, ◌∙◌, subst, arith, append_assoc, length-append}
+use Rattle.std.proofs.Common.{◌≡◌, ◌≤◌, ℕ, zero, suc, Bool, true, false, List, [], ◌∷◌, ◌++◌, length, drop, Option, Some, None, inl, inr, rules, refl, sym, ap, ◌∙◌, subst, arith, append_assoc, length-append}
 use Rattle.std.specs.Prelude.{if◌then◌else◌, map, not, nat_le, option_map, codes}
 use Rattle.std.proofs.lemmas.Slice.Eq.{bytes_eq-Decides}
 use Rattle.std.proofs.lemmas.List.Elements.{All-nil, All-cons}
+use Rattle.std.proofs.lemmas.Bool.{and_parts}
 use denote.Enum.Bare.{same_true}
 use Rattle.hpf_base.specs.declared.limits.TheConstants.{MAX_DEPTH}
 use Rattle.op_tables.specs.Words.{is_reserved}
@@ -23,7 +24,7 @@ use Rattle.line_forms.specs.Reading.{Reading, Found, Stopped, ◌>>=◌}
 use Rattle.line_forms.specs.Grammar.{Grammar, Value, Shown, Characters, Nothing, Identifier, Expr, Item, Subscript, Prefixed, Suffixed, Sequence, Optional, Choice, Skipped, CommaList, Header, OptionalToEnd}
 use Rattle.line_forms.specs.Printed.{with_commas, behind_comma, printed, IfFormed, Some_and_all, IsWell, value_kept}
 use Rattle.line_forms.specs.DeepFront.{is_too_deep, preceded, front_or, expr_front, maybe_front, mask_front, deep_front, IsTooDeep}
-use Rattle.line_forms.specs.Read.{after, name, within_depth, expr, if_there, optional_expr, item, step, triplet, stepped, one, part_from, subscript, is_index, index_next, comma_list, mask, read}
+use Rattle.line_forms.specs.Read.{after_marks, name, within_depth, expr, if_there, optional_expr, item, step, triplet, stepped, one, part_from, subscript, is_index, index_next, comma_list, mask, read}
 use Rattle.line_forms.specs.InFront.{On, Holds, IsInFront}
 
 holds_bind : {A B : Type 0} (r : Reading A) (f : A × List Lexeme → Reading B) (P : A × List Lexeme → Type 0) (Q : Type 0) (P' : B × List Lexeme → Type 0) (Q' : Type 0)
@@ -31,13 +32,10 @@ holds_bind : {A B : Type 0} (r : Reading A) (f : A × List Lexeme → Reading B)
 holds_bind (Found x) f P Q P' Q' h g q = g x h
 holds_bind (Stopped why) f P Q P' Q' h g q = λ e. q (h e)
 
-holds_test : {A : Type 0} (b : Bool) (r s : Reading A) (P : A × List Lexeme → Type 0) (Q : Type 0) → (b ≡ true → Holds r P Q) → (b ≡ false → Holds s P Q) → Holds (if b then r else s) P Q
+holds_test : {A : Type 0} (b : Bool) (r s : Reading A) (P : A × List Lexeme → Type 0) (Q : Type 0) → (b ≡ true → Holds r P Q)
+    → (b ≡ false → Holds s P Q) → Holds (if b then r else s) P Q
 holds_test true r s P Q h g = h refl
 holds_test false r s P Q h g = g refl
-
-pub both_true : (a b : Bool) → (a && b) ≡ true → (a ≡ true) × (b ≡ true)
-both_true true b h = (refl, h)
-both_true false b h = absurd cc
 
 sign_law : (a b : Sign) → eq-value.it a b ≡ true → a ≡ b
 sign_law a b h = same_true the_type (search rules) a b h
@@ -52,7 +50,7 @@ pub starts_split : (ks ts : List Lexeme) → starts ks ts ≡ true → ts ≡ ks
 starts_split [] ts h = refl
 starts_split (k ∷ ks) [] h = absurd cc
 starts_split (k ∷ ks) (t ∷ ts) h =
-    let b = both_true (same k t) (starts ks ts) h in
+    let b = and_parts (same k t) (starts ks ts) h in
     (λ i. sym (same_is k t b.0) i ∷ starts_split ks ts b.1 i)
 
 -- a tree is too deep where what is written is
@@ -103,7 +101,8 @@ expr_sound depths ts = within_sound depths ts (front ts) (front_sound ts)
 
 shown_sound : (depths : Depths) (ts : List Lexeme) → Reads depths Item ts (expr depths ts >>= λ x. Found (Shown x.0, x.1))
 shown_sound depths ts =
-    holds_bind (expr depths ts) (λ x. Found (Shown x.0, x.1)) (IsInFront depths Expr ts) (IsTooDeep depths Expr ts) (IsInFront depths Item ts) (IsTooDeep depths Item ts) (expr_sound depths ts)
+    holds_bind (expr depths ts) (λ x. Found (Shown x.0, x.1)) (IsInFront depths Expr ts) (IsTooDeep depths Expr ts) (IsInFront depths Item ts)
+    (IsTooDeep depths Item ts) (expr_sound depths ts)
     (λ x w. record { written = Shown w.written; same = ap Shown w.same; well = w.well; shallow = w.shallow; parts = w.parts })
     (λ d. record { written = Shown d.written; well = d.well; front = d.front; deep = d.deep; rest = d.rest; parts = d.parts })
 
@@ -123,7 +122,8 @@ module _ (depths : Depths) where
   there_sound : (ts : List Lexeme) (o : Option (Expression × List Lexeme)) → Ifs o (IsFront ts) → Holds (if_there depths ts o) (MaybeInFront depths ts) (IsTooDeep depths Expr ts)
   there_sound ts None w = record { written = Absent; same = refl; formed = tt; shallow = refl; parts = refl }
   there_sound ts (Some x) w =
-      holds_bind (within_depth depths (Some x)) (λ x. Found (Present x.0, x.1)) (IsInFront depths Expr ts) (IsTooDeep depths Expr ts) (MaybeInFront depths ts) (IsTooDeep depths Expr ts) (within_sound depths ts (Some x) w)
+      holds_bind (within_depth depths (Some x)) (λ x. Found (Present x.0, x.1)) (IsInFront depths Expr ts) (IsTooDeep depths Expr ts)
+      (MaybeInFront depths ts) (IsTooDeep depths Expr ts) (within_sound depths ts (Some x) w)
       (λ x w. record { written = Present w.written; same = ap Present w.same; formed = w.well; shallow = w.shallow; parts = w.parts }) (λ d. d)
 
   optional_sound : (ts : List Lexeme) → Holds (optional_expr depths ts) (MaybeInFront depths ts) (IsTooDeep depths Expr ts)
@@ -148,8 +148,10 @@ module _ (depths : Depths) where
 
       step_sound : Reads depths Subscript ts (step depths a.0 b)
       step_sound =
-          holds_test (starts colon b.1) (expr depths (drop 1 b.1) >>= λ c. Found (Range a.0 b.0 (Present c.0), c.1)) (Found (Range a.0 b.0 Absent, b.1)) (IsInFront depths Subscript ts) (IsTooDeep depths Subscript ts)
-          (λ h. holds_bind (expr depths (drop 1 b.1)) (λ c. Found (Range a.0 b.0 (Present c.0), c.1)) (IsInFront depths Expr (drop 1 b.1)) (IsTooDeep depths Expr (drop 1 b.1)) (IsInFront depths Subscript ts) (IsTooDeep depths Subscript ts) (expr_sound depths (drop 1 b.1))
+          holds_test (starts colon b.1) (expr depths (drop 1 b.1) >>= λ c. Found (Range a.0 b.0 (Present c.0), c.1))
+          (Found (Range a.0 b.0 Absent, b.1)) (IsInFront depths Subscript ts) (IsTooDeep depths Subscript ts)
+          (λ h. holds_bind (expr depths (drop 1 b.1)) (λ c. Found (Range a.0 b.0 (Present c.0), c.1)) (IsInFront depths Expr (drop 1 b.1))
+          (IsTooDeep depths Expr (drop 1 b.1)) (IsInFront depths Subscript ts) (IsTooDeep depths Subscript ts) (expr_sound depths (drop 1 b.1))
           (λ c wc. record {
             written = Range wa.written wb.written (Present wc.written);
             same = λ i. Range (wa.same i) (wb.same i) (Present (wc.same i));
@@ -175,7 +177,8 @@ module _ (depths : Depths) where
 
     triplet_sound : (us : List Lexeme) → a.1 ≡ colon ++ us → Reads depths Subscript ts (triplet depths a.0 us)
     triplet_sound us is =
-        holds_bind (optional_expr depths us) (step depths a.0) (MaybeInFront depths us) (IsTooDeep depths Expr us) (IsInFront depths Subscript ts) (IsTooDeep depths Subscript ts) (optional_sound us) (step_sound us is) (λ d. record {
+        holds_bind (optional_expr depths us) (step depths a.0) (MaybeInFront depths us) (IsTooDeep depths Expr us) (IsInFront depths Subscript ts)
+        (IsTooDeep depths Subscript ts) (optional_sound us) (step_sound us is) (λ d. record {
           written = Range wa.written (Present d.written) Absent;
           well = (wa.formed, d.well, tt);
           front = first ++ (colon ++ d.front);
@@ -186,7 +189,8 @@ module _ (depths : Depths) where
 
     stepped_sound : (us : List Lexeme) → a.1 ≡ colons ++ us → Reads depths Subscript ts (stepped depths a.0 us)
     stepped_sound us is =
-        holds_bind (expr depths us) (λ c. Found (Range a.0 Absent (Present c.0), c.1)) (IsInFront depths Expr us) (IsTooDeep depths Expr us) (IsInFront depths Subscript ts) (IsTooDeep depths Subscript ts) (expr_sound depths us)
+        holds_bind (expr depths us) (λ c. Found (Range a.0 Absent (Present c.0), c.1)) (IsInFront depths Expr us) (IsTooDeep depths Expr us)
+        (IsInFront depths Subscript ts) (IsTooDeep depths Subscript ts) (expr_sound depths us)
         (λ c wc. record {
           written = Glued wa.written wc.written;
           same = λ i. Range (wa.same i) Absent (Present (wc.same i));
@@ -214,17 +218,21 @@ module _ (depths : Depths) where
   part_sound : (ts : List Lexeme) (a : Maybe × List Lexeme) → MaybeInFront depths ts a → Reads depths Subscript ts (part_from depths a)
   part_sound ts a w =
       let us = drop 1 a.1 in
-      holds_test (starts colon a.1) (triplet depths a.0 us) (if starts colons a.1 then stepped depths a.0 us else one a.0 a.1) (IsInFront depths Subscript ts) (IsTooDeep depths Subscript ts)
+      holds_test (starts colon a.1) (triplet depths a.0 us) (if starts colons a.1 then stepped depths a.0 us else one a.0 a.1)
+      (IsInFront depths Subscript ts) (IsTooDeep depths Subscript ts)
       (λ h. triplet_sound ts a w us (starts_split colon a.1 h))
-      (λ h. holds_test (starts colons a.1) (stepped depths a.0 us) (one a.0 a.1) (IsInFront depths Subscript ts) (IsTooDeep depths Subscript ts) (λ g. stepped_sound ts a w us (starts_split colons a.1 g)) (λ g. one_sound ts a.0 a.1 w))
+      (λ h.
+      holds_test (starts colons a.1) (stepped depths a.0 us) (one a.0 a.1) (IsInFront depths Subscript ts) (IsTooDeep depths Subscript ts)
+      (λ g. stepped_sound ts a w us (starts_split colons a.1 g)) (λ g. one_sound ts a.0 a.1 w))
 
   subscript_sound : (ts : List Lexeme) → Reads depths Subscript ts (subscript depths ts)
   subscript_sound ts =
-      holds_bind (optional_expr depths ts) (part_from depths) (MaybeInFront depths ts) (IsTooDeep depths Expr ts) (IsInFront depths Subscript ts) (IsTooDeep depths Subscript ts) (optional_sound ts) (part_sound ts)
+      holds_bind (optional_expr depths ts) (part_from depths) (MaybeInFront depths ts) (IsTooDeep depths Expr ts) (IsInFront depths Subscript ts)
+      (IsTooDeep depths Subscript ts) (optional_sound ts) (part_sound ts)
       (λ d. record { written = One d.written; well = d.well; front = d.front; deep = d.deep; rest = d.rest; parts = d.parts })
 
-after_sound : (ks ts : List Lexeme) → Holds (after ks ts) (λ x. ts ≡ ks ++ x.1) ⊥
-after_sound ks ts = holds_test (starts ks ts) (Found (tt, drop (length ks) ts)) (Stopped Malformed) (λ x. ts ≡ ks ++ x.1) ⊥ (starts_split ks ts) (λ h e. absurd cc)
+after_marks_sound : (ks ts : List Lexeme) → Holds (after_marks ks ts) (λ x. ts ≡ ks ++ x.1) ⊥
+after_marks_sound ks ts = holds_test (starts ks ts) (Found (tt, drop (length ks) ts)) (Stopped Malformed) (λ x. ts ≡ ks ++ x.1) ⊥ (starts_split ks ts) (λ h e. absurd cc)
 
 abbrev pub Sound : Depths → Grammar → Type 0
 Sound depths g = (ts : List Lexeme) → Reads depths g ts (read depths g ts)
@@ -237,7 +245,8 @@ record Wraps (ks : List Lexeme) (g g' : Grammar) (depths : Depths) : Type 0 wher
   front : (v : Value g) → deep_front depths g' (wrap v) ≡ preceded ks (deep_front depths g v)
   text : (v : Value g) → printed g' (wrap v) ≡ ks ++ printed g v
 
-wrapped_deep : (ks : List Lexeme) (g g' : Grammar) (depths : Depths) (w : Wraps ks g g' depths) (ts us : List Lexeme) → ts ≡ ks ++ us → IsTooDeep depths g us → IsTooDeep depths g' ts
+wrapped_deep : (ks : List Lexeme) (g g' : Grammar) (depths : Depths) (w : Wraps ks g g' depths) (ts us : List Lexeme) → ts ≡ ks ++ us
+    → IsTooDeep depths g us → IsTooDeep depths g' ts
 wrapped_deep ks g g' depths w ts us is d = record {
   written = w.wrap d.written;
   well = w.well d.written d.well;
@@ -247,7 +256,8 @@ wrapped_deep ks g g' depths w ts us is d = record {
   parts = is ∙ ap (λ l. ks ++ l) d.parts ∙ sym (append_assoc ks d.front d.rest);
 }
 
-wrapped_sound : (ks : List Lexeme) (g g' : Grammar) (depths : Depths) (w : Wraps ks g g' depths) (ts us : List Lexeme) → ts ≡ ks ++ us → (r : Reading (Value g)) → Reads depths g us r → Reads depths g' ts (r >>= λ v. Found (w.wrap v.0, v.1))
+wrapped_sound : (ks : List Lexeme) (g g' : Grammar) (depths : Depths) (w : Wraps ks g g' depths) (ts us : List Lexeme) → ts ≡ ks ++ us
+    → (r : Reading (Value g)) → Reads depths g us r → Reads depths g' ts (r >>= λ v. Found (w.wrap v.0, v.1))
 wrapped_sound ks g g' depths w ts us is r h =
     holds_bind r (λ v. Found (w.wrap v.0, v.1)) (IsInFront depths g us) (IsTooDeep depths g us) (IsInFront depths g' ts) (IsTooDeep depths g' ts) h
     (λ v a. record {
@@ -271,7 +281,8 @@ module _ (depths : Depths) where
 
   prefixed_sound : (ks : List Lexeme) (g : Grammar) → Sound depths g → Sound depths (Prefixed ks g)
   prefixed_sound ks g ih ts =
-      holds_bind (after ks ts) (λ x. read depths g x.1) (λ x. ts ≡ ks ++ x.1) ⊥ (IsInFront depths (Prefixed ks g) ts) (IsTooDeep depths (Prefixed ks g) ts) (after_sound ks ts)
+      holds_bind (after_marks ks ts) (λ x. read depths g x.1) (λ x. ts ≡ ks ++ x.1) ⊥ (IsInFront depths (Prefixed ks g) ts)
+      (IsTooDeep depths (Prefixed ks g) ts) (after_marks_sound ks ts)
       (λ x is. same_reading x.1 (read depths g x.1) (wrapped_sound ks g (Prefixed ks g) depths (prefixed ks g) ts x.1 is (read depths g x.1) (ih x.1))) (λ no. absurd no)
     where
       same_reading : (us : List Lexeme) (r : Reading (Value g)) → Reads depths (Prefixed ks g) ts (r >>= λ v. Found (v.0, v.1)) → Reads depths (Prefixed ks g) ts r
@@ -280,16 +291,26 @@ module _ (depths : Depths) where
 
   suffixed_sound : (g : Grammar) (ks : List Lexeme) → Sound depths g → Sound depths (Suffixed g ks)
   suffixed_sound g ks ih ts =
-      holds_bind (read depths g ts) (λ v. after ks v.1 >>= λ x. Found (v.0, x.1)) (IsInFront depths g ts) (IsTooDeep depths g ts) (IsInFront depths (Suffixed g ks) ts) (IsTooDeep depths (Suffixed g ks) ts) (ih ts)
-      (λ v w. holds_bind (after ks v.1) (λ x. Found (v.0, x.1)) (λ x. v.1 ≡ ks ++ x.1) ⊥ (IsInFront depths (Suffixed g ks) ts) (IsTooDeep depths (Suffixed g ks) ts) (after_sound ks v.1)
-      (λ x is. record { written = w.written; same = w.same; well = w.well; shallow = w.shallow; parts = w.parts ∙ ap (λ l. printed g w.written ++ l) is ∙ sym (append_assoc (printed g w.written) ks x.1) })
+      holds_bind (read depths g ts) (λ v. after_marks ks v.1 >>= λ x. Found (v.0, x.1)) (IsInFront depths g ts) (IsTooDeep depths g ts)
+      (IsInFront depths (Suffixed g ks) ts) (IsTooDeep depths (Suffixed g ks) ts) (ih ts)
+      (λ v w. holds_bind (after_marks ks v.1) (λ x. Found (v.0, x.1)) (λ x. v.1 ≡ ks ++ x.1) ⊥ (IsInFront depths (Suffixed g ks) ts)
+      (IsTooDeep depths (Suffixed g ks) ts) (after_marks_sound ks v.1)
+      (λ x is. record {
+        written = w.written;
+        same = w.same;
+        well = w.well;
+        shallow = w.shallow;
+        parts = w.parts ∙ ap (λ l. printed g w.written ++ l) is ∙ sym (append_assoc (printed g w.written) ks x.1);
+      })
       (λ no. absurd no))
       (λ d. record { written = d.written; well = d.well; front = d.front; deep = d.deep; rest = d.rest; parts = d.parts })
 
   sequence_sound : (g h : Grammar) → Sound depths g → Sound depths h → Sound depths (Sequence g h)
   sequence_sound g h sg sh ts =
-      holds_bind (read depths g ts) (λ v. read depths h v.1 >>= λ w. Found ((v.0, w.0), w.1)) (IsInFront depths g ts) (IsTooDeep depths g ts) (IsInFront depths (Sequence g h) ts) (IsTooDeep depths (Sequence g h) ts) (sg ts)
-      (λ v a. holds_bind (read depths h v.1) (λ w. Found ((v.0, w.0), w.1)) (IsInFront depths h v.1) (IsTooDeep depths h v.1) (IsInFront depths (Sequence g h) ts) (IsTooDeep depths (Sequence g h) ts) (sh v.1)
+      holds_bind (read depths g ts) (λ v. read depths h v.1 >>= λ w. Found ((v.0, w.0), w.1)) (IsInFront depths g ts) (IsTooDeep depths g ts)
+      (IsInFront depths (Sequence g h) ts) (IsTooDeep depths (Sequence g h) ts) (sg ts)
+      (λ v a. holds_bind (read depths h v.1) (λ w. Found ((v.0, w.0), w.1)) (IsInFront depths h v.1) (IsTooDeep depths h v.1)
+      (IsInFront depths (Sequence g h) ts) (IsTooDeep depths (Sequence g h) ts) (sh v.1)
       (λ w b. record {
         written = (a.written, b.written);
         same = λ i. (a.same i, b.same i);
@@ -324,9 +345,11 @@ module _ (depths : Depths) where
   choice_sound : (ks : List Lexeme) (g h : Grammar) → Sound depths g → Sound depths h → Sound depths (Choice ks g h)
   choice_sound ks g h sg sh ts =
       let us = drop (length ks) ts in
-      holds_test (starts ks ts) (read depths g us >>= λ v. Found (inl v.0, v.1)) (read depths h ts >>= λ v. Found (inr v.0, v.1)) (IsInFront depths (Choice ks g h) ts) (IsTooDeep depths (Choice ks g h) ts)
+      holds_test (starts ks ts) (read depths g us >>= λ v. Found (inl v.0, v.1)) (read depths h ts >>= λ v. Found (inr v.0, v.1))
+      (IsInFront depths (Choice ks g h) ts) (IsTooDeep depths (Choice ks g h) ts)
       (λ e. wrapped_sound ks g (Choice ks g h) depths (choice ks g h) ts us (starts_split ks ts e) (read depths g us) (sg us))
-      (λ e. holds_bind (read depths h ts) (λ v. Found (inr v.0, v.1)) (IsInFront depths h ts) (IsTooDeep depths h ts) (IsInFront depths (Choice ks g h) ts) (IsTooDeep depths (Choice ks g h) ts) (sh ts)
+      (λ e. holds_bind (read depths h ts) (λ v. Found (inr v.0, v.1)) (IsInFront depths h ts) (IsTooDeep depths h ts)
+      (IsInFront depths (Choice ks g h) ts) (IsTooDeep depths (Choice ks g h) ts) (sh ts)
       (λ v w. record { written = inr w.written; same = ap inr w.same; well = w.well; shallow = w.shallow; parts = w.parts })
       (λ d. record { written = inr d.written; well = d.well; front = d.front; deep = d.deep; rest = d.rest; parts = d.parts }))
 
@@ -347,7 +370,8 @@ module _ (depths : Depths) where
     more_sound : (xs : List (Value g) × List Lexeme) → IsInFront depths (CommaList g) (drop 1 x.1) xs → IsInFront depths (CommaList g) ts (x.0 ∷ xs.0, xs.1)
     more_sound xs b = more b.written b.same b.well b.shallow b.parts
       where
-        more : (vs : List (Value g)) → map (value_kept g) vs ≡ xs.0 → Some_and_all (IsWell g) vs → deep_front depths (CommaList g) vs ≡ None → drop 1 x.1 ≡ with_commas (map (printed g) vs) ++ xs.1 → IsInFront depths (CommaList g) ts (x.0 ∷ xs.0, xs.1)
+        more : (vs : List (Value g)) → map (value_kept g) vs ≡ xs.0 → Some_and_all (IsWell g) vs → deep_front depths (CommaList g) vs ≡ None
+            → drop 1 x.1 ≡ with_commas (map (printed g) vs) ++ xs.1 → IsInFront depths (CommaList g) ts (x.0 ∷ xs.0, xs.1)
         more [] is w s parts = absurd w
         more (v ∷ vs) is w s parts = record {
           written = a.written ∷ v ∷ vs;
@@ -360,7 +384,8 @@ module _ (depths : Depths) where
     more_deep : IsTooDeep depths (CommaList g) (drop 1 x.1) → IsTooDeep depths (CommaList g) ts
     more_deep b = more b.written b.well b.front b.deep b.rest b.parts
       where
-        more : (vs : List (Value g)) → Some_and_all (IsWell g) vs → (front : List Lexeme) → deep_front depths (CommaList g) vs ≡ Some front → (rest : List Lexeme) → drop 1 x.1 ≡ front ++ rest → IsTooDeep depths (CommaList g) ts
+        more : (vs : List (Value g)) → Some_and_all (IsWell g) vs → (front : List Lexeme) → deep_front depths (CommaList g) vs ≡ Some front
+            → (rest : List Lexeme) → drop 1 x.1 ≡ front ++ rest → IsTooDeep depths (CommaList g) ts
         more [] w front d rest parts = absurd w
         more (v ∷ vs) w front d rest parts = record {
           written = a.written ∷ v ∷ vs;
@@ -372,13 +397,17 @@ module _ (depths : Depths) where
         }
 
   -- a list whose elements follow commas
-  list_sound : (g : Grammar) (next : List Lexeme → Bool) → Sound depths g → ((us : List Lexeme) → next us ≡ true → starts comma us ≡ true) → (most : ℕ) (ts : List Lexeme) → Reads depths (CommaList g) ts (comma_list next (read depths g) most ts)
+  list_sound : (g : Grammar) (next : List Lexeme → Bool) → Sound depths g → ((us : List Lexeme) → next us ≡ true → starts comma us ≡ true)
+      → (most : ℕ) (ts : List Lexeme) → Reads depths (CommaList g) ts (comma_list next (read depths g) most ts)
   unfolding comma_list
   list_sound g next ih commas zero ts = λ e. absurd cc
   list_sound g next ih commas (suc most) ts =
       holds_bind (read depths g ts) _ (IsInFront depths g ts) (IsTooDeep depths g ts) (IsInFront depths (CommaList g) ts) (IsTooDeep depths (CommaList g) ts) (ih ts)
-      (λ x a. holds_test (next x.1) (comma_list next (read depths g) most (drop 1 x.1) >>= λ xs. Found (x.0 ∷ xs.0, xs.1)) (Found (x.0 ∷ [], x.1)) (IsInFront depths (CommaList g) ts) (IsTooDeep depths (CommaList g) ts)
-      (λ h. holds_bind (comma_list next (read depths g) most (drop 1 x.1)) (λ xs. Found (x.0 ∷ xs.0, xs.1)) (IsInFront depths (CommaList g) (drop 1 x.1)) (IsTooDeep depths (CommaList g) (drop 1 x.1)) (IsInFront depths (CommaList g) ts) (IsTooDeep depths (CommaList g) ts)
+      (λ x a. holds_test (next x.1) (comma_list next (read depths g) most (drop 1 x.1) >>= λ xs. Found (x.0 ∷ xs.0, xs.1)) (Found (x.0 ∷ [], x.1))
+      (IsInFront depths (CommaList g) ts) (IsTooDeep depths (CommaList g) ts)
+      (λ h. holds_bind (comma_list next (read depths g) most (drop 1 x.1)) (λ xs. Found (x.0 ∷ xs.0, xs.1))
+      (IsInFront depths (CommaList g) (drop 1 x.1)) (IsTooDeep depths (CommaList g) (drop 1 x.1)) (IsInFront depths (CommaList g) ts)
+      (IsTooDeep depths (CommaList g) ts)
       (list_sound g next ih commas most (drop 1 x.1)) (more_sound g ts x a (commas x.1 h)) (more_deep g ts x a (commas x.1 h)))
       (λ h. record { written = a.written ∷ []; same = λ i. a.same i ∷ []; well = (a.well, All-nil (IsWell g)); shallow = a.shallow; parts = a.parts }))
       (λ d. record { written = d.written ∷ []; well = (d.well, All-nil (IsWell g)); front = d.front; deep = d.deep; rest = d.rest; parts = d.parts })
@@ -404,17 +433,32 @@ module _ (depths : Depths) where
       let us = drop 1 ts in
       holds_test (starts comma ts) (expr depths us >>= λ x. Found (Some x.0, x.1)) (Found (None, ts)) (MaskInFront ts) (DeepMask ts)
       (λ h. holds_bind (expr depths us) (λ x. Found (Some x.0, x.1)) (IsInFront depths Expr us) (IsTooDeep depths Expr us) (MaskInFront ts) (DeepMask ts) (expr_sound depths us)
-      (λ x w. record { written = Some w.written; same = ap Some w.same; well = w.well; shallow = ap (preceded comma) w.shallow; parts = starts_split comma ts h ∙ ap (λ l. comma ++ l) w.parts })
-      (λ d. record { written = d.written; well = d.well; front = comma ++ d.front; deep = ap (preceded comma) d.deep; rest = d.rest; parts = starts_split comma ts h ∙ ap (λ l. comma ++ l) d.parts }))
+      (λ x w. record {
+        written = Some w.written;
+        same = ap Some w.same;
+        well = w.well;
+        shallow = ap (preceded comma) w.shallow;
+        parts = starts_split comma ts h ∙ ap (λ l. comma ++ l) w.parts;
+      })
+      (λ d. record {
+        written = d.written;
+        well = d.well;
+        front = comma ++ d.front;
+        deep = ap (preceded comma) d.deep;
+        rest = d.rest;
+        parts = starts_split comma ts h ∙ ap (λ l. comma ++ l) d.parts;
+      }))
       (λ h. record { written = None; same = refl; well = tt; shallow = refl; parts = refl })
 
   header_sound : (g : Grammar) → Sound depths g → Sound depths (Header g)
   header_sound g ih ts =
       let listed = comma_list index_next (read depths g) (suc (length ts)) ts in
-      holds_bind listed (λ v. mask depths v.1 >>= λ w. Found ((v.0, w.0), w.1)) (IsInFront depths (CommaList g) ts) (IsTooDeep depths (CommaList g) ts) (IsInFront depths (Header g) ts) (IsTooDeep depths (Header g) ts)
-      (list_sound g index_next ih (λ us h. (both_true (starts comma us) (is_index (drop 1 us)) h).0) (suc (length ts)) ts)
+      holds_bind listed (λ v. mask depths v.1 >>= λ w. Found ((v.0, w.0), w.1)) (IsInFront depths (CommaList g) ts)
+      (IsTooDeep depths (CommaList g) ts) (IsInFront depths (Header g) ts) (IsTooDeep depths (Header g) ts)
+      (list_sound g index_next ih (λ us h. (and_parts (starts comma us) (is_index (drop 1 us)) h).0) (suc (length ts)) ts)
       (λ v a. let text = with_commas (map (printed g) a.written) in
-      holds_bind (mask depths v.1) (λ w. Found ((v.0, w.0), w.1)) (MaskInFront v.1) (DeepMask v.1) (IsInFront depths (Header g) ts) (IsTooDeep depths (Header g) ts) (mask_sound v.1)
+      holds_bind (mask depths v.1) (λ w. Found ((v.0, w.0), w.1)) (MaskInFront v.1) (DeepMask v.1) (IsInFront depths (Header g) ts)
+      (IsTooDeep depths (Header g) ts) (mask_sound v.1)
       (λ w b. record {
         written = (a.written, b.written);
         same = λ i. (a.same i, b.same i);
@@ -442,7 +486,8 @@ module _ (depths : Depths) where
   to_end_sound : (g : Grammar) → Sound depths g → Sound depths (OptionalToEnd g)
   to_end_sound g ih [] = record { written = None; same = refl; well = tt; shallow = refl; parts = refl }
   to_end_sound g ih (t ∷ ts) =
-      holds_bind (read depths g (t ∷ ts)) (λ v. Found (Some v.0, v.1)) (IsInFront depths g (t ∷ ts)) (IsTooDeep depths g (t ∷ ts)) (IsInFront depths (OptionalToEnd g) (t ∷ ts)) (IsTooDeep depths (OptionalToEnd g) (t ∷ ts)) (ih (t ∷ ts))
+      holds_bind (read depths g (t ∷ ts)) (λ v. Found (Some v.0, v.1)) (IsInFront depths g (t ∷ ts)) (IsTooDeep depths g (t ∷ ts))
+      (IsInFront depths (OptionalToEnd g) (t ∷ ts)) (IsTooDeep depths (OptionalToEnd g) (t ∷ ts)) (ih (t ∷ ts))
       (λ v w. record { written = Some w.written; same = ap Some w.same; well = w.well; shallow = w.shallow; parts = w.parts })
       (λ d. record { written = Some d.written; well = d.well; front = d.front; deep = d.deep; rest = d.rest; parts = d.parts })
 

@@ -18,11 +18,13 @@ StandsAs (Some front) text x Behind ts r = (us : List Lexeme) × (ts ≡ front +
 abbrev pub Stands : (depths : Depths) (g : Grammar) → Value g → List FirstItem → List Lexeme → Reading (Value g) → Type 0
 Stands depths g v fs ts r = StandsAs (deep_front depths g v) (printed g v) (value_kept g v) (Begins fs) ts r
 
-pub stands_whole : (depths : Depths) (g : Grammar) (v : Value g) (fs : List FirstItem) (us : List Lexeme) → deep_front depths g v ≡ None → Begins fs us → Stands depths g v fs (printed g v ++ us) (Found (value_kept g v, us))
+pub stands_whole : (depths : Depths) (g : Grammar) (v : Value g) (fs : List FirstItem) (us : List Lexeme) → deep_front depths g v ≡ None
+    → Begins fs us → Stands depths g v fs (printed g v ++ us) (Found (value_kept g v, us))
 stands_whole depths g v fs us h b =
     subst (λ o. StandsAs o (printed g v) (value_kept g v) (Begins fs) (printed g v ++ us) (Found (value_kept g v, us))) (sym h) (us, b, refl, refl)
 
-pub stands_deep : (depths : Depths) (g : Grammar) (v : Value g) (fs : List FirstItem) (front rest ts : List Lexeme) → deep_front depths g v ≡ Some front → ts ≡ front ++ rest → Stands depths g v fs ts (Stopped TooDeep)
+pub stands_deep : (depths : Depths) (g : Grammar) (v : Value g) (fs : List FirstItem) (front rest ts : List Lexeme)
+    → deep_front depths g v ≡ Some front → ts ≡ front ++ rest → Stands depths g v fs ts (Stopped TooDeep)
 stands_deep depths g v fs front rest ts h is =
     subst (λ o. StandsAs o (printed g v) (value_kept g v) (Begins fs) ts (Stopped TooDeep)) (sym h) (rest, is, refl)
 
@@ -33,9 +35,11 @@ behind_prefix ks None text x Behind ts r s = (text ++ s.0, s.2 ∙ append_assoc 
 behind_prefix ks (Some front) text x Behind ts r s = (front ++ s.0, s.1 ∙ append_assoc ks front s.0, (s.0, refl, s.2))
 
 -- one part behind another: the first one stands with its front, or is whole and the second one stands behind it
-pub parted : {A B : Type 0} (o : Option (List Lexeme)) (text : List Lexeme) (x : A) (First : List Lexeme → Type 0) (p : Option (List Lexeme)) (text' : List Lexeme) (z : B) (Behind : List Lexeme → Type 0) (ts : List Lexeme) (r : Reading B)
+pub parted : {A B : Type 0} (o : Option (List Lexeme)) (text : List Lexeme) (x : A) (First : List Lexeme → Type 0) (p : Option (List Lexeme))
+    (text' : List Lexeme) (z : B) (Behind : List Lexeme → Type 0) (ts : List Lexeme) (r : Reading B)
     → StandsAs (front_or o text p) (text ++ text') z Behind ts r
-    → (StandsAs o text x First ts (Stopped TooDeep) × (r ≡ Stopped TooDeep)) ⊎ ((us : List Lexeme) × (ts ≡ text ++ us) × StandsAs p text' z Behind us r × (First us → StandsAs o text x First ts (Found (x, us))))
+    → (StandsAs o text x First ts (Stopped TooDeep) × (r ≡ Stopped TooDeep))
+    ⊎ ((us : List Lexeme) × (ts ≡ text ++ us) × StandsAs p text' z Behind us r × (First us → StandsAs o text x First ts (Found (x, us))))
 parted (Some front) text x First p text' z Behind ts r s = inl ((s.0, s.1, refl), s.2)
 parted None text x First None text' z Behind ts r s =
     let us = text' ++ s.0 in
@@ -47,10 +51,12 @@ parted None text x First (Some front) text' z Behind ts r s =
     inr (us, is, (s.0, refl, s.2), λ b. (us, b, is, refl))
 
 -- the reading of one part behind another
-pub then_reads : {A B : Type 0} (o : Option (List Lexeme)) (text : List Lexeme) (x : A) (First : List Lexeme → Type 0) (p : Option (List Lexeme)) (text' : List Lexeme) (z : B) (Behind : List Lexeme → Type 0) (ts : List Lexeme) (r : Reading B)
+pub then_reads : {A B : Type 0} (o : Option (List Lexeme)) (text : List Lexeme) (x : A) (First : List Lexeme → Type 0) (p : Option (List Lexeme))
+    (text' : List Lexeme) (z : B) (Behind : List Lexeme → Type 0) (ts : List Lexeme) (r : Reading B)
     → StandsAs (front_or o text p) (text ++ text') z Behind ts r
     → (q : Reading A) → ((r' : Reading A) → StandsAs o text x First ts r' → q ≡ r')
-    → (next : A × List Lexeme → Reading B) → ((us : List Lexeme) → StandsAs p text' z Behind us r → First us) → ((us : List Lexeme) → ts ≡ text ++ us → StandsAs p text' z Behind us r → next (x, us) ≡ r)
+    → (next : A × List Lexeme → Reading B) → ((us : List Lexeme) → StandsAs p text' z Behind us r → First us)
+    → ((us : List Lexeme) → ts ≡ text ++ us → StandsAs p text' z Behind us r → next (x, us) ≡ r)
     → (q >>= next) ≡ r
 then_reads o text x First p text' z Behind ts r s q ih next begins more =
     ⊎_elim
@@ -59,7 +65,8 @@ then_reads o text x First p text' z Behind ts r s q ih next begins more =
     (parted o text x First p text' z Behind ts r s)
 
 -- how lexemes begin with one part behind another
-pub then_begins : {A B : Type 0} {Q : Type 0} (o : Option (List Lexeme)) (text : List Lexeme) (x : A) (First : List Lexeme → Type 0) (p : Option (List Lexeme)) (text' : List Lexeme) (z : B) (Behind : List Lexeme → Type 0) (ts : List Lexeme) (r : Reading B)
+pub then_begins : {A B : Type 0} {Q : Type 0} (o : Option (List Lexeme)) (text : List Lexeme) (x : A) (First : List Lexeme → Type 0)
+    (p : Option (List Lexeme)) (text' : List Lexeme) (z : B) (Behind : List Lexeme → Type 0) (ts : List Lexeme) (r : Reading B)
     → StandsAs (front_or o text p) (text ++ text') z Behind ts r
     → ((r' : Reading A) → StandsAs o text x First ts r' → Q) → ((us : List Lexeme) → StandsAs p text' z Behind us r → First us) → Q
 then_begins o text x First p text' z Behind ts r s ih begins =
@@ -84,6 +91,7 @@ pub mapped : {A B : Type 0} (o : Option (List Lexeme)) (text : List Lexeme) (x :
 mapped o text x f Behind ts r s q ih = followed o text x (f x) Behind Behind ts r s (λ us b. b) q ih (λ v. Found (f v.0, v.1)) (λ us b. refl)
 
 -- an expression whose front is itself
-pub text_stands : {A : Type 0} (b : Bool) (text : List Lexeme) (x : A) (Behind : List Lexeme → Type 0) (ts : List Lexeme) (r : Reading A) → StandsAs (if b then Some text else None) text x Behind ts r → (us : List Lexeme) × (ts ≡ text ++ us)
+pub text_stands : {A : Type 0} (b : Bool) (text : List Lexeme) (x : A) (Behind : List Lexeme → Type 0) (ts : List Lexeme) (r : Reading A)
+    → StandsAs (if b then Some text else None) text x Behind ts r → (us : List Lexeme) × (ts ≡ text ++ us)
 text_stands true text x Behind ts r s = (s.0, s.1)
 text_stands false text x Behind ts r s = (s.0, s.2)

@@ -13,8 +13,8 @@ use Rattle.line_forms.specs.Reading.{Reading, Found, Stopped, ◌>>=◌}
 use Rattle.line_forms.specs.Grammar.{Grammar, Value, Output, Shown, Characters, Nothing, Identifier, Expr, Item, Subscript, Prefixed, Suffixed, Sequence, Optional, Choice, Skipped, CommaList, Header, OptionalToEnd}
 
 -- the fixed lexemes in front
-abbrev pub after : List Lexeme → List Lexeme → Reading (Unit {0})
-after ks ts = if starts ks ts then Found (tt, drop (length ks) ts) else Stopped Malformed
+abbrev pub after_marks : List Lexeme → List Lexeme → Reading (Unit {0})
+after_marks ks ts = if starts ks ts then Found (tt, drop (length ks) ts) else Stopped Malformed
 
 -- a name in front
 abbrev pub name : List Lexeme → Reading (List ℕ)
@@ -88,8 +88,8 @@ read depths Identifier ts = name ts
 read depths Expr ts = expr depths ts
 read depths Item ts = item depths ts
 read depths Subscript ts = subscript depths ts
-read depths (Prefixed ks g) ts = after ks ts >>= λ x. read depths g x.1
-read depths (Suffixed g ks) ts = read depths g ts >>= λ v. after ks v.1 >>= λ x. Found (v.0, x.1)
+read depths (Prefixed ks g) ts = after_marks ks ts >>= λ x. read depths g x.1
+read depths (Suffixed g ks) ts = read depths g ts >>= λ v. after_marks ks v.1 >>= λ x. Found (v.0, x.1)
 read depths (Sequence g h) ts = read depths g ts >>= λ v. read depths h v.1 >>= λ w. Found ((v.0, w.0), w.1)
 read depths (Optional ks g) ts = if starts ks ts then (read depths g (drop (length ks) ts) >>= λ v. Found (Some v.0, v.1)) else Found (None, ts)
 read depths (Choice ks g h) ts =

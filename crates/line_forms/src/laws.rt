@@ -16,8 +16,10 @@ ghost use Rattle.syntax_tree.specs.Lexeme.{Lexeme};
 /// which stands in front, is what is read, whole or with a rest behind it, where its grammar needs no look back.
 pub fn printed_exact()
     ensures sound { (depths : Depths) (g : Grammar) (ts : List Lexeme) → On (read depths g ts) (IsInFront depths g ts) }
-    ensures found { (depths : Depths) (g : Grammar) (fs : List FirstItem) → is_ll1 g fs ≡ true → (v : Value g) → IsWell g v → deep_front depths g v ≡ None → (us : List Lexeme) → Begins fs us → read depths g (printed g v ++ us) ≡ Found (value_kept g v, us) }
-    ensures whole { (depths : Depths) (g : Grammar) → is_ll1 g (Finish ∷ []) ≡ true → (v : Value g) → IsWell g v → deep_front depths g v ≡ None → read depths g (printed g v) ≡ Found (value_kept g v, []) }
+    ensures found { (depths : Depths) (g : Grammar) (fs : List FirstItem) → is_ll1 g fs ≡ true → (v : Value g) → IsWell g v
+        → deep_front depths g v ≡ None → (us : List Lexeme) → Begins fs us → read depths g (printed g v ++ us) ≡ Found (value_kept g v, us) }
+    ensures whole { (depths : Depths) (g : Grammar) → is_ll1 g (Finish ∷ []) ≡ true → (v : Value g) → IsWell g v
+        → deep_front depths g v ≡ None → read depths g (printed g v) ≡ Found (value_kept g v, []) }
 {}
 
 /// A reading that stops at an expression that is too deep has a front before it of a well-formed part, up to and with its
@@ -26,7 +28,8 @@ pub fn printed_exact()
 pub fn too_deep_exact()
     ensures sound { (depths : Depths) (g : Grammar) (ts : List Lexeme) → read depths g ts ≡ Stopped TooDeep → IsTooDeep depths g ts }
     ensures found { (depths : Depths) (g : Grammar) (fs : List FirstItem) → is_ll1 g fs ≡ true → (ts : List Lexeme) → IsTooDeep depths g ts → read depths g ts ≡ Stopped TooDeep }
-    ensures printed { (depths : Depths) (g : Grammar) (v : Value g) (front : List Lexeme) → deep_front depths g v ≡ Some front → (rest : List Lexeme) × (printed g v ≡ front ++ rest) }
+    ensures printed { (depths : Depths) (g : Grammar) (v : Value g) (front : List Lexeme) → deep_front depths g v ≡ Some front
+        → (rest : List Lexeme) × (printed g v ≡ front ++ rest) }
 {}
 
 /// A tree keeps the same of two well-formed lines that have one spelling.

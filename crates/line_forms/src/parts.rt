@@ -3,7 +3,7 @@
 ghost use Rattle.std.specs.Prelude.{◌≡◌};
 ghost use Rattle.syntax_tree.specs.Lexeme.{lexemes};
 ghost use Rattle.syntax_tree.specs.Expression.{expression, subscript};
-ghost use Rattle.expr_reader.specs.CodeViews.{maybe_in};
+ghost use Rattle.expr_reader.specs.TokenReading.{maybe_in};
 ghost use Rattle.line_forms.specs.DeepFront.{is_too_deep};
 ghost use Rattle.line_forms.specs.Gives.{Gives};
 ghost use Rattle.line_forms.specs.Read.{expr, name, optional_expr, stepped, subscript as subscript_at, triplet};

@@ -4,7 +4,7 @@ ghost use Rattle.std.specs.Prelude.{◌≡◌, ◌≤◌, [], ◌∷◌, length,
 ghost use Rattle.syntax_tree.specs.Lexeme.{Word, Fixed, lexeme_of, lexemes};
 ghost use Rattle.syntax_tree.specs.declared.sign.Sign.TheVariants.{Comma};
 ghost use Rattle.line_forms.specs.Marks.{same, starts};
-ghost use Rattle.line_forms.specs.Read.{after};
+ghost use Rattle.line_forms.specs.Read.{after_marks};
 ghost use Rattle.line_forms.specs.Gives.{Gives};
 
 use crate::read_error::ReadError;
@@ -70,7 +70,7 @@ pub fn behind(tokens: &[Token], count: usize) -> &[Token]
 
 /// The tokens behind an operator or delimiter.
 pub fn after_sign(tokens: &[Token], sign: Sign) -> Result<&[Token], ReadError>
-    ensures { Gives (λ x. (tt, lexemes x.now)) result (after (Fixed sign ∷ []) (lexemes tokens.now)) }
+    ensures { Gives (λ x. (tt, lexemes x.now)) result (after_marks (Fixed sign ∷ []) (lexemes tokens.now)) }
 {
     if !is_sign(tokens, sign) {
         return Err(ReadError::Malformed);
@@ -80,7 +80,7 @@ pub fn after_sign(tokens: &[Token], sign: Sign) -> Result<&[Token], ReadError>
 
 /// The tokens behind a word.
 pub fn after_word<'a>(tokens: &'a [Token], word: &[u8]) -> Result<&'a [Token], ReadError>
-    ensures { Gives (λ x. (tt, lexemes x.now)) result (after (Word word.now ∷ []) (lexemes tokens.now)) }
+    ensures { Gives (λ x. (tt, lexemes x.now)) result (after_marks (Word word.now ∷ []) (lexemes tokens.now)) }
 {
     if !is_word(tokens, word) {
         return Err(ReadError::Malformed);

@@ -13,7 +13,9 @@ use Rattle.nest_reader.specs.ProgramLines.{else_if_lines, block_lines, if_lines,
 use Rattle.nest_reader.specs.Draft.{AreFinished, IsOpened}
 use Rattle.nest_reader.proofs.Lists.{arms_push, arms_sound, begun_push}
 
-pub next_finished : (first : ℕ) (v : Vec HeldArm Global) (n : ℕ) (cond : Expr) (glued : Bool) (b : SpelledBlock) (a : HeldArm) (ys : List HeldArm) → ((arms : IfBlocks) → arm_before a arms ≡ IfBlock n (expression cond) b glued arms) → IsOpened (opened.ElseIf first v n cond glued) → IsBlock b → ys ≡ v.items ++ a ∷ [] → AreFinished (opened.ElseIf first v n cond glued) b first ys
+pub next_finished : (first : ℕ) (v : Vec HeldArm Global) (n : ℕ) (cond : Expr) (glued : Bool) (b : SpelledBlock) (a : HeldArm) (ys : List HeldArm)
+    → ((arms : IfBlocks) → arm_before a arms ≡ IfBlock n (expression cond) b glued arms) → IsOpened (opened.ElseIf first v n cond glued) → IsBlock b
+    → ys ≡ v.items ++ a ∷ [] → AreFinished (opened.ElseIf first v n cond glued) b first ys
 next_finished first v n cond glued b a ys is h g e = subst (λ ys. AreFinished (opened.ElseIf first v n cond glued) b first ys) (sym e) record {
   lines =
       arms_push first v.items a h.0

@@ -12,7 +12,9 @@ use Rattle.nest_reader.specs.ProgramLines.{Entry, IsEntryOf, AreEntriesOf, block
 use Rattle.nest_reader.specs.Draft.{AreOpen, IsAppended, IsBehind, IsDraft, IsNested, IsOpened, draft_lines, opened_lines, opens_lines, shape, status, status_behind}
 use Rattle.nest_reader.proofs.Lists.{are_push, block_push, block_sound, open_sound, opens_push, shape_push}
 
-pub nested_is : (os : List HeldOpen) (o : HeldOpen) (v : Vec HeldOpen Global) (b : Vec Stmt Global) → v.items ≡ os ++ o ∷ [] → b.items ≡ [] → AreOpen os → IsBlock (spelled_block o.before.items) → IsOpened o.what → IsNested os o.before.items o.what record { opens = v; block = b; mark = None; end = None }
+pub nested_is : (os : List HeldOpen) (o : HeldOpen) (v : Vec HeldOpen Global) (b : Vec Stmt Global) → v.items ≡ os ++ o ∷ [] → b.items ≡ []
+    → AreOpen os → IsBlock (spelled_block o.before.items) → IsOpened o.what
+    → IsNested os o.before.items o.what record { opens = v; block = b; mark = None; end = None }
 nested_is os o v b e f h g w = record {
   lines =
       append-nil (opens_lines v.items ++ block_lines (spelled_block b.items))
@@ -25,7 +27,9 @@ nested_is os o v b e f h g w = record {
   stands = ap (λ os. record { opens = shape os; pending = None; ended = false }) e ∙ ap (λ s. record { opens = s; pending = None; ended = false }) (shape_push os o);
 }
 
-pub appended_is : (os : Vec HeldOpen Global) (ss : List Stmt) (s : Stmt) (b : Vec Stmt Global) → b.items ≡ ss ++ s ∷ [] → AreOpen os.items → IsBlock (spelled_block ss) → IsStatement (spelled_statement s) → IsAppended os.items ss s record { opens = os; block = b; mark = None; end = None }
+pub appended_is : (os : Vec HeldOpen Global) (ss : List Stmt) (s : Stmt) (b : Vec Stmt Global) → b.items ≡ ss ++ s ∷ [] → AreOpen os.items
+    → IsBlock (spelled_block ss) → IsStatement (spelled_statement s)
+    → IsAppended os.items ss s record { opens = os; block = b; mark = None; end = None }
 appended_is os ss s b e h g w = record {
   lines =
       append-nil (opens_lines os.items ++ block_lines (spelled_block b.items))
@@ -37,7 +41,8 @@ appended_is os ss s b e h g w = record {
 }
 
 -- a line more, said by the draft
-pub behind : (d b : Draft) (l : ProgramLine) (e : Entry) → draft_lines b ≡ draft_lines d ++ e ∷ [] → IsEntryOf e l → IsDraft b → status b ≡ status_behind (status d) (role_of l.what) → IsBehind d l b
+pub behind : (d b : Draft) (l : ProgramLine) (e : Entry) → draft_lines b ≡ draft_lines d ++ e ∷ [] → IsEntryOf e l → IsDraft b
+    → status b ≡ status_behind (status d) (role_of l.what) → IsBehind d l b
 behind d b l e h is s t = record {
   lines = λ ls are. subst (λ es. AreEntriesOf es (ls ++ l ∷ [])) (sym h) (are_push (draft_lines d) e ls l are is);
   sound = s;

@@ -1,6 +1,8 @@
 -- A program, one line further.
 use Rattle.std.proofs.Common.{◌≡◌, ℕ, Bool, true, false, not, ◌||◌, List, [], ◌∷◌, ◌++◌, map, Option, Some, None, is_some, refl, sym, ap, ◌∙◌, subst, append_assoc, append-nil, inl, inr, Global}
 use Rattle.std.specs.Prelude.{if◌then◌else◌, ◌⊎◌, Vec, IfSome, max, option_map}
+use Rattle.std.proofs.lemmas.Bool.{both_ways}
+use Rattle.std.proofs.Math.Bool.{or-false, or-true}
 use Rattle.hpf_base.specs.Refusal.{NoBreach}
 use Rattle.hpf_base.specs.declared.refusal.Reason.TheVariants as reason
 use Rattle.statement_reader.specs.declared.kind.Kind.TheVariants as kind
@@ -31,20 +33,9 @@ use Rattle.nest_reader.specs.NextLine.{statement_line}
 use Rattle.nest_reader.proofs.Lists.{are_push}
 use Rattle.nest_reader.proofs.Kept.{are_behind, declared_behind, freed, going, in_time, inner_behind, inner_declared, inner_passed, inner_program, kept_without, marked_behind, marked_here, marked_next, not_misdirected, not_misplaced, other_name, passed_from, passed_name, passed_without, placed, stated_next}
 
-begun_true : (b : Bool) → (b || true) ≡ true
-begun_true true = refl
-begun_true false = refl
-
-ended_same : (b : Bool) → (b || false) ≡ b
-ended_same true = refl
-ended_same false = refl
-
-clash : (b : Bool) → b ≡ false → b ≡ true → ⊥
-clash true h g = absurd cc
-clash false h g = absurd cc
-
 -- PROGRAM
-module _ (ls : List ProgramLine) (last n : ℕ) (x : List ℕ) (rest : List ProgramLine) (v w : Vec Decl Global) (o : Option (List ℕ)) (draft : Draft) (over : Bool) (empty : w.items ≡ []) where
+module _ (ls : List ProgramLine) (last n : ℕ) (x : List ℕ) (rest : List ProgramLine) (v w : Vec Decl Global) (o : Option (List ℕ)) (draft : Draft)
+    (over : Bool) (empty : w.items ≡ []) where
   abbrev named_line : ProgramLine
   named_line = statement_line n (statements.Plain kind.Program x)
 
@@ -55,7 +46,10 @@ module _ (ls : List ProgramLine) (last n : ℕ) (x : List ℕ) (rest : List Prog
   behind_name = record { name = Some x; decls = w; draft = draft; over = over }
 
   first_lines : draft_lines draft ≡ [] → AreEntriesOf (front_lines behind_name ++ draft_lines draft) (named_line ∷ [])
-  first_lines e = subst (λ es. AreEntriesOf ((name_lines (Some x) ++ map numbered (map declaration_line w.items)) ++ es) (named_line ∷ [])) (sym e) (subst (λ ds. AreEntriesOf ((name_lines (Some x) ++ map numbered (map declaration_line ds)) ++ []) (named_line ∷ [])) (sym empty) ((refl, tt), tt))
+  first_lines e =
+      subst (λ es. AreEntriesOf ((name_lines (Some x) ++ map numbered (map declaration_line w.items)) ++ es) (named_line ∷ [])) (sym e)
+      (subst (λ ds. AreEntriesOf ((name_lines (Some x) ++ map numbered (map declaration_line ds)) ++ []) (named_line ∷ [])) (sym empty)
+      ((refl, tt), tt))
 
   pub named_progress : IsProgress ls last before_name (named_line ∷ rest) → IsProgress ls last behind_name rest
   named_progress p = by_phase p.phase
@@ -71,19 +65,19 @@ module _ (ls : List ProgramLine) (last n : ℕ) (x : List ℕ) (rest : List Prog
         state = state_behind p.state role.Program;
         free = freed p.state last named_line rest p.free;
         opens = p.opens;
-        ended = ended_same p.state.ended ∙ p.ended;
+        ended = or-false p.state.ended ∙ p.ended;
         marks = marked_behind (status draft).pending role.Program (roles rest) refl p.marks;
         sound = p.sound;
         declared = subst (λ ds. AreDeclared (map declaration_line ds)) (sym empty) tt;
         kept = named_line ∷ [];
         lines = first_lines e;
-        phase = Among o (begun_true p.state.begun) e k;
+        phase = Among o (or-true p.state.begun) e k;
       }
 
       by_phase : IsPhase p.state before_name ls (named_line ∷ rest) p.kept → IsProgress ls last behind_name rest
       by_phase (Before o b name e k) = moved e k o
-      by_phase (Among o b e k) = absurd (clash p.state.begun begun b)
-      by_phase (Over o b d k) = absurd (clash p.state.begun begun b)
+      by_phase (Among o b e k) = absurd (both_ways p.state.begun begun b)
+      by_phase (Over o b d k) = absurd (both_ways p.state.begun begun b)
 
 -- the role of a declaration
 decl_declared : (d : Decl) → is_declared (role_of (declaration_line d).what) ≡ true
@@ -122,7 +116,8 @@ declared_or_program : (r : Role) → is_declared r ≡ true → (is_declared r |
 declared_or_program r h = ap (λ b. b || is_program r) h
 
 -- behind the declarations none comes but those that are passed over
-over_passed : (s : NestState) (r : Role) (rs : List Role) → is_declared r ≡ true → is_misplaced s r ≡ false → is_misdirected s r rs ≡ false → (s.stated ≡ true) ⊎ (declaration_comes (r ∷ rs) ≡ false) → r ≡ role.Passed
+over_passed : (s : NestState) (r : Role) (rs : List Role) → is_declared r ≡ true → is_misplaced s r ≡ false → is_misdirected s r rs ≡ false
+    → (s.stated ≡ true) ⊎ (declaration_comes (r ∷ rs) ≡ false) → r ≡ role.Passed
 over_passed s role.Passed rs h p d g = refl
 over_passed s role.SpecificationDirective rs h p d (inl g) = absurd cc
 over_passed s role.Declaration rs h p d (inl g) = let late = in_time s role.Declaration p in absurd cc
@@ -151,7 +146,7 @@ module _ (ls : List ProgramLine) (last : ℕ) (d : Decl) (rest : List ProgramLin
     behind_decl = state_behind p.state (role_of decl_line.what)
 
     decl_ended : behind_decl.ended ≡ (status draft).ended
-    decl_ended = ap (λ b. p.state.ended || b) (declared_no_end (role_of decl_line.what) (decl_declared d)) ∙ ended_same p.state.ended ∙ p.ended
+    decl_ended = ap (λ b. p.state.ended || b) (declared_no_end (role_of decl_line.what) (decl_declared d)) ∙ or-false p.state.ended ∙ p.ended
 
     decl_opens : behind_decl.opens ≡ (status draft).opens
     decl_opens = declared_opens (role_of decl_line.what) p.state.opens (decl_declared d) ∙ p.opens
@@ -163,7 +158,8 @@ module _ (ls : List ProgramLine) (last : ℕ) (d : Decl) (rest : List ProgramLin
     pub dropped_progress : over ≡ true → IsProgress ls last (with_decls v) rest
     dropped_progress is_over = by_phase p.phase
       where
-        moved : (p.state.stated ≡ true) ⊎ (declaration_comes (role_of decl_line.what ∷ roles rest) ≡ false) → p.state.begun ≡ true → kept_lines ls ≡ p.kept ++ without_passed (decl_line ∷ rest) → IsProgress ls last (with_decls v) rest
+        moved : (p.state.stated ≡ true) ⊎ (declaration_comes (role_of decl_line.what ∷ roles rest) ≡ false) → p.state.begun ≡ true
+            → kept_lines ls ≡ p.kept ++ without_passed (decl_line ∷ rest) → IsProgress ls last (with_decls v) rest
         moved g b k = record {
           state = behind_decl;
           free = freed p.state last decl_line rest p.free;
@@ -178,21 +174,27 @@ module _ (ls : List ProgramLine) (last : ℕ) (d : Decl) (rest : List ProgramLin
         }
           where
             passed : role_of decl_line.what ≡ role.Passed
-            passed = over_passed p.state (role_of decl_line.what) (roles rest) (decl_declared d) (not_misplaced p.state last decl_line rest p.free) (not_misdirected p.state last decl_line rest p.free) g
+            passed =
+                over_passed p.state (role_of decl_line.what) (roles rest) (decl_declared d) (not_misplaced p.state last decl_line rest p.free)
+                (not_misdirected p.state last decl_line rest p.free) g
 
-            still : (p.state.stated ≡ true) ⊎ (declaration_comes (role_of decl_line.what ∷ roles rest) ≡ false) → (behind_decl.stated ≡ true) ⊎ (declaration_comes (roles rest) ≡ false)
+            still : (p.state.stated ≡ true) ⊎ (declaration_comes (role_of decl_line.what ∷ roles rest) ≡ false)
+                → (behind_decl.stated ≡ true) ⊎ (declaration_comes (roles rest) ≡ false)
             still (inl h) = inl (ap (λ b. b || is_statement (role_of decl_line.what)) h)
             still (inr h) = inr (sym (ap (λ r. declaration_comes (r ∷ roles rest)) passed) ∙ h)
 
         by_phase : IsPhase p.state (with_decls v) ls (decl_line ∷ rest) p.kept → IsProgress ls last (with_decls v) rest
-        by_phase (Before o b name e k) = absurd (clash over o is_over)
-        by_phase (Among o b e k) = absurd (clash over o is_over)
+        by_phase (Before o b name e k) = absurd (both_ways over o is_over)
+        by_phase (Among o b e k) = absurd (both_ways over o is_over)
         by_phase (Over o b g k) = moved g b k
 
     -- among the declarations
     module _ (w : Vec Decl Global) (pushed : w.items ≡ v.items ++ d ∷ []) (is_open : over ≡ false) where
       push_declared : AreDeclared (map declaration_line w.items)
-      push_declared = subst (λ ds. AreDeclared (map declaration_line ds)) (sym pushed) (subst AreDeclared (sym (map_push declaration_line v.items d)) (declared_push (map declaration_line v.items) decl_line p.declared (decl_declared d)))
+      push_declared =
+          subst (λ ds. AreDeclared (map declaration_line ds)) (sym pushed)
+          (subst AreDeclared (sym (map_push declaration_line v.items d))
+          (declared_push (map declaration_line v.items) decl_line p.declared (decl_declared d)))
 
       push_front : front_lines (with_decls w) ≡ front_lines (with_decls v) ++ numbered decl_line ∷ []
       push_front =
@@ -203,9 +205,14 @@ module _ (ls : List ProgramLine) (last : ℕ) (d : Decl) (rest : List ProgramLin
 
       push_lines : draft_lines draft ≡ [] → AreEntriesOf (front_lines (with_decls w) ++ draft_lines draft) (p.kept ++ decl_line ∷ [])
       push_lines e =
-          let old : AreEntriesOf (front_lines (with_decls v)) p.kept = subst (λ es. AreEntriesOf es p.kept) (append-nil (front_lines (with_decls v))) (subst (λ es. AreEntriesOf (front_lines (with_decls v) ++ es) p.kept) e p.lines) in
-          let new : AreEntriesOf (front_lines (with_decls v) ++ numbered decl_line ∷ []) (p.kept ++ decl_line ∷ []) = are_push (front_lines (with_decls v)) (numbered decl_line) p.kept decl_line old (refl, refl) in
-          subst (λ es. AreEntriesOf (front_lines (with_decls w) ++ es) (p.kept ++ decl_line ∷ [])) (sym e) (subst (λ es. AreEntriesOf es (p.kept ++ decl_line ∷ [])) (sym (append-nil (front_lines (with_decls v) ++ numbered decl_line ∷ [])) ∙ ap (λ es. es ++ []) (sym push_front)) new)
+          let old : AreEntriesOf (front_lines (with_decls v)) p.kept =
+          subst (λ es. AreEntriesOf es p.kept) (append-nil (front_lines (with_decls v)))
+          (subst (λ es. AreEntriesOf (front_lines (with_decls v) ++ es) p.kept) e p.lines) in
+          let new : AreEntriesOf (front_lines (with_decls v) ++ numbered decl_line ∷ []) (p.kept ++ decl_line ∷ []) =
+          are_push (front_lines (with_decls v)) (numbered decl_line) p.kept decl_line old (refl, refl) in
+          subst (λ es. AreEntriesOf (front_lines (with_decls w) ++ es) (p.kept ++ decl_line ∷ [])) (sym e)
+          (subst (λ es. AreEntriesOf es (p.kept ++ decl_line ∷ []))
+          (sym (append-nil (front_lines (with_decls v) ++ numbered decl_line ∷ [])) ∙ ap (λ es. es ++ []) (sym push_front)) new)
 
       push_moved : draft_lines draft ≡ [] → IsPhase behind_decl (with_decls w) ls rest (p.kept ++ decl_line ∷ []) → IsProgress ls last (with_decls w) rest
       push_moved e phase = record {
@@ -227,7 +234,10 @@ module _ (ls : List ProgramLine) (last : ℕ) (d : Decl) (rest : List ProgramLin
       pub pushed_progress : IsProgress ls last (with_decls w) rest
       pushed_progress = by_phase p.phase (passed_or_not (role_of decl_line.what) (decl_declared d))
         where
-          by_phase : IsPhase p.state (with_decls v) ls (decl_line ∷ rest) p.kept → (role_of decl_line.what ≡ role.Passed) ⊎ ((is_passed (role_of decl_line.what) ≡ false) × (is_program (role_of decl_line.what) ≡ false)) → IsProgress ls last (with_decls w) rest
+          by_phase : IsPhase p.state (with_decls v) ls (decl_line ∷ rest) p.kept
+              → (role_of decl_line.what ≡ role.Passed)
+              ⊎ ((is_passed (role_of decl_line.what) ≡ false) × (is_program (role_of decl_line.what) ≡ false))
+              → IsProgress ls last (with_decls w) rest
           by_phase (Before o b name e k) (inl h) =
               push_moved e
               (Before o
@@ -236,13 +246,15 @@ module _ (ls : List ProgramLine) (last : ℕ) (d : Decl) (rest : List ProgramLin
               (k ∙ (λ i. if passed_name decl_line rest h i then passed_from decl_line rest h i else more_kept i)))
           by_phase (Before o b name e k) (inr h) =
               push_moved e
-              (Among o (ap (λ c. p.state.begun || not c) h.0 ∙ begun_true p.state.begun) e
+              (Among o (ap (λ c. p.state.begun || not c) h.0 ∙ or-true p.state.begun) e
               (k ∙ ap (λ b. if b then from_name (decl_line ∷ rest) else p.kept ++ kept_behind_name (decl_line ∷ rest)) (other_name decl_line rest h.1 h.0) ∙ more_kept))
           by_phase (Among o b e k) h = push_moved e (Among o (ap (λ b. b || not (is_passed (role_of decl_line.what))) b) e (k ∙ more_kept))
-          by_phase (Over o b g k) h = absurd (clash over is_open o)
+          by_phase (Over o b g k) h = absurd (both_ways over is_open o)
 
 -- a line behind the declarations
-module _ (ls : List ProgramLine) (last : ℕ) (l : ProgramLine) (rest : List ProgramLine) (o : Option (List ℕ)) (v : Vec Decl Global) (draft : Draft) (over : Bool) (inner : is_inner (role_of l.what) ≡ true) (p : IsProgress ls last record { name = o; decls = v; draft = draft; over = over } (l ∷ rest)) where
+module _ (ls : List ProgramLine) (last : ℕ) (l : ProgramLine) (rest : List ProgramLine) (o : Option (List ℕ)) (v : Vec Decl Global) (draft : Draft)
+    (over : Bool) (inner : is_inner (role_of l.what) ≡ true)
+    (p : IsProgress ls last record { name = o; decls = v; draft = draft; over = over } (l ∷ rest)) where
   free_here : is_misplaced p.state (role_of l.what) ≡ false
   free_here = not_misplaced p.state last l rest p.free
 
@@ -267,7 +279,8 @@ module _ (ls : List ProgramLine) (last : ℕ) (l : ProgramLine) (rest : List Pro
         by_phase : IsPhase p.state record { name = o; decls = v; draft = draft; over = over } ls (l ∷ rest) p.kept → kept_lines ls ≡ (p.kept ++ l ∷ []) ++ without_passed rest
         by_phase (Before o b name e k) =
             k
-            ∙ ap (λ b. if b then from_name (l ∷ rest) else p.kept ++ kept_behind_name (l ∷ rest)) (other_name l rest (inner_program (role_of l.what) inner) (inner_passed (role_of l.what) inner))
+            ∙ ap (λ b. if b then from_name (l ∷ rest) else p.kept ++ kept_behind_name (l ∷ rest))
+            (other_name l rest (inner_program (role_of l.what) inner) (inner_passed (role_of l.what) inner))
             ∙ ap (λ ks. p.kept ++ ks) (inner_behind l rest (inner_declared (role_of l.what) inner) (inner_passed (role_of l.what) inner))
             ∙ more
         by_phase (Among o b e k) = k ∙ ap (λ ks. p.kept ++ ks) (inner_behind l rest (inner_declared (role_of l.what) inner) (inner_passed (role_of l.what) inner)) ∙ more
@@ -279,16 +292,22 @@ module _ (ls : List ProgramLine) (last : ℕ) (l : ProgramLine) (rest : List Pro
       free = freed p.state last l rest p.free;
       opens = ap (opens_behind (role_of l.what)) p.opens ∙ sym (ap (λ s. s.opens) behind.stands);
       ended = ap (λ b. b || is_end (role_of l.what)) (going p.state (role_of l.what) free_here (inner_passed (role_of l.what) inner)) ∙ sym (ap (λ s. s.ended) behind.stands);
-      marks = subst (λ p. IsMarked p (roles rest)) (sym (ap (λ s. s.pending) behind.stands)) (marked_next p.state (role_of l.what) (roles rest) (not_misdirected p.state last l rest p.free));
+      marks =
+          subst (λ p. IsMarked p (roles rest)) (sym (ap (λ s. s.pending) behind.stands))
+          (marked_next p.state (role_of l.what) (roles rest) (not_misdirected p.state last l rest p.free));
       sound = behind.sound;
       declared = p.declared;
       kept = p.kept ++ l ∷ [];
       lines = are_behind (front_lines behind_inner) (draft_lines draft) (draft_lines b) l behind.lines p.kept p.lines;
-      phase = Over refl (ap (λ c. p.state.begun || not c) (inner_passed (role_of l.what) inner) ∙ begun_true p.state.begun) (stated_next p.state (role_of l.what) (roles rest) inner (not_misdirected p.state last l rest p.free)) inner_kept;
+      phase =
+          Over refl (ap (λ c. p.state.begun || not c) (inner_passed (role_of l.what) inner) ∙ or-true p.state.begun)
+          (stated_next p.state (role_of l.what) (roles rest) inner (not_misdirected p.state last l rest p.free)) inner_kept;
     }
 
 -- before the first line
-pub nothing_progress : (ls : List ProgramLine) (last : ℕ) (v : Vec Decl Global) (os : Vec HeldOpen Global) (b : Vec Stmt Global) → v.items ≡ [] → os.items ≡ [] → b.items ≡ [] → NoBreach (IsNestBreach last ls) → IsProgress ls last record { name = None; decls = v; draft = record { opens = os; block = b; mark = None; end = None }; over = false } ls
+pub nothing_progress : (ls : List ProgramLine) (last : ℕ) (v : Vec Decl Global) (os : Vec HeldOpen Global) (b : Vec Stmt Global) → v.items ≡ []
+    → os.items ≡ [] → b.items ≡ [] → NoBreach (IsNestBreach last ls)
+    → IsProgress ls last record { name = None; decls = v; draft = record { opens = os; block = b; mark = None; end = None }; over = false } ls
 nothing_progress ls last v os b e f g h = record {
   state = state_at_start;
   free = h;
@@ -298,7 +317,9 @@ nothing_progress ls last v os b e f g h = record {
   sound = (subst AreOpen (sym f) tt, subst (λ ss. IsBlock (spelled_block ss)) (sym g) tt, tt);
   declared = subst (λ ds. AreDeclared (map declaration_line ds)) (sym e) tt;
   kept = [];
-  lines = subst (λ ds. AreEntriesOf (map numbered (map declaration_line ds) ++ draft_lines record { opens = os; block = b; mark = None; end = None }) []) (sym e) (subst (λ es. AreEntriesOf es []) (sym no_lines) tt);
+  lines =
+      subst (λ ds. AreEntriesOf (map numbered (map declaration_line ds) ++ draft_lines record { opens = os; block = b; mark = None; end = None }) [])
+      (sym e) (subst (λ es. AreEntriesOf es []) (sym no_lines) tt);
   phase = Before refl refl refl no_lines refl;
 }
   where
@@ -306,13 +327,14 @@ nothing_progress ls last v os b e f g h = record {
     no_lines = (λ i. (opens_lines (f i) ++ block_lines (spelled_block (g i))) ++ [])
 
 -- behind the last line
-module _ (ls : List ProgramLine) (last : ℕ) (o : Option (List ℕ)) (v : Vec Decl Global) (draft : Draft) (over : Bool) (p : IsProgress ls last record { name = o; decls = v; draft = draft; over = over } []) where
+module _ (ls : List ProgramLine) (last : ℕ) (o : Option (List ℕ)) (v : Vec Decl Global) (draft : Draft) (over : Bool)
+    (p : IsProgress ls last record { name = o; decls = v; draft = draft; over = over } []) where
   no_more : (b : Bool) → p.state.ended ≡ b → b ≡ true
   no_more true e = refl
   no_more false e = absurd (p.free (max last 1) reason.BadNest (e, refl))
 
   pub tree_ready : draft.end ≡ None → ⊥
-  tree_ready e = clash false refl (sym (p.ended ∙ ap is_some e) ∙ no_more p.state.ended refl)
+  tree_ready e = both_ways false refl (sym (p.ended ∙ ap is_some e) ∙ no_more p.state.ended refl)
 
   all_kept : kept_lines ls ≡ p.kept
   all_kept = by_phase p.phase
@@ -327,7 +349,10 @@ module _ (ls : List ProgramLine) (last : ℕ) (o : Option (List ℕ)) (v : Vec D
     closed = subst (λ o. IfSome o (λ e. (draft.opens.items ≡ []) × (draft.mark ≡ None))) ends p.sound.2
 
     last_lines : draft_lines draft ≡ block_lines (spelled_block draft.block.items) ++ end_line (spelled_end e) ∷ []
-    last_lines = (λ i. (opens_lines (closed.0 i) ++ block_lines (spelled_block draft.block.items)) ++ (independent_lines (option_map spelled_independent (closed.1 i)) ++ end_lines (ends i)))
+    last_lines =
+        (λ i.
+        (opens_lines (closed.0 i) ++ block_lines (spelled_block draft.block.items))
+        ++ (independent_lines (option_map spelled_independent (closed.1 i)) ++ end_lines (ends i)))
 
     abbrev the_tree : Tree
     the_tree = record { name = o; decls = v; body = draft.block; end = e }
@@ -336,4 +361,8 @@ module _ (ls : List ProgramLine) (last : ℕ) (o : Option (List ℕ)) (v : Vec D
     tree_spelled = (subst (AreEntriesOf (program_lines (spelled_program the_tree))) (sym all_kept) (subst (λ es. AreEntriesOf es p.kept) grouped p.lines), (p.declared, p.sound.1))
       where
         grouped : (name_lines o ++ map numbered (map declaration_line v.items)) ++ draft_lines draft ≡ program_lines (spelled_program the_tree)
-        grouped = ap (λ es. (name_lines o ++ map numbered (map declaration_line v.items)) ++ es) last_lines ∙ sym (append_assoc (name_lines o ++ map numbered (map declaration_line v.items)) (block_lines (spelled_block draft.block.items)) (end_line (spelled_end e) ∷ []))
+        grouped =
+            ap (λ es. (name_lines o ++ map numbered (map declaration_line v.items)) ++ es) last_lines
+            ∙ sym
+            (append_assoc (name_lines o ++ map numbered (map declaration_line v.items)) (block_lines (spelled_block draft.block.items))
+            (end_line (spelled_end e) ∷ []))

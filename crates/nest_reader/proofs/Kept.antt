@@ -2,6 +2,8 @@
 use Rattle.std.proofs.Common.{◌≡◌, ℕ, Bool, true, false, not, ◌||◌, ◌&&◌, List, [], ◌∷◌, ◌++◌, Option, Some, None, refl, sym, ap, ◌∙◌}
 use Rattle.std.specs.Prelude.{if◌then◌else◌, ◌⊎◌}
 use Rattle.std.proofs.Common.{inl, inr}
+use Rattle.std.proofs.lemmas.Bool.{false_from_ne_true, not-false, or_parts}
+use Rattle.std.proofs.Math.Bool.{and-true, or-true}
 use Rattle.hpf_base.specs.declared.refusal.Reason.TheVariants as reason
 use Rattle.hpf_base.specs.Refusal.{NoBreach}
 use Rattle.nest_rules.specs.declared.role.Construct.TheVariants as construct
@@ -53,49 +55,41 @@ inner_declared role.SpecificationDirective h = absurd cc
 inner_declared role.Passed h = absurd cc
 inner_declared r h = refl
 
-pub or_false : (a b : Bool) → (a || b) ≡ false → (a ≡ false) × (b ≡ false)
-or_false false b h = (refl, h)
-or_false true b h = absurd cc
-
-pub and_false : (a : Bool) → (a && true) ≡ false → a ≡ false
-and_false true h = absurd cc
-and_false false h = refl
-
 -- what breaks no rule
 pub not_misplaced : (s : NestState) (last : ℕ) (l : ProgramLine) (rest : List ProgramLine) → NoBreach (BreachFrom s last (l ∷ rest)) → is_misplaced s (role_of l.what) ≡ false
-not_misplaced s last l rest free = falsely (is_misplaced s (role_of l.what)) (λ h. free l.number reason.BadNest (inl (refl, h)))
-  where
-    falsely : (b : Bool) → (b ≡ true → ⊥) → b ≡ false
-    falsely true f = absurd (f refl)
-    falsely false f = refl
+not_misplaced s last l rest free = false_from_ne_true (is_misplaced s (role_of l.what)) (λ h. free l.number reason.BadNest (inl (refl, h)))
 
-pub not_misdirected : (s : NestState) (last : ℕ) (l : ProgramLine) (rest : List ProgramLine) → NoBreach (BreachFrom s last (l ∷ rest)) → is_misdirected s (role_of l.what) (roles rest) ≡ false
-not_misdirected s last l rest free = falsely (is_misdirected s (role_of l.what) (roles rest)) (λ h. free l.number reason.BadDirective (inl (refl, h)))
-  where
-    falsely : (b : Bool) → (b ≡ true → ⊥) → b ≡ false
-    falsely true f = absurd (f refl)
-    falsely false f = refl
+pub not_misdirected : (s : NestState) (last : ℕ) (l : ProgramLine) (rest : List ProgramLine) → NoBreach (BreachFrom s last (l ∷ rest))
+    → is_misdirected s (role_of l.what) (roles rest) ≡ false
+not_misdirected s last l rest free = false_from_ne_true (is_misdirected s (role_of l.what) (roles rest)) (λ h. free l.number reason.BadDirective (inl (refl, h)))
 
-pub freed : (s : NestState) (last : ℕ) (l : ProgramLine) (rest : List ProgramLine) → NoBreach (BreachFrom s last (l ∷ rest)) → NoBreach (BreachFrom (state_behind s (role_of l.what)) last rest)
+pub freed : (s : NestState) (last : ℕ) (l : ProgramLine) (rest : List ProgramLine) → NoBreach (BreachFrom s last (l ∷ rest))
+    → NoBreach (BreachFrom (state_behind s (role_of l.what)) last rest)
 freed s last l rest free = λ line why h. free line why (inr h)
 
 module _ (s : NestState) (r : Role) (h : is_misplaced s r ≡ false) where
   first_four : (((closes_wrongly s.opens r || leaves_nothing s.opens r) || comes_late s r) || (in_where_or_forall s.opens && not (fits_where_or_forall r))) ≡ false
-  first_four = (or_false (((closes_wrongly s.opens r || leaves_nothing s.opens r) || comes_late s r) || (in_where_or_forall s.opens && not (fits_where_or_forall r))) (s.ended && not (is_passed r)) h).0
+  first_four =
+      (or_parts
+      (((closes_wrongly s.opens r || leaves_nothing s.opens r) || comes_late s r) || (in_where_or_forall s.opens && not (fits_where_or_forall r)))
+      (s.ended && not (is_passed r)) h).0
 
   first_three : ((closes_wrongly s.opens r || leaves_nothing s.opens r) || comes_late s r) ≡ false
-  first_three = (or_false ((closes_wrongly s.opens r || leaves_nothing s.opens r) || comes_late s r) (in_where_or_forall s.opens && not (fits_where_or_forall r)) first_four).0
+  first_three = (or_parts ((closes_wrongly s.opens r || leaves_nothing s.opens r) || comes_late s r) (in_where_or_forall s.opens && not (fits_where_or_forall r)) first_four).0
 
   pub placed : closes_wrongly s.opens r ≡ false
-  placed = (or_false (closes_wrongly s.opens r) (leaves_nothing s.opens r) (or_false (closes_wrongly s.opens r || leaves_nothing s.opens r) (comes_late s r) first_three).0).0
+  placed = (or_parts (closes_wrongly s.opens r) (leaves_nothing s.opens r) (or_parts (closes_wrongly s.opens r || leaves_nothing s.opens r) (comes_late s r) first_three).0).0
 
   pub in_time : comes_late s r ≡ false
-  in_time = (or_false (closes_wrongly s.opens r || leaves_nothing s.opens r) (comes_late s r) first_three).1
+  in_time = (or_parts (closes_wrongly s.opens r || leaves_nothing s.opens r) (comes_late s r) first_three).1
 
   pub going : is_passed r ≡ false → s.ended ≡ false
   going e =
-      let f = (or_false (((closes_wrongly s.opens r || leaves_nothing s.opens r) || comes_late s r) || (in_where_or_forall s.opens && not (fits_where_or_forall r))) (s.ended && not (is_passed r)) h).1 in
-      and_false s.ended (sym (ap (λ b. s.ended && not b) e) ∙ f)
+      let f =
+      (or_parts
+      (((closes_wrongly s.opens r || leaves_nothing s.opens r) || comes_late s r)
+      || (in_where_or_forall s.opens && not (fits_where_or_forall r))) (s.ended && not (is_passed r)) h).1 in
+      sym (and-true s.ended) ∙ (sym (ap (λ b. s.ended && not b) e) ∙ f)
 
 -- a pending INDEPENDENT lets no line pass that isn't passed over or that it stands before
 pub marked_here : (p : Option Clauses) (r : Role) (rs : List Role) → is_inner r ≡ true → IsMarked p (r ∷ rs) → fits_mark p r ≡ true
@@ -117,23 +111,16 @@ marked_behind (Some cs) role.SpecificationDirective rs h m = absurd cc
 marked_behind (Some cs) role.Passed rs h m = m
 marked_behind (Some cs) r rs h m = absurd cc
 
-truly : (b : Bool) → not b ≡ false → b ≡ true
-truly true h = refl
-truly false h = absurd cc
-
 -- what INDEPENDENT asks of the lines behind it
 pub marked_next : (s : NestState) (r : Role) (rs : List Role) → is_misdirected s r rs ≡ false → IsMarked (pending_behind r) rs
-marked_next s (role.Independent cs) rs h = truly (is_independent_target cs rs) (or_false (not s.stated && declaration_comes rs) _ h).1
+marked_next s (role.Independent cs) rs h = not-false (is_independent_target cs rs) (or_parts (not s.stated && declaration_comes rs) _ h).1
 marked_next s r rs h = tt
 
 -- behind a line that isn't a declaration, either the declarations are over or none comes before they are
-pub stated_next : (s : NestState) (r : Role) (rs : List Role) → is_inner r ≡ true → is_misdirected s r rs ≡ false → ((s.stated || is_statement r) ≡ true) ⊎ (declaration_comes rs ≡ false)
+pub stated_next : (s : NestState) (r : Role) (rs : List Role) → is_inner r ≡ true → is_misdirected s r rs ≡ false
+    → ((s.stated || is_statement r) ≡ true) ⊎ (declaration_comes rs ≡ false)
 stated_next s r rs i h = by_role r i h
   where
-    or_true : (b : Bool) → (b || true) ≡ true
-    or_true true = refl
-    or_true false = refl
-
     either : (b c : Bool) → (not b && c) ≡ false → ((b || false) ≡ true) ⊎ (c ≡ false)
     either true c h = inl refl
     either false c h = inr h
@@ -144,11 +131,12 @@ stated_next s r rs i h = by_role r i h
     by_role role.SpecificationDirective i h = absurd cc
     by_role role.Passed i h = absurd cc
     by_role role.Redistribute i h = either s.stated (declaration_comes rs) h
-    by_role (role.Independent cs) i h = either s.stated (declaration_comes rs) (or_false (not s.stated && declaration_comes rs) _ h).0
-    by_role r i h = inl (or_true s.stated)
+    by_role (role.Independent cs) i h = either s.stated (declaration_comes rs) (or_parts (not s.stated && declaration_comes rs) _ h).0
+    by_role r i h = inl (or-true s.stated)
 
 -- more lines on both sides, at the end
-pub are_behind : (x es fs : List Entry) (l : ProgramLine) → ((ls : List ProgramLine) → AreEntriesOf es ls → AreEntriesOf fs (ls ++ l ∷ [])) → (ls : List ProgramLine) → AreEntriesOf (x ++ es) ls → AreEntriesOf (x ++ fs) (ls ++ l ∷ [])
+pub are_behind : (x es fs : List Entry) (l : ProgramLine) → ((ls : List ProgramLine) → AreEntriesOf es ls → AreEntriesOf fs (ls ++ l ∷ []))
+    → (ls : List ProgramLine) → AreEntriesOf (x ++ es) ls → AreEntriesOf (x ++ fs) (ls ++ l ∷ [])
 are_behind [] es fs l f ls h = f ls h
 are_behind (e ∷ x) es fs l f [] h = absurd h
 are_behind (e ∷ x) es fs l f (k ∷ ls) h = (h.0, are_behind x es fs l f ls h.1)

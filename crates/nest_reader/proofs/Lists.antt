@@ -17,7 +17,9 @@ use Rattle.nest_reader.specs.Draft.{AreOpen, IsOpened, open_of, opened_lines, op
 
 pub block_push : (ss : List Stmt) (s : Stmt) → block_lines (spelled_block (ss ++ s ∷ [])) ≡ block_lines (spelled_block ss) ++ statement_lines (spelled_statement s)
 block_push [] s = append-nil (statement_lines (spelled_statement s))
-block_push (t ∷ ss) s = ap (λ l. statement_lines (spelled_statement t) ++ l) (block_push ss s) ∙ sym (append_assoc (statement_lines (spelled_statement t)) (block_lines (spelled_block ss)) (statement_lines (spelled_statement s)))
+block_push (t ∷ ss) s =
+    ap (λ l. statement_lines (spelled_statement t) ++ l) (block_push ss s)
+    ∙ sym (append_assoc (statement_lines (spelled_statement t)) (block_lines (spelled_block ss)) (statement_lines (spelled_statement s)))
 
 pub block_sound : (ss : List Stmt) (s : Stmt) → IsBlock (spelled_block ss) → IsStatement (spelled_statement s) → IsBlock (spelled_block (ss ++ s ∷ []))
 block_sound [] s h g = (g, tt)
@@ -49,14 +51,17 @@ more_push : (xs : List HeldArm) (a : HeldArm) → else_if_lines (spelled_if_bloc
 more_push [] a = refl
 more_push (struct-Arm n cond shape row glued ∷ xs) a =
     ap (λ l. (Some n, OfStatement (else_if glued (expression cond))) ∷ (block_lines (spelled_row row) ++ l)) (more_push xs a)
-    ∙ ap (λ l. (Some n, OfStatement (else_if glued (expression cond))) ∷ l) (sym (append_assoc (block_lines (spelled_row row)) (else_if_lines (spelled_if_blocks xs)) (else_if_lines (arm_before a NoIfBlock))))
+    ∙ ap (λ l. (Some n, OfStatement (else_if glued (expression cond))) ∷ l)
+    (sym (append_assoc (block_lines (spelled_row row)) (else_if_lines (spelled_if_blocks xs)) (else_if_lines (arm_before a NoIfBlock))))
 
 -- arms with one more behind them
-pub arms_push : (n : ℕ) (xs : List HeldArm) (a : HeldArm) → are_begun n xs ≡ true → if_lines (spelled_if_blocks (xs ++ a ∷ [])) ≡ if_lines (spelled_if_blocks xs) ++ else_if_lines (arm_before a NoIfBlock)
+pub arms_push : (n : ℕ) (xs : List HeldArm) (a : HeldArm) → are_begun n xs ≡ true
+    → if_lines (spelled_if_blocks (xs ++ a ∷ [])) ≡ if_lines (spelled_if_blocks xs) ++ else_if_lines (arm_before a NoIfBlock)
 arms_push n [] a h = absurd cc
 arms_push n (struct-Arm m cond shape row glued ∷ xs) a h =
     ap (λ l. (Some m, OfStatement (statements.Plain kind.IfThen (expression cond))) ∷ (block_lines (spelled_row row) ++ l)) (more_push xs a)
-    ∙ ap (λ l. (Some m, OfStatement (statements.Plain kind.IfThen (expression cond))) ∷ l) (sym (append_assoc (block_lines (spelled_row row)) (else_if_lines (spelled_if_blocks xs)) (else_if_lines (arm_before a NoIfBlock))))
+    ∙ ap (λ l. (Some m, OfStatement (statements.Plain kind.IfThen (expression cond))) ∷ l)
+    (sym (append_assoc (block_lines (spelled_row row)) (else_if_lines (spelled_if_blocks xs)) (else_if_lines (arm_before a NoIfBlock))))
 
 more_sound : (xs : List HeldArm) (a : HeldArm) → AreMore (spelled_if_blocks xs) → AreMore (arm_before a NoIfBlock) → AreMore (spelled_if_blocks (xs ++ a ∷ []))
 more_sound [] a h g = g

@@ -88,9 +88,13 @@ format_is (held_format.Cyclic k) = refl
 
 distribution_is : (d : DistSpec) → meant.distribution d.colons (directive_views.distribution_of d.colons d) ≡ directive.distribution d
 distribution_is d = cases d.colons where
-  cases : (many : Bool) → meant.distribution many (directive_views.distribution_of many d) ≡ record { names = directive.names_of many d.names; formats = map directive.format_of d.formats.items; onto = d.onto }
+  cases : (many : Bool)
+      → meant.distribution many (directive_views.distribution_of many d)
+      ≡ record { names = directive.names_of many d.names; formats = map directive.format_of d.formats.items; onto = d.onto }
   cases true = ap (λ fs. record { names = d.names; formats = fs; onto = d.onto }) (twice directive_views.format_of meant.format_of directive.format_of format_is d.formats.items)
-  cases false = ap (λ fs. record { names = directive.first_of d.names ∷ []; formats = fs; onto = d.onto }) (twice directive_views.format_of meant.format_of directive.format_of format_is d.formats.items)
+  cases false =
+      ap (λ fs. record { names = directive.first_of d.names ∷ []; formats = fs; onto = d.onto })
+      (twice directive_views.format_of meant.format_of directive.format_of format_is d.formats.items)
 
 -- ---- statements of one line
 
@@ -134,7 +138,9 @@ action_is n (Where' mask shape row None' true true) = tt {0}
 action_is n (Where' mask shape row None' false glued) = tt {0}
 action_is n (Where' mask shape row (Some' s r) one glued) = tt {0}
 action_is n (Forall' axes mask shape row true false false) = cases (assignment_in n row) (one_is n row) where
-  cases : (a : Option _) → AssignmentMeans n row a → ActionMeans n (Forall' axes mask shape row true false false) (option_map (views.forall_one (map statement_views.axis_of axes.items, option_map expression mask)) a)
+  cases : (a : Option _) → AssignmentMeans n row a
+      → ActionMeans n (Forall' axes mask shape row true false false)
+      (option_map (views.forall_one (map statement_views.axis_of axes.items, option_map expression mask)) a)
   cases None h = tt {0}
   cases (Some a) h = λ i. syntax.Forall (axes_are axes.items i) (option_map expression mask) (h i)
 action_is n (Forall' axes mask shape row true false true) = tt {0}
@@ -159,8 +165,13 @@ if_one_is : (n m : ℕ) (cond : Expr) (box : _) (k : HeldKind) (a : Option state
     StatementMeans n (IfOne' cond box m k) (views.if_one n (expression cond) m a)
 if_one_is n m cond box k None f h = absurd h.0
 if_one_is n m cond box k (Some v) f h = cases (nat_eq m n) refl h where
-  cases : (b : Bool) → nat_eq m n ≡ b → IsStatement (if b then nest.SimpleStatement record { number = n; what = OfStatement (statements.IfOne (expression cond) v.0 v.1) } else views.no_statement) →
-      StatementMeans n (IfOne' cond box m k) (if b then nest.SimpleStatement record { number = n; what = OfStatement (statements.IfOne (expression cond) v.0 v.1) } else views.no_statement)
+  cases : (b : Bool) → nat_eq m n ≡ b
+      → IsStatement
+      (if b
+      then nest.SimpleStatement record { number = n; what = OfStatement (statements.IfOne (expression cond) v.0 v.1) }
+      else views.no_statement) →
+      StatementMeans n (IfOne' cond box m k)
+      (if b then nest.SimpleStatement record { number = n; what = OfStatement (statements.IfOne (expression cond) v.0 v.1) } else views.no_statement)
   cases true e h = (
     refl,
     ap (λ s. syntax.If (syntax.Arm n (expression cond) (syntax.Then n s syntax.Done) syntax.NoArm) syntax.Without) f
@@ -168,7 +179,8 @@ if_one_is n m cond box k (Some v) f h = cases (nat_eq m n) refl h where
   )
   cases false e h = absurd h.0
 
-marked_is : (n : ℕ) (axes : Vec Header Global) (mask : Option Expr) (shape : _) (row : Row_of-Stmt _) (a : Option (Rattle.line_forms.specs.Grammar.Value Rattle.statement_reader.specs.Forms.assignment)) → AssignmentMeans n row a →
+marked_is : (n : ℕ) (axes : Vec Header Global) (mask : Option Expr) (shape : _) (row : Row_of-Stmt _)
+    (a : Option (Rattle.line_forms.specs.Grammar.Value Rattle.statement_reader.specs.Forms.assignment)) → AssignmentMeans n row a →
     IsStatement (views.marked_one n (map statement_views.axis_of axes.items, option_map expression mask) a) →
     StatementMeans n (Forall' axes mask shape row true false true) (views.marked_one n (map statement_views.axis_of axes.items, option_map expression mask) a)
 marked_is n axes mask shape row None f h = absurd h.0
@@ -221,7 +233,8 @@ mutual
   kind_is n (Forall' axes mask shape row false glued marked) h = (refl, λ i. syntax.Forall (axes_are axes.items i) (option_map expression mask) (assignments_are row h i))
   kind_is n (Forall' axes mask shape row true false true) h = marked_is n axes mask shape row (assignment_in n row) (one_is n row) h
   kind_is n (Forall' axes mask shape row true false false) h =
-      single_is n (Forall' axes mask shape row true false false) (action_in n (Forall' axes mask shape row true false false)) (action_is n (Forall' axes mask shape row true false false)) h
+      single_is n (Forall' axes mask shape row true false false) (action_in n (Forall' axes mask shape row true false false))
+      (action_is n (Forall' axes mask shape row true false false)) h
   kind_is n (Forall' axes mask shape row true true marked) h = absurd h.0
   kind_is n (Print items) h = single_is n (Print items) (action_in n (Print items)) (action_is n (Print items)) h
   kind_is n Stop h = (refl, refl)
@@ -270,11 +283,15 @@ entity_is : (e : Entity) → meant.entity_of (statement_views.entity_of e) ≡ d
 entity_is e = cases e.dims where
   cases : (dims : _) → meant.entity_of (statement_views.entity_of record e { dims = dims }) ≡ directive.entity (record e { dims = dims })
   cases None = refl
-  cases (Some bs) = ap (λ x. record { name = e.name; bounds = Some x; start = option_map expression e.start }) (twice parts.bound_of meant.bound_of directive.bound bound_is bs.items)
+  cases (Some bs) =
+      ap (λ x. record { name = e.name; bounds = Some x; start = option_map expression e.start })
+      (twice parts.bound_of meant.bound_of directive.bound bound_is bs.items)
 
 arranged_is : (e : Entity) → meant.arranged (directive_views.arrangement_of e) ≡ directive.arrangement e
 arranged_is e = cases e.start e.dims where
-  cases : (start : Option Expr) (dims : _) → meant.arranged (directive_views.arrangement_of record e { dims = dims; start = start }) ≡ directive.arrangement (record e { dims = dims; start = start })
+  cases : (start : Option Expr) (dims : _)
+      → meant.arranged (directive_views.arrangement_of record e { dims = dims; start = start })
+      ≡ directive.arrangement (record e { dims = dims; start = start })
   cases None None = refl
   cases None (Some bs) = ap (λ x. record { name = e.name; bounds = Some x; start = None }) (twice parts.bound_of meant.bound_of directive.bound bound_is bs.items)
   cases (Some x) dims = refl
@@ -288,18 +305,27 @@ target_is : (t : Target) → meant.target_of (directive_views.target_of t) ≡ d
 target_is (held_target.Sub s) = refl
 target_is held_target.Star = refl
 
-sources_are : (v : Option (Vec Source Global)) → option_map (map meant.source_of) (option_map (λ (v : Vec Source Global). map directive_views.source_of v.items) v) ≡ option_map (λ (v : Vec Source Global). map directive.source_of v.items) v
+sources_are : (v : Option (Vec Source Global))
+    → option_map (map meant.source_of) (option_map (λ (v : Vec Source Global). map directive_views.source_of v.items) v)
+    ≡ option_map (λ (v : Vec Source Global). map directive.source_of v.items) v
 sources_are None = refl
 sources_are (Some v) = ap Some (twice directive_views.source_of meant.source_of directive.source_of source_is v.items)
 
-targets_are : (v : Option (Vec Target Global)) → option_map (map meant.target_of) (option_map (λ (v : Vec Target Global). map directive_views.target_of v.items) v) ≡ option_map (λ (v : Vec Target Global). map directive.target_of v.items) v
+targets_are : (v : Option (Vec Target Global))
+    → option_map (map meant.target_of) (option_map (λ (v : Vec Target Global). map directive_views.target_of v.items) v)
+    ≡ option_map (λ (v : Vec Target Global). map directive.target_of v.items) v
 targets_are None = refl
 targets_are (Some v) = ap Some (twice directive_views.target_of meant.target_of directive.target_of target_is v.items)
 
 alignment_is : (a : AlignSpec) → meant.alignment a.colons (directive_views.alignment_of a.colons a) ≡ directive.alignment a
 alignment_is a = cases a.colons where
   cases : (many : Bool) → meant.alignment many (directive_views.alignment_of many a)
-      ≡ record { names = directive.names_of many a.names; sources = option_map (λ v. map directive.source_of v.items) a.source; target = a.target; subscripts = option_map (λ v. map directive.target_of v.items) a.subs }
+      ≡ record {
+        names = directive.names_of many a.names;
+        sources = option_map (λ v. map directive.source_of v.items) a.source;
+        target = a.target;
+        subscripts = option_map (λ v. map directive.target_of v.items) a.subs;
+      }
   cases true = λ i. record { names = a.names; sources = sources_are a.source i; target = a.target; subscripts = targets_are a.subs i }
   cases false = λ i. record { names = directive.first_of a.names ∷ []; sources = sources_are a.source i; target = a.target; subscripts = targets_are a.subs i }
 
@@ -311,7 +337,9 @@ directive_is (held_directive.Distribute d) = ap directive.Distribute (distributi
 directive_is (held_directive.Align a) = ap directive.Align (alignment_is a)
 directive_is held_directive.Passed = refl
 
-dims_are : (dims : Option (Vec Bound Global)) → option_map (map meant.bound_of) (option_map (λ (v : Vec Bound Global). map parts.bound_of v.items) dims) ≡ option_map (λ (bs : Vec Bound Global). map directive.bound bs.items) dims
+dims_are : (dims : Option (Vec Bound Global))
+    → option_map (map meant.bound_of) (option_map (λ (v : Vec Bound Global). map parts.bound_of v.items) dims)
+    ≡ option_map (λ (bs : Vec Bound Global). map directive.bound bs.items) dims
 dims_are None = refl
 dims_are (Some bs) = ap Some (twice parts.bound_of meant.bound_of directive.bound bound_is bs.items)
 
@@ -345,13 +373,20 @@ integer_is d = cases d.constant d.colons d.dims where
       → meant.type_declaration (statement_views.declaration_of record d { constant = constant; colons = colons; dims = dims })
       ≡ main.type_declaration (record d { constant = constant; colons = colons; dims = dims })
   cases true true dims h =
-      λ i. record { constant = true; bounds = dims_are dims i; entities = twice_some (λ e. HasList e.1.1) statement_views.constant_entity_of meant.constant_entity_of directive.entity constant_is d.entities.items h i }
+      λ i. record {
+        constant = true;
+        bounds = dims_are dims i;
+        entities =
+            twice_some (λ e. HasList e.1.1) statement_views.constant_entity_of meant.constant_entity_of directive.entity constant_is d.entities.items h
+            i;
+      }
   cases false true None h =
       ap (λ es. record { constant = false; bounds = None; entities = es }) (twice statement_views.entity_of meant.entity_of directive.entity entity_is d.entities.items)
   cases false true (Some bs) h =
       λ i. record { constant = false; bounds = dims_are (Some bs) i; entities = twice statement_views.entity_of meant.entity_of directive.entity entity_is d.entities.items i }
   cases false false None h =
-      ap (λ es. record { constant = false; bounds = None; entities = es }) (twice_some (λ e. HasBounds e.1) statement_views.plain_entity_of meant.plain_entity_of directive.entity plain_is d.entities.items h)
+      ap (λ es. record { constant = false; bounds = None; entities = es })
+      (twice_some (λ e. HasBounds e.1) statement_views.plain_entity_of meant.plain_entity_of directive.entity plain_is d.entities.items h)
   cases false false (Some bs) h = absurd h
   cases true false dims h = absurd h
 

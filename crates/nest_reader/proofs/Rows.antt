@@ -67,10 +67,16 @@ abbrev HeldLoop : Type 0
 HeldLoop = DoLoop-F HeldKind HeldArm DoLoop Stmt
 
 -- a DO construct
-pub loop_rolled : (n : ℕ) (x : HeldLoop) → spelled_do n (roll-DoLoop x) ≡ DoConstruct (option_map spelled_independent x.mark) n (x.index, (expression x.first, (expression x.last, option_map expression x.step))) (spelled_block x.body.items) x.glued
+pub loop_rolled : (n : ℕ) (x : HeldLoop)
+    → spelled_do n (roll-DoLoop x)
+    ≡ DoConstruct (option_map spelled_independent x.mark) n (x.index, (expression x.first, (expression x.last, option_map expression x.step)))
+    (spelled_block x.body.items) x.glued
 loop_rolled n x =
     ap (spelled_do n) (rolls-DoLoop' x)
-    ∙ ap (λ b. DoConstruct (option_map spelled_independent x.mark) n (x.index, (expression x.first, (expression x.last, option_map expression x.step))) b x.glued) (row_hidden x.body)
+    ∙ ap
+    (λ b.
+    DoConstruct (option_map spelled_independent x.mark) n (x.index, (expression x.first, (expression x.last, option_map expression x.step))) b
+    x.glued) (row_hidden x.body)
 
 abbrev PlainArm : Type 0
 PlainArm = Arm-F HeldKind HeldArm DoLoop Stmt

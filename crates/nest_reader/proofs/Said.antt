@@ -1,5 +1,5 @@
 -- What lines that are said say of declarations, and that the declarations of what they spell are said.
-use Rattle.std.proofs.Common.{◌≡◌, Bool, true, false, not, if◌then◌else◌, List, [], ◌∷◌, ◌++◌, map, Option, Some, None, All, refl, sym, subst, inl, inr}
+use Rattle.std.proofs.Common.{Bool, true, false, not, if◌then◌else◌, List, [], ◌∷◌, ◌++◌, map, Option, Some, None, All, sym, subst, inl, inr}
 use Rattle.std.proofs.lemmas.List.Elements.{All-head, All-tail}
 use Rattle.syntax_tree.specs.Expression.{Expression, Number, Truth, Name, Element, Call, Unary, Binary, Closed, End, More, kept}
 use Rattle.syntax_tree.specs.Spelling.{IsFormed}
@@ -12,7 +12,7 @@ use Rattle.nest_rules.specs.ProgramLine.{OfStatement, ProgramLine}
 use Rattle.nest_rules.specs.Roles.{role_of}
 use Rattle.nest_rules.specs.NestState.{is_passed}
 use Rattle.nest_reader.specs.Said.{IsSaid, AreSaid}
-use Rattle.nest_reader.specs.ProgramLines.{Entry, AreEntriesOf, IsSpelled, block_lines, end_line, from_name, has_name, is_declared, kept_behind_name, kept_lines, name_lines, numbered, without_passed}
+use Rattle.nest_reader.specs.ProgramLines.{Entry, AreEntriesOf, IsSpelled, end_line, from_name, has_name, is_declared, kept_behind_name, kept_lines, name_lines, numbered, without_passed}
 use Rattle.nest_reader.specs.SpelledProgram.{SpelledProgram}
 
 -- ---- declarations

@@ -121,23 +121,33 @@ else_if_same a b e f w h g = (sym (is a e) ∙ ap glued_in (h ∙ sym g) ∙ is 
     cond false e = refl
 
 abbrev SameBlock : SpelledBlock → Type 0
-SameBlock b = (c : SpelledBlock) (r q : List Entry) (ls : List ProgramLine) → IsBlock b → IsBlock c → nat_lt (starts r) 3 ≡ true → nat_lt (starts q) 3 ≡ true → AreEntriesOf (block_lines b ++ r) ls → AreEntriesOf (block_lines c ++ q) ls → Same b c r q
+SameBlock b =
+    (c : SpelledBlock) (r q : List Entry) (ls : List ProgramLine) → IsBlock b → IsBlock c → nat_lt (starts r) 3 ≡ true → nat_lt (starts q) 3 ≡ true
+    → AreEntriesOf (block_lines b ++ r) ls → AreEntriesOf (block_lines c ++ q) ls → Same b c r q
 
 abbrev SameStatement : SpelledStatement → Type 0
-SameStatement s = (t : SpelledStatement) (r q : List Entry) (ls : List ProgramLine) → IsStatement s → IsStatement t → AreEntriesOf (statement_lines s ++ r) ls → AreEntriesOf (statement_lines t ++ q) ls → Same s t r q
+SameStatement s =
+    (t : SpelledStatement) (r q : List Entry) (ls : List ProgramLine) → IsStatement s → IsStatement t → AreEntriesOf (statement_lines s ++ r) ls
+    → AreEntriesOf (statement_lines t ++ q) ls → Same s t r q
 
 -- behind arms no ELSE IF stands
 abbrev IsBehindArms : List Entry → Type 0
 IsBehindArms r = (nat_eq (starts r) 1 ≡ false) × (nat_lt (starts r) 3 ≡ true)
 
 abbrev SameFirst : IfBlocks → Type 0
-SameFirst a = (b : IfBlocks) (r q : List Entry) (ls : List ProgramLine) → AreArms a → AreArms b → IsBehindArms r → IsBehindArms q → AreEntriesOf (if_lines a ++ r) ls → AreEntriesOf (if_lines b ++ q) ls → Same a b r q
+SameFirst a =
+    (b : IfBlocks) (r q : List Entry) (ls : List ProgramLine) → AreArms a → AreArms b → IsBehindArms r → IsBehindArms q
+    → AreEntriesOf (if_lines a ++ r) ls → AreEntriesOf (if_lines b ++ q) ls → Same a b r q
 
 abbrev SameMore : IfBlocks → Type 0
-SameMore a = (b : IfBlocks) (r q : List Entry) (ls : List ProgramLine) → AreMore a → AreMore b → IsBehindArms r → IsBehindArms q → AreEntriesOf (else_if_lines a ++ r) ls → AreEntriesOf (else_if_lines b ++ q) ls → Same a b r q
+SameMore a =
+    (b : IfBlocks) (r q : List Entry) (ls : List ProgramLine) → AreMore a → AreMore b → IsBehindArms r → IsBehindArms q
+    → AreEntriesOf (else_if_lines a ++ r) ls → AreEntriesOf (else_if_lines b ++ q) ls → Same a b r q
 
 abbrev SameOther : ElsePart → Type 0
-SameOther a = (w : LineContent) (b : ElsePart) (r q : List Entry) (ls : List ProgramLine) → ((x : List Entry) → starts (unnumbered w ∷ x) ≡ 2) → IsOtherwise a → IsOtherwise b → starts r ≡ 0 → starts q ≡ 0 → AreEntriesOf (else_lines w a ++ r) ls → AreEntriesOf (else_lines w b ++ q) ls → Same a b r q
+SameOther a =
+    (w : LineContent) (b : ElsePart) (r q : List Entry) (ls : List ProgramLine) → ((x : List Entry) → starts (unnumbered w ∷ x) ≡ 2) → IsOtherwise a
+    → IsOtherwise b → starts r ≡ 0 → starts q ≡ 0 → AreEntriesOf (else_lines w a ++ r) ls → AreEntriesOf (else_lines w b ++ q) ls → Same a b r q
 
 -- blocks
 code_large : (s : SpelledStatement) → nat_lt (code s) 3 ≡ false
@@ -151,7 +161,8 @@ code_large (ForallConstruct false number head body glued) = refl
 code_large (ForallConstruct true number head body glued) = refl
 
 -- where a block goes on it doesn't end
-goes_on : {A : Type 0} (s : SpelledStatement) (b : SpelledBlock) (r q : List Entry) (ls : List ProgramLine) → IsStatement s → nat_lt (starts q) 3 ≡ true → AreEntriesOf ((statement_lines s ++ block_lines b) ++ r) ls → AreEntriesOf q ls → A
+goes_on : {A : Type 0} (s : SpelledStatement) (b : SpelledBlock) (r q : List Entry) (ls : List ProgramLine) → IsStatement s
+    → nat_lt (starts q) 3 ≡ true → AreEntriesOf ((statement_lines s ++ block_lines b) ++ r) ls → AreEntriesOf q ls → A
 goes_on s b r q ls is tail h g =
     let e = sym (statement_starts s (block_lines b ++ r) is) ∙ alike (statement_lines s ++ (block_lines b ++ r)) q ls (grouped (statement_lines s) (block_lines b) ls r h) g in
     false_true (sym (code_large s) ∙ ap (λ n. nat_lt n 3) e ∙ tail)
@@ -202,7 +213,9 @@ more_step n cond body glued arms f k (IfBlock n' cond' body' glued' arms') r q [
 more_step n cond body glued arms f k (IfBlock n' cond' body' glued' arms') r q (l ∷ ls) is it hr hq h g =
     let e = else_if_same glued glued' cond cond' l.what h.0.0 g.0.0 in
     let m = h.0.1 ∙ sym g.0.1 in
-    let x = f body' (else_if_lines arms ++ r) (else_if_lines arms' ++ q) ls is.0 it.0 (more_tail arms r hr.1) (more_tail arms' q hq.1) (grouped (block_lines body) (else_if_lines arms) ls r h.1) (grouped (block_lines body') (else_if_lines arms') ls q g.1) in
+    let x =
+    f body' (else_if_lines arms ++ r) (else_if_lines arms' ++ q) ls is.0 it.0 (more_tail arms r hr.1) (more_tail arms' q hq.1)
+    (grouped (block_lines body) (else_if_lines arms) ls r h.1) (grouped (block_lines body') (else_if_lines arms') ls q g.1) in
     let y = k arms' r q x.rest is.1 it.1 hr hq x.left x.right in
     record { same = λ i. IfBlock (m i) (e.1 i) (x.same i) (e.0 i) (y.same i); rest = y.rest; left = y.left; right = y.right }
 
@@ -217,7 +230,9 @@ first_step n cond body glued arms f k (IfBlock n' cond' body' glued' arms') r q 
     let e : cond ≡ cond' = ap cond_in (h.0.0 ∙ sym g.0.0) in
     let m = h.0.1 ∙ sym g.0.1 in
     let d : glued ≡ glued' = is.0 ∙ sym it.0 in
-    let x = f body' (else_if_lines arms ++ r) (else_if_lines arms' ++ q) ls is.1 it.1 (more_tail arms r hr.1) (more_tail arms' q hq.1) (grouped (block_lines body) (else_if_lines arms) ls r h.1) (grouped (block_lines body') (else_if_lines arms') ls q g.1) in
+    let x =
+    f body' (else_if_lines arms ++ r) (else_if_lines arms' ++ q) ls is.1 it.1 (more_tail arms r hr.1) (more_tail arms' q hq.1)
+    (grouped (block_lines body) (else_if_lines arms) ls r h.1) (grouped (block_lines body') (else_if_lines arms') ls q g.1) in
     let y = k arms' r q x.rest is.2 it.2 hr hq x.left x.right in
     record { same = λ i. IfBlock (m i) (e i) (x.same i) (d i) (y.same i); rest = y.rest; left = y.left; right = y.right }
 
@@ -244,10 +259,12 @@ kind_is (WhereConstruct number mask body other glued) = refl
 kind_is (ForallConstruct false number head body glued) = refl
 kind_is (ForallConstruct true number head body glued) = refl
 
-same_code : (s t : SpelledStatement) (r q : List Entry) (ls : List ProgramLine) → IsStatement s → IsStatement t → AreEntriesOf (statement_lines s ++ r) ls → AreEntriesOf (statement_lines t ++ q) ls → code s ≡ code t
+same_code : (s t : SpelledStatement) (r q : List Entry) (ls : List ProgramLine) → IsStatement s → IsStatement t
+    → AreEntriesOf (statement_lines s ++ r) ls → AreEntriesOf (statement_lines t ++ q) ls → code s ≡ code t
 same_code s t r q ls is it h g = sym (statement_starts s r is) ∙ alike (statement_lines s ++ r) (statement_lines t ++ q) ls h g ∙ statement_starts t q it
 
-same_kind : (s t : SpelledStatement) (r q : List Entry) (ls : List ProgramLine) → IsStatement s → IsStatement t → AreEntriesOf (statement_lines s ++ r) ls → AreEntriesOf (statement_lines t ++ q) ls → kind_code s ≡ kind_code t
+same_kind : (s t : SpelledStatement) (r q : List Entry) (ls : List ProgramLine) → IsStatement s → IsStatement t
+    → AreEntriesOf (statement_lines s ++ r) ls → AreEntriesOf (statement_lines t ++ q) ls → kind_code s ≡ kind_code t
 same_kind s t r q ls is it h g = sym (kind_is s) ∙ ap coarse (same_code s t r q ls is it h g) ∙ kind_is t
 
 single_step : (l : ProgramLine) → SameStatement (SimpleStatement l)
@@ -285,14 +302,22 @@ branches_step arms other glued f k (IfConstruct arms' other' glued') r q ls is i
     let y = k w other' e e' x.rest (λ x. refl) is.1 it.1 (end_if_starts glued r) (end_if_starts glued' q) x.left x.right in
     ends y.rest y.left y.right x.same y.same
   where
-    ends : (ls : List ProgramLine) → AreEntriesOf (unnumbered (OfStatement (end_if glued)) ∷ r) ls → AreEntriesOf (unnumbered (OfStatement (end_if glued')) ∷ q) ls → arms ≡ arms' → other ≡ other' → Same (IfConstruct arms other glued) (IfConstruct arms' other' glued') r q
+    ends : (ls : List ProgramLine) → AreEntriesOf (unnumbered (OfStatement (end_if glued)) ∷ r) ls
+        → AreEntriesOf (unnumbered (OfStatement (end_if glued')) ∷ q) ls → arms ≡ arms' → other ≡ other'
+        → Same (IfConstruct arms other glued) (IfConstruct arms' other' glued') r q
     ends [] h g x y = absurd h
     ends (l ∷ ls) h g x y = record { same = λ i. IfConstruct (x i) (y i) (end_if_same glued glued' l.what h.0.0 g.0.0 i); rest = ls; left = h.1; right = g.1 }
 branches_step arms other glued f k t r q ls is it h g = apart 2 (kind_code t) (same_kind (IfConstruct arms other glued) t r q ls is it h g) refl
 
 -- DO
 module _ (F : ℕ → Value do_head → SpelledBlock → Bool → SpelledStatement) where
-  loop_core : (n n' : ℕ) (head head' : Value do_head) (body body' : SpelledBlock) (glued glued' : Bool) → SameBlock body → (r q : List Entry) (ls : List ProgramLine) → IsBlock body → IsBlock body' → AreEntriesOf ((Some n, OfStatement (statements.Plain kind.Do head)) ∷ ((block_lines body ++ unnumbered (OfStatement (end_do glued)) ∷ []) ++ r)) ls → AreEntriesOf ((Some n', OfStatement (statements.Plain kind.Do head')) ∷ ((block_lines body' ++ unnumbered (OfStatement (end_do glued')) ∷ []) ++ q)) ls → Same (F n head body glued) (F n' head' body' glued') r q
+  loop_core : (n n' : ℕ) (head head' : Value do_head) (body body' : SpelledBlock) (glued glued' : Bool) → SameBlock body
+      → (r q : List Entry) (ls : List ProgramLine) → IsBlock body → IsBlock body'
+      → AreEntriesOf
+      ((Some n, OfStatement (statements.Plain kind.Do head)) ∷ ((block_lines body ++ unnumbered (OfStatement (end_do glued)) ∷ []) ++ r)) ls
+      → AreEntriesOf
+      ((Some n', OfStatement (statements.Plain kind.Do head')) ∷ ((block_lines body' ++ unnumbered (OfStatement (end_do glued')) ∷ []) ++ q)) ls
+      → Same (F n head body glued) (F n' head' body' glued') r q
   unfolding do_in
   loop_core n n' head head' body body' glued glued' f r q [] is it h g = absurd h
   loop_core n n' head head' body body' glued glued' f r q (l ∷ ls) is it h g =
@@ -303,11 +328,15 @@ module _ (F : ℕ → Value do_head → SpelledBlock → Bool → SpelledStateme
       (grouped (block_lines body) (unnumbered (OfStatement (end_do glued)) ∷ []) ls r h.1) (grouped (block_lines body') (unnumbered (OfStatement (end_do glued')) ∷ []) ls q g.1) in
       ends x.rest x.left x.right x.same (ap (do_in head) (h.0.0 ∙ sym g.0.0)) (h.0.1 ∙ sym g.0.1)
     where
-      ends : (ls : List ProgramLine) → AreEntriesOf (unnumbered (OfStatement (end_do glued)) ∷ r) ls → AreEntriesOf (unnumbered (OfStatement (end_do glued')) ∷ q) ls → body ≡ body' → head ≡ head' → n ≡ n' → Same (F n head body glued) (F n' head' body' glued') r q
+      ends : (ls : List ProgramLine) → AreEntriesOf (unnumbered (OfStatement (end_do glued)) ∷ r) ls
+          → AreEntriesOf (unnumbered (OfStatement (end_do glued')) ∷ q) ls → body ≡ body' → head ≡ head' → n ≡ n'
+          → Same (F n head body glued) (F n' head' body' glued') r q
       ends [] h g x y z = absurd h
       ends (l ∷ ls) h g x y z = record { same = λ i. F (z i) (y i) (x i) (end_do_same glued glued' l.what h.0.0 g.0.0 i); rest = ls; left = h.1; right = g.1 }
 
-mark_same : (m m' : SpelledIndependent) (l : ProgramLine) → IsEntryOf (Some m.number, OfDirective (directives.Known directive.Independent (names_in m.new, names_in m.reduction))) l → IsEntryOf (Some m'.number, OfDirective (directives.Known directive.Independent (names_in m'.new, names_in m'.reduction))) l → m ≡ m'
+mark_same : (m m' : SpelledIndependent) (l : ProgramLine)
+    → IsEntryOf (Some m.number, OfDirective (directives.Known directive.Independent (names_in m.new, names_in m.reduction))) l
+    → IsEntryOf (Some m'.number, OfDirective (directives.Known directive.Independent (names_in m'.new, names_in m'.reduction))) l → m ≡ m'
 unfolding new_in reduction_in
 mark_same m m' l h g =
     let e = h.0 ∙ sym g.0 in
@@ -315,10 +344,14 @@ mark_same m m' l h g =
     let reduction : m.reduction ≡ m'.reduction = sym (names_are m.reduction) ∙ ap reduction_in e ∙ names_are m'.reduction in
     λ i. record { number = (h.1 ∙ sym g.1) i; new = new i; reduction = reduction i }
 
-loop_step : (mark : Option SpelledIndependent) (n : ℕ) (head : Value do_head) (body : SpelledBlock) (glued : Bool) → SameBlock body → SameStatement (DoConstruct mark n head body glued)
+loop_step : (mark : Option SpelledIndependent) (n : ℕ) (head : Value do_head) (body : SpelledBlock) (glued : Bool) → SameBlock body
+    → SameStatement (DoConstruct mark n head body glued)
 loop_step mark n head body glued f (DoConstruct mark' n' head' body' glued') r q ls is it h g = by_marks mark mark' ls is it h g
   where
-    by_marks : (mark mark' : Option SpelledIndependent) (ls : List ProgramLine) → IsStatement (DoConstruct mark n head body glued) → IsStatement (DoConstruct mark' n' head' body' glued') → AreEntriesOf (statement_lines (DoConstruct mark n head body glued) ++ r) ls → AreEntriesOf (statement_lines (DoConstruct mark' n' head' body' glued') ++ q) ls → Same (DoConstruct mark n head body glued) (DoConstruct mark' n' head' body' glued') r q
+    by_marks : (mark mark' : Option SpelledIndependent) (ls : List ProgramLine) → IsStatement (DoConstruct mark n head body glued)
+        → IsStatement (DoConstruct mark' n' head' body' glued') → AreEntriesOf (statement_lines (DoConstruct mark n head body glued) ++ r) ls
+        → AreEntriesOf (statement_lines (DoConstruct mark' n' head' body' glued') ++ q) ls
+        → Same (DoConstruct mark n head body glued) (DoConstruct mark' n' head' body' glued') r q
     by_marks None None ls is it h g = loop_core (DoConstruct None) n n' head head' body body' glued glued' f r q ls is it h g
     by_marks None (Some m) ls is it h g = apart 6 7 (same_code (DoConstruct None n head body glued) (DoConstruct (Some m) n' head' body' glued') r q ls is it h g) refl
     by_marks (Some m) None ls is it h g = apart 7 6 (same_code (DoConstruct (Some m) n head body glued) (DoConstruct None n' head' body' glued') r q ls is it h g) refl
@@ -329,7 +362,8 @@ loop_step mark n head body glued f (DoConstruct mark' n' head' body' glued') r q
 loop_step mark n head body glued f t r q ls is it h g = apart 3 (kind_code t) (same_kind (DoConstruct mark n head body glued) t r q ls is it h g) refl
 
 -- WHERE
-masked_step : (n : ℕ) (mask : Expression) (body : SpelledBlock) (other : ElsePart) (glued : Bool) → SameBlock body → SameOther other → SameStatement (WhereConstruct n mask body other glued)
+masked_step : (n : ℕ) (mask : Expression) (body : SpelledBlock) (other : ElsePart) (glued : Bool) → SameBlock body → SameOther other
+    → SameStatement (WhereConstruct n mask body other glued)
 unfolding cond_in
 masked_step n mask body other glued f k (WhereConstruct n' mask' body' other' glued') r q [] is it h g = absurd h
 masked_step n mask body other glued f k (WhereConstruct n' mask' body' other' glued') r q (l ∷ ls) is it h g =
@@ -344,13 +378,23 @@ masked_step n mask body other glued f k (WhereConstruct n' mask' body' other' gl
     let y = k w other' e e' x.rest (λ x. refl) is.1 it.1 (end_where_starts glued r) (end_where_starts glued' q) x.left x.right in
     ends y.rest y.left y.right x.same y.same (ap cond_in (h.0.0 ∙ sym g.0.0)) (h.0.1 ∙ sym g.0.1)
   where
-    ends : (ls : List ProgramLine) → AreEntriesOf (unnumbered (OfStatement (end_where glued)) ∷ r) ls → AreEntriesOf (unnumbered (OfStatement (end_where glued')) ∷ q) ls → body ≡ body' → other ≡ other' → mask ≡ mask' → n ≡ n' → Same (WhereConstruct n mask body other glued) (WhereConstruct n' mask' body' other' glued') r q
+    ends : (ls : List ProgramLine) → AreEntriesOf (unnumbered (OfStatement (end_where glued)) ∷ r) ls
+        → AreEntriesOf (unnumbered (OfStatement (end_where glued')) ∷ q) ls → body ≡ body' → other ≡ other' → mask ≡ mask' → n ≡ n'
+        → Same (WhereConstruct n mask body other glued) (WhereConstruct n' mask' body' other' glued') r q
     ends [] h g x y z u = absurd h
     ends (l ∷ ls) h g x y z u = record { same = λ i. WhereConstruct (u i) (z i) (x i) (y i) (end_where_same glued glued' l.what h.0.0 g.0.0 i); rest = ls; left = h.1; right = g.1 }
 masked_step n mask body other glued f k t r q ls is it h g = apart 4 (kind_code t) (same_kind (WhereConstruct n mask body other glued) t r q ls is it h g) refl
 
 -- FORALL
-forall_core : (marked : Bool) (n n' : ℕ) (head head' : Value forall_head) (body body' : SpelledBlock) (glued glued' : Bool) → SameBlock body → (r q : List Entry) (ls : List ProgramLine) → IsBlock body → IsBlock body' → AreEntriesOf ((Some n, OfStatement (statements.Plain kind.Forall (head, None))) ∷ ((block_lines body ++ unnumbered (OfStatement (end_forall glued)) ∷ []) ++ r)) ls → AreEntriesOf ((Some n', OfStatement (statements.Plain kind.Forall (head', None))) ∷ ((block_lines body' ++ unnumbered (OfStatement (end_forall glued')) ∷ []) ++ q)) ls → Same (ForallConstruct marked n head body glued) (ForallConstruct marked n' head' body' glued') r q
+forall_core : (marked : Bool) (n n' : ℕ) (head head' : Value forall_head) (body body' : SpelledBlock) (glued glued' : Bool) → SameBlock body
+    → (r q : List Entry) (ls : List ProgramLine) → IsBlock body → IsBlock body'
+    → AreEntriesOf
+    ((Some n, OfStatement (statements.Plain kind.Forall (head, None)))
+    ∷ ((block_lines body ++ unnumbered (OfStatement (end_forall glued)) ∷ []) ++ r)) ls
+    → AreEntriesOf
+    ((Some n', OfStatement (statements.Plain kind.Forall (head', None)))
+    ∷ ((block_lines body' ++ unnumbered (OfStatement (end_forall glued')) ∷ []) ++ q)) ls
+    → Same (ForallConstruct marked n head body glued) (ForallConstruct marked n' head' body' glued') r q
 unfolding forall_in
 forall_core marked n n' head head' body body' glued glued' f r q [] is it h g = absurd h
 forall_core marked n n' head head' body body' glued glued' f r q (l ∷ ls) is it h g =
@@ -358,17 +402,29 @@ forall_core marked n n' head head' body body' glued glued' f r q (l ∷ ls) is i
     let e' = unnumbered (OfStatement (end_forall glued')) ∷ q in
     let x =
     f body' e e' ls is it (ap (λ n. nat_lt n 3) (end_forall_starts glued r)) (ap (λ n. nat_lt n 3) (end_forall_starts glued' q))
-    (grouped (block_lines body) (unnumbered (OfStatement (end_forall glued)) ∷ []) ls r h.1) (grouped (block_lines body') (unnumbered (OfStatement (end_forall glued')) ∷ []) ls q g.1) in
+    (grouped (block_lines body) (unnumbered (OfStatement (end_forall glued)) ∷ []) ls r h.1)
+    (grouped (block_lines body') (unnumbered (OfStatement (end_forall glued')) ∷ []) ls q g.1) in
     ends x.rest x.left x.right x.same (ap (forall_in head) (h.0.0 ∙ sym g.0.0)) (h.0.1 ∙ sym g.0.1)
   where
-    ends : (ls : List ProgramLine) → AreEntriesOf (unnumbered (OfStatement (end_forall glued)) ∷ r) ls → AreEntriesOf (unnumbered (OfStatement (end_forall glued')) ∷ q) ls → body ≡ body' → head ≡ head' → n ≡ n' → Same (ForallConstruct marked n head body glued) (ForallConstruct marked n' head' body' glued') r q
+    ends : (ls : List ProgramLine) → AreEntriesOf (unnumbered (OfStatement (end_forall glued)) ∷ r) ls
+        → AreEntriesOf (unnumbered (OfStatement (end_forall glued')) ∷ q) ls → body ≡ body' → head ≡ head' → n ≡ n'
+        → Same (ForallConstruct marked n head body glued) (ForallConstruct marked n' head' body' glued') r q
     ends [] h g x y z = absurd h
-    ends (l ∷ ls) h g x y z = record { same = λ i. ForallConstruct marked (z i) (y i) (x i) (end_forall_same glued glued' l.what h.0.0 g.0.0 i); rest = ls; left = h.1; right = g.1 }
+    ends (l ∷ ls) h g x y z = record {
+      same = λ i. ForallConstruct marked (z i) (y i) (x i) (end_forall_same glued glued' l.what h.0.0 g.0.0 i);
+      rest = ls;
+      left = h.1;
+      right = g.1;
+    }
 
 indexed_step : (marked : Bool) (n : ℕ) (head : Value forall_head) (body : SpelledBlock) (glued : Bool) → SameBlock body → SameStatement (ForallConstruct marked n head body glued)
 indexed_step marked n head body glued f (ForallConstruct marked' n' head' body' glued') r q ls is it h g = by_marks marked marked' ls is it h g
   where
-    by_marks : (marked marked' : Bool) (ls : List ProgramLine) → IsStatement (ForallConstruct marked n head body glued) → IsStatement (ForallConstruct marked' n' head' body' glued') → AreEntriesOf (statement_lines (ForallConstruct marked n head body glued) ++ r) ls → AreEntriesOf (statement_lines (ForallConstruct marked' n' head' body' glued') ++ q) ls → Same (ForallConstruct marked n head body glued) (ForallConstruct marked' n' head' body' glued') r q
+    by_marks : (marked marked' : Bool) (ls : List ProgramLine) → IsStatement (ForallConstruct marked n head body glued)
+        → IsStatement (ForallConstruct marked' n' head' body' glued')
+        → AreEntriesOf (statement_lines (ForallConstruct marked n head body glued) ++ r) ls
+        → AreEntriesOf (statement_lines (ForallConstruct marked' n' head' body' glued') ++ q) ls
+        → Same (ForallConstruct marked n head body glued) (ForallConstruct marked' n' head' body' glued') r q
     by_marks false false ls is it h g = forall_core false n n' head head' body body' glued glued' f r q ls is it h g
     by_marks false true ls is it h g = apart 9 10 (same_code (ForallConstruct false n head body glued) (ForallConstruct true n' head' body' glued') r q ls is it h g) refl
     by_marks true false ls is it h g = apart 10 9 (same_code (ForallConstruct true n head body glued) (ForallConstruct false n' head' body' glued') r q ls is it h g) refl
@@ -411,7 +467,9 @@ declared_starts l r h = by_role (role_of l.what) (entry_roles r) h
     by_role role.Passed rs h = refl
     by_role k rs h = absurd cc
 
-same_declarations : (ds es : List ProgramLine) (r q : List Entry) (ls : List ProgramLine) → AreDeclared ds → AreDeclared es → nat_eq (starts r) 11 ≡ false → nat_eq (starts q) 11 ≡ false → AreEntriesOf (map numbered ds ++ r) ls → AreEntriesOf (map numbered es ++ q) ls → Same ds es r q
+same_declarations : (ds es : List ProgramLine) (r q : List Entry) (ls : List ProgramLine) → AreDeclared ds → AreDeclared es
+    → nat_eq (starts r) 11 ≡ false → nat_eq (starts q) 11 ≡ false → AreEntriesOf (map numbered ds ++ r) ls → AreEntriesOf (map numbered es ++ q) ls
+    → Same ds es r q
 same_declarations [] [] r q ls is it hr hq h g = record { same = refl; rest = ls; left = h; right = g }
 same_declarations [] (e ∷ es) r q ls is it hr hq h g = apart (starts r) 11 (alike r (numbered e ∷ (map numbered es ++ q)) ls h g ∙ declared_starts e (map numbered es ++ q) it.0) hr
 same_declarations (d ∷ ds) [] r q ls is it hr hq h g = apart (starts q) 11 (alike q (numbered d ∷ (map numbered ds ++ r)) ls g h ∙ declared_starts d (map numbered ds ++ r) is.0) hq
@@ -449,7 +507,8 @@ block_starts n (StatementThen s b) e is h z =
     ∙ ap (λ m. nat_eq m n) (statement_starts s (block_lines b ++ end_line e ∷ []) is.0)
     ∙ code_small n s h
 
-body_starts : (ds : List ProgramLine) (b : SpelledBlock) (e : ProgramEnd) → AreDeclared ds → IsBlock b → nat_eq (starts (map numbered ds ++ (block_lines b ++ end_line e ∷ []))) 12 ≡ false
+body_starts : (ds : List ProgramLine) (b : SpelledBlock) (e : ProgramEnd) → AreDeclared ds → IsBlock b
+    → nat_eq (starts (map numbered ds ++ (block_lines b ++ end_line e ∷ []))) 12 ≡ false
 body_starts [] b e is it = block_starts 12 b e it refl refl
 body_starts (d ∷ ds) b e is it = ap (λ n. nat_eq n 12) (declared_starts d (map numbered ds ++ (block_lines b ++ end_line e ∷ [])) is.0)
 
@@ -461,7 +520,8 @@ end_in : LineContent → Option (Option (List ℕ))
 end_in (OfStatement (statements.Plain kind.End v)) = v
 end_in w = None
 
-same_name : (n m : Option (List ℕ)) (r q : List Entry) (ls : List ProgramLine) → nat_eq (starts r) 12 ≡ false → nat_eq (starts q) 12 ≡ false → AreEntriesOf (name_lines n ++ r) ls → AreEntriesOf (name_lines m ++ q) ls → Same n m r q
+same_name : (n m : Option (List ℕ)) (r q : List Entry) (ls : List ProgramLine) → nat_eq (starts r) 12 ≡ false → nat_eq (starts q) 12 ≡ false
+    → AreEntriesOf (name_lines n ++ r) ls → AreEntriesOf (name_lines m ++ q) ls → Same n m r q
 unfolding name_in
 same_name None None r q ls hr hq h g = record { same = refl; rest = ls; left = h; right = g }
 same_name None (Some y) r q ls hr hq h g = apart (starts r) 12 (alike r (name_lines (Some y) ++ q) ls h g) hr
@@ -487,7 +547,9 @@ same_program p q is it ls h g =
     (body_starts p.declarations p.body p.finish is.0 is.1) (body_starts q.declarations q.body q.finish it.0 it.1)
     (regrouped (name_lines p.name) (map numbered p.declarations) (block_lines p.body) e (kept_lines ls) h)
     (regrouped (name_lines q.name) (map numbered q.declarations) (block_lines q.body) e' (kept_lines ls) g) in
-    let y = same_declarations p.declarations q.declarations (block_lines p.body ++ e) (block_lines q.body ++ e') x.rest is.0 it.0 (block_starts 11 p.body p.finish is.1 refl refl) (block_starts 11 q.body q.finish it.1 refl refl) x.left x.right in
+    let y =
+    same_declarations p.declarations q.declarations (block_lines p.body ++ e) (block_lines q.body ++ e') x.rest is.0 it.0
+    (block_starts 11 p.body p.finish is.1 refl refl) (block_starts 11 q.body q.finish it.1 refl refl) x.left x.right in
     let z = same_block p.body q.body e e' y.rest is.1 it.1 refl refl y.left y.right in
     let u = same_end p.finish q.finish z.rest z.left z.right in
     λ i. record { name = x.same i; declarations = y.same i; body = z.same i; finish = u i }

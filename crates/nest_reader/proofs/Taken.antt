@@ -1,6 +1,7 @@
 -- A line behind a draft, case by case.
 use Rattle.std.proofs.Common.{◌≡◌, ℕ, Bool, true, false, not, ◌||◌, List, [], ◌∷◌, ◌++◌, Option, Some, None, option_map, is_some, refl, sym, ap, ◌∙◌, subst, append_assoc, append-nil}
 use Rattle.std.specs.Prelude.{if◌then◌else◌, IfSome, IfOk, Result, Ok, Err}
+use Rattle.std.proofs.lemmas.Bool.{not-false}
 use Rattle.syntax_tree.specs.declared.decl.EndForm.{EndForm}
 use Rattle.syntax_tree.specs.declared.stmt.Mark.{Mark as HeldMark}
 use Rattle.syntax_tree.specs.declared.stmt.Stmt.{Stmt}
@@ -31,10 +32,10 @@ use Rattle.nest_reader.specs.declared.draft.Draft.{Draft}
 use Rattle.nest_reader.specs.declared.draft.Open.{Open as HeldOpen}
 use Rattle.nest_reader.specs.declared.draft.Opened.{Opened}
 use Rattle.nest_reader.specs.declared.draft.Opened.TheVariants as opened
-use Rattle.nest_reader.specs.Views.{spelled_block, spelled_end, spelled_independent, spelled_statement}
+use Rattle.nest_reader.specs.Views.{spelled_block, spelled_end, spelled_statement}
 use Rattle.nest_reader.specs.Formed.{IsBlock, IsStatement, is_whole}
-use Rattle.nest_reader.specs.ProgramLines.{Entry, IsEntryOf, AreEntriesOf, bare_independent_lines, block_lines, else_if, end_line, independent_lines, numbered, unnumbered, statement_lines}
-use Rattle.nest_reader.specs.Draft.{AreOpen, IsAppended, IsBehind, IsDraft, IsEnded, IsNested, IsOpened, Status, Takes, base_lines, draft_lines, end_lines, end_part, fits_mark, clauses_in, innermost, is_inner, opened_lines, opens_lines, open_of, shape, status, status_behind}
+use Rattle.nest_reader.specs.ProgramLines.{Entry, IsEntryOf, AreEntriesOf, bare_independent_lines, block_lines, else_if, end_line, numbered, unnumbered, statement_lines}
+use Rattle.nest_reader.specs.Draft.{AreOpen, IsAppended, IsBehind, IsDraft, IsEnded, IsNested, IsOpened, Status, Takes, base_lines, draft_lines, end_lines, end_part, fits_mark, clauses_in, innermost, is_inner, opened_lines, opens_lines, open_of, shape, status, status_behind, mark_lines}
 use Rattle.nest_reader.specs.NextLine.{action_line, finish_line, if_line, independent_line, statement_line, single_or_marked}
 use Rattle.nest_reader.proofs.Lists.{are_push, opens_push, open_front, open_last, shape_push}
 
@@ -58,7 +59,8 @@ mark_none None r h g = refl
 mark_none (Some m) r h g = let e : is_independent_target clauses.Absent (r ∷ []) ≡ true = takes_either (clauses_in m) r h in absurd cc
 
 -- and one without clauses is where FORALL comes
-pub bare : (m : Option HeldMark) → (r : Role) → ((cs : Clauses) → is_independent_target cs (r ∷ []) ≡ is_absent cs) → fits_mark (option_map clauses_in m) r ≡ true → IfSome m (λ m. clauses_in m ≡ clauses.Absent)
+pub bare : (m : Option HeldMark) → (r : Role) → ((cs : Clauses) → is_independent_target cs (r ∷ []) ≡ is_absent cs)
+    → fits_mark (option_map clauses_in m) r ≡ true → IfSome m (λ m. clauses_in m ≡ clauses.Absent)
 bare None r e h = tt
 bare (Some m) r e h = absent (clauses_in m) (sym (e (clauses_in m)) ∙ h)
   where
@@ -66,7 +68,11 @@ bare (Some m) r e h = absent (clauses_in m) (sym (e (clauses_in m)) ∙ h)
     absent clauses.Absent h = refl
     absent clauses.Given h = absurd cc
 
-are_under : (x es fs : List Entry) → ((ls : List ProgramLine) → AreEntriesOf es ls → AreEntriesOf fs ls) → (ls : List ProgramLine) → AreEntriesOf (x ++ es) ls → AreEntriesOf (x ++ fs) ls
+-- the lines of some entries are lines of others
+abbrev AreLooser : List Entry → List Entry → Type 0
+AreLooser es fs = (ls : List ProgramLine) → AreEntriesOf es ls → AreEntriesOf fs ls
+
+are_under : (x es fs : List Entry) → AreLooser es fs → (ls : List ProgramLine) → AreEntriesOf (x ++ es) ls → AreEntriesOf (x ++ fs) ls
 are_under [] es fs f ls h = f ls h
 are_under (e ∷ x) es fs f [] h = h
 are_under (e ∷ x) es fs f (l ∷ ls) h = (h.0, are_under x es fs f ls h.1)
@@ -79,39 +85,53 @@ no_names None None h = refl
 no_names None (Some y) h = absurd cc
 no_names (Some x) b h = absurd cc
 
-pub bare_under : (m : Option HeldMark) → IfSome m (λ m. clauses_in m ≡ clauses.Absent) → (ls : List ProgramLine) → AreEntriesOf (independent_lines (option_map spelled_independent m)) ls → AreEntriesOf (bare_independent_lines (is_some m)) ls
+pub bare_under : (m : Option HeldMark) → IfSome m (λ m. clauses_in m ≡ clauses.Absent) → (ls : List ProgramLine) → AreEntriesOf (mark_lines m) ls
+    → AreEntriesOf (bare_independent_lines (is_some m)) ls
 bare_under None h ls g = g
 bare_under (Some m) h [] g = g
 bare_under (Some m) h (l ∷ []) g = ((ap (λ v. OfDirective (directives.Known directive.Independent v)) (no_names (names_in m.new) (names_in m.reduction) h) ∙ g.0.0, tt), tt)
 bare_under (Some m) h (l ∷ k ∷ ls) g = absurd g.1
 
-pub none_under : (m : Option HeldMark) → m ≡ None → (ls : List ProgramLine) → AreEntriesOf (independent_lines (option_map spelled_independent m)) ls → AreEntriesOf [] ls
-none_under m e ls h = subst (λ m. AreEntriesOf (independent_lines (option_map spelled_independent m)) ls) e h
+pub none_under : (m : Option HeldMark) → m ≡ None → (ls : List ProgramLine) → AreEntriesOf (mark_lines m) ls → AreEntriesOf [] ls
+none_under m e ls h = subst (λ m. AreEntriesOf (mark_lines m) ls) e h
 
-step : (d b : Draft) (l : ProgramLine) (e : Entry) (ms : List Entry) → d.end ≡ None → ((ls : List ProgramLine) → AreEntriesOf (independent_lines (option_map spelled_independent d.mark)) ls → AreEntriesOf ms ls) → draft_lines b ≡ base_lines d ++ (ms ++ e ∷ []) → IsEntryOf e l → IsDraft b → status b ≡ status_behind (status d) (role_of l.what) → IsBehind d l b
+step : (d b : Draft) (l : ProgramLine) (e : Entry) (ms : List Entry) → d.end ≡ None → AreLooser (mark_lines d.mark) ms
+    → draft_lines b ≡ base_lines d ++ (ms ++ e ∷ []) → IsEntryOf e l → IsDraft b → status b ≡ status_behind (status d) (role_of l.what)
+    → IsBehind d l b
 step d b l e ms going under h is s t = record {
   lines = λ ls are.
-      let plain : AreEntriesOf (base_lines d ++ independent_lines (option_map spelled_independent d.mark)) ls =
-      subst (λ es. AreEntriesOf (base_lines d ++ es) ls) (append-nil (independent_lines (option_map spelled_independent d.mark))) (subst (λ o. AreEntriesOf (base_lines d ++ (independent_lines (option_map spelled_independent d.mark) ++ end_lines o)) ls) going are) in
-      let more : AreEntriesOf ((base_lines d ++ ms) ++ e ∷ []) (ls ++ l ∷ []) = are_push (base_lines d ++ ms) e ls l (are_under (base_lines d) (independent_lines (option_map spelled_independent d.mark)) ms under ls plain) is in
+      let plain : AreEntriesOf (base_lines d ++ mark_lines d.mark) ls =
+      subst (λ es. AreEntriesOf (base_lines d ++ es) ls) (append-nil (mark_lines d.mark))
+      (subst (λ o. AreEntriesOf (base_lines d ++ (mark_lines d.mark ++ end_lines o)) ls) going are) in
+      let more : AreEntriesOf ((base_lines d ++ ms) ++ e ∷ []) (ls ++ l ∷ []) =
+      are_push (base_lines d ++ ms) e ls l (are_under (base_lines d) (mark_lines d.mark) ms under ls plain) is in
       subst (λ es. AreEntriesOf es (ls ++ l ∷ [])) (append_assoc (base_lines d) ms (e ∷ []) ∙ sym h) more;
   sound = s;
   stands = t;
 }
 
 -- the first line of a construct
-pub opened_behind : (d b : Draft) (l : ProgramLine) (w : Opened) (e : Entry) (ms : List Entry) → is_some d.end ≡ false → ((ls : List ProgramLine) → AreEntriesOf (independent_lines (option_map spelled_independent d.mark)) ls → AreEntriesOf ms ls) → opened_lines w ≡ ms ++ e ∷ [] → IsEntryOf e l → record { opens = open_of w ∷ shape d.opens.items; pending = None; ended = false } ≡ status_behind (status d) (role_of l.what) → IsNested d.opens.items d.block.items w b → IsBehind d l b
+pub opened_behind : (d b : Draft) (l : ProgramLine) (w : Opened) (e : Entry) (ms : List Entry) → is_some d.end ≡ false
+    → AreLooser (mark_lines d.mark) ms → opened_lines w ≡ ms ++ e ∷ [] → IsEntryOf e l
+    → record { opens = open_of w ∷ shape d.opens.items; pending = None; ended = false } ≡ status_behind (status d) (role_of l.what)
+    → IsNested d.opens.items d.block.items w b → IsBehind d l b
 opened_behind d b l w e ms going under h is t n = step d b l e ms (none d.end going) under (n.lines ∙ ap (λ es. base_lines d ++ es) h) is n.sound (n.stands ∙ t)
 
 -- a statement that is whole in its line
-pub appended_behind : (d b : Draft) (l : ProgramLine) (s : Stmt) (e : Entry) (ms : List Entry) → is_some d.end ≡ false → ((ls : List ProgramLine) → AreEntriesOf (independent_lines (option_map spelled_independent d.mark)) ls → AreEntriesOf ms ls) → statement_lines (spelled_statement s) ≡ ms ++ e ∷ [] → IsEntryOf e l → record { opens = shape d.opens.items; pending = None; ended = false } ≡ status_behind (status d) (role_of l.what) → IsAppended d.opens.items d.block.items s b → IsBehind d l b
+pub appended_behind : (d b : Draft) (l : ProgramLine) (s : Stmt) (e : Entry) (ms : List Entry) → is_some d.end ≡ false
+    → AreLooser (mark_lines d.mark) ms → statement_lines (spelled_statement s) ≡ ms ++ e ∷ [] → IsEntryOf e l
+    → record { opens = shape d.opens.items; pending = None; ended = false } ≡ status_behind (status d) (role_of l.what)
+    → IsAppended d.opens.items d.block.items s b → IsBehind d l b
 appended_behind d b l s e ms going under h is t n = step d b l e ms (none d.end going) under (n.lines ∙ ap (λ es. base_lines d ++ es) h) is n.sound (n.stands ∙ t)
 
 regroup : (a b c d e : List Entry) → (a ++ b) ++ ((c ++ d) ++ e) ≡ ((a ++ (b ++ c)) ++ d) ++ e
 regroup a b c d e = simp append_assoc
 
 -- a part of the innermost construct
-pub part_behind : (d b : Draft) (l : ProgramLine) (os : List HeldOpen) (o : HeldOpen) (e : Entry) (es : List Entry) → is_some d.end ≡ false → d.mark ≡ None → d.opens.items ≡ os ++ o ∷ [] → draft_lines b ≡ (opens_lines os ++ block_lines (spelled_block o.before.items)) ++ es → es ≡ (opened_lines o.what ++ block_lines (spelled_block d.block.items)) ++ e ∷ [] → IsEntryOf e l → IsDraft b → status b ≡ status_behind (status d) (role_of l.what) → IsBehind d l b
+pub part_behind : (d b : Draft) (l : ProgramLine) (os : List HeldOpen) (o : HeldOpen) (e : Entry) (es : List Entry) → is_some d.end ≡ false
+    → d.mark ≡ None → d.opens.items ≡ os ++ o ∷ [] → draft_lines b ≡ (opens_lines os ++ block_lines (spelled_block o.before.items)) ++ es
+    → es ≡ (opened_lines o.what ++ block_lines (spelled_block d.block.items)) ++ e ∷ [] → IsEntryOf e l → IsDraft b
+    → status b ≡ status_behind (status d) (role_of l.what) → IsBehind d l b
 part_behind d b l os o e es going unmarked innermost h g is s t =
     step d b l e [] (none d.end going) (none_under d.mark unmarked)
     (h
@@ -123,7 +143,8 @@ part_behind d b l os o e es going unmarked innermost h g is s t =
     t
 
 -- whole lines open and close nothing
-pub whole_stands : (os : List Open) (p : Option Clauses) (ended : Bool) (r : Role) → is_whole r ≡ true → record { opens = os; pending = None; ended = false } ≡ status_behind record { opens = os; pending = p; ended = ended } r
+pub whole_stands : (os : List Open) (p : Option Clauses) (ended : Bool) (r : Role) → is_whole r ≡ true
+    → record { opens = os; pending = None; ended = false } ≡ status_behind record { opens = os; pending = p; ended = ended } r
 whole_stands os p ended role.Assign h = refl
 whole_stands os p ended (role.One c) h = refl
 whole_stands os p ended role.Jump h = refl
@@ -142,12 +163,9 @@ pub inside : (d : Draft) (os : List HeldOpen) (o : HeldOpen) → IsDraft d → d
 inside d os o s e = open_last os o (subst AreOpen e s.0)
 
 -- it has no ELSE yet where one comes
-pub takes_part : (d : Draft) (os : List HeldOpen) (o : HeldOpen) (c : Construct) → d.opens.items ≡ os ++ o ∷ [] → not (takes_else c (shape d.opens.items)) ≡ false → takes_else c (open_of o.what ∷ []) ≡ true
-takes_part d os o c e h = truly (takes_else c (open_of o.what ∷ [])) (sym (ap (λ os. not (takes_else c os)) (shaped d os o e)) ∙ h)
-  where
-    truly : (b : Bool) → not b ≡ false → b ≡ true
-    truly true h = refl
-    truly false h = absurd cc
+pub takes_part : (d : Draft) (os : List HeldOpen) (o : HeldOpen) (c : Construct) → d.opens.items ≡ os ++ o ∷ []
+    → not (takes_else c (shape d.opens.items)) ≡ false → takes_else c (open_of o.what ∷ []) ≡ true
+takes_part d os o c e h = not-false (takes_else c (open_of o.what ∷ [])) (sym (ap (λ os. not (takes_else c os)) (shaped d os o e)) ∙ h)
 
 pub takes_if : (w : Opened) → takes_else construct.If (open_of w ∷ []) ≡ true → open_of w ≡ record { construct = construct.If; otherwise = false }
 takes_if (opened.If n cond) h = refl
@@ -206,7 +224,8 @@ marked_one clauses.Given (role.One construct.Forall) h g = absurd cc
 marked_one clauses.Absent (role.One construct.Forall) h g = (refl, refl)
 marked_one cs r h g = absurd cc
 
-pub marked_sound : (m : Option HeldMark) (l : ProgramLine) → is_whole (role_of l.what) ≡ true → fits_mark (option_map clauses_in m) (role_of l.what) ≡ true → IsStatement (single_or_marked (is_some m) l)
+pub marked_sound : (m : Option HeldMark) (l : ProgramLine) → is_whole (role_of l.what) ≡ true
+    → fits_mark (option_map clauses_in m) (role_of l.what) ≡ true → IsStatement (single_or_marked (is_some m) l)
 marked_sound None l h g = h
 marked_sound (Some m) l h g = (marked_one (clauses_in m) (role_of l.what) h g).0
 
@@ -223,17 +242,25 @@ marked_lines true l = refl
 marked_lines false l = refl
 
 -- ELSE IF, ELSE or ELSEWHERE: the innermost construct is told something more
-pub else_behind : (d b : Draft) (l : ProgramLine) (os : List HeldOpen) (o : HeldOpen) (w : Opened) (e : Entry) → is_some d.end ≡ false → d.mark ≡ None → d.opens.items ≡ os ++ o ∷ [] → opened_lines w ≡ (opened_lines o.what ++ block_lines (spelled_block d.block.items)) ++ e ∷ [] → IsEntryOf e l → record { opens = open_of w ∷ shape os; pending = None; ended = false } ≡ status_behind record { opens = open_of o.what ∷ shape os; pending = (status d).pending; ended = (status d).ended } (role_of l.what) → IsNested os o.before.items w b → IsBehind d l b
+pub else_behind : (d b : Draft) (l : ProgramLine) (os : List HeldOpen) (o : HeldOpen) (w : Opened) (e : Entry) → is_some d.end ≡ false → d.mark ≡ None
+    → d.opens.items ≡ os ++ o ∷ [] → opened_lines w ≡ (opened_lines o.what ++ block_lines (spelled_block d.block.items)) ++ e ∷ [] → IsEntryOf e l
+    → record { opens = open_of w ∷ shape os; pending = None; ended = false }
+    ≡ status_behind record { opens = open_of o.what ∷ shape os; pending = (status d).pending; ended = (status d).ended } (role_of l.what)
+    → IsNested os o.before.items w b → IsBehind d l b
 else_behind d b l os o w e going unmarked innermost h is t n =
     part_behind d b l os o e (opened_lines w) going unmarked innermost n.lines h is n.sound
     (n.stands ∙ t ∙ ap (λ os. status_behind record { opens = os; pending = (status d).pending; ended = (status d).ended } (role_of l.what)) (sym (shaped d os o innermost)))
 
 -- an END part
-pub end_behind : (d b : Draft) (n : ℕ) (glued : Bool) (os : List HeldOpen) (o : HeldOpen) (s : Stmt) → Takes (status d) (role.Closes (innermost (shape d.opens.items))) → d.opens.items ≡ os ++ o ∷ [] → IsEnded o.what (spelled_block d.block.items) glued (spelled_statement s) → IsAppended os o.before.items s b → IsBehind d (statement_line n (end_part (innermost (shape d.opens.items)) glued)) b
+pub end_behind : (d b : Draft) (n : ℕ) (glued : Bool) (os : List HeldOpen) (o : HeldOpen) (s : Stmt)
+    → Takes (status d) (role.Closes (innermost (shape d.opens.items))) → d.opens.items ≡ os ++ o ∷ []
+    → IsEnded o.what (spelled_block d.block.items) glued (spelled_statement s) → IsAppended os o.before.items s b
+    → IsBehind d (statement_line n (end_part (innermost (shape d.opens.items)) glued)) b
 end_behind d b n glued os o s takes e h a =
     let c = innermost (shape d.opens.items) in
     let same : (open_of o.what).construct ≡ c = sym (ap innermost (shaped d os o e)) in
-    part_behind d b (statement_line n (end_part c glued)) os o (unnumbered (OfStatement (end_part (open_of o.what).construct glued))) (statement_lines (spelled_statement s)) takes.going
+    part_behind d b (statement_line n (end_part c glued)) os o (unnumbered (OfStatement (end_part (open_of o.what).construct glued)))
+    (statement_lines (spelled_statement s)) takes.going
     (mark_none d.mark (role.Closes c) takes.marks refl) e a.lines h.lines
     (ap (λ c. OfStatement (end_part c glued)) same, tt)
     a.sound
@@ -248,11 +275,14 @@ end_behind d b n glued os o s takes e h a =
     same_is construct.Where = refl
     same_is construct.Forall = refl
 
-    closed : (o : Open) (os : List Open) (c : Construct) → c ≡ o.construct → record { opens = os; pending = None; ended = false } ≡ status_behind record { opens = o ∷ os; pending = (status d).pending; ended = (status d).ended } (role.Closes c)
+    closed : (o : Open) (os : List Open) (c : Construct) → c ≡ o.construct
+        → record { opens = os; pending = None; ended = false }
+        ≡ status_behind record { opens = o ∷ os; pending = (status d).pending; ended = (status d).ended } (role.Closes c)
     closed o os c e = ap (λ b. record { opens = if b then os else o ∷ os; pending = None; ended = false }) (sym (ap (λ c. same_construct c o.construct) e ∙ same_is o.construct))
 
 -- INDEPENDENT
-pub independent_behind : (d : Draft) (m : HeldMark) → IsDraft d → Takes (status d) (role.Independent (clauses_in m)) → IsBehind d (independent_line m) record { opens = d.opens; block = d.block; mark = Some m; end = None }
+pub independent_behind : (d : Draft) (m : HeldMark) → IsDraft d → Takes (status d) (role.Independent (clauses_in m))
+    → IsBehind d (independent_line m) record { opens = d.opens; block = d.block; mark = Some m; end = None }
 independent_behind d m s takes =
     step d record { opens = d.opens; block = d.block; mark = Some m; end = None } (independent_line m) (Some m.line, (independent_line m).what) [] (none d.end takes.going)
     (none_under d.mark (mark_none d.mark (role.Independent (clauses_in m)) takes.marks refl))
@@ -267,7 +297,8 @@ empty_open (o ∷ os) h = full (shape os) h
     full (p ∷ ps) h = absurd cc
 
 -- END
-pub finish_behind : (d : Draft) (e : EndForm) → IsDraft d → Takes (status d) role.End → IsBehind d (finish_line e) record { opens = d.opens; block = d.block; mark = None; end = Some e }
+pub finish_behind : (d : Draft) (e : EndForm) → IsDraft d → Takes (status d) role.End
+    → IsBehind d (finish_line e) record { opens = d.opens; block = d.block; mark = None; end = Some e }
 finish_behind d e s takes =
     step d record { opens = d.opens; block = d.block; mark = None; end = Some e } (finish_line e) (end_line (spelled_end e)) [] (none d.end takes.going)
     (none_under d.mark (mark_none d.mark role.End takes.marks refl))
@@ -283,13 +314,18 @@ fresh c = record { construct = c; otherwise = false }
 abbrev standing : List Open → Status
 standing os = record { opens = os; pending = None; ended = false }
 
-pub if_stays : (o : Open) (os : List Open) (p : Option Clauses) (ended : Bool) (r : Role) → o ≡ fresh construct.If → r ≡ role.ElseIf → standing (fresh construct.If ∷ os) ≡ status_behind record { opens = o ∷ os; pending = p; ended = ended } r
+pub if_stays : (o : Open) (os : List Open) (p : Option Clauses) (ended : Bool) (r : Role) → o ≡ fresh construct.If → r ≡ role.ElseIf
+    → standing (fresh construct.If ∷ os) ≡ status_behind record { opens = o ∷ os; pending = p; ended = ended } r
 if_stays o os p ended r h e = ap (λ o. standing (o ∷ os)) (sym h) ∙ ap (status_behind record { opens = o ∷ os; pending = p; ended = ended }) (sym e)
 
-pub if_told : (o : Open) (os : List Open) (p : Option Clauses) (ended : Bool) → o ≡ fresh construct.If → standing (record { construct = construct.If; otherwise = true } ∷ os) ≡ status_behind record { opens = o ∷ os; pending = p; ended = ended } role.Else
+pub if_told : (o : Open) (os : List Open) (p : Option Clauses) (ended : Bool) → o ≡ fresh construct.If
+    → standing (record { construct = construct.If; otherwise = true } ∷ os)
+    ≡ status_behind record { opens = o ∷ os; pending = p; ended = ended } role.Else
 if_told o os p ended h = ap (λ o. status_behind record { opens = o ∷ os; pending = p; ended = ended } role.Else) (sym h)
 
-pub where_told : (o : Open) (os : List Open) (p : Option Clauses) (ended : Bool) → o ≡ fresh construct.Where → standing (record { construct = construct.Where; otherwise = true } ∷ os) ≡ status_behind record { opens = o ∷ os; pending = p; ended = ended } role.ElseWhere
+pub where_told : (o : Open) (os : List Open) (p : Option Clauses) (ended : Bool) → o ≡ fresh construct.Where
+    → standing (record { construct = construct.Where; otherwise = true } ∷ os)
+    ≡ status_behind record { opens = o ∷ os; pending = p; ended = ended } role.ElseWhere
 where_told o os p ended h = ap (λ o. status_behind record { opens = o ∷ os; pending = p; ended = ended } role.ElseWhere) (sym h)
 
 pub only_where : (w : Opened) → takes_else construct.Where (open_of w ∷ []) ≡ true → ((n : ℕ) (mask : Expr) → w ≡ opened.Where n mask → ⊥) → ⊥
@@ -346,5 +382,6 @@ mapping_outer (mapping.Distribute d) = refl
 mapping_outer (mapping.Align a) = refl
 mapping_outer mapping.Passed = refl
 
-pub close_is : (s : Status) (w v : Statement) (c : Construct) (glued : Bool) → w ≡ v → end_part c glued ≡ form_of v → Takes s (statement_role (form_of w)) → end_part (innermost s.opens) glued ≡ form_of w
+pub close_is : (s : Status) (w v : Statement) (c : Construct) (glued : Bool) → w ≡ v → end_part c glued ≡ form_of v
+    → Takes s (statement_role (form_of w)) → end_part (innermost s.opens) glued ≡ form_of w
 close_is s w v c glued is e h = close_form s (form_of w) c glued (e ∙ ap form_of (sym is)) h

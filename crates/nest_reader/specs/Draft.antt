@@ -28,15 +28,20 @@ use Rattle.nest_reader.specs.SpelledProgram.{SpelledBlock, SpelledStatement}
 use Rattle.nest_reader.specs.Formed.{IsBlock, IsStatement, AreArms}
 use Rattle.nest_reader.specs.ProgramLines.{Entry, AreEntriesOf, unnumbered, independent_lines, bare_independent_lines, block_lines, if_lines, statement_lines, else_if, end_if, end_do, end_where, end_forall, end_line}
 
+-- the line of INDEPENDENT before a statement, where it stands there
+abbrev pub mark_lines : Option HeldMark → List Entry
+mark_lines mark = independent_lines (option_map spelled_independent mark)
+
 -- the lines of an open construct before its innermost block
 abbrev pub opened_lines : Opened → List Entry
 opened_lines (opened.If n cond) = (Some n, OfStatement (statements.Plain kind.IfThen (expression cond))) ∷ []
 opened_lines (opened.ElseIf first arms n cond glued) = if_lines (spelled_if_blocks arms.items) ++ (Some n, OfStatement (else_if glued (expression cond))) ∷ []
 opened_lines (opened.Else first arms) = if_lines (spelled_if_blocks arms.items) ++ unnumbered (OfStatement (statements.Plain kind.Else tt)) ∷ []
-opened_lines (opened.Do n head mark) = independent_lines (option_map spelled_independent mark) ++ (Some n, OfStatement (statements.Plain kind.Do (do_of head))) ∷ []
+opened_lines (opened.Do n head mark) = mark_lines mark ++ (Some n, OfStatement (statements.Plain kind.Do (do_of head))) ∷ []
 opened_lines (opened.Where n mask) = (Some n, OfStatement (statements.Plain kind.Where (expression mask, None))) ∷ []
 opened_lines (opened.ElseWhere n mask body) =
-    (Some n, OfStatement (statements.Plain kind.Where (expression mask, None))) ∷ (block_lines (spelled_block body.items) ++ unnumbered (OfStatement (statements.Plain (kind.ElseWhere true) tt)) ∷ [])
+    (Some n, OfStatement (statements.Plain kind.Where (expression mask, None)))
+    ∷ (block_lines (spelled_block body.items) ++ unnumbered (OfStatement (statements.Plain (kind.ElseWhere true) tt)) ∷ [])
 opened_lines (opened.Forall n head marked) = bare_independent_lines marked ++ (Some n, OfStatement (statements.Plain kind.Forall (forall_of head, None))) ∷ []
 
 abbrev pub opens_lines : List HeldOpen → List Entry
@@ -52,7 +57,7 @@ abbrev pub base_lines : Draft → List Entry
 base_lines d = opens_lines d.opens.items ++ block_lines (spelled_block d.block.items)
 
 abbrev pub draft_lines : Draft → List Entry
-draft_lines d = base_lines d ++ (independent_lines (option_map spelled_independent d.mark) ++ end_lines d.end)
+draft_lines d = base_lines d ++ (mark_lines d.mark ++ end_lines d.end)
 
 -- the open constructs, the innermost one first
 abbrev pub open_of : Opened → Open

@@ -1,9 +1,10 @@
 -- What is found line by line is the first of the breaches.
 use Rattle.std.proofs.Common.{◌≡◌, ℕ, zero, suc, ◌+◌, ◌-◌, ◌∙◌, ap, length, take, drop, get_or, drop-cons, add-one, ◌<◌, ◌≤◌, ◌⊎◌, sym, inl, inr, max, Bool, true, false, List, [], ◌∷◌, Option, Some, None, refl, arith}
-use Rattle.std.specs.Prelude.{if◌then◌else◌, nat_lt, ◌||◌}
+use Rattle.std.specs.Prelude.{if◌then◌else◌, nat_lt}
 use Rattle.std.proofs.lemmas.Bool.Decides.{nat_tests}
 use Rattle.std.proofs.lemmas.Grind.{common_steps}
 use Rattle.std.proofs.lemmas.List.{drop_all, length-map}
+use Rattle.std.proofs.lemmas.Bool.{or_parts}
 use Rattle.hpf_base.specs.declared.refusal.Reason.{Reason}
 use Rattle.hpf_base.specs.declared.refusal.Reason.TheVariants as reason
 use Rattle.hpf_base.specs.declared.refusal.Refusal.{Refusal}
@@ -41,14 +42,16 @@ from_limit s r rs reason.Limit nest dir h = omega arith
 from_limit s r rs reason.LeftOut nest dir h = omega arith
 from_limit s r rs why nest dir h = absurd h
 
-from_left_out : (s : NestState) (r : Role) (rs : List Role) (why : Reason) → is_misplaced s r ≡ false → is_misdirected s r rs ≡ false → is_too_deep s.opens r ≡ false → Breaks s r rs why → 11 ≤ number_of why
+from_left_out : (s : NestState) (r : Role) (rs : List Role) (why : Reason) → is_misplaced s r ≡ false → is_misdirected s r rs ≡ false
+    → is_too_deep s.opens r ≡ false → Breaks s r rs why → 11 ≤ number_of why
 from_left_out s r rs reason.BadNest nest dir deep h = absurd cc
 from_left_out s r rs reason.BadDirective nest dir deep h = absurd cc
 from_left_out s r rs reason.Limit nest dir deep h = absurd cc
 from_left_out s r rs reason.LeftOut nest dir deep h = omega arith
 from_left_out s r rs why nest dir deep h = absurd h
 
-from_none : (s : NestState) (r : Role) (rs : List Role) (why : Reason) → is_misplaced s r ≡ false → is_misdirected s r rs ≡ false → is_too_deep s.opens r ≡ false → nests_where_or_forall s.opens r ≡ false → Breaks s r rs why → ⊥
+from_none : (s : NestState) (r : Role) (rs : List Role) (why : Reason) → is_misplaced s r ≡ false → is_misdirected s r rs ≡ false
+    → is_too_deep s.opens r ≡ false → nests_where_or_forall s.opens r ≡ false → Breaks s r rs why → ⊥
 from_none s r rs reason.BadNest nest dir deep mask h = absurd cc
 from_none s r rs reason.BadDirective nest dir deep mask h = absurd cc
 from_none s r rs reason.Limit nest dir deep mask h = absurd cc
@@ -57,7 +60,10 @@ from_none s r rs why nest dir deep mask h = h
 
 least_of_tests : (s : NestState) (r : Role) (rs : List Role) (a b c d : Bool)
     → is_misplaced s r ≡ a → is_misdirected s r rs ≡ b → is_too_deep s.opens r ≡ c → nests_where_or_forall s.opens r ≡ d
-    → IsLeastReason (Breaks s r rs) (if a then Some reason.BadNest else (if b then Some reason.BadDirective else (if c then Some reason.Limit else (if d then Some reason.LeftOut else None))))
+    → IsLeastReason (Breaks s r rs)
+    (if a
+    then Some reason.BadNest
+    else (if b then Some reason.BadDirective else (if c then Some reason.Limit else (if d then Some reason.LeftOut else None))))
 least_of_tests s r rs true b c d ea eb ec ed = (ea, λ why h. from_nest s r rs why h)
 least_of_tests s r rs false true c d ea eb ec ed = (eb, λ why h. from_directive s r rs why ea h)
 least_of_tests s r rs false false true d ea eb ec ed = (ec, λ why h. from_limit s r rs why ea eb h)
@@ -97,7 +103,8 @@ regroup_back A B C (inl a) = inl (inl a)
 regroup_back A B C (inr (inl b)) = inl (inr b)
 regroup_back A B C (inr (inr c)) = inr c
 
-found_is_first : (A : ℕ → Reason → Type 0) (best : Option Refusal) (s : NestState) (last : ℕ) (ls : List ProgramLine) → IsFirstOrNone A best → IsFirstOrNone (λ line why. A line why ⊎ BreachFrom s last ls line why) (found_from best s last ls)
+found_is_first : (A : ℕ → Reason → Type 0) (best : Option Refusal) (s : NestState) (last : ℕ) (ls : List ProgramLine) → IsFirstOrNone A best
+    → IsFirstOrNone (λ line why. A line why ⊎ BreachFrom s last ls line why) (found_from best s last ls)
 found_is_first A best s last [] h = first_both A (NoEnd s last) best _ h (end_is_first s last)
 found_is_first A best s last (l ∷ ls) h =
     first_same _ _ _ (λ line why. regroup _ _ _) (λ line why. regroup_back _ _ _)
@@ -162,7 +169,8 @@ module _ (lines : List HeldLine) (rs : List Role) (are : rs ≡ roles (lines_of 
   roles_left = rest_at rs i in_roles ∙ ap (drop (i + 1)) are ∙ roles_behind (i + 1) lines
 
 -- one more line behind those that some stand before
-pub found_next : (best : Option Refusal) (s : NestState) (last : ℕ) (lines : List HeldLine) (i : ℕ) (l : HeldLine) (r : Role) (left : List Role) (why : Option Reason) (here best' : Option Refusal) (s' : NestState)
+pub found_next : (best : Option Refusal) (s : NestState) (last : ℕ) (lines : List HeldLine) (i : ℕ) (l : HeldLine) (r : Role) (left : List Role)
+    (why : Option Reason) (here best' : Option Refusal) (s' : NestState)
     → i < length lines → l ≡ get_or lines i l
     → r ≡ role_of (content_of l.what)
     → left ≡ roles (lines_of (drop (i + 1) lines))
@@ -200,11 +208,7 @@ declares_behind rs ts i declared r same lt er no_statement h =
 
 -- before the first statement no line was one
 pub stated_before : (s s' : NestState) (r : Role) → s' ≡ state_behind s r → s'.stated ≡ false → (s.stated ≡ false) × (is_statement r ≡ false)
-stated_before s s' r es h = let h' = rw es at h in step s.stated (is_statement r) h'
-  where
-    step : (a b : Bool) → (a || b) ≡ false → (a ≡ false) × (b ≡ false)
-    step false b h = (refl, h)
-    step true b h = absurd cc
+stated_before s s' r es h = let h' = rw es at h in or_parts s.stated (is_statement r) h'
 
 -- no line is left
 pub found_end : (best : Option Refusal) (s : NestState) (last : ℕ) (lines : List HeldLine) (i most : ℕ) (why : Option Reason) (here best' : Option Refusal)

@@ -11,8 +11,10 @@ use Rattle.statement_reader.specs.Reading.{acting, line_of, statement}
 use Rattle.statement_reader.specs.Gives.{GivesWhole}
 use Rattle.statement_reader.specs.Views.{action_of, form_of}
 
-pub by_kind : (k : Kind) (ts : List Lexeme) (result : Result Statement ReadError) → statement_kind ts ≡ k → GivesWhole form_of result (line_of Limited k ts) → GivesWhole form_of result (statement ts)
+pub by_kind : (k : Kind) (ts : List Lexeme) (result : Result Statement ReadError) → statement_kind ts ≡ k
+    → GivesWhole form_of result (line_of Limited k ts) → GivesWhole form_of result (statement ts)
 by_kind k ts result h m = subst (λ k. GivesWhole form_of result (line_of Limited k ts)) (sym h) m
 
-pub by_action_kind : (k : Kind) (ts : List Lexeme) (result : Result Action ReadError) → statement_kind ts ≡ k → GivesWhole action_of result (acting Limited k ts) → GivesWhole action_of result (acting Limited (statement_kind ts) ts)
+pub by_action_kind : (k : Kind) (ts : List Lexeme) (result : Result Action ReadError) → statement_kind ts ≡ k
+    → GivesWhole action_of result (acting Limited k ts) → GivesWhole action_of result (acting Limited (statement_kind ts) ts)
 by_action_kind k ts result h m = subst (λ k. GivesWhole action_of result (acting Limited k ts)) (sym h) m

@@ -1,8 +1,10 @@
 -- The kind of a line in front of which a statement of a kind stands.
-use Rattle.std.proofs.Common.{◌≡◌, ℕ, Bool, true, false, ◌&&◌, ◌||◌, List, [], ◌∷◌, ◌++◌, drop, Some, None, refl, sym, ap, ◌∙◌, subst}
+use Rattle.std.proofs.Common.{◌≡◌, ℕ, true, false, ◌&&◌, List, [], ◌∷◌, ◌++◌, drop, Some, None, refl, sym, ap, ◌∙◌, subst}
 use Rattle.std.specs.Prelude.{codes, bytes_eq, if◌then◌else◌, not}
 use Rattle.std.specs.List.{list_all}
 use Rattle.std.proofs.lemmas.Slice.Eq.{bytes_eq-Decides}
+use Rattle.std.proofs.lemmas.Bool.{and_parts, both_ways, cond-false, false_from_ne_true, not-true}
+use Rattle.std.proofs.Math.Bool.{or-false}
 use Rattle.op_tables.specs.Words.{is_reserved}
 use Rattle.syntax_tree.specs.Lexeme.{Lexeme, Word}
 use Rattle.line_forms.specs.declared.depths.Depths.{Depths}
@@ -38,27 +40,18 @@ ll1_grammar k = refl
 
 -- a keyword isn't a name
 pub other_word : (w x : List ℕ) → is_reserved w ≡ true → is_reserved x ≡ false → bytes_eq w x ≡ false
-other_word w x hw hx = by_test (bytes_eq w x) refl
-  where
-    by_test : (b : Bool) → bytes_eq w x ≡ b → bytes_eq w x ≡ false
-    by_test true h = let same : w ≡ x = (bytes_eq-Decides w x).0 h in let clash : true ≡ false = sym hw ∙ ap is_reserved same ∙ hx in absurd cc
-    by_test false h = h
+other_word w x hw hx =
+    false_from_ne_true (bytes_eq w x) (λ h. both_ways (is_reserved x) hx (ap is_reserved (sym ((bytes_eq-Decides w x).0 h)) ∙ hw))
 
 no_key : (w x : List ℕ) (ts : List Lexeme) → is_reserved w ≡ true → is_reserved x ≡ false → starts (key w) (Word x ∷ ts) ≡ false
 no_key w x ts hw hx = ap (λ b. b && true) (other_word w x hw hx)
 
-outside : (table : List (List ℕ × Kind)) (k : Kind) (x : List ℕ) (ts : List Lexeme) → list_all (λ row. is_reserved row.0) table ≡ true → is_reserved x ≡ false → kind_in table k (Word x ∷ ts) ≡ k
+outside : (table : List (List ℕ × Kind)) (k : Kind) (x : List ℕ) (ts : List Lexeme) → list_all (λ row. is_reserved row.0) table ≡ true
+    → is_reserved x ≡ false → kind_in table k (Word x ∷ ts) ≡ k
 outside [] k x ts h hx = refl
 outside (row ∷ table) k x ts h hx =
-    let b = parts (is_reserved row.0) (list_all (λ row. is_reserved row.0) table) h in
+    let b = and_parts (is_reserved row.0) (list_all (λ row. is_reserved row.0) table) h in
     ap (λ b. if b then row.1 else kind_in table k (Word x ∷ ts)) (no_key row.0 x ts b.0 hx) ∙ outside table k x ts b.1 hx
-  where
-    parts : (a b : Bool) → (a && b) ≡ true → (a ≡ true) × (b ≡ true)
-    parts true b h = (refl, h)
-    parts false b h = absurd cc
-
-if_false : {A : Type 0} (b : Bool) (x y : A) → b ≡ false → (if b then x else y) ≡ y
-if_false b x y h = ap (λ b. if b then x else y) h
 
 -- a line that begins with a name is taken for an assignment
 pub kind_of_name : (x : List ℕ) (ts : List Lexeme) → is_reserved x ≡ false → statement_kind (Word x ∷ ts) ≡ kind.Assign
@@ -68,8 +61,8 @@ kind_of_name x ts hx =
     let of_construct : Kind = kind_in construct_words of_action all in
     let of_unit : Kind = kind_in unit_words of_construct all in
     let of_else : Kind = kind_in else_words kind.Else ts in
-    if_false (starts (key (codes "END")) all) (kind_in end_words kind.End ts) (if starts (key (codes "ELSE")) all then of_else else of_unit) (no_key (codes "END") x ts refl hx)
-    ∙ if_false (starts (key (codes "ELSE")) all) of_else of_unit (no_key (codes "ELSE") x ts refl hx)
+    cond-false (starts (key (codes "END")) all) (kind_in end_words kind.End ts) (if starts (key (codes "ELSE")) all then of_else else of_unit) (no_key (codes "END") x ts refl hx)
+    ∙ cond-false (starts (key (codes "ELSE")) all) of_else of_unit (no_key (codes "ELSE") x ts refl hx)
     ∙ outside unit_words of_construct x ts refl hx
     ∙ outside construct_words of_action x ts refl hx
     ∙ outside action_words kind.Assign x ts refl hx
@@ -89,11 +82,7 @@ pub record Named (ts : List Lexeme) : Type 0 where
   pub parts : ts ≡ Word name ∷ rest
 
 named : (ts : List Lexeme) → Begins (AnyName ∷ []) ts → Named ts
-named (Word x ∷ ts) b = record { name = x; rest = ts; free = free (is_reserved x) b; parts = refl }
-  where
-    free : (r : Bool) → (not r || false) ≡ true → r ≡ false
-    free true h = absurd cc
-    free false h = refl
+named (Word x ∷ ts) b = record { name = x; rest = ts; free = not-true (is_reserved x) (sym (or-false (not (is_reserved x))) ∙ b); parts = refl }
 named ts b = absurd cc
 
 module _ (depths : Depths) {A : Type 0} (z : A) where
@@ -106,21 +95,20 @@ module _ (depths : Depths) {A : Type 0} (z : A) where
       let u = unmapped (deep_front depths assignment v) (printed assignment v) (value_kept assignment v) (λ x. z) Ends (Begins (Finish ∷ [])) ts r ends_begin s in
       named ts (starting depths assignment (Finish ∷ []) refl v w ts u.0 u.1)
 
-  behind_key : (ks : List Lexeme) (g : Grammar) (v : Value g) (ts : List Lexeme) (r : Reading A) → StandsAs (preceded ks (deep_front depths g v)) (ks ++ printed g v) z Ends ts r → (us : List Lexeme) × (ts ≡ ks ++ us) × Stands g v us r
+  behind_key : (ks : List Lexeme) (g : Grammar) (v : Value g) (ts : List Lexeme) (r : Reading A)
+      → StandsAs (preceded ks (deep_front depths g v)) (ks ++ printed g v) z Ends ts r → (us : List Lexeme) × (ts ≡ ks ++ us) × Stands g v us r
   behind_key ks g v ts r s = behind_prefix ks (deep_front depths g v) (printed g v) z Ends ts r s
 
   -- a keyword stands in front
-  keyed : (k : Kind) (word : List ℕ) (v : Value (grammar k)) → first_set (grammar k) (Finish ∷ []) ≡ Exactly (key word) ∷ [] → IsWell (grammar k) v → (ts : List Lexeme) (r : Reading A) → Stands (grammar k) v ts r → ts ≡ key word ++ drop 1 ts
+  keyed : (k : Kind) (word : List ℕ) (v : Value (grammar k)) → first_set (grammar k) (Finish ∷ []) ≡ Exactly (key word) ∷ [] → IsWell (grammar k) v
+      → (ts : List Lexeme) (r : Reading A) → Stands (grammar k) v ts r → ts ≡ key word ++ drop 1 ts
   keyed k word v h w ts r s =
       let u = unmapped (deep_front depths (grammar k) v) (printed (grammar k) v) (value_kept (grammar k) v) (λ x. z) Ends (Begins (Finish ∷ [])) ts r ends_begin s in
-      starts_split (key word) ts (only (starts (key word) ts) (subst (λ fs. Begins fs ts) h (starting depths (grammar k) (Finish ∷ []) (ll1_grammar k) v w ts u.0 u.1)))
-    where
-      only : (b : Bool) → (b || false) ≡ true → b ≡ true
-      only true h = refl
-      only false h = h
+      starts_split (key word) ts (sym (or-false (starts (key word) ts)) ∙ (subst (λ fs. Begins fs ts) h (starting depths (grammar k) (Finish ∷ []) (ll1_grammar k) v w ts u.0 u.1)))
 
   -- a line of words alone
-  alone : (k : Kind) (v : Value (grammar k)) → deep_front depths (grammar k) v ≡ None → statement_kind (printed (grammar k) v ++ []) ≡ k → (ts : List Lexeme) (r : Reading A) → Stands (grammar k) v ts r → statement_kind ts ≡ k
+  alone : (k : Kind) (v : Value (grammar k)) → deep_front depths (grammar k) v ≡ None → statement_kind (printed (grammar k) v ++ []) ≡ k
+      → (ts : List Lexeme) (r : Reading A) → Stands (grammar k) v ts r → statement_kind ts ≡ k
   alone k v none h ts r s =
       let t = subst (λ o. StandsAs o (printed (grammar k) v) z Ends ts r) none s in
       ap statement_kind (t.2 ∙ ap (λ l. printed (grammar k) v ++ l) t.1) ∙ h

@@ -60,15 +60,21 @@ module _ (depths : Depths) where
   abbrev pub FormStands : Form → List Lexeme → Reading Form → Type 0
   FormStands w ts r = StandsAs (form_front depths w) (form_printed w) (form_kept w) Ends ts r
 
-  whole_reads : (k : Kind) (v : Value (grammar k)) → IsWell (grammar k) v → (ts : List Lexeme) (r : Reading (Value (grammar k))) → StandsAs (deep_front depths (grammar k) v) (printed (grammar k) v) (value_kept (grammar k) v) Ends ts r → whole depths k ts ≡ r
+  whole_reads : (k : Kind) (v : Value (grammar k)) → IsWell (grammar k) v → (ts : List Lexeme) (r : Reading (Value (grammar k)))
+      → StandsAs (deep_front depths (grammar k) v) (printed (grammar k) v) (value_kept (grammar k) v) Ends ts r → whole depths k ts ≡ r
   whole_reads k v w ts r s =
       let x = value_kept (grammar k) v in
-      followed (deep_front depths (grammar k) v) (printed (grammar k) v) x x Ends (Begins (Finish ∷ [])) ts r s ends_begin (read depths (grammar k) ts) (complete depths (grammar k) (Finish ∷ []) (ll1_grammar k) v w ts) ended (ended_at x)
+      followed (deep_front depths (grammar k) v) (printed (grammar k) v) x x Ends (Begins (Finish ∷ [])) ts r s ends_begin
+      (read depths (grammar k) ts) (complete depths (grammar k) (Finish ∷ []) (ll1_grammar k) v w ts) ended (ended_at x)
 
   line_reads : (k : Kind) (v : Value (grammar k)) → IsWell (grammar k) v → (ts : List Lexeme) (r : Reading Form) → FormStands (Plain k v) ts r → line depths k ts ≡ r
-  line_reads k v w ts r s = mapped (deep_front depths (grammar k) v) (printed (grammar k) v) (value_kept (grammar k) v) (as_kept k) Ends ts r s (whole depths k ts) (whole_reads k v w ts)
+  line_reads k v w ts r s =
+      mapped (deep_front depths (grammar k) v) (printed (grammar k) v) (value_kept (grammar k) v) (as_kept k) Ends ts r s (whole depths k ts)
+      (whole_reads k v w ts)
 
-  if_then_reads : (cond : Expression) → IsFormed cond → (ts : List Lexeme) (r : Reading Form) → StandsAs (deep_front depths if_head cond) (printed if_head cond ++ key (codes "THEN")) (Plain kind.IfThen (kept cond)) Ends ts r → if_line depths ts ≡ r
+  if_then_reads : (cond : Expression) → IsFormed cond → (ts : List Lexeme) (r : Reading Form)
+      → StandsAs (deep_front depths if_head cond) (printed if_head cond ++ key (codes "THEN")) (Plain kind.IfThen (kept cond)) Ends ts r
+      → if_line depths ts ≡ r
   if_then_reads cond w ts r s =
       let o = deep_front depths if_head cond in
       let text = printed if_head cond in
@@ -83,7 +89,8 @@ module _ (depths : Depths) where
   at_kind kind.IfThen v w ts r s = if_then_reads v w ts r s
   at_kind k v w ts r s = line_reads k v w ts r s
 
-  acting_reads : (k : Kind) (v : Value (grammar k)) → is_action k v ≡ true → IsWell (grammar k) v → (ts : List Lexeme) (r : Reading IsOfKind) → StandsAs (deep_front depths (grammar k) v) (printed (grammar k) v) (k, value_kept (grammar k) v) Ends ts r → acting depths k ts ≡ r
+  acting_reads : (k : Kind) (v : Value (grammar k)) → is_action k v ≡ true → IsWell (grammar k) v → (ts : List Lexeme) (r : Reading IsOfKind)
+      → StandsAs (deep_front depths (grammar k) v) (printed (grammar k) v) (k, value_kept (grammar k) v) Ends ts r → acting depths k ts ≡ r
   acting_reads k v a w ts r s =
       let x = value_kept (grammar k) v in
       let z : IsOfKind = (k, x) in
@@ -92,7 +99,8 @@ module _ (depths : Depths) where
       ∙ followed (deep_front depths (grammar k) v) (printed (grammar k) v) x z Ends Ends ts r s (λ us e. e) (whole depths k ts) (whole_reads k v w ts) then_acts
       (λ us e. ap (λ b. if b then Found (z, us) else Stopped read_error.Malformed) (action_kept k v ∙ a))
 
-  if_one_reads : (cond : Expression) (k : Kind) (v : Value (grammar k)) → IsFormed cond → is_action k v ≡ true → IsWell (grammar k) v → (ts : List Lexeme) (r : Reading Form) → FormStands (IfOne cond k v) ts r → if_line depths ts ≡ r
+  if_one_reads : (cond : Expression) (k : Kind) (v : Value (grammar k)) → IsFormed cond → is_action k v ≡ true → IsWell (grammar k) v
+      → (ts : List Lexeme) (r : Reading Form) → FormStands (IfOne cond k v) ts r → if_line depths ts ≡ r
   if_one_reads cond k v c a w ts r s =
       let p = deep_front depths (grammar k) v in
       let text = printed (grammar k) v in
@@ -103,7 +111,8 @@ module _ (depths : Depths) where
       (read depths if_head ts) (complete depths if_head (Operand ∷ []) refl cond c ts) (λ c. if_rest depths c.0 c.1)
       (λ us q. begins_operand depths z us (worded depths z k v a w us r q))
       (λ us _ q.
-      ap (λ b. if b then ended (Plain kind.IfThen (kept cond), drop 1 us) else (acting depths (statement_kind us) us >>= one)) (no_then depths z us (worded depths z k v a w us r q))
+      ap (λ b. if b then ended (Plain kind.IfThen (kept cond), drop 1 us) else (acting depths (statement_kind us) us >>= one))
+      (no_then depths z us (worded depths z k v a w us r q))
       ∙ ap (λ k. acting depths k us >>= one) (kind_stands depths z k v w us r q)
       ∙ mapped p text (k, x) (λ a. IfOne (kept cond) a.0 a.1) Ends us r q (acting depths k us) (acting_reads k v a w us))
 
@@ -113,8 +122,11 @@ module _ (depths : Depths) where
   form_reads (IfOne cond k v) w ts r s =
       let z : Form = form_kept (IfOne cond k v) in
       let is_if : statement_kind ts ≡ kind.IfThen =
-      then_begins {Q = statement_kind ts ≡ kind.IfThen} (deep_front depths if_head cond) (printed if_head cond) z (λ us. Unit {0}) (deep_front depths (grammar k) v) (printed (grammar k) v) z Ends ts r s
-      (λ r' q. let p = behind_prefix (key (codes "IF")) (deep_front depths condition cond) (printed condition cond) z (λ us. Unit {0}) ts r' q in ap statement_kind p.1) (λ us q. tt)
+      then_begins {Q = statement_kind ts ≡ kind.IfThen} (deep_front depths if_head cond) (printed if_head cond) z (λ us. Unit {0})
+      (deep_front depths (grammar k) v) (printed (grammar k) v) z Ends ts r s
+      (λ r' q.
+      let p = behind_prefix (key (codes "IF")) (deep_front depths condition cond) (printed condition cond) z (λ us. Unit {0}) ts r' q in
+      ap statement_kind p.1) (λ us q. tt)
       in
       ap (λ j. line_of depths j ts) is_if ∙ if_one_reads cond k v w.0 w.1 w.2 ts r s
 
@@ -230,7 +242,8 @@ pub record IsActed (ts : List Lexeme) (y : IsOfKind × List Lexeme) : Type 0 whe
 acting_read : (k : Kind) (ts : List Lexeme) (y : IsOfKind × List Lexeme) → acting Limited k ts ≡ Found y → IsActed ts y
 acting_read k ts y h = by_kind (is_action_kind k) h
   where
-    by_action : (u : Value (grammar k) × List Lexeme) → WholeRead Limited (grammar k) ts u → (b : Bool) → is_action k u.0 ≡ b → (if b then Found ((k, u.0), u.1) else Stopped read_error.Malformed) ≡ Found y → IsActed ts y
+    by_action : (u : Value (grammar k) × List Lexeme) → WholeRead Limited (grammar k) ts u → (b : Bool) → is_action k u.0 ≡ b
+        → (if b then Found ((k, u.0), u.1) else Stopped read_error.Malformed) ≡ Found y → IsActed ts y
     by_action u w true a h =
         let is = found_is ((k, u.0), u.1) y h in
         subst (IsActed ts) is (record {
@@ -244,7 +257,10 @@ acting_read k ts y h = by_kind (is_action_kind k) h
         })
     by_action u w false a h = absurd cc
 
-    by_kind : (b : Bool) → (if b then (whole Limited k ts >>= λ v. if is_action k v.0 then Found ((k, v.0), v.1) else Stopped read_error.Malformed) else Stopped read_error.Malformed) ≡ Found y → IsActed ts y
+    by_kind : (b : Bool)
+        → (if b
+        then (whole Limited k ts >>= λ v. if is_action k v.0 then Found ((k, v.0), v.1) else Stopped read_error.Malformed)
+        else Stopped read_error.Malformed) ≡ Found y → IsActed ts y
     by_kind true h =
         let s = steps (whole Limited k ts) (λ v. if is_action k v.0 then Found ((k, v.0), v.1) else Stopped read_error.Malformed) y h in
         by_action s.x (whole_read Limited (grammar k) ts s.x s.was) (is_action k s.x.0) refl s.next
@@ -257,19 +273,34 @@ record ActsDeep (k : Kind) (front : List Lexeme) : Type 0 where
   well : IsWell (grammar k) written
   deep : deep_front Limited (grammar k) written ≡ Some front
 
-or_other : (ks : List Lexeme) (o : Option (List Lexeme)) (text : List Lexeme) (p : Option (List Lexeme)) (front : List Lexeme) → preceded ks (front_or o text None) ≡ Some front → preceded ks (front_or o text p) ≡ Some front
+or_other : (ks : List Lexeme) (o : Option (List Lexeme)) (text : List Lexeme) (p : Option (List Lexeme)) (front : List Lexeme)
+    → preceded ks (front_or o text None) ≡ Some front → preceded ks (front_or o text p) ≡ Some front
 or_other ks None text p front h = absurd cc
 or_other ks (Some l) text p front h = h
 
-completed : (k : Kind) (v : Value (grammar k)) → is_action_kind k ≡ true → IsWell (grammar k) v → (front : List Lexeme) → deep_front Limited (grammar k) v ≡ Some front → ActsDeep k front
+completed : (k : Kind) (v : Value (grammar k)) → is_action_kind k ≡ true → IsWell (grammar k) v → (front : List Lexeme)
+    → deep_front Limited (grammar k) v ≡ Some front → ActsDeep k front
 completed kind.Assign v a w front d = record { written = v; action = refl; well = w; deep = d }
 completed kind.Where (mask, None) a w front d =
     let one = sample assignment in
-    record { written = (mask, Some one.0); action = refl; well = (w.0, one.1); deep = or_other (key (codes "WHERE")) (deep_front Limited condition mask) (printed condition mask) (deep_front Limited assignment one.0) front d }
+    record {
+      written = (mask, Some one.0);
+      action = refl;
+      well = (w.0, one.1);
+      deep =
+          or_other (key (codes "WHERE")) (deep_front Limited condition mask) (printed condition mask) (deep_front Limited assignment one.0) front d;
+    }
 completed kind.Where (mask, Some one) a w front d = record { written = (mask, Some one); action = refl; well = w; deep = d }
 completed kind.Forall (head, None) a w front d =
     let one = sample assignment in
-    record { written = (head, Some one.0); action = refl; well = (w.0, one.1); deep = or_other (key (codes "FORALL")) (deep_front Limited forall_head head) (printed forall_head head) (deep_front Limited assignment one.0) front d }
+    record {
+      written = (head, Some one.0);
+      action = refl;
+      well = (w.0, one.1);
+      deep =
+          or_other (key (codes "FORALL")) (deep_front Limited forall_head head) (printed forall_head head) (deep_front Limited assignment one.0) front
+          d;
+    }
 completed kind.Forall (head, Some one) a w front d = record { written = (head, Some one); action = refl; well = w; deep = d }
 completed kind.Print v a w front d = record { written = v; action = refl; well = w; deep = d }
 completed kind.Stop v a w front d = record { written = v; action = refl; well = w; deep = d }
@@ -284,11 +315,14 @@ then_acts k v = if is_action k v.0 then Found ((k, v.0), v.1) else Stopped read_
 acting_deep : (k : Kind) (ts : List Lexeme) → acting Limited k ts ≡ Stopped read_error.TooDeep → (front rest : List Lexeme) × ActsDeep k front × (ts ≡ front ++ rest)
 acting_deep k ts h = by_kind (is_action_kind k) refl h
   where
-    no_stop : (x : Value (grammar k) × List Lexeme) (b : Bool) → ◌≡◌ {A = Reading IsOfKind} (if b then Found ((k, x.0), x.1) else Stopped read_error.Malformed) (Stopped read_error.TooDeep) → ⊥
+    no_stop : (x : Value (grammar k) × List Lexeme) (b : Bool)
+        → ◌≡◌ {A = Reading IsOfKind} (if b then Found ((k, x.0), x.1) else Stopped read_error.Malformed) (Stopped read_error.TooDeep) → ⊥
     no_stop x true h = cc
     no_stop x false h = cc
 
-    by_kind : (b : Bool) → is_action_kind k ≡ b → (if b then (whole Limited k ts >>= then_acts k) else Stopped read_error.Malformed) ≡ Stopped read_error.TooDeep → (front rest : List Lexeme) × ActsDeep k front × (ts ≡ front ++ rest)
+    by_kind : (b : Bool) → is_action_kind k ≡ b
+        → (if b then (whole Limited k ts >>= then_acts k) else Stopped read_error.Malformed) ≡ Stopped read_error.TooDeep
+        → (front rest : List Lexeme) × ActsDeep k front × (ts ≡ front ++ rest)
     by_kind true a h =
         let deep = ⊎_elim (λ d. d) (λ s. absurd (no_stop s.0 (is_action k s.0.0) s.2)) (stops (whole Limited k ts) (then_acts k) read_error.TooDeep h) in
         let d = deep_sound Limited (grammar k) ts (whole_deep k ts deep) in
@@ -301,7 +335,10 @@ if_read ts y h =
     let w : IsInFront Limited if_head ts s.x = subst (λ r. On r (IsInFront Limited if_head ts)) s.was (sound Limited if_head ts) in
     by_then s.x w (starts (key (codes "THEN")) s.x.1) refl s.next
   where
-    by_then : (x : Expression × List Lexeme) → IsInFront Limited if_head ts x → (b : Bool) → starts (key (codes "THEN")) x.1 ≡ b → (if b then ended (Plain kind.IfThen x.0, drop 1 x.1) else (acting Limited (statement_kind x.1) x.1 >>= λ a. Found (IfOne x.0 a.0.0 a.0.1, a.1))) ≡ Found y → IsReadAs ts y
+    by_then : (x : Expression × List Lexeme) → IsInFront Limited if_head ts x → (b : Bool) → starts (key (codes "THEN")) x.1 ≡ b
+        → (if b
+        then ended (Plain kind.IfThen x.0, drop 1 x.1)
+        else (acting Limited (statement_kind x.1) x.1 >>= λ a. Found (IfOne x.0 a.0.0 a.0.1, a.1))) ≡ Found y → IsReadAs ts y
     by_then x w true e h =
         let c = ended_found (Plain kind.IfThen x.0, drop 1 x.1) y h in
         let rest : x.1 ≡ key (codes "THEN") = starts_split (key (codes "THEN")) x.1 e ∙ ap (λ l. key (codes "THEN") ++ l) c.done in
@@ -329,17 +366,24 @@ if_read ts y h =
 if_deep : (ts : List Lexeme) → if_line Limited ts ≡ Stopped read_error.TooDeep → IsTooDeep ts
 if_deep ts h =
     ⊎_elim
-    (λ e. let d = deep_sound Limited if_head ts e in record { written = Plain kind.IfThen d.written; formed = d.well; front = d.front; deep = d.deep; rest = d.rest; parts = d.parts })
+    (λ e.
+    let d = deep_sound Limited if_head ts e in
+    record { written = Plain kind.IfThen d.written; formed = d.well; front = d.front; deep = d.deep; rest = d.rest; parts = d.parts })
     (λ s. by_then s.0 (subst (λ r. On r (IsInFront Limited if_head ts)) s.1 (sound Limited if_head ts)) (starts (key (codes "THEN")) s.0.1) s.2)
     (stops (read Limited if_head ts) (λ c. if_rest Limited c.0 c.1) read_error.TooDeep h)
   where
     no_stop : (x : Expression) (a : IsOfKind × List Lexeme) → Found (IfOne x a.0.0 a.0.1, a.1) ≡ Stopped read_error.TooDeep → ⊥
     no_stop x a h = cc
 
-    by_then : (x : Expression × List Lexeme) → IsInFront Limited if_head ts x → (b : Bool) → (if b then ended (Plain kind.IfThen x.0, drop 1 x.1) else (acting Limited (statement_kind x.1) x.1 >>= λ a. Found (IfOne x.0 a.0.0 a.0.1, a.1))) ≡ Stopped read_error.TooDeep → IsTooDeep ts
+    by_then : (x : Expression × List Lexeme) → IsInFront Limited if_head ts x → (b : Bool)
+        → (if b
+        then ended (Plain kind.IfThen x.0, drop 1 x.1)
+        else (acting Limited (statement_kind x.1) x.1 >>= λ a. Found (IfOne x.0 a.0.0 a.0.1, a.1))) ≡ Stopped read_error.TooDeep → IsTooDeep ts
     by_then x w true h = absurd (ended_shallow (Plain kind.IfThen x.0, drop 1 x.1) h)
     by_then x w false h =
-        let deep = ⊎_elim (λ d. d) (λ s. absurd (no_stop x.0 s.0 s.2)) (stops (acting Limited (statement_kind x.1) x.1) (λ a. Found (IfOne x.0 a.0.0 a.0.1, a.1)) read_error.TooDeep h) in
+        let deep =
+        ⊎_elim (λ d. d) (λ s. absurd (no_stop x.0 s.0 s.2))
+        (stops (acting Limited (statement_kind x.1) x.1) (λ a. Found (IfOne x.0 a.0.0 a.0.1, a.1)) read_error.TooDeep h) in
         let a = acting_deep (statement_kind x.1) x.1 deep in
         let one = a.2 in
         let head = printed if_head w.written in

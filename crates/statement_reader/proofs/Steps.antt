@@ -20,7 +20,8 @@ pub found_is : {A : Type 0} (x y : A × List Lexeme) → Found x ≡ Found y →
 found_is x y h = cc
 
 -- a list that is read isn't empty
-pub filled : {A : Type 0} (next : List Lexeme → Bool) (part : List Lexeme → Reading A) (n : ℕ) (ts : List Lexeme) (x : List A × List Lexeme) → comma_list next part n ts ≡ Found x → x.0 ≡ [] → ⊥
+pub filled : {A : Type 0} (next : List Lexeme → Bool) (part : List Lexeme → Reading A) (n : ℕ) (ts : List Lexeme) (x : List A × List Lexeme)
+    → comma_list next part n ts ≡ Found x → x.0 ≡ [] → ⊥
 unfolding comma_list
 filled {A = A} next part zero ts x h e = cc
 filled {A = A} next part (suc n) ts x h e =
@@ -39,6 +40,7 @@ stopped_is : {A : Type 0} (e why : ReadError) → ◌≡◌ {A = Reading A} (Sto
 stopped_is e why h = cc
 
 -- where a reading stopped
-pub stops : {A B : Type 0} (r : Reading A) (f : A × List Lexeme → Reading B) (why : ReadError) → (r >>= f) ≡ Stopped why → (r ≡ Stopped why) ⊎ ((x : A × List Lexeme) × (r ≡ Found x) × (f x ≡ Stopped why))
+pub stops : {A B : Type 0} (r : Reading A) (f : A × List Lexeme → Reading B) (why : ReadError) → (r >>= f) ≡ Stopped why
+    → (r ≡ Stopped why) ⊎ ((x : A × List Lexeme) × (r ≡ Found x) × (f x ≡ Stopped why))
 stops (Found x) f why h = inr (x, refl, h)
 stops (Stopped e) f why h = inl (let same : e ≡ why = stopped_is e why h in ap Stopped same)

@@ -73,7 +73,8 @@ form_deep ts h d = let e = sym h ∙ deep_found ts d in cc
 form_parts : (w : Form) (front : List Lexeme) → form_front Limited w ≡ Some front → (rest : List Lexeme) × (form_printed w ≡ front ++ rest)
 form_parts (Plain k v) front h = front_printed Limited (grammar k) v front h
 form_parts (IfOne cond k v) front h =
-    front_parted (deep_front Limited if_head cond) (printed if_head cond) (deep_front Limited (grammar k) v) (printed (grammar k) v) front (front_printed Limited if_head cond) (front_printed Limited (grammar k) v) h
+    front_parted (deep_front Limited if_head cond) (printed if_head cond) (deep_front Limited (grammar k) v) (printed (grammar k) v) front
+    (front_printed Limited if_head cond) (front_printed Limited (grammar k) v) h
 
 -- no statement spells a line that is malformed
 unspelled : (ts : List Lexeme) → statement ts ≡ Stopped read_error.Malformed → IsSpelled ts → ⊥
@@ -101,7 +102,8 @@ no_breach ts f h l reason x = x
 abbrev first_of : ℕ → Reason → Refusal
 first_of line reason = record { line = line; reason = reason }
 
-first_is : (line : ℕ) (ts : List Lexeme) (reason : Reason) → IsStatementBreach ts reason → ((other : Reason) → IsStatementBreach ts other → number_of reason ≤ number_of other) → IsFirstBreach (IsBreachOn line ts) (first_of line reason)
+first_is : (line : ℕ) (ts : List Lexeme) (reason : Reason) → IsStatementBreach ts reason
+    → ((other : Reason) → IsStatementBreach ts other → number_of reason ≤ number_of other) → IsFirstBreach (IsBreachOn line ts) (first_of line reason)
 first_is line ts reason stands least = record {
   stands = (refl, stands);
   first = λ n other b. inr (sym b.0, least other b.1);
@@ -134,7 +136,8 @@ pub unread_left_out : (line : ℕ) (ts : List Lexeme) → statement ts ≡ Stopp
 unread_left_out line ts h l = left_out_first line ts (form_deep ts h) l
 
 -- neither
-pub unread_first : (line : ℕ) (ts : List Lexeme) → statement ts ≡ Stopped read_error.Malformed → (IsLeftOut ts → ⊥) → IsFirstBreach (IsBreachOn line ts) (first_of line NotAStatement)
+pub unread_first : (line : ℕ) (ts : List Lexeme) → statement ts ≡ Stopped read_error.Malformed → (IsLeftOut ts → ⊥)
+    → IsFirstBreach (IsBreachOn line ts) (first_of line NotAStatement)
 unread_first line ts h l = first_is line ts NotAStatement (unspelled ts h, l, form_deep ts h) least
   where
     least : (other : Reason) → IsStatementBreach ts other → number_of NotAStatement ≤ number_of other

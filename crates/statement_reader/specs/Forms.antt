@@ -75,10 +75,10 @@ declaration =
 abbrev pub loose_constants : Grammar
 loose_constants = Prefixed (key (codes "INTEGER")) (Prefixed parameter_key (constants entity))
 
--- one word, or two
-abbrev pub joined : Bool → List ℕ → List ℕ → List ℕ → Grammar → Grammar
-joined true one first second g = Prefixed (key one) g
-joined false one first second g = Prefixed (key first) (Prefixed (key second) g)
+-- two keywords, which may be written as one (Fortran 95, 3.3.1)
+abbrev pub keyword_pair : Bool → List ℕ → List ℕ → List ℕ → Grammar → Grammar
+keyword_pair true one first second g = Prefixed (key one) g
+keyword_pair false one first second g = Prefixed (key first) (Prefixed (key second) g)
 
 abbrev pub grammar : Kind → Grammar
 grammar kind.Program = Prefixed (key (codes "PROGRAM")) Identifier
@@ -87,16 +87,16 @@ grammar kind.Integer = Prefixed (key (codes "INTEGER")) declaration
 grammar kind.Parameter = Prefixed (key (codes "PARAMETER")) (enclosed constant)
 grammar kind.Assign = assignment
 grammar kind.IfThen = Prefixed (key (codes "IF")) (Suffixed condition (key (codes "THEN")))
-grammar (kind.ElseIf glued) = joined glued (codes "ELSEIF") (codes "ELSE") (codes "IF") (Suffixed condition (key (codes "THEN")))
+grammar (kind.ElseIf glued) = keyword_pair glued (codes "ELSEIF") (codes "ELSE") (codes "IF") (Suffixed condition (key (codes "THEN")))
 grammar kind.Else = Prefixed (key (codes "ELSE")) Nothing
-grammar (kind.EndIf glued) = joined glued (codes "ENDIF") (codes "END") (codes "IF") Nothing
+grammar (kind.EndIf glued) = keyword_pair glued (codes "ENDIF") (codes "END") (codes "IF") Nothing
 grammar kind.Do = Prefixed (key (codes "DO")) do_head
-grammar (kind.EndDo glued) = joined glued (codes "ENDDO") (codes "END") (codes "DO") Nothing
+grammar (kind.EndDo glued) = keyword_pair glued (codes "ENDDO") (codes "END") (codes "DO") Nothing
 grammar kind.Where = Prefixed (key (codes "WHERE")) (Sequence condition (OptionalToEnd assignment))
-grammar (kind.ElseWhere glued) = joined glued (codes "ELSEWHERE") (codes "ELSE") (codes "WHERE") Nothing
-grammar (kind.EndWhere glued) = joined glued (codes "ENDWHERE") (codes "END") (codes "WHERE") Nothing
+grammar (kind.ElseWhere glued) = keyword_pair glued (codes "ELSEWHERE") (codes "ELSE") (codes "WHERE") Nothing
+grammar (kind.EndWhere glued) = keyword_pair glued (codes "ENDWHERE") (codes "END") (codes "WHERE") Nothing
 grammar kind.Forall = Prefixed (key (codes "FORALL")) (Sequence forall_head (OptionalToEnd assignment))
-grammar (kind.EndForall glued) = joined glued (codes "ENDFORALL") (codes "END") (codes "FORALL") Nothing
+grammar (kind.EndForall glued) = keyword_pair glued (codes "ENDFORALL") (codes "END") (codes "FORALL") Nothing
 grammar kind.Print = Prefixed (key (codes "PRINT")) (Prefixed star (Optional comma (CommaList Item)))
 grammar kind.Stop = Prefixed (key (codes "STOP")) Nothing
 grammar kind.Exit = Prefixed (key (codes "EXIT")) Nothing

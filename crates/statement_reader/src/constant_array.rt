@@ -4,7 +4,7 @@ ghost use Rattle.std.specs.Prelude.{◌≡◌, ◌||◌, is_some, map, option_ma
 ghost use Rattle.std.specs.List.{list_any};
 ghost use Rattle.line_forms.specs.Gives.{Gives};
 ghost use Rattle.line_forms.specs.Parts.{bound_of};
-ghost use Rattle.line_forms.specs.Read.{after};
+ghost use Rattle.line_forms.specs.Read.{after_marks};
 ghost use Rattle.statement_reader.specs.Forms.{parameter_key};
 ghost use Rattle.statement_reader.specs.Gives.{GivesWhole};
 ghost use Rattle.statement_reader.specs.Reading.{constant_array, has_bounds};
@@ -32,7 +32,7 @@ pub(crate) fn constant_array(alloc: Global, tokens: &[Token]) -> Result<bool, Re
 
 /// The tokens behind the attribute PARAMETER.
 fn after_parameter(tokens: &[Token]) -> Result<&[Token], ReadError>
-    ensures { Gives (λ x. (tt, lexemes x.now)) result (after parameter_key (lexemes tokens.now)) }
+    ensures { Gives (λ x. (tt, lexemes x.now)) result (after_marks parameter_key (lexemes tokens.now)) }
 {
     if !attribute(tokens, b"PARAMETER") {
         return Err(ReadError::Malformed);

@@ -1,13 +1,14 @@
 //! What stands behind INTEGER (Fortran 95, 5.1).
 
-ghost use Rattle.std.specs.Prelude.{map, option_map};
+ghost use Rattle.std.specs.Prelude.{◌≡◌, false, map, option_map};
 ghost use Rattle.syntax_tree.specs.Lexeme.{lexemes};
 ghost use Rattle.line_forms.specs.declared.depths.Depths.TheVariants.{Limited};
 ghost use Rattle.line_forms.specs.Gives.{Gives};
 ghost use Rattle.line_forms.specs.Grammar.{Optional};
+ghost use Rattle.line_forms.specs.Marks.{starts};
 ghost use Rattle.line_forms.specs.Parts.{bound, bound_of, enclosed};
 ghost use Rattle.line_forms.specs.Read.{read};
-ghost use Rattle.statement_reader.specs.Forms.{constants, declaration, dimension_key};
+ghost use Rattle.statement_reader.specs.Forms.{constants, declaration, dimension_key, parameter_key};
 ghost use Rattle.statement_reader.specs.Views.{declaration_of};
 
 use crate::lists::{ConstantEntities, Entities, PlainEntities};
@@ -19,29 +20,37 @@ use source_lines::Token;
 use std::alloc::Global;
 use syntax_tree::{Bound, IntegerDecl, Sign};
 
-/// The attributes and entities of an INTEGER. With PARAMETER each entity has a value, without `::` none has one.
+/// The attributes and entities of an INTEGER. With PARAMETER each entity has a value.
 pub(crate) fn declaration(
     alloc: Global,
     tokens: &[Token],
 ) -> Result<(IntegerDecl, &[Token]), ReadError>
     ensures { Gives (λ x. (declaration_of x.0, lexemes x.1.now)) result (read Limited declaration (lexemes tokens.now)) }
 {
-    if attribute(tokens, b"PARAMETER") {
-        let ((dims, entities), rest) = constants::<ConstantEntities>(
-            alloc,
-            Depths::Limited,
-            behind(tokens, 2),
-        )?;
-        return Ok((
-            IntegerDecl {
-                constant: true,
-                dims,
-                colons: true,
-                entities,
-            },
-            rest,
-        ));
+    if !attribute(tokens, b"PARAMETER") {
+        return variables(alloc, tokens);
     }
+    let ((dims, entities), rest) = constants::<ConstantEntities>(
+        alloc,
+        Depths::Limited,
+        behind(tokens, 2),
+    )?;
+    Ok((
+        IntegerDecl {
+            constant: true,
+            dims,
+            colons: true,
+            entities,
+        },
+        rest,
+    ))
+}
+
+/// The attributes and entities of an INTEGER that has no PARAMETER. Without `::` no entity has a value.
+fn variables(alloc: Global, tokens: &[Token]) -> Result<(IntegerDecl, &[Token]), ReadError>
+    requires { starts parameter_key (lexemes tokens.now) ≡ false }
+    ensures { Gives (λ x. (declaration_of x.0, lexemes x.1.now)) result (read Limited declaration (lexemes tokens.now)) }
+{
     if attribute(tokens, b"DIMENSION") {
         let (bounds, rest) = enclosed::<Bounds>(alloc, Depths::Limited, behind(tokens, 2))?;
         let rest = after_sign(rest, Sign::Colons)?;
@@ -86,7 +95,8 @@ pub(crate) fn constants<T: Element>(
     depths: Depths,
     tokens: &[Token],
 ) -> Result<((Option<Vec<Bound>>, Vec<T::Part>), &[Token]), ReadError>
-    ensures { Gives (λ x. ((option_map (λ v. map bound_of v.items) x.0.0, map T.view x.0.1.items), lexemes x.1.now)) result (read depths (constants T.grammar) (lexemes tokens.now)) }
+    ensures { Gives (λ x. ((option_map (λ v. map bound_of v.items) x.0.0, map T.view x.0.1.items), lexemes x.1.now)) result
+        (read depths (constants T.grammar) (lexemes tokens.now)) }
 {
     let (dims, rest) = dimension(alloc, depths, tokens)?;
     let rest = after_sign(rest, Sign::Colons)?;

@@ -56,7 +56,8 @@ pub(crate) fn where_parts(
     alloc: Global,
     tokens: &[Token],
 ) -> Result<((Expr, Option<Assignment>), &[Token]), ReadError>
-    ensures { Gives (λ x. ((expression x.0.0, option_map assignment_of x.0.1), lexemes x.1.now)) result (read Limited (Sequence condition (OptionalToEnd assignment)) (lexemes tokens.now)) }
+    ensures { Gives (λ x. ((expression x.0.0, option_map assignment_of x.0.1), lexemes x.1.now)) result
+        (read Limited (Sequence condition (OptionalToEnd assignment)) (lexemes tokens.now)) }
 {
     let (mask, rest) = condition(alloc, tokens)?;
     let (one, rest) = if_assignment(alloc, rest)?;
@@ -68,7 +69,8 @@ pub(crate) fn forall_parts(
     alloc: Global,
     tokens: &[Token],
 ) -> Result<((ForallHead, Option<Assignment>), &[Token]), ReadError>
-    ensures { Gives (λ x. ((forall_of x.0.0, option_map assignment_of x.0.1), lexemes x.1.now)) result (read Limited (Sequence forall_head (OptionalToEnd assignment)) (lexemes tokens.now)) }
+    ensures { Gives (λ x. ((forall_of x.0.0, option_map assignment_of x.0.1), lexemes x.1.now)) result
+        (read Limited (Sequence forall_head (OptionalToEnd assignment)) (lexemes tokens.now)) }
 {
     let (head, rest) = forall_head(alloc, tokens)?;
     let (one, rest) = if_assignment(alloc, rest)?;

@@ -39,7 +39,8 @@ pub(crate) fn values(
     tokens: &[Token],
     sign: Sign,
 ) -> Result<((Expr, Expr, Option<Expr>), &[Token]), ReadError>
-    ensures { Gives (λ x. ((expression x.0.0, (expression x.0.1, option_map expression x.0.2)), lexemes x.1.now)) result (read depths (values (Fixed sign ∷ [])) (lexemes tokens.now)) }
+    ensures { Gives (λ x. ((expression x.0.0, (expression x.0.1, option_map expression x.0.2)), lexemes x.1.now)) result
+        (read depths (values (Fixed sign ∷ [])) (lexemes tokens.now)) }
 {
     let (first, rest) = expr(alloc, depths, tokens)?;
     let rest = after_sign(rest, sign)?;

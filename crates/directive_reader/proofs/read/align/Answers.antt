@@ -5,4 +5,5 @@ use Rattle.directive_reader.proofs.read.align.Goals as goal
 
 pub returns : goal.returns
 returns c =
-    aligned c.args.depths c.args.many (lexemes c.args.tokens.now) (lexemes c.in_ok-rest.rest.now) (alignment_spec_of c.in_ok-spec.spec) (lexemes c.in_ok-spec.rest.now) c.in_ok-rest.ensures c.in_ok-spec.ensures
+    aligned c.args.depths c.args.many (lexemes c.args.tokens.now) (lexemes c.in_ok-rest.rest.now) (alignment_spec_of c.in_ok-spec.spec)
+    (lexemes c.in_ok-spec.rest.now) c.in_ok-rest.ensures c.in_ok-spec.ensures

@@ -23,7 +23,8 @@ returns-in-Distribute c =
 
 pub returns-in-Redistribute : goal.returns-in-Redistribute
 returns-in-Redistribute c =
-    subst (λ k. Gives (λ x. (form_of x.0, lexemes x.1.now)) c.redistribute.result (known c.args.depths k (lexemes c.args.tokens.now))) (sym c.in-Redistribute.is) c.redistribute.ensures
+    subst (λ k. Gives (λ x. (form_of x.0, lexemes x.1.now)) c.redistribute.result (known c.args.depths k (lexemes c.args.tokens.now)))
+    (sym c.in-Redistribute.is) c.redistribute.ensures
 
 pub returns-in-Align : goal.returns-in-Align
 returns-in-Align c =
@@ -31,4 +32,5 @@ returns-in-Align c =
 
 pub returns-in-Independent : goal.returns-in-Independent
 returns-in-Independent c =
-    subst (λ k. Gives (λ x. (form_of x.0, lexemes x.1.now)) c.independent.result (known c.args.depths k (lexemes c.args.tokens.now))) (sym c.in-Independent.is) c.independent.ensures
+    subst (λ k. Gives (λ x. (form_of x.0, lexemes x.1.now)) c.independent.result (known c.args.depths k (lexemes c.args.tokens.now)))
+    (sym c.in-Independent.is) c.independent.ensures

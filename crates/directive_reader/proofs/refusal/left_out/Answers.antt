@@ -15,9 +15,13 @@ returns-in-None c =
 pub returns-in-Some-Malformed : goal.returns-in-Some-Malformed
 returns-in-Some-Malformed c =
     subst (IsRefusalBy (IsBreachAt c.args.line (lexemes c.args.tokens.now))) (sym c.at-in-Some-Malformed.ensures)
-    (left_out_stopped c.args.line (lexemes c.args.tokens.now) c.requires (lacks_form c.why_not_read.result (directive Limited (lexemes c.args.tokens.now)) (c.in-Some-Malformed.is ∙ ap Some c.in-Some-Malformed.field-0-is) c.why_not_read.ensures))
+    (left_out_stopped c.args.line (lexemes c.args.tokens.now) c.requires
+    (lacks_form c.why_not_read.result (directive Limited (lexemes c.args.tokens.now))
+    (c.in-Some-Malformed.is ∙ ap Some c.in-Some-Malformed.field-0-is) c.why_not_read.ensures))
 
 pub returns-in-Some-TooDeep : goal.returns-in-Some-TooDeep
 returns-in-Some-TooDeep c =
     subst (IsRefusalBy (IsBreachAt c.args.line (lexemes c.args.tokens.now))) (sym c.at-in-Some-TooDeep.ensures)
-    (left_out_deep c.args.line (lexemes c.args.tokens.now) c.requires (lacks_depth c.why_not_read.result (directive Limited (lexemes c.args.tokens.now)) (c.in-Some-TooDeep.is ∙ ap Some c.in-Some-TooDeep.field-0-is) c.why_not_read.ensures))
+    (left_out_deep c.args.line (lexemes c.args.tokens.now) c.requires
+    (lacks_depth c.why_not_read.result (directive Limited (lexemes c.args.tokens.now)) (c.in-Some-TooDeep.is ∙ ap Some c.in-Some-TooDeep.field-0-is)
+    c.why_not_read.ensures))

@@ -16,9 +16,13 @@ returns-in-None c =
 pub returns-in-Some-Malformed : goal.returns-in-Some-Malformed
 returns-in-Some-Malformed c =
     subst (IsRefusalBy (IsBreachAt c.args.line (lexemes c.args.tokens.now))) (sym c.at-in-Some-Malformed.ensures)
-    (bad_stopped c.args.line (lexemes c.args.tokens.now) read_error.Malformed c.requires.known (lacks_form c.why_not_read.result (directive Any (lexemes c.args.tokens.now)) (c.in-Some-Malformed.is ∙ ap Some c.in-Some-Malformed.field-0-is) c.why_not_read.ensures))
+    (bad_stopped c.args.line (lexemes c.args.tokens.now) read_error.Malformed c.requires.known
+    (lacks_form c.why_not_read.result (directive Any (lexemes c.args.tokens.now)) (c.in-Some-Malformed.is ∙ ap Some c.in-Some-Malformed.field-0-is)
+    c.why_not_read.ensures))
 
 pub returns-in-Some-TooDeep : goal.returns-in-Some-TooDeep
 returns-in-Some-TooDeep c =
     subst (IsRefusalBy (IsBreachAt c.args.line (lexemes c.args.tokens.now))) (sym c.at-in-Some-TooDeep.ensures)
-    (bad_stopped c.args.line (lexemes c.args.tokens.now) read_error.TooDeep c.requires.known (lacks_depth c.why_not_read.result (directive Any (lexemes c.args.tokens.now)) (c.in-Some-TooDeep.is ∙ ap Some c.in-Some-TooDeep.field-0-is) c.why_not_read.ensures))
+    (bad_stopped c.args.line (lexemes c.args.tokens.now) read_error.TooDeep c.requires.known
+    (lacks_depth c.why_not_read.result (directive Any (lexemes c.args.tokens.now)) (c.in-Some-TooDeep.is ∙ ap Some c.in-Some-TooDeep.field-0-is)
+    c.why_not_read.ensures))

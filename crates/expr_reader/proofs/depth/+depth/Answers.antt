@@ -1,8 +1,7 @@
 use Rattle.std.proofs.Common.{◌≡◌, ◌+◌, sym, ap, ◌∙◌, arith}
 use Rattle.syntax_tree.specs.declared.expr.Expr.TheBlock.{back-Ref-subs}
-use Rattle.syntax_tree.specs.Expression.{expression, reference, Call}
+use Rattle.syntax_tree.specs.Expression.{expression, reference, Call, arguments_of, parts_of}
 use Rattle.syntax_tree.specs.Spelling.{depth, list_depth}
-use Rattle.expr_reader.specs.CodeViews.{arguments_of, parts_of}
 use Rattle.expr_reader.proofs.Steps.{call_vec, reference_vec}
 use Rattle.expr_reader.proofs.Operands.{has_depth}
 use Rattle.expr_reader.proofs.depth.+depth.Goals as goal

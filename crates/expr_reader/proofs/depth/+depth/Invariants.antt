@@ -1,6 +1,6 @@
 use Rattle.std.proofs.Common.{◌≤◌, ◌↔◌, drop}
 use Rattle.syntax_tree.specs.Spelling.{list_depth}
-use Rattle.expr_reader.specs.CodeViews.{arguments_of, parts_of}
+use Rattle.syntax_tree.specs.Expression.{arguments_of, parts_of}
 use Rattle.expr_reader.proofs.depth.+depth.Given as goal
 
 abbrev pub invariant-parts_fit-loop-part : goal.invariant-parts_fit-loop-part

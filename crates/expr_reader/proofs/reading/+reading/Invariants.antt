@@ -1,6 +1,6 @@
 use Rattle.std.proofs.Common.{length, ◌-◌, ◌≡◌, ◌≤◌, ◌+◌, ◌*◌}
-use Rattle.syntax_tree.specs.Expression.{expression}
-use Rattle.expr_reader.specs.CodeViews.{ahead, parts_of, read, with_front}
+use Rattle.syntax_tree.specs.Expression.{expression, parts_of}
+use Rattle.expr_reader.specs.TokenReading.{ahead, read, with_front}
 use Rattle.expr_reader.proofs.reading.+reading.Given as goal
 
 abbrev pub decreases-expr : goal.decreases-expr

@@ -1,6 +1,6 @@
 use Rattle.std.proofs.Common.{◌≡◌, ◌++◌, true}
+use Rattle.syntax_tree.specs.Expression.{arguments_of, parts_of}
 use Rattle.expr_reader.specs.Reading.{are_arguments}
-use Rattle.expr_reader.specs.CodeViews.{arguments_of, parts_of}
 use Rattle.expr_reader.proofs.reading.expressions.Given as goal
 
 abbrev pub invariant-loop-part : goal.invariant-loop-part

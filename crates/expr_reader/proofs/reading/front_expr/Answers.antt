@@ -2,7 +2,7 @@ use Rattle.std.proofs.Common.{◌∙◌, drop, sym, ap, Some}
 use Rattle.syntax_tree.specs.Expression.{expression}
 use Rattle.syntax_tree.specs.Lexeme.{lexemes}
 use Rattle.expr_reader.specs.Reading.{◌>>=◌}
-use Rattle.expr_reader.specs.CodeViews.{viewed}
+use Rattle.expr_reader.specs.TokenReading.{viewed}
 use Rattle.expr_reader.specs.Front.{front}
 use Rattle.expr_reader.proofs.Steps.{lexemes_behind}
 use Rattle.expr_reader.proofs.reading.front_expr.Goals as goal

@@ -19,4 +19,5 @@ returns-in-Ok-read_directive-clause-fine c =
 pub returns-in-Err-read_directive-clause-refused : goal.returns-in-Err-read_directive-clause-refused
 returns-in-Err-read_directive-clause-refused c =
     subst (λ l. IsRefusalBy (FormBreaks l) c.in-Err-read_directive.error) c.line.view_is
-    (directive_wrong _ (lexemes c.deref-in-Directive.result.now) c.in-Err-read_directive.error (ap lexemes c.deref-in-Directive.ensures.value) c.in-Directive.is c.in-Err-read_directive.ensures.refused)
+    (directive_wrong _ (lexemes c.deref-in-Directive.result.now) c.in-Err-read_directive.error (ap lexemes c.deref-in-Directive.ensures.value)
+    c.in-Directive.is c.in-Err-read_directive.ensures.refused)

@@ -7,8 +7,10 @@ use Rattle.hpf_reader.proofs.forms.forms.Goals as goal
 pub loop-line-preserved : goal.loop-line-preserved
 loop-line-preserved c = (
   subst (λ o. IsFirstOrNone (FormsBreak (take (c.loop-line.line-index + 1) c.args.lines.now)) o) (sym c.earlier-first.ensures)
-      (first_more FormBreaks c.args.lines.now c.loop-line.line-index c.line-item.result c.loop-line.first c.in_ok-add_form.field-0 c.loop-line-test.true c.line-item.is c.loop-line.invariant.0 c.in_ok-add_form.ensures.first),
+      (first_more FormBreaks c.args.lines.now c.loop-line.line-index c.line-item.result c.loop-line.first c.in_ok-add_form.field-0
+      c.loop-line-test.true c.line-item.is c.loop-line.invariant.0 c.in_ok-add_form.ensures.first),
   λ e.
       let none = none_both c.loop-line.first c.in_ok-add_form.field-0 (sym c.earlier-first.ensures ∙ e) in
-      added c.args.lines.now c.loop-line.line-index c.line-item.result c.loop-line.forms.items c.add_form.new.forms.items c.loop-line-test.true c.line-item.is (c.loop-line.invariant.1 none.0) (if_none c.in_ok-add_form.field-0 none.1 c.in_ok-add_form.ensures.added),
+      added c.args.lines.now c.loop-line.line-index c.line-item.result c.loop-line.forms.items c.add_form.new.forms.items c.loop-line-test.true
+      c.line-item.is (c.loop-line.invariant.1 none.0) (if_none c.in_ok-add_form.field-0 none.1 c.in_ok-add_form.ensures.added),
 )

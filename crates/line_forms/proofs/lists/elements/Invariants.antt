@@ -8,7 +8,9 @@ use Rattle.line_forms.proofs.lists.elements.Given as goal
 abbrev pub invariant-elements : goal.invariant-elements
 invariant-elements g l =
     (most : ℕ) × (length (lexemes l.rest) < most)
-    × (with_front (map g.T.Element.view l.elements.items) (comma_list (goes_on l.fn.kind) (read l.fn.depths g.T.Element.grammar) most (lexemes l.rest)) ≡ elements l.fn.kind (read l.fn.depths g.T.Element.grammar) (lexemes l.fn.tokens))
+    × (with_front (map g.T.Element.view l.elements.items)
+    (comma_list (goes_on l.fn.kind) (read l.fn.depths g.T.Element.grammar) most (lexemes l.rest))
+    ≡ elements l.fn.kind (read l.fn.depths g.T.Element.grammar) (lexemes l.fn.tokens))
 
 abbrev pub decreases-elements : goal.decreases-elements
 decreases-elements g l = length (lexemes l.rest)

@@ -22,6 +22,7 @@ returns c =
     (IsAppended c.innermost-opens.result.0.items c.innermost-opens.result.1.before.items c.in_ok-stmt.stmt)
     (λ d. (n : ℕ) → IsBehind c.args.draft (statement_line n (end_part (innermost (shape c.args.draft.opens.items)) c.args.glued)) d)
     (λ d a n.
-    end_behind c.args.draft d n c.args.glued c.innermost-opens.result.0.items c.innermost-opens.result.1 c.in_ok-stmt.stmt c.requires.takes c.innermost-opens.ensures c.in_ok-stmt.ensures a)
+    end_behind c.args.draft d n c.args.glued c.innermost-opens.result.0.items c.innermost-opens.result.1 c.in_ok-stmt.stmt c.requires.takes
+    c.innermost-opens.ensures c.in_ok-stmt.ensures a)
     c.appended.result
     c.appended.ensures

@@ -41,7 +41,8 @@ returns c =
     c.innermost-opens.ensures
     (ap (λ es. es ++ (Some c.args.line, OfStatement form) ∷ []) c.in_ok-first.ensures.lines)
     (refl, refl)
-    (if_stays (open_of o.what) (shape os) (status c.args.draft).pending (status c.args.draft).ended (role_of (OfStatement form)) is (else_if_role c.args.glued (expression c.args.cond)))
+    (if_stays (open_of o.what) (shape os) (status c.args.draft).pending (status c.args.draft).ended (role_of (OfStatement form)) is
+    (else_if_role c.args.glued (expression c.args.cond)))
     n)
     c.nested.result
     c.nested.ensures

@@ -1,12 +1,10 @@
-use Rattle.std.proofs.Common.{refl, Some, option_map}
+use Rattle.std.proofs.Common.{refl, Some}
 use Rattle.statement_reader.specs.Views.{do_of}
-use Rattle.nest_reader.specs.Views.{spelled_independent}
-use Rattle.nest_reader.specs.ProgramLines.{independent_lines}
 use Rattle.statement_reader.specs.declared.kind.Kind.TheVariants as kind
 use Rattle.statement_reader.specs.Forms as statements
 use Rattle.nest_rules.specs.ProgramLine.{OfStatement}
 use Rattle.nest_reader.specs.declared.draft.Opened.TheVariants as opened
-use Rattle.nest_reader.specs.Draft.{IsBehind, IsNested}
+use Rattle.nest_reader.specs.Draft.{IsBehind, IsNested, mark_lines}
 use Rattle.nest_reader.specs.NextLine.{statement_line}
 use Rattle.nest_reader.proofs.Taken.{on_ok, opened_behind}
 use Rattle.nest_reader.proofs.draft_step.open_do.Goals as goal
@@ -19,7 +17,7 @@ returns c =
     (IsNested c.args.draft.opens.items c.args.draft.block.items w)
     (IsBehind c.args.draft (statement_line c.args.line form))
     (λ d n.
-    opened_behind c.args.draft d (statement_line c.args.line form) w (Some c.args.line, OfStatement form) (independent_lines (option_map spelled_independent c.args.draft.mark)) c.requires.takes.going
+    opened_behind c.args.draft d (statement_line c.args.line form) w (Some c.args.line, OfStatement form) (mark_lines c.args.draft.mark) c.requires.takes.going
     (λ ls h. h)
     refl (refl, refl) refl n)
     c.nested.result

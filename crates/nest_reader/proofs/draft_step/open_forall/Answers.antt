@@ -21,7 +21,9 @@ returns c =
     (IsBehind c.args.draft (statement_line c.args.line form))
     (λ d n.
     opened_behind c.args.draft d (statement_line c.args.line form) w (Some c.args.line, OfStatement form) (bare_independent_lines c.is_some-marked.result) c.requires.takes.going
-    (λ ls h. subst (λ b. AreEntriesOf (bare_independent_lines b) ls) (sym c.is_some-marked.ensures) (bare_under c.args.draft.mark (bare c.args.draft.mark (role.Opens construct.Forall) (λ lists. refl) c.requires.takes.marks) ls h))
+    (λ ls h.
+    subst (λ b. AreEntriesOf (bare_independent_lines b) ls) (sym c.is_some-marked.ensures)
+    (bare_under c.args.draft.mark (bare c.args.draft.mark (role.Opens construct.Forall) (λ lists. refl) c.requires.takes.marks) ls h))
     refl (refl, refl) refl n)
     c.nested.result
     c.nested.ensures

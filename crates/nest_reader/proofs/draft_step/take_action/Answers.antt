@@ -8,7 +8,9 @@ use Rattle.nest_reader.proofs.Taken.{action_whole, appended_behind, bare_under, 
 use Rattle.nest_reader.proofs.draft_step.take_action.Goals as goal
 
 pub single-requires : goal.single-requires
-single-requires c h = marked_forall c.args.draft.mark (role_of (action_line c.args.line c.args.action).what) (action_whole c.args.line c.args.action) c.requires.takes.marks (sym c.is_some.ensures ∙ h)
+single-requires c h =
+    marked_forall c.args.draft.mark (role_of (action_line c.args.line c.args.action).what) (action_whole c.args.line c.args.action)
+    c.requires.takes.marks (sym c.is_some.ensures ∙ h)
 
 pub appended-requires : goal.appended-requires
 appended-requires c =

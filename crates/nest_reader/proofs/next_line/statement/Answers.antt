@@ -38,7 +38,8 @@ returns-in-EndWhere c =
     (IsBehind c.args.draft (statement_line c.args.line (form_of c.args.what)))
     (λ d h.
     subst (λ f. IsBehind c.args.draft (statement_line c.args.line f) d)
-    (close_is (status c.args.draft) c.args.what (statement.EndWhere c.in-EndWhere.glued) construct.Where c.in-EndWhere.glued c.in-EndWhere.is (end_where_form c.in-EndWhere.glued) c.requires.takes)
+    (close_is (status c.args.draft) c.args.what (statement.EndWhere c.in-EndWhere.glued) construct.Where c.in-EndWhere.glued c.in-EndWhere.is
+    (end_where_form c.in-EndWhere.glued) c.requires.takes)
     (h c.args.line))
     c.close-in-EndWhere.result
     c.close-in-EndWhere.ensures
@@ -50,7 +51,8 @@ returns-in-EndForall c =
     (IsBehind c.args.draft (statement_line c.args.line (form_of c.args.what)))
     (λ d h.
     subst (λ f. IsBehind c.args.draft (statement_line c.args.line f) d)
-    (close_is (status c.args.draft) c.args.what (statement.EndForall c.in-EndForall.glued) construct.Forall c.in-EndForall.glued c.in-EndForall.is (end_forall_form c.in-EndForall.glued) c.requires.takes)
+    (close_is (status c.args.draft) c.args.what (statement.EndForall c.in-EndForall.glued) construct.Forall c.in-EndForall.glued c.in-EndForall.is
+    (end_forall_form c.in-EndForall.glued) c.requires.takes)
     (h c.args.line))
     c.close-in-EndForall.result
     c.close-in-EndForall.ensures

@@ -13,4 +13,5 @@ behind-requires c =
 
 pub returns : goal.returns
 returns c ls last rest p =
-    inner_progress ls last (line_of c.args.line) rest c.args.so_far.name c.args.so_far.decls c.args.so_far.draft c.args.so_far.over c.requires.inside p c.in_ok-draft.draft c.in_ok-draft.ensures
+    inner_progress ls last (line_of c.args.line) rest c.args.so_far.name c.args.so_far.decls c.args.so_far.draft c.args.so_far.over c.requires.inside
+    p c.in_ok-draft.draft c.in_ok-draft.ensures

@@ -27,7 +27,8 @@ ended : (c : In-None) → IsProgress (lines_of c.args.lines.items) c.requires.0 
 ended c =
     let rest = c.loop-line.line-iterator.rest in
     let none : length rest.items ≡ 0 = omega (arith, rest.ok.0, c.in-None.ensures.steps.0) in
-    subst (λ xs. IsProgress (lines_of c.args.lines.items) c.requires.0 c.loop-line.so_far (lines_of xs)) (nil_length rest.items none) (c.loop-line.invariant c.requires.0 c.requires.1)
+    subst (λ xs. IsProgress (lines_of c.args.lines.items) c.requires.0 c.loop-line.so_far (lines_of xs)) (nil_length rest.items none)
+    (c.loop-line.invariant c.requires.0 c.requires.1)
 
 pub tree-requires : goal.tree-requires
 tree-requires c = record { held = (lines_of c.args.lines.items, c.requires.0, ended (goal.at.tree-requires c).In-None) }

@@ -6,4 +6,6 @@ use Rattle.nest_reader.specs.Progress.{IsProgress}
 use Rattle.nest_reader.proofs.progress.read_nest.Given as goal
 
 abbrev pub invariant-loop-line : goal.invariant-loop-line
-invariant-loop-line l = (last : ℕ) → NoBreach (IsNestBreach last (lines_of l.fn.lines.items)) → IsProgress (lines_of l.fn.lines.items) last l.so_far (lines_of l.line-iterator.rest.items)
+invariant-loop-line l =
+    (last : ℕ) → NoBreach (IsNestBreach last (lines_of l.fn.lines.items))
+    → IsProgress (lines_of l.fn.lines.items) last l.so_far (lines_of l.line-iterator.rest.items)

@@ -1,12 +1,11 @@
--- No public clause cites this file.
--- What the functions of the code gave.
-use Rattle.std.specs.Prelude.{◌≡◌, ◌≤◌, ℕ, ◌+◌, List, [], ◌∷◌, drop, Option, Some, None, Vec, true, false}
+-- What is read at tokens, and the trees that a function gives, apart from where they lie in memory. No public clause cites
+-- this file.
+use Rattle.std.specs.Prelude.{◌≡◌, ◌≤◌, ℕ, ◌+◌, List, drop, Option, Some, None, Vec, true, false}
 use Rattle.std.specs.declared.alloc.Global.{Global}
 use Rattle.source_lines.specs.declared.token.Token.{Token}
 use Rattle.syntax_tree.specs.declared.expr.Expr.{Expr}
-use Rattle.syntax_tree.specs.declared.expr.Subscript.{Subscript}
 use Rattle.syntax_tree.specs.Lexeme.{lexemes}
-use Rattle.syntax_tree.specs.Expression.{Expression, Part, One, Parts, End, More, Maybe, Absent, Present, expression, subscript}
+use Rattle.syntax_tree.specs.Expression.{Expression, Part, One, Parts, End, More, Maybe, Absent, Present, arguments_of, expression}
 use Rattle.expr_reader.specs.Reading.{Readers, apart, are_arguments, reading}
 
 -- what was read, with the trees apart from where they lie
@@ -32,23 +31,15 @@ abbrev pub maybe_in : Option Expr → Maybe
 maybe_in None = Absent
 maybe_in (Some e) = Present (expression e)
 
-abbrev pub parts_of : List Subscript → Parts
-parts_of [] = End
-parts_of (s ∷ ss) = More (subscript s) (parts_of ss)
-
-abbrev pub arguments_of : List Expr → Parts
-arguments_of [] = End
-arguments_of (e ∷ es) = More (One (expression e)) (arguments_of es)
-
 -- parts in front of others
-abbrev pub joined : Parts → Parts → Parts
-joined End ps = ps
-joined (More p front) ps = More p (joined front ps)
+abbrev pub append_parts : Parts → Parts → Parts
+append_parts End ps = ps
+append_parts (More p front) ps = More p (append_parts front ps)
 
 -- what so many tokens with some parts go on to be
 abbrev pub with_front : Parts → ℕ → Option (Parts × ℕ) → Option (Parts × ℕ)
 with_front front n None = None
-with_front front n (Some x) = Some (joined front x.0, n + x.1)
+with_front front n (Some x) = Some (append_parts front x.0, n + x.1)
 
 -- the expression that a part of a list is
 abbrev pub expression_of : Part → Option Expression
