@@ -1,5 +1,5 @@
 -- The lines of a text, and what is wrong with their nest.
-use Rattle.std.proofs.Common.{◌≡◌, ℕ, List, [], ◌∷◌, length, true, Some, None, refl, sym, ap, ◌∙◌, subst}
+use Rattle.std.proofs.Common.{◌≡◌, ℕ, List, [], ◌∷◌, length, Some, None, refl, sym, ap, ◌∙◌, subst}
 use Rattle.hpf_base.specs.declared.refusal.Reason.{Reason}
 use Rattle.hpf_base.specs.declared.refusal.StaticError.{StaticError}
 use Rattle.hpf_base.specs.declared.refusal.StaticError.TheVariants.{Refused, Memory}
@@ -15,9 +15,7 @@ use Rattle.statement_reader.specs.Breaches.{IsStatement}
 use Rattle.statement_reader.proofs.Spelled.{one_form}
 use Rattle.directive_reader.specs.Forms as directives
 use Rattle.directive_reader.specs.Breach.{IsDirective}
-use Rattle.directive_reader.specs.Reading.{directive}
 use Rattle.directive_reader.proofs.Verdicts.{one_directive}
-use Rattle.line_forms.specs.Reading.{Reading, Found, Stopped}
 use Rattle.nest_rules.specs.ProgramLine.{ProgramLine, LineContent, OfStatement, OfDirective}
 use Rattle.nest_rules.specs.Breaches.{IsNestBreach}
 use Rattle.hpf_base.proofs.FirstBreaches.{first_same}
