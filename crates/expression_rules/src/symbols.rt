@@ -1,6 +1,6 @@
 //! The symbol table.
 
-ghost use Rattle.std.specs.Prelude.{◌≡◌, [], option_copied, OnOk};
+ghost use Rattle.std.specs.Prelude.{◌≡◌, [], None, option_copied, OnOk};
 ghost use Rattle.expression_rules.specs.Symbols.{changed, find};
 
 use crate::dims::Dims;
@@ -39,6 +39,11 @@ impl Model for SymbolTable {
     ghost Value = { List (List ℕ × Symbol) };
 
     ghost view = { λ t. t.symbols.entries };
+
+    ghost use Rattle.std.specs.Prelude.{◌≡◌, [], None};
+    ghost use Rattle.expression_rules.specs.Symbols.{find};
+
+    ghost invariant = { λ t. find [] t.symbols.entries ≡ None };
 }
 
 impl SymbolTable {
@@ -64,5 +69,12 @@ impl SymbolTable {
     {
         self.symbols.insert(name, symbol)?;
         Ok(())
+    }
+
+    /// A name without bytes, which no text spells, isn't declared. It does nothing.
+    pub fn valid(&self)
+        ensures { find [] self.now ≡ None }
+    {
+        let _ = &self.symbols;
     }
 }
