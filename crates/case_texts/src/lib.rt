@@ -1,12 +1,14 @@
-//! Texts as the cases of test programs write them, on one line of printable bytes.
+//! Cases of test programs, and texts as they write them, in printable bytes.
 //!
 //! Comes in: a text as it is written. Goes out: its bytes; and the other way, bytes as they are written. What holds in
 //! between: a bar stands for a line feed, `\x` and two hexadecimal digits for the byte of that number, and `{N*TEXT}` for
 //! TEXT N times, where TEXT has no braces. Any other byte stands for itself.
 #![tactic(auto)]
 
+mod case;
 mod reading;
 mod writing;
 
+pub use case::Case;
 pub use reading::{TextError, text_of};
-pub use writing::write_text;
+pub use writing::{write_error, write_text};

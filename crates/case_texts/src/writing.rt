@@ -1,5 +1,6 @@
-//! Bytes as cases write them.
+//! Bytes and refusals as cases write them.
 
+use hpf_base::{Refusal, StaticError};
 use std::alloc::AllocError;
 use std::fmt::Write;
 
@@ -14,4 +15,17 @@ pub fn write_text(out: &mut String, bytes: &[u8]) -> Result<(), AllocError> {
         }
     }
     Ok(())
+}
+
+/// Writes a refusal, with its line and the number and the name of its reason.
+pub fn write_error(out: &mut String, error: StaticError) -> Result<(), AllocError> {
+    match error {
+        StaticError::Refused(Refusal { line, reason }) => writeln!(
+            out,
+            "  line {line}: refused {} {}",
+            reason.number(),
+            reason.name()
+        ),
+        StaticError::Memory => out.push_str("  out of memory\n"),
+    }
 }

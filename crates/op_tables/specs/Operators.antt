@@ -24,13 +24,13 @@ is_true z = not (is_zero z)
 abbrev pub magnitude : ℤ → ℤ
 magnitude z = pos (unsigned_abs z)
 
--- the magnitude of a with the sign of b (13.14.95)
+-- the magnitude of a with the sign of b (13.14.98)
 abbrev pub signed_as : ℤ → ℤ → ℤ
 signed_as a b = if int_lt b (pos 0) then neg_ℤ (magnitude a) else magnitude a
 
--- the number below b in magnitude, and of its sign, that is of a's class modulo b (13.14.70)
+-- the number below b in magnitude, and of its sign, that is of a's class modulo b (13.14.74)
 abbrev pub modulo : ℤ → ℤ → ℤ
-modulo a b = let r = int_rem a b in if is_zero r || int_eq (signed_as r b) r then r else r +ℤ b
+modulo a b = let r = int_rem a b in if int_eq (signed_as r b) r then r else r +ℤ b
 
 -- 1 / a ** n, toward zero; None where a is 0
 abbrev pub inverse_power : ℤ → ℕ → Option ℤ
@@ -96,12 +96,17 @@ abbrev pub quotient_of : Op → List ℤ → Option ℤ
 quotient_of o (a ∷ b ∷ []) = quotient o a b
 quotient_of o values = Some (pos 0)
 
+-- by how many operands there are
+abbrev pub value_by_count : Op → List ℤ → ℤ
+value_by_count o (a ∷ []) = value_of_one o a
+value_by_count o (a ∷ b ∷ []) = value_of_two o a b
+value_by_count o values = pos 0
+
+-- MAX and MIN take any number of them
 abbrev pub value_of : Op → List ℤ → ℤ
 value_of op.Max (a ∷ rest) = fold int_max a rest
 value_of op.Min (a ∷ rest) = fold int_min a rest
-value_of o (a ∷ []) = value_of_one o a
-value_of o (a ∷ b ∷ []) = value_of_two o a b
-value_of o values = pos 0
+value_of o values = value_by_count o values
 
 -- the value of an operator or elemental procedure; None where it divides by zero. What has no value here, as a reduction or
 -- another number of operands than the operator takes, gives 0

@@ -1,8 +1,9 @@
 //! The words of the language, each with its code, and its operators.
 //!
-//! Comes in: nothing. Goes out: five tables of words, and the code of a word that is spelled so.
+//! Comes in: nothing. Goes out: five tables of words, the code of a word that is spelled so, and the value of an operator.
 //! What holds in between: a table's words are those of `specs/`, distinct and in ascending order, and a word's
-//! code is its place; a look-up gives that code, and None exactly where the word isn't in the table.
+//! code is its place; a look-up gives that code, and None exactly where the word isn't in the table. An operator's value
+//! is that of `specs/Operators.antt`, over numbers of 64 bits that wrap.
 #![tactic(auto)]
 
 mod arguments;
@@ -11,6 +12,7 @@ mod intrinsics;
 mod left_out;
 mod marks;
 mod op;
+mod operators;
 mod reserved;
 mod statements;
 mod table;
@@ -21,6 +23,7 @@ pub use intrinsics::{intrinsic_word, intrinsic_words};
 pub use left_out::{left_out_word, left_out_words};
 pub use marks::{symbol, symbols};
 pub use op::Op;
+pub use operators::{DivZero, apply};
 pub use reserved::is_reserved;
 pub use statements::{statement_word, statement_words};
 pub use table::{Row, Table};

@@ -1,21 +1,38 @@
 //! The answers to cases.
 
-use crate::case::{Case, Wanted};
 use crate::fronts::write_fronts;
-use case_texts::{TextError, text_of};
-use hpf_base::{Refusal, StaticError};
+use case_texts::{Case, TextError, text_of, write_error};
 use hpf_reader::read_program;
 use std::alloc::{AllocError, Global};
-use std::fmt::Write;
 use tree_text::write_program;
 
-/// The answer to a case, in lines.
+/// What a case asks of its text.
+#[derive(Clone, Copy)]
+enum Wanted {
+    Verdict,
+    Tree,
+    Fronts,
+}
+
+/// What a word asks; None where it begins a remark.
+fn wanted(word: &str) -> Option<Wanted> {
+    match word {
+        "read" => Some(Wanted::Verdict),
+        "tree" => Some(Wanted::Tree),
+        "fronts" => Some(Wanted::Fronts),
+        _ => None,
+    }
+}
+
+/// The answer to a case, in lines; none to a remark.
 pub fn answer_to(alloc: Global, case: &Case) -> Result<String, AllocError> {
     let mut out = String::new(alloc);
-    match text_of(alloc, case.written.as_str()) {
-        Ok(text) => write_answer(alloc, &mut out, case.wanted, &text)?,
-        Err(TextError::Malformed) => out.push_str("  no text is written so\n")?,
-        Err(TextError::Memory) => out.push_str("  out of memory\n")?,
+    if let Some(wanted) = wanted(case.word.as_str()) {
+        match text_of(alloc, case.written.as_str()) {
+            Ok(text) => write_answer(alloc, &mut out, wanted, &text)?,
+            Err(TextError::Malformed) => out.push_str("  no text is written so\n")?,
+            Err(TextError::Memory) => out.push_str("  out of memory\n")?,
+        }
     }
     Ok(out)
 }
@@ -36,17 +53,5 @@ fn write_answer(
             Err(error) => write_error(out, error),
         },
         Wanted::Fronts => write_fronts(alloc, out, text),
-    }
-}
-
-fn write_error(out: &mut String, error: StaticError) -> Result<(), AllocError> {
-    match error {
-        StaticError::Refused(Refusal { line, reason }) => writeln!(
-            out,
-            "  line {line}: refused {} {}",
-            reason.number(),
-            reason.name()
-        ),
-        StaticError::Memory => out.push_str("  out of memory\n"),
     }
 }

@@ -12,11 +12,10 @@
 #![tactic(auto)]
 
 mod answer;
-mod case;
 mod fronts;
 
 use crate::answer::answer_to;
-use crate::case::Case;
+use case_texts::Case;
 use std::io;
 use std::io::{BufRead, BufReader};
 
@@ -39,7 +38,7 @@ fn main(rt: HostRuntime) -> io::Result<()> {
             }
         } else {
             print_answer(&rt, open.take())?;
-            open = Case::begin(alloc, line.as_str())?;
+            open = Some(Case::begin(alloc, line.as_str())?);
         }
         println!(rt; "{line}")?;
     }

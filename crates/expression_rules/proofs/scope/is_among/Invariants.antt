@@ -1,0 +1,7 @@
+use Rattle.std.proofs.Common.{◌≡◌, drop}
+use Rattle.std.specs.Prelude.{◌||◌}
+use Rattle.expression_rules.specs.Symbols.{is_among}
+use Rattle.expression_rules.proofs.scope.is_among.Given as goal
+
+abbrev pub invariant-loop-other : goal.invariant-loop-other
+invariant-loop-other l = (l.found || is_among l.name (drop l.other-index l.names)) ≡ is_among l.name l.names

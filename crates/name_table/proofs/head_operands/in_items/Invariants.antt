@@ -1,0 +1,10 @@
+use Rattle.std.proofs.Common.{◌≡◌, drop, map}
+use Rattle.std.specs.Prelude.{◌&&◌}
+use Rattle.std.specs.List.{flat_map, list_all}
+use Rattle.syntax_tree.specs.Statement.{item_of}
+use Rattle.name_table.specs.Places.{item_expressions}
+use Rattle.expression_rules.specs.Operands.{are_operands}
+use Rattle.name_table.proofs.head_operands.in_items.Given as goal
+
+abbrev pub invariant-loop-item : goal.invariant-loop-item
+invariant-loop-item l = (l.all && list_all (are_operands l.scope) (flat_map item_expressions (map item_of (drop l.item-index l.items)))) ≡ list_all (are_operands l.scope) (flat_map item_expressions (map item_of l.items))

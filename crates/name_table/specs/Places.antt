@@ -1,0 +1,112 @@
+-- The expressions of statements, each with what its place asks of its type and rank (Fortran 95, 7.4.1.4, 7.5.1.1, 7.5.3, 7.5.4,
+-- 8.1.2, 8.1.4 and 9.4.2).
+use Rattle.std.specs.Prelude.{Bool, true, false, ◌&&◌, ◌||◌, nat_eq, nat_le, is_some, List, [], ◌∷◌, ◌++◌, map, Option, Some, None}
+use Rattle.std.specs.List.{list_all, flat_map}
+use Rattle.syntax_tree.specs.Expression.{Expression, Name, Element}
+use Rattle.syntax_tree.specs.Directive.{Bound, Format, Undistributed, Block, Cyclic}
+use Rattle.syntax_tree.specs.Statement.{Axis, Item, Value, Text, designator}
+use Rattle.expression_rules.specs.Symbols.{SymbolTable}
+use Rattle.expression_rules.specs.declared.types.Context.{Context}
+use Rattle.expression_rules.specs.declared.types.Context.TheVariants as context
+use Rattle.expression_rules.specs.declared.types.DataType.TheVariants.{Integer, Logical}
+use Rattle.expression_rules.specs.declared.types.TypeAndRank.{TypeAndRank}
+use Rattle.expression_rules.specs.Types.{same_type, is_integer_scalar, is_logical_scalar, if_typed, type_and_rank}
+use Rattle.name_table.specs.Head.{Head}
+use Rattle.name_table.specs.Head as head
+
+pub data Requirement : Type 0 where
+  IntegerScalar : Requirement
+  LogicalScalar : Requirement
+  -- a mask, which is no scalar
+  LogicalArray : Requirement
+  -- the left side of an assignment: any variable; an array of the rank of this mask; an element of an array
+  Variable : Requirement
+  MaskedArray : Expression → Requirement
+  ArrayElement : Requirement
+  -- the right side behind this left side: an integer that is a scalar or of its rank
+  RightOf : Expression → Requirement
+  -- an item of a PRINT: an integer scalar, a whole array of integers or a section of one
+  PrintItem : Requirement
+
+pub record Place : Type 0 where
+  pub expression : Expression
+  pub requirement : Requirement
+
+abbrev pub place : Requirement → Expression → Place
+place r e = record { expression = e; requirement = r }
+
+abbrev pub present : {A : Type 0} → Option A → List A
+present None = []
+present (Some a) = a ∷ []
+
+abbrev pub axis_expressions : Axis → List Expression
+axis_expressions a = a.first ∷ a.last ∷ present a.step
+
+abbrev pub bound_expressions : Bound → List Expression
+bound_expressions b = present b.lower ++ b.upper ∷ []
+
+abbrev pub item_expressions : Item → List Expression
+item_expressions (Value e) = e ∷ []
+item_expressions (Text bytes) = []
+
+abbrev pub format_expressions : Format → List Expression
+format_expressions Undistributed = []
+format_expressions (Block m) = present m
+format_expressions (Cyclic k) = present k
+
+abbrev pub integer_scalars : List Expression → List Place
+integer_scalars es = map (place IntegerScalar) es
+
+-- the places of a statement
+abbrev pub places : Head → List Place
+places (head.Assignment left right) = place Variable (designator left) ∷ place (RightOf (designator left)) right ∷ []
+places (head.MaskedAssignment mask left right) = place (MaskedArray mask) (designator left) ∷ place (RightOf (designator left)) right ∷ []
+places (head.ForallAssignment axes left right) = place ArrayElement (designator left) ∷ place IntegerScalar right ∷ []
+places (head.Condition cond) = place LogicalScalar cond ∷ []
+places (head.Independent m) = []
+places (head.Do mark axis) = integer_scalars (axis_expressions axis)
+places (head.Where mask) = place LogicalArray mask ∷ []
+places (head.Forall axes mask) = integer_scalars (flat_map axis_expressions axes) ++ map (place LogicalScalar) (present mask)
+places head.Transfer = []
+places (head.Print items) = map (place PrintItem) (flat_map item_expressions items)
+places (head.Redistribute d) = integer_scalars (flat_map format_expressions d.formats)
+
+-- where its expressions stand
+abbrev pub context_of : Head → Context
+context_of (head.Redistribute d) = context.Directive
+context_of h = context.Statement
+
+abbrev pub is_element : Expression → Bool
+is_element (Element x ps) = true
+is_element e = false
+
+-- a name, or a name with subscripts behind it
+abbrev pub is_designator : Expression → Bool
+is_designator (Name x) = true
+is_designator e = is_element e
+
+abbrev pub is_integer : TypeAndRank → Bool
+is_integer s = same_type s.data_type Integer
+
+abbrev pub is_mask : TypeAndRank → Bool
+is_mask s = same_type s.data_type Logical && nat_le 1 s.rank
+
+abbrev pub is_right_of : TypeAndRank → TypeAndRank → Bool
+is_right_of left s = is_integer s && (nat_eq s.rank 0 || nat_eq s.rank left.rank)
+
+abbrev pub is_masked_by : TypeAndRank → TypeAndRank → Bool
+is_masked_by mask s = nat_le 1 s.rank && nat_eq s.rank mask.rank
+
+-- the expression is what its place asks
+abbrev pub meets : Context → SymbolTable → Requirement → Expression → Bool
+meets c t IntegerScalar e = if_typed is_integer_scalar (type_and_rank c t e)
+meets c t LogicalScalar e = if_typed is_logical_scalar (type_and_rank c t e)
+meets c t LogicalArray e = if_typed is_mask (type_and_rank c t e)
+meets c t Variable e = is_some (type_and_rank c t e)
+meets c t (MaskedArray mask) e = if_typed (λ m. if_typed (is_masked_by m) (type_and_rank c t e)) (type_and_rank c t mask)
+meets c t ArrayElement e = is_element e && if_typed is_integer_scalar (type_and_rank c t e)
+meets c t (RightOf left) e = if_typed (λ l. if_typed (is_right_of l) (type_and_rank c t e)) (type_and_rank c t left)
+meets c t PrintItem e = if_typed (λ s. is_integer s && (nat_eq s.rank 0 || is_designator e)) (type_and_rank c t e)
+
+abbrev pub all_meet : Context → SymbolTable → List Place → Bool
+all_meet c t ps = list_all (λ p. meets c t p.requirement p.expression) ps

@@ -1,0 +1,12 @@
+//! The names of a program, and the rules of names, constants, types and ranks.
+//!
+//! Comes in: the tree of a program. Goes out: the tree with its names, each with what it is, or the first breach of the rules
+//! of names and constants, or of those of types and ranks where there is none of the former. What holds in between: what is wrong with
+//! a program is a list of breaches that each part of it says by itself; a walk asks a judge of each statement alone.
+#![tactic(auto)]
+
+mod head_operands;
+mod name_judge;
+mod statement_walk;
+
+pub use statement_walk::{Head, Judge, walk};
