@@ -42,6 +42,18 @@ pub const MAX_ELEMENTS: u64 = 1_048_576;
 /// The greatest number of elements of all arrays of a program together.
 pub const MAX_TOTAL_ELEMENTS: u64 = 4_194_304;
 
+/// The greatest number of index tuples of an array statement, and of executions of a statement by a nest of INDEPENDENT loops.
+pub const MAX_TUPLES: u64 = 1_048_576;
+
+/// The greatest magnitude of the first and of the last value of an index.
+pub const MAX_INDEX_VALUE: u64 = 2_199_023_255_552;
+
+/// The greatest magnitude of a in a subscript `a*x + c` in an index x.
+pub const MAX_FACTOR: u64 = 1_048_576;
+
+/// The greatest magnitude of c in a subscript `a*x + c` in an index x.
+pub const MAX_OFFSET: u64 = 2_199_023_255_552;
+
 /// The greatest extent of a dimension of a template.
 pub const MAX_TEMPLATE_EXTENT: u64 = 1_099_511_627_776;
 

@@ -2,3 +2,4 @@ pub mod Tables
 pub mod Words
 pub mod Arguments
 pub mod Operators
+pub mod Reductions
