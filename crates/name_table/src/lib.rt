@@ -5,8 +5,12 @@
 //! a program is a list of breaches that each part of it says by itself; a walk asks a judge of each statement alone.
 #![tactic(auto)]
 
+mod declaration_ranks;
+mod dummies;
 mod head_operands;
+mod integer_scalars;
 mod name_judge;
+mod rank_judge;
 mod statement_walk;
 
 pub use statement_walk::{Head, Judge, walk};
