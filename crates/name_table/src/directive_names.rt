@@ -74,7 +74,7 @@ fn names_stand(
     directive: &Directive,
 ) -> Result<bool, AllocError>
     ensures { IfOk result (λ b. b ≡ (list_all (λ x. is_declared x table.now) (directive_names (directive_of directive.now))
-            && list_all (are_operands (with_dummies table.now (directive_dummies (directive_of directive.now)))) (directive_expressions (directive_of directive.now)))) }
+        && list_all (are_operands (with_dummies table.now (directive_dummies (directive_of directive.now)))) (directive_expressions (directive_of directive.now)))) }
 {
     let dummies = dummies(alloc, directive)?;
     let scope = Scope::with_dummies(table, &dummies);

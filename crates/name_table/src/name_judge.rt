@@ -130,12 +130,7 @@ fn own_stand(table: &SymbolTable, do_variables: &[Name], head: Head<'_>) -> bool
 }
 
 /// The name may stand on the left side of an assignment, in a FORALL with these indices.
-fn is_assignable(
-    table: &SymbolTable,
-    do_variables: &[Name],
-    axes: &[Header],
-    name: &Name,
-) -> bool
+fn is_assignable(table: &SymbolTable, do_variables: &[Name], axes: &[Header], name: &Name) -> bool
     ensures { result ≡ allows table.now do_variables.now (Assigned (indices_of (map axis axes.now)) name.now) }
 {
     is_variable(table.find(name)) && (!is_among(name, do_variables) || is_index(name, axes))
@@ -164,6 +159,7 @@ fn is_index(name: &Name, axes: &[Header]) -> bool
 }
 
 /// An index stands twice among those of a FORALL. An `Err` is want of memory.
+#[tactic(auto, using(crate::proofs::Repeats::repeats_from_start))]
 fn repeats(alloc: Global, axes: &[Header]) -> Result<bool, AllocError>
     ensures { IfOk result (λ b. b ≡ repeats (indices_of (map axis axes.now))) }
 {
