@@ -2,6 +2,7 @@ mod Folds
 mod Measures
 mod Placings
 mod Reasons
+mod Repeats
 mod Scalars
 mod StatementRows
 mod Turns

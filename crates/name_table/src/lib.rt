@@ -6,9 +6,12 @@
 #![tactic(auto)]
 
 mod declaration_ranks;
+mod directive_names;
+mod directive_operands;
 mod dummies;
 mod head_operands;
 mod integer_scalars;
+mod listed_names;
 mod name_judge;
 mod rank_judge;
 mod statement_walk;
