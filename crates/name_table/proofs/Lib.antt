@@ -5,3 +5,7 @@ mod Reasons
 mod StatementRows
 mod Turns
 mod WalkSteps
+mod LeastReasons
+mod ConstantLists
+mod ElementTotals
+mod ArrayLimits

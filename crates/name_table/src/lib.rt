@@ -5,8 +5,13 @@
 //! a program is a list of breaches that each part of it says by itself; a walk asks a judge of each statement alone.
 #![tactic(auto)]
 
+mod constant_reasons;
+mod declare;
+mod declared_names;
 mod head_operands;
+mod limits;
 mod name_judge;
+mod least_reason;
 mod statement_walk;
 
 pub use statement_walk::{Head, Judge, walk};
