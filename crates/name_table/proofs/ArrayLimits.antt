@@ -90,11 +90,11 @@ dims_next t bs n b l u so_far after within is lower upper more all =
 
 -- ---- dimensions within the limits
 
-near : (n : ℤ) → is_too_far (Some n) ≡ false → unsigned_abs n ≤ MAX_BOUND
-near n h = grind (arith, nat_tests)
+at_most : (limit n : ℕ) → nat_lt limit n ≡ false → n ≤ limit
+at_most limit n h = grind (arith, nat_tests)
 
-few_enough : (n : ℕ) → nat_lt MAX_ELEMENTS n ≡ false → n ≤ MAX_ELEMENTS
-few_enough n h = grind (arith, nat_tests)
+near : (n : ℤ) → is_too_far (Some n) ≡ false → unsigned_abs n ≤ MAX_BOUND
+near n h = at_most MAX_BOUND (unsigned_abs n) h
 
 or_none : (a b : Bool) → (a || b) ≡ false → (a ≡ false) × (b ≡ false)
 or_none true b h = absurd cc
@@ -116,9 +116,18 @@ each_within t (b ∷ bs) ds near_by is =
     with_dim_within (lower_of t b) (number t b.upper) (dims t bs) ds both.0 (λ es e. each_within t bs es both.1 e) is
 
 -- an array that isn't past its limits
-pub are_dims : (t : SymbolTable) (bs : List Bound) (ds : List Dim) → is_past_limits t bs ≡ false → dims t bs ≡ Some ds → AreDims ds
-are_dims t bs ds within is =
-    let both = or_none (nat_lt MAX_RANK (length bs) || list_any (is_bound_too_far t) bs) (is_too_large (all_elements t) (dims t bs)) within in
-    let near_by = or_none (nat_lt MAX_RANK (length bs)) (list_any (is_bound_too_far t) bs) both.0 in
-    let few = or_none (nat_lt MAX_ELEMENTS (elements ds)) (nat_lt MAX_TOTAL_ELEMENTS (all_elements t + elements ds)) (sym (ap (is_too_large (all_elements t)) is) ∙ both.1) in
-    record { each = each_within t bs ds near_by.1 is; size = few_enough (elements ds) few.0 }
+module _ (t : SymbolTable) (bs : List Bound) (ds : List Dim) (within : is_past_limits t bs ≡ false) (is : dims t bs ≡ Some ds) where
+  parts : ((nat_lt MAX_RANK (length bs) || list_any (is_bound_too_far t) bs) ≡ false) × (is_too_large (all_elements t) (dims t bs) ≡ false)
+  parts = or_none (nat_lt MAX_RANK (length bs) || list_any (is_bound_too_far t) bs) (is_too_large (all_elements t) (dims t bs)) within
+
+  few : (nat_lt MAX_ELEMENTS (elements ds) ≡ false) × (nat_lt MAX_TOTAL_ELEMENTS (all_elements t + elements ds) ≡ false)
+  few = or_none (nat_lt MAX_ELEMENTS (elements ds)) (nat_lt MAX_TOTAL_ELEMENTS (all_elements t + elements ds)) (sym (ap (is_too_large (all_elements t)) is) ∙ parts.1)
+
+  pub are_dims : AreDims ds
+  are_dims = record {
+    each = each_within t bs ds (or_none (nat_lt MAX_RANK (length bs)) (list_any (is_bound_too_far t) bs) parts.0).1 is;
+    size = at_most MAX_ELEMENTS (elements ds) few.0;
+  }
+
+  pub room_within : all_elements t + elements ds ≤ MAX_TOTAL_ELEMENTS
+  room_within = at_most MAX_TOTAL_ELEMENTS (all_elements t + elements ds) few.1

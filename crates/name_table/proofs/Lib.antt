@@ -9,3 +9,5 @@ mod LeastReasons
 mod ConstantLists
 mod ElementTotals
 mod ArrayLimits
+mod ItemReasons
+mod ItemTurns

@@ -20,8 +20,8 @@ use Rattle.expression_rules.specs.Dims.{elements}
 use Rattle.expression_rules.specs.declared.dims.Dim.{Dim}
 use Rattle.expression_rules.specs.declared.symbols.Symbol.{Symbol}
 use Rattle.expression_rules.specs.declared.symbols.Symbol.TheVariants as symbol
-use Rattle.name_table.specs.declared.declare.Space.{Space}
-use Rattle.name_table.specs.declared.declare.Space.TheVariants.{Template, Arrangement}
+use Rattle.name_table.specs.declared.declared_items.Space.{Space}
+use Rattle.name_table.specs.declared.declared_items.Space.TheVariants.{Template, Arrangement}
 use Rattle.name_table.specs.Declarations.{Item, TypedEntity, Definition, TemplateEntity, ArrangementEntity, PlacedItem, items_of, own_or, with_dim}
 use Rattle.name_table.specs.NameRules.{is_invalid}
 

@@ -65,7 +65,7 @@ impl DeclaredNames {
 
     /// One name more, unless it is declared.
     pub(crate) fn add(&mut self, name: Name, symbol: Symbol) -> Result<(), AllocError>
-        requires { all_elements self.old + elements_of symbol ≤ MAX_TOTAL_ELEMENTS }
+        requires { all_elements self.old ≤ MAX_TOTAL_ELEMENTS → all_elements self.old + elements_of symbol ≤ MAX_TOTAL_ELEMENTS }
         ensures { OnOk result (self.new ≡ added self.old name symbol) }
     {
         if is_declared(&self.table, &name) {

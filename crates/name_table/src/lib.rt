@@ -7,6 +7,7 @@
 
 mod constant_reasons;
 mod declare;
+mod declared_items;
 mod declared_names;
 mod head_operands;
 mod limits;
