@@ -1,10 +1,11 @@
 -- What declarations say, one item after the other, and in lists that are put together.
-use Rattle.std.proofs.Common.{◌≡◌, ℕ, ◌+◌, ◌<◌, List, [], ◌∷◌, ◌++◌, append_assoc, drop, length, get_or, map, Option, refl, sym, ap, ◌∙◌}
+use Rattle.std.proofs.Common.{◌≡◌, ℕ, ◌+◌, ◌<◌, ◌≤◌, List, [], ◌∷◌, ◌++◌, append_assoc, drop, length, get_or, map, Option, refl, sym, ap, subst, ◌∙◌}
 use Rattle.std.specs.List.{flat_map}
-use Rattle.std.proofs.lemmas.List.{append-nil}
+use Rattle.std.proofs.lemmas.List.{append-nil, at_drop_all}
+use Rattle.hpf_base.specs.declared.refusal.Reason.{Reason}
 use Rattle.hpf_base.specs.declared.refusal.Refusal.{Refusal}
 use Rattle.hpf_base.specs.FirstBreach.{at_line, earlier, least}
-use Rattle.hpf_base.proofs.FirstBreaches.{earlier_assoc, least_append}
+use Rattle.hpf_base.proofs.FirstBreaches.{earlier_assoc, earlier_none, least_append}
 use Rattle.syntax_tree.specs.declared.decl.Decl.{Decl}
 use Rattle.syntax_tree.specs.MainProgram.{declaration}
 use Rattle.expression_rules.specs.Symbols.{SymbolTable}
@@ -31,27 +32,44 @@ first_append t xs ys = ap least (breaches_append t xs ys) ∙ least_append (item
 pub first_one : (line : ℕ) (t : SymbolTable) (i : Item) → least (item_breaches t (placed_item line i ∷ [])) ≡ at_line line (least_reason (item_reasons t i))
 first_one line t i = ap least (append-nil (at line (item_reasons t i))) ∙ least_at line (item_reasons t i)
 
--- a turn of a loop over what declares names, of which each has its items
-module _ {X : Type 0} (F : List X → List PlacedItem) (g : X → List PlacedItem) (step : (x : X) (xs : List X) → F (x ∷ xs) ≡ g x ++ F xs)
-    (xs : List X) (n : ℕ) (x : X) (within : n < length xs) (is : x ≡ get_or xs n x) (t after : SymbolTable) (behind_it : after ≡ behind_all t (g x)) where
-  now_rest : F (drop n xs) ≡ g x ++ F (drop (n + 1) xs)
-  now_rest = ap F (drop_item xs n x within is) ∙ step x (drop (n + 1) xs)
+-- the table so far leads over the rest of the items to the whole one, and what is found so far and in the rest is all
+abbrev pub Leads : SymbolTable → Option Refusal → List PlacedItem → SymbolTable → Option Refusal → Type 0
+Leads t first rest table all = (behind_all t rest ≡ table) × (earlier first (least (item_breaches t rest)) ≡ all)
 
-  pub table_next : (whole : SymbolTable) → behind_all t (F (drop n xs)) ≡ whole → behind_all after (F (drop (n + 1) xs)) ≡ whole
-  table_next whole so_far =
-      ap (λ a. behind_all a (F (drop (n + 1) xs))) behind_it
-      ∙ sym (behind_append t (g x) (F (drop (n + 1) xs)))
-      ∙ ap (behind_all t) (sym now_rest)
-      ∙ so_far
+-- some items more
+pub leads_on : (t after table : SymbolTable) (first found next all : Option Refusal) (some rest : List PlacedItem) →
+    after ≡ behind_all t some → found ≡ least (item_breaches t some) → next ≡ earlier first found → Leads t first (some ++ rest) table all → Leads after next rest table all
+leads_on t after table first found next all some rest behind_it of_some more so_far =
+    (
+      ap (λ a. behind_all a rest) behind_it ∙ sym (behind_append t some rest) ∙ so_far.0,
+      (λ i. earlier ((more ∙ ap (earlier first) of_some) i) (least (item_breaches (behind_it i) rest)))
+      ∙ earlier_assoc first (least (item_breaches t some)) (least (item_breaches (behind_all t some) rest))
+      ∙ ap (earlier first) (sym (first_append t some rest))
+      ∙ so_far.1
+    )
 
-  pub first_next : (first found next whole : Option Refusal) → found ≡ least (item_breaches t (g x)) → next ≡ earlier first found →
-      earlier first (least (item_breaches t (F (drop n xs)))) ≡ whole → earlier next (least (item_breaches after (F (drop (n + 1) xs)))) ≡ whole
-  first_next first found next whole of_one more so_far =
-      let rest = F (drop (n + 1) xs) in
-      (λ i. earlier ((more ∙ ap (earlier first) of_one) i) (least (item_breaches (behind_it i) rest)))
-      ∙ earlier_assoc first (least (item_breaches t (g x))) (least (item_breaches (behind_all t (g x)) rest))
-      ∙ ap (earlier first) (sym (first_append t (g x) rest) ∙ ap (λ l. least (item_breaches t l)) (sym now_rest))
-      ∙ so_far
+-- a turn of a loop over declarations
+pub declaration_next : (ds : List Decl) (n : ℕ) (d : Decl) (t after table : SymbolTable) (first found next all : Option Refusal) → n < length ds → d ≡ get_or ds n d →
+    after ≡ behind_all t (items_in d) → found ≡ least (item_breaches t (items_in d)) → next ≡ earlier first found →
+    Leads t first (flat_map items_in (drop n ds)) table all → Leads after next (flat_map items_in (drop (n + 1) ds)) table all
+declaration_next ds n d t after table first found next all within is behind_it of_one more so_far =
+    leads_on t after table first found next all (items_in d) (flat_map items_in (drop (n + 1) ds)) behind_it of_one more
+    (subst (λ l. Leads t first (flat_map items_in l) table all) (drop_item ds n d within is) so_far)
+
+-- behind the last
+pub declarations_end : (ds : List Decl) (n : ℕ) (t table : SymbolTable) (first all : Option Refusal) → length ds ≤ n → Leads t first (flat_map items_in (drop n ds)) table all → (t ≡ table) × (first ≡ all)
+declarations_end ds n t table first all end so_far =
+    let none = at_drop_all (flat_map items_in) ds n end in
+    (ap (behind_all t) (sym none) ∙ so_far.0, sym (earlier_none first) ∙ ap (λ l. earlier first (least (item_breaches t l))) (sym none) ∙ so_far.1)
+
+-- a turn of a loop over what declares one name each
+pub item_next : {X : Type 0} (line : ℕ) (f : X → Item) (xs : List X) (n : ℕ) (x : X) (t after table : SymbolTable) (first found next all : Option Refusal) (why : Option Reason) →
+    n < length xs → x ≡ get_or xs n x → after ≡ behind t (f x) → why ≡ least_reason (item_reasons t (f x)) → found ≡ at_line line why → next ≡ earlier first found →
+    Leads t first (map (λ x. placed_item line (f x)) (drop n xs)) table all → Leads after next (map (λ x. placed_item line (f x)) (drop (n + 1) xs)) table all
+item_next line f xs n x t after table first found next all why within is behind_it of_one refused more so_far =
+    leads_on t after table first found next all (placed_item line (f x) ∷ []) (map (λ x. placed_item line (f x)) (drop (n + 1) xs)) behind_it
+    (refused ∙ ap (at_line line) of_one ∙ sym (first_one line t (f x))) more
+    (subst (λ l. Leads t first (map (λ x. placed_item line (f x)) l) table all) (drop_item xs n x within is) so_far)
 
 -- the items of all declarations
 pub items_flat : (ds : List Decl) → items (map declaration ds) ≡ flat_map items_in ds

@@ -11,3 +11,4 @@ mod ElementTotals
 mod ArrayLimits
 mod ItemReasons
 mod ItemTurns
+mod HeldItems

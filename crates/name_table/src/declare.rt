@@ -1,13 +1,13 @@
 //! The symbol table of declarations, and the first breach of the rules of names and constants among them (Fortran 95, 5.1,
 //! 5.1.2.5 and 5.2.9; HPF 2.0, 3.6 and 3.7).
 
-ghost use Rattle.std.specs.Prelude.{◌≡◌, [], map, option_map, IfOk, OnOk};
+ghost use Rattle.std.specs.Prelude.{◌≡◌, [], map, IfOk, OnOk};
 ghost use Rattle.std.specs.List.{flat_map};
 ghost use Rattle.hpf_base.specs.FirstBreach.{least};
-ghost use Rattle.syntax_tree.specs.Directive.{arrangement};
-ghost use Rattle.syntax_tree.specs.MainProgram.{declaration, declared_of, named_constant, Integer, type_declaration};
-ghost use Rattle.name_table.specs.Declarations.{behind, behind_all, items, bounds_of, items_of, symbol_table};
-ghost use Rattle.name_table.specs.Declaring.{bounds_held, constant_reason, definition_items, items_in, least_reason, placed_item, space_item, space_items, typed_item, typed_items};
+ghost use Rattle.syntax_tree.specs.Directive.{directive_of};
+ghost use Rattle.syntax_tree.specs.MainProgram.{declaration, type_declaration, Directed, Integer};
+ghost use Rattle.name_table.specs.Declarations.{behind_all, bounds_of, items, items_of, symbol_table};
+ghost use Rattle.name_table.specs.Declaring.{bounds_held, constant_reason, definition_items, items_in, placed_item, space_items, typed_items};
 ghost use Rattle.name_table.specs.NameRules.{item_breaches};
 ghost use Rattle.name_table.specs.Places.{bound_expressions};
 
@@ -62,15 +62,33 @@ fn declared(
             let first = definitions(alloc, names, decl.line, constants)?;
             Ok(first)
         }
-        DeclKind::Directive(Directive::Template(entities)) => {
-            let first = spaces(names, decl.line, Space::Template, entities)?;
+        DeclKind::Directive(directive) => {
+            let first = directed(names, decl.line, directive)?;
             Ok(first)
         }
-        DeclKind::Directive(Directive::Processors(entities)) => {
-            let first = spaces(names, decl.line, Space::Arrangement, entities)?;
+        DeclKind::ImplicitNone => Ok(None),
+    }
+}
+
+/// The names of a directive, with the first of what is wrong with them.
+fn directed(
+    names: &mut DeclaredNames,
+    line: u32,
+    directive: &Directive,
+) -> Result<Option<Refusal>, AllocError>
+    ensures table { OnOk result (names.new ≡ behind_all names.old (map (placed_item line) (items_of (Directed (directive_of directive.now))))) }
+    ensures first { IfOk result (λ r. r ≡ least (item_breaches names.old (map (placed_item line) (items_of (Directed (directive_of directive.now)))))) }
+{
+    match directive {
+        Directive::Template(entities) => {
+            let first = spaces(names, line, Space::Template, entities)?;
             Ok(first)
         }
-        DeclKind::ImplicitNone | DeclKind::Directive(_) => Ok(None),
+        Directive::Processors(entities) => {
+            let first = spaces(names, line, Space::Arrangement, entities)?;
+            Ok(first)
+        }
+        _ => Ok(None),
     }
 }
 
