@@ -39,14 +39,13 @@ Leads t first rest table all = (behind_all t rest ≡ table) × (earlier first (
 -- some items more
 pub leads_on : (t after table : SymbolTable) (first found next all : Option Refusal) (some rest : List PlacedItem) →
     after ≡ behind_all t some → found ≡ least (item_breaches t some) → next ≡ earlier first found → Leads t first (some ++ rest) table all → Leads after next rest table all
-leads_on t after table first found next all some rest behind_it of_some more so_far =
-    (
-      ap (λ a. behind_all a rest) behind_it ∙ sym (behind_append t some rest) ∙ so_far.0,
-      (λ i. earlier ((more ∙ ap (earlier first) of_some) i) (least (item_breaches (behind_it i) rest)))
+leads_on t after table first found next all some rest behind_it of_some more so_far = (
+  ap (λ a. behind_all a rest) behind_it ∙ sym (behind_append t some rest) ∙ so_far.0,
+  (λ i. earlier ((more ∙ ap (earlier first) of_some) i) (least (item_breaches (behind_it i) rest)))
       ∙ earlier_assoc first (least (item_breaches t some)) (least (item_breaches (behind_all t some) rest))
       ∙ ap (earlier first) (sym (first_append t some rest))
-      ∙ so_far.1
-    )
+      ∙ so_far.1,
+)
 
 -- a turn of a loop over declarations
 pub declaration_next : (ds : List Decl) (n : ℕ) (d : Decl) (t after table : SymbolTable) (first found next all : Option Refusal) → n < length ds → d ≡ get_or ds n d →

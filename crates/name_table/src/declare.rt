@@ -103,7 +103,14 @@ fn integer(
     ensures first { IfOk result (λ r. r ≡ least (item_breaches names.old (map (placed_item line) (items_of (Integer (type_declaration typed.now)))))) }
 {
     let attribute = attribute_reason(alloc, names, &typed.dims)?;
-    let behind = entities(alloc, names, line, typed.constant, &typed.dims, &typed.entities)?;
+    let behind = entities(
+        alloc,
+        names,
+        line,
+        typed.constant,
+        &typed.dims,
+        &typed.entities,
+    )?;
     Ok(earlier(at_line(line, attribute), behind))
 }
 

@@ -10,9 +10,9 @@ mod declare;
 mod declared_items;
 mod declared_names;
 mod head_operands;
+mod least_reason;
 mod limits;
 mod name_judge;
-mod least_reason;
 mod statement_walk;
 
 pub use statement_walk::{Head, Judge, walk};

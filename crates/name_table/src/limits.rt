@@ -26,11 +26,7 @@ fn if_known(found: Evaluated<i64>) -> Option<i64>
 }
 
 /// The value of a constant expression, where it is known.
-pub(crate) fn number(
-    alloc: Global,
-    scope: &Scope<'_>,
-    e: &Expr,
-) -> Result<Option<i64>, AllocError>
+pub(crate) fn number(alloc: Global, scope: &Scope<'_>, e: &Expr) -> Result<Option<i64>, AllocError>
     ensures { IfOk result (λ n. n ≡ number scope.now (expression e.now)) }
 {
     let found = value(alloc, None, scope, e)?;
@@ -76,11 +72,7 @@ fn is_dimension_too_far(
 }
 
 /// The same of one of the bounds of all dimensions.
-fn is_any_too_far(
-    alloc: Global,
-    scope: &Scope<'_>,
-    bounds: &[Bound],
-) -> Result<bool, AllocError>
+fn is_any_too_far(alloc: Global, scope: &Scope<'_>, bounds: &[Bound]) -> Result<bool, AllocError>
     ensures { IfOk result (λ b. b ≡ list_any (is_bound_too_far scope.now) (map bound bounds.now)) }
 {
     let mut far = false;
@@ -110,11 +102,7 @@ fn and_dim(
 
 /// The dimensions, where the bounds of all are known.
 #[tactic(auto, using(crate::proofs::ArrayLimits::none_and_dims, crate::proofs::ArrayLimits::and_dims_none))]
-fn dims(
-    alloc: Global,
-    scope: &Scope<'_>,
-    bounds: &[Bound],
-) -> Result<Option<Vec<Dim>>, AllocError>
+fn dims(alloc: Global, scope: &Scope<'_>, bounds: &[Bound]) -> Result<Option<Vec<Dim>>, AllocError>
     ensures { IfOk result (λ ds. option_map (λ v. v.items) ds ≡ dims scope.now (map bound bounds.now)) }
 {
     let mut dims = Some(Vec::new(alloc));
@@ -127,7 +115,6 @@ fn dims(
 }
 
 /// How many elements an array of these dimensions has, or one more than the limit where it has more than that.
-#[tactic(auto, using(crate::proofs::ArrayLimits::capped_next))]
 fn capped_elements(dims: &[Dim]) -> u64
     requires { All IsDim dims.now }
     ensures { result ≡ capped_elements dims.now }

@@ -9,6 +9,8 @@ overflow_mul-elements c = product_fits c.loop-dim.elements c.extent.result c.loo
 
 pub loop-dim-preserved : goal.loop-dim-preserved
 loop-dim-preserved c =
-    let more = c.min-elements.ensures ∙ ap (λ e. min (c.loop-dim.elements * e) (MAX_ELEMENTS + 1)) c.extent.ensures.value in
-    (capped_next (MAX_ELEMENTS + 1) c.args.dims.now c.loop-dim.dim-index c.loop-dim.elements _ c.min-elements.result (capped_elements c.args.dims.now)
-    c.loop-dim-test.true more c.loop-dim.invariant.0, omega (arith, more))
+    let more = c.min-elements.ensures ∙ ap (λ e. min (c.loop-dim.elements * e) (MAX_ELEMENTS + 1)) c.extent.ensures.value in (
+      capped_next (MAX_ELEMENTS + 1) c.args.dims.now c.loop-dim.dim-index c.loop-dim.elements _ c.min-elements.result (capped_elements c.args.dims.now)
+          c.loop-dim-test.true more c.loop-dim.invariant.0,
+      omega (arith, more),
+    )
