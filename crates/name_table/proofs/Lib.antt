@@ -7,3 +7,10 @@ mod Scalars
 mod StatementRows
 mod Turns
 mod WalkSteps
+mod LeastReasons
+mod ConstantLists
+mod ElementTotals
+mod ArrayLimits
+mod ItemReasons
+mod ItemTurns
+mod HeldItems

@@ -8,3 +8,4 @@ pub mod Directives
 pub mod NameRules
 pub mod RankRules
 pub mod Views
+pub mod Declaring

@@ -5,12 +5,18 @@
 //! a program is a list of breaches that each part of it says by itself; a walk asks a judge of each statement alone.
 #![tactic(auto)]
 
+mod constant_reasons;
 mod declaration_ranks;
+mod declare;
+mod declared_items;
+mod declared_names;
 mod directive_names;
 mod directive_operands;
 mod dummies;
 mod head_operands;
 mod integer_scalars;
+mod least_reason;
+mod limits;
 mod listed_names;
 mod name_judge;
 mod rank_judge;
