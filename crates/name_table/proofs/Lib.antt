@@ -1,5 +1,7 @@
 mod Folds
 mod Measures
+mod NamedEntries
+mod NestSteps
 mod Placings
 mod Reasons
 mod StatementRows

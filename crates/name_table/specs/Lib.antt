@@ -5,6 +5,9 @@ pub mod Places
 pub mod Uses
 pub mod Declarations
 pub mod Directives
+pub mod Entries
+pub mod NewNames
+pub mod Resolved
 pub mod NameRules
 pub mod RankRules
 pub mod Views

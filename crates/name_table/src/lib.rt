@@ -5,8 +5,12 @@
 //! a program is a list of breaches that each part of it says by itself; a walk asks a judge of each statement alone.
 #![tactic(auto)]
 
+mod end_name;
 mod head_operands;
 mod name_judge;
+mod names;
+mod nests;
 mod statement_walk;
 
+pub use names::{Entry, Names, What};
 pub use statement_walk::{Head, Judge, walk};
