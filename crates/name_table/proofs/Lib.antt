@@ -3,6 +3,7 @@ mod Measures
 mod NamedEntries
 mod NestSteps
 mod Placings
+mod ProgramBreaches
 mod Reasons
 mod StatementRows
 mod Turns

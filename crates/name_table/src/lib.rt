@@ -10,7 +10,9 @@ mod head_operands;
 mod name_judge;
 mod names;
 mod nests;
+mod resolution;
 mod statement_walk;
 
 pub use names::{Entry, Names, What};
+pub use resolution::{Program, resolve};
 pub use statement_walk::{Head, Judge, walk};
