@@ -1,4 +1,6 @@
 mod Folds
+mod KnownTables
+mod KnownValues
 mod Measures
 mod NamedEntries
 mod NestSteps

@@ -6,6 +6,7 @@ pub mod Uses
 pub mod Declarations
 pub mod Directives
 pub mod Entries
+pub mod KnownSymbols
 pub mod NewNames
 pub mod Resolved
 pub mod NameRules

@@ -7,12 +7,14 @@
 
 mod end_name;
 mod head_operands;
+mod laws;
 mod name_judge;
 mod names;
 mod nests;
 mod resolution;
 mod statement_walk;
 
+pub use laws::all_are_known;
 pub use names::{Entry, Names, What};
 pub use resolution::{Program, resolve};
 pub use statement_walk::{Head, Judge, walk};
