@@ -1,11 +1,14 @@
 //! The symbol table.
 
-ghost use Rattle.std.specs.Prelude.{◌≡◌, [], None, length, option_copied, OnErr, OnOk};
-ghost use Rattle.expression_rules.specs.Symbols.{changed, find};
+ghost use Rattle.std.specs.Prelude.{◌≡◌, [], None, bytes_eq, length, map, option_copied, OnErr, OnOk};
+ghost use Rattle.std.specs.List.{IsDistinct};
+ghost use Rattle.std.specs.Map.Iter.{GivesInOrder};
+ghost use Rattle.expression_rules.specs.Symbols.{Name as NameBytes, changed, find};
 
 use crate::dims::Dims;
 use hpf_base::Name;
 use indexmap::IndexMap;
+use indexmap::map::IntoIter;
 use std::alloc::{AllocError, Global};
 use std::marker::Model;
 
@@ -84,5 +87,14 @@ impl SymbolTable {
         ensures { find [] self.now ≡ None }
     {
         let _ = &self.symbols;
+    }
+
+    /// The names in order, no two of them the same, each with what it stands for. It takes no memory.
+    pub fn into_entries(self) -> IntoIter<Name, Symbol>
+        ensures entries { result ≡ self }
+        ensures distinct { IsDistinct bytes_eq (map (λ e. e.0) self) }
+        ensures runs { GivesInOrder (NameBytes × Symbol) }
+    {
+        self.symbols.into_iter()
     }
 }

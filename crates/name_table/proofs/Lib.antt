@@ -1,6 +1,11 @@
 mod Folds
+mod KnownTables
+mod KnownValues
 mod Measures
+mod NamedEntries
+mod NestSteps
 mod Placings
+mod ProgramBreaches
 mod Reasons
 mod Repeats
 mod Scalars
