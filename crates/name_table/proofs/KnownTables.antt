@@ -148,6 +148,7 @@ defined_kept t x s = by (find x t) refl
     pick : (a : Symbol) (b : Bool) → find x t ≡ Some a → is_uninitialized a ≡ b → Kept t (if b then changed x s t else t)
     pick a true h e = changed_kept t x s (λ c g. ap is_uninitialized (some_same c a (sym g ∙ h)) ∙ e)
     pick a false h e = same_kept t
+
     by : (o : Option Symbol) → find x t ≡ o → Kept t (if satisfies is_uninitialized o then changed x s t else t)
     by None h = same_kept t
     by (Some a) h = pick a (is_uninitialized a) h refl

@@ -33,7 +33,11 @@ fn end_name(end: &EndForm) -> Option<&[u8]>
 {
     match &end.name {
         None => None,
-        Some(name) => if end.word { Some(name.bytes()) } else { Some(&[]) },
+        Some(name) => if end.word {
+            Some(name.bytes())
+        } else {
+            Some(&[])
+        },
     }
 }
 

@@ -109,6 +109,10 @@ fn loop_of_do(line: u32, inner: &DoLoop, place: usize) -> Option<u32>
 {
     match &inner.mark {
         None => None,
-        Some(_) => if place == 0 { Some(line) } else { loop_of(&inner.body, place - 1) },
+        Some(_) => if place == 0 {
+            Some(line)
+        } else {
+            loop_of(&inner.body, place - 1)
+        },
     }
 }
