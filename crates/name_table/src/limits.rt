@@ -2,7 +2,7 @@
 
 ghost use Rattle.std.specs.Prelude.{◌≡◌, ◌≤◌, map, option_map, All, IfOk};
 ghost use Rattle.std.specs.List.{list_any};
-ghost use Rattle.hpf_base.specs.declared.limits.TheConstants.{MAX_ELEMENTS, MAX_TOTAL_ELEMENTS};
+ghost use Rattle.hpf_base.specs.declared.limits.TheConstants.{MAX_TOTAL_ELEMENTS};
 ghost use Rattle.syntax_tree.specs.Directive.{bound};
 ghost use Rattle.syntax_tree.specs.Expression.{expression};
 ghost use Rattle.expression_rules.specs.Dims.{IsDim};
