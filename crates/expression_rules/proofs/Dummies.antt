@@ -1,5 +1,5 @@
 -- What a name stands for behind dummies.
-use Rattle.std.proofs.Common.{◌≡◌, Bool, true, false, cond, List, [], ◌∷◌, Some, refl, bytes_eq}
+use Rattle.std.proofs.Common.{◌≡◌, true, false, cond, List, [], ◌∷◌, Some, refl, bytes_eq}
 use Rattle.std.specs.Prelude.{◌||◌}
 use Rattle.expression_rules.specs.declared.symbols.Symbol.TheVariants.{Uninitialized}
 use Rattle.expression_rules.specs.Symbols.{Name, SymbolTable, find, is_among, with_dummies}

@@ -1,7 +1,7 @@
 -- Tests of all elements of lists.
 use Rattle.expression_rules.proofs.Lists.{drop_item}
 use Rattle.std.proofs.Common.{ℕ, ◌+◌, ◌<◌, drop, length, get_or, ◌≡◌, Bool, true, false, List, [], ◌∷◌, ◌++◌, refl, sym, ap, ◌∙◌}
-use Rattle.std.specs.Prelude.{◌&&◌, map}
+use Rattle.std.specs.Prelude.{◌&&◌}
 use Rattle.std.specs.List.{list_all}
 
 pub and_assoc : (a b c : Bool) → (a && b && c) ≡ (a && (b && c))

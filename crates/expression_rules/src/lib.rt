@@ -18,7 +18,7 @@ pub use constants::value;
 pub use dims::{Dim, Dims, extent, size};
 pub use evaluated::{Evaluated, Numbers};
 pub use operands::{are_operands, is_operand_reference};
-pub use scope::Scope;
+pub use scope::{Scope, is_among};
 pub use symbols::{Symbol, SymbolTable};
 pub use types::{Context, DataType, TypeAndRank, is_integer_scalar, is_logical_scalar};
 pub use typing::{reference_type, type_and_rank};

@@ -66,8 +66,8 @@ impl<'a> Scope<'a> {
     }
 }
 
-/// Whether a name stands in a list.
-fn is_among(name: &Name, names: &[Name]) -> bool
+/// Whether a name stands in a list. It takes no memory.
+pub fn is_among(name: &Name, names: &[Name]) -> bool
     ensures { result ≡ is_among name.now names.now }
 {
     let mut found = false;

@@ -1,6 +1,6 @@
 //! The symbol table.
 
-ghost use Rattle.std.specs.Prelude.{◌≡◌, [], bytes_eq, map, option_copied, OnOk};
+ghost use Rattle.std.specs.Prelude.{◌≡◌, [], None, bytes_eq, map, option_copied, OnOk};
 ghost use Rattle.std.specs.List.{IsDistinct};
 ghost use Rattle.std.specs.Map.Iter.{GivesInOrder};
 ghost use Rattle.expression_rules.specs.Symbols.{Name as NameBytes, changed, find};
@@ -42,6 +42,11 @@ impl Model for SymbolTable {
     ghost Value = { List (List ℕ × Symbol) };
 
     ghost view = { λ t. t.symbols.entries };
+
+    ghost use Rattle.std.specs.Prelude.{◌≡◌, [], None};
+    ghost use Rattle.expression_rules.specs.Symbols.{find};
+
+    ghost invariant = { λ t. find [] t.symbols.entries ≡ None };
 }
 
 impl SymbolTable {
@@ -76,5 +81,12 @@ impl SymbolTable {
         ensures runs { GivesInOrder (NameBytes × Symbol) }
     {
         self.symbols.into_iter()
+    }
+
+    /// A name without bytes, which no text spells, isn't declared. It does nothing.
+    pub fn valid(&self)
+        ensures { find [] self.now ≡ None }
+    {
+        let _ = &self.symbols;
     }
 }

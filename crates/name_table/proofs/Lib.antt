@@ -7,6 +7,7 @@ mod NestSteps
 mod Placings
 mod ProgramBreaches
 mod Reasons
+mod Repeats
 mod StatementRows
 mod Turns
 mod WalkSteps

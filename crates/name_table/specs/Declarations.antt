@@ -7,7 +7,7 @@ use Rattle.syntax_tree.specs.Expression.{Expression}
 use Rattle.syntax_tree.specs.Directive.{Bound, Entity, Processors, Template as TemplateDirective}
 use Rattle.syntax_tree.specs.MainProgram.{NamedConstant, Declared, Integer, Parameter, Directed, Declaration}
 use Rattle.expression_rules.specs.Dims.{elements}
-use Rattle.expression_rules.specs.Symbols.{Name, SymbolTable, find, added, changed, satisfies, is_uninitialized, all_elements}
+use Rattle.expression_rules.specs.Symbols.{SymbolTable, find, added, changed, satisfies, is_uninitialized, all_elements}
 use Rattle.expression_rules.specs.declared.dims.Dim.{Dim}
 use Rattle.expression_rules.specs.declared.symbols.Symbol.{Symbol}
 use Rattle.expression_rules.specs.declared.symbols.Symbol.TheVariants.{Uninitialized, Initialized, Constant, Array, Template, Arrangement}

@@ -5,9 +5,13 @@
 //! a program is a list of breaches that each part of it says by itself; a walk asks a judge of each statement alone.
 #![tactic(auto)]
 
+mod directive_names;
+mod directive_operands;
+mod dummies;
 mod end_name;
 mod head_operands;
 mod laws;
+mod listed_names;
 mod name_judge;
 mod names;
 mod nests;
