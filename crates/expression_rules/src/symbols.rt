@@ -1,6 +1,6 @@
 //! The symbol table.
 
-ghost use Rattle.std.specs.Prelude.{◌≡◌, [], None, bytes_eq, map, option_copied, OnOk};
+ghost use Rattle.std.specs.Prelude.{◌≡◌, [], None, bytes_eq, length, map, option_copied, OnErr, OnOk};
 ghost use Rattle.std.specs.List.{IsDistinct};
 ghost use Rattle.std.specs.Map.Iter.{GivesInOrder};
 ghost use Rattle.expression_rules.specs.Symbols.{Name as NameBytes, changed, find};
@@ -66,9 +66,17 @@ impl SymbolTable {
         self.symbols.get(name)
     }
 
-    /// The name stands for this from now on; a name that isn't declared comes last.
+    /// How many names are declared. It takes no memory.
+    pub fn len(&self) -> usize
+        ensures { result ≡ length self.now }
+    {
+        self.symbols.len()
+    }
+
+    /// The name stands for this from now on; a name that isn't declared comes last. After an `Err` the table is as it was.
     pub fn change(&mut self, name: Name, symbol: Symbol) -> Result<(), AllocError>
-        ensures { OnOk result (self.new ≡ changed name symbol self.old) }
+        ensures changed { OnOk result (self.new ≡ changed name symbol self.old) }
+        ensures kept { OnErr result (self.new ≡ self.old) }
     {
         self.symbols.insert(name, symbol)?;
         Ok(())

@@ -11,3 +11,10 @@ mod Repeats
 mod StatementRows
 mod Turns
 mod WalkSteps
+mod LeastReasons
+mod ConstantLists
+mod ElementTotals
+mod ArrayLimits
+mod ItemReasons
+mod ItemTurns
+mod HeldItems

@@ -12,3 +12,4 @@ pub mod Resolved
 pub mod NameRules
 pub mod RankRules
 pub mod Views
+pub mod Declaring

@@ -5,12 +5,18 @@
 //! a program is a list of breaches that each part of it says by itself; a walk asks a judge of each statement alone.
 #![tactic(auto)]
 
+mod constant_reasons;
+mod declare;
+mod declared_items;
+mod declared_names;
 mod directive_names;
 mod directive_operands;
 mod dummies;
 mod end_name;
 mod head_operands;
 mod laws;
+mod least_reason;
+mod limits;
 mod listed_names;
 mod name_judge;
 mod names;
