@@ -8,6 +8,7 @@ mod Placings
 mod ProgramBreaches
 mod Reasons
 mod Repeats
+mod Scalars
 mod StatementRows
 mod Turns
 mod WalkSteps

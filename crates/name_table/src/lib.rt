@@ -6,6 +6,7 @@
 #![tactic(auto)]
 
 mod constant_reasons;
+mod declaration_ranks;
 mod declare;
 mod declared_items;
 mod declared_names;
@@ -14,6 +15,7 @@ mod directive_operands;
 mod dummies;
 mod end_name;
 mod head_operands;
+mod integer_scalars;
 mod laws;
 mod least_reason;
 mod limits;
@@ -21,6 +23,7 @@ mod listed_names;
 mod name_judge;
 mod names;
 mod nests;
+mod rank_judge;
 mod resolution;
 mod statement_walk;
 
