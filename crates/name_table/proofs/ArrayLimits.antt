@@ -1,20 +1,16 @@
 -- The dimensions of arrays, and how many elements they have, within limits.
-use Rattle.std.proofs.Common.{◌≡◌, ℕ, zero, suc, ℤ, ◌+◌, ◌*◌, ◌<◌, ◌≤◌, ◌^◌, Bool, true, false, List, [], ◌∷◌, ◌++◌, append_assoc, drop, length, get_or, add-one, drop-cons, min, nat_lt, Option, Some, None, All, Fits, w64, refl, sym, ap, subst, ◌∙◌, arith}
-use Rattle.std.specs.Prelude.{◌||◌, map, unsigned_abs}
+use Rattle.std.proofs.Common.{◌≡◌, ℕ, zero, suc, ℤ, ◌+◌, ◌*◌, ◌<◌, ◌≤◌, Bool, true, false, List, [], ◌∷◌, drop, length, get_or, add-one, drop-cons, min, nat_lt, Option, Some, None, All, Fits, w64, refl, sym, ap, subst, ◌∙◌, arith}
+use Rattle.std.specs.Prelude.{◌||◌, unsigned_abs}
 use Rattle.std.specs.List.{list_any}
 use Rattle.std.proofs.Math.Nat.{mul_assoc, mul-le-mul_left, mul_comm}
 use Rattle.std.proofs.lemmas.Bool.Decides.{nat_tests}
-use Rattle.std.proofs.lemmas.List.{append-nil}
 use Rattle.std.proofs.lemmas.List.Elements.{All-cons, All-nil}
 use Rattle.hpf_base.specs.declared.limits.TheConstants.{MAX_BOUND, MAX_RANK, MAX_ELEMENTS, MAX_TOTAL_ELEMENTS}
-use Rattle.syntax_tree.specs.declared.decl.Bound.{Bound as HeldBound}
-use Rattle.syntax_tree.specs.Directive.{Bound, bound}
+use Rattle.syntax_tree.specs.Directive.{Bound}
 use Rattle.expression_rules.specs.declared.dims.Dim.{Dim}
 use Rattle.expression_rules.specs.Dims.{AreDims, IsDim, elements, extent}
 use Rattle.expression_rules.specs.Symbols.{SymbolTable, all_elements}
-use Rattle.expression_rules.proofs.Lists.{drop_item}
 use Rattle.name_table.specs.Declarations.{dims, is_bound_too_far, is_past_limits, is_too_far, is_too_large, lower_of, number, with_dim}
-use Rattle.name_table.specs.Declaring.{and_dim, and_dims}
 
 -- ---- a product that is cut off
 
@@ -48,46 +44,6 @@ product_fits a b ha hb =
     let h : b * a ≤ b * (MAX_ELEMENTS + 1) = mul-le-mul_left b ha in
     omega (arith, h, hb, mul_comm a b)
 
-pub large_capped : (e before : ℕ) → (nat_lt MAX_ELEMENTS (min e (MAX_ELEMENTS + 1)) || nat_lt MAX_TOTAL_ELEMENTS (before + min e (MAX_ELEMENTS + 1))) ≡ (nat_lt MAX_ELEMENTS e || nat_lt MAX_TOTAL_ELEMENTS (before + e))
-large_capped e before = by (nat_lt MAX_ELEMENTS e) refl
-  where
-    by : (t : Bool) → nat_lt MAX_ELEMENTS e ≡ t → (nat_lt MAX_ELEMENTS (min e (MAX_ELEMENTS + 1)) || nat_lt MAX_TOTAL_ELEMENTS (before + min e (MAX_ELEMENTS + 1))) ≡ (nat_lt MAX_ELEMENTS e || nat_lt MAX_TOTAL_ELEMENTS (before + e))
-    by true h =
-        let cut : nat_lt MAX_ELEMENTS (min e (MAX_ELEMENTS + 1)) ≡ true = grind (arith, nat_tests) in
-        ap (λ b. b || nat_lt MAX_TOTAL_ELEMENTS (before + min e (MAX_ELEMENTS + 1))) cut ∙ sym (ap (λ b. b || nat_lt MAX_TOTAL_ELEMENTS (before + e)) h)
-    by false h =
-        let few : e ≤ MAX_ELEMENTS = grind (arith, nat_tests) in
-        let whole : min e (MAX_ELEMENTS + 1) ≡ e = omega arith in
-        ap (λ m. nat_lt MAX_ELEMENTS m || nat_lt MAX_TOTAL_ELEMENTS (before + m)) whole
-
--- ---- dimensions that are put together
-
-pub none_and_dims : (ds : Option (List Dim)) → and_dims (Some []) ds ≡ ds
-none_and_dims None = refl
-none_and_dims (Some ds) = refl
-
-pub and_dims_none : (ds : Option (List Dim)) → and_dims ds (Some []) ≡ ds
-and_dims_none None = refl
-and_dims_none (Some ds) = ap Some (append-nil ds)
-
-and_with_dim : (ds : Option (List Dim)) (l u : Option ℤ) (rest : Option (List Dim)) → and_dims (and_dim ds l u) rest ≡ and_dims ds (with_dim l u rest)
-and_with_dim None l u rest = refl
-and_with_dim (Some ds) None u rest = refl
-and_with_dim (Some ds) (Some l) None rest = refl
-and_with_dim (Some ds) (Some l) (Some u) None = refl
-and_with_dim (Some ds) (Some l) (Some u) (Some es) = ap Some (append_assoc ds (record { lower = l; upper = u } ∷ []) es)
-
-pub dims_next : (t : SymbolTable) (bs : List HeldBound) (n : ℕ) (b : HeldBound) (l u : Option ℤ) (so_far after : Option (List Dim)) → n < length bs → b ≡ get_or bs n b →
-    l ≡ lower_of t (bound b) → u ≡ number t (bound b).upper → after ≡ and_dim so_far l u →
-    and_dims so_far (dims t (map bound (drop n bs))) ≡ dims t (map bound bs) → and_dims after (dims t (map bound (drop (n + 1) bs))) ≡ dims t (map bound bs)
-dims_next t bs n b l u so_far after within is lower upper more all =
-    let rest = dims t (map bound (drop (n + 1) bs)) in
-    ap (λ ds. and_dims ds rest) more
-    ∙ and_with_dim so_far l u rest
-    ∙ (λ i. and_dims so_far (with_dim (lower i) (upper i) rest))
-    ∙ ap (λ l. and_dims so_far (dims t (map bound l))) (sym (drop_item bs n b within is))
-    ∙ all
-
 -- ---- dimensions within the limits
 
 at_most : (limit n : ℕ) → nat_lt limit n ≡ false → n ≤ limit
@@ -116,18 +72,11 @@ each_within t (b ∷ bs) ds near_by is =
     with_dim_within (lower_of t b) (number t b.upper) (dims t bs) ds both.0 (λ es e. each_within t bs es both.1 e) is
 
 -- an array that isn't past its limits
-module _ (t : SymbolTable) (bs : List Bound) (ds : List Dim) (within : is_past_limits t bs ≡ false) (is : dims t bs ≡ Some ds) where
-  parts : ((nat_lt MAX_RANK (length bs) || list_any (is_bound_too_far t) bs) ≡ false) × (is_too_large (all_elements t) (dims t bs) ≡ false)
-  parts = or_none (nat_lt MAX_RANK (length bs) || list_any (is_bound_too_far t) bs) (is_too_large (all_elements t) (dims t bs)) within
-
-  few : (nat_lt MAX_ELEMENTS (elements ds) ≡ false) × (nat_lt MAX_TOTAL_ELEMENTS (all_elements t + elements ds) ≡ false)
-  few = or_none (nat_lt MAX_ELEMENTS (elements ds)) (nat_lt MAX_TOTAL_ELEMENTS (all_elements t + elements ds)) (sym (ap (is_too_large (all_elements t)) is) ∙ parts.1)
-
-  pub are_dims : AreDims ds
-  are_dims = record {
-    each = each_within t bs ds (or_none (nat_lt MAX_RANK (length bs)) (list_any (is_bound_too_far t) bs) parts.0).1 is;
-    size = at_most MAX_ELEMENTS (elements ds) few.0;
-  }
-
-  pub room_within : all_elements t + elements ds ≤ MAX_TOTAL_ELEMENTS
-  room_within = at_most MAX_TOTAL_ELEMENTS (all_elements t + elements ds) few.1
+pub are_dims : (t : SymbolTable) (bs : List Bound) (ds : List Dim) → is_past_limits t bs ≡ false → dims t bs ≡ Some ds → AreDims ds
+are_dims t bs ds within is =
+    let both = or_none (nat_lt MAX_RANK (length bs) || list_any (is_bound_too_far t) bs) (is_too_large (all_elements t) (dims t bs)) within in
+    let few = or_none (nat_lt MAX_ELEMENTS (elements ds)) (nat_lt MAX_TOTAL_ELEMENTS (all_elements t + elements ds)) (sym (ap (is_too_large (all_elements t)) is) ∙ both.1) in
+    record {
+      each = each_within t bs ds (or_none (nat_lt MAX_RANK (length bs)) (list_any (is_bound_too_far t) bs) both.0).1 is;
+      size = at_most MAX_ELEMENTS (elements ds) few.0;
+    }

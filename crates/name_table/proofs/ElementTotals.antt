@@ -1,9 +1,9 @@
 -- The elements of all arrays, where a name is declared.
-use Rattle.std.proofs.Common.{◌≡◌, ℕ, ℤ, ◌+◌, Bool, true, false, cond, List, [], ◌∷◌, Option, Some, None, refl, ap, arith, bytes_eq}
+use Rattle.std.proofs.Common.{◌≡◌, ℕ, ℤ, ◌+◌, true, false, cond, [], ◌∷◌, Option, Some, None, refl, arith, bytes_eq}
 use Rattle.std.specs.Prelude.{is_some, if◌then◌else◌}
 use Rattle.expression_rules.specs.declared.symbols.Symbol.{Symbol}
 use Rattle.expression_rules.specs.declared.symbols.Symbol.TheVariants.{Uninitialized, Initialized, Constant, Array, Template, Arrangement}
-use Rattle.expression_rules.specs.Symbols.{Name, SymbolTable, added, all_elements, changed, elements_of, find, is_declared, is_uninitialized, satisfies}
+use Rattle.expression_rules.specs.Symbols.{Name, SymbolTable, all_elements, changed, elements_of, find, is_declared, is_uninitialized, satisfies}
 
 abbrev pub elements_found : Option Symbol → ℕ
 elements_found None = 0

@@ -1,5 +1,5 @@
 -- The items of a declaration, as they lie in a tree.
-use Rattle.std.proofs.Common.{◌≡◌, ℕ, Bool, List, [], ◌∷◌, ◌++◌, map, Option, Some, None, Global, refl, sym, ap, ◌∙◌}
+use Rattle.std.proofs.Common.{◌≡◌, ℕ, List, [], ◌∷◌, ◌++◌, map, Option, Some, None, Global, refl, sym, ap, ◌∙◌}
 use Rattle.std.specs.Prelude.{Vec}
 use Rattle.std.specs.List.{flat_map}
 use Rattle.hpf_base.specs.FirstBreach.{at_line, earlier, least}
@@ -14,7 +14,7 @@ use Rattle.syntax_tree.specs.Directive.{Bound, arrangement, directive_of, entity
 use Rattle.syntax_tree.specs.MainProgram.{Directed, Integer, declared_of, named_constant, type_declaration}
 use Rattle.expression_rules.specs.Symbols.{SymbolTable}
 use Rattle.name_table.specs.declared.declared_items.Space.TheVariants.{Template, Arrangement}
-use Rattle.name_table.specs.Declarations.{Item, DimensionAttribute, TypedEntity, Definition, TemplateEntity, ArrangementEntity, PlacedItem, behind_all, bounds_of, items_of, own_or}
+use Rattle.name_table.specs.Declarations.{DimensionAttribute, TypedEntity, Definition, TemplateEntity, ArrangementEntity, PlacedItem, behind_all, bounds_of, items_of, own_or}
 use Rattle.name_table.specs.Declaring.{bounds_held, constant_reason, definition_items, items_in, placed_item, space_items, typed_items}
 use Rattle.name_table.specs.NameRules.{item_breaches}
 use Rattle.name_table.specs.Places.{bound_expressions, present}

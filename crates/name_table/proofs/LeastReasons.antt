@@ -1,11 +1,11 @@
 -- The least of the reasons of lists that are put together.
 use Rattle.std.proofs.Common.{◌≡◌, ℕ, ◌+◌, ◌<◌, Bool, true, false, List, [], ◌∷◌, ◌++◌, drop, length, get_or, Option, Some, None, refl, sym, ap, ◌∙◌, arith}
-use Rattle.std.specs.Prelude.{◌==◌, ◌||◌, ◌&&◌, nat_lt, option_map, if◌then◌else◌}
+use Rattle.std.specs.Prelude.{◌==◌, ◌||◌, ◌&&◌, nat_lt, if◌then◌else◌}
 use Rattle.std.proofs.lemmas.Bool.Decides.{nat_tests}
 use Rattle.hpf_base.specs.declared.refusal.Reason.{Reason}
 use Rattle.hpf_base.specs.declared.refusal.Refusal.{Refusal}
 use Rattle.hpf_base.specs.Refusal.{number_of}
-use Rattle.hpf_base.specs.FirstBreach.{at_line, earlier, is_before, least}
+use Rattle.hpf_base.specs.FirstBreach.{at_line, earlier, least}
 use Rattle.hpf_base.proofs.FirstBreaches.{earlier_assoc}
 use Rattle.expression_rules.proofs.Lists.{drop_item}
 use Rattle.name_table.specs.Declaring.{least_reason, lesser, reason_if}

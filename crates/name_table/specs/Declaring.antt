@@ -1,6 +1,6 @@
 -- What private contracts see of declarations, which are taken one item after the other. No public clause cites this file.
 use Rattle.std.specs.Prelude.{ℕ, Bool, true, false, ◌+◌, ◌++◌, not, min, nat_lt, List, [], ◌∷◌, map, ℤ, Option, Some, None, option_map, Vec, if◌then◌else◌}
-use Rattle.std.specs.List.{list_all, list_any, flat_map}
+use Rattle.std.specs.List.{list_all, list_any}
 use Rattle.std.specs.declared.alloc.Global.{Global}
 use Rattle.hpf_base.specs.declared.limits.TheConstants.{MAX_ELEMENTS}
 use Rattle.hpf_base.specs.Refusal.{number_of}
@@ -22,7 +22,7 @@ use Rattle.expression_rules.specs.declared.symbols.Symbol.{Symbol}
 use Rattle.expression_rules.specs.declared.symbols.Symbol.TheVariants as symbol
 use Rattle.name_table.specs.declared.declared_items.Space.{Space}
 use Rattle.name_table.specs.declared.declared_items.Space.TheVariants.{Template, Arrangement}
-use Rattle.name_table.specs.Declarations.{Item, TypedEntity, Definition, TemplateEntity, ArrangementEntity, PlacedItem, items_of, own_or, with_dim}
+use Rattle.name_table.specs.Declarations.{Item, TypedEntity, Definition, TemplateEntity, ArrangementEntity, PlacedItem, items_of, own_or}
 use Rattle.name_table.specs.NameRules.{is_invalid}
 
 -- the lesser of two reasons that there may be, and the least of a list

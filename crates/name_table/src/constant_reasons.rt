@@ -1,6 +1,6 @@
 //! The expressions of declarations, which must be constant (Fortran 95, 7.1.6.1).
 
-ghost use Rattle.std.specs.Prelude.{◌≡◌, ◌++◌, [], ◌∷◌, map, option_map, IfOk};
+ghost use Rattle.std.specs.Prelude.{◌≡◌, [], ◌∷◌, map, option_map, IfOk};
 ghost use Rattle.std.specs.List.{flat_map};
 ghost use Rattle.syntax_tree.specs.Directive.{bound};
 ghost use Rattle.syntax_tree.specs.Expression.{expression};
@@ -66,7 +66,6 @@ fn dimension_reason(
 }
 
 /// The same of the bounds of all dimensions.
-#[tactic(auto, using(crate::proofs::LeastReasons::lesser_none))]
 pub(crate) fn bounds_reason(
     alloc: Global,
     scope: &Scope<'_>,

@@ -1,11 +1,10 @@
 //! What a declaration says of one name.
 
-ghost use Rattle.std.specs.Prelude.{◌≡◌, ◌+◌, ◌≤◌, ◌∷◌, [], map, option_map, IfOk, OnOk};
-ghost use Rattle.hpf_base.specs.declared.limits.TheConstants.{MAX_TOTAL_ELEMENTS};
+ghost use Rattle.std.specs.Prelude.{◌≡◌, option_map, IfOk, OnOk};
 ghost use Rattle.syntax_tree.specs.Directive.{arrangement, entity};
 ghost use Rattle.syntax_tree.specs.Expression.{expression};
 ghost use Rattle.syntax_tree.specs.MainProgram.{named_constant};
-ghost use Rattle.expression_rules.specs.Symbols.{all_elements, elements_of, find, is_uninitialized, satisfies};
+ghost use Rattle.expression_rules.specs.Symbols.{find, is_uninitialized, satisfies};
 ghost use Rattle.name_table.specs.Declarations.{behind, own_or, number, rank_in_text, symbol_of, Definition, TypedEntity};
 ghost use Rattle.name_table.specs.Declaring.{bounds_held, least_reason, space_item, space_symbol, typed_item};
 ghost use Rattle.name_table.specs.NameRules.{declared_again, item_reasons, past_limits};
@@ -27,7 +26,6 @@ pub(crate) enum Space {
 }
 
 /// The least reason for which a name can't be declared: it is declared, or is one too many.
-#[tactic(auto, using(crate::proofs::ItemReasons::again_by_tests))]
 fn declared_again(names: &DeclaredNames, name: &Name) -> Option<Reason>
     ensures { result ≡ least_reason (declared_again names.now name.now) }
 {
@@ -112,7 +110,6 @@ fn symbol_of(
 }
 
 /// One entity of INTEGER more, with the least reason for which it breaks a rule. `dims` are the bounds behind DIMENSION.
-#[tactic(auto, using(crate::proofs::ItemReasons::typed_room))]
 pub(crate) fn typed_entity(
     alloc: Global,
     names: &mut DeclaredNames,
@@ -199,7 +196,7 @@ fn space_symbol(space: Space, rank: usize) -> Symbol
 }
 
 /// One template or processor arrangement more, with the least reason for which it breaks a rule.
-#[tactic(auto, using(crate::proofs::ItemReasons::space_behind, crate::proofs::ItemReasons::space_reason, crate::proofs::ItemReasons::space_room))]
+#[tactic(auto, using(crate::proofs::ItemReasons::space_reason))]
 pub(crate) fn space_entity(
     names: &mut DeclaredNames,
     space: Space,

@@ -1,12 +1,12 @@
 //! The dimensions of arrays, and the limits of arrays (Fortran 95, 5.1.2.4.1).
 
-ghost use Rattle.std.specs.Prelude.{◌≡◌, ◌≤◌, ◌+◌, pos, map, option_map, All, IfOk, IfSome};
+ghost use Rattle.std.specs.Prelude.{◌≡◌, ◌≤◌, map, option_map, All, IfOk};
 ghost use Rattle.std.specs.List.{list_any};
 ghost use Rattle.hpf_base.specs.declared.limits.TheConstants.{MAX_ELEMENTS, MAX_TOTAL_ELEMENTS};
 ghost use Rattle.syntax_tree.specs.Directive.{bound};
 ghost use Rattle.syntax_tree.specs.Expression.{expression};
-ghost use Rattle.expression_rules.specs.Dims.{elements, AreDims, IsDim};
-ghost use Rattle.name_table.specs.Declarations.{dims, if_known, is_bound_too_far, is_past_limits, is_too_far, is_too_large, known_dims, lower_of, number, number_or};
+ghost use Rattle.expression_rules.specs.Dims.{IsDim};
+ghost use Rattle.name_table.specs.Declarations.{dims, if_known, is_bound_too_far, is_past_limits, is_too_far, is_too_large, known_dims, number, number_or};
 ghost use Rattle.name_table.specs.Declaring.{and_dim, capped_elements};
 
 use crate::declared_names::DeclaredNames;
@@ -101,7 +101,6 @@ fn and_dim(
 }
 
 /// The dimensions, where the bounds of all are known.
-#[tactic(auto, using(crate::proofs::ArrayLimits::none_and_dims, crate::proofs::ArrayLimits::and_dims_none))]
 fn dims(alloc: Global, scope: &Scope<'_>, bounds: &[Bound]) -> Result<Option<Vec<Dim>>, AllocError>
     ensures { IfOk result (λ ds. option_map (λ v. v.items) ds ≡ dims scope.now (map bound bounds.now)) }
 {
@@ -127,7 +126,6 @@ fn capped_elements(dims: &[Dim]) -> u64
 }
 
 /// An array of these dimensions has too many elements, by itself or with those of the arrays before it.
-#[tactic(auto, using(crate::proofs::ArrayLimits::large_capped))]
 fn is_too_large(before: u64, dims: &[Dim]) -> bool
     requires each { All IsDim dims.now }
     requires few { before ≤ MAX_TOTAL_ELEMENTS }
