@@ -82,13 +82,6 @@ impl SymbolTable {
         Ok(())
     }
 
-    /// A name without bytes, which no text spells, isn't declared. It does nothing.
-    pub fn valid(&self)
-        ensures { find [] self.now ≡ None }
-    {
-        let _ = &self.symbols;
-    }
-
     /// The names in order, no two of them the same, each with what it stands for. It takes no memory.
     pub fn into_entries(self) -> IntoIter<Name, Symbol>
         ensures entries { result ≡ self }
@@ -96,5 +89,12 @@ impl SymbolTable {
         ensures runs { GivesInOrder (NameBytes × Symbol) }
     {
         self.symbols.into_iter()
+    }
+
+    /// A name without bytes, which no text spells, isn't declared. It does nothing.
+    pub fn valid(&self)
+        ensures { find [] self.now ≡ None }
+    {
+        let _ = &self.symbols;
     }
 }
