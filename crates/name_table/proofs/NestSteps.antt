@@ -1,26 +1,22 @@
 -- The nests of each kind of statement, and the loops of a nest.
-use Rattle.std.proofs.Common.{◌≡◌, ℕ, zero, suc, ◌-◌, Bool, List, [], ◌∷◌, ◌++◌, map, length, slice_get, get_or, arith, Option, Some, None, Global, refl, sym, ap, subst, ◌∙◌}
-use Rattle.std.specs.Prelude.{Vec, Box, option_map}
+use Rattle.std.proofs.Common.{◌≡◌, ℕ, zero, suc, ◌-◌, Bool, List, [], ◌∷◌, ◌++◌, length, slice_get, arith, Option, Some, None, Global, refl, sym, ap, ◌∙◌}
+use Rattle.std.specs.Prelude.{Vec, option_map}
 use Rattle.std.specs.List.{flat_map}
 use Rattle.std.proofs.lemmas.List.{append-nil}
-use Rattle.hpf_base.specs.declared.limits.TheConstants.{MAX_INDICES}
-use Rattle.hpf_base.specs.declared.refusal.Reason.TheVariants.{Limit}
 use Rattle.hpf_base.specs.declared.refusal.Refusal.{Refusal}
 use Rattle.hpf_base.specs.FirstBreach.{earlier, least}
-use Rattle.syntax_tree.specs.declared.expr.Expr.{Expr}
 use Rattle.syntax_tree.specs.declared.stmt.Stmt.{Stmt}
 use Rattle.syntax_tree.specs.declared.stmt.Mark.{Mark}
 use Rattle.syntax_tree.specs.declared.stmt.Arm.{Arm as HeldArm, out-Arm}
 use Rattle.syntax_tree.specs.declared.stmt.DoLoop.{DoLoop, out-DoLoop}
 use Rattle.syntax_tree.specs.declared.stmt.Kind as Kind
 use Rattle.syntax_tree.specs.declared.stmt.Kind.TheViews.{is-struct-Arm}
-use Rattle.syntax_tree.specs.declared.stmt.Kind.TheBlock.{struct-Arm, hidden-the_row-Arm-0}
-use Rattle.syntax_tree.specs.Statement.{Axis, Block, Done, Then, Statement, Do, arms, arms_of, block, block_of, do_construct, independent, statement}
+use Rattle.syntax_tree.specs.declared.stmt.Kind.TheBlock.{hidden-the_row-Arm-0}
+use Rattle.syntax_tree.specs.Statement.{Block, Done, Then, Statement, Do, arms, arms_of, block_of, do_construct, independent, statement}
 use Rattle.syntax_tree.proofs.Rows.{do_parts, arms_vec, block_vec}
 use Rattle.name_table.specs.NameRules.{nest_breaches}
-use Rattle.name_table.specs.Nests.{Loop, Nest, arm_nests, loop, nest_in, nests, statement_nests}
+use Rattle.name_table.specs.Nests.{Nest, arm_nests, loop, nest_in, nests, statement_nests}
 use Rattle.name_table.proofs.Turns.{least_both}
-use Rattle.name_table.specs.Places.{present}
 use Rattle.name_table.proofs.WalkSteps.{axis_in}
 
 pub if_nests : (line : ℕ) (k : Kind.Kind) (as' : Vec HeldArm Global) (rest : Option (Vec Stmt Global)) (v : Vec Stmt Global) (glued : Bool) → k ≡ Kind.If as' rest glued → rest ≡ Some v →

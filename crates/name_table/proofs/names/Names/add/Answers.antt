@@ -1,4 +1,4 @@
-use Rattle.std.proofs.Common.{◌≡◌, ◌++◌, ◌∷◌, [], map, sym, subst, ap, ◌∙◌}
+use Rattle.std.proofs.Common.{◌≡◌, ◌++◌, ◌∷◌, [], sym, subst, ap, ◌∙◌}
 use Rattle.name_table.specs.NewNames.{IsNew}
 use Rattle.name_table.proofs.NamedEntries.{entries_more, insert_new, named_more}
 use Rattle.name_table.proofs.names.Names.add.Goals as goal
