@@ -17,10 +17,13 @@ use Rattle.expression_rules.specs.declared.types.TypeAndRank.{TypeAndRank}
 use Rattle.expression_rules.specs.Constants.{value}
 use Rattle.expression_rules.specs.Symbols.{Name, SymbolTable, find, added, changed, is_uninitialized, satisfies}
 use Rattle.expression_rules.specs.Types.{if_typed, is_integer_scalar, type_and_rank}
-use Rattle.name_table.specs.Declarations.{Item, DimensionAttribute, TypedEntity, Definition, TemplateEntity, ArrangementEntity, PlacedItem, behind, behind_all, bounds_of, dims, is_past_limits, items, items_of, number, number_or, own_or, start_of, symbol_of, symbol_table, with_dim}
+use Rattle.declarations.specs.Declarations.{Item, DimensionAttribute, TypedEntity, Definition, TemplateEntity, ArrangementEntity, PlacedItem, behind, behind_all, bounds_of, dims, is_past_limits, items, items_of, number, number_or, own_or, start_of, symbol_of, symbol_table, with_dim}
 use Rattle.name_table.specs.KnownSymbols.{AllAreKnown, is_known}
-use Rattle.name_table.specs.NameRules.{at, constants_of, is_invalid, item_breaches, item_reasons, name_breaches, past_limits, when}
-use Rattle.name_table.specs.Places.{IntegerScalar, bound_expressions, meets, place, present}
+use Rattle.name_table.specs.NameRules.{name_breaches}
+use Rattle.declarations.specs.DeclarationRules.{constants_of, is_invalid, item_breaches, item_reasons, past_limits}
+use Rattle.declarations.specs.Reasons.{at, when}
+use Rattle.name_table.specs.Places.{IntegerScalar, meets, place}
+use Rattle.expression_rules.specs.Inner.{bound_expressions, present}
 use Rattle.name_table.specs.RankRules.{declaration_breaches_at, declaration_meets, rank_breaches, type_expressions, typed_expressions}
 use Rattle.name_table.proofs.KnownValues.{IsRight, Kept, has_number}
 

@@ -19,8 +19,8 @@ use Rattle.expression_rules.specs.declared.types.TypeAndRank.{TypeAndRank}
 use Rattle.expression_rules.specs.Constants.{at_dimension, bound_of, called_value, elemental_value, inquired, item_or, named_first, numbered, of_array, operated, part_value, unless_zero, value, value_of_symbol, values, values_behind, with_more}
 use Rattle.expression_rules.specs.Symbols.{Name, SymbolTable, find, is_array, is_uninitialized, rank_of, satisfies}
 use Rattle.expression_rules.specs.Types.{are_dimensions, are_inquired, called_type, common, conforming, count_of, elemental, inquired_from, integer_scalar_if, is_dimension, is_inquired, is_of_array, operand_type, rank_in, reduction, of_type, result_type, type_and_rank, types_and_ranks}
-use Rattle.name_table.specs.Declarations.{if_known, number}
-use Rattle.name_table.specs.NameRules.{is_invalid}
+use Rattle.declarations.specs.Declarations.{if_known, number}
+use Rattle.declarations.specs.DeclarationRules.{is_invalid}
 
 -- a symbol is known, and its dimensions are as many as its rank
 abbrev pub IsRight : Symbol → Type 0

@@ -1,7 +1,6 @@
 mod Folds
 mod KnownTables
 mod KnownValues
-mod Measures
 mod NamedEntries
 mod NestSteps
 mod Placings
@@ -9,13 +8,3 @@ mod ProgramBreaches
 mod Reasons
 mod Repeats
 mod Scalars
-mod StatementRows
-mod Turns
-mod WalkSteps
-mod LeastReasons
-mod ConstantLists
-mod ElementTotals
-mod ArrayLimits
-mod ItemReasons
-mod ItemTurns
-mod HeldItems

@@ -15,9 +15,9 @@ use Rattle.syntax_tree.specs.declared.stmt.Kind.TheBlock.{hidden-the_row-Arm-0}
 use Rattle.syntax_tree.specs.Statement.{Block, Done, Then, Statement, Do, arms, arms_of, block_of, do_construct, independent, statement}
 use Rattle.syntax_tree.proofs.Rows.{do_parts, arms_vec, block_vec}
 use Rattle.name_table.specs.NameRules.{nest_breaches}
-use Rattle.name_table.specs.Nests.{Nest, arm_nests, loop, nest_in, nests, statement_nests}
-use Rattle.name_table.proofs.Turns.{least_both}
-use Rattle.name_table.proofs.WalkSteps.{axis_in}
+use Rattle.statement_walk.specs.Nests.{Nest, arm_nests, loop, nest_in, nests, statement_nests}
+use Rattle.expression_rules.proofs.Turns.{least_both}
+use Rattle.statement_walk.proofs.WalkSteps.{axis_in}
 
 pub if_nests : (line : ℕ) (k : Kind.Kind) (as' : Vec HeldArm Global) (rest : Option (Vec Stmt Global)) (v : Vec Stmt Global) (glued : Bool) → k ≡ Kind.If as' rest glued → rest ≡ Some v →
     arm_nests (arms_of as'.items) ++ nests (block_of v.items) ≡ statement_nests line (statement line k)

@@ -8,7 +8,7 @@ use Rattle.expression_rules.specs.declared.symbols.Symbol.TheVariants as symbol
 use Rattle.name_table.specs.declared.names.Entry.{Entry}
 use Rattle.name_table.specs.declared.names.What.{What}
 use Rattle.name_table.specs.declared.names.What.TheVariants.{Scalar, Constant, Array, Template, Arrangement}
-use Rattle.name_table.specs.Declarations.{symbol_table}
+use Rattle.declarations.specs.Declarations.{symbol_table}
 
 -- what isn't known counts as 0, and dimensions that aren't known as none; no program that keeps the rules has such
 abbrev pub or_zero : Option ℤ → ℤ

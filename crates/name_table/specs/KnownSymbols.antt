@@ -6,7 +6,7 @@ use Rattle.hpf_base.specs.Refusal.{NoBreach}
 use Rattle.syntax_tree.specs.MainProgram.{MainProgram}
 use Rattle.expression_rules.specs.declared.symbols.Symbol.{Symbol}
 use Rattle.expression_rules.specs.declared.symbols.Symbol.TheVariants.{Initialized, Constant, Array}
-use Rattle.name_table.specs.Declarations.{symbol_table}
+use Rattle.declarations.specs.Declarations.{symbol_table}
 use Rattle.name_table.specs.NameRules.{name_breaches}
 use Rattle.name_table.specs.RankRules.{rank_breaches}
 

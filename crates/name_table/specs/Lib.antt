@@ -1,9 +1,5 @@
-pub mod Head
-pub mod Heads
-pub mod Nests
 pub mod Places
 pub mod Uses
-pub mod Declarations
 pub mod Directives
 pub mod Entries
 pub mod KnownSymbols
@@ -11,5 +7,4 @@ pub mod NewNames
 pub mod Resolved
 pub mod NameRules
 pub mod RankRules
-pub mod Views
-pub mod Declaring
+pub mod NameReasons

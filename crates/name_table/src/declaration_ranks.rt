@@ -9,9 +9,10 @@ ghost use Rattle.syntax_tree.specs.Expression.{subscript};
 ghost use Rattle.syntax_tree.specs.MainProgram.{Directed, declaration, declared_of, named_constant, type_declaration};
 ghost use Rattle.expression_rules.specs.Partial.{maybe_of};
 ghost use Rattle.expression_rules.specs.declared.types.Context.TheVariants as context;
-ghost use Rattle.name_table.specs.Declarations.{bounds_of};
+ghost use Rattle.declarations.specs.Declarations.{bounds_of};
 ghost use Rattle.name_table.specs.Directives.{directive_expressions, entity_expressions, maybe_expressions, part_expressions, target_expressions, targets_of};
-ghost use Rattle.name_table.specs.Places.{bound_expressions, meets, IntegerScalar};
+ghost use Rattle.name_table.specs.Places.{meets, IntegerScalar};
+ghost use Rattle.expression_rules.specs.Inner.{bound_expressions};
 ghost use Rattle.name_table.specs.RankRules.{declaration_breaches_at, declaration_meets, type_expressions, typed_expressions};
 
 use crate::dummies::dummies;

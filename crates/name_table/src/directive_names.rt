@@ -8,7 +8,8 @@ ghost use Rattle.syntax_tree.specs.MainProgram.{declaration};
 ghost use Rattle.expression_rules.specs.Operands.{are_operands};
 ghost use Rattle.expression_rules.specs.Symbols.{is_declared, with_dummies};
 ghost use Rattle.name_table.specs.Directives.{directive_dummies, directive_expressions, directive_names};
-ghost use Rattle.name_table.specs.NameRules.{at, directive_breaches_at, when};
+ghost use Rattle.name_table.specs.NameRules.{directive_breaches_at};
+ghost use Rattle.declarations.specs.Reasons.{at, when};
 
 use crate::directive_operands::in_directive;
 use crate::dummies::dummies;

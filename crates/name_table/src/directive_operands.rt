@@ -6,7 +6,7 @@ ghost use Rattle.syntax_tree.specs.Directive.{arrangement, bound, directive_of, 
 ghost use Rattle.syntax_tree.specs.Expression.{subscript};
 ghost use Rattle.expression_rules.specs.Operands.{are_operands};
 ghost use Rattle.name_table.specs.Directives.{directive_expressions, entity_expressions, part_expressions, target_expressions};
-ghost use Rattle.name_table.specs.Places.{bound_expressions};
+ghost use Rattle.expression_rules.specs.Inner.{bound_expressions};
 
 use crate::head_operands::{in_formats, in_option};
 use expression_rules::{Scope, are_operands};

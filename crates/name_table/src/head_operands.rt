@@ -6,12 +6,12 @@ ghost use Rattle.syntax_tree.specs.Directive.{format_of};
 ghost use Rattle.syntax_tree.specs.Expression.{expression};
 ghost use Rattle.syntax_tree.specs.Statement.{axis, item_of};
 ghost use Rattle.name_table.specs.NameRules.{expressions_of};
-ghost use Rattle.name_table.specs.Places.{axis_expressions, format_expressions, item_expressions, present};
+ghost use Rattle.expression_rules.specs.Inner.{axis_expressions, format_expressions, item_expressions, present};
 ghost use Rattle.expression_rules.specs.Operands.{are_operands};
-ghost use Rattle.name_table.specs.Views.{head_of};
+ghost use Rattle.statement_walk.specs.Views.{head_of};
 
-use crate::statement_walk::Head;
 use expression_rules::{Scope, are_operands, is_operand_reference};
+use statement_walk::Head;
 use syntax_tree::{Expr, Format, Header, Item};
 
 /// Whether each name in the expressions of a statement stands for a number or for numbers.

@@ -4,7 +4,8 @@ ghost use Rattle.std.specs.Prelude.{◌≡◌, map, option_map, IfOk};
 ghost use Rattle.std.specs.List.{flat_map, list_all};
 ghost use Rattle.syntax_tree.specs.Directive.{format_of};
 ghost use Rattle.syntax_tree.specs.Expression.{expression};
-ghost use Rattle.name_table.specs.Places.{format_expressions, meets, present, IntegerScalar};
+ghost use Rattle.name_table.specs.Places.{meets, IntegerScalar};
+ghost use Rattle.expression_rules.specs.Inner.{format_expressions, present};
 
 use expression_rules::{Context, Scope, is_integer_scalar, type_and_rank};
 use std::alloc::{AllocError, Global};

@@ -5,7 +5,7 @@ ghost use Rattle.std.specs.List.{list_all};
 ghost use Rattle.syntax_tree.specs.Directive.{distribution, names_of};
 ghost use Rattle.expression_rules.specs.Symbols.{is_declared};
 ghost use Rattle.name_table.specs.Directives.{distribution_names};
-ghost use Rattle.name_table.specs.Places.{present};
+ghost use Rattle.expression_rules.specs.Inner.{present};
 
 use expression_rules::SymbolTable;
 use hpf_base::Name;

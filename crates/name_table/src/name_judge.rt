@@ -4,19 +4,20 @@ ghost use Rattle.std.specs.Prelude.{◌≡◌, ◌&&◌, not, [], ◌∷◌, len
 ghost use Rattle.std.specs.List.{flat_map, list_all};
 ghost use Rattle.syntax_tree.specs.Statement.{axis, block_of};
 ghost use Rattle.name_table.specs.NameRules.{header_names, name_breaches_at, own_uses};
-ghost use Rattle.name_table.specs.Heads.{all_heads, indices_of};
+ghost use Rattle.statement_walk.specs.Heads.{all_heads, indices_of};
 ghost use Rattle.hpf_base.specs.FirstBreach.{least};
 ghost use Rattle.hpf_base.specs.declared.limits.TheConstants.{MAX_INDICES};
 ghost use Rattle.expression_rules.specs.Symbols.{find, is_among, is_scalar, is_variable, satisfies};
 ghost use Rattle.name_table.specs.Uses.{repeats, allows, Assigned};
-ghost use Rattle.name_table.specs.Views.{head_of, name_reason};
+ghost use Rattle.statement_walk.specs.Views.{head_of};
+ghost use Rattle.name_table.specs.NameReasons.{name_reason};
 
 use crate::head_operands::all_are_operands;
 use crate::listed_names::{are_declared, is_distribution_declared};
-use crate::statement_walk::{Head, Judge, walk};
 use expression_rules::{Scope, Symbol, SymbolTable, is_among};
 use hpf_base::{MAX_INDICES, Name, Reason, Refusal};
 use indexmap::IndexSet;
+use statement_walk::{Head, Judge, walk};
 use std::alloc::{AllocError, Global};
 use syntax_tree::{Header, Stmt};
 

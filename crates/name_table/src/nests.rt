@@ -6,7 +6,7 @@ ghost use Rattle.hpf_base.specs.FirstBreach.{least};
 ghost use Rattle.hpf_base.specs.declared.refusal.Reason.TheVariants.{Limit};
 ghost use Rattle.syntax_tree.specs.Statement.{Done, Then, arms_of, block_of, do_construct, statement};
 ghost use Rattle.name_table.specs.NameRules.{nest_breaches};
-ghost use Rattle.name_table.specs.Nests.{arm_nests, nest_in, nests, statement_nests};
+ghost use Rattle.statement_walk.specs.Nests.{arm_nests, nest_in, nests, statement_nests};
 
 use hpf_base::{MAX_INDICES, Reason, Refusal, earlier};
 use syntax_tree::{Arm, DoLoop, Kind, Stmt};

@@ -8,19 +8,20 @@ ghost use Rattle.syntax_tree.specs.Expression.{expression};
 ghost use Rattle.syntax_tree.specs.Statement.{axis, block_of, designator, item_of, variable};
 ghost use Rattle.expression_rules.specs.declared.types.Context.TheVariants as context;
 ghost use Rattle.expression_rules.specs.Types.{if_typed, type_and_rank};
-ghost use Rattle.name_table.specs.Heads.{all_heads};
-ghost use Rattle.name_table.specs.NameRules.{at, when};
-ghost use Rattle.name_table.specs.Places.{all_meet, axis_expressions, context_of, is_designator, is_element, is_integer, is_mask, is_masked_by, is_right_of, integer_scalars, item_expressions, meets, place, places, present, ArrayElement, IntegerScalar, LogicalArray, LogicalScalar, MaskedArray, PrintItem, RightOf, Variable};
+ghost use Rattle.statement_walk.specs.Heads.{all_heads};
+ghost use Rattle.declarations.specs.Reasons.{at, when};
+ghost use Rattle.name_table.specs.Places.{all_meet, context_of, is_designator, is_element, is_integer, is_mask, is_masked_by, is_right_of, integer_scalars, meets, place, places, ArrayElement, IntegerScalar, LogicalArray, LogicalScalar, MaskedArray, PrintItem, RightOf, Variable};
+ghost use Rattle.expression_rules.specs.Inner.{axis_expressions, item_expressions, present};
 ghost use Rattle.name_table.specs.RankRules.{rank_breaches_at};
-ghost use Rattle.name_table.specs.Views.{head_of};
+ghost use Rattle.statement_walk.specs.Views.{head_of};
 
 use crate::integer_scalars::{in_formats, is_scalar, is_scalar_if_any};
-use crate::statement_walk::{Head, Judge, walk};
 use expression_rules::{
     Context, DataType, Scope, SymbolTable, TypeAndRank, is_integer_scalar, is_logical_scalar,
     reference_type, type_and_rank,
 };
 use hpf_base::{Name, Reason, Refusal};
+use statement_walk::{Head, Judge, walk};
 use std::alloc::{AllocError, Global};
 use syntax_tree::{Expr, Header, Item, Ref, Stmt};
 

@@ -2,7 +2,8 @@ use Rattle.std.proofs.Common.{◌≡◌, drop, map}
 use Rattle.std.specs.Prelude.{◌&&◌}
 use Rattle.std.specs.List.{flat_map, list_all}
 use Rattle.syntax_tree.specs.Directive.{bound}
-use Rattle.name_table.specs.Places.{bound_expressions, meets, IntegerScalar}
+use Rattle.name_table.specs.Places.{meets, IntegerScalar}
+use Rattle.expression_rules.specs.Inner.{bound_expressions}
 use Rattle.name_table.proofs.declaration_ranks.in_bounds.Given as goal
 
 abbrev pub invariant-loop-dimension : goal.invariant-loop-dimension

@@ -5,9 +5,10 @@ use Rattle.syntax_tree.specs.Directive.{format_of}
 use Rattle.syntax_tree.specs.Expression.{expression}
 use Rattle.syntax_tree.specs.Statement.{axis, item_of}
 use Rattle.name_table.specs.NameRules.{expressions_of}
-use Rattle.name_table.specs.Places.{IntegerScalar, PrintItem, axis_expressions, format_expressions, item_expressions, present}
+use Rattle.name_table.specs.Places.{IntegerScalar, PrintItem}
+use Rattle.expression_rules.specs.Inner.{axis_expressions, format_expressions, item_expressions, present}
 use Rattle.expression_rules.specs.Operands.{are_operands}
-use Rattle.name_table.specs.Views.{head_of}
+use Rattle.statement_walk.specs.Views.{head_of}
 use Rattle.name_table.proofs.Folds.{all_flat}
 use Rattle.name_table.proofs.Placings.{same_expressions, header_expressions}
 use Rattle.name_table.proofs.head_operands.all_are_operands.Goals as goal

@@ -3,7 +3,7 @@ use Rattle.std.specs.List.{flat_map}
 use Rattle.hpf_base.specs.FirstBreach.{earlier, least}
 use Rattle.syntax_tree.specs.Statement.{arms_of, block_of}
 use Rattle.name_table.specs.NameRules.{nest_breaches}
-use Rattle.name_table.specs.Nests.{arm_nests, nests}
+use Rattle.statement_walk.specs.Nests.{arm_nests, nests}
 use Rattle.name_table.proofs.nests.+nests.Given as goal
 
 -- the first deep nest so far, or else in the rest, is the first of all

@@ -4,7 +4,8 @@ use Rattle.std.specs.List.{flat_map, list_all}
 use Rattle.syntax_tree.specs.Statement.{axis}
 use Rattle.expression_rules.specs.declared.types.Context.TheVariants as context
 use Rattle.expression_rules.proofs.Folds.{all_append, every_next}
-use Rattle.name_table.specs.Places.{IntegerScalar, axis_expressions, meets}
+use Rattle.name_table.specs.Places.{IntegerScalar, meets}
+use Rattle.expression_rules.specs.Inner.{axis_expressions}
 use Rattle.name_table.proofs.rank_judge.in_headers.Goals as goal
 
 pub loop-header-preserved : goal.loop-header-preserved

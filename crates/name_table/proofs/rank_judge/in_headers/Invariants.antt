@@ -3,7 +3,8 @@ use Rattle.std.specs.Prelude.{◌&&◌}
 use Rattle.std.specs.List.{flat_map, list_all}
 use Rattle.syntax_tree.specs.Statement.{axis}
 use Rattle.expression_rules.specs.declared.types.Context.TheVariants as context
-use Rattle.name_table.specs.Places.{axis_expressions, meets, IntegerScalar}
+use Rattle.name_table.specs.Places.{meets, IntegerScalar}
+use Rattle.expression_rules.specs.Inner.{axis_expressions}
 use Rattle.name_table.proofs.rank_judge.in_headers.Given as goal
 
 abbrev pub invariant-loop-header : goal.invariant-loop-header

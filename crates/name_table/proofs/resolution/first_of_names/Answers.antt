@@ -3,10 +3,11 @@ use Rattle.std.specs.List.{flat_map}
 use Rattle.hpf_base.specs.FirstBreach.{least}
 use Rattle.syntax_tree.specs.MainProgram.{declaration, main_program}
 use Rattle.syntax_tree.specs.Statement.{block_of}
-use Rattle.name_table.specs.Declarations.{items, symbol_table}
-use Rattle.name_table.specs.Heads.{all_heads}
-use Rattle.name_table.specs.NameRules.{directive_breaches_at, end_breaches, item_breaches, name_breaches_at, nest_breaches}
-use Rattle.name_table.specs.Nests.{nests}
+use Rattle.declarations.specs.Declarations.{items, symbol_table}
+use Rattle.statement_walk.specs.Heads.{all_heads}
+use Rattle.name_table.specs.NameRules.{directive_breaches_at, end_breaches, name_breaches_at, nest_breaches}
+use Rattle.declarations.specs.DeclarationRules.{item_breaches}
+use Rattle.statement_walk.specs.Nests.{nests}
 use Rattle.name_table.proofs.ProgramBreaches.{earliest_of_five}
 use Rattle.name_table.proofs.resolution.first_of_names.Goals as goal
 

@@ -3,8 +3,8 @@ use Rattle.std.specs.List.{flat_map}
 use Rattle.hpf_base.specs.FirstBreach.{least}
 use Rattle.syntax_tree.specs.MainProgram.{declaration}
 use Rattle.syntax_tree.specs.Statement.{block_of}
-use Rattle.name_table.specs.Declarations.{symbol_table}
-use Rattle.name_table.specs.Heads.{all_heads}
+use Rattle.declarations.specs.Declarations.{symbol_table}
+use Rattle.statement_walk.specs.Heads.{all_heads}
 use Rattle.name_table.specs.RankRules.{declaration_breaches_at, rank_breaches_at}
 use Rattle.name_table.proofs.ProgramBreaches.{earliest_of_two}
 use Rattle.name_table.proofs.resolution.first_of_ranks.Goals as goal
