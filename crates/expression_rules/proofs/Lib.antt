@@ -6,3 +6,4 @@ mod Evaluations
 mod Typings
 mod Referenced
 mod Dummies
+pub mod Turns

@@ -32,11 +32,17 @@ abbrev pub unless_zero : Option ℤ → Evaluated ℤ
 unless_zero None = Invalid
 unless_zero (Some n) = Known n
 
--- an operator or an elemental procedure, with the values of its operands; another rule asks for their number
+-- an operator with the values of its operands
 abbrev pub operated : Op → Evaluated (List ℤ) → Evaluated ℤ
-operated o (Known ns) = if takes o (length ns) then unless_zero (operator_value o ns) else Unknown
+operated o (Known ns) = unless_zero (operator_value o ns)
 operated o Unknown = Unknown
 operated o Invalid = Invalid
+
+-- an elemental procedure with those of its arguments; another rule asks for their number
+abbrev pub elemental_value : Op → Evaluated (List ℤ) → Evaluated ℤ
+elemental_value o (Known ns) = if takes o (length ns) then operated o (Known ns) else Unknown
+elemental_value o Unknown = Unknown
+elemental_value o Invalid = Invalid
 
 -- where an expression stands: outside directives, or in one, where the processor grid has these extents
 abbrev pub Site : Type 0
@@ -107,7 +113,7 @@ abbrev pub called_value : Site → Op → Option Symbol → Evaluated (List ℤ)
 called_value p o s ns behind =
     if is_inquiry o then of_array p o s behind
     else (if is_processor_count o then processor_count p ns
-    else (if is_reduction o then Invalid else operated o ns))
+    else (if is_reduction o then Invalid else elemental_value o ns))
 
 -- a name by itself: only a named constant has a value
 abbrev pub value_of_symbol : Option Symbol → Evaluated ℤ

@@ -4,3 +4,4 @@ pub mod Constants
 pub mod Types
 pub mod Operands
 pub mod Partial
+pub mod Inner

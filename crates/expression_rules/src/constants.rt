@@ -4,7 +4,7 @@ ghost use Rattle.std.specs.Prelude.{◌≡◌, ◌∷◌, [], None, drop, option
 ghost use Rattle.expression_rules.specs.Dims.{AreDims, IsDim};
 ghost use Rattle.syntax_tree.specs.Expression.{expression};
 ghost use Rattle.op_tables.specs.Operators.{truth};
-ghost use Rattle.expression_rules.specs.Constants.{bound_of, called_value, inquired, lower_bound, value_of_symbol, named_first, no_dimension, processor_count, processor_count_in, numbered, of_array, of_dimensions, operated, upper_bound, value, values, values_behind, with_more};
+ghost use Rattle.expression_rules.specs.Constants.{bound_of, called_value, inquired, lower_bound, value_of_symbol, named_first, no_dimension, processor_count, processor_count_in, numbered, of_array, of_dimensions, elemental_value, operated, upper_bound, value, values, values_behind, with_more};
 ghost use Rattle.expression_rules.specs.Partial.{and_one};
 ghost use Rattle.syntax_tree.specs.Expression.{arguments_of};
 ghost use Rattle.expression_rules.specs.declared.evaluated.Evaluated.TheVariants.{Known};
@@ -88,7 +88,7 @@ fn called_value(
         Ok(Evaluated::Invalid)
     } else {
         let numbers = values(alloc, grid, scope, arguments)?;
-        Ok(operated(op, &numbers))
+        Ok(elemental_value(op, &numbers))
     }
 }
 
@@ -151,23 +151,31 @@ fn value_of_symbol(what: Option<&Symbol>) -> Evaluated<i64>
 fn operated_on(op: Op, numbers: &[i64]) -> Evaluated<i64>
     ensures { result ≡ operated op (Known numbers.now) }
 {
-    if !takes(op, numbers.len()) {
-        return Evaluated::Unknown;
-    }
     match apply(op, numbers) {
         Ok(n) => Evaluated::Known(n),
         Err(DivZero) => Evaluated::Invalid,
     }
 }
 
+/// A procedure of numbers, if it takes so many.
+fn elemental_on(op: Op, numbers: &[i64]) -> Evaluated<i64>
+    ensures { result ≡ elemental_value op (Known numbers.now) }
+{
+    if takes(op, numbers.len()) {
+        operated_on(op, numbers)
+    } else {
+        Evaluated::Unknown
+    }
+}
+
 /// A procedure of the values that are found.
-fn operated(op: Op, found: &Evaluated<Numbers>) -> Evaluated<i64>
-    ensures { result ≡ operated op found.now }
+fn elemental_value(op: Op, found: &Evaluated<Numbers>) -> Evaluated<i64>
+    ensures { result ≡ elemental_value op found.now }
 {
     match found {
         Evaluated::Invalid => Evaluated::Invalid,
         Evaluated::Unknown => Evaluated::Unknown,
-        Evaluated::Known(numbers) => operated_on(op, numbers.as_slice()),
+        Evaluated::Known(numbers) => elemental_on(op, numbers.as_slice()),
     }
 }
 

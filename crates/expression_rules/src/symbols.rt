@@ -1,11 +1,14 @@
 //! The symbol table.
 
-ghost use Rattle.std.specs.Prelude.{◌≡◌, [], None, option_copied, OnOk};
-ghost use Rattle.expression_rules.specs.Symbols.{changed, find};
+ghost use Rattle.std.specs.Prelude.{◌≡◌, [], None, bytes_eq, length, map, option_copied, OnErr, OnOk};
+ghost use Rattle.std.specs.List.{IsDistinct};
+ghost use Rattle.std.specs.Map.Iter.{GivesInOrder};
+ghost use Rattle.expression_rules.specs.Symbols.{Name as NameBytes, changed, find};
 
 use crate::dims::Dims;
 use hpf_base::Name;
 use indexmap::IndexMap;
+use indexmap::map::IntoIter;
 use std::alloc::{AllocError, Global};
 use std::marker::Model;
 
@@ -63,12 +66,29 @@ impl SymbolTable {
         self.symbols.get(name)
     }
 
-    /// The name stands for this from now on; a name that isn't declared comes last.
+    /// How many names are declared. It takes no memory.
+    pub fn len(&self) -> usize
+        ensures { result ≡ length self.now }
+    {
+        self.symbols.len()
+    }
+
+    /// The name stands for this from now on; a name that isn't declared comes last. After an `Err` the table is as it was.
     pub fn change(&mut self, name: Name, symbol: Symbol) -> Result<(), AllocError>
-        ensures { OnOk result (self.new ≡ changed name symbol self.old) }
+        ensures changed { OnOk result (self.new ≡ changed name symbol self.old) }
+        ensures kept { OnErr result (self.new ≡ self.old) }
     {
         self.symbols.insert(name, symbol)?;
         Ok(())
+    }
+
+    /// The names in order, no two of them the same, each with what it stands for. It takes no memory.
+    pub fn into_entries(self) -> IntoIter<Name, Symbol>
+        ensures entries { result ≡ self }
+        ensures distinct { IsDistinct bytes_eq (map (λ e. e.0) self) }
+        ensures runs { GivesInOrder (NameBytes × Symbol) }
+    {
+        self.symbols.into_iter()
     }
 
     /// A name without bytes, which no text spells, isn't declared. It does nothing.

@@ -1,7 +1,10 @@
 mod Folds
-mod Measures
+mod KnownTables
+mod KnownValues
+mod NamedEntries
+mod NestSteps
 mod Placings
+mod ProgramBreaches
 mod Reasons
-mod StatementRows
-mod Turns
-mod WalkSteps
+mod Repeats
+mod Scalars

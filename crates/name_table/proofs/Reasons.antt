@@ -5,9 +5,9 @@ use Rattle.std.proofs.lemmas.Bool.Decides.{nat_tests}
 use Rattle.hpf_base.specs.declared.refusal.Reason.{Reason}
 use Rattle.hpf_base.specs.declared.refusal.Reason.TheVariants as reason
 use Rattle.hpf_base.specs.declared.refusal.Refusal.{Refusal}
-use Rattle.name_table.specs.NameRules.{at}
+use Rattle.declarations.specs.Reasons.{at}
 use Rattle.hpf_base.specs.FirstBreach.{is_before, least}
-use Rattle.name_table.specs.NameRules.{when}
+use Rattle.declarations.specs.Reasons.{when}
 
 abbrev pub refused : ℕ → Reason → Refusal
 refused line why = record { line = line; reason = why }

@@ -4,8 +4,8 @@ use Rattle.std.specs.List.{flat_map}
 use Rattle.syntax_tree.specs.Expression.{Expression, Part, One, Range, Glued, Maybe, Absent, Present}
 use Rattle.syntax_tree.specs.Directive.{Entity, Directive, Processors, Template, Dynamic, Distribute, Align, Distribution, Alignment, Source, Dummy, Target, Placed, Replicated}
 use Rattle.expression_rules.specs.Symbols.{Name}
-use Rattle.name_table.specs.Places.{present, bound_expressions, format_expressions}
-use Rattle.name_table.specs.Declarations.{bounds_of}
+use Rattle.expression_rules.specs.Inner.{present, bound_expressions, format_expressions}
+use Rattle.declarations.specs.Declarations.{bounds_of}
 
 -- the names in its lists
 abbrev pub distribution_names : Distribution → List Name

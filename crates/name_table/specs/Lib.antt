@@ -1,10 +1,10 @@
-pub mod Head
-pub mod Heads
-pub mod Nests
 pub mod Places
 pub mod Uses
-pub mod Declarations
 pub mod Directives
+pub mod Entries
+pub mod KnownSymbols
+pub mod NewNames
+pub mod Resolved
 pub mod NameRules
 pub mod RankRules
-pub mod Views
+pub mod NameReasons

@@ -1,79 +1,28 @@
 -- The rules of names and constants (Fortran 95, 5, 7 and 14.1.2; HPF 2.0, 3): what each part of a program breaks of them, with
 -- its line and the reason.
-use Rattle.std.specs.Prelude.{ℕ, Bool, true, false, ◌&&◌, ◌||◌, not, nat_lt, nat_le, bytes_eq, List, [], ◌∷◌, ◌++◌, map, length, slice_get, ℤ, Option, Some, None}
-use Rattle.std.specs.List.{list_any, list_all, flat_map}
-use Rattle.hpf_base.specs.declared.limits.TheConstants.{MAX_INDICES, MAX_NAMES, MAX_RANK}
+use Rattle.std.specs.Prelude.{◌&&◌, ◌||◌, not, nat_lt, bytes_eq, Bool, false, List, [], ◌∷◌, ◌++◌, map, length, slice_get, Option, Some, None}
+use Rattle.std.specs.List.{list_all, flat_map}
+use Rattle.hpf_base.specs.declared.limits.TheConstants.{MAX_INDICES}
 use Rattle.hpf_base.specs.declared.refusal.Reason.{Reason}
 use Rattle.hpf_base.specs.declared.refusal.Reason.TheVariants as reason
 use Rattle.hpf_base.specs.declared.refusal.Refusal.{Refusal}
 use Rattle.syntax_tree.specs.Expression.{Expression}
-use Rattle.syntax_tree.specs.Directive.{Bound}
 use Rattle.syntax_tree.specs.MainProgram.{Declared, Directed, Declaration, MainProgram}
-use Rattle.expression_rules.specs.Symbols.{Name, SymbolTable, find, is_declared, satisfies, is_uninitialized, with_dummies}
-use Rattle.expression_rules.specs.declared.evaluated.Evaluated.{Evaluated}
-use Rattle.expression_rules.specs.declared.evaluated.Evaluated.TheVariants.{Invalid}
-use Rattle.expression_rules.specs.Constants.{value}
+use Rattle.expression_rules.specs.Symbols.{Name, SymbolTable, with_dummies}
 use Rattle.expression_rules.specs.Operands.{are_operands}
-use Rattle.name_table.specs.Declarations.{Item, DimensionAttribute, TypedEntity, Definition, TemplateEntity, ArrangementEntity, PlacedItem, items, behind, symbol_table, bounds_of, is_past_limits, rank_in_text}
+use Rattle.expression_rules.specs.Inner.{present}
+use Rattle.statement_walk.specs.Head.{Head}
+use Rattle.statement_walk.specs.Head as head
+use Rattle.statement_walk.specs.Heads.{PlacedHead, indices_of, all_heads}
+use Rattle.statement_walk.specs.Nests.{Nest, nests}
+use Rattle.declarations.specs.Declarations.{items, symbol_table}
+use Rattle.declarations.specs.DeclarationRules.{item_breaches}
+use Rattle.declarations.specs.Reasons.{at, when}
 use Rattle.name_table.specs.Directives.{directive_dummies, directive_expressions, directive_names, distribution_names}
-use Rattle.name_table.specs.Head.{Head}
-use Rattle.name_table.specs.Head as head
-use Rattle.name_table.specs.Heads.{PlacedHead, indices_of, all_heads}
-use Rattle.name_table.specs.Nests.{Nest, nests}
-use Rattle.name_table.specs.Places.{places, present, bound_expressions}
+use Rattle.name_table.specs.Places.{places}
 use Rattle.name_table.specs.Uses.{Use, Assigned, DoVariable, ForallIndex, Listed, allows, repeats}
 
--- a reason, where it holds
-abbrev pub when : Bool → Reason → List Reason
-when true why = why ∷ []
-when false why = []
-
--- breaches at a line
-abbrev pub at : ℕ → List Reason → List Refusal
-at line whys = map (λ why. record { line = line; reason = why }) whys
-
--- ---- declarations
-
--- the expressions that must be constant where they stand; those of a directive may name what comes later
-abbrev pub constants_of : Item → List Expression
-constants_of (DimensionAttribute bs) = flat_map bound_expressions bs
-constants_of (TypedEntity constant bs e) = flat_map bound_expressions (bounds_of bs) ++ present e.start
-constants_of (Definition c) = c.value ∷ []
-constants_of i = []
-
-abbrev pub is_invalid : Evaluated ℤ → Bool
-is_invalid Invalid = true
-is_invalid v = false
-
--- a name that is declared twice, or is one too many
-abbrev pub declared_again : SymbolTable → Name → List Reason
-declared_again t x = when (is_declared x t) reason.BadName ++ when (nat_le MAX_NAMES (length t) && not (is_declared x t)) reason.Limit
-
--- an array past its limits
-abbrev pub past_limits : SymbolTable → Bool → Option (List Bound) → Bool
-past_limits t false (Some bs) = is_past_limits t bs
-past_limits t constant bs = false
-
--- what is wrong with the name itself
-abbrev pub own_reasons : SymbolTable → Item → List Reason
-own_reasons t (DimensionAttribute bs) = []
-own_reasons t (TypedEntity constant bs e) = declared_again t e.name ++ when (past_limits t constant bs) reason.Limit
-own_reasons t (Definition c) = when (not (satisfies is_uninitialized (find c.name t))) reason.BadName
-own_reasons t (TemplateEntity e) = declared_again t e.name ++ when (nat_lt MAX_RANK (rank_in_text e)) reason.Limit
-own_reasons t (ArrangementEntity e) = declared_again t e.name ++ when (nat_lt MAX_RANK (rank_in_text e)) reason.Limit
-
--- what is wrong with an item, where these names are declared before it: also a name in an expression that isn't declared or
--- stands for no number, and an expression that isn't constant or divides by zero
-abbrev pub item_reasons : SymbolTable → Item → List Reason
-item_reasons t i =
-    own_reasons t i
-    ++ when (not (list_all (are_operands t) (constants_of i))) reason.BadName
-    ++ when (list_any (λ e. is_invalid (value None t e)) (constants_of i)) reason.BadConstant
-
--- one item after the other
-abbrev pub item_breaches : SymbolTable → List PlacedItem → List Refusal
-item_breaches t [] = []
-item_breaches t (i ∷ is) = at i.line (item_reasons t i.what) ++ item_breaches (behind t i.what) is
+-- ---- directives among the declarations
 
 -- a directive among the declarations names what isn't declared, or in an expression what stands for no number
 abbrev pub directive_reasons : SymbolTable → Declared → List Reason

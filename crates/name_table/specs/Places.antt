@@ -1,18 +1,18 @@
 -- The expressions of statements, each with what its place asks of its type and rank (Fortran 95, 7.4.1.4, 7.5.1.1, 7.5.3, 7.5.4,
 -- 8.1.2, 8.1.4 and 9.4.2).
-use Rattle.std.specs.Prelude.{Bool, true, false, ◌&&◌, ◌||◌, nat_eq, nat_le, is_some, List, [], ◌∷◌, ◌++◌, map, Option, Some, None}
+use Rattle.std.specs.Prelude.{Bool, true, false, ◌&&◌, ◌||◌, nat_eq, nat_le, is_some, List, [], ◌∷◌, ◌++◌, map}
 use Rattle.std.specs.List.{list_all, flat_map}
 use Rattle.syntax_tree.specs.Expression.{Expression, Name, Element}
-use Rattle.syntax_tree.specs.Directive.{Bound, Format, Undistributed, Block, Cyclic}
-use Rattle.syntax_tree.specs.Statement.{Axis, Item, Value, Text, designator}
+use Rattle.syntax_tree.specs.Statement.{designator}
 use Rattle.expression_rules.specs.Symbols.{SymbolTable}
+use Rattle.expression_rules.specs.Inner.{present, axis_expressions, item_expressions, format_expressions}
 use Rattle.expression_rules.specs.declared.types.Context.{Context}
 use Rattle.expression_rules.specs.declared.types.Context.TheVariants as context
 use Rattle.expression_rules.specs.declared.types.DataType.TheVariants.{Integer, Logical}
 use Rattle.expression_rules.specs.declared.types.TypeAndRank.{TypeAndRank}
 use Rattle.expression_rules.specs.Types.{same_type, is_integer_scalar, is_logical_scalar, if_typed, type_and_rank}
-use Rattle.name_table.specs.Head.{Head}
-use Rattle.name_table.specs.Head as head
+use Rattle.statement_walk.specs.Head.{Head}
+use Rattle.statement_walk.specs.Head as head
 
 pub data Requirement : Type 0 where
   IntegerScalar : Requirement
@@ -34,25 +34,6 @@ pub record Place : Type 0 where
 
 abbrev pub place : Requirement → Expression → Place
 place r e = record { expression = e; requirement = r }
-
-abbrev pub present : {A : Type 0} → Option A → List A
-present None = []
-present (Some a) = a ∷ []
-
-abbrev pub axis_expressions : Axis → List Expression
-axis_expressions a = a.first ∷ a.last ∷ present a.step
-
-abbrev pub bound_expressions : Bound → List Expression
-bound_expressions b = present b.lower ++ b.upper ∷ []
-
-abbrev pub item_expressions : Item → List Expression
-item_expressions (Value e) = e ∷ []
-item_expressions (Text bytes) = []
-
-abbrev pub format_expressions : Format → List Expression
-format_expressions Undistributed = []
-format_expressions (Block m) = present m
-format_expressions (Cyclic k) = present k
 
 abbrev pub integer_scalars : List Expression → List Place
 integer_scalars es = map (place IntegerScalar) es

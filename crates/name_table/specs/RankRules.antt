@@ -1,6 +1,6 @@
 -- The rules of types and ranks (Fortran 95, 6.2, 7.1, 7.4, 7.5, 8.1, 9.4 and 13.11; HPF 2.0, 3): each expression is what its
 -- place asks.
-use Rattle.std.specs.Prelude.{Bool, true, not, List, ◌++◌, map, Option}
+use Rattle.std.specs.Prelude.{Bool, true, not, List, ◌++◌, map}
 use Rattle.std.specs.List.{flat_map}
 use Rattle.hpf_base.specs.declared.refusal.Reason.TheVariants as reason
 use Rattle.hpf_base.specs.declared.refusal.Refusal.{Refusal}
@@ -9,11 +9,12 @@ use Rattle.syntax_tree.specs.Directive.{Entity}
 use Rattle.syntax_tree.specs.MainProgram.{TypeDeclaration, Declared, ImplicitNone, Integer, Parameter, Directed, Declaration, MainProgram}
 use Rattle.expression_rules.specs.Symbols.{SymbolTable, with_dummies}
 use Rattle.expression_rules.specs.declared.types.Context.TheVariants as context
-use Rattle.name_table.specs.Declarations.{bounds_of, symbol_table}
+use Rattle.declarations.specs.Declarations.{bounds_of, symbol_table}
 use Rattle.name_table.specs.Directives.{directive_dummies, directive_expressions, entity_expressions}
-use Rattle.name_table.specs.Heads.{PlacedHead, all_heads}
-use Rattle.name_table.specs.NameRules.{at, when}
-use Rattle.name_table.specs.Places.{present, bound_expressions, integer_scalars, places, context_of, all_meet}
+use Rattle.statement_walk.specs.Heads.{PlacedHead, all_heads}
+use Rattle.declarations.specs.Reasons.{at, when}
+use Rattle.name_table.specs.Places.{integer_scalars, places, context_of, all_meet}
+use Rattle.expression_rules.specs.Inner.{present, bound_expressions}
 
 abbrev pub typed_expressions : Entity → List Expression
 typed_expressions e = entity_expressions e ++ present e.start

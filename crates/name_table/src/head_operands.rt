@@ -1,17 +1,17 @@
 //! The names in the expressions of statements.
 
-ghost use Rattle.std.specs.Prelude.{◌≡◌, map, option_map};
-ghost use Rattle.std.specs.List.{flat_map, list_all};
+ghost use Rattle.std.specs.Prelude.{◌≡◌, option_map};
+ghost use Rattle.std.specs.List.{list_all};
 ghost use Rattle.syntax_tree.specs.Directive.{format_of};
 ghost use Rattle.syntax_tree.specs.Expression.{expression};
 ghost use Rattle.syntax_tree.specs.Statement.{axis, item_of};
 ghost use Rattle.name_table.specs.NameRules.{expressions_of};
-ghost use Rattle.name_table.specs.Places.{axis_expressions, format_expressions, item_expressions, present};
+ghost use Rattle.expression_rules.specs.Inner.{axis_expressions, format_expressions, item_expressions, present};
 ghost use Rattle.expression_rules.specs.Operands.{are_operands};
-ghost use Rattle.name_table.specs.Views.{head_of};
+ghost use Rattle.statement_walk.specs.Views.{head_of};
 
-use crate::statement_walk::Head;
 use expression_rules::{Scope, are_operands, is_operand_reference};
+use statement_walk::Head;
 use syntax_tree::{Expr, Format, Header, Item};
 
 /// Whether each name in the expressions of a statement stands for a number or for numbers.
@@ -36,7 +36,7 @@ pub(crate) fn all_are_operands(scope: &Scope<'_>, head: Head<'_>) -> bool
 }
 
 /// The same of an expression that may be there.
-fn in_option(scope: &Scope<'_>, e: &Option<Expr>) -> bool
+pub(crate) fn in_option(scope: &Scope<'_>, e: &Option<Expr>) -> bool
     ensures { result ≡ list_all (are_operands scope.now) (present (option_map expression e.now)) }
 {
     match e {
@@ -56,13 +56,9 @@ fn in_header(scope: &Scope<'_>, header: &Header) -> bool
 
 /// The same of all of them.
 fn in_headers(scope: &Scope<'_>, headers: &[Header]) -> bool
-    ensures { result ≡ list_all (are_operands scope.now) (flat_map axis_expressions (map axis headers.now)) }
+    ensures { result ≡ list_all (λ x. list_all (are_operands scope.now) (axis_expressions (axis x))) headers.now }
 {
-    let mut all = true;
-    for header in headers {
-        all &= in_header(scope, header);
-    }
-    all
+    headers.iter().all(|header| in_header(scope, header))
 }
 
 /// The same of an item of a PRINT.
@@ -77,13 +73,9 @@ fn in_item(scope: &Scope<'_>, item: &Item) -> bool
 
 /// The same of all of them.
 fn in_items(scope: &Scope<'_>, items: &[Item]) -> bool
-    ensures { result ≡ list_all (are_operands scope.now) (flat_map item_expressions (map item_of items.now)) }
+    ensures { result ≡ list_all (λ x. list_all (are_operands scope.now) (item_expressions (item_of x))) items.now }
 {
-    let mut all = true;
-    for item in items {
-        all &= in_item(scope, item);
-    }
-    all
+    items.iter().all(|item| in_item(scope, item))
 }
 
 /// The same of the format of a dimension.
@@ -97,12 +89,8 @@ fn in_format(scope: &Scope<'_>, format: &Format) -> bool
 }
 
 /// The same of all of them.
-fn in_formats(scope: &Scope<'_>, formats: &[Format]) -> bool
-    ensures { result ≡ list_all (are_operands scope.now) (flat_map format_expressions (map format_of formats.now)) }
+pub(crate) fn in_formats(scope: &Scope<'_>, formats: &[Format]) -> bool
+    ensures { result ≡ list_all (λ x. list_all (are_operands scope.now) (format_expressions (format_of x))) formats.now }
 {
-    let mut all = true;
-    for format in formats {
-        all &= in_format(scope, format);
-    }
-    all
+    formats.iter().all(|format| in_format(scope, format))
 }

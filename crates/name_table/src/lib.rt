@@ -1,12 +1,25 @@
 //! The names of a program, and the rules of names, constants, types and ranks.
 //!
 //! Comes in: the tree of a program. Goes out: the tree with its names, each with what it is, or the first breach of the rules
-//! of names and constants, or of those of types and ranks where there is none of the former. What holds in between: what is wrong with
-//! a program is a list of breaches that each part of it says by itself; a walk asks a judge of each statement alone.
+//! of names and constants, or of those of types and ranks where there is none of the former. What holds in between: what is
+//! wrong with a program is a list of breaches that each part of it says by itself.
 #![tactic(auto)]
 
+mod declaration_ranks;
+mod directive_names;
+mod directive_operands;
+mod dummies;
+mod end_name;
 mod head_operands;
+mod integer_scalars;
+mod laws;
+mod listed_names;
 mod name_judge;
-mod statement_walk;
+mod names;
+mod nests;
+mod rank_judge;
+mod resolution;
 
-pub use statement_walk::{Head, Judge, walk};
+pub use laws::all_are_known;
+pub use names::{Entry, Names, What};
+pub use resolution::{Program, resolve};

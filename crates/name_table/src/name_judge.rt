@@ -1,44 +1,46 @@
 //! The rules of names in statements (Fortran 95, 7.5.1.1, 7.5.4.1 and 8.1.4).
 
-ghost use Rattle.std.specs.Prelude.{◌≡◌, ◌++◌, [], ◌∷◌, length, map, nat_lt, option_copied, IfOk};
+ghost use Rattle.std.specs.Prelude.{◌≡◌, ◌&&◌, not, [], ◌∷◌, length, map, nat_lt, option_copied, IfOk};
 ghost use Rattle.std.specs.List.{flat_map, list_all};
 ghost use Rattle.syntax_tree.specs.Statement.{axis, block_of};
 ghost use Rattle.name_table.specs.NameRules.{header_names, name_breaches_at, own_uses};
-ghost use Rattle.name_table.specs.Heads.{all_heads, indices_of};
+ghost use Rattle.statement_walk.specs.Heads.{all_heads, indices_of};
 ghost use Rattle.hpf_base.specs.FirstBreach.{least};
 ghost use Rattle.hpf_base.specs.declared.limits.TheConstants.{MAX_INDICES};
-ghost use Rattle.name_table.specs.Places.{present};
-ghost use Rattle.expression_rules.specs.Symbols.{find, is_scalar, is_variable, satisfies};
-ghost use Rattle.name_table.specs.Uses.{repeats, allows, Assigned, DoVariable, ForallIndex, Listed};
-ghost use Rattle.expression_rules.specs.Symbols.{is_among};
-ghost use Rattle.name_table.specs.Views.{head_of, name_reason};
+ghost use Rattle.expression_rules.specs.Symbols.{find, is_among, is_scalar, is_variable, satisfies};
+ghost use Rattle.name_table.specs.Uses.{repeats, allows, Assigned};
+ghost use Rattle.statement_walk.specs.Views.{head_of};
+ghost use Rattle.name_table.specs.NameReasons.{name_reason};
 
 use crate::head_operands::all_are_operands;
-use crate::statement_walk::{Head, Judge, walk};
-use expression_rules::{Scope, Symbol};
+use crate::listed_names::{are_declared, is_distribution_declared};
+use expression_rules::{Scope, Symbol, SymbolTable, is_among};
 use hpf_base::{MAX_INDICES, Name, Reason, Refusal};
+use indexmap::IndexSet;
+use statement_walk::{Head, Judge, walk};
 use std::alloc::{AllocError, Global};
 use syntax_tree::{Header, Stmt};
 
 /// Judges the names of a statement.
 #[derive(Clone, Copy)]
 struct Names<'a> {
-    scope: &'a Scope<'a>,
+    table: &'a SymbolTable,
 }
 
 impl<'a> Judge for Names<'a> {
     ghost use Rattle.name_table.specs.NameRules.{name_breaches_at};
 
-    ghost breaches = { λ j p. name_breaches_at j.scope.now p };
+    ghost breaches = { λ j p. name_breaches_at j.table.now p };
 
     fn judge(
         &self,
-        _alloc: Global,
+        alloc: Global,
         line: u32,
         do_variables: &[Name],
         head: Head<'_>,
     ) -> Result<Option<Refusal>, AllocError> {
-        match name_reason(self.scope, do_variables, head) {
+        let reason = name_reason(alloc, self.table, do_variables, head)?;
+        match reason {
             None => Ok(None),
             Some(reason) => Ok(Some(Refusal { line, reason })),
         }
@@ -48,38 +50,48 @@ impl<'a> Judge for Names<'a> {
 /// The first breach of the rules of names in statements, where there is one. An `Err` is want of memory.
 pub(crate) fn first_bad_name(
     alloc: Global,
-    scope: &Scope<'_>,
+    table: &SymbolTable,
     stmts: &[Stmt],
 ) -> Result<Option<Refusal>, AllocError>
-    ensures { IfOk result (λ r. r ≡ least (flat_map (name_breaches_at scope.now) (all_heads (block_of stmts.now)))) }
+    ensures { IfOk result (λ r. r ≡ least (flat_map (name_breaches_at table.now) (all_heads (block_of stmts.now)))) }
 {
     let mut do_variables = Vec::new(alloc);
-    let judge = Names { scope };
+    let judge = Names { table };
     let first = walk(alloc, &judge, &mut do_variables, stmts)?;
     Ok(first)
 }
 
-/// The least reason for which the names of a statement break a rule.
-fn name_reason(scope: &Scope<'_>, do_variables: &[Name], head: Head<'_>) -> Option<Reason>
-    ensures { result ≡ name_reason scope.now do_variables.now (head_of head.entry) }
+/// The least reason for which the names of a statement break a rule. An `Err` is want of memory.
+fn name_reason(
+    alloc: Global,
+    table: &SymbolTable,
+    do_variables: &[Name],
+    head: Head<'_>,
+) -> Result<Option<Reason>, AllocError>
+    ensures { IfOk result (λ why. why ≡ name_reason table.now do_variables.now (head_of head.entry)) }
 {
-    let good = own_stand(scope, do_variables, head) && all_are_operands(scope, head);
-    if !good || has_repeats(head) {
-        Some(Reason::BadName)
+    let scope = Scope::new(table);
+    let good = own_stand(table, do_variables, head) && all_are_operands(&scope, head);
+    let twice = has_repeats(alloc, head)?;
+    if !good || twice {
+        Ok(Some(Reason::BadName))
     } else if has_many(head) {
-        Some(Reason::Limit)
+        Ok(Some(Reason::Limit))
     } else {
-        None
+        Ok(None)
     }
 }
 
-/// The header of a FORALL has an index twice.
-fn has_repeats(head: Head<'_>) -> bool
-    ensures { result ≡ repeats (header_names (head_of head.entry)) }
+/// The header of a FORALL has an index twice. An `Err` is want of memory.
+fn has_repeats(alloc: Global, head: Head<'_>) -> Result<bool, AllocError>
+    ensures { IfOk result (λ b. b ≡ repeats (header_names (head_of head.entry))) }
 {
     match head {
-        Head::Forall(axes, _) => repeats(axes),
-        _ => false,
+        Head::Forall(axes, _) => {
+            let twice = repeats(alloc, axes)?;
+            Ok(twice)
+        }
+        _ => Ok(false),
     }
 }
 
@@ -94,46 +106,46 @@ fn has_many(head: Head<'_>) -> bool
 }
 
 /// The names that a statement uses, beside those in its expressions, stand for what their uses ask.
-fn own_stand(scope: &Scope<'_>, do_variables: &[Name], head: Head<'_>) -> bool
-    ensures { result ≡ list_all (allows scope.now do_variables.now) (own_uses (head_of head.entry)) }
+#[tactic(auto, using(crate::proofs::Folds::all_map, expression_rules::proofs::Folds::all_append))]
+fn own_stand(table: &SymbolTable, do_variables: &[Name], head: Head<'_>) -> bool
+    ensures { result ≡ list_all (allows table.now do_variables.now) (own_uses (head_of head.entry)) }
 {
     match head {
         Head::Assignment(left, _) | Head::MaskedAssignment(_, left, _) => {
-            is_assignable(scope, do_variables, &[], &left.name)
+            is_assignable(table, do_variables, &[], &left.name)
         }
-        Head::ForallAssignment(axes, left, _) => is_assignable(
-            scope,
-            do_variables,
-            axes,
-            &left.name,
-        ),
-        Head::Independent(mark) => are_listed(
-            scope,
-            do_variables,
-            mark.new.as_slice(),
-            mark.reduction.as_slice(),
-        ),
-        Head::Do(_, index, _, _, _) => is_counter(scope, do_variables, index),
-        Head::Forall(axes, _) => are_indices(scope, do_variables, axes),
-        Head::Redistribute(spec) => is_distributed(
-            scope,
-            do_variables,
-            spec.names.as_slice(),
-            &spec.onto,
-        ),
-        _ => true,
+        Head::ForallAssignment(axes, left, _) => {
+            is_assignable(table, do_variables, axes, &left.name)
+        }
+        Head::Independent(mark) => {
+            are_declared(table, mark.new.as_slice())
+                && are_declared(table, mark.reduction.as_slice())
+        }
+        Head::Do(_, index, _, _, _) => {
+            is_scalar(table.find(index)) && !is_among(index, do_variables)
+        }
+        Head::Forall(axes, _) => are_indices(table, axes),
+        Head::Redistribute(spec) => is_distribution_declared(table, spec),
+        Head::Condition(_) | Head::Where(_) | Head::Print(_) | Head::Transfer => true,
     }
 }
 
-/// The name is among the names.
-fn is_among(name: &Name, names: &[Name]) -> bool
-    ensures { result ≡ is_among name.now names.now }
+/// The name may stand on the left side of an assignment, in a FORALL with these indices.
+fn is_assignable(table: &SymbolTable, do_variables: &[Name], axes: &[Header], name: &Name) -> bool
+    ensures { result ≡ allows table.now do_variables.now (Assigned (indices_of (map axis axes.now)) name.now) }
 {
-    let mut found = false;
-    for other in names {
-        found |= *name == *other;
+    is_variable(table.find(name)) && (!is_among(name, do_variables) || is_index(name, axes))
+}
+
+/// The indices of a FORALL are scalar variables.
+fn are_indices(table: &SymbolTable, axes: &[Header]) -> bool
+    ensures { result ≡ list_all (λ x. satisfies is_scalar (find x table.now)) (indices_of (map axis axes.now)) }
+{
+    let mut all = true;
+    for other in axes {
+        all &= is_scalar(table.find(&other.name));
     }
-    found
+    all
 }
 
 /// The name is among the indices of a FORALL.
@@ -147,15 +159,18 @@ fn is_index(name: &Name, axes: &[Header]) -> bool
     found
 }
 
-/// An index allows twice among those of a FORALL.
-fn repeats(axes: &[Header]) -> bool
-    ensures { result ≡ repeats (indices_of (map axis axes.now)) }
+/// An index stands twice among those of a FORALL. An `Err` is want of memory.
+#[tactic(auto, using(crate::proofs::Repeats::repeats_from_start))]
+fn repeats(alloc: Global, axes: &[Header]) -> Result<bool, AllocError>
+    ensures { IfOk result (λ b. b ≡ repeats (indices_of (map axis axes.now))) }
 {
-    let mut found = false;
-    for (i, other) in axes.iter().enumerate() {
-        found |= is_index(&other.name, &axes[i + 1..]);
+    let mut seen: IndexSet<Name> = IndexSet::new(alloc);
+    let mut twice = false;
+    for other in axes {
+        let added = seen.insert(other.name)?;
+        twice |= !added;
     }
-    found
+    Ok(twice)
 }
 
 /// A scalar variable.
@@ -176,72 +191,5 @@ fn is_variable(what: Option<&Symbol>) -> bool
         Some(Symbol::Uninitialized) | Some(Symbol::Initialized(_)) | Some(Symbol::Array(_, _, _)) =>
             true,
         _ => false,
-    }
-}
-
-/// The name may stand on the left side of an assignment, in a FORALL with these indices.
-fn is_assignable(scope: &Scope<'_>, do_variables: &[Name], axes: &[Header], name: &Name) -> bool
-    ensures { result ≡ list_all (allows scope.now do_variables.now) (Assigned (indices_of (map axis axes.now)) name.now ∷ []) }
-{
-    is_variable(scope.find(name)) && (!is_among(name, do_variables) || is_index(name, axes))
-}
-
-/// The name may be the index of a DO.
-fn is_counter(scope: &Scope<'_>, do_variables: &[Name], name: &Name) -> bool
-    ensures { result ≡ list_all (allows scope.now do_variables.now) (DoVariable name.now ∷ []) }
-{
-    is_scalar(scope.find(name)) && !is_among(name, do_variables)
-}
-
-/// The names may be the indices of a FORALL.
-fn are_indices(scope: &Scope<'_>, do_variables: &[Name], axes: &[Header]) -> bool
-    ensures { result ≡ list_all (allows scope.now do_variables.now) (map ForallIndex (indices_of (map axis axes.now))) }
-{
-    let mut all = true;
-    for other in axes {
-        all &= is_scalar(scope.find(&other.name));
-    }
-    all
-}
-
-/// The names are declared.
-fn are_declared(scope: &Scope<'_>, do_variables: &[Name], names: &[Name]) -> bool
-    ensures { result ≡ list_all (allows scope.now do_variables.now) (map Listed names.now) }
-{
-    let mut all = true;
-    for name in names {
-        all &= scope.find(name).is_some();
-    }
-    all
-}
-
-/// The names of both lists are declared.
-#[tactic(auto, using(crate::proofs::Folds::listed_append))]
-fn are_listed(scope: &Scope<'_>, do_variables: &[Name], new: &[Name], reduction: &[Name]) -> bool
-    ensures { result ≡ list_all (allows scope.now do_variables.now) (map Listed (new.now ++ reduction.now)) }
-{
-    are_declared(scope, do_variables, new) && are_declared(scope, do_variables, reduction)
-}
-
-/// The names of a distribution are declared.
-#[tactic(auto, using(crate::proofs::Folds::listed_append))]
-fn is_distributed(
-    scope: &Scope<'_>,
-    do_variables: &[Name],
-    names: &[Name],
-    onto: &Option<Name>,
-) -> bool
-    ensures { result ≡ list_all (allows scope.now do_variables.now) (map Listed (names.now ++ present onto.now)) }
-{
-    are_declared(scope, do_variables, names) && is_declared(scope, do_variables, onto)
-}
-
-/// The name that may be there is declared.
-fn is_declared(scope: &Scope<'_>, do_variables: &[Name], name: &Option<Name>) -> bool
-    ensures { result ≡ list_all (allows scope.now do_variables.now) (map Listed (present name.now)) }
-{
-    match name {
-        None => true,
-        Some(name) => scope.find(name).is_some(),
     }
 }

@@ -15,7 +15,7 @@ enum Wanted {
 }
 
 /// What a word asks; None where it begins a remark.
-fn wanted(word: &str) -> Option<Wanted> {
+fn asked(word: &str) -> Option<Wanted> {
     match word {
         "read" => Some(Wanted::Verdict),
         "tree" => Some(Wanted::Tree),
@@ -27,7 +27,7 @@ fn wanted(word: &str) -> Option<Wanted> {
 /// The answer to a case, in lines; none to a remark.
 pub fn answer_to(alloc: Global, case: &Case) -> Result<String, AllocError> {
     let mut out = String::new(alloc);
-    if let Some(wanted) = wanted(case.word.as_str()) {
+    if let Some(wanted) = asked(case.word.as_str()) {
         match text_of(alloc, case.written.as_str()) {
             Ok(text) => write_answer(alloc, &mut out, wanted, &text)?,
             Err(TextError::Malformed) => out.push_str("  no text is written so\n")?,

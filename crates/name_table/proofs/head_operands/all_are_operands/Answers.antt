@@ -5,9 +5,11 @@ use Rattle.syntax_tree.specs.Directive.{format_of}
 use Rattle.syntax_tree.specs.Expression.{expression}
 use Rattle.syntax_tree.specs.Statement.{axis, item_of}
 use Rattle.name_table.specs.NameRules.{expressions_of}
-use Rattle.name_table.specs.Places.{IntegerScalar, PrintItem, axis_expressions, format_expressions, item_expressions, present}
+use Rattle.name_table.specs.Places.{IntegerScalar, PrintItem}
+use Rattle.expression_rules.specs.Inner.{axis_expressions, format_expressions, item_expressions, present}
 use Rattle.expression_rules.specs.Operands.{are_operands}
-use Rattle.name_table.specs.Views.{head_of}
+use Rattle.statement_walk.specs.Views.{head_of}
+use Rattle.name_table.proofs.Folds.{all_flat}
 use Rattle.name_table.proofs.Placings.{same_expressions, header_expressions}
 use Rattle.name_table.proofs.head_operands.all_are_operands.Goals as goal
 
@@ -17,7 +19,7 @@ returns-then-in_headers c =
     let es = flat_map axis_expressions (map axis c.in-Forall.axes.now) in
     let mask = option_map expression c.in-Forall.mask.now in
     c.in_option-then-in_headers.ensures
-    ∙ ap (λ b. b && list_all test (present mask)) c.if-in_headers.ensures
+    ∙ ap (λ b. b && list_all test (present mask)) (c.if-in_headers.ensures ∙ sym (all_flat test axis_expressions axis c.in-Forall.axes.now))
     ∙ sym (header_expressions test es mask)
     ∙ ap (λ h. list_all test (expressions_of (head_of h))) (sym c.in-Forall.is)
 
@@ -27,19 +29,23 @@ returns-else-in_headers c =
     let es = flat_map axis_expressions (map axis c.in-Forall.axes.now) in
     let mask = option_map expression c.in-Forall.mask.now in
     c.if-in_headers.false
-    ∙ ap (λ b. b && list_all test (present mask)) c.if-in_headers.ensures
+    ∙ ap (λ b. b && list_all test (present mask)) (c.if-in_headers.ensures ∙ sym (all_flat test axis_expressions axis c.in-Forall.axes.now))
     ∙ sym (header_expressions test es mask)
     ∙ ap (λ h. list_all test (expressions_of (head_of h))) (sym c.in-Forall.is)
 
 pub returns-in-Print : goal.returns-in-Print
 returns-in-Print c =
+    let test = are_operands c.args.scope.now in
     c.in_items.ensures
-    ∙ ap (list_all (are_operands c.args.scope.now)) (sym (same_expressions PrintItem (flat_map item_expressions (map item_of c.in-Print.items.now))))
-    ∙ ap (λ h. list_all (are_operands c.args.scope.now) (expressions_of (head_of h))) (sym c.in-Print.is)
+    ∙ sym (all_flat test item_expressions item_of c.in-Print.items.now)
+    ∙ ap (list_all test) (sym (same_expressions PrintItem (flat_map item_expressions (map item_of c.in-Print.items.now))))
+    ∙ ap (λ h. list_all test (expressions_of (head_of h))) (sym c.in-Print.is)
 
 pub returns-in-Redistribute : goal.returns-in-Redistribute
 returns-in-Redistribute c =
+    let test = are_operands c.args.scope.now in
     c.in_formats.ensures
-    ∙ ap (λ l. list_all (are_operands c.args.scope.now) (flat_map format_expressions (map format_of l))) c.deref.ensures.value
-    ∙ ap (list_all (are_operands c.args.scope.now)) (sym (same_expressions IntegerScalar (flat_map format_expressions (map format_of c.in-Redistribute.spec.now.formats.items))))
-    ∙ ap (λ h. list_all (are_operands c.args.scope.now) (expressions_of (head_of h))) (sym c.in-Redistribute.is)
+    ∙ ap (list_all (λ x. list_all test (format_expressions (format_of x)))) c.deref.ensures.value
+    ∙ sym (all_flat test format_expressions format_of c.in-Redistribute.spec.now.formats.items)
+    ∙ ap (list_all test) (sym (same_expressions IntegerScalar (flat_map format_expressions (map format_of c.in-Redistribute.spec.now.formats.items))))
+    ∙ ap (λ h. list_all test (expressions_of (head_of h))) (sym c.in-Redistribute.is)

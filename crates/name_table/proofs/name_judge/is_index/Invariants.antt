@@ -1,7 +1,7 @@
 use Rattle.std.proofs.Common.{◌≡◌, drop, map}
 use Rattle.std.specs.Prelude.{◌||◌}
 use Rattle.syntax_tree.specs.Statement.{axis}
-use Rattle.name_table.specs.Heads.{indices_of}
+use Rattle.statement_walk.specs.Heads.{indices_of}
 use Rattle.expression_rules.specs.Symbols.{is_among}
 use Rattle.name_table.proofs.name_judge.is_index.Given as goal
 

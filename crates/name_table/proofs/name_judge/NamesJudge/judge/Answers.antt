@@ -5,4 +5,4 @@ use Rattle.name_table.proofs.name_judge.NamesJudge.judge.Goals as goal
 
 pub returns-in-Some : goal.returns-in-Some
 returns-in-Some c =
-    ap (option_map (refused c.args.line)) (sym c.in-Some.is ∙ c.name_reason.ensures) ∙ sym (name_or_limit c.args.line _ _)
+    ap (option_map (refused c.args.line)) (sym c.in-Some.is ∙ c.in_ok-reason.ensures) ∙ sym (name_or_limit c.args.line _ _)

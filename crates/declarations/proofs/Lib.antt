@@ -1,0 +1,7 @@
+mod ArrayLimits
+mod ConstantLists
+mod ElementTotals
+mod HeldItems
+mod ItemReasons
+mod ItemTurns
+mod LeastReasons

@@ -1,0 +1,4 @@
+pub mod Reasons
+pub mod Declarations
+pub mod DeclarationRules
+pub mod Declaring

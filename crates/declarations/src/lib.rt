@@ -1,0 +1,15 @@
+//! The declarations of a program, one name after the other.
+//!
+//! Comes in: the declarations of a tree. Goes out: the symbol table behind them, and the first breach of the rules of names and
+//! constants among them. What holds in between: each item is judged with the names before it and leaves a table behind; an
+//! array in a table is within the limits, and what a broken rule leaves open is unknown.
+#![tactic(auto)]
+
+mod constant_reasons;
+mod declaring;
+mod declared_items;
+mod declared_names;
+mod least_reason;
+mod limits;
+
+pub use declaring::{Declarations, declare};

@@ -1,0 +1,13 @@
+use Rattle.std.proofs.Common.{◌≡◌, drop, map}
+use Rattle.std.specs.Prelude.{◌&&◌}
+use Rattle.std.specs.List.{flat_map, list_all}
+use Rattle.syntax_tree.specs.Directive.{arrangement}
+use Rattle.expression_rules.specs.declared.types.Context.TheVariants as context
+use Rattle.name_table.specs.Directives.{entity_expressions}
+use Rattle.name_table.specs.Places.{meets, IntegerScalar}
+use Rattle.name_table.proofs.declaration_ranks.in_arrangements.Given as goal
+
+abbrev pub invariant-loop-one : goal.invariant-loop-one
+invariant-loop-one l =
+    (l.all && list_all (meets context.Directive l.scope IntegerScalar) (flat_map entity_expressions (map arrangement (drop l.one-index l.entities))))
+    ≡ list_all (meets context.Directive l.scope IntegerScalar) (flat_map entity_expressions (map arrangement l.entities))

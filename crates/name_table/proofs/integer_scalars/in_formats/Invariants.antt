@@ -1,0 +1,12 @@
+use Rattle.std.proofs.Common.{◌≡◌, drop, map}
+use Rattle.std.specs.Prelude.{◌&&◌}
+use Rattle.std.specs.List.{flat_map, list_all}
+use Rattle.syntax_tree.specs.Directive.{format_of}
+use Rattle.name_table.specs.Places.{meets, IntegerScalar}
+use Rattle.expression_rules.specs.Inner.{format_expressions}
+use Rattle.name_table.proofs.integer_scalars.in_formats.Given as goal
+
+abbrev pub invariant-loop-format : goal.invariant-loop-format
+invariant-loop-format l =
+    (l.all && list_all (meets l.context l.scope IntegerScalar) (flat_map format_expressions (map format_of (drop l.format-index l.formats))))
+    ≡ list_all (meets l.context l.scope IntegerScalar) (flat_map format_expressions (map format_of l.formats))

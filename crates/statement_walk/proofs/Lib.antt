@@ -1,0 +1,3 @@
+pub mod Measures
+mod StatementRows
+pub mod WalkSteps

@@ -1,0 +1,4 @@
+pub mod Head
+pub mod Heads
+pub mod Nests
+pub mod Views
