@@ -1,0 +1,197 @@
+-- The trail of a run: the parts of array statements and the REDISTRIBUTEs that are reached, in order, each with the scalars at that
+-- moment and with what is evaluated once for it. It is told beside the meaning, which doesn't know of it.
+use Rattle.std.specs.Prelude.{ℕ, zero, suc, List, [], ◌∷◌, ◌++◌, ℤ, ◌+ℤ◌, Bool, ◌==◌, if◌then◌else◌, is_some, Option, Some, None, unwrap_or, Result, Ok, Err}
+use Rattle.hpf_base.specs.ElementOrder.{product}
+use Rattle.op_tables.specs.declared.op.Op.{Op}
+use Rattle.op_tables.specs.Operators.{wrapped}
+use Rattle.syntax_tree.specs.MainProgram.{MainProgram}
+use Rattle.syntax_tree.specs.Statement as syntax
+use Rattle.name_table.specs.declared.names.Entry.{Entry}
+use Rattle.name_table.specs.Entries.{entries}
+use Rattle.array_meaning.specs.Terms.{Term, Element, Section, Apply, Reduce, Terms, NoTerm, More, SectionSubscripts, NoSubscript, Subscript, Triplet, Control}
+use Rattle.array_meaning.specs.Statements.{SectionAssignment, ElementAssignment, Item, Text, Value, Elements, Block, Done, Then, Statement, AssignScalar, AssignElement, AssignSection, If, Do, Where, Forall, Print, Redistribute, Arms, NoArm, Arm}
+use Rattle.array_meaning.specs.Faults.{Cause, ◌>>=◌}
+use Rattle.array_meaning.specs.State.{State, set_scalar, place_in}
+use Rattle.array_meaning.specs.Runs.{Completion, Normal, Cycled, Run, one_step}
+use Rattle.array_meaning.specs.Sections.{Sequence, sequence_of, Selection, extents, space_size}
+use Rattle.array_meaning.specs.Elementals.{Elemental, sections, own_extents, own_size, array_value}
+use Rattle.array_meaning.specs.Expressions.{value, values, elemental, selections, index_values, all_index_values}
+use Rattle.array_meaning.specs.ArrayAssignments.{Mask, assign_where, assign_all_where, mask_of, negated_mask}
+use Rattle.array_meaning.specs.Forall.{index_extents, all_subscripts, check_limits, check_one_to_one, mask_over, assign_forall}
+use Rattle.array_meaning.specs.Execution.{condition, item_bytes, run, run_block}
+use Rattle.array_meaning.specs.Resolution.{resolved_block, initial_state}
+
+pub data Event : Type 0 where
+  -- an assignment to a section: whether a mask is over it, the extents of its space, its left side and its right side
+  SectionAssigned : (masked : Bool) → List ℕ → (array : ℕ) → List Selection → Elemental → Event
+  -- the mask of a WHERE, and the argument of a reduction, each with the extents of its space
+  WhereMask : List ℕ → Elemental → Event
+  Reduced : Op → List ℕ → Elemental → Event
+  -- the mask of a FORALL, and one of its assignments, each with the values of the indices
+  ForallMask : List Sequence → Term → Event
+  ElementsAssigned : (masked : Bool) → List Sequence → (array : ℕ) → Terms → Term → Event
+  Redistributed : Event
+
+pub record TrailEntry : Type 0 where
+  pub line : ℕ
+  pub scalars : List ℤ
+  pub event : Event
+
+abbrev pub Trail : Type 0
+Trail = List TrailEntry
+
+abbrev pub reached : ℕ → State → Event → Trail
+reached line s event = record { line = line; scalars = s.scalars; event = event } ∷ []
+
+-- what comes behind an evaluation that has no fault
+abbrev pub after_value : {A : Type 0} → Result A Cause → (A → Trail) → Trail
+after_value (Ok a) next = next a
+after_value (Err c) next = []
+
+-- what comes behind a statement that completes normally
+abbrev pub after_run : Run → (State → Trail) → Trail
+after_run r next = if_normal r.completion where
+  if_normal : Completion → Trail
+  if_normal Normal = next r.state
+  if_normal completion = []
+
+-- ---- the reductions in what is evaluated
+
+-- a reduction of this argument, or a WHERE with this mask, is reached where its shapes and limits are right
+abbrev pub over_own_space : ℕ → State → Elemental → (List ℕ → Elemental → Event) → Trail
+over_own_space line s x event = after_value (own_size x) (λ n. reached line s (event (own_extents x) x))
+
+abbrev mutual
+  -- in a scalar expression
+  pub value_trail : ℕ → State → Term → Trail
+  value_trail line s (Element a ts) = values_trail line s ts
+  value_trail line s (Apply o ts) = values_trail line s ts
+  value_trail line s (Reduce o t) = elemental_trail line s t ++ after_value (elemental [] s t) (λ x. over_own_space line s x (Reduced o))
+  value_trail line s t = []
+
+  pub values_trail : ℕ → State → Terms → Trail
+  values_trail line s NoTerm = []
+  values_trail line s (More t ts) = value_trail line s t ++ after_value (value [] s t) (λ v. values_trail line s ts)
+
+  -- in an array expression whose parts are evaluated
+  pub elemental_trail : ℕ → State → Term → Trail
+  elemental_trail line s (Element a ts) = values_trail line s ts
+  elemental_trail line s (Section a subs) = selections_trail line s subs
+  elemental_trail line s (Apply o ts) = elementals_trail line s ts
+  elemental_trail line s (Reduce o t) = elemental_trail line s t ++ after_value (elemental [] s t) (λ x. over_own_space line s x (Reduced o))
+  elemental_trail line s t = []
+
+  pub elementals_trail : ℕ → State → Terms → Trail
+  elementals_trail line s NoTerm = []
+  elementals_trail line s (More t ts) = elemental_trail line s t ++ after_value (elemental [] s t) (λ x. elementals_trail line s ts)
+
+  pub selections_trail : ℕ → State → SectionSubscripts → Trail
+  selections_trail line s NoSubscript = []
+  selections_trail line s (Subscript t subs) = value_trail line s t ++ after_value (value [] s t) (λ v. selections_trail line s subs)
+  selections_trail line s (Triplet first last step subs) =
+      value_trail line s first ++ after_value (value [] s first) (λ a.
+      value_trail line s last ++ after_value (value [] s last) (λ b.
+      value_trail line s step ++ after_value (sequence_of (Ok a) (Ok b) (value [] s step)) (λ p. selections_trail line s subs)))
+
+abbrev pub control_trail : ℕ → State → Control → Trail
+control_trail line s c =
+    value_trail line s c.first ++ after_value (value [] s c.first) (λ a.
+    value_trail line s c.last ++ after_value (value [] s c.last) (λ b. value_trail line s c.step))
+
+abbrev pub all_controls_trail : ℕ → State → List Control → Trail
+all_controls_trail line s [] = []
+all_controls_trail line s (c ∷ cs) = control_trail line s c ++ after_value (index_values s c) (λ p. all_controls_trail line s cs)
+
+-- ---- array statements
+
+-- an assignment over the space of its mask, or of its left side where it has none
+abbrev pub section_trail : Option (List ℕ) → ℕ → ℕ → SectionSubscripts → Term → State → Trail
+section_trail mask_extents line a subs right s =
+    selections_trail line s subs ++ after_value (selections [] s subs) (λ ds.
+    elemental_trail line s right ++ after_value (elemental [] s right) (λ x.
+    let ns = unwrap_or mask_extents (extents ds) in
+    after_value (space_size ns (ds ∷ sections x)) (λ n. reached line s (SectionAssigned (is_some mask_extents) ns a ds x))))
+
+abbrev pub where_trail : List ℕ → Mask → List SectionAssignment → State → Trail
+where_trail ns mask [] s = []
+where_trail ns mask (b ∷ bs) s =
+    section_trail (Some ns) b.line b.array b.subscripts b.right s ++ after_run (one_step b.line s (assign_where ns mask b s)) (where_trail ns mask bs)
+
+abbrev pub forall_trail : Bool → List Sequence → ℕ → Mask → List ElementAssignment → State → Trail
+forall_trail masked axes n mask [] s = []
+forall_trail masked axes n mask (b ∷ bs) s =
+    reached b.line s (ElementsAssigned masked axes b.array b.subscripts b.right)
+    ++ after_run (one_step b.line s (assign_forall axes n mask b s)) (forall_trail masked axes n mask bs)
+
+abbrev pub forall_mask_trail : ℕ → State → List Sequence → Option Term → Trail
+forall_mask_trail line s axes None = []
+forall_mask_trail line s axes (Some t) = reached line s (ForallMask axes t)
+
+abbrev pub item_trail : ℕ → State → Item → Trail
+item_trail line s (Text bytes) = []
+item_trail line s (Value t) = value_trail line s t
+item_trail line s (Elements a subs) = selections_trail line s subs
+
+abbrev pub all_items_trail : ℕ → State → List Item → Trail
+all_items_trail line s [] = []
+all_items_trail line s (i ∷ is) = item_trail line s i ++ after_value (item_bytes s i) (λ bytes. all_items_trail line s is)
+
+-- ---- all statements
+
+-- what comes behind an iteration, where the loop goes on
+abbrev pub after_iteration : Run → (State → Trail) → Trail
+after_iteration r next = if_next r.completion where
+  if_next : Completion → Trail
+  if_next Normal = next r.state
+  if_next Cycled = next r.state
+  if_next completion = []
+
+-- the iterations as in the meaning
+abbrev pub iterate_trail : ℕ → ℕ → ℤ → ℤ → (State → Run) → (State → Trail) → State → Trail
+iterate_trail zero x index step body body_trail s = []
+iterate_trail (suc n) x index step body body_trail s =
+    body_trail (set_scalar s x index)
+    ++ after_iteration (body (set_scalar s x index)) (iterate_trail n x (wrapped (index +ℤ step)) step body body_trail)
+
+abbrev mutual
+  -- the trail of the statement of a line
+  pub trail : Statement → ℕ → State → Trail
+  trail (AssignScalar k right) line s = value_trail line s right
+  trail (AssignElement a ts right) line s = values_trail line s ts ++ after_value (values [] s ts >>= place_in s a) (λ k. value_trail line s right)
+  trail (AssignSection a subs right) line s = section_trail None line a subs right s
+  trail (If arms other) line s = arms_trail arms (block_trail other) s
+  trail (Do mark loop body) line s =
+      control_trail line s loop.control
+      ++ after_value (index_values s loop.control) (λ p. iterate_trail p.count loop.index p.first p.step (run_block body) (block_trail body) s)
+  trail (Where mask body others) line s =
+      elemental_trail line s mask ++ after_value (elemental [] s mask) (λ x.
+      over_own_space line s x WhereMask ++ after_value (array_value s x) (λ m.
+      where_trail m.extents (mask_of m.elements) body s
+      ++ after_run (assign_all_where m.extents (mask_of m.elements) body s) (where_trail m.extents (negated_mask m.elements) others)))
+  trail (Forall controls mask body) line s =
+      all_controls_trail line s controls ++ after_value (all_index_values s controls) (λ axes.
+      let n = product (index_extents axes) in
+      if n == 0 then [] else
+      after_value (check_limits axes (all_subscripts mask body) s) (λ u.
+      after_run (check_one_to_one (index_extents axes) body s) (λ u.
+      forall_mask_trail line s axes mask ++ after_value (mask_over s axes n mask) (λ m. forall_trail (is_some mask) axes n m body s))))
+  trail (Print items) line s = all_items_trail line s items
+  trail Redistribute line s = reached line s Redistributed
+  trail statement line s = []
+
+  pub arms_trail : Arms → (State → Trail) → State → Trail
+  arms_trail NoArm other s = other s
+  arms_trail (Arm line t body arms) other s =
+      value_trail line s t ++ after_value (condition s t) (λ is_met. (if is_met then block_trail body else arms_trail arms other) s)
+
+  pub block_trail : Block → State → Trail
+  block_trail Done s = []
+  block_trail (Then line statement rest) s = trail statement line s ++ after_run (run statement line s) (block_trail rest)
+
+-- the trail of statements, where these names are declared
+abbrev pub trail_of : List Entry → syntax.Block → Trail
+trail_of names body = block_trail (resolved_block names body) (initial_state names)
+
+-- the trail of a program
+abbrev pub serial_trail : MainProgram → Trail
+serial_trail p = trail_of (entries p) p.body
