@@ -1,6 +1,6 @@
 //! The rules of names in directives among the declarations (HPF 2.0, 3).
 
-ghost use Rattle.std.specs.Prelude.{◌≡◌, ◌&&◌, not, map, IfOk};
+ghost use Rattle.std.specs.Prelude.{◌≡◌, ◌&&◌, map, IfOk};
 ghost use Rattle.std.specs.List.{flat_map, list_all};
 ghost use Rattle.hpf_base.specs.FirstBreach.{least};
 ghost use Rattle.syntax_tree.specs.Directive.{directive_of};
@@ -9,11 +9,12 @@ ghost use Rattle.expression_rules.specs.Operands.{are_operands};
 ghost use Rattle.expression_rules.specs.Symbols.{is_declared, with_dummies};
 ghost use Rattle.name_table.specs.Directives.{directive_dummies, directive_expressions, directive_names};
 ghost use Rattle.name_table.specs.NameRules.{directive_breaches_at};
-ghost use Rattle.declarations.specs.Reasons.{at, when};
 
-use crate::directive_operands::in_directive;
 use crate::dummies::dummies;
+use crate::expressions::in_directive;
 use crate::listed_names::{are_declared, are_mapped_declared, is_distribution_declared};
+use crate::operands::Operands;
+use crate::refused::refused_unless;
 use expression_rules::{Scope, SymbolTable};
 use hpf_base::{Reason, Refusal, earlier};
 use std::alloc::{AllocError, Global};
@@ -47,23 +48,9 @@ fn bad_directive(
     match &decl.what {
         DeclKind::Directive(directive) => {
             let good = names_stand(alloc, table, directive)?;
-            Ok(bad_name_unless(good, decl.line))
+            Ok(refused_unless(good, decl.line, Reason::BadName))
         }
         _ => Ok(None),
-    }
-}
-
-/// A bad name at a line, unless all are good.
-fn bad_name_unless(good: bool, line: u32) -> Option<Refusal>
-    ensures { result ≡ least (at line (when (not good) Reason.BadName)) }
-{
-    if good {
-        None
-    } else {
-        Some(Refusal {
-            line,
-            reason: Reason::BadName,
-        })
     }
 }
 
@@ -79,7 +66,8 @@ fn names_stand(
 {
     let dummies = dummies(alloc, directive)?;
     let scope = Scope::with_dummies(table, &dummies);
-    Ok(are_listed_declared(table, directive) && in_directive(&scope, directive))
+    let good = in_directive(&Operands { scope: &scope }, directive)?;
+    Ok(are_listed_declared(table, directive) && good)
 }
 
 /// Whether the names in the lists of a directive are declared.

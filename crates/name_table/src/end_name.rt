@@ -5,6 +5,7 @@ ghost use Rattle.hpf_base.specs.FirstBreach.{least};
 ghost use Rattle.syntax_tree.specs.MainProgram.{end_name_of, main_program};
 ghost use Rattle.name_table.specs.NameRules.{end_breaches, is_named};
 
+use crate::refused::refused_unless;
 use hpf_base::{Name, Reason, Refusal};
 use syntax_tree::{EndForm, Tree};
 
@@ -15,14 +16,7 @@ pub(crate) fn bad_end_name(tree: &Tree) -> Option<Refusal>
     match end_name(&tree.end) {
         None => None,
         Some(bytes) => {
-            if is_named(&tree.name, bytes) {
-                None
-            } else {
-                Some(Refusal {
-                    line: tree.end.line,
-                    reason: Reason::BadName,
-                })
-            }
+            refused_unless(is_named(&tree.name, bytes), tree.end.line, Reason::BadName)
         }
     }
 }

@@ -7,9 +7,9 @@
 
 mod declaration_ranks;
 mod directive_names;
-mod directive_operands;
 mod dummies;
 mod end_name;
+mod expressions;
 mod head_operands;
 mod integer_scalars;
 mod laws;
@@ -17,7 +17,9 @@ mod listed_names;
 mod name_judge;
 mod names;
 mod nests;
+mod operands;
 mod rank_judge;
+mod refused;
 mod resolution;
 
 pub use laws::all_are_known;

@@ -1,6 +1,6 @@
 //! The rules of names in statements (Fortran 95, 7.5.1.1, 7.5.4.1 and 8.1.4).
 
-ghost use Rattle.std.specs.Prelude.{◌≡◌, ◌&&◌, not, [], ◌∷◌, length, map, nat_lt, option_copied, IfOk};
+ghost use Rattle.std.specs.Prelude.{◌≡◌, length, map, nat_lt, option_copied, IfOk};
 ghost use Rattle.std.specs.List.{flat_map, list_all};
 ghost use Rattle.syntax_tree.specs.Statement.{axis, block_of};
 ghost use Rattle.name_table.specs.NameRules.{header_names, name_breaches_at, own_uses};
@@ -71,7 +71,8 @@ fn name_reason(
     ensures { IfOk result (λ why. why ≡ name_reason table.now do_variables.now (head_of head.entry)) }
 {
     let scope = Scope::new(table);
-    let good = own_stand(table, do_variables, head) && all_are_operands(&scope, head);
+    let operands = all_are_operands(&scope, head)?;
+    let good = own_stand(table, do_variables, head) && operands;
     let twice = has_repeats(alloc, head)?;
     if !good || twice {
         Ok(Some(Reason::BadName))

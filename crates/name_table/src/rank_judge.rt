@@ -1,21 +1,20 @@
 //! The rules of types and ranks in statements (Fortran 95, 7.4.1.4, 7.5.1.1, 7.5.3, 7.5.4, 8.1.2, 8.1.4 and 9.4.2).
 
-ghost use Rattle.std.specs.Prelude.{◌≡◌, ◌&&◌, ◌||◌, nat_eq, [], ◌∷◌, ◌++◌, map, not, option_map, IfOk};
-ghost use Rattle.std.specs.List.{flat_map, list_all};
+ghost use Rattle.std.specs.Prelude.{◌≡◌, ◌&&◌, ◌||◌, nat_eq, [], ◌∷◌, IfOk};
+ghost use Rattle.std.specs.List.{flat_map};
 ghost use Rattle.hpf_base.specs.FirstBreach.{least};
-ghost use Rattle.hpf_base.specs.declared.refusal.Reason.TheVariants as reason;
 ghost use Rattle.syntax_tree.specs.Expression.{expression};
-ghost use Rattle.syntax_tree.specs.Statement.{axis, block_of, designator, item_of, variable};
+ghost use Rattle.syntax_tree.specs.Statement.{block_of, designator, variable};
 ghost use Rattle.expression_rules.specs.declared.types.Context.TheVariants as context;
 ghost use Rattle.expression_rules.specs.Types.{if_typed, type_and_rank};
 ghost use Rattle.statement_walk.specs.Heads.{all_heads};
-ghost use Rattle.declarations.specs.Reasons.{at, when};
-ghost use Rattle.name_table.specs.Places.{all_meet, context_of, is_designator, is_element, is_integer, is_mask, is_masked_by, is_right_of, integer_scalars, meets, place, places, ArrayElement, IntegerScalar, LogicalArray, LogicalScalar, MaskedArray, PrintItem, RightOf, Variable};
-ghost use Rattle.expression_rules.specs.Inner.{axis_expressions, item_expressions, present};
+ghost use Rattle.name_table.specs.Places.{all_meet, context_of, is_designator, is_element, is_integer, is_mask, is_masked_by, is_right_of, meets, place, places, ArrayElement, IntegerScalar, LogicalArray, LogicalScalar, MaskedArray, RightOf, Variable};
 ghost use Rattle.name_table.specs.RankRules.{rank_breaches_at};
 ghost use Rattle.statement_walk.specs.Views.{head_of};
 
-use crate::integer_scalars::{in_formats, is_scalar, is_scalar_if_any};
+use crate::expressions::{ExpressionTest, in_axis, in_formats, in_headers, in_items, in_option};
+use crate::integer_scalars::IntegerScalars;
+use crate::refused::refused_unless;
 use expression_rules::{
     Context, DataType, Scope, SymbolTable, TypeAndRank, is_integer_scalar, is_logical_scalar,
     reference_type, type_and_rank,
@@ -23,7 +22,7 @@ use expression_rules::{
 use hpf_base::{Name, Reason, Refusal};
 use statement_walk::{Head, Judge, walk};
 use std::alloc::{AllocError, Global};
-use syntax_tree::{Expr, Header, Item, Ref, Stmt};
+use syntax_tree::{Expr, Ref, Stmt};
 
 /// Judges the types and ranks of a statement.
 #[derive(Clone, Copy)]
@@ -44,7 +43,7 @@ impl<'a> Judge for Ranks<'a> {
         head: Head<'_>,
     ) -> Result<Option<Refusal>, AllocError> {
         let good = all_meet(alloc, self.scope, head)?;
-        Ok(bad_rank_unless(good, line))
+        Ok(refused_unless(good, line, Reason::BadRank))
     }
 }
 
@@ -63,25 +62,54 @@ pub(crate) fn first_bad_rank(
     Ok(first)
 }
 
-/// The breach of the rules of types and ranks at a line, where something there isn't what its place asks.
-pub(crate) fn bad_rank_unless(good: bool, line: u32) -> Option<Refusal>
-    ensures { result ≡ least (at line (when (not good) reason.BadRank)) }
-{
-    if good {
-        None
-    } else {
-        Some(Refusal {
-            line,
-            reason: Reason::BadRank,
-        })
+/// Whether expressions are logical scalars.
+#[derive(Clone, Copy)]
+struct LogicalScalars<'a> {
+    alloc: Global,
+    scope: &'a Scope<'a>,
+}
+
+impl<'a> ExpressionTest for LogicalScalars<'a> {
+    ghost use Rattle.expression_rules.specs.declared.types.Context.TheVariants as context;
+    ghost use Rattle.name_table.specs.Places.{meets, LogicalScalar};
+
+    ghost passes = { λ t e. meets context.Statement t.scope.now LogicalScalar e };
+
+    fn test(&self, e: &Expr) -> Result<bool, AllocError> {
+        let what = type_and_rank(self.alloc, Context::Statement, self.scope, e)?;
+        Ok(is_logical_scalar(what))
+    }
+}
+
+/// Whether expressions may be items of a PRINT.
+#[derive(Clone, Copy)]
+struct PrintItems<'a> {
+    alloc: Global,
+    scope: &'a Scope<'a>,
+}
+
+impl<'a> ExpressionTest for PrintItems<'a> {
+    ghost use Rattle.expression_rules.specs.declared.types.Context.TheVariants as context;
+    ghost use Rattle.name_table.specs.Places.{meets, PrintItem};
+
+    ghost passes = { λ t e. meets context.Statement t.scope.now PrintItem e };
+
+    fn test(&self, e: &Expr) -> Result<bool, AllocError> {
+        let what = type_and_rank(self.alloc, Context::Statement, self.scope, e)?;
+        Ok(is_printed(what, is_designator(e)))
     }
 }
 
 /// Whether each expression of a statement is what its place asks. An `Err` is want of memory, here and below.
-#[tactic(auto, using(crate::proofs::Scalars::all_alike))]
+#[tactic(auto, using(crate::proofs::Scalars::all_alike, crate::proofs::Scalars::header_meets))]
 fn all_meet(alloc: Global, scope: &Scope<'_>, head: Head<'_>) -> Result<bool, AllocError>
     ensures { IfOk result (λ b. b ≡ all_meet (context_of (head_of head.entry)) scope.now (places (head_of head.entry))) }
 {
+    let scalars = IntegerScalars {
+        alloc,
+        context: Context::Statement,
+        scope,
+    };
     match head {
         Head::Assignment(left, right) => is_assignment(alloc, scope, left, right),
         Head::MaskedAssignment(mask, left, right) => {
@@ -90,13 +118,24 @@ fn all_meet(alloc: Global, scope: &Scope<'_>, head: Head<'_>) -> Result<bool, Al
         Head::ForallAssignment(_, left, right) => {
             is_forall_assignment(alloc, scope, left, right)
         }
-        Head::Condition(e) => is_condition(alloc, scope, e),
+        Head::Condition(e) => LogicalScalars { alloc, scope }.test(e),
         Head::Independent(_) | Head::Transfer => Ok(true),
-        Head::Do(_, _, first, last, step) => in_axis(alloc, scope, first, last, step),
+        Head::Do(_, _, first, last, step) => in_axis(&scalars, first, last, step),
         Head::Where(mask) => is_logical_array(alloc, scope, mask),
-        Head::Forall(axes, mask) => is_forall(alloc, scope, axes, mask),
-        Head::Print(items) => are_items(alloc, scope, items),
-        Head::Redistribute(spec) => in_formats(alloc, Context::Directive, scope, &spec.formats),
+        Head::Forall(axes, mask) => {
+            let axes = in_headers(&scalars, axes)?;
+            let mask = in_option(&LogicalScalars { alloc, scope }, mask)?;
+            Ok(axes && mask)
+        }
+        Head::Print(items) => in_items(&PrintItems { alloc, scope }, items),
+        Head::Redistribute(spec) => {
+            let scalars = IntegerScalars {
+                alloc,
+                context: Context::Directive,
+                scope,
+            };
+            in_formats(&scalars, &spec.formats)
+        }
     }
 }
 
@@ -194,30 +233,8 @@ fn is_forall_assignment(
 {
     let element = is_element(left);
     let left = variable_type(alloc, scope, left)?;
-    let right = is_scalar(alloc, Context::Statement, scope, right)?;
-    Ok(element && is_integer_scalar(left) && right)
-}
-
-/// Whether an expression is a logical scalar.
-fn is_condition(alloc: Global, scope: &Scope<'_>, e: &Expr) -> Result<bool, AllocError>
-    ensures { IfOk result (λ b. b ≡ meets context.Statement scope.now LogicalScalar (expression e.now)) }
-{
-    let what = type_and_rank(alloc, Context::Statement, scope, e)?;
-    Ok(is_logical_scalar(what))
-}
-
-/// The same of an expression that may be there.
-fn is_condition_if_any(
-    alloc: Global,
-    scope: &Scope<'_>,
-    e: &Option<Expr>,
-) -> Result<bool, AllocError>
-    ensures { IfOk result (λ b. b ≡ list_all (meets context.Statement scope.now LogicalScalar) (present (option_map expression e.now))) }
-{
-    match e {
-        None => Ok(true),
-        Some(e) => is_condition(alloc, scope, e),
-    }
+    let right = type_and_rank(alloc, Context::Statement, scope, right)?;
+    Ok(element && is_integer_scalar(left) && is_integer_scalar(right))
 }
 
 /// Whether it is an array of logical values.
@@ -238,56 +255,6 @@ fn is_logical_array(alloc: Global, scope: &Scope<'_>, mask: &Expr) -> Result<boo
     Ok(is_mask(what))
 }
 
-/// Whether the first and the last value of an index are integer scalars, and its step where there is one.
-fn in_axis(
-    alloc: Global,
-    scope: &Scope<'_>,
-    first: &Expr,
-    last: &Expr,
-    step: &Option<Expr>,
-) -> Result<bool, AllocError>
-    ensures { IfOk result (λ b. b ≡ list_all (meets context.Statement scope.now IntegerScalar) (expression first.now ∷ expression last.now ∷ present (option_map expression step.now))) }
-{
-    let first = is_scalar(alloc, Context::Statement, scope, first)?;
-    let last = is_scalar(alloc, Context::Statement, scope, last)?;
-    let step = is_scalar_if_any(alloc, Context::Statement, scope, step)?;
-    Ok(first && last && step)
-}
-
-/// The same of an index of a FORALL.
-fn in_header(alloc: Global, scope: &Scope<'_>, header: &Header) -> Result<bool, AllocError>
-    ensures { IfOk result (λ b. b ≡ list_all (meets context.Statement scope.now IntegerScalar) (axis_expressions (axis header.now))) }
-{
-    in_axis(alloc, scope, &header.first, &header.last, &header.step)
-}
-
-/// The same of all of them.
-fn in_headers(alloc: Global, scope: &Scope<'_>, headers: &[Header]) -> Result<bool, AllocError>
-    ensures { IfOk result (λ b. b ≡ list_all (meets context.Statement scope.now IntegerScalar) (flat_map axis_expressions (map axis headers.now))) }
-{
-    let mut all = true;
-    for header in headers {
-        let good = in_header(alloc, scope, header)?;
-        all &= good;
-    }
-    Ok(all)
-}
-
-/// Whether the indices of a FORALL run through integer scalars, and its mask is a logical scalar.
-#[tactic(auto, using(crate::proofs::Scalars::header_meets))]
-fn is_forall(
-    alloc: Global,
-    scope: &Scope<'_>,
-    axes: &[Header],
-    mask: &Option<Expr>,
-) -> Result<bool, AllocError>
-    ensures { IfOk result (λ b. b ≡ all_meet context.Statement scope.now (integer_scalars (flat_map axis_expressions (map axis axes.now)) ++ map (place LogicalScalar) (present (option_map expression mask.now)))) }
-{
-    let axes = in_headers(alloc, scope, axes)?;
-    let mask = is_condition_if_any(alloc, scope, mask)?;
-    Ok(axes && mask)
-}
-
 /// Whether the expression is a name, or a name with subscripts behind it.
 fn is_designator(e: &Expr) -> bool
     ensures { result ≡ is_designator (expression e.now) }
@@ -303,30 +270,4 @@ fn is_printed(what: Option<TypeAndRank>, designator: bool) -> bool
         None => false,
         Some(what) => is_integer(what) && (what.rank == 0 || designator),
     }
-}
-
-/// Whether an item of a PRINT is what it must be.
-fn in_item(alloc: Global, scope: &Scope<'_>, item: &Item) -> Result<bool, AllocError>
-    ensures { IfOk result (λ b. b ≡ list_all (meets context.Statement scope.now PrintItem) (item_expressions (item_of item.now))) }
-{
-    match item {
-        Item::Value(e) => {
-            let what = type_and_rank(alloc, Context::Statement, scope, e)?;
-            Ok(is_printed(what, is_designator(e)))
-        }
-        Item::Text(_) => Ok(true),
-    }
-}
-
-/// The same of all of them.
-#[tactic(auto, using(expression_rules::proofs::Folds::all_append))]
-fn are_items(alloc: Global, scope: &Scope<'_>, items: &[Item]) -> Result<bool, AllocError>
-    ensures { IfOk result (λ b. b ≡ list_all (meets context.Statement scope.now PrintItem) (flat_map item_expressions (map item_of items.now))) }
-{
-    let mut all = true;
-    for item in items {
-        let good = in_item(alloc, scope, item)?;
-        all &= good;
-    }
-    Ok(all)
 }

@@ -2,11 +2,9 @@ use Rattle.std.proofs.Common.{◌≡◌, drop, map}
 use Rattle.std.specs.Prelude.{◌&&◌}
 use Rattle.std.specs.List.{list_all}
 use Rattle.syntax_tree.specs.MainProgram.{named_constant}
-use Rattle.expression_rules.specs.declared.types.Context.TheVariants as context
-use Rattle.name_table.specs.Places.{meets, IntegerScalar}
 use Rattle.name_table.proofs.declaration_ranks.in_constants.Given as goal
 
 abbrev pub invariant-loop-constant : goal.invariant-loop-constant
-invariant-loop-constant l =
-    (l.all && list_all (meets context.Statement l.scope IntegerScalar) (map (λ c. c.value) (map named_constant (drop l.constant-index l.constants))))
-    ≡ list_all (meets context.Statement l.scope IntegerScalar) (map (λ c. c.value) (map named_constant l.constants))
+invariant-loop-constant g l =
+    (l.all && list_all (g.T.ExpressionTest.passes l.test) (map (λ c. c.value) (map named_constant (drop l.constant-index l.constants))))
+    ≡ list_all (g.T.ExpressionTest.passes l.test) (map (λ c. c.value) (map named_constant l.constants))

@@ -2,12 +2,10 @@ use Rattle.std.proofs.Common.{◌≡◌, drop, map}
 use Rattle.std.specs.Prelude.{◌&&◌}
 use Rattle.std.specs.List.{flat_map, list_all}
 use Rattle.syntax_tree.specs.Directive.{entity}
-use Rattle.expression_rules.specs.declared.types.Context.TheVariants as context
 use Rattle.name_table.specs.RankRules.{typed_expressions}
-use Rattle.name_table.specs.Places.{meets, IntegerScalar}
 use Rattle.name_table.proofs.declaration_ranks.in_entities.Given as goal
 
 abbrev pub invariant-loop-one : goal.invariant-loop-one
-invariant-loop-one l =
-    (l.all && list_all (meets context.Statement l.scope IntegerScalar) (flat_map typed_expressions (map entity (drop l.one-index l.entities))))
-    ≡ list_all (meets context.Statement l.scope IntegerScalar) (flat_map typed_expressions (map entity l.entities))
+invariant-loop-one g l =
+    (l.all && list_all (g.T.ExpressionTest.passes l.test) (flat_map typed_expressions (map entity (drop l.one-index l.entities))))
+    ≡ list_all (g.T.ExpressionTest.passes l.test) (flat_map typed_expressions (map entity l.entities))
