@@ -1,6 +1,6 @@
 -- The rules of names and constants in declarations (Fortran 95, 5 and 7.1.6): what each item breaks of them, with its line and
 -- the reason.
-use Rattle.std.specs.Prelude.{ℕ, Bool, true, false, ◌&&◌, not, nat_lt, nat_le, List, [], ◌∷◌, ◌++◌, map, length, ℤ, Option, Some, None}
+use Rattle.std.specs.Prelude.{Bool, true, false, ◌&&◌, not, nat_lt, nat_le, List, [], ◌∷◌, ◌++◌, length, ℤ, Option, Some, None}
 use Rattle.std.specs.List.{list_any, list_all, flat_map}
 use Rattle.hpf_base.specs.declared.limits.TheConstants.{MAX_NAMES, MAX_RANK}
 use Rattle.hpf_base.specs.declared.refusal.Reason.{Reason}

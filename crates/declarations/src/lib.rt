@@ -6,9 +6,9 @@
 #![tactic(auto)]
 
 mod constant_reasons;
-mod declaring;
 mod declared_items;
 mod declared_names;
+mod declaring;
 mod least_reason;
 mod limits;
 
