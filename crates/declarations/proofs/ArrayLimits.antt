@@ -56,7 +56,8 @@ or_none : (a b : Bool) → (a || b) ≡ false → (a ≡ false) × (b ≡ false)
 or_none true b h = absurd cc
 or_none false b h = (refl, h)
 
-with_dim_within : (l u : Option ℤ) (r : Option (List Dim)) (ds : List Dim) → (is_too_far l || is_too_far u) ≡ false → ((es : List Dim) → r ≡ Some es → All IsDim es) → with_dim l u r ≡ Some ds → All IsDim ds
+with_dim_within : (l u : Option ℤ) (r : Option (List Dim)) (ds : List Dim) → (is_too_far l || is_too_far u) ≡ false → ((es : List Dim) → r ≡ Some es → All IsDim es) →
+    with_dim l u r ≡ Some ds → All IsDim ds
 with_dim_within None u r ds near_by rest is = absurd cc
 with_dim_within (Some l) None r ds near_by rest is = absurd cc
 with_dim_within (Some l) (Some u) None ds near_by rest is = absurd cc

@@ -13,7 +13,8 @@ elements_found (Some s) = elements_of s
 pub elements_changed : (x : Name) (s : Symbol) (t : SymbolTable) → all_elements (changed x s t) + elements_found (find x t) ≡ all_elements t + elements_of s
 elements_changed x s [] = omega arith
 elements_changed x s (e ∷ es) =
-    elim (bytes_eq x e.0) as (λ b. all_elements (if b then (e.0, s) ∷ es else e ∷ changed x s es) + elements_found (cond b (Some e.1) (find x es)) ≡ elements_of e.1 + all_elements es + elements_of s) [
+    elim (bytes_eq x e.0) as (λ b. all_elements (if b then (e.0, s) ∷ es else e ∷ changed x s es) + elements_found (cond b (Some e.1) (find x es))
+    ≡ elements_of e.1 + all_elements es + elements_of s) [
       | true ↦ omega arith
       | false ↦ (let more = elements_changed x s es in omega (arith, more))
     ]

@@ -37,30 +37,37 @@ attribute_behind : (t : SymbolTable) (line : ℕ) (bs : Option (List Bound)) →
 attribute_behind t line None = refl
 attribute_behind t line (Some bs) = refl
 
-attribute_first : (t : SymbolTable) (line : ℕ) (bs : Option (List Bound)) → least (item_breaches t (attribute_items line bs)) ≡ at_line line (constant_reason t (flat_map bound_expressions (bounds_of bs)))
+attribute_first : (t : SymbolTable) (line : ℕ) (bs : Option (List Bound)) → least (item_breaches t (attribute_items line bs))
+    ≡ at_line line (constant_reason t (flat_map bound_expressions (bounds_of bs)))
 attribute_first t line None = refl
 attribute_first t line (Some bs) = first_one line t (DimensionAttribute bs) ∙ ap (at_line line) (item_reason t (DimensionAttribute bs))
 
 -- an INTEGER
-integer_items : (line : ℕ) (d : IntegerDecl) → map (placed_item line) (items_of (Integer (type_declaration d))) ≡ attribute_items line (bounds_held d.dims) ++ typed_items line d.constant (bounds_held d.dims) d.entities.items
+integer_items : (line : ℕ) (d : IntegerDecl) → map (placed_item line) (items_of (Integer (type_declaration d)))
+    ≡ attribute_items line (bounds_held d.dims) ++ typed_items line d.constant (bounds_held d.dims) d.entities.items
 integer_items line d =
-    map_append (placed_item line) (map DimensionAttribute (present (bounds_held d.dims))) (map (λ e. TypedEntity d.constant (own_or e.bounds (bounds_held d.dims)) e) (map entity d.entities.items))
-    ∙ ap (λ l. attribute_items line (bounds_held d.dims) ++ l) (map_three (placed_item line) (λ e. TypedEntity d.constant (own_or e.bounds (bounds_held d.dims)) e) entity d.entities.items)
+    map_append (placed_item line) (map DimensionAttribute (present (bounds_held d.dims))) (map (λ e. TypedEntity d.constant (own_or e.bounds (bounds_held d.dims)) e)
+    (map entity d.entities.items))
+    ∙ ap (λ l. attribute_items line (bounds_held d.dims) ++ l) (map_three (placed_item line)
+    (λ e. TypedEntity d.constant (own_or e.bounds (bounds_held d.dims)) e) entity d.entities.items)
 
 module _ (t : SymbolTable) (line : ℕ) (d : IntegerDecl) where
-  pub integer_behind : behind_all t (typed_items line d.constant (bounds_held d.dims) d.entities.items) ≡ behind_all t (map (placed_item line) (items_of (Integer (type_declaration d))))
+  pub integer_behind : behind_all t (typed_items line d.constant (bounds_held d.dims) d.entities.items)
+      ≡ behind_all t (map (placed_item line) (items_of (Integer (type_declaration d))))
   integer_behind = sym (
       ap (behind_all t) (integer_items line d)
       ∙ behind_append t (attribute_items line (bounds_held d.dims)) (typed_items line d.constant (bounds_held d.dims) d.entities.items)
       ∙ ap (λ a. behind_all a (typed_items line d.constant (bounds_held d.dims) d.entities.items)) (attribute_behind t line (bounds_held d.dims)))
 
   pub integer_first :
-      earlier (at_line line (constant_reason t (flat_map bound_expressions (bounds_of (bounds_held d.dims))))) (least (item_breaches t (typed_items line d.constant (bounds_held d.dims) d.entities.items)))
+      earlier (at_line line (constant_reason t (flat_map bound_expressions (bounds_of (bounds_held d.dims)))))
+      (least (item_breaches t (typed_items line d.constant (bounds_held d.dims) d.entities.items)))
       ≡ least (item_breaches t (map (placed_item line) (items_of (Integer (type_declaration d)))))
   integer_first = sym (
       ap (λ l. least (item_breaches t l)) (integer_items line d)
       ∙ first_append t (attribute_items line (bounds_held d.dims)) (typed_items line d.constant (bounds_held d.dims) d.entities.items)
-      ∙ (λ i. earlier (attribute_first t line (bounds_held d.dims) i) (least (item_breaches (attribute_behind t line (bounds_held d.dims) i) (typed_items line d.constant (bounds_held d.dims) d.entities.items)))))
+      ∙ (λ i. earlier (attribute_first t line (bounds_held d.dims) i) (least (item_breaches (attribute_behind t line (bounds_held d.dims) i)
+      (typed_items line d.constant (bounds_held d.dims) d.entities.items)))))
 
 -- a PARAMETER
 pub definitions_of : (d : Decl) (v : Vec ConstDef Global) (cs : List ConstDef) → d.what ≡ declared.Parameter v → cs ≡ v.items → definition_items d.line cs ≡ items_in d

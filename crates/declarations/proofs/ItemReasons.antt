@@ -42,7 +42,8 @@ space_reason t Arrangement e = item_reason t (space_item Arrangement e) ∙ less
 -- a constant of a PARAMETER statement
 pub definition_by_tests : (t : SymbolTable) (c : NamedConstant) →
     least_reason (item_reasons t (Definition c)) ≡ lesser (reason_if (not (satisfies is_uninitialized (find c.name t))) reason.BadName) (constant_reason t (c.value ∷ []))
-definition_by_tests t c = item_reason t (Definition c) ∙ ap (λ r. lesser r (constant_reason t (c.value ∷ []))) (least_reason_when (not (satisfies is_uninitialized (find c.name t))) reason.BadName)
+definition_by_tests t c = item_reason t (Definition c) ∙ ap (λ r. lesser r (constant_reason t (c.value ∷ [])))
+    (least_reason_when (not (satisfies is_uninitialized (find c.name t))) reason.BadName)
 
 -- an entity of INTEGER
 pub typed_by_tests : (t : SymbolTable) (constant : Bool) (bs : Option (List Bound)) (e : Entity) →
@@ -51,4 +52,5 @@ pub typed_by_tests : (t : SymbolTable) (constant : Bool) (bs : Option (List Boun
     (lesser (constant_reason t (flat_map bound_expressions (bounds_of bs))) (constant_reason t (present e.start)))
 typed_by_tests t constant bs e =
     item_reason t (TypedEntity constant bs e)
-    ∙ (λ i. lesser (more_reason (declared_again t e.name) (past_limits t constant bs) reason.Limit i) (constant_append t (flat_map bound_expressions (bounds_of bs)) (present e.start) i))
+    ∙ (λ i. lesser (more_reason (declared_again t e.name) (past_limits t constant bs) reason.Limit i)
+    (constant_append t (flat_map bound_expressions (bounds_of bs)) (present e.start) i))

@@ -26,7 +26,8 @@ breaches_append t (i ∷ is) ys =
     ap (λ l. at i.line (item_reasons t i.what) ++ l) (breaches_append (behind t i.what) is ys)
     ∙ sym (append_assoc (at i.line (item_reasons t i.what)) (item_breaches (behind t i.what) is) (item_breaches (behind_all (behind t i.what) is) ys))
 
-pub first_append : (t : SymbolTable) (xs ys : List PlacedItem) → least (item_breaches t (xs ++ ys)) ≡ earlier (least (item_breaches t xs)) (least (item_breaches (behind_all t xs) ys))
+pub first_append : (t : SymbolTable) (xs ys : List PlacedItem) → least (item_breaches t (xs ++ ys))
+    ≡ earlier (least (item_breaches t xs)) (least (item_breaches (behind_all t xs) ys))
 first_append t xs ys = ap least (breaches_append t xs ys) ∙ least_append (item_breaches t xs) (item_breaches (behind_all t xs) ys)
 
 -- one item
@@ -57,7 +58,8 @@ declaration_next ds n d t after table first found next all within is behind_it o
     (subst (λ l. Leads t first (flat_map items_in l) table all) (drop_item ds n d within is) so_far)
 
 -- behind the last
-pub declarations_end : (ds : List Decl) (n : ℕ) (t table : SymbolTable) (first all : Option Refusal) → length ds ≤ n → Leads t first (flat_map items_in (drop n ds)) table all → (t ≡ table) × (first ≡ all)
+pub declarations_end : (ds : List Decl) (n : ℕ) (t table : SymbolTable) (first all : Option Refusal) → length ds ≤ n →
+    Leads t first (flat_map items_in (drop n ds)) table all → (t ≡ table) × (first ≡ all)
 declarations_end ds n t table first all end so_far =
     let none = at_drop_all (flat_map items_in) ds n end in
     (ap (behind_all t) (sym none) ∙ so_far.0, sym (earlier_none first) ∙ ap (λ l. earlier first (least (item_breaches t l))) (sym none) ∙ so_far.1)

@@ -22,13 +22,15 @@ call_type d t e o v es is items =
     ap (λ e. type_and_rank d t (expression e)) is ∙ ap (λ ps. type_and_rank d t (Call o ps)) (call_vec v ∙ ap arguments_of (sym items))
 
 pub element_type : (d : Context) (t : SymbolTable) (x : List ℕ) (subs : Option (Vec Subscript Global)) (v : Vec Subscript Global) → subs ≡ Some v →
-    type_and_rank d t (reference x (back-Ref-subs subs)) ≡ subscripted (rank_of (find x t)) (count_of (parts_of v.items)) (are_subscripts d t (parts_of v.items)) (triplets (parts_of v.items))
+    type_and_rank d t (reference x (back-Ref-subs subs)) ≡ subscripted (rank_of (find x t)) (count_of (parts_of v.items)) (are_subscripts d t (parts_of v.items))
+    (triplets (parts_of v.items))
 element_type d t x subs v is = ap (λ s. type_and_rank d t (reference x (back-Ref-subs s))) is ∙ ap (type_and_rank d t) (reference_vec x v)
 
 same_rank : (q r s : ℕ) → common (if nat_eq q r then Some (suc q) else None) (Some (suc s)) ≡ common (Some (suc q)) (if nat_eq r s then Some (suc r) else None)
 same_rank q r s = by (nat_eq q r) refl (nat_eq r s) refl
   where
-    by : (a : Bool) → nat_eq q r ≡ a → (b : Bool) → nat_eq r s ≡ b → common (if a then Some (suc q) else None) (Some (suc s)) ≡ common (Some (suc q)) (if b then Some (suc r) else None)
+    by : (a : Bool) → nat_eq q r ≡ a → (b : Bool) → nat_eq r s ≡ b → common (if a then Some (suc q) else None) (Some (suc s))
+        ≡ common (Some (suc q)) (if b then Some (suc r) else None)
     by true e true f = ap (λ t. if t then Some (suc q) else None) (let z : nat_eq q s ≡ true = grind (arith, nat_tests) in z) ∙ sym (ap (λ t. if t then Some (suc q) else None) e)
     by true e false f = ap (λ t. if t then Some (suc q) else None) (let z : nat_eq q s ≡ false = grind (arith, nat_tests) in z)
     by false e true f = sym (ap (λ t. if t then Some (suc q) else None) e)

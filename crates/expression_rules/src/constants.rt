@@ -76,7 +76,8 @@ fn called_value(
     op: Op,
     arguments: &[Expr],
 ) -> Result<Evaluated<i64>, AllocError>
-    ensures { IfOk result (λ f. f ≡ called_value (option_copied grid.entry) op (named_first scope.now (arguments_of arguments.now)) (values (option_copied grid.entry) scope.now (arguments_of arguments.now)) (values_behind (option_copied grid.entry) scope.now (arguments_of arguments.now))) }
+    ensures { IfOk result (λ f. f ≡ called_value (option_copied grid.entry) op (named_first scope.now (arguments_of arguments.now))
+        (values (option_copied grid.entry) scope.now (arguments_of arguments.now)) (values_behind (option_copied grid.entry) scope.now (arguments_of arguments.now))) }
 {
     if is_inquiry(op) {
         let behind = values(alloc, grid, scope, rest_of(arguments))?;

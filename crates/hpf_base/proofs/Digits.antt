@@ -22,7 +22,8 @@ pub digit_below : (digits : List ℕ) (i : ℕ) → all_ascii_digits digits ≡ 
 digit_below digits i all lt = (digit_at digits i (decimals.to digits all) lt).0
 
 -- one digit more
-pub value_step : (digits : List ℕ) (i : ℕ) → all_ascii_digits digits ≡ true → i < length digits → digits_value 10 (take (i + 1) digits) + 48 ≡ digits_value 10 (take i digits) * 10 + get_or digits i 0
+pub value_step : (digits : List ℕ) (i : ℕ) → all_ascii_digits digits ≡ true → i < length digits →
+    digits_value 10 (take (i + 1) digits) + 48 ≡ digits_value 10 (take i digits) * 10 + get_or digits i 0
 value_step digits i all lt = omega (arith, digits_value_more 10 digits i lt, digit_value_digit (get_or digits i 0) (digit_at digits i (decimals.to digits all) lt))
 
 -- fewer digits stand for no more

@@ -18,7 +18,8 @@ leads_not_before : (a b : Refusal) (line : ℕ) (why : Reason) → is_before b a
 leads_not_before a b line why e h = grind (arith, nat_tests)
 
 -- two sets of the same breaches have one first
-pub first_same : (A B : ℕ → Reason → Type 0) (o : Option Refusal) → ((line : ℕ) (why : Reason) → A line why → B line why) → ((line : ℕ) (why : Reason) → B line why → A line why) → IsFirstOrNone A o → IsFirstOrNone B o
+pub first_same : (A B : ℕ → Reason → Type 0) (o : Option Refusal) → ((line : ℕ) (why : Reason) → A line why → B line why) →
+    ((line : ℕ) (why : Reason) → B line why → A line why) → IsFirstOrNone A o → IsFirstOrNone B o
 first_same A B None to from h = λ line why b. h line why (from line why b)
 first_same A B (Some r) to from h = record {
   stands = to r.line r.reason h.stands;

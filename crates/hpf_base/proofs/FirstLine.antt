@@ -15,7 +15,9 @@ line_at_break : (text : List ℕ) → break text < length text → lines_of text
 line_at_break [] lt = absurd (omega arith)
 line_at_break (b ∷ text) lt = step (b == 10) refl lt (line_at_break text)
   where
-    step : (t : Bool) → (b == 10) ≡ t → break (b ∷ text) < suc (length text) → (break text < length text → lines_of text ≡ take (break text) text ∷ lines_of (drop (break text + 1) text)) → lines_of (b ∷ text) ≡ take (break (b ∷ text)) (b ∷ text) ∷ lines_of (drop (break (b ∷ text) + 1) (b ∷ text))
+    step : (t : Bool) → (b == 10) ≡ t → break (b ∷ text) < suc (length text) → (break text < length text →
+        lines_of text ≡ take (break text) text ∷ lines_of (drop (break text + 1) text)) →
+        lines_of (b ∷ text) ≡ take (break (b ∷ text)) (b ∷ text) ∷ lines_of (drop (break (b ∷ text) + 1) (b ∷ text))
     step true e lt ih = rw e refl
     step false e lt ih =
         let lt' = rw e at lt in
@@ -30,7 +32,8 @@ last_line b [] le = step (b == 10) refl le
     step false e le = rw e refl
 last_line b (c ∷ text) le = step (b == 10) refl le (last_line c text)
   where
-    step : (t : Bool) → (b == 10) ≡ t → length (b ∷ c ∷ text) ≤ break (b ∷ c ∷ text) → (length (c ∷ text) ≤ break (c ∷ text) → lines_of (c ∷ text) ≡ (c ∷ text) ∷ []) → lines_of (b ∷ c ∷ text) ≡ (b ∷ c ∷ text) ∷ []
+    step : (t : Bool) → (b == 10) ≡ t → length (b ∷ c ∷ text) ≤ break (b ∷ c ∷ text) → (length (c ∷ text) ≤ break (c ∷ text) → lines_of (c ∷ text) ≡ (c ∷ text) ∷ []) →
+        lines_of (b ∷ c ∷ text) ≡ (b ∷ c ∷ text) ∷ []
     step true e le ih = let le' = rw e at le in absurd (omega arith)
     step false e le ih =
         let le' = rw e at le in

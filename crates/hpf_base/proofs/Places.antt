@@ -63,7 +63,8 @@ places-by_number (extent ∷ extents) =
     ∙ ap (λ n. (q * extent + r) % extent ∷ place_at extents n) (sym (div-mul-add q extent r (omega arith)))) in
     ap (flat_map row) (places-by_number extents)
     ∙ flat_map-map row (place_at extents) (range_with_len 0 (product extents))
-    ∙ flat_map-agree (λ q. row (place_at extents q)) (λ q. map (λ r. place_at (extent ∷ extents) (q * extent + r)) (range_with_len 0 extent)) same (range_with_len 0 (product extents))
+    ∙ flat_map-agree (λ q. row (place_at extents q)) (λ q. map (λ r. place_at (extent ∷ extents) (q * extent + r)) (range_with_len 0 extent)) same
+    (range_with_len 0 (product extents))
     ∙ sym (range-rows (place_at (extent ∷ extents)) extent (product extents))
 
 -- one place for each extent, and below it

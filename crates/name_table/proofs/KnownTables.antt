@@ -108,7 +108,8 @@ if_right true t u r s = r
 if_right false t u r s = s
 
 -- a name that is changed had no value before
-found_stays : (e : Name × Symbol) (x y : Name) (s a : Symbol) (es : SymbolTable) → is_uninitialized e.1 ≡ true → find x (e ∷ es) ≡ Some a → is_uninitialized a ≡ false → find x ((e.0, s) ∷ es) ≡ Some a
+found_stays : (e : Name × Symbol) (x y : Name) (s a : Symbol) (es : SymbolTable) → is_uninitialized e.1 ≡ true → find x (e ∷ es) ≡ Some a → is_uninitialized a ≡ false →
+    find x ((e.0, s) ∷ es) ≡ Some a
 found_stays e x y s a es own h n = by (bytes_eq x e.0) h
   where
     by : (b : Bool) → cond b (Some e.1) (find x es) ≡ Some a → cond b (Some s) (find x es) ≡ Some a
@@ -226,7 +227,8 @@ symbol_right t false None (Some e) h numbers = initialized_right (number t e) nu
 symbol_right t false (Some bs) e h numbers =
     let s = all_split (λ e. is_some (number t e) ≡ true) (flat_map bound_expressions bs) (present e) numbers in
     let known = dims_known t bs s.0 in
-    array_right (length bs) (if is_past_limits t bs then None else dims t bs) (start_of t e) known.0 (ap (λ b. if b then None else dims t bs) h ∙ known.1.0) known.1.1 (start_known t e s.1)
+    array_right (length bs) (if is_past_limits t bs then None else dims t bs) (start_of t e) known.0 (ap (λ b. if b then None else dims t bs) h ∙ known.1.0) known.1.1
+    (start_known t e s.1)
 
 -- ---- items
 
@@ -253,7 +255,8 @@ item_right t u k r (Definition c) h typed =
 item_right t u k r (TemplateEntity e) h typed = added_right t e.name _ tt r
 item_right t u k r (ArrangementEntity e) h typed = added_right t e.name _ tt r
 
-all_right : (u t : SymbolTable) (is : List PlacedItem) → behind_all t is ≡ u → AllRight t → item_breaches t is ≡ [] → AllByRecursion (λ i. AreTyped u (needed i.what)) is → AllRight u
+all_right : (u t : SymbolTable) (is : List PlacedItem) → behind_all t is ≡ u → AllRight t → item_breaches t is ≡ [] → AllByRecursion (λ i. AreTyped u (needed i.what)) is →
+    AllRight u
 all_right u t [] e r h typed = subst AllRight e r
 all_right u t (i ∷ is) e r h typed =
     let s = empties (at i.line (item_reasons t i.what)) (item_breaches (behind t i.what) is) h in
@@ -300,7 +303,8 @@ arrangements_typed u (e ∷ es) = (tt, arrangements_typed u es)
 declared_typed : (u : SymbolTable) (d : Declared) → declaration_meets u d ≡ true → AllByRecursion (λ i. AreTyped u (needed i)) (items_of d)
 declared_typed u ImplicitNone h = tt
 declared_typed u (Integer d) h =
-    let s = all_split (λ e. is_some (type_and_rank Statement u e) ≡ true) (flat_map bound_expressions (bounds_of d.bounds)) (flat_map typed_expressions d.entities) (scalars_typed u (type_expressions d) h) in
+    let s = all_split (λ e. is_some (type_and_rank Statement u e) ≡ true) (flat_map bound_expressions (bounds_of d.bounds)) (flat_map typed_expressions d.entities)
+    (scalars_typed u (type_expressions d) h) in
     all_append (λ i. AreTyped u (needed i)) (map DimensionAttribute (present d.bounds)) (map (λ e. TypedEntity d.constant (own_or e.bounds d.bounds) e) d.entities)
     (attribute_typed u d.bounds) (entities_typed u d.constant d.bounds d.entities s.0 s.1)
 declared_typed u (Parameter cs) h = constants_typed u cs (scalars_typed u (map (λ c. c.value) cs) h)

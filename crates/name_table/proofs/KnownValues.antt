@@ -93,7 +93,8 @@ symbol_later : (a b : Option Symbol) → Stays a b → Later (value_of_symbol a)
 symbol_later (Some (Constant m)) b k n h = ap value_of_symbol (k (Constant m) refl refl) ∙ h
 symbol_later a b k n h = absurd (invalid_known n h)
 
-call_later : (o : Op) (a b : Option Symbol) (fs gs xs ys : Evaluated (List ℤ)) → Stays a b → Later fs gs → Later xs ys → Later (called_value None o a fs xs) (called_value None o b gs ys)
+call_later : (o : Op) (a b : Option Symbol) (fs gs xs ys : Evaluated (List ℤ)) → Stays a b → Later fs gs → Later xs ys →
+    Later (called_value None o a fs xs) (called_value None o b gs ys)
 call_later o a b fs gs xs ys k f g =
     if_later (is_inquiry o) _ _ _ _ (array_later o a b xs ys k g)
     (if_later (is_processor_count o) _ _ _ _ (λ n h. h) (if_later (is_reduction o) _ _ _ _ (λ n h. h) (elemental_later o fs gs f)))
@@ -192,7 +193,8 @@ operated_lacks o (Known ns) ss g h = absurd (zero_lacks (operator_value o ns) h)
 unary_lacks : (o : Op) (v : Evaluated ℤ) (s : Option TypeAndRank) → Lacks v s → Lacks (operated o (with_more v (Known []))) (elemental o (s ∷ []))
 unary_lacks o v s f = operated_lacks o (with_more v (Known [])) (s ∷ []) (more_lacks v (Known []) s [] f (none_lacks []))
 
-binary_lacks : (o : Op) (v w : Evaluated ℤ) (s r : Option TypeAndRank) → Lacks v s → Lacks w r → Lacks (operated o (with_more v (with_more w (Known [])))) (elemental o (s ∷ r ∷ []))
+binary_lacks : (o : Op) (v w : Evaluated ℤ) (s r : Option TypeAndRank) → Lacks v s → Lacks w r →
+    Lacks (operated o (with_more v (with_more w (Known [])))) (elemental o (s ∷ r ∷ []))
 binary_lacks o v w s r f g =
     operated_lacks o (with_more v (with_more w (Known []))) (s ∷ r ∷ []) (more_lacks v (with_more w (Known [])) s (r ∷ []) f (more_lacks w (Known []) r [] g (none_lacks [])))
 
@@ -217,7 +219,8 @@ one_dimension f r l d is h = by (numbered l d) refl h
 too_many : (n : ℕ) → nat_le (suc (suc (suc n))) 2 ≡ true → ⊥
 too_many n h = grind (arith, nat_tests)
 
-inquired_unknown : (o : Op) (r : ℕ) (l : List Dim) (ns : List ℤ) → is_inquiry o ≡ true → r ≡ length l → inquired None o l ns ≡ Unknown → takes o (suc (length ns)) ≡ true → list_all (is_dimension r) ns ≡ false
+inquired_unknown : (o : Op) (r : ℕ) (l : List Dim) (ns : List ℤ) → is_inquiry o ≡ true → r ≡ length l → inquired None o l ns ≡ Unknown → takes o (suc (length ns)) ≡ true →
+    list_all (is_dimension r) ns ≡ false
 inquired_unknown op.Size r l [] i is h w = absurd (known_unknown _ refl h)
 inquired_unknown op.LBound r l [] i is h w = absurd (true≢false (sym w))
 inquired_unknown op.UBound r l [] i is h w = absurd (true≢false (sym w))
@@ -258,7 +261,8 @@ counted : (t : SymbolTable) (ps : Parts) (ns : List ℤ) → values None t ps �
 counted t End ns h = known_length [] ns h
 counted t (More q ps) ns h = by (part_value None t q) (values None t ps) (counted t ps) ns h
   where
-    by : (v : Evaluated ℤ) (fs : Evaluated (List ℤ)) → ((ns : List ℤ) → fs ≡ Known ns → count_of ps ≡ length ns) → (ns : List ℤ) → with_more v fs ≡ Known ns → suc (count_of ps) ≡ length ns
+    by : (v : Evaluated ℤ) (fs : Evaluated (List ℤ)) → ((ns : List ℤ) → fs ≡ Known ns → count_of ps ≡ length ns) → (ns : List ℤ) → with_more v fs ≡ Known ns →
+        suc (count_of ps) ≡ length ns
     by Invalid fs f ns h = absurd (invalid_known ns h)
     by Unknown Invalid f ns h = absurd (invalid_known ns h)
     by Unknown Unknown f ns h = absurd (unknown_known ns h)
@@ -284,17 +288,20 @@ inquiry_type : (o : Op) (u : SymbolTable) (ps : Parts) (ss : List (Option TypeAn
 inquiry_type o u ps ss i f = by (takes o (count_of ps)) f
   where
     by : (k : Bool) → (k ≡ true → (are_inquired ss && is_of_array u ps) ≡ false)
-        → (if not k then None else (if is_processor_count o then integer_scalar_if false else (if is_inquiry o then integer_scalar_if (are_inquired ss && is_of_array u ps) else (if is_reduction o then reduction o ss else elemental o ss)))) ≡ None
+        → (if not k then None else (if is_processor_count o then integer_scalar_if false else
+        (if is_inquiry o then integer_scalar_if (are_inquired ss && is_of_array u ps) else (if is_reduction o then reduction o ss else elemental o ss)))) ≡ None
     by false f = refl
     by true f =
-        (λ j. if inquiry_counts_no o i j then integer_scalar_if false else (if i j then integer_scalar_if (f refl j) else (if is_reduction o then reduction o ss else elemental o ss)))
+        (λ j. if inquiry_counts_no o i j then integer_scalar_if false else (if i j then integer_scalar_if (f refl j) else
+        (if is_reduction o then reduction o ss else elemental o ss)))
 
 elemental_type : (o : Op) (u : SymbolTable) (ps : Parts) (ss : List (Option TypeAndRank)) → is_inquiry o ≡ false → is_processor_count o ≡ false → is_reduction o ≡ false →
     (takes o (count_of ps) ≡ true → elemental o ss ≡ None) → called_type Statement u o ps ss ≡ None
 elemental_type o u ps ss i p r f = by (takes o (count_of ps)) f
   where
     by : (k : Bool) → (k ≡ true → elemental o ss ≡ None)
-        → (if not k then None else (if is_processor_count o then integer_scalar_if false else (if is_inquiry o then integer_scalar_if (are_inquired ss && is_of_array u ps) else (if is_reduction o then reduction o ss else elemental o ss)))) ≡ None
+        → (if not k then None else (if is_processor_count o then integer_scalar_if false else
+        (if is_inquiry o then integer_scalar_if (are_inquired ss && is_of_array u ps) else (if is_reduction o then reduction o ss else elemental o ss)))) ≡ None
     by false f = refl
     by true f =
         (λ j. if p j then integer_scalar_if false else (if i j then integer_scalar_if (are_inquired ss && is_of_array u ps) else (if r j then reduction o ss else f refl j)))
@@ -321,11 +328,13 @@ module _ (t u : SymbolTable) (k : Kept t u) (right : (x : Name) (s : Symbol) →
   call_lacks o ps g f h = by (is_inquiry o) (is_processor_count o) (is_reduction o) refl refl refl h
     where
       by : (i p r : Bool) → is_inquiry o ≡ i → is_processor_count o ≡ p → is_reduction o ≡ r →
-          (if i then of_array None o (named_first t ps) (values_behind None t ps) else (if p then Invalid else (if r then Invalid else elemental_value o (values None t ps)))) ≡ Unknown →
+          (if i then of_array None o (named_first t ps) (values_behind None t ps) else (if p then Invalid else
+          (if r then Invalid else elemental_value o (values None t ps)))) ≡ Unknown →
           called_type Statement u o ps (types_and_ranks Statement u ps) ≡ None
       by true p r a b c h =
           inquiry_type o u ps (types_and_ranks Statement u ps) a
-          (λ w. array_lacks o (named_first t ps) (named_first u ps) (values_behind None t ps) (values_behind None u ps) (are_inquired (types_and_ranks Statement u ps)) (count_of ps)
+          (λ w. array_lacks o (named_first t ps) (named_first u ps) (values_behind None t ps) (values_behind None u ps) (are_inquired (types_and_ranks Statement u ps))
+          (count_of ps)
           a (first_right ps) (first_stays t u k ps) (later_behind t u k ps) f (λ s ns. counted_behind t ps s ns) w h)
       by false true r a b c h = absurd (invalid_unknown _ refl h)
       by false false true a b c h = absurd (invalid_unknown _ refl h)
@@ -351,7 +360,8 @@ module _ (t u : SymbolTable) (k : Kept t u) (right : (x : Name) (s : Symbol) →
 
     lacks_behind : (ps : Parts) → values_behind None t ps ≡ Unknown → are_inquired (types_and_ranks Statement u ps) ≡ false
     lacks_behind End = λ h. absurd (known_unknown _ refl h)
-    lacks_behind (More (One e) ps) = λ h. ap (λ b. is_some (type_and_rank Statement u e) && b) (inquired_none (types_and_ranks Statement u ps) (lacks_parts ps h)) ∙ and_false (is_some (type_and_rank Statement u e))
+    lacks_behind (More (One e) ps) = λ h. ap (λ b. is_some (type_and_rank Statement u e) && b) (inquired_none (types_and_ranks Statement u ps) (lacks_parts ps h))
+        ∙ and_false (is_some (type_and_rank Statement u e))
     lacks_behind (More q ps) = λ h. refl
 
   -- a constant expression of a type has a number

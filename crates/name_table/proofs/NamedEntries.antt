@@ -40,7 +40,8 @@ insert_last : (x : Name) (n : Entry) (es : List (Name × Entry)) → list_any (b
 insert_last x n [] h = refl
 insert_last x n (e ∷ es) h = by (bytes_eq x e.0) h (insert_last x n es)
   where
-    by : (b : Bool) → (b || list_any (bytes_eq x) (map (λ e. e.0) es)) ≡ false → (list_any (bytes_eq x) (map (λ e. e.0) es) ≡ false → insert_entry bytes_eq es x n ≡ es ++ (x, n) ∷ []) → (if b then (e.0, n) ∷ es else e ∷ insert_entry bytes_eq es x n) ≡ e ∷ (es ++ (x, n) ∷ [])
+    by : (b : Bool) → (b || list_any (bytes_eq x) (map (λ e. e.0) es)) ≡ false → (list_any (bytes_eq x) (map (λ e. e.0) es) ≡ false →
+        insert_entry bytes_eq es x n ≡ es ++ (x, n) ∷ []) → (if b then (e.0, n) ∷ es else e ∷ insert_entry bytes_eq es x n) ≡ e ∷ (es ++ (x, n) ∷ [])
     by true h more = absurd (true≢false h)
     by false h more = ap (λ l. e ∷ l) (more h)
 

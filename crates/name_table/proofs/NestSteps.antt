@@ -19,7 +19,8 @@ use Rattle.statement_walk.specs.Nests.{Nest, arm_nests, loop, nest_in, nests, st
 use Rattle.expression_rules.proofs.Turns.{least_both}
 use Rattle.statement_walk.proofs.WalkSteps.{axis_in}
 
-pub if_nests : (line : ℕ) (k : Kind.Kind) (as' : Vec HeldArm Global) (rest : Option (Vec Stmt Global)) (v : Vec Stmt Global) (glued : Bool) → k ≡ Kind.If as' rest glued → rest ≡ Some v →
+pub if_nests : (line : ℕ) (k : Kind.Kind) (as' : Vec HeldArm Global) (rest : Option (Vec Stmt Global)) (v : Vec Stmt Global) (glued : Bool) → k ≡ Kind.If as' rest glued →
+    rest ≡ Some v →
     arm_nests (arms_of as'.items) ++ nests (block_of v.items) ≡ statement_nests line (statement line k)
 if_nests line k as' rest v glued is some =
     sym (ap (λ k. statement_nests line (statement line k)) (is ∙ ap (λ r. Kind.If as' r glued) some)

@@ -199,7 +199,8 @@ fn is_assignment(
     left: &Ref,
     right: &Expr,
 ) -> Result<bool, AllocError>
-    ensures { IfOk result (λ b. b ≡ all_meet context.Statement scope.now (place Variable (designator (variable left.now)) ∷ place (RightOf (designator (variable left.now))) (expression right.now) ∷ [])) }
+    ensures { IfOk result (λ b. b ≡ all_meet context.Statement scope.now (place Variable (designator (variable left.now))
+        ∷ place (RightOf (designator (variable left.now))) (expression right.now) ∷ [])) }
 {
     let left = variable_type(alloc, scope, left)?;
     let right = type_and_rank(alloc, Context::Statement, scope, right)?;
@@ -214,7 +215,8 @@ fn is_masked_assignment(
     left: &Ref,
     right: &Expr,
 ) -> Result<bool, AllocError>
-    ensures { IfOk result (λ b. b ≡ all_meet context.Statement scope.now (place (MaskedArray (expression mask.now)) (designator (variable left.now)) ∷ place (RightOf (designator (variable left.now))) (expression right.now) ∷ [])) }
+    ensures { IfOk result (λ b. b ≡ all_meet context.Statement scope.now (place (MaskedArray (expression mask.now)) (designator (variable left.now))
+        ∷ place (RightOf (designator (variable left.now))) (expression right.now) ∷ [])) }
 {
     let mask = type_and_rank(alloc, Context::Statement, scope, mask)?;
     let left = variable_type(alloc, scope, left)?;

@@ -15,7 +15,8 @@ code_found rows word = option_map (λ row. row.code) (row_of rows word)
 abbrev place_from : ℕ → List (List ℕ) → List ℕ → Option ℕ
 place_from at words word = position_from (λ w. bytes_eq w word) at words
 
-code_found-from : (word : List ℕ) (rows : List Row) (at : ℕ) → map (λ row. row.code) rows ≡ range_with_len at (length rows) → code_found rows word ≡ place_from at (map (λ row. row.spelling.now) rows) word
+code_found-from : (word : List ℕ) (rows : List Row) (at : ℕ) → map (λ row. row.code) rows ≡ range_with_len at (length rows) →
+    code_found rows word ≡ place_from at (map (λ row. row.spelling.now) rows) word
 code_found-from word [] at coded = refl
 code_found-from word (row ∷ rows) at coded =
     let head : row.code ≡ at = cc in

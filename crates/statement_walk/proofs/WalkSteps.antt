@@ -41,11 +41,18 @@ pub arm_first : (f : PlacedHead → List Refusal) (do_variables : List Name) (a 
     inside ≡ least (flat_map f (heads do_variables (block_of (out-Arm a).body.items))) → result ≡ earlier own inside →
     result ≡ least (flat_map f (arm_alone do_variables a))
 arm_first f do_variables a own inside result x y is =
-    more_first f (placed do_variables (out-Arm a).line (head.Condition (expression (out-Arm a).cond))) (heads do_variables (block_of (out-Arm a).body.items)) (arm_alone do_variables a) own inside result x y is (sym (arm_parts do_variables a))
+    more_first f (placed do_variables (out-Arm a).line (head.Condition (expression (out-Arm a).cond))) (heads do_variables (block_of (out-Arm a).body.items))
+    (arm_alone do_variables a) own inside result x y is (sym (arm_parts do_variables a))
 
 -- a DO
 abbrev pub axis_in : DoLoop → Axis
-axis_in d = record { index = (out-DoLoop d).index; first = expression (out-DoLoop d).first; last = expression (out-DoLoop d).last; step = option_map expression (out-DoLoop d).step }
+axis_in d = record {
+  index = (out-DoLoop d).index;
+  first = expression (out-DoLoop d).first;
+  last = expression (out-DoLoop d).last;
+  step = option_map expression
+      (out-DoLoop d).step;
+}
 
 pub do_first : (f : PlacedHead → List Refusal) (do_variables pushed : List Name) (line : ℕ) (d : DoLoop) (marked looped inside more result : Option Refusal) →
     marked ≡ least (flat_map f (independent_heads do_variables (option_map independent (out-DoLoop d).mark))) →
@@ -68,27 +75,32 @@ nothing_behind : (xs : List PlacedHead) → ((xs ++ []) ++ []) ++ [] ≡ xs
 nothing_behind xs = append-nil ((xs ++ []) ++ []) ∙ append-nil (xs ++ []) ∙ append-nil xs
 
 pub if_one_heads : (do_variables : List Name) (line : ℕ) (k : Kind.Kind) (cond : Expr) (b : Box Stmt Global) (s : Stmt) → k ≡ Kind.IfOne cond b → s ≡ b.value →
-    placed do_variables line (head.Condition (expression cond)) ∷ statement_heads do_variables s.line (statement s.line s.what) ≡ statement_heads do_variables line (statement line k)
+    placed do_variables line (head.Condition (expression cond)) ∷ statement_heads do_variables s.line (statement s.line s.what)
+    ≡ statement_heads do_variables line (statement line k)
 if_one_heads do_variables line k cond b s is same =
     ap (λ s. placed do_variables line (head.Condition (expression cond)) ∷ statement_heads do_variables s.line (statement s.line s.what)) same
     ∙ sym (ap (λ k. statement_heads do_variables line (statement line k)) is
     ∙ ap (λ l. placed do_variables line (head.Condition (expression cond)) ∷ l) (nothing_behind (statement_heads do_variables b.value.line (statement b.value.line b.value.what))))
 
-pub if_heads : (do_variables : List Name) (line : ℕ) (k : Kind.Kind) (as' : Vec HeldArm Global) (rest : Option (Vec Stmt Global)) (v : Vec Stmt Global) (glued : Bool) → k ≡ Kind.If as' rest glued → rest ≡ Some v →
+pub if_heads : (do_variables : List Name) (line : ℕ) (k : Kind.Kind) (as' : Vec HeldArm Global) (rest : Option (Vec Stmt Global)) (v : Vec Stmt Global) (glued : Bool) →
+    k ≡ Kind.If as' rest glued → rest ≡ Some v →
     arm_heads do_variables (arms_of as'.items) ++ heads do_variables (block_of v.items) ≡ statement_heads do_variables line (statement line k)
 if_heads do_variables line k as' rest v glued is some =
     sym (ap (λ k. statement_heads do_variables line (statement line k)) (is ∙ ap (λ r. Kind.If as' r glued) some)
     ∙ (λ i. arm_heads do_variables (arms_vec as' i) ++ heads do_variables (block_vec v i)))
 
-pub if_alone_heads : (do_variables : List Name) (line : ℕ) (k : Kind.Kind) (as' : Vec HeldArm Global) (rest : Option (Vec Stmt Global)) (glued : Bool) → k ≡ Kind.If as' rest glued → rest ≡ None →
+pub if_alone_heads : (do_variables : List Name) (line : ℕ) (k : Kind.Kind) (as' : Vec HeldArm Global) (rest : Option (Vec Stmt Global)) (glued : Bool) →
+    k ≡ Kind.If as' rest glued → rest ≡ None →
     arm_heads do_variables (arms_of as'.items) ≡ statement_heads do_variables line (statement line k)
 if_alone_heads do_variables line k as' rest glued is none =
     sym (ap (λ k. statement_heads do_variables line (statement line k)) (is ∙ ap (λ r. Kind.If as' r glued) none)
     ∙ append-nil (arm_heads do_variables (arms (hidden-the_row-Arm-0 as')))
     ∙ ap (arm_heads do_variables) (arms_vec as'))
 
-pub forall_heads : (do_variables : List Name) (line : ℕ) (k : Kind.Kind) (axes : Vec Header Global) (mask : Option Expr) (v : Vec Stmt Global) (one glued marked : Bool) → k ≡ Kind.Forall axes mask v one glued marked →
-    placed do_variables line (head.Forall (map axis axes.items) (option_map expression mask)) ∷ indexed do_variables (map axis axes.items) (assignments_of v.items) ≡ statement_heads do_variables line (statement line k)
+pub forall_heads : (do_variables : List Name) (line : ℕ) (k : Kind.Kind) (axes : Vec Header Global) (mask : Option Expr) (v : Vec Stmt Global) (one glued marked : Bool) →
+    k ≡ Kind.Forall axes mask v one glued marked →
+    placed do_variables line (head.Forall (map axis axes.items) (option_map expression mask)) ∷ indexed do_variables (map axis axes.items) (assignments_of v.items)
+    ≡ statement_heads do_variables line (statement line k)
 forall_heads do_variables line k axes mask v one glued marked is =
     sym (ap (λ k. statement_heads do_variables line (statement line k)) is
     ∙ ap (λ l. placed do_variables line (head.Forall (map axis axes.items) (option_map expression mask)) ∷ indexed do_variables (map axis axes.items) l) (assignments_vec v))
@@ -97,13 +109,17 @@ elsewhere : (rest : Option (Vec Stmt Global)) → rest_assignments (back-Kind-If
 elsewhere None = refl
 elsewhere (Some v) = assignments_vec v
 
-pub where_heads : (do_variables : List Name) (line : ℕ) (k : Kind.Kind) (mask : Expr) (v : Vec Stmt Global) (rest : Option (Vec Stmt Global)) (one glued : Bool) → k ≡ Kind.Where mask v rest one glued →
-    placed do_variables line (head.Where (expression mask)) ∷ (masked do_variables (expression mask) (assignments_of v.items) ++ masked do_variables (expression mask) (elsewhere_of rest)) ≡ statement_heads do_variables line (statement line k)
+pub where_heads : (do_variables : List Name) (line : ℕ) (k : Kind.Kind) (mask : Expr) (v : Vec Stmt Global) (rest : Option (Vec Stmt Global)) (one glued : Bool) →
+    k ≡ Kind.Where mask v rest one glued →
+    placed do_variables line (head.Where (expression mask)) ∷ (masked do_variables (expression mask) (assignments_of v.items)
+    ++ masked do_variables (expression mask) (elsewhere_of rest)) ≡ statement_heads do_variables line (statement line k)
 where_heads do_variables line k mask v rest one glued is =
     sym (ap (λ k. statement_heads do_variables line (statement line k)) is
-    ∙ (λ i. placed do_variables line (head.Where (expression mask)) ∷ (masked do_variables (expression mask) (assignments_vec v i) ++ masked do_variables (expression mask) (elsewhere rest i))))
+    ∙ (λ i. placed do_variables line (head.Where (expression mask)) ∷ (masked do_variables (expression mask) (assignments_vec v i)
+    ++ masked do_variables (expression mask) (elsewhere rest i))))
 
-pub arm_step : (do_variables : List Name) (a : HeldArm) (as' : List HeldArm) → arm_heads do_variables (arms_of (a ∷ as')) ≡ arm_alone do_variables a ++ arm_heads do_variables (arms_of as')
+pub arm_step : (do_variables : List Name) (a : HeldArm) (as' : List HeldArm) → arm_heads do_variables (arms_of (a ∷ as'))
+    ≡ arm_alone do_variables a ++ arm_heads do_variables (arms_of as')
 arm_step do_variables (struct-Arm n cond shape row glued) as' = refl
 
 map_append : {X Y : Type 0} (f : X → Y) (xs ys : List X) → map f (xs ++ ys) ≡ map f xs ++ map f ys

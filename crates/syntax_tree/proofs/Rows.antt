@@ -59,7 +59,19 @@ assignments_vec v = assignment_items (hidden-the_row-Stmt-1 v) ∙ ap assignment
 
 -- a DO construct, by its fields
 pub do_parts : (d : DoLoop) → do_construct d
-    ≡ Do (option_map independent (out-DoLoop d).mark) (record { index = (out-DoLoop d).index; first = expression (out-DoLoop d).first; last = expression (out-DoLoop d).last; step = option_map expression (out-DoLoop d).step }) (block_of (out-DoLoop d).body.items)
+    ≡ Do (option_map independent (out-DoLoop d).mark) (record {
+      index = (out-DoLoop d).index;
+      first = expression (out-DoLoop d).first;
+      last = expression
+          (out-DoLoop d).last;
+      step = option_map expression (out-DoLoop d).step;
+    }) (block_of (out-DoLoop d).body.items)
 do_parts d =
     ap do_construct (is-struct-DoLoop d)
-    ∙ ap (Do (option_map independent (out-DoLoop d).mark) (record { index = (out-DoLoop d).index; first = expression (out-DoLoop d).first; last = expression (out-DoLoop d).last; step = option_map expression (out-DoLoop d).step })) (block_vec (out-DoLoop d).body)
+    ∙ ap (Do (option_map independent (out-DoLoop d).mark) (record {
+      index = (out-DoLoop d).index;
+      first = expression (out-DoLoop d).first;
+      last = expression
+          (out-DoLoop d).last;
+      step = option_map expression (out-DoLoop d).step;
+    })) (block_vec (out-DoLoop d).body)

@@ -21,7 +21,8 @@ dot_signs =
 
 abbrev pub symbol_signs : List Sign
 symbol_signs =
-    sign.Open ∷ sign.Close ∷ sign.Star ∷ sign.Power ∷ sign.Plus ∷ sign.Comma ∷ sign.Minus ∷ sign.Slash ∷ sign.Ne ∷ sign.Colon ∷ sign.Colons ∷ sign.Lt ∷ sign.Le ∷ sign.Equals ∷ sign.Eq ∷ sign.Gt ∷ sign.Ge ∷ []
+    sign.Open ∷ sign.Close ∷ sign.Star ∷ sign.Power ∷ sign.Plus ∷ sign.Comma ∷ sign.Minus ∷ sign.Slash ∷ sign.Ne ∷ sign.Colon ∷ sign.Colons ∷ sign.Lt ∷ sign.Le
+    ∷ sign.Equals ∷ sign.Eq ∷ sign.Gt ∷ sign.Ge ∷ []
 
 abbrev pub fixed : Option Sign → Lexeme
 fixed None = Unknown

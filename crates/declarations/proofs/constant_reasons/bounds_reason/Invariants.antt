@@ -7,4 +7,5 @@ use Rattle.declarations.proofs.constant_reasons.bounds_reason.Given as goal
 
 abbrev pub invariant-loop-dimension : goal.invariant-loop-dimension
 invariant-loop-dimension l =
-    lesser l.least (constant_reason l.scope (flat_map bound_expressions (map bound (drop l.dimension-index l.bounds)))) ≡ constant_reason l.scope (flat_map bound_expressions (map bound l.bounds))
+    lesser l.least (constant_reason l.scope (flat_map bound_expressions (map bound (drop l.dimension-index l.bounds))))
+    ≡ constant_reason l.scope (flat_map bound_expressions (map bound l.bounds))

@@ -8,4 +8,5 @@ use Rattle.declarations.proofs.ItemTurns.{Leads}
 use Rattle.declarations.proofs.declaring.declare.Given as goal
 
 abbrev pub invariant-loop-decl : goal.invariant-loop-decl
-invariant-loop-decl l = Leads l.names l.first (flat_map items_in (drop l.decl-index l.decls)) (behind_all [] (flat_map items_in l.decls)) (least (item_breaches [] (flat_map items_in l.decls)))
+invariant-loop-decl l = Leads l.names l.first (flat_map items_in (drop l.decl-index l.decls)) (behind_all [] (flat_map items_in l.decls))
+    (least (item_breaches [] (flat_map items_in l.decls)))

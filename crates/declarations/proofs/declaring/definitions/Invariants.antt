@@ -7,4 +7,5 @@ use Rattle.declarations.proofs.ItemTurns.{Leads}
 use Rattle.declarations.proofs.declaring.definitions.Given as goal
 
 abbrev pub invariant-loop-constant : goal.invariant-loop-constant
-invariant-loop-constant l = Leads l.names l.first (definition_items l.line (drop l.constant-index l.constants)) (behind_all l.initial.names (definition_items l.line l.constants)) (least (item_breaches l.initial.names (definition_items l.line l.constants)))
+invariant-loop-constant l = Leads l.names l.first (definition_items l.line (drop l.constant-index l.constants))
+    (behind_all l.initial.names (definition_items l.line l.constants)) (least (item_breaches l.initial.names (definition_items l.line l.constants)))

@@ -7,4 +7,6 @@ use Rattle.declarations.proofs.ItemTurns.{Leads}
 use Rattle.declarations.proofs.declaring.entities.Given as goal
 
 abbrev pub invariant-loop-entity : goal.invariant-loop-entity
-invariant-loop-entity l = Leads l.names l.first (typed_items l.line l.constant (bounds_held l.dims) (drop l.entity-index l.entities)) (behind_all l.initial.names (typed_items l.line l.constant (bounds_held l.dims) l.entities)) (least (item_breaches l.initial.names (typed_items l.line l.constant (bounds_held l.dims) l.entities)))
+invariant-loop-entity l = Leads l.names l.first (typed_items l.line l.constant (bounds_held l.dims) (drop l.entity-index l.entities))
+    (behind_all l.initial.names (typed_items l.line l.constant (bounds_held l.dims) l.entities))
+    (least (item_breaches l.initial.names (typed_items l.line l.constant (bounds_held l.dims) l.entities)))

@@ -17,5 +17,6 @@ pub returns-clause-first : goal.returns-clause-first
 returns-clause-first c =
     let d = c.args.typed.now in
     let attribute = c.at_line.ensures ∙ ap (at_line c.args.line) c.in_ok-attribute.ensures in
-    let behind = c.in_ok-behind.ensures.first ∙ ap (λ es. least (item_breaches c.args.names.now (typed_items c.args.line d.constant (bounds_held d.dims) es))) c.deref.ensures.value in
+    let behind = c.in_ok-behind.ensures.first ∙ ap (λ es. least (item_breaches c.args.names.now
+    (typed_items c.args.line d.constant (bounds_held d.dims) es))) c.deref.ensures.value in
     c.earlier.ensures ∙ (λ i. earlier (attribute i) (behind i)) ∙ integer_first c.args.names.now c.args.line d

@@ -7,4 +7,5 @@ use Rattle.declarations.proofs.ItemTurns.{Leads}
 use Rattle.declarations.proofs.declaring.spaces.Given as goal
 
 abbrev pub invariant-loop-entity : goal.invariant-loop-entity
-invariant-loop-entity l = Leads l.names l.first (space_items l.line l.space (drop l.entity-index l.entities)) (behind_all l.initial.names (space_items l.line l.space l.entities)) (least (item_breaches l.initial.names (space_items l.line l.space l.entities)))
+invariant-loop-entity l = Leads l.names l.first (space_items l.line l.space (drop l.entity-index l.entities))
+    (behind_all l.initial.names (space_items l.line l.space l.entities)) (least (item_breaches l.initial.names (space_items l.line l.space l.entities)))

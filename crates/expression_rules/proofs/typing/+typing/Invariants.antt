@@ -6,11 +6,13 @@ use Rattle.expression_rules.proofs.typing.+typing.Given as goal
 
 abbrev pub invariant-are_integer_scalars-loop-argument : goal.invariant-are_integer_scalars-loop-argument
 invariant-are_integer_scalars-loop-argument l =
-    (l.all && are_integer_scalars (types_and_ranks l.context l.scope (arguments_of (drop l.argument-index l.arguments)))) ≡ are_integer_scalars (types_and_ranks l.context l.scope (arguments_of l.arguments))
+    (l.all && are_integer_scalars (types_and_ranks l.context l.scope (arguments_of (drop l.argument-index l.arguments))))
+    ≡ are_integer_scalars (types_and_ranks l.context l.scope (arguments_of l.arguments))
 
 abbrev pub invariant-are_inquired-loop-argument : goal.invariant-are_inquired-loop-argument
 invariant-are_inquired-loop-argument l =
-    (l.all && inquired_from l.first (types_and_ranks l.context l.scope (arguments_of (drop l.argument-index l.arguments)))) ≡ inquired_from true (types_and_ranks l.context l.scope (arguments_of l.arguments))
+    (l.all && inquired_from l.first (types_and_ranks l.context l.scope (arguments_of (drop l.argument-index l.arguments))))
+    ≡ inquired_from true (types_and_ranks l.context l.scope (arguments_of l.arguments))
 
 abbrev pub invariant-are_subscripts-loop-part : goal.invariant-are_subscripts-loop-part
 invariant-are_subscripts-loop-part l =
@@ -18,4 +20,5 @@ invariant-are_subscripts-loop-part l =
 
 abbrev pub invariant-conforming-loop-argument : goal.invariant-conforming-loop-argument
 invariant-conforming-loop-argument l =
-    common l.rank (conforming l.data_type (types_and_ranks l.context l.scope (arguments_of (drop l.argument-index l.arguments)))) ≡ conforming l.data_type (types_and_ranks l.context l.scope (arguments_of l.arguments))
+    common l.rank (conforming l.data_type (types_and_ranks l.context l.scope (arguments_of (drop l.argument-index l.arguments))))
+    ≡ conforming l.data_type (types_and_ranks l.context l.scope (arguments_of l.arguments))

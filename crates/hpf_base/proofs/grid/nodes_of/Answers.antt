@@ -15,7 +15,12 @@ returns-then-more-eq0-clause-some c = (
       product-front c.args.dims.now c.loop-extent.nodes c.loop-extent.extent-index c.loop-extent-test.true c.loop-extent.invariant.2 h.0 in
       let here : 1 ≤ get_or c.args.dims.now c.loop-extent.extent-index 0 = h.0 c.loop-extent.extent-index 0 c.loop-extent-test.true in
       elim c.then-more-eq0.branch [
-        | then-more-eq0-via-then-more-eq0 w ↦ absurd (omega (arith, mul-le 1 1 c.loop-extent.nodes (get_or c.args.dims.now c.loop-extent.extent-index 0) c.loop-extent.invariant.0 here, w.if-more-eq0.true))
+        | then-more-eq0-via-then-more-eq0 w ↦ absurd (omega (
+          arith,
+          mul-le 1 1 c.loop-extent.nodes
+              (get_or c.args.dims.now c.loop-extent.extent-index 0) c.loop-extent.invariant.0 here,
+          w.if-more-eq0.true,
+        ))
         | then-more-eq0-via-else-more-eq0+then-more w ↦ absurd (omega (arith, upto, h.1, w.if-more.true))
       ],
 )

@@ -7,4 +7,5 @@ use Rattle.name_table.proofs.directive_names.first_bad_directive.Given as goal
 
 abbrev pub invariant-loop-decl : goal.invariant-loop-decl
 invariant-loop-decl l =
-    earlier l.first (least (flat_map (directive_breaches_at l.table) (map declaration (drop l.decl-index l.decls)))) ≡ least (flat_map (directive_breaches_at l.table) (map declaration l.decls))
+    earlier l.first (least (flat_map (directive_breaches_at l.table) (map declaration (drop l.decl-index l.decls))))
+    ≡ least (flat_map (directive_breaches_at l.table) (map declaration l.decls))

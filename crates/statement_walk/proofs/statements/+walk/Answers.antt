@@ -66,7 +66,8 @@ walk_one-returns-in_ok-inside-in-IfOne-clause-first g t c =
     let run = c.args.do_variables.now.items in
     let line = c.args.stmt.now.line in
     let s = c.deref-in-IfOne-2.result.now in
-    more_first f (placed run line (head.Condition (expression c.in-IfOne.cond))) (statement_heads run s.line (statement s.line s.what)) (statement_heads run line (statement line c.args.stmt.now.what))
+    more_first f (placed run line (head.Condition (expression c.in-IfOne.cond))) (statement_heads run s.line (statement s.line s.what))
+    (statement_heads run line (statement line c.args.stmt.now.what))
     c.in_ok-tested-in-IfOne.tested c.in_ok-inside-in-IfOne.inside c.earlier.result
     (c.in_ok-tested-in-IfOne.ensures ∙ ap (λ r. least (f (placed r line (head.Condition (expression c.in-IfOne.cond))))) c.deref-in-IfOne.ensures.value)
     c.in_ok-inside-in-IfOne.ensures.first c.earlier.ensures
@@ -78,10 +79,13 @@ walk_one-returns-in_ok-inside-in-Forall-clause-first g t c =
     let run = c.args.do_variables.now.items in
     let line = c.args.stmt.now.line in
     let axes = map axis c.in-Forall.axes.items in
-    more_first f (placed run line (head.Forall axes (option_map expression c.in-Forall.mask))) (indexed run axes (assignments_of c.in-Forall.body.items)) (statement_heads run line (statement line c.args.stmt.now.what))
+    more_first f (placed run line (head.Forall axes (option_map expression c.in-Forall.mask))) (indexed run axes (assignments_of c.in-Forall.body.items))
+    (statement_heads run line (statement line c.args.stmt.now.what))
     c.in_ok-indexed-in-Forall.indexed c.in_ok-inside-in-Forall.inside c.earlier-in-Forall.result
-    (c.in_ok-indexed-in-Forall.ensures ∙ (λ i. least (f (placed (c.deref-in-Forall.ensures.value i) line (head.Forall (map axis (c.deref-in-Forall-2.ensures.value i)) (option_map expression c.in-Forall.mask))))))
-    (c.in_ok-inside-in-Forall.ensures ∙ (λ i. least (flat_map f (indexed (c.deref-in-Forall-3.ensures.value i) (map axis (c.deref-in-Forall-4.ensures.value i)) (assignments_of (c.deref-in-Forall-5.ensures.value i))))))
+    (c.in_ok-indexed-in-Forall.ensures ∙ (λ i. least (f (placed (c.deref-in-Forall.ensures.value i) line
+    (head.Forall (map axis (c.deref-in-Forall-2.ensures.value i)) (option_map expression c.in-Forall.mask))))))
+    (c.in_ok-inside-in-Forall.ensures ∙ (λ i. least (flat_map f (indexed (c.deref-in-Forall-3.ensures.value i) (map axis (c.deref-in-Forall-4.ensures.value i))
+    (assignments_of (c.deref-in-Forall-5.ensures.value i))))))
     c.earlier-in-Forall.ensures
     (forall_heads run line c.args.stmt.now.what c.in-Forall.axes c.in-Forall.mask c.in-Forall.body c.in-Forall.one c.in-Forall.glued c.in-Forall.marked c.in-Forall.is)
 

@@ -10,6 +10,7 @@ pub loop-stmt-preserved : goal.loop-stmt-preserved
 loop-stmt-preserved g c =
     let run = c.args.do_variables.now in
     let axes = map axis c.args.axes.now in
-    first_next (g.J.Judge.breaches c.args.judge.now) (λ ss. indexed run axes (assignments_of ss)) (λ s. indexed run axes (assignments_in s.line s.what)) (λ s ss. indexed_step run axes s ss)
+    first_next (g.J.Judge.breaches c.args.judge.now) (λ ss. indexed run axes (assignments_of ss)) (λ s. indexed run axes (assignments_in s.line s.what))
+    (λ s ss. indexed_step run axes s ss)
     c.args.stmts.now c.loop-stmt.stmt-index c.stmt-item.result c.loop-stmt.first c.in_ok-found.found c.earlier-first.result c.loop-stmt-test.true c.stmt-item.is
     c.in_ok-found.ensures c.earlier-first.ensures c.loop-stmt.invariant
