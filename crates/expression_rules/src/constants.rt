@@ -246,8 +246,10 @@ fn of_dimensions(
     }
 }
 
-/// SIZE, LBOUND or UBOUND of dimensions.
-fn inquired(grid: Option<&Grid>, op: Op, dims: &[Dim], numbers: &[i64]) -> Evaluated<i64>
+/// SIZE, LBOUND or UBOUND of dimensions, with the values of the arguments behind the array (Fortran 95, 13.14). Invalid exactly where
+/// the grid of a directive is given and there is no dimension of that number; Unknown where there is another number of arguments
+/// than it takes, and without a grid also where there is no such dimension. It takes no memory.
+pub fn inquired(grid: Option<&Grid>, op: Op, dims: &[Dim], numbers: &[i64]) -> Evaluated<i64>
     requires { AreDims dims.now }
     ensures { result ≡ inquired (option_copied grid.entry) op dims.now numbers.now }
 {

@@ -14,7 +14,7 @@ mod symbols;
 mod types;
 mod typing;
 
-pub use constants::value;
+pub use constants::{inquired, value};
 pub use dims::{Dim, Dims, extent, size};
 pub use evaluated::{Evaluated, Numbers};
 pub use operands::{are_operands, is_operand_reference};

@@ -1,5 +1,5 @@
 -- What a program declares (Fortran 95, 5; HPF 2.0, 3.6 and 3.7): its names in the order of their declarations, each with what it is.
-use Rattle.std.specs.Prelude.{ℤ, pos, List, [], map, Option, Some, None}
+use Rattle.std.specs.Prelude.{ℤ, pos, List, [], map, bytes_eq, position, slice_get, Option, Some, None, option_map, option_and_then}
 use Rattle.syntax_tree.specs.MainProgram.{MainProgram}
 use Rattle.expression_rules.specs.Symbols.{Name}
 use Rattle.expression_rules.specs.declared.dims.Dim.{Dim}
@@ -33,3 +33,7 @@ entry e = record { name = e.0; what = what_is e.1 }
 -- the entries of a program
 abbrev pub entries : MainProgram → List Entry
 entries p = map entry (symbol_table p.declarations)
+
+-- what a declared name is; None where it isn't declared
+abbrev pub declared_as : List Entry → Name → Option What
+declared_as names x = option_map (λ e. e.what) (option_and_then (slice_get names) (position (λ e. bytes_eq x e.name) names))

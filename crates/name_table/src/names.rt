@@ -1,7 +1,7 @@
 //! What a program declares.
 
 ghost use Rattle.std.specs.Prelude.{◌≡◌, ◌++◌, ◌∷◌, [], bytes_eq, length, map, option_copied, position, slice_get, IfOk, OnOk};
-ghost use Rattle.name_table.specs.Entries.{entry, what_is, or_none, or_zero};
+ghost use Rattle.name_table.specs.Entries.{declared_as, entry, what_is, or_none, or_zero};
 ghost use Rattle.name_table.specs.NewNames.{IsNew};
 
 use expression_rules::{Dims, Symbol, SymbolTable};
@@ -71,6 +71,15 @@ impl Names {
         ensures { result ≡ position (λ e. bytes_eq name.now e.name) self.now }
     {
         self.entries.get_index_of(name)
+    }
+
+    /// What a name stands for; None exactly where it isn't declared. It takes no memory.
+    pub fn declared_as(&self, name: &Name) -> Option<&What>
+        ensures { option_copied result ≡ declared_as self.now name.now }
+    {
+        let place = self.find(name)?;
+        let entry = self.get(place)?;
+        Some(&entry.what)
     }
 
     /// No names.

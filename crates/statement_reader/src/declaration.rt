@@ -18,7 +18,7 @@ use line_forms::{
 };
 use source_lines::Token;
 use std::alloc::Global;
-use syntax_tree::{Bound, IntegerDecl, Sign};
+use syntax_tree::{Bound, Entity, IntegerDecl, Sign};
 
 /// The attributes and entities of an INTEGER. With PARAMETER each entity has a value.
 pub(crate) fn declaration(
@@ -55,38 +55,26 @@ fn variables(alloc: Global, tokens: &[Token]) -> Result<(IntegerDecl, &[Token]),
         let (bounds, rest) = enclosed::<Bounds>(alloc, Depths::Limited, behind(tokens, 2))?;
         let rest = after_sign(rest, Sign::Colons)?;
         let (entities, rest) = comma_list::<Entities>(alloc, Depths::Limited, rest)?;
-        return Ok((
-            IntegerDecl {
-                constant: false,
-                dims: Some(bounds),
-                colons: true,
-                entities,
-            },
-            rest,
-        ));
+        return Ok((typed(Some(bounds), true, entities), rest));
     }
     if is_sign(tokens, Sign::Colons) {
         let (entities, rest) = comma_list::<Entities>(alloc, Depths::Limited, behind(tokens, 1))?;
-        return Ok((
-            IntegerDecl {
-                constant: false,
-                dims: None,
-                colons: true,
-                entities,
-            },
-            rest,
-        ));
+        return Ok((typed(None, true, entities), rest));
     }
     let (entities, rest) = comma_list::<PlainEntities>(alloc, Depths::Limited, tokens)?;
-    Ok((
-        IntegerDecl {
-            constant: false,
-            dims: None,
-            colons: false,
-            entities,
-        },
-        rest,
-    ))
+    Ok((typed(None, false, entities), rest))
+}
+
+/// INTEGER without PARAMETER, with the bounds of DIMENSION, and with or without `::`.
+fn typed(dims: Option<Vec<Bound>>, colons: bool, entities: Vec<Entity>) -> IntegerDecl
+    ensures { result ≡ record { constant = false; dims = dims; colons = colons; entities = entities } }
+{
+    IntegerDecl {
+        constant: false,
+        dims,
+        colons,
+        entities,
+    }
 }
 
 /// What stands behind PARAMETER: the bounds of DIMENSION, if it is there, and the entities behind `::`.

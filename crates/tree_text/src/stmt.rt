@@ -33,6 +33,19 @@ fn write_stmt(out: &mut String, depth: usize, stmt: &Stmt) -> Result<(), AllocEr
             write_end(out, depth, "IF", *glued)
         }
         Kind::Do(head) => write_loop(out, depth, stmt.line, head),
+        what => write_array_stmt(out, depth, stmt.line, what),
+    }
+}
+
+/// Writes a statement that is neither IF nor DO.
+#[cycle(statement)]
+fn write_array_stmt(
+    out: &mut String,
+    depth: usize,
+    line: u32,
+    what: &Kind,
+) -> Result<(), AllocError> {
+    match what {
         Kind::Where {
             mask,
             body,
@@ -40,7 +53,7 @@ fn write_stmt(out: &mut String, depth: usize, stmt: &Stmt) -> Result<(), AllocEr
             one,
             glued,
         } => {
-            write_condition(out, depth, stmt.line, "WHERE ", mask, "\n")?;
+            write_condition(out, depth, line, "WHERE ", mask, "\n")?;
             write_block(out, depth.saturating_add(1), body)?;
             if let Some(block) = rest {
                 write_rest(out, depth, "ELSEWHERE\n", block)?;
@@ -56,11 +69,11 @@ fn write_stmt(out: &mut String, depth: usize, stmt: &Stmt) -> Result<(), AllocEr
             marked,
         } => {
             write_independent(out, depth, *marked)?;
-            write_forall(out, depth, stmt.line, axes, mask)?;
+            write_forall(out, depth, line, axes, mask)?;
             write_block(out, depth.saturating_add(1), body)?;
             write_end_unless(out, *one, depth, "FORALL", *glued)
         }
-        what => write_action(out, depth, stmt.line, what),
+        what => write_action(out, depth, line, what),
     }
 }
 
