@@ -13,7 +13,9 @@ use Rattle.array_meaning.specs.Statements.{SectionAssignment, ElementAssignment,
 use Rattle.array_meaning.specs.Faults.{Cause, ◌>>=◌}
 use Rattle.array_meaning.specs.State.{State, set_scalar, place_in}
 use Rattle.array_meaning.specs.Runs.{Completion, Normal, Cycled, Run, one_step}
-use Rattle.array_meaning.specs.Sections.{Sequence, sequence_of, Selection, extents, space_size}
+use Rattle.array_meaning.specs.declared.sections.Sequence.{Sequence}
+use Rattle.array_meaning.specs.declared.sections.Selection.{Selection}
+use Rattle.array_meaning.specs.Sections.{sequence_of, extents, space_size}
 use Rattle.array_meaning.specs.Elementals.{Elemental, sections, own_extents, own_size, array_value}
 use Rattle.array_meaning.specs.Expressions.{value, values, elemental, selections, index_values, all_index_values}
 use Rattle.array_meaning.specs.ArrayAssignments.{Mask, assign_where, assign_all_where, mask_of, negated_mask}
