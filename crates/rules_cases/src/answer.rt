@@ -1,6 +1,7 @@
 //! The answers to cases.
 
 use crate::entries::write_entries;
+use body_check::check_bodies;
 use case_texts::{Case, TextError, text_of, write_error};
 use hpf_base::StaticError;
 use hpf_reader::read_program;
@@ -42,15 +43,17 @@ fn write_answer(
     wanted: Wanted,
     text: &[u8],
 ) -> Result<(), AllocError> {
-    match (resolved(alloc, text), wanted) {
+    match (checked(alloc, text), wanted) {
         (Ok(_), Wanted::Verdict) => out.push_str("  accepted\n"),
         (Ok(program), Wanted::Names) => write_entries(out, &program.names),
         (Err(error), _) => write_error(out, error),
     }
 }
 
-/// The program of a text, with its names.
-fn resolved(alloc: Global, text: &[u8]) -> Result<Program, StaticError> {
+/// The program of a text, with its names, where it keeps the rules.
+fn checked(alloc: Global, text: &[u8]) -> Result<Program, StaticError> {
     let tree = read_program(alloc, text)?;
-    resolve(alloc, tree)
+    let program = resolve(alloc, tree)?;
+    check_bodies(alloc, &program)?;
+    Ok(program)
 }

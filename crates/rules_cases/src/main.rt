@@ -1,8 +1,8 @@
-//! Tries the rules of names, constants, types and ranks on cases: texts whose answers are known.
+//! Tries the rules of names, constants, types, ranks and bodies on cases: texts whose answers are known.
 //!
 //! Comes in: cases on standard input. Goes out: the same lines, and behind each case what `resolve` answers for the tree that
-//! `read_program` reads. What holds in between: a line that begins with one of these words is a case, and behind the word
-//! is its text.
+//! `read_program` reads or, where it resolves that, what `check_bodies` answers for the program. What holds in between: a line that
+//! begins with one of these words is a case, and behind the word is its text.
 //!
 //! - `rules`: the answer is that the text breaks none of these rules, or its refusal.
 //! - `names`: the answer is what the text declares, one name a line, or its refusal.

@@ -1,0 +1,4 @@
+mod BodyBreaches
+mod Examples
+mod Forms
+mod Inside

@@ -1,0 +1,6 @@
+pub mod Names
+pub mod Subexpressions
+pub mod Subscripts
+pub mod Forms
+pub mod ForallRules
+pub mod BodyRules
