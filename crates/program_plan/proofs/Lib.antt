@@ -1,0 +1,6 @@
+pub mod Rows
+mod Made
+mod Parts
+mod Assigned
+mod NestLaws
+mod StatementForms

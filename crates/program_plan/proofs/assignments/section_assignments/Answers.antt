@@ -1,0 +1,22 @@
+use Rattle.std.proofs.Common.{List, ◌+◌, drop, map, arith, refl, sym}
+use Rattle.std.proofs.lemmas.Grind.{flat_map-append}
+use Rattle.expression_rules.proofs.Lists.{drop_item}
+use Rattle.syntax_tree.specs.declared.stmt.Stmt.{Stmt}
+use Rattle.syntax_tree.specs.Statement.{assignments_in, assignments_of}
+use Rattle.array_meaning.specs.Resolution.{section_assignments}
+use Rattle.program_plan.specs.Plans.{section_assignment}
+use Rattle.program_plan.proofs.Made.{joined_all, joined_next}
+use Rattle.program_plan.proofs.assignments.section_assignments.Goals as goal
+
+pub loop-stmt-preserved : goal.loop-stmt-preserved
+loop-stmt-preserved c =
+    let all = λ (l : List Stmt). section_assignments c.args.names.now (assignments_of l) in
+    let n = c.loop-stmt.stmt-index in
+    joined_next all c.args.stmts.now n c.stmt-item.result (map section_assignment c.loop-stmt.assignments.items) _ _ (all c.args.stmts.now)
+    (drop_item c.args.stmts.now n c.stmt-item.result c.loop-stmt-test.true c.stmt-item.is) c.in_ok-add_section_assignment.ensures
+    (sym (flat_map-append _ (assignments_in c.stmt-item.result.line c.stmt-item.result.what) (assignments_of (drop (n + 1) c.args.stmts.now)))) c.loop-stmt.invariant
+
+pub returns : goal.returns
+returns c =
+    joined_all (λ (l : List Stmt). section_assignments c.args.names.now (assignments_of l)) c.args.stmts.now c.loop-stmt.stmt-index (map section_assignment c.loop-stmt.assignments.items) _
+    (omega arith) refl c.loop-stmt.invariant

@@ -1,0 +1,12 @@
+use Rattle.std.proofs.Common.{ap, ◌∙◌}
+use Rattle.array_meaning.specs.Statements.{Done, If, NoArm}
+use Rattle.program_plan.specs.Plans.{arms_of, block_of}
+use Rattle.program_plan.proofs.Rows.{if_vec}
+use Rattle.program_plan.proofs.StatementForms.{arm_made}
+use Rattle.program_plan.proofs.blocks.if_one.Goals as goal
+
+pub returns : goal.returns
+returns c =
+    if_vec c.in_ok-arms.arms c.new.result
+    ∙ (λ i. If (arms_of (c.in_ok-arms.ensures.items i)) (block_of (c.new.ensures.items i)))
+    ∙ ap (λ as'. If as' Done) (arm_made c.args.line c.args.condition c.args.body NoArm)

@@ -1,0 +1,8 @@
+use Rattle.std.proofs.Common.{ap, ◌∙◌}
+use Rattle.array_meaning.specs.Terms.{Apply}
+use Rattle.program_plan.specs.Plans.{terms_of}
+use Rattle.program_plan.proofs.Rows.{apply_vec}
+use Rattle.program_plan.proofs.expressions.unary.Goals as goal
+
+pub returns : goal.returns
+returns c = apply_vec c.args.op c.in_ok-vec.field-0 ∙ ap (λ l. Apply c.args.op (terms_of l)) c.in_ok-vec.ensures.items

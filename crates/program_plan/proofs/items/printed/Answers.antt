@@ -1,0 +1,8 @@
+use Rattle.std.proofs.Common.{sym, ap, ◌∙◌}
+use Rattle.array_meaning.specs.Resolution.{item}
+use Rattle.program_plan.specs.Plans.{term}
+use Rattle.program_plan.proofs.Rows.{section_vec}
+use Rattle.program_plan.proofs.items.printed.Goals as goal
+
+pub returns-in-Section : goal.returns-in-Section
+returns-in-Section c = ap item (sym (section_vec c.in-Section.a c.in-Section.subscripts) ∙ ap term (sym c.in-Section.is))
