@@ -1,0 +1,35 @@
+-- The parts of an evaluation are those of an expression.
+use Rattle.std.proofs.Common.{◌≡◌, ℕ, List, ◌∷◌, ℤ, refl, ap, sym, ◌∙◌, Global}
+use Rattle.std.specs.Prelude.{Vec}
+use Rattle.op_tables.specs.declared.op.Op.{Op}
+use Rattle.program_plan.specs.declared.terms.Term.{Term as HeldTerm}
+use Rattle.program_plan.specs.declared.terms.Term.TheVariants as held
+use Rattle.program_plan.specs.declared.terms.SectionSubscript.{SectionSubscript as HeldSubscript}
+use Rattle.program_plan.specs.declared.terms.SectionSubscript.TheBlock.{Subscript as Subscript', Triplet as Triplet'}
+use Rattle.program_plan.specs.Plans.{term, terms_of, subscripts_of}
+use Rattle.program_plan.proofs.Rows.{element_vec, section_vec, apply_vec}
+use Rattle.array_meaning.specs.Faults.{with_more}
+use Rattle.array_meaning.specs.Expressions.{value, elemental, selections}
+use Rattle.array_meaning.specs.State.{State}
+use Rattle.term_values.specs.Parts.{element_value, operation, operation_value, same, selected, selection}
+
+module _ (indices : List ℤ) (s : State) where
+  pub element_value_is : (t : HeldTerm) (a : ℕ) (ts : Vec HeldTerm Global) → t ≡ held.Element a ts → element_value indices s a (terms_of ts.items) ≡ value indices s (term t)
+  element_value_is t a ts is = ap (value indices s) (sym (element_vec a ts) ∙ ap term (sym is))
+
+  pub operation_value_is : (t : HeldTerm) (o : Op) (ts : Vec HeldTerm Global) → t ≡ held.Apply o ts → operation_value indices s o (terms_of ts.items) ≡ value indices s (term t)
+  operation_value_is t o ts is = ap (value indices s) (sym (apply_vec o ts) ∙ ap term (sym is))
+
+  pub same_element_is : (t : HeldTerm) (a : ℕ) (ts : Vec HeldTerm Global) → t ≡ held.Element a ts → same (element_value indices s a (terms_of ts.items)) ≡ elemental indices s (term t)
+  same_element_is t a ts is = ap (elemental indices s) (sym (element_vec a ts) ∙ ap term (sym is))
+
+  pub selected_is : (t : HeldTerm) (a : ℕ) (ds : Vec HeldSubscript Global) → t ≡ held.Section a ds → selected indices s a (subscripts_of ds.items) ≡ elemental indices s (term t)
+  selected_is t a ds is = ap (elemental indices s) (sym (section_vec a ds) ∙ ap term (sym is))
+
+  pub operation_is : (t : HeldTerm) (o : Op) (ts : Vec HeldTerm Global) → t ≡ held.Apply o ts → operation indices s o (terms_of ts.items) ≡ elemental indices s (term t)
+  operation_is t o ts is = ap (elemental indices s) (sym (apply_vec o ts) ∙ ap term (sym is))
+
+  -- one subscript of a section, and those behind it
+  pub one_selection : (d : HeldSubscript) (ds : List HeldSubscript) → selections indices s (subscripts_of (d ∷ ds)) ≡ with_more (selection indices s d) (selections indices s (subscripts_of ds))
+  one_selection (Subscript' t) ds = refl
+  one_selection (Triplet' a b c) ds = refl

@@ -1,0 +1,9 @@
+use Rattle.std.proofs.Common.{◌≡◌, Ok}
+use Rattle.array_meaning.specs.Elementals.{values_over}
+use Rattle.term_values.specs.States.{state_of}
+use Rattle.term_values.specs.Views.{elemental}
+use Rattle.term_values.proofs.array_values.values_by_tuples.Given as goal
+
+-- the values at the tuples so far
+abbrev pub invariant-loop-t : goal.invariant-loop-t
+invariant-loop-t l = values_over (state_of l.s) l.ns (elemental l.x) l.t ≡ Ok l.vs.items
