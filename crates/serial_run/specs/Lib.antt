@@ -1,0 +1,11 @@
+pub mod Completions
+pub mod Linears
+pub mod ForallParts
+pub mod Arms
+pub mod Printing
+pub mod SectionStores
+pub mod WhereConstruct
+pub mod InitialState
+pub mod Independent
+pub mod Outcomes
+pub mod PositionTuples

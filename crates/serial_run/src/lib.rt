@@ -1,0 +1,28 @@
+//! Programs run in one order over whole arrays.
+//!
+//! Comes in: a program that keeps the rules of names, constants, types and ranks. Goes out: what it prints, how it ends and its last
+//! arrays, which are those of the sequential meaning (`run_serial`). What holds in between: each statement leaves the state that it
+//! means, and completes as it means, also where it has a fault; want of memory alone keeps a run from its end.
+#![tactic(auto)]
+
+mod assignments;
+mod completion;
+mod execution;
+mod forall;
+mod forall_limits;
+mod forall_stores;
+mod independent;
+mod index_tuples;
+mod initial_state;
+mod linear;
+mod one_to_one;
+mod position_tuples;
+mod print;
+mod section_assignments;
+mod section_stores;
+mod serial;
+mod where_construct;
+
+pub use completion::{Completion, Fault};
+pub use independent::first_independent;
+pub use serial::{End, Outcome, run_serial};
