@@ -1,0 +1,25 @@
+//! The words of a command line.
+//!
+//! Comes in: the words behind the program's own name, `ACTION [--grid G] [--threads T] [--size N] [--arrays]`. Goes out: the
+//! job that they are, or that they are none. What holds in between: the words are read from left to right.
+//!
+//! - Behind the first word `--` every word is positional.
+//! - Before it, `--grid`, `--threads` and `--size` have their value behind `=` or as the next word, which then may not begin
+//!   with `-`. `--arrays` has none. No other word may begin with `-`, and no option may stand twice.
+//! - One word is positional: the action, `run`, `serial`, `check`, `map`, `messages` or `bulk`.
+//!
+//! | option | allowed with | its value | where it doesn't stand |
+//! |---|---|---|---|
+//! | `--grid` | every action | 1 to 7 numbers joined by `x`, each of one or two digits and from 1 to 64, whose product is at most 64 | `1` |
+//! | `--threads` | `run`, `bulk` | one or two digits, from 1 to 64 | as many as nodes |
+//! | `--size` | `bulk` | one to three digits, from 8 to 512 | 64 |
+//! | `--arrays` | `run` | none | not asked for |
+//!
+//! Words that break a rule are no job: [`WordsError::Usage`].
+#![tactic(auto)]
+
+mod job;
+mod texts;
+mod values;
+
+pub use job::{Action, Job, WordsError, read_words};
