@@ -1,6 +1,7 @@
 //! The answers to cases.
 
-use crate::case::Case;
+use crate::case::{Case, Wanted};
+use crate::job::write_job;
 use crate::stream::Stream;
 use case_texts::{TextError, text_of, write_text};
 use hpf_ports::{MemSink, MemSource, OpenGate, Source, read_all};
@@ -11,10 +12,16 @@ use std::fmt::Write;
 /// The answer to a case, in lines.
 pub fn answer_to(alloc: Global, case: Case) -> Result<String, AllocError> {
     let mut out = String::new(alloc);
-    match text_of(alloc, case.text.as_str()) {
-        Ok(text) => write_run(alloc, &mut out, case, text)?,
-        Err(TextError::Malformed) => out.push_str("  no text is written so\n")?,
-        Err(TextError::Memory) => out.push_str("  out of memory\n")?,
+    match case.wanted {
+        Wanted::Job => {
+            let words = words_of(alloc, case.words.as_str())?;
+            write_job(alloc, &mut out, &words)?;
+        }
+        Wanted::Answer => match text_of(alloc, case.text.as_str()) {
+            Ok(text) => write_run(alloc, &mut out, case, text)?,
+            Err(TextError::Malformed) => out.push_str("  no text is written so\n")?,
+            Err(TextError::Memory) => out.push_str("  out of memory\n")?,
+        },
     }
     Ok(out)
 }

@@ -3,9 +3,17 @@
 use crate::stream::Stream;
 use std::alloc::{AllocError, Global};
 
-/// The words and the text as they are written, and how the three streams behave.
+/// What a case asks for: the job that its words are, or what the program answers.
+#[derive(Clone, Copy)]
+pub enum Wanted {
+    Job,
+    Answer,
+}
+
+/// What is asked, the words and the text as they are written, and how the three streams behave.
 #[derive(Drop)]
 pub struct Case {
+    pub wanted: Wanted,
     pub words: String,
     pub text: String,
     pub source: Stream,
@@ -21,10 +29,14 @@ fn parted(line: &str) -> (&str, &str) {
 impl Case {
     /// The case that begins with a line; None where none does.
     pub fn begin(alloc: Global, line: &str) -> Result<Option<Case>, AllocError> {
-        let ("words", words) = parted(line) else {
-            return Ok(None);
+        let (word, words) = parted(line);
+        let wanted = match word {
+            "job" => Wanted::Job,
+            "words" => Wanted::Answer,
+            _ => return Ok(None),
         };
         Ok(Some(Case {
+            wanted,
             words: String::from_str(alloc, words)?,
             text: String::new(alloc),
             source: Stream::new(alloc),

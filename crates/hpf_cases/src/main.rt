@@ -1,8 +1,12 @@
 //! Tries the top call on cases: words, sources and sinks whose answers are known.
 //!
-//! Comes in: cases on standard input. Goes out: the same lines, and behind each case its answer: the status, how many
-//! bytes the source has left, and what standard output and standard error then hold. What holds in between: `words`
-//! begins a case, with the words of the command line behind it, a blank between two. These lines go on with it:
+//! Comes in: cases on standard input. Goes out: the same lines, and behind each case its answer. What holds in between: a
+//! line that begins with one of these words begins a case, with the words of the command line behind it, a blank between two.
+//!
+//! - `job`: the answer is the job that the words are, or that they are none.
+//! - `words`: the answer is the status, how many bytes the source has left, and what standard output and standard error then hold.
+//!
+//! These lines go on with it:
 //!
 //! - `text`: the source, written as `case_texts` says; on further lines that begin with a bar it goes on.
 //! - `source`, `out` or `err`: how that stream behaves. Behind `piece` stands how many bytes it gives or takes in a call, behind
@@ -13,6 +17,7 @@
 
 mod answer;
 mod case;
+mod job;
 mod stream;
 
 use crate::answer::answer_to;

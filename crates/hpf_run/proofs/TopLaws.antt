@@ -9,24 +9,33 @@ use Rattle.hpf_ports.specs.Ports.{Gave, IsAtEnd, Rose, AreAppended}
 use Rattle.first_form.specs.Form.{Program, ReadsAs}
 use Rattle.hpf_reader.specs.ProgramText.{HasNoBreach}
 use Rattle.first_form.specs.Meaning.{printed_of}
-use Rattle.hpf_run.specs.Outcome.{is_done, is_refused, is_too_long, is_usage, means_memory, means_outcome, all_written, err_failed, out_failed, Delivered, Had, IsRefusal, Meant, Outcome, Port, port, refusal_line, too_long_line, usage_line}
-use Rattle.hpf_run.specs.Reply.{IsReplyOf, TextMeant, reply_memory, reply_refused, text_done, text_memory, text_refused}
-use Rattle.hpf_run.specs.Words.{IsNoCommand, IsRunCommand}
+use Rattle.hpf_run.specs.Outcome.{is_of_text, is_too_long, is_usage, run_done, run_refused, serial_refused, serial_report, report_end, report_fault, IsReportOf, means_memory, means_outcome, all_written, err_failed, out_failed, Delivered, Had, IsRead, Meant, Outcome, TextOutcome, Port, port, refusal_line, too_long_line, usage_line}
+use Rattle.hpf_run.specs.Reply.{IsReplyOf, IsReported, TextMeant, reply_memory, reply_refused, reported, reported_memory, text_memory, text_outcome}
+use Rattle.hpf_run.specs.SerialText.{IsRunnable}
+use Rattle.syntax_tree.specs.MainProgram.{MainProgram}
+use Rattle.hpf_words.specs.declared.job.Action.{Action}
+use Rattle.hpf_words.specs.declared.job.Action.TheVariants.{Run, Serial}
+use Rattle.hpf_words.specs.declared.job.Job.{Job}
+use Rattle.name_table.specs.Entries.{entries}
+use Rattle.array_meaning.specs.Serial.{serial}
+use Rattle.hpf_run.specs.Command.{IsCommand, IsNoCommand}
 
 -- a text whose program prints the bytes
-pub text-done : (text bytes : List ℕ) (p : Program) → HasNoBreach text → ReadsAs text p → bytes ≡ printed_of p → TextMeant text record { status = Done; out = bytes; err = [] }
+pub text-done : (text bytes : List ℕ) (p : Program) → HasNoBreach text → ReadsAs text p → bytes ≡ printed_of p → TextMeant text Run record { status = Done; out = bytes; err = [] }
 text-done text bytes p fine reads is =
-    subst (λ b. TextMeant text record { status = Done; out = b; err = [] }) (sym is) (text_done fine p reads)
+    subst (λ b. TextMeant text Run record { status = Done; out = b; err = [] }) (sym is) (text_outcome _ (run_done fine p reads))
 
--- a text that is refused with the line
-pub text-refused : (text bytes : List ℕ) (r : Refusal) → IsRefusal text r → bytes ≡ refusal_line r → TextMeant text record { status = Refused; out = []; err = bytes }
-text-refused text bytes r is line =
-    subst (λ b. TextMeant text record { status = Refused; out = []; err = b }) (sym line) (text_refused r is)
+-- the reply to a refusal is what the action makes of a text that it refuses so
+pub refused-meant : (text : List ℕ) (act : Action) (r : Refusal) (o : Outcome) → TextOutcome text act record { status = Refused; out = []; err = refusal_line r }
+    → IsReplyOf r o → TextMeant text act o
+refused-meant text act r o is (reply_refused line line_is) =
+    subst (λ l. TextMeant text act record { status = Refused; out = []; err = l }) (sym line_is) (text_outcome _ is)
+refused-meant text act r o is reply_memory = text_memory
 
--- the reply to a refusal is what the text comes to
-pub refused-meant : (text : List ℕ) (r : Refusal) (o : Outcome) → IsRefusal text r → IsReplyOf r o → TextMeant text o
-refused-meant text r o is (reply_refused line line_is) = text-refused text line r is line_is
-refused-meant text r o is reply_memory = text_memory
+-- the report of a program is what `serial` makes of a text that means it
+pub reported-meant : (text : List ℕ) (p : MainProgram) (o : Outcome) → IsRunnable text p → IsReported (entries p) (serial p) o → TextMeant text Serial o
+reported-meant text p o runs (reported o' is) = text_outcome o' (serial_report p runs o' is)
+reported-meant text p o runs reported_memory = text_memory
 
 -- what a source had left, whether it tells it or not
 some_had : (left : Option (List ℕ)) → (bytes : List ℕ) × Had left bytes
@@ -44,29 +53,37 @@ read_had (Some left) left' bytes gave end =
     let none : gave.0 ≡ [] = subst IsAtEnd gave.1 end in
     gave.2 ∙ ap (λ rest. bytes ++ rest) none ∙ append-nil bytes
 
--- what the text comes to is what the call means
-pub text-meant : (words : List (List ℕ)) (source source' : Port) (nodes : ℕ) (text : List ℕ) (o : Outcome) → IsRunCommand words nodes
-    → Gave source.bytes source'.bytes text → IsAtEnd source'.bytes → length text ≤ MAX_SOURCE_BYTES → TextMeant text o → Meant words source source' o
-text-meant words source source' nodes text o command gave end short (text_refused r is) =
-    means_outcome text _ (read_had source.bytes source'.bytes text gave end) (is_refused nodes command short r is) (gave, end)
-text-meant words source source' nodes text o command gave end short (text_done fine p reads) =
-    means_outcome text _ (read_had source.bytes source'.bytes text gave end) (is_done nodes command short fine p reads) (gave, end)
-text-meant words source source' nodes text o command gave end short text_memory = means_memory nodes command text short gave
+-- a text's outcome comes from a source that was read to its end
+read_whole : (text : List ℕ) (act : Action) (o : Outcome) (left left' : Option (List ℕ)) → TextOutcome text act o → Gave left left' text → IsAtEnd left' → IsRead o.status left left' text
+read_whole text act o left left' (run_refused r is) gave end = (gave, end)
+read_whole text act o left left' (run_done fine p reads) gave end = (gave, end)
+read_whole text act o left left' (serial_refused r is) gave end = (gave, end)
+read_whole text act o left left' (serial_report p runs o' report) gave end = whole o' report where
+  whole : (o : Outcome) → IsReportOf (entries p) (serial p) o → IsRead o.status left left' text
+  whole o (report_end is) = (gave, end)
+  whole o (report_fault f is) = (gave, end)
+
+-- what the job makes of the text is what the call means
+pub text-meant : (words : List (List ℕ)) (source source' : Port) (job : Job) (text : List ℕ) (o : Outcome) → IsCommand words job
+    → Gave source.bytes source'.bytes text → IsAtEnd source'.bytes → length text ≤ MAX_SOURCE_BYTES → TextMeant text job.action o → Meant words source source' o
+text-meant words source source' job text o command gave end short (text_outcome made is) =
+    means_outcome text o (read_had source.bytes source'.bytes text gave end) (is_of_text job command short o is) (read_whole text job.action o source.bytes source'.bytes is gave end)
+text-meant words source source' job text o command gave end short text_memory = means_memory job command text short gave
 
 -- a source of which a byte past the limit was taken
-pub too_long-meant : (words : List (List ℕ)) (source source' : Port) (nodes : ℕ) (taken : List ℕ) → IsRunCommand words nodes
+pub too_long-meant : (words : List (List ℕ)) (source source' : Port) (job : Job) (taken : List ℕ) → IsCommand words job
     → length taken ≡ MAX_SOURCE_BYTES + 1 → Gave source.bytes source'.bytes taken
     → Meant words source source' record { status = TooLong; out = []; err = too_long_line }
-too_long-meant words source source' nodes taken command long gave = cases source.bytes gave
+too_long-meant words source source' job taken command long gave = cases source.bytes gave
   where
     cases : (left : Option (List ℕ)) → Gave left source'.bytes taken
         → Meant words (port left source.faults) source' record { status = TooLong; out = []; err = too_long_line }
     cases None given =
-        means_outcome taken _ tt (is_too_long nodes command (omega arith)) given
+        means_outcome taken _ tt (is_too_long job command (omega arith)) given
     cases (Some left) given =
         let count : length left ≡ length taken + length given.0 = ap length given.2 ∙ length-append taken given.0 in
         let front : take (MAX_SOURCE_BYTES + 1) left ≡ taken = ap (take (MAX_SOURCE_BYTES + 1)) given.2 ∙ take_at taken given.0 (MAX_SOURCE_BYTES + 1) long in
-        means_outcome left _ refl (is_too_long nodes command (omega arith)) (given.0, given.1, given.2 ∙ ap (λ l. l ++ given.0) (sym front))
+        means_outcome left _ refl (is_too_long job command (omega arith)) (given.0, given.1, given.2 ∙ ap (λ l. l ++ given.0) (sym front))
 
 -- what is delivered, from what the writes of texts that are equal to an outcome's answer
 pub delivered-out : (o : Outcome) (out out' err : Port) (text : List ℕ) → text ≡ o.out → Rose out.faults out'.faults

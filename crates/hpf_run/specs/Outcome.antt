@@ -3,7 +3,7 @@ use Rattle.std.specs.Prelude.{◌≡◌, ℕ, ◌+◌, ◌<◌, ◌≤◌, List,
 use Rattle.hpf_base.specs.declared.refusal.Refusal.{Refusal}
 use Rattle.hpf_base.specs.declared.refusal.Reason.TheVariants.{LeftOut}
 use Rattle.hpf_base.specs.declared.status.Status.{Status}
-use Rattle.hpf_base.specs.declared.status.Status.TheVariants.{Done, Refused, Usage, ReadFault, WriteFault, Memory, TooLong}
+use Rattle.hpf_base.specs.declared.status.Status.TheVariants.{Done, Refused, Fault, Usage, ReadFault, WriteFault, Memory, TooLong}
 use Rattle.hpf_base.specs.Refusal.{name_of, number_of}
 use Rattle.hpf_base.specs.declared.limits.TheConstants.{MAX_SOURCE_BYTES}
 use Rattle.hpf_ports.specs.Ports.{Gave, IsAtEnd, Rose, AreAppended}
@@ -11,7 +11,18 @@ use Rattle.first_form.specs.Form.{Program, ReadsAs}
 use Rattle.first_form.specs.Refusal.{IsLeftOut}
 use Rattle.hpf_reader.specs.ProgramText.{HasNoBreach, IsRefused}
 use Rattle.first_form.specs.Meaning.{printed_of}
-use Rattle.hpf_run.specs.Words.{IsNoCommand, IsRunCommand}
+use Rattle.syntax_tree.specs.MainProgram.{MainProgram}
+use Rattle.name_table.specs.Entries.{entries}
+use Rattle.name_table.specs.declared.names.Entry.{Entry}
+use Rattle.array_meaning.specs.Faults as faults
+use Rattle.array_meaning.specs.Serial as serial
+use Rattle.array_meaning.specs.Serial.{Finished, Faulted}
+use Rattle.run_report.specs.FaultLine.{fault_line}
+use Rattle.hpf_run.specs.SerialText.{IsRunnable, IsSerialRefusal}
+use Rattle.hpf_words.specs.declared.job.Action.{Action}
+use Rattle.hpf_words.specs.declared.job.Action.TheVariants.{Run, Serial}
+use Rattle.hpf_words.specs.declared.job.Job.{Job}
+use Rattle.hpf_run.specs.Command.{IsCommand, IsNoCommand}
 
 -- a status, and the bytes for standard output and standard error
 pub record Outcome : Type 0 where
@@ -43,15 +54,25 @@ pub data IsRefusal (text : List ℕ) : Refusal → Type 0 where
   by_reader : (r : Refusal) → IsRefused text r → IsRefusal text r
   by_form : (number : ℕ) → HasNoBreach text → IsLeftOut text number → IsRefusal text record { line = number; reason = LeftOut }
 
+-- what a program comes to is reported by what it printed and, where it ended with a fault, by the line of that
+pub data IsReportOf (names : List Entry) (s : serial.Outcome) : Outcome → Type 0 where
+  report_end : s.end ≡ Finished → IsReportOf names s record { status = Done; out = s.printed; err = [] }
+  report_fault : (f : faults.Fault) → s.end ≡ Faulted f → IsReportOf names s record { status = Fault; out = s.printed; err = fault_line names f }
+
+-- what an action makes of a text
+pub data TextOutcome (text : List ℕ) : Action → Outcome → Type 0 where
+  run_refused : (r : Refusal) → IsRefusal text r → TextOutcome text Run record { status = Refused; out = []; err = refusal_line r }
+  run_done : HasNoBreach text → (p : Program) → ReadsAs text p → TextOutcome text Run record { status = Done; out = printed_of p; err = [] }
+  serial_refused : (r : Refusal) → IsSerialRefusal text r → TextOutcome text Serial record { status = Refused; out = []; err = refusal_line r }
+  serial_report : (p : MainProgram) → IsRunnable text p → (o : Outcome) → IsReportOf (entries p) (serial.serial p) o → TextOutcome text Serial o
+
 -- the outcome of words and a source's bytes
 pub data TopOutcome (words : List (List ℕ)) (bytes : List ℕ) : Outcome → Type 0 where
   is_usage : IsNoCommand words → TopOutcome words bytes record { status = Usage; out = []; err = usage_line }
-  is_too_long : (nodes : ℕ) → IsRunCommand words nodes → MAX_SOURCE_BYTES < length bytes
+  is_too_long : (job : Job) → IsCommand words job → MAX_SOURCE_BYTES < length bytes
       → TopOutcome words bytes record { status = TooLong; out = []; err = too_long_line }
-  is_refused : (nodes : ℕ) → IsRunCommand words nodes → length bytes ≤ MAX_SOURCE_BYTES → (r : Refusal) → IsRefusal bytes r
-      → TopOutcome words bytes record { status = Refused; out = []; err = refusal_line r }
-  is_done : (nodes : ℕ) → IsRunCommand words nodes → length bytes ≤ MAX_SOURCE_BYTES → HasNoBreach bytes → (p : Program) → ReadsAs bytes p
-      → TopOutcome words bytes record { status = Done; out = printed_of p; err = [] }
+  is_of_text : (job : Job) → IsCommand words job → length bytes ≤ MAX_SOURCE_BYTES → (o : Outcome) → TextOutcome bytes job.action o
+      → TopOutcome words bytes o
 
 -- what a port tells: its bytes, where it tells them, and its count of faults
 pub record Port : Type 0 where
@@ -73,14 +94,16 @@ IsRead TooLong left left' bytes = Gave left left' (take (MAX_SOURCE_BYTES + 1) b
 IsRead status left left' bytes = Gave left left' bytes × IsAtEnd left'
 
 -- what a call means to answer: the outcome of its words and its source, or a counted read fault, or want of
--- memory, which comes without a cause; in the last two cases the source gave no byte past the limit
+-- memory, which comes without a cause; in the last two cases the source gave no byte past the limit, and none for
+-- words that are no command
 pub data Meant (words : List (List ℕ)) (source source' : Port) : Outcome → Type 0 where
   means_outcome : (bytes : List ℕ) (o : Outcome) → Had source.bytes bytes → TopOutcome words bytes o → IsRead o.status source.bytes source'.bytes bytes
       → Meant words source source' o
-  means_read_fault : (nodes : ℕ) → IsRunCommand words nodes → Rose source.faults source'.faults → (taken : List ℕ) → length taken ≤ MAX_SOURCE_BYTES
+  means_read_fault : (job : Job) → IsCommand words job → Rose source.faults source'.faults → (taken : List ℕ) → length taken ≤ MAX_SOURCE_BYTES
       → Gave source.bytes source'.bytes taken → Meant words source source' record { status = ReadFault; out = []; err = read_fault_line }
-  means_memory : (nodes : ℕ) → IsRunCommand words nodes → (taken : List ℕ) → length taken ≤ MAX_SOURCE_BYTES
+  means_memory : (job : Job) → IsCommand words job → (taken : List ℕ) → length taken ≤ MAX_SOURCE_BYTES
       → Gave source.bytes source'.bytes taken → Meant words source source' record { status = Memory; out = []; err = memory_line }
+  means_memory_for_words : source' ≡ source → Meant words source source' record { status = Memory; out = []; err = memory_line }
 
 -- what is written of it, and the status: all of it, or a proper prefix of one sink's text where that sink's count
 -- of faults rose

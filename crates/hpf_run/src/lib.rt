@@ -5,8 +5,9 @@
 //! that was counted in this call, or is want of memory.
 #![tactic(auto)]
 
+mod command;
 mod reply;
+mod serial_text;
 mod top;
-mod words;
 
 pub use top::hpf_top;

@@ -2,7 +2,7 @@
 
 ghost use Rattle.std.specs.Prelude.{◌≡◌, IfOk};
 ghost use Rattle.hpf_run.specs.Outcome.{refusal_line};
-ghost use Rattle.hpf_run.specs.Reply.{outcome_of};
+ghost use Rattle.hpf_run.specs.Reply.{IsReplyOf, outcome_of};
 
 use hpf_base::{OutOfMemory, Refusal, Status};
 use itoa::Buffer;
@@ -13,6 +13,8 @@ use std::alloc::Global;
 pub enum Reply {
     /// The bytes that the program prints.
     Done(Vec<u8>),
+    /// The bytes that the program prints before a fault, and the fault's line.
+    Fault(Vec<u8>, Vec<u8>),
     /// The refusal's line.
     Refused(Vec<u8>),
     Usage,
@@ -27,6 +29,7 @@ impl Reply {
     {
         match self {
             Reply::Done(_) => Status::Done,
+            Reply::Fault(_, _) => Status::Fault,
             Reply::Refused(_) => Status::Refused,
             Reply::Usage => Status::Usage,
             Reply::ReadFault => Status::ReadFault,
@@ -40,7 +43,7 @@ impl Reply {
         ensures { result.now ≡ (outcome_of self.now).out }
     {
         match self {
-            Reply::Done(printed) => printed,
+            Reply::Done(printed) | Reply::Fault(printed, _) => printed,
             _ => &[],
         }
     }
@@ -51,7 +54,7 @@ impl Reply {
     {
         match self {
             Reply::Done(_) => &[],
-            Reply::Refused(line) => line,
+            Reply::Fault(_, line) | Reply::Refused(line) => line,
             Reply::Usage => {
                 b"hpf: usage: hpf ACTION [--grid G] [--threads T] [--size N] [--arrays]\n"
             }
@@ -63,7 +66,7 @@ impl Reply {
 }
 
 /// The line that a refusal is reported by.
-pub fn refusal_text(alloc: Global, refusal: Refusal) -> Result<Vec<u8>, OutOfMemory>
+fn refusal_text(alloc: Global, refusal: Refusal) -> Result<Vec<u8>, OutOfMemory>
     ensures { IfOk result (λ text. text.items ≡ refusal_line refusal) }
 {
     let mut line = Buffer::new();
@@ -76,4 +79,14 @@ pub fn refusal_text(alloc: Global, refusal: Refusal) -> Result<Vec<u8>, OutOfMem
     text.extend_from_slice(refusal.reason.name().as_bytes())?;
     text.extend_from_slice(b"\n")?;
     Ok(text)
+}
+
+/// The reply to a text that is refused.
+pub fn reply_refused(alloc: Global, refusal: Refusal) -> Reply
+    ensures { IsReplyOf refusal (outcome_of result) }
+{
+    match refusal_text(alloc, refusal) {
+        Ok(text) => Reply::Refused(text),
+        Err(_) => Reply::Memory,
+    }
 }

@@ -1,5 +1,5 @@
 use Rattle.hpf_run.specs.Reply.{reply_memory, reply_refused}
-use Rattle.hpf_run.proofs.top.reply_refused.Goals as goal
+use Rattle.hpf_run.proofs.reply.reply_refused.Goals as goal
 
 pub returns-in-Ok : goal.returns-in-Ok
 returns-in-Ok c = reply_refused c.in-Ok.text.items c.in-Ok.ensures

@@ -1,0 +1,24 @@
+-- The words that the program is called with.
+use Rattle.std.specs.Prelude.{◌≡◌, Bool, true, false, not, List, Some}
+use Rattle.hpf_words.specs.Parts.{Text}
+use Rattle.hpf_words.specs.Jobs.{job_of}
+use Rattle.hpf_words.specs.declared.job.Action.{Action}
+use Rattle.hpf_words.specs.declared.job.Action.TheVariants.{Run, Serial}
+use Rattle.hpf_words.specs.declared.job.Job.{Job}
+
+-- an action that is built, with or without `--arrays`
+abbrev pub is_built_with : Action → Bool → Bool
+is_built_with Run arrays = not arrays
+is_built_with Serial arrays = not arrays
+is_built_with _ arrays = false
+
+abbrev pub is_built : Job → Bool
+is_built job = is_built_with job.action job.arrays
+
+-- the words are a job that is built
+abbrev pub IsCommand : List Text → Job → Type 0
+IsCommand words job = (job_of words ≡ Some job) × (is_built job ≡ true)
+
+-- the words are no job, or one that isn't built
+abbrev pub IsNoCommand : List Text → Type 0
+IsNoCommand words = (job : Job) → IsCommand words job → ⊥
