@@ -1,0 +1,20 @@
+! The greatest value of goods that a bag of each size up to 20 holds, and which goods these are.
+PROGRAM KNAPSACK
+INTEGER, PARAMETER :: GOODS = 5, ROOM = 20
+INTEGER :: WEIGHT(GOODS), WORTH(GOODS), BEST(0:ROOM,0:GOODS) = 0, G, LEFT
+!HPF$ DISTRIBUTE BEST(BLOCK,*)
+WEIGHT(1) = 3; WEIGHT(2) = 5; WEIGHT(3) = 7; WEIGHT(4) = 8; WEIGHT(5) = 9
+WORTH(1) = 4; WORTH(2) = 7; WORTH(3) = 10; WORTH(4) = 11; WORTH(5) = 13
+DO G = 1, GOODS
+  BEST(:,G) = BEST(:,G-1)
+  BEST(WEIGHT(G):,G) = MAX(BEST(WEIGHT(G):,G), BEST(:ROOM-WEIGHT(G),G-1) + WORTH(G))
+END DO
+PRINT *, BEST(:,GOODS)
+LEFT = ROOM
+DO G = GOODS, 1, -1
+  IF (BEST(LEFT,G) == BEST(LEFT,G-1)) CYCLE
+  PRINT *, 'take', G
+  LEFT = LEFT - WEIGHT(G)
+END DO
+PRINT *, 'worth', BEST(ROOM,GOODS), 'room left', LEFT
+END PROGRAM KNAPSACK
