@@ -6,6 +6,7 @@
 //! standards, and no crate states it a second time.
 #![tactic(auto)]
 
+mod array_id;
 mod first_breach;
 mod grid;
 mod index;
@@ -17,14 +18,15 @@ mod node;
 mod refusal;
 mod status;
 
+pub use array_id::ArrayId;
 pub use first_breach::{at_line, earlier};
 pub use grid::Grid;
 pub use index::{Index, Shape};
 pub use limits::{
-    MAX_BLOCK, MAX_BOUND, MAX_CONTINUATIONS, MAX_CYCLIC, MAX_DEPTH, MAX_ELEMENTS, MAX_FACTOR,
-    MAX_INDEX_VALUE, MAX_INDICES, MAX_LINE_BYTES, MAX_LINES, MAX_LOGICAL_LINE_BYTES,
-    MAX_NAME_BYTES, MAX_NAMES, MAX_NESTING, MAX_NODES, MAX_OFFSET, MAX_RANK, MAX_SOURCE_BYTES,
-    MAX_TEMPLATE_EXTENT, MAX_TOTAL_ELEMENTS, MAX_TUPLES,
+    MAX_ALIGN_FACTOR, MAX_ALIGN_OFFSET, MAX_BLOCK, MAX_BOUND, MAX_CONTINUATIONS, MAX_CYCLIC,
+    MAX_DEPTH, MAX_ELEMENTS, MAX_FACTOR, MAX_INDEX_VALUE, MAX_INDICES, MAX_LINE_BYTES, MAX_LINES,
+    MAX_LOGICAL_LINE_BYTES, MAX_NAME_BYTES, MAX_NAMES, MAX_NESTING, MAX_NODES, MAX_OFFSET,
+    MAX_RANK, MAX_SOURCE_BYTES, MAX_TEMPLATE_EXTENT, MAX_TOTAL_ELEMENTS, MAX_TUPLES,
 };
 pub use mapping::{AlignDim, Form, Line, MapDim, MapDims, Mapping};
 pub use memory::OutOfMemory;
