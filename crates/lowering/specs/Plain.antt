@@ -1,0 +1,80 @@
+-- Which programs are lowered: their names are among n declared ones, and sections stand in array expressions alone, which is so in every
+-- program that breaks no rule of names, types and ranks. None of their statements is a FORALL.
+use Rattle.std.specs.Prelude.{ℕ, ◌<◌, List, [], ◌∷◌, ⊤}
+use Rattle.array_meaning.specs.Terms.{Term, Number, Scalar, Index, Element, Section, Apply, Reduce, Terms, NoTerm, More, SectionSubscripts, NoSubscript, Subscript, Triplet, Control}
+use Rattle.array_meaning.specs.Statements.{Item, Text, Value, Elements, SectionAssignment, Block, Done, Then, Statement, AssignScalar, AssignElement, AssignSection, If, Do, Where, Forall, Print, Stop, Exit, Cycle, Continue, Redistribute, Arms, NoArm, Arm}
+
+module _ (n : ℕ) where
+  abbrev mutual
+    -- a scalar expression, in which no index of a FORALL stands
+    pub IsScalar : Term → Type 0
+    IsScalar (Number v) = ⊤
+    IsScalar (Scalar k) = k < n
+    IsScalar (Index k) = ⊥
+    IsScalar (Element a ts) = (a < n) × AreScalar ts
+    IsScalar (Section a subs) = ⊥
+    IsScalar (Apply o ts) = AreScalar ts
+    IsScalar (Reduce o t) = IsArray t
+
+    pub AreScalar : Terms → Type 0
+    AreScalar NoTerm = ⊤
+    AreScalar (More t ts) = IsScalar t × AreScalar ts
+
+    pub AreScalarSubscripts : SectionSubscripts → Type 0
+    AreScalarSubscripts NoSubscript = ⊤
+    AreScalarSubscripts (Subscript t subs) = IsScalar t × AreScalarSubscripts subs
+    AreScalarSubscripts (Triplet first last step subs) = (IsScalar first × IsScalar last × IsScalar step) × AreScalarSubscripts subs
+
+    -- an array expression
+    pub IsArray : Term → Type 0
+    IsArray (Number v) = ⊤
+    IsArray (Scalar k) = k < n
+    IsArray (Index k) = ⊥
+    IsArray (Element a ts) = (a < n) × AreScalar ts
+    IsArray (Section a subs) = (a < n) × AreScalarSubscripts subs
+    IsArray (Apply o ts) = AreArrays ts
+    IsArray (Reduce o t) = IsArray t
+
+    pub AreArrays : Terms → Type 0
+    AreArrays NoTerm = ⊤
+    AreArrays (More t ts) = IsArray t × AreArrays ts
+
+  abbrev pub IsControl : Control → Type 0
+  IsControl c = IsScalar c.first × IsScalar c.last × IsScalar c.step
+
+  abbrev pub AreMasked : List SectionAssignment → Type 0
+  AreMasked [] = ⊤
+  AreMasked (x ∷ xs) = (x.array < n) × AreScalarSubscripts x.subscripts × IsArray x.right × AreMasked xs
+
+  abbrev pub IsItem : Item → Type 0
+  IsItem (Text bytes) = ⊤
+  IsItem (Value t) = IsScalar t
+  IsItem (Elements a subs) = (a < n) × AreScalarSubscripts subs
+
+  abbrev pub AreItems : List Item → Type 0
+  AreItems [] = ⊤
+  AreItems (i ∷ is) = IsItem i × AreItems is
+
+  abbrev mutual
+    pub IsPlain : Statement → Type 0
+    IsPlain (AssignScalar k t) = (k < n) × IsScalar t
+    IsPlain (AssignElement a ts t) = (a < n) × AreScalar ts × IsScalar t
+    IsPlain (AssignSection a subs t) = (a < n) × AreScalarSubscripts subs × IsArray t
+    IsPlain (If arms other) = ArePlainArms arms × IsPlainBlock other
+    IsPlain (Do mark loop body) = (loop.index < n) × IsControl loop.control × IsPlainBlock body
+    IsPlain (Where mask body others) = IsArray mask × AreMasked body × AreMasked others
+    IsPlain (Forall controls mask body) = ⊥
+    IsPlain (Print items) = AreItems items
+    IsPlain Stop = ⊤
+    IsPlain Exit = ⊤
+    IsPlain Cycle = ⊤
+    IsPlain Continue = ⊤
+    IsPlain Redistribute = ⊤
+
+    pub ArePlainArms : Arms → Type 0
+    ArePlainArms NoArm = ⊤
+    ArePlainArms (Arm line condition body arms) = IsScalar condition × IsPlainBlock body × ArePlainArms arms
+
+    pub IsPlainBlock : Block → Type 0
+    IsPlainBlock Done = ⊤
+    IsPlainBlock (Then line s rest) = IsPlain s × IsPlainBlock rest

@@ -1,0 +1,4 @@
+pub mod Flat
+pub mod Forms
+pub mod Instructions
+pub mod Parallel
