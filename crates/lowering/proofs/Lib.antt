@@ -11,10 +11,14 @@ pub mod Evaluating
 pub mod Parts
 pub mod Assigns
 pub mod Pars
+pub mod Storing
 pub mod Sections
 pub mod Branches
 pub mod Printing
 pub mod Items
+pub mod Copies
 pub mod Wheres
+pub mod Indexed
+pub mod Foralls
 pub mod Statements
 pub mod Programs

@@ -16,8 +16,7 @@ use Rattle.hpf_base.specs.ElementOrder.{product}
 use Rattle.lowering.proofs.Goes.{Holds, kept-refl, Goes, goes-on, goes-at, goes-value, ends-bind}
 use Rattle.lowering.proofs.Parts.{SubsGive, FormGives, subscripts-come, parts-come}
 use Rattle.lowering.proofs.Reach.{HasAt, has-front, has-back, SameBelow, same-refl, same-on, Reaches, reaches-on, stands, one, Place}
-use Rattle.lowering.proofs.Keeping.{Keeps, keeps}
-use Rattle.lowering.proofs.Pars.{par-reaches, par-stops}
+use Rattle.lowering.proofs.Storing.{masked-does, stores-go}
 use Rattle.lowering.proofs.Scatter.{space-size, Does, Scattered, scattered, values_of, values-append, NamesBelow, tuple-does}
 use Rattle.lowering.specs.ExpressionCode.{subscripts_slots, subs_of, subscripts_code, parts_slots, parts_code, form_of}
 use Rattle.lowering.specs.Plain.{AreScalarSubscripts, IsArray}
@@ -32,48 +31,26 @@ use Rattle.node_code.specs.Forms.{Sub, selections_in, elemental_in}
 use Rattle.node_code.specs.Instructions.{Instruction, Limits, Par, Verdict, go_on_if, meaning_of, ArrayTable}
 use Rattle.node_code.specs.Parallel.{When, assignment_tuples, assigned_spot, fault_at, at_line, Assignment, assignment_size, mask_reads, is_asked, outcome_if, assigned_value, reads_at, spot_of}
 
--- stores print nothing
-stores-print : (s : State) (a : ℕ) (stores : List (Option Store)) → (store_all s a stores).printed ≡ s.printed
-stores-print s a [] = refl
-stores-print s a (None ∷ stores) = stores-print s a stores
-stores-print s a (Some st ∷ stores) = stores-print (stored a s (Some st)) a stores
-
 module _ (table : ArrayTable) (code : List Instruction) (n many : ℕ) (copy : Option (List ℤ)) (leave again : ℕ) (p : Assignment) (la : p.array < n) where
   -- what the slots say, and which tuples are chosen
   module _ (b pc : ℕ) (has : HasAt code pc (Limits p ∷ Par p ∷ Verdict ∷ [])) (slots : List ℤ) (rows : Storage) (s : State) (holds : Holds table code n many copy s slots rows) (ds : List Selection) (r : Elemental) (ns : List ℕ) (chosen : ℕ → Bool)
       (left : selections_in slots p.left ≡ ds) (right : elemental_in slots p.right ≡ r) (over : extents (selections_in slots p.over) ≡ ns) (named : NamesBelow n r)
       (mask : (t : ℕ) (values : List ℤ) → t < product ns → is_asked p.mask (values_of rows (mask_reads p.mask t) ++ values) ≡ chosen t) where
-    abbrev effect : ℕ → Effect Fault
-    effect = effect_of (assignment_tuples table.shapes p) (assigned_spot table.shapes p) slots (read rows)
-
     abbrev outcome : ℕ → Outcome Fault
     outcome = machine.outcome_of (assignment_tuples table.shapes p) slots (read rows)
 
     abbrev at_a_tuple : ℕ → Result (Option Store) Cause
     at_a_tuple t = if_true (chosen t) (store_at s p.array (subscripts_at ds (positions ns t)) (value_at s (positions ns t) r))
 
-    abbrev by_values : ℕ → List ℤ → ℕ → Outcome Fault
-    by_values t values from = outcome_if (is_asked p.mask values) (at_line p.line (assigned_value table.shapes p.array ds r (positions ns t) values from))
-
     tuple-is : (t : ℕ) → t < product ns → Does p.line p.array (assigned_spot table.shapes p slots t) (outcome t) (at_tuple (positions ns t) (at_a_tuple t))
     tuple-is t lt =
         let x = positions ns t in
-        let front = values_of rows (mask_reads p.mask t) in
-        let back = values_of rows (reads_at table.shapes x r) in
+        let values = values_of rows (mask_reads p.mask t ++ reads_at table.shapes x r) in
         let spot : assigned_spot table.shapes p slots t ≡ spot_of table.shapes p.array (subscripts_at ds x) = rw (left, over) refl in
-        let here : outcome t ≡ by_values t (values_of rows (mask_reads p.mask t ++ reads_at table.shapes x r)) (length (mask_reads p.mask t)) = rw (left, right, over) refl in
-        let there : outcome t ≡ outcome_if (chosen t) (at_line p.line (assigned_value table.shapes p.array ds r x (front ++ back) (length front))) =
-            here
-            ∙ ap (λ vs. by_values t vs (length (mask_reads p.mask t))) (values-append rows (mask_reads p.mask t) (reads_at table.shapes x r))
-            ∙ ap (by_values t (front ++ back)) (sym (length-map (mask_reads p.mask t) (value_by (read rows))))
-            ∙ ap (λ b. outcome_if b (at_line p.line (assigned_value table.shapes p.array ds r x (front ++ back) (length front)))) (mask t back lt) in
+        let here : outcome t ≡ outcome_if (is_asked p.mask values) (at_line p.line (assigned_value table.shapes p.array ds r x values (length (mask_reads p.mask t)))) = rw (left, right, over) refl in
         subst (λ l. Does p.line p.array l (outcome t) (at_tuple x (at_a_tuple t))) (sym spot)
-        (subst (λ o. Does p.line p.array (spot_of table.shapes p.array (subscripts_at ds x)) o (at_tuple x (at_a_tuple t))) (sym there) (by_chosen (chosen t)))
-      where
-        by_chosen : (b : Bool) → Does p.line p.array (spot_of table.shapes p.array (subscripts_at ds (positions ns t))) (outcome_if b (at_line p.line (assigned_value table.shapes p.array ds r (positions ns t) (values_of rows (mask_reads p.mask t) ++ values_of rows (reads_at table.shapes (positions ns t) r)) (length (values_of rows (mask_reads p.mask t))))))
-            (at_tuple (positions ns t) (if_true b (store_at s p.array (subscripts_at ds (positions ns t)) (value_at s (positions ns t) r))))
-        by_chosen true = tuple-does n table.shapes s rows holds.arrays (positions ns t) p.line p.array ds r (values_of rows (mask_reads p.mask t)) la named
-        by_chosen false = (refl, λ t. refl)
+        (subst (λ o. Does p.line p.array (spot_of table.shapes p.array (subscripts_at ds x)) o (at_tuple x (at_a_tuple t))) (sym here)
+        (masked-does n table.shapes s rows holds.arrays x p.line p.array ds r p.mask t (chosen t) la named (λ values. mask t values lt)))
 
     abbrev end : ℕ → Storage → Place
     end at rows = stands table code at slots rows s.printed
@@ -81,16 +58,9 @@ module _ (table : ArrayTable) (code : List Instruction) (n many : ℕ) (copy : O
     -- behind the limits: the parallel statement and its Verdict
     par-goes : Goes table code n many copy leave again (pc + 3) b slots (end (pc + 1) rows) (one_step p.line s (each (positions ns) at_a_tuple (product ns) >>= (λ stores. Ok (store_all s p.array stores))))
     par-goes =
-        by_each (each (positions ns) at_a_tuple (product ns)) (scattered table code n many copy p.line p.array la s slots rows holds effect (positions ns) at_a_tuple (product ns) (λ u lt. (tuple-is u lt).0))
-        (keeps p.line outcome (positions ns) at_a_tuple (product ns) (λ u lt. (tuple-is u lt).1))
-      where
-        by_each : (q : Result (List (Option Store)) Cause) → Scattered table code n many copy p.line p.array la s slots rows holds effect q (product ns) → Keeps p.line outcome q (product ns) → Goes table code n many copy leave again (pc + 3) b slots (end (pc + 1) rows) (one_step p.line s (q >>= (λ stores. Ok (store_all s p.array stores))))
-        by_each (Ok stores) h kept =
-            (slots, scatter effect (product ns) rows, out (store_all s p.array stores) h (par-reaches table code n (Par p) (assignment_tuples table.shapes p) (assigned_spot table.shapes p) pc slots rows s.printed refl has.1 (product ns) (ap product over) kept), kept-refl table code n many copy b slots, h)
-          where
-            out : (s' : State) → Holds table code n many copy s' slots (scatter effect (product ns) rows) → Reaches table code (end (pc + 1) rows) (end (pc + 3) (scatter effect (product ns) rows)) → Reaches table code (end (pc + 1) rows) (stands table code (pc + 3) slots (scatter effect (product ns) rows) (store_all s p.array stores).printed)
-            out s' h reach = subst (λ o. Reaches table code (end (pc + 1) rows) (stands table code (pc + 3) slots (scatter effect (product ns) rows) o)) (sym (stores-print s p.array stores)) reach
-        by_each (Err c) h kept = par-stops table code n (Par p) (assignment_tuples table.shapes p) (assigned_spot table.shapes p) pc slots rows s.printed refl has.1 (product ns) (ap product over) (fault_at p.line c) kept
+        let e : pc + 1 + 2 ≡ pc + 3 = omega arith in
+        goes-at table code n many copy leave again (pc + 1 + 2) (pc + 3) b slots (end (pc + 1) rows) (one_step p.line s (each (positions ns) at_a_tuple (product ns) >>= (λ stores. Ok (store_all s p.array stores)))) e
+        (stores-go table code n many copy leave again (Par p) (assignment_tuples table.shapes p) (assigned_spot table.shapes p) refl p.line p.array b (pc + 1) la has.1 slots rows s holds (product ns) (ap product over) (positions ns) at_a_tuple tuple-is)
 
     -- the shapes and limits first
     pub assigned-goes : Goes table code n many copy leave again (pc + 3) b slots (end pc rows) (one_step p.line s (assign_elemental ns chosen p.array ds r s))

@@ -5,6 +5,7 @@ use Rattle.hpf_base.specs.ElementOrder.{product}
 use Rattle.machine_steps.specs.Layout.{size_of}
 use Rattle.lowering.proofs.Printing.{all_bytes, prints-line}
 use Rattle.lowering.specs.Plain.{AreItems, IsPlain, ArePlainArms, IsPlainBlock}
+use Rattle.lowering.proofs.Foralls.{forall-goes}
 use Rattle.array_meaning.specs.Execution.{item_bytes, run, run_arms, run_block, iterate, all_item_bytes, print}
 use Rattle.array_meaning.specs.Expressions.{value, index_values}
 use Rattle.array_meaning.specs.Faults.{◌>>=◌}
@@ -263,7 +264,7 @@ module _ (table : ArrayTable) (code : List Instruction) (n many : ℕ) (sized : 
         loop-goes line b pc leave again loop.index loop.control (block_code n bl (b + control_slots loop.control + 4)) (run_block bl) slots rows s ok.0 ok.1 has le (omega (arith, few)) holds
         (λ s slots rows pc leave again has holds. block-goes bl (b + control_slots loop.control + 4) pc leave again slots rows s ok.2 has (omega (arith, le)) (omega (arith, few)) holds)
     statement-goes (Where mask bl others) line b pc leave again slots rows s ok has le few holds = where-goes table code n many leave again sized line b pc mask bl others slots rows s ok.0 ok.1 ok.2 has le few holds
-    statement-goes (Forall cs mask bl) line b pc leave again slots rows s ok has le few holds = absurd ok
+    statement-goes (Forall cs mask bl) line b pc leave again slots rows s ok has le few holds = forall-goes table code n many leave again sized line b pc cs mask bl slots rows s ok.0 ok.1 ok.2 has le few holds
     statement-goes (statements.Print items) line b pc leave again slots rows s ok has le few holds = prints line b pc leave again items slots rows s ok has le few holds
     statement-goes Stop line b pc leave again slots rows s ok has le few holds = λ i. (_, (1, one table code pc slots rows s.printed Halt has.0 i), refl, refl, holds)
     statement-goes Exit line b pc leave again slots rows s ok has le few holds = (slots, rows, jump-reaches table code n many None pc leave slots rows s.printed has.0, kept-refl table code n many None b slots, holds)

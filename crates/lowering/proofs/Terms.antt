@@ -37,7 +37,7 @@ Gives b f slots v = (later : List ℤ) → SameBelow b slots later → flat_valu
 abbrev pub GiveAll : ℕ → Flats → List ℤ → List ℤ → Type 0
 GiveAll b fs slots vs = (later : List ℤ) → SameBelow b slots later → flat_values later [] [] fs ≡ Ok vs
 
-total : (o : Op) (vs : List ℤ) → can_divide o ≡ false → operated o vs ≡ Ok (value_of o vs)
+pub total : (o : Op) (vs : List ℤ) → can_divide o ≡ false → operated o vs ≡ Ok (value_of o vs)
 total o vs e = rw (e) refl
 
 module _ (table : ArrayTable) (code : List Instruction) (line n : ℕ) (s : State) (rows : Storage) (out : List ℕ) (arrays : HoldsArrays n table.shapes s rows) where

@@ -5,9 +5,8 @@ use Rattle.machine_steps.specs.Layout.{size_of}
 use Rattle.machine_steps.specs.Instr.{Running, Outcome}
 use Rattle.machine_steps.specs.Machine as machine
 use Rattle.machine_steps.specs.Machine.{effect_of, effect_by}
-use Rattle.lowering.proofs.Keeping.{IsOutcome, Keeps, keeps}
 use Rattle.lowering.proofs.Evaluating.{result-outcome, own-shape, own-limits, own-outcome}
-use Rattle.lowering.proofs.Pars.{par-reaches, par-stops}
+use Rattle.lowering.proofs.Copies.{copy-goes}
 use Rattle.lowering.specs.StatementCode.{where_true}
 use Rattle.array_meaning.specs.ArrayAssignments.{mask_of, negated_mask, assign_all_where, run_where, assign_elemental}
 use Rattle.array_meaning.specs.Elementals.{ArrayValue, Elemental, sections, value_at, first_extents, array_value, values_over}
@@ -26,12 +25,12 @@ use Rattle.lowering.proofs.Parts.{FormGives, parts-come}
 use Rattle.lowering.proofs.Reach.{HasAt, has-front, has-back, has-drop, same-refl, Reaches, reaches-on, stops-on, stands, one, Place}
 use Rattle.lowering.proofs.Scatter.{values_of, NamesBelow, value-of-reads, space-size}
 use Rattle.lowering.proofs.Sections.{assignment-goes}
-use Rattle.lowering.specs.ExpressionCode.{parts_slots, parts_code, form_of}
+use Rattle.lowering.specs.ExpressionCode.{own_evaluation, first_subs, or_no_sub, parts_slots, parts_code, form_of}
 use Rattle.lowering.specs.Plain.{AreMasked, IsArray}
 use Rattle.lowering.specs.StatementCode.{assignment_code, masked_slots, masked_code, where_code}
 use Rattle.nest_order.specs.Effect.{Effect, scatter}
 use Rattle.nest_order.specs.Storage.{Storage, read, row_of}
-use Rattle.node_code.specs.Forms.{Sub, selections_in, elemental_in, first_subs, or_no_sub}
+use Rattle.node_code.specs.Forms.{Sub, selections_in, elemental_in}
 use Rattle.node_code.specs.Instructions.{Instruction, OwnLimits, MakeCopy, ParCopy, Verdict, go_on_if, meaning_of, ArrayTable}
 use Rattle.node_code.specs.Parallel.{When, fault_at, evaluation_tuples, copy_spot, at_line, Evaluation, evaluation_extents, evaluation_size, as_asked, outcome_of, reads_at, value_by_reads}
 use Rattle.op_tables.specs.Operators.{is_true}
@@ -39,7 +38,7 @@ use Rattle.array_meaning.specs.Runs as runs
 
 module _ (table : ArrayTable) (code : List Instruction) (n many leave again : ℕ) (sized : (ns : List ℕ) → size_of (table.copies ns) ≡ product ns) where
   -- the copy isn't kept any longer
-  forget : (copy : Option (List ℤ)) (to b : ℕ) (slots : List ℤ) (m : Place) (r : Run) → Goes table code n many copy leave again to b slots m r → Goes table code n many None leave again to b slots m r
+  pub forget : (copy : Option (List ℤ)) (to b : ℕ) (slots : List ℤ) (m : Place) (r : Run) → Goes table code n many copy leave again to b slots m r → Goes table code n many None leave again to b slots m r
   forget copy to b slots m r h = by_flow r.completion h
     where
       holds' : (s : State) (slots : List ℤ) (rows : Storage) → Holds table code n many copy s slots rows → Holds table code n many None s slots rows
@@ -85,7 +84,7 @@ module _ (table : ArrayTable) (code : List Instruction) (n many leave again : �
       (λ slots1 r e same gives holds1. behind slots1 r (gives.0 slots1 (same-refl b1 slots1)) gives.1 holds1)))
     where
       p : Evaluation
-      p = record { line = line; form = form_of b mask; copy = n }
+      p = own_evaluation line (form_of b mask) n
 
       does : ArrayValue → Run
       does m = then_do (assign_all_where m.extents (mask_of m.elements) body s) (assign_all_where m.extents (negated_mask m.elements) others)
@@ -139,56 +138,16 @@ module _ (table : ArrayTable) (code : List Instruction) (n many leave again : �
           valued vs = record { extents = ns; elements = vs }
 
           shape : evaluation_extents p slots1 ≡ ns
-          shape = own-shape n table.shapes s rows holds1.arrays p slots1 r right named
+          shape = own-shape n table.shapes s rows holds1.arrays line (form_of b mask) n slots1 r right named
 
           count : ℕ
           count = product ns
 
-          zeros : List ℤ
-          zeros = replicate (size_of (table.copies (evaluation_extents p slots1))) (pos 0)
-
-          rows1 : Storage
-          rows1 = slice_set rows n zeros
-
-          holds2 : Holds table code n many None s slots1 rows1
-          holds2 = holds-copy table code n many s slots1 rows zeros holds1
-
-          empty : length (row_of rows1 n) ≡ count
-          empty = ap length (get_or-set_same rows n zeros [] holds1.wide) ∙ length-replicate (size_of (table.copies (evaluation_extents p slots1))) (pos 0) ∙ sized (evaluation_extents p slots1) ∙ ap product shape
-
-          outcome : ℕ → Outcome Fault
-          outcome = machine.outcome_of (evaluation_tuples table.shapes p) slots1 (read rows1)
-
-          effect : ℕ → Effect Fault
-          effect = effect_of (evaluation_tuples table.shapes p) (copy_spot n) slots1 (read rows1)
-
-          at_a_tuple : ℕ → Result ℤ Cause
-          at_a_tuple u = value_at s (positions ns u) r
-
-          outcome-is : (u : ℕ) → outcome u ≡ outcome_of (at_line line (at_tuple (positions ns u) (at_a_tuple u)))
-          outcome-is u = own-outcome n table.shapes s rows1 holds2.arrays p slots1 r right named u
-
-          by_result : (u : ℕ) (q : Result ℤ Cause) → effect_by (copy_spot n slots1 u) (outcome_of (at_line line q)) ≡ value_effect table code n many line u q
-          by_result u (Ok v) = refl
-          by_result u (Err c) = refl
-
-          effect-is : (u : ℕ) → effect u ≡ value_effect table code n many line u (at_tuple (positions ns u) (at_a_tuple u))
-          effect-is u = ap (effect_by (copy_spot n slots1 u)) (outcome-is u) ∙ by_result u (at_tuple (positions ns u) (at_a_tuple u))
-
-          kept-is : Keeps line outcome (values_over s ns r count) count
-          kept-is = keeps line outcome (positions ns) at_a_tuple count (λ u lt. subst (λ z. IsOutcome line z (at_tuple (positions ns u) (at_a_tuple u))) (sym (outcome-is u)) (result-outcome line (at_tuple (positions ns u) (at_a_tuple u))))
-
           m0 : Place
           m0 = stands table code (pc1 + 1) slots1 rows s.printed
 
-          m1 : Place
-          m1 = stands table code (pc1 + 1 + 1) slots1 rows1 s.printed
-
-          makes : Reaches table code m0 m1
-          makes i = (1, record i { layouts = slice_set i.layouts n (table.copies (evaluation_extents p slots1)) }, one table code (pc1 + 1) slots1 rows s.printed (MakeCopy p) at_tail.1.0 i)
-
-          at_par : HasAt code (pc1 + 1 + 1) (ParCopy p ∷ Verdict ∷ [])
-          at_par = (at_tail.1.1.0, (at_tail.1.1.1.0, tt))
+          at_copy : HasAt code (pc1 + 1) (MakeCopy p ∷ ParCopy p ∷ Verdict ∷ [])
+          at_copy = (at_tail.1.0, (at_tail.1.1.0, (at_tail.1.1.1.0, tt)))
 
           bodies : (vs : List ℤ) (rows3 : Storage) → Holds table code n many (Some vs) s slots1 rows3 → Goes table code n many None leave again to b1 slots1 (stands table code (pc1 + 4) slots1 rows3 s.printed) (does (valued vs))
           bodies vs rows3 holds3 =
@@ -198,30 +157,18 @@ module _ (table : ArrayTable) (code : List Instruction) (n many leave again : �
               (masked-go body b1 (pc1 + 4) first true vs ns slots1 rows3 s ok1 (has-front code (pc1 + 4) cb co at_bodies) (omega (arith, le)) (omega (arith, few)) holds3 within shape)
               (λ slots4 rows4 s4 kept holds4. masked-go others b1 mid first false vs ns slots4 rows4 s4 ok2 (has-back code (pc1 + 4) cb co at_bodies) (omega (arith, le)) (omega (arith, few)) holds4 within (sym (first-kept n b1 first slots1 slots4 within kept) ∙ shape)))
 
-          by_each : (q : Result (List ℤ) Cause) → Filled table code n many line count s slots1 rows1 holds2 empty effect q count → Keeps line outcome q count → Goes table code n many None leave again to b1 slots1 m0 (with_value line s q (λ vs. does (valued vs)))
-          by_each (Ok vs) h kept =
-              let e : pc1 + 1 + 3 ≡ pc1 + 4 = omega arith in
-              let rows3 = scatter effect count rows1 in
-              let m4 = stands table code (pc1 + 4) slots1 rows3 s.printed in
-              let v : Reaches table code m1 m4 = subst (λ at. Reaches table code m1 (stands table code at slots1 rows3 s.printed)) e (par-reaches table code n (ParCopy p) (evaluation_tuples table.shapes p) (copy_spot n) (pc1 + 1) slots1 rows1 s.printed refl at_par count (ap product shape) kept) in
-              goes-on table code n many None leave again to b1 b1 slots1 slots1 m0 m4 (does (valued vs)) (omega arith) (reaches-on table code m0 m1 m4 makes v) (kept-refl table code n many None b1 slots1)
-              (bodies vs rows3 (holds-some table code n many s slots1 rows3 vs (h.1 ∙ no_rest vs h.0 h.3) h.4))
-            where
-              no_rest : (vs rest : List ℤ) → count + length rest ≡ count → vs ++ rest ≡ vs
-              no_rest vs [] e = append-nil vs
-              no_rest vs (z ∷ rest) e = absurd (omega (arith, e))
-          by_each (Err c) h kept = stops-on table code m0 m1 (fault_at line c) s.printed makes (par-stops table code n (ParCopy p) (evaluation_tuples table.shapes p) (copy_spot n) (pc1 + 1) slots1 rows1 s.printed refl at_par count (ap product shape) (fault_at line c) kept)
-
           by_values : (k : ℕ) → k ≡ count → Goes table code n many None leave again to b1 slots1 m0 (with_value line s (values_over s ns r k >>= (λ vs. Ok (valued vs))) does)
           by_values k e =
               subst (λ k. Goes table code n many None leave again to b1 slots1 m0 (with_value line s (values_over s ns r k >>= (λ vs. Ok (valued vs))) does)) (sym e)
               (subst (Goes table code n many None leave again to b1 slots1 m0) (sym (value-bind line s (values_over s ns r count) (λ vs. Ok (valued vs)) does))
-              (by_each (values_over s ns r count) (filled table code n many line count s slots1 rows1 holds2 empty effect (positions ns) at_a_tuple count (omega arith) (λ u lt. effect-is u)) kept-is))
+              (copy-goes table code n many leave again sized line b1 (pc1 + 1) to (form_of b mask) p.over (ParCopy p) (evaluation_tuples table.shapes p) refl at_copy slots1 rows s holds1 ns shape (ap product shape) (positions ns) (λ t. value_at s (positions ns t) r)
+              (λ rows1 arrays u. own-outcome n table.shapes s rows1 arrays line (form_of b mask) n slots1 r right named u) (λ vs. does (valued vs))
+              (λ vs rows3 holds3. let e : pc1 + 1 + 3 ≡ pc1 + 4 = omega arith in subst (λ at. Goes table code n many None leave again to b1 slots1 (stands table code at slots1 rows3 s.printed) (does (valued vs))) (sym e) (bodies vs rows3 holds3))))
 
           by_limits : (q : Result ℕ Cause) → space_size ns (sections r) ≡ q → Goes table code n many None leave again to b1 slots1 (stands table code pc1 slots1 rows s.printed) (with_value line s q (λ k. with_value line s (values_over s ns r k >>= (λ vs. Ok (valued vs))) does))
           by_limits (Ok k) e =
               goes-on table code n many None leave again to b1 b1 slots1 slots1 (stands table code pc1 slots1 rows s.printed) m0 (with_value line s (values_over s ns r k >>= (λ vs. Ok (valued vs))) does) (omega arith)
-              (λ i. (1, i, one table code pc1 slots1 rows s.printed (OwnLimits p) at_tail.0 i ∙ ap (λ q. record (stands table code pc1 slots1 rows s.printed i) { control = go_on_if {A = ℕ} (at_line line q) (record { at = pc1; slots = slots1; status = Running }) }) (own-limits n table.shapes s rows holds1.arrays p slots1 r right named ∙ e)))
+              (λ i. (1, i, one table code pc1 slots1 rows s.printed (OwnLimits p) at_tail.0 i ∙ ap (λ q. record (stands table code pc1 slots1 rows s.printed i) { control = go_on_if {A = ℕ} (at_line line q) (record { at = pc1; slots = slots1; status = Running }) }) (own-limits n table.shapes s rows holds1.arrays line (form_of b mask) n slots1 r right named ∙ e)))
               (kept-refl table code n many None b1 slots1) (by_values k (space-size ns (sections r) k e))
           by_limits (Err c) e =
-              λ i. (_, (1, one table code pc1 slots1 rows s.printed (OwnLimits p) at_tail.0 i ∙ ap (λ q. record (stands table code pc1 slots1 rows s.printed i) { control = go_on_if {A = ℕ} (at_line line q) (record { at = pc1; slots = slots1; status = Running }) }) (own-limits n table.shapes s rows holds1.arrays p slots1 r right named ∙ e)), refl, refl)
+              λ i. (_, (1, one table code pc1 slots1 rows s.printed (OwnLimits p) at_tail.0 i ∙ ap (λ q. record (stands table code pc1 slots1 rows s.printed i) { control = go_on_if {A = ℕ} (at_line line q) (record { at = pc1; slots = slots1; status = Running }) }) (own-limits n table.shapes s rows holds1.arrays line (form_of b mask) n slots1 r right named ∙ e)), refl, refl)

@@ -1,8 +1,9 @@
--- Which programs are lowered: their names are among n declared ones, and sections stand in array expressions alone, which is so in every
--- program that breaks no rule of names, types and ranks. None of their statements is a FORALL.
-use Rattle.std.specs.Prelude.{ℕ, ◌<◌, List, [], ◌∷◌, ⊤}
+-- Well-formed programs: their names are among n declared ones, sections stand in array expressions alone, and indices and the restricted
+-- subscripts in FORALL. So it is in every program that breaks no rule.
+use Rattle.std.specs.Prelude.{◌≡◌, ℕ, ◌<◌, List, [], ◌∷◌, false, Option, Some, None, ⊤}
+use Rattle.op_tables.specs.Operators.{can_divide}
 use Rattle.array_meaning.specs.Terms.{Term, Number, Scalar, Index, Element, Section, Apply, Reduce, Terms, NoTerm, More, SectionSubscripts, NoSubscript, Subscript, Triplet, Control}
-use Rattle.array_meaning.specs.Statements.{Item, Text, Value, Elements, SectionAssignment, Block, Done, Then, Statement, AssignScalar, AssignElement, AssignSection, If, Do, Where, Forall, Print, Stop, Exit, Cycle, Continue, Redistribute, Arms, NoArm, Arm}
+use Rattle.array_meaning.specs.Statements.{Item, Text, Value, Elements, SectionAssignment, ElementAssignment, Block, Done, Then, Statement, AssignScalar, AssignElement, AssignSection, If, Do, Where, Forall, Print, Stop, Exit, Cycle, Continue, Redistribute, Arms, NoArm, Arm}
 
 module _ (n : ℕ) where
   abbrev mutual
@@ -46,6 +47,52 @@ module _ (n : ℕ) where
   AreMasked [] = ⊤
   AreMasked (x ∷ xs) = (x.array < n) × AreScalarSubscripts x.subscripts × IsArray x.right × AreMasked xs
 
+  -- ---- FORALL
+
+  abbrev mutual
+    -- a subscript: it names no element, and no operator in it divides
+    pub IsSubscript : Term → Type 0
+    IsSubscript (Number v) = ⊤
+    IsSubscript (Scalar k) = k < n
+    IsSubscript (Index k) = ⊤
+    IsSubscript (Element a ts) = ⊥
+    IsSubscript (Section a subs) = ⊥
+    IsSubscript (Apply o ts) = (can_divide o ≡ false) × AreSubscripts ts
+    IsSubscript (Reduce o t) = ⊥
+
+    pub AreSubscripts : Terms → Type 0
+    AreSubscripts NoTerm = ⊤
+    AreSubscripts (More t ts) = IsSubscript t × AreSubscripts ts
+
+  abbrev mutual
+    -- an expression
+    pub IsIndexed : Term → Type 0
+    IsIndexed (Number v) = ⊤
+    IsIndexed (Scalar k) = k < n
+    IsIndexed (Index k) = ⊤
+    IsIndexed (Element a ts) = (a < n) × AreSubscripts ts
+    IsIndexed (Section a subs) = ⊥
+    IsIndexed (Apply o ts) = AreIndexed ts
+    IsIndexed (Reduce o t) = ⊥
+
+    pub AreIndexed : Terms → Type 0
+    AreIndexed NoTerm = ⊤
+    AreIndexed (More t ts) = IsIndexed t × AreIndexed ts
+
+  abbrev pub AreControls : List Control → Type 0
+  AreControls [] = ⊤
+  AreControls (c ∷ cs) = IsControl c × AreControls cs
+
+  abbrev pub IsIndexedMask : Option Term → Type 0
+  IsIndexedMask None = ⊤
+  IsIndexedMask (Some t) = IsIndexed t
+
+  abbrev pub AreIndexedAssignments : List ElementAssignment → Type 0
+  AreIndexedAssignments [] = ⊤
+  AreIndexedAssignments (x ∷ xs) = (x.array < n) × AreSubscripts x.subscripts × IsIndexed x.right × AreIndexedAssignments xs
+
+  -- ---- statements
+
   abbrev pub IsItem : Item → Type 0
   IsItem (Text bytes) = ⊤
   IsItem (Value t) = IsScalar t
@@ -63,7 +110,7 @@ module _ (n : ℕ) where
     IsPlain (If arms other) = ArePlainArms arms × IsPlainBlock other
     IsPlain (Do mark loop body) = (loop.index < n) × IsControl loop.control × IsPlainBlock body
     IsPlain (Where mask body others) = IsArray mask × AreMasked body × AreMasked others
-    IsPlain (Forall controls mask body) = ⊥
+    IsPlain (Forall controls mask body) = AreControls controls × IsIndexedMask mask × AreIndexedAssignments body
     IsPlain (Print items) = AreItems items
     IsPlain Stop = ⊤
     IsPlain Exit = ⊤

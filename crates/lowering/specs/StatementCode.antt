@@ -1,14 +1,15 @@
 -- The code of statements and of programs. Each statement takes slots from `b` on anew, and keeps those below.
-use Rattle.std.specs.Prelude.{ℕ, ◌+◌, List, [], ◌∷◌, ◌++◌, length, pos, Bool, true, false, Option, Some, None, option_map}
+use Rattle.std.specs.Prelude.{ℕ, ◌+◌, List, [], ◌∷◌, ◌++◌, length, map, pos, Bool, true, false, Option, Some, None, option_map}
 use Rattle.op_tables.specs.declared.op.Op.TheVariants as op
-use Rattle.array_meaning.specs.Terms.{Term, Terms, SectionSubscripts}
+use Rattle.array_meaning.specs.Terms.{Term, Terms, list_of, SectionSubscripts, NoSubscript, Triplet, Control}
 use Rattle.array_meaning.specs.Statements as statements
-use Rattle.array_meaning.specs.Statements.{Item, Text, Value, Elements, SectionAssignment, Block, Done, Then, Statement, AssignScalar, AssignElement, AssignSection, If, Do, Where, Forall, Stop, Exit, Cycle, Continue, Redistribute, Arms, NoArm, Arm}
+use Rattle.array_meaning.specs.Statements.{Item, Text, Value, Elements, SectionAssignment, ElementAssignment, Block, Done, Then, Statement, AssignScalar, AssignElement, AssignSection, If, Do, Where, Forall, Stop, Exit, Cycle, Continue, Redistribute, Arms, NoArm, Arm}
+use Rattle.array_meaning.specs.Forall.{all_subscripts}
 use Rattle.node_code.specs.Flat.{Int, Slot, Operated, NoFlat, AndFlat}
 use Rattle.node_code.specs.Forms.{Sub, SectionForm}
-use Rattle.node_code.specs.Parallel.{When, Assignment, Evaluation, own_subs}
-use Rattle.node_code.specs.Instructions.{PrintItem, PrintBytes, PrintNumber, PrintSection, Instruction, Set, Store, TestBounds, Trips, Jump, JumpIfZero, Halt, Limits, OwnLimits, Par, MakeCopy, ParCopy, Verdict, Inside, Print}
-use Rattle.lowering.specs.ExpressionCode.{slots_of, all_slots_of, subscripts_slots, parts_slots, flat_of, flats_of, subs_of, form_of, code_of, codes_of, subscripts_code, parts_code, control_slots, control_code, without_copy}
+use Rattle.node_code.specs.Parallel.{When, Assignment, Evaluation}
+use Rattle.node_code.specs.Instructions.{PrintItem, PrintBytes, PrintNumber, PrintSection, Instruction, Set, Store, TestBounds, Trips, Jump, JumpIfZero, Halt, Limits, OwnLimits, ForallLimits, OneToOne, Par, ParForall, MakeCopy, ParCopy, ParForallCopy, Verdict, Inside, Print}
+use Rattle.lowering.specs.ExpressionCode.{slots_of, all_slots_of, subscripts_slots, parts_slots, flat_of, flats_of, subs_of, form_of, code_of, codes_of, subscripts_code, parts_code, control_slots, control_code, own_evaluation, without_copy, index_flat, index_subs, index_form}
 
 -- ---- PRINT
 
@@ -105,11 +106,51 @@ where_true copy value = record { copy = copy; value = value }
 -- the values of the mask into a copy, and then each assignment where they are true, or, behind ELSEWHERE, where they are false
 abbrev pub where_code : ℕ → ℕ → ℕ → Term → List SectionAssignment → List SectionAssignment → List Instruction
 where_code copy line b mask body others =
-    let p : Evaluation = record { line = line; form = form_of b mask; copy = copy } in
+    let p : Evaluation = own_evaluation line (form_of b mask) copy in
     let b1 : ℕ = b + parts_slots mask in
     parts_code line b mask
     ++ OwnLimits p ∷ MakeCopy p ∷ ParCopy p ∷ Verdict
-    ∷ (masked_code b1 (own_subs p, where_true copy true) body ++ masked_code b1 (own_subs p, where_true copy false) others)
+    ∷ (masked_code b1 (p.over, where_true copy true) body ++ masked_code b1 (p.over, where_true copy false) others)
+
+-- ---- FORALL
+
+-- its header, as the subscripts of a section of its space
+abbrev pub triplets : List Control → SectionSubscripts
+triplets [] = NoSubscript
+triplets (c ∷ cs) = Triplet c.first c.last c.step (triplets cs)
+
+abbrev pub one_to_one_code : List Sub → List ElementAssignment → List Instruction
+one_to_one_code over [] = []
+one_to_one_code over (x ∷ xs) = OneToOne x.line over (map index_flat (list_of x.subscripts)) ∷ one_to_one_code over xs
+
+abbrev pub forall_mask_code : ℕ → ℕ → List Sub → Option Term → List Instruction
+forall_mask_code copy line over None = []
+forall_mask_code copy line over (Some t) =
+    let p : Evaluation = record { line = line; form = index_form t; over = over; copy = copy } in MakeCopy p ∷ ParForallCopy p ∷ Verdict ∷ []
+
+abbrev pub forall_assignment : List Sub → Option When → ElementAssignment → Assignment
+forall_assignment over mask x = record {
+  line = x.line;
+  array = x.array;
+  left = index_subs x.subscripts;
+  right = index_form x.right;
+  over = over;
+  mask = mask;
+}
+
+abbrev pub forall_assignments_code : List Sub → Option When → List ElementAssignment → List Instruction
+forall_assignments_code over mask [] = []
+forall_assignments_code over mask (x ∷ xs) = ParForall (forall_assignment over mask x) ∷ Verdict ∷ forall_assignments_code over mask xs
+
+-- the header, the limits, the values of the mask into a copy, and the assignments one after another; over an empty space none of these
+-- does anything but the header
+abbrev pub forall_code : ℕ → ℕ → ℕ → List Control → Option Term → List ElementAssignment → List Instruction
+forall_code copy line b controls mask body =
+    let over = subs_of b (triplets controls) in
+    subscripts_code line b (triplets controls)
+    ++ ForallLimits line over (map index_flat (all_subscripts mask body))
+    ∷ (one_to_one_code over body
+    ++ (forall_mask_code copy line over mask ++ forall_assignments_code over (option_map (λ t. where_true copy true) mask) body))
 
 -- ---- all statements
 
@@ -122,6 +163,7 @@ abbrev mutual
   statement_slots (If arms other) = arms_slots arms + block_slots other
   statement_slots (Do mark loop body) = control_slots loop.control + 4 + block_slots body
   statement_slots (Where mask body others) = parts_slots mask + (masked_slots body + masked_slots others)
+  statement_slots (Forall controls mask body) = subscripts_slots (triplets controls)
   statement_slots (statements.Print items) = items_slots items
   statement_slots s = 0
 
@@ -149,6 +191,7 @@ module _ (copy : ℕ) where
         let v : ℕ = b + control_slots loop.control in
         c ++ loop_code line (pc + length c) v loop.index (block_code body (v + 4))
     statement_code line (Where mask body others) b pc leave again = where_code copy line b mask body others
+    statement_code line (Forall controls mask body) b pc leave again = forall_code copy line b controls mask body
     statement_code line (statements.Print items) b pc leave again = items_code line b items ++ Print (print_items b items) ∷ []
     statement_code line Stop b pc leave again = Halt ∷ []
     statement_code line Exit b pc leave again = Jump leave ∷ []

@@ -21,7 +21,8 @@ use Rattle.machine_steps.specs.Instr.{Instr, Local, Control}
 use Rattle.machine_steps.specs.Machine.{on, faulted, set_slot}
 use Rattle.node_code.specs.Flat.{Flat, Flats, slot, flat_value, flat_values, slots_value}
 use Rattle.node_code.specs.Forms.{Sub, selections_in}
-use Rattle.node_code.specs.Parallel.{at_line, shape_of, spot_of, Assignment, assignment_size, assignment_tuples, assigned_spot, Evaluation, evaluation_extents, evaluation_size, evaluation_tuples, copy_spot}
+use Rattle.node_code.specs.Parallel.{at_line, shape_of, spot_of, Assignment, assignment_size, assignment_tuples, assigned_spot, Evaluation, evaluation_extents, evaluation_size, evaluation_tuples, copy_spot, forall_tuples, forall_spot, forall_mask_tuples}
+use Rattle.node_code.specs.ForallLimits.{forall_limits, one_to_one}
 
 -- an item of a PRINT: bytes, a number over the slots, or the elements of a section
 pub data PrintItem : Type 0 where
@@ -50,11 +51,17 @@ pub data Instruction : Type 0 where
   -- Shape and SpaceLimit of an assignment, or of an array expression by itself
   Limits : Assignment → Instruction
   OwnLimits : Evaluation → Instruction
-  -- an assignment at the tuples of its space
+  -- SpaceLimit of a FORALL, by its indices and all its subscripts
+  ForallLimits : (line : ℕ) → (over : List Sub) → (subscripts : List Flat) → Instruction
+  -- NotOneToOne of an assignment of it, by its left side
+  OneToOne : (line : ℕ) → (over : List Sub) → (left : List Flat) → Instruction
+  -- an assignment at the tuples of its space, and one of a FORALL
   Par : Assignment → Instruction
-  -- a copy of the extents of an array expression, with 0 everywhere, and its values into the copy
+  ParForall : Assignment → Instruction
+  -- a copy of the extents of an array expression, with 0 everywhere, and its values into the copy; also those of a FORALL's mask
   MakeCopy : Evaluation → Instruction
   ParCopy : Evaluation → Instruction
+  ParForallCopy : Evaluation → Instruction
   -- the run ends with the kept fault of the least key, if there is one
   Verdict : Instruction
   -- a slot gets a reduction of an array expression, or the run ends with the first fault of its tuples
@@ -143,9 +150,13 @@ meaning_of table (JumpIfZero target x) = Local (λ c. go_if (is_true (slot c.slo
 meaning_of table Halt = Local (λ c. record c { status = machine.Finished })
 meaning_of table (Limits p) = Local (λ c. go_on_if (at_line p.line (assignment_size p c.slots)) c)
 meaning_of table (OwnLimits p) = Local (λ c. go_on_if (at_line p.line (evaluation_size p c.slots)) c)
+meaning_of table (ForallLimits line over subscripts) = Local (λ c. go_on_if (at_line line (forall_limits over subscripts c.slots)) c)
+meaning_of table (OneToOne line over left) = Local (λ c. go_on_if (at_line line (one_to_one over left c.slots)) c)
 meaning_of table (Par p) = machine.Par (assignment_tuples table.shapes p) (assigned_spot table.shapes p)
+meaning_of table (ParForall p) = machine.Par (forall_tuples table.shapes p) (forall_spot table.shapes p)
 meaning_of table (MakeCopy p) = machine.MakeCopy p.copy (λ slots. table.copies (evaluation_extents p slots)) (λ slots. pos 0)
 meaning_of table (ParCopy p) = machine.Par (evaluation_tuples table.shapes p) (copy_spot p.copy)
+meaning_of table (ParForallCopy p) = machine.Par (forall_mask_tuples table.shapes p) (copy_spot p.copy)
 meaning_of table Verdict = machine.Verdict
 meaning_of table (Reduce p o x) = machine.Reduce (evaluation_tuples table.shapes p) (fold_of o) x
 meaning_of table (Inside line a subs) = Local (λ c. go_on_if (at_line line (all_inside table.shapes a (selections_in c.slots subs))) c)

@@ -1,4 +1,5 @@
 pub mod Flat
 pub mod Forms
-pub mod Instructions
 pub mod Parallel
+pub mod ForallLimits
+pub mod Instructions

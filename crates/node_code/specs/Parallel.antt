@@ -10,7 +10,7 @@ use Rattle.array_meaning.specs.declared.sections.Selection.{Selection}
 use Rattle.array_meaning.specs.Sections.{extents, subscripts_at, positions, space_size}
 use Rattle.array_meaning.specs.Elementals.{Elemental, Same, Selected, Operation, Elementals, NoOperand, Operand, sections, operated}
 use Rattle.machine_steps.specs.Instr.{Outcome, Nothing, Value, Breaks, Tuples}
-use Rattle.node_code.specs.Forms.{Sub, Form, selections_in, elemental_in, first_subs, or_no_sub}
+use Rattle.node_code.specs.Forms.{Sub, Form, selections_at, selections_in, elemental_at, elemental_in}
 
 -- the fault of a cause in a statement of a line
 abbrev pub fault_at : ℕ → Cause → Fault
@@ -120,18 +120,16 @@ assignment_size p slots =
 
 -- ---- array expressions by themselves: masks, operands of reductions, items of PRINT
 
--- an array expression over its own space: its line, what is left of it, and the copy that gets its values, where one does
+-- an array expression over a space: its line, what is left of it, the section whose space it is, and the copy that gets its values,
+-- where one does
 pub record Evaluation : Type 0 where
   pub line : ℕ
   pub form : Form
+  pub over : List Sub
   pub copy : ℕ
 
--- the section whose space it is
-abbrev pub own_subs : Evaluation → List Sub
-own_subs p = or_no_sub (first_subs p.form)
-
 abbrev pub evaluation_extents : Evaluation → List ℤ → List ℕ
-evaluation_extents p slots = extents (selections_in slots (own_subs p))
+evaluation_extents p slots = extents (selections_in slots p.over)
 
 abbrev pub evaluation_size : Evaluation → List ℤ → Result ℕ Cause
 evaluation_size p slots = space_size (evaluation_extents p slots) (sections (elemental_in slots p.form))
@@ -148,3 +146,33 @@ evaluation_tuples shapes p = record {
 -- its value at a tuple is stored in the copy at the tuple's number
 abbrev pub copy_spot : ℕ → List ℤ → ℕ → Option Spot
 copy_spot copy slots t = Some (record { row = copy; at = t })
+
+-- ---- FORALL: the space is that of its indices, and forms are evaluated at an index tuple
+
+-- the values of the indices at a tuple
+abbrev pub indices_in : List Sub → List ℤ → ℕ → List ℤ
+indices_in over slots t = subscripts_at (selections_in slots over) (positions (extents (selections_in slots over)) t)
+
+abbrev pub forall_tuples : List (List Dim) → Assignment → Tuples Fault
+forall_tuples shapes p = record {
+  count = λ slots. product (extents (selections_in slots p.over));
+  reads = λ slots t.
+      mask_reads p.mask t ++ reads_at shapes (indices_in p.over slots t) (elemental_at slots (indices_in p.over slots t) p.right);
+  outcome = λ slots t values.
+      outcome_if (is_asked p.mask values) (at_line p.line (assigned_value shapes p.array (selections_at slots (indices_in p.over slots t) p.left)
+      (elemental_at slots (indices_in p.over slots t) p.right) (indices_in p.over slots t) values (length (mask_reads p.mask t))));
+}
+
+abbrev pub forall_spot : List (List Dim) → Assignment → List ℤ → ℕ → Option Spot
+forall_spot shapes p slots t =
+    spot_of shapes p.array (subscripts_at (selections_at slots (indices_in p.over slots t) p.left) (indices_in p.over slots t))
+
+-- the mask of a FORALL
+abbrev pub forall_mask_tuples : List (List Dim) → Evaluation → Tuples Fault
+forall_mask_tuples shapes p = record {
+  count = λ slots. product (evaluation_extents p slots);
+  reads = λ slots t. reads_at shapes (indices_in p.over slots t) (elemental_at slots (indices_in p.over slots t) p.form);
+  outcome = λ slots t values.
+      outcome_of (at_line p.line (at_tuple (indices_in p.over slots t)
+      (value_by_reads shapes (indices_in p.over slots t) values 0 (elemental_at slots (indices_in p.over slots t) p.form))));
+}
