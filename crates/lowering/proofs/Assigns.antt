@@ -13,7 +13,7 @@ use Rattle.lowering.proofs.Parts.{term-comes, terms-come}
 use Rattle.lowering.proofs.Reach.{Idle, HasAt, has-front, has-back, same-refl, same-on, same-set, stands, one, Comes, Place}
 use Rattle.lowering.proofs.Terms.{HoldsArrays, Gives, GiveAll}
 use Rattle.lowering.specs.ExpressionCode.{slots_of, all_slots_of, flat_of, flats_of, code_of, codes_of}
-use Rattle.lowering.specs.Plain.{IsScalar, AreScalar}
+use Rattle.lowering.specs.WellFormed.{IsScalar, AreScalar}
 use Rattle.machine_steps.specs.Instr.{Running}
 use Rattle.machine_steps.specs.Instr.{Control}
 use Rattle.machine_steps.specs.Machine.{Machine, fetch_control, store_control, store_in, write_to, faulted, steps}

@@ -17,7 +17,7 @@ use Rattle.lowering.proofs.Parts.{term-comes}
 use Rattle.lowering.proofs.Reach.{Idle, HasAt, has-front, has-back, has-drop, same-refl, Reaches, reaches-on, stands, one, Place}
 use Rattle.lowering.proofs.Terms.{Gives}
 use Rattle.lowering.specs.ExpressionCode.{slots_of, flat_of, code_of}
-use Rattle.lowering.specs.Plain.{IsScalar}
+use Rattle.lowering.specs.WellFormed.{IsScalar}
 use Rattle.lowering.specs.StatementCode.{arm_code, loop_code}
 use Rattle.machine_steps.specs.Instr.{Running}
 use Rattle.machine_steps.specs.Machine.{Machine, steps}

@@ -34,7 +34,7 @@ use Rattle.node_code.specs.ForallLimits.{term_of, slots_state, sequences_of, unl
 use Rattle.node_code.specs.Instructions.{Instruction, ForallLimits, OneToOne, ParForall, MakeCopy, ParForallCopy, Verdict, ArrayTable, meaning_of, go_on_if}
 use Rattle.lowering.specs.ExpressionCode.{subscripts_slots, subs_of, subscripts_code, control_slots, index_flat, index_subs, index_form}
 use Rattle.lowering.specs.StatementCode.{triplets, one_to_one_code, forall_mask_code, forall_assignment, forall_assignments_code, forall_code, where_true}
-use Rattle.lowering.specs.Plain.{AreScalarSubscripts, AreControls, IsIndexedMask, AreIndexedAssignments}
+use Rattle.lowering.specs.WellFormed.{AreScalarSubscripts, AreControls, IsIndexedMask, AreIndexedAssignments}
 use Rattle.lowering.proofs.Reach.{Idle, HasAt, has-front, has-back, same-refl, stands, one, Comes}
 use Rattle.lowering.proofs.Terms.{HoldsScalars, HoldsArrays}
 use Rattle.lowering.proofs.Goes.{Holds, Kept, kept-refl, Goes, goes-on, goes-at, goes-then-kept, goes-value, value-bind, lands-done}
@@ -56,9 +56,9 @@ header-is s (c ∷ cs) = ap (with_more (index_values s c >>= (λ p. Ok (Along p)
     by_results (Ok p) (Err c) = refl
     by_results (Err c) r = refl
 
-header-plain : (n : ℕ) (cs : List Control) → AreControls n cs → AreScalarSubscripts n (triplets cs)
-header-plain n [] ok = tt
-header-plain n (c ∷ cs) ok = (ok.0, header-plain n cs ok.1)
+header-scalar : (n : ℕ) (cs : List Control) → AreControls n cs → AreScalarSubscripts n (triplets cs)
+header-scalar n [] ok = tt
+header-scalar n (c ∷ cs) ok = (ok.0, header-scalar n cs ok.1)
 
 header-extents : (axes : List Sequence) → extents (map Along axes) ≡ index_extents axes
 header-extents [] = refl
@@ -278,7 +278,7 @@ module _ (table : ArrayTable) (code : List Instruction) (n many leave again : �
       goes-at table code n many None leave again to (pc + length (c1 ++ tail)) b slots (stands table code pc slots rows s.printed) (run_forall line controls mask body s) long
       (goes-value table code n many None leave again line pc pc1 to b b1 slots rows s P (all_index_values s controls) does (omega arith) le holds
       (by_header (all_index_values s controls) (subst (Comes table code line rows s.printed pc pc1 b slots (SubsGive b1 over')) (header-is s controls)
-      (subscripts-come table code line n s rows s.printed holds.arrays (triplets controls) pc b slots (header-plain n controls ok) (has-front code pc c1 tail has) holds.scalars le (omega (arith, few, holds.size)))))
+      (subscripts-come table code line n s rows s.printed holds.arrays (triplets controls) pc b slots (header-scalar n controls ok) (has-front code pc c1 tail has) holds.scalars le (omega (arith, few, holds.size)))))
       (λ slots1 axes e same gives holds1. behind_header slots1 axes (gives slots1 (same-refl b1 slots1)) holds1))
     where
       over' : List Sub

@@ -16,7 +16,7 @@ use Rattle.node_code.specs.Flat.{flat_value, flat_values, or_zero}
 use Rattle.node_code.specs.Forms.{selections_at, elemental_at, elementals_at}
 use Rattle.node_code.specs.ForallLimits.{term_of, terms_of, slots_state}
 use Rattle.lowering.specs.ExpressionCode.{index_flat, index_flats, index_subs, index_form, index_forms}
-use Rattle.lowering.specs.Plain.{IsSubscript, AreSubscripts, IsIndexed, AreIndexed, IsIndexedMask, AreIndexedAssignments}
+use Rattle.lowering.specs.WellFormed.{IsSubscript, AreSubscripts, IsIndexed, AreIndexed, IsIndexedMask, AreIndexedAssignments}
 use Rattle.lowering.proofs.Terms.{HoldsScalars, total}
 use Rattle.lowering.proofs.Scatter.{NamesBelow, AllNameBelow}
 

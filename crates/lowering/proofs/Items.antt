@@ -16,7 +16,7 @@ use Rattle.lowering.proofs.Reach.{HasAt, has-front, has-back, SameBelow, same-re
 use Rattle.lowering.proofs.Scatter.{space-size}
 use Rattle.lowering.proofs.Terms.{HoldsScalars, HoldsArrays}
 use Rattle.lowering.specs.ExpressionCode.{without_copy, subscripts_slots, subs_of, subscripts_code}
-use Rattle.lowering.specs.Plain.{AreScalarSubscripts}
+use Rattle.lowering.specs.WellFormed.{AreScalarSubscripts}
 use Rattle.lowering.specs.StatementCode.{item_code}
 use Rattle.machine_steps.specs.Instr.{Running}
 use Rattle.machine_steps.specs.Machine.{element_values, value_or_none}

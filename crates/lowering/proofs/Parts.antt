@@ -1,6 +1,6 @@
 -- The code of an array expression evaluates its parts once.
 use Rattle.lowering.proofs.Evaluating.{reduce-comes}
-use Rattle.std.proofs.Common.{◌≡◌, ℕ, zero, suc, ◌+◌, ◌<◌, ◌≤◌, List, [], ◌∷◌, ◌++◌, length, ℤ, Bool, true, false, if◌then◌else◌, Option, Some, None, Result, Ok, Err, refl, sym, ap, ◌∙◌, subst, arith, length-append, append-nil, fold, slice_get, slice_set, length-set}
+use Rattle.std.proofs.Common.{◌≡◌, ℕ, zero, suc, ◌+◌, ◌<◌, ◌≤◌, List, [], ◌∷◌, ◌++◌, length, ℤ, pos, Bool, true, false, if◌then◌else◌, Option, Some, None, Result, Ok, Err, refl, sym, ap, ◌∙◌, subst, arith, length-append, append-nil, fold, slice_get, slice_set, length-set}
 use Rattle.std.specs.Bool.{⊤}
 use Rattle.array_meaning.specs.Elementals.{reduction, value_at, first_extents, sections, values_over, each, Elemental, Same, Selected, Operation, Elementals, NoOperand, Operand}
 use Rattle.array_meaning.specs.Expressions.{values, value, selections, elemental, elementals}
@@ -20,7 +20,7 @@ use Rattle.lowering.proofs.Reach.{Idle, HasAt, has-front, has-back, SameBelow, s
 use Rattle.lowering.proofs.Scatter.{NamesBelow, AllNameBelow, values_of, value-of-reads, space-size}
 use Rattle.lowering.proofs.Terms.{HoldsScalars, HoldsArrays, holds-same, Gives, GiveAll, nothing, fetch-comes, apply-comes}
 use Rattle.lowering.specs.ExpressionCode.{all_slots_of, flats_of, codes_of, set_if, reduce_code, slots_of, flat_of, code_of, control_slots, control_code, triplet, subscripts_slots, subs_of, subscripts_code, parts_slots, all_parts_slots, form_of, forms_of, parts_code, all_parts_code}
-use Rattle.lowering.specs.Plain.{IsArray, AreArrays, AreScalarSubscripts, IsScalar, AreScalar}
+use Rattle.lowering.specs.WellFormed.{IsArray, AreArrays, AreScalarSubscripts, IsScalar, AreScalar}
 use Rattle.machine_steps.specs.Instr.{Running}
 use Rattle.machine_steps.specs.Instr.{Faulted}
 use Rattle.machine_steps.specs.Machine.{Machine, Kept, keep, folded, effect_of, effect_by, steps}
@@ -214,8 +214,8 @@ module _ (table : ArrayTable) (code : List Instruction) (line n : ℕ) (s : Stat
         → Comes table code line rows out pc (pc + length (code_of line b t)) b slots (Gives (b + slots_of t) (flat_of b t)) (value [] s t)
     term-comes (Number v) pc b slots ok has holds le few = nothing table code line n s rows out arrays pc b slots (Int v) v (λ later same. refl)
     term-comes (Scalar k) pc b slots ok has holds le few = nothing table code line n s rows out arrays pc b slots (Slot k) (scalar s k) (λ later same. ap Ok (sym (same.1 k (omega (arith, ok, le))) ∙ holds k ok))
-    term-comes (Index k) pc b slots ok has holds le few = absurd ok
-    term-comes (Section a rs) pc b slots ok has holds le few = absurd ok
+    term-comes (Index k) pc b slots ok has holds le few = nothing table code line n s rows out arrays pc b slots (Int (pos 0)) (pos 0) (λ later same. refl)
+    term-comes (Section a rs) pc b slots ok has holds le few = nothing table code line n s rows out arrays pc b slots (Int (pos 0)) (pos 0) (λ later same. refl)
     term-comes (Reduce o t) pc b slots ok has holds le few =
         let x : ℕ = b + parts_slots t in
         let last = reduce_code line o (form_of b t) x in
@@ -322,7 +322,7 @@ module _ (table : ArrayTable) (code : List Instruction) (line n : ℕ) (s : Stat
         → Comes table code line rows out pc (pc + length (parts_code line b t)) b slots (FormGives n (b + parts_slots t) (form_of b t)) (elemental [] s t)
     parts-come (Number v) pc b slots ok has holds le few = known-here pc b slots (Int v) v (λ later same. refl)
     parts-come (Scalar k) pc b slots ok has holds le few = known-here pc b slots (Slot k) (scalar s k) (λ later same. ap Ok (sym (same.1 k (omega (arith, ok, le))) ∙ holds k ok))
-    parts-come (Index k) pc b slots ok has holds le few = absurd ok
+    parts-come (Index k) pc b slots ok has holds le few = known-here pc b slots (Int (pos 0)) (pos 0) (λ later same. refl)
     parts-come (Reduce o t) pc b slots ok has holds le few =
         let x : ℕ = b + parts_slots t in
         let last = reduce_code line o (form_of b t) x in

@@ -16,7 +16,7 @@ use Rattle.machine_steps.specs.Instr.{Finished}
 use Rattle.machine_steps.specs.Machine.{Machine, steps}
 use Rattle.node_code.specs.Instructions.{Instruction, Jump, Halt, meaning_of, ArrayTable}
 use Rattle.lowering.specs.StatementCode.{block_slots, block_code, program_code}
-use Rattle.lowering.specs.Plain.{IsPlainBlock}
+use Rattle.lowering.specs.WellFormed.{IsWellFormedBlock}
 use Rattle.lowering.specs.Lowered.{IsState, IsTable, opening, IsLeft, EndsAs, MachineEnds}
 use Rattle.lowering.proofs.Reach.{Idle, Place, HasAt, has-front, has-back, Reaches, reaches-on, stands, one, steps-more}
 use Rattle.lowering.proofs.Goes.{Holds, Flows, jump-reaches}
@@ -62,7 +62,7 @@ module _ (table : ArrayTable) (n : ℕ) (body : Block) (s : State) (is : IsState
     size = length-append s.scalars (replicate (block_slots body) (pos 0)) ∙ omega (arith, is.scalars, length-replicate (block_slots body) (pos 0));
   }
 
-  pub program-ends : (layouts : List Layout) → IsPlainBlock n body → MachineEnds n table (opening n body s layouts) (run_block body s)
+  pub program-ends : (layouts : List Layout) → IsWellFormedBlock n body → MachineEnds n table (opening n body s layouts) (run_block body s)
   program-ends layouts ok = by_completion r.completion (block-goes table code n many tabled.copies body n 2 1 1 slots rows s ok (has-front code 2 (block_code n body n 2 1 1) (Jump 1 ∷ []) all.1.1) (omega arith) (omega arith) holds)
     where
       r : Run

@@ -19,7 +19,7 @@ use Rattle.lowering.proofs.Reach.{HasAt, has-front, has-back, SameBelow, same-re
 use Rattle.lowering.proofs.Storing.{masked-does, stores-go}
 use Rattle.lowering.proofs.Scatter.{space-size, Does, Scattered, scattered, values_of, values-append, NamesBelow, tuple-does}
 use Rattle.lowering.specs.ExpressionCode.{subscripts_slots, subs_of, subscripts_code, parts_slots, parts_code, form_of}
-use Rattle.lowering.specs.Plain.{AreScalarSubscripts, IsArray}
+use Rattle.lowering.specs.WellFormed.{AreScalarSubscripts, IsArray}
 use Rattle.lowering.specs.StatementCode.{assignment, assignment_code}
 use Rattle.machine_steps.specs.Instr.{Running}
 use Rattle.machine_steps.specs.Instr.{Outcome}

@@ -4,7 +4,7 @@ use Rattle.std.specs.Fmt.{signed_decimal}
 use Rattle.hpf_base.specs.ElementOrder.{product}
 use Rattle.machine_steps.specs.Layout.{size_of}
 use Rattle.lowering.proofs.Printing.{all_bytes, prints-line}
-use Rattle.lowering.specs.Plain.{AreItems, IsPlain, ArePlainArms, IsPlainBlock}
+use Rattle.lowering.specs.WellFormed.{AreItems, IsWellFormed, AreWellFormedArms, IsWellFormedBlock}
 use Rattle.lowering.proofs.Foralls.{forall-goes}
 use Rattle.array_meaning.specs.Execution.{item_bytes, run, run_arms, run_block, iterate, all_item_bytes, print}
 use Rattle.array_meaning.specs.Expressions.{value, index_values}
@@ -26,7 +26,7 @@ use Rattle.lowering.proofs.Sections.{section-goes}
 use Rattle.lowering.proofs.Terms.{HoldsArrays, HoldsScalars, holds-same, Gives}
 use Rattle.lowering.proofs.Wheres.{where-goes}
 use Rattle.lowering.specs.ExpressionCode.{subscripts_slots, subs_of, slots_of, flat_of, code_of, control_slots, control_code}
-use Rattle.lowering.specs.Plain.{IsScalar}
+use Rattle.lowering.specs.WellFormed.{IsScalar}
 use Rattle.lowering.specs.StatementCode.{loop_code, statement_slots, arms_slots, block_slots, statement_code, arms_code, block_code, items_slots, item_code, items_code, print_items}
 use Rattle.nest_order.specs.Storage.{Storage, read}
 use Rattle.node_code.specs.Flat.{slot, Flat}
@@ -252,7 +252,7 @@ module _ (table : ArrayTable) (code : List Instruction) (n many : ℕ) (sized : 
           (subst (λ p. Reaches table code (stands table code (pc3 + 1 + 1) s2 rows s.printed) (stands table code p (filled slots a z d) rows s.printed)) e r3))
 
   mutual
-    pub statement-goes : (st : Statement) (line b pc leave again : ℕ) (slots : List ℤ) (rows : Storage) (s : State) → IsPlain n st → HasAt code pc (statement_code n line st b pc leave again) → n ≤ b → b + statement_slots st ≤ many → Holds table code n many None s slots rows
+    pub statement-goes : (st : Statement) (line b pc leave again : ℕ) (slots : List ℤ) (rows : Storage) (s : State) → IsWellFormed n st → HasAt code pc (statement_code n line st b pc leave again) → n ≤ b → b + statement_slots st ≤ many → Holds table code n many None s slots rows
         → Goes table code n many None leave again (pc + length (statement_code n line st b pc leave again)) b slots (stands table code pc slots rows s.printed) (run st line s)
     statement-goes (AssignScalar k t) line b pc leave again slots rows s ok has le few holds = assigns table code n many None leave again line b pc k t slots rows s ok.0 ok.1 has le few holds
     statement-goes (AssignElement a ts t) line b pc leave again slots rows s ok has le few holds = assigns-element table code n many None leave again line b pc a ts t slots rows s ok.0 ok.1 ok.2 has le few holds
@@ -272,7 +272,7 @@ module _ (table : ArrayTable) (code : List Instruction) (n many : ℕ) (sized : 
     statement-goes Continue line b pc leave again slots rows s ok has le few holds = stays b pc leave again slots rows s holds
     statement-goes Redistribute line b pc leave again slots rows s ok has le few holds = stays b pc leave again slots rows s holds
 
-    pub arms-go : (arms : Arms) (rest : ℕ → List Instruction) (others : State → Run) (b pc leave again : ℕ) (slots : List ℤ) (rows : Storage) (s : State) → ArePlainArms n arms → HasAt code pc (arms_code n arms rest b pc leave again) → n ≤ b → b + arms_slots arms ≤ many → Holds table code n many None s slots rows
+    pub arms-go : (arms : Arms) (rest : ℕ → List Instruction) (others : State → Run) (b pc leave again : ℕ) (slots : List ℤ) (rows : Storage) (s : State) → AreWellFormedArms n arms → HasAt code pc (arms_code n arms rest b pc leave again) → n ≤ b → b + arms_slots arms ≤ many → Holds table code n many None s slots rows
         → ((pc : ℕ) → Makes table code n many None leave again rest b pc others)
         → Goes table code n many None leave again (pc + length (arms_code n arms rest b pc leave again)) b slots (stands table code pc slots rows s.printed) (run_arms arms others s)
     arms-go NoArm rest others b pc leave again slots rows s ok has le few holds makes = makes pc slots rows s has holds
@@ -281,7 +281,7 @@ module _ (table : ArrayTable) (code : List Instruction) (n many : ℕ) (sized : 
         (λ pc slots rows s has holds. block-goes bl b pc leave again slots rows s ok.1 has le (omega (arith, few)) holds)
         (λ pc slots rows s has holds. arms-go arms rest others b pc leave again slots rows s ok.2 has le (omega (arith, few)) holds makes)
 
-    pub block-goes : (bl : Block) (b pc leave again : ℕ) (slots : List ℤ) (rows : Storage) (s : State) → IsPlainBlock n bl → HasAt code pc (block_code n bl b pc leave again) → n ≤ b → b + block_slots bl ≤ many → Holds table code n many None s slots rows
+    pub block-goes : (bl : Block) (b pc leave again : ℕ) (slots : List ℤ) (rows : Storage) (s : State) → IsWellFormedBlock n bl → HasAt code pc (block_code n bl b pc leave again) → n ≤ b → b + block_slots bl ≤ many → Holds table code n many None s slots rows
         → Goes table code n many None leave again (pc + length (block_code n bl b pc leave again)) b slots (stands table code pc slots rows s.printed) (run_block bl s)
     block-goes Done b pc leave again slots rows s ok has le few holds = stays b pc leave again slots rows s holds
     block-goes (Then line st rest) b pc leave again slots rows s ok has le few holds =

@@ -26,7 +26,7 @@ use Rattle.lowering.proofs.Reach.{HasAt, has-front, has-back, has-drop, same-ref
 use Rattle.lowering.proofs.Scatter.{values_of, NamesBelow, value-of-reads, space-size}
 use Rattle.lowering.proofs.Sections.{assignment-goes}
 use Rattle.lowering.specs.ExpressionCode.{own_evaluation, first_subs, or_no_sub, parts_slots, parts_code, form_of}
-use Rattle.lowering.specs.Plain.{AreMasked, IsArray}
+use Rattle.lowering.specs.WellFormed.{AreMasked, IsArray}
 use Rattle.lowering.specs.StatementCode.{assignment_code, masked_slots, masked_code, where_code}
 use Rattle.nest_order.specs.Effect.{Effect, scatter}
 use Rattle.nest_order.specs.Storage.{Storage, read, row_of}

@@ -1,4 +1,4 @@
 pub mod ExpressionCode
 pub mod StatementCode
-pub mod Plain
+pub mod WellFormed
 pub mod Lowered

@@ -1,5 +1,5 @@
--- Well-formed programs: their names are among n declared ones, sections stand in array expressions alone, and indices and the restricted
--- subscripts in FORALL. So it is in every program that breaks no rule.
+-- Well-formed programs: their names are among n declared ones, and in FORALL there is no reduction, no section and no subscript but those
+-- that are linear in their form. So it is in every program that breaks no rule.
 use Rattle.std.specs.Prelude.{◌≡◌, ℕ, ◌<◌, List, [], ◌∷◌, false, Option, Some, None, ⊤}
 use Rattle.op_tables.specs.Operators.{can_divide}
 use Rattle.array_meaning.specs.Terms.{Term, Number, Scalar, Index, Element, Section, Apply, Reduce, Terms, NoTerm, More, SectionSubscripts, NoSubscript, Subscript, Triplet, Control}
@@ -7,13 +7,13 @@ use Rattle.array_meaning.specs.Statements.{Item, Text, Value, Elements, SectionA
 
 module _ (n : ℕ) where
   abbrev mutual
-    -- a scalar expression, in which no index of a FORALL stands
+    -- a scalar expression. What no accepted program has in one, a section or an index of a FORALL, has the value 0 both ways
     pub IsScalar : Term → Type 0
     IsScalar (Number v) = ⊤
     IsScalar (Scalar k) = k < n
-    IsScalar (Index k) = ⊥
+    IsScalar (Index k) = ⊤
     IsScalar (Element a ts) = (a < n) × AreScalar ts
-    IsScalar (Section a subs) = ⊥
+    IsScalar (Section a subs) = ⊤
     IsScalar (Apply o ts) = AreScalar ts
     IsScalar (Reduce o t) = IsArray t
 
@@ -30,7 +30,7 @@ module _ (n : ℕ) where
     pub IsArray : Term → Type 0
     IsArray (Number v) = ⊤
     IsArray (Scalar k) = k < n
-    IsArray (Index k) = ⊥
+    IsArray (Index k) = ⊤
     IsArray (Element a ts) = (a < n) × AreScalar ts
     IsArray (Section a subs) = (a < n) × AreScalarSubscripts subs
     IsArray (Apply o ts) = AreArrays ts
@@ -103,25 +103,25 @@ module _ (n : ℕ) where
   AreItems (i ∷ is) = IsItem i × AreItems is
 
   abbrev mutual
-    pub IsPlain : Statement → Type 0
-    IsPlain (AssignScalar k t) = (k < n) × IsScalar t
-    IsPlain (AssignElement a ts t) = (a < n) × AreScalar ts × IsScalar t
-    IsPlain (AssignSection a subs t) = (a < n) × AreScalarSubscripts subs × IsArray t
-    IsPlain (If arms other) = ArePlainArms arms × IsPlainBlock other
-    IsPlain (Do mark loop body) = (loop.index < n) × IsControl loop.control × IsPlainBlock body
-    IsPlain (Where mask body others) = IsArray mask × AreMasked body × AreMasked others
-    IsPlain (Forall controls mask body) = AreControls controls × IsIndexedMask mask × AreIndexedAssignments body
-    IsPlain (Print items) = AreItems items
-    IsPlain Stop = ⊤
-    IsPlain Exit = ⊤
-    IsPlain Cycle = ⊤
-    IsPlain Continue = ⊤
-    IsPlain Redistribute = ⊤
+    pub IsWellFormed : Statement → Type 0
+    IsWellFormed (AssignScalar k t) = (k < n) × IsScalar t
+    IsWellFormed (AssignElement a ts t) = (a < n) × AreScalar ts × IsScalar t
+    IsWellFormed (AssignSection a subs t) = (a < n) × AreScalarSubscripts subs × IsArray t
+    IsWellFormed (If arms other) = AreWellFormedArms arms × IsWellFormedBlock other
+    IsWellFormed (Do mark loop body) = (loop.index < n) × IsControl loop.control × IsWellFormedBlock body
+    IsWellFormed (Where mask body others) = IsArray mask × AreMasked body × AreMasked others
+    IsWellFormed (Forall controls mask body) = AreControls controls × IsIndexedMask mask × AreIndexedAssignments body
+    IsWellFormed (Print items) = AreItems items
+    IsWellFormed Stop = ⊤
+    IsWellFormed Exit = ⊤
+    IsWellFormed Cycle = ⊤
+    IsWellFormed Continue = ⊤
+    IsWellFormed Redistribute = ⊤
 
-    pub ArePlainArms : Arms → Type 0
-    ArePlainArms NoArm = ⊤
-    ArePlainArms (Arm line condition body arms) = IsScalar condition × IsPlainBlock body × ArePlainArms arms
+    pub AreWellFormedArms : Arms → Type 0
+    AreWellFormedArms NoArm = ⊤
+    AreWellFormedArms (Arm line condition body arms) = IsScalar condition × IsWellFormedBlock body × AreWellFormedArms arms
 
-    pub IsPlainBlock : Block → Type 0
-    IsPlainBlock Done = ⊤
-    IsPlainBlock (Then line s rest) = IsPlain s × IsPlainBlock rest
+    pub IsWellFormedBlock : Block → Type 0
+    IsWellFormedBlock Done = ⊤
+    IsWellFormedBlock (Then line s rest) = IsWellFormed s × IsWellFormedBlock rest
