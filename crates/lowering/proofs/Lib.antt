@@ -22,3 +22,4 @@ pub mod Indexed
 pub mod Foralls
 pub mod Statements
 pub mod Programs
+pub mod Outcomes

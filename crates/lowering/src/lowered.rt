@@ -1,12 +1,17 @@
 //! Programs as node code.
 
-ghost use Rattle.std.specs.Prelude.{ℕ, List};
+ghost use Rattle.std.specs.Prelude.{◌≡◌, ℕ, List, length};
+ghost use Rattle.hpf_base.specs.ElementOrder.{product};
+ghost use Rattle.syntax_tree.specs.Statement as syntax;
+ghost use Rattle.name_table.specs.declared.names.Entry.{Entry};
+ghost use Rattle.array_meaning.specs.Resolution.{resolved_block, initial_state};
+ghost use Rattle.array_meaning.specs.Serial.{outcome};
 ghost use Rattle.array_meaning.specs.Execution.{run_block};
 ghost use Rattle.array_meaning.specs.State.{State};
 ghost use Rattle.array_meaning.specs.Statements.{Block};
-ghost use Rattle.lowering.specs.Lowered.{IsState, IsTable, opening, MachineEnds};
+ghost use Rattle.lowering.specs.Lowered.{IsState, IsTable, opening, MachineEnds, MachineHas, table_of};
 ghost use Rattle.lowering.specs.WellFormed.{IsWellFormedBlock};
-ghost use Rattle.machine_steps.specs.Layout.{Layout};
+ghost use Rattle.machine_steps.specs.Layout.{Layout, size_of};
 ghost use Rattle.node_code.specs.Instructions.{ArrayTable};
 
 /// The machine with whole arrays ends over a program's code as the program does: with the first fault, its line, kind and tuple, and
@@ -15,4 +20,13 @@ pub fn programs_lowered()
     ensures { (n : ℕ) (table : ArrayTable) (body : Block) (s : State) (layouts : List Layout)
         → IsState n s → IsTable s table → IsWellFormedBlock n body
         → MachineEnds n table (opening n body s layouts) (run_block body s) }
+{}
+
+/// The same of the serial outcome of a program, where these names are declared.
+pub fn outcomes_lowered()
+    ensures { (names : List Entry) (body : syntax.Block) (copies : List ℕ → Layout) (layouts : List Layout)
+        → ((extents : List ℕ) → size_of (copies extents) ≡ product extents)
+        → IsWellFormedBlock (length names) (resolved_block names body)
+        → MachineHas (length names) (table_of names copies)
+            (opening (length names) (resolved_block names body) (initial_state names) layouts) (outcome names body) }
 {}
