@@ -7,19 +7,18 @@ use Rattle.array_meaning.specs.Faults.{Cause, Fault, ◌>>=◌}
 use Rattle.array_meaning.specs.Runs.{normal, one_step, with_value}
 use Rattle.array_meaning.specs.State.{State, set_scalar, store, place_in, if_in_bounds, element_place}
 use Rattle.array_meaning.specs.Terms.{Term, Terms}
-use Rattle.expression_rules.specs.declared.dims.Dim.{Dim}
 use Rattle.lowering.proofs.Goes.{Holds, kept-refl, Goes, goes-at, goes-value, ends-bind, value-bind, set-reaches, holds-scalar, holds-store}
 use Rattle.lowering.proofs.Parts.{term-comes, terms-come}
-use Rattle.lowering.proofs.Reach.{Idle, HasAt, has-front, has-back, same-refl, same-on, same-set, stands, one, Comes, Place}
+use Rattle.lowering.proofs.Reach.{Idle, HasAt, has-front, has-back, same-refl, same-on, stands, one, Comes, Place}
 use Rattle.lowering.proofs.Terms.{HoldsArrays, Gives, GiveAll}
 use Rattle.lowering.specs.ExpressionCode.{slots_of, all_slots_of, flat_of, flats_of, code_of, codes_of}
 use Rattle.lowering.specs.WellFormed.{IsScalar, AreScalar}
 use Rattle.machine_steps.specs.Instr.{Running}
 use Rattle.machine_steps.specs.Instr.{Control}
-use Rattle.machine_steps.specs.Machine.{Machine, fetch_control, store_control, store_in, write_to, faulted, steps}
+use Rattle.machine_steps.specs.Machine.{store_control, store_in, write_to, faulted, steps}
 use Rattle.nest_order.specs.Storage.{Storage, Spot, write}
 use Rattle.node_code.specs.Flat.{Flat, Flats, flat_value, flat_values}
-use Rattle.node_code.specs.Instructions.{TestBounds, go_on_if, Instruction, Set, Fetch, Store, spot_in, meaning_of, ArrayTable}
+use Rattle.node_code.specs.Instructions.{TestBounds, go_on_if, Instruction, Set, Store, spot_in, meaning_of, ArrayTable}
 use Rattle.node_code.specs.Parallel.{fault_at, at_line, shape_of}
 
 module _ (table : ArrayTable) (code : List Instruction) (n many : ℕ) (copy : Option (List ℤ)) (leave again : ℕ) where

@@ -9,7 +9,6 @@ use Rattle.array_meaning.specs.State.{State, set_scalar}
 use Rattle.array_meaning.specs.Terms.{Term}
 use Rattle.array_meaning.specs.declared.faults.FaultKind.TheVariants.{ZeroStride}
 use Rattle.array_meaning.specs.declared.sections.Sequence.{Sequence}
-use Rattle.expression_rules.specs.declared.dims.Dim.{Dim}
 use Rattle.lowering.proofs.Counts.{count-small}
 use Rattle.lowering.proofs.Goes.{Holds, kept-refl, Goes, Flows, goes-on, goes-at, goes-value, value-bind, set-reaches, jump-reaches, test-reaches, holds-slot, holds-scalar}
 use Rattle.lowering.proofs.Loops.{leave_at, inside, behind, Body, ends-loop, from-inside, from-again}
@@ -20,11 +19,11 @@ use Rattle.lowering.specs.ExpressionCode.{slots_of, flat_of, code_of}
 use Rattle.lowering.specs.WellFormed.{IsScalar}
 use Rattle.lowering.specs.StatementCode.{arm_code, loop_code}
 use Rattle.machine_steps.specs.Instr.{Running}
-use Rattle.machine_steps.specs.Machine.{Machine, steps}
+use Rattle.machine_steps.specs.Machine.{steps}
 use Rattle.nest_order.specs.Storage.{Storage}
 use Rattle.node_code.specs.Flat.{slot, Slot}
 use Rattle.node_code.specs.Instructions.{go_if, Instruction, Set, Trips, Jump, JumpIfZero, begin_trips, meaning_of, ArrayTable}
-use Rattle.node_code.specs.Parallel.{at_line, fault_at}
+use Rattle.node_code.specs.Parallel.{at_line}
 use Rattle.op_tables.specs.Operators.{wrapped, is_zero, is_true}
 use Rattle.array_meaning.specs.Runs as runs
 
@@ -133,7 +132,8 @@ module _ (table : ArrayTable) (code : List Instruction) (n many : ℕ) (copy : O
           (reaches-on table code m1 (stands table code (pc + 2) slots2 rows s.printed) (stands table code in1 slots2 rows s.printed) g2 (jump-reaches table code n many copy (pc + 2) in1 slots2 rows s.printed (has-drop code 2 pc (loop_code line pc v x bcode) has).0))
           (λ j from lt. sym (get_or-set_other slots1 (v + 3) j left (pos 0) (λ e. absurd (omega (arith, e, lt)))))
           (from-inside table code n many copy line pc v x bcode brun leave again has lx lv few makes k (from-again table code n many copy line pc v x bcode brun leave again has lx lv few makes k (omega (arith, small))) s slots2 rows a d
-          (holds-slot table code n many copy (set_scalar s x a) slots1 rows (v + 3) left (omega (arith, lv)) holds1)
-          (get_or-set_other slots1 (v + 3) v left (pos 0) (λ e. absurd (omega (arith, e))) ∙ other v lv ∙ e1,
-          get_or-set_other slots1 (v + 3) (v + 2) left (pos 0) (λ e. absurd (omega (arith, e))) ∙ other (v + 2) (omega (arith, lv)) ∙ e3,
-          get_or-set_same slots1 (v + 3) left (pos 0) (omega (arith, few, holds1.size))))
+          (holds-slot table code n many copy (set_scalar s x a) slots1 rows (v + 3) left (omega (arith, lv)) holds1) (
+            get_or-set_other slots1 (v + 3) v left (pos 0) (λ e. absurd (omega (arith, e))) ∙ other v lv ∙ e1,
+            get_or-set_other slots1 (v + 3) (v + 2) left (pos 0) (λ e. absurd (omega (arith, e))) ∙ other (v + 2) (omega (arith, lv)) ∙ e3,
+            get_or-set_same slots1 (v + 3) left (pos 0) (omega (arith, few, holds1.size)),
+          ))

@@ -1,10 +1,9 @@
 -- Array expressions by themselves: what the machine comes to at a tuple, and reductions.
-use Rattle.std.proofs.Common.{◌≡◌, ℕ, zero, suc, ◌+◌, ◌<◌, ◌≤◌, List, [], ◌∷◌, ◌++◌, length, ℤ, Option, Some, None, Result, Ok, Err, refl, sym, ap, ◌∙◌, subst, arith, append-nil, fold, slice_get, slice_set}
+use Rattle.std.proofs.Common.{◌≡◌, ℕ, zero, suc, ◌+◌, ◌<◌, ◌≤◌, List, [], ◌∷◌, ◌++◌, length, ℤ, Option, Some, None, Result, Ok, Err, refl, sym, ap, ◌∙◌, subst, arith, append-nil, fold, slice_set}
 use Rattle.std.specs.Bool.{⊤}
 use Rattle.hpf_base.specs.ElementOrder.{product}
 use Rattle.op_tables.specs.declared.op.Op.{Op}
-use Rattle.op_tables.specs.Operators.{wrapped}
-use Rattle.op_tables.specs.Reductions.{reduced, unit_of, combined}
+use Rattle.op_tables.specs.Reductions.{reduced}
 use Rattle.expression_rules.specs.declared.dims.Dim.{Dim}
 use Rattle.nest_order.specs.Storage.{Storage, read}
 use Rattle.array_meaning.specs.Faults.{Cause, Fault, ◌>>=◌, at_tuple}
@@ -16,8 +15,7 @@ use Rattle.machine_steps.specs.Machine as machine
 use Rattle.machine_steps.specs.Machine.{Machine, Kept, keep, folded, verdict_control, stay, step, step_by, steps, instr_of}
 use Rattle.node_code.specs.Flat.{slot}
 use Rattle.node_code.specs.Forms.{Form, elemental_in}
-use Rattle.node_code.specs.Parallel.{fault_at, at_line, outcome_of, reads_at, value_by_reads, Evaluation, evaluation_extents, evaluation_size, evaluation_tuples}
-use Rattle.node_code.specs.Instructions as instructions
+use Rattle.node_code.specs.Parallel.{at_line, outcome_of, reads_at, value_by_reads, Evaluation, evaluation_extents, evaluation_size, evaluation_tuples}
 use Rattle.node_code.specs.Instructions.{Instruction, OwnLimits, ArrayTable, meaning_of, go_on_if, fold_of}
 use Rattle.lowering.specs.ExpressionCode.{own_evaluation, without_copy, reduce_code}
 use Rattle.lowering.proofs.Reach.{Idle, HasAt, same-refl, same-set, slot-set, stands, one, Comes, comes-on}
@@ -121,12 +119,17 @@ module _ (table : ArrayTable) (code : List Instruction) (line n : ℕ) (s : Stat
       by_each : (q : Result (List ℤ) Cause) → Keeps line outcome q count → Folds line (fold_of o) outcome q count → Comes table code line rows out (pc + 1) (pc + 2) b slots P (q >>= pair >>= second)
       by_each (Ok vs) kept joined =
           let v : ℤ = reduced o vs in
-          let e : pc + 1 + 1 ≡ pc + 2 = omega arith in
-          (slice_set slots x v,
-          (λ i. (3, record { layouts = i.layouts; joined = v },
-          ap (step (meaning_of table)) (two i ∙ ap (λ k. judged k (folded (fold_of o) outcome count) i) kept ∙ ap (λ z. judged None z i) joined) ∙ three v i
-          ∙ ap (λ at. stands table code at (slice_set slots x v) rows out (record { layouts = i.layouts; joined = v })) e)),
-          same-set b x slots v le, slot-set x slots v lt)
+          let e : pc + 1 + 1 ≡ pc + 2 = omega arith in (
+            slice_set slots x v,
+            (λ i. (
+              3,
+              record { layouts = i.layouts; joined = v },
+              ap (step (meaning_of table)) (two i ∙ ap (λ k. judged k (folded (fold_of o) outcome count) i) kept ∙ ap (λ z. judged None z i) joined) ∙ three v i
+                  ∙ ap (λ at. stands table code at (slice_set slots x v) rows out (record { layouts = i.layouts; joined = v })) e,
+            )),
+            same-set b x slots v le,
+            slot-set x slots v lt,
+          )
       by_each (Err c) kept joined = λ i. (judged (Some kept.0) (folded (fold_of o) outcome count) i, (2, two i ∙ ap (λ k. judged k (folded (fold_of o) outcome count) i) kept.1), ap Faulted kept.2, refl)
 
       limits : (q : Result ℕ Cause) → space_size ns (sections r) ≡ q → (i : Idle)

@@ -1,16 +1,14 @@
 -- The code of a FORALL does what it means.
-use Rattle.std.proofs.Common.{◌≡◌, ℕ, zero, suc, ◌+◌, ◌<◌, ◌≤◌, ◌==◌, ◌||◌, ◌&&◌, nat_le, List, [], ◌∷◌, ◌++◌, map, length, ℤ, pos, Bool, true, false, if◌then◌else◌, Option, Some, None, option_map, Result, Ok, Err, refl, sym, ap, ◌∙◌, subst, arith, length-append, append-nil, slice_get, slice_index_or}
+use Rattle.std.proofs.Common.{◌≡◌, ℕ, ◌+◌, ◌<◌, ◌≤◌, ◌==◌, ◌||◌, ◌&&◌, nat_le, List, [], ◌∷◌, ◌++◌, map, length, ℤ, pos, Bool, true, false, if◌then◌else◌, Option, Some, None, option_map, Result, Ok, Err, refl, sym, ap, ◌∙◌, subst, arith, length-append, append-nil, slice_get, slice_index_or}
 use Rattle.std.proofs.lemmas.Bool.Decides.{Decides-eqb}
-use Rattle.std.specs.Bool.{⊤}
 use Rattle.std.specs.List.{list_all}
 use Rattle.hpf_base.specs.declared.limits.TheConstants.{MAX_TUPLES}
 use Rattle.hpf_base.specs.ElementOrder.{product}
 use Rattle.op_tables.specs.Operators.{is_true}
-use Rattle.nest_order.specs.Storage.{Storage, Spot, read}
+use Rattle.nest_order.specs.Storage.{Storage, read}
 use Rattle.array_meaning.specs.declared.faults.FaultKind.{FaultKind}
 use Rattle.array_meaning.specs.declared.faults.FaultKind.TheVariants.{NotOneToOne, SpaceLimit}
 use Rattle.array_meaning.specs.declared.sections.Sequence.{Sequence}
-use Rattle.array_meaning.specs.declared.sections.Selection.{Selection}
 use Rattle.array_meaning.specs.declared.sections.Selection.TheVariants.{Along}
 use Rattle.array_meaning.specs.declared.sections.Store.{Store}
 use Rattle.array_meaning.specs.Terms.{Term, Control, list_of}
@@ -22,7 +20,7 @@ use Rattle.array_meaning.specs.Sections.{extents, positions, subscripts_at}
 use Rattle.array_meaning.specs.Elementals.{value_at, each}
 use Rattle.array_meaning.specs.Expressions.{value, values, selections, index_values, all_index_values}
 use Rattle.array_meaning.specs.ArrayAssignments.{Mask, store_at, if_true, mask_of}
-use Rattle.array_meaning.specs.Forall.{index_extents, indices_at, all_subscripts, is_index_in_limits, is_linear_in_limits, linear, is_forall_in_limits, is_one_to_one, check, check_limits, check_one_to_one, mask_over, assign_forall, assign_all_forall, run_forall}
+use Rattle.array_meaning.specs.Forall.{index_extents, indices_at, all_subscripts, is_index_in_limits, is_forall_in_limits, is_one_to_one, check, check_limits, check_one_to_one, mask_over, assign_forall, assign_all_forall, run_forall}
 use Rattle.machine_steps.specs.Layout.{size_of}
 use Rattle.machine_steps.specs.Instr.{Running, Local, Outcome}
 use Rattle.machine_steps.specs.Machine as machine
@@ -31,19 +29,19 @@ use Rattle.node_code.specs.Flat.{slot}
 use Rattle.node_code.specs.Forms.{Sub, selections_at, selections_in, elemental_at}
 use Rattle.node_code.specs.Parallel.{When, at_line, outcome_if, outcome_of, mask_reads, is_asked, spot_of, reads_at, value_by_reads, assigned_value, Assignment, Evaluation, indices_in, forall_tuples, forall_spot, forall_mask_tuples}
 use Rattle.node_code.specs.ForallLimits.{term_of, slots_state, sequences_of, unless_empty, forall_limits, one_to_one}
-use Rattle.node_code.specs.Instructions.{Instruction, ForallLimits, OneToOne, ParForall, MakeCopy, ParForallCopy, Verdict, ArrayTable, meaning_of, go_on_if}
-use Rattle.lowering.specs.ExpressionCode.{subscripts_slots, subs_of, subscripts_code, control_slots, index_flat, index_subs, index_form}
+use Rattle.node_code.specs.Instructions.{Instruction, ForallLimits, OneToOne, ParForall, ParForallCopy, ArrayTable, meaning_of, go_on_if}
+use Rattle.lowering.specs.ExpressionCode.{subscripts_slots, subs_of, subscripts_code, control_slots, index_flat, index_form}
 use Rattle.lowering.specs.StatementCode.{triplets, one_to_one_code, forall_mask_code, forall_assignment, forall_assignments_code, forall_code, where_true}
 use Rattle.lowering.specs.WellFormed.{AreScalarSubscripts, AreControls, IsIndexedMask, AreIndexedAssignments}
 use Rattle.lowering.proofs.Reach.{Idle, HasAt, has-front, has-back, same-refl, stands, one, Comes}
-use Rattle.lowering.proofs.Terms.{HoldsScalars, HoldsArrays}
-use Rattle.lowering.proofs.Goes.{Holds, Kept, kept-refl, Goes, goes-on, goes-at, goes-then-kept, goes-value, value-bind, lands-done}
+use Rattle.lowering.proofs.Terms.{HoldsArrays}
+use Rattle.lowering.proofs.Goes.{Holds, Kept, kept-refl, Goes, goes-at, goes-then-kept, goes-value, value-bind, lands-done}
 use Rattle.lowering.proofs.Scatter.{Does, values_of, value-of-reads}
 use Rattle.lowering.proofs.Parts.{SubsGive, subscripts-come}
 use Rattle.lowering.proofs.Storing.{masked-does, stores-go}
 use Rattle.lowering.proofs.Copies.{copy-goes}
 use Rattle.lowering.proofs.Wheres.{forget}
-use Rattle.lowering.proofs.Indexed.{AllAre, all-listed, all-in-forall, subs-are, indexed-value, indexed-names, limits-are, one-to-one-are}
+use Rattle.lowering.proofs.Indexed.{all-listed, all-in-forall, subs-are, indexed-value, indexed-names, limits-are, one-to-one-are}
 
 -- ---- the header
 
@@ -73,8 +71,12 @@ header-kept : (n b c : ℕ) (cs : List Control) (xs ys : List ℤ) → n ≤ b �
 header-kept n b c [] xs ys le few same = refl
 header-kept n b c (x ∷ cs) xs ys le few same =
     let v : ℕ = b + control_slots x in
-    rw (same v (omega (arith, le)) (omega (arith, few)), same (v + 1) (omega (arith, le)) (omega (arith, few)), same (v + 2) (omega (arith, le)) (omega (arith, few)),
-    header-kept n (v + 3) c cs xs ys (omega (arith, le)) (omega (arith, few)) same) refl
+    rw (
+      same v (omega (arith, le)) (omega (arith, few)),
+      same (v + 1) (omega (arith, le)) (omega (arith, few)),
+      same (v + 2) (omega (arith, le)) (omega (arith, few)),
+      header-kept n (v + 3) c cs xs ys (omega (arith, le)) (omega (arith, few)) same,
+    ) refl
 
 -- ---- the meaning, where an empty space passes all tests
 
@@ -215,8 +217,8 @@ module _ (table : ArrayTable) (code : List Instruction) (n many leave again : �
             let ds = selections_at slots y p.left in
             let r = elemental_at slots y p.right in
             let stored : store_at s x.array (subscripts_at ds y) (value_at s y r) ≡ (values y s x.subscripts >>= (λ is. store_at s x.array is (value y s x.right))) =
-              ap (store_at s x.array (subscripts_at ds y)) (indexed-value n s slots holds.scalars y x.right ok.2)
-              ∙ sym (ap (λ q. q >>= (λ is. store_at s x.array is (value y s x.right))) (subs-are n s slots holds.scalars y y x.subscripts ok.1)) in
+            ap (store_at s x.array (subscripts_at ds y)) (indexed-value n s slots holds.scalars y x.right ok.2)
+            ∙ sym (ap (λ q. q >>= (λ is. store_at s x.array is (value y s x.right))) (subs-are n s slots holds.scalars y y x.subscripts ok.1)) in
             subst (λ q. Does x.line x.array (spot_of table.shapes x.array (subscripts_at ds y)) (by_values y (values_of rows (mask_reads when u ++ reads_at table.shapes y r)) (length (mask_reads when u))) (at_tuple y (if_true (m u) q))) stored
             (masked-does n table.shapes s rows holds.arrays y x.line x.array ds r when u (m u) ok.0 (indexed-names n s slots holds.scalars y x.right ok.2) (λ values. asked s slots rows holds u values))
 

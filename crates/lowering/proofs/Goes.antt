@@ -4,7 +4,6 @@ use Rattle.std.proofs.lemmas.Bool.{cases_eq}
 use Rattle.array_meaning.specs.Faults.{Cause, Fault, ◌>>=◌}
 use Rattle.array_meaning.specs.Runs.{Completion, Normal, Exited, Cycled, Stopped, Run, normal, if_normal, then_do, one_step, with_value}
 use Rattle.array_meaning.specs.State.{Array, State, set_scalar, array, no_array, store}
-use Rattle.expression_rules.specs.declared.dims.Dim.{Dim}
 use Rattle.lowering.proofs.Reach.{Idle, SameBelow, Reaches, reaches-on, steps-more, stands, one, Stops, stops-on, Comes, Place}
 use Rattle.lowering.proofs.Terms.{HoldsScalars, HoldsArrays}
 use Rattle.machine_steps.specs.Instr.{Running}
@@ -162,7 +161,7 @@ module _ (table : ArrayTable) (code : List Instruction) (n many : ℕ) (copy : O
   holds-scalar s slots rows k v lt few h = record {
     scalars = λ j lj. ⊎_elim
         (λ (e : j ≡ k). subst (λ j. slot (slice_set slots k v) j ≡ slice_index_or (slice_set s.scalars k v) j (pos 0)) (sym e)
-          (get_or-set_same slots k v (pos 0) (omega (arith, lt, few, h.size)) ∙ sym (get_or-set_same s.scalars k v (pos 0) (omega (arith, lt, h.places)))))
+        (get_or-set_same slots k v (pos 0) (omega (arith, lt, few, h.size)) ∙ sym (get_or-set_same s.scalars k v (pos 0) (omega (arith, lt, h.places)))))
         (λ (ne : j ≡ k → ⊥). get_or-set_other slots k j v (pos 0) ne ∙ h.scalars j lj ∙ sym (get_or-set_other s.scalars k j v (pos 0) ne))
         (cases_eq j k);
     arrays = record { elements = h.arrays.elements; shape = h.arrays.shape };
@@ -182,12 +181,12 @@ module _ (table : ArrayTable) (code : List Instruction) (n many : ℕ) (copy : O
     arrays = record {
       elements = λ j lj. ⊎_elim
           (λ (e : j ≡ a). subst (λ j. row_of (write rows (record { row = a; at = k }) v) j ≡ (array (store s a k v) j).elements) (sym e)
-            (get_or-set_same rows a (slice_set (row_of rows a) k v) [] (omega (arith, lt, h.wide)) ∙ ap (λ r. slice_set r k v) (h.arrays.elements a lt) ∙ sym (ap (λ (x : Array). x.elements) (get_or-set_same s.arrays a (put s a k v) no_array (omega (arith, lt, h.more_places))))))
+          (get_or-set_same rows a (slice_set (row_of rows a) k v) [] (omega (arith, lt, h.wide)) ∙ ap (λ r. slice_set r k v) (h.arrays.elements a lt) ∙ sym (ap (λ (x : Array). x.elements) (get_or-set_same s.arrays a (put s a k v) no_array (omega (arith, lt, h.more_places))))))
           (λ (ne : j ≡ a → ⊥). get_or-set_other rows a j (slice_set (row_of rows a) k v) [] ne ∙ h.arrays.elements j lj ∙ sym (ap (λ (x : Array). x.elements) (get_or-set_other s.arrays a j (put s a k v) no_array ne)))
           (cases_eq j a);
       shape = λ j lj. ⊎_elim
           (λ (e : j ≡ a). subst (λ j. (array (store s a k v) j).dims ≡ slice_index_or table.shapes j []) (sym e)
-            (ap (λ (x : Array). x.dims) (get_or-set_same s.arrays a (put s a k v) no_array (omega (arith, lt, h.more_places))) ∙ h.arrays.shape a lt))
+          (ap (λ (x : Array). x.dims) (get_or-set_same s.arrays a (put s a k v) no_array (omega (arith, lt, h.more_places))) ∙ h.arrays.shape a lt))
           (λ (ne : j ≡ a → ⊥). ap (λ (x : Array). x.dims) (get_or-set_other s.arrays a j (put s a k v) no_array ne) ∙ h.arrays.shape j lj)
           (cases_eq j a);
     };

@@ -1,5 +1,5 @@
 -- Expressions of a FORALL, by the slots and at an index tuple.
-use Rattle.std.proofs.Common.{◌≡◌, ℕ, suc, ◌<◌, ◌==◌, ◌&&◌, ◌||◌, nat_le, List, [], ◌∷◌, ◌++◌, map, ℤ, pos, Bool, Option, Some, None, Result, Ok, refl, sym, ap, ◌∙◌}
+use Rattle.std.proofs.Common.{◌≡◌, ℕ, suc, ◌&&◌, ◌||◌, nat_le, List, [], ◌∷◌, ◌++◌, map, ℤ, pos, Option, Some, None, Ok, refl, sym, ap, ◌∙◌}
 use Rattle.std.specs.Bool.{⊤}
 use Rattle.std.specs.List.{list_all, list_any}
 use Rattle.std.specs.Result.{result_unwrap_or}
@@ -11,7 +11,7 @@ use Rattle.array_meaning.specs.State.{State, element}
 use Rattle.array_meaning.specs.Sections.{subscripts_at}
 use Rattle.array_meaning.specs.Elementals.{operated, value_at, values_at}
 use Rattle.array_meaning.specs.Expressions.{value, values}
-use Rattle.array_meaning.specs.Forall.{without_index, linear, linears, linear_by, index_free, is_linear_in_limits, depends_on, is_one_to_one, subscripts_in, subscripts_in_all, mask_subscripts, body_subscripts, all_subscripts}
+use Rattle.array_meaning.specs.Forall.{without_index, linear, linears, linear_by, index_free, is_linear_in_limits, depends_on, is_one_to_one, subscripts_in, subscripts_in_all, body_subscripts, all_subscripts}
 use Rattle.node_code.specs.Flat.{flat_value, flat_values, or_zero}
 use Rattle.node_code.specs.Forms.{selections_at, elemental_at, elementals_at}
 use Rattle.node_code.specs.ForallLimits.{term_of, terms_of, slots_state}

@@ -9,7 +9,6 @@ use Rattle.array_meaning.specs.State.{State, array, element, element_place, if_i
 use Rattle.array_meaning.specs.Statements.{Elements}
 use Rattle.array_meaning.specs.Terms.{SectionSubscripts}
 use Rattle.array_meaning.specs.declared.sections.Selection.{Selection}
-use Rattle.expression_rules.specs.declared.dims.Dim.{Dim}
 use Rattle.hpf_base.specs.ElementOrder.{product}
 use Rattle.lowering.proofs.Parts.{SubsGive, subscripts-come}
 use Rattle.lowering.proofs.Reach.{HasAt, has-front, has-back, SameBelow, same-refl, Reaches, stands, one, Comes, comes-on, comes-then, comes-at}

@@ -3,7 +3,6 @@ use Rattle.std.proofs.Common.{◌≡◌, ℕ, zero, suc, ◌+◌, ◌<◌, ◌�
 use Rattle.array_meaning.specs.Execution.{iterate, after_iteration}
 use Rattle.array_meaning.specs.Runs.{Completion, Normal, Exited, Cycled, Stopped, Run, normal}
 use Rattle.array_meaning.specs.State.{State, set_scalar}
-use Rattle.expression_rules.specs.declared.dims.Dim.{Dim}
 use Rattle.lowering.proofs.Goes.{Holds, Kept, kept-refl, Goes, goes-on, Flows, set-reaches, jump-reaches, test-reaches, holds-slot, holds-scalar}
 use Rattle.lowering.proofs.Reach.{HasAt, has-back, has-drop, Reaches, reaches-on, stands, Place}
 use Rattle.lowering.proofs.Trips.{left-true, left-less, none-left}
@@ -93,13 +92,17 @@ module _ (table : ArrayTable) (code : List Instruction) (n many : ℕ) (copy : O
         let r1 = set-reaches table code n many copy line again_at v slots rows s.printed (Operated op.Add (AndFlat (Slot v) (AndFlat (Slot (v + 2)) NoFlat))) next (has-drop code 4 pc (loop_code line pc v x bcode) has).0 (rw (numbers.0, numbers.1) refl) in
         let here : slot slots1 v ≡ next = get_or-set_same slots v next (pos 0) (omega (arith, few, holds.size)) in
         let r2 = set-reaches table code n many copy line (pc + 5) x slots1 rows s.printed (Slot v) next (has-drop code 5 pc (loop_code line pc v x bcode) has).0 (ap Ok here) in
-        let other : (j : ℕ) → n ≤ j → slot slots2 j ≡ slot slots1 j = λ j from. get_or-set_other slots1 x j next (pos 0) (λ e. absurd (omega (arith, e, from, lx))) in
-        (slots2, reaches-on table code (stands table code again_at slots rows s.printed) (stands table code (pc + 5) slots1 rows s.printed) (stands table code (pc + 6) slots2 rows s.printed) (moved r1) (moved2 r2),
-        (λ j from lt. sym (get_or-set_other slots v j next (pos 0) (λ e. absurd (omega (arith, e, lt)))) ∙ sym (other j from)),
-        holds-scalar table code n many copy s slots1 rows x next lx (omega (arith, few, lv)) (holds-slot table code n many copy s slots rows v next lv holds),
-        (other v lv ∙ here,
-        other (v + 2) (omega (arith, lv)) ∙ get_or-set_other slots v (v + 2) next (pos 0) (λ e. absurd (omega (arith, e))) ∙ numbers.1,
-        other (v + 3) (omega (arith, lv)) ∙ get_or-set_other slots v (v + 3) next (pos 0) (λ e. absurd (omega (arith, e))) ∙ numbers.2))
+        let other : (j : ℕ) → n ≤ j → slot slots2 j ≡ slot slots1 j = λ j from. get_or-set_other slots1 x j next (pos 0) (λ e. absurd (omega (arith, e, from, lx))) in (
+          slots2,
+          reaches-on table code (stands table code again_at slots rows s.printed) (stands table code (pc + 5) slots1 rows s.printed) (stands table code (pc + 6) slots2 rows s.printed) (moved r1) (moved2 r2),
+          (λ j from lt. sym (get_or-set_other slots v j next (pos 0) (λ e. absurd (omega (arith, e, lt)))) ∙ sym (other j from)),
+          holds-scalar table code n many copy s slots1 rows x next lx (omega (arith, few, lv)) (holds-slot table code n many copy s slots rows v next lv holds),
+          (
+            other v lv ∙ here,
+            other (v + 2) (omega (arith, lv)) ∙ get_or-set_other slots v (v + 2) next (pos 0) (λ e. absurd (omega (arith, e))) ∙ numbers.1,
+            other (v + 3) (omega (arith, lv)) ∙ get_or-set_other slots v (v + 3) next (pos 0) (λ e. absurd (omega (arith, e))) ∙ numbers.2,
+          ),
+        )
       where
         moved : {m : Place} {slots : List ℤ} → Reaches table code m (stands table code (pc + 4 + 1) slots rows s.printed) → Reaches table code m (stands table code (pc + 5) slots rows s.printed)
         moved {m} {slots} r = let e : pc + 4 + 1 ≡ pc + 5 = omega arith in subst (λ p. Reaches table code m (stands table code p slots rows s.printed)) e r
@@ -130,7 +133,8 @@ module _ (table : ArrayTable) (code : List Instruction) (n many : ℕ) (copy : O
         (subst (λ p. Reaches table code (stands table code (pc + 6) a.0 rows s.printed) (stands table code p a.0 rows s.printed)) e7 r1)
         (subst (λ p. Reaches table code (stands table code (pc + 7) a.0 rows s.printed) (stands table code p slots2 rows s.printed)) e8 r2)))
         (λ j from lt. a.2 j from lt ∙ sym (get_or-set_other a.0 (v + 3) j left (pos 0) (λ e. absurd (omega (arith, e, lt)))))
-        (from-inside k (from-again k (omega (arith, small))) s slots2 rows next step (holds-slot table code n many copy (set_scalar s x next) a.0 rows (v + 3) left (omega (arith, lv)) a.3)
-        (get_or-set_other a.0 (v + 3) v left (pos 0) (λ e. absurd (omega (arith, e))) ∙ a.4.0,
-        get_or-set_other a.0 (v + 3) (v + 2) left (pos 0) (λ e. absurd (omega (arith, e))) ∙ a.4.1,
-        get_or-set_same a.0 (v + 3) left (pos 0) (omega (arith, few, a.3.size))))
+        (from-inside k (from-again k (omega (arith, small))) s slots2 rows next step (holds-slot table code n many copy (set_scalar s x next) a.0 rows (v + 3) left (omega (arith, lv)) a.3) (
+          get_or-set_other a.0 (v + 3) v left (pos 0) (λ e. absurd (omega (arith, e))) ∙ a.4.0,
+          get_or-set_other a.0 (v + 3) (v + 2) left (pos 0) (λ e. absurd (omega (arith, e))) ∙ a.4.1,
+          get_or-set_same a.0 (v + 3) left (pos 0) (omega (arith, few, a.3.size)),
+        ))

@@ -7,7 +7,6 @@ use Rattle.array_meaning.specs.Sections.{extents}
 use Rattle.array_meaning.specs.State.{State}
 use Rattle.array_meaning.specs.Terms.{Term, Number, Scalar, Index, Element, Section, Apply, Reduce, Terms, NoTerm, More, SectionSubscripts, NoSubscript, Subscript, Triplet}
 use Rattle.array_meaning.specs.declared.sections.Selection.{Selection}
-use Rattle.expression_rules.specs.declared.dims.Dim.{Dim}
 use Rattle.lowering.proofs.Goes.{Holds}
 use Rattle.lowering.specs.ExpressionCode.{first_subs, first_subs_of, or_no_sub, subscripts_slots, subs_of, parts_slots, all_parts_slots, form_of, forms_of, control_slots, triplet, slots_of}
 use Rattle.nest_order.specs.Effect.{Effect, Put, Fail, scatter}

@@ -12,12 +12,12 @@ use Rattle.array_meaning.specs.Runs as runs
 use Rattle.array_meaning.specs.Runs.{Completion, Normal, Exited, Cycled, Stopped, Run}
 use Rattle.array_meaning.specs.Execution.{run_block}
 use Rattle.array_meaning.specs.Resolution.{resolved_block, initial_scalar, initial_array, initial_state}
-use Rattle.array_meaning.specs.Serial.{end_of, outcome, outcome_of}
+use Rattle.array_meaning.specs.Serial.{end_of, outcome}
 use Rattle.machine_steps.specs.Layout.{Layout, size_of}
 use Rattle.machine_steps.specs.Machine.{Machine, steps}
 use Rattle.node_code.specs.Instructions.{Instruction, ArrayTable, meaning_of}
 use Rattle.lowering.specs.WellFormed.{IsWellFormedBlock}
-use Rattle.lowering.specs.Lowered.{opening, EndsAs, IsEnd, MachineEnds, MachineHas, table_of}
+use Rattle.lowering.specs.Lowered.{opening, EndsAs, IsEnd, MachineHas, table_of}
 use Rattle.lowering.proofs.Programs.{program-ends}
 
 -- an end is that of the outcome

@@ -1,5 +1,5 @@
 -- A parallel statement and its Verdict on the machine.
-use Rattle.std.proofs.Common.{◌≡◌, ℕ, ◌+◌, ◌<◌, List, ◌∷◌, [], ℤ, Option, Some, None, refl, sym, ap, ◌∙◌, arith}
+use Rattle.std.proofs.Common.{◌≡◌, ℕ, ◌+◌, ◌<◌, List, ◌∷◌, [], ℤ, Option, Some, None, refl, ap, ◌∙◌, arith}
 use Rattle.nest_order.specs.Storage.{Storage, Spot, read}
 use Rattle.nest_order.specs.Effect.{scatter}
 use Rattle.array_meaning.specs.Faults.{Fault}

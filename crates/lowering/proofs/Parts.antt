@@ -1,39 +1,30 @@
 -- The code of an array expression evaluates its parts once.
 use Rattle.lowering.proofs.Evaluating.{reduce-comes}
-use Rattle.std.proofs.Common.{◌≡◌, ℕ, zero, suc, ◌+◌, ◌<◌, ◌≤◌, List, [], ◌∷◌, ◌++◌, length, ℤ, pos, Bool, true, false, if◌then◌else◌, Option, Some, None, Result, Ok, Err, refl, sym, ap, ◌∙◌, subst, arith, length-append, append-nil, fold, slice_get, slice_set, length-set}
-use Rattle.std.specs.Bool.{⊤}
-use Rattle.array_meaning.specs.Elementals.{reduction, value_at, first_extents, sections, values_over, each, Elemental, Same, Selected, Operation, Elementals, NoOperand, Operand}
+use Rattle.std.proofs.Common.{◌≡◌, ℕ, ◌+◌, ◌<◌, ◌≤◌, List, [], ◌∷◌, ◌++◌, length, ℤ, pos, Bool, true, false, if◌then◌else◌, Some, None, Ok, refl, sym, ap, ◌∙◌, subst, arith, length-append, slice_get, slice_set, length-set}
+use Rattle.array_meaning.specs.Elementals.{reduction, Elemental, Same, Selected, Operation, Elementals, NoOperand, Operand}
 use Rattle.array_meaning.specs.Expressions.{values, value, selections, elemental, elementals}
-use Rattle.array_meaning.specs.Faults.{Cause, Fault, ◌>>=◌, fails, at_tuple}
-use Rattle.array_meaning.specs.Sections.{space_size, positions, sequence, sequence_of, value_count}
+use Rattle.array_meaning.specs.Faults.{◌>>=◌, fails}
+use Rattle.array_meaning.specs.Sections.{sequence, sequence_of, value_count}
 use Rattle.array_meaning.specs.State.{State, scalar, element}
 use Rattle.array_meaning.specs.Terms.{Term, Number, Scalar, Index, Element, Section, Apply, Reduce, Terms, NoTerm, More, SectionSubscripts, NoSubscript, Subscript, Triplet, Control}
 use Rattle.array_meaning.specs.declared.faults.FaultKind.TheVariants.{ZeroStride}
 use Rattle.array_meaning.specs.declared.sections.Selection.{Selection}
 use Rattle.array_meaning.specs.declared.sections.Selection.TheVariants.{At, Along}
 use Rattle.array_meaning.specs.declared.sections.Sequence.{Sequence}
-use Rattle.expression_rules.specs.declared.dims.Dim.{Dim}
-use Rattle.hpf_base.specs.ElementOrder.{product}
 use Rattle.lowering.proofs.Goes.{set-reaches}
-use Rattle.lowering.proofs.Masks.{shape-first}
-use Rattle.lowering.proofs.Reach.{Idle, HasAt, has-front, has-back, SameBelow, same-refl, same-on, same-set, slot-set, Reaches, reaches-on, stands, one, Comes, comes-on, comes-then, comes-at, comes-but, comes-here, Place}
-use Rattle.lowering.proofs.Scatter.{NamesBelow, AllNameBelow, values_of, value-of-reads, space-size}
+use Rattle.lowering.proofs.Reach.{Idle, HasAt, has-front, has-back, SameBelow, same-refl, same-on, same-set, slot-set, Reaches, reaches-on, stands, one, Comes, comes-on, comes-then, comes-at, comes-but, comes-here}
+use Rattle.lowering.proofs.Scatter.{NamesBelow, AllNameBelow}
 use Rattle.lowering.proofs.Terms.{HoldsScalars, HoldsArrays, holds-same, Gives, GiveAll, nothing, fetch-comes, apply-comes}
 use Rattle.lowering.specs.ExpressionCode.{all_slots_of, flats_of, codes_of, set_if, reduce_code, slots_of, flat_of, code_of, control_slots, control_code, triplet, subscripts_slots, subs_of, subscripts_code, parts_slots, all_parts_slots, form_of, forms_of, parts_code, all_parts_code}
 use Rattle.lowering.specs.WellFormed.{IsArray, AreArrays, AreScalarSubscripts, IsScalar, AreScalar}
 use Rattle.machine_steps.specs.Instr.{Running}
-use Rattle.machine_steps.specs.Instr.{Faulted}
-use Rattle.machine_steps.specs.Machine.{Machine, Kept, keep, folded, effect_of, effect_by, steps}
-use Rattle.nest_order.specs.Effect.{Effect, Put, Fail}
-use Rattle.nest_order.specs.Storage.{Storage, read}
+use Rattle.machine_steps.specs.Machine.{steps}
+use Rattle.nest_order.specs.Storage.{Storage}
 use Rattle.node_code.specs.Flat.{slot, Flat, Int, Slot, NoFlat, Operated, flat_values, or_zero}
 use Rattle.node_code.specs.Forms.{Sub, SubAt, SubAlong, Form, FlatForm, SectionForm, OperationForm, Forms, NoForm, selections_in, elemental_in, elementals_in, sequence_in}
-use Rattle.node_code.specs.Instructions.{Instruction, Fetch, OwnLimits, Set, TestStride, go_on_if, meaning_of, ArrayTable}
-use Rattle.node_code.specs.Parallel.{at_line, Evaluation, evaluation_extents, evaluation_size, fault_at, outcome_of, reads_at, value_by_reads}
+use Rattle.node_code.specs.Instructions.{Instruction, Fetch, Set, TestStride, go_on_if, meaning_of, ArrayTable}
+use Rattle.node_code.specs.Parallel.{at_line}
 use Rattle.op_tables.specs.Operators.{wrapped, is_zero, can_divide}
-use Rattle.op_tables.specs.Reductions.{combined}
-use Rattle.op_tables.specs.declared.op.Op.{Op}
-use Rattle.node_code.specs.Instructions as instructions
 
 -- what the slots give, whatever becomes of those from b on
 abbrev pub SequenceGives : ℕ → ℕ → List ℤ → Sequence → Type 0

@@ -1,5 +1,5 @@
 -- The machine over the code of a program ends as the program does.
-use Rattle.std.proofs.Common.{◌≡◌, ℕ, ◌+◌, ◌<◌, ◌≤◌, List, [], ◌∷◌, ◌++◌, map, replicate, length, ℤ, pos, Some, None, refl, sym, ap, ◌∙◌, subst, arith, length-append, append_assoc, slice_index_or}
+use Rattle.std.proofs.Common.{◌≡◌, ℕ, ◌+◌, ◌<◌, List, [], ◌∷◌, ◌++◌, map, replicate, length, ℤ, pos, Some, None, refl, sym, ap, ◌∙◌, subst, arith, length-append, append_assoc, slice_index_or}
 use Rattle.std.proofs.Math.ListN.{get_or-append, get_or-map}
 use Rattle.std.proofs.Math.Seq.{get_or-append_seam}
 use Rattle.std.proofs.lemmas.List.{length-map, length-replicate}

@@ -1,7 +1,6 @@
 -- A parallel statement and its Verdict: the values first and then the stores, or the first fault in the order of tuples.
 use Rattle.std.proofs.Common.{◌≡◌, ℕ, zero, suc, ◌+◌, ◌<◌, List, [], ◌∷◌, ◌++◌, map, length, ℤ, pos, Bool, true, false, if◌then◌else◌, Option, Some, None, Result, Ok, Err, refl, sym, ap, ◌∙◌, arith, length-append, append_assoc, append-nil, slice_index_or, option_map}
 use Rattle.std.specs.Bool.{⊤}
-
 use Rattle.std.proofs.lemmas.List.{length-map}
 use Rattle.std.specs.List.{list_all}
 use Rattle.array_meaning.specs.ArrayAssignments.{store_at}

@@ -1,23 +1,21 @@
 -- The code of an array assignment: limits, one parallel statement, its Verdict.
-use Rattle.std.proofs.Common.{◌≡◌, ℕ, ◌+◌, ◌<◌, ◌≤◌, List, [], ◌∷◌, ◌++◌, length, ℤ, Bool, true, false, Option, Some, None, Result, Ok, Err, refl, sym, ap, ◌∙◌, subst, arith, length-append}
-use Rattle.std.proofs.lemmas.List.{length-map}
+use Rattle.std.proofs.Common.{◌≡◌, ℕ, ◌+◌, ◌<◌, ◌≤◌, List, [], ◌∷◌, ◌++◌, length, ℤ, Bool, true, Option, None, Result, Ok, Err, refl, sym, ap, ◌∙◌, subst, arith, length-append}
 use Rattle.array_meaning.specs.ArrayAssignments.{store_at, if_true, assign_elemental, assign_section}
 use Rattle.array_meaning.specs.Elementals.{Elemental, sections, value_at, each}
 use Rattle.array_meaning.specs.Expressions.{selections, elemental}
 use Rattle.array_meaning.specs.Faults.{Cause, Fault, ◌>>=◌, at_tuple}
 use Rattle.array_meaning.specs.Runs.{one_step, with_value}
 use Rattle.array_meaning.specs.Sections.{subscripts_at, positions, extents, space_size}
-use Rattle.array_meaning.specs.State.{State, stored, store_all}
+use Rattle.array_meaning.specs.State.{State, store_all}
 use Rattle.array_meaning.specs.Terms.{Term, SectionSubscripts}
 use Rattle.array_meaning.specs.declared.sections.Selection.{Selection}
 use Rattle.array_meaning.specs.declared.sections.Store.{Store}
-use Rattle.expression_rules.specs.declared.dims.Dim.{Dim}
 use Rattle.hpf_base.specs.ElementOrder.{product}
 use Rattle.lowering.proofs.Goes.{Holds, kept-refl, Goes, goes-on, goes-at, goes-value, ends-bind}
 use Rattle.lowering.proofs.Parts.{SubsGive, FormGives, subscripts-come, parts-come}
-use Rattle.lowering.proofs.Reach.{HasAt, has-front, has-back, SameBelow, same-refl, same-on, Reaches, reaches-on, stands, one, Place}
+use Rattle.lowering.proofs.Reach.{HasAt, has-front, has-back, SameBelow, same-refl, same-on, stands, one, Place}
 use Rattle.lowering.proofs.Storing.{masked-does, stores-go}
-use Rattle.lowering.proofs.Scatter.{space-size, Does, Scattered, scattered, values_of, values-append, NamesBelow, tuple-does}
+use Rattle.lowering.proofs.Scatter.{space-size, Does, values_of, NamesBelow}
 use Rattle.lowering.specs.ExpressionCode.{subscripts_slots, subs_of, subscripts_code, parts_slots, parts_code, form_of}
 use Rattle.lowering.specs.WellFormed.{AreScalarSubscripts, IsArray}
 use Rattle.lowering.specs.StatementCode.{assignment, assignment_code}
@@ -25,11 +23,10 @@ use Rattle.machine_steps.specs.Instr.{Running}
 use Rattle.machine_steps.specs.Instr.{Outcome}
 use Rattle.machine_steps.specs.Machine as machine
 use Rattle.machine_steps.specs.Machine.{effect_of, value_by}
-use Rattle.nest_order.specs.Effect.{Effect, scatter}
 use Rattle.nest_order.specs.Storage.{Storage, read}
 use Rattle.node_code.specs.Forms.{Sub, selections_in, elemental_in}
-use Rattle.node_code.specs.Instructions.{Instruction, Limits, Par, Verdict, go_on_if, meaning_of, ArrayTable}
-use Rattle.node_code.specs.Parallel.{When, assignment_tuples, assigned_spot, fault_at, at_line, Assignment, assignment_size, mask_reads, is_asked, outcome_if, assigned_value, reads_at, spot_of}
+use Rattle.node_code.specs.Instructions.{Instruction, Limits, Par, Verdict, go_on_if, ArrayTable}
+use Rattle.node_code.specs.Parallel.{When, assignment_tuples, assigned_spot, at_line, Assignment, assignment_size, mask_reads, is_asked, outcome_if, assigned_value, reads_at, spot_of}
 
 module _ (table : ArrayTable) (code : List Instruction) (n many : ℕ) (copy : Option (List ℤ)) (leave again : ℕ) (p : Assignment) (la : p.array < n) where
   -- what the slots say, and which tuples are chosen

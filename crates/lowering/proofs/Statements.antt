@@ -13,9 +13,8 @@ use Rattle.array_meaning.specs.Runs.{Run, normal, one_step, with_value}
 use Rattle.array_meaning.specs.Sections.{sequence}
 use Rattle.array_meaning.specs.State.{State}
 use Rattle.array_meaning.specs.Statements.{Item, Value, Elements, Block, Done, Then, Statement, AssignScalar, AssignElement, AssignSection, If, Do, Where, Forall, Stop, Exit, Cycle, Continue, Redistribute, Arms, NoArm, Arm}
-use Rattle.array_meaning.specs.Terms.{Term, Control}
+use Rattle.array_meaning.specs.Terms.{Control}
 use Rattle.array_meaning.specs.declared.sections.Sequence.{Sequence}
-use Rattle.expression_rules.specs.declared.dims.Dim.{Dim}
 use Rattle.lowering.proofs.Assigns.{assigns, assigns-element}
 use Rattle.lowering.proofs.Branches.{Makes, arm-goes, enters}
 use Rattle.lowering.proofs.Goes.{Holds, kept-refl, Goes, goes-on, goes-at, goes-then, goes-value, ends-bind, value-bind, lands-done, set-reaches, jump-reaches, holds-slot}
@@ -118,10 +117,14 @@ module _ (table : ArrayTable) (code : List Instruction) (n many : ℕ) (sized : 
       (subst (Goes table code n many None leave again (pc1 + 1) b slots (stands table code pc slots rows s.printed)) (sym (ends-bind line s (all_item_bytes s items) (λ bytes. Ok (after bytes))))
       (goes-value table code n many None leave again line pc pc1 (pc1 + 1) b b1 slots rows s (ShowsAll rows b1 (print_items b items)) (all_item_bytes s items) (λ bytes. normal (after bytes)) (omega arith) le holds
       (items-come line s rows holds.arrays items pc b slots ok (has-front code pc c (text ∷ []) has) holds.scalars le (omega (arith, few, holds.size)))
-      (λ slots1 bytes e same shows holds1.
-      (slots1, rows, (λ i. let p = prints-line table code pc1 slots1 rows s.printed (print_items b items) (has-back code pc c (text ∷ []) has).0 i in
-      (p.0, i, p.1 ∙ ap (λ x. stands table code (pc1 + 1) slots1 rows (s.printed ++ (drop 1 x ++ 10 ∷ [])) i) (shows slots1 (same-refl b1 slots1)))), kept-refl table code n many None b1 slots1,
-      record { scalars = holds1.scalars; arrays = record { elements = holds1.arrays.elements; shape = holds1.arrays.shape }; places = holds1.places; more_places = holds1.more_places; wide = holds1.wide; copied = holds1.copied; size = holds1.size }))))
+      (λ slots1 bytes e same shows holds1. (
+        slots1,
+        rows,
+        (λ i. let p = prints-line table code pc1 slots1 rows s.printed (print_items b items) (has-back code pc c (text ∷ []) has).0 i in
+            (p.0, i, p.1 ∙ ap (λ x. stands table code (pc1 + 1) slots1 rows (s.printed ++ (drop 1 x ++ 10 ∷ [])) i) (shows slots1 (same-refl b1 slots1)))),
+        kept-refl table code n many None b1 slots1,
+        record { scalars = holds1.scalars; arrays = record { elements = holds1.arrays.elements; shape = holds1.arrays.shape }; places = holds1.places; more_places = holds1.more_places; wide = holds1.wide; copied = holds1.copied; size = holds1.size },
+      ))))
 
   loop-goes : (line b pc leave again x : ℕ) (c : Control) (bcode : ℕ → ℕ → ℕ → List Instruction) (brun : State → Run) (slots : List ℤ) (rows : Storage) (s : State) → x < n → (IsScalar n c.first × IsScalar n c.last × IsScalar n c.step)
       → HasAt code pc (control_code line b c ++ loop_code line (pc + length (control_code line b c)) (b + control_slots c) x bcode) → n ≤ b → b + (control_slots c + 4) ≤ many → Holds table code n many None s slots rows
@@ -234,10 +237,11 @@ module _ (table : ArrayTable) (code : List Instruction) (n many : ℕ) (sized : 
       numbers : (slots : List ℤ) (a z d : ℤ) → v + 4 ≤ length slots → (slot (filled slots a z d) v ≡ a) × (slot (filled slots a z d) (v + 1) ≡ z) × (slot (filled slots a z d) (v + 2) ≡ d)
       numbers slots a z d lt =
           let s1 = slice_set slots v a in
-          let s2 = slice_set s1 (v + 1) z in
-          (sym ((same-set (v + 1) (v + 2) s2 d (omega arith)).1 v (omega arith)) ∙ sym ((same-set (v + 1) (v + 1) s1 z (omega arith)).1 v (omega arith)) ∙ slot-set v slots a (omega (arith, lt)),
-          sym ((same-set (v + 2) (v + 2) s2 d (omega arith)).1 (v + 1) (omega arith)) ∙ slot-set (v + 1) s1 z (omega (arith, lt, length-set slots v a)),
-          slot-set (v + 2) s2 d (omega (arith, lt, length-set slots v a, length-set s1 (v + 1) z)))
+          let s2 = slice_set s1 (v + 1) z in (
+            sym ((same-set (v + 1) (v + 2) s2 d (omega arith)).1 v (omega arith)) ∙ sym ((same-set (v + 1) (v + 1) s1 z (omega arith)).1 v (omega arith)) ∙ slot-set v slots a (omega (arith, lt)),
+            sym ((same-set (v + 2) (v + 2) s2 d (omega arith)).1 (v + 1) (omega arith)) ∙ slot-set (v + 1) s1 z (omega (arith, lt, length-set slots v a)),
+            slot-set (v + 2) s2 d (omega (arith, lt, length-set slots v a, length-set s1 (v + 1) z)),
+          )
 
       fills : (slots : List ℤ) (a z d : ℤ) → Gives v' f1 slots a → Gives v' f2 slots z → Gives v' f3 slots d → Reaches table code (stands table code pc3 slots rows s.printed) (stands table code lp (filled slots a z d) rows s.printed)
       fills slots a z d g1 g2 g3 =

@@ -42,9 +42,9 @@ module _ (n : ℕ) (shapes : List (List Dim)) (s : State) (rows : Storage) (arra
       let front = values_of rows (mask_reads when t) in
       let back = values_of rows (reads_at shapes x r) in
       let here : by_values (values_of rows (mask_reads when t ++ reads_at shapes x r)) (length (mask_reads when t)) ≡ outcome_if chosen (at_line line (assigned_value shapes a ds r x (front ++ back) (length front))) =
-        ap (λ vs. by_values vs (length (mask_reads when t))) (values-append rows (mask_reads when t) (reads_at shapes x r))
-        ∙ ap (by_values (front ++ back)) (sym (length-map (mask_reads when t) (value_by (read rows))))
-        ∙ ap (λ b. outcome_if b (at_line line (assigned_value shapes a ds r x (front ++ back) (length front)))) (mask back) in
+      ap (λ vs. by_values vs (length (mask_reads when t))) (values-append rows (mask_reads when t) (reads_at shapes x r))
+      ∙ ap (by_values (front ++ back)) (sym (length-map (mask_reads when t) (value_by (read rows))))
+      ∙ ap (λ b. outcome_if b (at_line line (assigned_value shapes a ds r x (front ++ back) (length front)))) (mask back) in
       subst (λ o. Does line a (spot_of shapes a (subscripts_at ds x)) o (at_tuple x (if_true chosen (store_at s a (subscripts_at ds x) (value_at s x r))))) (sym here) (by_chosen chosen)
     where
       by_chosen : (b : Bool) → Does line a (spot_of shapes a (subscripts_at ds x)) (outcome_if b (at_line line (assigned_value shapes a ds r x (values_of rows (mask_reads when t) ++ values_of rows (reads_at shapes x r)) (length (values_of rows (mask_reads when t))))))

@@ -1,38 +1,33 @@
 -- The code of a WHERE does what it means.
-use Rattle.std.proofs.Common.{◌≡◌, ℕ, zero, suc, ◌+◌, ◌<◌, ◌≤◌, List, [], ◌∷◌, ◌++◌, length, ℤ, pos, Bool, true, false, not, Option, Some, None, Result, Ok, Err, refl, sym, ap, ◌∙◌, subst, arith, length-append, append-nil, replicate, slice_set, slice_index_or, get_or-set_same}
-use Rattle.std.proofs.lemmas.List.{length-replicate}
+use Rattle.std.proofs.Common.{◌≡◌, ℕ, ◌+◌, ◌≤◌, List, [], ◌∷◌, ◌++◌, length, ℤ, pos, Bool, true, false, Option, Some, None, Result, Ok, Err, refl, sym, ap, ◌∙◌, subst, arith, length-append, slice_index_or}
 use Rattle.machine_steps.specs.Layout.{size_of}
-use Rattle.machine_steps.specs.Instr.{Running, Outcome}
-use Rattle.machine_steps.specs.Machine as machine
-use Rattle.machine_steps.specs.Machine.{effect_of, effect_by}
-use Rattle.lowering.proofs.Evaluating.{result-outcome, own-shape, own-limits, own-outcome}
+use Rattle.machine_steps.specs.Instr.{Running}
+use Rattle.lowering.proofs.Evaluating.{own-shape, own-limits, own-outcome}
 use Rattle.lowering.proofs.Copies.{copy-goes}
 use Rattle.lowering.specs.StatementCode.{where_true}
 use Rattle.array_meaning.specs.ArrayAssignments.{mask_of, negated_mask, assign_all_where, run_where, assign_elemental}
 use Rattle.array_meaning.specs.Elementals.{ArrayValue, Elemental, sections, value_at, first_extents, array_value, values_over}
 use Rattle.array_meaning.specs.Expressions.{selections, elemental}
-use Rattle.array_meaning.specs.Faults.{Cause, Fault, ◌>>=◌, at_tuple}
+use Rattle.array_meaning.specs.Faults.{Cause, ◌>>=◌}
 use Rattle.array_meaning.specs.Runs.{Completion, Normal, Exited, Cycled, Stopped, Run, normal, then_do, one_step, with_value}
 use Rattle.array_meaning.specs.Sections.{positions, extents, space_size}
 use Rattle.array_meaning.specs.State.{State}
 use Rattle.array_meaning.specs.Statements.{SectionAssignment}
 use Rattle.array_meaning.specs.Terms.{Term}
-use Rattle.expression_rules.specs.declared.dims.Dim.{Dim}
 use Rattle.hpf_base.specs.ElementOrder.{product}
 use Rattle.lowering.proofs.Goes.{Holds, kept-refl, Goes, Flows, goes-on, goes-at, goes-then-kept, goes-value, value-bind, lands-done}
-use Rattle.lowering.proofs.Masks.{shape-first, FirstWithin, first-within, first-kept, holds-copy, holds-some, value_effect, Filled, filled}
+use Rattle.lowering.proofs.Masks.{FirstWithin, first-within, first-kept}
 use Rattle.lowering.proofs.Parts.{FormGives, parts-come}
-use Rattle.lowering.proofs.Reach.{HasAt, has-front, has-back, has-drop, same-refl, Reaches, reaches-on, stops-on, stands, one, Place}
-use Rattle.lowering.proofs.Scatter.{values_of, NamesBelow, value-of-reads, space-size}
+use Rattle.lowering.proofs.Reach.{HasAt, has-front, has-back, has-drop, same-refl, stands, one, Place}
+use Rattle.lowering.proofs.Scatter.{NamesBelow, space-size}
 use Rattle.lowering.proofs.Sections.{assignment-goes}
 use Rattle.lowering.specs.ExpressionCode.{own_evaluation, first_subs, or_no_sub, parts_slots, parts_code, form_of}
 use Rattle.lowering.specs.WellFormed.{AreMasked, IsArray}
 use Rattle.lowering.specs.StatementCode.{assignment_code, masked_slots, masked_code, where_code}
-use Rattle.nest_order.specs.Effect.{Effect, scatter}
-use Rattle.nest_order.specs.Storage.{Storage, read, row_of}
+use Rattle.nest_order.specs.Storage.{Storage}
 use Rattle.node_code.specs.Forms.{Sub, selections_in, elemental_in}
-use Rattle.node_code.specs.Instructions.{Instruction, OwnLimits, MakeCopy, ParCopy, Verdict, go_on_if, meaning_of, ArrayTable}
-use Rattle.node_code.specs.Parallel.{When, fault_at, evaluation_tuples, copy_spot, at_line, Evaluation, evaluation_extents, evaluation_size, as_asked, outcome_of, reads_at, value_by_reads}
+use Rattle.node_code.specs.Instructions.{Instruction, OwnLimits, MakeCopy, ParCopy, Verdict, go_on_if, ArrayTable}
+use Rattle.node_code.specs.Parallel.{When, evaluation_tuples, at_line, Evaluation, evaluation_extents, as_asked}
 use Rattle.op_tables.specs.Operators.{is_true}
 use Rattle.array_meaning.specs.Runs as runs
 

@@ -8,7 +8,6 @@ use Rattle.array_meaning.specs.State.{State, scalar, array}
 use Rattle.array_meaning.specs.Statements.{Block}
 use Rattle.array_meaning.specs.Runs as runs
 use Rattle.array_meaning.specs.Runs.{Completion, Run}
-use Rattle.array_meaning.specs.Execution.{run_block}
 use Rattle.array_meaning.specs.Resolution.{initial_state}
 use Rattle.array_meaning.specs.Serial as serial
 use Rattle.array_meaning.specs.Serial.{Outcome}

@@ -1,7 +1,7 @@
 -- The code of statements and of programs. Each statement takes slots from `b` on anew, and keeps those below.
 use Rattle.std.specs.Prelude.{ℕ, ◌+◌, List, [], ◌∷◌, ◌++◌, length, map, pos, Bool, true, false, Option, Some, None, option_map}
 use Rattle.op_tables.specs.declared.op.Op.TheVariants as op
-use Rattle.array_meaning.specs.Terms.{Term, Terms, list_of, SectionSubscripts, NoSubscript, Triplet, Control}
+use Rattle.array_meaning.specs.Terms.{Term, list_of, SectionSubscripts, NoSubscript, Triplet, Control}
 use Rattle.array_meaning.specs.Statements as statements
 use Rattle.array_meaning.specs.Statements.{Item, Text, Value, Elements, SectionAssignment, ElementAssignment, Block, Done, Then, Statement, AssignScalar, AssignElement, AssignSection, If, Do, Where, Forall, Stop, Exit, Cycle, Continue, Redistribute, Arms, NoArm, Arm}
 use Rattle.array_meaning.specs.Forall.{all_subscripts}

@@ -28,5 +28,5 @@ pub fn outcomes_lowered()
         → ((extents : List ℕ) → size_of (copies extents) ≡ product extents)
         → IsWellFormedBlock (length names) (resolved_block names body)
         → MachineHas (length names) (table_of names copies)
-            (opening (length names) (resolved_block names body) (initial_state names) layouts) (outcome names body) }
+        (opening (length names) (resolved_block names body) (initial_state names) layouts) (outcome names body) }
 {}
