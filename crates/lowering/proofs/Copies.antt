@@ -24,14 +24,18 @@ use Rattle.lowering.proofs.Masks.{holds-copy, holds-some, value_effect, Filled, 
 use Rattle.lowering.proofs.Evaluating.{result-outcome}
 use Rattle.lowering.proofs.Pars.{par-reaches, par-stops}
 
-module _ (table : ArrayTable) (code : List Instruction) (n many leave again : ℕ) (sized : (ns : List ℕ) → size_of (table.copies ns) ≡ product ns) (line b pc to : ℕ) (form : Form) (over : List Sub) (par : Instruction) (tuples : Tuples Fault) (is : meaning_of table par ≡ instr.Par tuples (copy_spot n)) where
+module _ (table : ArrayTable) (code : List Instruction) (n many leave again : ℕ) (sized : (ns : List ℕ) → size_of (table.copies ns) ≡ product ns) (line b pc to : ℕ)
+    (form : Form) (over : List Sub) (par : Instruction) (tuples : Tuples Fault) (is : meaning_of table par ≡ instr.Par tuples (copy_spot n)) where
   abbrev p : Evaluation
   p = record { line = line; form = form; over = over; copy = n }
 
-  module _ (has : HasAt code pc (MakeCopy p ∷ par ∷ Verdict ∷ [])) (slots : List ℤ) (rows : Storage) (s : State) (holds : Holds table code n many None s slots rows) (ns : List ℕ) (shape : evaluation_extents p slots ≡ ns) (counted : tuples.count slots ≡ product ns)
+  module _ (has : HasAt code pc (MakeCopy p ∷ par ∷ Verdict ∷ [])) (slots : List ℤ) (rows : Storage) (s : State) (holds : Holds table code n many None s slots rows)
+      (ns : List ℕ) (shape : evaluation_extents p slots ≡ ns) (counted : tuples.count slots ≡ product ns)
       (tuple : ℕ → List ℤ) (f : ℕ → Result ℤ Cause)
-      (does : (rows1 : Storage) → HoldsArrays n table.shapes s rows1 → (u : ℕ) → machine.outcome_of tuples slots (read rows1) u ≡ outcome_of (at_line line (at_tuple (tuple u) (f u))))
-      (next : List ℤ → Run) (goes : (vs : List ℤ) (rows3 : Storage) → Holds table code n many (Some vs) s slots rows3 → Goes table code n many None leave again to b slots (stands table code (pc + 3) slots rows3 s.printed) (next vs)) where
+      (does : (rows1 : Storage) → HoldsArrays n table.shapes s rows1 → (u : ℕ) → machine.outcome_of tuples slots (read rows1) u
+          ≡ outcome_of (at_line line (at_tuple (tuple u) (f u))))
+      (next : List ℤ → Run) (goes : (vs : List ℤ) (rows3 : Storage) → Holds table code n many (Some vs) s slots rows3 → Goes table code n many None leave again to b slots
+          (stands table code (pc + 3) slots rows3 s.printed) (next vs)) where
     abbrev count : ℕ
     count = product ns
 
@@ -45,7 +49,8 @@ module _ (table : ArrayTable) (code : List Instruction) (n many leave again : �
     holds2 = holds-copy table code n many s slots rows zeros holds
 
     empty : length (row_of rows1 n) ≡ count
-    empty = ap length (get_or-set_same rows n zeros [] holds.wide) ∙ length-replicate (size_of (table.copies (evaluation_extents p slots))) (pos 0) ∙ sized (evaluation_extents p slots) ∙ ap product shape
+    empty = ap length (get_or-set_same rows n zeros [] holds.wide) ∙ length-replicate (size_of (table.copies (evaluation_extents p slots))) (pos 0)
+        ∙ sized (evaluation_extents p slots) ∙ ap product shape
 
     abbrev outcome : ℕ → Outcome Fault
     outcome = machine.outcome_of tuples slots (read rows1)
@@ -61,7 +66,8 @@ module _ (table : ArrayTable) (code : List Instruction) (n many leave again : �
     effect-is u = ap (effect_by (copy_spot n slots u)) (does rows1 holds2.arrays u) ∙ by_result u (at_tuple (tuple u) (f u))
 
     kept-is : Keeps line outcome (each tuple f count) count
-    kept-is = keeps line outcome tuple f count (λ u lt. subst (λ z. IsOutcome line z (at_tuple (tuple u) (f u))) (sym (does rows1 holds2.arrays u)) (result-outcome line (at_tuple (tuple u) (f u))))
+    kept-is = keeps line outcome tuple f count
+        (λ u lt. subst (λ z. IsOutcome line z (at_tuple (tuple u) (f u))) (sym (does rows1 holds2.arrays u)) (result-outcome line (at_tuple (tuple u) (f u))))
 
     abbrev m0 : Place
     m0 = stands table code pc slots rows s.printed
@@ -72,19 +78,23 @@ module _ (table : ArrayTable) (code : List Instruction) (n many leave again : �
     makes : Reaches table code m0 m1
     makes i = (1, record i { layouts = slice_set i.layouts n (table.copies (evaluation_extents p slots)) }, one table code pc slots rows s.printed (MakeCopy p) has.0 i)
 
-    by_each : (q : Result (List ℤ) Cause) → Filled table code n many line count s slots rows1 holds2 empty effect q count → Keeps line outcome q count → Goes table code n many None leave again to b slots m0 (with_value line s q next)
+    by_each : (q : Result (List ℤ) Cause) → Filled table code n many line count s slots rows1 holds2 empty effect q count → Keeps line outcome q count
+        → Goes table code n many None leave again to b slots m0 (with_value line s q next)
     by_each (Ok vs) h kept =
         let e : pc + 1 + 2 ≡ pc + 3 = omega arith in
         let rows3 = scatter effect count rows1 in
         let m3 = stands table code (pc + 3) slots rows3 s.printed in
-        let v : Reaches table code m1 m3 = subst (λ at. Reaches table code m1 (stands table code at slots rows3 s.printed)) e (par-reaches table code n par tuples (copy_spot n) (pc + 1) slots rows1 s.printed is has.1 count counted kept) in
-        goes-on table code n many None leave again to b b slots slots m0 m3 (next vs) (omega arith) (reaches-on table code m0 m1 m3 makes v) (kept-refl table code n many None b slots)
+        let v : Reaches table code m1 m3 = subst (λ at. Reaches table code m1 (stands table code at slots rows3 s.printed)) e
+            (par-reaches table code n par tuples (copy_spot n) (pc + 1) slots rows1 s.printed is has.1 count counted kept) in
+        goes-on table code n many None leave again to b b slots slots m0 m3 (next vs) (omega arith) (reaches-on table code m0 m1 m3 makes v)
+            (kept-refl table code n many None b slots)
         (goes vs rows3 (holds-some table code n many s slots rows3 vs (h.1 ∙ no_rest vs h.0 h.3) h.4))
       where
         no_rest : (vs rest : List ℤ) → count + length rest ≡ count → vs ++ rest ≡ vs
         no_rest vs [] e = append-nil vs
         no_rest vs (z ∷ rest) e = absurd (omega (arith, e))
-    by_each (Err c) h kept = stops-on table code m0 m1 (fault_at line c) s.printed makes (par-stops table code n par tuples (copy_spot n) (pc + 1) slots rows1 s.printed is has.1 count counted (fault_at line c) kept)
+    by_each (Err c) h kept = stops-on table code m0 m1 (fault_at line c) s.printed makes
+        (par-stops table code n par tuples (copy_spot n) (pc + 1) slots rows1 s.printed is has.1 count counted (fault_at line c) kept)
 
     pub copy-goes : Goes table code n many None leave again to b slots m0 (with_value line s (each tuple f count) next)
     copy-goes = by_each (each tuple f count) (filled table code n many line count s slots rows1 holds2 empty effect tuple f count (omega arith) (λ u lt. effect-is u)) kept-is

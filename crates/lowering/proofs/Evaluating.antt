@@ -28,7 +28,8 @@ pub result-outcome : (line : ℕ) (q : Result ℤ Cause) → IsOutcome line (out
 result-outcome line (Ok v) = λ t. refl
 result-outcome line (Err c) = refl
 
-module _ (n : ℕ) (shapes : List (List Dim)) (s : State) (rows : Storage) (arrays : HoldsArrays n shapes s rows) (line : ℕ) (form : Form) (copy : ℕ) (slots : List ℤ) (x : Elemental) (right : elemental_in slots form ≡ x) (named : NamesBelow n x) where
+module _ (n : ℕ) (shapes : List (List Dim)) (s : State) (rows : Storage) (arrays : HoldsArrays n shapes s rows) (line : ℕ) (form : Form) (copy : ℕ) (slots : List ℤ)
+    (x : Elemental) (right : elemental_in slots form ≡ x) (named : NamesBelow n x) where
   abbrev p : Evaluation
   p = own_evaluation line form copy
 
@@ -38,11 +39,14 @@ module _ (n : ℕ) (shapes : List (List Dim)) (s : State) (rows : Storage) (arra
   pub own-limits : evaluation_size p slots ≡ space_size (first_extents (sections x)) (sections x)
   own-limits = ap (λ ns. space_size ns (sections (elemental_in slots p.form))) own-shape ∙ ap (λ y. space_size (first_extents (sections x)) (sections y)) right
 
-  pub own-outcome : (u : ℕ) → machine.outcome_of (evaluation_tuples shapes p) slots (read rows) u ≡ outcome_of (at_line p.line (at_tuple (positions (first_extents (sections x)) u) (value_at s (positions (first_extents (sections x)) u) x)))
+  pub own-outcome : (u : ℕ) → machine.outcome_of (evaluation_tuples shapes p) slots (read rows) u
+      ≡ outcome_of (at_line p.line (at_tuple (positions (first_extents (sections x)) u) (value_at s (positions (first_extents (sections x)) u) x)))
   own-outcome u =
       let y = positions (first_extents (sections x)) u in
-      let values : value_by_reads shapes y (values_of rows (reads_at shapes y x)) 0 x ≡ value_at s y x = ap (λ vs. value_by_reads shapes y vs 0 x) (sym (append-nil (values_of rows (reads_at shapes y x)))) ∙ value-of-reads n shapes s rows arrays y x [] [] named in
-      let here : machine.outcome_of (evaluation_tuples shapes p) slots (read rows) u ≡ outcome_of (at_line p.line (at_tuple y (value_by_reads shapes y (values_of rows (reads_at shapes y x)) 0 x))) = rw (own-shape, right) refl in
+      let values : value_by_reads shapes y (values_of rows (reads_at shapes y x)) 0 x ≡ value_at s y x = ap (λ vs. value_by_reads shapes y vs 0 x)
+          (sym (append-nil (values_of rows (reads_at shapes y x)))) ∙ value-of-reads n shapes s rows arrays y x [] [] named in
+      let here : machine.outcome_of (evaluation_tuples shapes p) slots (read rows) u
+          ≡ outcome_of (at_line p.line (at_tuple y (value_by_reads shapes y (values_of rows (reads_at shapes y x)) 0 x))) = rw (own-shape, right) refl in
       here ∙ ap (λ q. outcome_of (at_line p.line (at_tuple y q))) values
 
 -- ---- the values of the first tuples, joined
@@ -56,7 +60,8 @@ module _ (line : ℕ) (f : Fold) (outcome : ℕ → Outcome Fault) where
   Folds (Ok vs) t = folded f outcome t ≡ fold f.join f.unit vs
   Folds (Err c) t = ⊤
 
-  fold-one : (t : ℕ) (r : Result (List ℤ) Cause) (q : Result ℤ Cause) → outcome t ≡ outcome_of (at_line line q) → Folds r t → Folds (r >>= (λ vs. q >>= (λ v. Ok (vs ++ v ∷ [])))) (suc t)
+  fold-one : (t : ℕ) (r : Result (List ℤ) Cause) (q : Result ℤ Cause) → outcome t ≡ outcome_of (at_line line q) → Folds r t
+      → Folds (r >>= (λ vs. q >>= (λ v. Ok (vs ++ v ∷ [])))) (suc t)
   fold-one t (Ok vs) (Ok v) e h = rw (e, h) (sym (fold-last f.join f.unit vs v))
   fold-one t (Ok vs) (Err c) e h = tt
   fold-one t (Err c) q e h = tt
@@ -68,7 +73,8 @@ module _ (line : ℕ) (f : Fold) (outcome : ℕ → Outcome Fault) where
 -- ---- a reduction of what is left of its operand
 
 module _ (table : ArrayTable) (code : List Instruction) (line n : ℕ) (s : State) (rows : Storage) (out : List ℕ) (arrays : HoldsArrays n table.shapes s rows) where
-  pub reduce-comes : (pc b x : ℕ) (o : Op) (form : Form) (slots : List ℤ) (r : Elemental) → HasAt code pc (reduce_code line o form x) → elemental_in slots form ≡ r → NamesBelow n r → b ≤ x → x < length slots
+  pub reduce-comes : (pc b x : ℕ) (o : Op) (form : Form) (slots : List ℤ) (r : Elemental) → HasAt code pc (reduce_code line o form x) → elemental_in slots form ≡ r
+      → NamesBelow n r → b ≤ x → x < length slots
       → Comes table code line rows out pc (pc + 2) b slots (λ slots' v. slot slots' x ≡ v) (reduction s o r)
   reduce-comes pc b x o form slots r has right named le lt = by_limits (space_size ns (sections r)) refl
     where
@@ -97,7 +103,9 @@ module _ (table : ArrayTable) (code : List Instruction) (line n : ℕ) (s : Stat
       tuple-is u = own-outcome n table.shapes s rows arrays line form 0 slots r right named u
 
       kept-is : Keeps line outcome (values_over s ns r count) count
-      kept-is = keeps line outcome (positions ns) (λ u. value_at s (positions ns u) r) count (λ u lt. subst (λ z. IsOutcome line z (at_tuple (positions ns u) (value_at s (positions ns u) r))) (sym (tuple-is u)) (result-outcome line (at_tuple (positions ns u) (value_at s (positions ns u) r))))
+      kept-is = keeps line outcome (positions ns) (λ u. value_at s (positions ns u) r) count
+          (λ u lt. subst (λ z. IsOutcome line z (at_tuple (positions ns u) (value_at s (positions ns u) r))) (sym (tuple-is u))
+          (result-outcome line (at_tuple (positions ns u) (value_at s (positions ns u) r))))
 
       control : Control Fault
       control = record { at = pc + 1; slots = slots; status = Running }
@@ -110,13 +118,16 @@ module _ (table : ArrayTable) (code : List Instruction) (line n : ℕ) (s : Stat
 
       two : (i : Idle) → steps (meaning_of table) 2 (stands table code (pc + 1) slots rows out i) ≡ judged (keep outcome 0 count None) (folded (fold_of o) outcome count) i
       two i =
-          ap (λ m. step (meaning_of table) m) (ap (λ z. step_by (instr_of (meaning_of table) z) (stands table code (pc + 1) slots rows out i)) has.1.0 ∙ ap (λ k. values 1 (keep outcome 0 k None) (folded (fold_of o) outcome k) i) (ap product (own-shape n table.shapes s rows arrays line form 0 slots r right named)))
+          ap (λ m. step (meaning_of table) m) (ap (λ z. step_by (instr_of (meaning_of table) z) (stands table code (pc + 1) slots rows out i)) has.1.0
+              ∙ ap (λ k. values 1 (keep outcome 0 k None) (folded (fold_of o) outcome k) i) (ap product (own-shape n table.shapes s rows arrays line form 0 slots r right named)))
           ∙ ap (λ z. step_by (instr_of (meaning_of table) z) (values 1 (keep outcome 0 count None) (folded (fold_of o) outcome count) i)) has.1.0
 
-      three : (v : ℤ) (i : Idle) → steps (meaning_of table) 1 (judged None v i) ≡ stands table code (pc + 1 + 1) (slice_set slots x v) rows out (record { layouts = i.layouts; joined = v })
+      three : (v : ℤ) (i : Idle) → steps (meaning_of table) 1 (judged None v i) ≡ stands table code (pc + 1 + 1) (slice_set slots x v) rows out
+          (record { layouts = i.layouts; joined = v })
       three v i = ap (λ z. step_by (instr_of (meaning_of table) z) (judged None v i)) has.1.0
 
-      by_each : (q : Result (List ℤ) Cause) → Keeps line outcome q count → Folds line (fold_of o) outcome q count → Comes table code line rows out (pc + 1) (pc + 2) b slots P (q >>= pair >>= second)
+      by_each : (q : Result (List ℤ) Cause) → Keeps line outcome q count → Folds line (fold_of o) outcome q count → Comes table code line rows out (pc + 1) (pc + 2) b slots P
+          (q >>= pair >>= second)
       by_each (Ok vs) kept joined =
           let v : ℤ = reduced o vs in
           let e : pc + 1 + 1 ≡ pc + 2 = omega arith in (
@@ -130,16 +141,22 @@ module _ (table : ArrayTable) (code : List Instruction) (line n : ℕ) (s : Stat
             same-set b x slots v le,
             slot-set x slots v lt,
           )
-      by_each (Err c) kept joined = λ i. (judged (Some kept.0) (folded (fold_of o) outcome count) i, (2, two i ∙ ap (λ k. judged k (folded (fold_of o) outcome count) i) kept.1), ap Faulted kept.2, refl)
+      by_each (Err c) kept joined = λ i.
+          (judged (Some kept.0) (folded (fold_of o) outcome count) i, (2, two i ∙ ap (λ k. judged k (folded (fold_of o) outcome count) i) kept.1), ap Faulted kept.2, refl)
 
       limits : (q : Result ℕ Cause) → space_size ns (sections r) ≡ q → (i : Idle)
-          → steps (meaning_of table) 1 (stands table code pc slots rows out i) ≡ record (stands table code pc slots rows out i) { control = go_on_if {A = ℕ} (at_line line q) (record { at = pc; slots = slots; status = Running }) }
-      limits q e i = one table code pc slots rows out (OwnLimits p) has.0 i ∙ ap (λ q. record (stands table code pc slots rows out i) { control = go_on_if {A = ℕ} (at_line line q) (record { at = pc; slots = slots; status = Running }) }) (own-limits n table.shapes s rows arrays line form 0 slots r right named ∙ e)
+          → steps (meaning_of table) 1 (stands table code pc slots rows out i)
+              ≡ record (stands table code pc slots rows out i) { control = go_on_if {A = ℕ} (at_line line q) (record { at = pc; slots = slots; status = Running }) }
+      limits q e i = one table code pc slots rows out (OwnLimits p) has.0 i
+          ∙ ap (λ q. record (stands table code pc slots rows out i) { control = go_on_if {A = ℕ} (at_line line q) (record { at = pc; slots = slots; status = Running }) })
+          (own-limits n table.shapes s rows arrays line form 0 slots r right named ∙ e)
 
-      by_limits : (q : Result ℕ Cause) → space_size ns (sections r) ≡ q → Comes table code line rows out pc (pc + 2) b slots P (q >>= (λ k. values_over s ns r k >>= pair) >>= second)
+      by_limits : (q : Result ℕ Cause) → space_size ns (sections r) ≡ q → Comes table code line rows out pc (pc + 2) b slots P
+          (q >>= (λ k. values_over s ns r k >>= pair) >>= second)
       by_limits (Ok k) e =
           let many : k ≡ count = space-size ns (sections r) k e in
-          comes-on table code line rows out pc (pc + 1) (pc + 2) b b slots slots P (values_over s ns r k >>= pair >>= second) (omega arith) (λ i. (1, i, limits (Ok k) e i)) (same-refl b slots)
+          comes-on table code line rows out pc (pc + 1) (pc + 2) b b slots slots P (values_over s ns r k >>= pair >>= second) (omega arith) (λ i. (1, i, limits (Ok k) e i))
+              (same-refl b slots)
           (subst (λ k. Comes table code line rows out (pc + 1) (pc + 2) b slots P (values_over s ns r k >>= pair >>= second)) (sym many)
           (by_each (values_over s ns r count) kept-is (folds-all line (fold_of o) outcome (positions ns) (λ t. value_at s (positions ns t) r) count tuple-is)))
       by_limits (Err c) e = λ i. (_, (1, limits (Err c) e i), refl, refl)

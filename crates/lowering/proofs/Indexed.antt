@@ -49,7 +49,8 @@ mutual
 
 all-in-body : (n : ℕ) (body : List ElementAssignment) → AreIndexedAssignments n body → AllAre n (body_subscripts body)
 all-in-body n [] ok = tt
-all-in-body n (b ∷ bs) ok = all-append n (list_of b.subscripts ++ subscripts_in b.right) (body_subscripts bs) (all-append n (list_of b.subscripts) (subscripts_in b.right) (all-listed n b.subscripts ok.1) (all-in n b.right ok.2)) (all-in-body n bs ok.3)
+all-in-body n (b ∷ bs) ok = all-append n (list_of b.subscripts ++ subscripts_in b.right) (body_subscripts bs)
+    (all-append n (list_of b.subscripts) (subscripts_in b.right) (all-listed n b.subscripts ok.1) (all-in n b.right ok.2)) (all-in-body n bs ok.3)
 
 pub all-in-forall : (n : ℕ) (mask : Option Term) (body : List ElementAssignment) → IsIndexedMask n mask → AreIndexedAssignments n body → AllAre n (all_subscripts mask body)
 all-in-forall n None body ok ok1 = all-in-body n body ok1
@@ -70,7 +71,8 @@ module _ (n : ℕ) (s : State) (slots : List ℤ) (holds : HoldsScalars n s slot
 
     subscripts-are : (x : List ℤ) (ts : Terms) → AreSubscripts n ts → flat_values slots x [] (index_flats ts) ≡ values x s ts
     subscripts-are x NoTerm ok = refl
-    subscripts-are x (More t ts) ok = ap (λ r. with_more r (flat_values slots x [] (index_flats ts))) (subscript-is x t ok.0) ∙ ap (with_more (value x s t)) (subscripts-are x ts ok.1)
+    subscripts-are x (More t ts) ok = ap (λ r. with_more r (flat_values slots x [] (index_flats ts))) (subscript-is x t ok.0) ∙ ap (with_more (value x s t))
+        (subscripts-are x ts ok.1)
 
   mutual
     -- none has a fault
@@ -111,7 +113,8 @@ module _ (n : ℕ) (s : State) (slots : List ℤ) (holds : HoldsScalars n s slot
 
     indexed-values : (x : List ℤ) (ts : Terms) → AreIndexed n ts → values_at s x (elementals_at slots x (index_forms ts)) ≡ values x s ts
     indexed-values x NoTerm ok = refl
-    indexed-values x (More t ts) ok = ap (λ r. with_more r (values_at s x (elementals_at slots x (index_forms ts)))) (indexed-value x t ok.0) ∙ ap (with_more (value x s t)) (indexed-values x ts ok.1)
+    indexed-values x (More t ts) ok = ap (λ r. with_more r (values_at s x (elementals_at slots x (index_forms ts)))) (indexed-value x t ok.0) ∙ ap (with_more (value x s t))
+        (indexed-values x ts ok.1)
 
   mutual
     pub indexed-names : (x : List ℤ) (t : Term) → IsIndexed n t → NamesBelow n (elemental_at slots x (index_form t))
@@ -141,7 +144,8 @@ module _ (n : ℕ) (s : State) (slots : List ℤ) (holds : HoldsScalars n s slot
 
     slots-values : (x : List ℤ) (ts : Terms) → AreSubscripts n ts → values x (slots_state slots) (terms_of (index_flats ts)) ≡ values x s ts
     slots-values x NoTerm ok = refl
-    slots-values x (More t ts) ok = ap (λ r. with_more r (values x (slots_state slots) (terms_of (index_flats ts)))) (slots-value x t ok.0) ∙ ap (with_more (value x s t)) (slots-values x ts ok.1)
+    slots-values x (More t ts) ok = ap (λ r. with_more r (values x (slots_state slots) (terms_of (index_flats ts)))) (slots-value x t ok.0) ∙ ap (with_more (value x s t))
+        (slots-values x ts ok.1)
 
   mutual
     linear-is : (t : Term) → IsSubscript n t → linear (slots_state slots) (term_of (index_flat t)) ≡ linear s t
@@ -159,13 +163,17 @@ module _ (n : ℕ) (s : State) (slots : List ℤ) (holds : HoldsScalars n s slot
     linears-are NoTerm ok = refl
     linears-are (More t ts) ok = ap (λ x. x ∷ linears (slots_state slots) (terms_of (index_flats ts))) (linear-is t ok.0) ∙ ap (λ xs. linear s t ∷ xs) (linears-are ts ok.1)
 
-  pub limits-are : (ts : List Term) → AllAre n ts → list_all (λ t. is_linear_in_limits (linear (slots_state slots) t)) (map term_of (map index_flat ts)) ≡ list_all (λ t. is_linear_in_limits (linear s t)) ts
+  pub limits-are : (ts : List Term) → AllAre n ts → list_all (λ t. is_linear_in_limits (linear (slots_state slots) t)) (map term_of (map index_flat ts))
+      ≡ list_all (λ t. is_linear_in_limits (linear s t)) ts
   limits-are [] ok = refl
-  limits-are (t ∷ ts) ok = ap (λ x. is_linear_in_limits x && list_all (λ t. is_linear_in_limits (linear (slots_state slots) t)) (map term_of (map index_flat ts))) (linear-is t ok.0) ∙ ap (λ b. is_linear_in_limits (linear s t) && b) (limits-are ts ok.1)
+  limits-are (t ∷ ts) ok = ap (λ x. is_linear_in_limits x && list_all (λ t. is_linear_in_limits (linear (slots_state slots) t)) (map term_of (map index_flat ts)))
+      (linear-is t ok.0) ∙ ap (λ b. is_linear_in_limits (linear s t) && b) (limits-are ts ok.1)
 
-  depends-are : (k : ℕ) (ts : List Term) → AllAre n ts → list_any (λ t. depends_on k (linear (slots_state slots) t)) (map term_of (map index_flat ts)) ≡ list_any (λ t. depends_on k (linear s t)) ts
+  depends-are : (k : ℕ) (ts : List Term) → AllAre n ts → list_any (λ t. depends_on k (linear (slots_state slots) t)) (map term_of (map index_flat ts))
+      ≡ list_any (λ t. depends_on k (linear s t)) ts
   depends-are k [] ok = refl
-  depends-are k (t ∷ ts) ok = ap (λ x. depends_on k x || list_any (λ t. depends_on k (linear (slots_state slots) t)) (map term_of (map index_flat ts))) (linear-is t ok.0) ∙ ap (λ b. depends_on k (linear s t) || b) (depends-are k ts ok.1)
+  depends-are k (t ∷ ts) ok = ap (λ x. depends_on k x || list_any (λ t. depends_on k (linear (slots_state slots) t)) (map term_of (map index_flat ts))) (linear-is t ok.0)
+      ∙ ap (λ b. depends_on k (linear s t) || b) (depends-are k ts ok.1)
 
   pub one-to-one-are : (k : ℕ) (ts : List Term) (ns : List ℕ) → AllAre n ts → is_one_to_one (slots_state slots) (map term_of (map index_flat ts)) k ns ≡ is_one_to_one s ts k ns
   one-to-one-are k ts [] ok = refl

@@ -21,14 +21,16 @@ use Rattle.lowering.specs.Lowered.{opening, EndsAs, IsEnd, MachineHas, table_of}
 use Rattle.lowering.proofs.Programs.{program-ends}
 
 -- an end is that of the outcome
-end-is : (n : ℕ) (m : Machine Instruction Fault) (s : State) (c : Completion) → EndsAs n m s c → (m.printed ≡ s.printed) × IsEnd n m (end_of c) (map (λ (a : Array). a.elements) s.arrays)
+end-is : (n : ℕ) (m : Machine Instruction Fault) (s : State) (c : Completion) → EndsAs n m s c → (m.printed ≡ s.printed)
+    × IsEnd n m (end_of c) (map (λ (a : Array). a.elements) s.arrays)
 end-is n m s Normal h = (h.1, (h.0, λ a lt. h.2.1 a lt ∙ sym (get_or-map (λ (a : Array). a.elements) s.arrays a no_array)))
 end-is n m s Exited h = (h.1, (h.0, λ a lt. h.2.1 a lt ∙ sym (get_or-map (λ (a : Array). a.elements) s.arrays a no_array)))
 end-is n m s Cycled h = (h.1, (h.0, λ a lt. h.2.1 a lt ∙ sym (get_or-map (λ (a : Array). a.elements) s.arrays a no_array)))
 end-is n m s Stopped h = (h.1, (h.0, λ a lt. h.2.1 a lt ∙ sym (get_or-map (λ (a : Array). a.elements) s.arrays a no_array)))
 end-is n m s (runs.Faulted f) h = (h.1, h.0)
 
-pub outcome-is : (names : List Entry) (body : syntax.Block) (copies : List ℕ → Layout) (layouts : List Layout) → ((extents : List ℕ) → size_of (copies extents) ≡ product extents) → IsWellFormedBlock (length names) (resolved_block names body)
+pub outcome-is : (names : List Entry) (body : syntax.Block) (copies : List ℕ → Layout) (layouts : List Layout)
+    → ((extents : List ℕ) → size_of (copies extents) ≡ product extents) → IsWellFormedBlock (length names) (resolved_block names body)
     → MachineHas (length names) (table_of names copies) (opening (length names) (resolved_block names body) (initial_state names) layouts) (outcome names body)
 outcome-is names body copies layouts sized ok =
     let n : ℕ = length names in

@@ -10,7 +10,8 @@ use Rattle.machine_steps.specs.Machine.{Machine, Kept, keep, effect_of, verdict_
 use Rattle.node_code.specs.Instructions.{Instruction, Verdict, ArrayTable, meaning_of}
 use Rattle.lowering.proofs.Reach.{Idle, HasAt, Reaches, Stops, stands}
 
-module _ (table : ArrayTable) (code : List Instruction) (n : ℕ) (par : Instruction) (tuples : Tuples Fault) (left : List ℤ → ℕ → Option Spot) (pc : ℕ) (slots : List ℤ) (rows : Storage) (out : List ℕ)
+module _ (table : ArrayTable) (code : List Instruction) (n : ℕ) (par : Instruction) (tuples : Tuples Fault) (left : List ℤ → ℕ → Option Spot) (pc : ℕ) (slots : List ℤ)
+    (rows : Storage) (out : List ℕ)
     (is : meaning_of table par ≡ instr.Par tuples left) (has : HasAt code pc (par ∷ Verdict ∷ [])) (count : ℕ) (many : tuples.count slots ≡ count) where
   abbrev kept : Option (Kept Fault)
   kept = keep (machine.outcome_of tuples slots (read rows)) 0 count None
@@ -19,14 +20,16 @@ module _ (table : ArrayTable) (code : List Instruction) (n : ℕ) (par : Instruc
   stored = scatter (effect_of tuples left slots (read rows)) count rows
 
   abbrev behind : ℕ → Idle → Machine Instruction Fault
-  behind k i = record (stands table code (pc + 1) slots (scatter (effect_of tuples left slots (read rows)) k rows) out i) { kept = keep (machine.outcome_of tuples slots (read rows)) 0 k None; parts = 0 + 1 }
+  behind k i = record (stands table code (pc + 1) slots (scatter (effect_of tuples left slots (read rows)) k rows) out i)
+      { kept = keep (machine.outcome_of tuples slots (read rows)) 0 k None; parts = 0 + 1 }
 
   abbrev after : Option (Kept Fault) → Idle → Machine Instruction Fault
   after k i = record (stands table code (pc + 1) slots stored out i) { control = verdict_control k on (record { at = pc + 1; slots = slots; status = Running }) }
 
   two : (i : Idle) → steps (meaning_of table) 2 (stands table code pc slots rows out i) ≡ after kept i
   two i =
-      ap (λ m. step (meaning_of table) m) (ap (λ z. step_by (instr_of (meaning_of table) z) (stands table code pc slots rows out i)) has.0 ∙ ap (λ z. step_by z (stands table code pc slots rows out i)) is ∙ ap (λ k. behind k i) many)
+      ap (λ m. step (meaning_of table) m) (ap (λ z. step_by (instr_of (meaning_of table) z) (stands table code pc slots rows out i)) has.0
+          ∙ ap (λ z. step_by z (stands table code pc slots rows out i)) is ∙ ap (λ k. behind k i) many)
       ∙ ap (λ z. step_by (instr_of (meaning_of table) z) (behind count i)) has.1.0
 
   -- where no fault is kept the run goes on with what was stored

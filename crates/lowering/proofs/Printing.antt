@@ -20,7 +20,8 @@ past-end : {A : Type 0} (xs : List A) → slice_get xs (length xs) ≡ None
 past-end [] = refl
 past-end (x ∷ xs) = past-end xs
 
-module _ (table : ArrayTable) (code : List Instruction) (pc : ℕ) (slots : List ℤ) (rows : Storage) (out : List ℕ) (items : List PrintItem) (has : slice_get code pc ≡ Some (Print items)) (i : Idle) where
+module _ (table : ArrayTable) (code : List Instruction) (pc : ℕ) (slots : List ℤ) (rows : Storage) (out : List ℕ) (items : List PrintItem)
+    (has : slice_get code pc ≡ Some (Print items)) (i : Idle) where
   abbrev all : List Item
   all = items_of table.shapes items
 
@@ -34,7 +35,8 @@ module _ (table : ArrayTable) (code : List Instruction) (pc : ℕ) (slots : List
   next : (k : ℕ) (line : List ℕ) → step (meaning_of table) (behind k line) ≡ print_step (slice_get all k) whole (behind k line)
   next k line = ap (λ o. step_by (instr_of (meaning_of table) o) (behind k line)) has
 
-  printing : (rest front : List Item) (line : List ℕ) → all ≡ front ++ rest → (k : ℕ) × (steps (meaning_of table) k (behind (length front) line) ≡ behind (length all) (line ++ all_bytes slots (read rows) rest))
+  printing : (rest front : List Item) (line : List ℕ) → all ≡ front ++ rest → (k : ℕ)
+      × (steps (meaning_of table) k (behind (length front) line) ≡ behind (length all) (line ++ all_bytes slots (read rows) rest))
   printing [] front line e = (0, ap (λ k. behind k line) (ap length (sym (append-nil front) ∙ sym e)) ∙ ap (behind (length all)) (sym (append-nil line)))
   printing (x ∷ rest) front line e =
       let bytes = item_bytes x slots (read rows) in
@@ -45,7 +47,8 @@ module _ (table : ArrayTable) (code : List Instruction) (pc : ℕ) (slots : List
       ∙ ap (λ k. behind k (line ++ bytes)) (sym long) in
       (suc h.0, ap (steps (meaning_of table) h.0) one ∙ h.1 ∙ ap (behind (length all)) (append_assoc line bytes (all_bytes slots (read rows) rest)))
 
-  pub prints-line : (k : ℕ) × (steps (meaning_of table) k (stands table code pc slots rows out i) ≡ stands table code (pc + 1) slots rows (out ++ whole (all_bytes slots (read rows) all)) i)
+  pub prints-line : (k : ℕ)
+      × (steps (meaning_of table) k (stands table code pc slots rows out i) ≡ stands table code (pc + 1) slots rows (out ++ whole (all_bytes slots (read rows) all)) i)
   prints-line =
       let h = printing all [] [] refl in (
         1 + h.0,

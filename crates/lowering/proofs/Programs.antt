@@ -52,7 +52,8 @@ module _ (table : ArrayTable) (n : ℕ) (body : Block) (s : State) (is : IsState
   holds = record {
     scalars = λ k lt. get_or-append s.scalars (replicate (block_slots body) (pos 0)) (pos 0) k (omega (arith, lt, is.scalars));
     arrays = record {
-      elements = λ a lt. get_or-append elements ([] ∷ []) [] a (omega (arith, lt, is.arrays, length-map s.arrays (λ (a : Array). a.elements))) ∙ get_or-map (λ (a : Array). a.elements) s.arrays a no_array;
+      elements = λ a lt. get_or-append elements ([] ∷ []) [] a (omega (arith, lt, is.arrays, length-map s.arrays (λ (a : Array). a.elements)))
+          ∙ get_or-map (λ (a : Array). a.elements) s.arrays a no_array;
       shape = λ a lt. sym (ap (λ shapes. slice_index_or shapes a []) tabled.shapes ∙ get_or-map (λ (a : Array). a.dims) s.arrays a no_array);
     };
     places = is.scalars;
@@ -63,7 +64,9 @@ module _ (table : ArrayTable) (n : ℕ) (body : Block) (s : State) (is : IsState
   }
 
   pub program-ends : (layouts : List Layout) → IsWellFormedBlock n body → MachineEnds n table (opening n body s layouts) (run_block body s)
-  program-ends layouts ok = by_completion r.completion (block-goes table code n many tabled.copies body n 2 1 1 slots rows s ok (has-front code 2 (block_code n body n 2 1 1) (Jump 1 ∷ []) all.1.1) (omega arith) (omega arith) holds)
+  program-ends layouts ok = by_completion r.completion
+      (block-goes table code n many tabled.copies body n 2 1 1 slots rows s ok (has-front code 2 (block_code n body n 2 1 1) (Jump 1 ∷ []) all.1.1) (omega arith)
+      (omega arith) holds)
     where
       r : Run
       r = run_block body s
@@ -83,20 +86,25 @@ module _ (table : ArrayTable) (n : ℕ) (body : Block) (s : State) (is : IsState
       begins : Reaches table code m0 begin
       begins = jump-reaches table code n many None 0 2 slots rows s.printed all.0
 
-      halts : (slots1 : List ℤ) (rows1 : Storage) → Reaches table code begin (stands table code 1 slots1 rows1 r.state.printed) → Holds table code n many None r.state slots1 rows1
-          → (k : ℕ) × (((steps (meaning_of table) k (m0 i0)).control.status ≡ Finished) × ((steps (meaning_of table) k (m0 i0)).printed ≡ r.state.printed) × IsLeft n (steps (meaning_of table) k (m0 i0)) r.state)
+      halts : (slots1 : List ℤ) (rows1 : Storage) → Reaches table code begin (stands table code 1 slots1 rows1 r.state.printed)
+          → Holds table code n many None r.state slots1 rows1
+          → (k : ℕ) × (((steps (meaning_of table) k (m0 i0)).control.status ≡ Finished) × ((steps (meaning_of table) k (m0 i0)).printed ≡ r.state.printed)
+              × IsLeft n (steps (meaning_of table) k (m0 i0)) r.state)
       halts slots1 rows1 reach h =
           let m1 = stands table code 1 slots1 rows1 r.state.printed in
           let a = reaches-on table code m0 begin m1 begins reach i0 in
           let end : Machine Instruction Fault = record (m1 a.1) { control = record { at = 1; slots = slots1; status = Finished } } in
-          let e : steps (meaning_of table) (1 + a.0) (m0 i0) ≡ end = steps-more table code a.0 1 (m0 i0) ∙ ap (steps (meaning_of table) 1) a.2 ∙ one table code 1 slots1 rows1 r.state.printed Halt all.1.0 a.1 in
+          let e : steps (meaning_of table) (1 + a.0) (m0 i0) ≡ end = steps-more table code a.0 1 (m0 i0) ∙ ap (steps (meaning_of table) 1) a.2
+              ∙ one table code 1 slots1 rows1 r.state.printed Halt all.1.0 a.1 in
           (1 + a.0, rw (e) (refl, refl, (h.scalars, h.arrays.elements)))
 
-      by_completion : (c : Completion) → Flows table code n many None 1 1 (2 + length (block_code n body n 2 1 1)) n slots begin r.state c → (k : ℕ) × EndsAs n (steps (meaning_of table) k (m0 i0)) r.state c
+      by_completion : (c : Completion) → Flows table code n many None 1 1 (2 + length (block_code n body n 2 1 1)) n slots begin r.state c → (k : ℕ)
+          × EndsAs n (steps (meaning_of table) k (m0 i0)) r.state c
       by_completion Normal h =
           let to : ℕ = 2 + length (block_code n body n 2 1 1) in
           let last : HasAt code to (Jump 1 ∷ []) = has-back code 2 (block_code n body n 2 1 1) (Jump 1 ∷ []) all.1.1 in
-          halts h.0 h.1 (reaches-on table code begin (stands table code to h.0 h.1 r.state.printed) (stands table code 1 h.0 h.1 r.state.printed) h.2 (jump-reaches table code n many None to 1 h.0 h.1 r.state.printed last.0)) h.4
+          halts h.0 h.1 (reaches-on table code begin (stands table code to h.0 h.1 r.state.printed) (stands table code 1 h.0 h.1 r.state.printed) h.2
+              (jump-reaches table code n many None to 1 h.0 h.1 r.state.printed last.0)) h.4
       by_completion Exited h = halts h.0 h.1 h.2 h.4
       by_completion Cycled h = halts h.0 h.1 h.2 h.4
       by_completion Stopped h =

@@ -46,19 +46,23 @@ store-last : (s : State) (a : ℕ) (stores : List (Option Store)) (v : Option St
 store-last s a [] v = refl
 store-last s a (w ∷ stores) v = store-last (stored a s w) a stores v
 
-module _ (table : ArrayTable) (code : List Instruction) (n many : ℕ) (copy : Option (List ℤ)) (line a : ℕ) (la : a < n) (s : State) (slots : List ℤ) (rows : Storage) (holds : Holds table code n many copy s slots rows) (effect : ℕ → Effect Fault) where
+module _ (table : ArrayTable) (code : List Instruction) (n many : ℕ) (copy : Option (List ℤ)) (line a : ℕ) (la : a < n) (s : State) (slots : List ℤ) (rows : Storage)
+    (holds : Holds table code n many copy s slots rows) (effect : ℕ → Effect Fault) where
   -- the rows behind the first tuples, by the meaning's results
   abbrev pub Scattered : Result (List (Option Store)) Cause → ℕ → Type 0
   Scattered (Ok stores) t = Holds table code n many copy (store_all s a stores) slots (scatter effect t rows)
   Scattered (Err c) t = ⊤
 
-  one-more : (t : ℕ) (r : Result (List (Option Store)) Cause) (q : Result (Option Store) Cause) → effect t ≡ effect_for line a q → Scattered r t → Scattered (r >>= (λ vs. q >>= (λ v. Ok (vs ++ v ∷ [])))) (suc t)
+  one-more : (t : ℕ) (r : Result (List (Option Store)) Cause) (q : Result (Option Store) Cause) → effect t ≡ effect_for line a q → Scattered r t
+      → Scattered (r >>= (λ vs. q >>= (λ v. Ok (vs ++ v ∷ [])))) (suc t)
   one-more t (Ok vs) (Ok None) e h = rw (e, store-last s a vs None) h
-  one-more t (Ok vs) (Ok (Some st)) e h = rw (e, store-last s a vs (Some st)) (holds-store table code n many copy (store_all s a vs) slots (scatter effect t rows) a st.place st.value la h)
+  one-more t (Ok vs) (Ok (Some st)) e h = rw (e, store-last s a vs (Some st))
+      (holds-store table code n many copy (store_all s a vs) slots (scatter effect t rows) a st.place st.value la h)
   one-more t (Ok vs) (Err c) e h = tt
   one-more t (Err c) q e h = tt
 
-  pub scattered : (tuple : ℕ → List ℤ) (f : ℕ → Result (Option Store) Cause) (t : ℕ) → ((u : ℕ) → u < t → effect u ≡ effect_for line a (at_tuple (tuple u) (f u))) → Scattered (each tuple f t) t
+  pub scattered : (tuple : ℕ → List ℤ) (f : ℕ → Result (Option Store) Cause) (t : ℕ) → ((u : ℕ) → u < t → effect u ≡ effect_for line a (at_tuple (tuple u) (f u)))
+      → Scattered (each tuple f t) t
   scattered tuple f zero h = holds
   scattered tuple f (suc t) h = one-more t (each tuple f t) (at_tuple (tuple t) (f t)) (h t (omega arith)) (scattered tuple f t (λ u lt. h u (omega (arith, lt))))
 
@@ -87,41 +91,55 @@ abbrev mutual
 
 module _ (n : ℕ) (shapes : List (List Dim)) (s : State) (rows : Storage) (arrays : HoldsArrays n shapes s rows) (x : List ℤ) where
   read-element : (a : ℕ) (subscripts : List ℤ) (pre : List ℤ) (post : List ℤ) → a < n
-      → (if_in_bounds (element_place (shape_of shapes a) subscripts) >>= (λ k. Ok (slice_index_or (pre ++ value_by (read rows) (spot_of shapes a subscripts) ∷ post) (length pre) (pos 0)))) ≡ element s a subscripts
+      → (if_in_bounds (element_place (shape_of shapes a) subscripts) >>=
+          (λ k. Ok (slice_index_or (pre ++ value_by (read rows) (spot_of shapes a subscripts) ∷ post) (length pre) (pos 0)))) ≡ element s a subscripts
   read-element a subscripts pre post lt = rw (sym (arrays.shape a lt)) (by_place (element_place (array s a).dims subscripts))
     where
-      by_place : (p : Option ℕ) → (if_in_bounds p >>= (λ k. Ok (slice_index_or (pre ++ value_by (read rows) (option_map (λ k. record { row = a; at = k }) p) ∷ post) (length pre) (pos 0)))) ≡ (if_in_bounds p >>= (λ k. Ok (slice_index_or (array s a).elements k (pos 0))))
+      by_place : (p : Option ℕ)
+          → (if_in_bounds p >>= (λ k. Ok (slice_index_or (pre ++ value_by (read rows) (option_map (λ k. record { row = a; at = k }) p) ∷ post) (length pre) (pos 0))))
+          ≡ (if_in_bounds p >>= (λ k. Ok (slice_index_or (array s a).elements k (pos 0))))
       by_place None = refl
       by_place (Some k) = ap Ok (value-here pre (slice_index_or (row_of rows a) k (pos 0)) post ∙ ap (λ r. slice_index_or r k (pos 0)) (arrays.elements a lt))
 
   mutual
-    pub value-of-reads : (r : Elemental) (pre post : List ℤ) → NamesBelow n r → value_by_reads shapes x (pre ++ (values_of rows (reads_at shapes x r) ++ post)) (length pre) r ≡ value_at s x r
+    pub value-of-reads : (r : Elemental) (pre post : List ℤ) → NamesBelow n r → value_by_reads shapes x (pre ++ (values_of rows (reads_at shapes x r) ++ post)) (length pre) r
+        ≡ value_at s x r
     value-of-reads (Same v) pre post ok = refl
     value-of-reads (Selected a ds) pre post ok = read-element a (subscripts_at ds x) pre post ok
     value-of-reads (Operation o rs) pre post ok = ap (λ r. r >>= operated o) (values-of-reads rs pre post ok)
 
-    pub values-of-reads : (rs : Elementals) (pre post : List ℤ) → AllNameBelow n rs → values_by_reads shapes x (pre ++ (values_of rows (all_reads_at shapes x rs) ++ post)) (length pre) rs ≡ values_at s x rs
+    pub values-of-reads : (rs : Elementals) (pre post : List ℤ) → AllNameBelow n rs → values_by_reads shapes x (pre ++ (values_of rows (all_reads_at shapes x rs) ++ post))
+        (length pre) rs ≡ values_at s x rs
     values-of-reads NoOperand pre post ok = refl
     values-of-reads (Operand r rs) pre post ok =
         let xs = values_of rows (reads_at shapes x r) in
         let ys = values_of rows (all_reads_at shapes x rs) in
-        let split : pre ++ (values_of rows (reads_at shapes x r ++ all_reads_at shapes x rs) ++ post) ≡ pre ++ (xs ++ (ys ++ post)) = ap (λ vs. pre ++ (vs ++ post)) (values-append rows (reads_at shapes x r) (all_reads_at shapes x rs)) ∙ ap (λ vs. pre ++ vs) (append_assoc xs ys post) in
+        let split : pre ++ (values_of rows (reads_at shapes x r ++ all_reads_at shapes x rs) ++ post) ≡ pre ++ (xs ++ (ys ++ post)) = ap (λ vs. pre ++ (vs ++ post))
+            (values-append rows (reads_at shapes x r) (all_reads_at shapes x rs)) ∙ ap (λ vs. pre ++ vs) (append_assoc xs ys post) in
         let split2 : pre ++ (xs ++ (ys ++ post)) ≡ (pre ++ xs) ++ (ys ++ post) = sym (append_assoc pre xs (ys ++ post)) in
-        let from : length pre + length (reads_at shapes x r) ≡ length (pre ++ xs) = ap (λ k. length pre + k) (sym (length-map (reads_at shapes x r) (value_by (read rows)))) ∙ sym (length-append pre xs) in
+        let from : length pre + length (reads_at shapes x r) ≡ length (pre ++ xs) = ap (λ k. length pre + k) (sym (length-map (reads_at shapes x r) (value_by (read rows))))
+            ∙ sym (length-append pre xs) in
         let first = value-of-reads r pre (ys ++ post) ok.0 in
         let others = values-of-reads rs (pre ++ xs) post ok.1 in
         ap (λ vs. with_more (value_by_reads shapes x vs (length pre) r) (values_by_reads shapes x vs (length pre + length (reads_at shapes x r)) rs)) split
         ∙ ap (λ q. with_more q (values_by_reads shapes x (pre ++ (xs ++ (ys ++ post))) (length pre + length (reads_at shapes x r)) rs)) first
-        ∙ ap (λ q. with_more (value_at s x r) q) (ap (λ vs. values_by_reads shapes x vs (length pre + length (reads_at shapes x r)) rs) split2 ∙ ap (λ k. values_by_reads shapes x ((pre ++ xs) ++ (ys ++ post)) k rs) from ∙ others)
+        ∙ ap (λ q. with_more (value_at s x r) q)
+            (ap (λ vs. values_by_reads shapes x vs (length pre + length (reads_at shapes x r)) rs) split2 ∙ ap (λ k. values_by_reads shapes x ((pre ++ xs) ++ (ys ++ post)) k rs)
+            from ∙ others)
 
   -- what the machine does where the mask is true is what the meaning stores there
   pub tuple-does : (line a : ℕ) (ds : List Selection) (r : Elemental) (pre : List ℤ) → a < n → NamesBelow n r
-      → Does line a (spot_of shapes a (subscripts_at ds x)) (outcome_of (at_line line (assigned_value shapes a ds r x (pre ++ values_of rows (reads_at shapes x r)) (length pre)))) (at_tuple x (store_at s a (subscripts_at ds x) (value_at s x r)))
+      → Does line a (spot_of shapes a (subscripts_at ds x))
+          (outcome_of (at_line line (assigned_value shapes a ds r x (pre ++ values_of rows (reads_at shapes x r)) (length pre))))
+          (at_tuple x (store_at s a (subscripts_at ds x) (value_at s x r)))
   tuple-does line a ds r pre lt ok =
-      let values : value_by_reads shapes x (pre ++ values_of rows (reads_at shapes x r)) (length pre) r ≡ value_at s x r = ap (λ vs. value_by_reads shapes x (pre ++ vs) (length pre) r) (sym (append-nil (values_of rows (reads_at shapes x r)))) ∙ value-of-reads r pre [] ok in
+      let values : value_by_reads shapes x (pre ++ values_of rows (reads_at shapes x r)) (length pre) r
+          ≡ value_at s x r = ap (λ vs. value_by_reads shapes x (pre ++ vs) (length pre) r) (sym (append-nil (values_of rows (reads_at shapes x r))))
+          ∙ value-of-reads r pre [] ok in
       rw (sym (arrays.shape a lt), values) (by_place (element_place (array s a).dims (subscripts_at ds x)) (value_at s x r))
     where
-      by_place : (p : Option ℕ) (q : Result ℤ Cause) → Does line a (option_map (λ k. record { row = a; at = k }) p) (outcome_of (at_line line (at_tuple x (if_in_bounds p >>= (λ k. q))))) (at_tuple x (if_in_bounds p >>= (λ k. q >>= (λ v. Ok (Some (record { place = k; value = v }))))))
+      by_place : (p : Option ℕ) (q : Result ℤ Cause) → Does line a (option_map (λ k. record { row = a; at = k }) p)
+          (outcome_of (at_line line (at_tuple x (if_in_bounds p >>= (λ k. q))))) (at_tuple x (if_in_bounds p >>= (λ k. q >>= (λ v. Ok (Some (record { place = k; value = v }))))))
       by_place None q = (refl, refl)
       by_place (Some k) (Ok v) = (refl, λ t. refl)
       by_place (Some k) (Err c) = (refl, refl)
