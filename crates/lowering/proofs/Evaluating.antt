@@ -3,7 +3,8 @@ use Rattle.std.proofs.Common.{◌≡◌, ℕ, zero, suc, ◌+◌, ◌<◌, ◌�
 use Rattle.std.specs.Bool.{⊤}
 use Rattle.hpf_base.specs.ElementOrder.{product}
 use Rattle.op_tables.specs.declared.op.Op.{Op}
-use Rattle.op_tables.specs.Reductions.{reduced}
+use Rattle.op_tables.specs.declared.op.Op.TheVariants as op
+use Rattle.op_tables.specs.Reductions.{reduced, unit_of, combined}
 use Rattle.expression_rules.specs.declared.dims.Dim.{Dim}
 use Rattle.nest_order.specs.Storage.{Storage, read}
 use Rattle.array_meaning.specs.Faults.{Cause, Fault, ◌>>=◌, at_tuple}
@@ -15,8 +16,8 @@ use Rattle.machine_steps.specs.Machine as machine
 use Rattle.machine_steps.specs.Machine.{Machine, Kept, keep, folded, verdict_control, stay, step, step_by, steps, instr_of}
 use Rattle.node_code.specs.Flat.{slot}
 use Rattle.node_code.specs.Forms.{Form, elemental_in}
-use Rattle.node_code.specs.Parallel.{at_line, outcome_of, reads_at, value_by_reads, Evaluation, evaluation_extents, evaluation_size, evaluation_tuples}
-use Rattle.node_code.specs.Instructions.{Instruction, OwnLimits, ArrayTable, meaning_of, go_on_if, fold_of}
+use Rattle.node_code.specs.Parallel.{at_line, outcome_of, reads_at, value_by_reads, Evaluation, evaluation_extents, evaluation_size, evaluation_tuples, reduction_tuples, counted, counted_outcome, joined, fold_of}
+use Rattle.node_code.specs.Instructions.{Instruction, OwnLimits, ArrayTable, meaning_of, go_on_if}
 use Rattle.lowering.specs.ExpressionCode.{own_evaluation, without_copy, reduce_code}
 use Rattle.lowering.proofs.Reach.{Idle, HasAt, same-refl, same-set, slot-set, stands, one, Comes, comes-on}
 use Rattle.lowering.proofs.Terms.{HoldsArrays}
@@ -55,18 +56,26 @@ fold-last : (join : ℤ → ℤ → ℤ) (unit : ℤ) (vs : List ℤ) (v : ℤ) 
 fold-last join unit [] v = refl
 fold-last join unit (w ∷ vs) v = fold-last join (join unit w) vs v
 
-module _ (line : ℕ) (f : Fold) (outcome : ℕ → Outcome Fault) where
+joined-is : (o : Op) (so_far v : ℤ) → joined o so_far (counted o v) ≡ combined o so_far v
+joined-is op.Count so_far v = refl
+joined-is o so_far v = refl
+
+counted-outcome : (o : Op) (line : ℕ) (q : Result ℤ Cause) → IsOutcome line (counted_outcome o (outcome_of (at_line line q))) q
+counted-outcome o line (Ok v) = λ t. refl
+counted-outcome o line (Err c) = refl
+
+module _ (line : ℕ) (o : Op) (outcome : ℕ → Outcome Fault) where
   abbrev Folds : Result (List ℤ) Cause → ℕ → Type 0
-  Folds (Ok vs) t = folded f outcome t ≡ fold f.join f.unit vs
+  Folds (Ok vs) t = folded (fold_of o) outcome t ≡ reduced o vs
   Folds (Err c) t = ⊤
 
-  fold-one : (t : ℕ) (r : Result (List ℤ) Cause) (q : Result ℤ Cause) → outcome t ≡ outcome_of (at_line line q) → Folds r t
+  fold-one : (t : ℕ) (r : Result (List ℤ) Cause) (q : Result ℤ Cause) → outcome t ≡ counted_outcome o (outcome_of (at_line line q)) → Folds r t
       → Folds (r >>= (λ vs. q >>= (λ v. Ok (vs ++ v ∷ [])))) (suc t)
-  fold-one t (Ok vs) (Ok v) e h = rw (e, h) (sym (fold-last f.join f.unit vs v))
+  fold-one t (Ok vs) (Ok v) e h = rw (e, h) (joined-is o (reduced o vs) v ∙ sym (fold-last (combined o) (unit_of o) vs v))
   fold-one t (Ok vs) (Err c) e h = tt
   fold-one t (Err c) q e h = tt
 
-  folds-all : (tuple : ℕ → List ℤ) (g : ℕ → Result ℤ Cause) (t : ℕ) → ((u : ℕ) → outcome u ≡ outcome_of (at_line line (at_tuple (tuple u) (g u)))) → Folds (each tuple g t) t
+  folds-all : (tuple : ℕ → List ℤ) (g : ℕ → Result ℤ Cause) (t : ℕ) → ((u : ℕ) → outcome u ≡ counted_outcome o (outcome_of (at_line line (at_tuple (tuple u) (g u))))) → Folds (each tuple g t) t
   folds-all tuple g zero h = refl
   folds-all tuple g (suc t) h = fold-one t (each tuple g t) (at_tuple (tuple t) (g t)) (h t) (folds-all tuple g t h)
 
@@ -97,15 +106,15 @@ module _ (table : ArrayTable) (code : List Instruction) (line n : ℕ) (s : Stat
       second v = Ok (reduced o v.elements)
 
       outcome : ℕ → Outcome Fault
-      outcome = machine.outcome_of (evaluation_tuples table.shapes p) slots (read rows)
+      outcome = machine.outcome_of (reduction_tuples table.shapes p o) slots (read rows)
 
-      tuple-is : (u : ℕ) → outcome u ≡ outcome_of (at_line line (at_tuple (positions ns u) (value_at s (positions ns u) r)))
-      tuple-is u = own-outcome n table.shapes s rows arrays line form 0 slots r right named u
+      tuple-is : (u : ℕ) → outcome u ≡ counted_outcome o (outcome_of (at_line line (at_tuple (positions ns u) (value_at s (positions ns u) r))))
+      tuple-is u = ap (counted_outcome o) (own-outcome n table.shapes s rows arrays line form 0 slots r right named u)
 
       kept-is : Keeps line outcome (values_over s ns r count) count
       kept-is = keeps line outcome (positions ns) (λ u. value_at s (positions ns u) r) count
           (λ u lt. subst (λ z. IsOutcome line z (at_tuple (positions ns u) (value_at s (positions ns u) r))) (sym (tuple-is u))
-          (result-outcome line (at_tuple (positions ns u) (value_at s (positions ns u) r))))
+          (counted-outcome o line (at_tuple (positions ns u) (value_at s (positions ns u) r))))
 
       control : Control Fault
       control = record { at = pc + 1; slots = slots; status = Running }
@@ -126,22 +135,22 @@ module _ (table : ArrayTable) (code : List Instruction) (line n : ℕ) (s : Stat
           (record { layouts = i.layouts; joined = v })
       three v i = ap (λ z. step_by (instr_of (meaning_of table) z) (judged None v i)) has.1.0
 
-      by_each : (q : Result (List ℤ) Cause) → Keeps line outcome q count → Folds line (fold_of o) outcome q count → Comes table code line rows out (pc + 1) (pc + 2) b slots P
+      by_each : (q : Result (List ℤ) Cause) → Keeps line outcome q count → Folds line o outcome q count → Comes table code line rows out (pc + 1) (pc + 2) b slots P
           (q >>= pair >>= second)
-      by_each (Ok vs) kept joined =
+      by_each (Ok vs) kept joins =
           let v : ℤ = reduced o vs in
           let e : pc + 1 + 1 ≡ pc + 2 = omega arith in (
             slice_set slots x v,
             (λ i. (
               3,
               record { layouts = i.layouts; joined = v },
-              ap (step (meaning_of table)) (two i ∙ ap (λ k. judged k (folded (fold_of o) outcome count) i) kept ∙ ap (λ z. judged None z i) joined) ∙ three v i
+              ap (step (meaning_of table)) (two i ∙ ap (λ k. judged k (folded (fold_of o) outcome count) i) kept ∙ ap (λ z. judged None z i) joins) ∙ three v i
                   ∙ ap (λ at. stands table code at (slice_set slots x v) rows out (record { layouts = i.layouts; joined = v })) e,
             )),
             same-set b x slots v le,
             slot-set x slots v lt,
           )
-      by_each (Err c) kept joined = λ i.
+      by_each (Err c) kept joins = λ i.
           (judged (Some kept.0) (folded (fold_of o) outcome count) i, (2, two i ∙ ap (λ k. judged k (folded (fold_of o) outcome count) i) kept.1), ap Faulted kept.2, refl)
 
       limits : (q : Result ℕ Cause) → space_size ns (sections r) ≡ q → (i : Idle)
@@ -158,5 +167,5 @@ module _ (table : ArrayTable) (code : List Instruction) (line n : ℕ) (s : Stat
           comes-on table code line rows out pc (pc + 1) (pc + 2) b b slots slots P (values_over s ns r k >>= pair >>= second) (omega arith) (λ i. (1, i, limits (Ok k) e i))
               (same-refl b slots)
           (subst (λ k. Comes table code line rows out (pc + 1) (pc + 2) b slots P (values_over s ns r k >>= pair >>= second)) (sym many)
-          (by_each (values_over s ns r count) kept-is (folds-all line (fold_of o) outcome (positions ns) (λ t. value_at s (positions ns t) r) count tuple-is)))
+          (by_each (values_over s ns r count) kept-is (folds-all line o outcome (positions ns) (λ t. value_at s (positions ns t) r) count tuple-is)))
       by_limits (Err c) e = λ i. (_, (1, limits (Err c) e i), refl, refl)

@@ -247,7 +247,7 @@ module _ (table : ArrayTable) (code : List Instruction) (line n : ℕ) (s : Stat
         let P = Gives (b + (parts_slots t + 1)) (Slot x) in
         comes-at table code line rows out pc (pc1 + 2) (pc + length (c ++ last)) b slots P (elemental [] s t >>= reduction s o) long
         (comes-then table code line rows out pc pc1 (pc1 + 2) b x slots (FormGives n x (form_of b t)) P (elemental [] s t) (reduction s o) (omega arith)
-        (parts-come t pc b slots ok (has-front code pc c last has) holds le (omega (arith, few)))
+        (parts-come t pc b slots ok.1 (has-front code pc c last has) holds le (omega (arith, few)))
         (λ slots1 r e same gives.
         comes-but table code line rows out pc1 (pc1 + 2) x slots1 (λ slots' v. slot slots' x ≡ v) P (reduction s o r)
         (λ slots' v here later same2. ap Ok (sym (same2.1 x (omega arith)) ∙ here))
@@ -377,7 +377,7 @@ module _ (table : ArrayTable) (code : List Instruction) (line n : ℕ) (s : Stat
             (omega arith)
         (comes-then table code line rows out pc pc1 (pc1 + 2) b x slots (FormGives n x (form_of b t)) (λ slots' v. slot slots' x ≡ v) (elemental [] s t) (reduction s o)
             (omega arith)
-        (parts-come t pc b slots ok (has-front code pc c last has) holds le (omega (arith, few)))
+        (parts-come t pc b slots ok.1 (has-front code pc c last has) holds le (omega (arith, few)))
         (λ slots1 r e same gives. reduce-comes table code line n s rows out arrays pc1 x x o (form_of b t) slots1 r (has-back code pc c last has)
             (gives.0 slots1 (same-refl x slots1)) gives.1 (omega arith) (omega (arith, few, same.0))))
         (λ slots2 v e same here. comes-here table code line rows out (pc1 + 2) x slots2 P (Same v) ((λ later same2. ap Same (sym (same2.1 x (omega arith)) ∙ here)), tt)))

@@ -1,6 +1,7 @@
 -- Well-formed programs: their names are among n declared ones, and in FORALL there is no reduction, no section and no subscript but those
 -- that are linear in their form. So it is in every program that breaks no rule.
-use Rattle.std.specs.Prelude.{◌≡◌, ℕ, ◌<◌, List, [], ◌∷◌, false, Option, Some, None, ⊤}
+use Rattle.std.specs.Prelude.{◌≡◌, ℕ, ◌<◌, List, [], ◌∷◌, true, false, Option, Some, None, ⊤}
+use Rattle.op_tables.specs.Arguments.{is_reduction}
 use Rattle.op_tables.specs.Operators.{can_divide}
 use Rattle.array_meaning.specs.Terms.{Term, Number, Scalar, Index, Element, Section, Apply, Reduce, Terms, NoTerm, More, SectionSubscripts, NoSubscript, Subscript, Triplet, Control}
 use Rattle.array_meaning.specs.Statements.{Item, Text, Value, Elements, SectionAssignment, ElementAssignment, Block, Done, Then, Statement, AssignScalar, AssignElement, AssignSection, If, Do, Where, Forall, Print, Stop, Exit, Cycle, Continue, Redistribute, Arms, NoArm, Arm}
@@ -15,7 +16,7 @@ module _ (n : ℕ) where
     IsScalar (Element a ts) = (a < n) × AreScalar ts
     IsScalar (Section a subs) = ⊤
     IsScalar (Apply o ts) = AreScalar ts
-    IsScalar (Reduce o t) = IsArray t
+    IsScalar (Reduce o t) = (is_reduction o ≡ true) × IsArray t
 
     pub AreScalar : Terms → Type 0
     AreScalar NoTerm = ⊤
@@ -34,7 +35,7 @@ module _ (n : ℕ) where
     IsArray (Element a ts) = (a < n) × AreScalar ts
     IsArray (Section a subs) = (a < n) × AreScalarSubscripts subs
     IsArray (Apply o ts) = AreArrays ts
-    IsArray (Reduce o t) = IsArray t
+    IsArray (Reduce o t) = (is_reduction o ≡ true) × IsArray t
 
     pub AreArrays : Terms → Type 0
     AreArrays NoTerm = ⊤

@@ -4,7 +4,6 @@ use Rattle.std.specs.Fmt.{signed_decimal}
 use Rattle.hpf_base.specs.ElementOrder.{product}
 use Rattle.op_tables.specs.declared.op.Op.{Op}
 use Rattle.op_tables.specs.Operators.{wrapped, is_zero, is_true}
-use Rattle.op_tables.specs.Reductions.{unit_of, combined}
 use Rattle.expression_rules.specs.declared.dims.Dim.{Dim}
 use Rattle.nest_order.specs.Storage.{Spot}
 use Rattle.array_meaning.specs.declared.faults.FaultKind.TheVariants.{ZeroStride}
@@ -21,7 +20,7 @@ use Rattle.machine_steps.specs.Instr.{Instr, Local, Control}
 use Rattle.machine_steps.specs.Machine.{on, faulted, set_slot}
 use Rattle.node_code.specs.Flat.{Flat, Flats, slot, flat_value, flat_values, slots_value}
 use Rattle.node_code.specs.Forms.{Sub, selections_in}
-use Rattle.node_code.specs.Parallel.{at_line, shape_of, spot_of, Assignment, assignment_size, assignment_tuples, assigned_spot, Evaluation, evaluation_extents, evaluation_size, evaluation_tuples, copy_spot, forall_tuples, forall_spot, forall_mask_tuples}
+use Rattle.node_code.specs.Parallel.{at_line, shape_of, spot_of, Assignment, assignment_size, assignment_tuples, assigned_spot, Evaluation, evaluation_extents, evaluation_size, evaluation_tuples, reduction_tuples, fold_of, copy_spot, forall_tuples, forall_spot, forall_mask_tuples}
 use Rattle.node_code.specs.ForallLimits.{forall_limits, one_to_one}
 
 -- an item of a PRINT: bytes, a number over the slots, or the elements of a section
@@ -99,10 +98,6 @@ go_on_if (Err fault) c = faulted c fault
 abbrev pub stride_at : ℕ → List ℤ → Result ℕ Cause
 stride_at x slots = if is_zero (slot slots x) then fails ZeroStride else Ok 0
 
--- the values of a reduction are joined
-abbrev pub fold_of : Op → machine.Fold
-fold_of o = record { join = combined o; unit = unit_of o }
-
 module _ (shapes : List (List Dim)) where
   abbrev pub element_in : ℕ → ℕ → Flats → List ℤ → Result Spot Fault
   element_in line a fs slots = at_line line (flat_values slots [] [] fs >>= spot_in a (shape_of shapes a))
@@ -158,6 +153,6 @@ meaning_of table (MakeCopy p) = machine.MakeCopy p.copy (λ slots. table.copies 
 meaning_of table (ParCopy p) = machine.Par (evaluation_tuples table.shapes p) (copy_spot p.copy)
 meaning_of table (ParForallCopy p) = machine.Par (forall_mask_tuples table.shapes p) (copy_spot p.copy)
 meaning_of table Verdict = machine.Verdict
-meaning_of table (Reduce p o x) = machine.Reduce (evaluation_tuples table.shapes p) (fold_of o) x
+meaning_of table (Reduce p o x) = machine.Reduce (reduction_tuples table.shapes p o) (fold_of o) x
 meaning_of table (Inside line a subs) = Local (λ c. go_on_if (at_line line (all_inside table.shapes a (selections_in c.slots subs))) c)
 meaning_of table (Print items) = machine.Print (items_of table.shapes items) (λ bytes. drop 1 bytes ++ 10 ∷ [])
