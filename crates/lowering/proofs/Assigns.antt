@@ -26,14 +26,18 @@ module _ (table : ArrayTable) (code : List Instruction) (n many : ℕ) (copy : O
   pub sets : (line pc b k : ℕ) (slots : List ℤ) (rows : Storage) (s : State) (f : Flat) (v : ℤ) → k < n → n ≤ many → slice_get code pc ≡ Some (Set line k f)
       → flat_value slots [] [] f ≡ Ok v → Holds table code n many copy s slots rows
       → Goes table code n many copy leave again (pc + 1) b slots (stands table code pc slots rows s.printed) (normal (set_scalar s k v))
-  sets line pc b k slots rows s f v lt few h e holds =
-      (slice_set slots k v, rows, set-reaches table code n many copy line pc k slots rows s.printed f v h e,
-          (λ j from lj. sym (get_or-set_other slots k j v (pos 0) (λ e. absurd (omega (arith, e, lt, from))))), holds-scalar table code n many copy s slots rows k v lt few holds)
+  sets line pc b k slots rows s f v lt few h e holds = (
+    slice_set slots k v,
+    rows,
+    set-reaches table code n many copy line pc k slots rows s.printed f v h e,
+    (λ j from lj. sym (get_or-set_other slots k j v (pos 0) (λ e. absurd (omega (arith, e, lt, from))))),
+    holds-scalar table code n many copy s slots rows k v lt few holds,
+  )
 
   pub assigns : (line b pc k : ℕ) (t : Term) (slots : List ℤ) (rows : Storage) (s : State) → k < n → IsScalar n t
       → HasAt code pc (code_of line b t ++ Set line k (flat_of b t) ∷ []) → n ≤ b → b + slots_of t ≤ many → Holds table code n many copy s slots rows
       → Goes table code n many copy leave again (pc + length (code_of line b t ++ Set line k (flat_of b t) ∷ [])) b slots (stands table code pc slots rows s.printed)
-          (one_step line s (assign_scalar k t s))
+      (one_step line s (assign_scalar k t s))
   assigns line b pc k t slots rows s lt ok has le few holds =
       let c = code_of line b t in
       let set = Set line k (flat_of b t) in
@@ -41,14 +45,14 @@ module _ (table : ArrayTable) (code : List Instruction) (n many : ℕ) (copy : O
       let b1 : ℕ = b + slots_of t in
       let long : pc1 + 1 ≡ pc + length (c ++ set ∷ []) = omega (arith, length-append c (set ∷ [])) in
       goes-at table code n many copy leave again (pc1 + 1) (pc + length (c ++ set ∷ [])) b slots (stands table code pc slots rows s.printed)
-          (one_step line s (assign_scalar k t s)) long
+      (one_step line s (assign_scalar k t s)) long
       (subst (Goes table code n many copy leave again (pc1 + 1) b slots (stands table code pc slots rows s.printed))
-          (sym (ends-bind line s (value [] s t) (λ v. Ok (set_scalar s k v))))
+      (sym (ends-bind line s (value [] s t) (λ v. Ok (set_scalar s k v))))
       (goes-value table code n many copy leave again line pc pc1 (pc1 + 1) b b1 slots rows s (Gives b1 (flat_of b t)) (value [] s t) (λ v. normal (set_scalar s k v))
-          (omega arith) le holds
+      (omega arith) le holds
       (term-comes table code line n s rows s.printed holds.arrays t pc b slots ok (has-front code pc c (set ∷ []) has) holds.scalars le (omega (arith, few, holds.size)))
       (λ slots1 v e same gives holds1. sets line pc1 b1 k slots1 rows s (flat_of b t) v lt (omega (arith, few, le)) (has-back code pc c (set ∷ []) has).0
-          (gives slots1 (same-refl b1 slots1)) holds1)))
+      (gives slots1 (same-refl b1 slots1)) holds1)))
 
   -- a test of bounds
   bounds-come : (line pc b a : ℕ) (slots : List ℤ) (rows : Storage) (s : State) (fs : Flats) (is : List ℤ) → slice_get code pc ≡ Some (TestBounds line a fs)
@@ -57,9 +61,9 @@ module _ (table : ArrayTable) (code : List Instruction) (n many : ℕ) (copy : O
   bounds-come line pc b a slots rows s fs is h e la arrays =
       subst (λ d. Comes table code line rows s.printed pc (pc + 1) b slots (λ slots' k. ⊤) (if_in_bounds (element_place d is))) (sym (arrays.shape a la))
       (by_place (if_in_bounds (element_place (shape_of table.shapes a) is))
-          (λ i. one table code pc slots rows s.printed (TestBounds line a fs) h i
-          ∙ ap (λ r. record (stands table code pc slots rows s.printed i) { control = go_on_if {A = Spot} (at_line line (r >>= spot_in a (shape_of table.shapes a))) control })
-          e))
+      (λ i. one table code pc slots rows s.printed (TestBounds line a fs) h i
+      ∙ ap (λ r. record (stands table code pc slots rows s.printed i) { control = go_on_if {A = Spot} (at_line line (r >>= spot_in a (shape_of table.shapes a))) control })
+      e))
     where
       control : Control Fault
       control = record { at = pc; slots = slots; status = Running }
@@ -77,13 +81,21 @@ module _ (table : ArrayTable) (code : List Instruction) (n many : ℕ) (copy : O
       → Holds table code n many copy s slots rows → Goes table code n many copy leave again (pc + 1) b slots (stands table code pc slots rows s.printed) (normal (store s a k v))
   stores line pc b a k slots rows s fs f is v la h e p ev holds =
       let where_is : spot_in a (shape_of table.shapes a) is ≡ Ok (record { row = a; at = k }) = ap
-          (λ d. if_in_bounds (element_place d is) >>= (λ k. Ok (record { row = a; at = k }))) (sym (holds.arrays.shape a la))
-          ∙ ap (λ r. r >>= (λ k. Ok (record { row = a; at = k }))) p in
+      (λ d. if_in_bounds (element_place d is) >>= (λ k. Ok (record { row = a; at = k }))) (sym (holds.arrays.shape a la))
+      ∙ ap (λ r. r >>= (λ k. Ok (record { row = a; at = k }))) p in
       let spot : (flat_values slots [] [] fs >>= spot_in a (shape_of table.shapes a)) ≡ Ok (record { row = a; at = k }) = ap (λ r. r >>= spot_in a (shape_of table.shapes a)) e
-          ∙ where_is in
-      (slots, write rows (record { row = a; at = k }) v,
-          (λ i. (1, i, one table code pc slots rows s.printed (Store line a fs f) h i ∙ ap (λ r. after r (flat_value slots [] [] f) i) spot
-          ∙ ap (λ w. after (Ok (record { row = a; at = k })) w i) ev)), kept-refl table code n many copy b slots, holds-store table code n many copy s slots rows a k v la holds)
+      ∙ where_is in (
+        slots,
+        write rows (record { row = a; at = k }) v,
+        (λ i. (
+          1,
+          i,
+          one table code pc slots rows s.printed (Store line a fs f) h i ∙ ap (λ r. after r (flat_value slots [] [] f) i) spot
+              ∙ ap (λ w. after (Ok (record { row = a; at = k })) w i) ev,
+        )),
+        kept-refl table code n many copy b slots,
+        holds-store table code n many copy s slots rows a k v la holds,
+      )
     where
       after : Result Spot Cause → Result ℤ Cause → Place
       after p v i = record (stands table code pc slots rows s.printed i) {
@@ -93,12 +105,12 @@ module _ (table : ArrayTable) (code : List Instruction) (n many : ℕ) (copy : O
 
   pub assigns-element : (line b pc a : ℕ) (ts : Terms) (t : Term) (slots : List ℤ) (rows : Storage) (s : State) → a < n → AreScalar n ts → IsScalar n t
       → HasAt code pc (codes_of line b ts
-          ++ TestBounds line a (flats_of b ts) ∷ (code_of line (b + all_slots_of ts) t ++ Store line a (flats_of b ts) (flat_of (b + all_slots_of ts) t) ∷ []))
+      ++ TestBounds line a (flats_of b ts) ∷ (code_of line (b + all_slots_of ts) t ++ Store line a (flats_of b ts) (flat_of (b + all_slots_of ts) t) ∷ []))
       → n ≤ b → b + (all_slots_of ts + slots_of t) ≤ many → Holds table code n many copy s slots rows
       → Goes table code n many copy leave again
-          (pc + length (codes_of line b ts
-          ++ TestBounds line a (flats_of b ts) ∷ (code_of line (b + all_slots_of ts) t ++ Store line a (flats_of b ts) (flat_of (b + all_slots_of ts) t) ∷ []))) b slots
-          (stands table code pc slots rows s.printed) (one_step line s (assign_element a ts t s))
+      (pc + length (codes_of line b ts
+      ++ TestBounds line a (flats_of b ts) ∷ (code_of line (b + all_slots_of ts) t ++ Store line a (flats_of b ts) (flat_of (b + all_slots_of ts) t) ∷ []))) b slots
+      (stands table code pc slots rows s.printed) (one_step line s (assign_element a ts t s))
   assigns-element line b pc a ts t slots rows s la oks ok has le few holds =
       let x : ℕ = b + all_slots_of ts in
       let fs = flats_of b ts in
@@ -116,23 +128,23 @@ module _ (table : ArrayTable) (code : List Instruction) (n many : ℕ) (copy : O
       let h1 : HasAt code pc1 (test ∷ (c2 ++ last)) = has-back code pc c1 (test ∷ (c2 ++ last)) has in
       let long : to ≡ pc + length (c1 ++ test ∷ (c2 ++ last)) = omega (arith, length-append c1 (test ∷ (c2 ++ last)), length-append c2 last) in
       goes-at table code n many copy leave again to (pc + length (c1 ++ test ∷ (c2 ++ last))) b slots (stands table code pc slots rows s.printed)
-          (one_step line s (assign_element a ts t s)) long
+      (one_step line s (assign_element a ts t s)) long
       (subst (Goes table code n many copy leave again to b slots (stands table code pc slots rows s.printed))
-          (sym (ends-bind line s (values [] s ts >>= place_in s a) next ∙ value-bind line s (values [] s ts) (place_in s a) (λ k. one_step line s (next k))))
+      (sym (ends-bind line s (values [] s ts >>= place_in s a) next ∙ value-bind line s (values [] s ts) (place_in s a) (λ k. one_step line s (next k))))
       (goes-value table code n many copy leave again line pc pc1 to b x slots rows s (GiveAll x fs) (values [] s ts)
-          (λ is. with_value line s (place_in s a is) (λ k. one_step line s (next k))) (omega arith) le holds
+      (λ is. with_value line s (place_in s a is) (λ k. one_step line s (next k))) (omega arith) le holds
       (terms-come table code line n s rows s.printed holds.arrays ts pc b slots oks (has-front code pc c1 (test ∷ (c2 ++ last)) has) holds.scalars le
-          (omega (arith, few, holds.size)))
+      (omega (arith, few, holds.size)))
       (λ slots1 is e same gives holds1.
       goes-value table code n many copy leave again line pc1 pc2 to x x slots1 rows s (λ slots' k. ⊤) (place_in s a is) (λ k. one_step line s (next k)) (omega arith)
-          (omega (arith, le)) holds1
+      (omega (arith, le)) holds1
       (bounds-come line pc1 x a slots1 rows s fs is h1.0 (gives slots1 (same-refl x slots1)) la holds1.arrays)
       (λ slots2 k inside same2 nothing holds2.
       subst (Goes table code n many copy leave again to x slots2 (stands table code pc2 slots2 rows s.printed)) (sym (ends-bind line s (value [] s t) (λ v. Ok (store s a k v))))
       (goes-value table code n many copy leave again line pc2 pc3 to x b2 slots2 rows s (Gives b2 f) (value [] s t) (λ v. normal (store s a k v)) (omega arith)
-          (omega (arith, le)) holds2
+      (omega (arith, le)) holds2
       (term-comes table code line n s rows s.printed holds2.arrays t pc2 x slots2 ok (has-front code pc2 c2 last h1.1) holds2.scalars (omega (arith, le))
-          (omega (arith, few, holds2.size)))
+      (omega (arith, few, holds2.size)))
       (λ slots3 v e3 same3 gives3 holds3.
       stores line pc3 b2 a k slots3 rows s fs f is v la (has-back code pc2 c2 last h1.1).0
       (gives slots3 (same-on x x x slots1 slots2 slots3 (omega arith) (omega arith) same2 same3)) inside (gives3 slots3 (same-refl b2 slots3)) holds3))))))

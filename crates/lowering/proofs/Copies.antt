@@ -33,9 +33,9 @@ module _ (table : ArrayTable) (code : List Instruction) (n many leave again : �
       (ns : List ℕ) (shape : evaluation_extents p slots ≡ ns) (counted : tuples.count slots ≡ product ns)
       (tuple : ℕ → List ℤ) (f : ℕ → Result ℤ Cause)
       (does : (rows1 : Storage) → HoldsArrays n table.shapes s rows1 → (u : ℕ) → machine.outcome_of tuples slots (read rows1) u
-          ≡ outcome_of (at_line line (at_tuple (tuple u) (f u))))
+      ≡ outcome_of (at_line line (at_tuple (tuple u) (f u))))
       (next : List ℤ → Run) (goes : (vs : List ℤ) (rows3 : Storage) → Holds table code n many (Some vs) s slots rows3 → Goes table code n many None leave again to b slots
-          (stands table code (pc + 3) slots rows3 s.printed) (next vs)) where
+      (stands table code (pc + 3) slots rows3 s.printed) (next vs)) where
     abbrev count : ℕ
     count = product ns
 
@@ -85,9 +85,9 @@ module _ (table : ArrayTable) (code : List Instruction) (n many leave again : �
         let rows3 = scatter effect count rows1 in
         let m3 = stands table code (pc + 3) slots rows3 s.printed in
         let v : Reaches table code m1 m3 = subst (λ at. Reaches table code m1 (stands table code at slots rows3 s.printed)) e
-            (par-reaches table code n par tuples (copy_spot n) (pc + 1) slots rows1 s.printed is has.1 count counted kept) in
+        (par-reaches table code n par tuples (copy_spot n) (pc + 1) slots rows1 s.printed is has.1 count counted kept) in
         goes-on table code n many None leave again to b b slots slots m0 m3 (next vs) (omega arith) (reaches-on table code m0 m1 m3 makes v)
-            (kept-refl table code n many None b slots)
+        (kept-refl table code n many None b slots)
         (goes vs rows3 (holds-some table code n many s slots rows3 vs (h.1 ∙ no_rest vs h.0 h.3) h.4))
       where
         no_rest : (vs rest : List ℤ) → count + length rest ≡ count → vs ++ rest ≡ vs

@@ -11,7 +11,7 @@ use Rattle.array_meaning.specs.Faults.{Cause, Fault, ◌>>=◌, at_tuple}
 use Rattle.array_meaning.specs.State.{State}
 use Rattle.array_meaning.specs.Sections.{positions, space_size}
 use Rattle.array_meaning.specs.Elementals.{Elemental, sections, first_extents, value_at, each, values_over, ArrayValue, reduction}
-use Rattle.machine_steps.specs.Instr.{Running, Faulted, Control, Outcome, Fold}
+use Rattle.machine_steps.specs.Instr.{Running, Faulted, Control, Outcome}
 use Rattle.machine_steps.specs.Machine as machine
 use Rattle.machine_steps.specs.Machine.{Machine, Kept, keep, folded, verdict_control, stay, step, step_by, steps, instr_of}
 use Rattle.node_code.specs.Flat.{slot}
@@ -45,9 +45,9 @@ module _ (n : ℕ) (shapes : List (List Dim)) (s : State) (rows : Storage) (arra
   own-outcome u =
       let y = positions (first_extents (sections x)) u in
       let values : value_by_reads shapes y (values_of rows (reads_at shapes y x)) 0 x ≡ value_at s y x = ap (λ vs. value_by_reads shapes y vs 0 x)
-          (sym (append-nil (values_of rows (reads_at shapes y x)))) ∙ value-of-reads n shapes s rows arrays y x [] [] named in
+      (sym (append-nil (values_of rows (reads_at shapes y x)))) ∙ value-of-reads n shapes s rows arrays y x [] [] named in
       let here : machine.outcome_of (evaluation_tuples shapes p) slots (read rows) u
-          ≡ outcome_of (at_line p.line (at_tuple y (value_by_reads shapes y (values_of rows (reads_at shapes y x)) 0 x))) = rw (own-shape, right) refl in
+      ≡ outcome_of (at_line p.line (at_tuple y (value_by_reads shapes y (values_of rows (reads_at shapes y x)) 0 x))) = rw (own-shape, right) refl in
       here ∙ ap (λ q. outcome_of (at_line p.line (at_tuple y q))) values
 
 -- ---- the values of the first tuples, joined
@@ -75,7 +75,8 @@ module _ (line : ℕ) (o : Op) (outcome : ℕ → Outcome Fault) where
   fold-one t (Ok vs) (Err c) e h = tt
   fold-one t (Err c) q e h = tt
 
-  folds-all : (tuple : ℕ → List ℤ) (g : ℕ → Result ℤ Cause) (t : ℕ) → ((u : ℕ) → outcome u ≡ counted_outcome o (outcome_of (at_line line (at_tuple (tuple u) (g u))))) → Folds (each tuple g t) t
+  folds-all : (tuple : ℕ → List ℤ) (g : ℕ → Result ℤ Cause) (t : ℕ) → ((u : ℕ) → outcome u ≡ counted_outcome o (outcome_of (at_line line (at_tuple (tuple u) (g u)))))
+      → Folds (each tuple g t) t
   folds-all tuple g zero h = refl
   folds-all tuple g (suc t) h = fold-one t (each tuple g t) (at_tuple (tuple t) (g t)) (h t) (folds-all tuple g t h)
 
@@ -128,7 +129,7 @@ module _ (table : ArrayTable) (code : List Instruction) (line n : ℕ) (s : Stat
       two : (i : Idle) → steps (meaning_of table) 2 (stands table code (pc + 1) slots rows out i) ≡ judged (keep outcome 0 count None) (folded (fold_of o) outcome count) i
       two i =
           ap (λ m. step (meaning_of table) m) (ap (λ z. step_by (instr_of (meaning_of table) z) (stands table code (pc + 1) slots rows out i)) has.1.0
-              ∙ ap (λ k. values 1 (keep outcome 0 k None) (folded (fold_of o) outcome k) i) (ap product (own-shape n table.shapes s rows arrays line form 0 slots r right named)))
+          ∙ ap (λ k. values 1 (keep outcome 0 k None) (folded (fold_of o) outcome k) i) (ap product (own-shape n table.shapes s rows arrays line form 0 slots r right named)))
           ∙ ap (λ z. step_by (instr_of (meaning_of table) z) (values 1 (keep outcome 0 count None) (folded (fold_of o) outcome count) i)) has.1.0
 
       three : (v : ℤ) (i : Idle) → steps (meaning_of table) 1 (judged None v i) ≡ stands table code (pc + 1 + 1) (slice_set slots x v) rows out
@@ -155,7 +156,7 @@ module _ (table : ArrayTable) (code : List Instruction) (line n : ℕ) (s : Stat
 
       limits : (q : Result ℕ Cause) → space_size ns (sections r) ≡ q → (i : Idle)
           → steps (meaning_of table) 1 (stands table code pc slots rows out i)
-              ≡ record (stands table code pc slots rows out i) { control = go_on_if {A = ℕ} (at_line line q) (record { at = pc; slots = slots; status = Running }) }
+          ≡ record (stands table code pc slots rows out i) { control = go_on_if {A = ℕ} (at_line line q) (record { at = pc; slots = slots; status = Running }) }
       limits q e i = one table code pc slots rows out (OwnLimits p) has.0 i
           ∙ ap (λ q. record (stands table code pc slots rows out i) { control = go_on_if {A = ℕ} (at_line line q) (record { at = pc; slots = slots; status = Running }) })
           (own-limits n table.shapes s rows arrays line form 0 slots r right named ∙ e)
@@ -165,7 +166,7 @@ module _ (table : ArrayTable) (code : List Instruction) (line n : ℕ) (s : Stat
       by_limits (Ok k) e =
           let many : k ≡ count = space-size ns (sections r) k e in
           comes-on table code line rows out pc (pc + 1) (pc + 2) b b slots slots P (values_over s ns r k >>= pair >>= second) (omega arith) (λ i. (1, i, limits (Ok k) e i))
-              (same-refl b slots)
+          (same-refl b slots)
           (subst (λ k. Comes table code line rows out (pc + 1) (pc + 2) b slots P (values_over s ns r k >>= pair >>= second)) (sym many)
           (by_each (values_over s ns r count) kept-is (folds-all line o outcome (positions ns) (λ t. value_at s (positions ns t) r) count tuple-is)))
       by_limits (Err c) e = λ i. (_, (1, limits (Err c) e i), refl, refl)

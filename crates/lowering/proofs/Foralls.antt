@@ -105,7 +105,7 @@ module _ (line : ℕ) (mask : Option Term) (body : List ElementAssignment) (axes
     where
       by_test : (t : Bool) → then_do (all_one_to_one false ns bs s) next ≡ then_do (check_one_to_one ns bs s) next
           → then_do (then_do (one_step b.line s (check t NotOneToOne s)) (all_one_to_one false ns bs)) next
-              ≡ then_do (then_do (one_step b.line s (check t NotOneToOne s)) (check_one_to_one ns bs)) next
+          ≡ then_do (then_do (one_step b.line s (check t NotOneToOne s)) (check_one_to_one ns bs)) next
       by_test true e = e
       by_test false e = refl
 
@@ -145,16 +145,18 @@ module _ (table : ArrayTable) (code : List Instruction) (n many leave again : �
   test-goes : (copy : Option (List ℤ)) (line pc b : ℕ) (x : Instruction) (test : List ℤ → Result ℕ Cause) (t : Bool) (kind : FaultKind) (slots : List ℤ) (rows : Storage)
       (s : State) → slice_get code pc ≡ Some x → meaning_of table x ≡ Local (λ c. go_on_if (at_line line (test c.slots)) c)
       → test slots ≡ (if t then Ok 0 else fails kind) → Holds table code n many copy s slots rows → Goes table code n many copy leave again (pc + 1) b slots
-          (stands table code pc slots rows s.printed) (one_step line s (check t kind s))
+      (stands table code pc slots rows s.printed) (one_step line s (check t kind s))
   test-goes copy line pc b x test t kind slots rows s h is e holds =
       by_test t (λ i. one table code pc slots rows s.printed x h i ∙ ap (λ z. step_by z (stands table code pc slots rows s.printed i)) is
-          ∙ ap (λ q. record (stands table code pc slots rows s.printed i) { control = go_on_if {A = ℕ} (at_line line q) (record { at = pc; slots = slots; status = Running }) })
-          e)
+      ∙ ap (λ q. record (stands table code pc slots rows s.printed i) { control = go_on_if {A = ℕ} (at_line line q) (record { at = pc; slots = slots; status = Running }) })
+      e)
     where
       by_test : (t : Bool)
           → ((i : Idle) → steps (meaning_of table) 1 (stands table code pc slots rows s.printed i)
-          ≡ record (stands table code pc slots rows s.printed i) { control = go_on_if {A = ℕ} (at_line line (if t then Ok 0 else fails kind))
-          (record { at = pc; slots = slots; status = Running }) })
+          ≡ record (stands table code pc slots rows s.printed i) {
+            control = go_on_if {A = ℕ} (at_line line (if t then Ok 0 else fails kind))
+                (record { at = pc; slots = slots; status = Running });
+          })
           → Goes table code n many copy leave again (pc + 1) b slots (stands table code pc slots rows s.printed) (one_step line s (check t kind s))
       by_test true g = (slots, rows, (λ i. (1, i, g i)), kept-refl table code n many copy b slots, holds)
       by_test false g = λ i. (_, (1, g i), refl, refl)
@@ -184,20 +186,20 @@ module _ (table : ArrayTable) (code : List Instruction) (n many leave again : �
     all-one-to-one : (copy : Option (List ℤ)) (xs : List ElementAssignment) (pc : ℕ) (slots : List ℤ) (rows : Storage) (s : State) → AreIndexedAssignments n xs
         → HasAt code pc (one_to_one_code over xs) → Holds table code n many copy s slots rows → Gives slots
         → Goes table code n many copy leave again (pc + length (one_to_one_code over xs)) b1 slots (stands table code pc slots rows s.printed)
-            (all_one_to_one (product ns == 0) ns xs s)
+        (all_one_to_one (product ns == 0) ns xs s)
     all-one-to-one copy [] pc slots rows s ok has holds gives =
         let e : pc ≡ pc + 0 = omega arith in
         goes-at table code n many copy leave again pc (pc + 0) b1 slots (stands table code pc slots rows s.printed) (normal s) e
-            (lands-done table code n many copy leave again pc b1 slots rows s holds)
+        (lands-done table code n many copy leave again pc b1 slots rows s holds)
     all-one-to-one copy (x ∷ xs) pc slots rows s ok has holds gives =
         let cs = one_to_one_code over xs in
         let e : pc + 1 + length cs ≡ pc + length (one_to_one_code over (x ∷ xs)) = omega arith in
         goes-at table code n many copy leave again (pc + 1 + length cs) (pc + length (one_to_one_code over (x ∷ xs))) b1 slots (stands table code pc slots rows s.printed)
-            (all_one_to_one (product ns == 0) ns (x ∷ xs) s) e
+        (all_one_to_one (product ns == 0) ns (x ∷ xs) s) e
         (goes-then-kept table code n many copy leave again (pc + 1) (pc + 1 + length cs) b1 slots (stands table code pc slots rows s.printed)
-            (one_is_to_one (product ns == 0) ns x s) (all_one_to_one (product ns == 0) ns xs)
+        (one_is_to_one (product ns == 0) ns x s) (all_one_to_one (product ns == 0) ns xs)
         (test-goes copy x.line pc b1 (OneToOne x.line over (map index_flat (list_of x.subscripts))) (one_to_one over (map index_flat (list_of x.subscripts)))
-            ((product ns == 0) || is_one_to_one s (list_of x.subscripts) 0 ns) NotOneToOne slots rows s has.0 refl
+        ((product ns == 0) || is_one_to_one s (list_of x.subscripts) 0 ns) NotOneToOne slots rows s has.0 refl
         (ap (λ ms. unless_empty ms (is_one_to_one (slots_state slots) (map term_of (map index_flat (list_of x.subscripts))) 0 ms) NotOneToOne) (extents-are slots gives)
         ∙ ap (λ t. unless_empty ns t NotOneToOne) (one-to-one-are n s slots holds.scalars 0 (list_of x.subscripts) ns (all-listed n x.subscripts ok.1))) holds)
         (λ slots1 rows1 s1 kept holds1. all-one-to-one copy xs (pc + 1) slots1 rows1 s1 ok.3 has.1 holds1 (gives-kept copy slots slots1 gives kept)))
@@ -208,20 +210,20 @@ module _ (table : ArrayTable) (code : List Instruction) (n many leave again : �
         → ((s : State) (slots : List ℤ) (rows : Storage) → Holds table code n many copy s slots rows → (t : ℕ) (values : List ℤ)
         → is_asked when (values_of rows (mask_reads when t) ++ values) ≡ m t)
         → (xs : List ElementAssignment) (pc : ℕ) (slots : List ℤ) (rows : Storage) (s : State) → AreIndexedAssignments n xs
-            → HasAt code pc (forall_assignments_code over when xs) → Holds table code n many copy s slots rows → Gives slots
+        → HasAt code pc (forall_assignments_code over when xs) → Holds table code n many copy s slots rows → Gives slots
         → Goes table code n many copy leave again (pc + length (forall_assignments_code over when xs)) b1 slots (stands table code pc slots rows s.printed)
-            (assign_all_forall axes (product ns) m xs s)
+        (assign_all_forall axes (product ns) m xs s)
     assigns-all copy when m asked [] pc slots rows s ok has holds gives =
         let e : pc ≡ pc + 0 = omega arith in
         goes-at table code n many copy leave again pc (pc + 0) b1 slots (stands table code pc slots rows s.printed) (normal s) e
-            (lands-done table code n many copy leave again pc b1 slots rows s holds)
+        (lands-done table code n many copy leave again pc b1 slots rows s holds)
     assigns-all copy when m asked (x ∷ xs) pc slots rows s ok has holds gives =
         goes-at table code n many copy leave again (pc + 2 + length cs) (pc + length (forall_assignments_code over when (x ∷ xs))) b1 slots
-            (stands table code pc slots rows s.printed) (assign_all_forall axes (product ns) m (x ∷ xs) s) long
+        (stands table code pc slots rows s.printed) (assign_all_forall axes (product ns) m (x ∷ xs) s) long
         (goes-then-kept table code n many copy leave again (pc + 2) (pc + 2 + length cs) b1 slots (stands table code pc slots rows s.printed)
-            (one_step x.line s (assign_forall axes (product ns) m x s)) (assign_all_forall axes (product ns) m xs)
+        (one_step x.line s (assign_forall axes (product ns) m x s)) (assign_all_forall axes (product ns) m xs)
         (stores-go table code n many copy leave again (ParForall p) (forall_tuples table.shapes p) (forall_spot table.shapes p) refl x.line x.array b1 pc ok.0
-            (has.0, (has.1.0, tt)) slots rows s holds (product ns) (ap product (extents-are slots gives)) (indices_at axes) at_a_tuple (λ u lt. does u))
+        (has.0, (has.1.0, tt)) slots rows s holds (product ns) (ap product (extents-are slots gives)) (indices_at axes) at_a_tuple (λ u lt. does u))
         (λ slots1 rows1 s1 kept holds1. assigns-all copy when m asked xs (pc + 2) slots1 rows1 s1 ok.3 at_rest holds1 (gives-kept copy slots slots1 gives kept)))
       where
         cs : List Instruction
@@ -253,16 +255,16 @@ module _ (table : ArrayTable) (code : List Instruction) (n many leave again : �
             ap (store_at s x.array (subscripts_at ds y)) (indexed-value n s slots holds.scalars y x.right ok.2)
             ∙ sym (ap (λ q. q >>= (λ is. store_at s x.array is (value y s x.right))) (subs-are n s slots holds.scalars y y x.subscripts ok.1)) in
             subst (λ q. Does x.line x.array (spot_of table.shapes x.array (subscripts_at ds y))
-                (by_values y (values_of rows (mask_reads when u ++ reads_at table.shapes y r)) (length (mask_reads when u))) (at_tuple y (if_true (m u) q))) stored
+            (by_values y (values_of rows (mask_reads when u ++ reads_at table.shapes y r)) (length (mask_reads when u))) (at_tuple y (if_true (m u) q))) stored
             (masked-does n table.shapes s rows holds.arrays y x.line x.array ds r when u (m u) ok.0 (indexed-names n s slots holds.scalars y x.right ok.2)
-                (λ values. asked s slots rows holds u values))
+            (λ values. asked s slots rows holds u values))
 
         does : (u : ℕ) → Does x.line x.array (forall_spot table.shapes p slots u) (machine.outcome_of (forall_tuples table.shapes p) slots (read rows) u)
             (at_tuple (indices_at axes u) (at_a_tuple u))
         does u =
             subst (λ y. Does x.line x.array (spot_of table.shapes x.array (subscripts_at (selections_at slots y p.left) y))
-                (by_values y (values_of rows (mask_reads when u ++ reads_at table.shapes y (elemental_at slots y p.right))) (length (mask_reads when u)))
-                (at_tuple (indices_at axes u) (at_a_tuple u)))
+            (by_values y (values_of rows (mask_reads when u ++ reads_at table.shapes y (elemental_at slots y p.right))) (length (mask_reads when u)))
+            (at_tuple (indices_at axes u) (at_a_tuple u)))
             (sym (indices-are slots gives u)) (does-at u (indices_at axes u))
 
     -- ---- the mask
@@ -272,18 +274,18 @@ module _ (table : ArrayTable) (code : List Instruction) (n many leave again : �
           → HasAt code pc (forall_mask_code n line over mask ++ forall_assignments_code over (option_map (λ t. where_true n true) mask) body)
           → Holds table code n many None s slots rows → Gives slots
           → Goes table code n many None leave again
-              (pc + length (forall_mask_code n line over mask ++ forall_assignments_code over (option_map (λ t. where_true n true) mask) body)) b1 slots
-              (stands table code pc slots rows s.printed) (behind line mask body axes (product ns) s)
+          (pc + length (forall_mask_code n line over mask ++ forall_assignments_code over (option_map (λ t. where_true n true) mask) body)) b1 slots
+          (stands table code pc slots rows s.printed) (behind line mask body axes (product ns) s)
       behind-goes None pc slots rows s ok has holds gives = assigns-all None None (λ t. true) (λ s slots rows h t values. refl) body pc slots rows s ok_body has holds gives
       behind-goes (Some t) pc slots rows s ok has holds gives =
           goes-at table code n many None leave again to (pc + length (forall_mask_code n line over (Some t) ++ cs)) b1 slots (stands table code pc slots rows s.printed)
-              (behind line (Some t) body axes (product ns) s) long
+          (behind line (Some t) body axes (product ns) s) long
           (subst (Goes table code n many None leave again to b1 slots (stands table code pc slots rows s.printed))
-              (sym (value-bind line s (each (indices_at axes) (λ u. value (indices_at axes u) s t) (product ns)) (λ vs. Ok (mask_of vs))
-              (λ m. assign_all_forall axes (product ns) m body s)))
+          (sym (value-bind line s (each (indices_at axes) (λ u. value (indices_at axes u) s t) (product ns)) (λ vs. Ok (mask_of vs))
+          (λ m. assign_all_forall axes (product ns) m body s)))
           (copy-goes table code n many leave again sized line b1 pc to (index_form t) over (ParForallCopy p) (forall_mask_tuples table.shapes p) refl
-              (has.0, (has.1.0, (has.1.1.0, tt))) slots rows s holds ns (extents-are slots gives) (ap product (extents-are slots gives)) (indices_at axes)
-              (λ u. value (indices_at axes u) s t)
+          (has.0, (has.1.0, (has.1.1.0, tt))) slots rows s holds ns (extents-are slots gives) (ap product (extents-are slots gives)) (indices_at axes)
+          (λ u. value (indices_at axes u) s t)
           does (λ vs. assign_all_forall axes (product ns) (mask_of vs) body s) goes))
         where
           p : Evaluation
@@ -300,13 +302,13 @@ module _ (table : ArrayTable) (code : List Instruction) (n many leave again : �
 
           does-at : (rows1 : Storage) → HoldsArrays n table.shapes s rows1 → (y : List ℤ)
               → outcome_of (at_line line
-                  (at_tuple y (value_by_reads table.shapes y (values_of rows1 (reads_at table.shapes y (elemental_at slots y (index_form t)))) 0
-                  (elemental_at slots y (index_form t))))) ≡ outcome_of (at_line line (at_tuple y (value y s t)))
+              (at_tuple y (value_by_reads table.shapes y (values_of rows1 (reads_at table.shapes y (elemental_at slots y (index_form t)))) 0
+              (elemental_at slots y (index_form t))))) ≡ outcome_of (at_line line (at_tuple y (value y s t)))
           does-at rows1 arrays y =
               let r = elemental_at slots y (index_form t) in
               ap (λ q. outcome_of (at_line line (at_tuple y q)))
               (ap (λ vs. value_by_reads table.shapes y vs 0 r) (sym (append-nil (values_of rows1 (reads_at table.shapes y r))))
-                  ∙ value-of-reads n table.shapes s rows1 arrays y r [] [] (indexed-names n s slots holds.scalars y t ok)
+              ∙ value-of-reads n table.shapes s rows1 arrays y r [] [] (indexed-names n s slots holds.scalars y t ok)
               ∙ indexed-value n s slots holds.scalars y t ok)
 
           does : (rows1 : Storage) → HoldsArrays n table.shapes s rows1 → (u : ℕ) → machine.outcome_of (forall_mask_tuples table.shapes p) slots (read rows1) u
@@ -322,9 +324,9 @@ module _ (table : ArrayTable) (code : List Instruction) (n many leave again : �
           goes vs rows3 holds3 =
               let e : pc + 1 + 1 + 1 ≡ pc + 3 = omega arith in
               forget table code n many leave again sized (Some vs) to b1 slots (stands table code (pc + 3) slots rows3 s.printed)
-                  (assign_all_forall axes (product ns) (mask_of vs) body s)
+              (assign_all_forall axes (product ns) (mask_of vs) body s)
               (assigns-all (Some vs) (Some (where_true n true)) (mask_of vs) (asked vs) body (pc + 3) slots rows3 s ok_body (subst (λ at. HasAt code at cs) e has.1.1.1) holds3
-                  gives)
+              gives)
 
   -- ---- the statement
 
@@ -332,13 +334,13 @@ module _ (table : ArrayTable) (code : List Instruction) (n many leave again : �
       (body : List ElementAssignment) (slots : List ℤ) (rows : Storage) (s : State) → AreControls n controls → IsIndexedMask n mask → AreIndexedAssignments n body
       → HasAt code pc (forall_code n line b controls mask body) → n ≤ b → b + subscripts_slots (triplets controls) ≤ many → Holds table code n many None s slots rows
       → Goes table code n many None leave again (pc + length (forall_code n line b controls mask body)) b slots (stands table code pc slots rows s.printed)
-          (run_forall line controls mask body s)
+      (run_forall line controls mask body s)
   forall-goes sized line b pc controls mask body slots rows s ok ok_mask ok_body has le few holds =
       goes-at table code n many None leave again to (pc + length (c1 ++ tail)) b slots (stands table code pc slots rows s.printed) (run_forall line controls mask body s) long
       (goes-value table code n many None leave again line pc pc1 to b b1 slots rows s P (all_index_values s controls) does (omega arith) le holds
       (by_header (all_index_values s controls) (subst (Comes table code line rows s.printed pc pc1 b slots (SubsGive b1 over')) (header-is s controls)
       (subscripts-come table code line n s rows s.printed holds.arrays (triplets controls) pc b slots (header-scalar n controls ok)
-          (has-front code pc c1 tail has) holds.scalars le (omega (arith, few, holds.size)))))
+      (has-front code pc c1 tail has) holds.scalars le (omega (arith, few, holds.size)))))
       (λ slots1 axes e same gives holds1. behind_header slots1 axes (gives slots1 (same-refl b1 slots1)) holds1))
     where
       over' : List Sub
@@ -378,7 +380,7 @@ module _ (table : ArrayTable) (code : List Instruction) (n many leave again : �
       does axes =
           if product (index_extents axes) == 0 then normal s
           else then_do (one_step line s (check_limits axes (all_subscripts mask body) s))
-              (λ s. then_do (check_one_to_one (index_extents axes) body s) (behind line mask body axes (product (index_extents axes))))
+          (λ s. then_do (check_one_to_one (index_extents axes) body s) (behind line mask body axes (product (index_extents axes))))
 
       by_header : (r : Result (List Sequence) Cause) → Comes table code line rows s.printed pc pc1 b slots (SubsGive b1 over') (r >>= (λ axes. Ok (map Along axes)))
           → Comes table code line rows s.printed pc pc1 b slots P r
@@ -391,12 +393,12 @@ module _ (table : ArrayTable) (code : List Instruction) (n many leave again : �
           subst (Goes table code n many None leave again to b1 slots1 (stands table code pc1 slots1 rows s.printed)) (sym (forall-is line mask body axes count s))
           (goes-then-kept table code n many None leave again (pc1 + 1) to b1 slots1 (stands table code pc1 slots1 rows s.printed) (one_step line s (check test SpaceLimit s)) rest
           (test-goes None line pc1 b1 (ForallLimits line over' (map index_flat (all_subscripts mask body))) (forall_limits over' (map index_flat (all_subscripts mask body)))
-              test SpaceLimit slots1 rows s at_tail.0 refl limits holds1)
+          test SpaceLimit slots1 rows s at_tail.0 refl limits holds1)
           (λ slots2 rows2 s2 kept2 holds2.
           goes-then-kept table code n many None leave again (pc1 + 1 + length c2) to b1 slots2 (stands table code (pc1 + 1) slots2 rows2 s2.printed)
-              (all_one_to_one (count == 0) (index_extents axes) body s2) (behind line mask body axes count)
+          (all_one_to_one (count == 0) (index_extents axes) body s2) (behind line mask body axes count)
           (all-one-to-one line b b1 controls axes le refl None body (pc1 + 1) slots2 rows2 s2 ok_body (has-front code (pc1 + 1) c2 c3 at_tail.1) holds2
-              (gives-kept line b b1 controls axes le refl None slots1 slots2 gives kept2))
+          (gives-kept line b b1 controls axes le refl None slots1 slots2 gives kept2))
           (λ slots3 rows3 s3 kept3 holds3.
           behind-goes line b b1 controls axes le refl sized body ok_body mask (pc1 + 1 + length c2) slots3 rows3 s3 ok_mask (has-back code (pc1 + 1) c2 c3 at_tail.1) holds3
           (gives-kept line b b1 controls axes le refl None slots2 slots3 (gives-kept line b b1 controls axes le refl None slots1 slots2 gives kept2) kept3))))

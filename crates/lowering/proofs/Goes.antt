@@ -60,7 +60,7 @@ module _ (table : ArrayTable) (code : List Instruction) (n many : ℕ) (copy : O
     Flows to b slots m s Cycled = Lands again b slots m s
     Flows to b slots m s Stopped =
         (i : Idle) → (m' : Machine Instruction Fault) × ((k : ℕ) × (steps (meaning_of table) k (m i) ≡ m')) × (m'.control.status ≡ Finished) × (m'.printed ≡ s.printed)
-            × Holds s m'.control.slots m'.rows
+        × Holds s m'.control.slots m'.rows
     Flows to b slots m s (runs.Faulted f) = Stops table code m f s.printed
 
     abbrev pub Goes : ℕ → ℕ → List ℤ → Place → Run → Type 0
@@ -89,7 +89,7 @@ module _ (table : ArrayTable) (code : List Instruction) (n many : ℕ) (copy : O
     -- one statement and what follows it, which may use the hidden slots
     pub goes-then-kept : (mid to b : ℕ) (slots : List ℤ) (m : Place) (r : Run) (f : State → Run) → Goes mid b slots m r
         → ((slots1 : List ℤ) (rows1 : Storage) (s : State) → Kept b slots slots1 → Holds s slots1 rows1 → Goes to b slots1 (stands table code mid slots1 rows1 s.printed) (f s))
-            → Goes to b slots m (then_do r f)
+        → Goes to b slots m (then_do r f)
     goes-then-kept mid to b slots m r f h next = by_flow r.completion h
       where
         by_flow : (flow : Completion) → Flows mid b slots m r.state flow → Goes to b slots m (if_normal flow r.state f)
@@ -102,7 +102,7 @@ module _ (table : ArrayTable) (code : List Instruction) (n many : ℕ) (copy : O
     -- one statement and what follows it
     pub goes-then : (mid to b : ℕ) (slots : List ℤ) (m : Place) (r : Run) (f : State → Run) → Goes mid b slots m r
         → ((slots1 : List ℤ) (rows1 : Storage) (s : State) → Holds s slots1 rows1 → Goes to b slots1 (stands table code mid slots1 rows1 s.printed) (f s))
-            → Goes to b slots m (then_do r f)
+        → Goes to b slots m (then_do r f)
     goes-then mid to b slots m r f h next = by_flow r.completion h
       where
         by_flow : (flow : Completion) → Flows mid b slots m r.state flow → Goes to b slots m (if_normal flow r.state f)
@@ -116,7 +116,7 @@ module _ (table : ArrayTable) (code : List Instruction) (n many : ℕ) (copy : O
     pub goes-value : {A : Type 0} (line pc pc1 to b b1 : ℕ) (slots : List ℤ) (rows : Storage) (s : State) (P : List ℤ → A → Type 0) (r : Result A Cause) (next : A → Run)
         → b ≤ b1 → n ≤ b → Holds s slots rows → Comes table code line rows s.printed pc pc1 b slots P r
         → ((slots1 : List ℤ) (a : A) → r ≡ Ok a → SameBelow b slots slots1 → P slots1 a → Holds s slots1 rows → Goes to b1 slots1 (stands table code pc1 slots1 rows s.printed)
-            (next a)) → Goes to b slots (stands table code pc slots rows s.printed) (with_value line s r next)
+        (next a)) → Goes to b slots (stands table code pc slots rows s.printed) (with_value line s r next)
     goes-value line pc pc1 to b b1 slots rows s P (Ok a) next le from holds h go =
         let same = h.2 in
         goes-on to b b1 slots h.0 (stands table code pc slots rows s.printed) (stands table code pc1 h.0 rows s.printed) (next a) le h.1 (λ k from lt. same.1 k lt)
@@ -146,8 +146,12 @@ module _ (table : ArrayTable) (code : List Instruction) (n many : ℕ) (copy : O
       ≡ Ok v
       → Reaches table code (stands table code pc slots rows out) (stands table code (pc + 1) (slice_set slots x v) rows out)
   set-reaches line pc x slots rows out f v h e =
-      λ i. (1, i, one table code pc slots rows out (Set line x f) h i
-          ∙ ap (λ r. record (stands table code pc slots rows out i) { control = set_result (at_line line r) x (control pc slots) }) e)
+      λ i. (
+        1,
+        i,
+        one table code pc slots rows out (Set line x f) h i
+            ∙ ap (λ r. record (stands table code pc slots rows out i) { control = set_result (at_line line r) x (control pc slots) }) e,
+      )
 
   pub jump-reaches : (pc target : ℕ) (slots : List ℤ) (rows : Storage) (out : List ℕ) → slice_get code pc ≡ Some (Jump target)
       → Reaches table code (stands table code pc slots rows out) (stands table code target slots rows out)
@@ -157,8 +161,12 @@ module _ (table : ArrayTable) (code : List Instruction) (n many : ℕ) (copy : O
       ≡ holds
       → Reaches table code (stands table code pc slots rows out) (λ i. record (stands table code pc slots rows out i) { control = go_if holds target (control pc slots) })
   test-reaches pc target x slots rows out holds h e =
-      λ i. (1, i, one table code pc slots rows out (JumpIfZero target x) h i
-          ∙ ap (λ t. record (stands table code pc slots rows out i) { control = go_if t target (control pc slots) }) e)
+      λ i. (
+        1,
+        i,
+        one table code pc slots rows out (JumpIfZero target x) h i
+            ∙ ap (λ t. record (stands table code pc slots rows out i) { control = go_if t target (control pc slots) }) e,
+      )
 
   -- ---- stores
 
@@ -199,9 +207,9 @@ module _ (table : ArrayTable) (code : List Instruction) (n many : ℕ) (copy : O
       elements = λ j lj. ⊎_elim
           (λ (e : j ≡ a). subst (λ j. row_of (write rows (record { row = a; at = k }) v) j ≡ (array (store s a k v) j).elements) (sym e)
           (get_or-set_same rows a (slice_set (row_of rows a) k v) [] (omega (arith, lt, h.wide)) ∙ ap (λ r. slice_set r k v) (h.arrays.elements a lt)
-              ∙ sym (ap (λ (x : Array). x.elements) (get_or-set_same s.arrays a (put s a k v) no_array (omega (arith, lt, h.more_places))))))
+          ∙ sym (ap (λ (x : Array). x.elements) (get_or-set_same s.arrays a (put s a k v) no_array (omega (arith, lt, h.more_places))))))
           (λ (ne : j ≡ a → ⊥). get_or-set_other rows a j (slice_set (row_of rows a) k v) [] ne ∙ h.arrays.elements j lj
-              ∙ sym (ap (λ (x : Array). x.elements) (get_or-set_other s.arrays a j (put s a k v) no_array ne)))
+          ∙ sym (ap (λ (x : Array). x.elements) (get_or-set_other s.arrays a j (put s a k v) no_array ne)))
           (cases_eq j a);
       shape = λ j lj. ⊎_elim
           (λ (e : j ≡ a). subst (λ j. (array (store s a k v) j).dims ≡ slice_index_or table.shapes j []) (sym e)

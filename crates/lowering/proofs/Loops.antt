@@ -74,7 +74,7 @@ module _ (table : ArrayTable) (code : List Instruction) (n many : ℕ) (copy : O
             → Goes table code n many copy leave again behind v slots m (iterate k x (wrapped (index +ℤ step)) step brun s')
         on slots1 rows1 reach kept holds1 =
             goes-on table code n many copy leave again behind v v slots slots1 m (stands table code again_at slots1 rows1 s'.printed)
-                (iterate k x (wrapped (index +ℤ step)) step brun s') (omega arith) reach (λ j from lt. kept j from (omega (arith, lt)))
+            (iterate k x (wrapped (index +ℤ step)) step brun s') (omega arith) reach (λ j from lt. kept j from (omega (arith, lt)))
             (next s' slots1 rows1 index step holds1 (numbers-kept slots slots1 index step k numbers kept))
 
         back : HasAt code (inside + length body) (Jump again_at ∷ [])
@@ -87,22 +87,22 @@ module _ (table : ArrayTable) (code : List Instruction) (n many : ℕ) (copy : O
         by_flow Cycled h = on h.0 h.1 h.2 h.3 h.4
         by_flow Exited h =
             goes-on table code n many copy leave again behind v v slots h.0 m (stands table code leave_at h.0 h.1 s'.printed) (normal s') (omega arith) h.2
-                (λ j from lt. h.3 j from (omega (arith, lt))) (ends-loop h.0 h.1 s' h.4)
+            (λ j from lt. h.3 j from (omega (arith, lt))) (ends-loop h.0 h.1 s' h.4)
         by_flow Stopped h = h
         by_flow (runs.Faulted f) h = h
 
     -- the index grows, and stands in its scalar
     advanced : (s : State) (slots : List ℤ) (rows : Storage) (index step : ℤ) (k : ℕ) → Holds table code n many copy s slots rows → Numbers slots index step k
         → (slots' : List ℤ) × Reaches table code (stands table code again_at slots rows s.printed) (stands table code (pc + 6) slots' rows s.printed)
-            × Kept table code n many copy v slots slots' × Holds table code n many copy (set_scalar s x (wrapped (index +ℤ step))) slots' rows
-            × Numbers slots' (wrapped (index +ℤ step)) step k
+        × Kept table code n many copy v slots slots' × Holds table code n many copy (set_scalar s x (wrapped (index +ℤ step))) slots' rows
+        × Numbers slots' (wrapped (index +ℤ step)) step k
     advanced s slots rows index step k holds numbers =
         let next : ℤ = wrapped (index +ℤ step) in
         let slots1 : List ℤ = slice_set slots v next in
         let slots2 : List ℤ = slice_set slots1 x next in
         let long : length slots1 ≡ many = length-set slots v next ∙ holds.size in
         let r1 = set-reaches table code n many copy line again_at v slots rows s.printed (Operated op.Add (AndFlat (Slot v) (AndFlat (Slot (v + 2)) NoFlat))) next
-            (has-drop code 4 pc (loop_code line pc v x bcode) has).0 (rw (numbers.0, numbers.1) refl) in
+        (has-drop code 4 pc (loop_code line pc v x bcode) has).0 (rw (numbers.0, numbers.1) refl) in
         let here : slot slots1 v ≡ next = get_or-set_same slots v next (pos 0) (omega (arith, few, holds.size)) in
         let r2 = set-reaches table code n many copy line (pc + 5) x slots1 rows s.printed (Slot v) next (has-drop code 5 pc (loop_code line pc v x bcode) has).0 (ap Ok here) in
         let other : (j : ℕ) → n ≤ j → slot slots2 j ≡ slot slots1 j = λ j from. get_or-set_other slots1 x j next (pos 0) (λ e. absurd (omega (arith, e, from, lx))) in (
@@ -131,33 +131,33 @@ module _ (table : ArrayTable) (code : List Instruction) (n many : ℕ) (copy : O
         let a = advanced s slots rows index step 0 holds numbers in
         let next : ℤ = wrapped (index +ℤ step) in
         goes-on table code n many copy leave again behind v v slots a.0 (stands table code again_at slots rows s.printed) (stands table code leave_at a.0 rows s.printed)
-            (normal (set_scalar s x next)) (omega arith)
+        (normal (set_scalar s x next)) (omega arith)
         (reaches-on table code (stands table code again_at slots rows s.printed) (stands table code (pc + 6) a.0 rows s.printed) (stands table code leave_at a.0 rows s.printed)
-            a.1
+        a.1
         (test-reaches table code n many copy (pc + 6) leave_at (v + 3) a.0 rows s.printed false (has-drop code 6 pc (loop_code line pc v x bcode) has).0
-            (ap is_true a.4.2 ∙ none-left)))
+        (ap is_true a.4.2 ∙ none-left)))
         a.2 (ends-loop a.0 rows (set_scalar s x next) a.3)
     from-again (suc k) small s slots rows index step holds numbers =
         let a = advanced s slots rows index step (suc k) holds numbers in
         let next : ℤ = wrapped (index +ℤ step) in
         let left : ℤ = wrapped (pos k) in
         let r1 = test-reaches table code n many copy (pc + 6) leave_at (v + 3) a.0 rows s.printed true (has-drop code 6 pc (loop_code line pc v x bcode) has).0
-            (ap is_true a.4.2 ∙ left-true k small) in
+        (ap is_true a.4.2 ∙ left-true k small) in
         let r2 = set-reaches table code n many copy line (pc + 7) (v + 3) a.0 rows s.printed (Operated op.Sub (AndFlat (Slot (v + 3)) (AndFlat (Int (pos 1)) NoFlat))) left
-            (has-drop code 7 pc (loop_code line pc v x bcode) has).0 (rw (a.4.2) (ap Ok (left-less k))) in
+        (has-drop code 7 pc (loop_code line pc v x bcode) has).0 (rw (a.4.2) (ap Ok (left-less k))) in
         let e7 : pc + 6 + 1 ≡ pc + 7 = omega arith in
         let e8 : pc + 7 + 1 ≡ inside = omega arith in
         let slots2 : List ℤ = slice_set a.0 (v + 3) left in
         goes-on table code n many copy leave again behind v v slots slots2 (stands table code again_at slots rows s.printed) (stands table code inside slots2 rows s.printed)
-            (iterate (suc k) x next step brun s) (omega arith)
+        (iterate (suc k) x next step brun s) (omega arith)
         (reaches-on table code (stands table code again_at slots rows s.printed) (stands table code (pc + 6) a.0 rows s.printed) (stands table code inside slots2 rows s.printed)
-            a.1
+        a.1
         (reaches-on table code (stands table code (pc + 6) a.0 rows s.printed) (stands table code (pc + 7) a.0 rows s.printed) (stands table code inside slots2 rows s.printed)
         (subst (λ p. Reaches table code (stands table code (pc + 6) a.0 rows s.printed) (stands table code p a.0 rows s.printed)) e7 r1)
         (subst (λ p. Reaches table code (stands table code (pc + 7) a.0 rows s.printed) (stands table code p slots2 rows s.printed)) e8 r2)))
         (λ j from lt. a.2 j from lt ∙ sym (get_or-set_other a.0 (v + 3) j left (pos 0) (λ e. absurd (omega (arith, e, lt)))))
         (from-inside k (from-again k (omega (arith, small))) s slots2 rows next step
-            (holds-slot table code n many copy (set_scalar s x next) a.0 rows (v + 3) left (omega (arith, lv)) a.3) (
+        (holds-slot table code n many copy (set_scalar s x next) a.0 rows (v + 3) left (omega (arith, lv)) a.3) (
           get_or-set_other a.0 (v + 3) v left (pos 0) (λ e. absurd (omega (arith, e))) ∙ a.4.0,
           get_or-set_other a.0 (v + 3) (v + 2) left (pos 0) (λ e. absurd (omega (arith, e))) ∙ a.4.1,
           get_or-set_same a.0 (v + 3) left (pos 0) (omega (arith, few, a.3.size)),

@@ -41,7 +41,7 @@ mutual
   head-forms slots NoForm = refl
   head-forms slots (AndForm f fs) =
       head-append (sections (elemental_in slots f)) (all_sections (elementals_in slots fs)) ∙ ap (λ x. option_or x (head (all_sections (elementals_in slots fs))))
-          (head-form slots f)
+      (head-form slots f)
       ∙ ap (option_or (option_map (selections_in slots) (first_subs f))) (head-forms slots fs) ∙ either-map (selections_in slots) (first_subs f) (first_subs_of fs)
 
 pub shape-first : (slots : List ℤ) (f : Form) → first_extents (sections (elemental_in slots f)) ≡ extents (selections_in slots (or_no_sub (first_subs f)))
@@ -99,8 +99,13 @@ extents-kept : (n b : ℕ) (subs : List Sub) (xs ys : List ℤ) → Within n b s
     ≡ extents (selections_in ys subs)
 extents-kept n b [] xs ys h same = refl
 extents-kept n b (SubAt f ∷ subs) xs ys h same = extents-kept n b subs xs ys h same
-extents-kept n b (SubAlong v ∷ subs) xs ys h same = rw (same v h.0 (omega (arith, h.1)), same (v + 1) (omega (arith, h.0)) (omega (arith, h.1)), same (v + 2)
-    (omega (arith, h.0)) (omega (arith, h.1)), extents-kept n b subs xs ys h.2 same) refl
+extents-kept n b (SubAlong v ∷ subs) xs ys h same = rw (
+  same v h.0 (omega (arith, h.1)),
+  same (v + 1) (omega (arith, h.0)) (omega (arith, h.1)),
+  same (v + 2)
+      (omega (arith, h.0)) (omega (arith, h.1)),
+  extents-kept n b subs xs ys h.2 same,
+) refl
 
 pub first-kept : (n b : ℕ) (o : Option (List Sub)) (xs ys : List ℤ) → FirstWithin n b o → ((k : ℕ) → n ≤ k → k < b → slot xs k ≡ slot ys k)
     → extents (selections_in xs (or_no_sub o)) ≡ extents (selections_in ys (or_no_sub o))
@@ -128,8 +133,16 @@ module _ (table : ArrayTable) (code : List Instruction) (n many : ℕ) where
 
   pub holds-some : (s : State) (slots : List ℤ) (rows : Storage) (m : List ℤ) → row_of rows n ≡ m → Holds table code n many None s slots rows → Holds table code n many
       (Some m) s slots rows
-  holds-some s slots rows m e h = record { scalars = h.scalars; arrays = h.arrays; places = h.places; more_places = h.more_places; wide = h.wide; size = h.size; copied =
-      λ m' e'. e ∙ some-eq m m' e' }
+  holds-some s slots rows m e h = record {
+    scalars = h.scalars;
+    arrays = h.arrays;
+    places = h.places;
+    more_places = h.more_places;
+    wide = h.wide;
+    size = h.size;
+    copied =
+        λ m' e'. e ∙ some-eq m m' e';
+  }
     where
       some-eq : (a b : List ℤ) → Some a ≡ Some b → a ≡ b
       some-eq a b e = cc
@@ -158,7 +171,7 @@ module _ (table : ArrayTable) (code : List Instruction) (n many : ℕ) where
         by_rest [] r c = absurd (omega (arith, c, lt))
         by_rest (z ∷ rest) r c =
             let new : row_of (write m (record { row = n; at = t }) v) n ≡ (vs ++ v ∷ []) ++ rest = get_or-set_same m n (slice_set (row_of m n) t v) [] h.4.wide
-                ∙ ap (λ l. slice_set l t v) r ∙ ap (λ k. slice_set (vs ++ z ∷ rest) k v) (sym h.2) ∙ set-seam vs z v rest in
+            ∙ ap (λ l. slice_set l t v) r ∙ ap (λ k. slice_set (vs ++ z ∷ rest) k v) (sym h.2) ∙ set-seam vs z v rest in
             (rest, rw (e) new, omega (arith, length-append vs (v ∷ []), h.2), omega (arith, c), rw (e) (holds-copy s slots m (slice_set (row_of m n) t v) h.4))
 
     pub filled : (tuple : ℕ → List ℤ) (f : ℕ → Result ℤ Cause) (t : ℕ) → t ≤ count → ((u : ℕ) → u < t → effect u ≡ value_effect line u (at_tuple (tuple u) (f u)))

@@ -29,7 +29,7 @@ module _ (table : ArrayTable) (code : List Instruction) (n : ℕ) (par : Instruc
   two : (i : Idle) → steps (meaning_of table) 2 (stands table code pc slots rows out i) ≡ after kept i
   two i =
       ap (λ m. step (meaning_of table) m) (ap (λ z. step_by (instr_of (meaning_of table) z) (stands table code pc slots rows out i)) has.0
-          ∙ ap (λ z. step_by z (stands table code pc slots rows out i)) is ∙ ap (λ k. behind k i) many)
+      ∙ ap (λ z. step_by z (stands table code pc slots rows out i)) is ∙ ap (λ k. behind k i) many)
       ∙ ap (λ z. step_by (instr_of (meaning_of table) z) (behind count i)) has.1.0
 
   -- where no fault is kept the run goes on with what was stored

@@ -89,13 +89,13 @@ module _ (table : ArrayTable) (n : ℕ) (body : Block) (s : State) (is : IsState
       halts : (slots1 : List ℤ) (rows1 : Storage) → Reaches table code begin (stands table code 1 slots1 rows1 r.state.printed)
           → Holds table code n many None r.state slots1 rows1
           → (k : ℕ) × (((steps (meaning_of table) k (m0 i0)).control.status ≡ Finished) × ((steps (meaning_of table) k (m0 i0)).printed ≡ r.state.printed)
-              × IsLeft n (steps (meaning_of table) k (m0 i0)) r.state)
+          × IsLeft n (steps (meaning_of table) k (m0 i0)) r.state)
       halts slots1 rows1 reach h =
           let m1 = stands table code 1 slots1 rows1 r.state.printed in
           let a = reaches-on table code m0 begin m1 begins reach i0 in
           let end : Machine Instruction Fault = record (m1 a.1) { control = record { at = 1; slots = slots1; status = Finished } } in
           let e : steps (meaning_of table) (1 + a.0) (m0 i0) ≡ end = steps-more table code a.0 1 (m0 i0) ∙ ap (steps (meaning_of table) 1) a.2
-              ∙ one table code 1 slots1 rows1 r.state.printed Halt all.1.0 a.1 in
+          ∙ one table code 1 slots1 rows1 r.state.printed Halt all.1.0 a.1 in
           (1 + a.0, rw (e) (refl, refl, (h.scalars, h.arrays.elements)))
 
       by_completion : (c : Completion) → Flows table code n many None 1 1 (2 + length (block_code n body n 2 1 1)) n slots begin r.state c → (k : ℕ)
@@ -104,7 +104,7 @@ module _ (table : ArrayTable) (n : ℕ) (body : Block) (s : State) (is : IsState
           let to : ℕ = 2 + length (block_code n body n 2 1 1) in
           let last : HasAt code to (Jump 1 ∷ []) = has-back code 2 (block_code n body n 2 1 1) (Jump 1 ∷ []) all.1.1 in
           halts h.0 h.1 (reaches-on table code begin (stands table code to h.0 h.1 r.state.printed) (stands table code 1 h.0 h.1 r.state.printed) h.2
-              (jump-reaches table code n many None to 1 h.0 h.1 r.state.printed last.0)) h.4
+          (jump-reaches table code n many None to 1 h.0 h.1 r.state.printed last.0)) h.4
       by_completion Exited h = halts h.0 h.1 h.2 h.4
       by_completion Cycled h = halts h.0 h.1 h.2 h.4
       by_completion Stopped h =

@@ -108,15 +108,19 @@ module _ (table : ArrayTable) (code : List Instruction) where
 
     pub comes-on : {A : Type 0} (pc pc1 pc2 b b1 : ℕ) (slots slots1 : List ℤ) (P : List ℤ → A → Type 0) (r : Result A Cause) → b ≤ b1 → Reaches (stands pc slots rows out)
         (stands pc1 slots1 rows out) → SameBelow b slots slots1 → Comes pc1 pc2 b1 slots1 P r → Comes pc pc2 b slots P r
-    comes-on pc pc1 pc2 b b1 slots slots1 P (Ok a) le reach same h =
-        (h.0, reaches-on (stands pc slots rows out) (stands pc1 slots1 rows out) (stands pc2 h.0 rows out) reach h.1, same-on b b b1 slots slots1 h.0
-            (omega arith) le same h.2, h.3)
+    comes-on pc pc1 pc2 b b1 slots slots1 P (Ok a) le reach same h = (
+      h.0,
+      reaches-on (stands pc slots rows out) (stands pc1 slots1 rows out) (stands pc2 h.0 rows out) reach h.1,
+      same-on b b b1 slots slots1 h.0
+          (omega arith) le same h.2,
+      h.3,
+    )
     comes-on pc pc1 pc2 b b1 slots slots1 P (Err c) le reach same h = stops-on (stands pc slots rows out) (stands pc1 slots1 rows out) (fault_at line c) out reach h
 
     pub comes-then : {A B : Type 0} (pc pc1 pc2 b b1 : ℕ) (slots : List ℤ) (P : List ℤ → A → Type 0) (Q : List ℤ → B → Type 0) (r : Result A Cause) (f : A → Result B Cause)
         → b ≤ b1
         → Comes pc pc1 b slots P r → ((slots1 : List ℤ) (a : A) → r ≡ Ok a → SameBelow b slots slots1 → P slots1 a → Comes pc1 pc2 b1 slots1 Q (f a)) → Comes pc pc2 b slots Q
-            (r >>= f)
+        (r >>= f)
     comes-then pc pc1 pc2 b b1 slots P Q (Ok a) f le h next = comes-on pc pc1 pc2 b b1 slots h.0 Q (f a) le h.1 h.2 (next h.0 a refl h.2 h.3)
     comes-then pc pc1 pc2 b b1 slots P Q (Err c) f le h next = h
 

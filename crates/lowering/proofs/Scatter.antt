@@ -92,7 +92,7 @@ abbrev mutual
 module _ (n : ℕ) (shapes : List (List Dim)) (s : State) (rows : Storage) (arrays : HoldsArrays n shapes s rows) (x : List ℤ) where
   read-element : (a : ℕ) (subscripts : List ℤ) (pre : List ℤ) (post : List ℤ) → a < n
       → (if_in_bounds (element_place (shape_of shapes a) subscripts) >>=
-          (λ k. Ok (slice_index_or (pre ++ value_by (read rows) (spot_of shapes a subscripts) ∷ post) (length pre) (pos 0)))) ≡ element s a subscripts
+      (λ k. Ok (slice_index_or (pre ++ value_by (read rows) (spot_of shapes a subscripts) ∷ post) (length pre) (pos 0)))) ≡ element s a subscripts
   read-element a subscripts pre post lt = rw (sym (arrays.shape a lt)) (by_place (element_place (array s a).dims subscripts))
     where
       by_place : (p : Option ℕ)
@@ -115,27 +115,27 @@ module _ (n : ℕ) (shapes : List (List Dim)) (s : State) (rows : Storage) (arra
         let xs = values_of rows (reads_at shapes x r) in
         let ys = values_of rows (all_reads_at shapes x rs) in
         let split : pre ++ (values_of rows (reads_at shapes x r ++ all_reads_at shapes x rs) ++ post) ≡ pre ++ (xs ++ (ys ++ post)) = ap (λ vs. pre ++ (vs ++ post))
-            (values-append rows (reads_at shapes x r) (all_reads_at shapes x rs)) ∙ ap (λ vs. pre ++ vs) (append_assoc xs ys post) in
+        (values-append rows (reads_at shapes x r) (all_reads_at shapes x rs)) ∙ ap (λ vs. pre ++ vs) (append_assoc xs ys post) in
         let split2 : pre ++ (xs ++ (ys ++ post)) ≡ (pre ++ xs) ++ (ys ++ post) = sym (append_assoc pre xs (ys ++ post)) in
         let from : length pre + length (reads_at shapes x r) ≡ length (pre ++ xs) = ap (λ k. length pre + k) (sym (length-map (reads_at shapes x r) (value_by (read rows))))
-            ∙ sym (length-append pre xs) in
+        ∙ sym (length-append pre xs) in
         let first = value-of-reads r pre (ys ++ post) ok.0 in
         let others = values-of-reads rs (pre ++ xs) post ok.1 in
         ap (λ vs. with_more (value_by_reads shapes x vs (length pre) r) (values_by_reads shapes x vs (length pre + length (reads_at shapes x r)) rs)) split
         ∙ ap (λ q. with_more q (values_by_reads shapes x (pre ++ (xs ++ (ys ++ post))) (length pre + length (reads_at shapes x r)) rs)) first
         ∙ ap (λ q. with_more (value_at s x r) q)
-            (ap (λ vs. values_by_reads shapes x vs (length pre + length (reads_at shapes x r)) rs) split2 ∙ ap (λ k. values_by_reads shapes x ((pre ++ xs) ++ (ys ++ post)) k rs)
-            from ∙ others)
+        (ap (λ vs. values_by_reads shapes x vs (length pre + length (reads_at shapes x r)) rs) split2 ∙ ap (λ k. values_by_reads shapes x ((pre ++ xs) ++ (ys ++ post)) k rs)
+        from ∙ others)
 
   -- what the machine does where the mask is true is what the meaning stores there
   pub tuple-does : (line a : ℕ) (ds : List Selection) (r : Elemental) (pre : List ℤ) → a < n → NamesBelow n r
       → Does line a (spot_of shapes a (subscripts_at ds x))
-          (outcome_of (at_line line (assigned_value shapes a ds r x (pre ++ values_of rows (reads_at shapes x r)) (length pre))))
-          (at_tuple x (store_at s a (subscripts_at ds x) (value_at s x r)))
+      (outcome_of (at_line line (assigned_value shapes a ds r x (pre ++ values_of rows (reads_at shapes x r)) (length pre))))
+      (at_tuple x (store_at s a (subscripts_at ds x) (value_at s x r)))
   tuple-does line a ds r pre lt ok =
       let values : value_by_reads shapes x (pre ++ values_of rows (reads_at shapes x r)) (length pre) r
-          ≡ value_at s x r = ap (λ vs. value_by_reads shapes x (pre ++ vs) (length pre) r) (sym (append-nil (values_of rows (reads_at shapes x r))))
-          ∙ value-of-reads r pre [] ok in
+      ≡ value_at s x r = ap (λ vs. value_by_reads shapes x (pre ++ vs) (length pre) r) (sym (append-nil (values_of rows (reads_at shapes x r))))
+      ∙ value-of-reads r pre [] ok in
       rw (sym (arrays.shape a lt), values) (by_place (element_place (array s a).dims (subscripts_at ds x)) (value_at s x r))
     where
       by_place : (p : Option ℕ) (q : Result ℤ Cause) → Does line a (option_map (λ k. record { row = a; at = k }) p)

@@ -44,12 +44,12 @@ module _ (n : ℕ) (shapes : List (List Dim)) (s : State) (rows : Storage) (arra
       let front = values_of rows (mask_reads when t) in
       let back = values_of rows (reads_at shapes x r) in
       let here : by_values (values_of rows (mask_reads when t ++ reads_at shapes x r)) (length (mask_reads when t))
-          ≡ outcome_if chosen (at_line line (assigned_value shapes a ds r x (front ++ back) (length front))) =
+      ≡ outcome_if chosen (at_line line (assigned_value shapes a ds r x (front ++ back) (length front))) =
       ap (λ vs. by_values vs (length (mask_reads when t))) (values-append rows (mask_reads when t) (reads_at shapes x r))
       ∙ ap (by_values (front ++ back)) (sym (length-map (mask_reads when t) (value_by (read rows))))
       ∙ ap (λ b. outcome_if b (at_line line (assigned_value shapes a ds r x (front ++ back) (length front)))) (mask back) in
       subst (λ o. Does line a (spot_of shapes a (subscripts_at ds x)) o (at_tuple x (if_true chosen (store_at s a (subscripts_at ds x) (value_at s x r))))) (sym here)
-          (by_chosen chosen)
+      (by_chosen chosen)
     where
       by_chosen : (b : Bool) → Does line a (spot_of shapes a (subscripts_at ds x))
           (outcome_if b (at_line line
@@ -61,7 +61,7 @@ module _ (n : ℕ) (shapes : List (List Dim)) (s : State) (rows : Storage) (arra
 module _ (table : ArrayTable) (code : List Instruction) (n many : ℕ) (copy : Option (List ℤ)) (leave again : ℕ) (par : Instruction) (tuples : Tuples Fault)
     (left : List ℤ → ℕ → Option Spot) (is : meaning_of table par ≡ instr.Par tuples left)
     (line a b pc : ℕ) (la : a < n) (has : HasAt code pc (par ∷ Verdict ∷ [])) (slots : List ℤ) (rows : Storage) (s : State) (holds : Holds table code n many copy s slots rows)
-        (count : ℕ) (sized : tuples.count slots ≡ count)
+    (count : ℕ) (sized : tuples.count slots ≡ count)
     (tuple : ℕ → List ℤ) (f : ℕ → Result (Option Store) Cause)
     (does : (t : ℕ) → t < count → Does line a (left slots t) (machine.outcome_of tuples slots (read rows) t) (at_tuple (tuple t) (f t))) where
   abbrev outcome : ℕ → Outcome Fault
@@ -78,9 +78,14 @@ module _ (table : ArrayTable) (code : List Instruction) (n many : ℕ) (copy : O
     where
       by_each : (q : Result (List (Option Store)) Cause) → Scattered table code n many copy line a la s slots rows holds effect q count → Keeps line outcome q count
           → Goes table code n many copy leave again (pc + 2) b slots (stands table code pc slots rows s.printed) (one_step line s (q >>= (λ stores. Ok (store_all s a stores))))
-      by_each (Ok stores) h kept =
-          (slots, scatter effect count rows, out (par-reaches table code n par tuples left pc slots rows s.printed is has count sized kept), kept-refl table code n many copy b
-          slots, h)
+      by_each (Ok stores) h kept = (
+        slots,
+        scatter effect count rows,
+        out (par-reaches table code n par tuples left pc slots rows s.printed is has count sized kept),
+        kept-refl table code n many copy b
+            slots,
+        h,
+      )
         where
           out : Reaches table code (stands table code pc slots rows s.printed) (stands table code (pc + 2) slots (scatter effect count rows) s.printed)
               → Reaches table code (stands table code pc slots rows s.printed) (stands table code (pc + 2) slots (scatter effect count rows) (store_all s a stores).printed)

@@ -1,22 +1,20 @@
 -- The code of programs is one that nodes can run.
-use Rattle.std.proofs.Common.{◌≡◌, ℕ, zero, suc, ◌+◌, ◌≤◌, List, [], ◌∷◌, ◌++◌, length, Bool, true, false, Option, Some, None, slice_get}
+use Rattle.std.proofs.Common.{ℕ, zero, suc, ◌+◌, ◌≤◌, List, [], ◌∷◌, ◌++◌, length, Bool, true, false, Option, Some, None, slice_get}
 use Rattle.std.specs.Bool.{⊤}
 use Rattle.hpf_base.specs.declared.index.Shape.{Shape}
-use Rattle.op_tables.specs.declared.op.Op.{Op}
 use Rattle.op_tables.specs.Operators.{can_divide}
-use Rattle.array_meaning.specs.Faults.{Fault}
 use Rattle.array_meaning.specs.Terms.{Term, Number, Scalar, Index, Element, Section, Apply, Reduce, Terms, NoTerm, More, SectionSubscripts, NoSubscript, Subscript, Triplet, Control}
 use Rattle.array_meaning.specs.Statements as statements
 use Rattle.array_meaning.specs.Statements.{Item, Text, Value, Elements, SectionAssignment, ElementAssignment, Block, Done, Then, Statement, AssignScalar, AssignElement, AssignSection, If, Do, Where, Forall, Stop, Exit, Cycle, Continue, Redistribute, Arms, NoArm, Arm}
 use Rattle.machine_steps.specs.Layout.{IsDealt}
-use Rattle.machine_steps.specs.Machine.{instr_at, instr_of}
+use Rattle.machine_steps.specs.Machine.{instr_of}
 use Rattle.machine_steps.specs.Agrees.{IsValidInstr, IsValidCode}
 use Rattle.node_code.specs.Flat.{Flat}
 use Rattle.node_code.specs.Forms.{Sub}
 use Rattle.node_code.specs.Parallel.{When}
 use Rattle.node_code.specs.Instructions.{Instruction, ArrayTable, meaning_of}
 use Rattle.lowering.specs.ExpressionCode.{slots_of, parts_slots, subscripts_slots, control_slots, set_if, three_code, code_of, codes_of, subscripts_code, parts_code, all_parts_code, control_code}
-use Rattle.lowering.specs.StatementCode.{item_slots, item_code, items_code, loop_code, assignment_code, masked_code, where_code, triplets, one_to_one_code, forall_mask_code, forall_assignments_code, forall_code, statement_code, arms_code, block_code, program_code}
+use Rattle.lowering.specs.StatementCode.{item_slots, item_code, items_code, assignment_code, masked_code, triplets, one_to_one_code, forall_mask_code, forall_assignments_code, statement_code, arms_code, block_code, program_code}
 use Rattle.lowering.specs.WellFormed.{IsScalar, AreScalar, AreScalarSubscripts, IsArray, AreArrays, IsControl, AreControls, AreMasked, AreItems, IsWellFormed, AreWellFormedArms, IsWellFormedBlock}
 use Rattle.lowering.proofs.Folding.{fold-is}
 
@@ -86,12 +84,15 @@ module _ (count n : ℕ) (shapes : List Shape) (table : ArrayTable) (few : lengt
   items-valid line b [] ok = tt
   items-valid line b (i ∷ is) ok = both (item_code line b i) _ (item-valid line b i is ok) (items-valid line (b + item_slots i) is ok.1)
 
-  assignment-valid : (line b a : ℕ) (subs : SectionSubscripts) (t : Term) (mask : Option (List Sub × When)) → AreScalarSubscripts n subs → IsArray n t → AllValid (assignment_code line b a subs t mask)
-  assignment-valid line b a subs t mask ok ok1 = both (subscripts_code line b subs) _ (subscripts-valid line b subs ok) (both (parts_code line (b + subscripts_slots subs) t) _ (parts-valid line (b + subscripts_slots subs) t ok1) (tt, (tt, (tt, tt))))
+  assignment-valid : (line b a : ℕ) (subs : SectionSubscripts) (t : Term) (mask : Option (List Sub × When)) → AreScalarSubscripts n subs → IsArray n t
+      → AllValid (assignment_code line b a subs t mask)
+  assignment-valid line b a subs t mask ok ok1 = both (subscripts_code line b subs) _ (subscripts-valid line b subs ok)
+      (both (parts_code line (b + subscripts_slots subs) t) _ (parts-valid line (b + subscripts_slots subs) t ok1) (tt, (tt, (tt, tt))))
 
   masked-valid : (b : ℕ) (m : List Sub × When) (xs : List SectionAssignment) → AreMasked n xs → AllValid (masked_code b m xs)
   masked-valid b m [] ok = tt
-  masked-valid b m (x ∷ xs) ok = both (assignment_code x.line b x.array x.subscripts x.right (Some m)) _ (assignment-valid x.line b x.array x.subscripts x.right (Some m) ok.1 ok.2) (masked-valid b m xs ok.3)
+  masked-valid b m (x ∷ xs) ok = both (assignment_code x.line b x.array x.subscripts x.right (Some m)) _
+      (assignment-valid x.line b x.array x.subscripts x.right (Some m) ok.1 ok.2) (masked-valid b m xs ok.3)
 
   header-valid : (line b : ℕ) (cs : List Control) → AreControls n cs → AllValid (subscripts_code line b (triplets cs))
   header-valid line b [] ok = tt
@@ -113,18 +114,51 @@ module _ (count n : ℕ) (shapes : List Shape) (table : ArrayTable) (few : lengt
   mutual
     statement-valid : (st : Statement) (line b pc leave again : ℕ) → IsWellFormed n st → AllValid (statement_code n line st b pc leave again)
     statement-valid (AssignScalar k t) line b pc leave again ok = both (code_of line b t) _ (term-valid line b t ok.1) (tt, tt)
-    statement-valid (AssignElement a ts t) line b pc leave again ok = both (codes_of line b ts) _ (terms-valid line b ts ok.1) (tt, both (code_of line _ t) _ (term-valid line _ t ok.2) (tt, tt))
+    statement-valid (AssignElement a ts t) line b pc leave again ok = both (codes_of line b ts) _ (terms-valid line b ts ok.1)
+        (tt, both (code_of line _ t) _ (term-valid line _ t ok.2) (tt, tt))
     statement-valid (AssignSection a subs t) line b pc leave again ok = assignment-valid line b a subs t None ok.1 ok.2
     statement-valid (If arms other) line b pc leave again ok = arms-valid arms _ b pc leave again ok.0 (λ pc. block-valid other b pc leave again ok.1)
     statement-valid (Do mark loop body) line b pc leave again ok =
-        both (control_code line b loop.control) _ (control-valid line b loop.control ok.1)
-        (tt, (tt, (tt, (tt, (tt, (tt, (tt, (tt, both (block_code n body (b + control_slots loop.control + 4) _ _ _) _ (block-valid body (b + control_slots loop.control + 4) _ _ _ ok.2) (tt, tt)))))))))
+        both (control_code line b loop.control) _ (control-valid line b loop.control ok.1) (
+          tt,
+          (
+            tt,
+            (
+              tt,
+              (
+                tt,
+                (
+                  tt,
+                  (
+                    tt,
+                    (
+                      tt,
+                      (
+                        tt,
+                        both (block_code n body (b + control_slots loop.control + 4) _ _ _) _ (block-valid body (b + control_slots loop.control + 4) _ _ _ ok.2)
+                            (tt, tt),
+                      ),
+                    ),
+                  ),
+                ),
+              ),
+            ),
+          ),
+        )
     statement-valid (Where mask body others) line b pc leave again ok =
-        both (parts_code line b mask) _ (parts-valid line b mask ok.0)
-        (tt, ((few, λ slots. dealt _), (tt, (tt, both (masked_code (b + parts_slots mask) _ body) _ (masked-valid (b + parts_slots mask) _ body ok.1) (masked-valid (b + parts_slots mask) _ others ok.2)))))
+        both (parts_code line b mask) _ (parts-valid line b mask ok.0) (
+          tt,
+          (
+            (few, λ slots. dealt _),
+            (tt, (tt, both (masked_code (b + parts_slots mask) _ body) _ (masked-valid (b + parts_slots mask) _ body ok.1) (masked-valid (b + parts_slots mask) _ others ok.2))),
+          ),
+        )
     statement-valid (Forall controls mask body) line b pc leave again ok =
-        both (subscripts_code line b (triplets controls)) _ (header-valid line b controls ok.0)
-        (tt, both (one_to_one_code _ body) _ (one-to-one-valid _ body) (both (forall_mask_code n line _ mask) _ (forall-mask-valid line _ mask) (forall-assignments-valid _ _ body)))
+        both (subscripts_code line b (triplets controls)) _ (header-valid line b controls ok.0) (
+          tt,
+          both (one_to_one_code _ body) _ (one-to-one-valid _ body)
+              (both (forall_mask_code n line _ mask) _ (forall-mask-valid line _ mask) (forall-assignments-valid _ _ body)),
+        )
     statement-valid (statements.Print items) line b pc leave again ok = both (items_code line b items) _ (items-valid line b items ok) (tt, tt)
     statement-valid Stop line b pc leave again ok = (tt, tt)
     statement-valid Exit line b pc leave again ok = (tt, tt)
@@ -132,7 +166,8 @@ module _ (count n : ℕ) (shapes : List Shape) (table : ArrayTable) (few : lengt
     statement-valid Continue line b pc leave again ok = tt
     statement-valid Redistribute line b pc leave again ok = tt
 
-    arms-valid : (arms : Arms) (rest : ℕ → List Instruction) (b pc leave again : ℕ) → AreWellFormedArms n arms → ((pc : ℕ) → AllValid (rest pc)) → AllValid (arms_code n arms rest b pc leave again)
+    arms-valid : (arms : Arms) (rest : ℕ → List Instruction) (b pc leave again : ℕ) → AreWellFormedArms n arms → ((pc : ℕ) → AllValid (rest pc))
+        → AllValid (arms_code n arms rest b pc leave again)
     arms-valid NoArm rest b pc leave again ok h = h pc
     arms-valid (Arm line cond body arms) rest b pc leave again ok h =
         both (code_of line b cond) _ (term-valid line b cond ok.0)
@@ -140,7 +175,8 @@ module _ (count n : ℕ) (shapes : List Shape) (table : ArrayTable) (few : lengt
 
     block-valid : (bl : Block) (b pc leave again : ℕ) → IsWellFormedBlock n bl → AllValid (block_code n bl b pc leave again)
     block-valid Done b pc leave again ok = tt
-    block-valid (Then line st rest) b pc leave again ok = both (statement_code n line st b pc leave again) _ (statement-valid st line b pc leave again ok.0) (block-valid rest b _ leave again ok.1)
+    block-valid (Then line st rest) b pc leave again ok = both (statement_code n line st b pc leave again) _ (statement-valid st line b pc leave again ok.0)
+        (block-valid rest b _ leave again ok.1)
 
   at-valid : (xs : List Instruction) (at : ℕ) → AllValid xs → IsValidInstr count shapes (instr_of (meaning_of table) (slice_get xs at))
   at-valid [] at h = tt
