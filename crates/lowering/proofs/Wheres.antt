@@ -1,5 +1,5 @@
 -- The code of a WHERE does what it means.
-use Rattle.std.proofs.Common.{◌≡◌, ℕ, ◌+◌, ◌≤◌, List, [], ◌∷◌, ◌++◌, length, ℤ, pos, Bool, true, false, Option, Some, None, Result, Ok, Err, refl, sym, ap, ◌∙◌, subst, arith, length-append, slice_index_or}
+use Rattle.std.proofs.Common.{max, ◌≡◌, ℕ, ◌+◌, ◌≤◌, List, [], ◌∷◌, ◌++◌, length, ℤ, pos, Bool, true, false, Option, Some, None, Result, Ok, Err, refl, sym, ap, ◌∙◌, subst, arith, length-append, slice_index_or}
 use Rattle.machine_steps.specs.Layout.{size_of}
 use Rattle.machine_steps.specs.Instr.{Running}
 use Rattle.lowering.proofs.Evaluating.{own-shape, own-limits, own-outcome}
@@ -77,7 +77,7 @@ module _ (table : ArrayTable) (code : List Instruction) (n many leave again : �
 
   pub where-goes : (line b pc : ℕ) (mask : Term) (body others : List SectionAssignment) (slots : List ℤ) (rows : Storage) (s : State) → IsArray n mask → AreMasked n body
       → AreMasked n others → HasAt code pc (where_code n line b mask body others)
-      → n ≤ b → b + (parts_slots mask + (masked_slots body + masked_slots others)) ≤ many → Holds table code n many None s slots rows
+      → n ≤ b → b + (parts_slots mask + max (masked_slots body) (masked_slots others)) ≤ many → Holds table code n many None s slots rows
       → Goes table code n many None leave again (pc + length (where_code n line b mask body others)) b slots (stands table code pc slots rows s.printed)
       (run_where line mask body others s)
   where-goes line b pc mask body others slots rows s ok ok1 ok2 has le few holds =

@@ -1,5 +1,5 @@
 -- The code of statements and of programs. Each statement takes slots from `b` on anew, and keeps those below.
-use Rattle.std.specs.Prelude.{ℕ, ◌+◌, List, [], ◌∷◌, ◌++◌, length, map, pos, Bool, true, false, Option, Some, None, option_map}
+use Rattle.std.specs.Prelude.{ℕ, ◌+◌, List, [], ◌∷◌, ◌++◌, length, map, max, pos, Bool, true, false, Option, Some, None, option_map}
 use Rattle.op_tables.specs.declared.op.Op.TheVariants as op
 use Rattle.array_meaning.specs.Terms.{Term, list_of, SectionSubscripts, NoSubscript, Triplet, Control}
 use Rattle.array_meaning.specs.Statements as statements
@@ -94,7 +94,7 @@ assignment_code line b a subs t mask =
 -- the assignments of a WHERE, over the space of its mask
 abbrev pub masked_slots : List SectionAssignment → ℕ
 masked_slots [] = 0
-masked_slots (x ∷ xs) = subscripts_slots x.subscripts + parts_slots x.right + masked_slots xs
+masked_slots (x ∷ xs) = max (subscripts_slots x.subscripts + parts_slots x.right) (masked_slots xs)
 
 abbrev pub masked_code : ℕ → List Sub × When → List SectionAssignment → List Instruction
 masked_code b m [] = []
@@ -155,25 +155,25 @@ forall_code copy line b controls mask body =
 -- ---- all statements
 
 abbrev mutual
-  -- how many slots the code of a statement takes
+  -- how many slots the code of a statement takes; statements one behind the other take the same ones
   pub statement_slots : Statement → ℕ
   statement_slots (AssignScalar k t) = slots_of t
   statement_slots (AssignElement a ts t) = all_slots_of ts + slots_of t
   statement_slots (AssignSection a subs t) = subscripts_slots subs + parts_slots t
-  statement_slots (If arms other) = arms_slots arms + block_slots other
+  statement_slots (If arms other) = max (arms_slots arms) (block_slots other)
   statement_slots (Do mark loop body) = control_slots loop.control + 4 + block_slots body
-  statement_slots (Where mask body others) = parts_slots mask + (masked_slots body + masked_slots others)
+  statement_slots (Where mask body others) = parts_slots mask + max (masked_slots body) (masked_slots others)
   statement_slots (Forall controls mask body) = subscripts_slots (triplets controls)
   statement_slots (statements.Print items) = items_slots items
   statement_slots s = 0
 
   pub arms_slots : Arms → ℕ
   arms_slots NoArm = 0
-  arms_slots (Arm line condition body arms) = slots_of condition + 1 + block_slots body + arms_slots arms
+  arms_slots (Arm line condition body arms) = max (slots_of condition + 1) (max (block_slots body) (arms_slots arms))
 
   pub block_slots : Block → ℕ
   block_slots Done = 0
-  block_slots (Then line s rest) = statement_slots s + block_slots rest
+  block_slots (Then line s rest) = max (statement_slots s) (block_slots rest)
 
 -- `copy` is the row of the copy of a mask, and no statement has two
 module _ (copy : ℕ) where
