@@ -1,0 +1,10 @@
+mod Exchange
+mod Goes
+mod Keeping
+mod PieceLaws
+mod Picked
+mod Ranges
+mod Reading
+mod Spots
+mod Stepping
+mod TreeFold
