@@ -1,8 +1,11 @@
 mod Exchange
 mod Goes
+mod Joining
 mod Keeping
+mod PartPhase
 mod PieceLaws
 mod Picked
+mod Plain
 mod Ranges
 mod Reading
 mod Spots

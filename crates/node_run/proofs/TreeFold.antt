@@ -80,7 +80,7 @@ module _ {T : Type 0} (join : T → T → T) (unit : T) (assoc : (x y z : T) →
       else if p % (2 ^ (2 * levels - 1 - k) * 2) == 2 ^ (2 * levels - 1 - k) then after_rounds k (p - 2 ^ (2 * levels - 1 - k))
       else after_rounds k p
 
-  fold-add : (n lo m : ℕ) → fold_of lo (n + m) ≡ join (fold_of lo n) (fold_of (lo + n) m)
+  pub fold-add : (n lo m : ℕ) → fold_of lo (n + m) ≡ join (fold_of lo n) (fold_of (lo + n) m)
   fold-add zero lo m =
       let e : 0 + m ≡ m = omega arith in
       let f : lo + 0 ≡ lo = omega arith in
@@ -90,7 +90,7 @@ module _ {T : Type 0} (join : T → T → T) (unit : T) (assoc : (x y z : T) →
       let f : lo + suc n ≡ lo + 1 + n = omega arith in
       rw (e, f) (ap (join (item_at lo)) (fold-add n (lo + 1) m) ∙ sym (assoc (item_at lo) (fold_of (lo + 1) n) (fold_of (lo + 1 + n) m)))
 
-  fold-past : (n lo : ℕ) → count ≤ lo → fold_of lo n ≡ unit
+  pub fold-past : (n lo : ℕ) → count ≤ lo → fold_of lo n ≡ unit
   fold-past zero lo ge = refl
   fold-past (suc n) lo ge = rw (le-ltb lo count ge, fold-past n (lo + 1) (omega arith)) (left unit)
 
