@@ -11,3 +11,5 @@ mod Reading
 mod Spots
 mod Stepping
 mod TreeFold
+mod TreeRun
+mod Trees
