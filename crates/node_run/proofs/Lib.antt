@@ -8,6 +8,7 @@ mod Picked
 mod Plain
 mod Ranges
 mod Reading
+mod Reduces
 mod Spots
 mod Stepping
 mod TreeFold

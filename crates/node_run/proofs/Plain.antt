@@ -62,7 +62,7 @@ root-none p = by_case (p == 0)
     by_case true = refl
     by_case false = refl
 
-module _ {C F : Type 0} (faults : FaultValues F) (meaning : C → Instr F) (count n : ℕ) (shapes : List Shape) (m : Machine C F) (own : Own F) (running : m.control.status ≡ Running) (agree : Agree faults meaning count m own) where
+module _ {C F : Type 0} (faults : FaultValues F) (meaning : C → Instr F) (count n : ℕ) (m : Machine C F) (own : Own F) (running : m.control.status ≡ Running) (agree : Agree faults meaning count m own) where
   pub begins-with : (i : Instr F) → instr_at meaning m.code m.control.at ≡ i → (p : ℕ) → (node_steps faults meaning).after_local (standing count m n own p) ≡ begun_by faults count i (standing count m n own p)
   begins-with i e p = ap (λ j. begun_by faults count j (standing count m n own p)) e
 
@@ -87,7 +87,7 @@ module _ {C F : Type 0} (faults : FaultValues F) (meaning : C → Instr F) (coun
       stored p (Ok s) (Err f) = refl
       stored p (Err f) v = refl
 
-  module _ (whole : IsWhole count shapes m) where
+  module _ (shapes : List Shape) (whole : IsWhole count shapes m) where
     -- a copy is made: each node makes its piece of it
     pub make-passes : (copy : ℕ) (layout : List ℤ → Layout) (start : List ℤ → ℤ) → instr_at meaning m.code m.control.at ≡ MakeCopy copy layout start → NodesSegment faults meaning count n m own (step_by (MakeCopy copy layout start) m)
     make-passes copy layout start e =

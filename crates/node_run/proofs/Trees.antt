@@ -103,5 +103,5 @@ module _ {C F : Type 0} (faults : FaultValues F) (meaning : C → Instr F) (coun
   pub verdict-passes : instr_at meaning m.code m.control.at ≡ Verdict → NodesSegment faults meaning count n m own (step_by Verdict m)
   verdict-passes e =
       verdict-segment on 0 (at-start count (instr_at meaning m.code (verdict_control m.kept on m.control).at) own.joined m.joined)
-      (λ p lt. begins-with faults meaning count n [] m own running agree Verdict e p)
+      (λ p lt. begins-with faults meaning count n m own running agree Verdict e p)
       (λ b ec el eb es en. goes-on faults meaning count n m own running agree.numbers some Verdict e b ec el es en)
