@@ -1,3 +1,4 @@
+mod Copies
 mod Exchange
 mod Goes
 mod Joining
