@@ -10,6 +10,7 @@ mod Plain
 mod Ranges
 mod Reading
 mod Reduces
+mod Remaps
 mod Spots
 mod Stepping
 mod TreeFold
