@@ -16,3 +16,4 @@ mod Stepping
 mod TreeFold
 mod TreeRun
 mod Trees
+mod Wholes
