@@ -3,6 +3,7 @@ mod Exchange
 mod Goes
 mod Joining
 mod Keeping
+mod Openings
 mod PartPhase
 mod PieceLaws
 mod Picked
@@ -11,6 +12,7 @@ mod Ranges
 mod Reading
 mod Reduces
 mod Remaps
+mod Runs
 mod Spots
 mod Stepping
 mod TreeFold

@@ -2,7 +2,7 @@
 use Rattle.std.proofs.Common.{◌≡◌, ℕ, zero, suc, ◌+◌, ◌<◌, ◌≤◌, Bool, true, ℤ, List, [], ◌∷◌, map, length, replicate, get_or, get_or-set_same, get_or-set_other, set, Option, Some, None, Result, Ok, Err, refl, sym, ◌∙◌, ap, subst, arith, ⊎_elim}
 use Rattle.std.specs.List.{slice_get}
 use Rattle.std.proofs.lemmas.Bool.{cases_eq, cases_lt}
-use Rattle.std.proofs.lemmas.List.{length-set, length-map, get_or_past}
+use Rattle.std.proofs.lemmas.List.{length-set, length-map, length-replicate, map-set, get_or_past}
 use Rattle.hpf_base.specs.declared.index.Shape.{Shape}
 use Rattle.hpf_base.specs.declared.mapping.Mapping.{Mapping}
 use Rattle.nest_order.specs.Storage.{Storage, Spot, row_of, read}
@@ -13,11 +13,6 @@ use Rattle.machine_steps.specs.Layout.{Layout, size_of, sizes, owned_by, owned_i
 use Rattle.machine_steps.specs.Machine.{Machine, Kept, store_in, write_to, effect_of, outcome_of, with_mapping, remapped, reduce_step, print_step, step_by}
 use Rattle.node_run.proofs.Keeping.{keep-part}
 use Rattle.node_run.proofs.Picked.{same_some}
-
-map-set : {A : Type 0} (f : A → ℕ) (xs : List A) (i : ℕ) (v : A) → map f (set xs i v) ≡ set (map f xs) i (f v)
-map-set f [] i v = refl
-map-set f (x ∷ xs) zero v = refl
-map-set f (x ∷ xs) (suc i) v = ap (λ l. f x ∷ l) (map-set f xs i v)
 
 -- ---- stores keep the lengths
 
@@ -39,10 +34,6 @@ store-lengths : {F : Type 0} (x : Result Spot F) (v : Result ℤ F) (rows : Stor
 store-lengths (Ok s) (Ok v) rows = same-lengths rows s.row s.at v
 store-lengths (Ok s) (Err f) rows = refl
 store-lengths (Err f) v rows = refl
-
-length-replicate : {A : Type 0} (n : ℕ) (v : A) → length (replicate n v) ≡ n
-length-replicate zero v = refl
-length-replicate (suc n) v = ap suc (length-replicate n v)
 
 -- ---- a copy is made
 
