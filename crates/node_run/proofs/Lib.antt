@@ -3,6 +3,7 @@ mod Exchange
 mod Goes
 mod Joining
 mod Keeping
+mod Letters
 mod Openings
 mod PartPhase
 mod PieceLaws

@@ -1,17 +1,18 @@
 -- The message phase of a part: nodes that agree with the machine open it, and what they received is what they need.
 use Rattle.std.proofs.Common.{◌≡◌, ℕ, zero, suc, ◌+◌, ◌<◌, ◌≤◌, Bool, true, false, if◌then◌else◌, ℤ, List, [], ◌∷◌, map, length, replicate, get_or, Option, Some, None, refl, sym, ◌∙◌, ap, subst, arith, ◌⊎◌, inl, inr, ⊎_elim}
+use Rattle.std.proofs.lemmas.Bool.{lt-ltb}
 use Rattle.hpf_base.specs.declared.index.Shape.{Shape}
 use Rattle.node_law.specs.Phases.{next_number}
 use Rattle.nest_order.specs.Storage.{Spot, read}
 use Rattle.machine_steps.specs.Layout.{pieces}
-use Rattle.machine_steps.specs.Agrees.{Own, standing, Agree, AreJoined, AreNumbered, IsFirst, IsWhole, NodesSegment}
+use Rattle.machine_steps.specs.Agrees.{Own, standing, Agree, AreJoined, AreNumbered, IsFirst, IsWhole, CarryingSegment, part_exchange}
 use Rattle.machine_steps.specs.Instr.{Instr, Running, Outcome, Nothing, Tuples}
 use Rattle.machine_steps.specs.Machine.{Machine, Kept, is_before, outcome_of, instr_at}
 use Rattle.machine_steps.specs.Message.{Part, needs, message, has_any}
 use Rattle.machine_steps.specs.Node.{FaultValues, Node, no_values, node_steps, local_read, part_sends, part_opened, gathered, local_outcome}
-use Rattle.node_run.proofs.Exchange.{shares_of, passed, counted, taken_bodies}
+use Rattle.node_run.proofs.Exchange.{shares_of, sent-one, passed, counted, taken_bodies}
 use Rattle.node_run.proofs.Ranges.{over_range, over_range-inside}
-use Rattle.node_run.proofs.Reading.{value-known, reads-known, none-to-self, sent-or-none}
+use Rattle.node_run.proofs.Reading.{value-known, message-values, reads-known, none-to-self, sent-or-none}
 use Rattle.node_run.proofs.Stepping.{emptied, number_of, segment-phase, next-numbers}
 
 pub length-no_values : (n : ℕ) → length (no_values n) ≡ n
@@ -55,33 +56,32 @@ module _ {C F : Type 0} (faults : FaultValues F) (meaning : C → Instr F) (coun
         ∙ sent-or-none (local_read m.layouts s (pieces m.layouts s m.rows)) (message count m.layouts part s p))
 
     -- an instruction, or a step of one, with this phase leads from the machine's state m to m'
-    unfoldable pub part-segment : m.control.status ≡ Running → AreNumbered count own.next_to own.next_from → 0 < count
+    pub part-segment : m.control.status ≡ Running → AreNumbered count own.next_to own.next_from → 0 < count
         → (m' : Machine C F) (kept : ℕ → Option (Kept F)) (joined : ℕ → Option ℤ)
         → IsFirst is_before count m'.kept kept → AreJoined count (instr_at meaning m'.code m'.control.at) m'.substep joined m'.joined
         → ((p : ℕ) → p < count → (node_steps faults meaning).after_local (standing count m n own p) ≡ part_opened count part (standing count m n own p))
         → ((p : ℕ) → p < count → (node_steps faults meaning).after_local (part_passed p) ≡ standing count m' (next_number n) (part_own kept joined) p)
-        → NodesSegment faults meaning count n m own m'
-    part-segment running numbers some m' kept joined first join begun done =
-        segment-phase faults meaning count n m own running m' some part_from_to part_body none-sent-to-self (part_own kept joined)
-        (record { numbers = next-numbers count part_from_to own.next_to own.next_from numbers; kept = first; joined = join })
-        (λ p lt. record {
-          act = rw running refl;
-          phase = refl;
-          within = record { running = running; id = refl; phase = refl };
-          is = begun p lt;
-          next_to = λ q lq. refl;
-          next_from = λ q lq. sym (numbers.same q p lq lt);
-        })
-        done
-
-    pub part-phases : (running : m.control.status ≡ Running) (numbers : AreNumbered count own.next_to own.next_from) (some : 0 < count)
-        (m' : Machine C F) (kept : ℕ → Option (Kept F)) (joined : ℕ → Option ℤ)
-        (first : IsFirst is_before count m'.kept kept) (join : AreJoined count (instr_at meaning m'.code m'.control.at) m'.substep joined m'.joined)
-        (begun : (p : ℕ) → p < count → (node_steps faults meaning).after_local (standing count m n own p) ≡ part_opened count part (standing count m n own p))
-        (done : (p : ℕ) → p < count → (node_steps faults meaning).after_local (part_passed p) ≡ standing count m' (next_number n) (part_own kept joined) p)
-        → (part-segment running numbers some m' kept joined first join begun done).phases ≡ shares_of faults meaning count n part_from_to part_body (number_of own) ∷ []
-    unfolding part-segment segment-phase
-    part-phases running numbers some m' kept joined first join begun done = refl
+        → CarryingSegment faults meaning count n m own m' (part_exchange count m part)
+    unfolding segment-phase
+    part-segment running numbers some m' kept joined first join begun done = record {
+      segment = segment-phase faults meaning count n m own running m' some part_from_to part_body none-sent-to-self (part_own kept joined)
+          (record { numbers = next-numbers count part_from_to own.next_to own.next_from numbers; kept = first; joined = join })
+          (λ p lt. record {
+            act = rw running refl;
+            phase = refl;
+            within = record { running = running; id = refl; phase = refl };
+            is = begun p lt;
+            next_to = λ q lq. refl;
+            next_from = λ q lq. sym (numbers.same q p lq lt);
+          })
+          done;
+      shares = shares_of faults meaning count n part_from_to part_body (number_of own);
+      one = refl;
+      carries = λ p q lp lq.
+          rw (lt-ltb p count lp) (sent-one faults meaning count n part_from_to part_body (number_of own) count 0 p q (omega arith) (omega arith))
+          ∙ ap (λ (b : List ℤ). if part_from_to p q then record { run = 1; phase = n; from = p; to = q; number = get_or (own.next_to p) q 0; body = b } ∷ [] else [])
+          (message-values count m.layouts m.rows whole.shaped whole.owned (needs part q) q p);
+    }
 
   -- tuples, and who computes which of them
   module _ (tuples : Tuples F) (computes : ℕ → ℕ → Bool) where

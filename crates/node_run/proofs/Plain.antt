@@ -7,19 +7,18 @@ use Rattle.hpf_base.specs.declared.index.Shape.{Shape}
 use Rattle.node_law.specs.Phases.{next_number}
 use Rattle.nest_order.specs.Storage.{Storage, Spot, row_of, read, write}
 use Rattle.nest_order.specs.Effect.{Effect, Skip, Put}
-use Rattle.machine_steps.specs.Agrees.{Own, standing, Agree, AreJoined, IsWhole, IsFirst, NodesSegment}
+use Rattle.machine_steps.specs.Agrees.{Own, standing, Agree, AreJoined, IsWhole, IsFirst, NodesSegment, CarryingSegment, part_exchange}
 use Rattle.machine_steps.specs.Instr.{Control, Outcome, Nothing, Value, Breaks, Tuples, Item, Text, Elements, Instr, Running, Local, Fetch, Store, Par, Verdict, Reduce, MakeCopy, FoldCopy, LastCopy, Remap, Print}
 use Rattle.machine_steps.specs.Layout.{Layout, sizes, size_of, owns_spot, owned_by, pieces, in_bounds}
 use Rattle.machine_steps.specs.Machine.{Kept, Machine, is_before, store_in, write_to, effect_by, effect_of, outcome_of, fetch_control, set_slot, faulted, keep, value_by, value_or_none, element_values, item_bytes, print_step, step_by, instr_at}
 use Rattle.machine_steps.specs.Message.{par_part, computes_left, gather_part, fetch_part, needs}
 use Rattle.machine_steps.specs.Node.{FaultValues, Node, node_steps, part_opened, begun_by, done_by, local_write, local_outcome, gathered, at_root, fetch_begun, fetch_done, print_begun, print_done}
-use Rattle.node_run.proofs.Exchange.{shares_of}
 use Rattle.node_run.proofs.Keeping.{keep-first}
-use Rattle.node_run.proofs.PartPhase.{part-segment, part-phases, part_from_to, part_body, part_passed, part_own, needed-value, outcome-or-nothing, outcome-computed, outcome-by, own_outcome, whole_outcome}
+use Rattle.node_run.proofs.PartPhase.{part-segment, part_passed, part_own, needed-value, outcome-or-nothing, outcome-computed, outcome-by, own_outcome, whole_outcome}
 use Rattle.node_run.proofs.PieceLaws.{pieces-made, write-local, scatter-local, DoesItsPart}
 use Rattle.node_run.proofs.Reading.{reads-known, size-row}
 use Rattle.node_run.proofs.Spots.{same-refl}
-use Rattle.node_run.proofs.Stepping.{number_of, segment-local}
+use Rattle.node_run.proofs.Stepping.{segment-local}
 
 -- at the first step of an instruction nothing is asked
 pub at-start : {F : Type 0} (count : ℕ) (i : Instr F) (own : ℕ → Option ℤ) (joined : ℤ) → AreJoined count i 0 own joined
@@ -100,33 +99,34 @@ module _ {C F : Type 0} (faults : FaultValues F) (meaning : C → Instr F) (coun
     -- ---- fetch: all nodes need one element
 
     module _ (element : List ℤ → Result Spot F) (slot : ℕ) (some : 0 < count) (e : instr_at meaning m.code m.control.at ≡ Fetch element slot) where
-      fetch-fails : (f : F) → element m.control.slots ≡ Err f → NodesSegment faults meaning count n m own (step_by (Fetch element slot) m)
-      fetch-fails f h =
-          let m' : Machine C F = record m { control = faulted m.control f; substep = 0 } in
-          let is : step_by (Fetch element slot) m ≡ m' = ap (λ r. record m { control = fetch_control r (read m.rows) slot m.control; substep = 0 }) h in
-          subst (NodesSegment faults meaning count n m own) (sym is)
-          (segment-local faults meaning count n m own running m' own (same-own m' refl refl) (λ p lt. begins-with (Fetch element slot) e p ∙ ap (λ r. fetch_begun count r (standing count m n own p)) h))
+      abbrev fetched : Machine C F
+      fetched = step_by (Fetch element slot) m
 
-      fetch-finds : (s : Spot) → element m.control.slots ≡ Ok s → NodesSegment faults meaning count n m own (step_by (Fetch element slot) m)
+      fetch-fails : (f : F) → element m.control.slots ≡ Err f → NodesSegment faults meaning count n m own fetched
+      fetch-fails f h =
+          segment-local faults meaning count n m own running fetched own (same-own fetched refl refl)
+          (λ p lt. begins-with (Fetch element slot) e p
+          ∙ ap (λ r. fetch_begun count r (standing count m n own p)) h
+          ∙ ap (λ r. record (standing count fetched n own p) { control = fetch_control r (read m.rows) slot m.control }) (sym h))
+
+      pub fetch-finds : (s : Spot) → element m.control.slots ≡ Ok s → CarryingSegment faults meaning count n m own fetched (part_exchange count m (fetch_part s))
       fetch-finds s h =
-          let m' : Machine C F = record m { control = set_slot m.control slot (read m.rows s); substep = 0 } in
-          let is : step_by (Fetch element slot) m ≡ m' = ap (λ r. record m { control = fetch_control r (read m.rows) slot m.control; substep = 0 }) h in
-          subst (NodesSegment faults meaning count n m own) (sym is)
-          (part-segment faults meaning count n shapes m own whole (fetch_part s) running agree.numbers some m' own.kept own.joined agree.kept
-          (at-start count (instr_at meaning m'.code m'.control.at) own.joined m'.joined)
+          part-segment faults meaning count n shapes m own whole (fetch_part s) running agree.numbers some fetched own.kept own.joined agree.kept
+          (at-start count (instr_at meaning fetched.code fetched.control.at) own.joined fetched.joined)
           (λ p lt. begins-with (Fetch element slot) e p ∙ ap (λ r. fetch_begun count r (standing count m n own p)) h)
           (λ p lt.
           ap (λ j. done_by faults count j (part_passed faults meaning count n shapes m own whole (fetch_part s) p)) e
           ∙ ap (λ r. fetch_done count r slot (part_passed faults meaning count n shapes m own whole (fetch_part s) p)) h
-          ∙ ap (λ v. record (standing count m' (next_number n) (part_own faults meaning count n shapes m own whole (fetch_part s) own.kept own.joined) p) { control = set_slot m.control slot v })
-          (needed-value faults meaning count n shapes m own whole (fetch_part s) p s (rw (same-refl s) refl))))
+          ∙ ap (λ v. record (standing count fetched (next_number n) (part_own faults meaning count n shapes m own whole (fetch_part s) own.kept own.joined) p) { control = set_slot m.control slot v })
+          (needed-value faults meaning count n shapes m own whole (fetch_part s) p s (rw (same-refl s) refl))
+          ∙ ap (λ r. record (standing count fetched (next_number n) (part_own faults meaning count n shapes m own whole (fetch_part s) own.kept own.joined) p) { control = fetch_control r (read m.rows) slot m.control }) (sym h))
 
-      pub fetch-passes : NodesSegment faults meaning count n m own (step_by (Fetch element slot) m)
+      pub fetch-passes : NodesSegment faults meaning count n m own fetched
       fetch-passes = by_result (element m.control.slots) refl
         where
-          by_result : (r : Result Spot F) → element m.control.slots ≡ r → NodesSegment faults meaning count n m own (step_by (Fetch element slot) m)
+          by_result : (r : Result Spot F) → element m.control.slots ≡ r → NodesSegment faults meaning count n m own fetched
           by_result (Err f) h = fetch-fails f h
-          by_result (Ok s) h = fetch-finds s h
+          by_result (Ok s) h = (fetch-finds s h).segment
 
     -- ---- a parallel statement: one message phase, then values, then stores
 
@@ -201,12 +201,8 @@ module _ {C F : Type 0} (faults : FaultValues F) (meaning : C → Instr F) (coun
           ∙ ap (λ rows. record (standing count (step_by (Par tuples left) m) (next_number n) (part_own faults meaning count n shapes m own whole (par_part m.layouts tuples left m.control.slots) par_kept own.joined) p) { pieces = rows })
           (sym (scatter-local m.layouts p m.rows (λ t. effect_by (left m.control.slots t) (outcome t)) (λ t. effect_by (left m.control.slots t) (outcome_on p t)) (tuples.count m.control.slots) (does-part p)))
 
-      pub par-passes : NodesSegment faults meaning count n m own (step_by (Par tuples left) m)
+      pub par-passes : CarryingSegment faults meaning count n m own (step_by (Par tuples left) m) (part_exchange count m (par_part m.layouts tuples left m.control.slots))
       par-passes = part-segment faults meaning count n shapes m own whole (par_part m.layouts tuples left m.control.slots) running agree.numbers some (step_by (Par tuples left) m) par_kept own.joined par-kept par-joined par-begun par-done
-
-      pub par-phases : par-passes.phases ≡ shares_of faults meaning count n (part_from_to faults meaning count n shapes m own whole (par_part m.layouts tuples left m.control.slots)) (part_body faults meaning count n shapes m own whole (par_part m.layouts tuples left m.control.slots)) (number_of own) ∷ []
-      unfolding par-passes
-      par-phases = part-phases faults meaning count n shapes m own whole (par_part m.layouts tuples left m.control.slots) running agree.numbers some (step_by (Par tuples left) m) par_kept own.joined par-kept par-joined par-begun par-done
 
     -- ---- PRINT: an item, or the line
 
@@ -256,7 +252,7 @@ module _ {C F : Type 0} (faults : FaultValues F) (meaning : C → Instr F) (coun
         root-line zero = ap (λ vs. m.line ++ bytes vs) root-values
         root-line (suc p) = rw (ne_eqb (suc p) 0 (λ h. absurd (omega arith))) refl
 
-        elements-pass : NodesSegment faults meaning count n m own (at_print (Some (Elements tuples element bytes)))
+        pub elements-pass : CarryingSegment faults meaning count n m own (at_print (Some (Elements tuples element bytes))) (part_exchange count m (gather_part tuples element m.control.slots))
         elements-pass =
             part-segment faults meaning count n shapes m own whole (gather_part tuples element m.control.slots) running agree.numbers some (at_print (Some (Elements tuples element bytes))) own.kept own.joined agree.kept (none-joined (suc m.substep))
             (λ p lt. begins-item (Some (Elements tuples element bytes)) h p)
@@ -271,4 +267,4 @@ module _ {C F : Type 0} (faults : FaultValues F) (meaning : C → Instr F) (coun
           by_item : (o : Option Item) → slice_get items m.substep ≡ o → NodesSegment faults meaning count n m own (print_step o line m)
           by_item None h = end-passes h
           by_item (Some (Text bytes)) h = text-passes bytes h
-          by_item (Some (Elements tuples element bytes)) h = elements-pass tuples element bytes h
+          by_item (Some (Elements tuples element bytes)) h = (elements-pass tuples element bytes h).segment

@@ -4,20 +4,18 @@ use Rattle.std.proofs.lemmas.Bool.{ltb-true}
 use Rattle.hpf_base.specs.declared.index.Shape.{Shape}
 use Rattle.node_law.specs.Phases.{next_number}
 use Rattle.nest_order.specs.Storage.{Spot, read}
-use Rattle.machine_steps.specs.Agrees.{Own, standing, Agree, AreJoined, IsFirst, IsFold, IsWhole, NodesSegment}
+use Rattle.machine_steps.specs.Agrees.{Own, standing, Agree, AreJoined, IsFirst, IsFold, IsWhole, NodesSegment, CarryingSegment, part_exchange}
 use Rattle.machine_steps.specs.Instr.{Control, Outcome, Nothing, Tuples, Fold, Instr, Running, Reduce}
 use Rattle.machine_steps.specs.Layout.{sizes, in_bounds}
 use Rattle.machine_steps.specs.Machine.{Kept, Machine, is_before, earlier, keep, set_slot, stay, verdict_control, verdict_step, reduce_step, step_by, instr_at}
 use Rattle.machine_steps.specs.Message.{reduce_part, least_or_zero, computing_node, first_read}
 use Rattle.machine_steps.specs.Node.{FaultValues, Node, Passed, node_steps, part_opened, begun_by, done_by, reduce_begun, reduce_done, reduce_ended, verdict_done, tree_begun, tree_next, tree_absorbed, join_options, join_behind, join_below, outcome_value, option_values, values_option, kept_values, values_kept}
 use Rattle.machine_steps.specs.Tree.{levels_of}
-use Rattle.node_run.proofs.Exchange.{shares_of}
 use Rattle.node_run.proofs.Joining.{below-same, regroup, folded-below, join-assoc, none-join, join-none, tree-below}
 use Rattle.node_run.proofs.Keeping.{keep-first}
-use Rattle.node_run.proofs.PartPhase.{part-segment, part-phases, part_from_to, part_body, part_passed, part_own, outcome-or-nothing, outcome-computed, outcome-by, own_outcome, whole_outcome}
+use Rattle.node_run.proofs.PartPhase.{part-segment, part_passed, part_own, outcome-or-nothing, outcome-computed, outcome-by, own_outcome, whole_outcome}
 use Rattle.node_run.proofs.Plain.{at-start, begins-with}
 use Rattle.node_run.proofs.Reading.{least-owns}
-use Rattle.node_run.proofs.Stepping.{number_of}
 use Rattle.node_run.proofs.Trees.{goes-on, tree-segment, verdict-segment, levels-reach}
 
 pub option-back : (x : Option ℤ) → values_option (option_values x) ≡ x
@@ -97,7 +95,7 @@ module _ {C F : Type 0} (faults : FaultValues F) (meaning : C → Instr F) (coun
       by_computes p t (inl h) = ap outcome_value h.1 ∙ sym (rw h.0 refl)
       by_computes p t (inr h) = ap outcome_value h.1 ∙ sym (rw h.0 refl)
 
-  fold-passes : m.substep ≡ 0 → NodesSegment faults meaning count n m own folded_machine
+  pub fold-passes : m.substep ≡ 0 → CarryingSegment faults meaning count n m own folded_machine (part_exchange count m (reduce_part count m.layouts tuples m.control.slots))
   fold-passes es =
       part-segment faults meaning count n shapes m own whole (reduce_part count m.layouts tuples m.control.slots) running agree.numbers some folded_machine reduce_kept reduce_joined reduce-kept
       (at-reduce 1 reduce_joined folded_machine.joined values-joined)
@@ -135,6 +133,6 @@ module _ {C F : Type 0} (faults : FaultValues F) (meaning : C → Instr F) (coun
   reduce-passes = by_step m.substep refl
     where
       by_step : (k : ℕ) → m.substep ≡ k → NodesSegment faults meaning count n m own (reduce_step k tuples f slot m)
-      by_step zero es = fold-passes es
+      by_step zero es = (fold-passes es).segment
       by_step (suc zero) es = verdict-step es
       by_step (suc (suc k)) es = slot-step k es

@@ -25,7 +25,7 @@ module _ {C F : Type 0} (faults : FaultValues F) (meaning : C → Instr F) (coun
   instr-passes (Local f) n m own r a w v e = local-passes faults meaning count n m own r a f e
   instr-passes (Fetch element slot) n m own r a w v e = fetch-passes faults meaning count n m own r a shapes w element slot some e
   instr-passes (Store element value) n m own r a w v e = store-passes faults meaning count n m own r a element value e
-  instr-passes (Par tuples left) n m own r a w v e = par-passes faults meaning count n m own r a shapes w tuples left some e
+  instr-passes (Par tuples left) n m own r a w v e = (par-passes faults meaning count n m own r a shapes w tuples left some e).segment
   instr-passes Verdict n m own r a w v e = verdict-passes faults meaning count n m own r a some e
   instr-passes (Reduce tuples f slot) n m own r a w v e = reduce-passes faults meaning count n m own r a shapes w some tuples f slot v e
   instr-passes (MakeCopy copy layout start) n m own r a w v e = make-passes faults meaning count n m own r a shapes w copy layout start e
