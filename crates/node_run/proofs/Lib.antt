@@ -6,6 +6,7 @@ mod Keeping
 mod Letters
 mod Openings
 mod PartPhase
+mod Parted
 mod PieceLaws
 mod Picked
 mod Plain

@@ -8,17 +8,17 @@ use Rattle.node_law.specs.declared.act.Act.TheVariants.{Local}
 use Rattle.node_law.specs.NodeSteps.{Move}
 use Rattle.node_law.specs.Phases.{PhaseShare, LeadsTo, next_number, number_after}
 use Rattle.nest_order.specs.Storage.{Storage, Spot, row_of, read}
-use Rattle.machine_steps.specs.Agrees.{by_number, Own, AreNumbered, standing, Agree, AreCovered, IsWhole, NodesSegment}
+use Rattle.machine_steps.specs.Agrees.{by_number, Own, AreNumbered, standing, Agree, AreCovered, IsWhole, NodesSegment, Exchange, Carries, round_exchange, AreCarried}
 use Rattle.machine_steps.specs.Instr.{Instr, Running, Remapping, Rounds, Remap}
 use Rattle.machine_steps.specs.Layout.{Layout, owned_in, owned_by, by_all, owns_spot, sizes, values_at, piece, pieces}
 use Rattle.machine_steps.specs.Machine.{Machine, remapped, instr_at, step_by}
 use Rattle.machine_steps.specs.Message.{remap_message, any_below, has_any}
 use Rattle.machine_steps.specs.Node.{FaultValues, Node, Letter, Stage, Ready, Passed, no_values, act_of, node_steps, begun_by, done_by, local_read, held_or_received, remap_sends, remap_next, pieces_by}
-use Rattle.node_run.proofs.Exchange.{Opens, shares_of, passed, exchange-phase, exchange-after, taken_bodies, counted}
+use Rattle.node_run.proofs.Exchange.{Opens, shares_of, sent-one, passed, exchange-phase, exchange-after, taken_bodies, counted}
 use Rattle.node_run.proofs.PartPhase.{length-no_values, get-no_values}
 use Rattle.node_run.proofs.Plain.{at-start}
 use Rattle.node_run.proofs.Ranges.{over_range, over_range-inside, over_range-length}
-use Rattle.node_run.proofs.Reading.{value-known, none-to-self, any-at}
+use Rattle.node_run.proofs.Reading.{value-known, message-values, none-to-self, any-at}
 use Rattle.node_run.proofs.Stepping.{one_step, local-between, next-numbers}
 
 -- a piece is the values at the positions that pass
@@ -136,13 +136,24 @@ module _ {C F : Type 0} (faults : FaultValues F) (meaning : C → Instr F) (coun
   next_machine = step_by (Remap new rounds) m
 
   -- a segment of a lockstep run that leads to nodes that agree with the machine's next state
-  pub record RemapSegment (n' : ℕ) (old : ℕ → Node C F) : Type 0 where
+  pub record RemapSegment (n' : ℕ) (old : ℕ → Node C F) (exchanges : List Exchange) : Type 0 where
     pub phases : List (ℕ → PhaseShare Letter)
     pub last : ℕ → List (Move Letter)
     pub next_to : ℕ → List ℕ
     pub next_from : ℕ → List ℕ
     pub leads : LeadsTo (node_steps faults meaning) n' (by_number count old) phases last (by_number count (standing count next_machine (number_after n' phases) (new_own next_to next_from)))
     pub numbers : AreNumbered count next_to next_from
+    pub carried : AreCarried count n' phases exchanges
+
+  -- the rounds from k on
+  abbrev exchanges_from : ℕ → ℕ → List Exchange
+  exchanges_from k d = map (round_exchange count m new rounds) (range_with_len k d)
+
+  round-carries : (k n' : ℕ) (next_to : ℕ → List ℕ) → Carries count n' next_to (shares_of faults meaning count n' (sends k) body (λ p q. get_or (next_to p) q 0)) (round_exchange count m new rounds k)
+  round-carries k n' next_to p q lp lq =
+      rw (lt-ltb p count lp) (sent-one faults meaning count n' (sends k) body (λ p q. get_or (next_to p) q 0) count 0 p q (omega arith) (omega arith))
+      ∙ ap (λ (b : List ℤ). if sends k p q then record { run = 1; phase = n'; from = p; to = q; number = get_or (next_to p) q 0; body = b } ∷ [] else [])
+      (message-values count m.layouts m.rows whole.shaped whole.owned (owns_spot moved q) q p)
 
   received-more : (k : ℕ) (received : ℕ → List (List ℤ)) → IsReceived k received → (numbers : ℕ → ℕ → ℕ) (n' : ℕ) → IsReceived (suc k) (λ p. over_range [] (taken_bodies faults meaning count n' (sends k) body numbers p) (λ s. sends k s p) 0 count (received p))
   received-more k received is numbers n' = record {
@@ -159,7 +170,7 @@ module _ {C F : Type 0} (faults : FaultValues F) (meaning : C → Instr F) (coun
 
   remap-rounds : (d k n' : ℕ) → k + d ≡ many → (next_to next_from : ℕ → List ℕ) (stage : ℕ → Stage) (received : ℕ → List (List ℤ)) → IsReceived k received → AreNumbered count next_to next_from → (old : ℕ → Node C F)
       → ((p : ℕ) → p < count → (act_of (old p).control.status (old p).stage ≡ Local) × ((old p).phase ≡ n') × ((node_steps faults meaning).after_local (old p) ≡ remap_next count new rounds (remap_node k n' next_to next_from stage received p)))
-      → RemapSegment n' old
+      → RemapSegment n' old (exchanges_from k d)
   remap-rounds zero k n' ek next_to next_from stage received is numbered old h =
       let f : k ≡ many = omega arith in
       let is' : IsReceived many received = subst (λ x. IsReceived x received) f is in
@@ -177,6 +188,7 @@ module _ {C F : Type 0} (faults : FaultValues F) (meaning : C → Instr F) (coun
               refl,
             ));
         numbers = numbered;
+        carried = tt;
       }
   remap-rounds (suc d) k n' ek next_to next_from stage received is numbered old h =
       let numbers : ℕ → ℕ → ℕ = λ p q. get_or (next_to p) q 0 in
@@ -193,7 +205,7 @@ module _ {C F : Type 0} (faults : FaultValues F) (meaning : C → Instr F) (coun
       let to' : ℕ → List ℕ = λ p. over_range 0 counted (sends k p) 0 count (next_to p) in
       let from' : ℕ → List ℕ = λ p. over_range 0 counted (λ s. sends k s p) 0 count (next_from p) in
       let received' : ℕ → List (List ℤ) = λ p. over_range [] (taken_bodies faults meaning count n' (sends k) body numbers p) (λ s. sends k s p) 0 count (received p) in
-      let next : RemapSegment (next_number n') (λ p. passed faults meaning count n' (sends k) body numbers p (o p)) =
+      let next : RemapSegment (next_number n') (λ p. passed faults meaning count n' (sends k) body numbers p (o p)) (exchanges_from (suc k) d) =
       remap-rounds d (suc k) (next_number n') (omega arith) to' from' (λ p. Passed) received' (received-more k received is numbers n')
       (next-numbers count (sends k) next_to next_from numbered)
       (λ p. passed faults meaning count n' (sends k) body numbers p (o p))
@@ -209,18 +221,26 @@ module _ {C F : Type 0} (faults : FaultValues F) (meaning : C → Instr F) (coun
               (sym (fun_ext (exchange-after faults meaning count n' (sends k) body numbers old o some opens))) next.leads,
         );
         numbers = next.numbers;
+        carried = ((next_to, round-carries k n' next_to), let f : suc k ≡ k + 1 = omega arith in subst (λ x. AreCarried count (next_number n') next.phases (exchanges_from x d)) f next.carried);
       }
 
-  remap_segment : RemapSegment n (standing count m n own)
+  remap_segment : RemapSegment n (standing count m n own) (exchanges_from 0 many)
   remap_segment = remap-rounds many 0 n (omega arith) own.next_to own.next_from (λ p. Ready) (λ p. no_values count)
       (record { room = λ p. length-no_values count; is = λ p s lt. get-no_values count s }) agree.numbers (standing count m n own)
       (λ p lt. (rw running refl, refl, ap (λ i. begun_by faults count i (standing count m n own p)) e))
 
+  -- with exactly the letters of its rounds
+  pub remap-rounds-pass : (segment : NodesSegment faults meaning count n m own next_machine) × AreCarried count n segment.phases (exchanges_from 0 many)
+  remap-rounds-pass = (
+    record {
+      phases = remap_segment.phases;
+      last = remap_segment.last;
+      new = new_own remap_segment.next_to remap_segment.next_from;
+      leads = remap_segment.leads;
+      agree = record { numbers = remap_segment.numbers; kept = agree.kept; joined = at-start count (instr_at meaning next_machine.code next_machine.control.at) own.joined m.joined };
+    },
+    remap_segment.carried,
+  )
+
   pub remap-passes : NodesSegment faults meaning count n m own next_machine
-  remap-passes = record {
-    phases = remap_segment.phases;
-    last = remap_segment.last;
-    new = new_own remap_segment.next_to remap_segment.next_from;
-    leads = remap_segment.leads;
-    agree = record { numbers = remap_segment.numbers; kept = agree.kept; joined = at-start count (instr_at meaning next_machine.code next_machine.control.at) own.joined m.joined };
-  }
+  remap-passes = remap-rounds-pass.0
