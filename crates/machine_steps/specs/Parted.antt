@@ -1,5 +1,5 @@
 -- Parallel statements one behind the other: they are the parted order of a nest.
-use Rattle.std.specs.Prelude.{◌≡◌, ℕ, zero, suc, ◌+◌, ◌<◌, ◌⊎◌, ℤ, List, Option, Some, None}
+use Rattle.std.specs.Prelude.{◌≡◌, ℕ, zero, suc, ◌+◌, ◌<◌, ℤ, List, Option, Some, None}
 use Rattle.nest_order.specs.Storage.{Storage, Spot, read}
 use Rattle.nest_order.specs.Effect.{Effect}
 use Rattle.nest_order.specs.Orders.{parted}
@@ -17,9 +17,9 @@ module _ {F : Type 0} (outcome : ℕ → ℕ → Storage → Outcome F) (left : 
   kept_behind start n number zero = None
   kept_behind start n number (suc k) = keep (λ i. outcome i k (parted act_by start n k)) (number k) n (kept_behind start n number k)
 
-  -- the numbers rise, but for parts that never fault
+  -- the numbers rise behind a part that may fault
   abbrev pub AreRising : (number : ℕ → ℕ) → ℕ → Type 0
-  AreRising number k = (j later : ℕ) → j < later → later < k → (number j < number later) ⊎ ((i : ℕ) (rows : Storage) (fault : F) → outcome i j rows ≡ Breaks fault → ⊥)
+  AreRising number k = (i j later : ℕ) (rows : Storage) (fault : F) → outcome i j rows ≡ Breaks fault → j < later → later < k → number j < number later
 
 module _ {C F : Type 0} (meaning : C → Instr F) (tuples : ℕ → Tuples F) (left : ℕ → List ℤ → ℕ → Option Spot) (n : ℕ) where
   abbrev pub par_outcome : List ℤ → ℕ → ℕ → Storage → Outcome F

@@ -11,7 +11,7 @@ use Rattle.machine_steps.specs.Layout.{Layout, sizes, owned_in, owns_spot, least
 use Rattle.machine_steps.specs.Machine.{Machine, set_slot, slot_of, last_control, lie_alike, last_passing, last_of, step_by, instr_at}
 use Rattle.machine_steps.specs.Node.{FaultValues, Node, Positioned, node_steps, local_read, own_fold, own_last, fold_ended, last_ended, later, is_behind, positioned_values, values_positioned, value_of, join_options, join_behind, join_below, option_values, values_option}
 use Rattle.machine_steps.specs.Tree.{levels_of}
-use Rattle.node_run.proofs.Joining.{below-same, regroup, fold-below, join-assoc, none-join, join-none, tree-below}
+use Rattle.node_run.proofs.JoinedValues.{below-same, regroup, fold-below, join-assoc, none-join, join-none, tree-below}
 use Rattle.node_run.proofs.Picked.{IsOrder, same_some, picked-assoc, picked-none, none-picked, fold-first}
 use Rattle.node_run.proofs.PieceLaws.{read-local}
 use Rattle.node_run.proofs.Plain.{same-own, at-start, begins-with}

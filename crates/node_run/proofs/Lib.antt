@@ -1,12 +1,12 @@
 mod Copies
 mod Exchange
 mod Goes
-mod Joining
+mod JoinedValues
 mod Keeping
-mod Letters
+mod PartLetters
 mod Openings
 mod PartPhase
-mod Parted
+mod PartsInARow
 mod PieceLaws
 mod Picked
 mod Plain
@@ -14,7 +14,7 @@ mod Ranges
 mod Reading
 mod Reduces
 mod Remaps
-mod Runs
+mod WholeRuns
 mod Spots
 mod Stepping
 mod TreeFold

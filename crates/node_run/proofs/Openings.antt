@@ -12,7 +12,7 @@ use Rattle.machine_steps.specs.Instr.{Instr}
 use Rattle.machine_steps.specs.Machine.{Machine, is_before, instr_at, steps}
 use Rattle.machine_steps.specs.Node.{FaultValues, node_steps}
 use Rattle.node_run.proofs.Plain.{at-start}
-use Rattle.node_run.proofs.Runs.{nodes-run}
+use Rattle.node_run.proofs.WholeRuns.{nodes-run}
 
 get-replicate : (count q v d : ℕ) → q < count → get_or (replicate count v) q d ≡ v
 get-replicate zero q v d lt = absurd (omega arith)

@@ -11,7 +11,7 @@ use Rattle.machine_steps.specs.Machine.{Kept, Machine, is_before, earlier, keep,
 use Rattle.machine_steps.specs.Message.{reduce_part, least_or_zero, computing_node, first_read}
 use Rattle.machine_steps.specs.Node.{FaultValues, Node, Passed, node_steps, part_opened, begun_by, done_by, reduce_begun, reduce_done, reduce_ended, verdict_done, tree_begun, tree_next, tree_absorbed, join_options, join_behind, join_below, outcome_value, option_values, values_option, kept_values, values_kept}
 use Rattle.machine_steps.specs.Tree.{levels_of}
-use Rattle.node_run.proofs.Joining.{below-same, regroup, folded-below, join-assoc, none-join, join-none, tree-below}
+use Rattle.node_run.proofs.JoinedValues.{below-same, regroup, folded-below, join-assoc, none-join, join-none, tree-below}
 use Rattle.node_run.proofs.Keeping.{keep-first}
 use Rattle.node_run.proofs.PartPhase.{part-segment, part_passed, part_own, outcome-or-nothing, outcome-computed, outcome-by, own_outcome, whole_outcome}
 use Rattle.node_run.proofs.Plain.{at-start, begins-with}

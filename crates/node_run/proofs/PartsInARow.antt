@@ -95,11 +95,7 @@ module _ {F : Type 0} (outcome : ℕ → ℕ → Storage → Outcome F) (left : 
               let no : is_before (key_at i' j' other) l ≡ false = subst (λ x. is_before (key_at i' j' other) x ≡ false) (sym same) r.2 in
               let first : is_before (key_at i' j' other) l ≡ true = is-before (key_at i' j' other) l (⊎_elim
               (λ (lt : i' < l.tuple). inl lt)
-              (λ (both : (i' ≡ l.tuple) × (j' < w.1)).
-              ⊎_elim
-              (λ (lower : number j' < number w.1). inr (both.0, omega (arith, part, lower)))
-              (λ (never : (i : ℕ) (rows : Storage) (fault : F) → outcome i j' rows ≡ Breaks fault → ⊥). absurd (never i' (parted the_act start n j') other o))
-              (rising j' w.1 both.1 w.4))
+              (λ (both : (i' ≡ l.tuple) × (j' < w.1)). let lower = rising i' j' w.1 (parted the_act start n j') other o both.1 w.4 in inr (both.0, omega (arith, part, lower)))
               less) in
               true≢false (sym first ∙ no);
         },
