@@ -6,7 +6,7 @@ use Rattle.node_law.specs.NodeSteps.{Move, after_at, sent}
 use Rattle.node_law.specs.Phases.{PhaseShare, next_number, LeadsTo, Lockstep, all_moves, number_after}
 use Rattle.nest_order.specs.Storage.{Spot, read}
 use Rattle.machine_steps.specs.Layout.{Layout, sizes, pieces, IsDealt, AreOwned}
-use Rattle.machine_steps.specs.Instr.{Status, Running, Finished, Faulted, Tuples, Fold, Remapping, Rounds, Item, Text, Elements, Instr, Local, Fetch, Store, Par, Verdict, Reduce, MakeCopy, FoldCopy, LastCopy, Remap, Print}
+use Rattle.machine_steps.specs.Instr.{Status, Running, Finished, Faulted, Tuples, Fold, Remapping, Rounds, Item, Text, Elements, Instr, Fetch, Par, Reduce, MakeCopy, FoldCopy, LastCopy, Remap, Print}
 use Rattle.machine_steps.specs.Machine.{Machine, Kept, is_before, remapped, instr_at}
 use Rattle.machine_steps.specs.Message.{Part, par_part, reduce_part, gather_part, fetch_part, message, remap_message, has_any}
 use Rattle.machine_steps.specs.Node.{Node, Letter, Ready, FaultValues, join_behind, join_below, at_root, part_sends, remap_sends, node_steps}
@@ -80,7 +80,8 @@ pub record IsFold (f : Fold) : Type 0 where
 -- each new mapping is one of a declared array, and gives each of its elements an owner
 abbrev pub AreDealt : ℕ → List Shape → List Remapping → Type 0
 AreDealt count shapes [] = ⊤
-AreDealt count shapes (new ∷ rest) = ((shape : Shape) × (slice_get shapes new.row ≡ Some shape) × IsDealt count (record { shape = shape; mapping = new.mapping })) × AreDealt count shapes rest
+AreDealt count shapes (new ∷ rest) = ((shape : Shape) × (slice_get shapes new.row ≡ Some shape) × IsDealt count (record { shape = shape; mapping = new.mapping }))
+    × AreDealt count shapes rest
 
 -- each pair with a message stands in a round
 abbrev pub AreCovered : ℕ → List Remapping → Rounds → List Layout → Type 0
@@ -95,7 +96,8 @@ IsValidInstr count shapes (Reduce tuples f slot) = IsFold f
 IsValidInstr count shapes (MakeCopy copy layout start) = (length shapes ≤ copy) × ((slots : List ℤ) → IsDealt count (layout slots))
 IsValidInstr count shapes (FoldCopy copy f slot) = IsFold f
 IsValidInstr count shapes (LastCopy copy set alike slot) = (one other : Layout) → alike one other ≡ true → one ≡ other
-IsValidInstr count shapes (Remap new rounds) = AreDealt count shapes new × ((layouts : List Layout) → AreDeclared shapes layouts → AreOwned count layouts → AreCovered count new rounds layouts)
+IsValidInstr count shapes (Remap new rounds) = AreDealt count shapes new × ((layouts : List Layout) → AreDeclared shapes layouts → AreOwned count layouts
+    → AreCovered count new rounds layouts)
 IsValidInstr count shapes i = ⊤
 
 abbrev pub IsValidCode : {C F : Type 0} → (C → Instr F) → ℕ → List Shape → List C → Type 0
@@ -133,7 +135,8 @@ module _ {C F : Type 0} (faults : FaultValues F) (meaning : C → Instr F) where
     pub lockstep : Lockstep (node_steps faults meaning) (by_number count (standing count m n own))
     pub number : ℕ
     pub new : Own F
-    pub ends : (p : ℕ) → after_at (node_steps faults meaning) (by_number count (standing count m n own) p) (all_moves lockstep.phases lockstep.last p) ≡ by_number count (standing count m' number new) p
+    pub ends : (p : ℕ) → after_at (node_steps faults meaning) (by_number count (standing count m n own) p) (all_moves lockstep.phases lockstep.last p) ≡ by_number count
+        (standing count m' number new) p
     pub agree : Agree count m' new
 
 -- the machine's run is over
@@ -153,7 +156,8 @@ pub record Exchange : Type 0 where
 abbrev pub Carries : ℕ → ℕ → (next_to : ℕ → List ℕ) → (ℕ → PhaseShare Letter) → Exchange → Type 0
 Carries count n next_to shares exchange =
     (p q : ℕ) → p < count → q < count
-    → sent q (shares p).front ≡ (if exchange.sends p q then record { run = 1; phase = n; from = p; to = q; number = slice_index_or (next_to p) q 0; body = exchange.body p q } ∷ [] else [])
+    → sent q (shares p).front ≡ (if exchange.sends p q then record { run = 1; phase = n; from = p; to = q; number = slice_index_or (next_to p) q 0; body = exchange.body p q } ∷
+    [] else [])
 
 -- the message phase of a part, by the whole arrays: the elements that q needs, that q doesn't own and whose least owner is p, in order
 abbrev pub part_exchange : {C F : Type 0} → ℕ → Machine C F → Part → Exchange
@@ -222,5 +226,6 @@ module _ {C F : Type 0} (faults : FaultValues F) (meaning : C → Instr F) where
     pub lockstep : Lockstep (node_steps faults meaning) (slice_get (openings count m))
     pub number : ℕ
     pub new : Own F
-    pub ends : (p : ℕ) → after_at (node_steps faults meaning) (slice_get (openings count m) p) (all_moves lockstep.phases lockstep.last p) ≡ by_number count (standing count m' number new) p
+    pub ends : (p : ℕ) → after_at (node_steps faults meaning) (slice_get (openings count m) p) (all_moves lockstep.phases lockstep.last p) ≡ by_number count
+        (standing count m' number new) p
     pub agree : Agree faults meaning count m' new

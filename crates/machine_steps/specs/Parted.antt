@@ -1,5 +1,5 @@
 -- Parallel statements one behind the other: they are the parted order of a nest.
-use Rattle.std.specs.Prelude.{◌≡◌, ℕ, zero, suc, ◌+◌, ◌<◌, ℤ, List, Option, Some, None}
+use Rattle.std.specs.Prelude.{◌≡◌, ℕ, zero, suc, ◌+◌, ◌<◌, ℤ, List, Option, None}
 use Rattle.nest_order.specs.Storage.{Storage, Spot, read}
 use Rattle.nest_order.specs.Effect.{Effect}
 use Rattle.nest_order.specs.Orders.{parted}

@@ -5,6 +5,7 @@ mod JoinedValues
 mod Keeping
 mod PartLetters
 mod Openings
+mod OwnedPieces
 mod PartPhase
 mod PartsInARow
 mod PieceLaws

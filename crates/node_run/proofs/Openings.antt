@@ -1,5 +1,5 @@
 -- The nodes at the beginning of a run.
-use Rattle.std.proofs.Common.{◌≡◌, ℕ, zero, suc, ◌+◌, ◌<◌, ◌≤◌, List, map, length, replicate, get_or, Some, None, refl, sym, ◌∙◌, ap, subst, arith, ◌⊎◌, inl, inr}
+use Rattle.std.proofs.Common.{◌≡◌, ℕ, zero, suc, ◌+◌, ◌<◌, ◌≤◌, List, map, replicate, get_or, Some, None, refl, sym, ◌∙◌, ap, subst, arith, ◌⊎◌, inl, inr}
 use Rattle.std.specs.List.{range_with_len, slice_get}
 use Rattle.std.proofs.Math.Path.{fun_ext}
 use Rattle.std.proofs.lemmas.Bool.{cases_lt, lt-ltb, le-ltb}
@@ -20,7 +20,8 @@ get-replicate (suc count) zero v d lt = refl
 get-replicate (suc count) (suc q) v d lt = get-replicate count q v d (omega arith)
 
 -- a list of nodes, by number
-at-number : {A : Type 0} (f : ℕ → A) (n lo p : ℕ) → (p < n → slice_get (map f (range_with_len lo n)) p ≡ Some (f (lo + p))) × (n ≤ p → slice_get (map f (range_with_len lo n)) p ≡ None)
+at-number : {A : Type 0} (f : ℕ → A) (n lo p : ℕ) → (p < n → slice_get (map f (range_with_len lo n)) p ≡ Some (f (lo + p))) ×
+    (n ≤ p → slice_get (map f (range_with_len lo n)) p ≡ None)
 at-number f zero lo p = ((λ lt. absurd (omega arith)), (λ ge. refl))
 at-number f (suc n) lo zero = ((λ lt. let e : lo ≡ lo + 0 = omega arith in ap (λ x. Some (f x)) e), (λ ge. absurd (omega arith)))
 at-number f (suc n) lo (suc p) =
@@ -44,13 +45,16 @@ module _ {C F : Type 0} (faults : FaultValues F) (meaning : C → Instr F) (coun
       same = λ p q lp lq. get-replicate count q 1 0 lq ∙ sym (get-replicate count p 1 0 lp);
     };
     kept = subst (λ o. IsFirst is_before count o (λ p. None)) (sym none) (record { others = λ p lt l e. cc; here = λ l e. cc });
-    joined = subst (λ j. AreJoined count (instr_at meaning m.code m.control.at) j (λ p. None) m.joined) (sym first) (at-start count (instr_at meaning m.code m.control.at) (λ p. None) m.joined);
+    joined = subst (λ j. AreJoined count (instr_at meaning m.code m.control.at) j (λ p. None) m.joined) (sym first)
+        (at-start count (instr_at meaning m.code m.control.at) (λ p. None) m.joined);
   }
 
-  pub openings-run : 0 < count → m.kept ≡ None → m.substep ≡ 0 → IsValidCode meaning count shapes m.code → IsWhole count shapes m → IsOver (steps meaning k m).control.status → OpeningsRun faults meaning count m (steps meaning k m)
+  pub openings-run : 0 < count → m.kept ≡ None → m.substep ≡ 0 → IsValidCode meaning count shapes m.code → IsWhole count shapes m → IsOver (steps meaning k m).control.status
+      → OpeningsRun faults meaning count m (steps meaning k m)
   openings-run some none first valid whole over =
       let run = nodes-run faults meaning count shapes some k 1 m (first_own count) (opening-agree none first) valid whole over in
-      let same : by_number count (standing count m 1 (first_own count)) ≡ slice_get (openings count m) = fun_ext (λ p. sym (listed (standing count m 1 (first_own count)) count p)) in
+      let same : by_number count (standing count m 1 (first_own count)) ≡ slice_get (openings count m) = fun_ext
+      (λ p. sym (listed (standing count m 1 (first_own count)) count p)) in
       record {
         lockstep = record {
           number = run.lockstep.number;
@@ -60,6 +64,7 @@ module _ {C F : Type 0} (faults : FaultValues F) (meaning : C → Instr F) (coun
         };
         number = run.number;
         new = run.new;
-        ends = λ p. ap (λ o. after_at (node_steps faults meaning) o (all_moves run.lockstep.phases run.lockstep.last p)) (listed (standing count m 1 (first_own count)) count p) ∙ run.ends p;
+        ends = λ p. ap (λ o. after_at (node_steps faults meaning) o (all_moves run.lockstep.phases run.lockstep.last p)) (listed (standing count m 1 (first_own count)) count p)
+            ∙ run.ends p;
         agree = run.agree;
       }

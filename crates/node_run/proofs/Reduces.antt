@@ -1,19 +1,18 @@
 -- The three steps of a reduction.
-use Rattle.std.proofs.Common.{◌≡◌, ℕ, zero, suc, ◌+◌, ◌<◌, ◌≤◌, ◌==◌, ◌^◌, Bool, true, false, if◌then◌else◌, ℤ, List, [], ◌∷◌, get_or, Option, Some, None, nat_lt, refl, sym, ◌∙◌, ap, subst, arith, eq-eqb, ◌⊎◌, inl, inr, ⊎_elim}
+use Rattle.std.proofs.Common.{◌≡◌, ℕ, zero, suc, ◌<◌, ◌==◌, Bool, true, false, if◌then◌else◌, ℤ, List, get_or, Option, Some, None, nat_lt, refl, sym, ◌∙◌, ap, subst, eq-eqb, ◌⊎◌, inl, inr}
 use Rattle.std.proofs.lemmas.Bool.{ltb-true}
 use Rattle.hpf_base.specs.declared.index.Shape.{Shape}
-use Rattle.node_law.specs.Phases.{next_number}
-use Rattle.nest_order.specs.Storage.{Spot, read}
+use Rattle.nest_order.specs.Storage.{Spot}
 use Rattle.machine_steps.specs.Agrees.{Own, standing, Agree, AreJoined, IsFirst, IsFold, IsWhole, NodesSegment, CarryingSegment, part_exchange}
-use Rattle.machine_steps.specs.Instr.{Control, Outcome, Nothing, Tuples, Fold, Instr, Running, Reduce}
+use Rattle.machine_steps.specs.Instr.{Outcome, Nothing, Tuples, Fold, Instr, Running, Reduce}
 use Rattle.machine_steps.specs.Layout.{sizes, in_bounds}
-use Rattle.machine_steps.specs.Machine.{Kept, Machine, is_before, earlier, keep, set_slot, stay, verdict_control, verdict_step, reduce_step, step_by, instr_at}
+use Rattle.machine_steps.specs.Machine.{Kept, Machine, is_before, keep, set_slot, stay, verdict_control, reduce_step, step_by, instr_at}
 use Rattle.machine_steps.specs.Message.{reduce_part, least_or_zero, computing_node, first_read}
-use Rattle.machine_steps.specs.Node.{FaultValues, Node, Passed, node_steps, part_opened, begun_by, done_by, reduce_begun, reduce_done, reduce_ended, verdict_done, tree_begun, tree_next, tree_absorbed, join_options, join_behind, join_below, outcome_value, option_values, values_option, kept_values, values_kept}
+use Rattle.machine_steps.specs.Node.{FaultValues, Node, Passed, node_steps, reduce_begun, reduce_done, reduce_ended, join_options, join_behind, join_below, outcome_value, option_values, values_option}
 use Rattle.machine_steps.specs.Tree.{levels_of}
 use Rattle.node_run.proofs.JoinedValues.{below-same, regroup, folded-below, join-assoc, none-join, join-none, tree-below}
 use Rattle.node_run.proofs.Keeping.{keep-first}
-use Rattle.node_run.proofs.PartPhase.{part-segment, part_passed, part_own, outcome-or-nothing, outcome-computed, outcome-by, own_outcome, whole_outcome}
+use Rattle.node_run.proofs.PartPhase.{part-segment, part_passed, outcome-or-nothing, outcome-computed, outcome-by, own_outcome, whole_outcome}
 use Rattle.node_run.proofs.Plain.{at-start, begins-with}
 use Rattle.node_run.proofs.Reading.{least-owns}
 use Rattle.node_run.proofs.Trees.{goes-on, tree-segment, verdict-segment, levels-reach}
@@ -22,12 +21,16 @@ pub option-back : (x : Option ℤ) → values_option (option_values x) ≡ x
 option-back None = refl
 option-back (Some v) = refl
 
-module _ {C F : Type 0} (faults : FaultValues F) (meaning : C → Instr F) (count n : ℕ) (m : Machine C F) (own : Own F) (running : m.control.status ≡ Running) (agree : Agree faults meaning count m own) (shapes : List Shape) (whole : IsWhole count shapes m) (some : 0 < count)
+module _ {C F : Type 0} (faults : FaultValues F) (meaning : C → Instr F) (count n : ℕ) (m : Machine C F) (own : Own F) (running : m.control.status ≡ Running)
+    (agree : Agree faults meaning count m own) (shapes : List Shape) (whole : IsWhole count shapes m) (some : 0 < count)
     (tuples : Tuples F) (f : Fold) (slot : ℕ) (is : IsFold f) (e : instr_at meaning m.code m.control.at ≡ Reduce tuples f slot) where
-  begins-step : (k : ℕ) → m.substep ≡ k → (p : ℕ) → (node_steps faults meaning).after_local (standing count m n own p) ≡ reduce_begun faults count k tuples f slot (standing count m n own p)
-  begins-step k es p = begins-with faults meaning count n m own running agree (Reduce tuples f slot) e p ∙ ap (λ j. reduce_begun faults count j tuples f slot (standing count m n own p)) es
+  begins-step : (k : ℕ) → m.substep ≡ k → (p : ℕ) → (node_steps faults meaning).after_local (standing count m n own p) ≡ reduce_begun faults count k tuples f slot
+      (standing count m n own p)
+  begins-step k es p = begins-with faults meaning count n m own running agree (Reduce tuples f slot) e p
+      ∙ ap (λ j. reduce_begun faults count j tuples f slot (standing count m n own p)) es
 
-  goes-on-step : (k : ℕ) → m.substep ≡ k → (b : Node C F) → b.code ≡ m.code → b.control ≡ m.control → b.substep ≡ m.substep → b.stage ≡ Passed → b.nodes ≡ count → (node_steps faults meaning).after_local b ≡ reduce_done faults count k tuples f slot b
+  goes-on-step : (k : ℕ) → m.substep ≡ k → (b : Node C F) → b.code ≡ m.code → b.control ≡ m.control → b.substep ≡ m.substep → b.stage ≡ Passed → b.nodes ≡ count
+      → (node_steps faults meaning).after_local b ≡ reduce_done faults count k tuples f slot b
   goes-on-step k ek b ec el eb es en =
       goes-on faults meaning count n m own running agree.numbers some (Reduce tuples f slot) e b ec el es en
       ∙ ap (λ j. reduce_done faults count j tuples f slot b) (eb ∙ ek)
@@ -86,25 +89,29 @@ module _ {C F : Type 0} (faults : FaultValues F) (meaning : C → Instr F) (coun
   values-joined =
       folded-below f is outcome many
       ∙ ap (join_behind f.join f.unit) (sym (
-        below-same f is reduce_joined (λ p. join_below f.join (λ t. if node_of t == p then outcome_value (outcome t) else None) many) count
-            (λ p lp. below-same f is (λ t. outcome_value (outcome_on p t)) (λ t. if node_of t == p then outcome_value (outcome t) else None) many (λ t lt. by_computes p t (outcome-by faults meaning count n shapes m own whole tuples computes p t lt (computes p t) refl)))
-            ∙ regroup f is node_of (λ t. outcome_value (outcome t)) count many (λ t lt. node-below t)
+      below-same f is reduce_joined (λ p. join_below f.join (λ t. if node_of t == p then outcome_value (outcome t) else None) many) count
+      (λ p lp. below-same f is (λ t. outcome_value (outcome_on p t)) (λ t. if node_of t == p then outcome_value (outcome t) else None) many
+      (λ t lt. by_computes p t (outcome-by faults meaning count n shapes m own whole tuples computes p t lt (computes p t) refl)))
+      ∙ regroup f is node_of (λ t. outcome_value (outcome t)) count many (λ t lt. node-below t)
       ))
     where
-      by_computes : (p t : ℕ) → ((computes p t ≡ true) × (outcome_on p t ≡ outcome t)) ⊎ ((computes p t ≡ false) × (outcome_on p t ≡ Nothing)) → outcome_value (outcome_on p t) ≡ (if node_of t == p then outcome_value (outcome t) else None)
+      by_computes : (p t : ℕ) → ((computes p t ≡ true) × (outcome_on p t ≡ outcome t)) ⊎ ((computes p t ≡ false) × (outcome_on p t ≡ Nothing))
+          → outcome_value (outcome_on p t) ≡ (if node_of t == p then outcome_value (outcome t) else None)
       by_computes p t (inl h) = ap outcome_value h.1 ∙ sym (rw h.0 refl)
       by_computes p t (inr h) = ap outcome_value h.1 ∙ sym (rw h.0 refl)
 
   pub fold-passes : m.substep ≡ 0 → CarryingSegment faults meaning count n m own folded_machine (part_exchange count m (reduce_part count m.layouts tuples m.control.slots))
   fold-passes es =
-      part-segment faults meaning count n shapes m own whole (reduce_part count m.layouts tuples m.control.slots) running agree.numbers some folded_machine reduce_kept reduce_joined reduce-kept
+      part-segment faults meaning count n shapes m own whole (reduce_part count m.layouts tuples m.control.slots) running agree.numbers some folded_machine reduce_kept
+      reduce_joined reduce-kept
       (at-reduce 1 reduce_joined folded_machine.joined values-joined)
       (λ p lt. begins-step 0 es p)
       (λ p lt. goes-on-step 0 es (part_passed faults meaning count n shapes m own whole (reduce_part count m.layouts tuples m.control.slots) p) refl refl refl refl refl)
 
   -- ---- the verdict
 
-  verdict-joined : (k : Option (Kept F)) → AreJoined count (Reduce tuples f slot) 1 own.joined m.joined → AreJoined count (instr_at meaning m.code (verdict_control k stay m.control).at) 2 own.joined m.joined
+  verdict-joined : (k : Option (Kept F)) → AreJoined count (Reduce tuples f slot) 1 own.joined m.joined
+      → AreJoined count (instr_at meaning m.code (verdict_control k stay m.control).at) 2 own.joined m.joined
   verdict-joined None h = at-reduce 2 own.joined m.joined h
   verdict-joined (Some l) h = at-reduce 2 own.joined m.joined h
 

@@ -30,18 +30,34 @@ none-to-self levels k p = by_round (nat_lt k levels) k (2 * levels - 1 - k)
     by_round true r s = no-up r
     by_round false r s = no-up s
 
-module _ {C F : Type 0} (faults : FaultValues F) (meaning : C → Instr F) {T : Type 0} (join : T → T → T) (unit : T) (assoc : (x y z : T) → join (join x y) z ≡ join x (join y z)) (left : (x : T) → join unit x ≡ x) (right : (x : T) → join x unit ≡ x)
+module _ {C F : Type 0} (faults : FaultValues F) (meaning : C → Instr F) {T : Type 0} (join : T → T → T) (unit : T) (assoc : (x y z : T) → join (join x y) z ≡ join x (join y z))
+    (left : (x : T) → join unit x ≡ x) (right : (x : T) → join x unit ≡ x)
     (values : T → List ℤ) (of : List ℤ → T) (back : (x : T) → of (values x) ≡ x) (none : of [] ≡ unit)
     (count : ℕ) (some : 0 < count) (item : ℕ → T) (base : ℕ → Node C F) (code : List C) (control : Control F) (substep : ℕ) (running : control.status ≡ Running)
     (finish : Node C F → Node C F) (finish-phase : (a : Node C F) → (finish a).phase ≡ a.phase)
-    (behind : (b : Node C F) → b.code ≡ code → b.control ≡ control → b.substep ≡ substep → b.stage ≡ Passed → b.nodes ≡ count → (node_steps faults meaning).after_local b ≡ tree_next count finish (tree_absorbed count join values of b)) where
+    (behind : (b : Node C F) → b.code ≡ code → b.control ≡ control → b.substep ≡ substep → b.stage ≡ Passed → b.nodes ≡ count
+    → (node_steps faults meaning).after_local b ≡ tree_next count finish (tree_absorbed count join values of b)) where
   -- what the node p has after k rounds
   abbrev pub value : ℕ → ℕ → T
   value k p = after_rounds join unit assoc left right count (levels_of count) item k p
 
   -- the node p after k rounds
   abbrev pub round_node : ℕ → ℕ → (ℕ → List ℕ) → (ℕ → List ℕ) → (ℕ → Stage) → (ℕ → List (List ℤ)) → ℕ → Node C F
-  round_node k n next_to next_from stage received p = record (base p) { id = p; nodes = count; code = code; control = control; substep = substep; phase = n; stage = stage p; received = received p; next_to = next_to p; next_from = next_from p; round = k; folded = values (value k p) }
+  round_node k n next_to next_from stage received p = record (base p) {
+    id = p;
+    nodes = count;
+    code = code;
+    control = control;
+    substep = substep;
+    phase = n;
+    stage =
+        stage p;
+    received = received p;
+    next_to = next_to p;
+    next_from = next_from p;
+    round = k;
+    folded = values (value k p);
+  }
 
   -- a piece of a lockstep run that leads to the nodes after all rounds
   pub record TreeSegment (n : ℕ) (old : ℕ → Node C F) : Type 0 where
@@ -51,7 +67,8 @@ module _ {C F : Type 0} (faults : FaultValues F) (meaning : C → Instr F) {T : 
     pub next_from : ℕ → List ℕ
     pub stage : ℕ → Stage
     pub received : ℕ → List (List ℤ)
-    pub leads : LeadsTo (node_steps faults meaning) n (by_number count old) phases last (by_number count (λ p. finish (round_node (2 * levels_of count) (number_after n phases) next_to next_from stage received p)))
+    pub leads : LeadsTo (node_steps faults meaning) n (by_number count old) phases last
+        (by_number count (λ p. finish (round_node (2 * levels_of count) (number_after n phases) next_to next_from stage received p)))
     pub numbers : AreNumbered count next_to next_from
 
   module _ (k n : ℕ) (next_to next_from : ℕ → List ℕ) where
@@ -62,15 +79,19 @@ module _ {C F : Type 0} (faults : FaultValues F) (meaning : C → Instr F) {T : 
     round_body p q = values (value k p)
 
     abbrev round_received : ℕ → List (List ℤ)
-    round_received p = over_range [] (taken_bodies faults meaning count n (tree_sends (levels_of count) k) round_body numbers_of p) (λ s. tree_sends (levels_of count) k s p) 0 count (no_values count)
+    round_received p = over_range [] (taken_bodies faults meaning count n (tree_sends (levels_of count) k) round_body numbers_of p)
+        (λ s. tree_sends (levels_of count) k s p) 0 count (no_values count)
 
     received-inside : (p s : ℕ) → s < count → get_or (round_received p) s [] ≡ (if tree_sends (levels_of count) k s p then values (value k s) else [])
-    received-inside p s lt = over_range-inside [] (taken_bodies faults meaning count n (tree_sends (levels_of count) k) round_body numbers_of p) (λ s. tree_sends (levels_of count) k s p) count 0 (no_values count) s (omega arith) (omega arith) (omega (arith, length-no_values count)) ∙ rw (get-no_values count s) refl
+    received-inside p s lt = over_range-inside [] (taken_bodies faults meaning count n (tree_sends (levels_of count) k) round_body numbers_of p)
+        (λ s. tree_sends (levels_of count) k s p) count 0 (no_values count) s (omega arith) (omega arith) (omega (arith, length-no_values count)) ∙ rw (get-no_values count s) refl
 
     received-past : (p s : ℕ) → count ≤ s → get_or (round_received p) s [] ≡ []
-    received-past p s ge = over_range-past [] (taken_bodies faults meaning count n (tree_sends (levels_of count) k) round_body numbers_of p) (λ s. tree_sends (levels_of count) k s p) count 0 (no_values count) s (omega arith) ∙ get-no_values count s
+    received-past p s ge = over_range-past [] (taken_bodies faults meaning count n (tree_sends (levels_of count) k) round_body numbers_of p)
+        (λ s. tree_sends (levels_of count) k s p) count 0 (no_values count) s (omega arith) ∙ get-no_values count s
 
-    going-up : (p s : ℕ) → nat_lt k (levels_of count) ≡ true → (s < count) ⊎ (count ≤ s) → of (get_or (round_received p) s []) ≡ (if nat_lt s count && sends_up k s p then value k s else unit)
+    going-up : (p s : ℕ) → nat_lt k (levels_of count) ≡ true → (s < count) ⊎ (count ≤ s)
+        → of (get_or (round_received p) s []) ≡ (if nat_lt s count && sends_up k s p then value k s else unit)
     going-up p s up (inl lt) = ap of (received-inside p s lt) ∙ rw (up, lt-ltb s count lt) (by_case (sends_up k s p))
       where
         by_case : (b : Bool) → of (if b then values (value k s) else []) ≡ (if b then value k s else unit)
@@ -89,7 +110,8 @@ module _ {C F : Type 0} (faults : FaultValues F) (meaning : C → Instr F) {T : 
     fold-next p lt true e = ap values (rw (back (value k p), going-up p (p + 2 ^ k) e (cases_lt (p + 2 ^ k) count)) refl)
     fold-next p lt false e = by_case (2 * levels_of count - 1 - k) refl (p % (2 ^ (2 * levels_of count - 1 - k) * 2) == 2 ^ (2 * levels_of count - 1 - k)) refl
       where
-        by_case : (j : ℕ) → 2 * levels_of count - 1 - k ≡ j → (b : Bool) → (p % (2 ^ j * 2) == 2 ^ j) ≡ b → (if b then get_or (round_received p) (p - 2 ^ j) [] else values (value k p)) ≡ values (if b then value k (p - 2 ^ j) else value k p)
+        by_case : (j : ℕ) → 2 * levels_of count - 1 - k ≡ j → (b : Bool) → (p % (2 ^ j * 2) == 2 ^ j) ≡ b
+            → (if b then get_or (round_received p) (p - 2 ^ j) [] else values (value k p)) ≡ values (if b then value k (p - 2 ^ j) else value k p)
         by_case j ej false eb = refl
         by_case j ej true eb =
             let is : p % (2 ^ j * 2) ≡ 2 ^ j = eqb-true (p % (2 ^ j * 2)) (2 ^ j) eb in
@@ -97,8 +119,10 @@ module _ {C F : Type 0} (faults : FaultValues F) (meaning : C → Instr F) {T : 
             let whole : p - 2 ^ j + 2 ^ j ≡ p = omega arith in
             received-inside p (p - 2 ^ j) (omega arith) ∙ rw (e, ej, eb, whole, eq-eqb p p refl) refl
 
-  pub tree-rounds : (d k n : ℕ) → k + d ≡ 2 * levels_of count → (next_to next_from : ℕ → List ℕ) (stage : ℕ → Stage) (received : ℕ → List (List ℤ)) → AreNumbered count next_to next_from → (old : ℕ → Node C F)
-      → ((p : ℕ) → p < count → (act_of (old p).control.status (old p).stage ≡ Local) × ((old p).phase ≡ n) × ((node_steps faults meaning).after_local (old p) ≡ tree_next count finish (round_node k n next_to next_from stage received p)))
+  pub tree-rounds : (d k n : ℕ) → k + d ≡ 2 * levels_of count → (next_to next_from : ℕ → List ℕ) (stage : ℕ → Stage) (received : ℕ → List (List ℤ))
+      → AreNumbered count next_to next_from → (old : ℕ → Node C F)
+      → ((p : ℕ) → p < count → (act_of (old p).control.status (old p).stage ≡ Local) × ((old p).phase ≡ n) ×
+      ((node_steps faults meaning).after_local (old p) ≡ tree_next count finish (round_node k n next_to next_from stage received p)))
       → TreeSegment n old
   tree-rounds zero k n e next_to next_from stage received numbered old h =
       let ek : k ≡ 2 * levels_of count = omega arith in
@@ -113,7 +137,8 @@ module _ {C F : Type 0} (faults : FaultValues F) (meaning : C → Instr F) {T : 
             let g = h p lt in (
               g.0,
               g.1,
-              subst (λ x. (node_steps faults meaning).after_local (old p) ≡ tree_next count finish (round_node x n next_to next_from stage received p)) ek g.2 ∙ rw (le-ltb (2 * levels_of count) (2 * levels_of count) (omega arith)) refl,
+              subst (λ x. (node_steps faults meaning).after_local (old p) ≡ tree_next count finish (round_node x n next_to next_from stage received p)) ek g.2
+                  ∙ rw (le-ltb (2 * levels_of count) (2 * levels_of count) (omega arith)) refl,
               finish-phase (round_node (2 * levels_of count) n next_to next_from stage received p),
             ));
         numbers = numbered;
@@ -142,7 +167,8 @@ module _ {C F : Type 0} (faults : FaultValues F) (meaning : C → Instr F) {T : 
         rw running refl,
         refl,
         behind (passed faults meaning count n sends body numbers p (o p)) refl refl refl refl refl
-            ∙ ap (λ f. tree_next count finish (record (round_node (suc k) (next_number n) out' inn' (λ p. Passed) (round_received k n next_to next_from) p) { folded = f })) (fold-next k n next_to next_from p lt (nat_lt k (levels_of count)) refl),
+            ∙ ap (λ f. tree_next count finish (record (round_node (suc k) (next_number n) out' inn' (λ p. Passed) (round_received k n next_to next_from) p) { folded = f }))
+            (fold-next k n next_to next_from p lt (nat_lt k (levels_of count)) refl),
       )) in
       record {
         phases = shares_of faults meaning count n sends body numbers ∷ next.phases;
@@ -153,7 +179,8 @@ module _ {C F : Type 0} (faults : FaultValues F) (meaning : C → Instr F) {T : 
         received = next.received;
         leads = (
           exchange-phase faults meaning count n sends body numbers old o some opens (λ p lt. none-to-self (levels_of count) k p),
-          subst (λ ns. LeadsTo (node_steps faults meaning) (next_number n) ns next.phases next.last (by_number count (λ p. finish (round_node (2 * levels_of count) (number_after (next_number n) next.phases) next.next_to next.next_from next.stage next.received p))))
+          subst (λ ns. LeadsTo (node_steps faults meaning) (next_number n) ns next.phases next.last
+              (by_number count (λ p. finish (round_node (2 * levels_of count) (number_after (next_number n) next.phases) next.next_to next.next_from next.stage next.received p))))
               (sym (fun_ext (exchange-after faults meaning count n sends body numbers old o some opens))) next.leads,
         );
         numbers = next.numbers;

@@ -1,16 +1,16 @@
 -- What is asked of a machine, it keeps: the rows have the sizes of their layouts, and each element has an owner.
-use Rattle.std.proofs.Common.{◌≡◌, ℕ, zero, suc, ◌+◌, ◌<◌, ◌≤◌, Bool, true, ℤ, List, [], ◌∷◌, map, length, replicate, get_or, get_or-set_same, get_or-set_other, set, Option, Some, None, Result, Ok, Err, refl, sym, ◌∙◌, ap, subst, arith, ⊎_elim}
+use Rattle.std.proofs.Common.{◌≡◌, ℕ, zero, suc, ◌<◌, ◌≤◌, Bool, true, ℤ, List, [], ◌∷◌, map, length, replicate, get_or, get_or-set_same, get_or-set_other, set, Option, Some, None, Result, Ok, Err, refl, sym, ◌∙◌, ap, subst, arith, ⊎_elim}
 use Rattle.std.specs.List.{slice_get}
 use Rattle.std.proofs.lemmas.Bool.{cases_eq, cases_lt}
 use Rattle.std.proofs.lemmas.List.{length-set, length-map, length-replicate, map-set, get_or_past}
 use Rattle.hpf_base.specs.declared.index.Shape.{Shape}
 use Rattle.hpf_base.specs.declared.mapping.Mapping.{Mapping}
-use Rattle.nest_order.specs.Storage.{Storage, Spot, row_of, read}
+use Rattle.nest_order.specs.Storage.{Storage, Spot, read}
 use Rattle.nest_order.specs.Effect.{Effect, Skip, Put, Fail, apply, scatter}
 use Rattle.machine_steps.specs.Agrees.{AreDeclared, AreDealt, IsValidInstr, IsWhole}
 use Rattle.machine_steps.specs.Instr.{Tuples, Fold, Remapping, Item, Instr, Local, Fetch, Store, Par, Verdict, Reduce, MakeCopy, FoldCopy, LastCopy, Remap, Print}
-use Rattle.machine_steps.specs.Layout.{Layout, size_of, sizes, owned_by, owned_in, owns_spot, IsDealt, AreOwned}
-use Rattle.machine_steps.specs.Machine.{Machine, Kept, store_in, write_to, effect_of, outcome_of, with_mapping, remapped, reduce_step, print_step, step_by}
+use Rattle.machine_steps.specs.Layout.{Layout, size_of, sizes, owned_by, owned_in, IsDealt, AreOwned}
+use Rattle.machine_steps.specs.Machine.{Machine, store_in, write_to, effect_of, outcome_of, with_mapping, remapped, reduce_step, print_step, step_by}
 use Rattle.node_run.proofs.Keeping.{keep-part}
 use Rattle.node_run.proofs.Picked.{same_some}
 
@@ -51,17 +51,21 @@ owned-other (l ∷ layouts) (suc r) (suc s) layout ne = owned-other layouts r s 
 
 made-owned : (count : ℕ) (layouts : List Layout) (copy : ℕ) (layout : Layout) → IsDealt count layout → AreOwned count layouts → AreOwned count (set layouts copy layout)
 made-owned count layouts copy layout dealt owned spot lt =
-    let sizes_now : get_or (sizes (set layouts copy layout)) spot.row 0 ≡ get_or (set (sizes layouts) copy (size_of layout)) spot.row 0 = ap (λ l. get_or l spot.row 0) (map-set size_of layouts copy layout) in
+    let sizes_now : get_or (sizes (set layouts copy layout)) spot.row 0 ≡ get_or (set (sizes layouts) copy (size_of layout)) spot.row 0 = ap (λ l. get_or l spot.row 0)
+    (map-set size_of layouts copy layout) in
     ⊎_elim
     (λ (same : copy ≡ spot.row). ⊎_elim
     (λ (inside : copy < length layouts).
     let h : get_or (set (sizes layouts) copy (size_of layout)) spot.row 0 ≡ size_of layout =
-    subst (λ k. get_or (set (sizes layouts) copy (size_of layout)) k 0 ≡ size_of layout) same (get_or-set_same (sizes layouts) copy (size_of layout) 0 (omega (arith, inside, length-map layouts size_of))) in
+    subst (λ k. get_or (set (sizes layouts) copy (size_of layout)) k 0 ≡ size_of layout) same
+    (get_or-set_same (sizes layouts) copy (size_of layout) 0 (omega (arith, inside, length-map layouts size_of))) in
     let o = dealt spot.at (omega (arith, h, sizes_now, lt)) in
-    let f : owned_in (set layouts copy layout) spot.row ≡ owned_by layout = subst (λ k. owned_in (set layouts copy layout) k ≡ owned_by layout) same (owned-same layouts copy layout inside) in
+    let f : owned_in (set layouts copy layout) spot.row ≡ owned_by layout = subst (λ k. owned_in (set layouts copy layout) k ≡ owned_by layout) same
+    (owned-same layouts copy layout inside) in
     (o.0, o.1, ap (λ (w : ℕ → ℕ → Bool). w o.0 spot.at) f ∙ o.2))
     (λ (outside : length layouts ≤ copy).
-    let z = get_or_past (set (sizes layouts) copy (size_of layout)) spot.row 0 (omega (arith, same, outside, length-set (sizes layouts) copy (size_of layout), length-map layouts size_of)) in
+    let z = get_or_past (set (sizes layouts) copy (size_of layout)) spot.row 0 (omega
+    (arith, same, outside, length-set (sizes layouts) copy (size_of layout), length-map layouts size_of)) in
     absurd (omega (arith, z, sizes_now, lt)))
     (cases_lt copy (length layouts)))
     (λ (ne : copy ≡ spot.row → ⊥).
@@ -70,7 +74,8 @@ made-owned count layouts copy layout dealt owned spot lt =
     (o.0, o.1, ap (λ (w : ℕ → ℕ → Bool). w o.0 spot.at) (owned-other layouts copy spot.row layout ne) ∙ o.2))
     (cases_eq copy spot.row)
 
-made-declared : (shapes : List Shape) (layouts : List Layout) (copy : ℕ) (layout : Layout) → length shapes ≤ copy → AreDeclared shapes layouts → AreDeclared shapes (set layouts copy layout)
+made-declared : (shapes : List Shape) (layouts : List Layout) (copy : ℕ) (layout : Layout) → length shapes ≤ copy → AreDeclared shapes layouts
+    → AreDeclared shapes (set layouts copy layout)
 made-declared [] layouts copy layout le h = tt
 made-declared (shape ∷ shapes) [] copy layout le h = absurd h
 made-declared (shape ∷ shapes) (l ∷ layouts) zero layout le h = absurd (omega arith)
@@ -93,7 +98,8 @@ mapped-declared (shape ∷ shapes) [] row mapping h = absurd h
 mapped-declared (shape ∷ shapes) (layout ∷ layouts) zero mapping h = h
 mapped-declared (shape ∷ shapes) (layout ∷ layouts) (suc row) mapping h = (h.0, mapped-declared shapes layouts row mapping h.1)
 
-mapped-owned : (count : ℕ) (shapes : List Shape) (layouts : List Layout) (row : ℕ) (mapping : Mapping) (shape : Shape) → AreDeclared shapes layouts → slice_get shapes row ≡ Some shape
+mapped-owned : (count : ℕ) (shapes : List Shape) (layouts : List Layout) (row : ℕ) (mapping : Mapping) (shape : Shape) → AreDeclared shapes layouts
+    → slice_get shapes row ≡ Some shape
     → IsDealt count (record { shape = shape; mapping = mapping }) → AreOwned count layouts
     → (r at : ℕ) → at < get_or (sizes (with_mapping layouts row mapping)) r 0 → (node : ℕ) × (node < count) × (owned_in (with_mapping layouts row mapping) r node at ≡ true)
 mapped-owned count [] layouts row mapping shape declared has dealt owned r at lt = cc
@@ -112,9 +118,11 @@ remapped-sizes (first ∷ new) layouts = remapped-sizes new (with_mapping layout
 
 remapped-declared : (shapes : List Shape) (new : List Remapping) (layouts : List Layout) → AreDeclared shapes layouts → AreDeclared shapes (remapped new layouts)
 remapped-declared shapes [] layouts h = h
-remapped-declared shapes (first ∷ new) layouts h = remapped-declared shapes new (with_mapping layouts first.row first.mapping) (mapped-declared shapes layouts first.row first.mapping h)
+remapped-declared shapes (first ∷ new) layouts h = remapped-declared shapes new (with_mapping layouts first.row first.mapping)
+    (mapped-declared shapes layouts first.row first.mapping h)
 
-remapped-owned : (count : ℕ) (shapes : List Shape) (new : List Remapping) (layouts : List Layout) → AreDeclared shapes layouts → AreDealt count shapes new → AreOwned count layouts → AreOwned count (remapped new layouts)
+remapped-owned : (count : ℕ) (shapes : List Shape) (new : List Remapping) (layouts : List Layout) → AreDeclared shapes layouts → AreDealt count shapes new
+    → AreOwned count layouts → AreOwned count (remapped new layouts)
 remapped-owned count shapes [] layouts declared dealt owned = owned
 remapped-owned count shapes (first ∷ new) layouts declared dealt owned =
     remapped-owned count shapes new (with_mapping layouts first.row first.mapping) (mapped-declared shapes layouts first.row first.mapping declared) dealt.1
@@ -140,7 +148,13 @@ module _ {C F : Type 0} (count : ℕ) (shapes : List Shape) where
   pub step-whole : (i : Instr F) (m : Machine C F) → IsValidInstr count shapes i → IsWhole count shapes m → IsWhole count shapes (step_by i m)
   step-whole (Local f) m v w = record { shaped = w.shaped; declared = w.declared; owned = w.owned; kept = w.kept }
   step-whole (Fetch element slot) m v w = record { shaped = w.shaped; declared = w.declared; owned = w.owned; kept = w.kept }
-  step-whole (Store element value) m v w = record { shaped = store-lengths (element m.control.slots) (value m.control.slots) m.rows ∙ w.shaped; declared = w.declared; owned = w.owned; kept = w.kept }
+  step-whole (Store element value) m v w = record {
+    shaped = store-lengths (element m.control.slots) (value m.control.slots) m.rows
+        ∙ w.shaped;
+    declared = w.declared;
+    owned = w.owned;
+    kept = w.kept;
+  }
   step-whole (Par tuples left) m v w = record {
     shaped = scatter-lengths (effect_of tuples left m.control.slots (read m.rows)) (tuples.count m.control.slots) m.rows ∙ w.shaped;
     declared = w.declared;

@@ -9,8 +9,9 @@
 //!   node receives gives it each value that it needs.
 //! - `parted`: parallel statements one behind the other are the parted order of a nest, and what the machine keeps is its least fault.
 //! - `joining`: what the nodes join of their own values is what is joined of all values in their order.
+//! - `pieces`: who owns what, and what a node's piece is, by the definitions of mapped arrays.
 //!
-//! What holds in between: no law looks into who owns what, so an element may have several owners. The simulation is one lemma an
+//! What holds in between: no law of runs looks into who owns what, so an element may have several owners. The simulation is one lemma an
 //! instruction (`proofs/`): an instruction without a phase is a local step, a message phase is one exchange, a tree and a
 //! redistribution are rounds of exchanges, and segments of a lockstep run are put together.
 #![tactic(auto)]
@@ -18,9 +19,11 @@
 mod joining;
 mod letters;
 mod parted;
+mod pieces;
 mod runs;
 
 pub use joining::{folded_from_unit, values_regrouped};
 pub use letters::{message_read, part_letters, remap_letters};
 pub use parted::{least_of_parts, parts_in_a_row};
+pub use pieces::{owners_by_mapping, pieces_by_elements};
 pub use runs::{nodes_run, nodes_step, openings_run};
