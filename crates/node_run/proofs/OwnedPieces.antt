@@ -2,14 +2,19 @@
 use Rattle.std.proofs.Common.{◌≡◌, ℕ, zero, suc, ◌+◌, ◌<◌, ◌≤◌, Bool, true, false, if◌then◌else◌, ℤ, pos, List, [], ◌∷◌, map, length, get_or, Option, Some, None, refl, sym, ◌∙◌, ap, subst, arith}
 use Rattle.std.specs.List.{range_with_len, filter, find, slice_get}
 use Rattle.std.specs.Option.{unwrap_or}
+use Rattle.std.specs.Prelude.{All}
+use Rattle.std.proofs.lemmas.List.Elements.{All-get_or}
 use Rattle.std.proofs.lemmas.Option.{slice_get-map}
 use Rattle.hpf_base.specs.Alignment.{owns, least_owner}
 use Rattle.hpf_base.specs.ElementOrder.{elements, extents_of, index_at, product}
 use Rattle.hpf_base.specs.LocalOrder.{local_elements}
-use Rattle.hpf_base.proofs.Elements.{elements-get}
+use Rattle.hpf_base.specs.Grid.{IsGrid}
+use Rattle.hpf_base.specs.Mapping.{IsMapping, MapsInside}
+use Rattle.hpf_base.proofs.Elements.{elements-get, length-elements}
 use Rattle.hpf_base.proofs.Places.{place_at, places-by_number}
+use Rattle.align_map.proofs.OwnerLaws.{has_owner}
 use Rattle.nest_order.specs.Storage.{Spot}
-use Rattle.machine_steps.specs.Layout.{Layout, size_of, element_index, owned_by, owned_in, owns_spot, first, least_owner_of, count_passing, piece}
+use Rattle.machine_steps.specs.Layout.{Layout, size_of, element_index, owned_by, owned_in, owns_spot, first, least_owner_of, count_passing, piece, IsDealt}
 use Rattle.node_run.proofs.Copies.{owned-found}
 use Rattle.node_run.proofs.Remaps.{kept-values}
 
@@ -101,3 +106,10 @@ module _ (layouts : List Layout) (spot : Spot) (layout : Layout) (has : slice_ge
       found : (len lo : ℕ) → find (λ node. owns_spot layouts node spot) (range_with_len lo len) ≡ find (owns layout.mapping (element_index layout.shape spot.at)) (range_with_len lo len)
       found zero lo = refl
       found (suc len) lo = rw (spot-owned lo, found len (lo + 1)) refl
+
+-- an element that maps inside every line has an owner
+pub elements-owned : (layout : Layout) (rank : ℕ) → IsGrid layout.mapping.grid → IsMapping rank layout.mapping → All (MapsInside layout.mapping) (elements layout.shape) → IsDealt (product layout.mapping.grid) layout
+unfolding owned_by size_of
+elements-owned layout rank grid valid inside at lt =
+    let many = length-elements layout.shape in
+    has_owner layout.mapping rank (map Some (element_index layout.shape at)) grid valid (All-get_or (MapsInside layout.mapping) (elements layout.shape) at [] (omega (arith, many)) inside)

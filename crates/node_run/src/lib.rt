@@ -25,5 +25,5 @@ mod runs;
 pub use joining::{folded_from_unit, values_regrouped};
 pub use letters::{message_read, part_letters, remap_letters};
 pub use parted::{least_of_parts, parts_in_a_row};
-pub use pieces::{owners_by_mapping, pieces_by_elements};
+pub use pieces::{elements_have_owners, owners_by_mapping, pieces_by_elements};
 pub use runs::{nodes_run, nodes_step, openings_run};
