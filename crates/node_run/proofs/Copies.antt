@@ -17,7 +17,7 @@ use Rattle.node_run.proofs.PieceLaws.{read-local}
 use Rattle.node_run.proofs.Plain.{at-start, begins-with}
 use Rattle.node_run.proofs.Reading.{least-owns, size-row}
 use Rattle.node_run.proofs.Reduces.{option-back}
-use Rattle.node_run.proofs.Trees.{goes-on, tree-segment, levels-reach}
+use Rattle.node_run.proofs.TreeSteps.{goes-on, tree-segment, levels-reach}
 
 -- ---- the last position that passes
 

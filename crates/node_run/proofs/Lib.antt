@@ -20,5 +20,6 @@ mod Spots
 mod Stepping
 mod TreeFold
 mod TreeRun
-mod Trees
+mod TreeActs
+mod TreeSteps
 mod Wholes

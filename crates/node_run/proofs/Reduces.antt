@@ -15,7 +15,7 @@ use Rattle.node_run.proofs.Keeping.{keep-first}
 use Rattle.node_run.proofs.PartPhase.{part-segment, part_passed, outcome-or-nothing, outcome-computed, outcome-by, own_outcome, whole_outcome}
 use Rattle.node_run.proofs.Plain.{at-start, begins-with}
 use Rattle.node_run.proofs.Reading.{least-owns}
-use Rattle.node_run.proofs.Trees.{goes-on, tree-segment, verdict-segment, levels-reach}
+use Rattle.node_run.proofs.TreeSteps.{goes-on, tree-segment, verdict-segment, levels-reach}
 
 pub option-back : (x : Option ℤ) → values_option (option_values x) ≡ x
 option-back None = refl

@@ -15,7 +15,7 @@ use Rattle.node_run.proofs.Copies.{fold-copy-passes, last-copy-passes}
 use Rattle.node_run.proofs.Plain.{local-passes, store-passes, make-passes, fetch-passes, par-passes, print-passes}
 use Rattle.node_run.proofs.Reduces.{reduce-passes}
 use Rattle.node_run.proofs.Remaps.{remap-passes}
-use Rattle.node_run.proofs.Trees.{verdict-passes}
+use Rattle.node_run.proofs.TreeSteps.{verdict-passes}
 use Rattle.node_run.proofs.Wholes.{step-whole, same-code}
 
 module _ {C F : Type 0} (faults : FaultValues F) (meaning : C → Instr F) (count : ℕ) (shapes : List Shape) (some : 0 < count) where
