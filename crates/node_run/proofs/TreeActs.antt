@@ -13,14 +13,11 @@ use Rattle.node_run.proofs.TreeSteps.{levels-reach}
 
 first-least : (P : ℕ → Bool) (len lo k : ℕ) → lo ≤ k → k < first P lo len → P k ≡ false
 first-least P zero lo k le lt = absurd (omega arith)
-first-least P (suc len) lo k le lt = by_test (P lo) refl lt
+first-least P (suc len) lo k le lt = by_test (first-least P len (lo + 1) k) (P lo) refl lt
   where
-    by_test : (b : Bool) → P lo ≡ b → k < (if b then lo else first P (lo + 1) len) → P k ≡ false
-    by_test true e lt = absurd (omega arith)
-    by_test false e lt = ⊎_elim
-        (λ (h : lo ≡ k). subst (λ x. P x ≡ false) h e)
-        (λ (ne : lo ≡ k → ⊥). first-least P len (lo + 1) k (omega (arith, ne)) lt)
-        (cases_eq lo k)
+    by_test : (lo + 1 ≤ k → k < first P (lo + 1) len → P k ≡ false) → (b : Bool) → P lo ≡ b → k < (if b then lo else first P (lo + 1) len) → P k ≡ false
+    by_test rest true e lt = absurd (omega arith)
+    by_test rest false e lt = ⊎_elim (λ (h : lo ≡ k). subst (λ x. P x ≡ false) h e) (λ (ne : lo ≡ k → ⊥). rest (omega (arith, ne)) lt) (cases_eq lo k)
 
 pub same-levels : (count : ℕ) → levels count ≡ levels_of count
 same-levels count = levels_is count (levels_of count) (levels-reach count) (λ k lt. ⊎_elim
