@@ -1,5 +1,5 @@
 -- Nodes that agree with a state of the machine with whole arrays, and what code and machine are asked for.
-use Rattle.std.specs.Prelude.{◌≡◌, ℤ, ◌∷◌, ℕ, ◌<◌, ◌≤◌, ◌⊎◌, Bool, true, List, [], map, length, replicate, Result, Ok, Err, Option, Some, None, nat_lt, slice_get, slice_index_or, if◌then◌else◌, suc, zero, ⊤}
+use Rattle.std.specs.Prelude.{◌≡◌, ℤ, ◌*◌, ◌∷◌, ℕ, ◌<◌, ◌≤◌, ◌⊎◌, Bool, true, List, [], map, length, replicate, Result, Ok, Err, Option, Some, None, nat_lt, slice_get, slice_index_or, if◌then◌else◌, suc, zero, ⊤}
 use Rattle.std.specs.List.{range_with_len}
 use Rattle.hpf_base.specs.declared.index.Shape.{Shape}
 use Rattle.node_law.specs.NodeSteps.{Move, after_at, sent}
@@ -8,6 +8,7 @@ use Rattle.nest_order.specs.Storage.{Spot, read}
 use Rattle.machine_steps.specs.Layout.{Layout, sizes, pieces, IsDealt, AreOwned}
 use Rattle.machine_steps.specs.Instr.{Status, Running, Finished, Faulted, Tuples, Fold, Remapping, Rounds, Item, Text, Elements, Instr, Fetch, Par, Reduce, MakeCopy, FoldCopy, LastCopy, Remap, Print}
 use Rattle.machine_steps.specs.Machine.{Machine, Kept, is_before, remapped, instr_at}
+use Rattle.machine_steps.specs.Tree.{levels_of, tree_sends}
 use Rattle.machine_steps.specs.Message.{Part, par_part, reduce_part, gather_part, fetch_part, message, remap_message, has_any}
 use Rattle.machine_steps.specs.Node.{Node, Letter, Ready, FaultValues, join_behind, join_below, at_root, part_sends, remap_sends, node_steps}
 
@@ -174,6 +175,10 @@ round_exchange count m new rounds k = record {
   body = λ p q. map (read m.rows) (remap_message count m.layouts (remapped new m.layouts) p q);
 }
 
+-- rounds of a tree from k on, where `body k p` is what the node p has after k rounds
+abbrev pub tree_exchanges : ℕ → (body : ℕ → ℕ → List ℤ) → (k many : ℕ) → List Exchange
+tree_exchanges count body k many = map (λ j. record { sends = tree_sends (levels_of count) j; body = λ p q. body j p }) (range_with_len k many)
+
 -- the phases from n on carry these exchanges, one after another
 abbrev pub AreCarried : ℕ → ℕ → List (ℕ → PhaseShare Letter) → List Exchange → Type 0
 AreCarried count n [] [] = ⊤
@@ -209,6 +214,11 @@ module _ {C F : Type 0} (faults : FaultValues F) (meaning : C → Instr F) where
     pub shares : ℕ → PhaseShare Letter
     pub one : segment.phases ≡ shares ∷ []
     pub carries : Carries count n own.next_to shares exchange
+
+  -- a segment that carries the rounds of a tree, where `body k p` is what the node p has after k rounds
+  abbrev pub CarryingTree : (count n : ℕ) (m : Machine C F) (own : Own F) (m' : Machine C F) (body : ℕ → ℕ → List ℤ) → Type 0
+  CarryingTree count n m own m' body =
+      (segment : NodesSegment faults meaning count n m own m') × AreCarried count n segment.phases (tree_exchanges count body 0 (2 * levels_of count))
 
 -- ---- the beginning of a run
 

@@ -5,7 +5,8 @@ use Rattle.std.proofs.lemmas.Bool.{lt-ltb, ltb-true, eqb-true, cases_lt, cases_e
 use Rattle.hpf_base.specs.declared.index.Shape.{Shape}
 use Rattle.nest_order.specs.Storage.{Spot, row_of, read}
 use Rattle.nest_order.specs.Nest.{is_set}
-use Rattle.machine_steps.specs.Agrees.{Own, standing, Agree, IsFirst, IsFold, IsWhole, NodesSegment}
+use Rattle.reduction_tree.specs.Tree as acts
+use Rattle.machine_steps.specs.Agrees.{CarryingTree, Own, standing, Agree, IsFirst, IsFold, IsWhole, NodesSegment}
 use Rattle.machine_steps.specs.Instr.{Fold, Instr, Running, FoldCopy, LastCopy}
 use Rattle.machine_steps.specs.Layout.{Layout, sizes, owned_in, owns_spot, least_owner_of, pieces}
 use Rattle.machine_steps.specs.Machine.{Machine, set_slot, slot_of, last_control, lie_alike, last_passing, step_by, instr_at}
@@ -17,7 +18,8 @@ use Rattle.node_run.proofs.PieceLaws.{read-local}
 use Rattle.node_run.proofs.Plain.{at-start, begins-with}
 use Rattle.node_run.proofs.Reading.{least-owns, size-row}
 use Rattle.node_run.proofs.Reduces.{option-back}
-use Rattle.node_run.proofs.TreeSteps.{goes-on, tree-segment, levels-reach}
+use Rattle.node_run.proofs.TreeSteps.{goes-on, tree-segment}
+use Rattle.node_run.proofs.TreeLevels.{levels-reach}
 
 -- ---- the last position that passes
 
@@ -104,7 +106,8 @@ module _ {C F : Type 0} (faults : FaultValues F) (meaning : C → Instr F) (coun
         ∙ regroup f is (λ at. least_owner_of count m.layouts (element copy at)) items count (size copy)
         (λ at lt. (least-owns count m.layouts m.rows whole.shaped whole.owned (element copy at) lt).1)
 
-    pub fold-copy-passes : NodesSegment faults meaning count n m own (step_by (FoldCopy copy f slot) m)
+    pub fold-copy-passes : CarryingTree faults meaning count n m own (step_by (FoldCopy copy f slot) m)
+        (λ k p. option_values (acts.after_rounds (join_options f.join) count own_items k p))
     fold-copy-passes =
         let m' : Machine C F = step_by (FoldCopy copy f slot) m in
         tree-segment faults meaning count n m own running agree.numbers some (join_options f.join) None (join-assoc f is) (none-join f is) (join-none f is)
@@ -212,7 +215,8 @@ module _ {C F : Type 0} (faults : FaultValues F) (meaning : C → Instr F) (coun
     abbrev lies : Bool
     lies = lie_alike alike (slice_get m.layouts copy) (slice_get m.layouts set)
 
-    pub last-copy-passes : NodesSegment faults meaning count n m own (step_by (LastCopy copy set alike slot) m)
+    pub last-copy-passes : CarryingTree faults meaning count n m own (step_by (LastCopy copy set alike slot) m)
+        (λ k p. positioned_values (acts.after_rounds later count (own_last_by lies) k p))
     last-copy-passes =
         let m' : Machine C F = step_by (LastCopy copy set alike slot) m in
         tree-segment faults meaning count n m own running agree.numbers some later None (picked-assoc is_behind behind-order) (none-picked is_behind behind-order)

@@ -19,6 +19,7 @@ mod WholeRuns
 mod Spots
 mod Stepping
 mod TreeFold
+mod TreeLevels
 mod TreeRun
 mod TreeActs
 mod TreeSteps

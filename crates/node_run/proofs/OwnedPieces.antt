@@ -22,18 +22,21 @@ filter-map : {A : Type 0} (P : A → Bool) (h : ℕ → A) (xs : List ℕ) → f
 filter-map P h [] = refl
 filter-map P h (x ∷ xs) = by_test (P (h x)) (filter-map P h xs)
   where
-    by_test : (b : Bool) → filter P (map h xs) ≡ map h (filter (λ k. P (h k)) xs) → (if b then h x ∷ filter P (map h xs) else filter P (map h xs)) ≡ map h (if b then x ∷ filter (λ k. P (h k)) xs else filter (λ k. P (h k)) xs)
+    by_test : (b : Bool) → filter P (map h xs) ≡ map h (filter (λ k. P (h k)) xs)
+        → (if b then h x ∷ filter P (map h xs) else filter P (map h xs)) ≡ map h (if b then x ∷ filter (λ k. P (h k)) xs else filter (λ k. P (h k)) xs)
     by_test true e = ap (λ l. h x ∷ l) e
     by_test false e = e
 
-range-same : {A : Type 0} (P Q : ℕ → Bool) (f g : ℕ → A) (len lo : ℕ) → ((k : ℕ) → lo ≤ k → k < lo + len → (P k ≡ Q k) × (f k ≡ g k)) → map f (filter P (range_with_len lo len)) ≡ map g (filter Q (range_with_len lo len))
+range-same : {A : Type 0} (P Q : ℕ → Bool) (f g : ℕ → A) (len lo : ℕ) → ((k : ℕ) → lo ≤ k → k < lo + len → (P k ≡ Q k) × (f k ≡ g k))
+    → map f (filter P (range_with_len lo len)) ≡ map g (filter Q (range_with_len lo len))
 range-same P Q f g zero lo h = refl
 range-same P Q f g (suc len) lo h =
     let e = h lo (omega arith) (omega arith) in
     by_test (P lo) (Q lo) e.0 e.1 (range-same P Q f g len (lo + 1) (λ k le lt. h k (omega arith) (omega arith)))
   where
     by_test : (b c : Bool) → b ≡ c → f lo ≡ g lo → map f (filter P (range_with_len (lo + 1) len)) ≡ map g (filter Q (range_with_len (lo + 1) len))
-        → map f (if b then lo ∷ filter P (range_with_len (lo + 1) len) else filter P (range_with_len (lo + 1) len)) ≡ map g (if c then lo ∷ filter Q (range_with_len (lo + 1) len) else filter Q (range_with_len (lo + 1) len))
+        → map f (if b then lo ∷ filter P (range_with_len (lo + 1) len) else filter P (range_with_len (lo + 1) len)) ≡ map g
+        (if c then lo ∷ filter Q (range_with_len (lo + 1) len) else filter Q (range_with_len (lo + 1) len))
     by_test true true bc e rest = rw (e, rest) refl
     by_test true false bc e rest = cc
     by_test false true bc e rest = cc
@@ -46,7 +49,8 @@ ranked P (suc len) lo zero y e lt h = let k : y ≡ lo = omega arith in rw (rw k
 ranked P (suc len) lo (suc x) y e lt h = by_test (P lo) (ranked P len (lo + 1) x y (omega arith) (omega arith) h)
   where
     by_test : (b : Bool) → slice_get (filter P (range_with_len (lo + 1) len)) (count_passing P (lo + 1) x) ≡ Some y
-        → slice_get (if b then lo ∷ filter P (range_with_len (lo + 1) len) else filter P (range_with_len (lo + 1) len)) (if b then suc (count_passing P (lo + 1) x) else count_passing P (lo + 1) x) ≡ Some y
+        → slice_get (if b then lo ∷ filter P (range_with_len (lo + 1) len) else filter P (range_with_len (lo + 1) len))
+        (if b then suc (count_passing P (lo + 1) x) else count_passing P (lo + 1) x) ≡ Some y
     by_test true g = g
     by_test false g = g
 
@@ -62,7 +66,8 @@ module _ (layout : Layout) (node : ℕ) where
   pub owned-elements : map (element_index layout.shape) owned_positions ≡ local_elements layout.mapping layout.shape node
   unfolding owned_by size_of
   owned-elements =
-      range-same (λ at. owns layout.mapping (element_index layout.shape at) node) (λ at. owns layout.mapping (place_index at) node) (element_index layout.shape) place_index (product (extents_of layout.shape)) 0
+      range-same (λ at. owns layout.mapping (element_index layout.shape at) node) (λ at. owns layout.mapping (place_index at) node) (element_index layout.shape) place_index
+      (product (extents_of layout.shape)) 0
       (λ k le lt. let e : element_index layout.shape k ≡ place_index k = elements-get layout.shape k [] (omega arith) in (ap (λ index. owns layout.mapping index node) e, e))
       ∙ sym (filter-map (λ index. owns layout.mapping index node) place_index (range_with_len 0 (product (extents_of layout.shape))))
       ∙ ap (filter (λ index. owns layout.mapping index node)) (sym all)
@@ -98,18 +103,22 @@ module _ (layouts : List Layout) (spot : Spot) (layout : Layout) (has : slice_ge
   unfolding owned_by
   spot-owned node = ap (λ (w : ℕ → ℕ → Bool). w node spot.at) (owned-found layouts spot.row layout has)
 
-  pub least-owner : (count : ℕ) → product layout.mapping.grid ≡ count → least_owner_of count layouts spot ≡ unwrap_or (least_owner layout.mapping (element_index layout.shape spot.at)) 0
+  pub least-owner : (count : ℕ) → product layout.mapping.grid ≡ count → least_owner_of count layouts spot ≡ unwrap_or
+      (least_owner layout.mapping (element_index layout.shape spot.at)) 0
   least-owner count e =
       first-found (λ node. owns_spot layouts node spot) count 0
       ∙ rw e (ap (λ o. unwrap_or o 0) (found count 0))
     where
-      found : (len lo : ℕ) → find (λ node. owns_spot layouts node spot) (range_with_len lo len) ≡ find (owns layout.mapping (element_index layout.shape spot.at)) (range_with_len lo len)
+      found : (len lo : ℕ) → find (λ node. owns_spot layouts node spot) (range_with_len lo len) ≡ find (owns layout.mapping (element_index layout.shape spot.at))
+          (range_with_len lo len)
       found zero lo = refl
       found (suc len) lo = rw (spot-owned lo, found len (lo + 1)) refl
 
 -- an element that maps inside every line has an owner
-pub elements-owned : (layout : Layout) (rank : ℕ) → IsGrid layout.mapping.grid → IsMapping rank layout.mapping → All (MapsInside layout.mapping) (elements layout.shape) → IsDealt (product layout.mapping.grid) layout
+pub elements-owned : (layout : Layout) (rank : ℕ) → IsGrid layout.mapping.grid → IsMapping rank layout.mapping → All (MapsInside layout.mapping) (elements layout.shape)
+    → IsDealt (product layout.mapping.grid) layout
 unfolding owned_by size_of
 elements-owned layout rank grid valid inside at lt =
     let many = length-elements layout.shape in
-    has_owner layout.mapping rank (map Some (element_index layout.shape at)) grid valid (All-get_or (MapsInside layout.mapping) (elements layout.shape) at [] (omega (arith, many)) inside)
+    has_owner layout.mapping rank (map Some (element_index layout.shape at)) grid valid
+    (All-get_or (MapsInside layout.mapping) (elements layout.shape) at [] (omega (arith, many)) inside)

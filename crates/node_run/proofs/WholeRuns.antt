@@ -27,11 +27,11 @@ module _ {C F : Type 0} (faults : FaultValues F) (meaning : C → Instr F) (coun
   instr-passes (Fetch element slot) n m own r a w v e = fetch-passes faults meaning count n m own r a shapes w element slot some e
   instr-passes (Store element value) n m own r a w v e = store-passes faults meaning count n m own r a element value e
   instr-passes (Par tuples left) n m own r a w v e = (par-passes faults meaning count n m own r a shapes w tuples left some e).segment
-  instr-passes Verdict n m own r a w v e = verdict-passes faults meaning count n m own r a some e
+  instr-passes Verdict n m own r a w v e = (verdict-passes faults meaning count n m own r a some e).0
   instr-passes (Reduce tuples f slot) n m own r a w v e = reduce-passes faults meaning count n m own r a shapes w some tuples f slot v e
   instr-passes (MakeCopy copy layout start) n m own r a w v e = make-passes faults meaning count n m own r a shapes w copy layout start e
-  instr-passes (FoldCopy copy f slot) n m own r a w v e = fold-copy-passes faults meaning count n m own r a shapes w some copy f slot v e
-  instr-passes (LastCopy copy set alike slot) n m own r a w v e = last-copy-passes faults meaning count n m own r a shapes w some copy set alike slot v e
+  instr-passes (FoldCopy copy f slot) n m own r a w v e = (fold-copy-passes faults meaning count n m own r a shapes w some copy f slot v e).0
+  instr-passes (LastCopy copy set alike slot) n m own r a w v e = (last-copy-passes faults meaning count n m own r a shapes w some copy set alike slot v e).0
   instr-passes (Remap new rounds) n m own r a w v e = remap-passes faults meaning count n m own r a shapes w some new rounds (v.1 m.layouts w.declared w.owned) e
   instr-passes (Print items line) n m own r a w v e = print-passes faults meaning count n m own r a shapes w items line some e
 

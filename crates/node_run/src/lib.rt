@@ -9,7 +9,7 @@
 //!   node receives gives it each value that it needs.
 //! - `parted`: parallel statements one behind the other are the parted order of a nest, and what the machine keeps is its least fault.
 //! - `joining`: what the nodes join of their own values is what is joined of all values in their order.
-//! - `trees`: the rounds of a tree are those of `reduction_tree`.
+//! - `trees`: the rounds of a tree are those of `reduction_tree`, and what the letters of each tree hold.
 //! - `pieces`: who owns what, and what a node's piece is, by the definitions of mapped arrays.
 //!
 //! What holds in between: no law of runs looks into who owns what, so an element may have several owners. The simulation is one lemma an
@@ -29,4 +29,4 @@ pub use letters::{message_read, part_letters, remap_letters};
 pub use parted::{least_of_parts, parts_in_a_row};
 pub use pieces::{elements_have_owners, owners_by_mapping, pieces_by_elements};
 pub use runs::{nodes_run, nodes_step, openings_run};
-pub use trees::trees_by_acts;
+pub use trees::{fold_letters, trees_by_acts, verdict_letters};
