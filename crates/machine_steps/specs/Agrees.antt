@@ -1,15 +1,16 @@
 -- Nodes that agree with a state of the machine with whole arrays, and what code and machine are asked for.
-use Rattle.std.specs.Prelude.{◌≡◌, ℤ, ◌∷◌, ℕ, ◌<◌, ◌≤◌, ◌⊎◌, Bool, true, List, [], map, length, replicate, Option, Some, None, nat_lt, slice_get, slice_index_or, if◌then◌else◌, suc, zero, ⊤}
+use Rattle.std.specs.Prelude.{◌≡◌, ℤ, ◌*◌, ◌∷◌, ℕ, ◌<◌, ◌≤◌, ◌⊎◌, Bool, true, List, [], map, length, replicate, Result, Ok, Err, Option, Some, None, nat_lt, slice_get, slice_index_or, if◌then◌else◌, suc, zero, ⊤}
 use Rattle.std.specs.List.{range_with_len}
 use Rattle.hpf_base.specs.declared.index.Shape.{Shape}
 use Rattle.node_law.specs.NodeSteps.{Move, after_at, sent}
-use Rattle.node_law.specs.Phases.{PhaseShare, LeadsTo, Lockstep, all_moves, number_after}
-use Rattle.nest_order.specs.Storage.{read}
+use Rattle.node_law.specs.Phases.{PhaseShare, next_number, LeadsTo, Lockstep, all_moves, number_after}
+use Rattle.nest_order.specs.Storage.{Spot, read}
 use Rattle.machine_steps.specs.Layout.{Layout, sizes, pieces, IsDealt, AreOwned}
-use Rattle.machine_steps.specs.Instr.{Status, Running, Finished, Faulted, Fold, Remapping, Rounds, Instr, Local, Fetch, Store, Par, Verdict, Reduce, MakeCopy, FoldCopy, LastCopy, Remap, Print}
+use Rattle.machine_steps.specs.Instr.{Status, Running, Finished, Faulted, Tuples, Fold, Remapping, Rounds, Item, Text, Elements, Instr, Fetch, Par, Reduce, MakeCopy, FoldCopy, LastCopy, Remap, Print}
 use Rattle.machine_steps.specs.Machine.{Machine, Kept, is_before, remapped, instr_at}
-use Rattle.machine_steps.specs.Message.{Part, message, remap_message, has_any}
-use Rattle.machine_steps.specs.Node.{Node, Letter, Ready, FaultValues, join_behind, join_below, at_root, part_sends, node_steps}
+use Rattle.machine_steps.specs.Tree.{levels_of, tree_sends}
+use Rattle.machine_steps.specs.Message.{Part, par_part, reduce_part, gather_part, fetch_part, message, remap_message, has_any}
+use Rattle.machine_steps.specs.Node.{Node, Letter, Ready, FaultValues, join_behind, join_below, at_root, part_sends, remap_sends, node_steps}
 
 -- so many nodes, by number
 abbrev pub by_number : {A : Type 0} → ℕ → (ℕ → A) → ℕ → Option A
@@ -80,7 +81,8 @@ pub record IsFold (f : Fold) : Type 0 where
 -- each new mapping is one of a declared array, and gives each of its elements an owner
 abbrev pub AreDealt : ℕ → List Shape → List Remapping → Type 0
 AreDealt count shapes [] = ⊤
-AreDealt count shapes (new ∷ rest) = ((shape : Shape) × (slice_get shapes new.row ≡ Some shape) × IsDealt count (record { shape = shape; mapping = new.mapping })) × AreDealt count shapes rest
+AreDealt count shapes (new ∷ rest) = ((shape : Shape) × (slice_get shapes new.row ≡ Some shape) × IsDealt count (record { shape = shape; mapping = new.mapping }))
+    × AreDealt count shapes rest
 
 -- each pair with a message stands in a round
 abbrev pub AreCovered : ℕ → List Remapping → Rounds → List Layout → Type 0
@@ -95,7 +97,8 @@ IsValidInstr count shapes (Reduce tuples f slot) = IsFold f
 IsValidInstr count shapes (MakeCopy copy layout start) = (length shapes ≤ copy) × ((slots : List ℤ) → IsDealt count (layout slots))
 IsValidInstr count shapes (FoldCopy copy f slot) = IsFold f
 IsValidInstr count shapes (LastCopy copy set alike slot) = (one other : Layout) → alike one other ≡ true → one ≡ other
-IsValidInstr count shapes (Remap new rounds) = AreDealt count shapes new × ((layouts : List Layout) → AreDeclared shapes layouts → AreOwned count layouts → AreCovered count new rounds layouts)
+IsValidInstr count shapes (Remap new rounds) = AreDealt count shapes new × ((layouts : List Layout) → AreDeclared shapes layouts → AreOwned count layouts
+    → AreCovered count new rounds layouts)
 IsValidInstr count shapes i = ⊤
 
 abbrev pub IsValidCode : {C F : Type 0} → (C → Instr F) → ℕ → List Shape → List C → Type 0
@@ -133,7 +136,8 @@ module _ {C F : Type 0} (faults : FaultValues F) (meaning : C → Instr F) where
     pub lockstep : Lockstep (node_steps faults meaning) (by_number count (standing count m n own))
     pub number : ℕ
     pub new : Own F
-    pub ends : (p : ℕ) → after_at (node_steps faults meaning) (by_number count (standing count m n own) p) (all_moves lockstep.phases lockstep.last p) ≡ by_number count (standing count m' number new) p
+    pub ends : (p : ℕ) → after_at (node_steps faults meaning) (by_number count (standing count m n own) p) (all_moves lockstep.phases lockstep.last p) ≡ by_number count
+        (standing count m' number new) p
     pub agree : Agree count m' new
 
 -- the machine's run is over
@@ -149,11 +153,12 @@ pub record Exchange : Type 0 where
   pub sends : ℕ → ℕ → Bool
   pub body : ℕ → ℕ → List ℤ
 
--- in the phase n each pair has the letter that the exchange says, and no other
-abbrev pub Carries : {F : Type 0} → ℕ → ℕ → Own F → (ℕ → PhaseShare Letter) → Exchange → Type 0
-Carries count n own shares exchange =
+-- in the phase n each pair has the letter that the exchange says, with the number of the pair's next letter, and no other
+abbrev pub Carries : ℕ → ℕ → (next_to : ℕ → List ℕ) → (ℕ → PhaseShare Letter) → Exchange → Type 0
+Carries count n next_to shares exchange =
     (p q : ℕ) → p < count → q < count
-    → sent q (shares p).front ≡ (if exchange.sends p q then record { run = 1; phase = n; from = p; to = q; number = slice_index_or (own.next_to p) q 0; body = exchange.body p q } ∷ [] else [])
+    → sent q (shares p).front ≡ (if exchange.sends p q then record { run = 1; phase = n; from = p; to = q; number = slice_index_or (next_to p) q 0; body = exchange.body p q } ∷
+    [] else [])
 
 -- the message phase of a part, by the whole arrays: the elements that q needs, that q doesn't own and whose least owner is p, in order
 abbrev pub part_exchange : {C F : Type 0} → ℕ → Machine C F → Part → Exchange
@@ -161,6 +166,59 @@ part_exchange count m part = record {
   sends = part_sends count m.layouts part;
   body = λ p q. map (read m.rows) (message count m.layouts part p q);
 }
+
+-- a round of a redistribution: where the pair stands in it, the elements that q owns after and not before and whose least owner
+-- before is p, in order
+abbrev pub round_exchange : {C F : Type 0} → ℕ → Machine C F → List Remapping → Rounds → ℕ → Exchange
+round_exchange count m new rounds k = record {
+  sends = remap_sends count new rounds m.layouts k;
+  body = λ p q. map (read m.rows) (remap_message count m.layouts (remapped new m.layouts) p q);
+}
+
+-- rounds of a tree from k on, where `body k p` is what the node p has after k rounds
+abbrev pub tree_exchanges : ℕ → (body : ℕ → ℕ → List ℤ) → (k many : ℕ) → List Exchange
+tree_exchanges count body k many = map (λ j. record { sends = tree_sends (levels_of count) j; body = λ p q. body j p }) (range_with_len k many)
+
+-- the phases from n on carry these exchanges, one after another
+abbrev pub AreCarried : ℕ → ℕ → List (ℕ → PhaseShare Letter) → List Exchange → Type 0
+AreCarried count n [] [] = ⊤
+AreCarried count n [] (exchange ∷ exchanges) = ⊥
+AreCarried count n (shares ∷ phases) [] = ⊥
+AreCarried count n (shares ∷ phases) (exchange ∷ exchanges) = ((next_to : ℕ → List ℕ) × Carries count n next_to shares exchange) × AreCarried count (next_number n) phases exchanges
+
+-- the part that a step of an instruction is for, where it has a message phase
+abbrev pub fetched_part : {F : Type 0} → Result Spot F → Option Part
+fetched_part (Ok spot) = Some (fetch_part spot)
+fetched_part (Err fault) = None
+
+abbrev pub item_part : Option Item → List ℤ → Option Part
+item_part None slots = None
+item_part (Some (Text bytes)) slots = None
+item_part (Some (Elements tuples element bytes)) slots = Some (gather_part tuples element slots)
+
+abbrev pub reduced_part : {F : Type 0} → ℕ → List Layout → ℕ → Tuples F → List ℤ → Option Part
+reduced_part count layouts zero tuples slots = Some (reduce_part count layouts tuples slots)
+reduced_part count layouts (suc k) tuples slots = None
+
+abbrev pub part_of : {C F : Type 0} → ℕ → Machine C F → Instr F → Option Part
+part_of count m (Fetch element slot) = fetched_part (element m.control.slots)
+part_of count m (Par tuples left) = Some (par_part m.layouts tuples left m.control.slots)
+part_of count m (Reduce tuples f slot) = reduced_part count m.layouts m.substep tuples m.control.slots
+part_of count m (Print items line) = item_part (slice_get items m.substep) m.control.slots
+part_of count m i = None
+
+module _ {C F : Type 0} (faults : FaultValues F) (meaning : C → Instr F) where
+  -- a segment with one phase, that carries the exchange
+  pub record CarryingSegment (count n : ℕ) (m : Machine C F) (own : Own F) (m' : Machine C F) (exchange : Exchange) : Type 0 where
+    pub segment : NodesSegment faults meaning count n m own m'
+    pub shares : ℕ → PhaseShare Letter
+    pub one : segment.phases ≡ shares ∷ []
+    pub carries : Carries count n own.next_to shares exchange
+
+  -- a segment that carries the rounds of a tree, where `body k p` is what the node p has after k rounds
+  abbrev pub CarryingTree : (count n : ℕ) (m : Machine C F) (own : Own F) (m' : Machine C F) (body : ℕ → ℕ → List ℤ) → Type 0
+  CarryingTree count n m own m' body =
+      (segment : NodesSegment faults meaning count n m own m') × AreCarried count n segment.phases (tree_exchanges count body 0 (2 * levels_of count))
 
 -- ---- the beginning of a run
 
@@ -178,5 +236,6 @@ module _ {C F : Type 0} (faults : FaultValues F) (meaning : C → Instr F) where
     pub lockstep : Lockstep (node_steps faults meaning) (slice_get (openings count m))
     pub number : ℕ
     pub new : Own F
-    pub ends : (p : ℕ) → after_at (node_steps faults meaning) (slice_get (openings count m) p) (all_moves lockstep.phases lockstep.last p) ≡ by_number count (standing count m' number new) p
+    pub ends : (p : ℕ) → after_at (node_steps faults meaning) (slice_get (openings count m) p) (all_moves lockstep.phases lockstep.last p) ≡ by_number count
+        (standing count m' number new) p
     pub agree : Agree faults meaning count m' new

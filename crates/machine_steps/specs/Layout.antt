@@ -16,12 +16,12 @@ unfoldable pub size_of : Layout → ℕ
 size_of layout = product (extents_of layout.shape)
 
 -- the subscripts of the element at a position, from 0, in array element order (Fortran 95, 6.2.2.2)
-abbrev pub index_at : Shape → ℕ → List ℤ
-index_at shape at = slice_index_or (elements shape) at []
+abbrev pub element_index : Shape → ℕ → List ℤ
+element_index shape at = slice_index_or (elements shape) at []
 
 -- whether a node owns a position. No law on runs looks in here: they hold whoever owns what, and where an element has several owners
 unfoldable pub owned_by : Layout → ℕ → ℕ → Bool
-owned_by layout node at = owns layout.mapping (index_at layout.shape at) node
+owned_by layout node at = owns layout.mapping (element_index layout.shape at) node
 
 -- where a row has no layout, every node owns every position
 abbrev pub by_all : ℕ → ℕ → Bool

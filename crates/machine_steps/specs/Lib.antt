@@ -4,4 +4,5 @@ pub mod Layout
 pub mod Machine
 pub mod Message
 pub mod Node
+pub mod Parted
 pub mod Tree

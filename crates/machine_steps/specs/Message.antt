@@ -1,5 +1,5 @@
 -- Who sends which elements to whom.
-use Rattle.std.specs.Prelude.{ℕ, zero, suc, ◌+◌, ◌==◌, Bool, true, false, ◌&&◌, ◌||◌, not, List, [], ◌∷◌, ◌++◌, map, filter, Option, Some, None, ℤ, pos, Result, Ok, Err, if◌then◌else◌}
+use Rattle.std.specs.Prelude.{ℕ, zero, suc, ◌+◌, ◌==◌, Bool, true, false, ◌&&◌, ◌||◌, not, List, [], ◌∷◌, ◌++◌, map, filter, Option, Some, None, ℤ, pos, if◌then◌else◌}
 use Rattle.std.specs.List.{range_with_len}
 use Rattle.nest_order.specs.Storage.{Spot}
 use Rattle.nest_order.specs.LastValue.{is_same_spot}

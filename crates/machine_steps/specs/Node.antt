@@ -1,5 +1,5 @@
 -- A node of a distributed run as plain data, and its steps.
-use Rattle.std.specs.Prelude.{ℕ, zero, suc, ◌+◌, ◌-◌, ◌*◌, ◌%◌, ◌^◌, ◌==◌, ◌&&◌, ◌≡◌, Bool, true, false, ℤ, pos, List, [], ◌∷◌, ◌++◌, map, filter, replicate, Option, Some, None, Result, Ok, Err, slice_index_or, slice_set, nat_lt, unsigned_abs, if◌then◌else◌}
+use Rattle.std.specs.Prelude.{ℕ, zero, suc, ◌+◌, ◌-◌, ◌*◌, ◌%◌, ◌^◌, ◌==◌, ◌&&◌, ◌≡◌, Bool, false, ℤ, pos, List, [], ◌∷◌, ◌++◌, map, filter, replicate, Option, Some, None, Result, Ok, Err, slice_index_or, slice_set, nat_lt, unsigned_abs, if◌then◌else◌}
 use Rattle.std.specs.List.{range_with_len, slice_get}
 use Rattle.node_law.specs.declared.act.Act.{Act}
 use Rattle.node_law.specs.declared.act.Act.TheVariants as act
@@ -10,7 +10,7 @@ use Rattle.nest_order.specs.Effect.{Effect, Skip, Put, Fail}
 use Rattle.nest_order.specs.Nest.{is_set}
 use Rattle.machine_steps.specs.Layout.{Layout, size_of, sizes, owned_by, owned_in, owns_spot, least_owner_of, piece, address}
 use Rattle.machine_steps.specs.Instr.{Status, Running, Finished, Faulted, Control, Outcome, Nothing, Value, Breaks, Tuples, Fold, Rounds, Remapping, Item, Text, Elements, Instr, Local, Fetch, Store, Par, Verdict, Reduce, MakeCopy, FoldCopy, LastCopy, Remap, Print}
-use Rattle.machine_steps.specs.Machine.{Kept, on, stay, faulted, slot_of, set_slot, fetch_control, store_control, verdict_control, last_control, picked, store_in, outcome_of, effect_by, earlier, keep, lie_alike, last_passing, remapped, item_bytes, instr_at}
+use Rattle.machine_steps.specs.Machine.{Kept, on, stay, faulted, slot_of, set_slot, store_control, verdict_control, last_control, picked, store_in, outcome_of, effect_by, earlier, keep, lie_alike, last_passing, remapped, item_bytes, instr_at}
 use Rattle.machine_steps.specs.Message.{Part, par_part, reduce_part, gather_part, fetch_part, message, remap_message, has_any, lookup}
 use Rattle.machine_steps.specs.Tree.{levels_of, tree_sends}
 
@@ -170,7 +170,11 @@ module _ {C F : Type 0} where
   after_send_by Passed a = a
 
   abbrev pub after_take_by : Stage → Letter → Node C F → Node C F
-  after_take_by (Passing [] (p ∷ inbox)) l a = settled (record a { next_from = slice_set a.next_from p (next_number (slice_index_or a.next_from p 0)); received = slice_set a.received p l.body }) [] inbox
+  after_take_by (Passing [] (p ∷ inbox)) l a = settled (record a {
+    next_from = slice_set a.next_from p
+        (next_number (slice_index_or a.next_from p 0));
+    received = slice_set a.received p l.body;
+  }) [] inbox
   after_take_by (Passing [] []) l a = a
   after_take_by (Passing (m ∷ outbox) inbox) l a = a
   after_take_by Ready l a = a
@@ -225,7 +229,8 @@ local_scatter layouts node effect (suc t) pieces = local_apply layouts node (eff
 -- a node's pieces of all rows, by the values of the elements
 abbrev pub pieces_by : (layouts : List Layout) → ℕ → (Spot → ℤ) → ℕ → (sizes : List ℕ) → Storage
 pieces_by layouts node value row [] = []
-pieces_by layouts node value row (size ∷ sizes) = map (λ at. value (record { row = row; at = at })) (filter (owned_in layouts row node) (range_with_len 0 size)) ∷ pieces_by layouts node value (row + 1) sizes
+pieces_by layouts node value row (size ∷ sizes) = map (λ at. value (record { row = row; at = at }))
+    (filter (owned_in layouts row node) (range_with_len 0 size)) ∷ pieces_by layouts node value (row + 1) sizes
 
 -- node 0 prints
 abbrev pub at_root : ℕ → List ℕ → List ℕ
@@ -295,7 +300,8 @@ module _ {C F : Type 0} (count : ℕ) where
     round = suc a.round;
     folded =
         if nat_lt a.round (levels_of count) then values (join (of a.folded) (of (slice_index_or a.received (a.id + 2 ^ a.round) [])))
-        else if a.id % (2 ^ (2 * levels_of count - 1 - a.round) * 2) == 2 ^ (2 * levels_of count - 1 - a.round) then slice_index_or a.received (a.id - 2 ^ (2 * levels_of count - 1 - a.round)) []
+        else if a.id % (2 ^ (2 * levels_of count - 1 - a.round) * 2) == 2 ^ (2 * levels_of count - 1 - a.round) then slice_index_or a.received
+        (a.id - 2 ^ (2 * levels_of count - 1 - a.round)) []
         else a.folded;
   }
 
@@ -321,15 +327,19 @@ module _ {C F : Type 0} (count : ℕ) where
       (slice_index_or (sizes a.layouts) copy 0)
 
   abbrev pub fold_ended : Fold → ℕ → Node C F → Node C F
-  fold_ended f slot a = ready count (record a { control = set_slot a.control slot (f.join (slot_of a.control slot) (join_behind f.join f.unit (values_option a.folded))); substep = 0 })
+  fold_ended f slot a = ready count (record a {
+    control = set_slot a.control slot
+        (f.join (slot_of a.control slot) (join_behind f.join f.unit (values_option a.folded)));
+    substep = 0;
+  })
 
   abbrev pub own_last : (copy set : ℕ) → (Layout → Layout → Bool) → Node C F → Option Positioned
   own_last copy set alike a =
       if lie_alike alike (slice_get a.layouts copy) (slice_get a.layouts set)
       then last_passing
-          (λ at. owns_spot a.layouts a.id (record { row = copy; at = at }) && is_set (local_read a.layouts a.id a.pieces (record { row = set; at = at })))
-          (λ at. record { at = at; value = local_read a.layouts a.id a.pieces (record { row = copy; at = at }) })
-          (slice_index_or (sizes a.layouts) copy 0)
+      (λ at. owns_spot a.layouts a.id (record { row = copy; at = at }) && is_set (local_read a.layouts a.id a.pieces (record { row = set; at = at })))
+      (λ at. record { at = at; value = local_read a.layouts a.id a.pieces (record { row = copy; at = at }) })
+      (slice_index_or (sizes a.layouts) copy 0)
       else None
 
   abbrev pub last_ended : ℕ → Node C F → Node C F
@@ -340,12 +350,14 @@ module _ {C F : Type 0} (count : ℕ) where
   abbrev pub remap_next : List Remapping → Rounds → Node C F → Node C F
   remap_next new rounds a =
       if nat_lt a.round (rounds.many a.layouts)
-      then opened_on count (remap_sends count new rounds a.layouts a.round) (λ q. map (local_read a.layouts a.id a.pieces) (remap_message count a.layouts (remapped new a.layouts) a.id q)) a
+      then opened_on count (remap_sends count new rounds a.layouts a.round) (λ q. map (local_read a.layouts a.id a.pieces)
+      (remap_message count a.layouts (remapped new a.layouts) a.id q)) a
       else ready count (record a {
         control = on a.control;
         substep = 0;
         layouts = remapped new a.layouts;
-        pieces = pieces_by (remapped new a.layouts) a.id (held_or_received count a.layouts (λ p. remap_message count a.layouts (remapped new a.layouts) p a.id) a.id a.pieces a.received) 0 (sizes a.layouts);
+        pieces = pieces_by (remapped new a.layouts) a.id (held_or_received count a.layouts
+            (λ p. remap_message count a.layouts (remapped new a.layouts) p a.id) a.id a.pieces a.received) 0 (sizes a.layouts);
       })
 
   -- ---- PRINT
@@ -362,7 +374,6 @@ module _ {C F : Type 0} (count : ℕ) where
     line = at_root a.id (a.line ++ item_bytes (Elements tuples element bytes) a.control.slots (gathered (gather_part tuples element a.control.slots) a));
   })
   print_done None a = a
-
   -- ---- local steps
 
 module _ {C F : Type 0} (faults : FaultValues F) (count : ℕ) where
