@@ -32,7 +32,12 @@ with_loops n ls = record n {
 }
 
 abbrev pub with_mark : NestNames → Name → Independent → NestNames
-with_mark n x m = record n { loops = n.loops ++ x ∷ []; indices = added n.indices x; new_names = all_added n.new_names m.new; reduction_names = all_added n.reduction_names m.reduction }
+with_mark n x m = record n {
+  loops = n.loops ++ x ∷ [];
+  indices = added n.indices x;
+  new_names = all_added n.new_names m.new;
+  reduction_names = all_added n.reduction_names m.reduction;
+}
 
 abbrev pub with_heads : NestNames → List Head → NestNames
 with_heads n hs = record n {

@@ -95,7 +95,8 @@ fn indices_of(alloc: Global, axes: &[Header]) -> Result<Vec<Name>, AllocError>
 
 /// The bounds, the steps and the mask of a header may stand there.
 fn is_header_allowed(names: &BodyNames<'_>, axes: &[Header], mask: &Option<Expr>) -> bool
-    ensures { result ≡ (list_all (is_allowed_in_header names.now) (flat_map axis_expressions (map axis axes.now)) && list_all (is_allowed names.now) (present (option_map expression mask.now))) }
+    ensures { result ≡ (list_all (is_allowed_in_header names.now) (flat_map axis_expressions (map axis axes.now))
+        && list_all (is_allowed names.now) (present (option_map expression mask.now))) }
 {
     headers_pass(&StandingInHeader { names }, axes) && option_passes(&Standing { names }, mask)
 }

@@ -45,7 +45,16 @@ impl<'a> Model for NestNames<'a> {
 
     ghost Value = { NamesOfNest };
 
-    ghost view = { λ n. record { declared = n.declared.now; constants = n.constants.now; loops = n.loops.items; indices = n.indices.items; assigned = n.assigned.items; new_names = n.new_names.items; reduction_names = n.reduction_names.items; operators = n.operators.items } };
+    ghost view = { λ n. record {
+      declared = n.declared.now;
+      constants = n.constants.now;
+      loops = n.loops.items;
+      indices = n.indices.items;
+      assigned = n.assigned.items;
+      new_names = n.new_names.items;
+      reduction_names = n.reduction_names.items;
+      operators = n.operators.items;
+    } };
 }
 
 impl<'a> NestNames<'a> {

@@ -64,7 +64,8 @@ fn walk_statement(
     stmt: &Stmt,
 ) -> Result<Option<Refusal>, AllocError>
     ensures after { OnOk result (assigned.new.items ≡ assigned_behind assigned.old.items (statement stmt.now.line stmt.now.what)) }
-    ensures first { IfOk result (λ r. r ≡ least (flat_map (path_breaches_at names.now) (reached_in conditional assigned.old.items stmt.now.line (statement stmt.now.line stmt.now.what)))) }
+    ensures first { IfOk result (λ r. r ≡ least (flat_map (path_breaches_at names.now) (reached_in conditional assigned.old.items stmt.now.line
+        (statement stmt.now.line stmt.now.what)))) }
 {
     match &stmt.what {
         Kind::Assign { left, right } => {
