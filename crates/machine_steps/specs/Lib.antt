@@ -1,0 +1,7 @@
+pub mod Agrees
+pub mod Instr
+pub mod Layout
+pub mod Machine
+pub mod Message
+pub mod Node
+pub mod Tree

@@ -1,0 +1,2 @@
+//! Nodes do what the machine with whole arrays does.
+#![tactic(auto)]
