@@ -1,5 +1,5 @@
 -- What is marked after some reads.
-use Rattle.std.proofs.Common.{◌≡◌, ℕ, zero, suc, ◌+◌, ◌<◌, ◌≤◌, ◌==◌, ◌&&◌, ◌||◌, not, ◌⊎◌, inl, inr, Bool, true, false, if◌then◌else◌, List, [], ◌∷◌, ◌++◌, length, get_or, set, map, replicate, filter, Option, Some, None, refl, sym, ◌∙◌, ap, subst, arith, eq-eqb}
+use Rattle.std.proofs.Common.{◌≡◌, ℕ, zero, suc, ◌+◌, ◌<◌, ◌==◌, ◌&&◌, ◌||◌, not, ◌⊎◌, inl, inr, Bool, true, false, if◌then◌else◌, List, [], ◌∷◌, length, get_or, set, map, replicate, filter, Option, Some, None, refl, sym, ◌∙◌, ap, subst, arith, eq-eqb}
 use Rattle.std.proofs.lemmas.Bool.{cases_eq, ne_eqb}
 use Rattle.std.proofs.lemmas.List.{get_or-set_same, get_or-set_other, length-set, length-map, length-replicate, get_or-map, get_or-replicate}
 use Rattle.std.proofs.lemmas.List.Sums.{fold-append}
@@ -21,7 +21,8 @@ at_row : (rows : List (List Bool)) (x s : Spot) → IsThere rows s
     → get_or (marked rows x) s.row [] ≡ (if x.row == s.row then set (get_or rows s.row []) x.at true else get_or rows s.row [])
 at_row rows x s there = by_case (cases_eq x.row s.row)
   where
-    by_case : (x.row ≡ s.row) ⊎ (x.row ≡ s.row → ⊥) → get_or (set rows x.row (set (get_or rows x.row []) x.at true)) s.row [] ≡ (if x.row == s.row then set (get_or rows s.row []) x.at true else get_or rows s.row [])
+    by_case : (x.row ≡ s.row) ⊎ (x.row ≡ s.row → ⊥) → get_or (set rows x.row (set (get_or rows x.row []) x.at true)) s.row []
+        ≡ (if x.row == s.row then set (get_or rows s.row []) x.at true else get_or rows s.row [])
     by_case (inl e) =
         ap (λ r. get_or (set rows r (set (get_or rows r []) x.at true)) s.row []) e
         ∙ get_or-set_same rows s.row (set (get_or rows s.row []) x.at true) [] there.row
@@ -42,7 +43,8 @@ mark-one rows x s there = ap (λ row. get_or row s.at false) (at_row rows x s th
         get_or-set_other (get_or rows s.row []) x.at s.at true false (λ e. ne (sym e))
         ∙ ap (λ b. b || get_or (get_or rows s.row []) s.at false) (sym (ne_eqb x.at s.at ne))
 
-    by_row : (b : Bool) → get_or (if b then set (get_or rows s.row []) x.at true else get_or rows s.row []) s.at false ≡ ((b && (x.at == s.at)) || get_or (get_or rows s.row []) s.at false)
+    by_row : (b : Bool) → get_or (if b then set (get_or rows s.row []) x.at true else get_or rows s.row []) s.at false
+        ≡ ((b && (x.at == s.at)) || get_or (get_or rows s.row []) s.at false)
     by_row true = by_at (cases_eq x.at s.at)
     by_row false = refl
 
@@ -104,15 +106,16 @@ after-tuples part node rows s there (suc n) =
     let count : n + 1 ≡ suc n = omega arith in
     let split : fold (marked_tuple part node) rows (range_with_len 0 (suc n)) ≡ marked_tuple part node (fold (marked_tuple part node) rows (range_with_len 0 n)) n =
     ap (λ m. fold (marked_tuple part node) rows (range_with_len 0 m)) (sym count) ∙ fold-range_more (marked_tuple part node) rows n in
-    subst (λ after. Marked rows after s ((part.computes node n && names_spot (part.reads n) s) || any_below (λ t. part.computes node t && names_spot (part.reads t) s) n)) (sym split)
-    (record { is = one.is ∙ ap (λ b. (part.computes node n && names_spot (part.reads n) s) || b) before.is ∙ or_assoc (part.computes node n && names_spot (part.reads n) s) (any_below (λ t. part.computes node t && names_spot (part.reads t) s) n) (mark_at rows s); there = one.there })
+    let here = part.computes node n && names_spot (part.reads n) s in
+    let earlier = any_below (λ t. part.computes node t && names_spot (part.reads t) s) n in
+    subst (λ after. Marked rows after s (here || earlier)) (sym split)
+    (record { is = one.is ∙ ap (λ b. here || b) before.is ∙ or_assoc here earlier (mark_at rows s); there = one.there })
 
 -- nothing is marked at first
 none-marked : (xs : List ℕ) (r at : ℕ) → r < length xs → at < get_or xs r 0
     → (IsThere (map (λ size. replicate size false) xs) (record { row = r; at = at })) × (mark_at (map (λ size. replicate size false) xs) (record { row = r; at = at }) ≡ false)
 none-marked xs r at lt in' =
-    let row : get_or (map (λ size. replicate size false) xs) r [] ≡ replicate (get_or xs r 0) false = get_or-map (λ size. replicate size false) xs r 0 [] lt in
-    (
+    let row : get_or (map (λ size. replicate size false) xs) r [] ≡ replicate (get_or xs r 0) false = get_or-map (λ size. replicate size false) xs r 0 [] lt in (
       record {
         row = omega (arith, length-map xs (λ size. replicate size false));
         at = subst (λ bs. at < length bs) (sym row) (omega (arith, length-replicate (get_or xs r 0) false));
@@ -131,10 +134,12 @@ pub message-marked : (nodes : ℕ) (layouts : List Layout) (part : Part) (from t
 message-marked nodes layouts part from to =
     let none = map (λ size. replicate size false) (sizes layouts) in
     let marks = fold (marked_tuple part to) none (range_with_len 0 part.tuples) in
-    same-spots (is_sent nodes layouts marks from to) (λ spot. needs part to spot && (not (owns_spot layouts to spot) && (least_owner_of nodes layouts spot == from))) 0 (sizes layouts)
+    same-spots (is_sent nodes layouts marks from to)
+    (λ spot. needs part to spot && (not (owns_spot layouts to spot) && (least_owner_of nodes layouts spot == from))) 0 (sizes layouts)
     (λ r at lt in'.
     let zero-more : 0 + r ≡ r = omega arith in
     let spot : Spot = record { row = 0 + r; at = at } in
     let first = none-marked (sizes layouts) (0 + r) at (omega arith) (subst (λ k. at < get_or (sizes layouts) k 0) (sym zero-more) in') in
     let all = after-tuples part to none spot first.0 part.tuples in
-    ap (λ b. b && (not (owns_spot layouts to spot) && (least_owner_of nodes layouts spot == from))) (all.is ∙ ap (λ b. needs part to spot || b) first.1 ∙ or_none (needs part to spot)))
+    ap (λ b. b && (not (owns_spot layouts to spot) && (least_owner_of nodes layouts spot == from)))
+    (all.is ∙ ap (λ b. needs part to spot || b) first.1 ∙ or_none (needs part to spot)))

@@ -1,5 +1,5 @@
 -- The elements that are sent, row by row.
-use Rattle.std.proofs.Common.{◌≡◌, ℕ, zero, suc, ◌+◌, ◌<◌, ◌≤◌, ◌==◌, ◌&&◌, not, Bool, true, false, if◌then◌else◌, List, [], ◌∷◌, ◌++◌, length, get_or, map, take, filter, Some, slice_get, refl, sym, ◌∙◌, ap, subst, arith, append_assoc}
+use Rattle.std.proofs.Common.{◌≡◌, ℕ, zero, suc, ◌+◌, ◌<◌, ◌==◌, ◌&&◌, not, Bool, false, if◌then◌else◌, List, [], ◌∷◌, ◌++◌, length, get_or, map, take, filter, refl, sym, ◌∙◌, ap, subst, arith, append_assoc}
 use Rattle.std.proofs.lemmas.List.{length-map, length-take, take_more, get_or-map, append-nil}
 use Rattle.std.proofs.lemmas.List.Elements.{filter-append}
 use Rattle.std.proofs.lemmas.List.FromFn.{get_or-map-range_with_len}
@@ -27,7 +27,8 @@ same-in_row P Q row lo (suc len) same =
     λ i. if same lo (omega arith) i then record { row = row; at = lo } ∷ rest i else rest i
 
 pub sent-in_row : (nodes : ℕ) (layouts : List Layout) (marks : List (List Bool)) (from to row : ℕ) (d : Layout) → row < length layouts
-    → filter (is_sent nodes layouts marks from to) (row_spots row (size_of (get_or layouts row d))) ≡ filter (is_sent_in nodes (get_or layouts row d) marks from to) (row_spots row (size_of (get_or layouts row d)))
+    → filter (is_sent nodes layouts marks from to) (row_spots row (size_of (get_or layouts row d)))
+    ≡ filter (is_sent_in nodes (get_or layouts row d) marks from to) (row_spots row (size_of (get_or layouts row d)))
 sent-in_row nodes layouts marks from to row d lt =
     let own = owned_in-at layouts row d lt in
     same-in_row (is_sent nodes layouts marks from to) (is_sent_in nodes (get_or layouts row d) marks from to) row 0 (size_of (get_or layouts row d))
@@ -49,14 +50,16 @@ one-row P layouts row d lt =
     ap (λ xs. filter P (spots_from 0 xs)) (take_more (sizes layouts) row 0 inside)
     ∙ ap (filter P) (spots_from-append 0 (take row (sizes layouts)) (get_or (sizes layouts) row 0 ∷ []))
     ∙ filter-append P (spots_from 0 (take row (sizes layouts))) (spots_from (0 + length (take row (sizes layouts))) (get_or (sizes layouts) row 0 ∷ []))
-    ∙ ap (λ spots. filter P (spots_from 0 (take row (sizes layouts))) ++ filter P spots) (append-nil (row_spots (0 + length (take row (sizes layouts))) (get_or (sizes layouts) row 0)) ∙ (λ i. row_spots (at i) (one i)))
+    ∙ ap (λ spots. filter P (spots_from 0 (take row (sizes layouts))) ++ filter P spots)
+    (append-nil (row_spots (0 + length (take row (sizes layouts))) (get_or (sizes layouts) row 0)) ∙ (λ i. row_spots (at i) (one i)))
 
 pub sent-row : (nodes : ℕ) (layouts : List Layout) (marks : List (List Bool)) (from to row : ℕ) (l : Layout) → row < length layouts → get_or layouts row l ≡ l
     → filter (is_sent nodes layouts marks from to) (spots_from 0 (take (row + 1) (sizes layouts)))
     ≡ filter (is_sent nodes layouts marks from to) (spots_from 0 (take row (sizes layouts))) ++ filter (is_sent_in nodes l marks from to) (row_spots row (size_of l))
 sent-row nodes layouts marks from to row l lt is =
     let before = filter (is_sent nodes layouts marks from to) (spots_from 0 (take row (sizes layouts))) in
-    subst (λ (x : Layout). filter (is_sent nodes layouts marks from to) (spots_from 0 (take (row + 1) (sizes layouts))) ≡ before ++ filter (is_sent_in nodes x marks from to) (row_spots row (size_of x)))
+    subst (λ (x : Layout). filter (is_sent nodes layouts marks from to) (spots_from 0 (take (row + 1) (sizes layouts)))
+    ≡ before ++ filter (is_sent_in nodes x marks from to) (row_spots row (size_of x)))
     is (one-row (is_sent nodes layouts marks from to) layouts row l lt ∙ ap (λ ys. before ++ ys) (sent-in_row nodes layouts marks from to row l lt))
 
 -- two tests that agree on all elements keep the same
@@ -66,10 +69,11 @@ pub same-spots : (P Q : Spot → Bool) (row : ℕ) (xs : List ℕ)
 same-spots P Q row [] same = refl
 same-spots P Q row (x ∷ xs) same =
     let here : row + 0 ≡ row = omega arith in
-    let first-row = same-in_row P Q row 0 x (λ at lt. subst (λ r. P (record { row = r; at = at }) ≡ Q (record { row = r; at = at })) here (same 0 at (omega arith) (omega arith))) in
+    let first-row = same-in_row P Q row 0 x (λ at lt.
+    subst (λ r. P (record { row = r; at = at }) ≡ Q (record { row = r; at = at })) here (same 0 at (omega arith) (omega arith))) in
     let rest = same-spots P Q (row + 1) xs (λ r at lt in'.
-        let next : row + suc r ≡ row + 1 + r = omega arith in
-        subst (λ s. P (record { row = s; at = at }) ≡ Q (record { row = s; at = at })) next (same (suc r) at (omega arith) in')) in
+    let next : row + suc r ≡ row + 1 + r = omega arith in
+    subst (λ s. P (record { row = s; at = at }) ≡ Q (record { row = s; at = at })) next (same (suc r) at (omega arith) in')) in
     filter-append P (row_spots row x) (spots_from (row + 1) xs) ∙ (λ i. first-row i ++ rest i) ∙ sym (filter-append Q (row_spots row x) (spots_from (row + 1) xs))
 
 -- a marked element is one that the node owns
@@ -81,22 +85,28 @@ mark-owned layouts node row at d lt in' =
     ∙ get_or-map-range_with_len (owned_by (get_or layouts row d) node) 0 (size_of (get_or layouts row d)) at at false in' (omega arith)
     ∙ (λ i. sym (owned_in-at layouts row d lt) i node at)
 
+-- the target doesn't own the element, and its least owner is the source
+abbrev is_unowned : ℕ → List Layout → ℕ → ℕ → Spot → Bool
+is_unowned nodes layouts from to spot = not (owns_spot layouts to spot) && (least_owner_of nodes layouts spot == from)
+
 pub remapped : (nodes : ℕ) (old new : List Layout) (from to : ℕ) → sizes old ≡ sizes new
     → filter (is_sent nodes old (owned_marks new to) from to) (all_spots old) ≡ remap_message nodes old new from to
 remapped nodes old new from to same =
-    same-spots (is_sent nodes old (owned_marks new to) from to) (λ spot. owns_spot new to spot && (not (owns_spot old to spot) && (least_owner_of nodes old spot == from))) 0 (sizes old) (agrees new same)
+    same-spots (is_sent nodes old (owned_marks new to) from to)
+    (λ spot. owns_spot new to spot && (not (owns_spot old to spot) && (least_owner_of nodes old spot == from))) 0 (sizes old) (agrees new same)
   where
     agrees : (ls : List Layout) → sizes old ≡ sizes ls → (r at : ℕ) → r < length (sizes old) → at < get_or (sizes old) r 0
-        → (mark_at (owned_marks ls to) (record { row = 0 + r; at = at }) && (not (owns_spot old to (record { row = 0 + r; at = at })) && (least_owner_of nodes old (record { row = 0 + r; at = at }) == from)))
-        ≡ (owns_spot ls to (record { row = 0 + r; at = at }) && (not (owns_spot old to (record { row = 0 + r; at = at })) && (least_owner_of nodes old (record { row = 0 + r; at = at }) == from)))
+        → (mark_at (owned_marks ls to) (record { row = 0 + r; at = at }) && is_unowned nodes old from to (record { row = 0 + r; at = at }))
+        ≡ (owns_spot ls to (record { row = 0 + r; at = at }) && is_unowned nodes old from to (record { row = 0 + r; at = at }))
     agrees [] e r at lt in' = absurd (omega (arith, ap length e))
     agrees (l ∷ ls) e r at lt in' =
         let zero : 0 + r ≡ r = omega arith in
         let inside : r < length (l ∷ ls) = omega (arith, ap length e, length-map (l ∷ ls) size_of) in
         let size : get_or (sizes old) r 0 ≡ size_of (get_or (l ∷ ls) r l) = ap (λ xs. get_or xs r 0) e ∙ get_or-map size_of (l ∷ ls) r l 0 inside in
         let owned : mark_at (owned_marks (l ∷ ls) to) (record { row = 0 + r; at = at }) ≡ owned_in (l ∷ ls) (0 + r) to at =
-        subst (λ s. mark_at (owned_marks (l ∷ ls) to) (record { row = s; at = at }) ≡ owned_in (l ∷ ls) s to at) (sym zero) (mark-owned (l ∷ ls) to r at l inside (omega (arith, size))) in
-        ap (λ b. b && (not (owns_spot old to (record { row = 0 + r; at = at })) && (least_owner_of nodes old (record { row = 0 + r; at = at }) == from))) owned
+        subst (λ s. mark_at (owned_marks (l ∷ ls) to) (record { row = s; at = at }) ≡ owned_in (l ∷ ls) s to at) (sym zero)
+        (mark-owned (l ∷ ls) to r at l inside (omega (arith, size))) in
+        ap (λ b. b && is_unowned nodes old from to (record { row = 0 + r; at = at })) owned
 
 -- the sizes go by the shapes
 pub sizes-shapes : (ls : List code.Layout) → sizes (layouts_of ls) ≡ map (λ s. product (extents_of s)) (map (λ l. l.shape) ls)

@@ -33,7 +33,11 @@ pub(crate) fn is_owned(layout: &Layout, alloc: Global, nodes: u32, node: NodeId,
     ensures { result ≡ owned_by (layout_of layout.now) node.0 at }
 {
     let _nodes = nodes;
-    owns(&layout.mapping, &nth_element(alloc, &layout.shape, at), node)
+    owns(
+        &layout.mapping,
+        &nth_element(alloc, &layout.shape, at),
+        node,
+    )
 }
 
 /// The owner of the element with the least number.

@@ -37,12 +37,7 @@ pub fn remap_message(
 }
 
 /// The marks on the elements that the node owns.
-fn owned(
-    alloc: Global,
-    nodes: u32,
-    layouts: &[Layout],
-    node: NodeId,
-) -> Result<Marks, OutOfMemory>
+fn owned(alloc: Global, nodes: u32, layouts: &[Layout], node: NodeId) -> Result<Marks, OutOfMemory>
     requires laid { AreLaid nodes layouts.now }
     requires node { node.0 < nodes }
     ensures { IfOk result (λ marks. marks ≡ owned_marks (layouts_of layouts.now) node.0) }

@@ -11,5 +11,6 @@ loop-number-preserved g c =
     let inside : c.loop-number.number < length reads = omega arith in
     c.mark_read.ensures
     ∙ ap (λ m. marked_read m (option_map spot_of c.read.result)) c.loop-number.invariant
-    ∙ ap (marked_read (fold marked_read c.args.marks.now (take c.loop-number.number reads))) (sym (get_or_from_slice_get reads c.loop-number.number (option_map spot_of c.read.result) None c.read.ensures))
+    ∙ ap (marked_read (fold marked_read c.args.marks.now (take c.loop-number.number reads)))
+    (sym (get_or_from_slice_get reads c.loop-number.number (option_map spot_of c.read.result) None c.read.ensures))
     ∙ sym (fold_more marked_read c.args.marks.now reads c.loop-number.number None inside)

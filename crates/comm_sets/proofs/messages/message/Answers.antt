@@ -24,7 +24,8 @@ returns g c =
     let done : c.loop-tuple.tuple ≡ part.tuples = omega (arith, c.tuples-tuple-end.ensures) in
     let all : c.loop-tuple.marks ≡ fold (marked_tuple part c.args.to.0) none (range_with_len 0 part.tuples) =
     c.loop-tuple.invariant ∙ ap (λ n. fold (marked_tuple part c.args.to.0) none (range_with_len 0 n)) done in
-    let Sent : List (List Bool) → Type 0 = λ marks. IfOk c.unowned.result (λ spots. map spot_of spots.items ≡ filter (is_sent c.args.nodes layouts marks c.args.from.0 c.args.to.0) (all_spots layouts)) in
+    let Sent : List (List Bool) → Type 0 = λ marks.
+    IfOk c.unowned.result (λ spots. map spot_of spots.items ≡ filter (is_sent c.args.nodes layouts marks c.args.from.0 c.args.to.0) (all_spots layouts)) in
     subst (λ (x : List Spot). IfOk c.unowned.result (λ spots. map spot_of spots.items ≡ x))
     (message-marked c.args.nodes layouts part c.args.from.0 c.args.to.0)
     (subst Sent all c.unowned.ensures)

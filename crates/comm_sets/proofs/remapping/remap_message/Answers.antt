@@ -14,7 +14,8 @@ returns c =
     let same : sizes (layouts_of c.args.old.now) ≡ sizes (layouts_of c.args.new.now) =
     sizes-shapes c.args.old.now ∙ ap (λ ss. map (λ s. product (extents_of s)) ss) c.requires.same ∙ sym (sizes-shapes c.args.new.now) in
     let old = layouts_of c.args.old.now in
-    let Sent : List (List Bool) → Type 0 = λ marks. IfOk c.unowned.result (λ spots. map spot_of spots.items ≡ filter (is_sent c.args.nodes old marks c.args.from.0 c.args.to.0) (all_spots old)) in
+    let Sent : List (List Bool) → Type 0 = λ marks.
+    IfOk c.unowned.result (λ spots. map spot_of spots.items ≡ filter (is_sent c.args.nodes old marks c.args.from.0 c.args.to.0) (all_spots old)) in
     subst (λ (x : List Spot). IfOk c.unowned.result (λ spots. map spot_of spots.items ≡ x))
     (remapped c.args.nodes old (layouts_of c.args.new.now) c.args.from.0 c.args.to.0 same)
     (subst Sent c.in_ok-marks.ensures c.unowned.ensures)
