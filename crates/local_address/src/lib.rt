@@ -9,4 +9,5 @@
 mod element;
 mod piece;
 
+pub use element::{element_count, nth_element};
 pub use piece::Piece;
