@@ -2,7 +2,6 @@
 use Rattle.std.proofs.Common.{◌≡◌, ℕ, ◌<◌, Bool, true, false, List, [], ◌∷◌, ◌++◌, length, position, bytes_eq, Option, Some, None, refl}
 use Rattle.std.specs.Prelude.{ℤ, pos, drop, slice_index_or, if◌then◌else◌}
 use Rattle.std.specs.List.{AllByRecursion}
-use Rattle.op_tables.specs.declared.op.Op.{Op}
 use Rattle.op_tables.specs.Arguments.{is_reduction, is_inquiry}
 use Rattle.syntax_tree.specs.Expression as e
 use Rattle.syntax_tree.specs.Expression.{Expression, Part, Parts, Maybe}

@@ -1,5 +1,5 @@
 -- The expressions of a FORALL that breaks no rule.
-use Rattle.std.proofs.Common.{◌≡◌, ℕ, ◌<◌, Bool, true, false, true≢false, List, [], ◌∷◌, ◌++◌, length, position, bytes_eq, Option, Some, None, refl, sym, ap, ◌∙◌}
+use Rattle.std.proofs.Common.{◌≡◌, ℕ, ◌<◌, Bool, true, false, true≢false, List, [], ◌∷◌, length, position, bytes_eq, Option, Some, None, refl, sym, ap, ◌∙◌}
 use Rattle.std.specs.Prelude.{◌&&◌, ◌||◌, not, is_some, if◌then◌else◌}
 use Rattle.std.specs.List.{list_all}
 use Rattle.op_tables.specs.declared.op.Op.{Op}
@@ -20,10 +20,10 @@ use Rattle.body_check.specs.ForallRules.{forall_names, may_stand}
 use Rattle.body_check.specs.Names.{is_constant, is_scalar, is_fixed}
 use Rattle.body_check.specs.Subexpressions.{subexpressions, subexpressions_in_part, subexpressions_in_parts}
 use Rattle.body_check.specs.Subscripts.{both as both_indices, in_product, in_operation, indices_in, is_at_most_one, is_linear, is_sign, items}
-use Rattle.array_meaning.specs.Terms.{Term, Element, Section, Apply, Reduce}
+use Rattle.array_meaning.specs.Terms.{Element, Section, Apply, Reduce}
 use Rattle.array_meaning.specs.Resolution.{place_of, dims_of, alone, inquiry, is_element, first_term, first_named, term_of, terms_of, section_subscripts}
 use Rattle.lowering.specs.WellFormed.{IsSubscript, AreSubscripts, IsIndexed, AreIndexed}
-use Rattle.well_formed.proofs.Lists.{all_split, both, holds, pass_split}
+use Rattle.well_formed.proofs.Lists.{all_split, both, pass_split}
 use Rattle.well_formed.proofs.Names.{AreFound, IsNamed, not_among}
 use Rattle.well_formed.proofs.Expressions.{either}
 

@@ -1,5 +1,5 @@
 -- What holds of each item of a list, and tests.
-use Rattle.std.proofs.Common.{◌≡◌, Bool, true, false, true≢false, List, [], ◌∷◌, ◌++◌, map, refl, sym, ap, inl}
+use Rattle.std.proofs.Common.{◌≡◌, Bool, true, false, true≢false, List, [], ◌∷◌, ◌++◌, map, refl, sym, inl}
 use Rattle.std.specs.Prelude.{◌&&◌, ◌||◌, not}
 use Rattle.std.specs.List.{AllByRecursion, flat_map, list_all}
 use Rattle.hpf_base.specs.FirstBreach.{Among}

@@ -1,5 +1,5 @@
 -- Programs that break no rule.
-use Rattle.std.proofs.Common.{◌≡◌, ◌≤◌, ℕ, List, [], length, refl}
+use Rattle.std.proofs.Common.{◌≡◌, ◌≤◌, ℕ, List, [], length}
 use Rattle.std.specs.List.{flat_map}
 use Rattle.hpf_base.specs.ElementOrder.{product}
 use Rattle.hpf_base.specs.FirstBreach.{Among}

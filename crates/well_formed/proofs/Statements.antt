@@ -13,7 +13,7 @@ use Rattle.name_table.specs.Entries.{entry}
 use Rattle.name_table.specs.declared.names.Entry.{Entry}
 use Rattle.name_table.specs.Places.{IntegerScalar, LogicalScalar, PrintItem, place}
 use Rattle.body_check.specs.ForallRules.{forall_names, is_allowed, is_allowed_in_header}
-use Rattle.array_meaning.specs.Terms.{Term, Scalar, Element, Section, Control}
+use Rattle.array_meaning.specs.Terms.{Term, Scalar, Element, Section}
 use Rattle.array_meaning.specs.Statements.{SectionAssignment, ElementAssignment, Loop, Block, Done, Then, Do}
 use Rattle.array_meaning.specs.Resolution.{place_of, term_of, control_of, left_of, to_section, section_assignments, to_element, element_assignments, assignment, item, item_of, loop_of, do_loop, with_inner_unmarked, resolved, resolved_block, resolved_arms, resolved_otherwise}
 use Rattle.lowering.specs.WellFormed.{IsControl, AreMasked, IsIndexed, AreControls, IsIndexedMask, AreIndexedAssignments, IsItem, AreItems, IsWellFormed, AreWellFormedArms, IsWellFormedBlock}
@@ -100,7 +100,7 @@ module _ (t : SymbolTable) where
       let es : List Expression = flat_map axis_expressions axes in
       let s = split_map (IsNamed (map entry t)) (λ p. p.expression) (map (place IntegerScalar) es) (map (place LogicalScalar) (present m)) h.expressions in
       let rules = both (list_all (is_allowed_in_header (forall_names (map entry t) axes)) (flat_map axis_expressions axes))
-          (list_all (is_allowed (forall_names (map entry t) axes)) (present m)) h.forall_rules in
+      (list_all (is_allowed (forall_names (map entry t) axes)) (present m)) h.forall_rules in
       (controls_good axes (placed_all (IsNamed (map entry t)) IntegerScalar es s.0), mask_good axes m (placed_all (IsNamed (map entry t)) LogicalScalar (present m) s.1) rules.1, indexed_assignments xs axes body more)
 
   index_below : (xs : List Name) (mark : Option syntax.Independent) (axis : syntax.Axis) (line : ℕ) → IsGood t (placed xs line (head.Do mark axis)) →
