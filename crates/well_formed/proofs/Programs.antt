@@ -26,13 +26,13 @@ use Rattle.lowering.specs.StatementCode.{program_code}
 use Rattle.lowering.specs.WellFormed.{IsWellFormedBlock}
 use Rattle.lowering.proofs.Outcomes.{outcome-is}
 use Rattle.lowering.proofs.Validity.{code-valid}
-use Rattle.well_formed.proofs.Lists.{all_empty, empties, no_breach}
+use Rattle.well_formed.proofs.Lists.{all_empty, empties, front_empty, no_breach}
 use Rattle.well_formed.proofs.Heads.{all_good}
 use Rattle.well_formed.proofs.Statements.{block_good}
 
 -- the breaches of FORALL are among those of bodies
 no_forall_breach : (es : List Entry) (b : Block) → body_breaches es b ≡ [] → flat_map (forall_breaches_at es) (all_heads b) ≡ []
-no_forall_breach es b h = h
+no_forall_breach es b h = search (front_empty, h)
 
 pub well_formed : (p : MainProgram) → NoBreach (Among (name_breaches p)) → NoBreach (Among (body_breaches (entries p) p.body)) →
     IsWellFormedBlock (length (entries p)) (resolved_block (entries p) p.body)

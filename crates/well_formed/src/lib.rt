@@ -1,7 +1,7 @@
 //! Programs that break no rule are well-formed for lowering, so what is proved of the code of well-formed programs holds of each of
 //! them.
 //!
-//! Comes in: programs as abstract syntax, the rules of stages 4, 5 and 7 of `name_table` and `body_check`, the resolved program of
+//! Comes in: programs as abstract syntax, the rules of names of `name_table` and those of bodies of `body_check`, the resolved program of
 //! `array_meaning`, and the laws of `lowering`. Goes out: three laws, the contracts of functions with empty bodies. There is no
 //! function here that runs.
 //!
