@@ -1,0 +1,56 @@
+-- Programs that break no rule.
+use Rattle.std.proofs.Common.{◌≡◌, ◌≤◌, ℕ, List, [], length}
+use Rattle.std.specs.List.{flat_map}
+use Rattle.hpf_base.specs.ElementOrder.{product}
+use Rattle.hpf_base.specs.FirstBreach.{Among}
+use Rattle.hpf_base.specs.Refusal.{NoBreach}
+use Rattle.hpf_base.specs.declared.index.Shape.{Shape}
+use Rattle.syntax_tree.specs.MainProgram.{MainProgram}
+use Rattle.syntax_tree.specs.Statement.{Block}
+use Rattle.expression_rules.specs.Symbols.{SymbolTable}
+use Rattle.statement_walk.specs.Heads.{all_heads}
+use Rattle.declarations.specs.Declarations.{symbol_table}
+use Rattle.name_table.specs.Entries.{entries}
+use Rattle.name_table.specs.NameRules.{name_breaches, name_breaches_at}
+use Rattle.name_table.specs.Resolved.{HasNoBreach}
+use Rattle.name_table.specs.declared.names.Entry.{Entry}
+use Rattle.body_check.specs.BodyRules.{body_breaches}
+use Rattle.body_check.specs.ForallRules.{forall_breaches_at}
+use Rattle.array_meaning.specs.Resolution.{resolved_block, initial_state}
+use Rattle.array_meaning.specs.Serial.{outcome}
+use Rattle.machine_steps.specs.Agrees.{IsValidCode}
+use Rattle.machine_steps.specs.Layout.{IsDealt, Layout, size_of}
+use Rattle.node_code.specs.Instructions.{ArrayTable, meaning_of}
+use Rattle.lowering.specs.Lowered.{opening, MachineHas, table_of}
+use Rattle.lowering.specs.StatementCode.{program_code}
+use Rattle.lowering.specs.WellFormed.{IsWellFormedBlock}
+use Rattle.lowering.proofs.Outcomes.{outcome-is}
+use Rattle.lowering.proofs.Validity.{code-valid}
+use Rattle.well_formed.proofs.Lists.{all_empty, empties, front_empty, no_breach}
+use Rattle.well_formed.proofs.Heads.{all_good}
+use Rattle.well_formed.proofs.Statements.{block_good}
+
+-- the breaches of FORALL are among those of bodies
+no_forall_breach : (es : List Entry) (b : Block) → body_breaches es b ≡ [] → flat_map (forall_breaches_at es) (all_heads b) ≡ []
+no_forall_breach es b h = search (front_empty, h)
+
+pub well_formed : (p : MainProgram) → NoBreach (Among (name_breaches p)) → NoBreach (Among (body_breaches (entries p) p.body)) →
+    IsWellFormedBlock (length (entries p)) (resolved_block (entries p) p.body)
+well_formed p names bodies =
+    let t : SymbolTable = symbol_table p.declarations in
+    let own = (empties _ _ (empties _ _ (empties _ _ (no_breach (name_breaches p) names)).0).0).1 in
+    let body = no_forall_breach (entries p) p.body (no_breach (body_breaches (entries p) p.body) bodies) in
+    block_good t [] p.body
+    (all_good t (all_heads p.body) (all_empty (name_breaches_at t) (all_heads p.body) own) (all_empty (forall_breaches_at (entries p)) (all_heads p.body) body))
+
+pub lowered : (p : MainProgram) (copies : List ℕ → Layout) (layouts : List Layout) → ((extents : List ℕ) → size_of (copies extents) ≡ product extents) →
+    HasNoBreach p → NoBreach (Among (body_breaches (entries p) p.body)) →
+    MachineHas (length (entries p)) (table_of (entries p) copies) (opening (length (entries p)) (resolved_block (entries p) p.body) (initial_state (entries p)) layouts)
+    (outcome (entries p) p.body)
+lowered p copies layouts sized rules bodies = outcome-is (entries p) p.body copies layouts sized (well_formed p rules.names bodies)
+
+pub valid : (count : ℕ) (p : MainProgram) (shapes : List Shape) (table : ArrayTable) → length shapes ≤ length (entries p) →
+    ((extents : List ℕ) → IsDealt count (table.copies extents)) → HasNoBreach p → NoBreach (Among (body_breaches (entries p) p.body)) →
+    IsValidCode (meaning_of table) count shapes (program_code (length (entries p)) (resolved_block (entries p) p.body))
+valid count p shapes table few dealt rules bodies =
+    code-valid count (length (entries p)) shapes table few dealt (resolved_block (entries p) p.body) (well_formed p rules.names bodies)

@@ -1,0 +1,46 @@
+//! Programs that break no rule.
+
+ghost use Rattle.std.specs.Prelude.{◌≡◌, ◌≤◌, ℕ, List, length};
+ghost use Rattle.hpf_base.specs.ElementOrder.{product};
+ghost use Rattle.hpf_base.specs.FirstBreach.{Among};
+ghost use Rattle.hpf_base.specs.Refusal.{NoBreach};
+ghost use Rattle.hpf_base.specs.declared.index.Shape.{Shape};
+ghost use Rattle.syntax_tree.specs.MainProgram.{MainProgram};
+ghost use Rattle.name_table.specs.Entries.{entries};
+ghost use Rattle.name_table.specs.NameRules.{name_breaches};
+ghost use Rattle.name_table.specs.Resolved.{HasNoBreach};
+ghost use Rattle.body_check.specs.BodyRules.{body_breaches};
+ghost use Rattle.array_meaning.specs.Resolution.{resolved_block, initial_state};
+ghost use Rattle.array_meaning.specs.Serial.{outcome};
+ghost use Rattle.machine_steps.specs.Agrees.{IsValidCode};
+ghost use Rattle.machine_steps.specs.Layout.{IsDealt, Layout, size_of};
+ghost use Rattle.node_code.specs.Instructions.{ArrayTable, meaning_of};
+ghost use Rattle.lowering.specs.Lowered.{opening, MachineHas, table_of};
+ghost use Rattle.lowering.specs.StatementCode.{program_code};
+ghost use Rattle.lowering.specs.WellFormed.{IsWellFormedBlock};
+
+/// The resolved statements of a program that breaks no rule of names and no rule of bodies are well-formed, whatever the types and
+/// ranks of its expressions.
+pub fn programs_are_well_formed()
+    ensures { (p : MainProgram) → NoBreach (Among (name_breaches p)) → NoBreach (Among (body_breaches (entries p) p.body))
+        → IsWellFormedBlock (length (entries p)) (resolved_block (entries p) p.body) }
+{}
+
+/// The machine with whole arrays ends over the code of a program that breaks no rule of names, ranks and bodies as the program does:
+/// with the first fault, its line, kind and tuple, and the bytes that were printed before it, or finished with its bytes and arrays.
+pub fn accepted_programs_lowered()
+    ensures { (p : MainProgram) (copies : List ℕ → Layout) (layouts : List Layout)
+        → ((extents : List ℕ) → size_of (copies extents) ≡ product extents)
+        → HasNoBreach p → NoBreach (Among (body_breaches (entries p) p.body))
+        → MachineHas (length (entries p)) (table_of (entries p) copies)
+        (opening (length (entries p)) (resolved_block (entries p) p.body) (initial_state (entries p)) layouts)
+        (outcome (entries p) p.body) }
+{}
+
+/// Every instruction of its code is one that so many nodes can run.
+pub fn accepted_code_is_valid()
+    ensures { (count : ℕ) (p : MainProgram) (shapes : List Shape) (table : ArrayTable)
+        → length shapes ≤ length (entries p) → ((extents : List ℕ) → IsDealt count (table.copies extents))
+        → HasNoBreach p → NoBreach (Among (body_breaches (entries p) p.body))
+        → IsValidCode (meaning_of table) count shapes (program_code (length (entries p)) (resolved_block (entries p) p.body)) }
+{}
