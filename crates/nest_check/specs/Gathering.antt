@@ -1,9 +1,8 @@
 -- What private contracts see of the names of a nest while they are gathered, and of a nest behind its outermost loop. No public clause cites
 -- this file.
-use Rattle.std.specs.Prelude.{ℕ, Bool, true, false, List, [], ◌∷◌, ◌++◌, map, Option, Some, option_map}
+use Rattle.std.specs.Prelude.{ℕ, Bool, true, false, List, [], ◌∷◌, ◌++◌, map, Some}
 use Rattle.std.specs.List.{flat_map}
 use Rattle.hpf_base.specs.declared.refusal.Refusal.{Refusal}
-use Rattle.syntax_tree.specs.declared.expr.Expr.{Expr}
 use Rattle.syntax_tree.specs.declared.stmt.DoLoop.{DoLoop, out-DoLoop}
 use Rattle.syntax_tree.specs.declared.stmt.Arm.{Arm}
 use Rattle.syntax_tree.specs.declared.stmt.Kind.TheBlock.{struct-Arm}

@@ -12,7 +12,8 @@ ghost use Rattle.statement_walk.specs.Head.{Do};
 ghost use Rattle.statement_walk.specs.Views.{head_of};
 ghost use Rattle.body_forms.specs.Axes.{axis_of};
 ghost use Rattle.nest_check.specs.NestNames.{reduction_operator};
-ghost use Rattle.nest_check.specs.NestRules.{are_linear_inside, head_expressions, is_assignable, is_assignment_allowed, is_single, keeps_nest_rules, nest_breaches_at, own_variable};
+ghost use Rattle.nest_check.specs.NestRules.{are_linear_inside, head_expressions, is_assignable, is_assignment_allowed, is_single};
+ghost use Rattle.nest_check.specs.NestRules.{keeps_nest_rules, nest_breaches_at, own_variable};
 ghost use Rattle.body_forms.specs.Subscripts.{items};
 
 use crate::inner_axes::is_axis_allowed;
