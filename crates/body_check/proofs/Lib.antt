@@ -1,10 +1,2 @@
 mod BodyBreaches
-mod Constants
 mod Examples
-mod Forms
-mod Gathered
-mod Inside
-mod NestSteps
-mod PathSteps
-mod StatementForms
-mod States

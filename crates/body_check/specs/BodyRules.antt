@@ -7,7 +7,7 @@ use Rattle.statement_walk.specs.Heads.{all_heads}
 use Rattle.statement_walk.specs.Nests.{nests}
 use Rattle.name_table.specs.declared.names.Entry.{Entry}
 use Rattle.body_check.specs.ForallRules.{forall_breaches_at}
-use Rattle.body_check.specs.NestRules.{nest_breaches}
+use Rattle.nest_check.specs.NestRules.{nest_breaches}
 
 -- all that the statements of a program with these declared names break of them
 abbrev pub body_breaches : List Entry → Block → List Refusal

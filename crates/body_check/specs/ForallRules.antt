@@ -14,9 +14,9 @@ use Rattle.statement_walk.specs.Head as head
 use Rattle.statement_walk.specs.Heads.{PlacedHead, indices_of}
 use Rattle.declarations.specs.Reasons.{at, when}
 use Rattle.name_table.specs.declared.names.Entry.{Entry}
-use Rattle.body_check.specs.Names.{BodyNames}
-use Rattle.body_check.specs.Subexpressions.{subexpressions}
-use Rattle.body_check.specs.Subscripts.{has_linear_subscripts}
+use Rattle.body_forms.specs.Names.{BodyNames}
+use Rattle.body_forms.specs.Subexpressions.{subexpressions}
+use Rattle.body_forms.specs.Subscripts.{has_linear_subscripts}
 
 -- a FORALL assigns elements of arrays, and no scalar
 abbrev pub forall_names : List Entry → List Axis → BodyNames

@@ -1,11 +1,2 @@
-pub mod Names
-pub mod Subexpressions
-pub mod Subscripts
-pub mod Forms
 pub mod ForallRules
-pub mod ReductionStatements
-pub mod NestNames
-pub mod Paths
-pub mod NestRules
-pub mod Gathering
 pub mod BodyRules

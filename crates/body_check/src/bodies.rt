@@ -7,11 +7,10 @@ ghost use Rattle.syntax_tree.specs.MainProgram.{main_program};
 ghost use Rattle.syntax_tree.specs.Statement.{block_of};
 ghost use Rattle.body_check.specs.BodyRules.{body_breaches};
 
-use crate::constant_symbols::constant_symbols;
 use crate::forall_judge::first_bad_forall;
-use crate::nests::first_bad_nest;
 use hpf_base::{Refusal, StaticError, earlier};
 use name_table::{Names, Program};
+use nest_check::first_bad_nest;
 use std::alloc::{AllocError, Global};
 use syntax_tree::Stmt;
 
@@ -38,7 +37,6 @@ fn first_bad_body(
     ensures { IfOk result (λ r. r ≡ least (body_breaches names.now (block_of stmts.now))) }
 {
     let first = first_bad_forall(alloc, names, stmts)?;
-    let constants = constant_symbols(alloc, names)?;
-    let last = first_bad_nest(alloc, names, &constants, stmts)?;
+    let last = first_bad_nest(alloc, names, stmts)?;
     Ok(earlier(first, last))
 }

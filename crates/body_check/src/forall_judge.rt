@@ -10,9 +10,8 @@ ghost use Rattle.statement_walk.specs.Heads.{all_heads, indices_of};
 ghost use Rattle.statement_walk.specs.Views.{head_of};
 ghost use Rattle.body_check.specs.ForallRules.{forall_breaches_at, forall_names, is_allowed, is_allowed_in_header, keeps_forall_rules};
 
-use crate::body_names::BodyNames;
-use crate::expression_lists::{headers_pass, option_passes, sides_pass};
 use crate::forall_tests::{Standing, StandingInHeader};
+use body_forms::{BodyNames, headers_pass, option_passes, sides_pass};
 use hpf_base::{Name, Reason, Refusal};
 use name_table::Names;
 use statement_walk::{Head, Judge, walk};

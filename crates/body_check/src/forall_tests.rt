@@ -2,9 +2,7 @@
 
 ghost use Rattle.std.specs.Prelude.{◌≡◌};
 
-use crate::body_names::BodyNames;
-use crate::linear_forms::has_linear_subscripts;
-use crate::subexpressions::ExpressionTest;
+use body_forms::{BodyNames, ExpressionTest, has_linear_subscripts};
 use op_tables::is_reduction;
 use syntax_tree::{Expr, Ref};
 

@@ -6,7 +6,7 @@ use Rattle.syntax_tree.specs.Statement.{block_of}
 use Rattle.statement_walk.specs.Heads.{all_heads}
 use Rattle.statement_walk.specs.Nests.{nests}
 use Rattle.body_check.specs.ForallRules.{forall_breaches_at}
-use Rattle.body_check.specs.NestRules.{nest_breaches}
+use Rattle.nest_check.specs.NestRules.{nest_breaches}
 use Rattle.body_check.proofs.bodies.first_bad_body.Goals as goal
 
 pub returns : goal.returns

@@ -1,0 +1,7 @@
+mod Arguments
+mod Constants
+mod Gathered
+mod NestSteps
+mod PathSteps
+mod StatementForms
+mod States
