@@ -10,8 +10,8 @@ use Rattle.array_maps.specs.declared.maps.Maps.{Maps}
 
 -- a mapping of an array of this shape onto so many nodes: every element lies inside the template (HPF 2.0, ALIGN)
 pub record IsMapOf (nodes : ℕ) (shape : Shape) (mapping : Mapping) : Type 0 where
-  pub mapping : IsMapping (length shape.lower) mapping
-  pub nodes : product mapping.grid ≡ nodes
+  pub valid : IsMapping (length shape.lower) mapping
+  pub onto : product mapping.grid ≡ nodes
   pub inside : All (MapsInside mapping) (elements shape)
 
 -- an array that starts with such a mapping

@@ -1,0 +1,4 @@
+pub mod LinearForms
+pub mod AlignmentValues
+pub mod AlignmentRules
+pub mod AlignmentEntries

@@ -1,0 +1,96 @@
+//! Alignments with the values of their expressions (HPF 2.0, 3.4).
+
+ghost use Rattle.std.specs.Prelude.{◌≡◌};
+
+use hpf_base::{AlignDim, Name};
+use std::marker::Model;
+
+/// a and b of a subscript `a * I + b`.
+#[derive(Clone, Copy, Debug, PartialEq, Eq)]
+pub struct LinearForm {
+    pub a: i64,
+    pub b: i64,
+}
+
+/// What stands for a dimension of the target.
+#[derive(Debug, Drop)]
+pub enum TargetValue {
+    /// `*`.
+    Every,
+    /// A subscript: the align dummy in it, if there is one, and its linear form, where it is known.
+    Subscript(Option<Name>, Option<LinearForm>),
+    /// A triplet: its first and its last subscript and its stride, each where it is known.
+    Triplet(Option<i64>, Option<i64>, Option<i64>),
+}
+
+/// What stands for the dimensions of the target, the first one first. Contracts see the list.
+#[derive(Debug, Drop)]
+pub struct TargetValues {
+    values: Vec<TargetValue>,
+}
+
+impl Model for TargetValues {
+    ghost use Rattle.std.specs.Prelude.{List};
+    ghost use Rattle.alignment_rules.specs.declared.alignment_values.TargetValue.{TargetValue};
+
+    ghost Value = { List TargetValue };
+
+    ghost view = { λ t. t.values.items };
+}
+
+impl TargetValues {
+    /// These values. It takes no memory.
+    pub(crate) fn new(values: Vec<TargetValue>) -> TargetValues
+        ensures { result ≡ values.items }
+    {
+        TargetValues { values }
+    }
+
+    /// The values in order.
+    pub fn as_slice(&self) -> &[TargetValue]
+        ensures { result.now ≡ self.now }
+    {
+        &self.values
+    }
+}
+
+/// What the dimensions of the target are given for an element of the alignee, the first one first. Contracts see the list.
+#[derive(Debug, Drop)]
+pub struct AlignDims {
+    entries: Vec<AlignDim>,
+}
+
+impl Model for AlignDims {
+    ghost use Rattle.std.specs.Prelude.{List};
+    ghost use Rattle.hpf_base.specs.declared.mapping.AlignDim.{AlignDim};
+
+    ghost Value = { List AlignDim };
+
+    ghost view = { λ a. a.entries.items };
+}
+
+impl AlignDims {
+    /// These entries. It takes no memory.
+    pub fn new(entries: Vec<AlignDim>) -> AlignDims
+        ensures { result ≡ entries.items }
+    {
+        AlignDims { entries }
+    }
+
+    /// The entries in order.
+    pub fn as_slice(&self) -> &[AlignDim]
+        ensures { result.now ≡ self.now }
+    {
+        &self.entries
+    }
+}
+
+/// The alignment of an object.
+#[derive(Debug, Drop)]
+pub enum Alignment {
+    /// What each dimension of the target is given, within the limits.
+    Known(AlignDims),
+    /// A number in it is past its limit.
+    PastLimits,
+    Unknown,
+}

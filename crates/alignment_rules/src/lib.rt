@@ -1,0 +1,14 @@
+//! The rules of ALIGN (HPF 2.0, 3.4).
+//!
+//! Comes in: the setting of a program and its ALIGN directives one by one. Goes out: the least reason for which an ALIGN or one of its
+//! alignees breaks a rule, and the alignment of each alignee. What holds in between: the subscripts and triplets of a target are judged by
+//! their values, which don't depend on the alignee.
+#![tactic(auto)]
+
+mod alignees;
+mod alignment_values;
+mod alignments;
+
+pub use alignees::{alignment_of, bad_alignee};
+pub use alignment_values::{AlignDims, Alignment, LinearForm, TargetValue, TargetValues};
+pub use alignments::{bad_alignment, target_values};

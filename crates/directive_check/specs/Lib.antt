@@ -1,0 +1,4 @@
+pub mod MappedObjects
+pub mod Chains
+pub mod MappingRules
+pub mod ProgramMaps

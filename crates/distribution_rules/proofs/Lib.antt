@@ -1,0 +1,2 @@
+pub mod LeastReasons
+mod DistributedTurns

@@ -1,0 +1,7 @@
+pub mod Dimensions
+pub mod Setting
+pub mod SpaceRules
+pub mod DistributionRules
+pub mod Distributed
+pub mod ProgramObjects
+pub mod DistributedSteps
