@@ -1,0 +1,11 @@
+mod ListTurns
+mod MappedTurns
+mod ListedNames
+mod SameMapped
+mod ChainLaws
+mod Unnamed
+mod RedistributeSteps
+mod DirectLaws
+mod MapTurns
+mod MappingBreaches
+mod AllMaps
