@@ -1,5 +1,5 @@
 -- The mappings of a program's arrays, from how each name is mapped first.
-use Rattle.std.proofs.Common.{◌≡◌, List, Option, map, ap, ◌∙◌}
+use Rattle.std.proofs.Common.{◌≡◌, List, map, ◌∙◌}
 use Rattle.std.specs.List.{flat_map}
 use Rattle.array_maps.specs.declared.maps.ArrayMap.{ArrayMap}
 use Rattle.array_maps.specs.declared.maps.NewMap.{NewMap}

@@ -11,7 +11,7 @@ use Rattle.alignment_rules.specs.AlignmentValues.{first_dim}
 use Rattle.alignment_rules.specs.declared.alignment_values.Alignment.TheVariants.{Unknown}
 use Rattle.distribution_rules.specs.Setting.{Setting}
 use Rattle.directive_check.proofs.ListTurns.{drop_at}
-use Rattle.directive_check.specs.MappedObjects.{How, Aligned, MappedObject, how_mapped}
+use Rattle.directive_check.specs.MappedObjects.{How, MappedObject}
 use Rattle.directive_check.specs.Chains.{are_inside, meets, root_alignment_from, root_from, target_of}
 
 pub meets_more : (n m : ℕ) (ms : List MappedObject) (x y : Name) → n ≡ m + 1 → meets n ms x (Some y) ≡ (bytes_eq x y || meets m ms x (target_of ms y))

@@ -16,7 +16,7 @@ use Rattle.distribution_rules.specs.declared.evaluated_formats.FormatValue.{Form
 use Rattle.distribution_rules.specs.declared.evaluated_formats.Processors.{Processors}
 use Rattle.distribution_rules.specs.declared.evaluated_formats.Processors.TheVariants.{Extents, Missing, Unknown}
 use Rattle.distribution_rules.specs.Dimensions.{is_too_wide}
-use Rattle.distribution_rules.specs.Distributed.{all_or_none, and_more, are_formats, distributed, distributed_onto, form_of, has_all_nodes, map_dim, map_dim_in, map_dim_with, mapping_onto}
+use Rattle.distribution_rules.specs.Distributed.{all_or_none, and_more, are_formats, distributed, distributed_onto, form_of, has_all_nodes, map_dim, map_dim_in, map_dim_with}
 use Rattle.distribution_rules.specs.DistributionRules.{DistributedDim, distributed_from, distribution_values}
 use Rattle.distribution_rules.specs.Setting.{Setting, dims_of}
 use Rattle.directive_check.specs.DirectMappings.{IsDirect, IsDirectAlign}

@@ -1,5 +1,5 @@
 -- In a program that breaks no rule of names, what a directive maps stands behind `::`, or is one name.
-use Rattle.std.proofs.Common.{◌≡◌, ℕ, Bool, true, false, true≢false, List, [], ◌∷◌, ◌++◌, map, Option, Some, None, refl, sym, ap, ◌∙◌, inl}
+use Rattle.std.proofs.Common.{◌≡◌, ℕ, Bool, true, false, true≢false, List, [], ◌∷◌, ◌++◌, map, None, refl, sym, ap, ◌∙◌, inl}
 use Rattle.std.specs.Prelude.{◌&&◌, All, is_some, not}
 use Rattle.std.specs.List.{flat_map, list_all}
 use Rattle.std.proofs.lemmas.List.Elements.{All-cons, All-nil}
@@ -20,7 +20,6 @@ use Rattle.expression_rules.specs.Inner.{present}
 use Rattle.expression_rules.specs.Symbols.{Name, SymbolTable, find, is_declared}
 use Rattle.declarations.specs.Declarations.{symbol_table}
 use Rattle.declarations.specs.Reasons.{at, when}
-use Rattle.name_table.specs.Directives.{directive_names}
 use Rattle.name_table.specs.NameRules.{directive_breaches_at, directive_reasons, name_breaches}
 use Rattle.name_table.specs.Resolved.{HasNoBreach}
 use Rattle.name_table.specs.Uses.{Listed, allows}

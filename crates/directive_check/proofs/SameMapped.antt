@@ -3,7 +3,6 @@ use Rattle.std.proofs.Common.{◌≡◌, ℕ, zero, suc, List, [], ◌∷◌, �
 use Rattle.std.specs.Prelude.{◌&&◌, ◌||◌, not, is_some, unwrap_or, if◌then◌else◌}
 use Rattle.std.specs.List.{flat_map}
 use Rattle.hpf_base.specs.declared.mapping.Mapping.{Mapping}
-use Rattle.hpf_base.specs.declared.refusal.Refusal.{Refusal}
 use Rattle.hpf_base.specs.declared.refusal.Reason.TheVariants.{BadDirective}
 use Rattle.syntax_tree.specs.Directive.{Distribution}
 use Rattle.expression_rules.specs.Symbols.{Name, is_among}
@@ -23,7 +22,7 @@ use Rattle.name_table.specs.declared.names.What.TheVariants as what
 use Rattle.distribution_rules.specs.declared.objects.Object.{Object}
 use Rattle.directive_check.specs.ProgramMaps.{distributed_as, mapped_as, new_map, new_maps_from, replicated, shape_of, start_map, start_mapping, start_maps_in, start_of, through, with_root}
 use Rattle.directive_check.specs.MappedObjects.{How, Distributed, Aligned, MappedObject, how_mapped}
-use Rattle.directive_check.specs.Chains.{are_inside, is_aligned, is_on_cycle, meets, root_alignment, root_alignment_from, root_from, root_of, target_in, target_of, through_target}
+use Rattle.directive_check.specs.Chains.{are_inside, is_aligned, meets, root_alignment, root_alignment_from, root_from, root_of, target_in, target_of, through_target}
 use Rattle.directive_check.specs.ChainSteps.{chain_breaches_in}
 use Rattle.directive_check.specs.MappingRules.{chain_reasons, head_reasons, redistribute_breaches_at, redistributee_reasons, root_reasons}
 

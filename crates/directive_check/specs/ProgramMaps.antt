@@ -1,6 +1,6 @@
 -- The mappings of a program's arrays: at the start, and behind each REDISTRIBUTE (HPF 2.0, 3 and 8.1). Where a rule is broken so that a
 -- mapping isn't known, the array counts as replicated; in a program that keeps the rules each mapping is known.
-use Rattle.std.specs.Prelude.{ℕ, suc, List, [], ◌∷◌, ◌++◌, map, ℤ, pos, Option, Some, None, unwrap_or, if◌then◌else◌}
+use Rattle.std.specs.Prelude.{ℕ, suc, List, [], ◌∷◌, ◌++◌, map, pos, Option, Some, None, unwrap_or, if◌then◌else◌}
 use Rattle.std.specs.List.{flat_map}
 use Rattle.hpf_base.specs.Alignment.{composed}
 use Rattle.hpf_base.specs.declared.index.Shape.{Shape}
@@ -78,7 +78,7 @@ start_maps grid p = start_maps_in (setting grid p) (mapped_objects p.declaration
 abbrev pub new_map : Setting → List MappedObject → directive.Distribution → ℕ → Name → List NewMap
 new_map s ms d n x =
     if is_among (root_of s ms x) d.names then
-        record { array = record { 0 = n }; map = unwrap_or (with_root s ms x (distributed_as s d (root_of s ms x))) (replicated s.grid) } ∷ []
+    record { array = record { 0 = n }; map = unwrap_or (with_root s ms x (distributed_as s d (root_of s ms x))) (replicated s.grid) } ∷ []
     else []
 
 abbrev pub new_maps_from : Setting → List MappedObject → directive.Distribution → ℕ → List Object → List NewMap

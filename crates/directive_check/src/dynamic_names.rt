@@ -61,11 +61,7 @@ fn push_directed(
 }
 
 /// These names.
-fn push_names(
-    line: u32,
-    listed: &[Name],
-    names: &mut Vec<DynamicName>,
-) -> Result<(), AllocError>
+fn push_names(line: u32, listed: &[Name], names: &mut Vec<DynamicName>) -> Result<(), AllocError>
     ensures { OnOk result (dynamic names.new.items ≡ dynamic names.old.items ++ map (dynamic_at line) listed.now) }
 {
     for name in listed {
@@ -88,10 +84,7 @@ pub(crate) fn add_name(name: &Name, names: &mut Vec<Name>) -> Result<bool, Alloc
 }
 
 /// The names without their lines, each once.
-pub(crate) fn distinct_names(
-    alloc: Global,
-    names: &[DynamicName],
-) -> Result<Vec<Name>, AllocError>
+pub(crate) fn distinct_names(alloc: Global, names: &[DynamicName]) -> Result<Vec<Name>, AllocError>
     ensures { IfOk result (λ xs. (x : Name) → is_among x xs.items ≡ is_among x (map (λ d. d.name) (dynamic names.now))) }
 {
     let mut distinct = Vec::new(alloc);

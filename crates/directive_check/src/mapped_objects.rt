@@ -28,10 +28,7 @@ pub(crate) fn mapped_objects(
 }
 
 /// Those of a declaration, behind the others.
-fn push_declared<'a>(
-    decl: &'a Decl,
-    objects: &mut Vec<MappedObject<'a>>,
-) -> Result<(), AllocError>
+fn push_declared<'a>(decl: &'a Decl, objects: &mut Vec<MappedObject<'a>>) -> Result<(), AllocError>
     requires { IsListed decl.now }
     ensures { OnOk result (mapped objects.new.items ≡ mapped objects.old.items ++ mapped_by decl.now.line (declared_of decl.now.what)) }
 {

@@ -79,9 +79,7 @@ fn head_reason(
     ensures { IfOk result (λ r. r ≡ least_reason (head_reasons setting.now (mapped objects.now) dynamic.now (head_of head.entry))) }
 {
     match head {
-        Head::Redistribute(spec) => {
-            redistribute_reason(alloc, setting, objects, dynamic, spec)
-        }
+        Head::Redistribute(spec) => { redistribute_reason(alloc, setting, objects, dynamic, spec) }
         _ => Ok(None),
     }
 }

@@ -29,10 +29,7 @@ pub(crate) fn redistributes(
 
 /// Those among the statements, behind the others.
 #[cycle(redistributes)]
-fn push_all<'a>(
-    stmts: &'a [Stmt],
-    found: &mut Vec<Redistribute<'a>>,
-) -> Result<(), AllocError>
+fn push_all<'a>(stmts: &'a [Stmt], found: &mut Vec<Redistribute<'a>>) -> Result<(), AllocError>
     ensures { OnOk result ((xs : List Name) → said found.new.items ≡ said found.old.items ++ redistributes (heads xs (block_of stmts.now))) }
 {
     for stmt in stmts {

@@ -65,8 +65,14 @@ fn root_alignment_from(
     }
     match find_mapped(objects, name) {
         Some(object) => {
-            let found =
-                alignment_through(steps - 1, alloc, setting, objects, name, object.directive)?;
+            let found = alignment_through(
+                steps - 1,
+                alloc,
+                setting,
+                objects,
+                name,
+                object.directive,
+            )?;
             Ok(found)
         }
         None => Ok(Alignment::Unknown),

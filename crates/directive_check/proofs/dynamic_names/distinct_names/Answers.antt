@@ -1,4 +1,4 @@
-use Rattle.std.proofs.Common.{◌∷◌, map, refl}
+use Rattle.std.proofs.Common.{map, refl}
 use Rattle.directive_check.specs.MappedSteps.{dynamic}
 use Rattle.directive_check.proofs.MappedTurns.{distinct_next}
 use Rattle.directive_check.proofs.dynamic_names.distinct_names.Goals as goal

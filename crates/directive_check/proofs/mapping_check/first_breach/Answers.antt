@@ -1,11 +1,11 @@
-use Rattle.std.proofs.Common.{◌≡◌, [], map, ap, sym, ◌∙◌}
+use Rattle.std.proofs.Common.{◌≡◌, [], map, ap, ◌∙◌}
 use Rattle.std.specs.List.{flat_map}
 use Rattle.hpf_base.specs.FirstBreach.{least}
 use Rattle.syntax_tree.specs.MainProgram.{declaration}
 use Rattle.syntax_tree.specs.Statement.{block_of}
 use Rattle.expression_rules.specs.Symbols.{is_among}
 use Rattle.statement_walk.specs.Heads.{all_heads}
-use Rattle.directive_check.specs.MappedObjects.{DynamicName, dynamic_breaches, dynamic_names, dynamic_objects, how_mapped, mapped_objects, mapped_twice}
+use Rattle.directive_check.specs.MappedObjects.{dynamic_breaches, dynamic_names, dynamic_objects, how_mapped, mapped_objects, mapped_twice}
 use Rattle.directive_check.specs.MappedSteps.{dynamic, mapped}
 use Rattle.directive_check.specs.MappingRules.{chain_breaches, declared_breaches, redistribute_breaches_at}
 use Rattle.directive_check.proofs.MappingBreaches.{chained, earliest_of_five}
