@@ -1,5 +1,5 @@
 -- Alignments one after the other (HPF 2.0, 3.4): where an object's alignment leads, through the targets that are aligned themselves.
-use Rattle.std.specs.Prelude.{ℕ, zero, suc, Bool, true, false, ◌&&◌, ◌||◌, nat_lt, bytes_eq, unsigned_abs, is_some, List, [], ◌∷◌, length, ℤ, Option, Some, None, if◌then◌else◌}
+use Rattle.std.specs.Prelude.{ℕ, zero, suc, Bool, true, false, ◌&&◌, ◌||◌, nat_lt, bytes_eq, unsigned_abs, is_some, List, ◌∷◌, length, Option, Some, None, if◌then◌else◌}
 use Rattle.hpf_base.specs.Alignment.{composed_align}
 use Rattle.hpf_base.specs.declared.limits.TheConstants.{MAX_ALIGN_OFFSET}
 use Rattle.hpf_base.specs.declared.mapping.AlignDim.{AlignDim}

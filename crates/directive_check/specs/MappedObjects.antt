@@ -1,5 +1,5 @@
 -- The objects that DISTRIBUTE and ALIGN map, and those of DYNAMIC, one by one (HPF 2.0, 3.3, 3.4 and 8.5).
-use Rattle.std.specs.Prelude.{ℕ, Bool, false, ◌||◌, not, bytes_eq, find, List, [], ◌∷◌, ◌++◌, map, Option, Some, None, option_map}
+use Rattle.std.specs.Prelude.{ℕ, ◌||◌, not, bytes_eq, find, List, [], ◌∷◌, ◌++◌, map, Option, option_map}
 use Rattle.std.specs.List.{flat_map}
 use Rattle.hpf_base.specs.declared.refusal.Reason.TheVariants as reason
 use Rattle.hpf_base.specs.declared.refusal.Refusal.{Refusal}
