@@ -1,2 +1,4 @@
 pub mod LeastReasons
 mod DistributedTurns
+mod ArrangementExtents
+mod ProgramArrays

@@ -13,6 +13,8 @@ mod evaluated_formats;
 mod distributions;
 mod least_reason;
 mod objects;
+mod processors;
+mod program_objects;
 mod setting;
 mod spaces;
 
