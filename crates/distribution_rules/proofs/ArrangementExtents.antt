@@ -79,3 +79,6 @@ is_grid grid ps is all =
       extents = λ k d within. (factors MAX_NODES ps (omega (arith, as_many, some)) few k d within).0;
       nodes = few;
     }
+
+pub as_many : (grid ps : List ℕ) → has_all_nodes grid ps ≡ true → product ps ≡ product grid
+as_many grid ps all = same (product ps) (product grid) (both (nat_le 1 (length ps) && nat_le (length ps) MAX_RANK) (product ps == product grid) all).1

@@ -2,3 +2,5 @@ pub mod LeastReasons
 mod DistributedTurns
 mod ArrangementExtents
 mod ProgramArrays
+mod DistributedLines
+mod DistributedMaps

@@ -11,6 +11,7 @@ mod dimensions;
 mod object_mapping;
 mod evaluated_formats;
 mod distributions;
+mod laws;
 mod least_reason;
 mod objects;
 mod processors;
@@ -23,6 +24,7 @@ pub use evaluated_formats::{
     DistributionValues, FormatValue, FormatValues, ProcessorExtents, Processors,
 };
 pub use distributions::{bad_distributee, bad_distribution, distribution_values};
+pub use laws::distributed_maps;
 pub use least_reason::{lesser, reason_if};
 pub use objects::{Object, ObjectDims, ObjectKind};
 pub use setting::{Setting, dims_of, value_in};
