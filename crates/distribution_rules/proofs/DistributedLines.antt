@@ -72,9 +72,10 @@ pub form_is : (f : FormatValue) (d : Dim) (p : ℕ) (g : Form) → 1 ≤ p → e
     form_of f (extent d) p ≡ Some g → IsForm g (extent d) p × (g ≢ form.Whole)
 form_is Undistributed d p g some few none all is = absurd cc
 form_is DefaultBlock d p g some few none all is =
-    subst (Good (extent d) p) (same_Some _ _ is)
-    ((default_block-some (extent d) p, block_few (extent d) p some few, omega (arith, default_block-all (extent d) p some, mul_comm p (default_block (extent d) p))),
-    block_distributes (default_block (extent d) p))
+    subst (Good (extent d) p) (same_Some _ _ is) (
+      (default_block-some (extent d) p, block_few (extent d) p some few, omega (arith, default_block-all (extent d) p some, mul_comm p (default_block (extent d) p))),
+      block_distributes (default_block (extent d) p),
+    )
 form_is (Block evaluated.Invalid) d p g some few none all is = absurd cc
 form_is (Block evaluated.Unknown) d p g some few none all is = absurd cc
 form_is (Block (evaluated.Known m)) d p g some few none all is =

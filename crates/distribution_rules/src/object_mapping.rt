@@ -152,19 +152,19 @@ fn entry_on(
     ensures { result ≡ option_and_then (λ p. map_dim (distributed_dim format.now place dim grid_dim p)) procs }
 {
     match (dim, procs) {
-        (Some(dim), Some(procs)) => map_dim(format, place as u32, dim, grid_dim as u32, procs as u32),
+        (Some(dim), Some(procs)) => map_dim(
+            format,
+            place as u32,
+            dim,
+            grid_dim as u32,
+            procs as u32,
+        ),
         _ => None,
     }
 }
 
 /// The entry of a dimension of these bounds.
-fn map_dim(
-    format: &FormatValue,
-    place: u32,
-    dim: Dim,
-    grid_dim: u32,
-    procs: u32,
-) -> Option<MapDim>
+fn map_dim(format: &FormatValue, place: u32, dim: Dim, grid_dim: u32, procs: u32) -> Option<MapDim>
     requires { 1 ≤ procs }
     ensures { result ≡ map_dim (distributed_dim format.now place (Some dim) grid_dim procs) }
 {

@@ -84,9 +84,10 @@ pub(crate) fn on_grid(alloc: Global, grid: &Grid, count: usize) -> Result<Proces
 fn grid_extents(alloc: Global, grid: &Grid) -> Result<ProcessorExtents, AllocError>
     ensures { IfOk result (λ ns. ns ≡ grid.now) }
 {
+    let dims = grid.dims();
     let mut extents = ProcessorExtents::new(alloc);
-    for extent in grid.dims() {
-        extents.push(*extent as u128)?;
+    for place in 0..dims.len() {
+        extents.push(dims[place] as u128)?;
     }
     Ok(extents)
 }

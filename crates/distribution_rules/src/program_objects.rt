@@ -152,7 +152,14 @@ fn push_directed(
             Ok(())
         }
         Directive::Processors(entities) => {
-            push_entities(alloc, grid, table, ObjectKind::Arrangement, entities, objects)?;
+            push_entities(
+                alloc,
+                grid,
+                table,
+                ObjectKind::Arrangement,
+                entities,
+                objects,
+            )?;
             Ok(())
         }
         _ => Ok(()),

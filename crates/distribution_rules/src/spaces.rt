@@ -68,7 +68,12 @@ fn bad_arrangements(
 {
     let mut least = None;
     for entity in entities {
-        let found = arrangement_reason(alloc, setting.grid(), setting.table(), space_bounds(entity))?;
+        let found = arrangement_reason(
+            alloc,
+            setting.grid(),
+            setting.table(),
+            space_bounds(entity),
+        )?;
         least = lesser(least, found);
     }
     Ok(least)
