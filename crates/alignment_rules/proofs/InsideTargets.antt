@@ -92,7 +92,7 @@ holds_one (pos zero) h = absurd (omega (arith, ints))
 holds_one (pos (suc n)) h = grind (arith, nat_tests)
 holds_one (negsuc n) h = absurd (omega (arith, ints))
 
-none_empty : (ds : List (Option Dim)) (is : List ℤ) → AreSubscripts ds is → list_any is_empty_dim ds ≡ false
+pub none_empty : (ds : List (Option Dim)) (is : List ℤ) → AreSubscripts ds is → list_any is_empty_dim ds ≡ false
 none_empty [] is h = refl
 none_empty (None ∷ ds) is h = by is h
   where
@@ -125,7 +125,7 @@ or_of : (x y : Bool) → x ≡ true → (not x || y) ≡ true → y ≡ true
 or_of true y e h = h
 or_of false y e h = absurd (false≢true e)
 
-entry_in : (ds : List (Option Dim)) (is : List ℤ) → AreSubscripts ds is → (e : AlignDim) (b : Option Dim) → is_inside ds (Some e) b ≡ true → LiesIn b (aligned e (map Some is))
+pub entry_in : (ds : List (Option Dim)) (is : List ℤ) → AreSubscripts ds is → (e : AlignDim) (b : Option Dim) → is_inside ds (Some e) b ≡ true → LiesIn b (aligned e (map Some is))
 entry_in ds is h e None inside = tt
 entry_in ds is h (align.Linear dim a c) (Some b) inside =
     linear_in b a c (at_place ds dim) (slice_index_or (map Some is) dim None) (along ds is dim h)

@@ -9,7 +9,7 @@ mod Wraps
 mod PairTurns
 mod EntryForms
 mod Quotients
-mod AlignedLaws
-mod InsideTargets
+pub mod AlignedLaws
+pub mod InsideTargets
 mod MovingDims
 mod PlacedTargets

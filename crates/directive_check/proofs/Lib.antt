@@ -1,1 +1,3 @@
 mod ValidChains
+mod ValidInside
+mod ValidShapes
