@@ -9,3 +9,6 @@ mod DirectLaws
 mod MapTurns
 mod MappingBreaches
 mod AllMaps
+mod ValidChains
+mod ValidInside
+mod ValidShapes
