@@ -145,8 +145,9 @@ pair_inside ds p e kept is =
     ap (λ o. is_inside ds o p.bounds) (sym is) ∙ not_false inside (no_or (is_unpaired p) (not inside) rest).1
 
 -- every entry gives the element a subscript inside
-pub maps_into : (ss : List Source) (ds : List (Option Dim)) (cs : List ℕ) (vs : List TargetValue) (bs : List (Option Dim)) (es : List AlignDim) (is : List ℤ) → AreSubscripts ds is →
-    flat_map (pair_reasons ds) (pairs_from ss ds cs vs bs) ≡ [] → all_or_none entry_of (pairs_from ss ds cs vs bs) ≡ Some es → MapsInto bs es is
+pub maps_into : (ss : List Source) (ds : List (Option Dim)) (cs : List ℕ) (vs : List TargetValue) (bs : List (Option Dim))
+    (es : List AlignDim) (is : List ℤ) → AreSubscripts ds is → flat_map (pair_reasons ds) (pairs_from ss ds cs vs bs) ≡ [] →
+    all_or_none entry_of (pairs_from ss ds cs vs bs) ≡ Some es → MapsInto bs es is
 maps_into ss ds cs vs [] es is h kept made_of = tt
 maps_into ss ds cs [] (b ∷ bs) es is h kept made_of = subst (λ l. MapsInto (b ∷ bs) l is) (same_some [] es made_of) tt
 maps_into ss ds cs (v ∷ vs) (b ∷ bs) es is h kept made_of =

@@ -1,11 +1,8 @@
 mod AlignmentParts
-mod FoundNames
 mod Joined
 mod Orders
 mod PairReasons
-mod References
 mod TargetLists
-mod Wraps
 mod PairTurns
 mod EntryForms
 mod Quotients

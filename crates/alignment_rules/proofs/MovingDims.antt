@@ -13,7 +13,7 @@ use Rattle.syntax_tree.specs.Directive.{Source, Dummy, Spread, Collapsed}
 use Rattle.expression_rules.specs.Symbols.{Name}
 use Rattle.expression_rules.specs.declared.dims.Dim.{Dim}
 use Rattle.distribution_rules.specs.Distributed.{all_or_none, and_more}
-use Rattle.alignment_rules.specs.declared.alignment_values.LinearForm.{LinearForm}
+use Rattle.linear_subscripts.specs.declared.form.LinearForm.{LinearForm}
 use Rattle.alignment_rules.specs.declared.alignment_values.Pair.{Pair}
 use Rattle.alignment_rules.specs.declared.alignment_values.TargetValue.{TargetValue}
 use Rattle.alignment_rules.specs.declared.alignment_values.TargetValue.TheVariants.{Every, Subscript, Triplet}
@@ -238,8 +238,9 @@ placed_next ss cs v vs p = record {
 }
 
 -- the first entry beside those behind it
-first_apart : (ss : List Source) (ds : List (Option Dim)) (cs : List ℕ) (v : TargetValue) (vs : List TargetValue) (b along : Option Dim) (bs : List (Option Dim)) (e : AlignDim) (es : List AlignDim) →
-    IsPlaced ss cs (v ∷ vs) → entry_of (pair v b (dimension_of ss cs v) along) ≡ Some e → all_or_none entry_of (pairs_from ss ds (rest_of cs v) vs bs) ≡ Some es → Each (ApartFrom e) es
+first_apart : (ss : List Source) (ds : List (Option Dim)) (cs : List ℕ) (v : TargetValue) (vs : List TargetValue) (b along : Option Dim)
+    (bs : List (Option Dim)) (e : AlignDim) (es : List AlignDim) → IsPlaced ss cs (v ∷ vs) → entry_of (pair v b (dimension_of ss cs v) along) ≡ Some e →
+    all_or_none entry_of (pairs_from ss ds (rest_of cs v) vs bs) ≡ Some es → Each (ApartFrom e) es
 first_apart ss ds cs Every vs b along bs e es p is others =
     subst (λ x. Each (ApartFrom x) es) (same_some align.Every e is) (each_unit es)
 first_apart ss ds cs (Subscript x None) vs b along bs e es p is others = absurd cc

@@ -18,13 +18,13 @@ use Rattle.expression_rules.specs.declared.dims.Dim.{Dim}
 use Rattle.name_table.specs.Directives.{dummies, dummy_of, sources_of, targets_of}
 use Rattle.name_table.specs.Uses.{repeats}
 use Rattle.distribution_rules.specs.Setting.{Setting, dims_of, has_kind, is_array_kind, is_mapped_kind, object}
-use Rattle.alignment_rules.specs.declared.alignment_values.LinearForm.{LinearForm}
+use Rattle.linear_subscripts.specs.declared.form.LinearForm.{LinearForm}
 use Rattle.alignment_rules.specs.declared.alignment_values.TargetValue.{TargetValue}
 use Rattle.alignment_rules.specs.declared.alignment_values.TargetValue.TheVariants.{Every, Subscript, Triplet}
 use Rattle.alignment_rules.specs.AlignmentEntries.{colons_from, dimension_from, is_dummy, is_triplet, pairs}
 use Rattle.alignment_rules.specs.AlignmentRules.{alignee_reasons, alignment_reasons, are_matched, dummies_of_target, is_colon, overlap, pair_reasons, target_reasons}
 use Rattle.alignment_rules.specs.AlignmentValues.{first_dim, first_name, full, list_or, sources, target_value, target_values, targets, values_from}
-use Rattle.alignment_rules.specs.LinearForms.{dummies_in, have_common, linear_form}
+use Rattle.linear_subscripts.specs.LinearForms.{dummies_in, have_common, linear_form}
 use Rattle.alignment_rules.proofs.MovingDims.{Differs, Each, EachLater, IsColonAt, IsLeft, IsPlaced, NameStands, NamesDiffer, StandsIn, at, each_mapped}
 
 -- ---- `:` among the entries of an alignee
@@ -44,7 +44,10 @@ behind_differs ss n c h = λ same. let e = h.is in omega arith
 colons_stand : (n : ℕ) (ss : List Source) → Each (ColonFrom n ss) (colons_from n ss)
 colons_stand n [] = tt
 colons_stand n (Spread ∷ ss) =
-    (record { place = 0; is = omega arith; within = omega arith; colon = refl }, each_mapped (ColonFrom (suc n) ss) (ColonFrom n (Spread ∷ ss)) (behind_one Spread ss n) _ (colons_stand (suc n) ss))
+    (
+      record { place = 0; is = omega arith; within = omega arith; colon = refl },
+      each_mapped (ColonFrom (suc n) ss) (ColonFrom n (Spread ∷ ss)) (behind_one Spread ss n) _ (colons_stand (suc n) ss),
+    )
 colons_stand n (Dummy x ∷ ss) = each_mapped (ColonFrom (suc n) ss) (ColonFrom n (Dummy x ∷ ss)) (behind_one (Dummy x) ss n) _ (colons_stand (suc n) ss)
 colons_stand n (Collapsed ∷ ss) = each_mapped (ColonFrom (suc n) ss) (ColonFrom n (Collapsed ∷ ss)) (behind_one Collapsed ss n) _ (colons_stand (suc n) ss)
 
@@ -142,7 +145,8 @@ value_among s ds b (Placed (Glued first step)) = tt
 value_in_target : (s : Setting) (ds : List Name) (b : Option Dim) (t : Target) → NameAmong (dummies_of_target ds t) (target_value s ds b t)
 value_in_target s ds b Replicated = tt
 value_in_target s ds b (Placed (One e)) =
-    subst (λ xs. NameAmong xs (Subscript (first_name (dummies_in ds e)) (linear_form s ds e))) (sym (append-nil (dummies_in ds e))) (first_among (dummies_in ds e) (linear_form s ds e))
+    subst (λ xs. NameAmong xs (Subscript (first_name (dummies_in ds e)) (linear_form s ds e))) (sym (append-nil (dummies_in ds e)))
+    (first_among (dummies_in ds e) (linear_form s ds e))
 value_in_target s ds b (Placed (Range first last step)) = tt
 value_in_target s ds b (Placed (Glued first step)) = tt
 

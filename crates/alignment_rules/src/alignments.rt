@@ -13,15 +13,16 @@ ghost use Rattle.name_table.specs.Directives.{maybe_expressions};
 ghost use Rattle.name_table.specs.Uses.{repeats};
 ghost use Rattle.distribution_rules.specs.Setting.{has_kind, is_mapped_kind, object, value_in};
 ghost use Rattle.alignment_rules.specs.AlignmentRules.{alignment_reasons, dummies_of_target, is_known_zero, is_zero_part, overlap, part_reasons, target_reasons};
-ghost use Rattle.alignment_rules.specs.LinearForms.{is_free};
+ghost use Rattle.linear_subscripts.specs.LinearForms.{is_free};
 
-use crate::dummies::{dummies_in, is_free};
-use crate::linear_forms::{are_same, has_invalid_part, has_invalid_value, is_linear};
 use crate::repetitions::{has_overlap, repeats};
 use crate::sources::dummies;
 use distribution_rules::{Object, ObjectKind, Setting, lesser, reason_if, value_in};
 use expression_rules::Evaluated;
 use hpf_base::{Name, Reason};
+use linear_subscripts::{
+    are_same, dummies_in, has_invalid_part, has_invalid_value, is_free, is_linear,
+};
 use std::alloc::{AllocError, Global};
 use syntax_tree::{AlignSpec, Expr, Subscript, Target};
 
