@@ -1,6 +1,6 @@
 -- Elements of an alignee inside the bounds of its target.
-use Rattle.std.proofs.Common.{◌≡◌, ◌==◌, ℕ, zero, suc, ℤ, pos, negsuc, neg_ℤ, ◌+◌, ◌*◌, ◌+ℤ◌, ◌-ℤ◌, ◌*ℤ◌, ◌≤ℤ◌, Bool, true, false, List, [], ◌∷◌, ◌++◌, drop, map, Option, Some, None, refl, sym, ap, subst, ◌∙◌, arith}
-use Rattle.std.specs.Prelude.{◌&&◌, ◌||◌, not, option_map, int_le, slice_index_or, if◌then◌else◌}
+use Rattle.std.proofs.Common.{◌≡◌, ◌==◌, ℕ, zero, suc, ℤ, pos, negsuc, neg_ℤ, ◌*◌, ◌+ℤ◌, ◌-ℤ◌, ◌*ℤ◌, ◌≤ℤ◌, Bool, true, false, List, [], ◌∷◌, ◌++◌, drop, map, Option, Some, None, refl, sym, ap, subst, ◌∙◌, arith}
+use Rattle.std.specs.Prelude.{◌||◌, not, option_map, int_le, slice_index_or, if◌then◌else◌}
 use Rattle.std.specs.List.{flat_map, list_any}
 use Rattle.std.proofs.Math.IntN.{pos-*ℤ-negsuc, pos-*ℤ-pos, *ℤ_comm}
 use Rattle.std.proofs.lemmas.Bool.{false≢true}
@@ -11,7 +11,6 @@ use lib.Signed.{le_z_yes}
 use Rattle.hpf_base.specs.Alignment.{aligned}
 use Rattle.hpf_base.specs.declared.mapping.AlignDim.{AlignDim}
 use Rattle.hpf_base.specs.declared.mapping.AlignDim.TheVariants as align
-use Rattle.hpf_base.specs.declared.refusal.Reason.{Reason}
 use Rattle.hpf_base.specs.declared.refusal.Reason.TheVariants as reason
 use Rattle.hpf_base.proofs.Integers.{sum-*ℤ}
 use Rattle.syntax_tree.specs.Directive.{Source}
@@ -24,8 +23,7 @@ use Rattle.alignment_rules.specs.declared.alignment_values.Pair.{Pair}
 use Rattle.alignment_rules.specs.declared.alignment_values.TargetValue.{TargetValue}
 use Rattle.alignment_rules.specs.AlignedEntries.{AreSubscripts, LiesIn, MapsInto}
 use Rattle.alignment_rules.specs.AlignmentEntries.{at_place, dimension_of, entry_of, is_past_limits, is_triplet, pair, pairs_from}
-use Rattle.alignment_rules.specs.AlignmentRules.{has_elements, is_along_inside, is_entry_inside, is_inside, is_unpaired, lies_in, pair_reasons}
-use Rattle.alignment_rules.specs.AlignmentValues.{first_dim}
+use Rattle.alignment_rules.specs.AlignmentRules.{has_elements, is_along_inside, is_inside, is_unpaired, lies_in, pair_reasons}
 use Rattle.alignment_rules.proofs.MovingDims.{made, same_some}
 use Rattle.alignment_rules.proofs.PlacedTargets.{both_true, no_or, not_false, second_empty, when_empty}
 
@@ -92,7 +90,7 @@ holds_one (pos zero) h = absurd (omega (arith, ints))
 holds_one (pos (suc n)) h = grind (arith, nat_tests)
 holds_one (negsuc n) h = absurd (omega (arith, ints))
 
-none_empty : (ds : List (Option Dim)) (is : List ℤ) → AreSubscripts ds is → list_any is_empty_dim ds ≡ false
+pub none_empty : (ds : List (Option Dim)) (is : List ℤ) → AreSubscripts ds is → list_any is_empty_dim ds ≡ false
 none_empty [] is h = refl
 none_empty (None ∷ ds) is h = by is h
   where
@@ -125,7 +123,7 @@ or_of : (x y : Bool) → x ≡ true → (not x || y) ≡ true → y ≡ true
 or_of true y e h = h
 or_of false y e h = absurd (false≢true e)
 
-entry_in : (ds : List (Option Dim)) (is : List ℤ) → AreSubscripts ds is → (e : AlignDim) (b : Option Dim) → is_inside ds (Some e) b ≡ true → LiesIn b (aligned e (map Some is))
+pub entry_in : (ds : List (Option Dim)) (is : List ℤ) → AreSubscripts ds is → (e : AlignDim) (b : Option Dim) → is_inside ds (Some e) b ≡ true → LiesIn b (aligned e (map Some is))
 entry_in ds is h e None inside = tt
 entry_in ds is h (align.Linear dim a c) (Some b) inside =
     linear_in b a c (at_place ds dim) (slice_index_or (map Some is) dim None) (along ds is dim h)

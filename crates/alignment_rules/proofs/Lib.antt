@@ -6,7 +6,7 @@ mod TargetLists
 mod PairTurns
 mod EntryForms
 mod Quotients
-mod AlignedLaws
-mod InsideTargets
-mod MovingDims
-mod PlacedTargets
+pub mod AlignedLaws
+pub mod InsideTargets
+pub mod MovingDims
+pub mod PlacedTargets

@@ -1,12 +1,11 @@
 -- The dimensions of an alignee along which the subscripts of a target move.
-use Rattle.std.proofs.Common.{◌≡◌, ℕ, zero, suc, ℤ, pos, ◌+◌, ◌<◌, ◌≤◌, Bool, true, false, List, [], ◌∷◌, ◌++◌, drop, filter, get_or, length, map, bytes_eq, Option, Some, None, All, refl, sym, ap, subst, ◌∙◌, arith}
-use Rattle.std.specs.Prelude.{◌||◌, ⊤, cond, if◌then◌else◌, AllPairs, slice_index_or}
-use Rattle.std.specs.List.{list_any}
+use Rattle.std.proofs.Common.{◌≡◌, ℕ, zero, suc, pos, ◌<◌, Bool, true, false, List, [], ◌∷◌, drop, filter, length, Option, Some, None, All, refl, sym, ap, subst, ◌∙◌, arith}
+use Rattle.std.specs.Prelude.{cond, if◌then◌else◌, AllPairs, slice_index_or}
 use Rattle.std.specs.Ordering.{int_eq}
 use Rattle.std.proofs.lemmas.Bool.{false≢true}
 use Rattle.std.proofs.lemmas.List.Elements.{All-cons, All-nil}
 use Rattle.std.proofs.lemmas.Slice.Eq.{bytes_eq-Decides}
-use Rattle.hpf_base.specs.Mapping.{IsAlign, MoveApart, moves_along}
+use Rattle.hpf_base.specs.Mapping.{IsAlign, MoveApart}
 use Rattle.hpf_base.specs.declared.mapping.AlignDim.{AlignDim}
 use Rattle.hpf_base.specs.declared.mapping.AlignDim.TheVariants as align
 use Rattle.syntax_tree.specs.Directive.{Source, Dummy, Spread, Collapsed}
@@ -14,7 +13,6 @@ use Rattle.expression_rules.specs.Symbols.{Name}
 use Rattle.expression_rules.specs.declared.dims.Dim.{Dim}
 use Rattle.distribution_rules.specs.Distributed.{all_or_none, and_more}
 use Rattle.linear_subscripts.specs.declared.form.LinearForm.{LinearForm}
-use Rattle.alignment_rules.specs.declared.alignment_values.Pair.{Pair}
 use Rattle.alignment_rules.specs.declared.alignment_values.TargetValue.{TargetValue}
 use Rattle.alignment_rules.specs.declared.alignment_values.TargetValue.TheVariants.{Every, Subscript, Triplet}
 use Rattle.alignment_rules.specs.AlignmentEntries.{at_place, dimension_from, dimension_of, entry_of, is_dummy, is_triplet, pair, pairs_from, triplet_entry}

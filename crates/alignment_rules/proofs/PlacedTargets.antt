@@ -1,15 +1,14 @@
 -- Where the `:` and the dummies of an ALIGN stand that breaks no rule.
-use Rattle.std.proofs.Common.{◌≡◌, ◌==◌, ℕ, zero, suc, ◌+◌, ◌<◌, ◌≤◌, Bool, true, false, List, [], ◌∷◌, ◌++◌, drop, filter, length, map, replicate, bytes_eq, Option, Some, None, refl, sym, ap, subst, ◌∙◌, arith}
+use Rattle.std.proofs.Common.{◌≡◌, ◌==◌, ℕ, zero, suc, ◌+◌, ◌<◌, Bool, true, false, List, [], ◌∷◌, ◌++◌, drop, filter, length, map, replicate, bytes_eq, Option, Some, None, refl, sym, ap, subst, ◌∙◌, arith}
 use Rattle.std.specs.Prelude.{◌&&◌, ◌||◌, not, cond, if◌then◌else◌}
 use Rattle.std.specs.List.{flat_map, list_any}
 use Rattle.std.proofs.lemmas.Bool.{false≢true}
 use Rattle.std.proofs.lemmas.Bool.Decides.{nat_tests}
 use Rattle.std.proofs.lemmas.List.{append-nil}
 use Rattle.std.proofs.lemmas.Slice.Eq.{bytes_eq-Decides}
-use Rattle.hpf_base.specs.declared.mapping.AlignDim.{AlignDim}
 use Rattle.hpf_base.specs.declared.refusal.Reason.{Reason}
 use Rattle.hpf_base.specs.declared.refusal.Reason.TheVariants as reason
-use Rattle.syntax_tree.specs.Expression.{Expression, One, Range, Glued}
+use Rattle.syntax_tree.specs.Expression.{One, Range, Glued}
 use Rattle.syntax_tree.specs.Directive.{Alignment, Source, Dummy, Spread, Collapsed, Target, Placed, Replicated}
 use Rattle.declarations.specs.Reasons.{when}
 use Rattle.expression_rules.specs.Operands.{names_in}
@@ -25,7 +24,7 @@ use Rattle.alignment_rules.specs.AlignmentEntries.{colons_from, dimension_from, 
 use Rattle.alignment_rules.specs.AlignmentRules.{alignee_reasons, alignment_reasons, are_matched, dummies_of_target, is_colon, overlap, pair_reasons, target_reasons}
 use Rattle.alignment_rules.specs.AlignmentValues.{first_dim, first_name, full, list_or, sources, target_value, target_values, targets, values_from}
 use Rattle.linear_subscripts.specs.LinearForms.{dummies_in, have_common, linear_form}
-use Rattle.alignment_rules.proofs.MovingDims.{Differs, Each, EachLater, IsColonAt, IsLeft, IsPlaced, NameStands, NamesDiffer, StandsIn, at, each_mapped}
+use Rattle.alignment_rules.proofs.MovingDims.{Differs, Each, EachLater, IsColonAt, IsPlaced, NameStands, NamesDiffer, StandsIn, at, each_mapped}
 
 -- ---- `:` among the entries of an alignee
 
@@ -43,11 +42,10 @@ behind_differs ss n c h = λ same. let e = h.is in omega arith
 
 colons_stand : (n : ℕ) (ss : List Source) → Each (ColonFrom n ss) (colons_from n ss)
 colons_stand n [] = tt
-colons_stand n (Spread ∷ ss) =
-    (
-      record { place = 0; is = omega arith; within = omega arith; colon = refl },
-      each_mapped (ColonFrom (suc n) ss) (ColonFrom n (Spread ∷ ss)) (behind_one Spread ss n) _ (colons_stand (suc n) ss),
-    )
+colons_stand n (Spread ∷ ss) = (
+  record { place = 0; is = omega arith; within = omega arith; colon = refl },
+  each_mapped (ColonFrom (suc n) ss) (ColonFrom n (Spread ∷ ss)) (behind_one Spread ss n) _ (colons_stand (suc n) ss),
+)
 colons_stand n (Dummy x ∷ ss) = each_mapped (ColonFrom (suc n) ss) (ColonFrom n (Dummy x ∷ ss)) (behind_one (Dummy x) ss n) _ (colons_stand (suc n) ss)
 colons_stand n (Collapsed ∷ ss) = each_mapped (ColonFrom (suc n) ss) (ColonFrom n (Collapsed ∷ ss)) (behind_one Collapsed ss n) _ (colons_stand (suc n) ss)
 
@@ -178,17 +176,19 @@ first_differs : (s : Setting) (ds xs : List Name) (v : TargetValue) (bs : List (
     list_any (have_common xs) (map (dummies_of_target ds) ts) ≡ false → Each (NamesDiffer v) (values_from s ds bs ts)
 first_differs s ds xs v bs [] among none = tt
 first_differs s ds xs v bs (t ∷ ts) among none =
-    let both = no_or (have_common xs (dummies_of_target ds t)) (list_any (have_common xs) (map (dummies_of_target ds) ts)) none in
-    (names_of_two xs (dummies_of_target ds t) both.0 v (target_value s ds (first_dim bs) t) among (value_in_target s ds (first_dim bs) t),
-     first_differs s ds xs v (drop 1 bs) ts among both.1)
+    let both = no_or (have_common xs (dummies_of_target ds t)) (list_any (have_common xs) (map (dummies_of_target ds) ts)) none in (
+      names_of_two xs (dummies_of_target ds t) both.0 v (target_value s ds (first_dim bs) t) among (value_in_target s ds (first_dim bs) t),
+      first_differs s ds xs v (drop 1 bs) ts among both.1,
+    )
 
 all_differ : (s : Setting) (ds : List Name) (bs : List (Option Dim)) (ts : List Target) → overlap (map (dummies_of_target ds) ts) ≡ false →
     EachLater NamesDiffer (values_from s ds bs ts)
 all_differ s ds bs [] none = tt
 all_differ s ds bs (t ∷ ts) none =
-    let both = no_or (list_any (have_common (dummies_of_target ds t)) (map (dummies_of_target ds) ts)) (overlap (map (dummies_of_target ds) ts)) none in
-    (first_differs s ds (dummies_of_target ds t) (target_value s ds (first_dim bs) t) (drop 1 bs) ts (value_in_target s ds (first_dim bs) t) both.0,
-     all_differ s ds (drop 1 bs) ts both.1)
+    let both = no_or (list_any (have_common (dummies_of_target ds t)) (map (dummies_of_target ds) ts)) (overlap (map (dummies_of_target ds) ts)) none in (
+      first_differs s ds (dummies_of_target ds t) (target_value s ds (first_dim bs) t) (drop 1 bs) ts (value_in_target s ds (first_dim bs) t) both.0,
+      all_differ s ds (drop 1 bs) ts both.1,
+    )
 
 all_among : (s : Setting) (ds : List Name) (bs : List (Option Dim)) (ts : List Target) → Each (NameAmong ds) (values_from s ds bs ts)
 all_among s ds bs [] = tt

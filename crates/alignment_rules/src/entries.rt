@@ -184,12 +184,7 @@ fn triplet_count(first: i64, last: i64, step: i64) -> u128
 }
 
 /// A triplet stands for as many subscripts as a dimension has, as far as is known; a stride of 0 breaks another rule.
-fn triplet_has_extent(
-    first: Option<i64>,
-    last: Option<i64>,
-    step: Option<i64>,
-    dim: Dim,
-) -> bool
+fn triplet_has_extent(first: Option<i64>, last: Option<i64>, step: Option<i64>, dim: Dim) -> bool
     ensures { result ≡ has_extent (TargetValue.Triplet first last step) dim }
 {
     match (first, last, step) {

@@ -47,11 +47,7 @@ impl Model for TargetDummies {
 
 /// The dummies of a part of a triplet more, if it is there.
 #[tactic(auto, using(crate::proofs::PairReasons::flat_one))]
-fn push_if_any(
-    found: &mut Vec<Name>,
-    dummies: &[Name],
-    e: &Option<Expr>,
-) -> Result<(), AllocError>
+fn push_if_any(found: &mut Vec<Name>, dummies: &[Name], e: &Option<Expr>) -> Result<(), AllocError>
     ensures { OnOk result (found.new.items ≡ found.old.items ++ flat_map (dummies_in dummies.now) (maybe_expressions (maybe_of e.now))) }
 {
     match e {

@@ -1,5 +1,5 @@
 -- Names with and without subscripts, as a tree has them.
-use Rattle.std.proofs.Common.{◌≡◌, ℕ, List, refl}
+use Rattle.std.proofs.Common.{◌≡◌, List, refl}
 use Rattle.std.specs.Prelude.{◌&&◌}
 use Rattle.syntax_tree.specs.declared.expr.Expr.TheBlock.{Held-Ref-subs, Ref-subs-None', Ref-subs-Some'}
 use Rattle.syntax_tree.specs.Expression.{reference}

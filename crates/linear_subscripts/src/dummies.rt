@@ -13,11 +13,7 @@ use std::alloc::{AllocError, Global};
 use syntax_tree::{Expr, Ref, Subscript};
 
 /// The dummies that an expression names, in the order of the text. An `Err` is want of memory.
-pub fn dummies_in(
-    alloc: Global,
-    dummies: &[Name],
-    e: &Expr,
-) -> Result<Vec<Name>, AllocError>
+pub fn dummies_in(alloc: Global, dummies: &[Name], e: &Expr) -> Result<Vec<Name>, AllocError>
     ensures { IfOk result (λ xs. xs.items ≡ dummies_in dummies.now (expression e.now)) }
 {
     let mut found = Vec::new(alloc);
@@ -134,11 +130,7 @@ fn push_part(found: &mut Vec<Name>, dummies: &[Name], part: &Subscript) -> Resul
 
 /// The same of an expression that may be there.
 #[cycle(dummies)]
-fn push_if_any(
-    found: &mut Vec<Name>,
-    dummies: &[Name],
-    e: &Option<Expr>,
-) -> Result<(), AllocError>
+fn push_if_any(found: &mut Vec<Name>, dummies: &[Name], e: &Option<Expr>) -> Result<(), AllocError>
     ensures { OnOk result (found.new.items ≡ found.old.items ++ filter (λ x. is_among x dummies.now) (names_in_maybe (maybe_of e.now))) }
 {
     match e {

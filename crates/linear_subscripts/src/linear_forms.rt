@@ -8,8 +8,8 @@ ghost use Rattle.declarations.specs.DeclarationRules.{is_invalid};
 ghost use Rattle.distribution_rules.specs.Setting.{value_in};
 ghost use Rattle.linear_subscripts.specs.LinearForms.{are_same, combined_form, constant_form, has_invalid_part, is_free, is_linear, is_product, is_sign, is_sum, linear_form, signed_form, with_both};
 
-use crate::form::LinearForm;
 use crate::dummies::is_free;
+use crate::form::LinearForm;
 use distribution_rules::{Setting, value_in};
 use expression_rules::{Evaluated, is_among};
 use hpf_base::Name;
@@ -105,11 +105,7 @@ fn is_invalid(value: &Evaluated<i64>) -> bool
 }
 
 /// Whether an expression isn't constant, or divides by zero. An `Err` is want of memory.
-pub fn has_invalid_value(
-    alloc: Global,
-    setting: &Setting,
-    e: &Expr,
-) -> Result<bool, AllocError>
+pub fn has_invalid_value(alloc: Global, setting: &Setting, e: &Expr) -> Result<bool, AllocError>
     ensures { IfOk result (λ b. b ≡ is_invalid (value_in setting.now (expression e.now))) }
 {
     let value = value_in(alloc, setting, e)?;

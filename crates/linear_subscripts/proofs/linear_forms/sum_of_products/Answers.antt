@@ -1,4 +1,4 @@
-use Rattle.std.proofs.Common.{ℤ, ◌*ℤ◌, ◌+ℤ◌, ap, ◌∙◌, of_z, to_z}
+use Rattle.std.proofs.Common.{ℤ, ◌*ℤ◌, ◌+ℤ◌, ◌∙◌, of_z, to_z}
 use Rattle.std.proofs.lemmas.Int.{SFits-int_wrap, to_z-of_z, wrapping_add_is}
 use Rattle.std.specs.Int.{int_wrapping_add, w64}
 use Rattle.op_tables.specs.Operators.{wrapped}
