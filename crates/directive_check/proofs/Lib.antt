@@ -1,3 +1,5 @@
 mod ValidChains
 mod ValidInside
 mod ValidShapes
+mod ValidMapped
+mod ValidStarts
