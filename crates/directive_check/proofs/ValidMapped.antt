@@ -1,12 +1,11 @@
 -- What holds of the objects that directives map, where no rule is broken.
-use Rattle.std.proofs.Common.{◌≡◌, ℕ, Bool, true, false, ◌⊎◌, inl, cond, bytes_eq, find, List, [], ◌∷◌, ◌++◌, map, Option, Some, None, option_map, refl, sym, ap, subst, ◌∙◌}
+use Rattle.std.proofs.Common.{◌≡◌, ℕ, Bool, true, false, inl, cond, bytes_eq, find, List, [], ◌∷◌, ◌++◌, map, Option, Some, option_map, refl, sym, subst, ◌∙◌}
 use Rattle.std.specs.List.{flat_map}
 use Rattle.std.specs.Prelude.{⊤, if◌then◌else◌}
 use Rattle.std.proofs.lemmas.Option.{same_Some}
 use Rattle.std.proofs.lemmas.Slice.Eq.{bytes_eq-Decides}
 use Rattle.hpf_base.specs.FirstBreach.{Among}
 use Rattle.hpf_base.specs.Refusal.{NoBreach}
-use Rattle.hpf_base.specs.declared.mapping.AlignDim.{AlignDim}
 use Rattle.hpf_base.specs.declared.refusal.Reason.{Reason}
 use Rattle.hpf_base.specs.declared.refusal.Refusal.{Refusal}
 use Rattle.syntax_tree.specs.Directive as directive
@@ -14,14 +13,12 @@ use Rattle.syntax_tree.specs.MainProgram.{Declared, ImplicitNone, Integer, Param
 use Rattle.expression_rules.specs.Symbols.{Name}
 use Rattle.declarations.specs.Reasons.{at}
 use Rattle.distribution_rules.specs.DistributionRules.{distribution_reasons, distribution_values, distributee_reasons}
-use Rattle.distribution_rules.specs.Setting.{Setting, dims_of, object}
-use Rattle.alignment_rules.specs.declared.alignment_values.Alignment.TheVariants.{Known}
-use Rattle.alignment_rules.specs.AlignmentEntries.{alignment_of}
+use Rattle.distribution_rules.specs.Setting.{Setting, object}
 use Rattle.alignment_rules.specs.AlignmentRules.{alignee_reasons, alignment_reasons}
 use Rattle.alignment_rules.proofs.AlignedLaws.{are_aligned}
 use Rattle.directive_check.specs.MappedObjects.{How, Aligned, Distributed, MappedObject, how_mapped, mapped_by, mapped_object, mapped_objects}
-use Rattle.directive_check.specs.MappingRules.{chain_breaches, chain_reasons, declared_breaches, declared_reasons}
-use Rattle.directive_check.proofs.ValidChains.{AreSound, IsSound}
+use Rattle.directive_check.specs.MappingRules.{chain_reasons, declared_breaches, declared_reasons}
+use Rattle.directive_check.proofs.ValidChains.{AreSound}
 
 -- ---- lists without breaches
 

@@ -1,22 +1,17 @@
 -- The mappings with which arrays start are valid, where no rule is broken.
-use Rattle.std.proofs.Common.{◌≡◌, ℕ, Bool, true, false, List, [], ◌∷◌, ◌++◌, length, map, All, Option, Some, None, refl, sym, ap, subst, ◌∙◌, arith}
-use Rattle.std.specs.List.{flat_map, list_any}
+use Rattle.std.proofs.Common.{◌≡◌, ℕ, Bool, true, false, List, [], ◌∷◌, get_or, length, get_or, map, All, Option, Some, None, refl, sym, ap, subst, ◌∙◌, arith}
 use Rattle.std.specs.Prelude.{⊤, IfSome, is_some, unwrap_or, ◌&&◌, not, if◌then◌else◌}
 use Rattle.std.proofs.lemmas.List.{length-map}
 use Rattle.std.proofs.lemmas.List.Elements.{All-append, All-cons, All-nil}
 use Rattle.std.proofs.lemmas.Option.{same_Some}
 use Rattle.hpf_base.specs.Alignment.{composed}
 use Rattle.hpf_base.specs.ElementOrder.{elements, product}
-use Rattle.hpf_base.specs.FirstBreach.{Among}
 use Rattle.hpf_base.specs.Grid.{IsGrid}
 use Rattle.hpf_base.specs.Mapping.{IsMapping}
-use Rattle.hpf_base.specs.Refusal.{NoBreach}
 use Rattle.hpf_base.specs.declared.mapping.AlignDim.{AlignDim}
 use Rattle.hpf_base.specs.declared.mapping.Mapping.{Mapping}
-use Rattle.hpf_base.specs.declared.refusal.Reason.{Reason}
 use Rattle.hpf_base.specs.declared.refusal.Reason.TheVariants as reason
 use Rattle.syntax_tree.specs.Directive as directive
-use Rattle.syntax_tree.specs.MainProgram.{MainProgram}
 use Rattle.expression_rules.specs.Dims.{AreDims, IsDim}
 use Rattle.expression_rules.specs.Symbols.{Name}
 use Rattle.expression_rules.specs.declared.dims.Dim.{Dim}
@@ -104,11 +99,12 @@ chain_of s ms x ds r zs own sound none is known = record {
   valid = subst (λ n. IsMapping n (composed r zs)) (ap length own ∙ same_rank ds) (chain_valid (length s.names) s ms sound x (how_mapped ms x) refl zs r known is.valid);
   onto = is.onto;
   inside = λ k z within.
-      let element = subst (λ bs. AreSubscripts bs _) (sym own) (all_elements ds k z within) in
-      composed_inside (dims_of s (root_of s ms x)) (dims_of s x) zs r _ is.lines element
+      let index = get_or (elements (shape_of ds)) k z in
+      let element = subst (λ bs. AreSubscripts bs index) (sym own) (all_elements ds k z within) in
+      composed_inside (dims_of s (root_of s ms x)) (dims_of s x) zs r index is.lines element
       (inside_true (has_elements (dims_of s x)) (are_inside (dims_of s x) zs (dims_of s (root_of s ms x)))
       (subst (λ a. root_reasons s ms x a ≡ []) known (none_of (when (is_on_cycle s ms x) reason.BadDirective) (root_reasons s ms x (root_alignment s ms x)) none).1)
-      (ap not (none_empty (dims_of s x) _ element)));
+      (ap not (none_empty (dims_of s x) index element)));
 }
 
 -- what is put through an alignment
