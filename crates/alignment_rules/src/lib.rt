@@ -1,0 +1,26 @@
+//! The rules of ALIGN (HPF 2.0, 3.4).
+//!
+//! Comes in: the setting of a program and its ALIGN directives one by one. Goes out: the least reason for which an ALIGN or one of its
+//! alignees breaks a rule, and the alignment of each alignee. What holds in between: the subscripts and triplets of a target are judged by
+//! their values, which don't depend on the alignee; numbers are wide until they are within the limits.
+#![tactic(auto)]
+
+mod alignees;
+mod alignment_values;
+mod alignments;
+mod entries;
+mod fits;
+mod inside;
+mod laws;
+mod pairs;
+mod repetitions;
+mod sources;
+mod target_parts;
+
+pub use alignees::{alignment_of, bad_alignee};
+pub use alignment_values::{AlignDims, Alignment, Pair, TargetValue, TargetValues};
+pub use alignments::bad_alignment;
+pub use fits::align_fits;
+pub use inside::{has_elements, is_inside};
+pub use laws::aligned_entries;
+pub use target_parts::target_values;

@@ -1,0 +1,122 @@
+//! The mappings of a program's arrays.
+
+ghost use Rattle.std.specs.Prelude.{◌≡◌};
+
+use hpf_base::{ArrayId, Mapping, Name, Shape};
+use std::marker::Model;
+
+/// An array with the mapping that it has when the program starts.
+#[derive(Debug, Drop)]
+pub struct ArrayMap {
+    pub name: Name,
+    pub shape: Shape,
+    pub start: Mapping,
+}
+
+/// A mapping that an array is given while the program runs.
+#[derive(Debug, Drop)]
+pub struct NewMap {
+    pub array: ArrayId,
+    pub map: Mapping,
+}
+
+/// The arrays of a program, in the order of their declarations. An `ArrayId` is a place in this list, from 0. Contracts see the list.
+#[derive(Debug, Drop)]
+pub struct ArrayMaps {
+    entries: Vec<ArrayMap>,
+}
+
+impl Model for ArrayMaps {
+    ghost use Rattle.std.specs.Prelude.{List};
+    ghost use Rattle.array_maps.specs.declared.maps.ArrayMap.{ArrayMap};
+
+    ghost Value = { List ArrayMap };
+
+    ghost view = { λ a. a.entries.items };
+}
+
+impl ArrayMaps {
+    /// These arrays, in their order. It takes no memory.
+    pub fn new(entries: Vec<ArrayMap>) -> ArrayMaps
+        ensures { result ≡ entries.items }
+    {
+        ArrayMaps { entries }
+    }
+
+    /// The arrays in order.
+    pub fn as_slice(&self) -> &[ArrayMap]
+        ensures { result.now ≡ self.now }
+    {
+        &self.entries
+    }
+}
+
+/// What a REDISTRIBUTE does: each array that it moves, once, in the order of the declarations, with its new mapping (HPF 2.0, REDISTRIBUTE).
+/// Contracts see the list.
+#[derive(Debug, Drop)]
+pub struct NewMaps {
+    entries: Vec<NewMap>,
+}
+
+impl Model for NewMaps {
+    ghost use Rattle.std.specs.Prelude.{List};
+    ghost use Rattle.array_maps.specs.declared.maps.NewMap.{NewMap};
+
+    ghost Value = { List NewMap };
+
+    ghost view = { λ n. n.entries.items };
+}
+
+impl NewMaps {
+    /// These new mappings, in their order. It takes no memory.
+    pub fn new(entries: Vec<NewMap>) -> NewMaps
+        ensures { result ≡ entries.items }
+    {
+        NewMaps { entries }
+    }
+
+    /// The new mappings in order.
+    pub fn as_slice(&self) -> &[NewMap]
+        ensures { result.now ≡ self.now }
+    {
+        &self.entries
+    }
+}
+
+/// What each REDISTRIBUTE of a program does, in the order of the text. Contracts see the list of lists.
+#[derive(Debug, Drop)]
+pub struct Redistributions {
+    entries: Vec<NewMaps>,
+}
+
+impl Model for Redistributions {
+    ghost use Rattle.std.specs.Prelude.{List};
+    ghost use Rattle.array_maps.specs.declared.maps.NewMap.{NewMap};
+
+    ghost Value = { List (List NewMap) };
+
+    ghost view = { λ r. r.entries.items };
+}
+
+impl Redistributions {
+    /// These redistributions, in their order. It takes no memory.
+    pub fn new(entries: Vec<NewMaps>) -> Redistributions
+        ensures { result ≡ entries.items }
+    {
+        Redistributions { entries }
+    }
+
+    /// The redistributions in order.
+    pub fn as_slice(&self) -> &[NewMaps]
+        ensures { result.now ≡ self.now }
+    {
+        &self.entries
+    }
+}
+
+/// The mappings of a program: those with which its arrays start, and those that its redistributions give.
+#[derive(Debug, Drop)]
+pub struct Maps {
+    pub arrays: ArrayMaps,
+    pub moves: Redistributions,
+}

@@ -1,0 +1,23 @@
+//! The rules of mapping directives over a whole program, and the mappings of its arrays (HPF 2.0, 3 and 8).
+//!
+//! Comes in: a program whose names are resolved, and a processor grid. Goes out: each array's mapping at the start and the new mappings of
+//! each REDISTRIBUTE, or the first breach of the rules of mapping directives. What holds in between: alignments are composed along their
+//! chain, and what is past the limits stays past them.
+#![tactic(auto)]
+
+mod chain_rules;
+mod chains;
+mod composed_alignments;
+mod declared_rules;
+mod direct_mappings;
+mod dynamic_names;
+mod mapped_object;
+mod mapped_objects;
+mod mapping_check;
+mod program_maps;
+mod redistribute_judge;
+mod redistributes;
+mod root_alignments;
+mod subscripts;
+
+pub use mapping_check::check_mapping;

@@ -1,0 +1,6 @@
+pub mod LeastReasons
+mod DistributedTurns
+mod ArrangementExtents
+mod ProgramArrays
+mod DistributedLines
+pub mod DistributedMaps

@@ -1,0 +1,210 @@
+//! The rules of DISTRIBUTE and REDISTRIBUTE (HPF 2.0, 3.3 and 8.1).
+
+ghost use Rattle.std.specs.Prelude.{◌≡◌, ◌≤◌, ◌∷◌, [], map, option_copied, Some, IfOk};
+ghost use Rattle.std.specs.List.{flat_map};
+ghost use Rattle.syntax_tree.specs.Directive.{distribution, format_of};
+ghost use Rattle.declarations.specs.Declaring.{least_reason};
+ghost use Rattle.distribution_rules.specs.DistributionRules.{distributed_count, distributee_reasons, distribution_reasons, distribution_values, format_reasons, format_value, processors_of, processors_reasons, size_reasons};
+ghost use Rattle.distribution_rules.specs.Setting.{is_array_kind, is_mapped_kind};
+
+use crate::blocks::has_small_block;
+use crate::evaluated_formats::{DistributionValues, FormatValue, FormatValues, Processors};
+use crate::least_reason::{lesser, reason_if};
+use crate::objects::{Object, ObjectKind};
+use crate::processors::{on_grid, onto_object};
+use crate::setting::{Setting, value_in};
+use crate::spaces::has_wide;
+use expression_rules::Evaluated;
+use hpf_base::{MAX_BLOCK, MAX_CYCLIC, Name, Reason};
+use std::alloc::{AllocError, Global};
+use syntax_tree::{DistSpec, Format};
+
+/// The formats of a DISTRIBUTE or REDISTRIBUTE, with the values of their expressions, and the processors. An `Err` is want of memory.
+pub fn distribution_values(
+    alloc: Global,
+    setting: &Setting,
+    spec: &DistSpec,
+) -> Result<DistributionValues, AllocError>
+    ensures { IfOk result (λ v. v ≡ distribution_values setting.now (distribution spec.now)) }
+{
+    let formats = format_values(alloc, setting, &spec.formats)?;
+    let count = distributed_count(&spec.formats);
+    let processors = processors_of(alloc, setting, &spec.onto, count)?;
+    Ok(DistributionValues {
+        formats,
+        processors,
+    })
+}
+
+/// Formats, with the values of their expressions.
+fn format_values(
+    alloc: Global,
+    setting: &Setting,
+    formats: &[Format],
+) -> Result<FormatValues, AllocError>
+    ensures { IfOk result (λ vs. vs ≡ map (format_value setting.now) (map format_of formats.now)) }
+{
+    let mut values = Vec::new(alloc);
+    for format in formats {
+        let value = format_value(alloc, setting, format)?;
+        values.push(value)?;
+    }
+    Ok(FormatValues::new(values))
+}
+
+/// A format, with the value of the expression behind it.
+fn format_value(
+    alloc: Global,
+    setting: &Setting,
+    format: &Format,
+) -> Result<FormatValue, AllocError>
+    ensures { IfOk result (λ v. v ≡ format_value setting.now (format_of format.now)) }
+{
+    match format {
+        Format::Star => Ok(FormatValue::Undistributed),
+        Format::Block(None) => Ok(FormatValue::DefaultBlock),
+        Format::Block(Some(m)) => {
+            let found = value_in(alloc, setting, m)?;
+            Ok(FormatValue::Block(found))
+        }
+        Format::Cyclic(None) => Ok(FormatValue::Cyclic(Evaluated::Known(1))),
+        Format::Cyclic(Some(k)) => {
+            let found = value_in(alloc, setting, k)?;
+            Ok(FormatValue::Cyclic(found))
+        }
+    }
+}
+
+/// How many of the dimensions are distributed.
+fn distributed_count(formats: &[Format]) -> usize
+    ensures { result ≡ distributed_count (map format_of formats.now) }
+{
+    let mut count = 0;
+    for format in formats {
+        count += one_if_distributed(format);
+    }
+    count
+}
+
+/// 1 for a dimension that is distributed, 0 for one that isn't.
+fn one_if_distributed(format: &Format) -> usize
+    ensures value { result ≡ distributed_count (format_of format.now ∷ []) }
+    ensures few { result ≤ 1 }
+{
+    match format {
+        Format::Star => 0,
+        Format::Block(_) | Format::Cyclic(_) => 1,
+    }
+}
+
+/// The processors over which so many dimensions are distributed.
+fn processors_of(
+    alloc: Global,
+    setting: &Setting,
+    onto: &Option<Name>,
+    count: usize,
+) -> Result<Processors, AllocError>
+    ensures { IfOk result (λ p. p ≡ processors_of setting.now onto.now count) }
+{
+    match onto {
+        None => on_grid(alloc, setting.grid(), count),
+        Some(name) => onto_object(alloc, setting.object(name), count),
+    }
+}
+
+/// The least reason for which a distribution breaks a rule, whatever its distributees are; None exactly where it breaks none. It takes no
+/// memory.
+#[tactic(auto, using(crate::proofs::LeastReasons::least_reason_append))]
+pub fn bad_distribution(values: &DistributionValues) -> Option<Reason>
+    ensures { result ≡ least_reason (distribution_reasons values.now) }
+{
+    lesser(
+        formats_reason(values.formats.as_slice()),
+        processors_reason(&values.processors),
+    )
+}
+
+/// The least reason for which formats break a rule.
+fn formats_reason(formats: &[FormatValue]) -> Option<Reason>
+    ensures { result ≡ least_reason (flat_map format_reasons formats.now) }
+{
+    let mut least = None;
+    for format in formats {
+        least = lesser(least, format_reason(format));
+    }
+    least
+}
+
+/// The same of one format.
+fn format_reason(format: &FormatValue) -> Option<Reason>
+    ensures { result ≡ least_reason (format_reasons format.now) }
+{
+    match format {
+        FormatValue::Undistributed | FormatValue::DefaultBlock => None,
+        FormatValue::Block(m) => size_reason(MAX_BLOCK, m),
+        FormatValue::Cyclic(k) => size_reason(MAX_CYCLIC, k),
+    }
+}
+
+/// The same of m of BLOCK(m) or k of CYCLIC(k), which is at least 1 and at most so much.
+fn size_reason(most: u64, size: &Evaluated<i64>) -> Option<Reason>
+    ensures { result ≡ least_reason (size_reasons most size.now) }
+{
+    match size {
+        Evaluated::Invalid => Some(Reason::BadConstant),
+        Evaluated::Unknown => None,
+        Evaluated::Known(n) => lesser(
+            reason_if(*n < 1, Reason::BadDirective),
+            reason_if(*n as i128 > most as i128, Reason::Limit),
+        ),
+    }
+}
+
+/// The reason for which there are no processors.
+fn processors_reason(processors: &Processors) -> Option<Reason>
+    ensures { result ≡ least_reason (processors_reasons processors.now) }
+{
+    match processors {
+        Processors::Missing(reason) => Some(*reason),
+        Processors::Extents(_) | Processors::Unknown => None,
+    }
+}
+
+/// The least reason for which the distribution of an object breaks a rule; None exactly where it breaks none. The object None stands for a
+/// name that is no array, template or arrangement. It takes no memory.
+pub fn bad_distributee(values: &DistributionValues, object: Option<&Object>) -> Option<Reason>
+    ensures { result ≡ least_reason (distributee_reasons values.now (option_copied object.entry)) }
+{
+    match object {
+        None => Some(Reason::BadDirective),
+        Some(object) => distributee_reason(values, object),
+    }
+}
+
+/// The same of an array, a template or an arrangement.
+fn distributee_reason(values: &DistributionValues, object: &Object) -> Option<Reason>
+    ensures { result ≡ least_reason (distributee_reasons values.now (Some object.now)) }
+{
+    let dims = object.dims.as_slice();
+    if !is_mapped(object.kind) || values.formats.as_slice().len() != dims.len() {
+        return Some(Reason::BadDirective);
+    }
+    lesser(
+        reason_if(is_array(object.kind) && has_wide(dims), Reason::Limit),
+        reason_if(has_small_block(values, dims), Reason::BadDirective),
+    )
+}
+
+/// Whether it is an array or a template.
+fn is_mapped(kind: ObjectKind) -> bool
+    ensures { result ≡ is_mapped_kind kind }
+{
+    !matches!(kind, ObjectKind::Arrangement)
+}
+
+/// Whether it is an array.
+fn is_array(kind: ObjectKind) -> bool
+    ensures { result ≡ is_array_kind kind }
+{
+    matches!(kind, ObjectKind::Array)
+}

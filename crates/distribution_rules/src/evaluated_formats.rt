@@ -1,0 +1,113 @@
+//! Distributions with the values of their expressions (HPF 2.0, 3.3).
+
+ghost use Rattle.std.specs.Prelude.{◌≡◌, ◌≤◌, ◌^◌, ◌++◌, ◌∷◌, [], All, OnOk};
+
+use expression_rules::Evaluated;
+use hpf_base::Reason;
+use std::alloc::{AllocError, Global};
+use std::marker::Model;
+
+/// A format of a dimension, with the value of the expression behind it. CYCLIC alone is CYCLIC(1).
+#[derive(Debug, Drop)]
+pub enum FormatValue {
+    Undistributed,
+    /// BLOCK alone.
+    DefaultBlock,
+    Block(Evaluated<i64>),
+    Cyclic(Evaluated<i64>),
+}
+
+/// Formats, that of the first dimension first. Contracts see their list.
+#[derive(Debug, Drop)]
+pub struct FormatValues {
+    formats: Vec<FormatValue>,
+}
+
+impl Model for FormatValues {
+    ghost use Rattle.std.specs.Prelude.{List};
+    ghost use Rattle.distribution_rules.specs.declared.evaluated_formats.FormatValue.{FormatValue};
+
+    ghost Value = { List FormatValue };
+
+    ghost view = { λ f. f.formats.items };
+}
+
+impl FormatValues {
+    /// These formats. It takes no memory.
+    pub(crate) fn new(formats: Vec<FormatValue>) -> FormatValues
+        ensures { result ≡ formats.items }
+    {
+        FormatValues { formats }
+    }
+
+    /// The formats in order.
+    pub fn as_slice(&self) -> &[FormatValue]
+        ensures { result.now ≡ self.now }
+    {
+        &self.formats
+    }
+}
+
+/// The extents of an arrangement of processors, that of the first dimension first. Contracts see their list.
+#[derive(Debug, Drop)]
+pub struct ProcessorExtents {
+    extents: Vec<u128>,
+}
+
+impl Model for ProcessorExtents {
+    ghost use Rattle.std.specs.Prelude.{List, ℕ};
+
+    ghost Value = { List ℕ };
+
+    ghost view = { λ p. p.extents.items };
+
+    ghost use Rattle.std.specs.Prelude.{◌≤◌, ◌^◌, All};
+
+    ghost invariant = { λ p. All (λ n. n ≤ 2 ^ 64) p.extents.items };
+}
+
+impl ProcessorExtents {
+    /// No extents. It takes no memory.
+    pub(crate) fn new(alloc: Global) -> ProcessorExtents
+        ensures { result ≡ [] }
+    {
+        ProcessorExtents {
+            extents: Vec::new(alloc),
+        }
+    }
+
+    /// One extent more, at the end.
+    pub(crate) fn push(&mut self, extent: u128) -> Result<(), AllocError>
+        requires { extent ≤ 2 ^ 64 }
+        ensures { OnOk result (self.new ≡ self.old ++ extent ∷ []) }
+    {
+        self.extents.push(extent)?;
+        Ok(())
+    }
+
+    /// The extents in order.
+    pub fn as_slice(&self) -> &[u128]
+        ensures value { result.now ≡ self.now }
+        ensures few { All (λ n. n ≤ 2 ^ 64) self.now }
+    {
+        &self.extents
+    }
+}
+
+/// The processors over which dimensions are distributed.
+#[derive(Debug, Drop)]
+pub enum Processors {
+    /// An arrangement of these extents.
+    Extents(ProcessorExtents),
+    /// An arrangement whose extents aren't known, or of which one is 0.
+    Unknown,
+    /// None, for this reason.
+    Missing(Reason),
+}
+
+/// A DISTRIBUTE or REDISTRIBUTE: a format for each dimension, and the processors.
+#[derive(Debug, Drop)]
+pub struct DistributionValues {
+    pub formats: FormatValues,
+    pub processors: Processors,
+}
