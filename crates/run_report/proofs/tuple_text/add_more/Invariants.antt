@@ -1,7 +1,7 @@
 use Rattle.std.proofs.Common.{◌≡◌, ◌++◌, ◌∷◌, drop}
 use Rattle.std.specs.Fmt.{signed_decimal}
 use Rattle.std.specs.List.{flat_map}
-use Rattle.run_report.proofs.fault_text.add_more.Given as goal
+use Rattle.run_report.proofs.tuple_text.add_more.Given as goal
 
 -- what is added, before what is left
 abbrev pub invariant-loop-number : goal.invariant-loop-number
