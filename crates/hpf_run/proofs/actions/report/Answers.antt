@@ -4,7 +4,7 @@ use Rattle.serial_run.specs.Completions.{fault}
 use Rattle.serial_run.specs.Outcomes.{end_seen, outcome_seen}
 use Rattle.hpf_run.specs.Outcome.{IsReportOf, report_end, report_fault}
 use Rattle.hpf_run.specs.Reply.{reported, reported_memory}
-use Rattle.hpf_run.proofs.serial_text.report.Goals as goal
+use Rattle.hpf_run.proofs.actions.report.Goals as goal
 
 pub returns-in-Finished : goal.returns-in-Finished
 returns-in-Finished c = λ names. reported _ (report_end (ap end_seen c.in-Finished.is))

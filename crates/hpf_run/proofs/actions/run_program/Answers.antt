@@ -1,6 +1,6 @@
 use Rattle.std.proofs.Common.{subst}
 use Rattle.hpf_run.specs.Reply.{IsReported, outcome_of, reported_memory}
-use Rattle.hpf_run.proofs.serial_text.run_program.Goals as goal
+use Rattle.hpf_run.proofs.actions.run_program.Goals as goal
 
 pub returns-in-Ok : goal.returns-in-Ok
 returns-in-Ok c =
