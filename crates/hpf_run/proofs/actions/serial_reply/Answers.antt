@@ -16,7 +16,7 @@ returns-in-None c = λ grid text.
     let p = main_program c.args.program.now.tree in
     let built = ap (λ l. least (flat_map left_out (marks (block_of l)))) (sym c.deref.ensures.value) ∙ sym c.first_independent.ensures ∙ c.in-None.is in
     reported-meant grid text p (outcome_of c.run_program.result) built
-    (subst (λ es. IsReported es (outcome es p.body) (outcome_of c.run_program.result)) c.requires c.run_program.ensures)
+    (subst (λ es. IsReported es (outcome es p.body) (outcome_of c.run_program.result)) c.requires.names c.run_program.ensures)
 
 pub returns-in-Some : goal.returns-in-Some
 returns-in-Some c = λ grid text.
