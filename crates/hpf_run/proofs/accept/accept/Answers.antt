@@ -12,14 +12,14 @@ use Rattle.hpf_run.proofs.accept.accept.Goals as goal
 
 pub returns-in_err-tree-clause-refused : goal.returns-in_err-tree-clause-refused
 returns-in_err-tree-clause-refused c =
-    let p = err_from_is_err_and c.from_residual.result c.from_residual.ensures.1 in
-    rw (p.1, p.2)
+    let error = err_from_is_err_and c.from_residual.result c.from_residual.ensures.1 in
+    rw (error.1, error.2)
     (unread c.args.grid.now c.args.text.now c.in_err-tree.field-0.0 c.in_err-tree.ensures.refused)
 
 pub returns-in_err-program-clause-refused : goal.returns-in_err-program-clause-refused
 returns-in_err-program-clause-refused c =
-    let p = err_from_is_err_and c.from_residual-in_err-program.result c.from_residual-in_err-program.ensures.1 in
-    rw (p.1, p.2)
+    let error = err_from_is_err_and c.from_residual-in_err-program.result c.from_residual-in_err-program.ensures.1 in
+    rw (error.1, error.2)
     (misnamed c.args.grid.now c.args.text.now (main_program c.in_ok-tree.tree) c.in_err-program.field-0.0 c.in_ok-tree.ensures.fine c.in_ok-tree.ensures.meant
     c.in_err-program.ensures.refused)
 
@@ -31,20 +31,20 @@ check_mapping-requires-clause-resolved c = subst (λ t. HasNoBreach (main_progra
 
 pub returns-in_err-maps-clause-refused : goal.returns-in_err-maps-clause-refused
 returns-in_err-maps-clause-refused c =
-    let p = err_from_is_err_and c.from_residual-in_err-maps.result c.from_residual-in_err-maps.ensures.1 in
+    let error = err_from_is_err_and c.from_residual-in_err-maps.result c.from_residual-in_err-maps.ensures.1 in
     let same = sym c.in_ok-program.ensures.tree in
-    rw (p.1, p.2)
+    rw (error.1, error.2)
     (mismapped c.args.grid.now c.args.text.now (main_program c.in_ok-program.program.tree) c.in_err-maps.field-0.0 c.in_ok-tree.ensures.fine
     (subst (λ t. IsMeantBy c.args.text.now (main_program t)) same c.in_ok-tree.ensures.meant)
     (subst (λ t. HasNoBreach (main_program t)) same c.in_ok-program.ensures.fine) c.in_err-maps.ensures.refused)
 
 pub returns-in_err-check_bodies-clause-refused : goal.returns-in_err-check_bodies-clause-refused
 returns-in_err-check_bodies-clause-refused c =
-    let p = err_from_is_err_and c.from_residual-in_err-check_bodies.result c.from_residual-in_err-check_bodies.ensures.1 in
+    let error = err_from_is_err_and c.from_residual-in_err-check_bodies.result c.from_residual-in_err-check_bodies.ensures.1 in
     let same = sym c.in_ok-program.ensures.tree in
     let p = main_program c.in_ok-program.program.tree in
     let names = c.in_ok-program.ensures.names ∙ ap (λ t. entries (main_program t)) same in
-    rw (p.1, p.2)
+    rw (error.1, error.2)
     (misbodied c.args.grid.now c.args.text.now p c.in_err-check_bodies.field-0.0 c.in_ok-tree.ensures.fine
     (subst (λ t. IsMeantBy c.args.text.now (main_program t)) same c.in_ok-tree.ensures.meant)
     (subst (λ t. HasNoBreach (main_program t)) same c.in_ok-program.ensures.fine) c.in_ok-maps.ensures.fine
