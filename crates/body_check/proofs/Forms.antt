@@ -10,7 +10,8 @@ use Rattle.expression_rules.specs.Symbols.{Name}
 use Rattle.expression_rules.proofs.Folds.{all_append}
 use Rattle.body_check.specs.declared.linear_forms.Form.{Form}
 use Rattle.body_check.specs.declared.linear_forms.Form.TheVariants.{Nonlinear, Constant, LinearIn}
-use Rattle.body_check.specs.Forms.{form_of, is_linear_form, operation, product, sum}
+use Rattle.body_check.specs.Forms.{form_of, is_constant_form, is_linear_form, operation, product, sum}
+use Rattle.body_check.specs.NestRules.{is_empty}
 use Rattle.body_check.specs.Subscripts.{both, in_operation, in_product, is_at_most_one}
 
 -- at most one index is what such a form is
@@ -80,3 +81,13 @@ form_operation op.Add xs ys = form_both xs ys
 form_operation op.Sub xs ys = form_both xs ys
 form_operation op.Mul xs ys = form_product xs ys
 form_operation o xs ys = refl
+
+-- no index is what a constant form is
+pub no_index : (xs : Option (List Name)) → is_empty xs ≡ is_constant_form (form_of xs)
+no_index None = refl
+no_index (Some []) = refl
+no_index (Some (x ∷ xs)) = by (list_all (bytes_eq x) xs)
+  where
+    by : (t : Bool) → false ≡ is_constant_form (if t then LinearIn x else Nonlinear)
+    by true = refl
+    by false = refl

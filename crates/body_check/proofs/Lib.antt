@@ -1,4 +1,10 @@
 mod BodyBreaches
+mod Constants
 mod Examples
 mod Forms
+mod Gathered
 mod Inside
+mod NestSteps
+mod PathSteps
+mod StatementForms
+mod States

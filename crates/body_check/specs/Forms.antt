@@ -17,6 +17,10 @@ abbrev pub is_linear_form : Form → Bool
 is_linear_form Nonlinear = false
 is_linear_form f = true
 
+abbrev pub is_constant_form : Form → Bool
+is_constant_form Constant = true
+is_constant_form f = false
+
 -- of a sum, a product and any operation
 abbrev pub sum : Form → Form → Form
 sum Nonlinear b = Nonlinear

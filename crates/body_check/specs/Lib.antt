@@ -3,4 +3,9 @@ pub mod Subexpressions
 pub mod Subscripts
 pub mod Forms
 pub mod ForallRules
+pub mod ReductionStatements
+pub mod NestNames
+pub mod Paths
+pub mod NestRules
+pub mod Gathering
 pub mod BodyRules

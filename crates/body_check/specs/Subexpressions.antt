@@ -1,5 +1,6 @@
 -- The expressions inside an expression (Fortran 95, 7.1.1).
-use Rattle.std.specs.Prelude.{List, [], ◌∷◌, ◌++◌}
+use Rattle.std.specs.Prelude.{Bool, List, [], ◌∷◌, ◌++◌}
+use Rattle.std.specs.List.{list_all}
 use Rattle.syntax_tree.specs.Expression.{Expression, Number, Truth, Name, Element, Call, Unary, Binary, Closed, Part, One, Range, Glued, Parts, End, More, Maybe, Absent, Present}
 
 -- an expression and all expressions inside it, in the order of the text
@@ -26,3 +27,7 @@ abbrev mutual
   pub subexpressions_in_maybe : Maybe → List Expression
   subexpressions_in_maybe Absent = []
   subexpressions_in_maybe (Present e) = subexpressions e
+
+-- an expression and all that is inside it pass a test
+abbrev pub all_inside : (Expression → Bool) → Expression → Bool
+all_inside test e = list_all test (subexpressions e)

@@ -11,13 +11,13 @@ ghost use Rattle.statement_walk.specs.Views.{head_of};
 ghost use Rattle.body_check.specs.ForallRules.{forall_breaches_at, forall_names, is_allowed, is_allowed_in_header, keeps_forall_rules};
 
 use crate::body_names::BodyNames;
+use crate::expression_lists::{headers_pass, option_passes, sides_pass};
 use crate::forall_tests::{Standing, StandingInHeader};
-use crate::subexpressions::{all_pass, all_pass_reference};
 use hpf_base::{Name, Reason, Refusal};
 use name_table::Names;
 use statement_walk::{Head, Judge, walk};
 use std::alloc::{AllocError, Global};
-use syntax_tree::{Expr, Header, Ref, Stmt};
+use syntax_tree::{Expr, Header, Stmt};
 
 /// Judges the header and the assignments of a FORALL.
 #[derive(Clone, Copy)]
@@ -71,12 +71,12 @@ fn keeps_forall_rules(alloc: Global, declared: &Names, head: Head<'_>) -> Result
         Head::Forall(axes, mask) => {
             let indices = indices_of(alloc, axes)?;
             let names = BodyNames::new(declared, &indices, &[]);
-            Ok(is_header_allowed(&names, axes) && is_mask_allowed(&names, mask))
+            Ok(is_header_allowed(&names, axes, mask))
         }
         Head::ForallAssignment(axes, left, right) => {
             let indices = indices_of(alloc, axes)?;
             let names = BodyNames::new(declared, &indices, &[]);
-            Ok(is_assignment_allowed(&names, left, right))
+            Ok(sides_pass(&Standing { names: &names }, left, right))
         }
         _ => Ok(true),
     }
@@ -93,45 +93,10 @@ fn indices_of(alloc: Global, axes: &[Header]) -> Result<Vec<Name>, AllocError>
     Ok(indices)
 }
 
-/// The bounds and steps of a header may stand there.
-#[tactic(auto, using(expression_rules::proofs::Folds::all_append))]
-fn is_header_allowed(names: &BodyNames<'_>, axes: &[Header]) -> bool
-    ensures { result ≡ list_all (is_allowed_in_header names.now) (flat_map axis_expressions (map axis axes.now)) }
+/// The bounds, the steps and the mask of a header may stand there.
+fn is_header_allowed(names: &BodyNames<'_>, axes: &[Header], mask: &Option<Expr>) -> bool
+    ensures { result ≡ (list_all (is_allowed_in_header names.now) (flat_map axis_expressions (map axis axes.now))
+        && list_all (is_allowed names.now) (present (option_map expression mask.now))) }
 {
-    let mut all = true;
-    for one in axes {
-        all &= is_axis_allowed(names, one);
-    }
-    all
-}
-
-/// The same of those of one index.
-fn is_axis_allowed(names: &BodyNames<'_>, header: &Header) -> bool
-    ensures { result ≡ list_all (is_allowed_in_header names.now) (axis_expressions (axis header.now)) }
-{
-    let test = StandingInHeader { names };
-    let bounds = all_pass(&test, &header.first) && all_pass(&test, &header.last);
-    match &header.step {
-        None => bounds,
-        Some(step) => bounds && all_pass(&test, step),
-    }
-}
-
-/// The mask that there may be may stand there.
-fn is_mask_allowed(names: &BodyNames<'_>, mask: &Option<Expr>) -> bool
-    ensures { result ≡ list_all (is_allowed names.now) (present (option_map expression mask.now)) }
-{
-    match mask {
-        None => true,
-        Some(mask) => all_pass(&Standing { names }, mask),
-    }
-}
-
-/// Both sides of an assignment may stand there.
-#[tactic(auto, using(syntax_tree::proofs::Designators::designated))]
-fn is_assignment_allowed(names: &BodyNames<'_>, left: &Ref, right: &Expr) -> bool
-    ensures { result ≡ (is_allowed names.now (designator (variable left.now)) && is_allowed names.now (expression right.now)) }
-{
-    let test = Standing { names };
-    all_pass_reference(&test, left) && all_pass(&test, right)
+    headers_pass(&StandingInHeader { names }, axes) && option_passes(&Standing { names }, mask)
 }

@@ -5,6 +5,7 @@ ghost use Rattle.std.specs.List.{list_all};
 ghost use Rattle.syntax_tree.specs.Expression.{expression, parts_of, subscript};
 ghost use Rattle.body_check.specs.Forms.{form_of, operation, product, sum};
 ghost use Rattle.body_check.specs.declared.linear_forms.Form.TheVariants.{LinearIn};
+ghost use Rattle.body_check.specs.NestRules.{is_empty};
 ghost use Rattle.body_check.specs.Subscripts.{has_linear_subscripts, indices_in, indices_of_name, is_linear, is_sign, items};
 
 use crate::body_names::BodyNames;
@@ -149,4 +150,12 @@ fn product(a: Form, b: Form) -> Form
         (Form::LinearIn(_), Form::Constant) => a,
         _ => Form::Nonlinear,
     }
+}
+
+/// The expression is linear and names no index.
+#[tactic(auto, using(crate::proofs::Forms::no_index))]
+pub(crate) fn is_without_index(names: &BodyNames<'_>, e: &Expr) -> bool
+    ensures { result ≡ is_empty (indices_in names.now (expression e.now)) }
+{
+    matches!(linear_form(names, e), Form::Constant)
 }

@@ -67,7 +67,7 @@ fn all_pass_arguments<T: ExpressionTest>(test: &T, arguments: &[Expr]) -> bool
 /// The same of subscripts.
 #[cycle(subexpressions)]
 #[tactic(auto, using(expression_rules::proofs::Folds::all_append))]
-fn all_pass_subscripts<T: ExpressionTest>(test: &T, parts: &[Subscript]) -> bool
+pub(crate) fn all_pass_subscripts<T: ExpressionTest>(test: &T, parts: &[Subscript]) -> bool
     ensures { result ≡ list_all (T.passes test.now) (subexpressions_in_parts (parts_of parts.now)) }
 {
     let mut all = true;

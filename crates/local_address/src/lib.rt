@@ -14,5 +14,6 @@ mod piece;
 mod runs;
 mod spans;
 
+pub use element::{element_count, nth_element};
 pub use piece::Piece;
 pub use spans::{Span, owned_spans};

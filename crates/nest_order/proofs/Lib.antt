@@ -8,7 +8,7 @@ mod Beside
 mod ScalarLaws
 mod WholeNest
 mod Numbering
-mod Joins
+pub mod Joins
 mod Reducing
 mod Acting
 mod ActNumbers

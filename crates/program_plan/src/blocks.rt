@@ -64,17 +64,13 @@ fn action(alloc: Global, names: &Names, stmt: &Stmt) -> Result<Action, OutOfMemo
         Kind::IfOne { cond, body } => {
             let condition = term(alloc, names, &[], cond)?;
             let what = action(alloc, names, body)?;
-            let block = one(alloc, body.line, what)?;
-            if_one(alloc, stmt.line, condition, block)
+            if_one(alloc, stmt.line, condition, body.line, what)
         }
         Kind::If { arms, rest, .. } => {
             let arms = arms_of(alloc, names, arms)?;
             match rest {
                 None => Ok(Action::If(arms, Vec::new(alloc))),
-                Some(stmts) => {
-                    let other = block(alloc, names, stmts)?;
-                    Ok(Action::If(arms, other))
-                }
+                Some(stmts) => Ok(Action::If(arms, block(alloc, names, stmts)?)),
             }
         }
         Kind::Do(inner) => {
@@ -96,10 +92,7 @@ fn action(alloc: Global, names: &Names, stmt: &Stmt) -> Result<Action, OutOfMemo
             body,
             ..
         } => forall(alloc, names, axes, mask, body),
-        Kind::Print(listed) => {
-            let items = items(alloc, names, listed)?;
-            Ok(Action::Print(items))
-        }
+        Kind::Print(listed) => Ok(Action::Print(items(alloc, names, listed)?)),
         Kind::Stop => Ok(Action::Stop),
         Kind::Exit => Ok(Action::Exit),
         Kind::Cycle => Ok(Action::Cycle),
@@ -115,15 +108,17 @@ fn one(alloc: Global, line: u32, what: Action) -> Result<Vec<Statement>, OutOfMe
     Ok(vec![in alloc; Statement { line, what }]?)
 }
 
-/// IF with one arm.
+/// IF with its one action, which stands on a line of its own number.
 fn if_one(
     alloc: Global,
     line: u32,
     condition: Term,
-    body: Vec<Statement>,
+    action_line: u32,
+    what: Action,
 ) -> Result<Action, OutOfMemory>
-    ensures { IfOk result (λ a. statement a ≡ If (meaning.Arm line (term condition) (block_of body.items) NoArm) Done) }
+    ensures { IfOk result (λ a. statement a ≡ If (meaning.Arm line (term condition) (Then action_line (statement what) Done) NoArm) Done) }
 {
+    let body = one(alloc, action_line, what)?;
     let arms = vec![in alloc;
         Arm {
             line,

@@ -36,10 +36,10 @@ action-returns-in-None t c =
     ∙ ap (λ l. If (resolved_arms c.args.names.now (syntax.arms_of l)) Done) c.deref-in-If.ensures.value
     ∙ if_alone c.args.names.now c.args.stmt.now.line c.args.stmt.now.what c.in-If.arms c.in-If.rest c.in-If.glued c.in-If.is c.in-None.is
 
-pub action-returns-in_ok-other-in-Some : goal.action-returns-in_ok-other-in-Some
-action-returns-in_ok-other-in-Some t c =
-    if_vec c.in_ok-arms-in-If.arms c.in_ok-other-in-Some.other
-    ∙ (λ i. If (c.in_ok-arms-in-If.ensures i) (c.in_ok-other-in-Some.ensures i))
+pub action-returns-in_ok-block-in-Some : goal.action-returns-in_ok-block-in-Some
+action-returns-in_ok-block-in-Some t c =
+    if_vec c.in_ok-arms-in-If.arms c.in_ok-block-in-Some.field-0
+    ∙ (λ i. If (c.in_ok-arms-in-If.ensures i) (c.in_ok-block-in-Some.ensures i))
     ∙ (λ i. If (resolved_arms c.args.names.now (syntax.arms_of (c.deref-in-If.ensures.value i))) (resolved_block c.args.names.now (syntax.block_of (c.deref-in-Some.ensures.value i))))
     ∙ if_else c.args.names.now c.args.stmt.now.line c.args.stmt.now.what c.in-If.arms c.in-If.rest c.in-Some.stmts c.in-If.glued c.in-If.is c.in-Some.is
 

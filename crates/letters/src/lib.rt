@@ -1,0 +1,13 @@
+//! What nodes send to each other.
+//!
+//! Comes in: the values that a letter carries, and of which run, phase and pair of nodes it is. Goes out: letters. What
+//! holds in between: contracts see the body as the list of its values, so that two letters with the same values are
+//! equal, whatever memory they lie in. What the values stand for isn't written in a letter: each taker knows the list.
+#![tactic(auto)]
+
+mod body;
+mod letter;
+
+pub use body::Body;
+pub use hpf_base::NodeId;
+pub use letter::Letter;

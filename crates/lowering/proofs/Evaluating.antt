@@ -1,0 +1,172 @@
+-- Array expressions by themselves: what the machine comes to at a tuple, and reductions.
+use Rattle.std.proofs.Common.{◌≡◌, ℕ, zero, suc, ◌+◌, ◌<◌, ◌≤◌, List, [], ◌∷◌, ◌++◌, length, ℤ, Option, Some, None, Result, Ok, Err, refl, sym, ap, ◌∙◌, subst, arith, append-nil, fold, slice_set}
+use Rattle.std.specs.Bool.{⊤}
+use Rattle.hpf_base.specs.ElementOrder.{product}
+use Rattle.op_tables.specs.declared.op.Op.{Op}
+use Rattle.op_tables.specs.declared.op.Op.TheVariants as op
+use Rattle.op_tables.specs.Reductions.{reduced, unit_of, combined}
+use Rattle.expression_rules.specs.declared.dims.Dim.{Dim}
+use Rattle.nest_order.specs.Storage.{Storage, read}
+use Rattle.array_meaning.specs.Faults.{Cause, Fault, ◌>>=◌, at_tuple}
+use Rattle.array_meaning.specs.State.{State}
+use Rattle.array_meaning.specs.Sections.{positions, space_size}
+use Rattle.array_meaning.specs.Elementals.{Elemental, sections, first_extents, value_at, each, values_over, ArrayValue, reduction}
+use Rattle.machine_steps.specs.Instr.{Running, Faulted, Control, Outcome}
+use Rattle.machine_steps.specs.Machine as machine
+use Rattle.machine_steps.specs.Machine.{Machine, Kept, keep, folded, verdict_control, stay, step, step_by, steps, instr_of}
+use Rattle.node_code.specs.Flat.{slot}
+use Rattle.node_code.specs.Forms.{Form, elemental_in}
+use Rattle.node_code.specs.Parallel.{at_line, outcome_of, reads_at, value_by_reads, Evaluation, evaluation_extents, evaluation_size, evaluation_tuples, reduction_tuples, counted, counted_outcome, joined, fold_of}
+use Rattle.node_code.specs.Instructions.{Instruction, OwnLimits, ArrayTable, meaning_of, go_on_if}
+use Rattle.lowering.specs.ExpressionCode.{own_evaluation, without_copy, reduce_code}
+use Rattle.lowering.proofs.Reach.{Idle, HasAt, same-refl, same-set, slot-set, stands, one, Comes, comes-on}
+use Rattle.lowering.proofs.Terms.{HoldsArrays}
+use Rattle.lowering.proofs.Keeping.{IsOutcome, Keeps, keeps}
+use Rattle.lowering.proofs.Scatter.{NamesBelow, values_of, value-of-reads, space-size}
+use Rattle.lowering.proofs.Masks.{shape-first}
+
+pub result-outcome : (line : ℕ) (q : Result ℤ Cause) → IsOutcome line (outcome_of (at_line line q)) q
+result-outcome line (Ok v) = λ t. refl
+result-outcome line (Err c) = refl
+
+module _ (n : ℕ) (shapes : List (List Dim)) (s : State) (rows : Storage) (arrays : HoldsArrays n shapes s rows) (line : ℕ) (form : Form) (copy : ℕ) (slots : List ℤ)
+    (x : Elemental) (right : elemental_in slots form ≡ x) (named : NamesBelow n x) where
+  abbrev p : Evaluation
+  p = own_evaluation line form copy
+
+  pub own-shape : evaluation_extents p slots ≡ first_extents (sections x)
+  own-shape = sym (shape-first slots p.form) ∙ ap (λ y. first_extents (sections y)) right
+
+  pub own-limits : evaluation_size p slots ≡ space_size (first_extents (sections x)) (sections x)
+  own-limits = ap (λ ns. space_size ns (sections (elemental_in slots p.form))) own-shape ∙ ap (λ y. space_size (first_extents (sections x)) (sections y)) right
+
+  pub own-outcome : (u : ℕ) → machine.outcome_of (evaluation_tuples shapes p) slots (read rows) u
+      ≡ outcome_of (at_line p.line (at_tuple (positions (first_extents (sections x)) u) (value_at s (positions (first_extents (sections x)) u) x)))
+  own-outcome u =
+      let y = positions (first_extents (sections x)) u in
+      let values : value_by_reads shapes y (values_of rows (reads_at shapes y x)) 0 x ≡ value_at s y x = ap (λ vs. value_by_reads shapes y vs 0 x)
+      (sym (append-nil (values_of rows (reads_at shapes y x)))) ∙ value-of-reads n shapes s rows arrays y x [] [] named in
+      let here : machine.outcome_of (evaluation_tuples shapes p) slots (read rows) u
+      ≡ outcome_of (at_line p.line (at_tuple y (value_by_reads shapes y (values_of rows (reads_at shapes y x)) 0 x))) = rw (own-shape, right) refl in
+      here ∙ ap (λ q. outcome_of (at_line p.line (at_tuple y q))) values
+
+-- ---- the values of the first tuples, joined
+
+fold-last : (join : ℤ → ℤ → ℤ) (unit : ℤ) (vs : List ℤ) (v : ℤ) → fold join unit (vs ++ v ∷ []) ≡ join (fold join unit vs) v
+fold-last join unit [] v = refl
+fold-last join unit (w ∷ vs) v = fold-last join (join unit w) vs v
+
+joined-is : (o : Op) (so_far v : ℤ) → joined o so_far (counted o v) ≡ combined o so_far v
+joined-is op.Count so_far v = refl
+joined-is o so_far v = refl
+
+counted-outcome : (o : Op) (line : ℕ) (q : Result ℤ Cause) → IsOutcome line (counted_outcome o (outcome_of (at_line line q))) q
+counted-outcome o line (Ok v) = λ t. refl
+counted-outcome o line (Err c) = refl
+
+module _ (line : ℕ) (o : Op) (outcome : ℕ → Outcome Fault) where
+  abbrev Folds : Result (List ℤ) Cause → ℕ → Type 0
+  Folds (Ok vs) t = folded (fold_of o) outcome t ≡ reduced o vs
+  Folds (Err c) t = ⊤
+
+  fold-one : (t : ℕ) (r : Result (List ℤ) Cause) (q : Result ℤ Cause) → outcome t ≡ counted_outcome o (outcome_of (at_line line q)) → Folds r t
+      → Folds (r >>= (λ vs. q >>= (λ v. Ok (vs ++ v ∷ [])))) (suc t)
+  fold-one t (Ok vs) (Ok v) e h = rw (e, h) (joined-is o (reduced o vs) v ∙ sym (fold-last (combined o) (unit_of o) vs v))
+  fold-one t (Ok vs) (Err c) e h = tt
+  fold-one t (Err c) q e h = tt
+
+  folds-all : (tuple : ℕ → List ℤ) (g : ℕ → Result ℤ Cause) (t : ℕ) → ((u : ℕ) → outcome u ≡ counted_outcome o (outcome_of (at_line line (at_tuple (tuple u) (g u)))))
+      → Folds (each tuple g t) t
+  folds-all tuple g zero h = refl
+  folds-all tuple g (suc t) h = fold-one t (each tuple g t) (at_tuple (tuple t) (g t)) (h t) (folds-all tuple g t h)
+
+-- ---- a reduction of what is left of its operand
+
+module _ (table : ArrayTable) (code : List Instruction) (line n : ℕ) (s : State) (rows : Storage) (out : List ℕ) (arrays : HoldsArrays n table.shapes s rows) where
+  pub reduce-comes : (pc b x : ℕ) (o : Op) (form : Form) (slots : List ℤ) (r : Elemental) → HasAt code pc (reduce_code line o form x) → elemental_in slots form ≡ r
+      → NamesBelow n r → b ≤ x → x < length slots
+      → Comes table code line rows out pc (pc + 2) b slots (λ slots' v. slot slots' x ≡ v) (reduction s o r)
+  reduce-comes pc b x o form slots r has right named le lt = by_limits (space_size ns (sections r)) refl
+    where
+      p : Evaluation
+      p = without_copy line form
+
+      ns : List ℕ
+      ns = first_extents (sections r)
+
+      P : List ℤ → ℤ → Type 0
+      P slots' v = slot slots' x ≡ v
+
+      count : ℕ
+      count = product ns
+
+      pair : List ℤ → Result ArrayValue Cause
+      pair vs = Ok record { extents = ns; elements = vs }
+
+      second : ArrayValue → Result ℤ Cause
+      second v = Ok (reduced o v.elements)
+
+      outcome : ℕ → Outcome Fault
+      outcome = machine.outcome_of (reduction_tuples table.shapes p o) slots (read rows)
+
+      tuple-is : (u : ℕ) → outcome u ≡ counted_outcome o (outcome_of (at_line line (at_tuple (positions ns u) (value_at s (positions ns u) r))))
+      tuple-is u = ap (counted_outcome o) (own-outcome n table.shapes s rows arrays line form 0 slots r right named u)
+
+      kept-is : Keeps line outcome (values_over s ns r count) count
+      kept-is = keeps line outcome (positions ns) (λ u. value_at s (positions ns u) r) count
+          (λ u lt. subst (λ z. IsOutcome line z (at_tuple (positions ns u) (value_at s (positions ns u) r))) (sym (tuple-is u))
+          (counted-outcome o line (at_tuple (positions ns u) (value_at s (positions ns u) r))))
+
+      control : Control Fault
+      control = record { at = pc + 1; slots = slots; status = Running }
+
+      values : ℕ → Option (Kept Fault) → ℤ → Idle → Machine Instruction Fault
+      values k kept v i = record (stands table code (pc + 1) slots rows out i) { substep = k; kept = kept; parts = k; joined = v }
+
+      judged : Option (Kept Fault) → ℤ → Idle → Machine Instruction Fault
+      judged kept v i = record (stands table code (pc + 1) slots rows out i) { control = verdict_control kept stay control; substep = 2; joined = v }
+
+      two : (i : Idle) → steps (meaning_of table) 2 (stands table code (pc + 1) slots rows out i) ≡ judged (keep outcome 0 count None) (folded (fold_of o) outcome count) i
+      two i =
+          ap (λ m. step (meaning_of table) m) (ap (λ z. step_by (instr_of (meaning_of table) z) (stands table code (pc + 1) slots rows out i)) has.1.0
+          ∙ ap (λ k. values 1 (keep outcome 0 k None) (folded (fold_of o) outcome k) i) (ap product (own-shape n table.shapes s rows arrays line form 0 slots r right named)))
+          ∙ ap (λ z. step_by (instr_of (meaning_of table) z) (values 1 (keep outcome 0 count None) (folded (fold_of o) outcome count) i)) has.1.0
+
+      three : (v : ℤ) (i : Idle) → steps (meaning_of table) 1 (judged None v i) ≡ stands table code (pc + 1 + 1) (slice_set slots x v) rows out
+          (record { layouts = i.layouts; joined = v })
+      three v i = ap (λ z. step_by (instr_of (meaning_of table) z) (judged None v i)) has.1.0
+
+      by_each : (q : Result (List ℤ) Cause) → Keeps line outcome q count → Folds line o outcome q count → Comes table code line rows out (pc + 1) (pc + 2) b slots P
+          (q >>= pair >>= second)
+      by_each (Ok vs) kept joins =
+          let v : ℤ = reduced o vs in
+          let e : pc + 1 + 1 ≡ pc + 2 = omega arith in (
+            slice_set slots x v,
+            (λ i. (
+              3,
+              record { layouts = i.layouts; joined = v },
+              ap (step (meaning_of table)) (two i ∙ ap (λ k. judged k (folded (fold_of o) outcome count) i) kept ∙ ap (λ z. judged None z i) joins) ∙ three v i
+                  ∙ ap (λ at. stands table code at (slice_set slots x v) rows out (record { layouts = i.layouts; joined = v })) e,
+            )),
+            same-set b x slots v le,
+            slot-set x slots v lt,
+          )
+      by_each (Err c) kept joins = λ i.
+          (judged (Some kept.0) (folded (fold_of o) outcome count) i, (2, two i ∙ ap (λ k. judged k (folded (fold_of o) outcome count) i) kept.1), ap Faulted kept.2, refl)
+
+      limits : (q : Result ℕ Cause) → space_size ns (sections r) ≡ q → (i : Idle)
+          → steps (meaning_of table) 1 (stands table code pc slots rows out i)
+          ≡ record (stands table code pc slots rows out i) { control = go_on_if {A = ℕ} (at_line line q) (record { at = pc; slots = slots; status = Running }) }
+      limits q e i = one table code pc slots rows out (OwnLimits p) has.0 i
+          ∙ ap (λ q. record (stands table code pc slots rows out i) { control = go_on_if {A = ℕ} (at_line line q) (record { at = pc; slots = slots; status = Running }) })
+          (own-limits n table.shapes s rows arrays line form 0 slots r right named ∙ e)
+
+      by_limits : (q : Result ℕ Cause) → space_size ns (sections r) ≡ q → Comes table code line rows out pc (pc + 2) b slots P
+          (q >>= (λ k. values_over s ns r k >>= pair) >>= second)
+      by_limits (Ok k) e =
+          let many : k ≡ count = space-size ns (sections r) k e in
+          comes-on table code line rows out pc (pc + 1) (pc + 2) b b slots slots P (values_over s ns r k >>= pair >>= second) (omega arith) (λ i. (1, i, limits (Ok k) e i))
+          (same-refl b slots)
+          (subst (λ k. Comes table code line rows out (pc + 1) (pc + 2) b slots P (values_over s ns r k >>= pair >>= second)) (sym many)
+          (by_each (values_over s ns r count) kept-is (folds-all line o outcome (positions ns) (λ t. value_at s (positions ns t) r) count tuple-is)))
+      by_limits (Err c) e = λ i. (_, (1, limits (Err c) e i), refl, refl)

@@ -1,0 +1,424 @@
+-- The code of a FORALL does what it means.
+use Rattle.std.proofs.Common.{◌≡◌, ℕ, ◌+◌, ◌<◌, ◌≤◌, ◌==◌, ◌||◌, ◌&&◌, nat_le, List, [], ◌∷◌, ◌++◌, map, length, ℤ, pos, Bool, true, false, if◌then◌else◌, Option, Some, None, option_map, Result, Ok, Err, refl, sym, ap, ◌∙◌, subst, arith, length-append, append-nil, slice_get, slice_index_or}
+use Rattle.std.proofs.lemmas.Bool.Decides.{Decides-eqb}
+use Rattle.std.specs.List.{list_all}
+use Rattle.hpf_base.specs.declared.limits.TheConstants.{MAX_TUPLES}
+use Rattle.hpf_base.specs.ElementOrder.{product}
+use Rattle.op_tables.specs.Operators.{is_true}
+use Rattle.nest_order.specs.Storage.{Storage, read}
+use Rattle.array_meaning.specs.declared.faults.FaultKind.{FaultKind}
+use Rattle.array_meaning.specs.declared.faults.FaultKind.TheVariants.{NotOneToOne, SpaceLimit}
+use Rattle.array_meaning.specs.declared.sections.Sequence.{Sequence}
+use Rattle.array_meaning.specs.declared.sections.Selection.TheVariants.{Along}
+use Rattle.array_meaning.specs.declared.sections.Store.{Store}
+use Rattle.array_meaning.specs.Terms.{Term, Control, list_of}
+use Rattle.array_meaning.specs.Statements.{ElementAssignment}
+use Rattle.array_meaning.specs.Faults.{Cause, Fault, ◌>>=◌, fails, with_more, at_tuple}
+use Rattle.array_meaning.specs.State.{State}
+use Rattle.array_meaning.specs.Runs.{Run, normal, then_do, one_step, with_value}
+use Rattle.array_meaning.specs.Sections.{extents, positions, subscripts_at}
+use Rattle.array_meaning.specs.Elementals.{value_at, each}
+use Rattle.array_meaning.specs.Expressions.{value, values, selections, index_values, all_index_values}
+use Rattle.array_meaning.specs.ArrayAssignments.{Mask, store_at, if_true, mask_of}
+use Rattle.array_meaning.specs.Forall.{index_extents, indices_at, all_subscripts, is_index_in_limits, is_forall_in_limits, is_one_to_one, check, check_limits, check_one_to_one, mask_over, assign_forall, assign_all_forall, run_forall}
+use Rattle.machine_steps.specs.Layout.{size_of}
+use Rattle.machine_steps.specs.Instr.{Running, Local, Outcome}
+use Rattle.machine_steps.specs.Machine as machine
+use Rattle.machine_steps.specs.Machine.{step_by, steps}
+use Rattle.node_code.specs.Flat.{slot}
+use Rattle.node_code.specs.Forms.{Sub, selections_at, selections_in, elemental_at}
+use Rattle.node_code.specs.Parallel.{When, at_line, outcome_if, outcome_of, mask_reads, is_asked, spot_of, reads_at, value_by_reads, assigned_value, Assignment, Evaluation, indices_in, forall_tuples, forall_spot, forall_mask_tuples}
+use Rattle.node_code.specs.ForallLimits.{term_of, slots_state, sequences_of, unless_empty, forall_limits, one_to_one}
+use Rattle.node_code.specs.Instructions.{Instruction, ForallLimits, OneToOne, ParForall, ParForallCopy, ArrayTable, meaning_of, go_on_if}
+use Rattle.lowering.specs.ExpressionCode.{subscripts_slots, subs_of, subscripts_code, control_slots, index_flat, index_form}
+use Rattle.lowering.specs.StatementCode.{triplets, one_to_one_code, forall_mask_code, forall_assignment, forall_assignments_code, forall_code, where_true}
+use Rattle.lowering.specs.WellFormed.{AreScalarSubscripts, AreControls, IsIndexedMask, AreIndexedAssignments}
+use Rattle.lowering.proofs.Reach.{Idle, HasAt, has-front, has-back, same-refl, stands, one, Comes}
+use Rattle.lowering.proofs.Terms.{HoldsArrays}
+use Rattle.lowering.proofs.Goes.{Holds, Kept, kept-refl, Goes, goes-at, goes-then-kept, goes-value, value-bind, lands-done}
+use Rattle.lowering.proofs.Scatter.{Does, values_of, value-of-reads}
+use Rattle.lowering.proofs.Parts.{SubsGive, subscripts-come}
+use Rattle.lowering.proofs.Storing.{masked-does, stores-go}
+use Rattle.lowering.proofs.Copies.{copy-goes}
+use Rattle.lowering.proofs.Wheres.{forget}
+use Rattle.lowering.proofs.Indexed.{all-listed, all-in-forall, subs-are, indexed-value, indexed-names, limits-are, one-to-one-are}
+
+-- ---- the header
+
+header-is : (s : State) (cs : List Control) → selections [] s (triplets cs) ≡ (all_index_values s cs >>= (λ axes. Ok (map Along axes)))
+header-is s [] = refl
+header-is s (c ∷ cs) = ap (with_more (index_values s c >>= (λ p. Ok (Along p)))) (header-is s cs) ∙ by_results (index_values s c) (all_index_values s cs)
+  where
+    by_results : (q : Result Sequence Cause) (r : Result (List Sequence) Cause) → with_more (q >>= (λ p. Ok (Along p))) (r >>= (λ axes. Ok (map Along axes)))
+        ≡ (with_more q r >>= (λ axes. Ok (map Along axes)))
+    by_results (Ok p) (Ok axes) = refl
+    by_results (Ok p) (Err c) = refl
+    by_results (Err c) r = refl
+
+header-scalar : (n : ℕ) (cs : List Control) → AreControls n cs → AreScalarSubscripts n (triplets cs)
+header-scalar n [] ok = tt
+header-scalar n (c ∷ cs) ok = (ok.0, header-scalar n cs ok.1)
+
+header-extents : (axes : List Sequence) → extents (map Along axes) ≡ index_extents axes
+header-extents [] = refl
+header-extents (p ∷ axes) = ap (λ ns. p.count ∷ ns) (header-extents axes)
+
+header-sequences : (axes : List Sequence) → sequences_of (map Along axes) ≡ axes
+header-sequences [] = refl
+header-sequences (p ∷ axes) = ap (λ ps. p ∷ ps) (header-sequences axes)
+
+-- it hangs on hidden slots alone
+header-kept : (n b c : ℕ) (cs : List Control) (xs ys : List ℤ) → n ≤ b → b + subscripts_slots (triplets cs) ≤ c → ((k : ℕ) → n ≤ k → k < c → slot xs k ≡ slot ys k)
+    → selections_in xs (subs_of b (triplets cs)) ≡ selections_in ys (subs_of b (triplets cs))
+header-kept n b c [] xs ys le few same = refl
+header-kept n b c (x ∷ cs) xs ys le few same =
+    let v : ℕ = b + control_slots x in
+    rw (
+      same v (omega (arith, le)) (omega (arith, few)),
+      same (v + 1) (omega (arith, le)) (omega (arith, few)),
+      same (v + 2) (omega (arith, le)) (omega (arith, few)),
+      header-kept n (v + 3) c cs xs ys (omega (arith, le)) (omega (arith, few)) same,
+    ) refl
+
+-- ---- the meaning, where an empty space passes all tests
+
+-- an assignment's test
+abbrev one_is_to_one : Bool → List ℕ → ElementAssignment → State → Run
+one_is_to_one e ns b s = one_step b.line s (check (e || is_one_to_one s (list_of b.subscripts) 0 ns) NotOneToOne s)
+
+abbrev all_one_to_one : Bool → List ℕ → List ElementAssignment → State → Run
+all_one_to_one e ns [] s = normal s
+all_one_to_one e ns (b ∷ bs) s = then_do (one_is_to_one e ns b s) (all_one_to_one e ns bs)
+
+module _ (line : ℕ) (mask : Option Term) (body : List ElementAssignment) (axes : List Sequence) where
+  abbrev behind : ℕ → State → Run
+  behind n s = with_value line s (mask_over s axes n mask) (λ m. assign_all_forall axes n m body s)
+
+  abbrev tested : Bool → ℕ → State → Run
+  tested e n s = then_do (one_step line s (check (e || is_forall_in_limits s axes (all_subscripts mask body)) SpaceLimit s))
+      (λ s. then_do (all_one_to_one e (index_extents axes) body s) (behind n))
+
+  one-to-one-same : (ns : List ℕ) (bs : List ElementAssignment) (s : State) (next : State → Run) → then_do (all_one_to_one false ns bs s) next
+      ≡ then_do (check_one_to_one ns bs s) next
+  one-to-one-same ns [] s next = refl
+  one-to-one-same ns (b ∷ bs) s next = by_test (is_one_to_one s (list_of b.subscripts) 0 ns) (one-to-one-same ns bs s next)
+    where
+      by_test : (t : Bool) → then_do (all_one_to_one false ns bs s) next ≡ then_do (check_one_to_one ns bs s) next
+          → then_do (then_do (one_step b.line s (check t NotOneToOne s)) (all_one_to_one false ns bs)) next
+          ≡ then_do (then_do (one_step b.line s (check t NotOneToOne s)) (check_one_to_one ns bs)) next
+      by_test true e = e
+      by_test false e = refl
+
+  all-pass : (ns : List ℕ) (bs : List ElementAssignment) (s : State) → all_one_to_one true ns bs s ≡ normal s
+  all-pass ns [] s = refl
+  all-pass ns (b ∷ bs) s = all-pass ns bs s
+
+  none-assigned : (m : Mask) (bs : List ElementAssignment) (s : State) → assign_all_forall axes 0 m bs s ≡ normal s
+  none-assigned m [] s = refl
+  none-assigned m (b ∷ bs) s = none-assigned m bs s
+
+  forall-is : (n : ℕ) (s : State)
+      → (if n == 0 then normal s else then_do (one_step line s (check_limits axes (all_subscripts mask body) s))
+      (λ s. then_do (check_one_to_one (index_extents axes) body s) (behind n))) ≡ tested (n == 0) n s
+  forall-is n s = by_empty (n == 0) refl
+    where
+      by_limits : (t : Bool) → then_do (one_step line s (check t SpaceLimit s)) (λ s. then_do (check_one_to_one (index_extents axes) body s) (behind n))
+          ≡ then_do (one_step line s (check t SpaceLimit s)) (λ s. then_do (all_one_to_one false (index_extents axes) body s) (behind n))
+      by_limits true = sym (one-to-one-same (index_extents axes) body s (behind n))
+      by_limits false = refl
+
+      by_mask : (m : Option Term) → with_value line s (mask_over s axes 0 m) (λ m. assign_all_forall axes 0 m body s) ≡ normal s
+      by_mask None = none-assigned (λ t. true) body s
+      by_mask (Some t) = none-assigned (mask_of []) body s
+
+      by_empty : (e : Bool) → (n == 0) ≡ e
+          → (if e then normal s else then_do (one_step line s (check_limits axes (all_subscripts mask body) s))
+          (λ s. then_do (check_one_to_one (index_extents axes) body s) (behind n))) ≡ tested e n s
+      by_empty false is = by_limits (is_forall_in_limits s axes (all_subscripts mask body))
+      by_empty true is =
+          let none : n ≡ 0 = (Decides-eqb n 0).0 is in
+          sym (ap (λ r. then_do r (behind n)) (all-pass (index_extents axes) body s) ∙ ap (λ k. behind k s) none ∙ by_mask mask)
+
+module _ (table : ArrayTable) (code : List Instruction) (n many leave again : ℕ) where
+  -- ---- tests
+
+  test-goes : (copy : Option (List ℤ)) (line pc b : ℕ) (x : Instruction) (test : List ℤ → Result ℕ Cause) (t : Bool) (kind : FaultKind) (slots : List ℤ) (rows : Storage)
+      (s : State) → slice_get code pc ≡ Some x → meaning_of table x ≡ Local (λ c. go_on_if (at_line line (test c.slots)) c)
+      → test slots ≡ (if t then Ok 0 else fails kind) → Holds table code n many copy s slots rows → Goes table code n many copy leave again (pc + 1) b slots
+      (stands table code pc slots rows s.printed) (one_step line s (check t kind s))
+  test-goes copy line pc b x test t kind slots rows s h is e holds =
+      by_test t (λ i. one table code pc slots rows s.printed x h i ∙ ap (λ z. step_by z (stands table code pc slots rows s.printed i)) is
+      ∙ ap (λ q. record (stands table code pc slots rows s.printed i) { control = go_on_if {A = ℕ} (at_line line q) (record { at = pc; slots = slots; status = Running }) })
+      e)
+    where
+      by_test : (t : Bool)
+          → ((i : Idle) → steps (meaning_of table) 1 (stands table code pc slots rows s.printed i)
+          ≡ record (stands table code pc slots rows s.printed i) {
+            control = go_on_if {A = ℕ} (at_line line (if t then Ok 0 else fails kind))
+                (record { at = pc; slots = slots; status = Running });
+          })
+          → Goes table code n many copy leave again (pc + 1) b slots (stands table code pc slots rows s.printed) (one_step line s (check t kind s))
+      by_test true g = (slots, rows, (λ i. (1, i, g i)), kept-refl table code n many copy b slots, holds)
+      by_test false g = λ i. (_, (1, g i), refl, refl)
+
+  -- what the slots say of the header
+  module _ (line b b1 : ℕ) (controls : List Control) (axes : List Sequence) (le : n ≤ b) (room : b + subscripts_slots (triplets controls) ≡ b1) where
+    abbrev over : List Sub
+    over = subs_of b (triplets controls)
+
+    abbrev ns : List ℕ
+    ns = index_extents axes
+
+    abbrev Gives : List ℤ → Type 0
+    Gives slots = selections_in slots over ≡ map Along axes
+
+    gives-kept : (copy : Option (List ℤ)) (slots slots1 : List ℤ) → Gives slots → Kept table code n many copy b1 slots slots1 → Gives slots1
+    gives-kept copy slots slots1 gives kept = sym (header-kept n b b1 controls slots slots1 le (omega (arith, room)) kept) ∙ gives
+
+    extents-are : (slots : List ℤ) → Gives slots → extents (selections_in slots over) ≡ ns
+    extents-are slots gives = ap extents gives ∙ header-extents axes
+
+    indices-are : (slots : List ℤ) → Gives slots → (t : ℕ) → indices_in over slots t ≡ indices_at axes t
+    indices-are slots gives t = ap (λ ds. subscripts_at ds (positions (extents ds) t)) gives ∙ ap (λ ms. subscripts_at (map Along axes) (positions ms t)) (header-extents axes)
+
+    -- ---- limits
+
+    all-one-to-one : (copy : Option (List ℤ)) (xs : List ElementAssignment) (pc : ℕ) (slots : List ℤ) (rows : Storage) (s : State) → AreIndexedAssignments n xs
+        → HasAt code pc (one_to_one_code over xs) → Holds table code n many copy s slots rows → Gives slots
+        → Goes table code n many copy leave again (pc + length (one_to_one_code over xs)) b1 slots (stands table code pc slots rows s.printed)
+        (all_one_to_one (product ns == 0) ns xs s)
+    all-one-to-one copy [] pc slots rows s ok has holds gives =
+        let e : pc ≡ pc + 0 = omega arith in
+        goes-at table code n many copy leave again pc (pc + 0) b1 slots (stands table code pc slots rows s.printed) (normal s) e
+        (lands-done table code n many copy leave again pc b1 slots rows s holds)
+    all-one-to-one copy (x ∷ xs) pc slots rows s ok has holds gives =
+        let cs = one_to_one_code over xs in
+        let e : pc + 1 + length cs ≡ pc + length (one_to_one_code over (x ∷ xs)) = omega arith in
+        goes-at table code n many copy leave again (pc + 1 + length cs) (pc + length (one_to_one_code over (x ∷ xs))) b1 slots (stands table code pc slots rows s.printed)
+        (all_one_to_one (product ns == 0) ns (x ∷ xs) s) e
+        (goes-then-kept table code n many copy leave again (pc + 1) (pc + 1 + length cs) b1 slots (stands table code pc slots rows s.printed)
+        (one_is_to_one (product ns == 0) ns x s) (all_one_to_one (product ns == 0) ns xs)
+        (test-goes copy x.line pc b1 (OneToOne x.line over (map index_flat (list_of x.subscripts))) (one_to_one over (map index_flat (list_of x.subscripts)))
+        ((product ns == 0) || is_one_to_one s (list_of x.subscripts) 0 ns) NotOneToOne slots rows s has.0 refl
+        (ap (λ ms. unless_empty ms (is_one_to_one (slots_state slots) (map term_of (map index_flat (list_of x.subscripts))) 0 ms) NotOneToOne) (extents-are slots gives)
+        ∙ ap (λ t. unless_empty ns t NotOneToOne) (one-to-one-are n s slots holds.scalars 0 (list_of x.subscripts) ns (all-listed n x.subscripts ok.1))) holds)
+        (λ slots1 rows1 s1 kept holds1. all-one-to-one copy xs (pc + 1) slots1 rows1 s1 ok.3 has.1 holds1 (gives-kept copy slots slots1 gives kept)))
+
+    -- ---- assignments
+
+    assigns-all : (copy : Option (List ℤ)) (when : Option When) (m : Mask)
+        → ((s : State) (slots : List ℤ) (rows : Storage) → Holds table code n many copy s slots rows → (t : ℕ) (values : List ℤ)
+        → is_asked when (values_of rows (mask_reads when t) ++ values) ≡ m t)
+        → (xs : List ElementAssignment) (pc : ℕ) (slots : List ℤ) (rows : Storage) (s : State) → AreIndexedAssignments n xs
+        → HasAt code pc (forall_assignments_code over when xs) → Holds table code n many copy s slots rows → Gives slots
+        → Goes table code n many copy leave again (pc + length (forall_assignments_code over when xs)) b1 slots (stands table code pc slots rows s.printed)
+        (assign_all_forall axes (product ns) m xs s)
+    assigns-all copy when m asked [] pc slots rows s ok has holds gives =
+        let e : pc ≡ pc + 0 = omega arith in
+        goes-at table code n many copy leave again pc (pc + 0) b1 slots (stands table code pc slots rows s.printed) (normal s) e
+        (lands-done table code n many copy leave again pc b1 slots rows s holds)
+    assigns-all copy when m asked (x ∷ xs) pc slots rows s ok has holds gives =
+        goes-at table code n many copy leave again (pc + 2 + length cs) (pc + length (forall_assignments_code over when (x ∷ xs))) b1 slots
+        (stands table code pc slots rows s.printed) (assign_all_forall axes (product ns) m (x ∷ xs) s) long
+        (goes-then-kept table code n many copy leave again (pc + 2) (pc + 2 + length cs) b1 slots (stands table code pc slots rows s.printed)
+        (one_step x.line s (assign_forall axes (product ns) m x s)) (assign_all_forall axes (product ns) m xs)
+        (stores-go table code n many copy leave again (ParForall p) (forall_tuples table.shapes p) (forall_spot table.shapes p) refl x.line x.array b1 pc ok.0
+        (has.0, (has.1.0, tt)) slots rows s holds (product ns) (ap product (extents-are slots gives)) (indices_at axes) at_a_tuple (λ u lt. does u))
+        (λ slots1 rows1 s1 kept holds1. assigns-all copy when m asked xs (pc + 2) slots1 rows1 s1 ok.3 at_rest holds1 (gives-kept copy slots slots1 gives kept)))
+      where
+        cs : List Instruction
+        cs = forall_assignments_code over when xs
+
+        long : pc + 2 + length cs ≡ pc + length (forall_assignments_code over when (x ∷ xs))
+        long = omega arith
+
+        at_rest : HasAt code (pc + 2) cs
+        at_rest = let e : pc + 1 + 1 ≡ pc + 2 = omega arith in subst (λ at. HasAt code at cs) e has.1.1
+
+        p : Assignment
+        p = forall_assignment over when x
+
+        at_a_tuple : ℕ → Result (Option Store) Cause
+        at_a_tuple u = if_true (m u) (values (indices_at axes u) s x.subscripts >>= (λ is. store_at s x.array is (value (indices_at axes u) s x.right)))
+
+        by_values : List ℤ → List ℤ → ℕ → Outcome Fault
+        by_values y vs from = outcome_if (is_asked when vs)
+            (at_line x.line (assigned_value table.shapes x.array (selections_at slots y p.left) (elemental_at slots y p.right) y vs from))
+
+        does-at : (u : ℕ) (y : List ℤ) → Does x.line x.array (spot_of table.shapes x.array (subscripts_at (selections_at slots y p.left) y))
+            (by_values y (values_of rows (mask_reads when u ++ reads_at table.shapes y (elemental_at slots y p.right))) (length (mask_reads when u)))
+            (at_tuple y (if_true (m u) (values y s x.subscripts >>= (λ is. store_at s x.array is (value y s x.right)))))
+        does-at u y =
+            let ds = selections_at slots y p.left in
+            let r = elemental_at slots y p.right in
+            let stored : store_at s x.array (subscripts_at ds y) (value_at s y r) ≡ (values y s x.subscripts >>= (λ is. store_at s x.array is (value y s x.right))) =
+            ap (store_at s x.array (subscripts_at ds y)) (indexed-value n s slots holds.scalars y x.right ok.2)
+            ∙ sym (ap (λ q. q >>= (λ is. store_at s x.array is (value y s x.right))) (subs-are n s slots holds.scalars y y x.subscripts ok.1)) in
+            subst (λ q. Does x.line x.array (spot_of table.shapes x.array (subscripts_at ds y))
+            (by_values y (values_of rows (mask_reads when u ++ reads_at table.shapes y r)) (length (mask_reads when u))) (at_tuple y (if_true (m u) q))) stored
+            (masked-does n table.shapes s rows holds.arrays y x.line x.array ds r when u (m u) ok.0 (indexed-names n s slots holds.scalars y x.right ok.2)
+            (λ values. asked s slots rows holds u values))
+
+        does : (u : ℕ) → Does x.line x.array (forall_spot table.shapes p slots u) (machine.outcome_of (forall_tuples table.shapes p) slots (read rows) u)
+            (at_tuple (indices_at axes u) (at_a_tuple u))
+        does u =
+            subst (λ y. Does x.line x.array (spot_of table.shapes x.array (subscripts_at (selections_at slots y p.left) y))
+            (by_values y (values_of rows (mask_reads when u ++ reads_at table.shapes y (elemental_at slots y p.right))) (length (mask_reads when u)))
+            (at_tuple (indices_at axes u) (at_a_tuple u)))
+            (sym (indices-are slots gives u)) (does-at u (indices_at axes u))
+
+    -- ---- the mask
+
+    module _ (sized : (ms : List ℕ) → size_of (table.copies ms) ≡ product ms) (body : List ElementAssignment) (ok_body : AreIndexedAssignments n body) where
+      behind-goes : (mask : Option Term) (pc : ℕ) (slots : List ℤ) (rows : Storage) (s : State) → IsIndexedMask n mask
+          → HasAt code pc (forall_mask_code n line over mask ++ forall_assignments_code over (option_map (λ t. where_true n true) mask) body)
+          → Holds table code n many None s slots rows → Gives slots
+          → Goes table code n many None leave again
+          (pc + length (forall_mask_code n line over mask ++ forall_assignments_code over (option_map (λ t. where_true n true) mask) body)) b1 slots
+          (stands table code pc slots rows s.printed) (behind line mask body axes (product ns) s)
+      behind-goes None pc slots rows s ok has holds gives = assigns-all None None (λ t. true) (λ s slots rows h t values. refl) body pc slots rows s ok_body has holds gives
+      behind-goes (Some t) pc slots rows s ok has holds gives =
+          goes-at table code n many None leave again to (pc + length (forall_mask_code n line over (Some t) ++ cs)) b1 slots (stands table code pc slots rows s.printed)
+          (behind line (Some t) body axes (product ns) s) long
+          (subst (Goes table code n many None leave again to b1 slots (stands table code pc slots rows s.printed))
+          (sym (value-bind line s (each (indices_at axes) (λ u. value (indices_at axes u) s t) (product ns)) (λ vs. Ok (mask_of vs))
+          (λ m. assign_all_forall axes (product ns) m body s)))
+          (copy-goes table code n many leave again sized line b1 pc to (index_form t) over (ParForallCopy p) (forall_mask_tuples table.shapes p) refl
+          (has.0, (has.1.0, (has.1.1.0, tt))) slots rows s holds ns (extents-are slots gives) (ap product (extents-are slots gives)) (indices_at axes)
+          (λ u. value (indices_at axes u) s t)
+          does (λ vs. assign_all_forall axes (product ns) (mask_of vs) body s) goes))
+        where
+          p : Evaluation
+          p = record { line = line; form = index_form t; over = over; copy = n }
+
+          cs : List Instruction
+          cs = forall_assignments_code over (Some (where_true n true)) body
+
+          to : ℕ
+          to = pc + 3 + length cs
+
+          long : to ≡ pc + length (forall_mask_code n line over (Some t) ++ cs)
+          long = omega arith
+
+          does-at : (rows1 : Storage) → HoldsArrays n table.shapes s rows1 → (y : List ℤ)
+              → outcome_of (at_line line
+              (at_tuple y (value_by_reads table.shapes y (values_of rows1 (reads_at table.shapes y (elemental_at slots y (index_form t)))) 0
+              (elemental_at slots y (index_form t))))) ≡ outcome_of (at_line line (at_tuple y (value y s t)))
+          does-at rows1 arrays y =
+              let r = elemental_at slots y (index_form t) in
+              ap (λ q. outcome_of (at_line line (at_tuple y q)))
+              (ap (λ vs. value_by_reads table.shapes y vs 0 r) (sym (append-nil (values_of rows1 (reads_at table.shapes y r))))
+              ∙ value-of-reads n table.shapes s rows1 arrays y r [] [] (indexed-names n s slots holds.scalars y t ok)
+              ∙ indexed-value n s slots holds.scalars y t ok)
+
+          does : (rows1 : Storage) → HoldsArrays n table.shapes s rows1 → (u : ℕ) → machine.outcome_of (forall_mask_tuples table.shapes p) slots (read rows1) u
+              ≡ outcome_of (at_line line (at_tuple (indices_at axes u) (value (indices_at axes u) s t)))
+          does rows1 arrays u = does-at rows1 arrays (indices_in over slots u) ∙ ap (λ y. outcome_of (at_line line (at_tuple y (value y s t)))) (indices-are slots gives u)
+
+          asked : (vs : List ℤ) (s1 : State) (slots1 : List ℤ) (rows1 : Storage) → Holds table code n many (Some vs) s1 slots1 rows1 → (u : ℕ) (values : List ℤ)
+              → is_asked (Some (where_true n true)) (values_of rows1 (mask_reads (Some (where_true n true)) u) ++ values) ≡ mask_of vs u
+          asked vs s1 slots1 rows1 h u values = ap (λ r. is_true (slice_index_or r u (pos 0))) (h.copied vs refl)
+
+          goes : (vs : List ℤ) (rows3 : Storage) → Holds table code n many (Some vs) s slots rows3 → Goes table code n many None leave again to b1 slots
+              (stands table code (pc + 3) slots rows3 s.printed) (assign_all_forall axes (product ns) (mask_of vs) body s)
+          goes vs rows3 holds3 =
+              let e : pc + 1 + 1 + 1 ≡ pc + 3 = omega arith in
+              forget table code n many leave again sized (Some vs) to b1 slots (stands table code (pc + 3) slots rows3 s.printed)
+              (assign_all_forall axes (product ns) (mask_of vs) body s)
+              (assigns-all (Some vs) (Some (where_true n true)) (mask_of vs) (asked vs) body (pc + 3) slots rows3 s ok_body (subst (λ at. HasAt code at cs) e has.1.1.1) holds3
+              gives)
+
+  -- ---- the statement
+
+  pub forall-goes : (sized : (ms : List ℕ) → size_of (table.copies ms) ≡ product ms) (line b pc : ℕ) (controls : List Control) (mask : Option Term)
+      (body : List ElementAssignment) (slots : List ℤ) (rows : Storage) (s : State) → AreControls n controls → IsIndexedMask n mask → AreIndexedAssignments n body
+      → HasAt code pc (forall_code n line b controls mask body) → n ≤ b → b + subscripts_slots (triplets controls) ≤ many → Holds table code n many None s slots rows
+      → Goes table code n many None leave again (pc + length (forall_code n line b controls mask body)) b slots (stands table code pc slots rows s.printed)
+      (run_forall line controls mask body s)
+  forall-goes sized line b pc controls mask body slots rows s ok ok_mask ok_body has le few holds =
+      goes-at table code n many None leave again to (pc + length (c1 ++ tail)) b slots (stands table code pc slots rows s.printed) (run_forall line controls mask body s) long
+      (goes-value table code n many None leave again line pc pc1 to b b1 slots rows s P (all_index_values s controls) does (omega arith) le holds
+      (by_header (all_index_values s controls) (subst (Comes table code line rows s.printed pc pc1 b slots (SubsGive b1 over')) (header-is s controls)
+      (subscripts-come table code line n s rows s.printed holds.arrays (triplets controls) pc b slots (header-scalar n controls ok)
+      (has-front code pc c1 tail has) holds.scalars le (omega (arith, few, holds.size)))))
+      (λ slots1 axes e same gives holds1. behind_header slots1 axes (gives slots1 (same-refl b1 slots1)) holds1))
+    where
+      over' : List Sub
+      over' = subs_of b (triplets controls)
+
+      b1 : ℕ
+      b1 = b + subscripts_slots (triplets controls)
+
+      c1 : List Instruction
+      c1 = subscripts_code line b (triplets controls)
+
+      c2 : List Instruction
+      c2 = one_to_one_code over' body
+
+      c3 : List Instruction
+      c3 = forall_mask_code n line over' mask ++ forall_assignments_code over' (option_map (λ t. where_true n true) mask) body
+
+      tail : List Instruction
+      tail = ForallLimits line over' (map index_flat (all_subscripts mask body)) ∷ (c2 ++ c3)
+
+      pc1 : ℕ
+      pc1 = pc + length c1
+
+      to : ℕ
+      to = pc1 + 1 + length c2 + length c3
+
+      long : to ≡ pc + length (c1 ++ tail)
+      long = omega (arith, length-append c1 tail, length-append c2 c3)
+
+      at_tail : HasAt code pc1 tail
+      at_tail = has-back code pc c1 tail has
+
+      P : List ℤ → List Sequence → Type 0
+      P slots' axes = SubsGive b1 over' slots' (map Along axes)
+
+      does : List Sequence → Run
+      does axes =
+          if product (index_extents axes) == 0 then normal s
+          else then_do (one_step line s (check_limits axes (all_subscripts mask body) s))
+          (λ s. then_do (check_one_to_one (index_extents axes) body s) (behind line mask body axes (product (index_extents axes))))
+
+      by_header : (r : Result (List Sequence) Cause) → Comes table code line rows s.printed pc pc1 b slots (SubsGive b1 over') (r >>= (λ axes. Ok (map Along axes)))
+          → Comes table code line rows s.printed pc pc1 b slots P r
+      by_header (Ok axes) h = h
+      by_header (Err c) h = h
+
+      behind_header : (slots1 : List ℤ) (axes : List Sequence) → selections_in slots1 over' ≡ map Along axes → Holds table code n many None s slots1 rows
+          → Goes table code n many None leave again to b1 slots1 (stands table code pc1 slots1 rows s.printed) (does axes)
+      behind_header slots1 axes gives holds1 =
+          subst (Goes table code n many None leave again to b1 slots1 (stands table code pc1 slots1 rows s.printed)) (sym (forall-is line mask body axes count s))
+          (goes-then-kept table code n many None leave again (pc1 + 1) to b1 slots1 (stands table code pc1 slots1 rows s.printed) (one_step line s (check test SpaceLimit s)) rest
+          (test-goes None line pc1 b1 (ForallLimits line over' (map index_flat (all_subscripts mask body))) (forall_limits over' (map index_flat (all_subscripts mask body)))
+          test SpaceLimit slots1 rows s at_tail.0 refl limits holds1)
+          (λ slots2 rows2 s2 kept2 holds2.
+          goes-then-kept table code n many None leave again (pc1 + 1 + length c2) to b1 slots2 (stands table code (pc1 + 1) slots2 rows2 s2.printed)
+          (all_one_to_one (count == 0) (index_extents axes) body s2) (behind line mask body axes count)
+          (all-one-to-one line b b1 controls axes le refl None body (pc1 + 1) slots2 rows2 s2 ok_body (has-front code (pc1 + 1) c2 c3 at_tail.1) holds2
+          (gives-kept line b b1 controls axes le refl None slots1 slots2 gives kept2))
+          (λ slots3 rows3 s3 kept3 holds3.
+          behind-goes line b b1 controls axes le refl sized body ok_body mask (pc1 + 1 + length c2) slots3 rows3 s3 ok_mask (has-back code (pc1 + 1) c2 c3 at_tail.1) holds3
+          (gives-kept line b b1 controls axes le refl None slots2 slots3 (gives-kept line b b1 controls axes le refl None slots1 slots2 gives kept2) kept3))))
+        where
+          count : ℕ
+          count = product (index_extents axes)
+
+          test : Bool
+          test = (count == 0) || is_forall_in_limits s axes (all_subscripts mask body)
+
+          rest : State → Run
+          rest s = then_do (all_one_to_one (count == 0) (index_extents axes) body s) (behind line mask body axes count)
+
+          flats : List Term
+          flats = map term_of (map index_flat (all_subscripts mask body))
+
+          limits : forall_limits over' (map index_flat (all_subscripts mask body)) slots1 ≡ (if test then Ok 0 else fails SpaceLimit)
+          limits =
+              ap (λ ds. unless_empty (extents ds) (is_forall_in_limits (slots_state slots1) (sequences_of ds) flats) SpaceLimit) gives
+              ∙ ap (λ ms. unless_empty ms (is_forall_in_limits (slots_state slots1) (sequences_of (map Along axes)) flats) SpaceLimit) (header-extents axes)
+              ∙ ap (λ ps. unless_empty (index_extents axes) (is_forall_in_limits (slots_state slots1) ps flats) SpaceLimit) (header-sequences axes)
+              ∙ ap (λ b. unless_empty (index_extents axes) (nat_le (product (index_extents axes)) MAX_TUPLES && list_all is_index_in_limits axes && b) SpaceLimit)
+              (limits-are n s slots1 holds1.scalars (all_subscripts mask body) (all-in-forall n mask body ok_mask ok_body))

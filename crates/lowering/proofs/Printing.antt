@@ -1,0 +1,57 @@
+-- A PRINT on the machine: its items one after another, and then the line.
+use Rattle.std.proofs.Common.{◌≡◌, ℕ, suc, ◌+◌, List, [], ◌∷◌, ◌++◌, length, ℤ, Some, None, refl, sym, ap, ◌∙◌, arith, append-nil, append_assoc, length-append, drop, slice_get}
+use Rattle.nest_order.specs.Storage.{Storage, Spot, read}
+use Rattle.array_meaning.specs.Faults.{Fault}
+use Rattle.machine_steps.specs.Instr.{Item}
+use Rattle.machine_steps.specs.Machine.{Machine, item_bytes, print_step, step, step_by, steps, instr_of}
+use Rattle.node_code.specs.Instructions.{PrintItem, Instruction, Print, ArrayTable, meaning_of, items_of}
+use Rattle.lowering.proofs.Reach.{Idle, stands, steps-more}
+
+-- the bytes of items
+abbrev pub all_bytes : List ℤ → (Spot → ℤ) → List Item → List ℕ
+all_bytes slots get [] = []
+all_bytes slots get (x ∷ xs) = item_bytes x slots get ++ all_bytes slots get xs
+
+at-seam : {A : Type 0} (front : List A) (x : A) (rest : List A) → slice_get (front ++ x ∷ rest) (length front) ≡ Some x
+at-seam [] x rest = refl
+at-seam (y ∷ front) x rest = at-seam front x rest
+
+past-end : {A : Type 0} (xs : List A) → slice_get xs (length xs) ≡ None
+past-end [] = refl
+past-end (x ∷ xs) = past-end xs
+
+module _ (table : ArrayTable) (code : List Instruction) (pc : ℕ) (slots : List ℤ) (rows : Storage) (out : List ℕ) (items : List PrintItem)
+    (has : slice_get code pc ≡ Some (Print items)) (i : Idle) where
+  abbrev all : List Item
+  all = items_of table.shapes items
+
+  abbrev whole : List ℕ → List ℕ
+  whole bytes = drop 1 bytes ++ 10 ∷ []
+
+  -- behind so many items
+  abbrev behind : ℕ → List ℕ → Machine Instruction Fault
+  behind k line = record (stands table code pc slots rows out i) { substep = k; line = line }
+
+  next : (k : ℕ) (line : List ℕ) → step (meaning_of table) (behind k line) ≡ print_step (slice_get all k) whole (behind k line)
+  next k line = ap (λ o. step_by (instr_of (meaning_of table) o) (behind k line)) has
+
+  printing : (rest front : List Item) (line : List ℕ) → all ≡ front ++ rest → (k : ℕ)
+      × (steps (meaning_of table) k (behind (length front) line) ≡ behind (length all) (line ++ all_bytes slots (read rows) rest))
+  printing [] front line e = (0, ap (λ k. behind k line) (ap length (sym (append-nil front) ∙ sym e)) ∙ ap (behind (length all)) (sym (append-nil line)))
+  printing (x ∷ rest) front line e =
+      let bytes = item_bytes x slots (read rows) in
+      let long : length (front ++ x ∷ []) ≡ suc (length front) = length-append front (x ∷ []) ∙ omega arith in
+      let h = printing rest (front ++ x ∷ []) (line ++ bytes) (e ∙ sym (append_assoc front (x ∷ []) rest)) in
+      let one : step (meaning_of table) (behind (length front) line) ≡ behind (length (front ++ x ∷ [])) (line ++ bytes) =
+      next (length front) line ∙ ap (λ o. print_step o whole (behind (length front) line)) (ap (λ xs. slice_get xs (length front)) e ∙ at-seam front x rest)
+      ∙ ap (λ k. behind k (line ++ bytes)) (sym long) in
+      (suc h.0, ap (steps (meaning_of table) h.0) one ∙ h.1 ∙ ap (behind (length all)) (append_assoc line bytes (all_bytes slots (read rows) rest)))
+
+  pub prints-line : (k : ℕ)
+      × (steps (meaning_of table) k (stands table code pc slots rows out i) ≡ stands table code (pc + 1) slots rows (out ++ whole (all_bytes slots (read rows) all)) i)
+  prints-line =
+      let h = printing all [] [] refl in (
+        1 + h.0,
+        steps-more table code h.0 1 (stands table code pc slots rows out i) ∙ ap (step (meaning_of table)) h.1
+            ∙ next (length all) (all_bytes slots (read rows) all) ∙ ap (λ o. print_step o whole (behind (length all) (all_bytes slots (read rows) all))) (past-end all),
+      )

@@ -1,0 +1,4 @@
+pub mod ExpressionCode
+pub mod StatementCode
+pub mod WellFormed
+pub mod Lowered

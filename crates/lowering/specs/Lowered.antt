@@ -1,0 +1,73 @@
+-- What it is for a program to be lowered: the machine over its code ends as it does.
+use Rattle.std.specs.Prelude.{◌≡◌, ℕ, ◌<◌, List, [], ◌∷◌, ◌++◌, length, map, replicate, slice_index_or, ℤ, pos, None}
+use Rattle.hpf_base.specs.ElementOrder.{product}
+use Rattle.name_table.specs.declared.names.Entry.{Entry}
+use Rattle.nest_order.specs.Storage.{row_of}
+use Rattle.array_meaning.specs.Faults.{Fault}
+use Rattle.array_meaning.specs.State.{State, scalar, array}
+use Rattle.array_meaning.specs.Statements.{Block}
+use Rattle.array_meaning.specs.Runs as runs
+use Rattle.array_meaning.specs.Runs.{Completion, Run}
+use Rattle.array_meaning.specs.Resolution.{initial_state}
+use Rattle.array_meaning.specs.Serial as serial
+use Rattle.array_meaning.specs.Serial.{Outcome}
+use Rattle.machine_steps.specs.Layout.{Layout, size_of}
+use Rattle.machine_steps.specs.Instr.{Running, Finished, Faulted}
+use Rattle.machine_steps.specs.Machine.{Machine, steps}
+use Rattle.node_code.specs.Flat.{slot}
+use Rattle.node_code.specs.Instructions.{Instruction, ArrayTable, meaning_of}
+use Rattle.lowering.specs.StatementCode.{block_slots, program_code}
+
+-- scalars and arrays have one numbering, by the places of n declared names
+pub record IsState (n : ℕ) (s : State) : Type 0 where
+  pub scalars : length s.scalars ≡ n
+  pub arrays : length s.arrays ≡ n
+
+-- the machine before the first instruction: the slots are the scalars and then the hidden slots, and the rows are the arrays and then
+-- the copy of a mask. How the rows lie plays no part
+abbrev pub opening : ℕ → Block → State → List Layout → Machine Instruction Fault
+opening n body s layouts = record {
+  code = program_code n body;
+  control = record { at = 0; slots = s.scalars ++ replicate (block_slots body) (pos 0); status = Running };
+  substep = 0;
+  rows = map (λ a. a.elements) s.arrays ++ [] ∷ [];
+  layouts = layouts;
+  kept = None;
+  parts = 0;
+  joined = pos 0;
+  line = [];
+  printed = s.printed;
+}
+
+-- the arrays as declared, and copies with a layout that has room for their elements
+pub record IsTable (s : State) (table : ArrayTable) : Type 0 where
+  pub shapes : table.shapes ≡ map (λ a. a.dims) s.arrays
+  pub copies : (extents : List ℕ) → size_of (table.copies extents) ≡ product extents
+
+-- the slots of the declared names are the scalars, and the rows the arrays
+abbrev pub IsLeft : ℕ → Machine Instruction Fault → State → Type 0
+IsLeft n m s = ((k : ℕ) → k < n → slot m.control.slots k ≡ scalar s k) × ((a : ℕ) → a < n → row_of m.rows a ≡ (array s a).elements)
+
+-- the machine has ended as a run did: with its fault, or finished with its scalars and arrays; and in both cases with its bytes
+abbrev pub EndsAs : ℕ → Machine Instruction Fault → State → Completion → Type 0
+EndsAs n m s (runs.Faulted f) = (m.control.status ≡ Faulted f) × (m.printed ≡ s.printed)
+EndsAs n m s completion = (m.control.status ≡ Finished) × (m.printed ≡ s.printed) × IsLeft n m s
+
+-- the machine ends as a run did
+abbrev pub MachineEnds : ℕ → ArrayTable → Machine Instruction Fault → Run → Type 0
+MachineEnds n table m r = (k : ℕ) × EndsAs n (steps (meaning_of table) k m) r.state r.completion
+
+-- ---- against the serial outcome
+
+-- the machine has ended so, with these arrays
+abbrev pub IsEnd : ℕ → Machine Instruction Fault → serial.End → List (List ℤ) → Type 0
+IsEnd n m serial.Finished arrays = (m.control.status ≡ Finished) × ((a : ℕ) → a < n → row_of m.rows a ≡ slice_index_or arrays a [])
+IsEnd n m (serial.Faulted f) arrays = m.control.status ≡ Faulted f
+
+-- the machine ends with an outcome: what was printed, and the end
+abbrev pub MachineHas : ℕ → ArrayTable → Machine Instruction Fault → Outcome → Type 0
+MachineHas n table m o = (k : ℕ) × ((steps (meaning_of table) k m).printed ≡ o.printed) × IsEnd n (steps (meaning_of table) k m) o.end o.arrays
+
+-- the arrays of these names, where copies have these layouts
+abbrev pub table_of : List Entry → (List ℕ → Layout) → ArrayTable
+table_of names copies = record { shapes = map (λ a. a.dims) (initial_state names).arrays; copies = copies }

@@ -1,0 +1,43 @@
+//! Programs as node code.
+
+ghost use Rattle.std.specs.Prelude.{◌≡◌, ◌≤◌, ℕ, List, length};
+ghost use Rattle.hpf_base.specs.ElementOrder.{product};
+ghost use Rattle.syntax_tree.specs.Statement as syntax;
+ghost use Rattle.name_table.specs.declared.names.Entry.{Entry};
+ghost use Rattle.hpf_base.specs.declared.index.Shape.{Shape};
+ghost use Rattle.machine_steps.specs.Agrees.{IsValidCode};
+ghost use Rattle.lowering.specs.StatementCode.{program_code};
+ghost use Rattle.array_meaning.specs.Resolution.{resolved_block, initial_state};
+ghost use Rattle.array_meaning.specs.Serial.{outcome};
+ghost use Rattle.array_meaning.specs.Execution.{run_block};
+ghost use Rattle.array_meaning.specs.State.{State};
+ghost use Rattle.array_meaning.specs.Statements.{Block};
+ghost use Rattle.lowering.specs.Lowered.{IsState, IsTable, opening, MachineEnds, MachineHas, table_of};
+ghost use Rattle.lowering.specs.WellFormed.{IsWellFormedBlock};
+ghost use Rattle.machine_steps.specs.Layout.{IsDealt, Layout, size_of};
+ghost use Rattle.node_code.specs.Instructions.{ArrayTable, meaning_of};
+
+/// The machine with whole arrays ends over a program's code as the program does: with the first fault, its line, kind and tuple, and
+/// the bytes that were printed before it, or finished with the program's bytes, scalars and arrays.
+pub fn programs_lowered()
+    ensures { (n : ℕ) (table : ArrayTable) (body : Block) (s : State) (layouts : List Layout)
+        → IsState n s → IsTable s table → IsWellFormedBlock n body
+        → MachineEnds n table (opening n body s layouts) (run_block body s) }
+{}
+
+/// The same of the serial outcome of a program, where these names are declared.
+pub fn outcomes_lowered()
+    ensures { (names : List Entry) (body : syntax.Block) (copies : List ℕ → Layout) (layouts : List Layout)
+        → ((extents : List ℕ) → size_of (copies extents) ≡ product extents)
+        → IsWellFormedBlock (length names) (resolved_block names body)
+        → MachineHas (length names) (table_of names copies)
+        (opening (length names) (resolved_block names body) (initial_state names) layouts) (outcome names body) }
+{}
+
+/// Every instruction of a program's code is one that so many nodes can run: no copy is a declared array, each of its elements has an
+/// owner, and the values of reductions are joined alike in any order and grouping.
+pub fn code_is_valid()
+    ensures { (count n : ℕ) (shapes : List Shape) (table : ArrayTable) (body : Block)
+        → length shapes ≤ n → ((extents : List ℕ) → IsDealt count (table.copies extents))
+        → IsWellFormedBlock n body → IsValidCode (meaning_of table) count shapes (program_code n body) }
+{}

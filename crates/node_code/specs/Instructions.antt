@@ -1,0 +1,158 @@
+-- The instructions of node code, and what each does on the machine with whole arrays.
+use Rattle.std.specs.Prelude.{ℕ, zero, suc, ◌+◌, List, [], ◌∷◌, ◌++◌, drop, slice_set, ℤ, pos, Bool, true, false, Option, Result, Ok, Err, if◌then◌else◌}
+use Rattle.std.specs.Fmt.{signed_decimal}
+use Rattle.hpf_base.specs.ElementOrder.{product}
+use Rattle.op_tables.specs.declared.op.Op.{Op}
+use Rattle.op_tables.specs.Operators.{wrapped, is_zero, is_true}
+use Rattle.expression_rules.specs.declared.dims.Dim.{Dim}
+use Rattle.nest_order.specs.Storage.{Spot}
+use Rattle.array_meaning.specs.declared.faults.FaultKind.TheVariants.{ZeroStride}
+use Rattle.array_meaning.specs.Faults.{Cause, Fault, ◌>>=◌, fails}
+use Rattle.array_meaning.specs.State.{element_place, if_in_bounds}
+use Rattle.array_meaning.specs.declared.sections.Sequence.{Sequence}
+use Rattle.array_meaning.specs.declared.sections.Selection.{Selection}
+use Rattle.array_meaning.specs.Sections.{sequence, extents, subscripts_at, positions}
+use Rattle.array_meaning.specs.Elementals.{each}
+use Rattle.array_meaning.specs.Execution.{decimals}
+use Rattle.machine_steps.specs.Layout.{Layout}
+use Rattle.machine_steps.specs.Instr as machine
+use Rattle.machine_steps.specs.Instr.{Instr, Local, Control}
+use Rattle.machine_steps.specs.Machine.{on, faulted, set_slot}
+use Rattle.node_code.specs.Flat.{Flat, Flats, slot, flat_value, flat_values, slots_value}
+use Rattle.node_code.specs.Forms.{Sub, selections_in}
+use Rattle.node_code.specs.Parallel.{at_line, shape_of, spot_of, Assignment, assignment_size, assignment_tuples, assigned_spot, Evaluation, evaluation_extents, evaluation_size, evaluation_tuples, reduction_tuples, fold_of, copy_spot, forall_tuples, forall_spot, forall_mask_tuples}
+use Rattle.node_code.specs.ForallLimits.{forall_limits, one_to_one}
+
+-- an item of a PRINT: bytes, a number over the slots, or the elements of a section
+pub data PrintItem : Type 0 where
+  PrintBytes : List ℕ → PrintItem
+  PrintNumber : Flat → PrintItem
+  PrintSection : (array : ℕ) → List Sub → PrintItem
+
+pub data Instruction : Type 0 where
+  -- a slot gets a value, or there is a fault
+  Set : (line slot : ℕ) → Flat → Instruction
+  -- a slot gets the value of an element; Bounds where there is none
+  Fetch : (line array : ℕ) → Flats → (slot : ℕ) → Instruction
+  -- an element gets a value
+  Store : (line array : ℕ) → Flats → Flat → Instruction
+  -- Bounds where there is no such element
+  TestBounds : (line array : ℕ) → Flats → Instruction
+  -- ZeroStride where a slot is 0
+  TestStride : (line slot : ℕ) → Instruction
+  -- the iteration count of a loop by its first value, last value and step: where it is 0 the run goes on at a target, else a slot gets
+  -- what is left of it behind the first iteration, in 64 bits; ZeroStride where the step is 0
+  Trips : (line first last step left target : ℕ) → Instruction
+  Jump : (target : ℕ) → Instruction
+  JumpIfZero : (target slot : ℕ) → Instruction
+  -- the run is finished
+  Halt : Instruction
+  -- Shape and SpaceLimit of an assignment, or of an array expression by itself
+  Limits : Assignment → Instruction
+  OwnLimits : Evaluation → Instruction
+  -- SpaceLimit of a FORALL, by its indices and all its subscripts
+  ForallLimits : (line : ℕ) → (over : List Sub) → (subscripts : List Flat) → Instruction
+  -- NotOneToOne of an assignment of it, by its left side
+  OneToOne : (line : ℕ) → (over : List Sub) → (left : List Flat) → Instruction
+  -- an assignment at the tuples of its space, and one of a FORALL
+  Par : Assignment → Instruction
+  ParForall : Assignment → Instruction
+  -- a copy of the extents of an array expression, with 0 everywhere, and its values into the copy; also those of a FORALL's mask
+  MakeCopy : Evaluation → Instruction
+  ParCopy : Evaluation → Instruction
+  ParForallCopy : Evaluation → Instruction
+  -- the run ends with the kept fault of the least key, if there is one
+  Verdict : Instruction
+  -- a slot gets a reduction of an array expression, or the run ends with the first fault of its tuples
+  Reduce : Evaluation → Op → (slot : ℕ) → Instruction
+  -- Bounds at the first tuple at which an element of a section is out of bounds
+  Inside : (line array : ℕ) → List Sub → Instruction
+  -- a line of these items is printed
+  Print : List PrintItem → Instruction
+
+abbrev pub spot_in : ℕ → List Dim → List ℤ → Result Spot Cause
+spot_in a dims subscripts = if_in_bounds (element_place dims subscripts) >>= (λ k. Ok (record { row = a; at = k }))
+
+-- ---- local instructions
+
+abbrev pub set_result : Result ℤ Fault → ℕ → Control Fault → Control Fault
+set_result (Ok value) slot c = set_slot c slot value
+set_result (Err fault) slot c = faulted c fault
+
+abbrev pub begin_trips : ℕ → ℕ → Result Sequence Fault → Control Fault → Control Fault
+begin_trips left target (Err fault) c = faulted c fault
+begin_trips left target (Ok p) c = by_count p.count where
+  by_count : ℕ → Control Fault
+  by_count zero = record c { at = target }
+  by_count (suc n) = record { at = c.at + 1; slots = slice_set c.slots left (wrapped (pos n)); status = c.status }
+
+abbrev pub go_if : Bool → ℕ → Control Fault → Control Fault
+go_if true target c = on c
+go_if false target c = record c { at = target }
+
+-- a test, which may fault and changes nothing
+abbrev pub go_on_if : {A : Type 0} → Result A Fault → Control Fault → Control Fault
+go_on_if (Ok v) c = on c
+go_on_if (Err fault) c = faulted c fault
+
+abbrev pub stride_at : ℕ → List ℤ → Result ℕ Cause
+stride_at x slots = if is_zero (slot slots x) then fails ZeroStride else Ok 0
+
+module _ (shapes : List (List Dim)) where
+  abbrev pub element_in : ℕ → ℕ → Flats → List ℤ → Result Spot Fault
+  element_in line a fs slots = at_line line (flat_values slots [] [] fs >>= spot_in a (shape_of shapes a))
+
+  -- ---- PRINT
+
+  -- the places of the elements of a section, or the first of them that is out of bounds
+  abbrev pub all_inside : ℕ → List Selection → Result (List ℕ) Cause
+  all_inside a ds =
+      each (positions (extents ds)) (λ t. if_in_bounds (element_place (shape_of shapes a) (subscripts_at ds (positions (extents ds) t))))
+      (product (extents ds))
+
+  -- its elements, in array element order
+  abbrev pub section_spot : ℕ → List Sub → List ℤ → ℕ → Option Spot
+  section_spot a subs slots t = spot_of shapes a (subscripts_at (selections_in slots subs) (positions (extents (selections_in slots subs)) t))
+
+  -- a blank before each text and each number
+  abbrev pub item_of : PrintItem → machine.Item
+  item_of (PrintBytes bytes) = machine.Text (λ slots. 32 ∷ bytes)
+  item_of (PrintNumber f) = machine.Text (λ slots. 32 ∷ signed_decimal (slots_value slots f))
+  item_of (PrintSection a subs) = machine.Elements (λ slots. product (extents (selections_in slots subs))) (section_spot a subs) decimals
+
+  abbrev pub items_of : List PrintItem → List machine.Item
+  items_of [] = []
+  items_of (i ∷ is) = item_of i ∷ items_of is
+
+-- ---- all instructions
+
+-- what instructions know of arrays: the dimensions of those that are declared, by the places of their names, and the layout of a copy of
+-- these extents
+pub record ArrayTable : Type 0 where
+  pub shapes : List (List Dim)
+  pub copies : List ℕ → Layout
+
+abbrev pub meaning_of : ArrayTable → Instruction → Instr Fault
+meaning_of table (Set line x f) = Local (λ c. set_result (at_line line (flat_value c.slots [] [] f)) x c)
+meaning_of table (Fetch line a fs x) = machine.Fetch (element_in table.shapes line a fs) x
+meaning_of table (Store line a fs f) = machine.Store (element_in table.shapes line a fs) (λ slots. at_line line (flat_value slots [] [] f))
+meaning_of table (TestBounds line a fs) = Local (λ c. go_on_if (element_in table.shapes line a fs c.slots) c)
+meaning_of table (TestStride line x) = Local (λ c. go_on_if (at_line line (stride_at x c.slots)) c)
+meaning_of table (Trips line first last step left target) =
+    Local (λ c. begin_trips left target (at_line line (sequence (slot c.slots first) (slot c.slots last) (slot c.slots step))) c)
+meaning_of table (Jump target) = Local (λ c. record c { at = target })
+meaning_of table (JumpIfZero target x) = Local (λ c. go_if (is_true (slot c.slots x)) target c)
+meaning_of table Halt = Local (λ c. record c { status = machine.Finished })
+meaning_of table (Limits p) = Local (λ c. go_on_if (at_line p.line (assignment_size p c.slots)) c)
+meaning_of table (OwnLimits p) = Local (λ c. go_on_if (at_line p.line (evaluation_size p c.slots)) c)
+meaning_of table (ForallLimits line over subscripts) = Local (λ c. go_on_if (at_line line (forall_limits over subscripts c.slots)) c)
+meaning_of table (OneToOne line over left) = Local (λ c. go_on_if (at_line line (one_to_one over left c.slots)) c)
+meaning_of table (Par p) = machine.Par (assignment_tuples table.shapes p) (assigned_spot table.shapes p)
+meaning_of table (ParForall p) = machine.Par (forall_tuples table.shapes p) (forall_spot table.shapes p)
+meaning_of table (MakeCopy p) = machine.MakeCopy p.copy (λ slots. table.copies (evaluation_extents p slots)) (λ slots. pos 0)
+meaning_of table (ParCopy p) = machine.Par (evaluation_tuples table.shapes p) (copy_spot p.copy)
+meaning_of table (ParForallCopy p) = machine.Par (forall_mask_tuples table.shapes p) (copy_spot p.copy)
+meaning_of table Verdict = machine.Verdict
+meaning_of table (Reduce p o x) = machine.Reduce (reduction_tuples table.shapes p o) (fold_of o) x
+meaning_of table (Inside line a subs) = Local (λ c. go_on_if (at_line line (all_inside table.shapes a (selections_in c.slots subs))) c)
+meaning_of table (Print items) = machine.Print (items_of table.shapes items) (λ bytes. drop 1 bytes ++ 10 ∷ [])

@@ -1,0 +1,5 @@
+pub mod Flat
+pub mod Forms
+pub mod Parallel
+pub mod ForallLimits
+pub mod Instructions

@@ -1,0 +1,32 @@
+//! The laws of distributed runs: nodes do what the machine with whole arrays does.
+//!
+//! Comes in: the definitions of `machine_steps`, for any texts of instructions and any faults. Goes out: laws, each the contract of a
+//! function that does nothing.
+//!
+//! - `runs`: nodes that agree with the machine run each instruction as it does; so they are phased where its run ends, and their last
+//!   nodes agree with its last state. They begin as one list of openings.
+//! - `letters`: the letters of a message phase and of the rounds of a redistribution are exactly those of the whole arrays, and what a
+//!   node receives gives it each value that it needs.
+//! - `parted`: parallel statements one behind the other are the parted order of a nest, and what the machine keeps is its least fault.
+//! - `joining`: what the nodes join of their own values is what is joined of all values in their order.
+//! - `trees`: the rounds of a tree are those of `reduction_tree`, and what the letters of each tree hold.
+//! - `pieces`: who owns what, and what a node's piece is, by the definitions of mapped arrays.
+//!
+//! What holds in between: no law of runs looks into who owns what, so an element may have several owners. The simulation is one lemma an
+//! instruction (`proofs/`): an instruction without a phase is a local step, a message phase is one exchange, a tree and a
+//! redistribution are rounds of exchanges, and segments of a lockstep run are put together.
+#![tactic(auto)]
+
+mod joining;
+mod letters;
+mod parted;
+mod pieces;
+mod runs;
+mod trees;
+
+pub use joining::{folded_from_unit, values_regrouped};
+pub use letters::{message_read, part_letters, remap_letters};
+pub use parted::{least_of_parts, parts_in_a_row};
+pub use pieces::{elements_have_owners, owners_by_mapping, pieces_by_elements};
+pub use runs::{nodes_run, nodes_step, openings_run};
+pub use trees::{fold_letters, trees_by_acts, verdict_letters};

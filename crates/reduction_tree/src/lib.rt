@@ -1,0 +1,23 @@
+//! Trees of rounds that join one item of each node, and the folds whose items they join.
+//!
+//! Comes in: a number of nodes, a round and a node; or a fold and the items of all nodes. Goes out: what the node does in
+//! that round, and the items joined from the left. What holds in between: the nodes pass rounds up to node 0 and down
+//! again, and in each round one node sends exactly where another takes from it. Whatever is joined, as long as the
+//! join is associative with a unit, node 0 has the items of all nodes in their order after the rounds up, and every node
+//! has them after the rounds down.
+#![tactic(auto)]
+
+mod fold;
+mod kept_fault;
+mod laws;
+mod numbers;
+mod placed;
+mod tree;
+
+pub use fold::{Fold, fold_tree};
+pub use hpf_base::NodeId;
+pub use kept_fault::{KeptFault, LeastFault};
+pub use laws::{law_of_acts, law_of_owners, law_of_trees};
+pub use numbers::{BitAnd, BitOr, BitXor, Greatest, Least, Product, Sum};
+pub use placed::{LastValue, Placed};
+pub use tree::{TreeAct, tree_act};
