@@ -13,6 +13,7 @@ use Rattle.distribution_rules.specs.Setting.{Setting, dims_of}
 use Rattle.alignment_rules.specs.declared.alignment_values.Alignment.{Alignment}
 use Rattle.alignment_rules.specs.declared.alignment_values.Alignment.TheVariants.{Known, PastLimits, Unknown}
 use Rattle.alignment_rules.specs.declared.alignment_values.LinearForm.{LinearForm}
+use Rattle.alignment_rules.specs.declared.alignment_values.Pair.{Pair}
 use Rattle.alignment_rules.specs.declared.alignment_values.TargetValue.{TargetValue}
 use Rattle.alignment_rules.specs.declared.alignment_values.TargetValue.TheVariants as value
 use Rattle.alignment_rules.specs.AlignmentValues.{first_dim, sources, target_values}
@@ -51,14 +52,7 @@ at_place [] n = None
 at_place (a ∷ as') zero = a
 at_place (a ∷ as') (suc n) = at_place as' n
 
--- a dimension of the target: what stands for it, its bounds, and the dimension of the alignee along which its subscript moves, with
--- its bounds
-pub record Pair : Type 0 where
-  pub value : TargetValue
-  pub bounds : Option Dim
-  pub dim : ℕ
-  pub along : Option Dim
-
+-- a dimension of the target, with the dimension of the alignee along which its subscript moves
 abbrev pub pair : TargetValue → Option Dim → ℕ → Option Dim → Pair
 pair v b dim d = record { value = v; bounds = b; dim = dim; along = d }
 

@@ -20,11 +20,12 @@ use Rattle.name_table.specs.Uses.{repeats}
 use Rattle.distribution_rules.specs.declared.objects.Object.{Object}
 use Rattle.distribution_rules.specs.Dimensions.{passes, is_empty_dim}
 use Rattle.distribution_rules.specs.Setting.{Setting, object, object_dims, dims_of, has_kind, is_array_kind, is_mapped_kind, value_in}
+use Rattle.alignment_rules.specs.declared.alignment_values.Pair.{Pair}
 use Rattle.alignment_rules.specs.declared.alignment_values.TargetValue.{TargetValue}
 use Rattle.alignment_rules.specs.declared.alignment_values.TargetValue.TheVariants.{Triplet}
 use Rattle.alignment_rules.specs.LinearForms.{are_same, dummies_in, have_common, has_invalid_part, is_free, is_linear}
 use Rattle.alignment_rules.specs.AlignmentValues.{sources, target_values}
-use Rattle.alignment_rules.specs.AlignmentEntries.{Pair, pairs, entry_of, is_past_limits, is_triplet, at_place}
+use Rattle.alignment_rules.specs.AlignmentEntries.{pairs, entry_of, is_past_limits, is_triplet, at_place}
 
 -- ---- whatever the alignees are
 

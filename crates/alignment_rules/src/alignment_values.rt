@@ -2,6 +2,7 @@
 
 ghost use Rattle.std.specs.Prelude.{◌≡◌};
 
+use expression_rules::Dim;
 use hpf_base::{AlignDim, Name};
 use std::marker::Model;
 
@@ -13,7 +14,7 @@ pub struct LinearForm {
 }
 
 /// What stands for a dimension of the target.
-#[derive(Debug, Drop)]
+#[derive(Clone, Copy, Debug)]
 pub enum TargetValue {
     /// `*`.
     Every,
@@ -21,6 +22,16 @@ pub enum TargetValue {
     Subscript(Option<Name>, Option<LinearForm>),
     /// A triplet: its first and its last subscript and its stride, each where it is known.
     Triplet(Option<i64>, Option<i64>, Option<i64>),
+}
+
+/// A dimension of the target: what stands for it, its bounds, and the dimension of the alignee, from 0, along which its subscript moves,
+/// with its bounds. Bounds are None where they aren't known.
+#[derive(Clone, Copy, Debug)]
+pub struct Pair {
+    pub value: TargetValue,
+    pub bounds: Option<Dim>,
+    pub dim: u32,
+    pub along: Option<Dim>,
 }
 
 /// What stands for the dimensions of the target, the first one first. Contracts see the list.
@@ -82,6 +93,13 @@ impl AlignDims {
         ensures { result.now ≡ self.now }
     {
         &self.entries
+    }
+
+    /// The entries in order. It takes no memory.
+    pub fn into_vec(self) -> Vec<AlignDim>
+        ensures { result.items ≡ self }
+    {
+        self.entries
     }
 }
 

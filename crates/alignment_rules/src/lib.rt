@@ -2,13 +2,25 @@
 //!
 //! Comes in: the setting of a program and its ALIGN directives one by one. Goes out: the least reason for which an ALIGN or one of its
 //! alignees breaks a rule, and the alignment of each alignee. What holds in between: the subscripts and triplets of a target are judged by
-//! their values, which don't depend on the alignee.
+//! their values, which don't depend on the alignee; numbers are wide until they are within the limits.
 #![tactic(auto)]
 
 mod alignees;
 mod alignment_values;
 mod alignments;
+mod dummies;
+mod entries;
+mod inside;
+mod laws;
+mod linear_forms;
+mod pairs;
+mod repetitions;
+mod sources;
+mod target_parts;
 
 pub use alignees::{alignment_of, bad_alignee};
-pub use alignment_values::{AlignDims, Alignment, LinearForm, TargetValue, TargetValues};
-pub use alignments::{bad_alignment, target_values};
+pub use alignment_values::{AlignDims, Alignment, LinearForm, Pair, TargetValue, TargetValues};
+pub use alignments::bad_alignment;
+pub use inside::{has_elements, is_inside};
+pub use laws::aligned_entries;
+pub use target_parts::target_values;

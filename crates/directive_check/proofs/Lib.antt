@@ -1,0 +1,14 @@
+mod ListTurns
+mod MappedTurns
+mod ListedNames
+mod SameMapped
+mod ChainLaws
+mod Unnamed
+mod RedistributeSteps
+mod DirectLaws
+mod MapTurns
+mod MappingBreaches
+mod AllMaps
+mod ValidChains
+mod ValidInside
+mod ValidShapes

@@ -5,6 +5,20 @@
 //! chain, and what is past the limits stays past them.
 #![tactic(auto)]
 
+mod chain_rules;
+mod chains;
+mod composed_alignments;
+mod declared_rules;
+mod direct_mappings;
+mod dynamic_names;
+mod insides;
+mod mapped_object;
+mod mapped_objects;
 mod mapping_check;
+mod program_maps;
+mod redistribute_judge;
+mod redistributes;
+mod root_alignments;
+mod subscripts;
 
 pub use mapping_check::check_mapping;

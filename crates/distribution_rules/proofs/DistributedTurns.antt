@@ -1,13 +1,19 @@
 -- The distributed dimensions of an object, one after the other.
-use Rattle.std.proofs.Common.{◌≡◌, ℕ, suc, ◌+◌, ◌<◌, ◌≤◌, Bool, true, false, List, [], ◌∷◌, ◌++◌, drop, length, get_or, Option, Some, None, add-one, drop-cons, refl, sym, ap, ◌∙◌, arith}
-use Rattle.std.specs.Prelude.{◌||◌}
+use Rattle.std.proofs.Common.{◌≡◌, ℕ, suc, ◌+◌, ◌<◌, ◌≤◌, Bool, true, false, List, [], ◌∷◌, ◌++◌, drop, length, get_or, Option, Some, None, add-one, append_assoc, drop-cons, subst, refl, sym, ap, ◌∙◌, arith}
+use Rattle.std.specs.Prelude.{◌||◌, All, IfSome, option_and_then, option_map}
 use Rattle.std.specs.List.{list_any}
 use Rattle.std.proofs.lemmas.List.{drop-drop}
+use Rattle.std.proofs.lemmas.List.Elements.{All-drop, All-head}
+use Rattle.hpf_base.specs.Grid.{IsGrid}
+use Rattle.hpf_base.specs.declared.limits.TheConstants.{MAX_NODES}
+use Rattle.hpf_base.specs.declared.mapping.MapDim.{MapDim}
+use Rattle.distribution_rules.specs.Distributed.{all_or_none, and_more, map_dim}
 use Rattle.expression_rules.specs.declared.dims.Dim.{Dim}
 use Rattle.distribution_rules.specs.declared.evaluated_formats.FormatValue.{FormatValue}
 use Rattle.distribution_rules.specs.declared.evaluated_formats.FormatValue.TheVariants.{Undistributed, DefaultBlock, Block, Cyclic}
 use Rattle.distribution_rules.specs.DistributionRules.{DistributedDim, distributed_from, is_block_too_small}
-use Rattle.distribution_rules.specs.DistributedSteps.{distributed_at, procs_for, too_small_at, used}
+use Rattle.distribution_rules.specs.DistributedSteps.{and_entries, distributed_at, distributed_dim, entry_if, procs_for, too_small_at, used}
+use Rattle.distribution_rules.proofs.ArrangementExtents.{few_nodes}
 
 -- without processors
 no_procs : (dim g : ℕ) (fs : List FormatValue) (bs : List (Option Dim)) → distributed_from dim g fs bs [] ≡ []
@@ -99,3 +105,68 @@ any_next fs bs ps i g y z taken so_far found all h in_formats in_dims takes of_o
     ∙ sym (any_append is_block_too_small (distributed_at f i b g taken) (from fs bs ps (i + 1) (g + used taken)))
     ∙ sym (ap (list_any is_block_too_small) (from_next fs bs ps i g y z taken in_formats in_dims takes)))
     ∙ so_far_is
+
+-- ---- the entries of a mapping
+
+none_first : (ms : Option (List MapDim)) → and_entries (Some []) ms ≡ ms
+none_first None = refl
+none_first (Some ms) = refl
+
+entries_assoc : (a b c : Option (List MapDim)) → and_entries (and_entries a b) c ≡ and_entries a (and_entries b c)
+entries_assoc None b c = refl
+entries_assoc (Some a) None c = refl
+entries_assoc (Some a) (Some b) None = refl
+entries_assoc (Some a) (Some b) (Some c) = ap Some (append_assoc a b c)
+
+one_before : (m : Option MapDim) (a b : Option (List MapDim)) → and_entries (and_more m a) b ≡ and_more m (and_entries a b)
+one_before None a b = refl
+one_before (Some m) None b = refl
+one_before (Some m) (Some a) None = refl
+one_before (Some m) (Some a) (Some b) = refl
+
+all_append : (xs ys : List DistributedDim) → all_or_none map_dim (xs ++ ys) ≡ and_entries (all_or_none map_dim xs) (all_or_none map_dim ys)
+all_append [] ys = sym (none_first (all_or_none map_dim ys))
+all_append (x ∷ xs) ys = ap (and_more (map_dim x)) (all_append xs ys) ∙ sym (one_before (map_dim x) (all_or_none map_dim xs) (all_or_none map_dim ys))
+
+alone : (m : Option MapDim) → and_more m (Some []) ≡ option_map (λ e. e ∷ []) m
+alone None = refl
+alone (Some m) = refl
+
+entry_alone : (f : FormatValue) (i : ℕ) (b : Option Dim) (g : ℕ) (taken : Option ℕ) →
+    all_or_none map_dim (distributed_at f i b g taken) ≡ entry_if taken (option_and_then (λ p. map_dim (distributed_dim f i b g p)) taken)
+entry_alone f i b g None = refl
+entry_alone f i b g (Some p) = alone (map_dim (distributed_dim f i b g p))
+
+-- a turn of a loop that makes the entries
+pub entries_next : (fs : List FormatValue) (bs : List (Option Dim)) (ps : List ℕ) (i g : ℕ) (y : FormatValue) (z : Option Dim) (taken : Option ℕ)
+    (entry : Option MapDim) (so_far after all : Option (List MapDim)) (h : ℕ) → i < length fs → i < length bs → taken ≡ procs_for (get_or fs i y) (drop g ps) →
+    entry ≡ option_and_then (λ p. map_dim (distributed_dim (get_or fs i y) i (get_or bs i z) g p)) taken → after ≡ and_entries so_far (entry_if taken entry) →
+    h ≡ g + used taken → and_entries so_far (all_or_none map_dim (from fs bs ps i g)) ≡ all → and_entries after (all_or_none map_dim (from fs bs ps (i + 1) h)) ≡ all
+entries_next fs bs ps i g y z taken entry so_far after all h in_formats in_dims takes is_entry more next so_far_is =
+    let f = get_or fs i y in
+    let b = get_or bs i z in
+    let rest = all_or_none map_dim (from fs bs ps (i + 1) (g + used taken)) in
+    (λ k. and_entries (more k) (all_or_none map_dim (from fs bs ps (i + 1) (next k))))
+    ∙ entries_assoc so_far (entry_if taken entry) rest
+    ∙ ap (and_entries so_far)
+    (ap (λ e. and_entries e rest) (ap (entry_if taken) is_entry ∙ sym (entry_alone f i b g taken))
+    ∙ sym (all_append (distributed_at f i b g taken) (from fs bs ps (i + 1) (g + used taken)))
+    ∙ sym (ap (all_or_none map_dim) (from_next fs bs ps i g y z taken in_formats in_dims takes)))
+    ∙ so_far_is
+
+-- ---- the extent that a format takes
+
+first_few : (f : FormatValue) (ps : List ℕ) → All (λ n. (1 ≤ n) × (n ≤ MAX_NODES)) ps → IfSome (procs_for f ps) (λ n. (1 ≤ n) × (n ≤ MAX_NODES))
+first_few Undistributed ps few = tt
+first_few DefaultBlock [] few = tt
+first_few DefaultBlock (p ∷ ps) few = All-head (λ n. (1 ≤ n) × (n ≤ MAX_NODES)) p ps few
+first_few (Block m) [] few = tt
+first_few (Block m) (p ∷ ps) few = All-head (λ n. (1 ≤ n) × (n ≤ MAX_NODES)) p ps few
+first_few (Cyclic k) [] few = tt
+first_few (Cyclic k) (p ∷ ps) few = All-head (λ n. (1 ≤ n) × (n ≤ MAX_NODES)) p ps few
+
+-- it is one of the extents
+pub taken_few : (f : FormatValue) (ps : List ℕ) (g : ℕ) (taken : Option ℕ) → taken ≡ procs_for f (drop g ps) → IsGrid ps → IfSome taken (λ n. (1 ≤ n) × (n ≤ MAX_NODES))
+taken_few f ps g taken takes is =
+    subst (λ t. IfSome t (λ n. (1 ≤ n) × (n ≤ MAX_NODES))) (sym takes)
+    (first_few f (drop g ps) (All-drop (λ n. (1 ≤ n) × (n ≤ MAX_NODES)) g ps (few_nodes ps is)))

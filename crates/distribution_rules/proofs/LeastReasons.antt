@@ -56,6 +56,13 @@ pub least_reason_when : (test : Bool) (why : Reason) → least_reason (when test
 least_reason_when true why = refl
 least_reason_when false why = refl
 
+-- of a list and one more that a test gives, and of two that tests give
+pub reason_more : (whys : List Reason) (test : Bool) (why : Reason) → least_reason (whys ++ when test why) ≡ lesser (least_reason whys) (reason_if test why)
+reason_more whys test why = least_reason_append whys (when test why) ∙ ap (lesser (least_reason whys)) (least_reason_when test why)
+
+pub two_reasons : (a b : Bool) (why other : Reason) → least_reason (when a why ++ when b other) ≡ lesser (reason_if a why) (reason_if b other)
+two_reasons a b why other = reason_more (when a why) b other ∙ ap (λ r. lesser r (reason_if b other)) (least_reason_when a why)
+
 -- the first of the breaches at a line is the least of the reasons
 pub least_at : (line : ℕ) (whys : List Reason) → least (at line whys) ≡ at_line line (least_reason whys)
 least_at line [] = refl

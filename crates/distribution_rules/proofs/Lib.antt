@@ -1,2 +1,6 @@
 pub mod LeastReasons
 mod DistributedTurns
+mod ArrangementExtents
+mod ProgramArrays
+mod DistributedLines
+mod DistributedMaps

@@ -11,6 +11,7 @@ use crate::blocks::has_small_block;
 use crate::evaluated_formats::{DistributionValues, FormatValue, FormatValues, Processors};
 use crate::least_reason::{lesser, reason_if};
 use crate::objects::{Object, ObjectKind};
+use crate::processors::{on_grid, onto_object};
 use crate::setting::{Setting, value_in};
 use crate::spaces::has_wide;
 use expression_rules::Evaluated;
@@ -26,14 +27,92 @@ pub fn distribution_values(
 ) -> Result<DistributionValues, AllocError>
     ensures { IfOk result (λ v. v ≡ distribution_values setting.now (distribution spec.now)) }
 {
-    let _ = alloc;
-    let _ = setting;
-    let _ = spec;
-    Err(AllocError)
+    let formats = format_values(alloc, setting, &spec.formats)?;
+    let count = distributed_count(&spec.formats);
+    let processors = processors_of(alloc, setting, &spec.onto, count)?;
+    Ok(DistributionValues {
+        formats,
+        processors,
+    })
+}
+
+/// Formats, with the values of their expressions.
+fn format_values(
+    alloc: Global,
+    setting: &Setting,
+    formats: &[Format],
+) -> Result<FormatValues, AllocError>
+    ensures { IfOk result (λ vs. vs ≡ map (format_value setting.now) (map format_of formats.now)) }
+{
+    let mut values = Vec::new(alloc);
+    for format in formats {
+        let value = format_value(alloc, setting, format)?;
+        values.push(value)?;
+    }
+    Ok(FormatValues::new(values))
+}
+
+/// A format, with the value of the expression behind it.
+fn format_value(
+    alloc: Global,
+    setting: &Setting,
+    format: &Format,
+) -> Result<FormatValue, AllocError>
+    ensures { IfOk result (λ v. v ≡ format_value setting.now (format_of format.now)) }
+{
+    match format {
+        Format::Star => Ok(FormatValue::Undistributed),
+        Format::Block(None) => Ok(FormatValue::DefaultBlock),
+        Format::Block(Some(m)) => {
+            let found = value_in(alloc, setting, m)?;
+            Ok(FormatValue::Block(found))
+        }
+        Format::Cyclic(None) => Ok(FormatValue::Cyclic(Evaluated::Known(1))),
+        Format::Cyclic(Some(k)) => {
+            let found = value_in(alloc, setting, k)?;
+            Ok(FormatValue::Cyclic(found))
+        }
+    }
+}
+
+/// How many of the dimensions are distributed.
+fn distributed_count(formats: &[Format]) -> usize
+    ensures { result ≡ distributed_count (map format_of formats.now) }
+{
+    let mut count = 0;
+    for format in formats {
+        count += one_if_distributed(format);
+    }
+    count
+}
+
+/// 1 for a dimension that is distributed, 0 for one that isn't.
+fn one_if_distributed(format: &Format) -> usize
+    ensures value { result ≡ distributed_count (format_of format.now ∷ []) }
+    ensures few { result ≤ 1 }
+{
+    match format {
+        Format::Star => 0,
+        Format::Block(_) | Format::Cyclic(_) => 1,
+    }
+}
+
+/// The processors over which so many dimensions are distributed.
+fn processors_of(
+    alloc: Global,
+    setting: &Setting,
+    onto: &Option<Name>,
+    count: usize,
+) -> Result<Processors, AllocError>
+    ensures { IfOk result (λ p. p ≡ processors_of setting.now onto.now count) }
+{
+    match onto {
+        None => on_grid(alloc, setting.grid(), count),
+        Some(name) => onto_object(alloc, setting.object(name), count),
+    }
 }
 
 /// The least reason for which a distribution breaks a rule, whatever its distributees are; None exactly where it breaks none. It takes no
-
 /// memory.
 #[tactic(auto, using(crate::proofs::LeastReasons::least_reason_append))]
 pub fn bad_distribution(values: &DistributionValues) -> Option<Reason>
@@ -92,7 +171,6 @@ fn processors_reason(processors: &Processors) -> Option<Reason>
 }
 
 /// The least reason for which the distribution of an object breaks a rule; None exactly where it breaks none. The object None stands for a
-
 /// name that is no array, template or arrangement. It takes no memory.
 pub fn bad_distributee(values: &DistributionValues, object: Option<&Object>) -> Option<Reason>
     ensures { result ≡ least_reason (distributee_reasons values.now (option_copied object.entry)) }

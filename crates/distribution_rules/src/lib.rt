@@ -8,20 +8,24 @@
 
 mod blocks;
 mod dimensions;
-mod object_mapping;
-mod evaluated_formats;
 mod distributions;
+mod evaluated_formats;
+mod laws;
 mod least_reason;
+mod object_mapping;
 mod objects;
+mod processors;
+mod program_objects;
 mod setting;
 mod spaces;
 
-pub use object_mapping::distributed;
+pub use distributions::{bad_distributee, bad_distribution, distribution_values};
 pub use evaluated_formats::{
     DistributionValues, FormatValue, FormatValues, ProcessorExtents, Processors,
 };
-pub use distributions::{bad_distributee, bad_distribution, distribution_values};
+pub use laws::distributed_maps;
 pub use least_reason::{lesser, reason_if};
+pub use object_mapping::distributed;
 pub use objects::{Object, ObjectDims, ObjectKind};
 pub use setting::{Setting, dims_of, value_in};
 pub use spaces::bad_space;

@@ -8,6 +8,8 @@ ghost use Rattle.distribution_rules.specs.Setting.{dims_of, object, setting, val
 
 use crate::dimensions::directive_value;
 use crate::objects::Object;
+use crate::program_objects::objects_of;
+use declarations::declare;
 use expression_rules::{Dim, Evaluated, SymbolTable};
 use hpf_base::{Grid, Name};
 use name_table::Program;
@@ -38,10 +40,16 @@ impl Setting {
         requires { program.now.names ≡ entries (main_program program.now.tree) }
         ensures { IfOk result (λ s. s ≡ setting grid.now (main_program program.now.tree)) }
     {
-        let _ = alloc;
-        let _ = grid;
-        let _ = program;
-        Err(AllocError)
+        let declared = declare(alloc, &program.tree.decls)?;
+        let objects = objects_of(alloc, grid, &declared.table, program)?;
+        match Grid::new(alloc, grid.dims()) {
+            Some(grid) => Ok(Setting {
+                grid,
+                table: declared.table,
+                objects,
+            }),
+            None => unreachable!(),
+        }
     }
 
     /// The processor grid. It takes no memory.

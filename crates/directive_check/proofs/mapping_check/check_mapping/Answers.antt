@@ -1,0 +1,43 @@
+use Rattle.std.proofs.Common.{None, Some, ap, ◌∙◌}
+use Rattle.hpf_base.specs.FirstBreach.{least}
+use Rattle.syntax_tree.specs.MainProgram.{main_program}
+use Rattle.name_table.specs.Entries.{entries}
+use Rattle.statement_walk.specs.Heads.{all_heads}
+use Rattle.distribution_rules.specs.Setting.{setting}
+use Rattle.directive_check.specs.MappedObjects.{how_mapped, mapped_objects}
+use Rattle.directive_check.specs.MappedSteps.{mapped}
+use Rattle.directive_check.specs.MappingRules.{breaches_in, mapping_breaches}
+use Rattle.directive_check.proofs.AllMaps.{arrays_as, moves_as}
+use Rattle.directive_check.proofs.MappingBreaches.{is_first}
+use Rattle.directive_check.proofs.SameMapped.{MapSame}
+use Rattle.directive_check.proofs.mapping_check.check_mapping.Goals as goal
+
+pub returns-in-Some-clause-refused : goal.returns-in-Some-clause-refused
+returns-in-Some-clause-refused c =
+    let p = main_program c.args.program.now.tree in
+    is_first (mapping_breaches c.args.grid.now p) c.in_ok-refusal.field-0 (Some c.in-Some.refusal)
+    (c.in_ok-refusal.ensures ∙ ap (λ s. least (breaches_in s p)) c.in_ok-setting.ensures) c.in-Some.is
+
+pub returns-clause-fine : goal.returns-clause-fine
+returns-clause-fine c =
+    let p = main_program c.args.program.now.tree in
+    is_first (mapping_breaches c.args.grid.now p) c.in_ok-refusal.field-0 None
+    (c.in_ok-refusal.ensures ∙ ap (λ s. least (breaches_in s p)) c.in_ok-setting.ensures) c.in-None.is
+
+pub returns-clause-arrays : goal.returns-clause-arrays
+returns-clause-arrays c =
+    let p = main_program c.args.program.now.tree in
+    let same : MapSame (mapped c.deref-in-None.result.now) (mapped c.in_ok-objects.objects.items) = λ x.
+    ap (λ l. how_mapped (mapped l) x) c.deref-in-None.ensures.value ∙ c.in_ok-firsts.ensures x ∙ ap (λ l. how_mapped (mapped l) x) c.deref.ensures.value in
+    arrays_as c.in_ok-setting.setting (setting c.args.grid.now p) (mapped c.deref-in-None.result.now) (mapped c.in_ok-objects.objects.items) (mapped_objects p.declarations)
+    c.args.program.now.names (entries p) c.in_ok-maps-in-None.maps.arrays
+    c.in_ok-setting.ensures same c.in_ok-objects.ensures c.requires.names c.in_ok-maps-in-None.ensures.arrays
+
+pub returns-clause-moves : goal.returns-clause-moves
+returns-clause-moves c =
+    let p = main_program c.args.program.now.tree in
+    let same : MapSame (mapped c.deref-in-None.result.now) (mapped c.in_ok-objects.objects.items) = λ x.
+    ap (λ l. how_mapped (mapped l) x) c.deref-in-None.ensures.value ∙ c.in_ok-firsts.ensures x ∙ ap (λ l. how_mapped (mapped l) x) c.deref.ensures.value in
+    moves_as c.in_ok-setting.setting (setting c.args.grid.now p) (mapped c.deref-in-None.result.now) (mapped c.in_ok-objects.objects.items) (mapped_objects p.declarations)
+    c.args.program.now.names (entries p) (all_heads p.body) c.in_ok-maps-in-None.maps.moves
+    c.in_ok-setting.ensures same c.in_ok-objects.ensures c.requires.names c.in_ok-maps-in-None.ensures.moves
