@@ -1,5 +1,5 @@
 -- The alignment of an object by an ALIGN that breaks no rule.
-use Rattle.std.proofs.Common.{◌≡◌, ℤ, Bool, true, false, List, [], length, Option, Some, None, ap, subst, ◌∙◌, All}
+use Rattle.std.proofs.Common.{◌≡◌, ℤ, Bool, true, false, List, [], length, Option, Some, None, subst, ◌∙◌, All}
 use Rattle.std.specs.Prelude.{if◌then◌else◌}
 use Rattle.std.specs.List.{list_any}
 use Rattle.hpf_base.specs.Mapping.{IsAlign}
@@ -8,8 +8,7 @@ use Rattle.syntax_tree.specs.Directive as directive
 use Rattle.expression_rules.specs.Symbols.{Name}
 use Rattle.distribution_rules.specs.Distributed.{all_or_none}
 use Rattle.distribution_rules.specs.Setting.{Setting, dims_of}
-use Rattle.alignment_rules.specs.declared.alignment_values.Alignment.{Alignment}
-use Rattle.alignment_rules.specs.declared.alignment_values.Alignment.TheVariants.{Known, PastLimits, Unknown}
+use Rattle.alignment_rules.specs.declared.alignment_values.Alignment.TheVariants.{Known, PastLimits}
 use Rattle.alignment_rules.specs.AlignedEntries.{AreAligned, AreSubscripts, MapsInto}
 use Rattle.alignment_rules.specs.AlignmentEntries.{alignment_of, alignment_with, colons_from, entry_of, is_past_limits, pairs}
 use Rattle.alignment_rules.specs.AlignmentRules.{alignee_reasons, alignment_reasons}

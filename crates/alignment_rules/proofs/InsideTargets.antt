@@ -1,6 +1,6 @@
 -- Elements of an alignee inside the bounds of its target.
-use Rattle.std.proofs.Common.{◌≡◌, ◌==◌, ℕ, zero, suc, ℤ, pos, negsuc, neg_ℤ, ◌+◌, ◌*◌, ◌+ℤ◌, ◌-ℤ◌, ◌*ℤ◌, ◌≤ℤ◌, Bool, true, false, List, [], ◌∷◌, ◌++◌, drop, map, Option, Some, None, refl, sym, ap, subst, ◌∙◌, arith}
-use Rattle.std.specs.Prelude.{◌&&◌, ◌||◌, not, option_map, int_le, slice_index_or, if◌then◌else◌}
+use Rattle.std.proofs.Common.{◌≡◌, ◌==◌, ℕ, zero, suc, ℤ, pos, negsuc, neg_ℤ, ◌*◌, ◌+ℤ◌, ◌-ℤ◌, ◌*ℤ◌, ◌≤ℤ◌, Bool, true, false, List, [], ◌∷◌, ◌++◌, drop, map, Option, Some, None, refl, sym, ap, subst, ◌∙◌, arith}
+use Rattle.std.specs.Prelude.{◌||◌, not, option_map, int_le, slice_index_or, if◌then◌else◌}
 use Rattle.std.specs.List.{flat_map, list_any}
 use Rattle.std.proofs.Math.IntN.{pos-*ℤ-negsuc, pos-*ℤ-pos, *ℤ_comm}
 use Rattle.std.proofs.lemmas.Bool.{false≢true}
@@ -11,7 +11,6 @@ use lib.Signed.{le_z_yes}
 use Rattle.hpf_base.specs.Alignment.{aligned}
 use Rattle.hpf_base.specs.declared.mapping.AlignDim.{AlignDim}
 use Rattle.hpf_base.specs.declared.mapping.AlignDim.TheVariants as align
-use Rattle.hpf_base.specs.declared.refusal.Reason.{Reason}
 use Rattle.hpf_base.specs.declared.refusal.Reason.TheVariants as reason
 use Rattle.hpf_base.proofs.Integers.{sum-*ℤ}
 use Rattle.syntax_tree.specs.Directive.{Source}
@@ -24,8 +23,7 @@ use Rattle.alignment_rules.specs.declared.alignment_values.Pair.{Pair}
 use Rattle.alignment_rules.specs.declared.alignment_values.TargetValue.{TargetValue}
 use Rattle.alignment_rules.specs.AlignedEntries.{AreSubscripts, LiesIn, MapsInto}
 use Rattle.alignment_rules.specs.AlignmentEntries.{at_place, dimension_of, entry_of, is_past_limits, is_triplet, pair, pairs_from}
-use Rattle.alignment_rules.specs.AlignmentRules.{has_elements, is_along_inside, is_entry_inside, is_inside, is_unpaired, lies_in, pair_reasons}
-use Rattle.alignment_rules.specs.AlignmentValues.{first_dim}
+use Rattle.alignment_rules.specs.AlignmentRules.{has_elements, is_along_inside, is_inside, is_unpaired, lies_in, pair_reasons}
 use Rattle.alignment_rules.proofs.MovingDims.{made, same_some}
 use Rattle.alignment_rules.proofs.PlacedTargets.{both_true, no_or, not_false, second_empty, when_empty}
 
@@ -145,8 +143,9 @@ pair_inside ds p e kept is =
     ap (λ o. is_inside ds o p.bounds) (sym is) ∙ not_false inside (no_or (is_unpaired p) (not inside) rest).1
 
 -- every entry gives the element a subscript inside
-pub maps_into : (ss : List Source) (ds : List (Option Dim)) (cs : List ℕ) (vs : List TargetValue) (bs : List (Option Dim)) (es : List AlignDim) (is : List ℤ) → AreSubscripts ds is →
-    flat_map (pair_reasons ds) (pairs_from ss ds cs vs bs) ≡ [] → all_or_none entry_of (pairs_from ss ds cs vs bs) ≡ Some es → MapsInto bs es is
+pub maps_into : (ss : List Source) (ds : List (Option Dim)) (cs : List ℕ) (vs : List TargetValue) (bs : List (Option Dim))
+    (es : List AlignDim) (is : List ℤ) → AreSubscripts ds is → flat_map (pair_reasons ds) (pairs_from ss ds cs vs bs) ≡ [] →
+    all_or_none entry_of (pairs_from ss ds cs vs bs) ≡ Some es → MapsInto bs es is
 maps_into ss ds cs vs [] es is h kept made_of = tt
 maps_into ss ds cs [] (b ∷ bs) es is h kept made_of = subst (λ l. MapsInto (b ∷ bs) l is) (same_some [] es made_of) tt
 maps_into ss ds cs (v ∷ vs) (b ∷ bs) es is h kept made_of =

@@ -1,15 +1,12 @@
 mod AlignmentParts
-mod FoundNames
 mod Joined
 mod Orders
 mod PairReasons
-mod References
 mod TargetLists
-mod Wraps
 mod PairTurns
 mod EntryForms
 mod Quotients
 pub mod AlignedLaws
 pub mod InsideTargets
-mod MovingDims
-mod PlacedTargets
+pub mod MovingDims
+pub mod PlacedTargets

@@ -1,20 +1,18 @@
 -- The dimensions of an alignee along which the subscripts of a target move.
-use Rattle.std.proofs.Common.{◌≡◌, ℕ, zero, suc, ℤ, pos, ◌+◌, ◌<◌, ◌≤◌, Bool, true, false, List, [], ◌∷◌, ◌++◌, drop, filter, get_or, length, map, bytes_eq, Option, Some, None, All, refl, sym, ap, subst, ◌∙◌, arith}
-use Rattle.std.specs.Prelude.{◌||◌, ⊤, cond, if◌then◌else◌, AllPairs, slice_index_or}
-use Rattle.std.specs.List.{list_any}
+use Rattle.std.proofs.Common.{◌≡◌, ℕ, zero, suc, pos, ◌<◌, Bool, true, false, List, [], ◌∷◌, drop, filter, length, Option, Some, None, All, refl, sym, ap, subst, ◌∙◌, arith}
+use Rattle.std.specs.Prelude.{cond, if◌then◌else◌, AllPairs, slice_index_or}
 use Rattle.std.specs.Ordering.{int_eq}
 use Rattle.std.proofs.lemmas.Bool.{false≢true}
 use Rattle.std.proofs.lemmas.List.Elements.{All-cons, All-nil}
 use Rattle.std.proofs.lemmas.Slice.Eq.{bytes_eq-Decides}
-use Rattle.hpf_base.specs.Mapping.{IsAlign, MoveApart, moves_along}
+use Rattle.hpf_base.specs.Mapping.{IsAlign, MoveApart}
 use Rattle.hpf_base.specs.declared.mapping.AlignDim.{AlignDim}
 use Rattle.hpf_base.specs.declared.mapping.AlignDim.TheVariants as align
 use Rattle.syntax_tree.specs.Directive.{Source, Dummy, Spread, Collapsed}
 use Rattle.expression_rules.specs.Symbols.{Name}
 use Rattle.expression_rules.specs.declared.dims.Dim.{Dim}
 use Rattle.distribution_rules.specs.Distributed.{all_or_none, and_more}
-use Rattle.alignment_rules.specs.declared.alignment_values.LinearForm.{LinearForm}
-use Rattle.alignment_rules.specs.declared.alignment_values.Pair.{Pair}
+use Rattle.linear_subscripts.specs.declared.form.LinearForm.{LinearForm}
 use Rattle.alignment_rules.specs.declared.alignment_values.TargetValue.{TargetValue}
 use Rattle.alignment_rules.specs.declared.alignment_values.TargetValue.TheVariants.{Every, Subscript, Triplet}
 use Rattle.alignment_rules.specs.AlignmentEntries.{at_place, dimension_from, dimension_of, entry_of, is_dummy, is_triplet, pair, pairs_from, triplet_entry}
@@ -238,8 +236,9 @@ placed_next ss cs v vs p = record {
 }
 
 -- the first entry beside those behind it
-first_apart : (ss : List Source) (ds : List (Option Dim)) (cs : List ℕ) (v : TargetValue) (vs : List TargetValue) (b along : Option Dim) (bs : List (Option Dim)) (e : AlignDim) (es : List AlignDim) →
-    IsPlaced ss cs (v ∷ vs) → entry_of (pair v b (dimension_of ss cs v) along) ≡ Some e → all_or_none entry_of (pairs_from ss ds (rest_of cs v) vs bs) ≡ Some es → Each (ApartFrom e) es
+first_apart : (ss : List Source) (ds : List (Option Dim)) (cs : List ℕ) (v : TargetValue) (vs : List TargetValue) (b along : Option Dim)
+    (bs : List (Option Dim)) (e : AlignDim) (es : List AlignDim) → IsPlaced ss cs (v ∷ vs) → entry_of (pair v b (dimension_of ss cs v) along) ≡ Some e →
+    all_or_none entry_of (pairs_from ss ds (rest_of cs v) vs bs) ≡ Some es → Each (ApartFrom e) es
 first_apart ss ds cs Every vs b along bs e es p is others =
     subst (λ x. Each (ApartFrom x) es) (same_some align.Every e is) (each_unit es)
 first_apart ss ds cs (Subscript x None) vs b along bs e es p is others = absurd cc

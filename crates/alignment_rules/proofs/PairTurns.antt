@@ -1,12 +1,12 @@
 -- The dimensions of an align target beside those of an alignee.
-use Rattle.std.proofs.Common.{◌≡◌, ◌==◌, ℕ, zero, suc, ◌+◌, ◌<◌, ◌≤◌, Bool, true, false, List, [], ◌∷◌, ◌++◌, append_assoc, drop, get_or, length, filter, map, Option, Some, None, refl, sym, ap, ◌∙◌, arith}
+use Rattle.std.proofs.Common.{◌≡◌, ℕ, zero, suc, ◌+◌, ◌<◌, ◌≤◌, Bool, true, false, List, [], ◌∷◌, ◌++◌, append_assoc, drop, get_or, length, Option, Some, None, refl, sym, ap, ◌∙◌, arith}
 use Rattle.std.specs.Prelude.{not, if◌then◌else◌}
 use Rattle.std.proofs.Math.Seq.{drop-nil}
 use Rattle.syntax_tree.specs.Directive.{Source}
 use Rattle.expression_rules.proofs.Lists.{drop_item}
 use Rattle.expression_rules.specs.Symbols.{Name}
 use Rattle.expression_rules.specs.declared.dims.Dim.{Dim}
-use Rattle.alignment_rules.specs.declared.alignment_values.LinearForm.{LinearForm}
+use Rattle.linear_subscripts.specs.declared.form.LinearForm.{LinearForm}
 use Rattle.alignment_rules.specs.declared.alignment_values.Pair.{Pair}
 use Rattle.alignment_rules.specs.declared.alignment_values.TargetValue.{TargetValue}
 use Rattle.alignment_rules.specs.declared.alignment_values.TargetValue.TheVariants.{Subscript}
@@ -52,6 +52,7 @@ at_most_next true count n h = omega arith
 at_most_next false count n h = omega arith
 
 -- one more of a count
-pub count_more : {X : Type 0} (b : Bool) (x : X) (found : List X) (count : ℕ) → (if not b then count else count + 1) + length found ≡ count + length (if b then x ∷ found else found)
+pub count_more : {X : Type 0} (b : Bool) (x : X) (found : List X) (count : ℕ) →
+    (if not b then count else count + 1) + length found ≡ count + length (if b then x ∷ found else found)
 count_more true x found count = omega arith
 count_more false x found count = refl

@@ -1,15 +1,14 @@
 -- Where the `:` and the dummies of an ALIGN stand that breaks no rule.
-use Rattle.std.proofs.Common.{◌≡◌, ◌==◌, ℕ, zero, suc, ◌+◌, ◌<◌, ◌≤◌, Bool, true, false, List, [], ◌∷◌, ◌++◌, drop, filter, length, map, replicate, bytes_eq, Option, Some, None, refl, sym, ap, subst, ◌∙◌, arith}
+use Rattle.std.proofs.Common.{◌≡◌, ◌==◌, ℕ, zero, suc, ◌+◌, ◌<◌, Bool, true, false, List, [], ◌∷◌, ◌++◌, drop, filter, length, map, replicate, bytes_eq, Option, Some, None, refl, sym, ap, subst, ◌∙◌, arith}
 use Rattle.std.specs.Prelude.{◌&&◌, ◌||◌, not, cond, if◌then◌else◌}
 use Rattle.std.specs.List.{flat_map, list_any}
 use Rattle.std.proofs.lemmas.Bool.{false≢true}
 use Rattle.std.proofs.lemmas.Bool.Decides.{nat_tests}
 use Rattle.std.proofs.lemmas.List.{append-nil}
 use Rattle.std.proofs.lemmas.Slice.Eq.{bytes_eq-Decides}
-use Rattle.hpf_base.specs.declared.mapping.AlignDim.{AlignDim}
 use Rattle.hpf_base.specs.declared.refusal.Reason.{Reason}
 use Rattle.hpf_base.specs.declared.refusal.Reason.TheVariants as reason
-use Rattle.syntax_tree.specs.Expression.{Expression, One, Range, Glued}
+use Rattle.syntax_tree.specs.Expression.{One, Range, Glued}
 use Rattle.syntax_tree.specs.Directive.{Alignment, Source, Dummy, Spread, Collapsed, Target, Placed, Replicated}
 use Rattle.declarations.specs.Reasons.{when}
 use Rattle.expression_rules.specs.Operands.{names_in}
@@ -18,14 +17,14 @@ use Rattle.expression_rules.specs.declared.dims.Dim.{Dim}
 use Rattle.name_table.specs.Directives.{dummies, dummy_of, sources_of, targets_of}
 use Rattle.name_table.specs.Uses.{repeats}
 use Rattle.distribution_rules.specs.Setting.{Setting, dims_of, has_kind, is_array_kind, is_mapped_kind, object}
-use Rattle.alignment_rules.specs.declared.alignment_values.LinearForm.{LinearForm}
+use Rattle.linear_subscripts.specs.declared.form.LinearForm.{LinearForm}
 use Rattle.alignment_rules.specs.declared.alignment_values.TargetValue.{TargetValue}
 use Rattle.alignment_rules.specs.declared.alignment_values.TargetValue.TheVariants.{Every, Subscript, Triplet}
 use Rattle.alignment_rules.specs.AlignmentEntries.{colons_from, dimension_from, is_dummy, is_triplet, pairs}
 use Rattle.alignment_rules.specs.AlignmentRules.{alignee_reasons, alignment_reasons, are_matched, dummies_of_target, is_colon, overlap, pair_reasons, target_reasons}
 use Rattle.alignment_rules.specs.AlignmentValues.{first_dim, first_name, full, list_or, sources, target_value, target_values, targets, values_from}
-use Rattle.alignment_rules.specs.LinearForms.{dummies_in, have_common, linear_form}
-use Rattle.alignment_rules.proofs.MovingDims.{Differs, Each, EachLater, IsColonAt, IsLeft, IsPlaced, NameStands, NamesDiffer, StandsIn, at, each_mapped}
+use Rattle.linear_subscripts.specs.LinearForms.{dummies_in, have_common, linear_form}
+use Rattle.alignment_rules.proofs.MovingDims.{Differs, Each, EachLater, IsColonAt, IsPlaced, NameStands, NamesDiffer, StandsIn, at, each_mapped}
 
 -- ---- `:` among the entries of an alignee
 
@@ -43,8 +42,10 @@ behind_differs ss n c h = λ same. let e = h.is in omega arith
 
 colons_stand : (n : ℕ) (ss : List Source) → Each (ColonFrom n ss) (colons_from n ss)
 colons_stand n [] = tt
-colons_stand n (Spread ∷ ss) =
-    (record { place = 0; is = omega arith; within = omega arith; colon = refl }, each_mapped (ColonFrom (suc n) ss) (ColonFrom n (Spread ∷ ss)) (behind_one Spread ss n) _ (colons_stand (suc n) ss))
+colons_stand n (Spread ∷ ss) = (
+  record { place = 0; is = omega arith; within = omega arith; colon = refl },
+  each_mapped (ColonFrom (suc n) ss) (ColonFrom n (Spread ∷ ss)) (behind_one Spread ss n) _ (colons_stand (suc n) ss),
+)
 colons_stand n (Dummy x ∷ ss) = each_mapped (ColonFrom (suc n) ss) (ColonFrom n (Dummy x ∷ ss)) (behind_one (Dummy x) ss n) _ (colons_stand (suc n) ss)
 colons_stand n (Collapsed ∷ ss) = each_mapped (ColonFrom (suc n) ss) (ColonFrom n (Collapsed ∷ ss)) (behind_one Collapsed ss n) _ (colons_stand (suc n) ss)
 
@@ -142,7 +143,8 @@ value_among s ds b (Placed (Glued first step)) = tt
 value_in_target : (s : Setting) (ds : List Name) (b : Option Dim) (t : Target) → NameAmong (dummies_of_target ds t) (target_value s ds b t)
 value_in_target s ds b Replicated = tt
 value_in_target s ds b (Placed (One e)) =
-    subst (λ xs. NameAmong xs (Subscript (first_name (dummies_in ds e)) (linear_form s ds e))) (sym (append-nil (dummies_in ds e))) (first_among (dummies_in ds e) (linear_form s ds e))
+    subst (λ xs. NameAmong xs (Subscript (first_name (dummies_in ds e)) (linear_form s ds e))) (sym (append-nil (dummies_in ds e)))
+    (first_among (dummies_in ds e) (linear_form s ds e))
 value_in_target s ds b (Placed (Range first last step)) = tt
 value_in_target s ds b (Placed (Glued first step)) = tt
 
@@ -174,17 +176,19 @@ first_differs : (s : Setting) (ds xs : List Name) (v : TargetValue) (bs : List (
     list_any (have_common xs) (map (dummies_of_target ds) ts) ≡ false → Each (NamesDiffer v) (values_from s ds bs ts)
 first_differs s ds xs v bs [] among none = tt
 first_differs s ds xs v bs (t ∷ ts) among none =
-    let both = no_or (have_common xs (dummies_of_target ds t)) (list_any (have_common xs) (map (dummies_of_target ds) ts)) none in
-    (names_of_two xs (dummies_of_target ds t) both.0 v (target_value s ds (first_dim bs) t) among (value_in_target s ds (first_dim bs) t),
-     first_differs s ds xs v (drop 1 bs) ts among both.1)
+    let both = no_or (have_common xs (dummies_of_target ds t)) (list_any (have_common xs) (map (dummies_of_target ds) ts)) none in (
+      names_of_two xs (dummies_of_target ds t) both.0 v (target_value s ds (first_dim bs) t) among (value_in_target s ds (first_dim bs) t),
+      first_differs s ds xs v (drop 1 bs) ts among both.1,
+    )
 
 all_differ : (s : Setting) (ds : List Name) (bs : List (Option Dim)) (ts : List Target) → overlap (map (dummies_of_target ds) ts) ≡ false →
     EachLater NamesDiffer (values_from s ds bs ts)
 all_differ s ds bs [] none = tt
 all_differ s ds bs (t ∷ ts) none =
-    let both = no_or (list_any (have_common (dummies_of_target ds t)) (map (dummies_of_target ds) ts)) (overlap (map (dummies_of_target ds) ts)) none in
-    (first_differs s ds (dummies_of_target ds t) (target_value s ds (first_dim bs) t) (drop 1 bs) ts (value_in_target s ds (first_dim bs) t) both.0,
-     all_differ s ds (drop 1 bs) ts both.1)
+    let both = no_or (list_any (have_common (dummies_of_target ds t)) (map (dummies_of_target ds) ts)) (overlap (map (dummies_of_target ds) ts)) none in (
+      first_differs s ds (dummies_of_target ds t) (target_value s ds (first_dim bs) t) (drop 1 bs) ts (value_in_target s ds (first_dim bs) t) both.0,
+      all_differ s ds (drop 1 bs) ts both.1,
+    )
 
 all_among : (s : Setting) (ds : List Name) (bs : List (Option Dim)) (ts : List Target) → Each (NameAmong ds) (values_from s ds bs ts)
 all_among s ds bs [] = tt

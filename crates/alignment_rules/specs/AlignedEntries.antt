@@ -1,5 +1,5 @@
 -- The alignment of an alignee whose ALIGN breaks no rule.
-use Rattle.std.specs.Prelude.{◌≡◌, ℕ, ℤ, ◌≤ℤ◌, ⊤, All, AllPairs, List, [], ◌∷◌, length, map, Option, Some, None}
+use Rattle.std.specs.Prelude.{◌≡◌, ℕ, ℤ, ◌≤ℤ◌, ⊤, All, AllPairs, List, [], ◌∷◌, length, map, Option, Some}
 use Rattle.hpf_base.specs.Alignment.{aligned}
 use Rattle.hpf_base.specs.Mapping.{IsAlign, MoveApart}
 use Rattle.hpf_base.specs.declared.mapping.AlignDim.{AlignDim}

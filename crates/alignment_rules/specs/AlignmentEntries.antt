@@ -12,7 +12,7 @@ use Rattle.distribution_rules.specs.Distributed.{all_or_none}
 use Rattle.distribution_rules.specs.Setting.{Setting, dims_of}
 use Rattle.alignment_rules.specs.declared.alignment_values.Alignment.{Alignment}
 use Rattle.alignment_rules.specs.declared.alignment_values.Alignment.TheVariants.{Known, PastLimits, Unknown}
-use Rattle.alignment_rules.specs.declared.alignment_values.LinearForm.{LinearForm}
+use Rattle.linear_subscripts.specs.declared.form.LinearForm.{LinearForm}
 use Rattle.alignment_rules.specs.declared.alignment_values.Pair.{Pair}
 use Rattle.alignment_rules.specs.declared.alignment_values.TargetValue.{TargetValue}
 use Rattle.alignment_rules.specs.declared.alignment_values.TargetValue.TheVariants as value

@@ -23,7 +23,7 @@ use Rattle.distribution_rules.specs.Setting.{Setting, object, object_dims, dims_
 use Rattle.alignment_rules.specs.declared.alignment_values.Pair.{Pair}
 use Rattle.alignment_rules.specs.declared.alignment_values.TargetValue.{TargetValue}
 use Rattle.alignment_rules.specs.declared.alignment_values.TargetValue.TheVariants.{Triplet}
-use Rattle.alignment_rules.specs.LinearForms.{are_same, dummies_in, have_common, has_invalid_part, is_free, is_linear}
+use Rattle.linear_subscripts.specs.LinearForms.{are_same, dummies_in, have_common, has_invalid_part, is_free, is_linear}
 use Rattle.alignment_rules.specs.AlignmentValues.{sources, target_values}
 use Rattle.alignment_rules.specs.AlignmentEntries.{pairs, entry_of, is_past_limits, is_triplet, at_place}
 

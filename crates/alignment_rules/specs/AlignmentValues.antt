@@ -9,7 +9,7 @@ use Rattle.name_table.specs.Directives.{dummies}
 use Rattle.distribution_rules.specs.Setting.{Setting, dims_of, value_in}
 use Rattle.alignment_rules.specs.declared.alignment_values.TargetValue.{TargetValue}
 use Rattle.alignment_rules.specs.declared.alignment_values.TargetValue.TheVariants.{Every, Subscript, Triplet}
-use Rattle.alignment_rules.specs.LinearForms.{dummies_in, linear_form}
+use Rattle.linear_subscripts.specs.LinearForms.{dummies_in, linear_form}
 
 -- a list that is left out is all `:`
 abbrev pub full : Target

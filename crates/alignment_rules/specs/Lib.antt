@@ -1,4 +1,3 @@
-pub mod LinearForms
 pub mod AlignmentValues
 pub mod AlignmentRules
 pub mod AlignmentEntries

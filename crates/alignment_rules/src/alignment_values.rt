@@ -4,14 +4,8 @@ ghost use Rattle.std.specs.Prelude.{◌≡◌};
 
 use expression_rules::Dim;
 use hpf_base::{AlignDim, Name};
+use linear_subscripts::LinearForm;
 use std::marker::Model;
-
-/// a and b of a subscript `a * I + b`.
-#[derive(Clone, Copy, Debug, PartialEq, Eq)]
-pub struct LinearForm {
-    pub a: i64,
-    pub b: i64,
-}
 
 /// What stands for a dimension of the target.
 #[derive(Clone, Copy, Debug)]

@@ -13,26 +13,22 @@ ghost use Rattle.name_table.specs.Directives.{maybe_expressions};
 ghost use Rattle.name_table.specs.Uses.{repeats};
 ghost use Rattle.distribution_rules.specs.Setting.{has_kind, is_mapped_kind, object, value_in};
 ghost use Rattle.alignment_rules.specs.AlignmentRules.{alignment_reasons, dummies_of_target, is_known_zero, is_zero_part, overlap, part_reasons, target_reasons};
-ghost use Rattle.alignment_rules.specs.LinearForms.{is_free};
+ghost use Rattle.linear_subscripts.specs.LinearForms.{is_free};
 
-use crate::dummies::{dummies_in, is_free};
-use crate::linear_forms::{are_same, has_invalid_part, has_invalid_value, is_linear};
 use crate::repetitions::{has_overlap, repeats};
 use crate::sources::dummies;
 use distribution_rules::{Object, ObjectKind, Setting, lesser, reason_if, value_in};
 use expression_rules::Evaluated;
 use hpf_base::{Name, Reason};
+use linear_subscripts::{
+    are_same, dummies_in, has_invalid_part, has_invalid_value, is_free, is_linear,
+};
 use std::alloc::{AllocError, Global};
 use syntax_tree::{AlignSpec, Expr, Subscript, Target};
 
 /// The lesser of two reasons, each where its test holds.
 #[tactic(auto, using(crate::proofs::PairReasons::least_of_two))]
-pub(crate) fn lesser_of_two(
-    first: bool,
-    why: Reason,
-    second: bool,
-    other: Reason,
-) -> Option<Reason>
+pub(crate) fn lesser_of_two(first: bool, why: Reason, second: bool, other: Reason) -> Option<Reason>
     ensures { result ≡ least_reason (when first why ++ when second other) }
 {
     lesser(reason_if(first, why), reason_if(second, other))
@@ -77,11 +73,7 @@ fn is_free_if_any(alloc: Global, dummies: &[Name], e: &Option<Expr>) -> Result<b
 
 /// Whether a part of a triplet is there, and isn't constant or divides by zero.
 #[tactic(auto, using(crate::proofs::PairReasons::any_of_one))]
-fn is_invalid_if_any(
-    alloc: Global,
-    setting: &Setting,
-    e: &Option<Expr>,
-) -> Result<bool, AllocError>
+fn is_invalid_if_any(alloc: Global, setting: &Setting, e: &Option<Expr>) -> Result<bool, AllocError>
     ensures { IfOk result (λ b. b ≡ list_any (λ x. is_invalid (value_in setting.now x)) (maybe_expressions (maybe_of e.now))) }
 {
     match e {
@@ -214,10 +206,7 @@ fn list_reason(
 {
     let least = targets_reason(alloc, setting, dummies, targets)?;
     let overlapping = has_overlap(alloc, dummies, targets)?;
-    Ok(lesser(
-        least,
-        reason_if(overlapping || !good, Reason::BadDirective),
-    ))
+    Ok(lesser(least, reason_if(overlapping || !good, Reason::BadDirective)))
 }
 
 /// No dummy stands twice in a list, and the target is an array or a template.

@@ -6,9 +6,10 @@ ghost use Rattle.alignment_rules.specs.AlignmentEntries.{entry_of, is_past_limit
 ghost use Rattle.alignment_rules.specs.AlignmentRules.{has_extent, is_unpaired, triplet_count};
 ghost use Rattle.alignment_rules.specs.WideEntries.{IsNear, align_dim};
 
-use crate::alignment_values::{LinearForm, Pair, TargetValue};
+use crate::alignment_values::{Pair, TargetValue};
 use expression_rules::Dim;
 use hpf_base::{MAX_ALIGN_FACTOR, MAX_ALIGN_OFFSET, Name};
+use linear_subscripts::LinearForm;
 
 /// What a dimension of the target is given: `a * i + b` of the subscript i of a dimension, one subscript, or every one.
 #[derive(Clone, Copy)]
@@ -183,12 +184,7 @@ fn triplet_count(first: i64, last: i64, step: i64) -> u128
 }
 
 /// A triplet stands for as many subscripts as a dimension has, as far as is known; a stride of 0 breaks another rule.
-fn triplet_has_extent(
-    first: Option<i64>,
-    last: Option<i64>,
-    step: Option<i64>,
-    dim: Dim,
-) -> bool
+fn triplet_has_extent(first: Option<i64>, last: Option<i64>, step: Option<i64>, dim: Dim) -> bool
     ensures { result ≡ has_extent (TargetValue.Triplet first last step) dim }
 {
     match (first, last, step) {

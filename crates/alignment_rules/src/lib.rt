@@ -8,19 +8,19 @@
 mod alignees;
 mod alignment_values;
 mod alignments;
-mod dummies;
 mod entries;
+mod fits;
 mod inside;
 mod laws;
-mod linear_forms;
 mod pairs;
 mod repetitions;
 mod sources;
 mod target_parts;
 
 pub use alignees::{alignment_of, bad_alignee};
-pub use alignment_values::{AlignDims, Alignment, LinearForm, Pair, TargetValue, TargetValues};
+pub use alignment_values::{AlignDims, Alignment, Pair, TargetValue, TargetValues};
 pub use alignments::bad_alignment;
+pub use fits::align_fits;
 pub use inside::{has_elements, is_inside};
 pub use laws::aligned_entries;
 pub use target_parts::target_values;

@@ -8,11 +8,11 @@ ghost use Rattle.expression_rules.specs.Partial.{maybe_of};
 ghost use Rattle.name_table.specs.Directives.{maybe_expressions, part_expressions};
 ghost use Rattle.name_table.specs.Uses.{repeats};
 ghost use Rattle.alignment_rules.specs.AlignmentRules.{dummies_of_target, overlap};
-ghost use Rattle.alignment_rules.specs.LinearForms.{dummies_in, have_common};
+ghost use Rattle.linear_subscripts.specs.LinearForms.{dummies_in, have_common};
 
-use crate::dummies::push_dummies;
 use expression_rules::is_among;
 use hpf_base::Name;
+use linear_subscripts::push_dummies;
 use std::alloc::{AllocError, Global};
 use std::marker::Model;
 use syntax_tree::{Expr, Subscript, Target};
@@ -47,11 +47,7 @@ impl Model for TargetDummies {
 
 /// The dummies of a part of a triplet more, if it is there.
 #[tactic(auto, using(crate::proofs::PairReasons::flat_one))]
-fn push_if_any(
-    found: &mut Vec<Name>,
-    dummies: &[Name],
-    e: &Option<Expr>,
-) -> Result<(), AllocError>
+fn push_if_any(found: &mut Vec<Name>, dummies: &[Name], e: &Option<Expr>) -> Result<(), AllocError>
     ensures { OnOk result (found.new.items ≡ found.old.items ++ flat_map (dummies_in dummies.now) (maybe_expressions (maybe_of e.now))) }
 {
     match e {

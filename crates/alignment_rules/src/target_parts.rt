@@ -7,16 +7,15 @@ ghost use Rattle.expression_rules.specs.Partial.{maybe_of};
 ghost use Rattle.declarations.specs.Declarations.{if_known};
 ghost use Rattle.distribution_rules.specs.Setting.{dims_of};
 ghost use Rattle.alignment_rules.specs.TargetParts.{full_value};
-ghost use Rattle.alignment_rules.specs.LinearForms.{dummies_in, linear_form};
+ghost use Rattle.linear_subscripts.specs.LinearForms.{dummies_in, linear_form};
 ghost use Rattle.alignment_rules.specs.AlignmentValues.{first_dim, first_name, lower_of, part_or, part_value, target_value, target_values, upper_of, values_from};
 
 use crate::alignment_values::{TargetValue, TargetValues};
-use crate::dummies::dummies_in;
-use crate::linear_forms::linear_form;
 use crate::sources::dummies;
 use distribution_rules::{Setting, dims_of, value_in};
 use expression_rules::{Dim, Evaluated};
 use hpf_base::Name;
+use linear_subscripts::{dummies_in, linear_form};
 use std::alloc::{AllocError, Global};
 use syntax_tree::{AlignSpec, Expr, Subscript, Target};
 

@@ -12,3 +12,5 @@ mod AllMaps
 mod ValidChains
 mod ValidInside
 mod ValidShapes
+mod ValidMapped
+mod ValidStarts

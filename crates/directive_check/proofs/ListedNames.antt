@@ -52,7 +52,8 @@ front false b h = absurd (true≢false (sym h))
 not_declared : (t : SymbolTable) (more : List Name) → find [] t ≡ None → list_all (allows t []) (map Listed ([] ∷ more)) ≡ true → ⊥
 not_declared t more none h = true≢false (sym (front (is_declared [] t) _ h) ∙ ap is_some none)
 
-are_listed : (t : SymbolTable) (colons : Bool) (xs more : List Name) → find [] t ≡ None → list_all (allows t []) (map Listed (names_of colons xs ++ more)) ≡ true → AreListed colons xs
+are_listed : (t : SymbolTable) (colons : Bool) (xs more : List Name) → find [] t ≡ None →
+    list_all (allows t []) (map Listed (names_of colons xs ++ more)) ≡ true → AreListed colons xs
 are_listed t true xs more none h = refl
 are_listed t false (x ∷ []) more none h = refl
 are_listed t false [] more none h = absurd (not_declared t more none h)

@@ -95,7 +95,8 @@ twice_respects a b same (m ∷ ms) =
 pub dynamic_respects : (s : Setting) → Respects DynamicName (dynamic_breaches s)
 dynamic_respects s a b same [] = refl
 dynamic_respects s a b same (d ∷ ds) =
-    λ i. at d.line (when (not (has_kind is_mapped_kind (object s d.name)) || same d.name i) BadDirective) ++ dynamic_respects s (d.name ∷ a) (d.name ∷ b) (same_more a b d.name same) ds i
+    λ i. at d.line (when (not (has_kind is_mapped_kind (object s d.name)) || same d.name i) BadDirective)
+    ++ dynamic_respects s (d.name ∷ a) (d.name ∷ b) (same_more a b d.name same) ds i
 
 -- a turn of a loop over such items
 pub again_next : {X : Type 0} (F : List Name → List X → List Refusal) (f : List Name → X → List Refusal) (name : X → Name) →

@@ -20,7 +20,8 @@ use Rattle.name_table.specs.declared.names.Entry.{Entry}
 use Rattle.name_table.specs.declared.names.What.{What}
 use Rattle.name_table.specs.declared.names.What.TheVariants as what
 use Rattle.distribution_rules.specs.declared.objects.Object.{Object}
-use Rattle.directive_check.specs.ProgramMaps.{distributed_as, mapped_as, new_map, new_maps_from, replicated, shape_of, start_map, start_mapping, start_maps_in, start_of, through, with_root}
+use Rattle.directive_check.specs.ProgramMaps.{distributed_as, mapped_as, new_map, new_maps_from, replicated, shape_of}
+use Rattle.directive_check.specs.ProgramMaps.{start_map, start_mapping, start_maps_in, start_of, through, with_root}
 use Rattle.directive_check.specs.MappedObjects.{How, Distributed, Aligned, MappedObject, how_mapped}
 use Rattle.directive_check.specs.Chains.{are_inside, is_aligned, meets, root_alignment, root_alignment_from, root_from, root_of, target_in, target_of, through_target}
 use Rattle.directive_check.specs.ChainSteps.{chain_breaches_in}

@@ -127,7 +127,7 @@ abbrev pub AreSound : Setting → List MappedObject → Type 0
 AreSound s ms = (y : Name) (a : directive.Alignment) → how_mapped ms y ≡ Some (Aligned a) → (es : List AlignDim) → alignment_of s a y ≡ Known es →
     IsSound (length (dims_of s y)) (length (dims_of s a.target)) es
 
-root_here : (n : ℕ) (ms : List MappedObject) (x : Name) → root_from n ms x None ≡ x
+pub root_here : (n : ℕ) (ms : List MappedObject) (x : Name) → root_from n ms x None ≡ x
 root_here zero ms x = refl
 root_here (suc n) ms x = refl
 

@@ -1,17 +1,17 @@
 //! The rules of alignments one after the other (HPF 2.0, 3.4).
 
-ghost use Rattle.std.specs.Prelude.{◌≡◌, IfOk};
+ghost use Rattle.std.specs.Prelude.{◌≡◌, None, slice_index_or, IfOk};
 ghost use Rattle.hpf_base.specs.FirstBreach.{least};
 ghost use Rattle.declarations.specs.Declaring.{least_reason};
+ghost use Rattle.alignment_rules.specs.AlignmentEntries.{at_place};
 ghost use Rattle.directive_check.specs.Chains.{are_inside};
 ghost use Rattle.directive_check.specs.ChainSteps.{chain_breaches_in};
 ghost use Rattle.directive_check.specs.MappingRules.{chain_breaches, chain_reasons, root_reasons};
 ghost use Rattle.directive_check.specs.MappedSteps.{mapped};
 
-use crate::insides::{dim_at, has_elements, is_inside};
 use crate::mapped_object::MappedObject;
 use crate::root_alignments::{is_on_cycle, root_alignment, root_of};
-use alignment_rules::Alignment;
+use alignment_rules::{Alignment, has_elements, is_inside};
 use distribution_rules::{Setting, dims_of, lesser, reason_if};
 use expression_rules::Dim;
 use hpf_base::{AlignDim, Name, Reason, Refusal, at_line, earlier};
@@ -83,4 +83,21 @@ fn are_inside(dims: &[Option<Dim>], entries: &[AlignDim], bounds: &[Option<Dim>]
         all &= is_inside(dims, &entries[place], bound);
     }
     all
+}
+
+/// The bounds of a dimension; None past the last one.
+fn dim_at(dims: &[Option<Dim>], place: usize) -> Option<Dim>
+    ensures { result ≡ at_place dims.now place }
+{
+    item_at(dims, place)
+}
+
+/// The item at a place; None past the end.
+fn item_at(dims: &[Option<Dim>], place: usize) -> Option<Dim>
+    ensures { result ≡ slice_index_or dims.now place None }
+{
+    match dims.get(place) {
+        Some(dim) => *dim,
+        None => None,
+    }
 }

@@ -11,7 +11,6 @@ mod composed_alignments;
 mod declared_rules;
 mod direct_mappings;
 mod dynamic_names;
-mod insides;
 mod mapped_object;
 mod mapped_objects;
 mod mapping_check;

@@ -63,7 +63,8 @@ fn maps_of(
     program: &Program,
 ) -> Result<Maps, AllocError>
     ensures arrays { IfOk result (λ m. m.arrays ≡ start_maps_in setting.now (mapped objects.now) program.now.names) }
-    ensures moves { IfOk result (λ m. m.moves ≡ map (λ d. new_maps_from setting.now (mapped objects.now) d 0 (arrays program.now.names)) (redistributes (all_heads (block_of program.now.tree.body.items)))) }
+    ensures moves { IfOk result (λ m. m.moves ≡ map (λ d. new_maps_from setting.now (mapped objects.now) d 0 (arrays program.now.names))
+        (redistributes (all_heads (block_of program.now.tree.body.items)))) }
 {
     let arrays = start_maps(alloc, setting, objects, &program.names)?;
     let moves = redistributions(alloc, setting, objects, &program.names, &program.tree.body)?;

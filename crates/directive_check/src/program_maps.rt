@@ -192,7 +192,8 @@ fn push_moved(
     entry: &Entry,
     maps: &mut Vec<NewMap>,
 ) -> Result<(), AllocError>
-    ensures { OnOk result (maps.new.items ≡ maps.old.items ++ new_maps_from setting.now (mapped objects.now) (distribution spec.now) number (array_of entry.now.name entry.now.what)) }
+    ensures { OnOk result (maps.new.items ≡ maps.old.items
+        ++ new_maps_from setting.now (mapped objects.now) (distribution spec.now) number (array_of entry.now.name entry.now.what)) }
 {
     match &entry.what {
         What::Array(..) => { push_array(alloc, setting, objects, spec, number, &entry.name, maps) }

@@ -41,7 +41,8 @@ fn push_all<'a>(stmts: &'a [Stmt], found: &mut Vec<Redistribute<'a>>) -> Result<
 /// That of a statement, and those inside it.
 #[cycle(redistributes)]
 fn push_one<'a>(stmt: &'a Stmt, found: &mut Vec<Redistribute<'a>>) -> Result<(), AllocError>
-    ensures { OnOk result ((xs : List Name) → said found.new.items ≡ said found.old.items ++ redistributes (statement_heads xs stmt.now.line (statement stmt.now.line stmt.now.what))) }
+    ensures { OnOk result ((xs : List Name) → said found.new.items ≡ said found.old.items
+        ++ redistributes (statement_heads xs stmt.now.line (statement stmt.now.line stmt.now.what))) }
 {
     match &stmt.what {
         Kind::Redistribute(spec) => {

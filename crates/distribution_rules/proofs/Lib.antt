@@ -3,4 +3,4 @@ mod DistributedTurns
 mod ArrangementExtents
 mod ProgramArrays
 mod DistributedLines
-mod DistributedMaps
+pub mod DistributedMaps

@@ -1,7 +1,7 @@
 use Rattle.std.proofs.Common.{◌≡◌, drop}
 use Rattle.std.specs.Prelude.{◌||◌}
 use Rattle.std.specs.List.{list_any}
-use Rattle.alignment_rules.specs.LinearForms.{have_common}
+use Rattle.linear_subscripts.specs.LinearForms.{have_common}
 use Rattle.alignment_rules.proofs.repetitions.any_has_common.Given as goal
 
 abbrev pub invariant-loop-list : goal.invariant-loop-list

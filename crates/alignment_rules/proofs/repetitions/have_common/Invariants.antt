@@ -1,6 +1,6 @@
 use Rattle.std.proofs.Common.{◌≡◌, drop}
 use Rattle.std.specs.Prelude.{◌||◌}
-use Rattle.alignment_rules.specs.LinearForms.{have_common}
+use Rattle.linear_subscripts.specs.LinearForms.{have_common}
 use Rattle.alignment_rules.proofs.repetitions.have_common.Given as goal
 
 abbrev pub invariant-loop-name : goal.invariant-loop-name

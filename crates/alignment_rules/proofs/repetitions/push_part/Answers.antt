@@ -3,8 +3,8 @@ use Rattle.std.specs.List.{flat_map}
 use Rattle.syntax_tree.specs.Expression.{subscript}
 use Rattle.expression_rules.specs.Partial.{maybe_of}
 use Rattle.name_table.specs.Directives.{maybe_expressions, part_expressions}
-use Rattle.alignment_rules.specs.LinearForms.{dummies_in}
-use Rattle.alignment_rules.proofs.FoundNames.{triplet_is}
+use Rattle.linear_subscripts.specs.LinearForms.{dummies_in}
+use Rattle.linear_subscripts.proofs.FoundNames.{triplet_is}
 use Rattle.alignment_rules.proofs.PairReasons.{flat_three}
 use Rattle.alignment_rules.proofs.repetitions.push_part.Goals as goal
 

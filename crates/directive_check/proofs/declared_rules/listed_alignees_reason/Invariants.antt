@@ -7,4 +7,5 @@ use Rattle.directive_check.proofs.declared_rules.listed_alignees_reason.Given as
 
 abbrev pub invariant-loop-name : goal.invariant-loop-name
 invariant-loop-name l =
-    lesser l.least (least_reason (flat_map (alignee_reasons l.setting (alignment l.spec)) (drop l.name-index l.names))) ≡ least_reason (flat_map (alignee_reasons l.setting (alignment l.spec)) l.names)
+    lesser l.least (least_reason (flat_map (alignee_reasons l.setting (alignment l.spec)) (drop l.name-index l.names)))
+    ≡ least_reason (flat_map (alignee_reasons l.setting (alignment l.spec)) l.names)

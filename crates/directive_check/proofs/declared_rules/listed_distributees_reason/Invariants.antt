@@ -7,4 +7,5 @@ use Rattle.directive_check.proofs.declared_rules.listed_distributees_reason.Give
 
 abbrev pub invariant-loop-name : goal.invariant-loop-name
 invariant-loop-name l =
-    lesser l.least (least_reason (flat_map (λ x. distributee_reasons l.values (object l.setting x)) (drop l.name-index l.names))) ≡ least_reason (flat_map (λ x. distributee_reasons l.values (object l.setting x)) l.names)
+    lesser l.least (least_reason (flat_map (λ x. distributee_reasons l.values (object l.setting x)) (drop l.name-index l.names)))
+    ≡ least_reason (flat_map (λ x. distributee_reasons l.values (object l.setting x)) l.names)

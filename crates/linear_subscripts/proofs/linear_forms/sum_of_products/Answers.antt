@@ -1,9 +1,9 @@
-use Rattle.std.proofs.Common.{ℤ, ◌*ℤ◌, ◌+ℤ◌, ap, ◌∙◌, of_z, to_z}
+use Rattle.std.proofs.Common.{ℤ, ◌*ℤ◌, ◌+ℤ◌, ◌∙◌, of_z, to_z}
 use Rattle.std.proofs.lemmas.Int.{SFits-int_wrap, to_z-of_z, wrapping_add_is}
 use Rattle.std.specs.Int.{int_wrapping_add, w64}
 use Rattle.op_tables.specs.Operators.{wrapped}
-use Rattle.alignment_rules.proofs.Wraps.{wrapped_products}
-use Rattle.alignment_rules.proofs.linear_forms.sum_of_products.Goals as goal
+use Rattle.linear_subscripts.proofs.Wraps.{wrapped_products}
+use Rattle.linear_subscripts.proofs.linear_forms.sum_of_products.Goals as goal
 
 abbrev held : ℤ → ℤ
 held z = to_z w64 (of_z w64 z)

@@ -2,8 +2,8 @@ use Rattle.std.proofs.Common.{refl}
 use Rattle.syntax_tree.specs.Expression.{arguments_of, expression, parts_of, subscript}
 use Rattle.expression_rules.specs.Operands.{names_in, names_in_part, names_in_parts}
 use Rattle.expression_rules.specs.Symbols.{is_among}
-use Rattle.alignment_rules.proofs.FoundNames.{call_names, element_names, names_next, triplet_names}
-use Rattle.alignment_rules.proofs.dummies.+dummies.Goals as goal
+use Rattle.linear_subscripts.proofs.FoundNames.{call_names, element_names, names_next, triplet_names}
+use Rattle.linear_subscripts.proofs.dummies.+dummies.Goals as goal
 
 pub push_dummies-returns-in_ok-push_arguments-in-Call : goal.push_dummies-returns-in_ok-push_arguments-in-Call
 push_dummies-returns-in_ok-push_arguments-in-Call t c =

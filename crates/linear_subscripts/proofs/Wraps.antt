@@ -1,5 +1,5 @@
 -- Sums of products that wrap.
-use Rattle.std.proofs.Common.{◌≡◌, ℤ, ◌+ℤ◌, ◌*ℤ◌, ◌∙◌}
+use Rattle.std.proofs.Common.{◌≡◌, ℤ, ◌+ℤ◌, ◌∙◌}
 use Rattle.std.proofs.lemmas.Int.{int_wrap-add_left, int_wrap-add_right}
 use Rattle.std.specs.Int.{w64}
 use Rattle.op_tables.specs.Operators.{wrapped}

@@ -5,19 +5,15 @@ ghost use Rattle.syntax_tree.specs.Expression.{arguments_of, expression, parts_o
 ghost use Rattle.expression_rules.specs.Operands.{names_in_maybe, names_in_part, names_in_parts};
 ghost use Rattle.expression_rules.specs.Partial.{maybe_of};
 ghost use Rattle.expression_rules.specs.Symbols.{is_among};
-ghost use Rattle.alignment_rules.specs.LinearForms.{dummies_in, is_free};
+ghost use Rattle.linear_subscripts.specs.LinearForms.{dummies_in, is_free};
 
 use expression_rules::is_among;
 use hpf_base::Name;
 use std::alloc::{AllocError, Global};
 use syntax_tree::{Expr, Ref, Subscript};
 
-/// The dummies that an expression names, in order. An `Err` is want of memory, here and below.
-pub(crate) fn dummies_in(
-    alloc: Global,
-    dummies: &[Name],
-    e: &Expr,
-) -> Result<Vec<Name>, AllocError>
+/// The dummies that an expression names, in the order of the text. An `Err` is want of memory.
+pub fn dummies_in(alloc: Global, dummies: &[Name], e: &Expr) -> Result<Vec<Name>, AllocError>
     ensures { IfOk result (λ xs. xs.items ≡ dummies_in dummies.now (expression e.now)) }
 {
     let mut found = Vec::new(alloc);
@@ -25,9 +21,9 @@ pub(crate) fn dummies_in(
     Ok(found)
 }
 
-/// Whether an expression names no dummy.
+/// Whether an expression names no dummy. An `Err` is want of memory.
 #[tactic(auto, using(crate::proofs::FoundNames::none_found))]
-pub(crate) fn is_free(alloc: Global, dummies: &[Name], e: &Expr) -> Result<bool, AllocError>
+pub fn is_free(alloc: Global, dummies: &[Name], e: &Expr) -> Result<bool, AllocError>
     ensures { IfOk result (λ b. b ≡ is_free dummies.now (expression e.now)) }
 {
     let found = dummies_in(alloc, dummies, e)?;
@@ -44,10 +40,10 @@ fn push_name(found: &mut Vec<Name>, dummies: &[Name], name: &Name) -> Result<(),
     Ok(())
 }
 
-/// The dummies of an expression more.
+/// The dummies of an expression behind those that were found before. An `Err` is want of memory; the list is then of no use.
 #[cycle(dummies)]
 #[tactic(auto, using(crate::proofs::FoundNames::filter_two))]
-pub(crate) fn push_dummies(found: &mut Vec<Name>, dummies: &[Name], e: &Expr) -> Result<(), AllocError>
+pub fn push_dummies(found: &mut Vec<Name>, dummies: &[Name], e: &Expr) -> Result<(), AllocError>
     ensures { OnOk result (found.new.items ≡ found.old.items ++ dummies_in dummies.now (expression e.now)) }
 {
     match e {
@@ -134,11 +130,7 @@ fn push_part(found: &mut Vec<Name>, dummies: &[Name], part: &Subscript) -> Resul
 
 /// The same of an expression that may be there.
 #[cycle(dummies)]
-fn push_if_any(
-    found: &mut Vec<Name>,
-    dummies: &[Name],
-    e: &Option<Expr>,
-) -> Result<(), AllocError>
+fn push_if_any(found: &mut Vec<Name>, dummies: &[Name], e: &Option<Expr>) -> Result<(), AllocError>
     ensures { OnOk result (found.new.items ≡ found.old.items ++ filter (λ x. is_among x dummies.now) (names_in_maybe (maybe_of e.now))) }
 {
     match e {

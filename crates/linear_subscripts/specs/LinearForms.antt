@@ -11,7 +11,7 @@ use Rattle.expression_rules.specs.declared.evaluated.Evaluated.{Evaluated}
 use Rattle.expression_rules.specs.declared.evaluated.Evaluated.TheVariants.{Known}
 use Rattle.declarations.specs.DeclarationRules.{is_invalid}
 use Rattle.distribution_rules.specs.Setting.{Setting, value_in}
-use Rattle.alignment_rules.specs.declared.alignment_values.LinearForm.{LinearForm}
+use Rattle.linear_subscripts.specs.declared.form.LinearForm.{LinearForm}
 
 -- the dummies that an expression names, in order
 abbrev pub dummies_in : List Name → Expression → List Name

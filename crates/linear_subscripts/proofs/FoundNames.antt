@@ -15,7 +15,7 @@ use Rattle.expression_rules.proofs.Lists.{drop_item}
 use Rattle.expression_rules.specs.Operands.{names_in_maybe, names_in_part, names_in_parts}
 use Rattle.expression_rules.specs.Partial.{maybe_of}
 use Rattle.expression_rules.specs.Symbols.{Name, is_among}
-use Rattle.alignment_rules.specs.LinearForms.{dummies_in}
+use Rattle.linear_subscripts.specs.LinearForms.{dummies_in}
 
 -- of two lists, behind what was found before
 pub filter_two : (p : Name → Bool) (before xs ys : List Name) → before ++ filter p xs ++ filter p ys ≡ before ++ filter p (xs ++ ys)
@@ -70,8 +70,9 @@ call_names ds before after e o v es is items of_all =
     ∙ sym (ap (λ f. before ++ dummies_in ds (expression f)) is)
 
 -- those of a name with subscripts behind it
-pub element_names : (ds before one after : List Name) (x : Name) (subs : Option (Vec Subscript.Subscript Global)) (v : Vec Subscript.Subscript Global) (ss : List Subscript.Subscript) →
-    subs ≡ Some v → ss ≡ v.items → one ≡ before ++ filter (λ y. is_among y ds) (x ∷ []) → after ≡ one ++ filter (λ y. is_among y ds) (names_in_parts (parts_of ss)) →
+pub element_names : (ds before one after : List Name) (x : Name) (subs : Option (Vec Subscript.Subscript Global)) (v : Vec Subscript.Subscript Global)
+    (ss : List Subscript.Subscript) → subs ≡ Some v → ss ≡ v.items →
+    one ≡ before ++ filter (λ y. is_among y ds) (x ∷ []) → after ≡ one ++ filter (λ y. is_among y ds) (names_in_parts (parts_of ss)) →
     after ≡ before ++ dummies_in ds (reference x (back-Ref-subs subs))
 element_names ds before one after x subs v ss is items of_name of_all =
     let p : Name → Bool = λ y. is_among y ds in

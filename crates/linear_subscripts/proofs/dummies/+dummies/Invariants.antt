@@ -2,7 +2,7 @@ use Rattle.std.proofs.Common.{◌≡◌, ◌++◌, drop, filter}
 use Rattle.syntax_tree.specs.Expression.{arguments_of, parts_of}
 use Rattle.expression_rules.specs.Operands.{names_in_parts}
 use Rattle.expression_rules.specs.Symbols.{is_among}
-use Rattle.alignment_rules.proofs.dummies.+dummies.Given as goal
+use Rattle.linear_subscripts.proofs.dummies.+dummies.Given as goal
 
 abbrev pub invariant-push_arguments-loop-argument : goal.invariant-push_arguments-loop-argument
 invariant-push_arguments-loop-argument l =

@@ -6,10 +6,10 @@ ghost use Rattle.op_tables.specs.Operators.{wrapped};
 ghost use Rattle.syntax_tree.specs.Expression.{expression, Name as Alone};
 ghost use Rattle.declarations.specs.DeclarationRules.{is_invalid};
 ghost use Rattle.distribution_rules.specs.Setting.{value_in};
-ghost use Rattle.alignment_rules.specs.LinearForms.{are_same, combined_form, constant_form, has_invalid_part, is_free, is_linear, is_product, is_sign, is_sum, linear_form, signed_form, with_both};
+ghost use Rattle.linear_subscripts.specs.LinearForms.{are_same, combined_form, constant_form, has_invalid_part, is_free, is_linear, is_product, is_sign, is_sum, linear_form, signed_form, with_both};
 
-use crate::alignment_values::LinearForm;
 use crate::dummies::is_free;
+use crate::form::LinearForm;
 use distribution_rules::{Setting, value_in};
 use expression_rules::{Evaluated, is_among};
 use hpf_base::Name;
@@ -17,8 +17,8 @@ use op_tables::Op;
 use std::alloc::{AllocError, Global};
 use syntax_tree::Expr;
 
-/// All names of a list are one.
-pub(crate) fn are_same(names: &[Name]) -> bool
+/// Whether all names of a list are one. It takes no memory.
+pub fn are_same(names: &[Name]) -> bool
     ensures { result ≡ are_same names.now }
 {
     match names.split_first() {
@@ -68,8 +68,9 @@ fn are_free(alloc: Global, dummies: &[Name], a: &Expr, b: &Expr) -> Result<bool,
     Ok(left && right)
 }
 
-/// Whether an expression is built as a linear one is.
-pub(crate) fn is_linear(alloc: Global, dummies: &[Name], e: &Expr) -> Result<bool, AllocError>
+/// Whether an expression is built as a linear one is: from dummies and from parts without any, by signs, sums, parentheses, and products with
+/// a side without dummies. An `Err` is want of memory.
+pub fn is_linear(alloc: Global, dummies: &[Name], e: &Expr) -> Result<bool, AllocError>
     ensures { IfOk result (λ b. b ≡ is_linear dummies.now (expression e.now)) }
 {
     match e {
@@ -97,18 +98,14 @@ pub(crate) fn is_linear(alloc: Global, dummies: &[Name], e: &Expr) -> Result<boo
 }
 
 /// The value isn't constant, or divides by zero.
-pub(crate) fn is_invalid(value: &Evaluated<i64>) -> bool
+fn is_invalid(value: &Evaluated<i64>) -> bool
     ensures { result ≡ is_invalid value.now }
 {
     matches!(value, Evaluated::Invalid)
 }
 
-/// Whether an expression isn't constant, or divides by zero.
-pub(crate) fn has_invalid_value(
-    alloc: Global,
-    setting: &Setting,
-    e: &Expr,
-) -> Result<bool, AllocError>
+/// Whether an expression isn't constant, or divides by zero. An `Err` is want of memory.
+pub fn has_invalid_value(alloc: Global, setting: &Setting, e: &Expr) -> Result<bool, AllocError>
     ensures { IfOk result (λ b. b ≡ is_invalid (value_in setting.now (expression e.now))) }
 {
     let value = value_in(alloc, setting, e)?;
@@ -129,9 +126,9 @@ fn is_invalid_part(
     Ok(free && invalid)
 }
 
-/// Whether a part without dummies isn't constant, or divides by zero.
+/// Whether a part without dummies isn't constant, or divides by zero. An `Err` is want of memory.
 #[tactic(auto, using(crate::proofs::References::invalid_reference))]
-pub(crate) fn has_invalid_part(
+pub fn has_invalid_part(
     alloc: Global,
     setting: &Setting,
     dummies: &[Name],
@@ -284,8 +281,8 @@ fn form_of_name(
     }
 }
 
-/// a and b of an expression, where they are known.
-pub(crate) fn linear_form(
+/// a and b of a linear expression, where they are known, in arithmetic that wraps. An `Err` is want of memory.
+pub fn linear_form(
     alloc: Global,
     setting: &Setting,
     dummies: &[Name],

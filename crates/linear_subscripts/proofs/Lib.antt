@@ -1,0 +1,3 @@
+pub mod FoundNames
+mod References
+mod Wraps
