@@ -1,5 +1,5 @@
 -- Why a text isn't accepted.
-use Rattle.std.proofs.Common.{◌≡◌, ℕ, List}
+use Rattle.std.proofs.Common.{ℕ, List}
 use Rattle.hpf_base.specs.declared.refusal.StaticError.{StaticError}
 use Rattle.hpf_base.specs.declared.refusal.StaticError.TheVariants.{Refused, Memory}
 use Rattle.hpf_base.specs.FirstBreach.{Among}

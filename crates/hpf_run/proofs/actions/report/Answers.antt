@@ -1,4 +1,4 @@
-use Rattle.std.proofs.Common.{[], ap, subst, sym}
+use Rattle.std.proofs.Common.{ap, subst, sym}
 use Rattle.hpf_base.specs.declared.status.Status.TheVariants.{Fault}
 use Rattle.serial_run.specs.Completions.{fault}
 use Rattle.serial_run.specs.Outcomes.{end_seen, outcome_seen}
