@@ -1,7 +1,8 @@
 -- The mappings of a program's arrays, from how each name is mapped first.
-use Rattle.std.proofs.Common.{◌≡◌, List, map, ◌∙◌}
+use Rattle.std.proofs.Common.{◌≡◌, List, map, sym, ◌∙◌}
 use Rattle.std.specs.List.{flat_map}
 use Rattle.array_maps.specs.declared.maps.ArrayMap.{ArrayMap}
+use Rattle.array_maps.specs.declared.maps.Maps.{Maps}
 use Rattle.array_maps.specs.declared.maps.NewMap.{NewMap}
 use Rattle.name_table.specs.declared.names.Entry.{Entry}
 use Rattle.statement_walk.specs.Heads.{PlacedHead}
@@ -25,3 +26,8 @@ moves_as s t firsts objects ms es fs hs made setting same is names found =
     ∙ (λ i. map (λ d. new_maps_same s firsts objects same d 0 (arrays es) i) (redistributes hs))
     ∙ (λ i. map (λ d. new_maps_from (setting i) (is i) d 0 (arrays (names i))) (redistributes hs))
     ∙ all_moves t ms (arrays fs) hs
+
+-- maps are the arrays and the moves in them
+pub same_maps : (made : Maps) (arrays : List ArrayMap) (moves : List (List NewMap)) → made.arrays ≡ arrays → made.moves ≡ moves →
+    record { arrays = arrays; moves = moves } ≡ made
+same_maps made arrays moves a m = λ i. record { arrays = sym a i; moves = sym m i }

@@ -14,3 +14,7 @@ mod ValidInside
 mod ValidShapes
 mod ValidMapped
 mod ValidStarts
+mod ValidMoves
+mod SizedArrays
+mod OwnObjects
+mod ValidMaps

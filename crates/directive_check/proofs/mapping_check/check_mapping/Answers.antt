@@ -1,13 +1,17 @@
-use Rattle.std.proofs.Common.{None, Some, ap, ◌∙◌}
+use Rattle.std.proofs.Common.{None, Some, ap, subst, ◌∙◌}
+use Rattle.hpf_base.specs.ElementOrder.{product}
 use Rattle.hpf_base.specs.FirstBreach.{least}
 use Rattle.syntax_tree.specs.MainProgram.{main_program}
+use Rattle.array_maps.specs.Maps.{AreMaps}
 use Rattle.name_table.specs.Entries.{entries}
 use Rattle.statement_walk.specs.Heads.{all_heads}
 use Rattle.distribution_rules.specs.Setting.{setting}
 use Rattle.directive_check.specs.MappedObjects.{how_mapped, mapped_objects}
 use Rattle.directive_check.specs.MappedSteps.{mapped}
+use Rattle.directive_check.specs.ProgramMaps.{program_moves, start_maps}
+use Rattle.directive_check.proofs.ValidMaps.{valid_maps}
 use Rattle.directive_check.specs.MappingRules.{breaches_in, mapping_breaches}
-use Rattle.directive_check.proofs.AllMaps.{arrays_as, moves_as}
+use Rattle.directive_check.proofs.AllMaps.{arrays_as, moves_as, same_maps}
 use Rattle.directive_check.proofs.MappingBreaches.{is_first}
 use Rattle.directive_check.proofs.SameMapped.{MapSame}
 use Rattle.directive_check.proofs.mapping_check.check_mapping.Goals as goal
@@ -41,3 +45,10 @@ returns-clause-moves c =
     moves_as c.in_ok-setting.setting (setting c.args.grid.now p) (mapped c.deref-in-None.result.now) (mapped c.in_ok-objects.objects.items) (mapped_objects p.declarations)
     c.args.program.now.names (entries p) (all_heads p.body) c.in_ok-maps-in-None.maps.moves
     c.in_ok-setting.ensures same c.in_ok-objects.ensures c.requires.names c.in_ok-maps-in-None.ensures.moves
+
+pub returns-clause-valid : goal.returns-clause-valid
+returns-clause-valid c =
+    let p = main_program c.args.program.now.tree in
+    subst (AreMaps (product c.args.grid.now)) (same_maps c.in_ok-maps-in-None.maps (start_maps c.args.grid.now p) (program_moves c.args.grid.now p)
+    (returns-clause-arrays c) (returns-clause-moves c))
+    (valid_maps c.args.grid.now p c.dims.ensures.valid (returns-clause-fine c))
