@@ -14,4 +14,5 @@ mod subscripts;
 
 pub use composition::compose;
 pub use laws::composed_owners;
-pub use owners::{least_owner, owns};
+pub use owners::{coordinate_of, least_owner, node_coordinate, owns};
+pub use subscripts::linear;

@@ -5,6 +5,7 @@ ghost use Rattle.hpf_base.specs.Alignment.{agrees, aligned, least_owner, owns, p
 ghost use Rattle.hpf_base.specs.ElementOrder.{product};
 ghost use Rattle.hpf_base.specs.Grid.{node_coordinates};
 ghost use Rattle.hpf_base.specs.Mapping.{InLine, IsAlign, IsLine, IsMapDim, IsMapping, MapsInside};
+ghost use Rattle.hpf_base.specs.Owner.{coordinate};
 
 use crate::subscripts::linear;
 use distribution::owner;
@@ -54,8 +55,7 @@ fn entry_agrees(grid: &Grid, entry: &MapDim, index: &Index, node: NodeId) -> boo
 {
     match subscript(&entry.align, index) {
         Some(subscript) => {
-            let pos = position(&entry.line, subscript);
-            owner(&entry.line, pos) == node_coordinate(grid, node, entry.grid_dim)
+            coordinate_of(&entry.line, subscript) == node_coordinate(grid, node, entry.grid_dim)
         }
         None => true,
     }
@@ -73,6 +73,16 @@ fn subscript(align: &AlignDim, index: &Index) -> Option<i128>
     }
 }
 
+/// The coordinate, from 0, of the processor that owns the position at which a subscript of the template's dimension stands. It takes no memory.
+pub fn coordinate_of(line: &Line, subscript: i128) -> u32
+    requires line { IsLine line.now }
+    requires inside { InLine line.now (Some subscript) }
+    ensures value { result ≡ coordinate line.now (unsigned_abs (position_at line.now subscript)) }
+    ensures below { result < line.now.procs }
+{
+    owner(line, position(line, subscript))
+}
+
 /// The position, from 1, at which a subscript stands in a line.
 fn position(line: &Line, subscript: i128) -> u64
     requires line { IsLine line.now }
@@ -84,8 +94,8 @@ fn position(line: &Line, subscript: i128) -> u64
     (subscript - line.lower as i128 + 1) as u64
 }
 
-/// The node's coordinate, from 0, in a dimension of the grid, counted from 0.
-fn node_coordinate(grid: &Grid, node: NodeId, dim: u32) -> u32
+/// The node's coordinate, from 0, in a dimension of the grid, counted from 0. It takes no memory.
+pub fn node_coordinate(grid: &Grid, node: NodeId, dim: u32) -> u32
     requires node { node.0 < product grid.now }
     requires dim { dim < length grid.now }
     ensures { result ≡ slice_index (node_coordinates grid.now node.0) dim }

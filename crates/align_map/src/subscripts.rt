@@ -2,7 +2,7 @@
 
 ghost use Rattle.std.specs.Prelude.{◌≡◌, ◌^◌, ℤ, pos, neg_ℤ, ◌+ℤ◌, ◌*ℤ◌, ◌≤ℤ◌};
 
-/// `a * i + b`.
+/// `a * i + b`, exactly. It takes no memory.
 pub fn linear(a: i64, i: i64, b: i64) -> i128
     ensures { result ≡ (a *ℤ i) +ℤ b }
 {

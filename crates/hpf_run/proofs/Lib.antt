@@ -1,2 +1,2 @@
-pub mod SerialLaws
+pub mod AcceptLaws
 pub mod TopLaws

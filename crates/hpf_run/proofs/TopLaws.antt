@@ -6,36 +6,50 @@ use Rattle.hpf_base.specs.declared.status.Status.TheVariants.{Done, Refused, Too
 use Rattle.hpf_base.specs.declared.status.Status.{Status}
 use Rattle.hpf_base.specs.declared.limits.TheConstants.{MAX_SOURCE_BYTES}
 use Rattle.hpf_ports.specs.Ports.{Gave, IsAtEnd, Rose, AreAppended}
-use Rattle.first_form.specs.Form.{Program, ReadsAs}
-use Rattle.hpf_reader.specs.ProgramText.{HasNoBreach}
-use Rattle.first_form.specs.Meaning.{printed_of}
-use Rattle.hpf_run.specs.Outcome.{is_of_text, is_too_long, is_usage, run_done, run_refused, serial_refused, serial_report, report_end, report_fault, IsReportOf, means_memory, means_outcome, all_written, err_failed, out_failed, Delivered, Had, IsRead, Meant, Outcome, TextOutcome, Port, port, refusal_line, too_long_line, usage_line}
-use Rattle.hpf_run.specs.Reply.{IsReplyOf, IsReported, TextMeant, reply_memory, reply_refused, reported, reported_memory, text_memory, text_outcome}
-use Rattle.hpf_run.specs.SerialText.{IsRunnable}
+use Rattle.hpf_base.specs.FirstBreach.{least}
+use Rattle.hpf_run.specs.Outcome.{is_of_text, is_too_long, is_usage, text_accepted, text_refused, check_done, map_done, run_done, run_left_out, serial_left_out, serial_report, report_end, report_fault, unbuilt, ActionOutcome, IsReportOf, means_memory, means_outcome, all_written, err_failed, out_failed, Delivered, Had, IsRead, Meant, Outcome, TextOutcome, Port, port, refusal_line, too_long_line, usage_line}
+use Rattle.hpf_run.specs.Reply.{ActionMeant, IsReplyOf, IsReported, TextMeant, action_memory, action_outcome, reply_memory, reply_refused, reported, reported_memory, text_memory, text_outcome}
+use Rattle.hpf_run.specs.Accepted.{IsAccepted, IsRefused}
 use Rattle.syntax_tree.specs.MainProgram.{MainProgram}
 use Rattle.hpf_words.specs.declared.job.Action.{Action}
-use Rattle.hpf_words.specs.declared.job.Action.TheVariants.{Run, Serial}
+use Rattle.hpf_words.specs.declared.job.Action.TheVariants.{Serial}
 use Rattle.hpf_words.specs.declared.job.Job.{Job}
 use Rattle.name_table.specs.Entries.{entries}
+use Rattle.name_table.specs.declared.names.Entry.{Entry}
+use Rattle.array_meaning.specs.Serial as serial
 use Rattle.array_meaning.specs.Serial.{serial}
 use Rattle.hpf_run.specs.Command.{IsCommand, IsNoCommand}
 
--- a text whose program prints the bytes
-pub text-done : (text bytes : List ℕ) (p : Program) → HasNoBreach text → ReadsAs text p → bytes ≡ printed_of p → TextMeant text Run record { status = Done; out = bytes; err = [] }
-text-done text bytes p fine reads is =
-    subst (λ b. TextMeant text Run record { status = Done; out = b; err = [] }) (sym is) (text_outcome _ (run_done fine p reads))
+-- the reply to a refusal is what a job makes of a text that is refused so
+pub refused-meant : (text : List ℕ) (job : Job) (r : Refusal) (o : Outcome) → IsRefused job.grid text r → IsReplyOf r o → TextMeant text job o
+refused-meant text job r o is (reply_refused line line_is) =
+    subst (λ l. TextMeant text job record { status = Refused; out = []; err = l }) (sym line_is) (text_outcome _ (text_refused r is))
+refused-meant text job r o is reply_memory = text_memory
 
--- the reply to a refusal is what the action makes of a text that it refuses so
-pub refused-meant : (text : List ℕ) (act : Action) (r : Refusal) (o : Outcome) → TextOutcome text act record { status = Refused; out = []; err = refusal_line r }
-    → IsReplyOf r o → TextMeant text act o
-refused-meant text act r o is (reply_refused line line_is) =
-    subst (λ l. TextMeant text act record { status = Refused; out = []; err = l }) (sym line_is) (text_outcome _ is)
-refused-meant text act r o is reply_memory = text_memory
+-- what the job's action makes of an accepted text is what the job makes of it
+pub accepted-meant : (text : List ℕ) (job : Job) (p : MainProgram) (o : Outcome) → IsAccepted job.grid text p → ActionMeant job.grid text p job.action o
+    → TextMeant text job o
+accepted-meant text job p o is (action_outcome made by) = text_outcome made (text_accepted p is made by)
+accepted-meant text job p o is action_memory = text_memory
 
--- the report of a program is what `serial` makes of a text that means it
-pub reported-meant : (text : List ℕ) (p : MainProgram) (o : Outcome) → IsRunnable text p → IsReported (entries p) (serial p) o → TextMeant text Serial o
-reported-meant text p o runs (reported o' is) = text_outcome o' (serial_report p runs o' is)
-reported-meant text p o runs reported_memory = text_memory
+-- the reply to a refusal is what an action makes of an accepted text that it leaves out so
+pub left_out-meant : (grid text : List ℕ) (p : MainProgram) (act : Action) (r : Refusal) (o : Outcome)
+    → ActionOutcome grid text p act record { status = Refused; out = []; err = refusal_line r } → IsReplyOf r o → ActionMeant grid text p act o
+left_out-meant grid text p act r o is (reply_refused line line_is) =
+    subst (λ l. ActionMeant grid text p act record { status = Refused; out = []; err = l }) (sym line_is) (action_outcome _ is)
+left_out-meant grid text p act r o is reply_memory = action_memory
+
+-- what an action prints
+pub done-meant : (grid text : List ℕ) (p : MainProgram) (act : Action) (bytes printed : List ℕ) → bytes ≡ printed
+    → ActionOutcome grid text p act record { status = Done; out = printed; err = [] } → ActionMeant grid text p act record { status = Done; out = bytes; err = [] }
+done-meant grid text p act bytes printed same is =
+    subst (λ b. ActionMeant grid text p act record { status = Done; out = b; err = [] }) (sym same) (action_outcome _ is)
+
+-- the report of a program is what `serial` makes of a text that is accepted as it
+pub reported-meant : (grid text : List ℕ) (p : MainProgram) (o : Outcome) → least (unbuilt p) ≡ None → IsReported (entries p) (serial p) o
+    → ActionMeant grid text p Serial o
+reported-meant grid text p o built (reported o' is) = action_outcome o' (serial_report built o' is)
+reported-meant grid text p o built reported_memory = action_memory
 
 -- what a source had left, whether it tells it or not
 some_had : (left : Option (List ℕ)) → (bytes : List ℕ) × Had left bytes
@@ -54,20 +68,30 @@ read_had (Some left) left' bytes gave end =
     gave.2 ∙ ap (λ rest. bytes ++ rest) none ∙ append-nil bytes
 
 -- a text's outcome comes from a source that was read to its end
-read_whole : (text : List ℕ) (act : Action) (o : Outcome) (left left' : Option (List ℕ)) → TextOutcome text act o → Gave left left' text → IsAtEnd left' → IsRead o.status left left' text
-read_whole text act o left left' (run_refused r is) gave end = (gave, end)
-read_whole text act o left left' (run_done fine p reads) gave end = (gave, end)
-read_whole text act o left left' (serial_refused r is) gave end = (gave, end)
-read_whole text act o left left' (serial_report p runs o' report) gave end = whole o' report where
-  whole : (o : Outcome) → IsReportOf (entries p) (serial p) o → IsRead o.status left left' text
-  whole o (report_end is) = (gave, end)
-  whole o (report_fault f is) = (gave, end)
+read_reported : (names : List Entry) (s : serial.Outcome) (o : Outcome) (left left' : Option (List ℕ)) (text : List ℕ) → IsReportOf names s o → Gave left left' text
+    → IsAtEnd left' → IsRead o.status left left' text
+read_reported names s o left left' text (report_end is) gave end = (gave, end)
+read_reported names s o left left' text (report_fault f is) gave end = (gave, end)
+
+read_action : (grid text : List ℕ) (p : MainProgram) (act : Action) (o : Outcome) (left left' : Option (List ℕ)) → ActionOutcome grid text p act o
+    → Gave left left' text → IsAtEnd left' → IsRead o.status left left' text
+read_action grid text p act o left left' check_done gave end = (gave, end)
+read_action grid text p act o left left' map_done gave end = (gave, end)
+read_action grid text p act o left left' (serial_report built o' report) gave end = read_reported (entries p) (serial p) o' left left' text report gave end
+read_action grid text p act o left left' (serial_left_out r is) gave end = (gave, end)
+read_action grid text p act o left left' (run_done q reads) gave end = (gave, end)
+read_action grid text p act o left left' (run_left_out number is) gave end = (gave, end)
+
+read_whole : (text : List ℕ) (job : Job) (o : Outcome) (left left' : Option (List ℕ)) → TextOutcome text job o → Gave left left' text → IsAtEnd left'
+    → IsRead o.status left left' text
+read_whole text job o left left' (text_refused r is) gave end = (gave, end)
+read_whole text job o left left' (text_accepted p accepted o' made) gave end = read_action job.grid text p job.action o' left left' made gave end
 
 -- what the job makes of the text is what the call means
 pub text-meant : (words : List (List ℕ)) (source source' : Port) (job : Job) (text : List ℕ) (o : Outcome) → IsCommand words job
-    → Gave source.bytes source'.bytes text → IsAtEnd source'.bytes → length text ≤ MAX_SOURCE_BYTES → TextMeant text job.action o → Meant words source source' o
+    → Gave source.bytes source'.bytes text → IsAtEnd source'.bytes → length text ≤ MAX_SOURCE_BYTES → TextMeant text job o → Meant words source source' o
 text-meant words source source' job text o command gave end short (text_outcome made is) =
-    means_outcome text o (read_had source.bytes source'.bytes text gave end) (is_of_text job command short o is) (read_whole text job.action o source.bytes source'.bytes is gave end)
+    means_outcome text o (read_had source.bytes source'.bytes text gave end) (is_of_text job command short o is) (read_whole text job o source.bytes source'.bytes is gave end)
 text-meant words source source' job text o command gave end short text_memory = means_memory job command text short gave
 
 -- a source of which a byte past the limit was taken

@@ -3,13 +3,15 @@ use Rattle.std.specs.Prelude.{◌≡◌, Bool, true, false, not, List, Some}
 use Rattle.hpf_words.specs.Parts.{Text}
 use Rattle.hpf_words.specs.Jobs.{job_of}
 use Rattle.hpf_words.specs.declared.job.Action.{Action}
-use Rattle.hpf_words.specs.declared.job.Action.TheVariants.{Run, Serial}
+use Rattle.hpf_words.specs.declared.job.Action.TheVariants.{Run, Serial, Check, Map}
 use Rattle.hpf_words.specs.declared.job.Job.{Job}
 
 -- an action that is built, with or without `--arrays`
 abbrev pub is_built_with : Action → Bool → Bool
 is_built_with Run arrays = not arrays
 is_built_with Serial arrays = not arrays
+is_built_with Check arrays = not arrays
+is_built_with Map arrays = not arrays
 is_built_with _ arrays = false
 
 abbrev pub is_built : Job → Bool

@@ -1,4 +1,4 @@
+pub mod Accepted
 pub mod Command
 pub mod Outcome
 pub mod Reply
-pub mod SerialText

@@ -1,15 +1,17 @@
 -- What a call of the program means to answer.
 use Rattle.std.specs.Prelude.{◌≡◌, ℕ, ◌+◌, ◌<◌, ◌≤◌, List, [], ◌++◌, length, take, codes, Option, None, Some, decimal}
+use Rattle.std.specs.List.{flat_map}
 use Rattle.hpf_base.specs.declared.refusal.Refusal.{Refusal}
 use Rattle.hpf_base.specs.declared.refusal.Reason.TheVariants.{LeftOut}
 use Rattle.hpf_base.specs.declared.status.Status.{Status}
 use Rattle.hpf_base.specs.declared.status.Status.TheVariants.{Done, Refused, Fault, Usage, ReadFault, WriteFault, Memory, TooLong}
+use Rattle.hpf_base.specs.ElementOrder.{product}
+use Rattle.hpf_base.specs.FirstBreach.{least}
 use Rattle.hpf_base.specs.Refusal.{name_of, number_of}
 use Rattle.hpf_base.specs.declared.limits.TheConstants.{MAX_SOURCE_BYTES}
 use Rattle.hpf_ports.specs.Ports.{Gave, IsAtEnd, Rose, AreAppended}
 use Rattle.first_form.specs.Form.{Program, ReadsAs}
 use Rattle.first_form.specs.Refusal.{IsLeftOut}
-use Rattle.hpf_reader.specs.ProgramText.{HasNoBreach, IsRefused}
 use Rattle.first_form.specs.Meaning.{printed_of}
 use Rattle.syntax_tree.specs.MainProgram.{MainProgram}
 use Rattle.name_table.specs.Entries.{entries}
@@ -17,11 +19,14 @@ use Rattle.name_table.specs.declared.names.Entry.{Entry}
 use Rattle.array_meaning.specs.Faults as faults
 use Rattle.array_meaning.specs.Serial as serial
 use Rattle.array_meaning.specs.Serial.{Finished, Faulted}
+use Rattle.serial_run.specs.Independent.{left_out, marks}
+use Rattle.directive_check.specs.ProgramMaps.{start_maps}
 use Rattle.run_report.specs.FaultLine.{fault_line}
-use Rattle.hpf_run.specs.SerialText.{IsRunnable, IsSerialRefusal}
+use Rattle.run_report.specs.MapText.{map_text}
 use Rattle.hpf_words.specs.declared.job.Action.{Action}
-use Rattle.hpf_words.specs.declared.job.Action.TheVariants.{Run, Serial}
+use Rattle.hpf_words.specs.declared.job.Action.TheVariants.{Run, Serial, Check, Map}
 use Rattle.hpf_words.specs.declared.job.Job.{Job}
+use Rattle.hpf_run.specs.Accepted.{IsAccepted, IsRefused}
 use Rattle.hpf_run.specs.Command.{IsCommand, IsNoCommand}
 
 -- a status, and the bytes for standard output and standard error
@@ -43,35 +48,45 @@ memory_line = codes "hpf: out of memory\n"
 abbrev pub too_long_line : List ℕ
 too_long_line = codes "hpf: source too long\n"
 
+-- what `check` prints of a text that is accepted
+abbrev pub accepted_line : List ℕ
+accepted_line = codes "accepted\n"
+
 -- the line, the reason's number and its name
 abbrev pub refusal_line : Refusal → List ℕ
 refusal_line refusal =
     codes "hpf: line " ++ decimal refusal.line ++ codes ": refused " ++ decimal (number_of refusal.reason) ++ codes " " ++ name_of refusal.reason ++ codes "\n"
-
--- a text is refused for its first breach as a program of the language or, where it has none, for the first line that isn't
--- of the form that runs
-pub data IsRefusal (text : List ℕ) : Refusal → Type 0 where
-  by_reader : (r : Refusal) → IsRefused text r → IsRefusal text r
-  by_form : (number : ℕ) → HasNoBreach text → IsLeftOut text number → IsRefusal text record { line = number; reason = LeftOut }
 
 -- what a program comes to is reported by what it printed and, where it ended with a fault, by the line of that
 pub data IsReportOf (names : List Entry) (s : serial.Outcome) : Outcome → Type 0 where
   report_end : s.end ≡ Finished → IsReportOf names s record { status = Done; out = s.printed; err = [] }
   report_fault : (f : faults.Fault) → s.end ≡ Faulted f → IsReportOf names s record { status = Fault; out = s.printed; err = fault_line names f }
 
--- what an action makes of a text
-pub data TextOutcome (text : List ℕ) : Action → Outcome → Type 0 where
-  run_refused : (r : Refusal) → IsRefusal text r → TextOutcome text Run record { status = Refused; out = []; err = refusal_line r }
-  run_done : HasNoBreach text → (p : Program) → ReadsAs text p → TextOutcome text Run record { status = Done; out = printed_of p; err = [] }
-  serial_refused : (r : Refusal) → IsSerialRefusal text r → TextOutcome text Serial record { status = Refused; out = []; err = refusal_line r }
-  serial_report : (p : MainProgram) → IsRunnable text p → (o : Outcome) → IsReportOf (entries p) (serial.serial p) o → TextOutcome text Serial o
+-- what isn't built of a program for `serial`: DO loops with INDEPENDENT before them
+abbrev pub unbuilt : MainProgram → List Refusal
+unbuilt p = flat_map left_out (marks p.body)
+
+-- what an action makes of a text that is accepted on a grid as this program
+pub data ActionOutcome (grid text : List ℕ) (p : MainProgram) : Action → Outcome → Type 0 where
+  check_done : ActionOutcome grid text p Check record { status = Done; out = accepted_line; err = [] }
+  map_done : ActionOutcome grid text p Map record { status = Done; out = map_text (product grid) (start_maps grid p); err = [] }
+  serial_report : least (unbuilt p) ≡ None → (o : Outcome) → IsReportOf (entries p) (serial.serial p) o → ActionOutcome grid text p Serial o
+  serial_left_out : (r : Refusal) → least (unbuilt p) ≡ Some r → ActionOutcome grid text p Serial record { status = Refused; out = []; err = refusal_line r }
+  run_done : (q : Program) → ReadsAs text q → ActionOutcome grid text p Run record { status = Done; out = printed_of q; err = [] }
+  run_left_out : (number : ℕ) → IsLeftOut text number
+      → ActionOutcome grid text p Run record { status = Refused; out = []; err = refusal_line record { line = number; reason = LeftOut } }
+
+-- what a job makes of a text: whatever the action, a text that isn't accepted on the grid is refused
+pub data TextOutcome (text : List ℕ) (job : Job) : Outcome → Type 0 where
+  text_refused : (r : Refusal) → IsRefused job.grid text r → TextOutcome text job record { status = Refused; out = []; err = refusal_line r }
+  text_accepted : (p : MainProgram) → IsAccepted job.grid text p → (o : Outcome) → ActionOutcome job.grid text p job.action o → TextOutcome text job o
 
 -- the outcome of words and a source's bytes
 pub data TopOutcome (words : List (List ℕ)) (bytes : List ℕ) : Outcome → Type 0 where
   is_usage : IsNoCommand words → TopOutcome words bytes record { status = Usage; out = []; err = usage_line }
   is_too_long : (job : Job) → IsCommand words job → MAX_SOURCE_BYTES < length bytes
       → TopOutcome words bytes record { status = TooLong; out = []; err = too_long_line }
-  is_of_text : (job : Job) → IsCommand words job → length bytes ≤ MAX_SOURCE_BYTES → (o : Outcome) → TextOutcome bytes job.action o
+  is_of_text : (job : Job) → IsCommand words job → length bytes ≤ MAX_SOURCE_BYTES → (o : Outcome) → TextOutcome bytes job o
       → TopOutcome words bytes o
 
 -- what a port tells: its bytes, where it tells them, and its count of faults

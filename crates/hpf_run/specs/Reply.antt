@@ -1,14 +1,16 @@
 -- No public clause cites this file.
--- What a reply says, and what a text and a refusal are answered by.
+-- What a reply says, and what a text, an accepted one and a refusal are answered by.
 use Rattle.std.specs.Prelude.{◌≡◌, ℕ, List, []}
 use Rattle.hpf_base.specs.declared.refusal.Refusal.{Refusal}
 use Rattle.hpf_base.specs.declared.status.Status.TheVariants as status
+use Rattle.syntax_tree.specs.MainProgram.{MainProgram}
 use Rattle.hpf_words.specs.declared.job.Action.{Action}
+use Rattle.hpf_words.specs.declared.job.Job.{Job}
 use Rattle.hpf_run.specs.declared.reply.Reply.{Reply}
 use Rattle.hpf_run.specs.declared.reply.Reply.TheVariants.{Done, Fault, Refused, Usage, ReadFault, TooLong, Memory}
 use Rattle.name_table.specs.declared.names.Entry.{Entry}
 use Rattle.array_meaning.specs.Serial as serial
-use Rattle.hpf_run.specs.Outcome.{IsReportOf, Outcome, TextOutcome, memory_line, read_fault_line, refusal_line, too_long_line, usage_line}
+use Rattle.hpf_run.specs.Outcome.{ActionOutcome, IsReportOf, Outcome, TextOutcome, memory_line, read_fault_line, refusal_line, too_long_line, usage_line}
 
 -- the outcome that a reply stands for
 abbrev pub outcome_of : Reply → Outcome
@@ -20,10 +22,15 @@ outcome_of ReadFault = record { status = status.ReadFault; out = []; err = read_
 outcome_of TooLong = record { status = status.TooLong; out = []; err = too_long_line }
 outcome_of Memory = record { status = status.Memory; out = []; err = memory_line }
 
--- what an action makes of a text, or want of memory
-pub data TextMeant (text : List ℕ) (act : Action) : Outcome → Type 0 where
-  text_outcome : (o : Outcome) → TextOutcome text act o → TextMeant text act o
-  text_memory : TextMeant text act record { status = status.Memory; out = []; err = memory_line }
+-- what a job makes of a text, or want of memory
+pub data TextMeant (text : List ℕ) (job : Job) : Outcome → Type 0 where
+  text_outcome : (o : Outcome) → TextOutcome text job o → TextMeant text job o
+  text_memory : TextMeant text job record { status = status.Memory; out = []; err = memory_line }
+
+-- what an action makes of an accepted text, or want of memory
+pub data ActionMeant (grid text : List ℕ) (p : MainProgram) (act : Action) : Outcome → Type 0 where
+  action_outcome : (o : Outcome) → ActionOutcome grid text p act o → ActionMeant grid text p act o
+  action_memory : ActionMeant grid text p act record { status = status.Memory; out = []; err = memory_line }
 
 -- a refusal is answered, or want of memory
 pub data IsReplyOf (r : Refusal) : Outcome → Type 0 where

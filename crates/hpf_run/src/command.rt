@@ -11,8 +11,8 @@ fn is_built(job: &Job) -> bool
     ensures { result ≡ is_built job.now }
 {
     match job.action {
-        Action::Run | Action::Serial => !job.arrays,
-        _ => false,
+        Action::Run | Action::Serial | Action::Check | Action::Map => !job.arrays,
+        Action::Messages | Action::Bulk => false,
     }
 }
 

@@ -11,7 +11,7 @@ use std::alloc::Global;
 /// An answer, with the text that isn't known beforehand.
 #[derive(Debug, Drop)]
 pub enum Reply {
-    /// The bytes that the program prints.
+    /// The bytes that the action prints.
     Done(Vec<u8>),
     /// The bytes that the program prints before a fault, and the fault's line.
     Fault(Vec<u8>, Vec<u8>),

@@ -1,87 +1,28 @@
 //! The top call: from words and a source to a status and two texts.
 
-ghost use Rattle.hpf_base.specs.declared.limits.TheConstants.{MAX_NODES};
-ghost use Rattle.std.specs.Prelude.{◌≡◌, ◌≤◌, ℕ, List, true, map, string_bytes, IfNone, IfSome};
+ghost use Rattle.std.specs.Prelude.{◌≡◌, ℕ, List, true, map, string_bytes};
 ghost use Rattle.hpf_run.specs.Outcome.{Delivered, IsAnswer, Meant, port};
-ghost use Rattle.hpf_reader.specs.ProgramText.{HasNoBreach, IsProgramRefusal};
 ghost use Rattle.hpf_run.specs.Reply.{TextMeant, outcome_of};
 ghost use Rattle.hpf_run.specs.Command.{IsCommand, IsNoCommand, is_built};
-ghost use Rattle.hpf_words.specs.declared.job.Action.TheVariants.{Run};
 
+use crate::accept::accept;
+use crate::actions::reply_to_accepted;
 use crate::command::read_command;
 use crate::reply::{Reply, reply_refused};
-use crate::serial_text::serial_text;
-use first_form::{FirstError, read_first, run_first};
-use hpf_base::{Reason, Refusal, StaticError, Status};
+use hpf_base::{StaticError, Status};
 use hpf_ports::{Gate, ReadAll, Sink, Source, read_all, write_all};
-use hpf_reader::read_program;
-use hpf_words::{Action, Job, WordsError};
+use hpf_words::{Job, WordsError};
 use std::alloc::Global;
-
-/// What the run of a program of the language on so many nodes comes to: it runs where it is of the form that runs.
-fn run_program(alloc: Global, nodes: u32, text: &[u8]) -> Reply
-    requires some_nodes { 1 ≤ nodes }
-    requires few_nodes { nodes ≤ MAX_NODES }
-    requires fine { HasNoBreach text.now }
-    ensures { TextMeant text.now Run (outcome_of result) }
-{
-    match read_first(alloc, text) {
-        Ok(program) => match run_first(alloc, &program, nodes) {
-            Ok(printed) => Reply::Done(printed),
-            Err(_) => Reply::Memory,
-        },
-        Err(FirstError::LeftOut(line)) => {
-            let refusal = Refusal {
-                line,
-                reason: Reason::LeftOut,
-            };
-            reply_refused(alloc, refusal)
-        }
-        Err(FirstError::Memory) => Reply::Memory,
-    }
-}
-
-/// Why a text isn't a program of the language, if it isn't; or want of memory.
-fn fault_of(alloc: Global, text: &[u8]) -> Option<StaticError>
-    ensures fine { IfNone result (HasNoBreach text.now) }
-    ensures refused { IfSome result (IsProgramRefusal text.now) }
-{
-    match read_program(alloc, text) {
-        Ok(_) => None,
-        Err(error) => Some(error),
-    }
-}
-
-/// What the run of a text on so many nodes comes to.
-fn run_text(alloc: Global, nodes: u32, text: &[u8]) -> Reply
-    requires some_nodes { 1 ≤ nodes }
-    requires few_nodes { nodes ≤ MAX_NODES }
-    ensures { TextMeant text.now Run (outcome_of result) }
-{
-    match fault_of(alloc, text) {
-        None => run_program(alloc, nodes, text),
-        Some(StaticError::Refused(refusal)) => reply_refused(alloc, refusal),
-        Some(StaticError::Memory) => Reply::Memory,
-    }
-}
-
-/// The number of nodes of a job.
-fn node_count(job: &Job) -> u32
-    ensures some { 1 ≤ result }
-    ensures few { result ≤ MAX_NODES }
-{
-    job.grid.node_count()
-}
 
 /// What a job makes of a text.
 fn reply_to_text(alloc: Global, job: &Job, text: &[u8]) -> Reply
     requires built { is_built job.now ≡ true }
-    ensures { TextMeant text.now job.now.action (outcome_of result) }
+    ensures { TextMeant text.now job.now (outcome_of result) }
 {
-    match job.action {
-        Action::Run => run_text(alloc, node_count(job), text),
-        Action::Serial => serial_text(alloc, text),
-        _ => unreachable!(),
+    match accept(alloc, &job.grid, text) {
+        Ok(accepted) => reply_to_accepted(alloc, job, text, &accepted),
+        Err(StaticError::Refused(refusal)) => reply_refused(alloc, refusal),
+        Err(StaticError::Memory) => Reply::Memory,
     }
 }
 
@@ -128,11 +69,15 @@ fn deliver<O: Sink, E: Sink>(reply: &Reply, out: &mut O, err: &mut E) -> Status
 
 /// Runs the program on words, a source and two sinks, and answers its status.
 ///
-/// The answer is what the words and the source mean: the outcome of the text, which is refused for its first breach as
-/// a program of the language or, where it has none, for the first line that isn't of the form that runs; or a read fault where the source's
-/// count of faults rose in this call, or want of memory, which may come without a cause. It is delivered whole,
-/// or the answer is `WriteFault`: then the count of the sink at fault rose in this call, and that sink holds a
-/// proper prefix of its text. Words that are no job, and a job that isn't built yet (any action but `run`, and `--arrays`), are
+/// The answer is what the words and the source mean: the outcome of the text, or a read fault where the source's count of faults rose in
+/// this call, or want of memory, which may come without a cause. Whatever the action, a text is refused for the first breach of the first
+/// stage that has one: lines, tokens, statements and directives, the nest, names, ranks, mappings onto the grid, bodies. For a text that is
+/// accepted `check` prints so, `map` prints what each node owns of each array when the program starts, `serial` runs the program in one
+/// order where no INDEPENDENT stands before a DO, and `run` runs it on the nodes of the grid where it is of the narrow form of first_form;
+/// other programs are left out by these two, with their line.
+///
+/// The answer is delivered whole, or it is `WriteFault`: then the count of the sink at fault rose in this call, and that sink holds a
+/// proper prefix of its text. Words that are no job, and a job that isn't built yet (`messages`, `bulk` and `--arrays`), are
 /// no command: for them the source isn't touched. `rt`, `gate` and `--threads` have no part in any answer.
 pub fn hpf_top<R, S: Source, O: Sink, E: Sink, G: Gate>(
     _rt: &R,

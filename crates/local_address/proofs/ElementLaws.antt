@@ -47,7 +47,7 @@ each_extent (e ∷ es) positive none =
     (each_extent es (All-tail (λ x. pos 0 ≤ℤ x) e es positive) parts.1)
 
 -- where there is an element no extent is 0
-factors_some : (extents : List ℕ) → 1 ≤ product extents → All (λ e. 1 ≤ e) extents
+pub factors_some : (extents : List ℕ) → 1 ≤ product extents → All (λ e. 1 ≤ e) extents
 factors_some [] some = λ k d within. absurd (omega arith)
 factors_some (e ∷ es) some =
     All-cons (λ x. 1 ≤ x) e es (factor_some (product es) e (omega (arith, some, mul_comm e (product es))))
@@ -62,7 +62,7 @@ extent_some shape lower extents dim n count valid below within lower-is extents-
     let same : count ≡ get_or (extents_of shape) dim 0 = is ∙ ap (λ es. get_or (map unsigned_abs es) dim 0) extents-is in
     omega (arith, some, same)
 
-length-index_at : (lower : List ℤ) (place : List ℕ) → length place ≡ length lower → length (index_at lower place) ≡ length lower
+pub length-index_at : (lower : List ℤ) (place : List ℕ) → length place ≡ length lower → length (index_at lower place) ≡ length lower
 length-index_at [] place same = refl
 length-index_at (l ∷ ls) [] same = absurd (omega arith)
 length-index_at (l ∷ ls) (p ∷ ps) same = ap suc (length-index_at ls ps (omega arith))

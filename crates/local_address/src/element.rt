@@ -67,7 +67,7 @@ fn subscript(lower: &[i64], dim: usize, place: u64) -> i64
 }
 
 /// The extent of a dimension, counted from 0.
-fn extent_of(extents: &[i64], dim: usize) -> u64
+pub fn extent_of(extents: &[i64], dim: usize) -> u64
     requires dim { dim < length extents.now }
     requires extent { pos 0 ≤ℤ slice_index_or extents.now dim (pos 0) }
     ensures { result ≡ slice_index (map unsigned_abs extents.now) dim }

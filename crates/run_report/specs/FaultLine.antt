@@ -1,11 +1,10 @@
 -- The line that a fault is reported by.
-use Rattle.std.specs.Prelude.{ℕ, List, [], ◌∷◌, ◌++◌, codes, decimal, ℤ, Option, Some, None, slice_get}
-use Rattle.std.specs.Fmt.{signed_decimal}
-use Rattle.std.specs.List.{flat_map}
+use Rattle.std.specs.Prelude.{ℕ, List, [], ◌++◌, codes, decimal, ℤ, Option, Some, None, slice_get}
 use Rattle.name_table.specs.declared.names.Entry.{Entry}
 use Rattle.array_meaning.specs.declared.faults.FaultKind.{FaultKind}
 use Rattle.array_meaning.specs.declared.faults.FaultKind.TheVariants.{Bounds, DivZero, Shape, ZeroStride, NotOneToOne, SpaceLimit, Interfere}
 use Rattle.array_meaning.specs.Faults.{Fault, Location, Nowhere, AtTuple, Between, Object}
+use Rattle.run_report.specs.TupleText.{tuple_text}
 
 abbrev pub kind_name : FaultKind → List ℕ
 kind_name Bounds = codes "Bounds"
@@ -15,14 +14,6 @@ kind_name ZeroStride = codes "ZeroStride"
 kind_name NotOneToOne = codes "NotOneToOne"
 kind_name SpaceLimit = codes "SpaceLimit"
 kind_name Interfere = codes "Interfere"
-
--- numbers in decimal, a comma between two
-abbrev pub numbers_text : List ℤ → List ℕ
-numbers_text [] = []
-numbers_text (n ∷ ns) = signed_decimal n ++ flat_map (λ m. 44 ∷ signed_decimal m) ns
-
-abbrev pub tuple_text : List ℤ → List ℕ
-tuple_text ns = codes "(" ++ (numbers_text ns ++ codes ")")
 
 -- a scalar by its name, and an element by that and its subscripts
 abbrev pub name_text : Option Entry → List ℕ

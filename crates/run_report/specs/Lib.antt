@@ -1,1 +1,3 @@
+pub mod TupleText
 pub mod FaultLine
+pub mod MapText

@@ -1,12 +1,12 @@
 //! The line of a fault.
 
-ghost use Rattle.std.specs.Prelude.{◌≡◌, ◌++◌, ◌∷◌, [], List, codes, IfOk, OnOk};
-ghost use Rattle.std.specs.Fmt.{signed_decimal};
-ghost use Rattle.std.specs.List.{flat_map};
+ghost use Rattle.std.specs.Prelude.{◌≡◌, ◌++◌, List, codes, IfOk, OnOk};
 ghost use Rattle.name_table.specs.declared.names.Entry.{Entry};
-ghost use Rattle.run_report.specs.FaultLine.{fault_line, kind_name, numbers_text, place_text, tuple_text};
+ghost use Rattle.run_report.specs.FaultLine.{fault_line, kind_name, place_text};
+ghost use Rattle.run_report.specs.TupleText.{tuple_text};
 ghost use Rattle.term_values.specs.Stops.{cause};
 
+use crate::tuple_text::add_tuple;
 use array_meaning::FaultKind;
 use hpf_base::OutOfMemory;
 use itoa::Buffer;
@@ -49,47 +49,14 @@ fn add_place(text: &mut Vec<u8>, fault: &Cause) -> Result<(), AllocError>
 {
     match &fault.tuple {
         None => Ok(()),
-        Some(tuple) => add_tuple(text, tuple),
+        Some(tuple) => add_at(text, tuple),
     }
 }
 
-/// Adds a tuple.
-fn add_tuple(text: &mut Vec<u8>, tuple: &[i64]) -> Result<(), AllocError>
+/// Adds the tuple at which a fault comes.
+fn add_at(text: &mut Vec<u8>, tuple: &[i64]) -> Result<(), AllocError>
     ensures { OnOk result (text.new.items ≡ text.old.items ++ (codes " at " ++ tuple_text tuple.now)) }
 {
-    text.extend_from_slice(b" at (")?;
-    add_numbers(text, tuple)?;
-    text.extend_from_slice(b")")?;
-    Ok(())
-}
-
-/// Adds numbers, with a comma between two.
-fn add_numbers(text: &mut Vec<u8>, numbers: &[i64]) -> Result<(), AllocError>
-    ensures { OnOk result (text.new.items ≡ text.old.items ++ numbers_text numbers.now) }
-{
-    if let [first, rest @ ..] = numbers {
-        add_number(text, *first)?;
-        add_more(text, rest)?;
-    }
-    Ok(())
-}
-
-/// Adds numbers, each behind a comma.
-fn add_more(text: &mut Vec<u8>, numbers: &[i64]) -> Result<(), AllocError>
-    ensures { OnOk result (text.new.items ≡ text.old.items ++ flat_map (λ n. 44 ∷ signed_decimal n) numbers.now) }
-{
-    for number in numbers {
-        text.push(b',')?;
-        add_number(text, *number)?;
-    }
-    Ok(())
-}
-
-/// Adds a number in decimal.
-fn add_number(text: &mut Vec<u8>, number: i64) -> Result<(), AllocError>
-    ensures { OnOk result (text.new.items ≡ text.old.items ++ signed_decimal number) }
-{
-    let mut buffer = Buffer::new();
-    text.extend_from_slice(buffer.format(number).as_bytes())?;
-    Ok(())
+    text.extend_from_slice(b" at ")?;
+    add_tuple(text, tuple)
 }

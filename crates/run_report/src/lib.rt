@@ -1,9 +1,13 @@
 //! The texts that a run is reported by.
 //!
-//! Comes in: why a run ended before its program did. Goes out: the line that says so. What holds in between: a line is made whole
-//! before any of it is written, and holds only numbers in decimal and the words of `specs/FaultLine.antt`.
+//! Comes in: why a run ended before its program did, or the mappings with which a program's arrays start. Goes out: the line of the
+//! fault, or a line for each array and each node, with what the node owns of the array. What holds in between: a text is made whole
+//! before any of it is written, and holds only names, numbers in decimal and the words of `specs/`.
 #![tactic(auto)]
 
 mod fault_text;
+mod node_lines;
+mod tuple_text;
 
 pub use fault_text::fault_line;
+pub use node_lines::map_text;

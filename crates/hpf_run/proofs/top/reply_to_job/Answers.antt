@@ -6,7 +6,7 @@ use Rattle.hpf_run.proofs.top.reply_to_job.Goals as goal
 
 pub returns-in-Ok : goal.returns-in-Ok
 returns-in-Ok g c = λ words command. text-meant words _ _ c.args.job.now c.in-Ok.text.items _ command c.in-Ok.ensures.whole c.in-Ok.ensures.end c.in-Ok.ensures.short
-    (subst (λ t. TextMeant t c.args.job.now.action (outcome_of c.reply_to_text.result)) c.deref.ensures.value c.reply_to_text.ensures)
+    (subst (λ t. TextMeant t c.args.job.now (outcome_of c.reply_to_text.result)) c.deref.ensures.value c.reply_to_text.ensures)
 
 pub returns-in-Err-Fault : goal.returns-in-Err-Fault
 returns-in-Err-Fault g c = λ words command.
