@@ -78,7 +78,7 @@ start_maps grid p = start_maps_in (setting grid p) (mapped_objects p.declaration
 abbrev pub new_map : Setting → List MappedObject → directive.Distribution → ℕ → Name → List NewMap
 new_map s ms d n x =
     if is_among (root_of s ms x) d.names then
-        record { array = record { 0 = n }; map = unwrap_or (with_root s ms x (distributed_as s d (root_of s ms x))) (replicated s.grid) } ∷ []
+    record { array = record { 0 = n }; map = unwrap_or (with_root s ms x (distributed_as s d (root_of s ms x))) (replicated s.grid) } ∷ []
     else []
 
 abbrev pub new_maps_from : Setting → List MappedObject → directive.Distribution → ℕ → List Object → List NewMap
