@@ -7,3 +7,4 @@ mod ValidMoves
 mod SizedArrays
 mod OwnObjects
 mod ValidMaps
+mod Examples
