@@ -18,3 +18,4 @@ mod ValidMoves
 mod SizedArrays
 mod OwnObjects
 mod ValidMaps
+mod Examples

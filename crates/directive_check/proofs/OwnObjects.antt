@@ -89,7 +89,8 @@ bounds_near grid t [] none = All-nil (λ d. IfSome d IsDim)
 bounds_near grid t (b ∷ bs) none =
     let both = none_of (bound_reasons grid t b) (flat_map (bound_reasons grid t) bs) none in
     All-cons (λ d. IfSome d IsDim) (dim_of grid t b) (map (dim_of grid t) bs)
-    (dim_near (lower_value grid t b) (upper_value grid t b) (two_none (is_invalid (lower_value grid t b) || is_invalid (upper_value grid t b)) _ reason.BadConstant reason.Limit both.0))
+    (dim_near (lower_value grid t b) (upper_value grid t b)
+    (two_none (is_invalid (lower_value grid t b) || is_invalid (upper_value grid t b)) _ reason.BadConstant reason.Limit both.0))
     (bounds_near grid t bs both.1)
 
 spaces_bounded : (grid : List ℕ) (t : SymbolTable) (k : ObjectKind) (es : List Entity) (more : Entity → List Reason) →
@@ -139,7 +140,8 @@ found_first x ds os false is = absurd cc
 
 own_entry : (s : Setting) (x : Name) (y : Symbol) (es : SymbolTable) (rest : List Object) → IsKept ((x, y) ∷ es) → FoundFrom s ((x, y) ∷ es) rest → OwnEntry s x (what_is y)
 own_entry s x (symbol.Array r ds n) es rest kept found =
-    (sized_dims ds kept.0, ap object_dims (found x (ap (λ b. b || list_any (λ e. bytes_eq x e.0) es) (itself x))) ∙ found_first x (no_dims ds) (arrays (map entry es) ++ rest) (bytes_eq x x) (itself x))
+    let here : list_any (λ e. bytes_eq x e.0) ((x, symbol.Array r ds n) ∷ es) ≡ true = ap (λ b. b || list_any (λ e. bytes_eq x e.0) es) (itself x) in
+    (sized_dims ds kept.0, ap object_dims (found x here) ∙ found_first x (no_dims ds) (arrays (map entry es) ++ rest) (bytes_eq x x) (itself x))
 own_entry s x symbol.Uninitialized es rest kept found = tt
 own_entry s x (symbol.Initialized n) es rest kept found = tt
 own_entry s x (symbol.Constant n) es rest kept found = tt
@@ -149,7 +151,8 @@ own_entry s x (symbol.Arrangement r) es rest kept found = tt
 -- an array of another name is passed over
 passed : (x y : Name) (z : Symbol) (os rest : List Object) → bytes_eq y x ≡ false →
     find (λ o. bytes_eq y o.name) ((array_of x (what_is z) ++ os) ++ rest) ≡ find (λ o. bytes_eq y o.name) (os ++ rest)
-passed x y (symbol.Array r ds n) os rest other = ap (λ b. cond b (Some (record { name = x; kind = kind.Array; dims = map Some (no_dims ds) })) (find (λ o. bytes_eq y o.name) (os ++ rest))) other
+passed x y (symbol.Array r ds n) os rest other =
+    ap (λ b. cond b (Some (record { name = x; kind = kind.Array; dims = map Some (no_dims ds) })) (find (λ o. bytes_eq y o.name) (os ++ rest))) other
 passed x y symbol.Uninitialized os rest other = refl
 passed x y (symbol.Initialized n) os rest other = refl
 passed x y (symbol.Constant n) os rest other = refl
@@ -180,4 +183,5 @@ own_all s (e ∷ es) rest kept found = (
 -- every array has the dimensions of its entry
 pub arrays_own : (grid : List ℕ) (p : MainProgram) → AllOwn (setting grid p) (entries p)
 arrays_own grid p =
-    own_all (setting grid p) (symbol_table p.declarations) (flat_map (λ d. spaces_of grid (symbol_table p.declarations) d.what) p.declarations) (table_kept p.declarations) (λ y among. refl)
+    own_all (setting grid p) (symbol_table p.declarations) (flat_map (λ d. spaces_of grid (symbol_table p.declarations) d.what) p.declarations)
+    (table_kept p.declarations) (λ y among. refl)

@@ -77,7 +77,8 @@ composed_inside rds ds zs r index lines within all =
     All-map (λ e. InLine e.line (aligned e.align (map Some index))) (composed_entry zs) r.dims (λ k d below. entry_inside rds ds zs index _ within all (lines k d below))
 
 -- a subscript of an element
-subscript_in : (ds : List (Option Dim)) (index : List ℤ) (k : ℕ) (b : Dim) → AreSubscripts ds index → slice_get ds k ≡ Some (Some b) → LiesIn (Some b) (get_or (map Some index) k None)
+subscript_in : (ds : List (Option Dim)) (index : List ℤ) (k : ℕ) (b : Dim) → AreSubscripts ds index → slice_get ds k ≡ Some (Some b) →
+    LiesIn (Some b) (get_or (map Some index) k None)
 subscript_in [] index k b within is = absurd cc
 subscript_in (None ∷ ds) [] k b within is = absurd within
 subscript_in (None ∷ ds) (i ∷ index) k b within is = absurd within

@@ -112,4 +112,5 @@ pub chain_found : (s : Setting) (all ms : List MappedObject) (x : Name) (h : How
 chain_found s all [] x h none is = absurd cc
 chain_found s all (m ∷ ms) x h none is =
     let both = none_of (at m.line (chain_reasons s all m.name)) _ none in
-    found_in (λ y k. chain_reasons s all y ≡ []) x m (how_mapped ms x) h (bytes_eq x m.name) refl (none_at m.line _ both.0) (chain_found s all ms x h both.1) (sym (how_more x m ms) ∙ is)
+    found_in (λ y k. chain_reasons s all y ≡ []) x m (how_mapped ms x) h (bytes_eq x m.name) refl (none_at m.line _ both.0)
+    (chain_found s all ms x h both.1) (sym (how_more x m ms) ∙ is)

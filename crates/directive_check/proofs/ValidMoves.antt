@@ -110,9 +110,12 @@ new_all s ms d starts n (e ∷ es) grid sized good none move own on = by e.what 
         (λ r root. distributed_of s d (root_of s ms e.name) r grid sized (move.0, listed s d d.names (root_of s ms e.name) move.1 among) root) gives)
         (map_of s.grid ds (replicated s.grid) (replicated_of s.grid (map Some ds)))
 
-    by : (w : What) → OwnEntry s e.name w → ((m : ℕ) → GoesOn starts m (start_maps_in s ms es) → NewFrom (product s.grid) starts m (new_maps_from s ms d m (arrays es))) → GoesOn starts n (start_map s ms e.name w ++ start_maps_in s ms es) →
+    by : (w : What) → OwnEntry s e.name w →
+        ((m : ℕ) → GoesOn starts m (start_maps_in s ms es) → NewFrom (product s.grid) starts m (new_maps_from s ms d m (arrays es))) → GoesOn starts n (start_map s ms e.name w ++ start_maps_in s ms es) →
         NewFrom (product s.grid) starts n (new_maps_from s ms d n (array_of e.name w ++ arrays es))
-    by (what.Array ds v) is rest on = new_one s ms d n e.name ds starts _ _ (here starts n _ (start_maps_in s ms es) on) refl (valid ds is) (rest (suc n) (next starts n _ (start_maps_in s ms es) on))
+    by (what.Array ds v) is rest on =
+        new_one s ms d n e.name ds starts _ _ (here starts n _ (start_maps_in s ms es) on) refl (valid ds is)
+        (rest (suc n) (next starts n _ (start_maps_in s ms es) on))
     by (what.Scalar v) is rest on = rest n on
     by (what.Constant v) is rest on = rest n on
     by what.Template is rest on = rest n on
@@ -123,13 +126,14 @@ new_all s ms d starts n (e ∷ es) grid sized good none move own on = by e.what 
 from_start : {X : Type 0} (xs : List X) → GoesOn xs 0 xs
 from_start xs j = let same_place : 0 + j ≡ j = omega arith in ap (slice_get xs) same_place
 
-move_valid : (s : Setting) (ms : List MappedObject) (dynamic : List Name) (es : List Entry) (h : Head) → IsGrid s.grid → Sized s → AllGood s ms → chain_breaches s ms ≡ [] → AllOwn s es →
-    head_reasons s ms dynamic h ≡ [] → All (AreNewMaps (product s.grid) (start_maps_in s ms es)) (moves_of s ms (arrays es) h)
+move_valid : (s : Setting) (ms : List MappedObject) (dynamic : List Name) (es : List Entry) (h : Head) → IsGrid s.grid → Sized s → AllGood s ms →
+    chain_breaches s ms ≡ [] → AllOwn s es → head_reasons s ms dynamic h ≡ [] → All (AreNewMaps (product s.grid) (start_maps_in s ms es)) (moves_of s ms (arrays es) h)
 move_valid s ms dynamic es (head.Redistribute d) grid sized good none own kept =
     let two = none_of (distribution_reasons (distribution_values s d) ++ flat_map (λ x. distributee_reasons (distribution_values s d) (object s x)) d.names) _ kept in
     let move = none_of (distribution_reasons (distribution_values s d)) _ two.0 in
     let news = new_all s ms d (start_maps_in s ms es) 0 es grid sized good none move own (from_start (start_maps_in s ms es)) in
-    All-cons (AreNewMaps (product s.grid) (start_maps_in s ms es)) _ [] (record { each = news.0; ascending = news.2 }) (All-nil (AreNewMaps (product s.grid) (start_maps_in s ms es)))
+    All-cons (AreNewMaps (product s.grid) (start_maps_in s ms es)) _ [] (record { each = news.0; ascending = news.2 })
+    (All-nil (AreNewMaps (product s.grid) (start_maps_in s ms es)))
 move_valid s ms dynamic es (head.Assignment left right) grid sized good none own kept = All-nil (AreNewMaps (product s.grid) (start_maps_in s ms es))
 move_valid s ms dynamic es (head.MaskedAssignment mask left right) grid sized good none own kept = All-nil (AreNewMaps (product s.grid) (start_maps_in s ms es))
 move_valid s ms dynamic es (head.ForallAssignment axes left right) grid sized good none own kept = All-nil (AreNewMaps (product s.grid) (start_maps_in s ms es))
@@ -142,8 +146,8 @@ move_valid s ms dynamic es (head.Print items) grid sized good none own kept = Al
 move_valid s ms dynamic es head.Transfer grid sized good none own kept = All-nil (AreNewMaps (product s.grid) (start_maps_in s ms es))
 
 -- the new mappings of all REDISTRIBUTEs are valid
-pub moves_valid : (s : Setting) (ms : List MappedObject) (dynamic : List Name) (es : List Entry) (hs : List PlacedHead) → IsGrid s.grid → Sized s → AllGood s ms → chain_breaches s ms ≡ [] →
-    AllOwn s es → flat_map (redistribute_breaches_at s ms dynamic) hs ≡ [] →
+pub moves_valid : (s : Setting) (ms : List MappedObject) (dynamic : List Name) (es : List Entry) (hs : List PlacedHead) → IsGrid s.grid → Sized s →
+    AllGood s ms → chain_breaches s ms ≡ [] → AllOwn s es → flat_map (redistribute_breaches_at s ms dynamic) hs ≡ [] →
     All (AreNewMaps (product s.grid) (start_maps_in s ms es)) (flat_map (λ h. moves_of s ms (arrays es) h.what) hs)
 moves_valid s ms dynamic es [] grid sized good none own kept = All-nil (AreNewMaps (product s.grid) (start_maps_in s ms es))
 moves_valid s ms dynamic es (h ∷ hs) grid sized good none own kept =

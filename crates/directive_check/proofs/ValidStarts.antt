@@ -66,7 +66,8 @@ distributed_of s d y r grid sized good is = by (object s y) refl good.1 is
     by None found none is = absurd cc
     by (Some o) found none is = gives_mapping s (distribution_values s d) o r grid (sized y o found) good.0 none is
 
-start_root : (s : Setting) (ms : List MappedObject) (y : Name) (r : Mapping) → IsGrid s.grid → Sized s → AllGood s ms → start_of s ms y ≡ Some r → IsMappingOf s.grid (dims_of s y) r
+start_root : (s : Setting) (ms : List MappedObject) (y : Name) (r : Mapping) → IsGrid s.grid → Sized s → AllGood s ms → start_of s ms y ≡ Some r →
+    IsMappingOf s.grid (dims_of s y) r
 start_root s ms y r grid sized good is = by (how_mapped ms y) refl is
   where
     by : (h : Option How) → how_mapped ms y ≡ h → mapped_as s y h ≡ Some r → IsMappingOf s.grid (dims_of s y) r

@@ -6,6 +6,7 @@ use Rattle.distribution_rules.proofs.distributions.formats_reason.Goals as goal
 
 pub loop-format-preserved : goal.loop-format-preserved
 loop-format-preserved c =
-    lesser_turn (λ fs. least_reason (flat_map format_reasons fs)) (λ f. least_reason (format_reasons f)) (λ f fs. least_reason_append (format_reasons f) (flat_map format_reasons fs))
+    lesser_turn (λ fs. least_reason (flat_map format_reasons fs)) (λ f. least_reason (format_reasons f))
+    (λ f fs. least_reason_append (format_reasons f) (flat_map format_reasons fs))
     c.args.formats.now c.loop-format.format-index _ c.loop-format.least c.format_reason.result c.lesser-least.result
     c.loop-format-test.true c.format_reason.ensures c.lesser-least.ensures c.loop-format.invariant

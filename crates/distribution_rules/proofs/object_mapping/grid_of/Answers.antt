@@ -5,5 +5,6 @@ use Rattle.distribution_rules.proofs.object_mapping.grid_of.Goals as goal
 
 pub overflow_cast-extent : goal.overflow_cast-extent
 overflow_cast-extent c =
-    let few : get_or c.args.extents.now c.loop-extent.extent-index 0 ≤ MAX_NODES = (few_nodes c.args.extents.now c.requires c.loop-extent.extent-index 0 c.loop-extent-test.true).1 in
+    let few : get_or c.args.extents.now c.loop-extent.extent-index 0 ≤ MAX_NODES =
+    (few_nodes c.args.extents.now c.requires c.loop-extent.extent-index 0 c.loop-extent-test.true).1 in
     omega (arith, few)
