@@ -4,7 +4,7 @@ mod Goes
 mod JoinedValues
 mod Keeping
 mod PartLetters
-mod Openings
+pub mod Openings
 mod OwnedPieces
 mod PartPhase
 mod PartsInARow
