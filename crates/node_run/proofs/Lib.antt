@@ -5,7 +5,7 @@ mod JoinedValues
 mod Keeping
 mod PartLetters
 pub mod Openings
-mod OwnedPieces
+pub mod OwnedPieces
 mod PartPhase
 mod PartsInARow
 mod PieceLaws

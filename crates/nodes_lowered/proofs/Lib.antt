@@ -1,3 +1,3 @@
-mod ReadBack
+pub mod ReadBack
 mod Laid
 mod Ends

@@ -4,6 +4,7 @@ use Rattle.std.proofs.Math.Seq.{take-append_seam, drop-append_seam}
 use Rattle.array_meaning.specs.declared.faults.FaultKind.{FaultKind}
 use Rattle.array_meaning.specs.declared.faults.FaultKind.TheVariants.{Bounds, DivZero, Shape, ZeroStride, NotOneToOne, SpaceLimit, Interfere}
 use Rattle.array_meaning.specs.Faults.{Object, Location, Nowhere, AtTuple, Between, Fault}
+use Rattle.machine_steps.specs.Node.{FaultValues}
 use Rattle.nodes_lowered.specs.FaultNumbers.{between, fault_numbers, fault_of, kind_at, kind_number, location_numbers, location_of, subscript_numbers, subscripts_of}
 
 kind-back : (k : FaultKind) → kind_at (kind_number k) ≡ k
@@ -32,3 +33,7 @@ location-back (Between one other object) = between-back one other object
 
 pub fault-back : (f : Fault) → fault_of (fault_numbers f) ≡ f
 fault-back f = rw (kind-back f.kind, location-back f.at) refl
+
+-- faults as values of letters
+pub fault_values : FaultValues Fault
+fault_values = record { values = fault_numbers; fault = fault_of; back = fault-back }
