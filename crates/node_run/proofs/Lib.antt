@@ -4,8 +4,8 @@ mod Goes
 mod JoinedValues
 mod Keeping
 mod PartLetters
-mod Openings
-mod OwnedPieces
+pub mod Openings
+pub mod OwnedPieces
 mod PartPhase
 mod PartsInARow
 mod PieceLaws

@@ -1,0 +1,90 @@
+-- Rows that lie so are whole: they have the sizes of their layouts, and each element has an owner.
+use Rattle.std.proofs.Common.{◌≡◌, ℕ, zero, suc, ◌*◌, ◌<◌, true, ℤ, List, [], ◌∷◌, ◌++◌, length, map, get_or, refl, sym, ap, ◌∙◌, arith}
+use Rattle.std.proofs.lemmas.List.{length-replicate}
+use Rattle.std.specs.Prelude.{All}
+use Rattle.hpf_base.specs.ElementOrder as index
+use Rattle.hpf_base.specs.ElementOrder.{extents_of, product}
+use Rattle.hpf_base.specs.Grid.{IsGrid}
+use Rattle.hpf_base.specs.Mapping.{IsMapping, MapsInside}
+use Rattle.syntax_tree.specs.MainProgram.{MainProgram}
+use Rattle.expression_rules.specs.declared.dims.Dim.{Dim}
+use Rattle.expression_rules.specs.Dims.{elements, extent}
+use Rattle.name_table.specs.Entries.{entries}
+use Rattle.name_table.specs.declared.names.Entry.{Entry}
+use Rattle.name_table.specs.declared.names.What.{What}
+use Rattle.name_table.specs.declared.names.What.TheVariants as what
+use Rattle.nest_order.specs.Storage.{Storage}
+use Rattle.array_meaning.specs.Resolution.{initial_array}
+use Rattle.array_meaning.specs.State.{Array}
+use Rattle.machine_steps.specs.Layout.{IsDealt, Layout, owned_in, size_of, sizes}
+use Rattle.machine_steps.specs.Agrees.{IsWhole}
+use Rattle.node_run.proofs.OwnedPieces.{elements-owned}
+use Rattle.nodes_lowered.specs.OnNodes.{AreLaid, IsLaid, program_opening, shape_of}
+
+-- ---- sizes
+
+shape-size : (ds : List Dim) → elements ds ≡ product (extents_of (shape_of ds))
+shape-size [] = refl
+shape-size (d ∷ ds) = ap (λ k. extent d * k) (shape-size ds)
+
+array-size : (ds : List Dim) (layout : Layout) → layout.shape ≡ shape_of ds → elements ds ≡ size_of layout
+unfolding size_of
+array-size ds layout e = shape-size ds ∙ ap (λ s. product (extents_of s)) (sym e)
+
+row-size : (count : ℕ) (w : What) (layout : Layout) → IsLaid count w layout → length (initial_array w).elements ≡ size_of layout
+row-size count (what.Array ds v) layout h = length-replicate (elements ds) v ∙ array-size ds layout h.0
+row-size count (what.Scalar v) layout h = sym h
+row-size count (what.Constant v) layout h = sym h
+row-size count what.Template layout h = sym h
+row-size count what.Arrangement layout h = sym h
+
+abbrev rows : List Entry → Storage
+rows es = map (λ (a : Array). a.elements) (map (λ (e : Entry). initial_array e.what) es) ++ [] ∷ []
+
+rows-sized : (count : ℕ) (es : List Entry) (layouts : List Layout) → AreLaid count es layouts → map length (rows es) ≡ sizes layouts
+rows-sized count [] [] h = absurd h
+rows-sized count [] (copy ∷ []) h = ap (λ k. k ∷ []) (sym h)
+rows-sized count [] (copy ∷ layout ∷ layouts) h = absurd h
+rows-sized count (e ∷ es) [] h = absurd h
+rows-sized count (e ∷ es) (layout ∷ layouts) h =
+    ap (λ k. k ∷ map length (rows es)) (row-size count e.what layout h.0) ∙ ap (λ ks. size_of layout ∷ ks) (rows-sized count es layouts h.1)
+
+-- ---- owners
+
+-- an element has an owner among so many nodes
+abbrev HasOwner : ℕ → List Layout → ℕ → ℕ → Type 0
+HasOwner count layouts row at = (node : ℕ) × (node < count) × (owned_in layouts row node at ≡ true)
+
+none-below : {A : Type 0} (at size : ℕ) → size ≡ 0 → at < size → A
+none-below at size e lt = absurd (omega (arith, e, lt))
+
+laid-owned : (count : ℕ) (w : What) (layout : Layout) → IsLaid count w layout → IsDealt count layout
+laid-owned count (what.Array ds v) layout h = h.1
+laid-owned count (what.Scalar v) layout h = λ at lt. none-below at (size_of layout) h lt
+laid-owned count (what.Constant v) layout h = λ at lt. none-below at (size_of layout) h lt
+laid-owned count what.Template layout h = λ at lt. none-below at (size_of layout) h lt
+laid-owned count what.Arrangement layout h = λ at lt. none-below at (size_of layout) h lt
+
+rows-owned : (count : ℕ) (es : List Entry) (layouts : List Layout) → AreLaid count es layouts → (row at : ℕ) → at < get_or (sizes layouts) row 0
+    → HasOwner count layouts row at
+rows-owned count [] [] h row at lt = absurd h
+rows-owned count [] (copy ∷ []) h zero at lt = none-below at (size_of copy) h lt
+rows-owned count [] (copy ∷ []) h (suc row) at lt = none-below at 0 refl lt
+rows-owned count [] (copy ∷ layout ∷ layouts) h row at lt = absurd h
+rows-owned count (e ∷ es) [] h row at lt = absurd h
+rows-owned count (e ∷ es) (layout ∷ layouts) h zero at lt = laid-owned count e.what layout h.0 at lt
+rows-owned count (e ∷ es) (layout ∷ layouts) h (suc row) at lt = rows-owned count es layouts h.1 row at lt
+
+pub opening-whole : (count : ℕ) (p : MainProgram) (layouts : List Layout) → AreLaid count (entries p) layouts → IsWhole count [] (program_opening p layouts)
+opening-whole count p layouts h = record {
+  shaped = rows-sized count (entries p) layouts h;
+  declared = tt;
+  owned = λ spot lt. rows-owned count (entries p) layouts h spot.row spot.at lt;
+  kept = λ k e. cc;
+}
+
+-- ---- mapped arrays
+
+pub mapped-laid : (ds : List Dim) (v : ℤ) (layout : Layout) → layout.shape ≡ shape_of ds → IsGrid layout.mapping.grid → IsMapping (length ds) layout.mapping
+    → All (MapsInside layout.mapping) (index.elements layout.shape) → IsLaid (product layout.mapping.grid) (what.Array ds v) layout
+mapped-laid ds v layout same grid mapping inside = (same, elements-owned layout (length ds) grid mapping inside)

@@ -1,0 +1,3 @@
+pub mod ReadBack
+mod Laid
+mod Ends
