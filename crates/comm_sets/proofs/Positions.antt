@@ -6,11 +6,11 @@ use Rattle.std.proofs.lemmas.List.{map-set, get_or-map}
 use Rattle.std.specs.Prelude.{All}
 use Rattle.hpf_base.specs.declared.index.Shape.{Shape}
 use Rattle.hpf_base.specs.ElementOrder.{elements}
-use Rattle.machine_steps.specs.Layout.{first, index_at}
+use Rattle.machine_steps.specs.Layout.{first, element_index}
 use Rattle.comm_sets.specs.Marks.{marked}
 
-pub index_at_is : (shape : Shape) (at : ℕ) (index : List ℤ) → slice_get (elements shape) at ≡ Some index → index_at shape at ≡ index
-index_at_is shape at index is = get_or_from_slice_get (elements shape) at index [] is
+pub element_index_is : (shape : Shape) (at : ℕ) (index : List ℤ) → slice_get (elements shape) at ≡ Some index → element_index shape at ≡ index
+element_index_is shape at index is = get_or_from_slice_get (elements shape) at index [] is
 
 pub holds_at : {X : Type 0} (P : X → Type 0) (xs : List X) (k : ℕ) (x : X) → All P xs → slice_get xs k ≡ Some x → P x
 holds_at P xs k x all is = subst P (get_or_from_slice_get xs k x x is) (all k x (slice_get_within xs k x is))

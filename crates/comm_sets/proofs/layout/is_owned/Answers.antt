@@ -3,7 +3,7 @@ use Rattle.hpf_base.specs.Alignment.{owns}
 use Rattle.hpf_base.specs.ElementOrder.{elements}
 use Rattle.hpf_base.specs.Mapping.{MapsInside}
 use Rattle.machine_steps.specs.Layout.{size_of, owned_by}
-use Rattle.comm_sets.proofs.Positions.{index_at_is, holds_at}
+use Rattle.comm_sets.proofs.Positions.{element_index_is, holds_at}
 use Rattle.comm_sets.proofs.layout.is_owned.Goals as goal
 
 pub nth_element-requires-clause-number : goal.nth_element-requires-clause-number
@@ -18,4 +18,4 @@ pub returns : goal.returns
 unfolding owned_by
 returns c =
     c.owns-2.ensures
-    ∙ ap (λ index. owns c.args.layout.now.mapping index c.args.node.0) (sym (index_at_is c.args.layout.now.shape c.args.at c.nth_element.result c.nth_element.ensures.value))
+    ∙ ap (λ index. owns c.args.layout.now.mapping index c.args.node.0) (sym (element_index_is c.args.layout.now.shape c.args.at c.nth_element.result c.nth_element.ensures.value))
