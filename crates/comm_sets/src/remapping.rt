@@ -14,7 +14,7 @@ use crate::unowned::{Ends, unowned};
 use hpf_base::{NodeId, OutOfMemory};
 use std::alloc::Global;
 
-/// The message from one node to another, of so many, at a redistribution (HPF 2.0, 8.2): the elements that the target owns after
+/// The message from one node to another, of so many, at a redistribution (HPF 2.0, 8.3): the elements that the target owns after
 /// it and not before, and whose least owner before is the source, row by row, each in array-element order. The layouts
 /// before and after it are of the same arrays.
 pub fn remap_message(

@@ -1,4 +1,4 @@
-//! The arrays of a program at the start, and those that each REDISTRIBUTE moves (HPF 2.0, 3 and 8.1).
+//! The arrays of a program at the start, and those that each REDISTRIBUTE moves (HPF 2.0, 3 and 8.3).
 
 ghost use Rattle.std.specs.Prelude.{◌≡◌, ◌++◌, ◌+◌, length, map, unwrap_or, IfOk, OnOk};
 ghost use Rattle.expression_rules.specs.Symbols.{is_among};

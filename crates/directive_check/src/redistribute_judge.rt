@@ -1,4 +1,4 @@
-//! The rules of REDISTRIBUTE (HPF 2.0, 8.1).
+//! The rules of REDISTRIBUTE (HPF 2.0, 8.3).
 
 ghost use Rattle.std.specs.Prelude.{◌≡◌, IfOk};
 ghost use Rattle.std.specs.List.{flat_map};

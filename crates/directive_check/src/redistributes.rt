@@ -1,4 +1,4 @@
-//! The REDISTRIBUTEs of a program, in the order of the text (HPF 2.0, 8.1).
+//! The REDISTRIBUTEs of a program, in the order of the text (HPF 2.0, 8.3).
 
 ghost use Rattle.std.specs.Prelude.{◌≡◌, ◌++◌, List, IfOk, OnOk};
 ghost use Rattle.syntax_tree.specs.Statement.{arms_of, block_of, statement};

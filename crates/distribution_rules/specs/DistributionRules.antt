@@ -1,4 +1,4 @@
--- The rules of DISTRIBUTE and REDISTRIBUTE (HPF 2.0, 3.3 and 8.1).
+-- The rules of DISTRIBUTE and REDISTRIBUTE (HPF 2.0, 3.3 and 8.3).
 use Rattle.std.specs.Prelude.{ℕ, suc, ◌==◌, ◌*◌, Bool, true, false, ◌&&◌, ◌||◌, not, nat_lt, int_lt, unsigned_abs, List, [], ◌∷◌, ◌++◌, filter, map, length, ℤ, pos, Option, Some, None, if◌then◌else◌}
 use Rattle.std.specs.List.{list_any, flat_map}
 use Rattle.hpf_base.specs.ElementOrder.{product}

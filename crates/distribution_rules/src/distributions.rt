@@ -1,4 +1,4 @@
-//! The rules of DISTRIBUTE and REDISTRIBUTE (HPF 2.0, 3.3 and 8.1).
+//! The rules of DISTRIBUTE and REDISTRIBUTE (HPF 2.0, 3.3 and 8.3).
 
 ghost use Rattle.std.specs.Prelude.{◌≡◌, ◌≤◌, ◌∷◌, [], map, option_copied, Some, IfOk};
 ghost use Rattle.std.specs.List.{flat_map};

@@ -70,7 +70,7 @@ pub data Instr (F : Type 0) : Type 0 where
   -- the slot gets the element of a copy at the last position where the other copy isn't 0. It stays where there is none, or where
   -- the two don't lie alike
   LastCopy : (copy set : ℕ) → (alike : Layout → Layout → Bool) → (slot : ℕ) → Instr F
-  -- REDISTRIBUTE (HPF 2.0, 8.2)
+  -- REDISTRIBUTE (HPF 2.0, 8.3)
   Remap : List Remapping → Rounds → Instr F
   -- the items one after another, and then the line that is made of their bytes
   Print : List Item → (line : List ℕ → List ℕ) → Instr F
