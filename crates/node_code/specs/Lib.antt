@@ -3,3 +3,4 @@ pub mod Forms
 pub mod Parallel
 pub mod ForallLimits
 pub mod Instructions
+pub mod Texts
