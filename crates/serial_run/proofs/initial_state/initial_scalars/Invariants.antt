@@ -1,6 +1,6 @@
 use Rattle.std.proofs.Common.{◌≡◌, ◌++◌, drop, map}
 use Rattle.array_meaning.specs.Resolution.{initial_scalar}
-use Rattle.serial_run.proofs.initial_state.scalars.Given as goal
+use Rattle.serial_run.proofs.initial_state.initial_scalars.Given as goal
 
 -- those so far, before those that are left, are all
 abbrev pub invariant-loop-place : goal.invariant-loop-place

@@ -2,7 +2,7 @@ use Rattle.std.proofs.Common.{◌∙◌, ◌+◌, ◌<◌, ◌++◌, ap, drop, m
 use Rattle.array_meaning.specs.Resolution.{initial_scalar}
 use Rattle.serial_run.specs.InitialState.{scalar_of}
 use Rattle.serial_run.proofs.NamedValues.{next_value}
-use Rattle.serial_run.proofs.initial_state.scalars.Goals as goal
+use Rattle.serial_run.proofs.initial_state.initial_scalars.Goals as goal
 
 pub loop-place-preserved : goal.loop-place-preserved
 loop-place-preserved c =
