@@ -1,0 +1,4 @@
+mod AlikeLaws
+mod CopyLaws
+mod Counting
+pub mod Ranges
