@@ -1,9 +1,9 @@
 //! Parts: statements with who computes their tuples.
 
-ghost use Rattle.std.specs.Prelude.{◌≡◌, ◌<◌, ◌∷◌, [], IfOk, filter};
+ghost use Rattle.std.specs.Prelude.{◌≡◌, ◌<◌, ◌∷◌, [], IfOk, filter, map};
 ghost use Rattle.std.specs.List.{range_with_len};
-ghost use Rattle.machine_steps.specs.Layout.{in_bounds};
-ghost use Rattle.part_steps.specs.Parts.{computed_by, part_by};
+ghost use Rattle.tuple_values.specs.Views.{statement as statement_of};
+ghost use Rattle.part_steps.specs.Parts.{computing_node, firsts_of};
 
 use comm_sets::{Owners, Reads, Spot};
 use hpf_base::OutOfMemory;
@@ -29,52 +29,8 @@ pub struct Part<'a> {
     who: Who,
     /// The numbers of all nodes, from 0.
     all: Vec<u32>,
+    /// Where the first reads count, the node that computes each tuple.
+    firsts: Vec<u32>,
     ghost listed: { all.items ≡ range_with_len 0 owners.now.nodes },
-}
-
-impl<'a> Part<'a> {
-    /// The part. The numbers of the nodes want memory.
-    pub fn new(
-        alloc: Global,
-        statement: &'a ParallelStatement<'a>,
-        owners: &'a Owners,
-        who: Who,
-    ) -> Result<Part<'a>, OutOfMemory>
-        ensures { IfOk result (λ part. (part.statement.now ≡ statement.now) × (part.owners.now ≡ owners.now) × (part.who ≡ who)) }
-    {
-        let mut all = Vec::new(alloc);
-        for node in 0..owners.nodes() {
-            all.push(node)?;
-        }
-        Ok(Part {
-            statement,
-            owners,
-            who,
-            all,
-        })
-    }
-}
-
-impl<'a> Reads for Part<'a> {
-    ghost use Rattle.part_steps.specs.Parts.{part_by};
-
-    ghost part = { λ p. part_by p.who p.owners.now.nodes p.owners.now.layouts p.statement.now };
-
-    ghost nodes = { λ p. p.owners.now.nodes };
-
-    fn tuples(&self) -> usize {
-        self.statement.count()
-    }
-
-    fn computing(&self, tuple: usize) -> &[u32] {
-        match self.who {
-            Who::Left => self.owners_of(self.statement.left(tuple)),
-            Who::First => self.least_owner_of(self.statement.first_read(tuple)),
-            Who::Root => &self.all[..1],
-        }
-    }
-
-    fn read(&self, tuple: usize, reads: &mut Vec<Option<Spot>>) -> Result<(), OutOfMemory> {
-        self.statement.read(tuple, reads)
-    }
+    ghost computed: { firsts.items ≡ firsts_of who owners.now.nodes owners.now.layouts (statement_of statement.now) },
 }
