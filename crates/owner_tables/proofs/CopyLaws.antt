@@ -1,5 +1,5 @@
 -- Copies: their shapes and mappings are valid, they have as many elements as their extents, and each element has an owner.
-use Rattle.std.proofs.Common.{◌≡◌, ◌≢◌, inl, inr, ℕ, zero, suc, ◌+◌, ◌-◌, ◌*◌, ◌/◌, ◌<◌, ◌≤◌, ◌⊎◌, Bool, true, false, ◌==◌, ◌&&◌, if◌then◌else◌, ℤ, pos, ◌+ℤ◌, ◌*ℤ◌, ◌≤ℤ◌, List, [], ◌∷◌, Option, Some, None, get_or, length, map, refl, sym, ◌∙◌, ap, subst, arith, eq-eqb, replicate, All, AllPairs, unsigned_abs}
+use Rattle.std.proofs.Common.{◌≡◌, ◌≢◌, inl, inr, ℕ, zero, suc, ◌+◌, ◌*◌, ◌/◌, ◌<◌, ◌≤◌, Bool, true, false, ◌==◌, if◌then◌else◌, pos, ◌+ℤ◌, ◌*ℤ◌, ◌≤ℤ◌, List, [], ◌∷◌, Some, None, get_or, length, map, refl, sym, ◌∙◌, ap, subst, arith, eq-eqb, replicate, All, AllPairs, unsigned_abs}
 use Rattle.std.proofs.Math.Nat.{lt_of_mul-lt-mul_right, mul_comm, mul-one, mul-zero, zero-mul}
 use Rattle.std.proofs.lemmas.Bool.{and_from, both_ways, eqb-true, ne_eqb, or_cases, or_parts}
 use Rattle.std.proofs.lemmas.Grind.{div_ceil_times}
@@ -8,7 +8,6 @@ use Rattle.std.proofs.lemmas.List.{get_or_default, length-map}
 use Rattle.std.proofs.lemmas.List.Elements.{All-cons, All-head, All-map, All-nil, All-tail}
 use Rattle.std.proofs.lemmas.Nat.{mod_below}
 use Rattle.std.proofs.lemmas.Simd.{splat_is_map}
-use Rattle.std.specs.Int.{div_ceil}
 use Rattle.std.specs.List.{list_any}
 use Rattle.std.specs.Option.{option_map}
 use Rattle.hpf_base.specs.declared.limits.TheConstants.{MAX_BOUND, MAX_ELEMENTS, MAX_NODES}
@@ -110,7 +109,7 @@ line-coordinates nodes node below =
     one_place (suc k) within = absurd (omega arith)
 
 pub position-of : (line : Line) (p : ℕ) → line.lower ≡ pos 1 → unsigned_abs (position_at line (pos (p + 1))) ≡ p + 1
-position-of line p first = 
+position-of line p first =
     let is : position_at line (pos (p + 1)) ≡ pos (p + 1) = omega (arith, ints, first) in ap unsigned_abs is
 
 copy-owner : (nodes at : ℕ) (extents : List ℕ) → 1 ≤ nodes → at < product extents

@@ -1,4 +1,4 @@
-use Rattle.std.proofs.Common.{◌≡◌, [], sym, ◌∙◌, ap, get_or, length, map}
+use Rattle.std.proofs.Common.{◌∙◌, ap, get_or, length, map}
 use Rattle.std.specs.List.{range_with_len}
 use Rattle.owner_tables.specs.Numbers.{count_of, number_at}
 use Rattle.owner_tables.proofs.TableLaws.{leaders-are}
