@@ -5,3 +5,4 @@ pub mod Noting
 pub mod Lookups
 pub mod Computing
 pub mod Sent
+pub mod MessageLaws

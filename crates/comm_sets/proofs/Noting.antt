@@ -2,11 +2,10 @@
 use Rattle.std.proofs.Common.{◌≡◌, ℕ, suc, ◌+◌, ◌<◌, nat_eq, ◌&&◌, ◌||◌, Bool, true, false, List, [], ◌∷◌, ◌++◌, length, map, set, get_or, take, Option, Some, None, refl, sym, ◌∙◌, ap, subst, arith, eq-eqb, ◌⊎◌, inl, inr}
 use Rattle.std.proofs.lemmas.Bool.{cases_eq, ne_eqb}
 use Rattle.std.proofs.lemmas.List.{get_or-set_same, get_or-set_other, length-set, length-map, map-set, get_or-map, take_more}
-use Rattle.std.proofs.lemmas.List.Folds.{list_any-append}
 use Rattle.nest_order.specs.Storage.{Spot}
 use Rattle.nest_order.specs.LastValue.{is_same_spot}
 use Rattle.machine_steps.specs.Message.{names_spot, any_below}
-use Rattle.comm_sets.specs.Noted.{Lists, is_among, is_named, Noted}
+use Rattle.comm_sets.specs.Noted.{Lists, is_among, is_named, Noted, OneMore}
 
 -- nothing
 pub noted-none : (lists : Lists) → Noted lists lists (λ node spot. false)
@@ -35,42 +34,32 @@ noted-same {a} {b} {f} g same noted = record {
   among = λ node lt spot. noted.among node lt spot ∙ ap (λ t. t || is_among (get_or a node []) spot) (same node lt spot);
 }
 
-pushed : (spots : List Spot) (spot s : Spot) → is_among (spots ++ spot ∷ []) s ≡ (is_same_spot spot s || is_among spots s)
-pushed spots spot s = list_any-append (λ x. is_same_spot x s) spots (spot ∷ []) ∙ turned (is_among spots s) (is_same_spot spot s)
-  where
-    turned : (a b : Bool) → (a || (b || false)) ≡ (b || a)
-    turned true true = refl
-    turned true false = refl
-    turned false true = refl
-    turned false false = refl
-
-noted-set : (lists : Lists) (node : ℕ) (spot : Spot) → node < length lists
-    → Noted lists (set lists node (get_or lists node [] ++ spot ∷ [])) (λ other s. nat_eq node other && is_same_spot spot s)
-noted-set lists node spot lt = record {
-  nodes = length-set lists node (get_or lists node [] ++ spot ∷ []);
+noted-set : (lists : Lists) (node : ℕ) (list : List Spot) (spot : Spot) → node < length lists → OneMore spot (get_or lists node []) list
+    → Noted lists (set lists node list) (λ other s. nat_eq node other && is_same_spot spot s)
+noted-set lists node list spot lt more = record {
+  nodes = length-set lists node list;
   among = λ other lt' s. by_case other s (cases_eq node other);
 }
   where
     by_case : (other : ℕ) (s : Spot) → (node ≡ other) ⊎ (node ≡ other → ⊥)
-        → is_among (get_or (set lists node (get_or lists node [] ++ spot ∷ [])) other []) s ≡ ((nat_eq node other && is_same_spot spot s) || is_among (get_or lists other []) s)
+        → is_among (get_or (set lists node list) other []) s ≡ ((nat_eq node other && is_same_spot spot s) || is_among (get_or lists other []) s)
     by_case other s (inl same) =
-        ap (λ o. is_among (get_or (set lists node (get_or lists node [] ++ spot ∷ [])) o []) s) (sym same)
-        ∙ ap (λ xs. is_among xs s) (get_or-set_same lists node (get_or lists node [] ++ spot ∷ []) [] lt)
-        ∙ pushed (get_or lists node []) spot s
+        ap (λ o. is_among (get_or (set lists node list) o []) s) (sym same)
+        ∙ ap (λ xs. is_among xs s) (get_or-set_same lists node list [] lt)
+        ∙ more s
         ∙ ap (λ o. is_same_spot spot s || is_among (get_or lists o []) s) same
         ∙ ap (λ b. (b && is_same_spot spot s) || is_among (get_or lists other []) s) (sym (eq-eqb node other same))
     by_case other s (inr apart) =
-        ap (λ xs. is_among xs s) (get_or-set_other lists node other (get_or lists node [] ++ spot ∷ []) [] (λ e. apart (sym e)))
+        ap (λ xs. is_among xs s) (get_or-set_other lists node other list [] (λ e. apart (sym e)))
         ∙ ap (λ b. (b && is_same_spot spot s) || is_among (get_or lists other []) s) (sym (ne_eqb node other apart))
 
--- an element is pushed to a node's row
-pub noted-push : {V : Type 0} (f : V → List Spot) (rows : List V) (node : ℕ) (old new : V) (spot : Spot) → node < length rows → f new ≡ f old ++ spot ∷ [] → old ≡ get_or rows node old
+-- one element more in a node's row
+pub noted-row : {V : Type 0} (f : V → List Spot) (rows : List V) (node : ℕ) (old new : V) (spot : Spot) → node < length rows → OneMore spot (f old) (f new) → old ≡ get_or rows node old
     → Noted (map f rows) (map f (set rows node new)) (λ other s. nat_eq node other && is_same_spot spot s)
-noted-push f rows node old new spot lt is was =
-    let row : f new ≡ get_or (map f rows) node [] ++ spot ∷ [] = is ∙ ap (λ xs. xs ++ spot ∷ []) (ap f was ∙ sym (get_or-map f rows node old [] lt)) in
-    subst (λ (after : Lists). Noted (map f rows) after (λ other s. nat_eq node other && is_same_spot spot s))
-    (ap (set (map f rows) node) (sym row) ∙ sym (map-set f rows node new))
-    (noted-set (map f rows) node spot (omega (arith, length-map rows f)))
+noted-row f rows node old new spot lt more was =
+    subst (λ (after : Lists). Noted (map f rows) after (λ other s. nat_eq node other && is_same_spot spot s)) (sym (map-set f rows node new))
+    (noted-set (map f rows) node (f new) spot (omega (arith, length-map rows f))
+    (λ s. more s ∙ ap (λ xs. is_same_spot spot s || is_among xs s) (ap f was ∙ sym (get_or-map f rows node old [] lt))))
 
 -- one read more
 pub names-more : {R : Type 0} (f : R → Option Spot) (reads : List R) (i : ℕ) (d : R) (s : Spot) → i < length reads

@@ -1,15 +1,16 @@
 -- What is noted, put in order, is the messages.
-use Rattle.std.proofs.Common.{◌≡◌, ℕ, ◌+◌, ◌<◌, nat_eq, nat_lt, ◌&&◌, ◌||◌, Bool, true, false, List, [], length, map, filter, get_or, replicate, refl, sym, ◌∙◌, ap, arith, ◌≤◌, ◌⊎◌, inl, inr}
+use Rattle.std.proofs.Common.{◌≡◌, ℕ, ◌+◌, ◌<◌, nat_eq, nat_lt, ◌==◌, not, ◌&&◌, ◌||◌, Bool, true, false, List, [], length, map, filter, get_or, replicate, refl, sym, ◌∙◌, ap, arith, ◌≤◌, ◌⊎◌, inl, inr}
 use Rattle.std.proofs.lemmas.Bool.{cases_order}
 use Rattle.std.proofs.lemmas.Bool.Decides.{nat_tests}
 use Rattle.std.proofs.lemmas.List.{get_or-replicate, get_or_past, length-map, length-replicate}
 use Rattle.std.proofs.lemmas.List.FromFn.{fill_by_all}
 use Rattle.std.specs.List.{range_with_len}
 use Rattle.nest_order.specs.Storage.{Spot}
-use Rattle.machine_steps.specs.Layout.{Layout, size_of, sizes}
-use Rattle.machine_steps.specs.Message.{all_spots}
-use Rattle.comm_sets.specs.Noted.{Lists, is_among, Noted, Arranged}
+use Rattle.machine_steps.specs.Layout.{Layout, size_of, sizes, owns_spot, least_owner_of}
+use Rattle.machine_steps.specs.Message.{Part, any_below, names_spot, needs, message, all_spots}
+use Rattle.comm_sets.specs.Noted.{Lists, is_among, is_sent, Noted, Arranged}
 use Rattle.comm_sets.proofs.AllSpots.{is-filter}
+use Rattle.comm_sets.proofs.Noting.{below-more, both-tests}
 
 or_false : (b : Bool) → (b || false) ≡ b
 or_false true = refl
@@ -27,10 +28,41 @@ are-filters nodes layouts noted arranged {test} P notes order tests =
     ∙ ap (λ xs. test k s || is_among xs s) (get_or-replicate nodes k none [] lt) ∙ or_false (test k s) ∙ tests k s))
 
 -- of two tests beside a third the order doesn't matter
-pub and_turned : (a b c : Bool) → (a && (b && c)) ≡ (b && (a && c))
+and_turned : (a b c : Bool) → (a && (b && c)) ≡ (b && (a && c))
 and_turned true b c = refl
 and_turned false true c = refl
 and_turned false false c = refl
+
+-- ---- tuple by tuple
+
+-- the element is read at one of the first so many tuples that the target computes, and sent
+abbrev pub is_sent_below : ℕ → List Layout → Part → (tuples from to : ℕ) → Spot → Bool
+is_sent_below nodes layouts part tuples from to s = needs (record part { tuples = tuples }) to s && is_sent nodes layouts from to s
+
+module _ (nodes : ℕ) (layouts : List Layout) (part : Part) (n : ℕ) where
+  -- one tuple more
+  pub tuples-more : (from to : ℕ) (s : Spot)
+      → (((part.computes to n && names_spot (part.reads n) s) && is_sent nodes layouts from to s) || is_sent_below nodes layouts part n from to s) ≡ is_sent_below nodes layouts part (n + 1) from to s
+  tuples-more from to s =
+      let test = λ (t : ℕ). part.computes to t && names_spot (part.reads t) s in
+      both-tests (test n) (any_below test n) (is_sent nodes layouts from to s) ∙ ap (λ b. b && is_sent nodes layouts from to s) (sym (below-more test n))
+
+  module _ (noted arranged : Lists) (all : n ≡ part.tuples) (order : Arranged noted arranged) where
+    all-tuples : (from to : ℕ) (s : Spot) → is_sent_below nodes layouts part n from to s
+        ≡ (nat_lt s.at (get_or (sizes layouts) s.row 0) && (needs part to s && (not (owns_spot layouts to s) && (least_owner_of nodes layouts s == from))))
+    all-tuples from to s =
+        ap (λ count. is_sent_below nodes layouts part count from to s) all
+        ∙ and_turned (needs part to s) (nat_lt s.at (get_or (sizes layouts) s.row 0)) (not (owns_spot layouts to s) && (least_owner_of nodes layouts s == from))
+
+    pub messages-from : (from : ℕ) → Noted (replicate nodes []) noted (λ to s. is_sent_below nodes layouts part n from to s)
+        → arranged ≡ map (λ to. message nodes layouts part from to) (range_with_len 0 nodes)
+    messages-from from notes =
+        are-filters nodes layouts noted arranged (λ to s. needs part to s && (not (owns_spot layouts to s) && (least_owner_of nodes layouts s == from))) notes order (λ to s. all-tuples from to s)
+
+    pub messages-to : (to : ℕ) → Noted (replicate nodes []) noted (λ from s. is_sent_below nodes layouts part n from to s)
+        → arranged ≡ map (λ from. message nodes layouts part from to) (range_with_len 0 nodes)
+    messages-to to notes =
+        are-filters nodes layouts noted arranged (λ from s. needs part to s && (not (owns_spot layouts to s) && (least_owner_of nodes layouts s == from))) notes order (λ from s. all-tuples from to s)
 
 -- ---- element by element
 

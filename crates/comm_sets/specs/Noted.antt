@@ -17,6 +17,10 @@ Lists = List (List Spot)
 abbrev pub SameAmong : (before after : List Spot) → Type 0
 SameAmong before after = (spot : Spot) → is_among after spot ≡ is_among before spot
 
+-- one element more, and else the same
+abbrev pub OneMore : Spot → (before after : List Spot) → Type 0
+OneMore spot before after = (s : Spot) → is_among after s ≡ (is_same_spot spot s || is_among before s)
+
 -- the read is of this element
 abbrev pub is_named : Option Spot → Spot → Bool
 is_named None spot = false

@@ -2,9 +2,9 @@
 //!
 //! Comes in: who owns each element of arrays and copies; and which elements are read at which tuples and which nodes compute each
 //! tuple, or who owns each element after a redistribution. Goes out: all messages from one node, or to one node, each the list
-//! of its elements. What holds in between: one pass over the tuples notes what is read at a node that doesn't own it, in
-//! a list for each node at the other end; sorted and without repetitions such a list is the message. Time and memory go with the tuples
-//! and with what is noted, never with all elements.
+//! of its elements. What holds in between: one pass over the tuples, or over the elements, notes what goes from one end to the
+//! other, in a list for each node at the other end; sorted and without repetitions such a list is the message. The time of a part goes with
+//! its tuples, and its memory with what is sent; there is no table of all elements.
 #![tactic(auto)]
 
 mod lookup;

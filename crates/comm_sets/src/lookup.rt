@@ -7,7 +7,8 @@ ghost use Rattle.comm_sets.specs.Ascending.{Ascends};
 
 use owner_tables::Spot;
 
-/// The value of the element, by the elements of a message and the values that came for them, in order; 0 where there is none.
+/// The value of the element, by the elements of a message and the values that came for them, in order; 0 where it is none of them.
+/// It is found by a search, since the elements stand row by row, each in array-element order.
 pub fn value_in(spots: &[Spot], values: &[i64], spot: Spot) -> i64
     requires { Ascends (map spot_of spots.now) }
     ensures { result ≡ lookup (map spot_of spots.now) values.now (spot_of spot) }

@@ -4,7 +4,7 @@ ghost use Rattle.std.specs.Prelude.{◌≡◌, ◌<◌, ◌&&◌, [], IfOk, OnOk
 ghost use Rattle.nest_order.specs.LastValue.{is_same_spot};
 ghost use Rattle.owner_tables.specs.Spots.{spot_of};
 ghost use Rattle.comm_sets.specs.Ascending.{Ascends};
-ghost use Rattle.comm_sets.specs.Noted.{Noted, Arranged, SameAmong};
+ghost use Rattle.comm_sets.specs.Noted.{Arranged, Noted, OneMore, SameAmong};
 
 use hpf_base::OutOfMemory;
 use owner_tables::Spot;
@@ -45,7 +45,7 @@ impl Messages {
         requires { node < length self.old }
         ensures { OnOk result (Noted self.old self.new (λ other s. nat_eq node other && is_same_spot (spot_of spot) s)) }
     {
-        self.lists[node as usize].push(spot)?;
+        note(&mut self.lists[node as usize], spot)?;
         Ok(())
     }
 
@@ -65,6 +65,28 @@ impl Messages {
     {
         self.lists[node as usize].as_slice()
     }
+}
+
+/// Adds the element to the list. Repetitions are dropped before the list grows, so that its memory goes with its elements, however often
+/// they are added.
+fn note(list: &mut Vec<Spot>, spot: Spot) -> Result<(), OutOfMemory>
+    ensures { OnOk result (OneMore (spot_of spot) (map spot_of list.old.items) (map spot_of list.new.items)) }
+{
+    if list.len() == list.capacity() {
+        make_room(list)?;
+    }
+    list.push(spot)?;
+    Ok(())
+}
+
+/// Drops repetitions, and makes room for at least as many elements as are left.
+fn make_room(list: &mut Vec<Spot>) -> Result<(), OutOfMemory>
+    ensures { OnOk result (SameAmong (map spot_of list.old.items) (map spot_of list.new.items)) }
+{
+    arrange_list(list);
+    let room = list.len() + 1;
+    list.reserve(room)?;
+    Ok(())
 }
 
 /// Puts the list in order, and drops repetitions.

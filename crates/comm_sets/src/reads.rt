@@ -8,7 +8,7 @@ ghost use Rattle.owner_tables.specs.Spots.{spot_of};
 use hpf_base::OutOfMemory;
 use owner_tables::Spot;
 
-/// The elements that a part reads at its tuples, and the nodes that compute each tuple.
+/// The elements that a part reads at its tuples, and the nodes that compute each tuple, of `nodes` nodes in all. Contracts see the `part`.
 pub trait Reads {
     ghost part: { Self → Part };
 

@@ -1,17 +1,15 @@
-use Rattle.std.proofs.Common.{◌≡◌, ◌==◌, ◌&&◌, not, nat_lt, get_or, ap, ◌∙◌, arith}
-use Rattle.machine_steps.specs.Message.{any_below, names_spot, needs}
-use Rattle.machine_steps.specs.Layout.{sizes, owns_spot, least_owner_of}
-use Rattle.comm_sets.specs.Noted.{is_sent}
-use Rattle.comm_sets.proofs.Sent.{and_turned, are-filters}
+use Rattle.std.proofs.Common.{◌≡◌, arith}
+use Rattle.comm_sets.proofs.Noting.{noted-more}
+use Rattle.comm_sets.proofs.Sent.{messages-to, tuples-more}
 use Rattle.comm_sets.proofs.receiving.incoming.Goals as goal
+
+pub loop-tuple-preserved : goal.loop-tuple-preserved
+loop-tuple-preserved g c =
+    noted-more c.loop-tuple.invariant c.in_ok-receive_tuple.ensures
+    (λ from lt s. tuples-more c.args.owners.now.nodes c.args.owners.now.layouts (g.P.Reads.part c.args.part.now) c.loop-tuple.tuple from c.args.to s)
 
 pub returns : goal.returns
 returns g c =
     let part = g.P.Reads.part c.args.part.now in
-    let nodes = c.args.owners.now.nodes in
-    let layouts = c.args.owners.now.layouts in
-    let done : c.loop-tuple.tuple ≡ part.tuples = omega (arith, c.tuples-tuple-end.ensures) in
-    are-filters nodes layouts c.loop-tuple.messages c.arrange.new.self (λ from s. needs part c.args.to s && (not (owns_spot layouts c.args.to s) && (least_owner_of nodes layouts s == from)))
-    c.loop-tuple.invariant c.arrange.ensures
-    (λ from s. ap (λ n. any_below (λ t. part.computes c.args.to t && names_spot (part.reads t) s) n && is_sent nodes layouts from c.args.to s) done
-    ∙ and_turned (needs part c.args.to s) (nat_lt s.at (get_or (sizes layouts) s.row 0)) (not (owns_spot layouts c.args.to s) && (least_owner_of nodes layouts s == from)))
+    let all : c.loop-tuple.tuple ≡ part.tuples = omega (arith, c.tuples-tuple-end.ensures) in
+    messages-to c.args.owners.now.nodes c.args.owners.now.layouts part c.loop-tuple.tuple c.loop-tuple.messages c.arrange.new.self all c.arrange.ensures c.args.to c.loop-tuple.invariant
