@@ -1,5 +1,5 @@
 -- Rows that lie so are whole: they have the sizes of their layouts, and each element has an owner.
-use Rattle.std.proofs.Common.{◌≡◌, ℕ, zero, suc, ◌*◌, ◌<◌, true, ℤ, List, [], ◌∷◌, ◌++◌, length, map, get_or, refl, sym, ap, ◌∙◌, arith}
+use Rattle.std.proofs.Common.{◌≡◌, ℕ, zero, suc, ◌*◌, ◌<◌, true, List, [], ◌∷◌, ◌++◌, length, map, get_or, refl, sym, ap, ◌∙◌, arith}
 use Rattle.std.proofs.lemmas.List.{length-replicate}
 use Rattle.hpf_base.specs.ElementOrder.{extents_of, product}
 use Rattle.syntax_tree.specs.MainProgram.{MainProgram}

@@ -1,13 +1,13 @@
 -- Nodes that agree with a machine that has ended as an outcome are the last nodes of it.
-use Rattle.std.proofs.Common.{◌≡◌, ℕ, zero, suc, ◌<◌, ◌≤◌, ◌⊎◌, inl, inr, ℤ, pos, List, [], ◌∷◌, length, get_or, Some, None, refl, sym, ap, subst, ◌∙◌, arith}
+use Rattle.std.proofs.Common.{◌≡◌, ℕ, zero, suc, ◌<◌, ◌≤◌, ◌⊎◌, inl, inr, ℤ, pos, List, [], ◌∷◌, length, get_or, Some, None, refl, sym, ap, subst, ◌∙◌}
 use Rattle.std.specs.List.{slice_get}
 use Rattle.std.proofs.lemmas.Bool.{cases_lt, le-ltb, lt-ltb}
 use Rattle.std.proofs.lemmas.Option.{same_Some}
-use Rattle.nest_order.specs.Storage.{Spot, Storage, read, row_of}
+use Rattle.nest_order.specs.Storage.{Storage, read, row_of}
 use Rattle.array_meaning.specs.Faults.{Fault}
 use Rattle.array_meaning.specs.Serial as serial
 use Rattle.array_meaning.specs.Serial.{End, Outcome}
-use Rattle.machine_steps.specs.Layout.{Layout, least_owner_of, owned_in, piece, pieces, sizes}
+use Rattle.machine_steps.specs.Layout.{Layout, least_owner_of, owned_in, piece, pieces}
 use Rattle.machine_steps.specs.Machine.{Machine}
 use Rattle.machine_steps.specs.Node.{Node, at_root, local_read}
 use Rattle.machine_steps.specs.Agrees.{IsWhole, Own, by_number, standing}
