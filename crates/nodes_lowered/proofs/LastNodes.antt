@@ -16,13 +16,13 @@ use Rattle.node_code.specs.ProgramText.{Text}
 use Rattle.lowering.specs.Lowered.{IsEnd}
 use Rattle.node_run.proofs.PieceLaws.{read-local}
 use Rattle.node_run.proofs.Reading.{least-owns, size-row}
-use Rattle.nodes_lowered.specs.ProgramRuns.{AreLastNodes, IsLastNode, end_of}
+use Rattle.nodes_lowered.specs.ProgramRuns.{AreLastNodes, IsLastNode, end_by_status}
 
 -- ---- the machine's end
 
-pub ended-so : (n : ℕ) (m : Machine Instruction Fault) (e : End) (arrays : List (List ℤ)) → IsEnd n m e arrays → end_of m.control.status ≡ Some e
-ended-so n m serial.Finished arrays h = ap end_of h.0
-ended-so n m (serial.Faulted f) arrays h = ap end_of h
+pub ended-so : (n : ℕ) (m : Machine Instruction Fault) (e : End) (arrays : List (List ℤ)) → IsEnd n m e arrays → end_by_status m.control.status ≡ Some e
+ended-so n m serial.Finished arrays h = ap end_by_status h.0
+ended-so n m (serial.Faulted f) arrays h = ap end_by_status h
 
 pub arrays-so : (n : ℕ) (m : Machine Instruction Fault) (e : End) (arrays : List (List ℤ)) → IsEnd n m e arrays → e ≡ serial.Finished → (a : ℕ) → a < n
     → row_of m.rows a ≡ row_of arrays a
@@ -48,7 +48,7 @@ numbered count p nodes node h = by (cases_lt p count)
     by (inl lt) = (lt, same_Some (nodes p) node (rw (lt-ltb p count lt) at h))
     by (inr ge) = absurd (let none : None ≡ Some node = rw (le-ltb p count ge) at h in cc)
 
-module _ (nodes n number : ℕ) (m : Machine Text Fault) (own : Own Fault) (o : Outcome) (whole : IsWhole nodes [] m) (ended : end_of m.control.status ≡ Some o.end)
+module _ (nodes n number : ℕ) (m : Machine Text Fault) (own : Own Fault) (o : Outcome) (whole : IsWhole nodes [] m) (ended : end_by_status m.control.status ≡ Some o.end)
     (arrays : o.end ≡ serial.Finished → (a : ℕ) → a < n → row_of m.rows a ≡ row_of o.arrays a) (printed : m.printed ≡ o.printed) where
   standing-last : (p : ℕ) → IsLastNode n o m.layouts p (standing nodes m number own p)
   standing-last p = record {

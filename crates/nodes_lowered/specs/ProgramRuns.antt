@@ -40,15 +40,15 @@ program_steps = node_steps fault_values text_meaning
 -- ---- the end
 
 -- how a run has ended, where it has
-abbrev pub end_of : Status Fault → Option End
-end_of Running = None
-end_of Finished = Some serial.Finished
-end_of (Faulted f) = Some (serial.Faulted f)
+abbrev pub end_by_status : Status Fault → Option End
+end_by_status Running = None
+end_by_status Finished = Some serial.Finished
+end_by_status (Faulted f) = Some (serial.Faulted f)
 
 -- the node p of nodes whose run of n names had this outcome: it has ended so, where the run is finished with its pieces of the
 -- outcome's arrays, which lie so; and node 0 has printed the outcome's bytes
 pub record IsLastNode (n : ℕ) (o : Outcome) (layouts : List Layout) (p : ℕ) (node : Node Text Fault) : Type 0 where
-  pub ended : end_of node.control.status ≡ Some o.end
+  pub ended : end_by_status node.control.status ≡ Some o.end
   pub laid : node.layouts ≡ layouts
   pub pieces : o.end ≡ serial.Finished → (a : ℕ) → a < n → row_of node.pieces a ≡ piece (owned_in layouts a) p (slice_index_or o.arrays a [])
   pub printed : p ≡ 0 → node.printed ≡ o.printed
