@@ -80,6 +80,10 @@ above-rows row (n ∷ ns) s lt =
     list_any-append (λ x. is_same_spot x s) (map (in_row row) (range_with_len 0 n)) (spots_from (row + 1) ns)
     ∙ ap (λ b. b || is_among (spots_from (row + 1) ns) s) (other-row row 0 n s (λ e. omega arith)) ∙ above-rows (row + 1) ns s (omega arith)
 
+pub or_false : (b : Bool) → (b || false) ≡ b
+or_false true = refl
+or_false false = refl
+
 among-spots : (row : ℕ) (ns : List ℕ) (k at : ℕ) → is_among (spots_from row ns) (in_row (row + k) at) ≡ nat_lt at (get_or ns k 0)
 among-spots row [] k at = grind (arith, nat_tests)
 among-spots row (n ∷ ns) zero at =
@@ -88,11 +92,7 @@ among-spots row (n ∷ ns) zero at =
     ap (λ r. is_among (spots_from row (n ∷ ns)) (in_row r at)) here
     ∙ list_any-append (λ x. is_same_spot x (in_row row at)) (map (in_row row) (range_with_len 0 n)) (spots_from (row + 1) ns)
     ∙ ap (λ b. is_among (map (in_row row) (range_with_len 0 n)) (in_row row at) || b) (above-rows (row + 1) ns (in_row row at) (omega arith))
-    ∙ or-false (is_among (map (in_row row) (range_with_len 0 n)) (in_row row at)) ∙ among-row row 0 n at (omega arith) ∙ ap (nat_lt at) count
-  where
-    or-false : (b : Bool) → (b || false) ≡ b
-    or-false true = refl
-    or-false false = refl
+    ∙ or_false (is_among (map (in_row row) (range_with_len 0 n)) (in_row row at)) ∙ among-row row 0 n at (omega arith) ∙ ap (nat_lt at) count
 among-spots row (n ∷ ns) (suc k) at =
     let next : row + suc k ≡ row + 1 + k = omega arith in
     ap (λ r. is_among (spots_from row (n ∷ ns)) (in_row r at)) next

@@ -9,12 +9,8 @@ use Rattle.nest_order.specs.Storage.{Spot}
 use Rattle.machine_steps.specs.Layout.{Layout, size_of, sizes, owns_spot, least_owner_of}
 use Rattle.machine_steps.specs.Message.{Part, any_below, names_spot, needs, message, all_spots}
 use Rattle.comm_sets.specs.Noted.{Lists, is_among, is_sent, Noted, Arranged}
-use Rattle.comm_sets.proofs.AllSpots.{is-filter}
+use Rattle.comm_sets.proofs.AllSpots.{is-filter, or_false}
 use Rattle.comm_sets.proofs.Noting.{below-more, both-tests}
-
-or_false : (b : Bool) → (b || false) ≡ b
-or_false true = refl
-or_false false = refl
 
 -- each node's list is the filter of all elements by what was noted for it
 pub are-filters : (nodes : ℕ) (layouts : List Layout) (noted arranged : Lists) {test : ℕ → Spot → Bool} (P : ℕ → Spot → Bool) → Noted (replicate nodes []) noted test → Arranged noted arranged

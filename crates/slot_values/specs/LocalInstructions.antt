@@ -1,5 +1,5 @@
 -- The instructions that touch no array.
-use Rattle.std.specs.Prelude.{ℕ, Bool, true, false, List, []}
+use Rattle.std.specs.Prelude.{Bool, true, false, List, []}
 use Rattle.expression_rules.specs.declared.dims.Dim.{Dim}
 use Rattle.array_meaning.specs.Faults.{Fault}
 use Rattle.machine_steps.specs.Instr.{Control, Instr, Local}
