@@ -98,7 +98,12 @@ impl ParValues {
 }
 
 /// The fault so far, or that of a tuple of the part with this number, where there is none before it.
-pub(crate) fn kept_earlier(so_far: Option<Kept>, tuple: usize, number: u64, fault: Fault) -> Option<Kept>
+pub(crate) fn kept_earlier(
+    so_far: Option<Kept>,
+    tuple: usize,
+    number: u64,
+    fault: Fault,
+) -> Option<Kept>
     ensures { kepts result ≡ earlier (kepts so_far) (Some (record { tuple = tuple; part = number; fault = fault_of fault })) }
 {
     let kept = Kept {
