@@ -5,6 +5,8 @@ ghost use Rattle.std.specs.List.{range_with_len};
 ghost use Rattle.machine_steps.specs.Layout.{in_bounds};
 ghost use Rattle.machine_steps.specs.Message.{computes_left};
 ghost use Rattle.tuple_values.specs.Spots.{read_of};
+ghost use Rattle.tuple_values.specs.Statements.{tuple_count};
+ghost use Rattle.tuple_values.specs.Views.{statement as statement_of};
 ghost use Rattle.part_steps.specs.Parts.{part_of};
 ghost use Rattle.part_steps.specs.Views.{part_view};
 
