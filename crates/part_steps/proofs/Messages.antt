@@ -1,7 +1,5 @@
 -- The messages between one node and each node, by the other node's number.
-use Rattle.std.proofs.Common.{◌≡◌, ℕ, ℤ, ◌<◌, Bool, true, false, List, [], length, map, get_or, if◌then◌else◌, sym, ◌∙◌, ap, subst, arith}
-use Rattle.std.proofs.lemmas.List.FromFn.{get_or-map-range_with_len, length-map-range_with_len}
-use Rattle.std.specs.List.{range_with_len}
+use Rattle.std.proofs.Common.{◌≡◌, ℕ, ℤ, ◌<◌, false, List, [], map, get_or, if◌then◌else◌, sym, ◌∙◌, ap, subst}
 use Rattle.nest_order.specs.Storage.{Storage, Spot}
 use Rattle.machine_steps.specs.Layout.{Layout, owns_spot, least_owner_of}
 use Rattle.machine_steps.specs.Message.{Part, message, lookup}
@@ -9,14 +7,7 @@ use Rattle.machine_steps.specs.Node.{held_or_received, local_read}
 use Rattle.comm_sets.specs.Ascending.{Ascends}
 use Rattle.comm_sets.proofs.MessageLaws.{incoming-ascend}
 use Rattle.part_steps.specs.Openings.{messages_to}
-
-module _ (nodes : ℕ) (messages : List (List Spot)) (f : ℕ → List Spot) (is : messages ≡ map f (range_with_len 0 nodes)) (node : ℕ) (below : node < nodes) where
-  -- each node has one
-  pub has-message : node < length messages
-  has-message = omega (arith, ap length is, length-map-range_with_len f 0 nodes)
-
-  pub message-is : get_or messages node [] ≡ f node
-  message-is = ap (λ (ms : List (List Spot)). get_or ms node []) is ∙ get_or-map-range_with_len f 0 nodes node node [] below (omega arith)
+use Rattle.part_steps.proofs.Listed.{listed-is}
 
 module _ (nodes : ℕ) (layouts : List Layout) (part : Part) (id : ℕ) (messages : List (List Spot)) (is : messages ≡ messages_to nodes layouts part id) where
   -- a message is in order
@@ -29,7 +20,7 @@ module _ (nodes : ℕ) (layouts : List Layout) (part : Part) (id : ℕ) (message
       → source ≡ least_owner_of nodes layouts spot → source < nodes → spots ≡ get_or messages source [] → values ≡ get_or received source []
       → lookup spots values spot ≡ held_or_received nodes layouts (λ p. message nodes layouts part p id) id pieces received spot
   received-is pieces received spot source spots values other least below es vs =
-      let e : spots ≡ message nodes layouts part source id = es ∙ message-is nodes messages (λ p. message nodes layouts part p id) is source below in
+      let e : spots ≡ message nodes layouts part source id = es ∙ listed-is messages (λ p. message nodes layouts part p id) nodes is source below [] in
       (λ i. lookup (e i) (vs i) spot) ∙ ap (λ p. lookup (message nodes layouts part p id) (get_or received p []) spot) least
       ∙ ap (λ b. if b then local_read layouts id pieces spot else lookup (message nodes layouts part (least_owner_of nodes layouts spot) id) (get_or received (least_owner_of nodes layouts spot) []) spot)
       (sym other)
