@@ -1,5 +1,5 @@
 -- What the first tuples come to, with one tuple more.
-use Rattle.std.proofs.Common.{◌≡◌, ℕ, ℤ, suc, ◌+◌, ◌++◌, List, Option, add-one, ap}
+use Rattle.std.proofs.Common.{◌≡◌, ℕ, ◌+◌, ◌++◌, add-one, ap}
 use Rattle.nest_order.specs.Storage.{Storage}
 use Rattle.op_tables.specs.declared.op.Op.{Op}
 use Rattle.machine_steps.specs.Machine.{earlier, kept_of, value_or_none}

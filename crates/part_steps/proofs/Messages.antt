@@ -1,5 +1,5 @@
 -- The messages between one node and each node, by the other node's number.
-use Rattle.std.proofs.Common.{◌≡◌, ℕ, ℤ, ◌<◌, false, List, [], map, get_or, if◌then◌else◌, sym, ◌∙◌, ap, subst}
+use Rattle.std.proofs.Common.{◌≡◌, ℕ, ℤ, ◌<◌, false, List, [], get_or, if◌then◌else◌, sym, ◌∙◌, ap, subst}
 use Rattle.nest_order.specs.Storage.{Storage, Spot}
 use Rattle.machine_steps.specs.Layout.{Layout, owns_spot, least_owner_of}
 use Rattle.machine_steps.specs.Message.{Part, message, lookup}

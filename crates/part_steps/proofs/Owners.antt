@@ -1,7 +1,7 @@
 -- The nodes that tables of owners name.
-use Rattle.std.proofs.Common.{◌≡◌, ℕ, zero, suc, ◌+◌, ◌<◌, ◌≤◌, Bool, true, false, List, Option, Some, None, if◌then◌else◌, nat_lt, slice_index_or, arith}
+use Rattle.std.proofs.Common.{ℕ, zero, suc, ◌+◌, ◌<◌, ◌≤◌, Bool, true, false, List, Option, Some, None, if◌then◌else◌, arith}
 use Rattle.nest_order.specs.Storage.{Spot}
-use Rattle.machine_steps.specs.Layout.{Layout, first, owns_spot, sizes, in_bounds}
+use Rattle.machine_steps.specs.Layout.{Layout, first, owns_spot}
 use Rattle.machine_steps.specs.Message.{least_or_zero}
 
 -- the first that passes is one of them, and 0 is where there is one at all

@@ -2,7 +2,6 @@ use Rattle.std.proofs.Common.{◌≡◌, ℕ, true, w64, SFits, sym, ◌∙◌, 
 use Rattle.std.proofs.lemmas.Int.{to_z-of_z}
 use Rattle.nest_order.specs.Storage.{Spot}
 use Rattle.machine_steps.specs.Layout.{owns_spot}
-use Rattle.machine_steps.specs.Node.{local_spot}
 use Rattle.owner_tables.specs.Spots.{spot_of}
 use Rattle.part_steps.proofs.StoreLaws.{stored-here}
 use Rattle.part_steps.proofs.stores.Stores.add.Goals as goal
