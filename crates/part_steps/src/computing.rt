@@ -1,6 +1,6 @@
 //! Who computes the tuples of a part.
 
-ghost use Rattle.std.specs.Prelude.{◌≡◌, ◌<◌, ◌==◌, ◌∷◌, [], filter, length, slice_index_or};
+ghost use Rattle.std.specs.Prelude.{◌≡◌, ◌<◌, ◌≤◌, ◌==◌, ◌∷◌, [], filter, length, slice_index_or};
 ghost use Rattle.std.specs.List.{range_with_len};
 ghost use Rattle.machine_steps.specs.Layout.{in_bounds};
 ghost use Rattle.machine_steps.specs.Message.{computes_left};
@@ -74,6 +74,7 @@ fn is_assigner(owners: &Owners, node: u32, left: Option<Spot>) -> bool
 
 /// The owners of what is assigned; node 0 where that is no element.
 fn assigners(owners: &Owners, left: Option<Spot>) -> &[u32]
+    requires { 1 ≤ owners.now.nodes }
     ensures { result.now ≡ filter (λ node. computes_left owners.now.layouts node (in_bounds owners.now.layouts (read_of left))) (range_with_len 0 owners.now.nodes) }
 {
     match left {
@@ -81,19 +82,11 @@ fn assigners(owners: &Owners, left: Option<Spot>) -> &[u32]
             if owners.is_in_bounds(spot) {
                 owners.owners(spot)
             } else {
-                root(owners)
+                &[0]
             }
         }
-        None => root(owners),
+        None => &[0],
     }
-}
-
-/// Node 0 alone.
-fn root(owners: &Owners) -> &[u32]
-    ensures { result.now ≡ filter (λ node. node == 0) (range_with_len 0 owners.now.nodes) }
-{
-    let _ = owners.nodes();
-    &[0]
 }
 
 /// One number of a list, as a list.

@@ -28,6 +28,7 @@ impl<'a> Part<'a> {
         ensures { IfOk result (λ p. part_view p ≡ record { who = who; nodes = owners.now.nodes; layouts = owners.now.layouts; statement = statement_of statement.now }) }
     {
         let firsts = firsts(alloc, statement, owners, who)?;
+        // there is a node 0
         let _ = owners.nodes();
         Ok(Part {
             statement,

@@ -39,7 +39,7 @@ pub fn par_values(
     number: u64,
 ) -> Result<ParValues, OutOfMemory>
     requires { id < part.now.owners.now.nodes }
-    ensures stores { IfOk result (λ r. let b = behind (part_view part.now) id pieces.now received.now in (ps : List (List ℤ)) → stored r.stores.list.items ps ≡ stored_below b (tuples b) ps) }
+    ensures stores { IfOk result (λ r. let b = behind (part_view part.now) id pieces.now received.now in (ps : List (List ℤ)) → stored r.stores ps ≡ stored_below b (tuples b) ps) }
     ensures fault { IfOk result (λ r. let b = behind (part_view part.now) id pieces.now received.now in kepts r.fault ≡ fault_below b number (tuples b)) }
 {
     let gathered = Gathered::new(alloc, part, id, pieces, received)?;
@@ -62,8 +62,8 @@ impl ParValues {
         number: u64,
     ) -> Result<(), OutOfMemory>
         requires { tuple < tuples (behind_of gathered.now) }
-        ensures stores { OnOk result ((ps : List (List ℤ)) → stored self.new.stores.list.items ps
-            ≡ applied (behind_of gathered.now) tuple (outcome_of (behind_of gathered.now) tuple) (stored self.old.stores.list.items ps)) }
+        ensures stores { OnOk result ((ps : List (List ℤ)) → stored self.new.stores ps
+            ≡ applied (behind_of gathered.now) tuple (outcome_of (behind_of gathered.now) tuple) (stored self.old.stores ps)) }
         ensures fault { OnOk result (kepts self.new.fault ≡ earlier (kepts self.old.fault) (kept_of (outcome_of (behind_of gathered.now) tuple) tuple number)) }
     {
         match gathered.outcome(tuple)? {
@@ -84,8 +84,8 @@ impl ParValues {
         v: &i64,
     ) -> Result<(), OutOfMemory>
         requires { tuple < tuples (behind_of gathered.now) }
-        ensures stores { OnOk result ((ps : List (List ℤ)) → stored self.new.stores.list.items ps
-            ≡ applied (behind_of gathered.now) tuple (Value v.now) (stored self.old.stores.list.items ps)) }
+        ensures stores { OnOk result ((ps : List (List ℤ)) → stored self.new.stores ps
+            ≡ applied (behind_of gathered.now) tuple (Value v.now) (stored self.old.stores ps)) }
         ensures fault { OnOk result (self.new.fault ≡ self.old.fault) }
     {
         match gathered.part.statement.left(tuple) {

@@ -43,7 +43,7 @@ impl Stores {
         value: &i64,
     ) -> Result<(), OutOfMemory>
         requires { id < owners.now.nodes }
-        ensures { OnOk result ((pieces : List (List ℤ)) → stored self.new.list.items pieces ≡ local_write owners.now.layouts id (spot_of spot) value.now (stored self.old.list.items pieces)) }
+        ensures { OnOk result ((pieces : List (List ℤ)) → stored self.new pieces ≡ local_write owners.now.layouts id (spot_of spot) value.now (stored self.old pieces)) }
     {
         if !owners.is_in_bounds(spot) {
             return Err(OutOfMemory);
@@ -62,7 +62,7 @@ impl Stores {
 
     /// Stores the values. It takes no memory.
     pub fn apply(&self, pieces: &mut Vec<Row>)
-        ensures { pieces.new.items ≡ stored self.now.list.items pieces.old.items }
+        ensures { pieces.new.items ≡ stored self.now pieces.old.items }
     {
         for store in &self.list {
             put(pieces, store);

@@ -9,6 +9,6 @@ use Rattle.part_steps.proofs.parallel.par_values.Given as goal
 -- what the first tuples come to
 abbrev pub invariant-loop-tuple : goal.invariant-loop-tuple
 invariant-loop-tuple l = record {
-  stores : (ps : Storage) → stored l.values.stores.list.items ps ≡ stored_below (behind_of l.gathered) l.tuple ps;
+  stores : (ps : Storage) → stored l.values.stores ps ≡ stored_below (behind_of l.gathered) l.tuple ps;
   fault : kepts l.values.fault ≡ fault_below (behind_of l.gathered) l.number l.tuple;
 }
