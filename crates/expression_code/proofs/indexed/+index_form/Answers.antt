@@ -1,0 +1,18 @@
+use Rattle.std.proofs.Common.{◌≡◌, IfOk, ap, ◌∙◌, subst}
+use Rattle.lowering.specs.ExpressionCode.{index_form}
+use Rattle.node_code.specs.Forms.{OperationForm}
+use Rattle.node_code.specs.Texts.{form}
+use Rattle.expression_code.proofs.Forms.{apply_is, element_is}
+use Rattle.expression_code.proofs.Rows.{operation_vec}
+use Rattle.expression_code.proofs.indexed.+index_form.Goals as goal
+
+pub index_form-returns-in-Element : goal.index_form-returns-in-Element
+index_form-returns-in-Element t c =
+    subst (λ w. IfOk c.section.result (λ f. form f ≡ index_form w)) (element_is c.args.t.now _ c.in-Element.subscripts c.deref.result.now c.in-Element.is c.deref.ensures.value) c.section.ensures
+
+pub index_form-returns-in-Apply : goal.index_form-returns-in-Apply
+index_form-returns-in-Apply t c =
+    subst (λ w. IfOk c.operation.result (λ f. form f ≡ index_form w)) (apply_is c.args.t.now _ c.in-Apply.operands c.deref-in-Apply.result.now c.in-Apply.is c.deref-in-Apply.ensures.value) c.operation.ensures
+
+pub operation-returns : goal.operation-returns
+operation-returns t c = operation_vec c.args.op c.in_ok-index_forms.field-0 ∙ ap (OperationForm c.args.op) c.in_ok-index_forms.ensures
