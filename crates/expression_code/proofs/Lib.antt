@@ -1,3 +1,3 @@
 pub mod Rows
+pub mod Lists
 pub mod Forms
-pub mod Turns

@@ -1,8 +1,11 @@
-use Rattle.std.proofs.Common.{◌≡◌, ◌+◌, IfOk, ap, ◌∙◌, subst}
-use Rattle.lowering.specs.ExpressionCode.{flat_of, flats_of}
+use Rattle.std.proofs.Common.{◌≡◌, ◌+◌, IfOk, sym, ap, ◌∙◌, subst}
+use Rattle.std.proofs.lemmas.List.{at_drop_all}
+use Rattle.lowering.specs.ExpressionCode.{all_slots_of, flat_of, flats_of, operated_flat}
 use Rattle.node_code.specs.Flat.{Operated, Slot}
 use Rattle.node_code.specs.Texts.{flat}
 use Rattle.expression_code.proofs.Forms.{apply_is, element_is}
+use Rattle.program_plan.specs.Plans.{terms_of}
+use Rattle.expression_code.proofs.Lists.{flats_made}
 use Rattle.expression_code.proofs.Rows.{operated_vec}
 use Rattle.expression_code.proofs.values.+flat.Goals as goal
 
@@ -17,4 +20,12 @@ flat_of-returns-in-Apply t c =
     c.operated_flat.ensures
 
 pub operated_flat-returns-in_ok-flats_of : goal.operated_flat-returns-in_ok-flats_of
-operated_flat-returns-in_ok-flats_of t c = ?
+operated_flat-returns-in_ok-flats_of t c =
+    operated_vec c.args.op c.in_ok-flats_of.field-0
+    ∙ ap (Operated c.args.op) c.in_ok-flats_of.ensures
+    ∙ ap (λ d. operated_flat d c.args.op (flats_of c.args.b (terms_of c.args.operands.now)) (c.args.b + all_slots_of (terms_of c.args.operands.now)))
+    (sym c.if-can_divide.false ∙ c.can_divide.ensures)
+
+pub flats_of-returns : goal.flats_of-returns
+flats_of-returns t c =
+    flats_made c.loop-t.flats.items _ _ (at_drop_all (λ ts. flats_of c.loop-t.at (terms_of ts)) c.args.terms.now c.loop-t.t-index c.loop-t-test.false) c.loop-t.invariant

@@ -1,9 +1,12 @@
 use Rattle.std.proofs.Common.{◌≡◌, IfOk, ap, ◌∙◌, subst}
-use Rattle.lowering.specs.ExpressionCode.{form_of}
+use Rattle.std.proofs.lemmas.List.{at_drop_all}
+use Rattle.lowering.specs.ExpressionCode.{form_of, forms_of}
 use Rattle.node_code.specs.Forms.{OperationForm}
 use Rattle.node_code.specs.Texts.{form}
 use Rattle.expression_code.proofs.Forms.{apply_is, section_is}
 use Rattle.expression_code.proofs.Rows.{operation_vec}
+use Rattle.expression_code.proofs.Lists.{forms_made}
+use Rattle.program_plan.specs.Plans.{terms_of}
 use Rattle.expression_code.proofs.values.+form.Goals as goal
 
 pub form_of-returns-in-Section : goal.form_of-returns-in-Section
@@ -18,3 +21,7 @@ form_of-returns-in-Apply t c =
 
 pub operation_form-returns : goal.operation_form-returns
 operation_form-returns t c = operation_vec c.args.op c.in_ok-forms_of.field-0 ∙ ap (OperationForm c.args.op) c.in_ok-forms_of.ensures
+
+pub forms_of-returns : goal.forms_of-returns
+forms_of-returns t c =
+    forms_made c.loop-t.forms.items _ _ (at_drop_all (λ ts. forms_of c.loop-t.at (terms_of ts)) c.args.terms.now c.loop-t.t-index c.loop-t-test.false) c.loop-t.invariant
