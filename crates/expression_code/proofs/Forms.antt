@@ -1,5 +1,5 @@
 -- What an expression is, by the match that took it apart and the list that its `Vec` was read as.
-use Rattle.std.proofs.Common.{◌≡◌, ℕ, Global, List, Box, refl, sym, ap, ◌∙◌}
+use Rattle.std.proofs.Common.{◌≡◌, ℕ, Global, List, sym, ap, ◌∙◌}
 use Rattle.std.specs.Prelude.{Vec}
 use Rattle.op_tables.specs.declared.op.Op.{Op}
 use Rattle.array_meaning.specs.Terms.{Apply, Element, Section}

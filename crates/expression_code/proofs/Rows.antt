@@ -1,5 +1,5 @@
 -- What a `Vec` of node code is: the list of what its items stand for.
-use Rattle.std.proofs.Common.{◌≡◌, ℕ, Global, refl, ap, ◌∙◌}
+use Rattle.std.proofs.Common.{◌≡◌, Global, refl, ap, ◌∙◌}
 use Rattle.std.specs.Prelude.{Vec}
 use Rattle.op_tables.specs.declared.op.Op.{Op}
 use Rattle.node_code.specs.declared.flat.Flat.{Flat as HeldFlat}

@@ -1,4 +1,4 @@
-use Rattle.std.proofs.Common.{◌≡◌, IfOk, ap, ◌∙◌, subst}
+use Rattle.std.proofs.Common.{◌≡◌, IfOk, subst}
 use Rattle.lowering.specs.ExpressionCode.{code_of, parts_code}
 use Rattle.node_code.specs.Texts.{instructions}
 use Rattle.expression_code.proofs.Forms.{apply_is, element_is, section_is}

@@ -1,4 +1,4 @@
-use Rattle.std.proofs.Common.{◌≡◌, ◌+◌, ap, ◌∙◌}
+use Rattle.std.proofs.Common.{◌+◌, ap, ◌∙◌}
 use Rattle.node_code.specs.Flat.{Operated}
 use Rattle.node_code.specs.Instructions.{Set}
 use Rattle.expression_code.proofs.Rows.{operated_vec}

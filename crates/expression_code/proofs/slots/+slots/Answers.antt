@@ -1,5 +1,4 @@
-use Rattle.std.proofs.Common.{◌≡◌, ◌+◌, IfOk, subst}
-use Rattle.array_meaning.specs.Terms.{Term}
+use Rattle.std.proofs.Common.{◌≡◌, IfOk, subst}
 use Rattle.lowering.specs.ExpressionCode.{parts_slots, slots_of}
 use Rattle.expression_code.proofs.Forms.{apply_is, element_is, section_is}
 use Rattle.expression_code.proofs.slots.+slots.Goals as goal
