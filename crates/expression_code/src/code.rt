@@ -1,4 +1,4 @@
-//! The code that evaluates expressions, in the order of evaluation. Slots from `b` on are free for it.
+//! The code that evaluates expressions, in the order of evaluation. Slots from `b` on are free for it. An `Err` is want of memory here.
 
 ghost use Rattle.std.specs.Prelude.{◌≡◌, ◌+◌, IfOk};
 ghost use Rattle.array_meaning.specs.Terms.{Apply, Element, Reduce};

@@ -1,4 +1,4 @@
-//! The three values of a control or of a triplet, in three slots behind those that their code takes.
+//! The three values of a control or of a triplet, in three slots behind those that their code takes. An `Err` is want of memory here.
 
 ghost use Rattle.std.specs.Prelude.{◌≡◌, ◌+◌, IfOk, OnOk, [], ◌∷◌, ◌++◌};
 ghost use Rattle.lowering.specs.ExpressionCode.{control_slots, flat_of, slots_of, three_code, triplet};

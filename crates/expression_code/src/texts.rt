@@ -1,4 +1,4 @@
-//! Code put behind other code.
+//! Code put behind other code. An `Err` is want of memory here.
 
 ghost use Rattle.std.specs.Prelude.{◌≡◌, ◌++◌, OnOk};
 
