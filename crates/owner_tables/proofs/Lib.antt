@@ -1,5 +1,5 @@
 mod AlikeLaws
-mod CopyLaws
+pub mod CopyLaws
 mod Counting
 mod Rows
 mod TableLaws
