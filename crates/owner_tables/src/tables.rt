@@ -55,7 +55,7 @@ impl Tables {
     {
         let alike = alike_nodes(alloc, nodes, &mapping)?;
         let leaders = leaders(alloc, &alike)?;
-        let least = least_owners(alloc, nodes, &shape, &mapping)?;
+        let least = least_owners(alloc, nodes, &shape, &mapping, &leaders)?;
         let numbers = numbered(alloc, nodes, &least)?;
         Ok(Tables {
             nodes,
