@@ -14,12 +14,12 @@ mod copies;
 mod laws;
 mod least;
 mod numbers;
+mod owner_table;
 mod owners;
 mod spot;
-mod table;
 mod tables;
 
 pub use laws::{copies_are_dealt, copies_have_sizes, pieces_of_one_value};
+pub use owner_table::OwnerTable;
 pub use owners::Owners;
 pub use spot::Spot;
-pub use table::OwnerTable;

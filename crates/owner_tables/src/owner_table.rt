@@ -1,12 +1,10 @@
 //! The table of one row: who owns its elements, and where they lie.
 
-ghost use Rattle.std.specs.Prelude.{◌≡◌, ◌<◌, ◌≤◌, IfOk, filter, true};
-ghost use Rattle.std.specs.List.{range_with_len};
+ghost use Rattle.std.specs.Prelude.{◌≡◌, ◌<◌, ◌≤◌, IfOk};
 ghost use Rattle.hpf_base.specs.declared.limits.TheConstants.{MAX_NODES};
 ghost use Rattle.machine_steps.specs.Layout.{count_passing, owned_by, size_of};
 ghost use Rattle.owner_tables.specs.CopyLayout.{copy_layout};
 ghost use Rattle.owner_tables.specs.Layouts.{IsLaid};
-ghost use Rattle.owner_tables.specs.Numbers.{least_at};
 
 use crate::copies::{CopyLayout, copy_layout};
 use crate::tables::Tables;
@@ -71,11 +69,11 @@ impl OwnerTable {
         })
     }
 
-    /// The number of nodes.
-    pub fn nodes(&self) -> u32
-        ensures { result ≡ self.now.nodes }
+    /// The tables themselves.
+    pub(crate) fn tables(&self) -> &Tables
+        ensures { result.now ≡ self.now }
     {
-        self.tables.nodes()
+        &self.tables
     }
 
     /// The number of elements.
@@ -91,41 +89,5 @@ impl OwnerTable {
         ensures { result ≡ count_passing (owned_by self.now.layout node) 0 (size_of self.now.layout) }
     {
         self.tables.owned(node)
-    }
-
-    /// The owners of the element at the position, ascending.
-    pub fn owners(&self, at: usize) -> &[u32]
-        requires { at < size_of self.now.layout }
-        ensures { result.now ≡ filter (λ node. owned_by self.now.layout node at) (range_with_len 0 self.now.nodes) }
-    {
-        self.tables.owners(at)
-    }
-
-    /// Whether the node owns the element at the position.
-    pub fn owns(&self, node: u32, at: usize) -> bool
-        requires node { node < self.now.nodes }
-        requires at { at < size_of self.now.layout }
-        ensures { result ≡ owned_by self.now.layout node at }
-    {
-        self.tables.owns(node, at)
-    }
-
-    /// The owner of the element at the position with the least number.
-    pub fn least_owner(&self, at: usize) -> u32
-        requires { at < size_of self.now.layout }
-        ensures value { result ≡ least_at self.now.nodes self.now.layout at }
-        ensures below { result < self.now.nodes }
-    {
-        self.tables.least_owner(at)
-    }
-
-    /// The local address, from 0, of the element at the position on a node that owns it: its number among the elements that the node owns.
-    pub fn address(&self, node: u32, at: usize) -> usize
-        requires node { node < self.now.nodes }
-        requires at { at < size_of self.now.layout }
-        requires owner { owned_by self.now.layout node at ≡ true }
-        ensures { result ≡ count_passing (owned_by self.now.layout node) 0 at }
-    {
-        self.tables.address(node, at)
     }
 }
