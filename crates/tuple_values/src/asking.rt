@@ -16,8 +16,9 @@ ghost use Rattle.tuple_values.specs.Statements.{asked_by, asked_outcome, bounded
 ghost use Rattle.tuple_values.specs.Views.{statement};
 
 use crate::elements::Elements;
-use crate::here::{Here, element_place};
+use crate::here::Here;
 use crate::outcome::{Outcome, broken};
+use crate::places::element_place;
 use crate::reads::{form_reads, in_row, section_read};
 use crate::right::Right;
 use crate::statement::ParallelStatement;
