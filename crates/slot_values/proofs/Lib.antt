@@ -1,0 +1,6 @@
+pub mod Begun
+pub mod InBounds
+pub mod LocalInstructions
+pub mod Operands
+pub mod Pairs
+pub mod Tested

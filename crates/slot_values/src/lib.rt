@@ -18,10 +18,11 @@ mod numbered_faults;
 mod scalar_instructions;
 mod section_bounds;
 mod sections;
+mod slot_terms;
 mod space_tests;
 
 pub use control::{Control, Status, halt, jump, jump_if_zero};
-pub use element_spots::element_spot;
+pub use element_spots::{element_place, element_spot};
 pub use expressions::{flat_or_zero, flat_value, flat_values, slot};
 pub use forall_tests::{forall_limits, one_to_one};
 pub use hpf_base::OutOfMemory;

@@ -5,7 +5,11 @@ ghost use Rattle.node_code.specs.Texts.{instruction};
 ghost use Rattle.slot_values.specs.Controls.{control_of};
 ghost use Rattle.slot_values.specs.LocalInstructions.{is_local, local_control};
 
-use crate::control::Control;
+use crate::control::{Control, halt, jump, jump_if_zero};
+use crate::forall_tests::{forall_limits, one_to_one};
+use crate::scalar_instructions::{set, test_bounds, test_stride, trips};
+use crate::section_bounds::inside;
+use crate::space_tests::{limits, own_limits};
 use expression_rules::Dims;
 use hpf_base::OutOfMemory;
 use node_code::Instruction;
@@ -53,5 +57,38 @@ pub fn run_local(
     ensures done { OnOk result (control_of c.new ≡ local_control shapes.now (instruction i.now) (control_of c.old)) }
     ensures unchanged { OnErr result (c.new ≡ c.old) }
 {
-    Err(OutOfMemory)
+    match i {
+        Instruction::Set { line, slot, value } => set(*line, *slot, value, c),
+        Instruction::TestBounds {
+            line,
+            array,
+            subscripts,
+        } => test_bounds(shapes, *line, *array, subscripts, c),
+        Instruction::TestStride { line, slot } => test_stride(*line, *slot, c),
+        Instruction::Trips {
+            line,
+            first,
+            last,
+            step,
+            left,
+            target,
+        } => trips(*line, *first, *last, *step, *left, *target, c),
+        Instruction::Limits(p) => limits(alloc, p, c),
+        Instruction::OwnLimits(p) => own_limits(alloc, p, c),
+        Instruction::ForallLimits {
+            line,
+            over,
+            subscripts,
+        } => forall_limits(alloc, *line, over, subscripts, c),
+        Instruction::OneToOne { line, over, left } => one_to_one(alloc, *line, over, left, c),
+        Instruction::Inside {
+            line,
+            array,
+            subscripts,
+        } => inside(alloc, shapes, *line, *array, subscripts, c),
+        Instruction::Jump { target } => Ok(jump(*target, c)),
+        Instruction::JumpIfZero { target, slot } => Ok(jump_if_zero(*target, *slot, c)),
+        Instruction::Halt => Ok(halt(c)),
+        _ => Ok(()),
+    }
 }
