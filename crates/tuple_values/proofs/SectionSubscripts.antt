@@ -2,6 +2,8 @@
 use Rattle.std.proofs.Common.{◌≡◌, List, [], ◌∷◌, ◌++◌, ℤ, refl, ap, sym, ◌∙◌, append_assoc}
 use Rattle.array_meaning.specs.Sections.{subscripts_at}
 use Rattle.node_code.specs.Forms.{Sub, SubAt, SubAlong, selections_at}
+use Rattle.array_meaning.specs.declared.sections.Selection.{Selection}
+use Rattle.term_values.proofs.SectionSubscripts.{two_is}
 use Rattle.term_values.specs.SectionSubscripts.{positions_behind, subscript_at}
 use Rattle.tuple_values.specs.Sections.{selection_of}
 
@@ -31,3 +33,8 @@ module _ (slots axes : List ℤ) where
       ∙ ap (λ i. is ++ i ∷ subscripts_at (selections_at slots axes ds) (positions_behind (selection_of slots axes d) x)) (sym here)
       ∙ ap (λ y. is ++ i ∷ subscripts_at (selections_at slots axes ds) y) (sym behind)
       ∙ sym (append_assoc is (i ∷ []) (subscripts_at (selections_at slots axes ds) y))
+
+-- two subscripts by the numbers of tuples
+pub numbered_two : (d e : Selection) (x y : List ℤ) (i j : ℤ) → i ≡ subscript_at d x → y ≡ positions_behind d x → j ≡ subscript_at e y
+    → i ∷ j ∷ [] ≡ subscripts_at (d ∷ e ∷ []) x
+numbered_two d e x y i j is behind js = two_is d e x i j is (js ∙ ap (subscript_at e) behind)

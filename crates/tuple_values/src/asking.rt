@@ -1,9 +1,6 @@
 //! What is asked of parallel statements.
 
 ghost use Rattle.std.specs.Prelude.{◌≡◌, ◌<◌, ◌≤◌, ◌++◌, length, map, slice_index_or, None, IfErr, IfOk, Ok, OnOk};
-ghost use Rattle.hpf_base.specs.declared.limits.TheConstants.{MAX_TUPLES};
-ghost use Rattle.array_meaning.specs.State.{element_place};
-ghost use Rattle.array_meaning.specs.Sections.{positions, subscripts_at};
 ghost use Rattle.machine_steps.specs.Instr.{Value};
 ghost use Rattle.machine_steps.specs.Machine.{value_by};
 ghost use Rattle.node_code.specs.Parallel.{as_asked, mask_reads, reads_at, shape_of};
@@ -15,18 +12,16 @@ ghost use Rattle.tuple_values.specs.Spots.{read_of, reads_of};
 ghost use Rattle.tuple_values.specs.Statements.{asked_by, asked_outcome, bounded_value, counted_by, entries, form_at, tuple_count, tuple_left, tuple_outcome, tuple_place, tuple_reads};
 ghost use Rattle.tuple_values.specs.Views.{statement};
 
+use crate::assigned::assigned_place;
 use crate::elements::Elements;
 use crate::here::Here;
 use crate::outcome::{Outcome, broken};
-use crate::places::element_place;
 use crate::reads::{form_reads, in_row, section_read};
 use crate::right::Right;
 use crate::statement::ParallelStatement;
 use crate::target::Target;
-use crate::tuple::{positions, subscripts_at};
 use crate::values::{form_value, section_value};
-use array_meaning::{FaultKind, Selection};
-use expression_rules::Dims;
+use array_meaning::FaultKind;
 use hpf_base::OutOfMemory;
 use op_tables::Op;
 use owner_tables::Spot;
@@ -194,24 +189,6 @@ impl<'a> ParallelStatement<'a> {
             }
         }
     }
-}
-
-/// The place of a section's element at the tuple with a number.
-fn assigned_place(
-    shapes: &[Dims],
-    array: usize,
-    ds: &[Selection],
-    extents: &[u128],
-    tuple: usize,
-) -> Option<usize>
-    requires rank { length ds.now ≤ 7 }
-    requires space_rank { length extents.now ≤ 7 }
-    requires tuple { tuple ≤ MAX_TUPLES }
-    ensures { result ≡ element_place (shape_of shapes.now array) (subscripts_at ds.now (positions extents.now tuple)) }
-{
-    let x = positions(extents, tuple);
-    let is = subscripts_at(ds, x.as_slice());
-    element_place(shapes, array, is.as_slice())
 }
 
 /// The place that is kept of a tuple.

@@ -10,6 +10,7 @@
 #![tactic(auto)]
 
 mod asking;
+mod assigned;
 mod elements;
 mod here;
 mod making;
