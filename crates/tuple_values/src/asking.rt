@@ -1,9 +1,9 @@
 //! What is asked of parallel statements.
 
-ghost use Rattle.std.specs.Prelude.{◌≡◌, ◌<◌, ◌≤◌, ◌++◌, length, map, slice_index_or, None, IfErr, IfOk, Ok, OnOk};
+ghost use Rattle.std.specs.Prelude.{◌≡◌, ◌<◌, ◌++◌, map, slice_index_or, None, IfErr, IfOk, Ok, OnOk};
 ghost use Rattle.machine_steps.specs.Instr.{Value};
 ghost use Rattle.machine_steps.specs.Machine.{value_by};
-ghost use Rattle.node_code.specs.Parallel.{as_asked, mask_reads, reads_at, shape_of};
+ghost use Rattle.node_code.specs.Parallel.{as_asked, mask_reads, reads_at};
 ghost use Rattle.op_tables.specs.Operators.{is_true};
 ghost use Rattle.term_values.specs.Stops.{IsStop};
 ghost use Rattle.tuple_values.specs.ByElements.{value_by_elements};
