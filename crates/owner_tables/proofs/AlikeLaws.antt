@@ -1,5 +1,5 @@
 -- Where a node owns an element, any node owns it exactly where the two are alike.
-use Rattle.std.proofs.Common.{◌≡◌, ℕ, suc, ◌+◌, ◌<◌, ◌≤◌, Bool, true, ◌==◌, ◌&&◌, ℤ, pos, ◌+ℤ◌, ◌*ℤ◌, List, [], ◌∷◌, Option, Some, None, get_or, length, map, refl, sym, ◌∙◌, ap, subst, arith, eq-eqb, All, filter}
+use Rattle.std.proofs.Common.{◌≡◌, ℕ, ◌<◌, ◌≤◌, true, ◌==◌, ◌&&◌, ℤ, pos, ◌+ℤ◌, ◌*ℤ◌, List, [], ◌∷◌, Option, Some, None, get_or, length, map, refl, sym, ◌∙◌, ap, subst, arith, eq-eqb, All, filter}
 use Rattle.std.proofs.lemmas.Bool.{and_from, and_parts, eqb-true}
 use Rattle.std.proofs.lemmas.List.{get_or-map, length-map}
 use Rattle.std.proofs.lemmas.List.Elements.{All-head, All-tail}
@@ -20,7 +20,7 @@ use Rattle.hpf_base.proofs.Elements.{elements-get}
 use Rattle.hpf_base.proofs.Places.{length-place_at, place_at}
 use Rattle.hpf_base.proofs.Sections.{same_test}
 use Rattle.local_address.proofs.ElementLaws.{length-index_at}
-use Rattle.machine_steps.specs.Layout.{Layout, count_passing, element_index, first, owned_by, size_of}
+use Rattle.machine_steps.specs.Layout.{Layout, count_passing, element_index, owned_by, size_of}
 use Rattle.owner_tables.specs.Alike.{alike_nodes, is_alike, is_alike_at, is_alike_in, leader}
 use Rattle.owner_tables.specs.Layouts.{IsLaid}
 use Rattle.owner_tables.specs.Numbers.{AreOwnedByLeast, count_of, least_at, least_owners, number_at}

@@ -1,4 +1,6 @@
 mod AlikeLaws
-mod CopyLaws
+pub mod CopyLaws
 mod Counting
+mod Rows
+mod TableLaws
 pub mod Ranges

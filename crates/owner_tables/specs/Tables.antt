@@ -1,5 +1,5 @@
 -- What the tables of a row hold.
-use Rattle.std.specs.Prelude.{◌≡◌, ℕ, length, map}
+use Rattle.std.specs.Prelude.{◌≡◌, length, map}
 use Rattle.std.specs.List.{range_with_len}
 use Rattle.machine_steps.specs.Layout.{Layout, size_of}
 use Rattle.owner_tables.specs.declared.tables.Tables.TheInside.{Inside}

@@ -1,5 +1,5 @@
 -- Results at tuples in order, of which only the first fault is kept.
-use Rattle.std.proofs.Common.{◌≡◌, ℕ, suc, ◌<◌, true, List, ℤ, refl, ap, sym, ◌∙◌, Result, Ok, Err}
+use Rattle.std.proofs.Common.{◌≡◌, ℕ, suc, ◌<◌, true, List, ℤ, refl, ap, Result, Ok, Err}
 use Rattle.std.proofs.lemmas.Bool.{false≢true}
 use Rattle.array_meaning.specs.Elementals.{each}
 use Rattle.array_meaning.specs.Faults.{Cause, at_tuple}

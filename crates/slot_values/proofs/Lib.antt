@@ -1,4 +1,5 @@
 pub mod Begun
+pub mod ForallTests
 pub mod InBounds
 pub mod LocalInstructions
 pub mod Operands

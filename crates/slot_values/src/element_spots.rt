@@ -39,12 +39,7 @@ pub fn element_spot(
 }
 
 /// The same of one subscript.
-fn spot_by_one(
-    shapes: &[Dims],
-    array: usize,
-    subscript: &Flat,
-    slots: &[i64],
-) -> Result<Spot, Stop>
+fn spot_by_one(shapes: &[Dims], array: usize, subscript: &Flat, slots: &[i64]) -> Result<Spot, Stop>
     ensures value { IfOk result (λ s. element_spot shapes.now array (AndFlat (flat subscript.now) NoFlat) slots.now ≡ Ok (spot_of s)) }
     ensures stopped { IfErr result (IsStop (element_spot shapes.now array (AndFlat (flat subscript.now) NoFlat) slots.now)) }
 {
@@ -65,7 +60,10 @@ fn spot_by_two(
     ensures stopped { IfErr result (IsStop (element_spot shapes.now array (flats_of subscripts.now.items) slots.now)) }
 {
     let pair = two_values(slots, &[], subscripts)?;
-    spot_at(array, place_by_two(shapes, array, &pair.first, &pair.second))
+    spot_at(
+        array,
+        place_by_two(shapes, array, &pair.first, &pair.second),
+    )
 }
 
 /// An element by its place; a fault where there is none.

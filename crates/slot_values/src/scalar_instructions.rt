@@ -19,7 +19,7 @@ use array_meaning::{FaultKind, Sequence};
 use expression_rules::Dims;
 use hpf_base::OutOfMemory;
 use node_code::Flat;
-use term_values::{Stop, fault, sequence};
+use term_values::{Number, Stop, fault, sequence};
 
 /// A slot gets the value of an expression, or the run ends with its fault. Behind want of memory nothing has changed.
 pub fn set(line: u32, x: usize, value: &Flat, c: &mut Control) -> Result<(), OutOfMemory>
@@ -37,7 +37,6 @@ pub fn set(line: u32, x: usize, value: &Flat, c: &mut Control) -> Result<(), Out
 }
 
 /// The run ends with a fault where a subscript has one or is out of bounds, and else goes on. Behind want of memory nothing has changed.
-#[tactic(auto, using(crate::proofs::Tested::tested_as))]
 pub fn test_bounds(
     shapes: &[Dims],
     line: u32,
@@ -54,12 +53,7 @@ pub fn test_bounds(
 }
 
 /// Whether there is such an element.
-fn bounds(
-    shapes: &[Dims],
-    array: usize,
-    subscripts: &Vec<Flat>,
-    slots: &[i64],
-) -> Result<(), Stop>
+fn bounds(shapes: &[Dims], array: usize, subscripts: &Vec<Flat>, slots: &[i64]) -> Result<(), Stop>
     ensures { IsTest (element_spot shapes.now array (flats_of subscripts.now.items) slots.now) result }
 {
     match element_spot(shapes, array, subscripts, slots) {
@@ -69,7 +63,6 @@ fn bounds(
 }
 
 /// The run ends with a fault where a slot is 0, and else goes on.
-#[tactic(auto, using(crate::proofs::Tested::tested_as))]
 pub fn test_stride(line: u32, x: usize, c: &mut Control) -> Result<(), OutOfMemory>
     requires in_code { c.old.at < 2 ^ 63 }
     ensures done { OnOk result (control_of c.new ≡ go_on_if (at_line line (stride_at x c.old.slots.items)) (control_of c.old)) }
@@ -128,15 +121,18 @@ fn begin_trips(left: usize, target: usize, p: Sequence, c: &mut Control)
     if p.count == 0 {
         c.at = target;
     } else {
-        set_slot(left, trips_left(p.count), c);
+        set_slot(left, trips_left(p.count).value, c);
     }
 }
 
 /// What is left of an iteration count behind the first iteration, in 64 bits.
-fn trips_left(count: u128) -> i64
+#[tactic(auto, using(crate::proofs::Begun::in_64_bits))]
+fn trips_left(count: u128) -> Number
     requires some { 1 ≤ count }
-    ensures { result ≡ wrapped (pos (count - 1)) }
+    ensures { result.value ≡ wrapped (pos (count - 1)) }
 {
-    let in_64_bits = ((count - 1) % (1 << 64)) as u64;
-    in_64_bits.cast_signed()
+    let left = ((count - 1) % (1 << 64)) as u64;
+    Number {
+        value: left.cast_signed(),
+    }
 }

@@ -88,10 +88,6 @@ fn is_inside(
     let subscripts = subscripts_at(alloc, ds, tuple.as_slice())?;
     match element_place(shapes, array, subscripts.as_slice()) {
         Some(_) => Ok(()),
-        None => Err(at_tuple(
-            alloc,
-            tuple.as_slice(),
-            fault(FaultKind::Bounds),
-        )),
+        None => Err(at_tuple(alloc, tuple.as_slice(), fault(FaultKind::Bounds))),
     }
 }

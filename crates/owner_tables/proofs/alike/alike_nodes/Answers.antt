@@ -1,4 +1,4 @@
-use Rattle.std.proofs.Common.{[], ◌∷◌, sym, ◌∙◌, ap, map}
+use Rattle.std.proofs.Common.{[], ◌∷◌, ◌∙◌, ap, map}
 use Rattle.std.proofs.lemmas.List.{map-append}
 use Rattle.hpf_base.proofs.Sections.{map-range_push}
 use Rattle.owner_tables.specs.Alike.{alike_nodes}

@@ -1,4 +1,4 @@
-use Rattle.std.proofs.Common.{◌≡◌, ◌<◌, ◌≤◌, ◌==◌, ◌∙◌, arith, get_or}
+use Rattle.std.proofs.Common.{◌<◌, ◌≤◌, ◌==◌, ◌∙◌, arith, get_or}
 use Rattle.hpf_base.proofs.Sections.{map-range_push}
 use Rattle.owner_tables.specs.Numbers.{number_at}
 use Rattle.owner_tables.proofs.Counting.{count-here, counts-next}

@@ -1,4 +1,4 @@
-use Rattle.std.proofs.Common.{◌≡◌, ◌∙◌, ◌+◌, ap, sym, drop}
+use Rattle.std.proofs.Common.{◌∙◌, ◌+◌, ap, sym, drop}
 use Rattle.std.proofs.lemmas.List.{drop_all}
 use Rattle.expression_rules.proofs.Lists.{drop_item}
 use Rattle.array_meaning.specs.Elementals.{Operand, Operation}
