@@ -9,7 +9,7 @@ ghost use Rattle.term_values.specs.Stops.{IsStop};
 ghost use Rattle.tuple_values.specs.ByElements.{value_by_elements};
 ghost use Rattle.tuple_values.specs.Outcomes.{outcome_view};
 ghost use Rattle.tuple_values.specs.Spots.{read_of, reads_of};
-ghost use Rattle.tuple_values.specs.Statements.{asked_by, asked_outcome, bounded_value, counted_by, entries, form_at, tuple_count, tuple_left, tuple_outcome, tuple_place, tuple_reads};
+ghost use Rattle.tuple_values.specs.Statements.{asked_by, asked_outcome, axes_in, bounded_value, counted_by, entries, form_at, tuple_count, tuple_left, tuple_outcome, tuple_place, tuple_reads};
 ghost use Rattle.tuple_values.specs.Views.{statement};
 
 use crate::assigned::assigned_place;
@@ -144,13 +144,7 @@ impl<'a> ParallelStatement<'a> {
         ensures value { IfOk result (λ v. value_by_elements (statement self.now).shapes (E.get elements.now) x.now (form_at (statement self.now) x.now) ≡ Ok v) }
         ensures stopped { IfErr result (IsStop (value_by_elements (statement self.now).shapes (E.get elements.now) x.now (form_at (statement self.now) x.now))) }
     {
-        let here = Here {
-            alloc: *self.space.extents.allocator(),
-            shapes: self.shapes,
-            slots: self.slots,
-            axes: self.space.axes(x),
-            tuple: x,
-        };
+        let here = self.here(x);
         match &self.right {
             Right::Form(f) => form_value(&here, f, elements),
             Right::Section(a, ds) => section_value(&here, *a, ds, elements),
@@ -161,16 +155,26 @@ impl<'a> ParallelStatement<'a> {
     fn read_form(&self, x: &[i64], reads: &mut Vec<Option<Spot>>) -> Result<(), OutOfMemory>
         ensures { OnOk result (reads_of reads.new.items ≡ reads_of reads.old.items ++ reads_at (statement self.now).shapes x.now (form_at (statement self.now) x.now)) }
     {
-        let here = Here {
+        let here = self.here(x);
+        match &self.right {
+            Right::Form(f) => form_reads(&here, f, reads),
+            Right::Section(a, ds) => section_read(&here, *a, ds, reads),
+        }
+    }
+
+    /// The tuple with these entries.
+    fn here<'b>(&'b self, x: &'b [i64]) -> Here<'b>
+        ensures shapes { result.shapes.now ≡ (statement self.now).shapes }
+        ensures slots { result.slots.now ≡ (statement self.now).slots }
+        ensures axes { result.axes.now ≡ axes_in (statement self.now).indices x.now }
+        ensures tuple { result.tuple.now ≡ x.now }
+    {
+        Here {
             alloc: *self.space.extents.allocator(),
             shapes: self.shapes,
             slots: self.slots,
             axes: self.space.axes(x),
             tuple: x,
-        };
-        match &self.right {
-            Right::Form(f) => form_reads(&here, f, reads),
-            Right::Section(a, ds) => section_read(&here, *a, ds, reads),
         }
     }
 
