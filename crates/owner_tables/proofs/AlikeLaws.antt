@@ -97,7 +97,8 @@ module _ (mapping : Mapping) (index : List ℤ) (valid : IsMapping (length index
   leader-first : (nodes node : ℕ) → owns mapping index node ≡ true → first (owns mapping index) 0 nodes ≡ leader mapping nodes node
   leader-first nodes node h = first-agree (owns mapping index) (is_alike mapping node) 0 nodes (λ k from upto. alike-owns node k h)
 
-  pub leader-owns : (nodes node : ℕ) (leaders : List ℕ) → leaders ≡ map (leader mapping nodes) (range_with_len 0 nodes) → node < nodes → owns mapping index node ≡ true
+  pub leader-owns : (nodes node : ℕ) (leaders : List ℕ) → leaders ≡ map (leader mapping nodes) (range_with_len 0 nodes) → node < nodes
+      → owns mapping index node ≡ true
       → (get_or leaders node 0 ≡ first (owns mapping index) 0 nodes) × (get_or leaders node 0 < nodes) × (owns mapping index (get_or leaders node 0) ≡ true)
   leader-owns nodes node leaders are within h =
       let is : get_or leaders node 0 ≡ first (owns mapping index) 0 nodes =
