@@ -9,7 +9,7 @@ ghost use Rattle.node_code.specs.Texts.{instruction, instructions};
 ghost use Rattle.program_plan.specs.Plans.{control, subscripts_of, term, terms_of};
 ghost use Rattle.expression_code.specs.Subscripts.{subscript_code};
 
-use crate::controls::{three, three_code};
+use crate::controls::{three_code, three_values};
 use crate::evaluations::own_evaluation;
 use crate::slots::{all_slots_of, parts_slots, slots_of, subscript_slots};
 use crate::sums::{can_divide, plus};
@@ -194,7 +194,7 @@ fn subscript_code(
     match d {
         SectionSubscript::Subscript(t) => code_of(alloc, line, b, t),
         SectionSubscript::Triplet(first, last, step) => {
-            let values = three(alloc, b, first, last, step)?;
+            let values = three_values(alloc, b, first, last, step)?;
             let slot = plus(values.slot, 2)?;
             let first = code_of(alloc, line, b, first)?;
             let last = code_of(alloc, line, values.last_from, last)?;
@@ -252,7 +252,7 @@ pub fn control_code(
 ) -> Result<Vec<Instruction>, OutOfMemory>
     ensures { IfOk result (λ v. instructions v.items ≡ control_code line b (control c.now)) }
 {
-    let values = three(alloc, b, &c.first, &c.last, &c.step)?;
+    let values = three_values(alloc, b, &c.first, &c.last, &c.step)?;
     let first = code_of(alloc, line, b, &c.first)?;
     let last = code_of(alloc, line, values.last_from, &c.last)?;
     let step = code_of(alloc, line, values.step_from, &c.step)?;

@@ -29,7 +29,7 @@ pub(crate) struct Three {
 }
 
 /// The three values of these expressions.
-pub(crate) fn three(
+pub(crate) fn three_values(
     alloc: Global,
     b: usize,
     first: &Term,

@@ -52,7 +52,8 @@ pub fn index_flats(alloc: Global, terms: &[Term]) -> Result<Vec<Flat>, OutOfMemo
 pub fn all_index_flats(alloc: Global, terms: &[Term]) -> Result<Vec<Flat>, OutOfMemory>
     ensures { IfOk result (λ fs. map flat fs.items ≡ map index_flat (list_of (terms_of terms.now))) }
 {
-    index_flats(alloc, terms)
+    let flats = index_flats(alloc, terms)?;
+    Ok(flats)
 }
 
 /// Subscripts as those of a section.
