@@ -1,6 +1,6 @@
 -- The code of an IF, by that of its parts.
-use Rattle.std.proofs.Common.{◌≡◌, ℕ, suc, ◌+◌, List, [], ◌∷◌, ◌++◌, length, append_assoc, length-append, arith, refl, sym, ap, ◌∙◌}
-use Rattle.std.proofs.lemmas.List.{append-nil, length-map}
+use Rattle.std.proofs.Common.{◌≡◌, ℕ, suc, ◌+◌, List, [], ◌∷◌, ◌++◌, Global, Vec, length, append_assoc, length-append, arith, refl, sym, ap, ◌∙◌}
+use Rattle.std.proofs.lemmas.List.{append-nil, length-map, map-append}
 use Rattle.std.proofs.lemmas.Grind.{flat_map-append}
 use Rattle.array_meaning.specs.Terms.{Term}
 use Rattle.node_code.specs.declared.instruction.Instruction.{Instruction as HeldInstruction}
@@ -8,7 +8,7 @@ use Rattle.node_code.specs.Instructions.{Instruction, Jump, JumpIfZero, Set}
 use Rattle.node_code.specs.Texts.{instruction, instructions}
 use Rattle.lowering.specs.ExpressionCode.{code_of, flat_of, slots_of}
 use Rattle.lowering.specs.StatementCode.{arm_code}
-use Rattle.node_codegen.specs.Arms.{arms_before, jump_over, jumping_to}
+use Rattle.node_codegen.specs.Arms.{arms_before, codes, jump_over, jumping_to}
 
 -- an arm, by the code of its condition and that of its body
 pub arm_is : (line pc b : ℕ) (t : Term) (body rest : ℕ → List Instruction) (c p v : List HeldInstruction) →
@@ -26,8 +26,8 @@ arm_is line pc b t body rest c p v condition inside whole =
     let same : body (pc + length test + 2) ≡ instructions p = sym (inside ∙ ap body place) in
     let lp : length (body (pc + length test + 2)) ≡ length p = ap length same ∙ length-map p instruction in
     let lv : length (instructions v) ≡ length c + suc (length p) =
-        ap length whole ∙ length-append (instructions c) (JumpIfZero (pc + length c + 1 + length p + 1) x ∷ instructions p)
-        ∙ (λ i. length-map c instruction i + suc (length-map p instruction i)) in
+    ap length whole ∙ length-append (instructions c) (JumpIfZero (pc + length c + 1 + length p + 1) x ∷ instructions p)
+    ∙ (λ i. length-map c instruction i + suc (length-map p instruction i)) in
     let behind : pc + length test + 2 + length (body (pc + length test + 2)) + 1 ≡ q = omega (arith, lc, lp, lv) in
     let over : pc + length c + 1 + length p + 1 ≡ q = omega (arith, lv) in
     (λ i. test ++ Set line x (flat_of b t) ∷ JumpIfZero (behind i) x ∷ (same i ++ jump_over (behind i) rest))
@@ -48,3 +48,7 @@ arms_next at at' cs c whole rest next first =
     ∙ sym (append_assoc (jumping_to (at' + length (rest at')) cs) (c ++ Jump (at' + length (rest at')) ∷ []) (rest at'))
     ∙ ap (λ l. (jumping_to (at' + length (rest at')) cs ++ l) ++ rest at') (sym (append-nil (c ++ Jump (at' + length (rest at')) ∷ [])))
     ∙ ap (λ l. l ++ rest at') (sym (flat_map-append (λ c. c ++ Jump (at' + length (rest at')) ∷ []) cs (c ∷ [])))
+
+-- the codes with one more
+pub codes_next : (made new : List (Vec HeldInstruction Global)) (one : Vec HeldInstruction Global) → new ≡ made ++ one ∷ [] → codes new ≡ codes made ++ instructions one.items ∷ []
+codes_next made new one is = ap codes is ∙ map-append (λ (v : Vec HeldInstruction Global). instructions v.items) made (one ∷ [])

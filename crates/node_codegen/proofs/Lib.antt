@@ -1,3 +1,2 @@
 mod Arms
-mod Blocks
 mod Parts

@@ -45,16 +45,13 @@ pub(crate) fn masked_assignment_code(
     branch: When,
 ) -> Result<Vec<Instruction>, OutOfMemory>
     ensures { IfOk result (λ v. instructions v.items
-      ≡ assignment_code x.now.line b x.now.array (subscripts_of x.now.subscripts.items) (term x.now.right) (Some (or_no_sub (first_subs (form_of free (term mask.now))), when branch))) }
+        ≡ assignment_code x.now.line b x.now.array (subscripts_of x.now.subscripts.items) (term x.now.right) (Some (or_no_sub (first_subs (form_of free (term mask.now))), when branch))) }
 {
     let limits = masked_assignment(alloc, b, x, free, mask, branch)?;
     let stored = masked_assignment(alloc, b, x, free, mask, branch)?;
     let parts = right_code(alloc, x.line, b, &x.subscripts, &x.right)?;
     let behind = with_stores(parts, limits, stored)?;
-    with_more(
-        subscripts_code(alloc, x.line, b, &x.subscripts)?,
-        behind,
-    )
+    with_more(subscripts_code(alloc, x.line, b, &x.subscripts)?, behind)
 }
 
 /// The code of a right side, whose slots stand behind those of the left side.
@@ -67,12 +64,7 @@ fn right_code(
 ) -> Result<Vec<Instruction>, OutOfMemory>
     ensures { IfOk result (λ v. instructions v.items ≡ parts_code line (b + subscripts_slots (subscripts_of subscripts.now)) (term right.now)) }
 {
-    parts_code(
-        alloc,
-        line,
-        plus(b, subscripts_slots(subscripts)?)?,
-        right,
-    )
+    parts_code(alloc, line, plus(b, subscripts_slots(subscripts)?)?, right)
 }
 
 /// Code with the stores of an assignment behind it, once its limits are kept. The two are the same assignment.
@@ -124,7 +116,7 @@ fn masked_assignment(
     branch: When,
 ) -> Result<Assignment, OutOfMemory>
     ensures { IfOk result (λ p. text.assignment p
-      ≡ assignment x.now.line b x.now.array (subscripts_of x.now.subscripts.items) (term x.now.right) (Some (or_no_sub (first_subs (form_of free (term mask.now))), when branch))) }
+        ≡ assignment x.now.line b x.now.array (subscripts_of x.now.subscripts.items) (term x.now.right) (Some (or_no_sub (first_subs (form_of free (term mask.now))), when branch))) }
 {
     let left = subs_of(alloc, b, &x.subscripts)?;
     let over = own_space(alloc, free, mask)?;

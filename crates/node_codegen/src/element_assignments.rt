@@ -6,7 +6,7 @@ ghost use Rattle.node_code.specs.Texts.{instructions};
 ghost use Rattle.program_plan.specs.Plans.{term, terms_of};
 ghost use Rattle.lowering.specs.ExpressionCode.{all_slots_of, code_of, codes_of, flat_of, flats_of};
 
-use crate::sequences::{with_more, with_last};
+use crate::sequences::{with_last, with_more};
 use expression_code::{all_slots_of, code_of, codes_of, flat_of, flats_of, plus};
 use hpf_base::OutOfMemory;
 use node_code::Instruction;
@@ -38,9 +38,9 @@ pub(crate) fn element_code(
     right: &Term,
 ) -> Result<Vec<Instruction>, OutOfMemory>
     ensures { IfOk result (λ v. instructions v.items ≡
-      codes_of line b (terms_of subscripts.now) ++ TestBounds line array (flats_of b (terms_of subscripts.now))
-      ∷ (code_of line (b + all_slots_of (terms_of subscripts.now)) (term right.now)
-      ++ Store line array (flats_of b (terms_of subscripts.now)) (flat_of (b + all_slots_of (terms_of subscripts.now)) (term right.now)) ∷ [])) }
+        codes_of line b (terms_of subscripts.now) ++ TestBounds line array (flats_of b (terms_of subscripts.now))
+        ∷ (code_of line (b + all_slots_of (terms_of subscripts.now)) (term right.now)
+        ++ Store line array (flats_of b (terms_of subscripts.now)) (flat_of (b + all_slots_of (terms_of subscripts.now)) (term right.now)) ∷ [])) }
 {
     let b1 = plus(b, all_slots_of(subscripts)?)?;
     let test = Instruction::TestBounds {

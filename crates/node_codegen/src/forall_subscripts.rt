@@ -21,10 +21,7 @@ pub(crate) fn all_subscripts(
 ) -> Result<Vec<Flat>, OutOfMemory>
     ensures { IfOk result (λ fs. map flat fs.items ≡ map index_flat (all_subscripts (option_map term mask.now) (map element_assignment body.now))) }
 {
-    with_more(
-        mask_subscripts(alloc, mask)?,
-        body_subscripts(alloc, body)?,
-    )
+    with_more(mask_subscripts(alloc, mask)?, body_subscripts(alloc, body)?)
 }
 
 /// Those of the mask.

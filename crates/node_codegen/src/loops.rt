@@ -78,11 +78,11 @@ fn next_turn(
     leave: usize,
 ) -> Result<Vec<Instruction>, OutOfMemory>
     ensures { IfOk result (λ v. instructions v.items ≡
-      Set line first (Operated operator.Add (AndFlat (Slot first) (AndFlat (Slot (first + 2)) NoFlat)))
-      ∷ Set line index (Slot first)
-      ∷ JumpIfZero leave left
-      ∷ Set line left (Operated operator.Sub (AndFlat (Slot left) (AndFlat (Int (pos 1)) NoFlat)))
-      ∷ []) }
+        Set line first (Operated operator.Add (AndFlat (Slot first) (AndFlat (Slot (first + 2)) NoFlat)))
+        ∷ Set line index (Slot first)
+        ∷ JumpIfZero leave left
+        ∷ Set line left (Operated operator.Sub (AndFlat (Slot left) (AndFlat (Int (pos 1)) NoFlat)))
+        ∷ []) }
 {
     let step = plus(first, 2)?;
     let next = of_two(alloc, Op::Add, Flat::Slot(first), Flat::Slot(step))?;

@@ -75,12 +75,7 @@ fn items_code(
 }
 
 /// The code of an item.
-fn item_code(
-    alloc: Global,
-    line: u32,
-    b: usize,
-    i: &Item,
-) -> Result<Vec<Instruction>, OutOfMemory>
+fn item_code(alloc: Global, line: u32, b: usize, i: &Item) -> Result<Vec<Instruction>, OutOfMemory>
     ensures { IfOk result (λ v. instructions v.items ≡ item_code line b (item i.now)) }
 {
     match i {

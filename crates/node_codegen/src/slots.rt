@@ -8,9 +8,7 @@ ghost use Rattle.array_meaning.specs.Statements.{Arms};
 use crate::forall_header::header_slots;
 use crate::print::items_slots;
 use crate::where_construct::masked_slots;
-use expression_code::{
-    all_slots_of, control_slots, parts_slots, plus, slots_of, subscripts_slots,
-};
+use expression_code::{all_slots_of, control_slots, parts_slots, plus, slots_of, subscripts_slots};
 use hpf_base::OutOfMemory;
 use program_plan::{Action, Arm, Statement};
 

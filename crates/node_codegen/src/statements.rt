@@ -76,10 +76,8 @@ fn statement_code(
             let first = plus(b, control_slots(&l.control)?)?;
             let at = place_behind(pc, &head)?;
             let inner = body_code(alloc, copy, body, first, at)?;
-            with_more(
-                head,
-                loop_code(alloc, line, at, first, l.index, inner)?,
-            )
+            let turns = loop_code(alloc, line, at, first, l.index, inner)?;
+            with_more(head, turns)
         }
         Action::Where(mask, body, others) => where_code(alloc, copy, line, b, mask, body, others),
         Action::Forall(controls, mask, body) => forall_code(

@@ -58,10 +58,10 @@ fn mask_code(
     mask: &Term,
 ) -> Result<Vec<Instruction>, OutOfMemory>
     ensures { IfOk result (λ v. instructions v.items ≡ parts_code line b (term mask.now)
-      ++ OwnLimits (own_evaluation line (form_of b (term mask.now)) copy)
-      ∷ MakeCopy (own_evaluation line (form_of b (term mask.now)) copy)
-      ∷ ParCopy (own_evaluation line (form_of b (term mask.now)) copy)
-      ∷ Verdict ∷ []) }
+        ++ OwnLimits (own_evaluation line (form_of b (term mask.now)) copy)
+        ∷ MakeCopy (own_evaluation line (form_of b (term mask.now)) copy)
+        ∷ ParCopy (own_evaluation line (form_of b (term mask.now)) copy)
+        ∷ Verdict ∷ []) }
 {
     let limits = own_evaluation(alloc, line, b, mask, copy)?;
     let made = own_evaluation(alloc, line, b, mask, copy)?;
