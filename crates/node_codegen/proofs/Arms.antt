@@ -1,5 +1,5 @@
 -- The code of an IF, by that of its parts.
-use Rattle.std.proofs.Common.{◌≡◌, ℕ, suc, ◌+◌, List, [], ◌∷◌, ◌++◌, Global, Vec, length, append_assoc, length-append, arith, refl, sym, ap, ◌∙◌}
+use Rattle.std.proofs.Common.{◌≡◌, ℕ, suc, ◌+◌, List, [], ◌∷◌, ◌++◌, Global, Vec, length, append_assoc, length-append, arith, sym, ap, ◌∙◌}
 use Rattle.std.proofs.lemmas.List.{append-nil, length-map, map-append}
 use Rattle.std.proofs.lemmas.Grind.{flat_map-append}
 use Rattle.array_meaning.specs.Terms.{Term}

@@ -13,7 +13,7 @@ use Rattle.program_plan.specs.declared.statements.Statement.{Statement}
 use Rattle.program_plan.specs.Plans.{arms_of, block_of, loop_of, statement}
 use Rattle.program_plan.proofs.Rows.{do_vec, if_vec}
 use Rattle.lowering.specs.ExpressionCode.{control_code, control_slots}
-use Rattle.lowering.specs.StatementCode.{arms_code, block_code, loop_code, statement_code}
+use Rattle.lowering.specs.StatementCode.{block_code, loop_code, statement_code}
 use Rattle.node_codegen.specs.Arms.{AreArms, arms_before}
 
 -- an IF, by the codes of its arms

@@ -5,9 +5,9 @@ use Rattle.expression_rules.proofs.Lists.{drop_item}
 use Rattle.node_code.specs.Instructions.{JumpIfZero}
 use Rattle.node_code.specs.Texts.{instruction, instructions}
 use Rattle.program_plan.specs.declared.statements.Arm.{out-Arm}
-use Rattle.program_plan.specs.Plans.{arms_of, block_of, statement, term}
+use Rattle.program_plan.specs.Plans.{arms_of, block_of, term}
 use Rattle.program_plan.proofs.Rows.{arm_parts}
-use Rattle.lowering.specs.StatementCode.{arms_code, block_code, statement_code}
+use Rattle.lowering.specs.StatementCode.{arms_code, block_code}
 use Rattle.node_codegen.specs.Arms.{AreArms, arms_before, codes, jumping_to}
 use Rattle.node_codegen.proofs.Arms.{arm_is, arms_next, codes_next}
 use Rattle.node_codegen.proofs.Parts.{do_is, if_is}
