@@ -1,4 +1,4 @@
-//! The code that evaluates expressions, in the order of evaluation. Slots from `b` on are free for it.
+//! The code that evaluates expressions, in the order of evaluation. Slots from `b` on are free for it. An `Err` is want of memory here.
 
 ghost use Rattle.std.specs.Prelude.{◌≡◌, ◌+◌, IfOk};
 ghost use Rattle.array_meaning.specs.Terms.{Apply, Element, Reduce};
@@ -13,7 +13,7 @@ use crate::controls::{three_code, three_values};
 use crate::evaluations::own_evaluation;
 use crate::slots::{all_slots_of, parts_slots, slots_of, subscript_slots};
 use crate::sums::{can_divide, plus};
-use crate::texts::{joined, with_last};
+use crate::texts::joined;
 use crate::values::flats_of;
 use hpf_base::OutOfMemory;
 use node_code::{Flat, Instruction};
@@ -50,9 +50,9 @@ fn element_code(
 ) -> Result<Vec<Instruction>, OutOfMemory>
     ensures { IfOk result (λ v. instructions v.items ≡ code_of line b (Element a (terms_of subscripts.now))) }
 {
-    let code = codes_of(alloc, line, b, subscripts)?;
-    let last = fetch(alloc, line, b, a, subscripts)?;
-    with_last(code, last)
+    let mut code = codes_of(alloc, line, b, subscripts)?;
+    code.push(fetch(alloc, line, b, a, subscripts)?)?;
+    Ok(code)
 }
 
 /// The Fetch of an element.
@@ -86,16 +86,15 @@ fn operation_code(
 ) -> Result<Vec<Instruction>, OutOfMemory>
     ensures { IfOk result (λ v. instructions v.items ≡ code_of line b (Apply op (terms_of operands.now))) }
 {
-    let code = codes_of(alloc, line, b, operands)?;
-    if !can_divide(op) {
-        return Ok(code);
+    let mut code = codes_of(alloc, line, b, operands)?;
+    if can_divide(op) {
+        code.push(operation_set(alloc, line, b, op, operands)?)?;
     }
-    let last = set(alloc, line, b, op, operands)?;
-    with_last(code, last)
+    Ok(code)
 }
 
 /// The Set of an operator that may divide by zero.
-fn set(
+fn operation_set(
     alloc: Global,
     line: u32,
     b: usize,
@@ -125,9 +124,10 @@ fn reduction_code(
     ensures { IfOk result (λ v. instructions v.items ≡ code_of line b (Reduce op (term t.now))) }
 {
     let mut code = parts_code(alloc, line, b, t)?;
-    code.push(Instruction::OwnLimits(own_evaluation(alloc, line, b, t, 0)?))?;
-    let last = reduce(alloc, line, b, op, t)?;
-    with_last(code, last)
+    let limits = own_evaluation(alloc, line, b, t, 0)?;
+    code.push(Instruction::OwnLimits(limits))?;
+    code.push(reduce(alloc, line, b, op, t)?)?;
+    Ok(code)
 }
 
 /// The Reduce of a reduction.
@@ -199,8 +199,9 @@ fn subscript_code(
             let first = code_of(alloc, line, b, first)?;
             let last = code_of(alloc, line, values.last_from, last)?;
             let step = code_of(alloc, line, values.step_from, step)?;
-            let code = three_code(line, values, first, last, step)?;
-            with_last(code, Instruction::TestStride { line, slot })
+            let mut code = three_code(line, values, first, last, step)?;
+            code.push(Instruction::TestStride { line, slot })?;
+            Ok(code)
         }
     }
 }

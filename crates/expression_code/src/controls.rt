@@ -1,4 +1,4 @@
-//! The three values of a control or of a triplet, in three slots behind those that their code takes.
+//! The three values of a control or of a triplet, in three slots behind those that their code takes. An `Err` is want of memory here.
 
 ghost use Rattle.std.specs.Prelude.{◌≡◌, ◌+◌, IfOk, OnOk, [], ◌∷◌, ◌++◌};
 ghost use Rattle.lowering.specs.ExpressionCode.{control_slots, flat_of, slots_of, three_code, triplet};
@@ -70,14 +70,19 @@ pub(crate) fn three_code(
     let mut code = first;
     joined(&mut code, last)?;
     joined(&mut code, step)?;
-    set(&mut code, line, values.slot, values.first)?;
-    set(&mut code, line, plus(values.slot, 1)?, values.last)?;
-    set(&mut code, line, plus(values.slot, 2)?, values.step)?;
+    push_set(&mut code, line, values.slot, values.first)?;
+    push_set(&mut code, line, plus(values.slot, 1)?, values.last)?;
+    push_set(&mut code, line, plus(values.slot, 2)?, values.step)?;
     Ok(code)
 }
 
 /// Puts a Set behind code.
-fn set(code: &mut Vec<Instruction>, line: u32, slot: usize, value: Flat) -> Result<(), OutOfMemory>
+fn push_set(
+    code: &mut Vec<Instruction>,
+    line: u32,
+    slot: usize,
+    value: Flat,
+) -> Result<(), OutOfMemory>
     ensures { OnOk result (instructions code.new.items ≡ instructions code.old.items ++ text.Set line slot (flat value) ∷ []) }
 {
     code.push(Instruction::Set { line, slot, value })?;

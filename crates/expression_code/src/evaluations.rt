@@ -1,4 +1,4 @@
-//! Array expressions over their own space, which is that of their first section.
+//! Array expressions over their own space, which is that of their first section. An `Err` is want of memory here.
 
 ghost use Rattle.std.specs.Prelude.{◌≡◌, option_map, IfOk};
 ghost use Rattle.lowering.specs.ExpressionCode.{first_subs, first_subs_of, form_of, forms_of, or_no_sub, own_evaluation};

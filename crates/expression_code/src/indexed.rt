@@ -1,4 +1,4 @@
-//! Expressions of a FORALL, at an index tuple (Fortran 95, 7.5.4). No code evaluates a part of them before.
+//! Expressions of a FORALL, at an index tuple (Fortran 95, 7.5.4). No code evaluates a part of them before. An `Err` is want of memory here.
 
 ghost use Rattle.std.specs.Prelude.{◌≡◌, map, IfOk};
 ghost use Rattle.array_meaning.specs.Terms.{list_of};

@@ -1,8 +1,8 @@
 //! The node code of expressions.
 //!
 //! Comes in: expressions whose names are resolved, as plans hold them. Goes out: their code, how many slots it takes, and what has
-//! their values behind it. What holds in between: each function answers what the function of its name in `lowering` does, and wants of
-//! memory alone; a sum of slots past 64 bits is one. Nothing is patched: a part that stands twice in the code is made twice.
+//! their values behind it. What holds in between: what a function makes stands for what the definition of its name in `lowering` gives,
+//! and an `Err` is want of memory, also where a sum of slots is past 64 bits. A part that stands twice in the code is made twice.
 //!
 //! - `sums`: sums of slots.
 //! - `slots`: how many slots code takes.

@@ -1,7 +1,6 @@
-//! Code put behind other code.
+//! Code put behind other code. An `Err` is want of memory here.
 
-ghost use Rattle.std.specs.Prelude.{◌≡◌, [], ◌∷◌, ◌++◌, IfOk, OnOk};
-ghost use Rattle.node_code.specs.Texts.{instruction, instructions};
+ghost use Rattle.std.specs.Prelude.{◌≡◌, ◌++◌, OnOk};
 
 use hpf_base::OutOfMemory;
 use node_code::Instruction;
@@ -14,15 +13,4 @@ pub fn joined(code: &mut Vec<Instruction>, more: Vec<Instruction>) -> Result<(),
         code.push(instruction)?;
     }
     Ok(())
-}
-
-/// Code with one instruction more behind it.
-pub(crate) fn with_last(
-    mut code: Vec<Instruction>,
-    last: Instruction,
-) -> Result<Vec<Instruction>, OutOfMemory>
-    ensures { IfOk result (λ v. instructions v.items ≡ instructions code.items ++ instruction last ∷ []) }
-{
-    code.push(last)?;
-    Ok(code)
 }

@@ -1,4 +1,4 @@
-//! What gives the value of an expression behind its code. Slots from `b` on are those of the code.
+//! What gives the value of an expression behind its code. Slots from `b` on are those of the code. An `Err` is want of memory here.
 
 ghost use Rattle.std.specs.Prelude.{◌≡◌, ◌+◌, IfOk};
 ghost use Rattle.lowering.specs.ExpressionCode.{all_slots_of, flat_of, flats_of, form_of, forms_of, operated_flat, subs_of};
