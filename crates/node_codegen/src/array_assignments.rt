@@ -4,7 +4,7 @@ ghost use Rattle.std.specs.Prelude.{◌≡◌, ◌+◌, [], ◌∷◌, ◌++◌,
 ghost use Rattle.node_code.specs.Instructions.{Limits, Par, Verdict};
 ghost use Rattle.node_code.specs.Texts as text;
 ghost use Rattle.node_code.specs.Texts.{instructions, when};
-ghost use Rattle.program_plan.specs.Plans.{section_assignment, subscripts_of, term};
+ghost use Rattle.program_plan.specs.Plans.{subscripts_of, term};
 ghost use Rattle.lowering.specs.ExpressionCode.{first_subs, form_of, or_no_sub, parts_code, subscripts_code, subscripts_slots};
 ghost use Rattle.lowering.specs.StatementCode.{assignment, assignment_code};
 

@@ -1,9 +1,9 @@
 //! Loops (Fortran 95, 8.1.4).
 
-ghost use Rattle.std.specs.Prelude.{◌≡◌, ◌+◌, [], ◌∷◌, ◌++◌, IfOk, length, pos};
+ghost use Rattle.std.specs.Prelude.{◌≡◌, ◌+◌, [], ◌∷◌, IfOk, pos};
 ghost use Rattle.op_tables.specs.declared.op.Op.TheVariants as operator;
 ghost use Rattle.node_code.specs.Flat.{AndFlat, Int, NoFlat, Operated, Slot};
-ghost use Rattle.node_code.specs.Instructions.{Jump, JumpIfZero, Set, Trips};
+ghost use Rattle.node_code.specs.Instructions.{JumpIfZero, Set, Trips};
 ghost use Rattle.node_code.specs.Texts as text;
 ghost use Rattle.node_code.specs.Texts.{instruction, instructions};
 ghost use Rattle.lowering.specs.StatementCode.{loop_code};

@@ -1,7 +1,7 @@
 //! How many slots the code of statements takes.
 
-ghost use Rattle.std.specs.Prelude.{◌≡◌, ◌+◌, IfOk, map, max};
-ghost use Rattle.program_plan.specs.Plans.{arms_of, block_of, loop_of, section_assignment, statement, with_arm};
+ghost use Rattle.std.specs.Prelude.{◌≡◌, IfOk, max};
+ghost use Rattle.program_plan.specs.Plans.{arms_of, block_of, statement, with_arm};
 ghost use Rattle.lowering.specs.StatementCode.{arms_slots, block_slots, statement_slots};
 ghost use Rattle.array_meaning.specs.Statements.{Arms};
 
