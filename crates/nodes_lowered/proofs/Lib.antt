@@ -1,3 +1,5 @@
-pub mod ReadBack
 mod Laid
-mod Ends
+mod StartGrids
+pub mod StartLaid
+mod LastNodes
+pub mod Runs
