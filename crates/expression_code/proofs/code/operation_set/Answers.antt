@@ -1,7 +1,7 @@
 use Rattle.std.proofs.Common.{◌+◌, ap, ◌∙◌}
 use Rattle.node_code.specs.Flat.{Operated}
 use Rattle.node_code.specs.Instructions.{Set}
-use Rattle.expression_code.proofs.Rows.{operated_vec}
+use Rattle.node_code.proofs.Rows.{operated_vec}
 use Rattle.expression_code.proofs.code.operation_set.Goals as goal
 
 pub returns : goal.returns

@@ -4,7 +4,7 @@ use Rattle.lowering.specs.ExpressionCode.{index_flat, index_flats}
 use Rattle.node_code.specs.Flat.{Operated}
 use Rattle.node_code.specs.Texts.{flat}
 use Rattle.expression_code.proofs.Forms.{apply_is}
-use Rattle.expression_code.proofs.Rows.{operated_vec}
+use Rattle.node_code.proofs.Rows.{operated_vec}
 use Rattle.expression_code.proofs.Lists.{flats_made}
 use Rattle.program_plan.specs.Plans.{terms_of}
 use Rattle.expression_code.proofs.indexed.+index_flat.Goals as goal

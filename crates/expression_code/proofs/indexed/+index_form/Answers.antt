@@ -4,7 +4,7 @@ use Rattle.lowering.specs.ExpressionCode.{index_form, index_forms}
 use Rattle.node_code.specs.Forms.{OperationForm}
 use Rattle.node_code.specs.Texts.{form}
 use Rattle.expression_code.proofs.Forms.{apply_is, element_is}
-use Rattle.expression_code.proofs.Rows.{operation_vec}
+use Rattle.node_code.proofs.Rows.{operation_vec}
 use Rattle.expression_code.proofs.Lists.{forms_made}
 use Rattle.program_plan.specs.Plans.{terms_of}
 use Rattle.expression_code.proofs.indexed.+index_form.Goals as goal

@@ -6,7 +6,7 @@ use Rattle.node_code.specs.Texts.{flat}
 use Rattle.expression_code.proofs.Forms.{apply_is, element_is}
 use Rattle.program_plan.specs.Plans.{terms_of}
 use Rattle.expression_code.proofs.Lists.{flats_made}
-use Rattle.expression_code.proofs.Rows.{operated_vec}
+use Rattle.node_code.proofs.Rows.{operated_vec}
 use Rattle.expression_code.proofs.values.+flat.Goals as goal
 
 pub flat_of-returns-in_ok-plus-in-Element : goal.flat_of-returns-in_ok-plus-in-Element
