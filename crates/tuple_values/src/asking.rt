@@ -1,31 +1,27 @@
 //! What is asked of parallel statements.
 
-ghost use Rattle.std.specs.Prelude.{◌≡◌, ◌<◌, ◌≤◌, ◌++◌, length, map, slice_index_or, None, IfErr, IfOk, Ok, OnOk};
-ghost use Rattle.hpf_base.specs.declared.limits.TheConstants.{MAX_TUPLES};
-ghost use Rattle.array_meaning.specs.State.{element_place};
-ghost use Rattle.array_meaning.specs.Sections.{positions, subscripts_at};
+ghost use Rattle.std.specs.Prelude.{◌≡◌, ◌<◌, ◌++◌, map, slice_index_or, None, IfErr, IfOk, Ok, OnOk};
 ghost use Rattle.machine_steps.specs.Instr.{Value};
 ghost use Rattle.machine_steps.specs.Machine.{value_by};
-ghost use Rattle.node_code.specs.Parallel.{as_asked, mask_reads, reads_at, shape_of};
+ghost use Rattle.node_code.specs.Parallel.{as_asked, mask_reads, reads_at};
 ghost use Rattle.op_tables.specs.Operators.{is_true};
 ghost use Rattle.term_values.specs.Stops.{IsStop};
 ghost use Rattle.tuple_values.specs.ByElements.{value_by_elements};
 ghost use Rattle.tuple_values.specs.Outcomes.{outcome_view};
 ghost use Rattle.tuple_values.specs.Spots.{read_of, reads_of};
-ghost use Rattle.tuple_values.specs.Statements.{asked_by, asked_outcome, bounded_value, counted_by, entries, form_at, tuple_count, tuple_left, tuple_outcome, tuple_place, tuple_reads};
+ghost use Rattle.tuple_values.specs.Statements.{asked_by, asked_outcome, axes_in, bounded_value, counted_by, entries, form_at, tuple_count, tuple_left, tuple_outcome, tuple_place, tuple_reads};
 ghost use Rattle.tuple_values.specs.Views.{statement};
 
+use crate::assigned::assigned_place;
 use crate::elements::Elements;
-use crate::here::{Here, element_place};
+use crate::here::Here;
 use crate::outcome::{Outcome, broken};
 use crate::reads::{form_reads, in_row, section_read};
 use crate::right::Right;
 use crate::statement::ParallelStatement;
 use crate::target::Target;
-use crate::tuple::{positions, subscripts_at};
 use crate::values::{form_value, section_value};
-use array_meaning::{FaultKind, Selection};
-use expression_rules::Dims;
+use array_meaning::FaultKind;
 use hpf_base::OutOfMemory;
 use op_tables::Op;
 use owner_tables::Spot;
@@ -148,13 +144,7 @@ impl<'a> ParallelStatement<'a> {
         ensures value { IfOk result (λ v. value_by_elements (statement self.now).shapes (E.get elements.now) x.now (form_at (statement self.now) x.now) ≡ Ok v) }
         ensures stopped { IfErr result (IsStop (value_by_elements (statement self.now).shapes (E.get elements.now) x.now (form_at (statement self.now) x.now))) }
     {
-        let here = Here {
-            alloc: *self.space.extents.allocator(),
-            shapes: self.shapes,
-            slots: self.slots,
-            axes: self.space.axes(x),
-            tuple: x,
-        };
+        let here = self.here(x);
         match &self.right {
             Right::Form(f) => form_value(&here, f, elements),
             Right::Section(a, ds) => section_value(&here, *a, ds, elements),
@@ -165,16 +155,26 @@ impl<'a> ParallelStatement<'a> {
     fn read_form(&self, x: &[i64], reads: &mut Vec<Option<Spot>>) -> Result<(), OutOfMemory>
         ensures { OnOk result (reads_of reads.new.items ≡ reads_of reads.old.items ++ reads_at (statement self.now).shapes x.now (form_at (statement self.now) x.now)) }
     {
-        let here = Here {
+        let here = self.here(x);
+        match &self.right {
+            Right::Form(f) => form_reads(&here, f, reads),
+            Right::Section(a, ds) => section_read(&here, *a, ds, reads),
+        }
+    }
+
+    /// The tuple with these entries.
+    fn here<'b>(&'b self, x: &'b [i64]) -> Here<'b>
+        ensures shapes { result.shapes.now ≡ (statement self.now).shapes }
+        ensures slots { result.slots.now ≡ (statement self.now).slots }
+        ensures axes { result.axes.now ≡ axes_in (statement self.now).indices x.now }
+        ensures tuple { result.tuple.now ≡ x.now }
+    {
+        Here {
             alloc: *self.space.extents.allocator(),
             shapes: self.shapes,
             slots: self.slots,
             axes: self.space.axes(x),
             tuple: x,
-        };
-        match &self.right {
-            Right::Form(f) => form_reads(&here, f, reads),
-            Right::Section(a, ds) => section_read(&here, *a, ds, reads),
         }
     }
 
@@ -193,24 +193,6 @@ impl<'a> ParallelStatement<'a> {
             }
         }
     }
-}
-
-/// The place of a section's element at the tuple with a number.
-fn assigned_place(
-    shapes: &[Dims],
-    array: usize,
-    ds: &[Selection],
-    extents: &[u128],
-    tuple: usize,
-) -> Option<usize>
-    requires rank { length ds.now ≤ 7 }
-    requires space_rank { length extents.now ≤ 7 }
-    requires tuple { tuple ≤ MAX_TUPLES }
-    ensures { result ≡ element_place (shape_of shapes.now array) (subscripts_at ds.now (positions extents.now tuple)) }
-{
-    let x = positions(extents, tuple);
-    let is = subscripts_at(ds, x.as_slice());
-    element_place(shapes, array, is.as_slice())
 }
 
 /// The place that is kept of a tuple.

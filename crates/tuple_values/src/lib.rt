@@ -10,12 +10,15 @@
 #![tactic(auto)]
 
 mod asking;
+mod assigned;
 mod elements;
 mod here;
 mod making;
 mod outcome;
+mod places;
 mod reads;
 mod right;
+mod sections;
 mod space;
 mod statement;
 mod target;

@@ -11,8 +11,9 @@ ghost use Rattle.node_code.specs.Texts.{assignment, evaluation, subs};
 ghost use Rattle.tuple_values.specs.Statements.{indexed_place, no_left, tuple_count, tuple_reads, IsStatement};
 ghost use Rattle.tuple_values.specs.Views.{statement};
 
-use crate::here::{Here, section_place};
+use crate::here::Here;
 use crate::right::Right;
+use crate::sections::section_place;
 use crate::space::{Space, index_space, section_space};
 use crate::statement::ParallelStatement;
 use crate::target::Target;

@@ -7,7 +7,8 @@ ghost use Rattle.tuple_values.specs.Here.{all_reads_here, reads_here, subscripts
 ghost use Rattle.tuple_values.specs.Spots.{read_of, reads_of};
 ghost use Rattle.tuple_values.specs.Statements.{spot_in_row};
 
-use crate::here::{Here, section_place};
+use crate::here::Here;
+use crate::sections::section_place;
 use hpf_base::OutOfMemory;
 use node_code::{Form, Sub};
 use owner_tables::Spot;

@@ -18,7 +18,7 @@ use term_values::{extents, size};
 
 /// A space of at most seven dimensions, within the limit of tuples.
 #[derive(Drop)]
-pub struct Space {
+pub(crate) struct Space {
     pub(crate) extents: Vec<u128>,
     /// The number of tuples.
     pub(crate) count: usize,
