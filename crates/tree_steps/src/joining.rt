@@ -3,8 +3,8 @@
 ghost use Rattle.std.specs.Prelude.{◌≡◌, IfOk};
 ghost use Rattle.tree_steps.specs.Absorbed.{joined_values};
 
-use crate::kept_numbers::{kept_numbers, kept_of_numbers};
-use crate::option_numbers::{option_numbers, option_of_numbers, options_joined};
+use crate::kept_faults::{kept_numbers, kept_of_numbers};
+use crate::optional_values::{option_numbers, option_of_numbers, options_joined};
 use hpf_base::OutOfMemory;
 use op_tables::Op;
 use part_steps::earlier;
@@ -21,18 +21,13 @@ pub enum Joining {
 
 impl Joining {
     /// What comes of both.
-    pub(crate) fn joined(
-        &self,
-        alloc: Global,
-        a: &[i64],
-        b: &[i64],
-    ) -> Result<Vec<i64>, OutOfMemory>
-        ensures { IfOk result (λ v. v.items ≡ joined_values self.now a.now b.now) }
+    pub(crate) fn joined(self, alloc: Global, a: &[i64], b: &[i64]) -> Result<Vec<i64>, OutOfMemory>
+        ensures { IfOk result (λ v. v.items ≡ joined_values self a.now b.now) }
     {
         match self {
             Joining::Kept => kepts_joined(alloc, a, b),
             Joining::Options(op) => {
-                let value = options_joined(*op, option_of_numbers(a), option_of_numbers(b));
+                let value = options_joined(op, option_of_numbers(a), option_of_numbers(b));
                 option_numbers(alloc, value)
             }
         }

@@ -9,19 +9,19 @@
 #![tactic(auto)]
 
 mod joining;
-mod kept_numbers;
+mod kept_faults;
 mod laws;
 mod openings;
-mod option_numbers;
+mod optional_values;
 mod rounds;
 mod tree_values;
 
 pub use hpf_base::OutOfMemory;
 pub use joining::Joining;
-pub use kept_numbers::{kept_numbers, kept_of_numbers};
+pub use kept_faults::{kept_numbers, kept_of_numbers};
 pub use laws::law_of_absorbed;
 pub use openings::{inbox, outbox};
-pub use option_numbers::{option_numbers, reduced};
+pub use optional_values::{option_numbers, reduced};
 pub use part_steps::{Kept, Parcel};
 pub use rounds::{levels_of, source_of, target_of};
 pub use tree_values::absorbed;

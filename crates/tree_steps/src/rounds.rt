@@ -56,7 +56,7 @@ pub fn source_of(nodes: u32, round: u32, id: u32) -> Option<u32>
 
 /// The round up that a round down undoes; the first one, where the tree is over.
 pub(crate) fn up_round(levels: u32, round: u32) -> u32
-    requires { levels ≤ 6 }
+    requires few { levels ≤ 6 }
     requires down { levels ≤ round }
     ensures value { result ≡ up_round levels round }
     ensures low { result ≤ 5 }

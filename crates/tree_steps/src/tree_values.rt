@@ -16,7 +16,7 @@ use std::alloc::Global;
 /// had.
 pub fn absorbed(
     alloc: Global,
-    joining: &Joining,
+    joining: Joining,
     nodes: u32,
     round: u32,
     id: u32,
@@ -25,7 +25,7 @@ pub fn absorbed(
 ) -> Result<Vec<i64>, OutOfMemory>
     requires some { 1 ≤ nodes }
     requires few { nodes ≤ MAX_NODES }
-    ensures { IfOk result (λ v. v.items ≡ absorbed_values (joined_values joining.now) (levels_of nodes) round id own.now received.now) }
+    ensures { IfOk result (λ v. v.items ≡ absorbed_values (joined_values joining) (levels_of nodes) round id own.now received.now) }
 {
     let levels = levels_of(nodes);
     if round < levels {

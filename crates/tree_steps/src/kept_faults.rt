@@ -1,6 +1,6 @@
 //! Kept faults as the numbers that go round.
 
-ghost use Rattle.std.specs.Prelude.{◌≡◌, IfOk};
+ghost use Rattle.std.specs.Prelude.{◌≡◌, pos, Some, IfOk};
 ghost use Rattle.machine_steps.specs.Node.{kept_values, values_kept};
 ghost use Rattle.node_code.specs.FaultValues.{fault_values};
 ghost use Rattle.part_steps.specs.KeptFaults.{kepts};
