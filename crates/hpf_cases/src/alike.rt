@@ -27,7 +27,11 @@ pub fn write_alike(
         if is_same(&in_order, &on_nodes) {
             writeln!(answer, "  {grid}: alike")?;
         } else {
-            writeln!(answer, "  {grid}: status {} in one order, {} on nodes", in_order.status, on_nodes.status)?;
+            writeln!(
+                answer,
+                "  {grid}: status {} in one order, {} on nodes",
+                in_order.status, on_nodes.status
+            )?;
         }
     }
     Ok(())
@@ -40,7 +44,11 @@ fn answer_on(alloc: Global, action: &str, grid: &str, text: &[u8]) -> Result<Ans
         words.push(String::from_str(alloc, word)?)?;
     }
     let stream = Stream::new(alloc);
-    let mut src = MemSource::new(Vec::from_slice(alloc, text)?, stream.piece.max(1), stream.fails);
+    let mut src = MemSource::new(
+        Vec::from_slice(alloc, text)?,
+        stream.piece.max(1),
+        stream.fails,
+    );
     let mut out = sink(alloc)?;
     let mut err = sink(alloc)?;
     let status = hpf_top(&(), alloc, &words, &mut src, &mut out, &mut err, &OpenGate);

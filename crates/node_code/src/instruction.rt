@@ -18,7 +18,11 @@ pub enum PrintItem {
 #[derive(Drop)]
 pub enum Instruction {
     /// A slot gets a value, or there is a fault.
-    Set { line: u32, slot: usize, value: Flat },
+    Set {
+        line: u32,
+        slot: usize,
+        value: Flat,
+    },
     /// A slot gets the value of an element; Bounds where there is none.
     Fetch {
         line: u32,
@@ -40,7 +44,10 @@ pub enum Instruction {
         subscripts: Vec<Flat>,
     },
     /// ZeroStride where a slot is 0.
-    TestStride { line: u32, slot: usize },
+    TestStride {
+        line: u32,
+        slot: usize,
+    },
     /// The iteration count of a loop (Fortran 95, 8.1.4.4.1) by the slots of its first value, last value and step. Where it is 0 the run goes on at
     /// the target, else the slot `left` gets what is left of it behind the first iteration.
     Trips {
@@ -51,8 +58,13 @@ pub enum Instruction {
         left: usize,
         target: usize,
     },
-    Jump { target: usize },
-    JumpIfZero { target: usize, slot: usize },
+    Jump {
+        target: usize,
+    },
+    JumpIfZero {
+        target: usize,
+        slot: usize,
+    },
     /// The run is finished.
     Halt,
     /// Shape and SpaceLimit of an assignment.

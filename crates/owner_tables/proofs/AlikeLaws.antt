@@ -12,15 +12,15 @@ use Rattle.hpf_base.specs.declared.mapping.AlignDim.TheVariants.{Linear, At, Eve
 use Rattle.hpf_base.specs.declared.mapping.Line.{Line}
 use Rattle.hpf_base.specs.declared.mapping.MapDim.{MapDim}
 use Rattle.hpf_base.specs.declared.mapping.Mapping.{Mapping}
-use Rattle.hpf_base.specs.Alignment.{agrees, agrees_at, aligned}
+use Rattle.hpf_base.specs.Alignment.{agrees, agrees_at, aligned, owns}
 use Rattle.hpf_base.specs.ElementOrder.{extents_of, product}
 use Rattle.hpf_base.specs.Grid.{node_coordinates}
-use Rattle.hpf_base.specs.Mapping.{IsAlign, IsShape}
+use Rattle.hpf_base.specs.Mapping.{IsAlign, IsMapping, IsShape}
 use Rattle.hpf_base.proofs.Elements.{elements-get}
 use Rattle.hpf_base.proofs.Places.{length-place_at, place_at}
 use Rattle.hpf_base.proofs.Sections.{same_test}
 use Rattle.local_address.proofs.ElementLaws.{length-index_at}
-use Rattle.machine_steps.specs.Layout.{Layout, count_passing, element_index, owned_by, size_of}
+use Rattle.machine_steps.specs.Layout.{Layout, count_passing, element_index, first, owned_by, size_of}
 use Rattle.owner_tables.specs.Alike.{alike_nodes, is_alike, is_alike_at, is_alike_in, leader}
 use Rattle.owner_tables.specs.Layouts.{IsLaid}
 use Rattle.owner_tables.specs.Numbers.{AreOwnedByLeast, count_of, least_at, least_owners, number_at}
@@ -87,14 +87,40 @@ element_index-rank shape at valid below =
     ∙ length-index_at shape.lower (place_at (extents_of shape) at)
     (length-place_at (extents_of shape) at ∙ length-map shape.extent unsigned_abs ∙ sym valid.rank)
 
+module _ (mapping : Mapping) (index : List ℤ) (valid : IsMapping (length index) mapping) where
+  alike-owns : (one other : ℕ) → owns mapping index one ≡ true → owns mapping index other ≡ is_alike mapping one other
+  alike-owns one other h =
+      alike-entries (node_coordinates mapping.grid one) (node_coordinates mapping.grid other) index mapping.dims
+      (λ k d within. (valid.entries k d within).align) h
+
+  -- the leader of an owner is the first owner
+  leader-first : (nodes node : ℕ) → owns mapping index node ≡ true → first (owns mapping index) 0 nodes ≡ leader mapping nodes node
+  leader-first nodes node h = first-agree (owns mapping index) (is_alike mapping node) 0 nodes (λ k from upto. alike-owns node k h)
+
+  pub leader-owns : (nodes node : ℕ) (leaders : List ℕ) → leaders ≡ map (leader mapping nodes) (range_with_len 0 nodes) → node < nodes
+      → owns mapping index node ≡ true
+      → (get_or leaders node 0 ≡ first (owns mapping index) 0 nodes) × (get_or leaders node 0 < nodes) × (owns mapping index (get_or leaders node 0) ≡ true)
+  leader-owns nodes node leaders are within h =
+      let is : get_or leaders node 0 ≡ first (owns mapping index) 0 nodes =
+      ap (λ l. get_or l node 0) are ∙ get_or-map-range_with_len (leader mapping nodes) 0 nodes node node 0 within (omega arith) ∙ sym (leader-first nodes node h) in
+      let found = first-passes (owns mapping index) 0 nodes node (omega arith) (omega arith) h in
+      (is, omega (arith, is, found.1), ap (owns mapping index) is ∙ found.0)
+
 module _ (nodes : ℕ) (layout : Layout) (laid : IsLaid nodes layout) where
+  valid-at : (at : ℕ) → at < product (extents_of layout.shape) → IsMapping (length (element_index layout.shape at)) layout.mapping
+  valid-at at below = subst (λ n. IsMapping n layout.mapping) (sym (element_index-rank layout.shape at laid.shape below)) laid.mapping
+
   alike-owned : (at one other : ℕ) → at < size_of layout → owned_by layout one at ≡ true → owned_by layout other at ≡ is_alike layout.mapping one other
   unfolding owned_by size_of
-  alike-owned at one other below h =
-      alike-entries (node_coordinates layout.mapping.grid one) (node_coordinates layout.mapping.grid other) (element_index layout.shape at) layout.mapping.dims
-      (λ k d within. subst (λ n. IsAlign n (get_or layout.mapping.dims k d).align) (sym (element_index-rank layout.shape at laid.shape below))
-      (laid.mapping.entries k d within).align)
-      h
+  alike-owned at one other below h = alike-owns layout.mapping (element_index layout.shape at) (valid-at at below) one other h
+
+  leader-of-owner : (node at : ℕ) → at < size_of layout → owned_by layout node at ≡ true → least_at nodes layout at ≡ leader layout.mapping nodes node
+  leader-of-owner node at below h = first-agree _ _ 0 nodes (λ k from upto. alike-owned at node k below h)
+
+  pub leader-below : (node : ℕ) → node < nodes → leader layout.mapping nodes node < nodes
+  leader-below node within =
+      let lead = first-passes (is_alike layout.mapping node) 0 nodes node (omega arith) (omega arith) (alike-self layout.mapping node) in
+      omega (arith, lead.1)
 
   module _ (dealt : AreOwnedByLeast nodes layout (size_of layout)) where
     -- the nodes alike to the least owner are the owners
@@ -102,9 +128,6 @@ module _ (nodes : ℕ) (layout : Layout) (laid : IsLaid nodes layout) where
         → alike_nodes layout.mapping nodes (least_at nodes layout at) ≡ filter (λ node. owned_by layout node at) (range_with_len 0 nodes)
     owners-alike at below =
         filter-agree _ _ 0 nodes (λ k from upto. sym (alike-owned at (least_at nodes layout at) k below (dealt at below).1))
-
-    leader-of-owner : (node at : ℕ) → at < size_of layout → owned_by layout node at ≡ true → least_at nodes layout at ≡ leader layout.mapping nodes node
-    leader-of-owner node at below h = first-agree _ _ 0 nodes (λ k from upto. alike-owned at node k below h)
 
     -- a node owns the elements whose least owner is its leader
     pub owned-by-leader : (node at : ℕ) → node < nodes → at < size_of layout → (least_at nodes layout at == leader layout.mapping nodes node) ≡ owned_by layout node at
@@ -118,11 +141,6 @@ module _ (nodes : ℕ) (layout : Layout) (laid : IsLaid nodes layout) where
         alike-owned at (least_at nodes layout at) node below (dealt at below).1
         ∙ alike-turned mapping (least_at nodes layout at) node ∙ ap (is_alike mapping node) is ∙ lead)
         (λ h. eq-eqb _ _ (leader-of-owner node at below h))
-
-    pub leader-below : (node : ℕ) → node < nodes → leader layout.mapping nodes node < nodes
-    leader-below node within =
-        let lead = first-passes (is_alike layout.mapping node) 0 nodes node (omega arith) (omega arith) (alike-self layout.mapping node) in
-        omega (arith, lead.1)
 
     least-get : (at : ℕ) → at < size_of layout → get_or (least_owners nodes layout) at 0 ≡ least_at nodes layout at
     least-get at below = get_or-map-range_with_len (least_at nodes layout) 0 (size_of layout) at at 0 below (omega arith)

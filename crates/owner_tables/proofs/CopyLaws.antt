@@ -108,7 +108,7 @@ line-coordinates nodes node below =
     one_place zero within = below
     one_place (suc k) within = absurd (omega arith)
 
-pub position-of : (line : Line) (p : ℕ) → line.lower ≡ pos 1 → unsigned_abs (position_at line (pos (p + 1))) ≡ p + 1
+position-of : (line : Line) (p : ℕ) → line.lower ≡ pos 1 → unsigned_abs (position_at line (pos (p + 1))) ≡ p + 1
 position-of line p first =
     let is : position_at line (pos (p + 1)) ≡ pos (p + 1) = omega (arith, ints, first) in ap unsigned_abs is
 
@@ -137,17 +137,6 @@ copy-dealt nodes extents some at below =
     copy-owner nodes at (copy_extents extents) some (omega (arith, below, ap product (extents-back (copy_extents extents))))
 
 -- ---- the code's cases
-
-pub copy_dims-last : (nodes last : ℕ) (extents : List ℕ) → last + 1 ≡ length extents
-    → copy_dims nodes extents ≡ record { line = block_line (get_or extents last 0) nodes; grid_dim = 0; align = Linear last (pos 1) (pos 0) } ∷ []
-copy_dims-last nodes last [] is = absurd (omega arith)
-copy_dims-last nodes last (n ∷ ns) is =
-    let at : length ns ≡ last = omega arith in
-    ap (λ k. record { line = block_line (get_or (n ∷ ns) k 0) nodes; grid_dim = 0; align = Linear k (pos 1) (pos 0) } ∷ []) at
-
-pub copy_dims-none : (nodes : ℕ) (extents : List ℕ) → length extents ≡ 0 → copy_dims nodes extents ≡ []
-copy_dims-none nodes [] is = refl
-copy_dims-none nodes (n ∷ ns) is = absurd (omega arith)
 
 none-product : (extents : List ℕ) → list_any (λ e. e == 0) extents ≡ true → product extents ≡ 0
 none-product [] found = cc

@@ -1,6 +1,6 @@
 mod AlikeLaws
 pub mod CopyLaws
 mod Counting
+pub mod Ranges
 mod Rows
 mod TableLaws
-pub mod Ranges

@@ -1,5 +1,5 @@
 -- The layouts of the rows.
-use Rattle.std.proofs.Common.{◌≡◌, ℕ, zero, suc, ◌<◌, ◌≤◌, List, [], ◌∷◌, get_or, set, length, map, refl, sym, ◌∙◌, ap, arith}
+use Rattle.std.proofs.Common.{◌≡◌, ℕ, zero, suc, ◌<◌, List, [], ◌∷◌, get_or, set, length, map, refl, sym, ◌∙◌, ap, arith}
 use Rattle.std.proofs.lemmas.List.{get_or-map, length-map, map-set}
 use Rattle.machine_steps.specs.Layout.{Layout, owned_by, owned_in, size_of, sizes}
 use Rattle.owner_tables.specs.Views.{OwnersView, TableView}
@@ -13,18 +13,6 @@ pub row-owned : (layouts : List Layout) (row : ℕ) (d : Layout) → row < lengt
 row-owned [] row d within = absurd (omega arith)
 row-owned (l ∷ ls) zero d within = refl
 row-owned (l ∷ ls) (suc row) d within = row-owned ls row d (omega arith)
-
--- a row with an element is there
-pub row-there : (layouts : List Layout) (row at : ℕ) → at < get_or (sizes layouts) row 0 → row < length layouts
-row-there [] row at below = absurd (omega arith)
-row-there (l ∷ ls) zero at below = omega arith
-row-there (l ∷ ls) (suc row) at below = let there : row < length ls = row-there ls row at below in omega (arith, there)
-
--- a row that isn't there has no elements
-pub row-past : (layouts : List Layout) (row : ℕ) → length layouts ≤ row → get_or (sizes layouts) row 0 ≡ 0
-row-past [] row past = refl
-row-past (l ∷ ls) zero past = absurd (omega arith)
-row-past (l ∷ ls) (suc row) past = row-past ls row (omega arith)
 
 -- ---- the tables
 

@@ -80,14 +80,14 @@ module _ (t : Inside) (is : AreTables t) where
     least = λ at d below. entry (least_at t.nodes layout) t.least.items (size_of layout) at d is.least below;
     below = λ at below. (is.owned at below).0;
     led = λ node d within. entry (leader t.mapping t.nodes) t.leaders.items t.nodes node d is.leaders within;
-    leads = λ node within. leader-below t.nodes layout is.laid is.owned node within;
+    leads = λ node within. leader-below t.nodes layout is.laid node within;
     owns = λ node at within below. owned-by-leader t.nodes layout is.laid is.owned node at within below;
     address = λ node at d within below h.
         entry (number_at (least_owners t.nodes layout)) t.numbers.addresses.items (size_of layout) at d numbered below
         ∙ owned-address t.nodes layout is.laid is.owned node at within below h;
     owned = λ node d within.
         entry (count_of (least_owners t.nodes layout) (size_of layout)) t.numbers.counts.items t.nodes (leader t.mapping t.nodes node) d counted
-        (leader-below t.nodes layout is.laid is.owned node within)
+        (leader-below t.nodes layout is.laid node within)
         ∙ owned-count t.nodes layout is.laid is.owned node within;
     rows = is.alike;
     owners = λ at below. owners-alike t.nodes layout is.laid is.owned at below;
@@ -104,8 +104,10 @@ pub owners-row : {V : Type 0} (items : V → List ℕ) (vs : List V) (layout : L
 owners-row items vs layout nodes at d is within = row items (alike_nodes layout.mapping nodes) vs nodes is (least_at nodes layout at) d within
 
 -- the first of each row are the leaders
-pub leaders-are : {V : Type 0} (items : V → List ℕ) (mapping : Mapping) (nodes : ℕ) (vs : List V) → map items vs ≡ map (alike_nodes mapping nodes) (range_with_len 0 nodes)
-    → map (λ v. get_or (items v) 0 0) vs ≡ map (leader mapping nodes) (range_with_len 0 nodes)
-leaders-are items mapping nodes vs is =
-    sym (map-map (λ l. get_or l 0 0) items vs) ∙ ap (map (λ l. get_or l 0 0)) is ∙ map-map (λ l. get_or l 0 0) (alike_nodes mapping nodes) (range_with_len 0 nodes)
+pub leaders-are : {V : Type 0} (items : V → List ℕ) (mapping : Mapping) (nodes : ℕ) (vs given : List V) (firsts : List ℕ)
+    → firsts ≡ map (λ v. get_or (items v) 0 0) given → given ≡ vs → map items vs ≡ map (alike_nodes mapping nodes) (range_with_len 0 nodes)
+    → firsts ≡ map (leader mapping nodes) (range_with_len 0 nodes)
+leaders-are items mapping nodes vs given firsts made same is =
+    made ∙ ap (map (λ v. get_or (items v) 0 0)) same ∙ sym (map-map (λ l. get_or l 0 0) items vs) ∙ ap (map (λ l. get_or l 0 0)) is
+    ∙ map-map (λ l. get_or l 0 0) (alike_nodes mapping nodes) (range_with_len 0 nodes)
     ∙ map-range_agree (λ node. get_or (alike_nodes mapping nodes node) 0 0) (leader mapping nodes) 0 nodes (λ node from below. filter-head (is_alike mapping node) 0 nodes)

@@ -6,7 +6,7 @@
 //!
 //! What holds in between: where a node owns one element, any node owns it exactly where the two agree in each distributed dimension that
 //! isn't replicated. So elements with the same least owner have the same owners, the least owner tells all of them, and an element has one
-//! local address: its number, from 0, among the elements with its least owner.
+//! local address: its number, from 0, among the elements with its least owner. Each element of a copy has an owner, whatever its extents.
 #![tactic(auto)]
 
 mod alike;
@@ -14,12 +14,12 @@ mod copies;
 mod laws;
 mod least;
 mod numbers;
+mod owner_table;
 mod owners;
 mod spot;
-mod table;
 mod tables;
 
 pub use laws::{copies_are_dealt, copies_have_sizes, pieces_of_one_value};
+pub use owner_table::OwnerTable;
 pub use owners::Owners;
 pub use spot::Spot;
-pub use table::OwnerTable;

@@ -6,8 +6,9 @@ ghost use Rattle.hpf_base.specs.declared.limits.TheConstants.{MAX_NODES};
 ghost use Rattle.machine_steps.specs.Layout.{address, count_passing, least_owner_of, owned_by, owned_in, owns_spot, size_of, sizes};
 ghost use Rattle.owner_tables.specs.Spots.{spot_of};
 
+use crate::owner_table::OwnerTable;
 use crate::spot::Spot;
-use crate::table::OwnerTable;
+use crate::tables::Tables;
 use hpf_base::OutOfMemory;
 use std::alloc::Global;
 use std::marker::Model;
@@ -102,7 +103,7 @@ impl Owners {
         ensures { result ≡ slice_index_or (sizes self.now.layouts) row 0 }
     {
         if row < self.tables.len() {
-            self.table(row).size()
+            self.row(row).size()
         } else {
             0
         }
@@ -120,7 +121,7 @@ impl Owners {
         requires { spot.at < slice_index_or (sizes self.now.layouts) spot.row 0 }
         ensures { result.now ≡ filter (λ node. owns_spot self.now.layouts node (spot_of spot)) (range_with_len 0 self.now.nodes) }
     {
-        self.table(spot.row).owners(spot.at)
+        self.row(spot.row).owners(spot.at)
     }
 
     /// Whether the node owns the element.
@@ -129,7 +130,7 @@ impl Owners {
         requires at { spot.at < slice_index_or (sizes self.now.layouts) spot.row 0 }
         ensures { result ≡ owns_spot self.now.layouts node (spot_of spot) }
     {
-        self.table(spot.row).owns(node, spot.at)
+        self.row(spot.row).owns(node, spot.at)
     }
 
     /// The owner of the element with the least number.
@@ -138,7 +139,7 @@ impl Owners {
         ensures value { result ≡ least_owner_of self.now.nodes self.now.layouts (spot_of spot) }
         ensures below { result < self.now.nodes }
     {
-        self.table(spot.row).least_owner(spot.at)
+        self.row(spot.row).least_owner(spot.at)
     }
 
     /// The local address, from 0, of the element on a node that owns it: its number among the elements of the row that the node owns.
@@ -148,7 +149,7 @@ impl Owners {
         requires owner { owns_spot self.now.layouts node (spot_of spot) ≡ true }
         ensures { result ≡ address self.now.layouts node (spot_of spot) }
     {
-        self.table(spot.row).address(node, spot.at)
+        self.row(spot.row).address(node, spot.at)
     }
 
     /// How many elements of the row the node owns: the length of its piece. It is 0 where there is no such row.
@@ -157,19 +158,19 @@ impl Owners {
         ensures { result ≡ count_passing (owned_in self.now.layouts row node) 0 (slice_index_or (sizes self.now.layouts) row 0) }
     {
         if row < self.tables.len() {
-            self.table(row).owned(node)
+            self.row(row).owned(node)
         } else {
             0
         }
     }
 
-    /// The table of a row.
-    fn table(&self, row: usize) -> &OwnerTable
+    /// The tables of a row.
+    fn row(&self, row: usize) -> &Tables
         requires { row < length self.now.layouts }
         ensures nodes { result.now.nodes ≡ self.now.nodes }
         ensures size { size_of result.now.layout ≡ slice_index_or (sizes self.now.layouts) row 0 }
         ensures owned { owned_by result.now.layout ≡ owned_in self.now.layouts row }
     {
-        &self.tables[row]
+        self.tables[row].tables()
     }
 }

@@ -55,7 +55,7 @@ impl Tables {
     {
         let alike = alike_nodes(alloc, nodes, &mapping)?;
         let leaders = leaders(alloc, &alike)?;
-        let least = least_owners(alloc, nodes, &shape, &mapping)?;
+        let least = least_owners(alloc, nodes, &shape, &mapping, &leaders)?;
         let numbers = numbered(alloc, nodes, &least)?;
         Ok(Tables {
             nodes,
@@ -68,18 +68,14 @@ impl Tables {
         })
     }
 
-    pub(crate) fn nodes(&self) -> u32
-        ensures { result ≡ self.now.nodes }
-    {
-        self.nodes
-    }
-
+    /// The number of elements.
     pub(crate) fn size(&self) -> usize
         ensures { result ≡ size_of self.now.layout }
     {
         self.least.len()
     }
 
+    /// How many elements the node owns.
     pub(crate) fn owned(&self, node: u32) -> usize
         requires { node < self.now.nodes }
         ensures { result ≡ count_passing (owned_by self.now.layout node) 0 (size_of self.now.layout) }
@@ -87,6 +83,7 @@ impl Tables {
         self.numbers.counts[self.leaders[node as usize] as usize] as usize
     }
 
+    /// The owners of the element at the position, ascending.
     pub(crate) fn owners(&self, at: usize) -> &[u32]
         requires { at < size_of self.now.layout }
         ensures { result.now ≡ filter (λ node. owned_by self.now.layout node at) (range_with_len 0 self.now.nodes) }
@@ -94,6 +91,7 @@ impl Tables {
         self.alike[self.least[at] as usize].as_slice()
     }
 
+    /// Whether the node owns the element at the position.
     pub(crate) fn owns(&self, node: u32, at: usize) -> bool
         requires node { node < self.now.nodes }
         requires at { at < size_of self.now.layout }
@@ -102,6 +100,7 @@ impl Tables {
         self.least[at] == self.leaders[node as usize]
     }
 
+    /// The owner of the element at the position with the least number.
     pub(crate) fn least_owner(&self, at: usize) -> u32
         requires { at < size_of self.now.layout }
         ensures value { result ≡ least_at self.now.nodes self.now.layout at }
@@ -110,6 +109,7 @@ impl Tables {
         self.least[at]
     }
 
+    /// The local address, from 0, of the element at the position on a node that owns it.
     pub(crate) fn address(&self, node: u32, at: usize) -> usize
         requires node { node < self.now.nodes }
         requires at { at < size_of self.now.layout }

@@ -9,3 +9,4 @@ invariant-loop-at l =
     (l.least.items ≡ map (least_at l.nodes (record { shape = l.shape; mapping = l.mapping })) (range_with_len 0 l.at))
     × AreOwnedByLeast l.nodes (record { shape = l.shape; mapping = l.mapping }) l.at
     × All (λ node. node < l.nodes) l.least.items
+    × (l.near < l.nodes)

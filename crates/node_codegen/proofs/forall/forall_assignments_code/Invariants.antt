@@ -1,0 +1,13 @@
+use Rattle.std.proofs.Common.{◌≡◌, ◌++◌, drop, map}
+use Rattle.std.specs.Prelude.{option_map}
+use Rattle.node_code.specs.Texts.{instructions, when}
+use Rattle.program_plan.specs.Plans.{control, element_assignment}
+use Rattle.lowering.specs.ExpressionCode.{subs_of}
+use Rattle.lowering.specs.StatementCode.{forall_assignments_code, triplets}
+use Rattle.node_codegen.proofs.forall.forall_assignments_code.Given as goal
+
+-- the code so far, before that of the assignments that are left, is all
+abbrev pub invariant-loop-x : goal.invariant-loop-x
+invariant-loop-x l =
+    instructions l.code.items ++ forall_assignments_code (subs_of l.b (triplets (map control l.controls))) (option_map when l.branch) (map element_assignment (drop l.x-index l.body))
+    ≡ forall_assignments_code (subs_of l.b (triplets (map control l.controls))) (option_map when l.branch) (map element_assignment l.body)

@@ -1,0 +1,9 @@
+use Rattle.std.proofs.Common.{◌≡◌, ◌+◌, drop, map}
+use Rattle.program_plan.specs.Plans.{control}
+use Rattle.lowering.specs.ExpressionCode.{subscripts_slots}
+use Rattle.lowering.specs.StatementCode.{triplets}
+use Rattle.node_codegen.proofs.forall_header.header_slots.Given as goal
+
+-- the slots so far, and those of the indices that are left, are all
+abbrev pub invariant-loop-c : goal.invariant-loop-c
+invariant-loop-c l = l.sum + subscripts_slots (triplets (map control (drop l.c-index l.controls))) ≡ subscripts_slots (triplets (map control l.controls))

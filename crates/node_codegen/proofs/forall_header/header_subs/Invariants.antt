@@ -1,0 +1,10 @@
+use Rattle.std.proofs.Common.{◌≡◌, ◌++◌, drop, map}
+use Rattle.node_code.specs.Texts.{subs}
+use Rattle.program_plan.specs.Plans.{control}
+use Rattle.lowering.specs.ExpressionCode.{subs_of}
+use Rattle.lowering.specs.StatementCode.{triplets}
+use Rattle.node_codegen.proofs.forall_header.header_subs.Given as goal
+
+-- what is made so far, before what the rest makes, is all
+abbrev pub invariant-loop-c : goal.invariant-loop-c
+invariant-loop-c l = subs l.over.items ++ subs_of l.at (triplets (map control (drop l.c-index l.controls))) ≡ subs_of l.b (triplets (map control l.controls))

@@ -1,0 +1,11 @@
+use Rattle.std.proofs.Common.{◌≡◌, ◌++◌, drop, map}
+use Rattle.array_meaning.specs.Forall.{subscripts_in_all}
+use Rattle.node_code.specs.Texts.{flat}
+use Rattle.program_plan.specs.Plans.{terms_of}
+use Rattle.lowering.specs.ExpressionCode.{index_flat}
+use Rattle.node_codegen.proofs.forall_subscripts.+subscripts.Given as goal
+
+-- the subscripts so far, before those of the expressions that are left, are all
+abbrev pub invariant-subscripts_in_all-loop-t : goal.invariant-subscripts_in_all-loop-t
+invariant-subscripts_in_all-loop-t l =
+    map flat l.subscripts.items ++ map index_flat (subscripts_in_all (terms_of (drop l.t-index l.terms))) ≡ map index_flat (subscripts_in_all (terms_of l.terms))

@@ -1,0 +1,9 @@
+use Rattle.std.proofs.Common.{◌≡◌, ◌++◌, drop, map}
+use Rattle.node_code.specs.Texts.{instructions}
+use Rattle.program_plan.specs.Plans.{item}
+use Rattle.lowering.specs.StatementCode.{items_code}
+use Rattle.node_codegen.proofs.print.items_code.Given as goal
+
+-- the code so far, before that of the items that are left, is all
+abbrev pub invariant-loop-i : goal.invariant-loop-i
+invariant-loop-i l = instructions l.code.items ++ items_code l.line l.at (map item (drop l.i-index l.items)) ≡ items_code l.line l.b (map item l.items)

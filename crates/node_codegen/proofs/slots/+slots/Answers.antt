@@ -1,0 +1,27 @@
+use Rattle.std.proofs.Common.{◌≡◌, ◌+◌, ℕ, IfOk, max, arith, sym, ap, ◌∙◌, subst}
+use Rattle.program_plan.specs.Plans.{arms_of, block_of, statement}
+use Rattle.program_plan.proofs.Rows.{arm_parts, do_vec, if_vec}
+use Rattle.lowering.specs.StatementCode.{arms_slots, block_slots, statement_slots}
+use Rattle.node_codegen.proofs.slots.+slots.Goals as goal
+
+more_of : (test body n rest : ℕ) → n ≡ max test body → max n rest ≡ max test (max body rest)
+more_of test body n rest is = omega (arith, is)
+
+pub arm_slots-returns : goal.arm_slots-returns
+arm_slots-returns t c = λ tail.
+    more_of c.in_ok-test.test c.in_ok-body.body c.max.result (arms_slots tail) c.max.ensures
+    ∙ (λ i. max ((c.in_ok-test.ensures ∙ ap (λ n. n + 1) c.in_ok-slots_of.ensures) i) (max ((c.in_ok-body.ensures ∙ ap (λ l. block_slots (block_of l)) c.deref.ensures.value) i) (arms_slots tail)))
+    ∙ sym (ap arms_slots (arm_parts c.args.a.now tail))
+
+pub statement_slots-returns-in_ok-rest-in-If : goal.statement_slots-returns-in_ok-rest-in-If
+statement_slots-returns-in_ok-rest-in-If t c =
+    c.max.ensures
+    ∙ (λ i. max ((c.in_ok-most-in-If.ensures ∙ ap (λ l. arms_slots (arms_of l)) c.deref-in-If.ensures.value) i) ((c.in_ok-rest-in-If.ensures ∙ ap (λ l. block_slots (block_of l)) c.deref-in-If-2.ensures.value) i))
+    ∙ sym (ap (λ s. statement_slots (statement s)) c.in-If.is ∙ ap statement_slots (if_vec c.in-If.arms c.in-If.other))
+
+pub statement_slots-returns-in_ok-inner-in-Do : goal.statement_slots-returns-in_ok-inner-in-Do
+statement_slots-returns-in_ok-inner-in-Do t c =
+    subst (λ m. IfOk c.plus-in-Do-2.result (λ n. n ≡ m))
+    ((λ i. (c.in_ok-head-in-Do.ensures ∙ ap (λ n. n + 4) c.in_ok-control_slots-in-Do.ensures) i + (c.in_ok-inner-in-Do.ensures ∙ ap (λ l. block_slots (block_of l)) c.deref-in-Do.ensures.value) i)
+    ∙ sym (ap (λ s. statement_slots (statement s)) c.in-Do.is ∙ ap statement_slots (do_vec c.in-Do.field-0 c.in-Do.l c.in-Do.body)))
+    c.plus-in-Do-2.ensures

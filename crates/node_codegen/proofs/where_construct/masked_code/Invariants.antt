@@ -1,0 +1,12 @@
+use Rattle.std.proofs.Common.{◌≡◌, ◌++◌, drop, map}
+use Rattle.node_code.specs.Texts.{instructions, when}
+use Rattle.program_plan.specs.Plans.{section_assignment, term}
+use Rattle.lowering.specs.ExpressionCode.{first_subs, form_of, or_no_sub}
+use Rattle.lowering.specs.StatementCode.{masked_code}
+use Rattle.node_codegen.proofs.where_construct.masked_code.Given as goal
+
+-- the code so far, before that of the assignments that are left, is all
+abbrev pub invariant-loop-x : goal.invariant-loop-x
+invariant-loop-x l =
+    instructions l.code.items ++ masked_code l.b (or_no_sub (first_subs (form_of l.free (term l.mask))), when l.branch) (map section_assignment (drop l.x-index l.body))
+    ≡ masked_code l.b (or_no_sub (first_subs (form_of l.free (term l.mask))), when l.branch) (map section_assignment l.body)

@@ -1,0 +1,60 @@
+//! Assignments of scalars and of elements (Fortran 95, 7.5.1).
+
+ghost use Rattle.std.specs.Prelude.{◌≡◌, ◌+◌, [], ◌∷◌, ◌++◌, IfOk};
+ghost use Rattle.node_code.specs.Instructions.{Set, Store, TestBounds};
+ghost use Rattle.node_code.specs.Texts.{instructions};
+ghost use Rattle.program_plan.specs.Plans.{term, terms_of};
+ghost use Rattle.lowering.specs.ExpressionCode.{all_slots_of, code_of, codes_of, flat_of, flats_of};
+
+use crate::sequences::{with_last, with_more};
+use expression_code::{all_slots_of, code_of, codes_of, flat_of, flats_of, plus};
+use hpf_base::OutOfMemory;
+use node_code::Instruction;
+use program_plan::Term;
+use std::alloc::Global;
+
+/// The code that gives a slot the value of an expression.
+pub(crate) fn scalar_code(
+    alloc: Global,
+    line: u32,
+    b: usize,
+    slot: usize,
+    right: &Term,
+) -> Result<Vec<Instruction>, OutOfMemory>
+    ensures { IfOk result (λ v. instructions v.items ≡ code_of line b (term right.now) ++ Set line slot (flat_of b (term right.now)) ∷ []) }
+{
+    let code = code_of(alloc, line, b, right)?;
+    let value = flat_of(alloc, b, right)?;
+    with_last(code, Instruction::Set { line, slot, value })
+}
+
+/// The code of an assignment of an element: its bounds are tested before the right side is evaluated.
+pub(crate) fn element_code(
+    alloc: Global,
+    line: u32,
+    b: usize,
+    array: usize,
+    subscripts: &[Term],
+    right: &Term,
+) -> Result<Vec<Instruction>, OutOfMemory>
+    ensures { IfOk result (λ v. instructions v.items ≡
+        codes_of line b (terms_of subscripts.now) ++ TestBounds line array (flats_of b (terms_of subscripts.now))
+        ∷ (code_of line (b + all_slots_of (terms_of subscripts.now)) (term right.now)
+        ++ Store line array (flats_of b (terms_of subscripts.now)) (flat_of (b + all_slots_of (terms_of subscripts.now)) (term right.now)) ∷ [])) }
+{
+    let b1 = plus(b, all_slots_of(subscripts)?)?;
+    let test = Instruction::TestBounds {
+        line,
+        array,
+        subscripts: flats_of(alloc, b, subscripts)?,
+    };
+    let store = Instruction::Store {
+        line,
+        array,
+        subscripts: flats_of(alloc, b, subscripts)?,
+        value: flat_of(alloc, b1, right)?,
+    };
+    let place = with_last(codes_of(alloc, line, b, subscripts)?, test)?;
+    let value = with_last(code_of(alloc, line, b1, right)?, store)?;
+    with_more(place, value)
+}

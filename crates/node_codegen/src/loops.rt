@@ -1,0 +1,114 @@
+//! Loops (Fortran 95, 8.1.4).
+
+ghost use Rattle.std.specs.Prelude.{◌≡◌, ◌+◌, [], ◌∷◌, IfOk, pos};
+ghost use Rattle.op_tables.specs.declared.op.Op.TheVariants as operator;
+ghost use Rattle.node_code.specs.Flat.{AndFlat, Int, NoFlat, Operated, Slot};
+ghost use Rattle.node_code.specs.Instructions.{JumpIfZero, Set, Trips};
+ghost use Rattle.node_code.specs.Texts as text;
+ghost use Rattle.node_code.specs.Texts.{instruction, instructions};
+ghost use Rattle.lowering.specs.StatementCode.{loop_code};
+
+use crate::sequences::{place_behind, with_last};
+use expression_code::{joined, plus};
+use hpf_base::OutOfMemory;
+use node_code::{Flat, Instruction};
+use op_tables::Op;
+use std::alloc::Global;
+
+/// The code of a loop over the index of a slot, at a place, whose first value, last value, step and iteration count left stand in four
+/// slots from `first` on, with its body's code: that stands 8 places behind the loop's, and EXIT and CYCLE go 3 and 4 behind it.
+pub(crate) fn loop_code(
+    alloc: Global,
+    line: u32,
+    pc: usize,
+    first: usize,
+    index: usize,
+    body: Vec<Instruction>,
+) -> Result<Vec<Instruction>, OutOfMemory>
+    ensures { IfOk result (λ v. instructions v.items ≡ loop_code line pc first index (λ inside leave again. instructions body.items)) }
+{
+    let left = plus(first, 3)?;
+    let leave = plus(pc, 3)?;
+    let again = plus(pc, 4)?;
+    let inside = plus(pc, 8)?;
+    let behind = plus(place_behind(inside, &body)?, 1)?;
+    let mut code = loop_head(alloc, line, first, index, left, leave)?;
+    code.push(Instruction::Jump { target: inside })?;
+    code.push(Instruction::Jump { target: behind })?;
+    joined(
+        &mut code,
+        next_turn(alloc, line, first, index, left, leave)?,
+    )?;
+    joined(&mut code, body)?;
+    with_last(code, Instruction::Jump { target: again })
+}
+
+/// The index gets its first value, and the iteration count is taken.
+fn loop_head(
+    alloc: Global,
+    line: u32,
+    first: usize,
+    index: usize,
+    left: usize,
+    leave: usize,
+) -> Result<Vec<Instruction>, OutOfMemory>
+    ensures { IfOk result (λ v. instructions v.items ≡ Set line index (Slot first) ∷ Trips line first (first + 1) (first + 2) left leave ∷ []) }
+{
+    let last = plus(first, 1)?;
+    let step = plus(first, 2)?;
+    let start = set(line, index, Flat::Slot(first));
+    let trips = Instruction::Trips {
+        line,
+        first,
+        last,
+        step,
+        left,
+        target: leave,
+    };
+    Ok(vec![in alloc; start, trips]?)
+}
+
+/// The index gets its next value, and one iteration less is left; where none is, the loop is left.
+fn next_turn(
+    alloc: Global,
+    line: u32,
+    first: usize,
+    index: usize,
+    left: usize,
+    leave: usize,
+) -> Result<Vec<Instruction>, OutOfMemory>
+    ensures { IfOk result (λ v. instructions v.items ≡
+        Set line first (Operated operator.Add (AndFlat (Slot first) (AndFlat (Slot (first + 2)) NoFlat)))
+        ∷ Set line index (Slot first)
+        ∷ JumpIfZero leave left
+        ∷ Set line left (Operated operator.Sub (AndFlat (Slot left) (AndFlat (Int (pos 1)) NoFlat)))
+        ∷ []) }
+{
+    let step = plus(first, 2)?;
+    let next = of_two(alloc, Op::Add, Flat::Slot(first), Flat::Slot(step))?;
+    let fewer = of_two(alloc, Op::Sub, Flat::Slot(left), Flat::Int(1))?;
+    let go = Instruction::JumpIfZero {
+        target: leave,
+        slot: left,
+    };
+    let mut code = Vec::new(alloc);
+    code.push(set(line, first, next))?;
+    code.push(set(line, index, Flat::Slot(first)))?;
+    code.push(go)?;
+    code.push(set(line, left, fewer))?;
+    Ok(code)
+}
+
+/// A slot gets a value.
+fn set(line: u32, slot: usize, value: Flat) -> Instruction
+    ensures { instruction result ≡ Set line slot (text.flat value) }
+{
+    Instruction::Set { line, slot, value }
+}
+
+/// An operator of two operands.
+fn of_two(alloc: Global, op: Op, x: Flat, y: Flat) -> Result<Flat, OutOfMemory>
+    ensures { IfOk result (λ f. text.flat f ≡ Operated op (AndFlat (text.flat x) (AndFlat (text.flat y) NoFlat))) }
+{
+    Ok(Flat::Operated(op, vec![in alloc; x, y]?))
+}

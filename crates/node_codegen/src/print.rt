@@ -1,0 +1,158 @@
+//! PRINT (Fortran 95, 9.4).
+
+ghost use Rattle.std.specs.Prelude.{◌≡◌, [], ◌∷◌, ◌++◌, IfOk, map};
+ghost use Rattle.node_code.specs.Instructions.{Print};
+ghost use Rattle.node_code.specs.Texts as text;
+ghost use Rattle.node_code.specs.Texts.{instructions};
+ghost use Rattle.program_plan.specs.Plans.{item, subscripts_of};
+ghost use Rattle.lowering.specs.ExpressionCode.{subs_of, subscripts_code, without_copy};
+ghost use Rattle.node_code.specs.Forms.{SectionForm};
+ghost use Rattle.array_meaning.specs.Statements.{Elements};
+ghost use Rattle.lowering.specs.StatementCode as definition;
+ghost use Rattle.lowering.specs.StatementCode.{item_code, items_code, items_slots, print_items};
+
+use crate::sequences::with_last;
+use expression_code::{
+    code_of, flat_of, joined, plus, slots_of, subs_of, subscripts_code, subscripts_slots,
+};
+use hpf_base::OutOfMemory;
+use node_code::{Evaluation, Form, Instruction, PrintItem};
+use program_plan::{Item, SectionSubscript};
+use std::alloc::Global;
+
+/// How many slots the code of an item takes.
+pub(crate) fn item_slots(i: &Item) -> Result<usize, OutOfMemory>
+    ensures { IfOk result (λ n. n ≡ definition.item_slots (item i.now)) }
+{
+    match i {
+        Item::Text(_) => Ok(0),
+        Item::Value(t) => slots_of(t),
+        Item::Elements(_, subscripts) => subscripts_slots(subscripts),
+    }
+}
+
+/// How many slots the code of all items takes.
+pub(crate) fn items_slots(items: &[Item]) -> Result<usize, OutOfMemory>
+    ensures { IfOk result (λ n. n ≡ items_slots (map item items.now)) }
+{
+    let mut sum = 0;
+    for i in items {
+        sum = plus(sum, item_slots(i)?)?;
+    }
+    Ok(sum)
+}
+
+/// The code of a PRINT: all items are evaluated first.
+pub(crate) fn print_code(
+    alloc: Global,
+    line: u32,
+    b: usize,
+    items: &[Item],
+) -> Result<Vec<Instruction>, OutOfMemory>
+    ensures { IfOk result (λ v. instructions v.items ≡ items_code line b (map item items.now) ++ Print (print_items b (map item items.now)) ∷ []) }
+{
+    let code = items_code(alloc, line, b, items)?;
+    let printed = print_items(alloc, b, items)?;
+    with_last(code, Instruction::Print(printed))
+}
+
+/// The code of the items, in order.
+fn items_code(
+    alloc: Global,
+    line: u32,
+    b: usize,
+    items: &[Item],
+) -> Result<Vec<Instruction>, OutOfMemory>
+    ensures { IfOk result (λ v. instructions v.items ≡ items_code line b (map item items.now)) }
+{
+    let mut code = Vec::new(alloc);
+    let mut at = b;
+    for i in items {
+        joined(&mut code, item_code(alloc, line, at, i)?)?;
+        at = plus(at, item_slots(i)?)?;
+    }
+    Ok(code)
+}
+
+/// The code of an item.
+fn item_code(alloc: Global, line: u32, b: usize, i: &Item) -> Result<Vec<Instruction>, OutOfMemory>
+    ensures { IfOk result (λ v. instructions v.items ≡ item_code line b (item i.now)) }
+{
+    match i {
+        Item::Text(_) => Ok(Vec::new(alloc)),
+        Item::Value(t) => code_of(alloc, line, b, t),
+        Item::Elements(array, subscripts) => section_code(alloc, line, b, *array, subscripts),
+    }
+}
+
+/// The code of a section, which is tested where its item stands.
+fn section_code(
+    alloc: Global,
+    line: u32,
+    b: usize,
+    array: usize,
+    subscripts: &[SectionSubscript],
+) -> Result<Vec<Instruction>, OutOfMemory>
+    ensures { IfOk result (λ v. instructions v.items ≡ item_code line b (Elements array (subscripts_of subscripts.now))) }
+{
+    let code = subscripts_code(alloc, line, b, subscripts)?;
+    let limits = section(alloc, line, b, array, subscripts)?;
+    let code = with_last(code, Instruction::OwnLimits(limits))?;
+    let inside = Instruction::Inside {
+        line,
+        array,
+        subscripts: subs_of(alloc, b, subscripts)?,
+    };
+    with_last(code, inside)
+}
+
+/// A section as an array expression.
+fn section(
+    alloc: Global,
+    line: u32,
+    b: usize,
+    array: usize,
+    subscripts: &[SectionSubscript],
+) -> Result<Evaluation, OutOfMemory>
+    ensures { IfOk result (λ e. text.evaluation e ≡ without_copy line (SectionForm array (subs_of b (subscripts_of subscripts.now)))) }
+{
+    let form = Form::Section(array, subs_of(alloc, b, subscripts)?);
+    let over = subs_of(alloc, b, subscripts)?;
+    Ok(Evaluation {
+        line,
+        form,
+        over,
+        copy: 0,
+    })
+}
+
+/// An item that is printed, behind the code of all.
+fn print_item(alloc: Global, b: usize, i: &Item) -> Result<PrintItem, OutOfMemory>
+    ensures { IfOk result (λ p. text.print_item p ≡ definition.print_item b (item i.now)) }
+{
+    match i {
+        Item::Text(bytes) => {
+            let mut copied = Vec::new(alloc);
+            copied.extend_from_slice(bytes)?;
+            Ok(PrintItem::Bytes(copied))
+        }
+        Item::Value(t) => Ok(PrintItem::Number(flat_of(alloc, b, t)?)),
+        Item::Elements(array, subscripts) => Ok(PrintItem::Section(
+            *array,
+            subs_of(alloc, b, subscripts)?,
+        )),
+    }
+}
+
+/// The items that are printed, in order.
+fn print_items(alloc: Global, b: usize, items: &[Item]) -> Result<Vec<PrintItem>, OutOfMemory>
+    ensures { IfOk result (λ v. map text.print_item v.items ≡ print_items b (map item items.now)) }
+{
+    let mut printed = Vec::new(alloc);
+    let mut at = b;
+    for i in items {
+        printed.push(print_item(alloc, at, i)?)?;
+        at = plus(at, item_slots(i)?)?;
+    }
+    Ok(printed)
+}

@@ -1,0 +1,51 @@
+//! Programs.
+
+ghost use Rattle.std.specs.Prelude.{◌≡◌, IfOk};
+ghost use Rattle.node_code.specs.Texts.{instructions};
+ghost use Rattle.program_plan.specs.Plans.{block_of};
+ghost use Rattle.lowering.specs.StatementCode.{block_slots, program_code};
+
+use crate::sequences::with_last;
+use crate::slots::block_slots;
+use crate::statements::block_code;
+use expression_code::joined;
+use hpf_base::OutOfMemory;
+use node_code::Instruction;
+use program_plan::Plan;
+use std::alloc::Global;
+
+/// The node code of a program.
+#[derive(Drop)]
+pub struct Code {
+    /// The instructions, from place 0 on. The slots of the declared names stand first, in their order, and the row behind those of the
+    /// declared names is the copy of masks.
+    pub instructions: Vec<Instruction>,
+    /// How many slots it takes behind those of the declared names.
+    pub hidden: usize,
+}
+
+/// The node code of a plan with so many declared names: what `lowering` gives for the block that the plan stands for. It takes memory; an
+/// `Err` is want of it, also where a place or a slot has no number of 64 bits.
+pub fn compile(alloc: Global, names: usize, plan: &Plan) -> Result<Code, OutOfMemory>
+    ensures code { IfOk result (λ c. instructions c.instructions.items ≡ program_code names (block_of plan.now.body.items)) }
+    ensures hidden { IfOk result (λ c. c.hidden ≡ block_slots (block_of plan.now.body.items)) }
+{
+    let hidden = block_slots(&plan.body)?;
+    let instructions = program_code(alloc, names, plan)?;
+    Ok(Code {
+        instructions,
+        hidden,
+    })
+}
+
+/// Its instructions. An EXIT or CYCLE outside of loops goes to the Halt at place 1.
+fn program_code(alloc: Global, names: usize, plan: &Plan) -> Result<Vec<Instruction>, OutOfMemory>
+    ensures { IfOk result (λ v. instructions v.items ≡ program_code names (block_of plan.now.body.items)) }
+{
+    let mut code = Vec::new(alloc);
+    code.push(Instruction::Jump { target: 2 })?;
+    code.push(Instruction::Halt)?;
+    let body = block_code(alloc, names, &plan.body, names, 2, 1, 1)?;
+    joined(&mut code, body)?;
+    with_last(code, Instruction::Jump { target: 1 })
+}

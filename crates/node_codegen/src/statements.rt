@@ -1,0 +1,155 @@
+//! Statements, one behind the other (Fortran 95, 8.1).
+
+ghost use Rattle.std.specs.Prelude.{◌≡◌, ◌+◌, IfOk};
+ghost use Rattle.node_code.specs.Texts.{instructions};
+ghost use Rattle.program_plan.specs.Plans.{arms_of, block_of, statement};
+ghost use Rattle.lowering.specs.StatementCode.{block_code, statement_code};
+ghost use Rattle.node_codegen.specs.Arms.{AreArms, IsArm, codes};
+
+use crate::array_assignments::assignment_code;
+use crate::element_assignments::{element_code, scalar_code};
+use crate::forall::forall_code;
+use crate::if_construct::{ArmCodes, arm_code, condition_code, if_code};
+use crate::loops::loop_code;
+use crate::print::print_code;
+use crate::sequences::{only, place_behind, with_more};
+use crate::where_construct::where_code;
+use expression_code::{control_code, control_slots, joined, plus, slots_of};
+use hpf_base::OutOfMemory;
+use node_code::Instruction;
+use program_plan::{Action, Arm, Statement};
+use std::alloc::Global;
+
+/// The code of statements, one behind the other, from the place `pc` on, with slots from `b` on, and with the places where EXIT and
+/// CYCLE go; `copy` is the row of the copy of a mask.
+#[cycle(code)]
+pub(crate) fn block_code(
+    alloc: Global,
+    copy: usize,
+    statements: &[Statement],
+    b: usize,
+    pc: usize,
+    leave: usize,
+    again: usize,
+) -> Result<Vec<Instruction>, OutOfMemory>
+    ensures { IfOk result (λ v. instructions v.items ≡ block_code copy (block_of statements.now) b pc leave again) }
+{
+    let mut code = Vec::new(alloc);
+    let mut at = pc;
+    for s in statements {
+        let one = statement_code(alloc, copy, s.line, &s.what, b, at, leave, again)?;
+        at = place_behind(at, &one)?;
+        joined(&mut code, one)?;
+    }
+    Ok(code)
+}
+
+/// The code of a statement of a line. No mark of a loop plays a part in it.
+#[cycle(code)]
+fn statement_code(
+    alloc: Global,
+    copy: usize,
+    line: u32,
+    s: &Action,
+    b: usize,
+    pc: usize,
+    leave: usize,
+    again: usize,
+) -> Result<Vec<Instruction>, OutOfMemory>
+    ensures { IfOk result (λ v. instructions v.items ≡ statement_code copy line (statement s.now) b pc leave again) }
+{
+    match s {
+        Action::AssignScalar(slot, right) => scalar_code(alloc, line, b, *slot, right),
+        Action::AssignElement(array, subscripts, right) => element_code(
+            alloc, line, b, *array, subscripts, right,
+        ),
+        Action::AssignSection(array, subscripts, right) => assignment_code(
+            alloc, line, b, *array, subscripts, right,
+        ),
+        Action::If(arms, other) => {
+            let made = arm_codes(alloc, copy, arms, b, pc, leave, again)?;
+            let rest = block_code(alloc, copy, other, b, made.behind, leave, again)?;
+            if_code(alloc, made, rest)
+        }
+        Action::Do(_, l, body) => {
+            let head = control_code(alloc, line, b, &l.control)?;
+            let first = plus(b, control_slots(&l.control)?)?;
+            let at = place_behind(pc, &head)?;
+            let inner = body_code(alloc, copy, body, first, at)?;
+            let turns = loop_code(alloc, line, at, first, l.index, inner)?;
+            with_more(head, turns)
+        }
+        Action::Where(mask, body, others) => where_code(alloc, copy, line, b, mask, body, others),
+        Action::Forall(controls, mask, body) => forall_code(
+            alloc, copy, line, b, controls, mask, body,
+        ),
+        Action::Print(items) => print_code(alloc, line, b, items),
+        Action::Stop => only(alloc, Instruction::Halt),
+        Action::Exit => only(alloc, Instruction::Jump { target: leave }),
+        Action::Cycle => only(alloc, Instruction::Jump { target: again }),
+        Action::Continue => Ok(Vec::new(alloc)),
+        Action::Redistribute => Ok(Vec::new(alloc)),
+    }
+}
+
+/// The code of the body of a loop at the place `pc`, which keeps the four slots from `first` on.
+#[cycle(code)]
+fn body_code(
+    alloc: Global,
+    copy: usize,
+    body: &[Statement],
+    first: usize,
+    pc: usize,
+) -> Result<Vec<Instruction>, OutOfMemory>
+    ensures { IfOk result (λ v. instructions v.items ≡ block_code copy (block_of body.now) (first + 4) (pc + 8) (pc + 3) (pc + 4)) }
+{
+    let b = plus(first, 4)?;
+    let inside = plus(pc, 8)?;
+    let leave = plus(pc, 3)?;
+    let again = plus(pc, 4)?;
+    block_code(alloc, copy, body, b, inside, leave, again)
+}
+
+/// The codes of IF and its ELSE IFs, in order.
+#[cycle(code)]
+fn arm_codes(
+    alloc: Global,
+    copy: usize,
+    arms: &[Arm],
+    b: usize,
+    pc: usize,
+    leave: usize,
+    again: usize,
+) -> Result<ArmCodes, OutOfMemory>
+    ensures { IfOk result (λ r. AreArms copy (arms_of arms.now) b pc leave again (codes r.codes.items) r.behind) }
+{
+    let mut codes = Vec::new(alloc);
+    let mut behind = pc;
+    for arm in arms {
+        let one = code_of_arm(alloc, copy, arm, b, behind, leave, again)?;
+        behind = plus(place_behind(behind, &one)?, 1)?;
+        codes.push(one)?;
+    }
+    Ok(ArmCodes { codes, behind })
+}
+
+/// The code of an arm, without its jump to the end of the IF.
+#[cycle(code)]
+fn code_of_arm(
+    alloc: Global,
+    copy: usize,
+    a: &Arm,
+    b: usize,
+    pc: usize,
+    leave: usize,
+    again: usize,
+) -> Result<Vec<Instruction>, OutOfMemory>
+    ensures { IfOk result (λ v. IsArm copy a.now b pc leave again (instructions v.items)) }
+{
+    let condition = condition_code(alloc, a.line, b, &a.condition)?;
+    let slot = plus(b, slots_of(&a.condition)?)?;
+    let inside = plus(place_behind(pc, &condition)?, 1)?;
+    let body = block_code(alloc, copy, &a.body, b, inside, leave, again)?;
+    let code = arm_code(pc, slot, condition, body)?;
+    Ok(code)
+}

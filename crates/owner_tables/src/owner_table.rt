@@ -1,0 +1,93 @@
+//! The table of one row: who owns its elements, and where they lie.
+
+ghost use Rattle.std.specs.Prelude.{◌≡◌, ◌<◌, ◌≤◌, IfOk};
+ghost use Rattle.hpf_base.specs.declared.limits.TheConstants.{MAX_NODES};
+ghost use Rattle.machine_steps.specs.Layout.{count_passing, owned_by, size_of};
+ghost use Rattle.owner_tables.specs.CopyLayout.{copy_layout};
+ghost use Rattle.owner_tables.specs.Layouts.{IsLaid};
+
+use crate::copies::{CopyLayout, copy_layout};
+use crate::tables::Tables;
+use hpf_base::{Mapping, OutOfMemory, Shape};
+use std::alloc::Global;
+use std::marker::Model;
+use std::sync::Arc;
+
+/// Who owns each element of an array or of a copy, and where it lies there: it has the same local address on each of its owners.
+/// Contracts see the layout and the number of nodes. It is shared, and never copied.
+#[derive(Drop)]
+pub struct OwnerTable {
+    tables: Arc<Tables>,
+}
+
+impl Model for OwnerTable {
+    ghost use Rattle.std.specs.Arc.{arc_value};
+    ghost use Rattle.owner_tables.specs.Views.{TableView};
+
+    ghost Value = { TableView };
+
+    ghost view = { λ t. arc_value t.tables };
+}
+
+impl OwnerTable {
+    /// The table of an array of this shape by this mapping (HPF 2.0, DISTRIBUTE and ALIGN), on so many nodes. Each element lies inside the
+    /// template, whose grid has these nodes.
+    pub fn new(
+        alloc: Global,
+        nodes: u32,
+        shape: Shape,
+        mapping: Mapping,
+    ) -> Result<OwnerTable, OutOfMemory>
+        requires some { 1 ≤ nodes }
+        requires few { nodes ≤ MAX_NODES }
+        requires laid { IsLaid nodes (record { shape = shape; mapping = mapping }) }
+        ensures { IfOk result (λ t. t ≡ record { layout = record { shape = shape; mapping = mapping }; nodes = nodes }) }
+    {
+        let tables = Tables::new(alloc, nodes, shape, mapping)?;
+        Ok(OwnerTable {
+            tables: Arc::new(alloc, tables)?,
+        })
+    }
+
+    /// The table of a copy of these extents on so many nodes: it lies in blocks of its last index, one a node. Want of memory is the answer,
+    /// too, where there are more than 7 extents or more than 1,048,576 elements.
+    pub fn of_copy(alloc: Global, nodes: u32, extents: &[u128]) -> Result<OwnerTable, OutOfMemory>
+        requires some { 1 ≤ nodes }
+        requires few { nodes ≤ MAX_NODES }
+        ensures { IfOk result (λ t. t ≡ record { layout = copy_layout nodes extents.now; nodes = nodes }) }
+    {
+        let CopyLayout { shape, mapping } = copy_layout(alloc, nodes, extents)?;
+        OwnerTable::new(alloc, nodes, shape, mapping)
+    }
+
+    /// The same table once more.
+    pub fn shared(&self) -> Result<OwnerTable, OutOfMemory>
+        ensures { IfOk result (λ t. t ≡ self.now) }
+    {
+        Ok(OwnerTable {
+            tables: Arc::try_clone(&self.tables)?,
+        })
+    }
+
+    /// The tables themselves.
+    pub(crate) fn tables(&self) -> &Tables
+        ensures { result.now ≡ self.now }
+    {
+        &self.tables
+    }
+
+    /// The number of elements.
+    pub fn size(&self) -> usize
+        ensures { result ≡ size_of self.now.layout }
+    {
+        self.tables.size()
+    }
+
+    /// How many elements the node owns.
+    pub fn owned(&self, node: u32) -> usize
+        requires { node < self.now.nodes }
+        ensures { result ≡ count_passing (owned_by self.now.layout node) 0 (size_of self.now.layout) }
+    {
+        self.tables.owned(node)
+    }
+}

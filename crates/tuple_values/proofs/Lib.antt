@@ -1,0 +1,5 @@
+pub mod ByReads
+pub mod Kept
+pub mod Operands
+pub mod Pairs
+pub mod SectionSubscripts

@@ -1,0 +1,128 @@
+//! The places of what is assigned, by the number of a tuple. Nothing here takes memory.
+
+ghost use Rattle.std.specs.Prelude.{◌≡◌, ◌≤◌, ◌∷◌, [], length, pos, suc};
+ghost use Rattle.hpf_base.specs.declared.limits.TheConstants.{MAX_TUPLES};
+ghost use Rattle.array_meaning.specs.State.{element_place};
+ghost use Rattle.array_meaning.specs.Sections.{positions, subscripts_at};
+ghost use Rattle.node_code.specs.Parallel.{shape_of};
+ghost use Rattle.term_values.specs.SectionSubscripts.{positions_behind, subscript_at};
+
+use crate::places::{element_place, element_place_of_one, element_place_of_two};
+use crate::tuple::{positions, subscripts_at};
+use array_meaning::Selection;
+use expression_rules::Dims;
+use term_values::{Number, divided, nth};
+
+/// The place of a section's element at the tuple with a number.
+pub(crate) fn assigned_place(
+    shapes: &[Dims],
+    array: usize,
+    ds: &[Selection],
+    extents: &[u128],
+    tuple: usize,
+) -> Option<usize>
+    requires rank { length ds.now ≤ 7 }
+    requires space_rank { length extents.now ≤ 7 }
+    requires tuple { tuple ≤ MAX_TUPLES }
+    ensures { result ≡ element_place (shape_of shapes.now array) (subscripts_at ds.now (positions extents.now tuple)) }
+{
+    if ds.len() == 1 {
+        return assigned_by_one(shapes, array, &ds[0], extents, tuple);
+    }
+    if ds.len() == 2 {
+        return assigned_by_two(shapes, array, &ds[0], &ds[1], extents, tuple);
+    }
+    let x = positions(extents, tuple);
+    let is = subscripts_at(ds, x.as_slice());
+    element_place(shapes, array, is.as_slice())
+}
+
+/// The same of an array with one dimension.
+#[tactic(auto, using(term_values::proofs::SectionSubscripts::one_is))]
+fn assigned_by_one(
+    shapes: &[Dims],
+    array: usize,
+    d: &Selection,
+    extents: &[u128],
+    tuple: usize,
+) -> Option<usize>
+    requires { tuple ≤ MAX_TUPLES }
+    ensures { result ≡ element_place (shape_of shapes.now array) (subscripts_at (d.now ∷ []) (positions extents.now tuple)) }
+{
+    let i = subscript(d, extents, tuple);
+    element_place_of_one(shapes, array, &i.value)
+}
+
+/// The same of an array with two.
+#[tactic(auto, using(crate::proofs::SectionSubscripts::numbered_two))]
+fn assigned_by_two(
+    shapes: &[Dims],
+    array: usize,
+    d: &Selection,
+    e: &Selection,
+    extents: &[u128],
+    tuple: usize,
+) -> Option<usize>
+    requires { tuple ≤ MAX_TUPLES }
+    ensures { result ≡ element_place (shape_of shapes.now array) (subscripts_at (d.now ∷ e.now ∷ []) (positions extents.now tuple)) }
+{
+    let i = subscript(d, extents, tuple);
+    let behind = behind(d, extents, tuple);
+    let j = subscript(e, behind.extents, behind.tuple);
+    element_place_of_two(shapes, array, &i.value, &j.value)
+}
+
+/// What is selected of a dimension at the tuple with a number, of whose positions the first is its own if it has a triplet.
+fn subscript(d: &Selection, extents: &[u128], tuple: usize) -> Number
+    requires { tuple ≤ MAX_TUPLES }
+    ensures { result.value ≡ subscript_at d.now (positions extents.now tuple) }
+{
+    match d {
+        Selection::At(i) => Number { value: *i },
+        Selection::Along(p) => {
+            if extents.is_empty() {
+                Number { value: p.first }
+            } else {
+                let x = position(divided(tuple, extents[0]).rest);
+                nth(p, &x.value)
+            }
+        }
+    }
+}
+
+/// The position with a number from 0.
+fn position(number: usize) -> Number
+    requires { number ≤ MAX_TUPLES }
+    ensures { result.value ≡ pos (suc number) }
+{
+    Number {
+        value: number as i64 + 1,
+    }
+}
+
+/// The tuple with a number in a space.
+#[derive(Clone, Copy)]
+struct Numbered<'a> {
+    extents: &'a [u128],
+    tuple: usize,
+}
+
+/// The tuple that the positions of the dimensions behind one are.
+fn behind<'a>(d: &Selection, extents: &'a [u128], tuple: usize) -> Numbered<'a>
+    ensures positions { positions result.extents.now result.tuple ≡ positions_behind d.now (positions extents.now tuple) }
+    ensures few { result.tuple ≤ tuple }
+{
+    match d {
+        Selection::At(_) => Numbered { extents, tuple },
+        Selection::Along(_) => {
+            if extents.is_empty() {
+                Numbered { extents, tuple }
+            } else {
+                Numbered {
+                    extents: &extents[1..],
+                    tuple: divided(tuple, extents[0]).quotient,
+                }
+            }
+        }
+    }
+}

@@ -1,0 +1,142 @@
+//! The places of sections' elements at a tuple (Fortran 95, 6.2.2.3).
+
+ghost use Rattle.std.specs.Prelude.{◌≡◌, ◌+◌, ◌≤◌, ◌∷◌, [], ℤ, List, length, IfOk};
+ghost use Rattle.array_meaning.specs.declared.sections.Selection.TheVariants.{Along};
+ghost use Rattle.node_code.specs.Flat.{slot};
+ghost use Rattle.node_code.specs.Forms.{sequence_in};
+ghost use Rattle.node_code.specs.Texts.{sub, subs};
+ghost use Rattle.term_values.specs.SectionSubscripts.{positions_behind, subscript_at};
+ghost use Rattle.tuple_values.specs.Here.{place_here, subscripts_here};
+ghost use Rattle.tuple_values.specs.Sections.{selection_of};
+
+use crate::here::Here;
+use crate::places::{element_place, element_place_of_one, element_place_of_two};
+use crate::tuple::Tuple;
+use array_meaning::Sequence;
+use hpf_base::{MAX_RANK, OutOfMemory};
+use node_code::Sub;
+use slot_values::{flat_or_zero, slot};
+use term_values::{Number, nth};
+
+/// The place of a section's element.
+pub(crate) fn section_place(
+    here: &Here<'_>,
+    array: usize,
+    section: &[Sub],
+) -> Result<Option<usize>, OutOfMemory>
+    ensures { IfOk result (λ p. p ≡ place_here here.now array (subs section.now)) }
+{
+    if section.len() == 1 {
+        return place_by_one(here, array, &section[0]);
+    }
+    if section.len() == 2 {
+        return place_by_two(here, array, &section[0], &section[1]);
+    }
+    let is = subscripts(here, section)?;
+    Ok(element_place(here.shapes, array, is.as_slice()))
+}
+
+/// The same of an array with one dimension.
+#[tactic(auto, using(crate::proofs::SectionSubscripts::one_is))]
+fn place_by_one(here: &Here<'_>, array: usize, d: &Sub) -> Result<Option<usize>, OutOfMemory>
+    ensures { IfOk result (λ p. p ≡ place_here here.now array (sub d.now ∷ [])) }
+{
+    let i = subscript(here, d, here.tuple)?;
+    Ok(element_place_of_one(here.shapes, array, &i.value))
+}
+
+/// The same of an array with two.
+#[tactic(auto, using(crate::proofs::SectionSubscripts::two_are))]
+fn place_by_two(
+    here: &Here<'_>,
+    array: usize,
+    d: &Sub,
+    e: &Sub,
+) -> Result<Option<usize>, OutOfMemory>
+    ensures { IfOk result (λ p. p ≡ place_here here.now array (sub d.now ∷ sub e.now ∷ [])) }
+{
+    let i = subscript(here, d, here.tuple)?;
+    let j = subscript(here, e, positions_behind(d, here.tuple))?;
+    Ok(element_place_of_two(here.shapes, array, &i.value, &j.value))
+}
+
+/// The subscripts of a section's element. More than seven are answered as want of memory.
+fn subscripts(here: &Here<'_>, section: &[Sub]) -> Result<Tuple, OutOfMemory>
+    ensures { IfOk result (λ is. is ≡ subscripts_here here.now (subs section.now)) }
+{
+    if section.len() > MAX_RANK {
+        return Err(OutOfMemory);
+    }
+    subscripts_of(here, section)
+}
+
+/// The subscripts of at most seven dimensions.
+fn subscripts_of(here: &Here<'_>, section: &[Sub]) -> Result<Tuple, OutOfMemory>
+    requires { length section.now ≤ 7 }
+    ensures { IfOk result (λ is. is ≡ subscripts_here here.now (subs section.now)) }
+{
+    let mut is = Tuple::new();
+    let mut positions = here.tuple;
+    for d in section {
+        let i = subscript(here, d, positions)?;
+        is.push(i.value);
+        positions = positions_behind(d, positions);
+    }
+    Ok(is)
+}
+
+/// What a section subscript comes to at positions, of which the first is its own if it is a triplet.
+fn subscript(here: &Here<'_>, d: &Sub, positions: &[i64]) -> Result<Number, OutOfMemory>
+    ensures { IfOk result (λ i. i.value ≡ subscript_at (selection_of here.now.slots.now here.now.axes.now (sub d.now)) positions.now) }
+{
+    match d {
+        Sub::At(f) => Ok(Number {
+            value: flat_or_zero(here.slots, here.axes, f)?,
+        }),
+        Sub::Along(v) => Ok(triplet_subscript(here.slots, *v, positions)),
+    }
+}
+
+/// The subscript of a triplet whose parts stand in three slots from one on.
+fn triplet_subscript(slots: &[i64], triplet: usize, positions: &[i64]) -> Number
+    ensures { result.value ≡ subscript_at (Along (sequence_in slots.now triplet)) positions.now }
+{
+    let first = slot(slots, triplet);
+    if positions.is_empty() {
+        return Number { value: first };
+    }
+    let step = stride(slots, triplet);
+    let values = Sequence {
+        first,
+        step,
+        count: 0,
+    };
+    nth(&values, &positions[0])
+}
+
+/// The stride of a triplet.
+fn stride(slots: &[i64], triplet: usize) -> i64
+    ensures { result ≡ slot slots.now (triplet + 2) }
+{
+    if triplet < slots.len() {
+        slot(slots, triplet + 2)
+    } else {
+        0
+    }
+}
+
+/// The positions of the dimensions behind one.
+fn positions_behind<'a>(d: &Sub, positions: &'a [i64]) -> &'a [i64]
+    ensures { (slots axes : List ℤ) → result.now ≡ positions_behind (selection_of slots axes (sub d.now)) positions.now }
+{
+    match d {
+        Sub::At(_) => positions,
+        Sub::Along(_) => {
+            if positions.is_empty() {
+                positions
+            } else {
+                &positions[1..]
+            }
+        }
+    }
+}
