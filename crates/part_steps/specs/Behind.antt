@@ -1,11 +1,12 @@
 -- What a node makes of a part behind its phase.
-use Rattle.std.specs.Prelude.{ℕ, ℤ, List, map, Option, None, if◌then◌else◌}
+use Rattle.std.specs.Prelude.{ℕ, ℤ, List, [], map, slice_index_or, Option, None, if◌then◌else◌}
 use Rattle.nest_order.specs.Storage.{Storage, Spot}
 use Rattle.op_tables.specs.declared.op.Op.{Op}
 use Rattle.array_meaning.specs.Faults.{Fault}
 use Rattle.machine_steps.specs.Instr.{Outcome, Nothing}
+use Rattle.machine_steps.specs.Layout.{least_owner_of}
 use Rattle.machine_steps.specs.Machine.{Kept, value_by, effect_by, keep, element_values}
-use Rattle.machine_steps.specs.Message.{message, first_read}
+use Rattle.machine_steps.specs.Message.{message, lookup, first_read}
 use Rattle.machine_steps.specs.Node.{held_or_received, local_apply, local_scatter, join_below, outcome_value}
 use Rattle.node_code.specs.Parallel.{joined}
 use Rattle.tuple_values.specs.Statements.{tuple_count, tuple_reads, tuple_left, tuple_outcome}
@@ -22,6 +23,11 @@ abbrev pub behind : PartView → ℕ → Storage → List (List ℤ) → Behind
 behind part id pieces received = record { part = part; id = id; pieces = pieces; received = received }
 
 module _ (b : Behind) where
+  -- the value that it received of an element; 0 where it received none
+  abbrev pub received_value : Spot → ℤ
+  received_value spot = lookup (message b.part.nodes b.part.layouts (part_of b.part) (least_owner_of b.part.nodes b.part.layouts spot) b.id)
+      (slice_index_or b.received (least_owner_of b.part.nodes b.part.layouts spot) []) spot
+
   -- the value of an element: its own, or received
   abbrev pub value_of : Spot → ℤ
   value_of = held_or_received b.part.nodes b.part.layouts (λ p. message b.part.nodes b.part.layouts (part_of b.part) p b.id) b.id b.pieces b.received

@@ -1,7 +1,7 @@
 //! What a node has behind the phase of a part.
 
-ghost use Rattle.std.specs.Prelude.{◌≡◌, ◌<◌};
-ghost use Rattle.part_steps.specs.Openings.{messages_to};
+ghost use Rattle.std.specs.Prelude.{◌≡◌, ◌<◌, true};
+ghost use Rattle.part_steps.specs.Openings.{is_complete, messages_or, messages_to};
 ghost use Rattle.part_steps.specs.Parts.{part_of};
 ghost use Rattle.part_steps.specs.Views.{part_view};
 
@@ -17,7 +17,10 @@ pub(crate) struct Gathered<'a> {
     pub(crate) id: u32,
     pub(crate) pieces: &'a [Row],
     pub(crate) received: &'a [Body],
-    pub(crate) messages: Messages,
+    /// The messages to the node; None where it received no values, so that none is looked up.
+    pub(crate) messages: Option<Messages>,
     ghost node: { id < part.now.owners.now.nodes },
-    ghost incoming: { messages ≡ messages_to part.now.owners.now.nodes part.now.owners.now.layouts (part_of (part_view part.now)) id },
+    ghost incoming: { messages_or (messages_to part.now.owners.now.nodes part.now.owners.now.layouts (part_of (part_view part.now)) id) messages
+        ≡ messages_to part.now.owners.now.nodes part.now.owners.now.layouts (part_of (part_view part.now)) id },
+    ghost complete: { is_complete received.now messages ≡ true },
 }

@@ -1,17 +1,20 @@
 //! The values of elements and of tuples on a node behind the phase of a part.
 
-ghost use Rattle.std.specs.Prelude.{◌≡◌, ◌<◌, [], IfOk, slice_index_or};
+ghost use Rattle.std.specs.Prelude.{◌≡◌, ◌<◌, [], IfOk, slice_index_or, true};
+ghost use Rattle.machine_steps.specs.Layout.{sizes};
 ghost use Rattle.owner_tables.specs.Spots.{spot_of};
-ghost use Rattle.part_steps.specs.Behind.{behind, outcome_of, tuples, value_of};
+ghost use Rattle.part_steps.specs.Behind.{behind, outcome_of, received_value, tuples, value_of};
 ghost use Rattle.part_steps.specs.Gathered.{behind_of};
 ghost use Rattle.part_steps.specs.Views.{part_view};
+ghost use Rattle.part_steps.specs.Openings.{is_complete, is_nothing, messages_or, messages_to};
+ghost use Rattle.part_steps.specs.Parts.{part_of};
 ghost use Rattle.tuple_values.specs.Outcomes.{outcome_view};
 
 use crate::gathered::Gathered;
 use crate::local_values::held_value;
 use crate::part::Part;
 use crate::row::Row;
-use comm_sets::{Spot, incoming, value_in};
+use comm_sets::{Messages, Spot, incoming, value_in};
 use hpf_base::OutOfMemory;
 use letters::Body;
 use std::alloc::Global;
@@ -29,7 +32,7 @@ impl<'a> Gathered<'a> {
         requires { id < part.now.owners.now.nodes }
         ensures { IfOk result (λ g. behind_of g ≡ behind (part_view part.now) id pieces.now received.now) }
     {
-        let messages = incoming(alloc, part.owners, part, id)?;
+        let messages = messages_to(alloc, part, id, received)?;
         Ok(Gathered {
             part,
             id,
@@ -50,9 +53,23 @@ impl<'a> Gathered<'a> {
         if owners.owns(self.id, spot) {
             return Ok(held_value(owners, self.id, self.pieces, spot));
         }
-        let source = owners.least_owner(spot);
-        let spots = self.messages.with(source);
-        Ok(value_in(spots, values_from(self.received, source), spot))
+        Ok(self.received_value(spot))
+    }
+
+    /// The value that the node received of an element.
+    fn received_value(&self, spot: Spot) -> i64
+        requires { spot.at < slice_index_or (sizes self.now.part.now.owners.now.layouts) spot.row 0 }
+        ensures { result ≡ received_value (behind_of self.now) (spot_of spot) }
+    {
+        let source = self.part.owners.least_owner(spot);
+        match &self.messages {
+            Some(messages) => value_in(
+                messages.with(source),
+                values_from(self.received, source),
+                spot,
+            ),
+            None => 0,
+        }
     }
 
     /// What a tuple comes to on the node: nothing where it doesn't compute it.
@@ -77,6 +94,32 @@ impl<'a> Elements for Gathered<'a> {
     fn value(&self, spot: Spot) -> Result<i64, OutOfMemory> {
         self.get(spot)
     }
+}
+
+/// The messages to a node that received these values; None where it received none.
+fn messages_to(
+    alloc: Global,
+    part: &Part<'_>,
+    id: u32,
+    received: &[Body],
+) -> Result<Option<Messages>, OutOfMemory>
+    requires { id < part.now.owners.now.nodes }
+    ensures messages { IfOk result (λ m. let all = messages_to part.now.owners.now.nodes part.now.owners.now.layouts (part_of (part_view part.now)) id in messages_or all m ≡ all) }
+    ensures complete { IfOk result (λ m. is_complete received.now m ≡ true) }
+{
+    if is_nothing(received) {
+        Ok(None)
+    } else {
+        let messages = incoming(alloc, part.owners, part, id)?;
+        Ok(Some(messages))
+    }
+}
+
+/// Whether no values were received.
+fn is_nothing(received: &[Body]) -> bool
+    ensures { result ≡ is_nothing received.now }
+{
+    received.iter().all(|body| body.len() == 0)
 }
 
 /// The values received from a node; none where there is no such node.
