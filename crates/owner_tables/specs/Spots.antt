@@ -1,0 +1,6 @@
+-- What contracts see of an element.
+use Rattle.nest_order.specs.Storage.{Spot}
+use Rattle.owner_tables.specs.declared.spot.Spot as code
+
+abbrev pub spot_of : code.Spot → Spot
+spot_of spot = record { row = spot.row; at = spot.at }

@@ -1,0 +1,168 @@
+//! The table of one row: who owns its elements, and where they lie.
+
+ghost use Rattle.std.specs.Prelude.{◌≡◌, ◌<◌, ◌≤◌, IfOk, filter, true};
+ghost use Rattle.std.specs.List.{range_with_len};
+ghost use Rattle.hpf_base.specs.declared.limits.TheConstants.{MAX_NODES};
+ghost use Rattle.machine_steps.specs.Layout.{count_passing, owned_by, size_of};
+ghost use Rattle.owner_tables.specs.CopyLayout.{copy_layout};
+ghost use Rattle.owner_tables.specs.Layouts.{IsLaid};
+ghost use Rattle.owner_tables.specs.Numbers.{least_at};
+
+use crate::alike::{alike_nodes, leaders};
+use crate::copies::{CopyLayout, copy_layout};
+use crate::least::least_owners;
+use crate::numbers::numbered;
+use hpf_base::{Mapping, OutOfMemory, Shape};
+use std::alloc::Global;
+use std::marker::Model;
+use std::sync::Arc;
+
+/// What the table of a row holds.
+#[derive(Drop)]
+pub(crate) struct Tables {
+    pub(crate) nodes: u32,
+    pub(crate) shape: Shape,
+    pub(crate) mapping: Mapping,
+    /// For each node those that own what it owns, ascending.
+    pub(crate) alike: Vec<Vec<u32>>,
+    /// For each node the first of them.
+    pub(crate) leaders: Vec<u32>,
+    /// For each element, in array-element order, its least owner.
+    pub(crate) least: Vec<u32>,
+    /// For each element its local address on each of its owners.
+    pub(crate) addresses: Vec<u32>,
+    /// For each node how many elements have it as their least owner.
+    pub(crate) counts: Vec<u32>,
+}
+
+/// Who owns each element of an array or of a copy, and where it lies there: it has the same local address on each of its owners.
+/// Contracts see the layout and the number of nodes. It is shared, and never copied.
+#[derive(Drop)]
+pub struct OwnerTable {
+    tables: Arc<Tables>,
+}
+
+impl Model for OwnerTable {
+    ghost use Rattle.std.specs.Arc.{arc_value};
+    ghost use Rattle.owner_tables.specs.Views.{TableView};
+    ghost use Rattle.owner_tables.specs.Tables.{AreTables, view_of};
+
+    ghost Value = { TableView };
+
+    ghost view = { λ t. view_of (arc_value t.tables) };
+
+    ghost invariant = { λ t. AreTables (arc_value t.tables) };
+}
+
+impl OwnerTable {
+    /// The table of an array of this shape by this mapping (HPF 2.0, DISTRIBUTE and ALIGN), on so many nodes. Each element lies inside the
+    /// template, whose grid has these nodes.
+    pub fn new(
+        alloc: Global,
+        nodes: u32,
+        shape: Shape,
+        mapping: Mapping,
+    ) -> Result<OwnerTable, OutOfMemory>
+        requires some { 1 ≤ nodes }
+        requires few { nodes ≤ MAX_NODES }
+        requires laid { IsLaid nodes (record { shape = shape; mapping = mapping }) }
+        ensures { IfOk result (λ t. t ≡ record { layout = record { shape = shape; mapping = mapping }; nodes = nodes }) }
+    {
+        let alike = alike_nodes(alloc, nodes, &mapping)?;
+        let leaders = leaders(alloc, &alike)?;
+        let least = least_owners(alloc, nodes, &shape, &mapping)?;
+        let numbers = numbered(alloc, nodes, &least)?;
+        let tables = Tables {
+            nodes,
+            shape,
+            mapping,
+            alike,
+            leaders,
+            least,
+            addresses: numbers.addresses,
+            counts: numbers.counts,
+        };
+        Ok(OwnerTable {
+            tables: Arc::new(alloc, tables)?,
+        })
+    }
+
+    /// The table of a copy of these extents on so many nodes: it lies in blocks of its last index, one a node. Want of memory is the answer,
+    /// too, where there are more than 7 extents or more than 1,048,576 elements.
+    pub fn of_copy(alloc: Global, nodes: u32, extents: &[u128]) -> Result<OwnerTable, OutOfMemory>
+        requires some { 1 ≤ nodes }
+        requires few { nodes ≤ MAX_NODES }
+        ensures { IfOk result (λ t. t ≡ record { layout = copy_layout nodes extents.now; nodes = nodes }) }
+    {
+        let CopyLayout { shape, mapping } = copy_layout(alloc, nodes, extents)?;
+        OwnerTable::new(alloc, nodes, shape, mapping)
+    }
+
+    /// The same table once more.
+    pub fn shared(&self) -> Result<OwnerTable, OutOfMemory>
+        ensures { IfOk result (λ t. t ≡ self.now) }
+    {
+        Ok(OwnerTable {
+            tables: Arc::try_clone(&self.tables)?,
+        })
+    }
+
+    /// The number of nodes.
+    pub fn nodes(&self) -> u32
+        ensures { result ≡ self.now.nodes }
+    {
+        self.tables.nodes
+    }
+
+    /// The number of elements.
+    pub fn size(&self) -> usize
+        ensures { result ≡ size_of self.now.layout }
+    {
+        self.tables.least.len()
+    }
+
+    /// How many elements the node owns.
+    pub fn owned(&self, node: u32) -> usize
+        requires { node < self.now.nodes }
+        ensures { result ≡ count_passing (owned_by self.now.layout node) 0 (size_of self.now.layout) }
+    {
+        self.tables.counts[self.tables.leaders[node as usize] as usize] as usize
+    }
+
+    /// The owners of the element at the position, ascending.
+    pub fn owners(&self, at: usize) -> &[u32]
+        requires { at < size_of self.now.layout }
+        ensures { result.now ≡ filter (λ node. owned_by self.now.layout node at) (range_with_len 0 self.now.nodes) }
+    {
+        self.tables.alike[self.tables.least[at] as usize].as_slice()
+    }
+
+    /// Whether the node owns the element at the position.
+    pub fn owns(&self, node: u32, at: usize) -> bool
+        requires node { node < self.now.nodes }
+        requires at { at < size_of self.now.layout }
+        ensures { result ≡ owned_by self.now.layout node at }
+    {
+        self.tables.least[at] == self.tables.leaders[node as usize]
+    }
+
+    /// The owner of the element at the position with the least number.
+    pub fn least_owner(&self, at: usize) -> u32
+        requires { at < size_of self.now.layout }
+        ensures value { result ≡ least_at self.now.nodes self.now.layout at }
+        ensures below { result < self.now.nodes }
+    {
+        self.tables.least[at]
+    }
+
+    /// The local address, from 0, of the element at the position on a node that owns it: its number among the elements that the node owns.
+    pub fn address(&self, node: u32, at: usize) -> usize
+        requires node { node < self.now.nodes }
+        requires at { at < size_of self.now.layout }
+        requires owner { owned_by self.now.layout node at ≡ true }
+        ensures { result ≡ count_passing (owned_by self.now.layout node) 0 at }
+    {
+        let _node = node;
+        self.tables.addresses[at] as usize
+    }
+}
