@@ -1,3 +1,8 @@
-pub mod Marking
-pub mod Positions
+pub mod Ascending
+pub mod AllSpots
+pub mod Arranging
+pub mod Noting
+pub mod Lookups
+pub mod Computing
 pub mod Sent
+pub mod MessageLaws

@@ -1,115 +1,104 @@
--- The elements that are sent, row by row.
-use Rattle.std.proofs.Common.{◌≡◌, ℕ, zero, suc, ◌+◌, ◌<◌, ◌==◌, ◌&&◌, not, Bool, false, if◌then◌else◌, List, [], ◌∷◌, ◌++◌, length, get_or, map, take, filter, refl, sym, ◌∙◌, ap, subst, arith, append_assoc}
-use Rattle.std.proofs.lemmas.List.{length-map, length-take, take_more, get_or-map, append-nil}
-use Rattle.std.proofs.lemmas.List.Elements.{filter-append}
-use Rattle.std.proofs.lemmas.List.FromFn.{get_or-map-range_with_len}
+-- What is noted, put in order, is the messages.
+use Rattle.std.proofs.Common.{◌≡◌, ℕ, ◌+◌, ◌<◌, nat_eq, nat_lt, ◌==◌, not, ◌&&◌, ◌||◌, Bool, true, false, List, [], length, map, filter, get_or, replicate, refl, sym, ◌∙◌, ap, arith, ◌≤◌, ◌⊎◌, inl, inr}
+use Rattle.std.proofs.lemmas.Bool.{cases_order}
+use Rattle.std.proofs.lemmas.Bool.Decides.{nat_tests}
+use Rattle.std.proofs.lemmas.List.{get_or-replicate, get_or_past, length-map, length-replicate}
+use Rattle.std.proofs.lemmas.List.FromFn.{fill_by_all}
 use Rattle.std.specs.List.{range_with_len}
 use Rattle.nest_order.specs.Storage.{Spot}
-use Rattle.machine_steps.specs.Layout.{Layout, size_of, sizes, owned_by, owned_in, owns_spot, first, least_owner_of}
-use Rattle.machine_steps.specs.Message.{spots_from, all_spots, remap_message}
-use Rattle.hpf_base.specs.ElementOrder.{extents_of, product}
-use Rattle.comm_sets.specs.declared.layout.Layout as code
-use Rattle.comm_sets.specs.Layouts.{layouts_of}
-use Rattle.comm_sets.specs.Marks.{mark_at, row_spots, is_sent, is_sent_in, owned_marks}
+use Rattle.machine_steps.specs.Layout.{Layout, size_of, sizes, owns_spot, least_owner_of}
+use Rattle.machine_steps.specs.Message.{Part, any_below, names_spot, needs, message, all_spots}
+use Rattle.comm_sets.specs.Noted.{Lists, is_among, is_sent, Noted, Arranged}
+use Rattle.comm_sets.proofs.AllSpots.{is-filter, or_false}
+use Rattle.comm_sets.proofs.Noting.{below-more, both-tests}
 
--- who owns a row that has a layout
-pub owned_in-at : (layouts : List Layout) (row : ℕ) (d : Layout) → row < length layouts → owned_in layouts row ≡ owned_by (get_or layouts row d)
-owned_in-at [] row d lt = absurd (omega arith)
-owned_in-at (l ∷ ls) zero d lt = refl
-owned_in-at (l ∷ ls) (suc row) d lt = owned_in-at ls row d (omega arith)
+-- each node's list is the filter of all elements by what was noted for it
+pub are-filters : (nodes : ℕ) (layouts : List Layout) (noted arranged : Lists) {test : ℕ → Spot → Bool} (P : ℕ → Spot → Bool) → Noted (replicate nodes []) noted test → Arranged noted arranged
+    → ((node : ℕ) (s : Spot) → test node s ≡ (nat_lt s.at (get_or (sizes layouts) s.row 0) && P node s)) → arranged ≡ map (λ node. filter (P node) (all_spots layouts)) (range_with_len 0 nodes)
+are-filters nodes layouts noted arranged {test} P notes order tests =
+    let none : List Spot = [] in
+    let count : length noted ≡ nodes = notes.nodes ∙ length-replicate nodes none in
+    fill_by_all (λ node. filter (P node) (all_spots layouts)) arranged nodes [] (order.nodes ∙ count)
+    (λ k lt. is-filter (P k) layouts (get_or arranged k []) (order.ascends k (omega (arith, count)))
+    (λ s. order.among k s ∙ notes.among k (omega (arith, length-replicate nodes none)) s
+    ∙ ap (λ xs. test k s || is_among xs s) (get_or-replicate nodes k none [] lt) ∙ or_false (test k s) ∙ tests k s))
 
--- two tests that agree in a row keep the same of it
-pub same-in_row : (P Q : Spot → Bool) (row lo len : ℕ) → ((at : ℕ) → at < lo + len → P (record { row = row; at = at }) ≡ Q (record { row = row; at = at }))
-    → filter P (map (λ at. record { row = row; at = at }) (range_with_len lo len)) ≡ filter Q (map (λ at. record { row = row; at = at }) (range_with_len lo len))
-same-in_row P Q row lo zero same = refl
-same-in_row P Q row lo (suc len) same =
-    let rest = same-in_row P Q row (lo + 1) len (λ at lt. same at (omega arith)) in
-    λ i. if same lo (omega arith) i then record { row = row; at = lo } ∷ rest i else rest i
+-- of two tests beside a third the order doesn't matter
+and_turned : (a b c : Bool) → (a && (b && c)) ≡ (b && (a && c))
+and_turned true b c = refl
+and_turned false true c = refl
+and_turned false false c = refl
 
-pub sent-in_row : (nodes : ℕ) (layouts : List Layout) (marks : List (List Bool)) (from to row : ℕ) (d : Layout) → row < length layouts
-    → filter (is_sent nodes layouts marks from to) (row_spots row (size_of (get_or layouts row d)))
-    ≡ filter (is_sent_in nodes (get_or layouts row d) marks from to) (row_spots row (size_of (get_or layouts row d)))
-sent-in_row nodes layouts marks from to row d lt =
-    let own = owned_in-at layouts row d lt in
-    same-in_row (is_sent nodes layouts marks from to) (is_sent_in nodes (get_or layouts row d) marks from to) row 0 (size_of (get_or layouts row d))
-    (λ at in'. λ i. mark_at marks (record { row = row; at = at }) && (not (own i to at) && (first (λ node. own i node at) 0 nodes == from)))
+-- ---- tuple by tuple
 
-spots_from-append : (row : ℕ) (xs ys : List ℕ) → spots_from row (xs ++ ys) ≡ spots_from row xs ++ spots_from (row + length xs) ys
-spots_from-append row [] ys = let e : row ≡ row + 0 = omega arith in ap (λ r. spots_from r ys) e
-spots_from-append row (x ∷ xs) ys =
-    let e : row + 1 + length xs ≡ row + suc (length xs) = omega arith in
-    ap (λ zs. row_spots row x ++ zs) (spots_from-append (row + 1) xs ys ∙ ap (λ r. spots_from (row + 1) xs ++ spots_from r ys) e)
-    ∙ sym (append_assoc (row_spots row x) (spots_from (row + 1) xs) (spots_from (row + suc (length xs)) ys))
+-- the element is read at one of the first so many tuples that the target computes, and sent
+abbrev pub is_sent_below : ℕ → List Layout → Part → (tuples from to : ℕ) → Spot → Bool
+is_sent_below nodes layouts part tuples from to s = needs (record part { tuples = tuples }) to s && is_sent nodes layouts from to s
 
-one-row : (P : Spot → Bool) (layouts : List Layout) (row : ℕ) (d : Layout) → row < length layouts
-    → filter P (spots_from 0 (take (row + 1) (sizes layouts))) ≡ filter P (spots_from 0 (take row (sizes layouts))) ++ filter P (row_spots row (size_of (get_or layouts row d)))
-one-row P layouts row d lt =
-    let inside : row < length (sizes layouts) = omega (arith, length-map layouts size_of) in
-    let at : 0 + length (take row (sizes layouts)) ≡ row = omega (arith, length-take row (sizes layouts)) in
-    let one : get_or (sizes layouts) row 0 ≡ size_of (get_or layouts row d) = get_or-map size_of layouts row d 0 lt in
-    ap (λ xs. filter P (spots_from 0 xs)) (take_more (sizes layouts) row 0 inside)
-    ∙ ap (filter P) (spots_from-append 0 (take row (sizes layouts)) (get_or (sizes layouts) row 0 ∷ []))
-    ∙ filter-append P (spots_from 0 (take row (sizes layouts))) (spots_from (0 + length (take row (sizes layouts))) (get_or (sizes layouts) row 0 ∷ []))
-    ∙ ap (λ spots. filter P (spots_from 0 (take row (sizes layouts))) ++ filter P spots)
-    (append-nil (row_spots (0 + length (take row (sizes layouts))) (get_or (sizes layouts) row 0)) ∙ (λ i. row_spots (at i) (one i)))
+module _ (nodes : ℕ) (layouts : List Layout) (part : Part) (n : ℕ) where
+  -- one tuple more
+  pub tuples-more : (from to : ℕ) (s : Spot)
+      → (((part.computes to n && names_spot (part.reads n) s) && is_sent nodes layouts from to s) || is_sent_below nodes layouts part n from to s) ≡ is_sent_below nodes layouts part (n + 1) from to s
+  tuples-more from to s =
+      let test = λ (t : ℕ). part.computes to t && names_spot (part.reads t) s in
+      both-tests (test n) (any_below test n) (is_sent nodes layouts from to s) ∙ ap (λ b. b && is_sent nodes layouts from to s) (sym (below-more test n))
 
-pub sent-row : (nodes : ℕ) (layouts : List Layout) (marks : List (List Bool)) (from to row : ℕ) (l : Layout) → row < length layouts → get_or layouts row l ≡ l
-    → filter (is_sent nodes layouts marks from to) (spots_from 0 (take (row + 1) (sizes layouts)))
-    ≡ filter (is_sent nodes layouts marks from to) (spots_from 0 (take row (sizes layouts))) ++ filter (is_sent_in nodes l marks from to) (row_spots row (size_of l))
-sent-row nodes layouts marks from to row l lt is =
-    let before = filter (is_sent nodes layouts marks from to) (spots_from 0 (take row (sizes layouts))) in
-    subst (λ (x : Layout). filter (is_sent nodes layouts marks from to) (spots_from 0 (take (row + 1) (sizes layouts)))
-    ≡ before ++ filter (is_sent_in nodes x marks from to) (row_spots row (size_of x)))
-    is (one-row (is_sent nodes layouts marks from to) layouts row l lt ∙ ap (λ ys. before ++ ys) (sent-in_row nodes layouts marks from to row l lt))
+  module _ (noted arranged : Lists) (all : n ≡ part.tuples) (order : Arranged noted arranged) where
+    all-tuples : (from to : ℕ) (s : Spot) → is_sent_below nodes layouts part n from to s
+        ≡ (nat_lt s.at (get_or (sizes layouts) s.row 0) && (needs part to s && (not (owns_spot layouts to s) && (least_owner_of nodes layouts s == from))))
+    all-tuples from to s =
+        ap (λ count. is_sent_below nodes layouts part count from to s) all
+        ∙ and_turned (needs part to s) (nat_lt s.at (get_or (sizes layouts) s.row 0)) (not (owns_spot layouts to s) && (least_owner_of nodes layouts s == from))
 
--- two tests that agree on all elements keep the same
-pub same-spots : (P Q : Spot → Bool) (row : ℕ) (xs : List ℕ)
-    → ((r at : ℕ) → r < length xs → at < get_or xs r 0 → P (record { row = row + r; at = at }) ≡ Q (record { row = row + r; at = at }))
-    → filter P (spots_from row xs) ≡ filter Q (spots_from row xs)
-same-spots P Q row [] same = refl
-same-spots P Q row (x ∷ xs) same =
-    let here : row + 0 ≡ row = omega arith in
-    let first-row = same-in_row P Q row 0 x (λ at lt.
-    subst (λ r. P (record { row = r; at = at }) ≡ Q (record { row = r; at = at })) here (same 0 at (omega arith) (omega arith))) in
-    let rest = same-spots P Q (row + 1) xs (λ r at lt in'.
-    let next : row + suc r ≡ row + 1 + r = omega arith in
-    subst (λ s. P (record { row = s; at = at }) ≡ Q (record { row = s; at = at })) next (same (suc r) at (omega arith) in')) in
-    filter-append P (row_spots row x) (spots_from (row + 1) xs) ∙ (λ i. first-row i ++ rest i) ∙ sym (filter-append Q (row_spots row x) (spots_from (row + 1) xs))
+    pub messages-from : (from : ℕ) → Noted (replicate nodes []) noted (λ to s. is_sent_below nodes layouts part n from to s)
+        → arranged ≡ map (λ to. message nodes layouts part from to) (range_with_len 0 nodes)
+    messages-from from notes =
+        are-filters nodes layouts noted arranged (λ to s. needs part to s && (not (owns_spot layouts to s) && (least_owner_of nodes layouts s == from))) notes order (λ to s. all-tuples from to s)
 
--- a marked element is one that the node owns
-mark-owned : (layouts : List Layout) (node row at : ℕ) (d : Layout) → row < length layouts → at < size_of (get_or layouts row d)
-    → mark_at (owned_marks layouts node) (record { row = row; at = at }) ≡ owned_in layouts row node at
-mark-owned layouts node row at d lt in' =
-    let marks = λ (layout : Layout). map (owned_by layout node) (range_with_len 0 (size_of layout)) in
-    ap (λ ms. get_or ms at false) (get_or-map marks layouts row d [] lt)
-    ∙ get_or-map-range_with_len (owned_by (get_or layouts row d) node) 0 (size_of (get_or layouts row d)) at at false in' (omega arith)
-    ∙ (λ i. sym (owned_in-at layouts row d lt) i node at)
+    pub messages-to : (to : ℕ) → Noted (replicate nodes []) noted (λ from s. is_sent_below nodes layouts part n from to s)
+        → arranged ≡ map (λ from. message nodes layouts part from to) (range_with_len 0 nodes)
+    messages-to to notes =
+        are-filters nodes layouts noted arranged (λ from s. needs part to s && (not (owns_spot layouts to s) && (least_owner_of nodes layouts s == from))) notes order (λ from s. all-tuples from to s)
 
--- the target doesn't own the element, and its least owner is the source
-abbrev is_unowned : ℕ → List Layout → ℕ → ℕ → Spot → Bool
-is_unowned nodes layouts from to spot = not (owns_spot layouts to spot) && (least_owner_of nodes layouts spot == from)
+-- ---- element by element
 
-pub remapped : (nodes : ℕ) (old new : List Layout) (from to : ℕ) → sizes old ≡ sizes new
-    → filter (is_sent nodes old (owned_marks new to) from to) (all_spots old) ≡ remap_message nodes old new from to
-remapped nodes old new from to same =
-    same-spots (is_sent nodes old (owned_marks new to) from to)
-    (λ spot. owns_spot new to spot && (not (owns_spot old to spot) && (least_owner_of nodes old spot == from))) 0 (sizes old) (agrees new same)
+-- one element more of a row
+pub positions-more : (row at : ℕ) (s : Spot) → ((nat_eq row s.row && nat_eq at s.at) || (nat_eq row s.row && nat_lt s.at at)) ≡ (nat_eq row s.row && nat_lt s.at (at + 1))
+positions-more row at s = by_row (nat_eq row s.row)
   where
-    agrees : (ls : List Layout) → sizes old ≡ sizes ls → (r at : ℕ) → r < length (sizes old) → at < get_or (sizes old) r 0
-        → (mark_at (owned_marks ls to) (record { row = 0 + r; at = at }) && is_unowned nodes old from to (record { row = 0 + r; at = at }))
-        ≡ (owns_spot ls to (record { row = 0 + r; at = at }) && is_unowned nodes old from to (record { row = 0 + r; at = at }))
-    agrees [] e r at lt in' = absurd (omega (arith, ap length e))
-    agrees (l ∷ ls) e r at lt in' =
-        let zero : 0 + r ≡ r = omega arith in
-        let inside : r < length (l ∷ ls) = omega (arith, ap length e, length-map (l ∷ ls) size_of) in
-        let size : get_or (sizes old) r 0 ≡ size_of (get_or (l ∷ ls) r l) = ap (λ xs. get_or xs r 0) e ∙ get_or-map size_of (l ∷ ls) r l 0 inside in
-        let owned : mark_at (owned_marks (l ∷ ls) to) (record { row = 0 + r; at = at }) ≡ owned_in (l ∷ ls) (0 + r) to at =
-        subst (λ s. mark_at (owned_marks (l ∷ ls) to) (record { row = s; at = at }) ≡ owned_in (l ∷ ls) s to at) (sym zero)
-        (mark-owned (l ∷ ls) to r at l inside (omega (arith, size))) in
-        ap (λ b. b && is_unowned nodes old from to (record { row = 0 + r; at = at })) owned
+    by_row : (b : Bool) → ((b && nat_eq at s.at) || (b && nat_lt s.at at)) ≡ (b && nat_lt s.at (at + 1))
+    by_row true = grind (arith, nat_tests)
+    by_row false = refl
 
--- the sizes go by the shapes
-pub sizes-shapes : (ls : List code.Layout) → sizes (layouts_of ls) ≡ map (λ s. product (extents_of s)) (map (λ l. l.shape) ls)
-unfolding size_of
-sizes-shapes [] = refl
-sizes-shapes (l ∷ ls) = ap (λ ns. product (extents_of l.shape) ∷ ns) (sizes-shapes ls)
+-- one row more
+pub rows-more : (ns : List ℕ) (row : ℕ) (s : Spot)
+    → ((nat_eq row s.row && nat_lt s.at (get_or ns row 0)) || (nat_lt s.row row && nat_lt s.at (get_or ns s.row 0))) ≡ (nat_lt s.row (row + 1) && nat_lt s.at (get_or ns s.row 0))
+rows-more ns row s = by_order (cases_order row s.row)
+  where
+    by_order : (row ≡ s.row) ⊎ ((row < s.row) ⊎ (s.row < row))
+        → ((nat_eq row s.row && nat_lt s.at (get_or ns row 0)) || (nat_lt s.row row && nat_lt s.at (get_or ns s.row 0))) ≡ (nat_lt s.row (row + 1) && nat_lt s.at (get_or ns s.row 0))
+    by_order (inl same) =
+        let size : get_or ns row 0 ≡ get_or ns s.row 0 = ap (λ r. get_or ns r 0) same in
+        let here : nat_eq row s.row ≡ true = grind (arith, nat_tests) in
+        let before : nat_lt s.row row ≡ false = grind (arith, nat_tests) in
+        let upto : nat_lt s.row (row + 1) ≡ true = grind (arith, nat_tests) in
+        (λ i. (here i && nat_lt s.at (size i)) || (before i && nat_lt s.at (get_or ns s.row 0))) ∙ or_false (nat_lt s.at (get_or ns s.row 0)) ∙ ap (λ b. b && nat_lt s.at (get_or ns s.row 0)) (sym upto)
+    by_order (inr (inl less)) =
+        let here : nat_eq row s.row ≡ false = grind (arith, nat_tests) in
+        let before : nat_lt s.row row ≡ nat_lt s.row (row + 1) = grind (arith, nat_tests) in
+        λ i. (here i && nat_lt s.at (get_or ns row 0)) || (before i && nat_lt s.at (get_or ns s.row 0))
+    by_order (inr (inr more)) =
+        let here : nat_eq row s.row ≡ false = grind (arith, nat_tests) in
+        let before : nat_lt s.row row ≡ nat_lt s.row (row + 1) = grind (arith, nat_tests) in
+        λ i. (here i && nat_lt s.at (get_or ns row 0)) || (before i && nat_lt s.at (get_or ns s.row 0))
+
+-- behind the last row there is no element
+pub all-rows : (layouts : List Layout) (s : Spot) → (nat_lt s.row (length layouts) && nat_lt s.at (get_or (sizes layouts) s.row 0)) ≡ nat_lt s.at (get_or (sizes layouts) s.row 0)
+all-rows layouts s = by_case (nat_lt s.row (length layouts)) refl
+  where
+    by_case : (b : Bool) → nat_lt s.row (length layouts) ≡ b → (b && nat_lt s.at (get_or (sizes layouts) s.row 0)) ≡ nat_lt s.at (get_or (sizes layouts) s.row 0)
+    by_case true e = refl
+    by_case false e =
+        let past : length (sizes layouts) ≤ s.row = grind (arith, nat_tests, length-map layouts size_of) in
+        let nothing : nat_lt s.at (get_or (sizes layouts) s.row 0) ≡ false = ap (nat_lt s.at) (get_or_past (sizes layouts) s.row 0 past) ∙ grind (arith, nat_tests) in
+        sym nothing

@@ -1,2 +1,3 @@
-pub mod Layouts
-pub mod Marks
+pub mod Ascending
+pub mod Moves
+pub mod Noted

@@ -1,23 +1,24 @@
 //! Who sends which elements to whom.
 //!
-//! Comes in: how the elements of arrays and copies lie on the nodes; and which elements are read at which tuples, and which node
-//! computes which tuple, or how the elements lie after a redistribution. Goes out: the message from one node to another, as
-//! the list of its elements. What holds in between: the elements that the target wants are marked first, in one pass over
-//! the tuples, or over the elements; then one pass over all elements keeps those that are marked, that the target doesn't
-//! own, and whose least owner is the source.
+//! Comes in: who owns each element of arrays and copies; and which elements are read at which tuples and which nodes compute each
+//! tuple, or who owns each element after a redistribution. Goes out: all messages from one node, or to one node, each the list
+//! of its elements. What holds in between: one pass over the tuples, or over the elements, notes what goes from one end to the
+//! other, in a list for each node at the other end; sorted and without repetitions such a list is the message. The time of a part goes with
+//! its tuples, and its memory with what is sent; there is no table of all elements.
 #![tactic(auto)]
 
-mod layout;
-mod marks;
+mod lookup;
 mod messages;
 mod reads;
+mod receiving;
 mod remapping;
-mod spot;
-mod unowned;
+mod sending;
 
-pub use hpf_base::{NodeId, OutOfMemory};
-pub use layout::Layout;
-pub use messages::message;
+pub use hpf_base::OutOfMemory;
+pub use lookup::value_in;
+pub use messages::Messages;
+pub use owner_tables::{Owners, Spot};
 pub use reads::Reads;
-pub use remapping::remap_message;
-pub use spot::Spot;
+pub use receiving::incoming;
+pub use remapping::{remap_incoming, remap_outgoing};
+pub use sending::outgoing;

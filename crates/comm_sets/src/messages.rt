@@ -1,66 +1,99 @@
-//! The messages of a part.
+//! Lists of elements, one for each node.
 
-ghost use Rattle.std.specs.Prelude.{◌≡◌, ◌<◌, ◌≤◌, ◌^◌, IfOk, fold, length, map, option_map};
-ghost use Rattle.machine_steps.specs.Message.{message};
-ghost use Rattle.comm_sets.specs.Layouts.{layouts_of, AreLaid};
-ghost use Rattle.comm_sets.specs.Marks.{spot_of, marked_read, marked_tuple};
+ghost use Rattle.std.specs.Prelude.{◌≡◌, ◌<◌, ◌&&◌, [], IfOk, OnOk, length, map, nat_eq, replicate, slice_index_or};
+ghost use Rattle.nest_order.specs.LastValue.{is_same_spot};
+ghost use Rattle.owner_tables.specs.Spots.{spot_of};
+ghost use Rattle.comm_sets.specs.Ascending.{Ascends};
+ghost use Rattle.comm_sets.specs.Noted.{Arranged, Noted, OneMore, SameAmong};
 
-use crate::layout::Layout;
-use crate::marks::Marks;
-use crate::reads::Reads;
-use crate::spot::Spot;
-use crate::unowned::{Ends, unowned};
-use hpf_base::{NodeId, OutOfMemory};
+use hpf_base::OutOfMemory;
+use owner_tables::Spot;
 use std::alloc::Global;
+use std::marker::Model;
 
-/// The message from one node to another, of so many, in a part: the elements that the target needs, that it doesn't own,
-/// and whose least owner is the source, each once, row by row, each in array-element order. A node needs every element that is
-/// read at a tuple that it computes.
-pub fn message<P: Reads>(
-    alloc: Global,
-    nodes: u32,
-    layouts: &[Layout],
-    part: &P,
-    from: NodeId,
-    to: NodeId,
-) -> Result<Vec<Spot>, OutOfMemory>
-    requires laid { AreLaid nodes layouts.now }
-    requires few { length layouts.now ≤ 2 ^ 32 }
-    requires to { to.0 < nodes }
-    ensures { IfOk result (λ spots. map spot_of spots.items ≡ message nodes (layouts_of layouts.now) (P.part part.now) from.0 to.0) }
-{
-    let mut marks = Marks::none(alloc, nodes, layouts)?;
-    for tuple in 0..part.tuples() {
-        mark_tuple(&mut marks, part, to, tuple);
-    }
-    unowned(alloc, Ends { nodes, from, to }, layouts, &marks)
+/// The messages between one node and each node, by the number of the other node: of each the elements, row by row, each in
+/// array-element order. Contracts see the list of these lists.
+#[derive(Debug, Drop)]
+pub struct Messages {
+    lists: Vec<Vec<Spot>>,
 }
 
-/// Marks what is read at the tuple, if the node computes it.
-fn mark_tuple<P: Reads>(marks: &mut Marks, part: &P, node: NodeId, tuple: u64)
-    requires { tuple < (P.part part.now).tuples }
-    ensures { marks.new ≡ marked_tuple (P.part part.now) node.0 marks.old tuple }
-{
-    if part.computes(node, tuple) {
-        mark_reads(marks, part, tuple);
+impl Model for Messages {
+    ghost use Rattle.std.specs.Prelude.{map};
+    ghost use Rattle.owner_tables.specs.Spots.{spot_of};
+    ghost use Rattle.comm_sets.specs.Noted.{Lists};
+
+    ghost Value = { Lists };
+
+    ghost view = { λ m. map (λ v. map spot_of v.items) m.lists.items };
+}
+
+impl Messages {
+    /// Nothing for any of so many nodes.
+    pub(crate) fn none(alloc: Global, nodes: u32) -> Result<Messages, OutOfMemory>
+        ensures { IfOk result (λ m. m ≡ replicate nodes []) }
+    {
+        let mut lists = Vec::new(alloc);
+        for _node in 0..nodes {
+            lists.push(Vec::new(alloc))?;
+        }
+        Ok(Messages { lists })
+    }
+
+    /// Adds the element to the node's list.
+    pub(crate) fn add(&mut self, node: u32, spot: Spot) -> Result<(), OutOfMemory>
+        requires { node < length self.old }
+        ensures { OnOk result (Noted self.old self.new (λ other s. nat_eq node other && is_same_spot (spot_of spot) s)) }
+    {
+        note(&mut self.lists[node as usize], spot)?;
+        Ok(())
+    }
+
+    /// Puts each list in order, and drops repetitions.
+    pub(crate) fn arrange(&mut self)
+        ensures { Arranged self.old self.new }
+    {
+        for node in 0..self.lists.len() {
+            arrange_list(&mut self.lists[node]);
+        }
+    }
+
+    /// The elements of the message that is exchanged with the node, row by row, each in array-element order.
+    pub fn with(&self, node: u32) -> &[Spot]
+        requires { node < length self.now }
+        ensures { map spot_of result.now ≡ slice_index_or self.now node [] }
+    {
+        self.lists[node as usize].as_slice()
     }
 }
 
-/// Marks what is read at the tuple.
-fn mark_reads<P: Reads>(marks: &mut Marks, part: &P, tuple: u64)
-    requires { tuple < (P.part part.now).tuples }
-    ensures { marks.new ≡ fold marked_read marks.old ((P.part part.now).reads tuple) }
+/// Adds the element to the list. Repetitions are dropped before the list grows, so that its memory goes with its elements, however often
+/// they are added.
+fn note(list: &mut Vec<Spot>, spot: Spot) -> Result<(), OutOfMemory>
+    ensures { OnOk result (OneMore (spot_of spot) (map spot_of list.old.items) (map spot_of list.new.items)) }
 {
-    for number in 0..part.reads(tuple) {
-        mark_read(marks, part.read(tuple, number));
+    if list.len() == list.capacity() {
+        make_room(list)?;
     }
+    list.push(spot)?;
+    Ok(())
 }
 
-/// Marks the element of a read, if there is one.
-fn mark_read(marks: &mut Marks, read: Option<Spot>)
-    ensures { marks.new ≡ marked_read marks.old (option_map spot_of read) }
+/// Drops repetitions, and makes room for at least as many elements as are left.
+fn make_room(list: &mut Vec<Spot>) -> Result<(), OutOfMemory>
+    ensures { OnOk result (SameAmong (map spot_of list.old.items) (map spot_of list.new.items)) }
 {
-    if let Some(spot) = read {
-        marks.mark(spot);
-    }
+    arrange_list(list);
+    let room = list.len() + 1;
+    list.reserve(room)?;
+    Ok(())
+}
+
+/// Puts the list in order, and drops repetitions.
+fn arrange_list(list: &mut Vec<Spot>)
+    ensures ascends { Ascends (map spot_of list.new.items) }
+    ensures among { SameAmong (map spot_of list.old.items) (map spot_of list.new.items) }
+{
+    list.sort_unstable();
+    list.dedup();
 }

@@ -1,33 +1,30 @@
 //! What is read at the tuples of a part.
 
-ghost use Rattle.std.specs.Prelude.{◌≡◌, ◌<◌, Some, length, option_map, slice_get};
+ghost use Rattle.std.specs.Prelude.{◌≡◌, ◌<◌, ◌++◌, ℕ, OnOk, filter, map, option_map};
+ghost use Rattle.std.specs.List.{range_with_len};
 ghost use Rattle.machine_steps.specs.Message.{Part};
-ghost use Rattle.comm_sets.specs.Marks.{spot_of};
+ghost use Rattle.owner_tables.specs.Spots.{spot_of};
 
-use crate::spot::Spot;
-use hpf_base::NodeId;
+use hpf_base::OutOfMemory;
+use owner_tables::Spot;
 
-/// The elements that a part reads at its tuples, and the tuples that each node computes.
+/// The elements that a part reads at its tuples, and the nodes that compute each tuple, of `nodes` nodes in all. Contracts see the `part`.
 pub trait Reads {
     ghost part: { Self → Part };
 
+    ghost nodes: { Self → ℕ };
+
     /// The number of tuples.
-    fn tuples(&self) -> u64
+    fn tuples(&self) -> usize
         ensures { result ≡ (part self.now).tuples };
 
-    /// Whether the node computes the tuple, counted from 0.
-    fn computes(&self, node: NodeId, tuple: u64) -> bool
+    /// The nodes that compute the tuple, counted from 0, ascending.
+    fn computing(&self, tuple: usize) -> &[u32]
         requires { tuple < (part self.now).tuples }
-        ensures { result ≡ (part self.now).computes node.0 tuple };
+        ensures { result.now ≡ filter (λ node. (part self.now).computes node tuple) (range_with_len 0 (nodes self.now)) };
 
-    /// How many reads there are at the tuple.
-    fn reads(&self, tuple: u64) -> usize
+    /// Puts the elements that are read at the tuple, in order, behind the others; None where one is no element.
+    fn read(&self, tuple: usize, reads: &mut Vec<Option<Spot>>) -> Result<(), OutOfMemory>
         requires { tuple < (part self.now).tuples }
-        ensures { result ≡ length ((part self.now).reads tuple) };
-
-    /// The element of one of these reads, counted from 0; None where it is out of bounds.
-    fn read(&self, tuple: u64, number: usize) -> Option<Spot>
-        requires tuple { tuple < (part self.now).tuples }
-        requires number { number < length ((part self.now).reads tuple) }
-        ensures { slice_get ((part self.now).reads tuple) number ≡ Some (option_map spot_of result) };
+        ensures { OnOk result (map (option_map spot_of) reads.new.items ≡ map (option_map spot_of) reads.old.items ++ (part self.now).reads tuple) };
 }

@@ -1,68 +1,158 @@
-//! The messages of a redistribution.
+//! The messages of a redistribution (HPF 2.0, 8.3).
 
-ghost use Rattle.std.specs.Prelude.{◌≡◌, ◌<◌, ◌≤◌, ◌^◌, IfOk, length, map};
+ghost use Rattle.std.specs.Prelude.{◌≡◌, ◌<◌, ◌&&◌, IfOk, OnOk, filter, length, map, nat_eq, nat_lt, slice_index_or};
 ghost use Rattle.std.specs.List.{range_with_len};
-ghost use Rattle.machine_steps.specs.Layout.{owned_by, size_of};
-ghost use Rattle.machine_steps.specs.Message.{remap_message};
-ghost use Rattle.comm_sets.specs.Layouts.{layout_of, layouts_of, IsLaid, AreLaid};
-ghost use Rattle.comm_sets.specs.Marks.{owned_marks, spot_of};
+ghost use Rattle.nest_order.specs.LastValue.{is_same_spot};
+ghost use Rattle.machine_steps.specs.Layout.{sizes};
+ghost use Rattle.machine_steps.specs.Message.{all_spots, remap_message};
+ghost use Rattle.owner_tables.specs.Spots.{spot_of};
+ghost use Rattle.comm_sets.specs.Moves.{is_moved, moves, node_of};
+ghost use Rattle.comm_sets.specs.Noted.{Noted};
 
-use crate::layout::{Layout, is_owned, size};
-use crate::marks::Marks;
-use crate::spot::Spot;
-use crate::unowned::{Ends, unowned};
-use hpf_base::{NodeId, OutOfMemory};
+use crate::messages::Messages;
+use crate::sending::send;
+use hpf_base::OutOfMemory;
+use owner_tables::{Owners, Spot};
 use std::alloc::Global;
 
-/// The message from one node to another, of so many, at a redistribution (HPF 2.0, 8.3): the elements that the target owns after
-/// it and not before, and whose least owner before is the source, row by row, each in array-element order. The layouts
-/// before and after it are of the same arrays.
-pub fn remap_message(
-    alloc: Global,
-    nodes: u32,
-    old: &[Layout],
-    new: &[Layout],
-    from: NodeId,
-    to: NodeId,
-) -> Result<Vec<Spot>, OutOfMemory>
-    requires old { AreLaid nodes old.now }
-    requires new { AreLaid nodes new.now }
-    requires same { map (λ l. l.shape) old.now ≡ map (λ l. l.shape) new.now }
-    requires few { length old.now ≤ 2 ^ 32 }
-    requires to { to.0 < nodes }
-    ensures { IfOk result (λ spots. map spot_of spots.items ≡ remap_message nodes (layouts_of old.now) (layouts_of new.now) from.0 to.0) }
-{
-    let marks = owned(alloc, nodes, new, to)?;
-    unowned(alloc, Ends { nodes, from, to }, old, &marks)
+/// One end of the messages, a node.
+#[derive(Clone, Copy, Debug, PartialEq, Eq)]
+pub(crate) enum End {
+    Source(u32),
+    Target(u32),
 }
 
-/// The marks on the elements that the node owns.
-fn owned(alloc: Global, nodes: u32, layouts: &[Layout], node: NodeId) -> Result<Marks, OutOfMemory>
-    requires laid { AreLaid nodes layouts.now }
-    requires node { node.0 < nodes }
-    ensures { IfOk result (λ marks. marks ≡ owned_marks (layouts_of layouts.now) node.0) }
+/// The messages from a node to each node, node 0 first, at a redistribution: of each the elements that the target owns after it
+/// and not before, and whose least owner before is the source, row by row, each in array-element order. The rows are of the same
+/// sizes before and after.
+pub fn remap_outgoing(
+    alloc: Global,
+    before: &Owners,
+    after: &Owners,
+    from: u32,
+) -> Result<Messages, OutOfMemory>
+    requires nodes { before.now.nodes ≡ after.now.nodes }
+    requires sizes { sizes before.now.layouts ≡ sizes after.now.layouts }
+    requires from { from < before.now.nodes }
+    ensures { IfOk result (λ messages. messages
+        ≡ map (λ to. remap_message before.now.nodes before.now.layouts after.now.layouts from to) (range_with_len 0 before.now.nodes)) }
 {
-    let mut rows = Vec::new(alloc);
-    for layout in layouts {
-        rows.push(owned_row(alloc, nodes, layout, node)?)?;
-    }
-    Ok(Marks::of(rows))
+    moved(alloc, before, after, End::Source(from))
 }
 
-/// The marks on the elements of one row that the node owns.
-fn owned_row(
+/// The messages to a node from each node, node 0 first, at a redistribution: as those of `remap_outgoing`.
+pub fn remap_incoming(
     alloc: Global,
-    nodes: u32,
-    layout: &Layout,
-    node: NodeId,
-) -> Result<Vec<bool>, OutOfMemory>
-    requires laid { IsLaid nodes (layout_of layout.now) }
-    requires node { node.0 < nodes }
-    ensures { IfOk result (λ row. row.items ≡ map (owned_by (layout_of layout.now) node.0) (range_with_len 0 (size_of (layout_of layout.now)))) }
+    before: &Owners,
+    after: &Owners,
+    to: u32,
+) -> Result<Messages, OutOfMemory>
+    requires nodes { before.now.nodes ≡ after.now.nodes }
+    requires sizes { sizes before.now.layouts ≡ sizes after.now.layouts }
+    requires to { to < before.now.nodes }
+    ensures { IfOk result (λ messages. messages
+        ≡ map (λ from. remap_message before.now.nodes before.now.layouts after.now.layouts from to) (range_with_len 0 before.now.nodes)) }
 {
-    let mut row = Vec::new(alloc);
-    for at in 0..size(layout, nodes) {
-        row.push(is_owned(layout, alloc, nodes, node, at))?;
+    moved(alloc, before, after, End::Target(to))
+}
+
+/// The messages between the end and each node, node 0 first.
+fn moved(alloc: Global, before: &Owners, after: &Owners, end: End) -> Result<Messages, OutOfMemory>
+    requires nodes { before.now.nodes ≡ after.now.nodes }
+    requires sizes { sizes before.now.layouts ≡ sizes after.now.layouts }
+    requires end { node_of end < before.now.nodes }
+    ensures { IfOk result (λ messages. messages ≡ map (λ other. filter (moves before.now.nodes before.now.layouts after.now.layouts end other) (all_spots before.now.layouts)) (range_with_len 0 before.now.nodes)) }
+{
+    let mut messages = Messages::none(alloc, before.nodes())?;
+    for row in 0..before.rows() {
+        move_row(&mut messages, before, after, end, row)?;
     }
-    Ok(row)
+    messages.arrange();
+    Ok(messages)
+}
+
+/// Notes the elements of a row that are sent from the end or to it.
+fn move_row(
+    messages: &mut Messages,
+    before: &Owners,
+    after: &Owners,
+    end: End,
+    row: usize,
+) -> Result<(), OutOfMemory>
+    requires nodes { before.now.nodes ≡ after.now.nodes }
+    requires lists { length messages.old ≡ before.now.nodes }
+    requires sizes { sizes before.now.layouts ≡ sizes after.now.layouts }
+    requires end { node_of end < before.now.nodes }
+    ensures { OnOk result (Noted messages.old messages.new (λ other s. (nat_eq row s.row && nat_lt s.at (slice_index_or (sizes before.now.layouts) row 0))
+        && moves before.now.nodes before.now.layouts after.now.layouts end other s)) }
+{
+    for at in 0..before.size(row) {
+        move_spot(messages, before, after, end, Spot { row, at })?;
+    }
+    Ok(())
+}
+
+/// Notes the element, if it is sent from the end or to it.
+fn move_spot(
+    messages: &mut Messages,
+    before: &Owners,
+    after: &Owners,
+    end: End,
+    spot: Spot,
+) -> Result<(), OutOfMemory>
+    requires nodes { before.now.nodes ≡ after.now.nodes }
+    requires lists { length messages.old ≡ before.now.nodes }
+    requires sizes { sizes before.now.layouts ≡ sizes after.now.layouts }
+    requires end { node_of end < before.now.nodes }
+    requires spot { spot.at < slice_index_or (sizes before.now.layouts) spot.row 0 }
+    ensures { OnOk result (Noted messages.old messages.new (λ other s. is_same_spot (spot_of spot) s
+        && moves before.now.nodes before.now.layouts after.now.layouts end other s)) }
+{
+    match end {
+        End::Source(from) => move_from(messages, before, after, from, spot),
+        End::Target(to) => move_to(messages, before, after, to, spot),
+    }
+}
+
+/// Notes the element for the nodes that own it after and not before, if its least owner before is the source.
+fn move_from(
+    messages: &mut Messages,
+    before: &Owners,
+    after: &Owners,
+    from: u32,
+    spot: Spot,
+) -> Result<(), OutOfMemory>
+    requires nodes { before.now.nodes ≡ after.now.nodes }
+    requires lists { length messages.old ≡ before.now.nodes }
+    requires sizes { sizes before.now.layouts ≡ sizes after.now.layouts }
+    requires spot { spot.at < slice_index_or (sizes before.now.layouts) spot.row 0 }
+    ensures { OnOk result (Noted messages.old messages.new (λ to s. is_same_spot (spot_of spot) s
+        && is_moved before.now.nodes before.now.layouts after.now.layouts from to s)) }
+{
+    if before.least_owner(spot) == from {
+        send(messages, before, after.owners(spot), spot)?;
+    }
+    Ok(())
+}
+
+/// Notes the element at its least owner before, if the target owns it after and not before.
+fn move_to(
+    messages: &mut Messages,
+    before: &Owners,
+    after: &Owners,
+    to: u32,
+    spot: Spot,
+) -> Result<(), OutOfMemory>
+    requires nodes { before.now.nodes ≡ after.now.nodes }
+    requires lists { length messages.old ≡ before.now.nodes }
+    requires sizes { sizes before.now.layouts ≡ sizes after.now.layouts }
+    requires to { to < before.now.nodes }
+    requires spot { spot.at < slice_index_or (sizes before.now.layouts) spot.row 0 }
+    ensures { OnOk result (Noted messages.old messages.new (λ from s. is_same_spot (spot_of spot) s
+        && is_moved before.now.nodes before.now.layouts after.now.layouts from to s)) }
+{
+    if after.owns(to, spot) && !before.owns(to, spot) {
+        messages.add(before.least_owner(spot), spot)?;
+    }
+    Ok(())
 }

@@ -9,8 +9,6 @@ mod bases;
 #[cfg(test)]
 mod deepest;
 #[cfg(test)]
-mod messages;
-#[cfg(test)]
 mod ports;
 #[cfg(test)]
 mod tables;

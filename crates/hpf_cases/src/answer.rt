@@ -1,5 +1,6 @@
 //! The answers to cases.
 
+use crate::alike::write_alike;
 use crate::case::{Case, Wanted};
 use crate::job::write_job;
 use crate::stream::Stream;
@@ -17,13 +18,26 @@ pub fn answer_to(alloc: Global, case: Case) -> Result<String, AllocError> {
             let words = words_of(alloc, case.words.as_str())?;
             write_job(alloc, &mut out, &words)?;
         }
-        Wanted::Answer => match text_of(alloc, case.text.as_str()) {
-            Ok(text) => write_run(alloc, &mut out, case, text)?,
+        Wanted::Answer | Wanted::Alike => match text_of(alloc, case.text.as_str()) {
+            Ok(text) => write_answer(alloc, &mut out, case, text)?,
             Err(TextError::Malformed) => out.push_str("  no text is written so\n")?,
             Err(TextError::Memory) => out.push_str("  out of memory\n")?,
         },
     }
     Ok(out)
+}
+
+/// Writes what a case with this source asks for.
+fn write_answer(
+    alloc: Global,
+    answer: &mut String,
+    case: Case,
+    text: Vec<u8>,
+) -> Result<(), AllocError> {
+    match case.wanted {
+        Wanted::Alike => write_alike(alloc, answer, case.words.as_str(), &text),
+        _ => write_run(alloc, answer, case, text),
+    }
 }
 
 /// Runs the top call on a case with this source, and writes what it comes to.

@@ -3,11 +3,12 @@
 use crate::stream::Stream;
 use std::alloc::{AllocError, Global};
 
-/// What a case asks for: the job that its words are, or what the program answers.
+/// What a case asks for: the job that its words are, or what the program answers, or whether it answers alike in one order and on nodes.
 #[derive(Clone, Copy)]
 pub enum Wanted {
     Job,
     Answer,
+    Alike,
 }
 
 /// What is asked, the words and the text as they are written, and how the three streams behave.
@@ -33,6 +34,7 @@ impl Case {
         let wanted = match word {
             "job" => Wanted::Job,
             "words" => Wanted::Answer,
+            "alike" => Wanted::Alike,
             _ => return Ok(None),
         };
         Ok(Some(Case {

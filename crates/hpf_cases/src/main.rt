@@ -5,6 +5,7 @@
 //!
 //! - `job`: the answer is the job that the words are, or that they are none.
 //! - `words`: the answer is the status, how many bytes the source has left, and what standard output and standard error then hold.
+//! - `alike`: behind it stand grids; the answer says of each whether `run` and `serial` on it have the same status and write the same.
 //!
 //! These lines go on with it:
 //!
@@ -15,6 +16,7 @@
 //! Any other line ends it.
 #![tactic(auto)]
 
+mod alike;
 mod answer;
 mod case;
 mod job;

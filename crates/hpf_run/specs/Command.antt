@@ -1,21 +1,21 @@
 -- The words that the program is called with.
-use Rattle.std.specs.Prelude.{◌≡◌, Bool, true, false, not, List, Some}
+use Rattle.std.specs.Prelude.{◌≡◌, Bool, true, false, List, Some}
 use Rattle.hpf_words.specs.Parts.{Text}
 use Rattle.hpf_words.specs.Jobs.{job_of}
 use Rattle.hpf_words.specs.declared.job.Action.{Action}
 use Rattle.hpf_words.specs.declared.job.Action.TheVariants.{Run, Serial, Check, Map}
 use Rattle.hpf_words.specs.declared.job.Job.{Job}
 
--- an action that is built, with or without `--arrays`
-abbrev pub is_built_with : Action → Bool → Bool
-is_built_with Run arrays = not arrays
-is_built_with Serial arrays = not arrays
-is_built_with Check arrays = not arrays
-is_built_with Map arrays = not arrays
-is_built_with _ arrays = false
+-- an action that is built
+abbrev pub is_built_action : Action → Bool
+is_built_action Run = true
+is_built_action Serial = true
+is_built_action Check = true
+is_built_action Map = true
+is_built_action _ = false
 
 abbrev pub is_built : Job → Bool
-is_built job = is_built_with job.action job.arrays
+is_built job = is_built_action job.action
 
 -- the words are a job that is built
 abbrev pub IsCommand : List Text → Job → Type 0

@@ -1,8 +1,7 @@
 -- What a call of the program means to answer.
-use Rattle.std.specs.Prelude.{◌≡◌, ℕ, ◌+◌, ◌<◌, ◌≤◌, List, [], ◌++◌, length, take, codes, Option, None, Some, decimal}
+use Rattle.std.specs.Prelude.{◌≡◌, ℕ, ◌+◌, ◌<◌, ◌≤◌, Bool, true, false, List, [], ◌++◌, length, take, codes, Option, None, Some, decimal}
 use Rattle.std.specs.List.{flat_map}
 use Rattle.hpf_base.specs.declared.refusal.Refusal.{Refusal}
-use Rattle.hpf_base.specs.declared.refusal.Reason.TheVariants.{LeftOut}
 use Rattle.hpf_base.specs.declared.status.Status.{Status}
 use Rattle.hpf_base.specs.declared.status.Status.TheVariants.{Done, Refused, Fault, Usage, ReadFault, WriteFault, Memory, TooLong}
 use Rattle.hpf_base.specs.ElementOrder.{product}
@@ -10,9 +9,6 @@ use Rattle.hpf_base.specs.FirstBreach.{least}
 use Rattle.hpf_base.specs.Refusal.{name_of, number_of}
 use Rattle.hpf_base.specs.declared.limits.TheConstants.{MAX_SOURCE_BYTES}
 use Rattle.hpf_ports.specs.Ports.{Gave, IsAtEnd, Rose, AreAppended}
-use Rattle.first_form.specs.Form.{Program, ReadsAs}
-use Rattle.first_form.specs.Refusal.{IsLeftOut}
-use Rattle.first_form.specs.Meaning.{printed_of}
 use Rattle.syntax_tree.specs.MainProgram.{MainProgram}
 use Rattle.name_table.specs.Entries.{entries}
 use Rattle.name_table.specs.declared.names.Entry.{Entry}
@@ -20,7 +16,9 @@ use Rattle.array_meaning.specs.Faults as faults
 use Rattle.array_meaning.specs.Serial as serial
 use Rattle.array_meaning.specs.Serial.{Finished, Faulted}
 use Rattle.serial_run.specs.Independent.{left_out, marks}
+use Rattle.left_out_forms.specs.Forms.{unbuilt_on_nodes}
 use Rattle.directive_check.specs.ProgramMaps.{start_maps}
+use Rattle.run_report.specs.ArraysText.{arrays_text}
 use Rattle.run_report.specs.FaultLine.{fault_line}
 use Rattle.run_report.specs.MapText.{map_text}
 use Rattle.hpf_words.specs.declared.job.Action.{Action}
@@ -57,29 +55,34 @@ abbrev pub refusal_line : Refusal → List ℕ
 refusal_line refusal =
     codes "hpf: line " ++ decimal refusal.line ++ codes ": refused " ++ decimal (number_of refusal.reason) ++ codes " " ++ name_of refusal.reason ++ codes "\n"
 
--- what a program comes to is reported by what it printed and, where it ended with a fault, by the line of that
-pub data IsReportOf (names : List Entry) (s : serial.Outcome) : Outcome → Type 0 where
-  report_end : s.end ≡ Finished → IsReportOf names s record { status = Done; out = s.printed; err = [] }
-  report_fault : (f : faults.Fault) → s.end ≡ Faulted f → IsReportOf names s record { status = Fault; out = s.printed; err = fault_line names f }
+-- what a program printed and, where they are asked for, the lines of its last arrays behind it
+abbrev pub printed_with : Bool → List Entry → serial.Outcome → List ℕ
+printed_with false names s = s.printed
+printed_with true names s = s.printed ++ arrays_text names s.arrays
+
+-- what a program comes to is reported by what it printed and then, where it ended with a fault, by the line of that, and else by its last
+-- arrays, where they are asked for
+pub data IsReportOf (names : List Entry) (arrays : Bool) (s : serial.Outcome) : Outcome → Type 0 where
+  report_end : s.end ≡ Finished → IsReportOf names arrays s record { status = Done; out = printed_with arrays names s; err = [] }
+  report_fault : (f : faults.Fault) → s.end ≡ Faulted f → IsReportOf names arrays s record { status = Fault; out = s.printed; err = fault_line names f }
 
 -- what isn't built of a program for `serial`: DO loops with INDEPENDENT before them
 abbrev pub unbuilt : MainProgram → List Refusal
 unbuilt p = flat_map left_out (marks p.body)
 
--- what an action makes of a text that is accepted on a grid as this program
-pub data ActionOutcome (grid text : List ℕ) (p : MainProgram) : Action → Outcome → Type 0 where
-  check_done : ActionOutcome grid text p Check record { status = Done; out = accepted_line; err = [] }
-  map_done : ActionOutcome grid text p Map record { status = Done; out = map_text (product grid) (start_maps grid p); err = [] }
-  serial_report : least (unbuilt p) ≡ None → (o : Outcome) → IsReportOf (entries p) (serial.serial p) o → ActionOutcome grid text p Serial o
-  serial_left_out : (r : Refusal) → least (unbuilt p) ≡ Some r → ActionOutcome grid text p Serial record { status = Refused; out = []; err = refusal_line r }
-  run_done : (q : Program) → ReadsAs text q → ActionOutcome grid text p Run record { status = Done; out = printed_of q; err = [] }
-  run_left_out : (number : ℕ) → IsLeftOut text number
-      → ActionOutcome grid text p Run record { status = Refused; out = []; err = refusal_line record { line = number; reason = LeftOut } }
+-- what an action makes of a program that is accepted on a grid. A run on nodes comes to what the program means in one order
+pub data ActionOutcome (grid : List ℕ) (arrays : Bool) (p : MainProgram) : Action → Outcome → Type 0 where
+  check_done : ActionOutcome grid arrays p Check record { status = Done; out = accepted_line; err = [] }
+  map_done : ActionOutcome grid arrays p Map record { status = Done; out = map_text (product grid) (start_maps grid p); err = [] }
+  serial_report : least (unbuilt p) ≡ None → (o : Outcome) → IsReportOf (entries p) false (serial.serial p) o → ActionOutcome grid arrays p Serial o
+  serial_left_out : (r : Refusal) → least (unbuilt p) ≡ Some r → ActionOutcome grid arrays p Serial record { status = Refused; out = []; err = refusal_line r }
+  run_report : least (unbuilt_on_nodes p) ≡ None → (o : Outcome) → IsReportOf (entries p) arrays (serial.serial p) o → ActionOutcome grid arrays p Run o
+  run_left_out : (r : Refusal) → least (unbuilt_on_nodes p) ≡ Some r → ActionOutcome grid arrays p Run record { status = Refused; out = []; err = refusal_line r }
 
 -- what a job makes of a text: whatever the action, a text that isn't accepted on the grid is refused
 pub data TextOutcome (text : List ℕ) (job : Job) : Outcome → Type 0 where
   text_refused : (r : Refusal) → IsRefused job.grid text r → TextOutcome text job record { status = Refused; out = []; err = refusal_line r }
-  text_accepted : (p : MainProgram) → IsAccepted job.grid text p → (o : Outcome) → ActionOutcome job.grid text p job.action o → TextOutcome text job o
+  text_accepted : (p : MainProgram) → IsAccepted job.grid text p → (o : Outcome) → ActionOutcome job.grid job.arrays p job.action o → TextOutcome text job o
 
 -- the outcome of words and a source's bytes
 pub data TopOutcome (words : List (List ℕ)) (bytes : List ℕ) : Outcome → Type 0 where

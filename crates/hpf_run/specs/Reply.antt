@@ -1,6 +1,6 @@
 -- No public clause cites this file.
 -- What a reply says, and what a text, an accepted one and a refusal are answered by.
-use Rattle.std.specs.Prelude.{◌≡◌, ℕ, List, []}
+use Rattle.std.specs.Prelude.{◌≡◌, ℕ, Bool, List, []}
 use Rattle.hpf_base.specs.declared.refusal.Refusal.{Refusal}
 use Rattle.hpf_base.specs.declared.status.Status.TheVariants as status
 use Rattle.syntax_tree.specs.MainProgram.{MainProgram}
@@ -28,9 +28,9 @@ pub data TextMeant (text : List ℕ) (job : Job) : Outcome → Type 0 where
   text_memory : TextMeant text job record { status = status.Memory; out = []; err = memory_line }
 
 -- what an action makes of an accepted text, or want of memory
-pub data ActionMeant (grid text : List ℕ) (p : MainProgram) (act : Action) : Outcome → Type 0 where
-  action_outcome : (o : Outcome) → ActionOutcome grid text p act o → ActionMeant grid text p act o
-  action_memory : ActionMeant grid text p act record { status = status.Memory; out = []; err = memory_line }
+pub data ActionMeant (grid : List ℕ) (arrays : Bool) (p : MainProgram) (act : Action) : Outcome → Type 0 where
+  action_outcome : (o : Outcome) → ActionOutcome grid arrays p act o → ActionMeant grid arrays p act o
+  action_memory : ActionMeant grid arrays p act record { status = status.Memory; out = []; err = memory_line }
 
 -- a refusal is answered, or want of memory
 pub data IsReplyOf (r : Refusal) : Outcome → Type 0 where
@@ -38,6 +38,6 @@ pub data IsReplyOf (r : Refusal) : Outcome → Type 0 where
   reply_memory : IsReplyOf r record { status = status.Memory; out = []; err = memory_line }
 
 -- what a program comes to is reported, or want of memory
-pub data IsReported (names : List Entry) (s : serial.Outcome) : Outcome → Type 0 where
-  reported : (o : Outcome) → IsReportOf names s o → IsReported names s o
-  reported_memory : IsReported names s record { status = status.Memory; out = []; err = memory_line }
+pub data IsReported (names : List Entry) (arrays : Bool) (s : serial.Outcome) : Outcome → Type 0 where
+  reported : (o : Outcome) → IsReportOf names arrays s o → IsReported names arrays s o
+  reported_memory : IsReported names arrays s record { status = status.Memory; out = []; err = memory_line }

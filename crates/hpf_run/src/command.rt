@@ -11,7 +11,7 @@ fn is_built(job: &Job) -> bool
     ensures { result ≡ is_built job.now }
 {
     match job.action {
-        Action::Run | Action::Serial | Action::Check | Action::Map => !job.arrays,
+        Action::Run | Action::Serial | Action::Check | Action::Map => true,
         Action::Messages | Action::Bulk => false,
     }
 }

@@ -11,6 +11,8 @@
 //! - `Parallel`: what a parallel statement does at a tuple, by the values of the elements that it reads.
 //! - `Instructions`: all instructions. The numbers of arrays and of copies are the rows of the machine.
 //! - `Texts`: what the types of the code stand for, apart from where they lie in memory.
+//! - `FaultNumbers`, `FaultValues`: faults as values of letters, which are read back with their line, kind, tuples and object.
+//! - `ProgramText`: an instruction with what it knows of arrays and nodes, so that what it means depends on nothing else.
 #![tactic(auto)]
 
 mod flat;

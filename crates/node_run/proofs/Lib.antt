@@ -4,15 +4,16 @@ mod Goes
 mod JoinedValues
 mod Keeping
 mod PartLetters
+pub mod CodedSteps
 pub mod Openings
 pub mod OwnedPieces
 mod PartPhase
 mod PartsInARow
-mod PieceLaws
+pub mod PieceLaws
 mod Picked
 mod Plain
 mod Ranges
-mod Reading
+pub mod Reading
 mod Reduces
 mod Remaps
 mod WholeRuns
@@ -23,4 +24,4 @@ mod TreeLevels
 mod TreeRun
 mod TreeActs
 mod TreeSteps
-mod Wholes
+pub mod Wholes

@@ -5,6 +5,7 @@
 //!
 //! - `runs`: nodes that agree with the machine run each instruction as it does; so they are phased where its run ends, and their last
 //!   nodes agree with its last state. They begin as one list of openings.
+//! - `coded`: the machine over other texts that mean the same does the same.
 //! - `letters`: the letters of a message phase and of the rounds of a redistribution are exactly those of the whole arrays, and what a
 //!   node receives gives it each value that it needs.
 //! - `parted`: parallel statements one behind the other are the parted order of a nest, and what the machine keeps is its least fault.
@@ -17,6 +18,7 @@
 //! redistribution are rounds of exchanges, and segments of a lockstep run are put together.
 #![tactic(auto)]
 
+mod coded;
 mod joining;
 mod letters;
 mod parted;
@@ -24,6 +26,7 @@ mod pieces;
 mod runs;
 mod trees;
 
+pub use coded::other_texts;
 pub use joining::{folded_from_unit, values_regrouped};
 pub use letters::{message_read, part_letters, remap_letters};
 pub use parted::{least_of_parts, parts_in_a_row};

@@ -1,11 +1,7 @@
 -- Rows that lie so are whole: they have the sizes of their layouts, and each element has an owner.
-use Rattle.std.proofs.Common.{◌≡◌, ℕ, zero, suc, ◌*◌, ◌<◌, true, ℤ, List, [], ◌∷◌, ◌++◌, length, map, get_or, refl, sym, ap, ◌∙◌, arith}
+use Rattle.std.proofs.Common.{◌≡◌, ℕ, zero, suc, ◌*◌, ◌<◌, true, List, [], ◌∷◌, ◌++◌, length, map, get_or, refl, sym, ap, ◌∙◌, arith}
 use Rattle.std.proofs.lemmas.List.{length-replicate}
-use Rattle.std.specs.Prelude.{All}
-use Rattle.hpf_base.specs.ElementOrder as index
 use Rattle.hpf_base.specs.ElementOrder.{extents_of, product}
-use Rattle.hpf_base.specs.Grid.{IsGrid}
-use Rattle.hpf_base.specs.Mapping.{IsMapping, MapsInside}
 use Rattle.syntax_tree.specs.MainProgram.{MainProgram}
 use Rattle.expression_rules.specs.declared.dims.Dim.{Dim}
 use Rattle.expression_rules.specs.Dims.{elements, extent}
@@ -14,12 +10,12 @@ use Rattle.name_table.specs.declared.names.Entry.{Entry}
 use Rattle.name_table.specs.declared.names.What.{What}
 use Rattle.name_table.specs.declared.names.What.TheVariants as what
 use Rattle.nest_order.specs.Storage.{Storage}
+use Rattle.directive_check.specs.ProgramMaps.{shape_of}
 use Rattle.array_meaning.specs.Resolution.{initial_array}
 use Rattle.array_meaning.specs.State.{Array}
 use Rattle.machine_steps.specs.Layout.{IsDealt, Layout, owned_in, size_of, sizes}
 use Rattle.machine_steps.specs.Agrees.{IsWhole}
-use Rattle.node_run.proofs.OwnedPieces.{elements-owned}
-use Rattle.nodes_lowered.specs.OnNodes.{AreLaid, IsLaid, program_opening, shape_of}
+use Rattle.nodes_lowered.specs.OnNodes.{AreLaid, IsLaid, program_opening}
 
 -- ---- sizes
 
@@ -82,9 +78,3 @@ opening-whole count p layouts h = record {
   owned = λ spot lt. rows-owned count (entries p) layouts h spot.row spot.at lt;
   kept = λ k e. cc;
 }
-
--- ---- mapped arrays
-
-pub mapped-laid : (ds : List Dim) (v : ℤ) (layout : Layout) → layout.shape ≡ shape_of ds → IsGrid layout.mapping.grid → IsMapping (length ds) layout.mapping
-    → All (MapsInside layout.mapping) (index.elements layout.shape) → IsLaid (product layout.mapping.grid) (what.Array ds v) layout
-mapped-laid ds v layout same grid mapping inside = (same, elements-owned layout (length ds) grid mapping inside)

@@ -1,0 +1,6 @@
+mod AlikeLaws
+pub mod CopyLaws
+mod Counting
+mod Rows
+mod TableLaws
+pub mod Ranges

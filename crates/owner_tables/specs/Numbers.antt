@@ -1,11 +1,15 @@
 -- Elements numbered by their least owners.
-use Rattle.std.specs.Prelude.{ℕ, ◌==◌, List, map, slice_index_or}
+use Rattle.std.specs.Prelude.{◌≡◌, ℕ, ◌<◌, ◌==◌, true, List, map, slice_index_or}
 use Rattle.std.specs.List.{range_with_len}
 use Rattle.machine_steps.specs.Layout.{Layout, count_passing, first, owned_by, size_of}
 
 -- of so many nodes the owner with the least number of the element at a position
 abbrev pub least_at : ℕ → Layout → ℕ → ℕ
 least_at nodes layout at = first (λ node. owned_by layout node at) 0 nodes
+
+-- each of the first elements has an owner, and so its least owner is one
+abbrev pub AreOwnedByLeast : ℕ → Layout → ℕ → Type 0
+AreOwnedByLeast nodes layout done = (at : ℕ) → at < done → (least_at nodes layout at < nodes) × (owned_by layout (least_at nodes layout at) at ≡ true)
 
 -- the least owners of all elements, in array-element order
 abbrev pub least_owners : ℕ → Layout → List ℕ

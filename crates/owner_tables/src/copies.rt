@@ -1,12 +1,16 @@
 //! How the elements of a copy lie.
 
-ghost use Rattle.std.specs.Prelude.{◌≡◌, ◌<◌, ◌≤◌, ◌^◌, All, IfOk, IfSome, length, map, pos, replicate};
+ghost use Rattle.std.specs.Prelude.{◌≡◌, ◌<◌, ◌≤◌, ◌^◌, [], ◌∷◌, All, IfOk, IsTrue, length, map, pos, replicate};
 ghost use Rattle.hpf_base.specs.declared.limits.TheConstants.{MAX_ELEMENTS, MAX_NODES, MAX_RANK};
 ghost use Rattle.hpf_base.specs.ElementOrder.{product};
-ghost use Rattle.owner_tables.specs.CopyLayout.{copy_dims, copy_extents, copy_mapping, copy_shape, copy_layout};
+ghost use Rattle.hpf_base.specs.Owner.{block_line};
+ghost use Rattle.owner_tables.specs.CopyLayout.{copy_dims, copy_extents, copy_layout, copy_mapping, copy_shape};
 ghost use Rattle.owner_tables.specs.Layouts.{IsLaid};
 
-use hpf_base::{Index, Mapping, OutOfMemory, Shape};
+use hpf_base::{
+    AlignDim, Form, Grid, Index, Line, MAX_ELEMENTS, MAX_RANK, MapDim, MapDims, Mapping,
+    OutOfMemory, Shape,
+};
 use std::alloc::Global;
 
 /// The shape and the mapping of a copy.
@@ -16,7 +20,8 @@ pub(crate) struct CopyLayout {
     pub(crate) mapping: Mapping,
 }
 
-/// How a copy of these extents lies on so many nodes.
+/// How a copy of these extents lies on so many nodes. Want of memory is the answer, too, where it has more than 7 dimensions or more than
+/// 1,048,576 elements.
 pub(crate) fn copy_layout(
     alloc: Global,
     nodes: u32,
@@ -27,8 +32,178 @@ pub(crate) fn copy_layout(
     ensures value { IfOk result (λ copy. record { shape = copy.shape; mapping = copy.mapping } ≡ copy_layout nodes extents.now) }
     ensures laid { IfOk result (λ copy. IsLaid nodes (record { shape = copy.shape; mapping = copy.mapping })) }
 {
-    let _ = alloc;
-    let _ = nodes;
-    let _ = extents;
-    Err(OutOfMemory)
+    let extents = copy_extents(alloc, extents)?;
+    let shape = copy_shape(alloc, &extents)?;
+    let mapping = copy_mapping(alloc, nodes, &extents)?;
+    Ok(CopyLayout { shape, mapping })
+}
+
+/// The extents that the copy has: all are 0 where one is.
+fn copy_extents(alloc: Global, extents: &[u128]) -> Result<Vec<u32>, OutOfMemory>
+    ensures value { IfOk result (λ copy. copy.items ≡ copy_extents extents.now) }
+    ensures rank { IfOk result (λ copy. length copy.items ≤ MAX_RANK) }
+    ensures each { IfOk result (λ copy. All (λ extent. extent ≤ MAX_ELEMENTS) copy.items) }
+    ensures size { IfOk result (λ copy. product copy.items ≤ MAX_ELEMENTS) }
+{
+    if extents.len() > MAX_RANK {
+        return Err(OutOfMemory);
+    }
+    if extents.contains(&0) {
+        return zeros(alloc, extents.len());
+    }
+    let narrow = narrowed(alloc, extents)?;
+    if is_within(&narrow) {
+        Ok(narrow)
+    } else {
+        Err(OutOfMemory)
+    }
+}
+
+/// So many zeros.
+fn zeros(alloc: Global, count: usize) -> Result<Vec<u32>, OutOfMemory>
+    ensures { IfOk result (λ zeros. zeros.items ≡ replicate count 0) }
+{
+    Ok(vec![in alloc; 0; count]?)
+}
+
+/// The same extents, if each is at most 1,048,576.
+fn narrowed(alloc: Global, extents: &[u128]) -> Result<Vec<u32>, OutOfMemory>
+    ensures value { IfOk result (λ narrow. narrow.items ≡ extents.now) }
+    ensures each { IfOk result (λ narrow. All (λ extent. extent ≤ MAX_ELEMENTS) narrow.items) }
+{
+    let mut narrow = Vec::new(alloc);
+    for extent in extents {
+        narrow.push(narrow_extent(*extent)?)?;
+    }
+    Ok(narrow)
+}
+
+/// The extent, if it is at most 1,048,576.
+fn narrow_extent(extent: u128) -> Result<u32, OutOfMemory>
+    ensures value { IfOk result (λ narrow. narrow ≡ extent) }
+    ensures small { IfOk result (λ narrow. narrow ≤ MAX_ELEMENTS) }
+{
+    if extent <= MAX_ELEMENTS as u128 {
+        Ok(extent as u32)
+    } else {
+        Err(OutOfMemory)
+    }
+}
+
+/// Whether the product of the extents, and of the first ones, is at most 1,048,576.
+fn is_within(extents: &[u32]) -> bool
+    ensures { IsTrue result → product extents.now ≤ MAX_ELEMENTS }
+{
+    let mut size = 1u32;
+    for extent in extents {
+        let more = size as u64 * *extent as u64;
+        if more > MAX_ELEMENTS {
+            return false;
+        }
+        size = more as u32;
+    }
+    true
+}
+
+/// The shape of the copy: its lower bounds are 1.
+fn copy_shape(alloc: Global, extents: &[u32]) -> Result<Shape, OutOfMemory>
+    requires { length extents.now ≤ MAX_RANK }
+    ensures { IfOk result (λ shape. shape ≡ copy_shape extents.now) }
+{
+    let lower = ones(alloc, extents.len())?;
+    let extent = signed(alloc, extents)?;
+    Ok(Shape {
+        lower: index(alloc, &lower),
+        extent: index(alloc, &extent),
+    })
+}
+
+/// The tuple of at most 7 numbers.
+fn index(alloc: Global, numbers: &[i64]) -> Index
+    requires { length numbers.now ≤ MAX_RANK }
+    ensures { result ≡ numbers.now }
+{
+    match Index::new(alloc, numbers) {
+        Some(index) => index,
+        None => unreachable!(),
+    }
+}
+
+/// So many ones.
+fn ones(alloc: Global, count: usize) -> Result<Vec<i64>, OutOfMemory>
+    ensures { IfOk result (λ ones. ones.items ≡ replicate count (pos 1)) }
+{
+    Ok(vec![in alloc; 1; count]?)
+}
+
+/// The same extents, as subscripts are kept.
+fn signed(alloc: Global, extents: &[u32]) -> Result<Vec<i64>, OutOfMemory>
+    ensures { IfOk result (λ signed. signed.items ≡ map pos extents.now) }
+{
+    let mut signed = Vec::new(alloc);
+    for extent in extents {
+        signed.push(*extent as i64)?;
+    }
+    Ok(signed)
+}
+
+/// The mapping of the copy: its last index lies in blocks over all nodes.
+fn copy_mapping(alloc: Global, nodes: u32, extents: &[u32]) -> Result<Mapping, OutOfMemory>
+    requires some { 1 ≤ nodes }
+    requires few { nodes ≤ MAX_NODES }
+    requires rank { length extents.now ≤ MAX_RANK }
+    ensures { IfOk result (λ mapping. mapping ≡ copy_mapping nodes extents.now) }
+{
+    let mut dims = Vec::new(alloc);
+    if !extents.is_empty() {
+        dims.push(last_dim(nodes, extents))?;
+    }
+    Ok(Mapping {
+        grid: line_of_nodes(alloc, nodes),
+        dims: MapDims::new(dims),
+    })
+}
+
+/// The grid of so many nodes in a line.
+fn line_of_nodes(alloc: Global, nodes: u32) -> Grid
+    requires some { 1 ≤ nodes }
+    requires few { nodes ≤ MAX_NODES }
+    ensures { result ≡ nodes ∷ [] }
+{
+    match Grid::new(alloc, &[nodes]) {
+        Some(grid) => grid,
+        None => unreachable!(),
+    }
+}
+
+/// The last dimension, in blocks.
+fn last_dim(nodes: u32, extents: &[u32]) -> MapDim
+    requires nodes { 1 ≤ nodes }
+    requires some { 1 ≤ length extents.now }
+    requires rank { length extents.now ≤ MAX_RANK }
+    ensures { copy_dims nodes extents.now ≡ result ∷ [] }
+{
+    let last = extents.len() - 1;
+    MapDim {
+        line: block_line(extents[last] as u64, nodes),
+        grid_dim: 0,
+        align: AlignDim::Linear {
+            dim: last as u32,
+            a: 1,
+            b: 0,
+        },
+    }
+}
+
+/// A dimension in blocks, one a node.
+fn block_line(extent: u64, nodes: u32) -> Line
+    requires { 1 ≤ nodes }
+    ensures { result ≡ block_line extent nodes }
+{
+    Line {
+        lower: 1,
+        extent,
+        form: Form::Block(u64::max(1, extent.div_ceil(nodes as u64))),
+        procs: nodes,
+    }
 }

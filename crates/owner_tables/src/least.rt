@@ -1,9 +1,9 @@
 //! The least owners of the elements of an array.
 
-ghost use Rattle.std.specs.Prelude.{◌≡◌, ◌<◌, ◌≤◌, ◌^◌, ◌*◌, ℕ, IfOk, true, length};
+ghost use Rattle.std.specs.Prelude.{◌≡◌, ◌<◌, ◌≤◌, ◌^◌, All, IfOk, true, length};
 ghost use Rattle.machine_steps.specs.Layout.{owned_by, size_of};
 ghost use Rattle.owner_tables.specs.Layouts.{IsLaid};
-ghost use Rattle.owner_tables.specs.Numbers.{least_at, least_owners};
+ghost use Rattle.owner_tables.specs.Numbers.{AreOwnedByLeast, least_at, least_owners};
 
 use align_map::least_owner;
 use hpf_base::{Mapping, OutOfMemory, Shape};
@@ -20,9 +20,9 @@ pub(crate) fn least_owners(
     requires laid { IsLaid nodes (record { shape = shape.now; mapping = mapping.now }) }
     ensures value { IfOk result (λ least. least.items ≡ least_owners nodes (record { shape = shape.now; mapping = mapping.now })) }
     ensures few { IfOk result (λ least. length least.items ≤ 2 ^ 20) }
-    ensures dealt { IfOk result (λ least. (at : ℕ) → at < size_of (record { shape = shape.now; mapping = mapping.now })
-        → (least_at nodes (record { shape = shape.now; mapping = mapping.now }) at < nodes)
-        × (owned_by (record { shape = shape.now; mapping = mapping.now }) (least_at nodes (record { shape = shape.now; mapping = mapping.now }) at) at ≡ true)) }
+    ensures owned { IfOk result (λ least. AreOwnedByLeast nodes (record { shape = shape.now; mapping = mapping.now })
+        (size_of (record { shape = shape.now; mapping = mapping.now }))) }
+    ensures nodes { IfOk result (λ least. All (λ node. node < nodes) least.items) }
 {
     let mut least = Vec::new(alloc);
     for at in 0..element_count(shape) {

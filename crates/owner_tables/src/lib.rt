@@ -17,6 +17,7 @@ mod numbers;
 mod owners;
 mod spot;
 mod table;
+mod tables;
 
 pub use laws::{copies_are_dealt, copies_have_sizes, pieces_of_one_value};
 pub use owners::Owners;

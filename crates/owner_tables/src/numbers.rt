@@ -1,6 +1,6 @@
 //! Elements numbered by their least owners.
 
-ghost use Rattle.std.specs.Prelude.{◌≡◌, ◌<◌, ◌≤◌, ◌^◌, ◌+◌, All, IfOk, length, map, replicate, set, slice_index_or};
+ghost use Rattle.std.specs.Prelude.{◌≡◌, ◌<◌, ◌≤◌, ◌^◌, ◌+◌, All, IfOk, length, map, replicate, slice_index_or, slice_set};
 ghost use Rattle.std.specs.List.{range_with_len};
 ghost use Rattle.owner_tables.specs.Numbers.{count_of, number_at};
 
@@ -26,11 +26,21 @@ pub(crate) fn numbered(alloc: Global, nodes: u32, least: &[u32]) -> Result<Numbe
     let mut addresses = Vec::new(alloc);
     let mut counts = zeros(alloc, nodes)?;
     for at in 0..least.len() {
-        let node = least[at] as usize;
-        addresses.push(counts[node])?;
-        counts[node] += 1;
+        addresses.push(next_number(&mut counts, least[at]))?;
     }
     Ok(Numbers { addresses, counts })
+}
+
+/// The number of the next element with this least owner: how many there were before it. One more is counted.
+fn next_number(counts: &mut Vec<u32>, node: u32) -> u32
+    requires node { node < length counts.old.items }
+    requires few { slice_index_or counts.old.items node 0 < 2 ^ 20 }
+    ensures number { result ≡ slice_index_or counts.old.items node 0 }
+    ensures more { counts.new.items ≡ slice_set counts.old.items node (slice_index_or counts.old.items node 0 + 1) }
+{
+    let number = counts[node as usize];
+    counts[node as usize] = number + 1;
+    number
 }
 
 /// So many zeros.

@@ -3,7 +3,7 @@
 ghost use Rattle.std.specs.Prelude.{◌≡◌, ◌<◌, ◌≤◌, ◌++◌, ◌∷◌, [], IfOk, OnErr, OnOk, filter, length, nat_lt, slice_index_or, slice_set, true};
 ghost use Rattle.std.specs.List.{range_with_len};
 ghost use Rattle.hpf_base.specs.declared.limits.TheConstants.{MAX_NODES};
-ghost use Rattle.machine_steps.specs.Layout.{address, count_passing, least_owner_of, owned_in, owns_spot, sizes};
+ghost use Rattle.machine_steps.specs.Layout.{address, count_passing, least_owner_of, owned_by, owned_in, owns_spot, size_of, sizes};
 ghost use Rattle.owner_tables.specs.Spots.{spot_of};
 
 use crate::spot::Spot;
@@ -101,9 +101,10 @@ impl Owners {
     pub fn size(&self, row: usize) -> usize
         ensures { result ≡ slice_index_or (sizes self.now.layouts) row 0 }
     {
-        match self.tables.get(row) {
-            Some(table) => table.size(),
-            None => 0,
+        if row < self.tables.len() {
+            self.table(row).size()
+        } else {
+            0
         }
     }
 
@@ -119,7 +120,7 @@ impl Owners {
         requires { spot.at < slice_index_or (sizes self.now.layouts) spot.row 0 }
         ensures { result.now ≡ filter (λ node. owns_spot self.now.layouts node (spot_of spot)) (range_with_len 0 self.now.nodes) }
     {
-        self.tables[spot.row].owners(spot.at)
+        self.table(spot.row).owners(spot.at)
     }
 
     /// Whether the node owns the element.
@@ -128,7 +129,7 @@ impl Owners {
         requires at { spot.at < slice_index_or (sizes self.now.layouts) spot.row 0 }
         ensures { result ≡ owns_spot self.now.layouts node (spot_of spot) }
     {
-        self.tables[spot.row].owns(node, spot.at)
+        self.table(spot.row).owns(node, spot.at)
     }
 
     /// The owner of the element with the least number.
@@ -137,7 +138,7 @@ impl Owners {
         ensures value { result ≡ least_owner_of self.now.nodes self.now.layouts (spot_of spot) }
         ensures below { result < self.now.nodes }
     {
-        self.tables[spot.row].least_owner(spot.at)
+        self.table(spot.row).least_owner(spot.at)
     }
 
     /// The local address, from 0, of the element on a node that owns it: its number among the elements of the row that the node owns.
@@ -147,7 +148,7 @@ impl Owners {
         requires owner { owns_spot self.now.layouts node (spot_of spot) ≡ true }
         ensures { result ≡ address self.now.layouts node (spot_of spot) }
     {
-        self.tables[spot.row].address(node, spot.at)
+        self.table(spot.row).address(node, spot.at)
     }
 
     /// How many elements of the row the node owns: the length of its piece. It is 0 where there is no such row.
@@ -155,9 +156,20 @@ impl Owners {
         requires { node < self.now.nodes }
         ensures { result ≡ count_passing (owned_in self.now.layouts row node) 0 (slice_index_or (sizes self.now.layouts) row 0) }
     {
-        match self.tables.get(row) {
-            Some(table) => table.owned(node),
-            None => 0,
+        if row < self.tables.len() {
+            self.table(row).owned(node)
+        } else {
+            0
         }
+    }
+
+    /// The table of a row.
+    fn table(&self, row: usize) -> &OwnerTable
+        requires { row < length self.now.layouts }
+        ensures nodes { result.now.nodes ≡ self.now.nodes }
+        ensures size { size_of result.now.layout ≡ slice_index_or (sizes self.now.layouts) row 0 }
+        ensures owned { owned_by result.now.layout ≡ owned_in self.now.layouts row }
+    {
+        &self.tables[row]
     }
 }

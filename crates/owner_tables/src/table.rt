@@ -8,32 +8,12 @@ ghost use Rattle.owner_tables.specs.CopyLayout.{copy_layout};
 ghost use Rattle.owner_tables.specs.Layouts.{IsLaid};
 ghost use Rattle.owner_tables.specs.Numbers.{least_at};
 
-use crate::alike::{alike_nodes, leaders};
 use crate::copies::{CopyLayout, copy_layout};
-use crate::least::least_owners;
-use crate::numbers::numbered;
+use crate::tables::Tables;
 use hpf_base::{Mapping, OutOfMemory, Shape};
 use std::alloc::Global;
 use std::marker::Model;
 use std::sync::Arc;
-
-/// What the table of a row holds.
-#[derive(Drop)]
-pub(crate) struct Tables {
-    pub(crate) nodes: u32,
-    pub(crate) shape: Shape,
-    pub(crate) mapping: Mapping,
-    /// For each node those that own what it owns, ascending.
-    pub(crate) alike: Vec<Vec<u32>>,
-    /// For each node the first of them.
-    pub(crate) leaders: Vec<u32>,
-    /// For each element, in array-element order, its least owner.
-    pub(crate) least: Vec<u32>,
-    /// For each element its local address on each of its owners.
-    pub(crate) addresses: Vec<u32>,
-    /// For each node how many elements have it as their least owner.
-    pub(crate) counts: Vec<u32>,
-}
 
 /// Who owns each element of an array or of a copy, and where it lies there: it has the same local address on each of its owners.
 /// Contracts see the layout and the number of nodes. It is shared, and never copied.
@@ -45,13 +25,10 @@ pub struct OwnerTable {
 impl Model for OwnerTable {
     ghost use Rattle.std.specs.Arc.{arc_value};
     ghost use Rattle.owner_tables.specs.Views.{TableView};
-    ghost use Rattle.owner_tables.specs.Tables.{AreTables, view_of};
 
     ghost Value = { TableView };
 
-    ghost view = { λ t. view_of (arc_value t.tables) };
-
-    ghost invariant = { λ t. AreTables (arc_value t.tables) };
+    ghost view = { λ t. arc_value t.tables };
 }
 
 impl OwnerTable {
@@ -68,20 +45,7 @@ impl OwnerTable {
         requires laid { IsLaid nodes (record { shape = shape; mapping = mapping }) }
         ensures { IfOk result (λ t. t ≡ record { layout = record { shape = shape; mapping = mapping }; nodes = nodes }) }
     {
-        let alike = alike_nodes(alloc, nodes, &mapping)?;
-        let leaders = leaders(alloc, &alike)?;
-        let least = least_owners(alloc, nodes, &shape, &mapping)?;
-        let numbers = numbered(alloc, nodes, &least)?;
-        let tables = Tables {
-            nodes,
-            shape,
-            mapping,
-            alike,
-            leaders,
-            least,
-            addresses: numbers.addresses,
-            counts: numbers.counts,
-        };
+        let tables = Tables::new(alloc, nodes, shape, mapping)?;
         Ok(OwnerTable {
             tables: Arc::new(alloc, tables)?,
         })
@@ -111,14 +75,14 @@ impl OwnerTable {
     pub fn nodes(&self) -> u32
         ensures { result ≡ self.now.nodes }
     {
-        self.tables.nodes
+        self.tables.nodes()
     }
 
     /// The number of elements.
     pub fn size(&self) -> usize
         ensures { result ≡ size_of self.now.layout }
     {
-        self.tables.least.len()
+        self.tables.size()
     }
 
     /// How many elements the node owns.
@@ -126,7 +90,7 @@ impl OwnerTable {
         requires { node < self.now.nodes }
         ensures { result ≡ count_passing (owned_by self.now.layout node) 0 (size_of self.now.layout) }
     {
-        self.tables.counts[self.tables.leaders[node as usize] as usize] as usize
+        self.tables.owned(node)
     }
 
     /// The owners of the element at the position, ascending.
@@ -134,7 +98,7 @@ impl OwnerTable {
         requires { at < size_of self.now.layout }
         ensures { result.now ≡ filter (λ node. owned_by self.now.layout node at) (range_with_len 0 self.now.nodes) }
     {
-        self.tables.alike[self.tables.least[at] as usize].as_slice()
+        self.tables.owners(at)
     }
 
     /// Whether the node owns the element at the position.
@@ -143,7 +107,7 @@ impl OwnerTable {
         requires at { at < size_of self.now.layout }
         ensures { result ≡ owned_by self.now.layout node at }
     {
-        self.tables.least[at] == self.tables.leaders[node as usize]
+        self.tables.owns(node, at)
     }
 
     /// The owner of the element at the position with the least number.
@@ -152,7 +116,7 @@ impl OwnerTable {
         ensures value { result ≡ least_at self.now.nodes self.now.layout at }
         ensures below { result < self.now.nodes }
     {
-        self.tables.least[at]
+        self.tables.least_owner(at)
     }
 
     /// The local address, from 0, of the element at the position on a node that owns it: its number among the elements that the node owns.
@@ -162,7 +126,6 @@ impl OwnerTable {
         requires owner { owned_by self.now.layout node at ≡ true }
         ensures { result ≡ count_passing (owned_by self.now.layout node) 0 at }
     {
-        let _node = node;
-        self.tables.addresses[at] as usize
+        self.tables.address(node, at)
     }
 }

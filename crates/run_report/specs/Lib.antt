@@ -1,3 +1,4 @@
 pub mod TupleText
 pub mod FaultLine
 pub mod MapText
+pub mod ArraysText

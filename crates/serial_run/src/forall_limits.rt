@@ -30,7 +30,23 @@ pub(crate) fn is_forall_in_limits(
     ensures { IfOk result (λ b. b ≡ is_forall_in_limits (state_of s.now) axes.now (all_subscripts (option_map term mask.now) (map element_assignment body.now))) }
 {
     let few = are_indices_in_limits(axes);
-    let small = are_subscripts_in_limits(s, mask, body)?;
+    let small = all_subscripts_in_limits(s, mask, body)?;
+    Ok(few && small)
+}
+
+/// The same of subscripts in a list.
+#[tactic(auto, using(crate::proofs::Products::forall_limits))]
+pub fn are_subscripts_in_limits(
+    s: &State,
+    axes: &[Sequence],
+    subscripts: &Vec<Term>,
+) -> Result<bool, AllocError>
+    requires some { 0 < product (index_extents axes.now) }
+    requires few { product (index_extents axes.now) ≤ MAX_TUPLES }
+    ensures { IfOk result (λ b. b ≡ is_forall_in_limits (state_of s.now) axes.now (list_of (terms_of subscripts.now.items))) }
+{
+    let few = are_indices_in_limits(axes);
+    let small = is_listed_in_limits(s, subscripts)?;
     Ok(few && small)
 }
 
@@ -83,7 +99,7 @@ fn steps(count: i64, step: i64) -> i128
 }
 
 /// Whether all subscripts of the mask and of the assignments are in the limits.
-fn are_subscripts_in_limits(
+fn all_subscripts_in_limits(
     s: &State,
     mask: &Option<Term>,
     body: &[ElementAssignment],

@@ -16,7 +16,7 @@ use term_values::{Array, State};
 pub(crate) fn initial_state(alloc: Global, names: &Names) -> Result<State, AllocError>
     ensures { IfOk result (λ s. state_of s ≡ initial_state names.now) }
 {
-    let scalars = scalars(alloc, names)?;
+    let scalars = initial_scalars(alloc, names)?;
     let arrays = arrays(alloc, names)?;
     Ok(State {
         scalars,
@@ -25,8 +25,8 @@ pub(crate) fn initial_state(alloc: Global, names: &Names) -> Result<State, Alloc
     })
 }
 
-/// The scalars, each at the place of its name.
-fn scalars(alloc: Global, names: &Names) -> Result<Vec<i64>, AllocError>
+/// The initial values of the scalars, each at the place of its name; any other name has 0 there.
+pub fn initial_scalars(alloc: Global, names: &Names) -> Result<Vec<i64>, AllocError>
     ensures { IfOk result (λ v. v.items ≡ map (λ e. initial_scalar e.what) names.now) }
 {
     let mut scalars = Vec::new(alloc);

@@ -24,5 +24,8 @@ mod serial;
 mod where_construct;
 
 pub use completion::{Completion, Fault};
+pub use forall_limits::are_subscripts_in_limits;
 pub use independent::first_independent;
+pub use initial_state::initial_scalars;
+pub use one_to_one::is_one_to_one;
 pub use serial::{End, Outcome, run_serial};

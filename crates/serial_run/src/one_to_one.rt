@@ -34,7 +34,7 @@ pub(crate) fn check_one_to_one(
 }
 
 /// Whether some subscript depends on each index that has two values at least.
-fn is_one_to_one(s: &State, subscripts: &Vec<Term>, extents: &[u128]) -> Result<bool, AllocError>
+pub fn is_one_to_one(s: &State, subscripts: &Vec<Term>, extents: &[u128]) -> Result<bool, AllocError>
     ensures { IfOk result (λ b. b ≡ is_one_to_one (state_of s.now) (list_of (terms_of subscripts.now.items)) 0 extents.now) }
 {
     let xs = linears(s, subscripts)?;

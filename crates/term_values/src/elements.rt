@@ -88,9 +88,9 @@ pub(crate) fn element_of_two(
     }
 }
 
-/// The value of an operator or elemental procedure; a fault where it divides by zero.
+/// The value of an operator or elemental procedure; a fault where it divides by zero. It takes no memory.
 #[inline(never)]
-pub(crate) fn operated(op: Op, operands: &[i64]) -> Result<i64, Stop>
+pub fn operated(op: Op, operands: &[i64]) -> Result<i64, Stop>
     ensures value { IfOk result (λ v. operated op operands.now ≡ Ok v) }
     ensures stopped { IfErr result (IsStop (operated op operands.now)) }
 {
@@ -101,7 +101,7 @@ pub(crate) fn operated(op: Op, operands: &[i64]) -> Result<i64, Stop>
 }
 
 /// The same of two operands.
-pub(crate) fn operated_of_two(op: Op, a: &i64, b: &i64) -> Result<i64, Stop>
+pub fn operated_of_two(op: Op, a: &i64, b: &i64) -> Result<i64, Stop>
     ensures value { IfOk result (λ v. operated op (a.now ∷ b.now ∷ []) ≡ Ok v) }
     ensures stopped { IfErr result (IsStop (operated op (a.now ∷ b.now ∷ []))) }
 {

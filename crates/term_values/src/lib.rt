@@ -20,10 +20,12 @@ mod subscripts;
 mod wrapping;
 
 pub use array_values::{ArrayValue, Elemental, array_value, value_at, values_over};
-pub use elements::element_place;
+pub use elements::{element_place, operated, operated_of_two};
 pub use expressions::{elemental_of, selections, value, values, variable_place};
-pub use sequences::index_values;
-pub use spaces::{extents, size, space_size};
+pub use places::{place, place_of_one, place_of_two};
+pub use reductions::{combined, unit_of};
+pub use sequences::{index_values, sequence};
+pub use spaces::{extents, own_size, size, space_size};
 pub use state::{Array, State};
 pub use stops::{Cause, Stop, at_tuple, fault};
 pub use subscripts::{Division, divided, nth, positions, subscripts_at};

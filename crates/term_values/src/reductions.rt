@@ -34,8 +34,8 @@ fn reduced(op: Op, elements: &[i64]) -> i64
     so_far.value
 }
 
-/// The value of a reduction of no elements.
-fn unit_of(op: Op) -> i64
+/// The value of a reduction of no elements (Fortran 95, 13.14).
+pub fn unit_of(op: Op) -> i64
     ensures { result ≡ unit_of op }
 {
     match op {
@@ -55,9 +55,9 @@ fn with_one_more(op: Op, so_far: &i64, v: &i64) -> Number
     }
 }
 
-/// The same of plain numbers.
+/// The same of plain numbers. It takes no memory.
 #[tactic(auto, using(std::proofs::lemmas::Int::wraps))]
-fn combined(op: Op, so_far: i64, v: i64) -> i64
+pub fn combined(op: Op, so_far: i64, v: i64) -> i64
     ensures { result ≡ combined op so_far v }
 {
     match op {

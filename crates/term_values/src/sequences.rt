@@ -27,7 +27,7 @@ pub fn index_values(s: &State, c: &Control) -> Result<Sequence, Stop>
 }
 
 /// The values from a first to a last one; a fault where the step is 0.
-pub(crate) fn sequence(first: i64, last: i64, step: i64) -> Result<Sequence, Stop>
+pub fn sequence(first: i64, last: i64, step: i64) -> Result<Sequence, Stop>
     ensures value { IfOk result (λ p. sequence first last step ≡ Ok p) }
     ensures stopped { IfErr result (IsStop (sequence first last step)) }
 {

@@ -50,7 +50,7 @@ pub fn space_size(
 }
 
 /// How many tuples the space of an expression by itself has, whose extents these are.
-pub(crate) fn own_size(alloc: Global, ns: &[u128], x: &Elemental) -> Result<usize, Stop>
+pub fn own_size(alloc: Global, ns: &[u128], x: &Elemental) -> Result<usize, Stop>
     ensures value { IfOk result (λ n. space_size ns.now (sections (elemental x.now)) ≡ Ok n) }
     ensures few { IfOk result (λ n. n ≤ MAX_TUPLES) }
     ensures stopped { IfErr result (IsStop (space_size ns.now (sections (elemental x.now)))) }

@@ -1,8 +1,0 @@
-use Rattle.std.proofs.Common.{arith}
-use Rattle.comm_sets.specs.Layouts.{layout_of, IsLaid}
-use Rattle.comm_sets.proofs.Positions.{item_holds}
-use Rattle.comm_sets.proofs.marks.Marks.none.Goals as goal
-
-pub size-requires : goal.size-requires
-size-requires c =
-    item_holds (λ l. IsLaid c.args.nodes (layout_of l)) c.args.layouts.now c.loop-layout.layout-index c.layout-item.result c.requires (omega arith) c.layout-item.is

@@ -1,0 +1,123 @@
+//! The messages from a node.
+
+ghost use Rattle.std.specs.Prelude.{◌≡◌, ◌<◌, ◌==◌, ◌&&◌, not, nat_eq, nat_lt, All, IfOk, OnOk, length, map, option_map, slice_index_or};
+ghost use Rattle.std.specs.List.{list_any, range_with_len};
+ghost use Rattle.machine_steps.specs.Layout.{sizes, owns_spot, least_owner_of};
+ghost use Rattle.machine_steps.specs.Message.{message, names_spot};
+ghost use Rattle.nest_order.specs.LastValue.{is_same_spot};
+ghost use Rattle.owner_tables.specs.Spots.{spot_of};
+ghost use Rattle.comm_sets.specs.Noted.{Noted, is_named, is_sent};
+
+use crate::messages::Messages;
+use crate::reads::Reads;
+use hpf_base::OutOfMemory;
+use owner_tables::{Owners, Spot};
+use std::alloc::Global;
+
+/// The messages from a node to each node, node 0 first: of each the elements that the target needs, that it doesn't own, and
+/// whose least owner is the source, each once, row by row, each in array-element order. A node needs every element that is read
+/// at a tuple that it computes.
+pub fn outgoing<P: Reads>(
+    alloc: Global,
+    owners: &Owners,
+    part: &P,
+    from: u32,
+) -> Result<Messages, OutOfMemory>
+    requires { P.nodes part.now ≡ owners.now.nodes }
+    ensures { IfOk result (λ messages. messages
+        ≡ map (λ to. message owners.now.nodes owners.now.layouts (P.part part.now) from to) (range_with_len 0 owners.now.nodes)) }
+{
+    let mut messages = Messages::none(alloc, owners.nodes())?;
+    let mut reads = Vec::new(alloc);
+    for tuple in 0..part.tuples() {
+        reads.clear();
+        part.read(tuple, &mut reads)?;
+        send_reads(
+            &mut messages,
+            owners,
+            from,
+            part.computing(tuple),
+            reads.as_slice(),
+        )?;
+    }
+    messages.arrange();
+    Ok(messages)
+}
+
+/// Notes what is read at a tuple.
+fn send_reads(
+    messages: &mut Messages,
+    owners: &Owners,
+    from: u32,
+    computing: &[u32],
+    reads: &[Option<Spot>],
+) -> Result<(), OutOfMemory>
+    requires nodes { length messages.old ≡ owners.now.nodes }
+    requires computing { All (λ node. node < owners.now.nodes) computing.now }
+    ensures { OnOk result (Noted messages.old messages.new (λ to s. (list_any (λ node. nat_eq node to) computing.now && names_spot (map (option_map spot_of) reads.now) s)
+        && is_sent owners.now.nodes owners.now.layouts from to s)) }
+{
+    for read in reads {
+        send_read(messages, owners, from, computing, *read)?;
+    }
+    Ok(())
+}
+
+/// Notes one read, if its least owner is the source.
+fn send_read(
+    messages: &mut Messages,
+    owners: &Owners,
+    from: u32,
+    computing: &[u32],
+    read: Option<Spot>,
+) -> Result<(), OutOfMemory>
+    requires nodes { length messages.old ≡ owners.now.nodes }
+    requires computing { All (λ node. node < owners.now.nodes) computing.now }
+    ensures { OnOk result (Noted messages.old messages.new (λ to s. (list_any (λ node. nat_eq node to) computing.now && is_named (option_map spot_of read) s)
+        && is_sent owners.now.nodes owners.now.layouts from to s)) }
+{
+    if let Some(spot) = read
+        && owners.is_in_bounds(spot)
+        && owners.least_owner(spot) == from
+    {
+        send(messages, owners, computing, spot)?;
+    }
+    Ok(())
+}
+
+/// Notes the element for the nodes that compute the tuple and don't own it.
+pub(crate) fn send(
+    messages: &mut Messages,
+    owners: &Owners,
+    computing: &[u32],
+    spot: Spot,
+) -> Result<(), OutOfMemory>
+    requires nodes { length messages.old ≡ owners.now.nodes }
+    requires computing { All (λ node. node < owners.now.nodes) computing.now }
+    requires spot { spot.at < slice_index_or (sizes owners.now.layouts) spot.row 0 }
+    ensures { OnOk result (Noted messages.old messages.new (λ to s. list_any (λ node. nat_eq node to) computing.now
+        && (is_same_spot (spot_of spot) s && not (owns_spot owners.now.layouts to s)))) }
+{
+    for node in computing {
+        send_to(messages, owners, *node, spot)?;
+    }
+    Ok(())
+}
+
+/// Notes the element for the node, unless it owns it.
+fn send_to(
+    messages: &mut Messages,
+    owners: &Owners,
+    node: u32,
+    spot: Spot,
+) -> Result<(), OutOfMemory>
+    requires nodes { length messages.old ≡ owners.now.nodes }
+    requires node { node < owners.now.nodes }
+    requires spot { spot.at < slice_index_or (sizes owners.now.layouts) spot.row 0 }
+    ensures { OnOk result (Noted messages.old messages.new (λ to s. nat_eq node to && (is_same_spot (spot_of spot) s && not (owns_spot owners.now.layouts to s)))) }
+{
+    if !owners.owns(node, spot) {
+        messages.add(node, spot)?;
+    }
+    Ok(())
+}

@@ -1,0 +1,66 @@
+//! Runs on nodes beside runs in one order.
+
+use crate::stream::Stream;
+use hpf_ports::{MemSink, MemSource, OpenGate};
+use hpf_run::hpf_top;
+use std::alloc::{AllocError, Global};
+use std::fmt::Write;
+
+/// What the program answers: its exit status, and what it writes.
+#[derive(Drop)]
+struct Answer {
+    status: u8,
+    out: MemSink,
+    err: MemSink,
+}
+
+/// Writes for each grid whether `run` answers as `serial` does for the text.
+pub fn write_alike(
+    alloc: Global,
+    answer: &mut String,
+    grids: &str,
+    text: &[u8],
+) -> Result<(), AllocError> {
+    for grid in grids.split(' ') {
+        let in_order = answer_on(alloc, "serial", grid, text)?;
+        let on_nodes = answer_on(alloc, "run", grid, text)?;
+        if is_same(&in_order, &on_nodes) {
+            writeln!(answer, "  {grid}: alike")?;
+        } else {
+            writeln!(answer, "  {grid}: status {} in one order, {} on nodes", in_order.status, on_nodes.status)?;
+        }
+    }
+    Ok(())
+}
+
+/// What the program answers on a grid.
+fn answer_on(alloc: Global, action: &str, grid: &str, text: &[u8]) -> Result<Answer, AllocError> {
+    let mut words = Vec::new(alloc);
+    for word in [action, "--grid", grid] {
+        words.push(String::from_str(alloc, word)?)?;
+    }
+    let stream = Stream::new(alloc);
+    let mut src = MemSource::new(Vec::from_slice(alloc, text)?, stream.piece.max(1), stream.fails);
+    let mut out = sink(alloc)?;
+    let mut err = sink(alloc)?;
+    let status = hpf_top(&(), alloc, &words, &mut src, &mut out, &mut err, &OpenGate);
+    Ok(Answer {
+        status: status.exit_code(),
+        out,
+        err,
+    })
+}
+
+fn sink(alloc: Global) -> Result<MemSink, AllocError> {
+    let stream = Stream::new(alloc);
+    match MemSink::new(alloc, stream.room, stream.piece.max(1), stream.fails) {
+        Ok(sink) => Ok(sink),
+        Err(_) => Err(AllocError),
+    }
+}
+
+fn is_same(one: &Answer, other: &Answer) -> bool {
+    one.status == other.status
+        && one.out.bytes() == other.out.bytes()
+        && one.err.bytes() == other.err.bytes()
+}

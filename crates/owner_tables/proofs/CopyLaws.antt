@@ -1,0 +1,239 @@
+-- Copies: their shapes and mappings are valid, they have as many elements as their extents, and each element has an owner.
+use Rattle.std.proofs.Common.{◌≡◌, ◌≢◌, inl, inr, ℕ, zero, suc, ◌+◌, ◌*◌, ◌/◌, ◌<◌, ◌≤◌, Bool, true, false, ◌==◌, if◌then◌else◌, pos, ◌+ℤ◌, ◌*ℤ◌, ◌≤ℤ◌, List, [], ◌∷◌, Some, None, get_or, length, map, refl, sym, ◌∙◌, ap, subst, arith, eq-eqb, replicate, All, AllPairs, unsigned_abs}
+use Rattle.std.proofs.Math.Nat.{lt_of_mul-lt-mul_right, mul_comm, mul-one, mul-zero, zero-mul}
+use Rattle.std.proofs.lemmas.Bool.{and_from, both_ways, eqb-true, ne_eqb, or_cases, or_parts}
+use Rattle.std.proofs.lemmas.Grind.{div_ceil_times}
+use Rattle.std.proofs.lemmas.Int.{ints}
+use Rattle.std.proofs.lemmas.List.{get_or_default, length-map}
+use Rattle.std.proofs.lemmas.List.Elements.{All-cons, All-head, All-map, All-nil, All-tail}
+use Rattle.std.proofs.lemmas.Nat.{mod_below}
+use Rattle.std.proofs.lemmas.Simd.{splat_is_map}
+use Rattle.std.specs.List.{list_any}
+use Rattle.std.specs.Option.{option_map}
+use Rattle.hpf_base.specs.declared.limits.TheConstants.{MAX_BOUND, MAX_ELEMENTS, MAX_NODES}
+use Rattle.hpf_base.specs.declared.mapping.AlignDim.TheVariants.{Linear}
+use Rattle.hpf_base.specs.declared.mapping.Line.{Line}
+use Rattle.hpf_base.specs.declared.mapping.MapDim.{MapDim}
+use Rattle.hpf_base.specs.Alignment.{agrees_at, aligned, owns, position_at}
+use Rattle.hpf_base.specs.ElementOrder.{elements, extents_of, index_at, product}
+use Rattle.hpf_base.specs.Grid.{node_coordinates}
+use Rattle.hpf_base.specs.Mapping.{InLine, IsLine, IsMapDim, MapsInside, MoveApart}
+use Rattle.hpf_base.specs.Owner.{block_line, coordinate, default_block}
+use Rattle.hpf_base.proofs.Blocks.{coordinate-within, default_block-all, default_block-some}
+use Rattle.hpf_base.proofs.ElementOrder.{product-some}
+use Rattle.hpf_base.proofs.Elements.{elements-get, length-elements}
+use Rattle.hpf_base.proofs.Places.{length-place_at, number_of, place_at, place_at-number_of, places-get}
+use Rattle.local_address.proofs.ElementLaws.{factors_some}
+use Rattle.machine_steps.specs.Layout.{IsDealt, element_index, owned_by, size_of}
+use Rattle.owner_tables.specs.CopyLayout.{copy_dims, copy_extents, copy_layout, copy_mapping, copy_shape}
+use Rattle.owner_tables.specs.Layouts.{IsLaid}
+
+-- ---- the extents
+
+pub extents-back : (extents : List ℕ) → extents_of (copy_shape extents) ≡ extents
+extents-back [] = refl
+extents-back (n ∷ ns) = ap (λ es. n ∷ es) (extents-back ns)
+
+zeros-product : (extents : List ℕ) → product extents ≡ 0 → product (map (λ n. 0) extents) ≡ 0
+zeros-product [] none = absurd (omega arith)
+zeros-product (n ∷ ns) none = zero-mul (product (map (λ n. 0) ns))
+
+pub copy_extents-product : (extents : List ℕ) → product (copy_extents extents) ≡ product extents
+copy_extents-product extents = by_test (product extents == 0) refl
+  where
+    by_test : (b : Bool) → (product extents == 0) ≡ b → product (if b then map (λ n. 0) extents else extents) ≡ product extents
+    by_test true is = let none : product extents ≡ 0 = eqb-true _ _ is in zeros-product extents none ∙ sym none
+    by_test false is = refl
+
+pub copy-size : (nodes : ℕ) (extents : List ℕ) → size_of (copy_layout nodes extents) ≡ product extents
+unfolding size_of
+copy-size nodes extents = ap product (extents-back (copy_extents extents)) ∙ copy_extents-product extents
+
+-- ---- the subscripts
+
+place-below : (extents : List ℕ) (n k : ℕ) → All (λ e. 1 ≤ e) extents → k < length extents → get_or (place_at extents n) k 0 < get_or extents k 0
+place-below [] n k some within = absurd (omega arith)
+place-below (e ∷ es) n zero some within = mod_below n e (All-head (λ x. 1 ≤ x) e es some)
+place-below (e ∷ es) n (suc k) some within = place-below es (n / e) k (All-tail (λ x. 1 ≤ x) e es some) (omega arith)
+
+subscript-get : (extents place : List ℕ) (k : ℕ) → length place ≡ length extents → k < length extents
+    → get_or (map Some (index_at (map (λ e. pos 1) extents) place)) k None ≡ Some (pos 1 +ℤ pos (get_or place k 0))
+subscript-get [] place k same within = absurd (omega arith)
+subscript-get (e ∷ es) [] k same within = absurd (omega arith)
+subscript-get (e ∷ es) (p ∷ ps) zero same within = refl
+subscript-get (e ∷ es) (p ∷ ps) (suc k) same within = subscript-get es ps k (omega arith) (omega arith)
+
+-- the subscript of the last index of an element: from 1 to its extent
+module _ (n : ℕ) (ns : List ℕ) where
+  abbrev last : ℕ
+  last = get_or (n ∷ ns) (length ns) 0
+
+  abbrev place : ℕ → ℕ
+  place at = get_or (place_at (n ∷ ns) at) (length ns) 0
+
+  last-below : (at : ℕ) → at < product (n ∷ ns) → place at < last
+  last-below at below = place-below (n ∷ ns) at (length ns) (factors_some (n ∷ ns) (omega arith)) (omega arith)
+
+  last-aligned : (at : ℕ) → at < product (n ∷ ns)
+      → aligned (Linear (length ns) (pos 1) (pos 0)) (map Some (element_index (copy_shape (n ∷ ns)) at)) ≡ Some (pos (place at + 1))
+  last-aligned at below =
+      let inside : at < product (extents_of (copy_shape (n ∷ ns))) = omega (arith, below, ap product (extents-back (n ∷ ns))) in
+      let index : element_index (copy_shape (n ∷ ns)) at ≡ index_at (map (λ e. pos 1) (n ∷ ns)) (place_at (n ∷ ns) at) =
+      elements-get (copy_shape (n ∷ ns)) at [] inside ∙ ap (λ es. index_at (map (λ e. pos 1) (n ∷ ns)) (place_at es at)) (extents-back (n ∷ ns)) in
+      let number : (pos 1 *ℤ (pos 1 +ℤ pos (place at))) +ℤ pos 0 ≡ pos (place at + 1) = omega (arith, ints) in
+      ap (λ i. aligned (Linear (length ns) (pos 1) (pos 0)) (map Some i)) index
+      ∙ ap (option_map (λ i. (pos 1 *ℤ i) +ℤ pos 0)) (subscript-get (n ∷ ns) (place_at (n ∷ ns) at) (length ns) (length-place_at (n ∷ ns) at) (omega arith))
+      ∙ ap Some number
+
+-- ---- the owners
+
+block-below : (extent nodes j : ℕ) → 1 ≤ nodes → 1 ≤ j → j ≤ extent → coordinate (block_line extent nodes) j < nodes
+block-below extent nodes j some begins ends =
+    let m = default_block extent nodes in
+    lt_of_mul-lt-mul_right m
+    (omega (arith, (coordinate-within m j (default_block-some extent nodes) begins).0, default_block-all extent nodes some, mul_comm m nodes, ends))
+
+line-coordinates : (nodes node : ℕ) → node < nodes → node_coordinates (nodes ∷ []) node ≡ node ∷ []
+line-coordinates nodes node below =
+    let one : product (nodes ∷ []) ≡ nodes = mul-one nodes in
+    let number : number_of (nodes ∷ []) (node ∷ []) ≡ node = omega arith in
+    places-get (nodes ∷ []) node [] (omega (arith, one, below))
+    ∙ ap (place_at (nodes ∷ [])) (sym number)
+    ∙ place_at-number_of (nodes ∷ []) (node ∷ []) (record {
+      rank = refl;
+      below = λ k within. one_place k within;
+    })
+  where
+    one_place : (k : ℕ) → k < 1 → get_or (node ∷ []) k 0 < get_or (nodes ∷ []) k 0
+    one_place zero within = below
+    one_place (suc k) within = absurd (omega arith)
+
+pub position-of : (line : Line) (p : ℕ) → line.lower ≡ pos 1 → unsigned_abs (position_at line (pos (p + 1))) ≡ p + 1
+position-of line p first =
+    let is : position_at line (pos (p + 1)) ≡ pos (p + 1) = omega (arith, ints, first) in ap unsigned_abs is
+
+copy-owner : (nodes at : ℕ) (extents : List ℕ) → 1 ≤ nodes → at < product extents
+    → (node : ℕ) × (node < nodes) × (owns (copy_mapping nodes extents) (element_index (copy_shape extents) at) node ≡ true)
+copy-owner nodes at [] some below = (0, omega arith, refl)
+copy-owner nodes at (n ∷ ns) some below =
+    let line = block_line (last n ns) nodes in
+    let j = place n ns at + 1 in
+    let node = coordinate line j in
+    let upto : place n ns at < last n ns = last-below n ns at below in
+    let within : node < nodes = block-below (last n ns) nodes j some (omega arith) (omega (arith, upto)) in (
+      node,
+      within,
+      and_from _ _
+          (ap (λ coordinates. agrees_at line (get_or coordinates 0 0) (aligned (Linear (length ns) (pos 1) (pos 0))
+          (map Some (element_index (copy_shape (n ∷ ns)) at)))) (line-coordinates nodes node within)
+          ∙ ap (agrees_at line node) (last-aligned n ns at below)
+          ∙ eq-eqb _ _ (ap (coordinate line) (position-of line (place n ns at) refl)))
+          refl,
+    )
+
+pub copy-dealt : (nodes : ℕ) (extents : List ℕ) → 1 ≤ nodes → IsDealt nodes (copy_layout nodes extents)
+unfolding owned_by size_of
+copy-dealt nodes extents some at below =
+    copy-owner nodes at (copy_extents extents) some (omega (arith, below, ap product (extents-back (copy_extents extents))))
+
+-- ---- the code's cases
+
+pub copy_dims-last : (nodes last : ℕ) (extents : List ℕ) → last + 1 ≡ length extents
+    → copy_dims nodes extents ≡ record { line = block_line (get_or extents last 0) nodes; grid_dim = 0; align = Linear last (pos 1) (pos 0) } ∷ []
+copy_dims-last nodes last [] is = absurd (omega arith)
+copy_dims-last nodes last (n ∷ ns) is =
+    let at : length ns ≡ last = omega arith in
+    ap (λ k. record { line = block_line (get_or (n ∷ ns) k 0) nodes; grid_dim = 0; align = Linear k (pos 1) (pos 0) } ∷ []) at
+
+pub copy_dims-none : (nodes : ℕ) (extents : List ℕ) → length extents ≡ 0 → copy_dims nodes extents ≡ []
+copy_dims-none nodes [] is = refl
+copy_dims-none nodes (n ∷ ns) is = absurd (omega arith)
+
+none-product : (extents : List ℕ) → list_any (λ e. e == 0) extents ≡ true → product extents ≡ 0
+none-product [] found = cc
+none-product (n ∷ ns) found =
+    elim (or_cases (n == 0) (list_any (λ e. e == 0) ns) found) [
+      | inl here ↦ ap (λ e. e * product ns) (eqb-true n 0 here) ∙ zero-mul (product ns)
+      | inr later ↦ ap (λ e. n * e) (none-product ns later) ∙ mul-zero n
+    ]
+
+some-extents : (extents : List ℕ) → list_any (λ e. e == 0) extents ≡ false → All (λ e. 1 ≤ e) extents
+some-extents [] none = λ k d within. absurd (omega arith)
+some-extents (n ∷ ns) none =
+    let parts = or_parts (n == 0) (list_any (λ e. e == 0) ns) none in
+    let ne : n ≡ 0 → ⊥ = λ e. both_ways (n == 0) parts.0 (eq-eqb n 0 e) in
+    All-cons (λ e. 1 ≤ e) n ns (omega (arith, ne)) (some-extents ns parts.1)
+
+pub copy_extents-none : (extents : List ℕ) → list_any (λ e. e == 0) extents ≡ true → replicate (length extents) 0 ≡ copy_extents extents
+copy_extents-none extents found =
+    splat_is_map extents (length extents) 0 refl
+    ∙ sym (ap (λ b. if b then map (λ e. 0) extents else extents) (eq-eqb (product extents) 0 (none-product extents found)))
+
+pub copy_extents-some : (extents : List ℕ) → list_any (λ e. e == 0) extents ≡ false → extents ≡ copy_extents extents
+copy_extents-some extents none =
+    let some = product-some extents (some-extents extents none) in
+    sym (ap (λ b. if b then map (λ e. 0) extents else extents) (ne_eqb (product extents) 0 (λ e. omega (arith, some, e))))
+
+-- ---- valid
+
+module _ (nodes : ℕ) (some : 1 ≤ nodes) (few : nodes ≤ MAX_NODES) where
+  block-line : (extent : ℕ) → extent ≤ MAX_ELEMENTS → IsLine (block_line extent nodes)
+  block-line extent small = record {
+    some = some;
+    few = few;
+    extent = omega (arith, small);
+    lower = omega arith;
+    form = (
+      default_block-some extent nodes,
+      omega (arith, div_ceil_times extent nodes some, small, few, some),
+      omega (arith, default_block-all extent nodes some, mul_comm nodes (default_block extent nodes)),
+    );
+  }
+
+  copy-entries : (extents : List ℕ) → All (λ e. e ≤ MAX_ELEMENTS) extents → All (IsMapDim (nodes ∷ []) (length (map (λ e. pos 1) extents))) (copy_dims nodes extents)
+  copy-entries [] each = λ k d within. absurd (omega arith)
+  copy-entries (n ∷ ns) each = All-cons (IsMapDim (nodes ∷ []) (length (map (λ e. pos 1) (n ∷ ns)))) _ []
+      (record {
+        line = block-line (last n ns) (each (length ns) 0 (omega arith));
+        distributed = λ e. cc;
+        procs = refl;
+        align = omega (arith, length-map (n ∷ ns) (λ e. pos 1));
+      })
+      (All-nil (IsMapDim (nodes ∷ []) (length (map (λ e. pos 1) (n ∷ ns)))))
+
+  pairs : (R : MapDim → MapDim → Type 0) (extents : List ℕ) → AllPairs R (copy_dims nodes extents)
+  pairs R [] i j d order within = absurd (omega arith)
+  pairs R (n ∷ ns) i j d order within = absurd (omega arith)
+
+  copy-inside : (extents : List ℕ) (at : ℕ) → at < product extents
+      → All (λ e. InLine e.line (aligned e.align (map Some (element_index (copy_shape extents) at)))) (copy_dims nodes extents)
+  copy-inside [] at below = λ k d within. absurd (omega arith)
+  copy-inside (n ∷ ns) at below =
+      let upto : place n ns at < last n ns = last-below n ns at below in
+      All-cons (λ e. InLine e.line (aligned e.align (map Some (element_index (copy_shape (n ∷ ns)) at))))
+      (record { line = block_line (last n ns) nodes; grid_dim = 0; align = Linear (length ns) (pos 1) (pos 0) }) []
+      (subst (InLine (block_line (last n ns) nodes)) (sym (last-aligned n ns at below)) (omega (arith, ints), omega (arith, ints, upto)))
+      (All-nil (λ e. InLine e.line (aligned e.align (map Some (element_index (copy_shape (n ∷ ns)) at)))))
+
+  pub copy-laid : (extents : List ℕ) → All (λ e. e ≤ MAX_ELEMENTS) extents → product extents ≤ MAX_ELEMENTS
+      → IsLaid nodes (record { shape = copy_shape extents; mapping = copy_mapping nodes extents })
+  copy-laid extents each small =
+      let size : product (extents_of (copy_shape extents)) ≡ product extents = ap product (extents-back extents) in
+      record {
+        shape = record {
+          rank = length-map extents (λ e. pos 1) ∙ sym (length-map extents pos);
+          lower = All-map (λ l. unsigned_abs l ≤ MAX_BOUND) (λ e. pos 1) extents (λ k d within. omega arith);
+          extent = All-map (λ x. (pos 0 ≤ℤ x) × (x ≤ℤ pos (2 * MAX_BOUND + 1))) pos extents
+              (λ k d within. (omega (arith, ints), omega (arith, ints, each k d within)));
+          size = omega (arith, small, size);
+        };
+        mapping = record {
+          entries = copy-entries extents each;
+          grid_dims = pairs (λ x y. x.grid_dim ≢ y.grid_dim) extents;
+          apart = pairs (λ x y. MoveApart x.align y.align) extents;
+        };
+        inside = λ k d within.
+            let below : k < product extents = omega (arith, within, length-elements (copy_shape extents), size) in
+            subst (MapsInside (copy_mapping nodes extents)) (get_or_default (elements (copy_shape extents)) k [] d within) (copy-inside extents k below);
+        grid = mul-one nodes;
+      }

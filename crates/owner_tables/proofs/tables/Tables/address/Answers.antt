@@ -1,0 +1,12 @@
+use Rattle.std.proofs.Common.{◌∙◌, arith}
+use Rattle.owner_tables.proofs.TableLaws.{seen}
+use Rattle.owner_tables.proofs.tables.Tables.address.Goals as goal
+
+pub index-requires : goal.index-requires
+index-requires c =
+    let l = seen c.self.inside c.args.self.now c.self.view_is c.self.invariant in omega (arith, l.addresses, c.requires.at)
+
+pub returns : goal.returns
+returns c =
+    let l = seen c.self.inside c.args.self.now c.self.view_is c.self.invariant in
+    c.index.ensures ∙ l.address c.args.node c.args.at c.index.result.now c.requires.node c.requires.at c.requires.owner

@@ -1,0 +1,7 @@
+pub mod Begun
+pub mod ForallTests
+pub mod InBounds
+pub mod LocalInstructions
+pub mod Operands
+pub mod Pairs
+pub mod Tested

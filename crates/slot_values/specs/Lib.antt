@@ -1,0 +1,6 @@
+pub mod Controls
+pub mod Elements
+pub mod LocalInstructions
+pub mod Operations
+pub mod Sections
+pub mod Tested

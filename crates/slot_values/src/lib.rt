@@ -1,0 +1,36 @@
+//! Expressions over slots in code, and the instructions that touch no array.
+//!
+//! Comes in: the slots of a node, and an expression, a form or an instruction of node code. Goes out: the value of an expression or its
+//! fault, the sections and the elemental expressions that stand behind forms, the element that subscripts name, and the place, the slots
+//! and the status behind an instruction.
+//!
+//! What holds in between: an evaluation changes nothing; want of memory leaves the control as it was, so the instruction can be run
+//! again; tests either go on to the next instruction or end the run with a fault at their line, and change nothing else. The limits of a
+//! FORALL are those of `serial_run`, asked of a state that has the slots as its scalars.
+#![tactic(auto)]
+
+mod control;
+mod element_spots;
+mod expressions;
+mod forall_tests;
+mod local_instructions;
+mod numbered_faults;
+mod scalar_instructions;
+mod section_bounds;
+mod sections;
+mod slot_terms;
+mod space_tests;
+
+pub use control::{Control, Status, halt, jump, jump_if_zero};
+pub use element_spots::{element_place, element_spot};
+pub use expressions::{flat_or_zero, flat_value, flat_values, slot};
+pub use forall_tests::{forall_limits, one_to_one};
+pub use hpf_base::OutOfMemory;
+pub use local_instructions::{is_local, run_local};
+pub use numbered_faults::{fault_numbers, fault_of_numbers};
+pub use owner_tables::Spot;
+pub use scalar_instructions::{set, test_bounds, test_stride, trips};
+pub use section_bounds::inside;
+pub use sections::{elemental_at, selections_at};
+pub use serial_run::Fault;
+pub use space_tests::{limits, own_limits};

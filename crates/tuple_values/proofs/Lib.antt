@@ -1,0 +1,3 @@
+pub mod ByReads
+pub mod Kept
+pub mod Operands

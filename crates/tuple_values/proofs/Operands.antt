@@ -1,0 +1,12 @@
+-- Operands of forms in a row, and in a list.
+use Rattle.std.proofs.Common.{◌≡◌, Global, ap, sym, ◌∙◌}
+use Rattle.std.specs.Prelude.{Vec}
+use Rattle.op_tables.specs.declared.op.Op.{Op}
+use Rattle.node_code.specs.declared.form.Form.{Form as HeldForm}
+use Rattle.node_code.specs.declared.form.Form.TheVariants as held
+use Rattle.node_code.specs.Forms.{OperationForm}
+use Rattle.node_code.specs.Texts.{form, forms_of}
+use Rattle.node_code.proofs.Rows.{operation_vec}
+
+pub operation_is : (f : HeldForm) (o : Op) (v : Vec HeldForm Global) → f ≡ held.Operation o v → OperationForm o (forms_of v.items) ≡ form f
+operation_is f o v is = sym (operation_vec o v) ∙ ap form (sym is)

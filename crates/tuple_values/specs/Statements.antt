@@ -1,0 +1,146 @@
+-- What parallel statements are, once the slots are known.
+use Rattle.std.specs.Prelude.{◌≡◌, ℕ, List, [], ◌++◌, length, map, ℤ, Bool, true, Option, Some, None, option_map, Result}
+use Rattle.std.specs.List.{range_with_len}
+use Rattle.hpf_base.specs.ElementOrder.{product}
+use Rattle.op_tables.specs.declared.op.Op.{Op}
+use Rattle.op_tables.specs.Operators.{is_true}
+use Rattle.expression_rules.specs.declared.dims.Dim.{Dim}
+use Rattle.nest_order.specs.Storage.{Spot}
+use Rattle.array_meaning.specs.Faults.{Cause, Fault, ◌>>=◌, at_tuple}
+use Rattle.array_meaning.specs.State.{element_place, if_in_bounds}
+use Rattle.array_meaning.specs.declared.sections.Selection.{Selection}
+use Rattle.array_meaning.specs.Sections.{subscripts_at, positions}
+use Rattle.array_meaning.specs.Elementals.{Elemental}
+use Rattle.machine_steps.specs.Instr.{Outcome, Tuples}
+use Rattle.node_code.specs.Forms.{Sub, Form, selections_at, elemental_at}
+use Rattle.node_code.specs.Parallel.{When, at_line, as_asked, outcome_of, outcome_if, is_asked, mask_reads, shape_of, reads_at, value_by_reads, counted, counted_outcome}
+use Rattle.tuple_values.specs.ByElements.{value_by_elements}
+
+-- what is assigned: nothing, an element of a copy by the tuple's number, or an element of a section; in a FORALL the subscripts are
+-- expressions of the indices
+pub data Target : Type 0 where
+  Nowhere : Target
+  InCopy : ℕ → Target
+  InSection : ℕ → List Selection → Target
+  ByIndices : ℕ → List Sub → Target
+
+-- the dimensions of the arrays and the slots; the line; the extents of the space, and the values of a FORALL's indices; the mask; what is
+-- assigned; what is evaluated; and the operator by which the values are joined, where they are
+pub record Statement : Type 0 where
+  pub shapes : List (List Dim)
+  pub slots : List ℤ
+  pub line : ℕ
+  pub extents : List ℕ
+  pub indices : Option (List Selection)
+  pub mask : Option When
+  pub target : Target
+  pub form : Form
+  pub joined : Option Op
+
+-- ---- entries
+
+-- those of the tuple with a number: positions in the space, or the values of the indices
+abbrev pub entries_in : Option (List Selection) → List ℕ → ℕ → List ℤ
+entries_in None ns t = positions ns t
+entries_in (Some ds) ns t = subscripts_at ds (positions ns t)
+
+-- those that are the axes of expressions, which in a FORALL are expressions of the indices
+abbrev pub axes_in : Option (List Selection) → List ℤ → List ℤ
+axes_in None x = []
+axes_in (Some ds) x = x
+
+-- ---- what is assigned
+
+abbrev pub indexed_place : List (List Dim) → List ℤ → Option (List Selection) → List ℕ → ℕ → List Sub → ℕ → Option ℕ
+indexed_place shapes slots indices ns a ds t =
+    element_place (shape_of shapes a) (subscripts_at (selections_at slots (axes_in indices (entries_in indices ns t)) ds) (entries_in indices ns t))
+
+-- its place in its row; where nothing is assigned no bounds are tested
+abbrev pub place_in : List (List Dim) → List ℤ → Option (List Selection) → List ℕ → Target → ℕ → Option ℕ
+place_in shapes slots indices ns Nowhere t = Some t
+place_in shapes slots indices ns (InCopy row) t = Some t
+place_in shapes slots indices ns (InSection a ds) t = element_place (shape_of shapes a) (subscripts_at ds (positions ns t))
+place_in shapes slots indices ns (ByIndices a ds) t = indexed_place shapes slots indices ns a ds t
+
+abbrev pub spot_in_row : ℕ → ℕ → Spot
+spot_in_row row k = record { row = row; at = k }
+
+abbrev pub left_in : Target → Option ℕ → Option Spot
+left_in Nowhere p = None
+left_in (InCopy row) p = option_map (spot_in_row row) p
+left_in (InSection a ds) p = option_map (spot_in_row a) p
+left_in (ByIndices a ds) p = option_map (spot_in_row a) p
+
+-- the places that are kept: those at all tuples, where they go by indices
+abbrev pub kept_places : List (List Dim) → List ℤ → Option (List Selection) → List ℕ → Target → List (Option ℕ)
+kept_places shapes slots indices ns (ByIndices a ds) = map (indexed_place shapes slots indices ns a ds) (range_with_len 0 (product ns))
+kept_places shapes slots indices ns other = []
+
+-- how many selections are kept
+abbrev pub kept_rank : Target → ℕ
+kept_rank (InSection a ds) = length ds
+kept_rank other = 0
+
+-- ---- masks and reductions
+
+-- whether the tuple is asked for, by the elements
+abbrev pub asked_by : (Spot → ℤ) → Option When → ℕ → Bool
+asked_by get None t = true
+asked_by get (Some w) t = as_asked w.value (is_true (get (spot_in_row w.copy t)))
+
+abbrev pub counted_by : Option Op → ℤ → ℤ
+counted_by None v = v
+counted_by (Some o) v = counted o v
+
+abbrev pub joined_outcome : Option Op → Outcome Fault → Outcome Fault
+joined_outcome None r = r
+joined_outcome (Some o) r = counted_outcome o r
+
+-- ---- at a tuple
+
+module _ (w : Statement) where
+  abbrev pub entries : ℕ → List ℤ
+  entries t = entries_in w.indices w.extents t
+
+  abbrev pub form_at : List ℤ → Elemental
+  form_at x = elemental_at w.slots (axes_in w.indices x) w.form
+
+  abbrev pub tuple_place : ℕ → Option ℕ
+  tuple_place t = place_in w.shapes w.slots w.indices w.extents w.target t
+
+  -- the value by the elements: the bounds of what is assigned come first
+  abbrev pub bounded_value : (Spot → ℤ) → ℕ → Result ℤ Cause
+  bounded_value get t = if_in_bounds (tuple_place t) >>= (λ k. value_by_elements w.shapes get (entries t) (form_at (entries t)))
+
+  -- what the tuple comes to by the elements, where the mask asks for it
+  abbrev pub asked_outcome : (Spot → ℤ) → ℕ → Outcome Fault
+  asked_outcome get t = joined_outcome w.joined (outcome_of (at_line w.line (at_tuple (entries t) (bounded_value get t))))
+
+  -- how many tuples there are
+  abbrev pub tuple_count : ℕ
+  tuple_count = product w.extents
+
+  -- the elements that are read at a tuple
+  abbrev pub tuple_reads : ℕ → List (Option Spot)
+  tuple_reads t = mask_reads w.mask t ++ reads_at w.shapes (entries t) (form_at (entries t))
+
+  -- the element that is assigned
+  abbrev pub tuple_left : ℕ → Option Spot
+  tuple_left t = left_in w.target (tuple_place t)
+
+  -- what the tuple comes to, by the values of what is read
+  abbrev pub tuple_outcome : ℕ → List ℤ → Outcome Fault
+  tuple_outcome t values =
+      joined_outcome w.joined (outcome_if (is_asked w.mask values) (at_line w.line (at_tuple (entries t) (if_in_bounds (tuple_place t)
+      >>= (λ k. value_by_reads w.shapes (entries t) values (length (mask_reads w.mask t)) (form_at (entries t)))))))
+
+  -- these are what an instruction evaluates at the tuples, and its left side
+  pub record IsStatement (slots : List ℤ) (tuples : Tuples Fault) (assigned : List ℤ → ℕ → Option Spot) : Type 0 where
+    pub count : tuple_count ≡ tuples.count slots
+    pub reads : (t : ℕ) → tuple_reads t ≡ tuples.reads slots t
+    pub outcome : (t : ℕ) (values : List ℤ) → tuple_outcome t values ≡ tuples.outcome slots t values
+    pub left : (t : ℕ) → tuple_left t ≡ assigned slots t
+
+-- where nothing is assigned
+abbrev pub no_left : List ℤ → ℕ → Option Spot
+no_left slots t = None

@@ -1,0 +1,18 @@
+-- What targets in code stand for.
+use Rattle.node_code.specs.Forms.{Form, SectionForm}
+use Rattle.node_code.specs.Texts.{form, subs}
+use Rattle.tuple_values.specs.declared.right.Right.{Right}
+use Rattle.tuple_values.specs.declared.right.Right.TheVariants as right
+use Rattle.tuple_values.specs.declared.target.Target.{Target as HeldTarget}
+use Rattle.tuple_values.specs.declared.target.Target.TheVariants as held
+use Rattle.tuple_values.specs.Statements.{Target, Nowhere, InCopy, InSection, ByIndices}
+
+abbrev pub target : HeldTarget → Target
+target held.Nothing = Nowhere
+target (held.Copy row) = InCopy row
+target (held.Section a ds) = InSection a ds.items
+target (held.Indexed a ds) = ByIndices a (subs ds.now)
+
+abbrev pub form_of : Right → Form
+form_of (right.Form f) = form f.now
+form_of (right.Section a ds) = SectionForm a (subs ds.now)

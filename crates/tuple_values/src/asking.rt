@@ -1,0 +1,242 @@
+//! What is asked of parallel statements.
+
+ghost use Rattle.std.specs.Prelude.{◌≡◌, ◌<◌, ◌≤◌, ◌++◌, length, map, slice_index_or, None, IfErr, IfOk, Ok, OnOk};
+ghost use Rattle.hpf_base.specs.declared.limits.TheConstants.{MAX_TUPLES};
+ghost use Rattle.array_meaning.specs.State.{element_place};
+ghost use Rattle.array_meaning.specs.Sections.{positions, subscripts_at};
+ghost use Rattle.machine_steps.specs.Instr.{Value};
+ghost use Rattle.machine_steps.specs.Machine.{value_by};
+ghost use Rattle.node_code.specs.Parallel.{as_asked, mask_reads, reads_at, shape_of};
+ghost use Rattle.op_tables.specs.Operators.{is_true};
+ghost use Rattle.term_values.specs.Stops.{IsStop};
+ghost use Rattle.tuple_values.specs.ByElements.{value_by_elements};
+ghost use Rattle.tuple_values.specs.Outcomes.{outcome_view};
+ghost use Rattle.tuple_values.specs.Spots.{read_of, reads_of};
+ghost use Rattle.tuple_values.specs.Statements.{asked_by, asked_outcome, bounded_value, counted_by, entries, form_at, tuple_count, tuple_left, tuple_outcome, tuple_place, tuple_reads};
+ghost use Rattle.tuple_values.specs.Views.{statement};
+
+use crate::elements::Elements;
+use crate::here::{Here, element_place};
+use crate::outcome::{Outcome, broken};
+use crate::reads::{form_reads, in_row, section_read};
+use crate::right::Right;
+use crate::statement::ParallelStatement;
+use crate::target::Target;
+use crate::tuple::{positions, subscripts_at};
+use crate::values::{form_value, section_value};
+use array_meaning::{FaultKind, Selection};
+use expression_rules::Dims;
+use hpf_base::OutOfMemory;
+use op_tables::Op;
+use owner_tables::Spot;
+use term_values::{Stop, fault};
+
+impl<'a> ParallelStatement<'a> {
+    /// The number of tuples. It takes no memory.
+    pub fn count(&self) -> usize
+        ensures { result ≡ tuple_count (statement self.now) }
+    {
+        self.space.count
+    }
+
+    /// The element that is assigned at a tuple, by the tuple's number from 0; None where nothing is assigned, and where a subscript is
+    /// out of bounds. It takes no memory.
+    pub fn left(&self, tuple: usize) -> Option<Spot>
+        requires { tuple < tuple_count (statement self.now) }
+        ensures { read_of result ≡ tuple_left (statement self.now) tuple }
+    {
+        match &self.target {
+            Target::Nothing => None,
+            Target::Copy(row) => in_row(*row, self.place(tuple)),
+            Target::Section(a, _) => in_row(*a, self.place(tuple)),
+            Target::Indexed(a, _) => in_row(*a, self.place(tuple)),
+        }
+    }
+
+    /// Puts the elements that are read at a tuple behind the others, in order: first that of the mask, then those of the expression as
+    /// they stand in the text. None stands for what is no element.
+    pub fn read(&self, tuple: usize, reads: &mut Vec<Option<Spot>>) -> Result<(), OutOfMemory>
+        requires { tuple < tuple_count (statement self.now) }
+        ensures { OnOk result (reads_of reads.new.items ≡ reads_of reads.old.items ++ tuple_reads (statement self.now) tuple) }
+    {
+        self.read_mask(tuple, reads)?;
+        let x = self.space.entries(tuple)?;
+        self.read_form(x.as_slice(), reads)
+    }
+
+    /// What a tuple comes to. An element is asked for only where the value of the tuple needs it.
+    #[tactic(auto, using(crate::proofs::ByReads::where_not_asked))]
+    pub fn outcome<E: Elements>(&self, tuple: usize, elements: &E) -> Result<Outcome, OutOfMemory>
+        requires { tuple < tuple_count (statement self.now) }
+        ensures { IfOk result (λ o. outcome_view o ≡ tuple_outcome (statement self.now) tuple (map (value_by (E.get elements.now)) (tuple_reads (statement self.now) tuple))) }
+    {
+        if self.is_asked(tuple, elements)? {
+            self.asked_outcome(tuple, elements)
+        } else {
+            Ok(Outcome::Nothing)
+        }
+    }
+
+    /// What a tuple comes to that the mask asks for.
+    #[tactic(auto, using(crate::proofs::ByReads::has_value, crate::proofs::ByReads::is_broken))]
+    fn asked_outcome<E: Elements>(&self, tuple: usize, elements: &E) -> Result<Outcome, OutOfMemory>
+        requires { tuple < tuple_count (statement self.now) }
+        ensures { IfOk result (λ o. outcome_view o ≡ asked_outcome (statement self.now) (E.get elements.now) tuple) }
+    {
+        let x = self.space.entries(tuple)?;
+        match self.value(tuple, x.as_slice(), elements) {
+            Ok(v) => Ok(joined_value(self.joined, v)),
+            Err(stop) => broken(
+                *self.space.extents.allocator(),
+                self.line,
+                x.as_slice(),
+                stop,
+            ),
+        }
+    }
+
+    /// The place in its row of what is assigned at a tuple.
+    fn place(&self, tuple: usize) -> Option<usize>
+        requires { tuple < tuple_count (statement self.now) }
+        ensures { result ≡ tuple_place (statement self.now) tuple }
+    {
+        match &self.target {
+            Target::Nothing => Some(tuple),
+            Target::Copy(_) => Some(tuple),
+            Target::Section(a, ds) => assigned_place(
+                self.shapes,
+                *a,
+                ds,
+                &self.space.extents,
+                tuple,
+            ),
+            Target::Indexed(_, _) => kept_place(&self.places, tuple),
+        }
+    }
+
+    /// Whether the mask asks for a tuple.
+    fn is_asked<E: Elements>(&self, tuple: usize, elements: &E) -> Result<bool, OutOfMemory>
+        ensures { IfOk result (λ b. b ≡ asked_by (E.get elements.now) (statement self.now).mask tuple) }
+    {
+        match self.mask {
+            None => Ok(true),
+            Some(w) => {
+                let v = elements.value(Spot {
+                    row: w.copy,
+                    at: tuple,
+                })?;
+                Ok(as_asked(w.value, v))
+            }
+        }
+    }
+
+    /// The value at a tuple with these entries: the bounds of what is assigned come first.
+    fn value<E: Elements>(&self, tuple: usize, x: &[i64], elements: &E) -> Result<i64, Stop>
+        requires tuple { tuple < tuple_count (statement self.now) }
+        requires entries { x.now ≡ entries (statement self.now) tuple }
+        ensures value { IfOk result (λ v. bounded_value (statement self.now) (E.get elements.now) tuple ≡ Ok v) }
+        ensures stopped { IfErr result (IsStop (bounded_value (statement self.now) (E.get elements.now) tuple)) }
+    {
+        match self.place(tuple) {
+            None => Err(fault(FaultKind::Bounds)),
+            Some(_) => self.value_of_form(x, elements),
+        }
+    }
+
+    /// The value of the expression at these entries.
+    fn value_of_form<E: Elements>(&self, x: &[i64], elements: &E) -> Result<i64, Stop>
+        ensures value { IfOk result (λ v. value_by_elements (statement self.now).shapes (E.get elements.now) x.now (form_at (statement self.now) x.now) ≡ Ok v) }
+        ensures stopped { IfErr result (IsStop (value_by_elements (statement self.now).shapes (E.get elements.now) x.now (form_at (statement self.now) x.now))) }
+    {
+        let here = Here {
+            alloc: *self.space.extents.allocator(),
+            shapes: self.shapes,
+            slots: self.slots,
+            axes: self.space.axes(x),
+            tuple: x,
+        };
+        match &self.right {
+            Right::Form(f) => form_value(&here, f, elements),
+            Right::Section(a, ds) => section_value(&here, *a, ds, elements),
+        }
+    }
+
+    /// Puts the elements that the expression reads at these entries behind the others.
+    fn read_form(&self, x: &[i64], reads: &mut Vec<Option<Spot>>) -> Result<(), OutOfMemory>
+        ensures { OnOk result (reads_of reads.new.items ≡ reads_of reads.old.items ++ reads_at (statement self.now).shapes x.now (form_at (statement self.now) x.now)) }
+    {
+        let here = Here {
+            alloc: *self.space.extents.allocator(),
+            shapes: self.shapes,
+            slots: self.slots,
+            axes: self.space.axes(x),
+            tuple: x,
+        };
+        match &self.right {
+            Right::Form(f) => form_reads(&here, f, reads),
+            Right::Section(a, ds) => section_read(&here, *a, ds, reads),
+        }
+    }
+
+    /// Puts the element that the mask reads behind the others, where there is a mask.
+    fn read_mask(&self, tuple: usize, reads: &mut Vec<Option<Spot>>) -> Result<(), OutOfMemory>
+        ensures { OnOk result (reads_of reads.new.items ≡ reads_of reads.old.items ++ mask_reads (statement self.now).mask tuple) }
+    {
+        match self.mask {
+            None => Ok(()),
+            Some(w) => {
+                reads.push(Some(Spot {
+                    row: w.copy,
+                    at: tuple,
+                }))?;
+                Ok(())
+            }
+        }
+    }
+}
+
+/// The place of a section's element at the tuple with a number.
+fn assigned_place(
+    shapes: &[Dims],
+    array: usize,
+    ds: &[Selection],
+    extents: &[u128],
+    tuple: usize,
+) -> Option<usize>
+    requires rank { length ds.now ≤ 7 }
+    requires space_rank { length extents.now ≤ 7 }
+    requires tuple { tuple ≤ MAX_TUPLES }
+    ensures { result ≡ element_place (shape_of shapes.now array) (subscripts_at ds.now (positions extents.now tuple)) }
+{
+    let x = positions(extents, tuple);
+    let is = subscripts_at(ds, x.as_slice());
+    element_place(shapes, array, is.as_slice())
+}
+
+/// The place that is kept of a tuple.
+fn kept_place(places: &[Option<usize>], tuple: usize) -> Option<usize>
+    ensures { result ≡ slice_index_or places.now tuple None }
+{
+    if tuple < places.len() {
+        places[tuple]
+    } else {
+        None
+    }
+}
+
+/// Whether a value of a mask is as it is asked for.
+fn as_asked(value: bool, v: i64) -> bool
+    ensures { result ≡ as_asked value (is_true v) }
+{
+    if value { v != 0 } else { v == 0 }
+}
+
+/// The outcome that a value is, where values are joined by an operator or aren't.
+fn joined_value(op: Option<Op>, v: i64) -> Outcome
+    ensures { outcome_view result ≡ Value (counted_by op v) }
+{
+    match op {
+        Some(Op::Count) => Outcome::Value(if v != 0 { 1 } else { 0 }),
+        _ => Outcome::Value(v),
+    }
+}

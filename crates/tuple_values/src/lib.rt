@@ -1,0 +1,27 @@
+//! What a parallel statement of node code does at each tuple.
+//!
+//! Comes in: an instruction that works at the tuples of a space, the dimensions of the arrays, and the slots. Goes out: how many tuples
+//! there are and, for each tuple, the elements that are read, the element that is assigned, and the value or fault by the values of what
+//! is read.
+//!
+//! What holds in between: all of it is what node_code's definitions say of the instruction, whatever the elements are: they are asked for
+//! one by one (`Elements`), and only where the definitions' evaluation comes to them. A tuple has at most seven entries, so none of it needs
+//! memory of its own; only the places of a FORALL's left side are kept, for all tuples.
+#![tactic(auto)]
+
+mod asking;
+mod elements;
+mod here;
+mod making;
+mod outcome;
+mod reads;
+mod right;
+mod space;
+mod statement;
+mod target;
+mod tuple;
+mod values;
+
+pub use elements::Elements;
+pub use outcome::Outcome;
+pub use statement::ParallelStatement;

@@ -1,0 +1,32 @@
+//! What a tuple comes to.
+
+ghost use Rattle.std.specs.Prelude.{IfOk};
+ghost use Rattle.tuple_values.specs.Outcomes.{IsBroken};
+
+use hpf_base::OutOfMemory;
+use serial_run::Fault;
+use std::alloc::Global;
+use term_values::{Stop, at_tuple};
+
+/// What a tuple comes to: nothing where the mask doesn't ask for it, a value, or a fault.
+#[derive(Drop)]
+pub enum Outcome {
+    Nothing,
+    Value(i64),
+    Breaks(Fault),
+}
+
+/// The outcome of an evaluation at a tuple that stopped.
+pub(crate) fn broken(
+    alloc: Global,
+    line: u32,
+    tuple: &[i64],
+    stop: Stop,
+) -> Result<Outcome, OutOfMemory>
+    ensures { IfOk result (IsBroken line tuple.now stop) }
+{
+    match at_tuple(alloc, tuple, stop) {
+        Stop::Fault(cause) => Ok(Outcome::Breaks(Fault { line, cause })),
+        Stop::Memory => Err(OutOfMemory),
+    }
+}

@@ -1,0 +1,66 @@
+//! The elements that are read at a tuple.
+
+ghost use Rattle.std.specs.Prelude.{◌≡◌, ◌++◌, ◌∷◌, [], OnOk, option_map};
+ghost use Rattle.node_code.specs.Parallel.{spot_of};
+ghost use Rattle.node_code.specs.Texts.{form, forms_of, subs};
+ghost use Rattle.tuple_values.specs.Here.{all_reads_here, reads_here, subscripts_here};
+ghost use Rattle.tuple_values.specs.Spots.{read_of, reads_of};
+ghost use Rattle.tuple_values.specs.Statements.{spot_in_row};
+
+use crate::here::{Here, section_place};
+use hpf_base::OutOfMemory;
+use node_code::{Form, Sub};
+use owner_tables::Spot;
+
+/// Puts the elements that an array expression reads behind the others, in order.
+#[cycle(form_reads)]
+pub(crate) fn form_reads(
+    here: &Here<'_>,
+    f: &Form,
+    reads: &mut Vec<Option<Spot>>,
+) -> Result<(), OutOfMemory>
+    ensures { OnOk result (reads_of reads.new.items ≡ reads_of reads.old.items ++ reads_here here.now (form f.now)) }
+{
+    match f {
+        Form::Flat(_) => Ok(()),
+        Form::Section(a, ds) => section_read(here, *a, ds, reads),
+        Form::Operation(_, fs) => all_form_reads(here, fs, reads),
+    }
+}
+
+/// The same of operands.
+#[cycle(form_reads)]
+fn all_form_reads(
+    here: &Here<'_>,
+    fs: &Vec<Form>,
+    reads: &mut Vec<Option<Spot>>,
+) -> Result<(), OutOfMemory>
+    ensures { OnOk result (reads_of reads.new.items ≡ reads_of reads.old.items ++ all_reads_here here.now (forms_of fs.now.items)) }
+{
+    for f in fs {
+        form_reads(here, f, reads)?;
+    }
+    Ok(())
+}
+
+/// Puts the element of a section behind the others.
+pub(crate) fn section_read(
+    here: &Here<'_>,
+    array: usize,
+    section: &[Sub],
+    reads: &mut Vec<Option<Spot>>,
+) -> Result<(), OutOfMemory>
+    ensures { OnOk result (reads_of reads.new.items ≡ reads_of reads.old.items ++ spot_of here.now.shapes.now array (subscripts_here here.now (subs section.now)) ∷ []) }
+{
+    let at = section_place(here, array, section)?;
+    reads.push(in_row(array, at))?;
+    Ok(())
+}
+
+/// The element of a row at a place, where there is one.
+pub(crate) fn in_row(row: usize, at: Option<usize>) -> Option<Spot>
+    ensures { read_of result ≡ option_map (spot_in_row row) at }
+{
+    let at = at?;
+    Some(Spot { row, at })
+}

@@ -1,0 +1,31 @@
+//! Parallel statements, once the slots are known.
+
+ghost use Rattle.std.specs.Prelude.{◌≡◌, ◌≤◌, option_map};
+ghost use Rattle.tuple_values.specs.Statements.{kept_places, kept_rank};
+ghost use Rattle.tuple_values.specs.Targets.{target as target_of};
+
+use crate::right::Right;
+use crate::space::Space;
+use crate::target::Target;
+use expression_rules::Dims;
+use node_code::When;
+use op_tables::Op;
+
+/// What a parallel statement does at each tuple of its space, once the slots are known. Contracts see its `statement`, and of that
+/// `tuple_count`, `tuple_reads`, `tuple_left` and `tuple_outcome`.
+#[derive(Drop)]
+pub struct ParallelStatement<'a> {
+    pub(crate) shapes: &'a [Dims],
+    pub(crate) slots: &'a [i64],
+    pub(crate) line: u32,
+    pub(crate) space: Space,
+    pub(crate) mask: Option<When>,
+    pub(crate) target: Target<'a>,
+    /// The places at all tuples, where what is assigned goes by indices.
+    pub(crate) places: Vec<Option<usize>>,
+    pub(crate) right: Right<'a>,
+    /// The operator by which the values are joined.
+    pub(crate) joined: Option<Op>,
+    ghost target_rank: { kept_rank (target_of target) ≤ 7 },
+    ghost placed: { places.items ≡ kept_places shapes.now slots.now (option_map (λ ds. ds.items) space.indices) space.extents.items (target_of target) },
+}
