@@ -6,7 +6,7 @@ use Rattle.array_meaning.specs.Faults.{Fault}
 use Rattle.machine_steps.specs.Instr.{Outcome, Nothing}
 use Rattle.machine_steps.specs.Machine.{Kept, value_by, effect_by, keep, element_values}
 use Rattle.machine_steps.specs.Message.{message, first_read}
-use Rattle.machine_steps.specs.Node.{held_or_received, local_scatter, join_below, outcome_value}
+use Rattle.machine_steps.specs.Node.{held_or_received, local_apply, local_scatter, join_below, outcome_value}
 use Rattle.node_code.specs.Parallel.{joined}
 use Rattle.tuple_values.specs.Statements.{tuple_count, tuple_reads, tuple_left, tuple_outcome}
 use Rattle.part_steps.specs.Parts.{PartView, part_of}
@@ -30,6 +30,10 @@ module _ (b : Behind) where
   abbrev pub outcome_of : ℕ → Outcome Fault
   outcome_of t =
       if (part_of b.part).computes b.id t then tuple_outcome b.part.statement t (map (value_by value_of) (tuple_reads b.part.statement t)) else Nothing
+
+  -- pieces behind what a tuple comes to
+  abbrev pub applied : ℕ → Outcome Fault → Storage → Storage
+  applied t outcome pieces = local_apply b.part.layouts b.id (effect_by (tuple_left b.part.statement t) outcome) pieces
 
   -- pieces with what the first tuples store
   abbrev pub stored_below : ℕ → Storage → Storage

@@ -1,105 +1,23 @@
-//! The values of elements on a node behind the phase of a part.
+//! What a node has behind the phase of a part.
 
-ghost use Rattle.std.specs.Prelude.{◌≡◌, ◌<◌, [], IfOk, slice_index_or};
-ghost use Rattle.owner_tables.specs.Spots.{spot_of};
-ghost use Rattle.part_steps.specs.Behind.{behind, outcome_of, value_of, tuples};
-ghost use Rattle.part_steps.specs.Gathered.{behind_of};
+ghost use Rattle.std.specs.Prelude.{◌≡◌, ◌<◌};
 ghost use Rattle.part_steps.specs.Openings.{messages_to};
 ghost use Rattle.part_steps.specs.Parts.{part_of};
 ghost use Rattle.part_steps.specs.Views.{part_view};
-ghost use Rattle.tuple_values.specs.Outcomes.{outcome_view};
-ghost use Rattle.tuple_values.specs.Statements.{tuple_count};
 
-use crate::local_values::held_value;
 use crate::part::Part;
 use crate::row::Row;
-use comm_sets::{Messages, Spot, incoming, value_in};
-use hpf_base::OutOfMemory;
+use comm_sets::Messages;
 use letters::Body;
-use std::alloc::Global;
-use tuple_values::{Elements, Outcome};
 
 /// The values of elements on a node behind the phase of a part: its own, or received. Contracts see it by `behind_of`.
 #[derive(Drop)]
 pub(crate) struct Gathered<'a> {
     pub(crate) part: &'a Part<'a>,
     pub(crate) id: u32,
-    pieces: &'a [Row],
-    received: &'a [Body],
-    messages: Messages,
+    pub(crate) pieces: &'a [Row],
+    pub(crate) received: &'a [Body],
+    pub(crate) messages: Messages,
     ghost node: { id < part.now.owners.now.nodes },
     ghost incoming: { messages ≡ messages_to part.now.owners.now.nodes part.now.owners.now.layouts (part_of (part_view part.now)) id },
-}
-
-impl<'a> Gathered<'a> {
-    /// The node's number, its pieces of all rows, and the values that it received from each node.
-    pub(crate) fn new(
-        alloc: Global,
-        part: &'a Part<'a>,
-        id: u32,
-        pieces: &'a [Row],
-        received: &'a [Body],
-    ) -> Result<Gathered<'a>, OutOfMemory>
-        requires { id < part.now.owners.now.nodes }
-        ensures { IfOk result (λ g. behind_of g ≡ behind (part_view part.now) id pieces.now received.now) }
-    {
-        let messages = incoming(alloc, part.owners, part, id)?;
-        Ok(Gathered {
-            part,
-            id,
-            pieces,
-            received,
-            messages,
-        })
-    }
-
-    /// The value of an element. One out of bounds is answered as want of memory.
-    pub(crate) fn get(&self, spot: Spot) -> Result<i64, OutOfMemory>
-        ensures { IfOk result (λ v. v ≡ value_of (behind_of self.now) (spot_of spot)) }
-    {
-        let owners = self.part.owners;
-        if !owners.is_in_bounds(spot) {
-            return Err(OutOfMemory);
-        }
-        if owners.owns(self.id, spot) {
-            return Ok(held_value(owners, self.id, self.pieces, spot));
-        }
-        let source = owners.least_owner(spot);
-        let spots = self.messages.with(source);
-        Ok(value_in(spots, values_from(self.received, source), spot))
-    }
-
-    /// What a tuple comes to on the node: nothing where it doesn't compute it.
-    pub(crate) fn outcome(&self, tuple: usize) -> Result<Outcome, OutOfMemory>
-        requires { tuple < tuples (behind_of self.now) }
-        ensures { IfOk result (λ o. outcome_view o ≡ outcome_of (behind_of self.now) tuple) }
-    {
-        if self.part.computes(self.id, tuple) {
-            self.part.statement.outcome(tuple, self)
-        } else {
-            Ok(Outcome::Nothing)
-        }
-    }
-}
-
-impl<'a> Elements for Gathered<'a> {
-    ghost use Rattle.part_steps.specs.Behind.{value_of, tuples};
-    ghost use Rattle.part_steps.specs.Gathered.{behind_of};
-
-    ghost get = { λ g. value_of (behind_of g) };
-
-    fn value(&self, spot: Spot) -> Result<i64, OutOfMemory> {
-        self.get(spot)
-    }
-}
-
-/// The values received from a node; none where there is no such node.
-fn values_from(received: &[Body], node: u32) -> &[i64]
-    ensures { result.now ≡ slice_index_or received.now node [] }
-{
-    if (node as usize) < received.len() {
-        received[node as usize].as_slice()
-    } else {
-        &[]
-    }
 }

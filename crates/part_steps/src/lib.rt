@@ -8,9 +8,11 @@
 //! are taken before any is stored, so that want of memory leaves a node as it was; what is stored at last takes no memory.
 #![tactic(auto)]
 
+mod computing;
 mod gathered;
 mod kept;
 mod local_values;
+mod making;
 mod opening;
 mod parallel;
 mod parcel;
@@ -19,6 +21,7 @@ mod reductions;
 mod row;
 mod sections;
 mod stores;
+mod values;
 mod who;
 
 pub use kept::{Kept, earlier};

@@ -14,12 +14,7 @@ use std::alloc::Global;
 
 /// The value of an element that the node owns, by the node's number and its pieces of all rows. One that the node doesn't own, or that is
 /// out of bounds, is answered as want of memory.
-pub fn local_value(
-    owners: &Owners,
-    id: u32,
-    pieces: &[Row],
-    spot: Spot,
-) -> Result<i64, OutOfMemory>
+pub fn local_value(owners: &Owners, id: u32, pieces: &[Row], spot: Spot) -> Result<i64, OutOfMemory>
     requires { id < owners.now.nodes }
     ensures { IfOk result (λ v. v ≡ local_read owners.now.layouts id pieces.now (spot_of spot)) }
 {
@@ -37,10 +32,13 @@ pub(crate) fn held_value(owners: &Owners, id: u32, pieces: &[Row], spot: Spot) -
     requires owner { owns_spot owners.now.layouts id (spot_of spot) ≡ true }
     ensures { result ≡ local_read owners.now.layouts id pieces.now (spot_of spot) }
 {
-    value_at(pieces, Spot {
-        row: spot.row,
-        at: owners.address(id, spot),
-    })
+    value_at(
+        pieces,
+        Spot {
+            row: spot.row,
+            at: owners.address(id, spot),
+        },
+    )
 }
 
 /// The value at a place of the pieces; 0 where there is none.

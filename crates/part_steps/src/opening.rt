@@ -47,9 +47,7 @@ pub fn inbox(alloc: Global, part: &Part<'_>, id: u32) -> Result<VecDeque<u32>, O
     let messages = incoming(alloc, part.owners, part, id)?;
     let mut inbox = VecDeque::new(alloc);
     for source in 0..part.owners.nodes() {
-        if !messages.with(source).is_empty() {
-            inbox.push_back(source)?;
-        }
+        push_source(source, messages.with(source), &mut inbox)?;
     }
     Ok(inbox)
 }
@@ -73,6 +71,16 @@ fn push_parcel(
     if !spots.is_empty() {
         let body = local_values(alloc, part.owners, id, pieces, spots)?;
         outbox.push_back(Parcel { to: target, body })?;
+    }
+    Ok(())
+}
+
+/// Puts a node behind the others, if it has a message.
+fn push_source(source: u32, spots: &[Spot], inbox: &mut VecDeque<u32>) -> Result<(), OutOfMemory>
+    ensures { OnOk result (inbox.new.items ≡ inbox.old.items ++ (if has_any (map spot_of spots.now) then source ∷ [] else [])) }
+{
+    if !spots.is_empty() {
+        inbox.push_back(source)?;
     }
     Ok(())
 }

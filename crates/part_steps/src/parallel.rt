@@ -2,11 +2,9 @@
 
 ghost use Rattle.std.specs.Prelude.{◌≡◌, ◌<◌, ℤ, List, Some, IfOk, OnOk};
 ghost use Rattle.machine_steps.specs.Instr.{Value};
-ghost use Rattle.machine_steps.specs.Machine.{earlier, effect_by, kept_of};
-ghost use Rattle.machine_steps.specs.Node.{local_apply};
+ghost use Rattle.machine_steps.specs.Machine.{earlier, kept_of};
 ghost use Rattle.serial_run.specs.Completions.{fault as fault_of};
-ghost use Rattle.tuple_values.specs.Statements.{tuple_left};
-ghost use Rattle.part_steps.specs.Behind.{behind, fault_below, outcome_of, stored_below, tuples};
+ghost use Rattle.part_steps.specs.Behind.{applied, behind, fault_below, outcome_of, stored_below, tuples};
 ghost use Rattle.part_steps.specs.Gathered.{behind_of};
 ghost use Rattle.part_steps.specs.KeptFaults.{kepts};
 ghost use Rattle.part_steps.specs.Stores.{stored};
@@ -42,7 +40,7 @@ pub fn par_values(
 ) -> Result<ParValues, OutOfMemory>
     requires { id < part.now.owners.now.nodes }
     ensures stores { IfOk result (λ r. let b = behind (part_view part.now) id pieces.now received.now in (ps : List (List ℤ)) → stored r.stores.list.items ps ≡ stored_below b (tuples b) ps) }
-    ensures fault { IfOk result (λ r. let b = behind (part_view part.now) id pieces.now received.now in kepts r.fault ≡ fault_below b number tuples b) }
+    ensures fault { IfOk result (λ r. let b = behind (part_view part.now) id pieces.now received.now in kepts r.fault ≡ fault_below b number (tuples b)) }
 {
     let gathered = Gathered::new(alloc, part, id, pieces, received)?;
     let mut values = ParValues {
@@ -65,7 +63,7 @@ impl ParValues {
     ) -> Result<(), OutOfMemory>
         requires { tuple < tuples (behind_of gathered.now) }
         ensures stores { OnOk result ((ps : List (List ℤ)) → stored self.new.stores.list.items ps
-            ≡ local_apply (behind_of gathered.now).part.layouts gathered.now.id (effect_by (tuple_left (behind_of gathered.now).part.statement tuple) (outcome_of (behind_of gathered.now) tuple)) (stored self.old.stores.list.items ps)) }
+            ≡ applied (behind_of gathered.now) tuple (outcome_of (behind_of gathered.now) tuple) (stored self.old.stores.list.items ps)) }
         ensures fault { OnOk result (kepts self.new.fault ≡ earlier (kepts self.old.fault) (kept_of (outcome_of (behind_of gathered.now) tuple) tuple number)) }
     {
         match gathered.outcome(tuple)? {
@@ -87,7 +85,7 @@ impl ParValues {
     ) -> Result<(), OutOfMemory>
         requires { tuple < tuples (behind_of gathered.now) }
         ensures stores { OnOk result ((ps : List (List ℤ)) → stored self.new.stores.list.items ps
-            ≡ local_apply (behind_of gathered.now).part.layouts gathered.now.id (effect_by (tuple_left (behind_of gathered.now).part.statement tuple) (Value v.now)) (stored self.old.stores.list.items ps)) }
+            ≡ applied (behind_of gathered.now) tuple (Value v.now) (stored self.old.stores.list.items ps)) }
         ensures fault { OnOk result (self.new.fault ≡ self.old.fault) }
     {
         match gathered.part.statement.left(tuple) {
@@ -98,7 +96,12 @@ impl ParValues {
 }
 
 /// The fault so far, or that of a tuple of the part with this number, where there is none before it.
-pub(crate) fn kept_earlier(so_far: Option<Kept>, tuple: usize, number: u64, fault: Fault) -> Option<Kept>
+pub(crate) fn kept_earlier(
+    so_far: Option<Kept>,
+    tuple: usize,
+    number: u64,
+    fault: Fault,
+) -> Option<Kept>
     ensures { kepts result ≡ earlier (kepts so_far) (Some (record { tuple = tuple; part = number; fault = fault_of fault })) }
 {
     let kept = Kept {

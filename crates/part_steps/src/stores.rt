@@ -35,7 +35,13 @@ impl Stores {
     }
 
     /// Adds a value for an element, if the node owns it. An element out of bounds is answered as want of memory.
-    pub(crate) fn add(&mut self, owners: &Owners, id: u32, spot: Spot, value: &i64) -> Result<(), OutOfMemory>
+    pub(crate) fn add(
+        &mut self,
+        owners: &Owners,
+        id: u32,
+        spot: Spot,
+        value: &i64,
+    ) -> Result<(), OutOfMemory>
         requires { id < owners.now.nodes }
         ensures { OnOk result ((pieces : List (List ℤ)) → stored self.new.list.items pieces ≡ local_write owners.now.layouts id (spot_of spot) value.now (stored self.old.list.items pieces)) }
     {
