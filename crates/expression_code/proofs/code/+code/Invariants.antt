@@ -1,0 +1,16 @@
+use Rattle.std.proofs.Common.{◌≡◌, ◌++◌, drop}
+use Rattle.lowering.specs.ExpressionCode.{all_parts_code, codes_of, subscripts_code}
+use Rattle.node_code.specs.Texts.{instructions}
+use Rattle.program_plan.specs.Plans.{subscripts_of, terms_of}
+use Rattle.expression_code.proofs.code.+code.Given as goal
+
+-- the code so far, before that of the rest, is all
+abbrev pub invariant-codes_of-loop-t : goal.invariant-codes_of-loop-t
+invariant-codes_of-loop-t l = instructions l.code.items ++ codes_of l.line l.at (terms_of (drop l.t-index l.terms)) ≡ codes_of l.line l.b (terms_of l.terms)
+
+abbrev pub invariant-subscripts_code-loop-d : goal.invariant-subscripts_code-loop-d
+invariant-subscripts_code-loop-d l =
+    instructions l.code.items ++ subscripts_code l.line l.at (subscripts_of (drop l.d-index l.subscripts)) ≡ subscripts_code l.line l.b (subscripts_of l.subscripts)
+
+abbrev pub invariant-all_parts_code-loop-t : goal.invariant-all_parts_code-loop-t
+invariant-all_parts_code-loop-t l = instructions l.code.items ++ all_parts_code l.line l.at (terms_of (drop l.t-index l.terms)) ≡ all_parts_code l.line l.b (terms_of l.terms)

@@ -1,0 +1,21 @@
+use Rattle.std.proofs.Common.{◌≡◌, IfOk, ap, ◌∙◌, subst}
+use Rattle.std.proofs.lemmas.List.{at_drop_all}
+use Rattle.lowering.specs.ExpressionCode.{index_flat, index_flats}
+use Rattle.node_code.specs.Flat.{Operated}
+use Rattle.node_code.specs.Texts.{flat}
+use Rattle.expression_code.proofs.Forms.{apply_is}
+use Rattle.expression_code.proofs.Rows.{operated_vec}
+use Rattle.expression_code.proofs.Lists.{flats_made}
+use Rattle.program_plan.specs.Plans.{terms_of}
+use Rattle.expression_code.proofs.indexed.+index_flat.Goals as goal
+
+pub index_flat-returns-in-Apply : goal.index_flat-returns-in-Apply
+index_flat-returns-in-Apply t c =
+    subst (λ w. IfOk c.operated.result (λ f. flat f ≡ index_flat w)) (apply_is c.args.t.now _ c.in-Apply.operands c.deref.result.now c.in-Apply.is c.deref.ensures.value) c.operated.ensures
+
+pub operated-returns : goal.operated-returns
+operated-returns t c = operated_vec c.args.op c.in_ok-index_flats.field-0 ∙ ap (Operated c.args.op) c.in_ok-index_flats.ensures
+
+pub index_flats-returns : goal.index_flats-returns
+index_flats-returns t c =
+    flats_made c.loop-t.flats.items _ _ (at_drop_all (λ ts. index_flats (terms_of ts)) c.args.terms.now c.loop-t.t-index c.loop-t-test.false) c.loop-t.invariant

@@ -1,0 +1,10 @@
+use Rattle.std.proofs.Common.{◌≡◌, ◌++◌, drop, map}
+use Rattle.lowering.specs.ExpressionCode.{index_flats}
+use Rattle.node_code.specs.Texts.{flat}
+use Rattle.program_plan.specs.Plans.{terms_of}
+use Rattle.expression_code.proofs.Lists.{flat_list}
+use Rattle.expression_code.proofs.indexed.+index_flat.Given as goal
+
+-- what is made so far, before what the rest makes, is all
+abbrev pub invariant-index_flats-loop-t : goal.invariant-index_flats-loop-t
+invariant-index_flats-loop-t l = map flat l.flats.items ++ flat_list (index_flats (terms_of (drop l.t-index l.terms))) ≡ flat_list (index_flats (terms_of l.terms))
