@@ -68,6 +68,14 @@ impl Node {
         &self.control.status
     }
 
+    /// The tables of who owns what, as its rows lie now.
+    pub fn owners(&self) -> &Owners
+        ensures layouts { result.now.layouts ≡ self.now.layouts }
+        ensures nodes { result.now.nodes ≡ self.now.nodes }
+    {
+        &self.owners
+    }
+
     /// What it has printed: node 0 has the bytes of the run.
     pub fn printed(&self) -> &[u8]
         ensures { result.now ≡ self.now.printed }
