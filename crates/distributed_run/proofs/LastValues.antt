@@ -16,7 +16,6 @@ use Rattle.machine_steps.specs.Node.{Node, local_read}
 use Rattle.node_code.specs.ProgramText.{Text}
 use Rattle.node_run.proofs.Reading.{least-owns}
 use Rattle.nodes_lowered.specs.ProgramRuns.{AreLastNodes, end_by_status}
-use Rattle.distributed_run.specs.Outcomes.{is_over}
 use Rattle.distributed_run.specs.Values.{row_values, value_of, value_on}
 
 -- ---- owners
@@ -39,11 +38,6 @@ value-by layouts last spot p node least below here =
     ∙ ap (λ q. value_on layouts q (slice_get last q) spot) least
 
 -- ---- the end
-
-pub over : (s : Status Fault) (e : serial.End) → end_by_status s ≡ Some e → is_over s ≡ true
-over Running e h = cc
-over Finished e h = refl
-over (Faulted f) e h = refl
 
 pub finished : (s : Status Fault) (e : serial.End) → end_by_status s ≡ Some e → e ≡ serial.Finished → s ≡ Finished
 finished Running e h is = cc

@@ -1,9 +1,7 @@
 -- What a run on nodes comes to, against the outcome of the definitions.
-use Rattle.std.specs.Prelude.{◌≡◌, Bool, true, false, map}
-use Rattle.array_meaning.specs.Faults.{Fault}
+use Rattle.std.specs.Prelude.{◌≡◌, map}
 use Rattle.array_meaning.specs.Serial as serial
 use Rattle.array_meaning.specs.Serial.{Outcome}
-use Rattle.machine_steps.specs.Instr.{Status, Running, Finished, Faulted}
 use Rattle.serial_run.specs.Outcomes.{end_seen}
 use Rattle.distributed_run.specs.declared.run.NodesOutcome.{NodesOutcome}
 
@@ -12,9 +10,3 @@ pub record IsOutcome (o : NodesOutcome) (outcome : Outcome) : Type 0 where
   pub printed : o.printed.items ≡ outcome.printed
   pub end : end_seen o.end ≡ outcome.end
   pub arrays : outcome.end ≡ serial.Finished → map (λ a. a.items) o.arrays.items ≡ outcome.arrays
-
--- a run that doesn't go on
-abbrev pub is_over : Status Fault → Bool
-is_over Running = false
-is_over Finished = true
-is_over (Faulted fault) = true

@@ -1,6 +1,6 @@
 //! What the last nodes have come to.
 
-ghost use Rattle.std.specs.Prelude.{◌≡◌, ◌<◌, ◌≤◌, IfOk, Some, length, map, pos, slice_get, slice_index_or, true};
+ghost use Rattle.std.specs.Prelude.{◌≡◌, ◌<◌, ◌≤◌, IfOk, IsSome, Some, length, map, pos, slice_get, slice_index_or};
 ghost use Rattle.std.specs.List.{range_with_len};
 ghost use Rattle.syntax_tree.specs.MainProgram.{main_program};
 ghost use Rattle.array_meaning.specs.Serial.{serial};
@@ -10,7 +10,7 @@ ghost use Rattle.machine_steps.specs.Layout.{AreOwned, sizes};
 ghost use Rattle.owner_tables.specs.Spots.{spot_of};
 ghost use Rattle.slot_values.specs.Controls.{status_of};
 ghost use Rattle.nodes_lowered.specs.ProgramRuns.{AreLastNodes, end_by_status};
-ghost use Rattle.distributed_run.specs.Outcomes.{IsOutcome, is_over};
+ghost use Rattle.distributed_run.specs.Outcomes.{IsOutcome};
 ghost use Rattle.distributed_run.specs.Values.{row_values, value_of};
 
 use crate::run::NodesOutcome;
@@ -62,7 +62,7 @@ fn into_first(nodes: Vec<Node>) -> Node
 
 /// How a run has ended that is over.
 fn end_of(status: Status) -> End
-    requires { is_over (status_of status) ≡ true }
+    requires { IsSome (end_by_status (status_of status)) }
     ensures { end_by_status (status_of status) ≡ Some (end_seen result) }
 {
     match status {

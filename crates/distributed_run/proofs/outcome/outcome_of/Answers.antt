@@ -1,4 +1,4 @@
-use Rattle.std.proofs.Common.{length, map, refl, ap, subst, sym, ◌∙◌}
+use Rattle.std.proofs.Common.{IsSome, length, map, refl, ap, subst, sym, ◌∙◌}
 use Rattle.std.proofs.lemmas.Option.{same_Some}
 use Rattle.std.specs.List.{range_with_len, slice_get}
 use Rattle.syntax_tree.specs.MainProgram.{main_program}
@@ -6,9 +6,8 @@ use Rattle.array_meaning.specs.Serial.{Outcome, serial}
 use Rattle.machine_steps.specs.Layout.{AreOwned}
 use Rattle.nodes_lowered.specs.ProgramRuns.{end_by_status}
 use Rattle.serial_run.specs.Outcomes.{end_seen}
-use Rattle.slot_values.specs.Controls.{status_of}
 use Rattle.distributed_run.specs.Values.{row_values}
-use Rattle.distributed_run.proofs.LastValues.{arrays-are, finished, over}
+use Rattle.distributed_run.proofs.LastValues.{arrays-are, finished}
 use Rattle.distributed_run.proofs.outcome.outcome_of.Goals as goal
 
 pub last_arrays-requires-clause-nodes : goal.last_arrays-requires-clause-nodes
@@ -24,9 +23,7 @@ last_arrays-requires-clause-owned c =
 
 pub end_of-requires : goal.end_of-requires
 end_of-requires c =
-    let o : Outcome = serial (main_program c.args.program.now.tree) in
-    over (status_of c.into_end-status.result.0) o.end
-    (ap end_by_status c.into_end-status.ensures.status ∙ (c.requires.last.each 0 c.into_first.result c.into_first.ensures).ended)
+    subst IsSome (sym (ap end_by_status c.into_end-status.ensures.status ∙ (c.requires.last.each 0 c.into_first.result c.into_first.ensures).ended)) tt
 
 pub returns : goal.returns
 returns c =

@@ -1,0 +1,7 @@
+mod FetchLaws
+mod FirstPieces
+mod Instructions
+mod Picks
+mod PostLaws
+mod PrintLaws
+mod TreeSteps

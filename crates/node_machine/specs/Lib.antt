@@ -1,0 +1,10 @@
+pub mod Codes
+pub mod Copies
+pub mod Fetches
+pub mod Openings
+pub mod Post
+pub mod Prints
+pub mod Programs
+pub mod Results
+pub mod Trees
+pub mod Views
