@@ -52,8 +52,8 @@ module _ (P : Spot → Bool) (spot : Spot) (is : (s : Spot) → P s ≡ is_same_
   row-one row zero lo e le lt = absurd (omega arith)
   row-one row (suc n) lo e le lt = ⊎_elim
       (λ (at : spot.at ≡ lo).
-          let same : spot ≡ in_row row lo = λ i. record { row = e i; at = at i } in
-          rw (is (in_row row lo) ∙ ap (is_same_spot spot) (sym same) ∙ spot-itself spot, row-past row n (lo + 1) (omega arith)) (ap (λ s. s ∷ []) (sym same)))
+      let same : spot ≡ in_row row lo = λ i. record { row = e i; at = at i } in
+      rw (is (in_row row lo) ∙ ap (is_same_spot spot) (sym same) ∙ spot-itself spot, row-past row n (lo + 1) (omega arith)) (ap (λ s. s ∷ []) (sym same)))
       (λ (ne : spot.at ≡ lo → ⊥). rw (is (in_row row lo), other-place spot row lo ne) (row-one row n (lo + 1) e (omega (arith, ne, le)) (omega arith)))
       (cases_eq spot.at lo)
 

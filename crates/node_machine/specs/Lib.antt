@@ -2,6 +2,7 @@ pub mod Codes
 pub mod Copies
 pub mod Fetches
 pub mod Openings
+pub mod Parts
 pub mod Post
 pub mod Prints
 pub mod Programs

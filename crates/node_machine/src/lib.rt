@@ -14,6 +14,7 @@ mod letter;
 mod local_steps;
 mod node;
 mod opening;
+mod parts;
 mod pieces;
 mod post;
 mod prints;

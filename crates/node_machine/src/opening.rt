@@ -81,7 +81,9 @@ impl Node {
         ensures printed { result.1.items ≡ self.printed }
     {
         let Node {
-            control, printed, ..
+            control,
+            printed,
+            ..
         } = self;
         (control.status, printed)
     }
