@@ -6,6 +6,7 @@ pub mod Parts
 pub mod Post
 pub mod Prints
 pub mod Programs
+pub mod Reductions
 pub mod Results
 pub mod Trees
 pub mod Views

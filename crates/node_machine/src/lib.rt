@@ -19,6 +19,7 @@ mod pieces;
 mod post;
 mod prints;
 mod program;
+mod reductions;
 mod stage;
 mod steps;
 mod stores;

@@ -63,7 +63,7 @@ impl NodeProgram {
 
 impl Node {
     /// What opens the phase of a statement.
-    fn opening_of(
+    pub(crate) fn opening_of(
         &self,
         statement: &ParallelStatement<'_>,
         who: Who,
@@ -141,7 +141,7 @@ impl Node {
     }
 
     /// The number of the next part.
-    fn next_part(&self) -> Result<u64, OutOfMemory>
+    pub(crate) fn next_part(&self) -> Result<u64, OutOfMemory>
         ensures { IfOk result (λ n. n ≡ self.now.parts + 1) }
     {
         match self.parts.checked_add(1) {
@@ -176,7 +176,7 @@ impl Node {
     }
 
     /// Keeps a fault, if there is none that comes before it.
-    fn keep(&mut self, fault: Option<Kept>)
+    pub(crate) fn keep(&mut self, fault: Option<Kept>)
         ensures { self.new ≡ record self.old { kept = earlier self.old.kept (kepts fault) } }
     {
         self.kept = earlier(self.kept.take(), fault);

@@ -230,14 +230,14 @@ impl Node {
         }
     }
 
-    /// The second or third step of the reduction at the node's place begins. For want of memory nothing changes.
+    /// A step of the reduction at the node's place begins. For want of memory nothing changes.
     pub(crate) fn begin_reduce(&mut self) -> Result<(), OutOfMemory>
         ensures ok { OnOk result (self.new ≡ begun_by fault_values self.old.nodes (instr_at text_meaning self.old.code self.old.control.at) self.old) }
         ensures err { OnErr result (self.new ≡ self.old) }
     {
         let reduction = self.reduction()?;
         if self.substep == 0 {
-            Err(OutOfMemory)
+            self.begin_first()
         } else if self.substep == 1 {
             self.begin_second(reduction)
         } else {
@@ -270,14 +270,14 @@ impl Node {
         self.reduce_round(0, numbers, reduction)
     }
 
-    /// The second or third step of the reduction at the node's place goes on behind a round. For want of memory nothing changes.
+    /// A step of the reduction at the node's place goes on behind a phase. For want of memory nothing changes.
     pub(crate) fn finish_reduce(&mut self) -> Result<(), OutOfMemory>
         ensures ok { OnOk result (self.new ≡ done_by fault_values self.old.nodes (instr_at text_meaning self.old.code self.old.control.at) self.old) }
         ensures err { OnErr result (self.new ≡ self.old) }
     {
         let reduction = self.reduction()?;
         if self.substep == 0 {
-            Err(OutOfMemory)
+            self.finish_first()
         } else if self.substep == 1 {
             self.finish_second(reduction)
         } else {
