@@ -1,7 +1,7 @@
 -- Stores make no row longer and no row more.
-use Rattle.std.proofs.Common.{◌≡◌, List, [], ◌∷◌, length, slice_set, refl, ◌∙◌}
+use Rattle.std.proofs.Common.{◌≡◌, List, [], ◌∷◌, length, refl, ◌∙◌}
 use Rattle.std.proofs.lemmas.List.{length-set}
-use Rattle.nest_order.specs.Storage.{Storage, row_of, write}
+use Rattle.nest_order.specs.Storage.{Storage, write}
 use Rattle.owner_tables.specs.Spots.{spot_of}
 use Rattle.part_steps.specs.Stores.{stored}
 use Rattle.part_steps.specs.declared.stores.Store.{Store}

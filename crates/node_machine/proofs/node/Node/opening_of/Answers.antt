@@ -1,4 +1,4 @@
-use Rattle.std.proofs.Common.{◌≡◌, ◌∙◌, ap}
+use Rattle.std.proofs.Common.{◌≡◌, ◌∙◌}
 use Rattle.part_steps.specs.Openings.{inbox_on, outbox_on}
 use Rattle.part_steps.specs.Parts.{PartView, part_of}
 use Rattle.part_steps.specs.Views.{part_view}
