@@ -1,7 +1,7 @@
 -- The messages of the phase in which all nodes fetch one element.
-use Rattle.std.proofs.Common.{nat_eq, ◌≡◌, ℕ, zero, suc, ◌+◌, ◌<◌, ◌≤◌, ◌==◌, ◌&&◌, ◌||◌, not, Bool, true, false, if◌then◌else◌, ℤ, pos, List, [], ◌∷◌, ◌++◌, map, get_or, slice_index_or, refl, sym, ◌∙◌, ap, subst, arith, ⊎_elim, eq-eqb, ne_eqb}
+use Rattle.std.proofs.Common.{nat_eq, ◌≡◌, ℕ, zero, suc, ◌+◌, ◌<◌, ◌≤◌, ◌==◌, ◌&&◌, not, Bool, true, false, if◌then◌else◌, ℤ, pos, List, [], ◌∷◌, ◌++◌, map, get_or, slice_index_or, refl, sym, ◌∙◌, ap, arith, ⊎_elim, eq-eqb, ne_eqb}
 use Rattle.std.specs.List.{range_with_len, filter}
-use Rattle.std.proofs.lemmas.Bool.{eqb-true, cases_eq, true≢false}
+use Rattle.std.proofs.lemmas.Bool.{eqb-true, cases_eq}
 use Rattle.std.proofs.lemmas.List.Elements.{filter-append}
 use Rattle.nest_order.specs.Storage.{Spot, Storage}
 use Rattle.nest_order.specs.LastValue.{is_same_spot}
@@ -52,8 +52,8 @@ module _ (P : Spot → Bool) (spot : Spot) (is : (s : Spot) → P s ≡ is_same_
   row-one row zero lo e le lt = absurd (omega arith)
   row-one row (suc n) lo e le lt = ⊎_elim
       (λ (at : spot.at ≡ lo).
-          let same : spot ≡ in_row row lo = λ i. record { row = e i; at = at i } in
-          rw (is (in_row row lo) ∙ ap (is_same_spot spot) (sym same) ∙ spot-itself spot, row-past row n (lo + 1) (omega arith)) (ap (λ s. s ∷ []) (sym same)))
+      let same : spot ≡ in_row row lo = λ i. record { row = e i; at = at i } in
+      rw (is (in_row row lo) ∙ ap (is_same_spot spot) (sym same) ∙ spot-itself spot, row-past row n (lo + 1) (omega arith)) (ap (λ s. s ∷ []) (sym same)))
       (λ (ne : spot.at ≡ lo → ⊥). rw (is (in_row row lo), other-place spot row lo ne) (row-one row n (lo + 1) e (omega (arith, ne, le)) (omega arith)))
       (cases_eq spot.at lo)
 

@@ -4,4 +4,5 @@ mod Instructions
 mod Picks
 mod PostLaws
 mod PrintLaws
+mod StoredPieces
 mod TreeSteps

@@ -61,9 +61,6 @@ map-below f number same hi [] h k d lt = absurd (omega arith)
 map-below f number same hi (x ∷ xs) h zero d lt = let e = same x in let b = h zero 0 (omega arith) in omega (arith, e, b)
 map-below f number same hi (x ∷ xs) h (suc k) d lt = map-below f number same hi xs (λ k d lt. h (suc k) d (omega arith)) k d (omega arith)
 
-pub numbers-below : (P : ℕ → Bool) (n : ℕ) (xs : List ℕ) → xs ≡ filter P (range_with_len 0 n) → (k : ℕ) (d : ℕ) → k < length xs → get_or xs k d < n
-numbers-below P n xs e = subst (λ l. (k : ℕ) (d : ℕ) → k < length l → get_or l k d < n) (sym e) (filter-below P n (range_with_len 0 n) (range-below n 0 n (omega arith)))
-
 pub parcels-below : (f : ℕ → Parcel) (same : (q : ℕ) → (f q).to ≡ q) (P : ℕ → Bool) (n : ℕ) (xs : List Parcel) → xs ≡ map f (filter P (range_with_len 0 n))
     → (k : ℕ) (d : Parcel) → k < length xs → (get_or xs k d).to < n
 parcels-below f same P n xs e =

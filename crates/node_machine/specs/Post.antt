@@ -1,5 +1,5 @@
 -- What of a phase is still to be sent and to be taken.
-use Rattle.std.specs.Prelude.{ℕ, ◌<◌, ℤ, List, [], ◌∷◌, All, length, slice_index_or, slice_set, Option, Some, None, Bool, true, false}
+use Rattle.std.specs.Prelude.{ℕ, ℤ, List, [], ◌∷◌, slice_index_or, slice_set, Option, Some, None, Bool, true, false}
 use Rattle.node_law.specs.Phases.{next_number}
 use Rattle.machine_steps.specs.Node.{Parcel}
 

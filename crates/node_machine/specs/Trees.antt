@@ -1,6 +1,5 @@
 -- Instructions whose values go round a tree.
 use Rattle.std.specs.Prelude.{◌≡◌, ℕ, Bool, true, false}
-use Rattle.op_tables.specs.declared.op.Op.{Op}
 use Rattle.array_meaning.specs.Faults.{Fault}
 use Rattle.machine_steps.specs.Instr.{Control, Instr, Tuples, Reduce}
 use Rattle.machine_steps.specs.Machine.{on, stay}

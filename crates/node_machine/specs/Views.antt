@@ -1,5 +1,5 @@
 -- What contracts see of a node's program and fields.
-use Rattle.std.specs.Prelude.{◌≡◌, ℕ, ◌<◌, ◌≤◌, List, ℤ, length}
+use Rattle.std.specs.Prelude.{◌≡◌, ℕ, ◌<◌, ◌≤◌, List, length}
 use Rattle.std.specs.Arc.{arc_value}
 use Rattle.hpf_base.specs.declared.limits.TheConstants.{MAX_NODES}
 use Rattle.array_meaning.specs.Faults.{Fault}

@@ -63,10 +63,10 @@ impl Node {
     fn put_copy(&mut self, copy: usize, extents: &[u128]) -> Result<(), OutOfMemory>
         requires in_code { self.old.control.at < 2 ^ 63 }
         ensures ok { OnOk result (let layout = copy_layout self.old.nodes extents.now in self.new ≡ record self.old {
-            control = on self.old.control;
-            substep = 0;
-            pieces = slice_set self.old.pieces copy (piece (owned_by layout) self.old.id (replicate (size_of layout) (pos 0)));
-            layouts = slice_set self.old.layouts copy layout;
+          control = on self.old.control;
+          substep = 0;
+          pieces = slice_set self.old.pieces copy (piece (owned_by layout) self.old.id (replicate (size_of layout) (pos 0)));
+          layouts = slice_set self.old.layouts copy layout;
         }) }
         ensures err { OnErr result (self.new ≡ self.old) }
     {

@@ -50,7 +50,6 @@ impl Model for Node {
     ghost use Rattle.machine_steps.specs.Node.{Node as NodeState};
     ghost use Rattle.node_code.specs.ProgramText.{Text};
     ghost use Rattle.node_machine.specs.Views.{node_of, IsNode};
-
     ghost use Rattle.std.specs.Coded.{codes};
     ghost use Rattle.node_machine.specs.Codes.{flat_code, flats_code, form_code};
 

@@ -1,22 +1,23 @@
-//! Instructions with the phase of a part: parallel statements, the first step of reductions, and sections that are printed.
+//! Parallel statements.
 
-ghost use Rattle.std.specs.Prelude.{◌≡◌, ◌<◌, ◌^◌, All, IfOk, OnOk, OnErr, suc};
-ghost use Rattle.machine_steps.specs.Machine.{instr_at};
+ghost use Rattle.std.specs.Prelude.{◌≡◌, ◌<◌, ◌+◌, ◌^◌, All, IfOk, OnOk, OnErr};
+ghost use Rattle.machine_steps.specs.Machine.{earlier, instr_at, on};
 ghost use Rattle.machine_steps.specs.Message.{Part as PartOf};
-ghost use Rattle.machine_steps.specs.Node.{begun_by, done_by};
+ghost use Rattle.machine_steps.specs.Node.{begun_by, done_by, ready};
 ghost use Rattle.node_code.specs.FaultValues.{fault_values};
 ghost use Rattle.node_code.specs.ProgramText.{text_meaning};
+ghost use Rattle.part_steps.specs.KeptFaults.{kepts};
 ghost use Rattle.part_steps.specs.Parts.{part_of};
+ghost use Rattle.part_steps.specs.Stores.{stored};
 ghost use Rattle.tuple_values.specs.Views.{statement as statement_of};
-ghost use Rattle.node_machine.specs.Parts.{IsOpening, IsParallel, IsParOpening, IsReduced, IsReduceOpening, IsSection, IsSectionOpening};
+ghost use Rattle.node_machine.specs.Parts.{IsOpening, IsParallel, IsParOpening, IsParResult};
 ghost use Rattle.node_machine.specs.Programs.{code_of};
 
 use crate::node::Node;
 use crate::program::NodeProgram;
-use crate::trees::Reduction;
 use hpf_base::OutOfMemory;
-use node_code::{Instruction, PrintItem};
-use part_steps::{Parcel, Part, Who, inbox, outbox};
+use node_code::Instruction;
+use part_steps::{Kept, ParValues, Parcel, Part, Stores, Who, earlier, inbox, outbox, par_values};
 use slot_values::Control;
 use std::alloc::Global;
 use std::collections::VecDeque;
@@ -31,7 +32,7 @@ pub(crate) struct Opening {
 
 impl NodeProgram {
     /// The parallel statement at the place.
-    pub(crate) fn parallel<'a>(
+    fn parallel<'a>(
         &'a self,
         alloc: Global,
         control: &'a Control,
@@ -58,76 +59,11 @@ impl NodeProgram {
             _ => Err(OutOfMemory),
         }
     }
-
-    /// The statement of the reduction at the place.
-    pub(crate) fn reduced<'a>(
-        &'a self,
-        alloc: Global,
-        control: &'a Control,
-        reduction: Reduction,
-    ) -> Result<ParallelStatement<'a>, OutOfMemory>
-        ensures is { IfOk result (λ w. IsReduced (instr_at text_meaning (code_of self.now) control.now.at) control.now.slots.items reduction (statement_of w)) }
-    {
-        let Some(i) = self.instruction(control.at) else {
-            return Err(OutOfMemory);
-        };
-        match i {
-            Instruction::Reduce {
-                evaluation,
-                op,
-                slot,
-            } => {
-                if *op != reduction.op || *slot != reduction.slot {
-                    return Err(OutOfMemory);
-                }
-                ParallelStatement::of_reduction(
-                    alloc,
-                    &self.shapes,
-                    &control.slots,
-                    evaluation,
-                    *op,
-                )
-            }
-            _ => Err(OutOfMemory),
-        }
-    }
-
-    /// The section that is printed next by the PRINT at the place.
-    pub(crate) fn section<'a>(
-        &'a self,
-        alloc: Global,
-        control: &'a Control,
-        substep: usize,
-    ) -> Result<ParallelStatement<'a>, OutOfMemory>
-        ensures is { IfOk result (λ w. IsSection (instr_at text_meaning (code_of self.now) control.now.at) control.now.slots.items substep (statement_of w)) }
-    {
-        let Some(i) = self.instruction(control.at) else {
-            return Err(OutOfMemory);
-        };
-        match i {
-            Instruction::Print(items) => {
-                if substep >= items.len() {
-                    return Err(OutOfMemory);
-                }
-                match &items[substep] {
-                    PrintItem::Section(array, subs) => ParallelStatement::of_section(
-                        alloc,
-                        &self.shapes,
-                        &control.slots,
-                        *array,
-                        subs,
-                    ),
-                    _ => Err(OutOfMemory),
-                }
-            }
-            _ => Err(OutOfMemory),
-        }
-    }
 }
 
 impl Node {
     /// What opens the phase of a statement.
-    fn opening_of(
+    pub(crate) fn opening_of(
         &self,
         statement: &ParallelStatement<'_>,
         who: Who,
@@ -142,14 +78,24 @@ impl Node {
         Ok(Opening { outbox, inbox })
     }
 
+    /// The parallel statement at the node's place.
+    fn parallel(&self) -> Result<ParallelStatement<'_>, OutOfMemory>
+        ensures is { IfOk result (λ w. IsParallel (instr_at text_meaning self.now.code self.now.control.at) self.now.control.slots (statement_of w)) }
+        ensures few { IfOk result (λ w. self.now.control.at < 2 ^ 63) }
+    {
+        let statement = self.program.parallel(self.alloc, &self.control)?;
+        Ok(statement)
+    }
+
     /// What opens the phase of the parallel statement at the node's place.
     fn par_opening(&self) -> Result<Opening, OutOfMemory>
         ensures is { IfOk result (IsParOpening (instr_at text_meaning self.now.code self.now.control.at) self.now) }
         ensures targets { IfOk result (λ o. All (λ parcel. parcel.to < self.now.nodes) o.outbox.items) }
         ensures sources { IfOk result (λ o. All (λ source. source < self.now.nodes) o.inbox.items) }
     {
-        let statement = self.program().parallel(self.alloc, &self.control)?;
-        self.opening_of(&statement, Who::Left)
+        let statement = self.parallel()?;
+        let opening = self.opening_of(&statement, Who::Left)?;
+        Ok(opening)
     }
 
     /// Opens the phase of the parallel statement at the node's place. For want of memory nothing changes.
@@ -161,5 +107,78 @@ impl Node {
         let received = self.room()?;
         self.open(opening.outbox, opening.inbox, received);
         Ok(())
+    }
+
+    /// What the parallel statement at the node's place comes to behind its phase.
+    fn par_result(&self) -> Result<ParValues, OutOfMemory>
+        ensures is { IfOk result (IsParResult (instr_at text_meaning self.now.code self.now.control.at) self.now) }
+        ensures few { IfOk result (λ r. self.now.control.at < 2 ^ 63) }
+    {
+        let statement = self.parallel()?;
+        let part = Part::new(self.alloc, &statement, &self.owners, Who::Left)?;
+        let received = self.post.all_received();
+        let values = par_values(
+            self.alloc,
+            &part,
+            self.id,
+            &self.pieces,
+            received,
+            self.parts,
+        )?;
+        Ok(values)
+    }
+
+    /// Behind the phase of the parallel statement at the node's place: stores the values, and keeps the first fault. For want of memory
+    /// nothing changes.
+    pub(crate) fn finish_par(&mut self) -> Result<(), OutOfMemory>
+        ensures ok { OnOk result (self.new ≡ done_by fault_values self.old.nodes (instr_at text_meaning self.old.code self.old.control.at) self.old) }
+        ensures err { OnErr result (self.new ≡ self.old) }
+    {
+        let values = self.par_result()?;
+        let parts = self.next_part()?;
+        self.put_values(values, parts);
+        Ok(())
+    }
+
+    /// The number of the next part.
+    pub(crate) fn next_part(&self) -> Result<u64, OutOfMemory>
+        ensures { IfOk result (λ n. n ≡ self.now.parts + 1) }
+    {
+        match self.parts.checked_add(1) {
+            Some(parts) => Ok(parts),
+            None => Err(OutOfMemory),
+        }
+    }
+
+    /// Stores values, keeps a fault, and goes on. It takes no memory.
+    fn put_values(&mut self, values: ParValues, parts: u64)
+        requires in_code { self.old.control.at < 2 ^ 63 }
+        ensures { self.new ≡ ready self.old.nodes (record self.old {
+          control = on self.old.control;
+          substep = 0;
+          pieces = stored values.stores.list.items self.old.pieces;
+          kept = earlier self.old.kept (kepts values.fault);
+          parts = parts;
+        }) }
+    {
+        self.put_stores(&values.stores);
+        self.keep(values.fault);
+        self.parts = parts;
+        self.go_on();
+        self.reset();
+    }
+
+    /// Stores values.
+    fn put_stores(&mut self, stores: &Stores)
+        ensures { self.new ≡ record self.old { pieces = stored stores.now.list.items self.old.pieces } }
+    {
+        stores.apply(&mut self.pieces);
+    }
+
+    /// Keeps a fault, if there is none that comes before it.
+    pub(crate) fn keep(&mut self, fault: Option<Kept>)
+        ensures { self.new ≡ record self.old { kept = earlier self.old.kept (kepts fault) } }
+    {
+        self.kept = earlier(self.kept.take(), fault);
     }
 }

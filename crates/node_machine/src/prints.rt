@@ -99,7 +99,9 @@ impl Node {
         ensures ok { OnOk result (self.new ≡ begun_by fault_values self.old.nodes (instr_at text_meaning self.old.code self.old.control.at) self.old) }
         ensures err { OnErr result (self.new ≡ self.old) }
     {
-        let step = self.program().print_step(self.alloc, &self.control, self.substep)?;
+        let step = self
+            .program()
+            .print_step(self.alloc, &self.control, self.substep)?;
         match step {
             PrintStep::Bytes(bytes) => self.print_bytes(&bytes),
             PrintStep::Line => self.print_line(),

@@ -20,12 +20,12 @@ impl Node {
             Kind::End => self.finish_run(),
             Kind::Local => self.run_local(),
             Kind::Store => self.store(),
+            Kind::Par => self.begin_par(),
             Kind::Verdict => self.begin_verdict(),
             Kind::Reduce => self.begin_reduce(),
             Kind::MakeCopy => self.make_copy(),
             Kind::Print => self.print(),
             Kind::Fetch => self.fetch(),
-            _ => Err(OutOfMemory),
         }
     }
 
@@ -36,6 +36,7 @@ impl Node {
     {
         match self.kind() {
             Kind::Fetch => self.finish_fetch(),
+            Kind::Par => self.finish_par(),
             Kind::Verdict => self.finish_verdict(),
             Kind::Reduce => self.finish_reduce(),
             _ => Err(OutOfMemory),

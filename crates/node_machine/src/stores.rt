@@ -57,9 +57,9 @@ impl Node {
     ) -> Result<(), OutOfMemory>
         requires { self.old.control.at < 2 ^ 63 }
         ensures ok { OnOk result (self.new ≡ record self.old {
-            control = store_control (spot_result element) (value_result value) self.old.control;
-            substep = 0;
-            pieces = store_in (local_write self.old.layouts self.old.id) (spot_result element) (value_result value) self.old.pieces;
+          control = store_control (spot_result element) (value_result value) self.old.control;
+          substep = 0;
+          pieces = store_in (local_write self.old.layouts self.old.id) (spot_result element) (value_result value) self.old.pieces;
         }) }
         ensures err { OnErr result (self.new ≡ self.old) }
     {

@@ -1,10 +1,10 @@
 //! Instructions whose values go round a tree: verdicts, and the later steps of reductions.
 
-ghost use Rattle.std.specs.Prelude.{◌≡◌, ◌<◌, ◌+◌, ◌*◌, ◌^◌, All, IfOk, OnOk, OnErr, filter, map, nat_lt, not};
+ghost use Rattle.std.specs.Prelude.{◌≡◌, ◌<◌, ◌≤◌, ◌+◌, ◌*◌, ◌^◌, All, IfOk, OnOk, OnErr, filter, map, nat_lt, not};
 ghost use Rattle.std.specs.List.{range_with_len};
 ghost use Rattle.machine_steps.specs.Instr.{Verdict};
 ghost use Rattle.machine_steps.specs.Machine.{instr_at, verdict_control};
-ghost use Rattle.machine_steps.specs.Node.{begun_by, done_by, opened, parcel, reduce_ended, tree_next, verdict_done};
+ghost use Rattle.machine_steps.specs.Node.{begun_by, done_by, kept_values, opened, option_values, parcel, reduce_ended, tree_next, verdict_done};
 ghost use Rattle.machine_steps.specs.Tree.{levels_of, tree_sends};
 ghost use Rattle.node_code.specs.FaultValues.{fault_values};
 ghost use Rattle.node_code.specs.Parallel.{fold_of};
@@ -76,10 +76,40 @@ impl Node {
         let outbox = self.round_outbox(round, &folded)?;
         let inbox = self.round_inbox(round)?;
         let received = self.room()?;
-        self.round = round;
-        self.folded = folded;
+        self.set_round(round, folded);
         self.open(outbox, inbox, received);
         Ok(())
+    }
+
+    /// The round, and what the node has in it. It takes no memory.
+    fn set_round(&mut self, round: u32, folded: Vec<i64>)
+        ensures { self.new ≡ record self.old { round = round; folded = folded.items } }
+    {
+        self.round = round;
+        self.folded = folded;
+    }
+
+    /// The numbers of the fault that the node keeps.
+    fn own_kept(&self) -> Result<Vec<i64>, OutOfMemory>
+        ensures { IfOk result (λ v. v.items ≡ kept_values fault_values self.now.kept) }
+    {
+        kept_numbers(self.alloc, &self.kept)
+    }
+
+    /// The number of the value that it has of a reduction.
+    fn own_joined(&self) -> Result<Vec<i64>, OutOfMemory>
+        ensures { IfOk result (λ v. v.items ≡ option_values self.now.joined) }
+    {
+        option_numbers(self.alloc, self.joined)
+    }
+
+    /// The reduction at the node's place.
+    fn reduction(&self) -> Result<Reduction, OutOfMemory>
+        ensures is { IfOk result (λ r. IsReduction (instr_at text_meaning self.now.code self.now.control.at) r) }
+        ensures few { IfOk result (λ r. self.now.control.at < 2 ^ 63) }
+    {
+        let reduction = self.program().reduction(&self.control)?;
+        Ok(reduction)
     }
 
     /// What the node sends in a round of a tree.
@@ -136,7 +166,7 @@ impl Node {
         ensures err { OnErr result (self.new ≡ self.old) }
     {
         self.program().verdict(&self.control)?;
-        let numbers = kept_numbers(self.alloc, &self.kept)?;
+        let numbers = self.own_kept()?;
         self.verdict_round(0, numbers, false)
     }
 
@@ -170,12 +200,7 @@ impl Node {
     }
 
     /// The end of a verdict: the run ends with the fault that these numbers spell, or goes on.
-    fn end_verdict(
-        &mut self,
-        round: u32,
-        folded: &[i64],
-        reducing: bool,
-    ) -> Result<(), OutOfMemory>
+    fn end_verdict(&mut self, round: u32, folded: &[i64], reducing: bool) -> Result<(), OutOfMemory>
         requires in_code { self.old.control.at < 2 ^ 63 }
         ensures ok { OnOk result (self.new ≡ verdict_done self.old.nodes fault_values (next_of reducing) (step_of reducing) (record self.old { round = round; folded = folded.now })) }
         ensures err { OnErr result (self.new ≡ self.old) }
@@ -205,38 +230,85 @@ impl Node {
         }
     }
 
-    /// The second or third step of the reduction at the node's place begins. For want of memory nothing changes.
+    /// A step of the reduction at the node's place begins. For want of memory nothing changes.
     pub(crate) fn begin_reduce(&mut self) -> Result<(), OutOfMemory>
         ensures ok { OnOk result (self.new ≡ begun_by fault_values self.old.nodes (instr_at text_meaning self.old.code self.old.control.at) self.old) }
         ensures err { OnErr result (self.new ≡ self.old) }
     {
-        let reduction = self.program().reduction(&self.control)?;
+        let reduction = self.reduction()?;
         if self.substep == 0 {
-            return Err(OutOfMemory);
+            self.begin_first()
+        } else if self.substep == 1 {
+            self.begin_second(reduction)
+        } else {
+            self.begin_third(reduction)
         }
-        if self.substep == 1 {
-            let numbers = kept_numbers(self.alloc, &self.kept)?;
-            return self.verdict_round(0, numbers, true);
-        }
-        let numbers = option_numbers(self.alloc, self.joined)?;
+    }
+
+    /// The verdict of a reduction begins.
+    fn begin_second(&mut self, reduction: Reduction) -> Result<(), OutOfMemory>
+        requires is { IsReduction (instr_at text_meaning self.old.code self.old.control.at) reduction }
+        requires second { self.old.substep ≡ 1 }
+        requires in_code { self.old.control.at < 2 ^ 63 }
+        ensures ok { OnOk result (self.new ≡ begun_by fault_values self.old.nodes (instr_at text_meaning self.old.code self.old.control.at) self.old) }
+        ensures err { OnErr result (self.new ≡ self.old) }
+    {
+        let _reduction = reduction;
+        let numbers = self.own_kept()?;
+        self.verdict_round(0, numbers, true)
+    }
+
+    /// The tree of the values of a reduction begins.
+    fn begin_third(&mut self, reduction: Reduction) -> Result<(), OutOfMemory>
+        requires is { IsReduction (instr_at text_meaning self.old.code self.old.control.at) reduction }
+        requires third { 2 ≤ self.old.substep }
+        requires in_code { self.old.control.at < 2 ^ 63 }
+        ensures ok { OnOk result (self.new ≡ begun_by fault_values self.old.nodes (instr_at text_meaning self.old.code self.old.control.at) self.old) }
+        ensures err { OnErr result (self.new ≡ self.old) }
+    {
+        let numbers = self.own_joined()?;
         self.reduce_round(0, numbers, reduction)
     }
 
-    /// The second or third step of the reduction at the node's place goes on behind a round. For want of memory nothing changes.
+    /// A step of the reduction at the node's place goes on behind a phase. For want of memory nothing changes.
     pub(crate) fn finish_reduce(&mut self) -> Result<(), OutOfMemory>
         ensures ok { OnOk result (self.new ≡ done_by fault_values self.old.nodes (instr_at text_meaning self.old.code self.old.control.at) self.old) }
         ensures err { OnErr result (self.new ≡ self.old) }
     {
-        let reduction = self.program().reduction(&self.control)?;
+        let reduction = self.reduction()?;
         if self.substep == 0 {
-            return Err(OutOfMemory);
+            self.finish_first()
+        } else if self.substep == 1 {
+            self.finish_second(reduction)
+        } else {
+            self.finish_third(reduction)
         }
+    }
+
+    /// The verdict of a reduction goes on behind a round.
+    fn finish_second(&mut self, reduction: Reduction) -> Result<(), OutOfMemory>
+        requires is { IsReduction (instr_at text_meaning self.old.code self.old.control.at) reduction }
+        requires second { self.old.substep ≡ 1 }
+        requires in_code { self.old.control.at < 2 ^ 63 }
+        ensures ok { OnOk result (self.new ≡ done_by fault_values self.old.nodes (instr_at text_meaning self.old.code self.old.control.at) self.old) }
+        ensures err { OnErr result (self.new ≡ self.old) }
+    {
+        let _reduction = reduction;
+        let numbers = self.absorbed(Joining::Kept)?;
         let round = self.next_round()?;
-        if self.substep == 1 {
-            let numbers = self.absorbed(Joining::Kept)?;
-            return self.verdict_round(round, numbers, true);
-        }
+        self.verdict_round(round, numbers, true)
+    }
+
+    /// The tree of the values of a reduction goes on behind a round.
+    fn finish_third(&mut self, reduction: Reduction) -> Result<(), OutOfMemory>
+        requires is { IsReduction (instr_at text_meaning self.old.code self.old.control.at) reduction }
+        requires third { 2 ≤ self.old.substep }
+        requires in_code { self.old.control.at < 2 ^ 63 }
+        ensures ok { OnOk result (self.new ≡ done_by fault_values self.old.nodes (instr_at text_meaning self.old.code self.old.control.at) self.old) }
+        ensures err { OnErr result (self.new ≡ self.old) }
+    {
         let numbers = self.absorbed(Joining::Options(reduction.op))?;
+        let round = self.next_round()?;
         self.reduce_round(round, numbers, reduction)
     }
 

@@ -1,4 +1,4 @@
-use Rattle.std.proofs.Common.{◌≡◌, ◌<◌, ◌++◌, ◌∷◌, [], true, false, ap, sym, subst, ◌∙◌, rules}
+use Rattle.std.proofs.Common.{◌≡◌, ◌<◌, ◌++◌, ◌∷◌, [], true, false, subst, ◌∙◌, rules}
 use Rattle.machine_steps.specs.Layout.{least_owner_of, owns_spot}
 use Rattle.owner_tables.specs.Spots.{spot_of}
 use Rattle.node_machine.proofs.FetchLaws.{fetch-owned, fetch-source}

@@ -1,4 +1,4 @@
-use Rattle.std.proofs.Common.{◌≡◌, ◌∷◌, [], sym, ◌∙◌, arith, rules}
+use Rattle.std.proofs.Common.{◌≡◌, ◌∷◌, [], ◌∙◌}
 use Rattle.machine_steps.specs.Layout.{least_owner_of}
 use Rattle.machine_steps.specs.Node.{local_read, parcel}
 use Rattle.owner_tables.specs.Spots.{spot_of}

@@ -1,4 +1,4 @@
-use Rattle.std.proofs.Common.{◌≡◌, length, get_or, replicate, slice_index_or, pos, ap, ◌∙◌, arith, rules}
+use Rattle.std.proofs.Common.{◌≡◌, length, get_or, replicate, slice_index_or, pos, ap, ◌∙◌, rules}
 use Rattle.machine_steps.specs.Layout.{count_passing, owned_in, sizes}
 use Rattle.node_machine.proofs.FirstPieces.{first_pieces-all, first_pieces-length, first_pieces-more}
 use Rattle.node_machine.proofs.opening.first_pieces.Goals as goal

@@ -9,4 +9,4 @@ pub returns-clause-ok : goal.returns-clause-ok
 returns-clause-ok c =
     let a = c.args.self.now in
     let is : instr_at text_meaning a.code a.control.at ≡ Verdict = search rules in
-    subst (λ x. OnOk c.verdict_round.result (c.verdict_round.new.self ≡ x)) (verdict-begun a.nodes a _ _ is ?) c.verdict_round.ensures.ok
+    subst (λ x. OnOk c.verdict_round.result (c.verdict_round.new.self ≡ x)) (verdict-begun a.nodes a _ _ is c.in_ok-numbers.ensures) c.verdict_round.ensures.ok

@@ -1,4 +1,4 @@
-use Rattle.std.proofs.Common.{◌≡◌, ◌<◌, slice_index_or, ◌∙◌, rules}
+use Rattle.std.proofs.Common.{◌<◌, slice_index_or, ◌∙◌, rules}
 use Rattle.std.specs.List.{range_with_len}
 use Rattle.machine_steps.specs.Layout.{sizes}
 use Rattle.machine_steps.specs.Node.{settled}

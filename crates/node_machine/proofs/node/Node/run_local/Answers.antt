@@ -16,6 +16,6 @@ returns-clause-ok c =
     let same : arc_value c.self.inside.program ≡ p = search rules in
     let local : is_local (instruction c.in-Some.i.now) ≡ true = search rules in
     rw (← c.self.view_is) (local-step p.nodes p.shapes.items (node_of c.self.inside).nodes (instruction c.in-Some.i.now) _ (node_of c.self.inside) _
-        (ap (λ q. instr_at text_meaning (code_of q) c.self.inside.control.at) same ∙ c.in-Some.ensures.there)
-        local
-        (c.in_ok-run_local.ensures.done ∙ ap (λ s. local_control s (instruction c.in-Some.i.now) (control_of c.self.inside.control)) c.deref.ensures.value))
+    (ap (λ q. instr_at text_meaning (code_of q) c.self.inside.control.at) same ∙ c.in-Some.ensures.there)
+    local
+    (c.in_ok-run_local.ensures.done ∙ ap (λ s. local_control s (instruction c.in-Some.i.now) (control_of c.self.inside.control)) c.deref.ensures.value))
