@@ -23,7 +23,7 @@ last_arrays-requires-clause-owned c =
 
 pub end_of-requires : goal.end_of-requires
 end_of-requires c =
-    subst IsSome (sym (ap end_by_status c.into_end-status.ensures.status ∙ (c.requires.last.each 0 c.into_first.result c.into_first.ensures).ended)) tt
+    subst IsSome (sym (ap end_by_status c.into_end-status.ensures.status ∙ (c.requires.last.each 0 c.into_first.result c.into_first.ensures).ended)) refl
 
 pub returns : goal.returns
 returns c =
