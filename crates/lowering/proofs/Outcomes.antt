@@ -24,9 +24,11 @@ use Rattle.lowering.proofs.Programs.{program-ends}
 
 -- what is left where a run is finished
 left-is : (n : ℕ) (m : Machine Instruction Fault) (s : State) → m.control.status ≡ Finished → IsLeft n m s → IsEnd n m serial.Finished (map (λ (a : Array). a.elements) s.arrays)
-left-is n m s finished h =
-    (finished, λ a lt. h.1 a lt ∙ sym (get_or-map (λ (a : Array). a.elements) s.arrays a no_array),
-    length-map s.arrays (λ (a : Array). a.elements) ∙ h.2)
+left-is n m s finished h = (
+  finished,
+  λ a lt. h.1 a lt ∙ sym (get_or-map (λ (a : Array). a.elements) s.arrays a no_array),
+  length-map s.arrays (λ (a : Array). a.elements) ∙ h.2,
+)
 
 -- an end is that of the outcome
 end-is : (n : ℕ) (m : Machine Instruction Fault) (s : State) (c : Completion) → EndsAs n m s c → (m.printed ≡ s.printed)
