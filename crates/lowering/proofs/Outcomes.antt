@@ -12,21 +12,29 @@ use Rattle.array_meaning.specs.Runs as runs
 use Rattle.array_meaning.specs.Runs.{Completion, Normal, Exited, Cycled, Stopped, Run}
 use Rattle.array_meaning.specs.Execution.{run_block}
 use Rattle.array_meaning.specs.Resolution.{resolved_block, initial_scalar, initial_array, initial_state}
+use Rattle.array_meaning.specs.Serial as serial
 use Rattle.array_meaning.specs.Serial.{end_of, outcome}
+use Rattle.machine_steps.specs.Instr.{Finished}
 use Rattle.machine_steps.specs.Layout.{Layout, size_of}
 use Rattle.machine_steps.specs.Machine.{Machine, steps}
 use Rattle.node_code.specs.Instructions.{Instruction, ArrayTable, meaning_of}
 use Rattle.lowering.specs.WellFormed.{IsWellFormedBlock}
-use Rattle.lowering.specs.Lowered.{opening, EndsAs, IsEnd, MachineHas, table_of}
+use Rattle.lowering.specs.Lowered.{opening, EndsAs, IsEnd, IsLeft, MachineHas, table_of}
 use Rattle.lowering.proofs.Programs.{program-ends}
+
+-- what is left where a run is finished
+left-is : (n : ℕ) (m : Machine Instruction Fault) (s : State) → m.control.status ≡ Finished → IsLeft n m s → IsEnd n m serial.Finished (map (λ (a : Array). a.elements) s.arrays)
+left-is n m s finished h =
+    (finished, λ a lt. h.1 a lt ∙ sym (get_or-map (λ (a : Array). a.elements) s.arrays a no_array),
+    length-map s.arrays (λ (a : Array). a.elements) ∙ h.2)
 
 -- an end is that of the outcome
 end-is : (n : ℕ) (m : Machine Instruction Fault) (s : State) (c : Completion) → EndsAs n m s c → (m.printed ≡ s.printed)
     × IsEnd n m (end_of c) (map (λ (a : Array). a.elements) s.arrays)
-end-is n m s Normal h = (h.1, (h.0, λ a lt. h.2.1 a lt ∙ sym (get_or-map (λ (a : Array). a.elements) s.arrays a no_array)))
-end-is n m s Exited h = (h.1, (h.0, λ a lt. h.2.1 a lt ∙ sym (get_or-map (λ (a : Array). a.elements) s.arrays a no_array)))
-end-is n m s Cycled h = (h.1, (h.0, λ a lt. h.2.1 a lt ∙ sym (get_or-map (λ (a : Array). a.elements) s.arrays a no_array)))
-end-is n m s Stopped h = (h.1, (h.0, λ a lt. h.2.1 a lt ∙ sym (get_or-map (λ (a : Array). a.elements) s.arrays a no_array)))
+end-is n m s Normal h = (h.1, left-is n m s h.0 h.2)
+end-is n m s Exited h = (h.1, left-is n m s h.0 h.2)
+end-is n m s Cycled h = (h.1, left-is n m s h.0 h.2)
+end-is n m s Stopped h = (h.1, left-is n m s h.0 h.2)
 end-is n m s (runs.Faulted f) h = (h.1, h.0)
 
 pub outcome-is : (names : List Entry) (body : syntax.Block) (copies : List ℕ → Layout) (layouts : List Layout)

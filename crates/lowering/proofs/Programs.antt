@@ -96,7 +96,7 @@ module _ (table : ArrayTable) (n : ℕ) (body : Block) (s : State) (is : IsState
           let end : Machine Instruction Fault = record (m1 a.1) { control = record { at = 1; slots = slots1; status = Finished } } in
           let e : steps (meaning_of table) (1 + a.0) (m0 i0) ≡ end = steps-more table code a.0 1 (m0 i0) ∙ ap (steps (meaning_of table) 1) a.2
           ∙ one table code 1 slots1 rows1 r.state.printed Halt all.1.0 a.1 in
-          (1 + a.0, rw (e) (refl, refl, (h.scalars, h.arrays.elements)))
+          (1 + a.0, rw (e) (refl, refl, (h.scalars, h.arrays.elements, h.more_places)))
 
       by_completion : (c : Completion) → Flows table code n many None 1 1 (2 + length (block_code n body n 2 1 1)) n slots begin r.state c → (k : ℕ)
           × EndsAs n (steps (meaning_of table) k (m0 i0)) r.state c
@@ -111,7 +111,7 @@ module _ (table : ArrayTable) (n : ℕ) (body : Block) (s : State) (is : IsState
           let a = begins i0 in
           let b = h a.1 in
           let e : steps (meaning_of table) (b.1.0 + a.0) (m0 i0) ≡ b.0 = steps-more table code a.0 b.1.0 (m0 i0) ∙ ap (steps (meaning_of table) b.1.0) a.2 ∙ b.1.1 in
-          (b.1.0 + a.0, rw (e) (b.2, b.3, (b.4.scalars, b.4.arrays.elements)))
+          (b.1.0 + a.0, rw (e) (b.2, b.3, (b.4.scalars, b.4.arrays.elements, b.4.more_places)))
       by_completion (runs.Faulted f) h =
           let a = begins i0 in
           let b = h a.1 in

@@ -44,9 +44,10 @@ pub record IsTable (s : State) (table : ArrayTable) : Type 0 where
   pub shapes : table.shapes ≡ map (λ a. a.dims) s.arrays
   pub copies : (extents : List ℕ) → size_of (table.copies extents) ≡ product extents
 
--- the slots of the declared names are the scalars, and the rows the arrays
+-- the slots of the declared names are the scalars, and the rows the arrays, of which there are as many as names
 abbrev pub IsLeft : ℕ → Machine Instruction Fault → State → Type 0
 IsLeft n m s = ((k : ℕ) → k < n → slot m.control.slots k ≡ scalar s k) × ((a : ℕ) → a < n → row_of m.rows a ≡ (array s a).elements)
+    × (length s.arrays ≡ n)
 
 -- the machine has ended as a run did: with its fault, or finished with its scalars and arrays; and in both cases with its bytes
 abbrev pub EndsAs : ℕ → Machine Instruction Fault → State → Completion → Type 0
@@ -59,9 +60,10 @@ MachineEnds n table m r = (k : ℕ) × EndsAs n (steps (meaning_of table) k m) r
 
 -- ---- against the serial outcome
 
--- the machine has ended so, with these arrays
+-- the machine has ended so, with these arrays, as many as names
 abbrev pub IsEnd : ℕ → Machine Instruction Fault → serial.End → List (List ℤ) → Type 0
 IsEnd n m serial.Finished arrays = (m.control.status ≡ Finished) × ((a : ℕ) → a < n → row_of m.rows a ≡ slice_index_or arrays a [])
+    × (length arrays ≡ n)
 IsEnd n m (serial.Faulted f) arrays = m.control.status ≡ Faulted f
 
 -- the machine ends with an outcome: what was printed, and the end

@@ -2,7 +2,7 @@ mod Copies
 mod Exchange
 mod Goes
 mod JoinedValues
-mod Keeping
+pub mod Keeping
 mod PartLetters
 pub mod CodedSteps
 pub mod Openings
@@ -10,7 +10,7 @@ pub mod OwnedPieces
 mod PartPhase
 mod PartsInARow
 pub mod PieceLaws
-mod Picked
+pub mod Picked
 mod Plain
 mod Ranges
 pub mod Reading

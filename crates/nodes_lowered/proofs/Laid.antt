@@ -23,7 +23,7 @@ shape-size : (ds : List Dim) → elements ds ≡ product (extents_of (shape_of d
 shape-size [] = refl
 shape-size (d ∷ ds) = ap (λ k. extent d * k) (shape-size ds)
 
-array-size : (ds : List Dim) (layout : Layout) → layout.shape ≡ shape_of ds → elements ds ≡ size_of layout
+pub array-size : (ds : List Dim) (layout : Layout) → layout.shape ≡ shape_of ds → elements ds ≡ size_of layout
 unfolding size_of
 array-size ds layout e = shape-size ds ∙ ap (λ s. product (extents_of s)) (sym e)
 

@@ -29,6 +29,10 @@ pub arrays-so : (n : ℕ) (m : Machine Instruction Fault) (e : End) (arrays : Li
 arrays-so n m serial.Finished arrays h finished a lt = h.1 a lt
 arrays-so n m (serial.Faulted f) arrays h finished a lt = absurd cc
 
+pub arrays-count : (n : ℕ) (m : Machine Instruction Fault) (e : End) (arrays : List (List ℤ)) → IsEnd n m e arrays → e ≡ serial.Finished → length arrays ≡ n
+arrays-count n m serial.Finished arrays h finished = h.2
+arrays-count n m (serial.Faulted f) arrays h finished = absurd cc
+
 -- ---- the nodes
 
 -- a node's piece of a row
@@ -49,9 +53,11 @@ numbered count p nodes node h = by (cases_lt p count)
     by (inr ge) = absurd (let none : None ≡ Some node = rw (le-ltb p count ge) at h in cc)
 
 module _ (nodes n number : ℕ) (m : Machine Text Fault) (own : Own Fault) (o : Outcome) (whole : IsWhole nodes [] m) (ended : end_by_status m.control.status ≡ Some o.end)
-    (arrays : o.end ≡ serial.Finished → (a : ℕ) → a < n → row_of m.rows a ≡ row_of o.arrays a) (printed : m.printed ≡ o.printed) where
-  standing-last : (p : ℕ) → IsLastNode n o m.layouts p (standing nodes m number own p)
+    (arrays : o.end ≡ serial.Finished → (a : ℕ) → a < n → row_of m.rows a ≡ row_of o.arrays a) (count : o.end ≡ serial.Finished → length o.arrays ≡ n)
+    (printed : m.printed ≡ o.printed) where
+  standing-last : (p : ℕ) → IsLastNode nodes n o m.layouts p (standing nodes m number own p)
   standing-last p = record {
+    among = refl;
     ended = ended;
     laid = refl;
     pieces = λ finished a lt. piece-row m.layouts p m.rows a ∙ ap (λ row. piece (owned_in m.layouts a) p row) (arrays finished a lt);
@@ -61,8 +67,9 @@ module _ (nodes n number : ℕ) (m : Machine Text Fault) (own : Own Fault) (o : 
   pub last-nodes : (last : List (Node Text Fault)) → ((p : ℕ) → slice_get last p ≡ by_number nodes (standing nodes m number own) p) → AreLastNodes nodes n o last
   last-nodes last are = record {
     layouts = m.layouts;
-    each = λ p node at. subst (IsLastNode n o m.layouts p) (is p node at) (standing-last p);
+    each = λ p node at. subst (IsLastNode nodes n o m.layouts p) (is p node at) (standing-last p);
     owned = whole.owned;
+    count = count;
     sized = λ finished a lt. size-row nodes m.layouts m.rows whole.shaped whole.owned a ∙ ap length (arrays finished a lt);
     elements = λ finished spot node lt inside at.
         let owner : ℕ = least_owner_of nodes m.layouts spot in

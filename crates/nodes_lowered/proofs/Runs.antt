@@ -26,7 +26,7 @@ use Rattle.node_run.proofs.Wholes.{steps-whole}
 use Rattle.nodes_lowered.specs.OnNodes.{AreLaid, BreaksNoRule, program_opening}
 use Rattle.nodes_lowered.specs.ProgramRuns.{RunOnNodes, end_by_status, program_nodes, program_shapes, text_opening}
 use Rattle.nodes_lowered.proofs.Laid.{opening-whole}
-use Rattle.nodes_lowered.proofs.LastNodes.{arrays-so, ended-so, last-nodes}
+use Rattle.nodes_lowered.proofs.LastNodes.{arrays-count, arrays-so, ended-so, last-nodes}
 
 -- the machine's run is over where it has ended with an outcome
 end-over : (n : ℕ) (m : Machine Instruction Fault) (e : End) (arrays : List (List ℤ)) → IsEnd n m e arrays → IsOver m.control.status
@@ -54,6 +54,7 @@ run-on-nodes nodes p layouts some rules laid =
       ends = λ last ends. last-nodes nodes n run.number (steps text_meaning has.0 coded) run.new o (steps-whole text_meaning nodes [] has.0 coded code whole)
           (ap (λ x. end_by_status x.control.status) same ∙ ended-so n (steps (meaning_of table) has.0 m) o.end o.arrays has.2)
           (λ finished a lt. ap (λ x. row_of x.rows a) same ∙ arrays-so n (steps (meaning_of table) has.0 m) o.end o.arrays has.2 finished a lt)
+          (arrays-count n (steps (meaning_of table) has.0 m) o.end o.arrays has.2)
           (ap (λ x. x.printed) same ∙ has.1) last
           (λ q. ends (program_nodes nodes p layouts) run.lockstep [] refl q ∙ run.ends q);
     }

@@ -45,9 +45,10 @@ end_by_status Running = None
 end_by_status Finished = Some serial.Finished
 end_by_status (Faulted f) = Some (serial.Faulted f)
 
--- the node p of nodes whose run of n names had this outcome: it has ended so, where the run is finished with its pieces of the
+-- the node p of so many whose run of n names had this outcome: it has ended so, where the run is finished with its pieces of the
 -- outcome's arrays, which lie so; and node 0 has printed the outcome's bytes
-pub record IsLastNode (n : ℕ) (o : Outcome) (layouts : List Layout) (p : ℕ) (node : Node Text Fault) : Type 0 where
+pub record IsLastNode (nodes n : ℕ) (o : Outcome) (layouts : List Layout) (p : ℕ) (node : Node Text Fault) : Type 0 where
+  pub among : node.nodes ≡ nodes
   pub ended : end_by_status node.control.status ≡ Some o.end
   pub laid : node.layouts ≡ layouts
   pub pieces : o.end ≡ serial.Finished → (a : ℕ) → a < n → row_of node.pieces a ≡ piece (owned_in layouts a) p (slice_index_or o.arrays a [])
@@ -56,8 +57,9 @@ pub record IsLastNode (n : ℕ) (o : Outcome) (layouts : List Layout) (p : ℕ) 
 -- the last nodes of such a run. Where it is finished, each element of the arrays is at its address in the piece of its least owner
 pub record AreLastNodes (nodes n : ℕ) (o : Outcome) (last : List (Node Text Fault)) : Type 0 where
   pub layouts : List Layout
-  pub each : (p : ℕ) (node : Node Text Fault) → slice_get last p ≡ Some node → IsLastNode n o layouts p node
+  pub each : (p : ℕ) (node : Node Text Fault) → slice_get last p ≡ Some node → IsLastNode nodes n o layouts p node
   pub owned : AreOwned nodes layouts
+  pub count : o.end ≡ serial.Finished → length o.arrays ≡ n
   pub sized : o.end ≡ serial.Finished → (a : ℕ) → a < n → slice_index_or (sizes layouts) a 0 ≡ length (slice_index_or o.arrays a [])
   pub elements : o.end ≡ serial.Finished → (spot : Spot) (node : Node Text Fault) → spot.row < n → spot.at < slice_index_or (sizes layouts) spot.row 0
       → slice_get last (least_owner_of nodes layouts spot) ≡ Some node

@@ -1,21 +1,11 @@
-use Rattle.std.proofs.Common.{◌≡◌, ◌<◌, ◌+◌, ◌++◌, ◌∷◌, [], ℕ, List, sym, ◌∙◌, ap, arith, append_assoc, get_or, length}
-use Rattle.std.proofs.lemmas.List.{append-nil}
-use Rattle.std.proofs.lemmas.List.Concat.{flat_map-append}
+use Rattle.std.proofs.Common.{◌≡◌, ◌<◌, ◌++◌, ℕ, sym, ◌∙◌, ap, arith, append_assoc, get_or, length}
 use Rattle.std.proofs.lemmas.List.FromFn.{get_or-map-range_with_len, length-map-range_with_len}
-use Rattle.std.specs.List.{flat_map, range_with_len}
 use Rattle.hpf_base.specs.ElementOrder.{product}
 use Rattle.hpf_base.specs.LocalOrder.{local_elements}
-use Rattle.hpf_base.proofs.Sections.{range_with_len-add}
 use Rattle.local_address.specs.Spans.{span_of}
 use Rattle.run_report.specs.MapText.{array_lines, node_line}
+use Rattle.run_report.proofs.Lines.{lines_more}
 use Rattle.run_report.proofs.node_lines.add_array.Goals as goal
-
--- the line of one node more
-lines_more : (line : ℕ → List ℕ) (n : ℕ) → flat_map line (range_with_len 0 (n + 1)) ≡ flat_map line (range_with_len 0 n) ++ line n
-lines_more line n =
-    let last : 0 + n ≡ n = omega arith in
-    ap (flat_map line) (range_with_len-add 0 n 1) ∙ flat_map-append line (range_with_len 0 n) ((0 + n) ∷ [])
-    ∙ ap (λ rest. flat_map line (range_with_len 0 n) ++ rest) (append-nil (line (0 + n)) ∙ ap line last)
 
 pub index-requires : goal.index-requires
 index-requires c =

@@ -1,0 +1,5 @@
+mod Entries
+mod Layouts
+mod LastValues
+mod ProgramOpenings
+mod NodesRun

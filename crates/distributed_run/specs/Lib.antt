@@ -1,0 +1,3 @@
+pub mod Outcomes
+pub mod Starts
+pub mod Values

@@ -1,0 +1,159 @@
+//! How the arrays of a program lie at the start.
+
+ghost use Rattle.std.specs.Prelude.{◌≡◌, ◌<◌, ◌≤◌, All, IfOk, Some, drop, length, slice_get};
+ghost use Rattle.hpf_base.specs.declared.limits.TheConstants.{MAX_NODES};
+ghost use Rattle.array_maps.specs.Maps.{IsArrayMap};
+ghost use Rattle.nodes_lowered.specs.ProgramLayouts.{empty_layout, layout_by, maps_behind, program_layouts};
+ghost use Rattle.distributed_run.specs.Starts.{first_layout};
+
+use array_maps::ArrayMap;
+use hpf_base::{Grid, Index, MapDims, Mapping, OutOfMemory, Shape};
+use name_table::{Entry, Names, What};
+use owner_tables::{OwnerTable, Owners};
+use std::alloc::Global;
+
+/// The tables of the declared names, by their places, and behind them that of the copy of a mask before it is made. These are the mappings
+/// of the arrays among the names; what is no array has no elements.
+pub(crate) fn program_owners(
+    alloc: Global,
+    names: &Names,
+    maps: &[ArrayMap],
+    nodes: u32,
+) -> Result<Owners, OutOfMemory>
+    requires some { 1 ≤ nodes }
+    requires few { nodes ≤ MAX_NODES }
+    requires valid { All (IsArrayMap nodes) maps.now }
+    ensures { IfOk result (λ owners. owners ≡ record { layouts = program_layouts nodes names.now maps.now; nodes = nodes }) }
+{
+    let mut owners = Owners::new(alloc, nodes);
+    let mut rest = maps;
+    for place in 0..names.len() {
+        let what = &entry_at(names, place).what;
+        owners.push(table_by(alloc, what, rest, nodes)?)?;
+        rest = maps_behind(what, rest);
+    }
+    owners.push(empty_table(alloc, nodes)?)?;
+    Ok(owners)
+}
+
+/// The entry at a place.
+pub(crate) fn entry_at(names: &Names, place: usize) -> &Entry
+    requires { place < length names.now }
+    ensures { slice_get names.now place ≡ Some result.now }
+{
+    match names.get(place) {
+        Some(entry) => entry,
+        None => unreachable!(),
+    }
+}
+
+/// The table of a name: an array has the first of these mappings.
+fn table_by(
+    alloc: Global,
+    what: &What,
+    maps: &[ArrayMap],
+    nodes: u32,
+) -> Result<OwnerTable, OutOfMemory>
+    requires some { 1 ≤ nodes }
+    requires few { nodes ≤ MAX_NODES }
+    requires valid { All (IsArrayMap nodes) maps.now }
+    ensures { IfOk result (λ table. table ≡ record { layout = layout_by nodes what.now maps.now; nodes = nodes }) }
+{
+    match what {
+        What::Array(_, _) => first_table(alloc, maps, nodes),
+        _ => empty_table(alloc, nodes),
+    }
+}
+
+/// The table of an array with the first of these mappings; without a mapping it has no elements.
+fn first_table(alloc: Global, maps: &[ArrayMap], nodes: u32) -> Result<OwnerTable, OutOfMemory>
+    requires some { 1 ≤ nodes }
+    requires few { nodes ≤ MAX_NODES }
+    requires valid { All (IsArrayMap nodes) maps.now }
+    ensures { IfOk result (λ table. table ≡ record { layout = first_layout nodes maps.now; nodes = nodes }) }
+{
+    match maps.first() {
+        Some(map) => array_table(alloc, map, nodes),
+        None => empty_table(alloc, nodes),
+    }
+}
+
+/// The table of an array with its mapping.
+fn array_table(alloc: Global, map: &ArrayMap, nodes: u32) -> Result<OwnerTable, OutOfMemory>
+    requires some { 1 ≤ nodes }
+    requires few { nodes ≤ MAX_NODES }
+    requires valid { IsArrayMap nodes map.now }
+    ensures { IfOk result (λ table. table ≡ record { layout = record { shape = map.now.shape; mapping = map.now.start }; nodes = nodes }) }
+{
+    let shape = same_shape(alloc, &map.shape);
+    let mapping = same_mapping(alloc, &map.start)?;
+    OwnerTable::new(alloc, nodes, shape, mapping)
+}
+
+/// The table of what has no elements.
+fn empty_table(alloc: Global, nodes: u32) -> Result<OwnerTable, OutOfMemory>
+    requires some { 1 ≤ nodes }
+    requires few { nodes ≤ MAX_NODES }
+    ensures { IfOk result (λ table. table ≡ record { layout = empty_layout nodes; nodes = nodes }) }
+{
+    OwnerTable::of_copy(alloc, nodes, &[0])
+}
+
+/// The mappings of the arrays behind the name.
+fn maps_behind<'a>(what: &What, maps: &'a [ArrayMap]) -> &'a [ArrayMap]
+    ensures { result.now ≡ maps_behind what.now maps.now }
+{
+    match what {
+        What::Array(_, _) => behind_first(maps),
+        _ => maps,
+    }
+}
+
+/// All but the first.
+fn behind_first(maps: &[ArrayMap]) -> &[ArrayMap]
+    ensures { result.now ≡ drop 1 maps.now }
+{
+    if maps.is_empty() { maps } else { &maps[1..] }
+}
+
+/// The same shape once more.
+fn same_shape(alloc: Global, shape: &Shape) -> Shape
+    ensures { result ≡ shape.now }
+{
+    Shape {
+        lower: same_index(alloc, &shape.lower),
+        extent: same_index(alloc, &shape.extent),
+    }
+}
+
+/// The same numbers once more.
+fn same_index(alloc: Global, index: &Index) -> Index
+    ensures { result ≡ index.now }
+{
+    match Index::new(alloc, index.numbers()) {
+        Some(same) => same,
+        None => unreachable!(),
+    }
+}
+
+/// The same mapping once more.
+fn same_mapping(alloc: Global, mapping: &Mapping) -> Result<Mapping, OutOfMemory>
+    ensures { IfOk result (λ same. same ≡ mapping.now) }
+{
+    let mut dims = Vec::new(alloc);
+    dims.extend_from_slice(mapping.dims.as_slice())?;
+    Ok(Mapping {
+        grid: same_grid(alloc, &mapping.grid),
+        dims: MapDims::new(dims),
+    })
+}
+
+/// The same grid once more.
+fn same_grid(alloc: Global, grid: &Grid) -> Grid
+    ensures { result ≡ grid.now }
+{
+    match Grid::new(alloc, grid.dims()) {
+        Some(same) => same,
+        None => unreachable!(),
+    }
+}

@@ -1,0 +1,10 @@
+use Rattle.std.proofs.Common.{◌≡◌, OnOk, subst}
+use Rattle.node_machine.proofs.TreeSteps.{second-begun}
+use Rattle.node_machine.proofs.node.Node.begin_second.Goals as goal
+
+pub returns-clause-ok : goal.returns-clause-ok
+returns-clause-ok c =
+    let a = c.args.self.now in
+    let r = c.requires.is in
+    subst (λ x. OnOk c.verdict_round.result (c.verdict_round.new.self ≡ x))
+    (second-begun a.nodes a _ r.tuples c.args.reduction.op c.args.reduction.slot r.is _ c.requires.second c.in_ok-numbers.ensures) c.verdict_round.ensures.ok

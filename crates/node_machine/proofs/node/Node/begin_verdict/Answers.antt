@@ -1,0 +1,12 @@
+use Rattle.std.proofs.Common.{◌≡◌, OnOk, subst, rules}
+use Rattle.machine_steps.specs.Instr.{Verdict}
+use Rattle.machine_steps.specs.Machine.{instr_at}
+use Rattle.node_code.specs.ProgramText.{text_meaning}
+use Rattle.node_machine.proofs.TreeSteps.{verdict-begun}
+use Rattle.node_machine.proofs.node.Node.begin_verdict.Goals as goal
+
+pub returns-clause-ok : goal.returns-clause-ok
+returns-clause-ok c =
+    let a = c.args.self.now in
+    let is : instr_at text_meaning a.code a.control.at ≡ Verdict = search rules in
+    subst (λ x. OnOk c.verdict_round.result (c.verdict_round.new.self ≡ x)) (verdict-begun a.nodes a _ _ is c.in_ok-numbers.ensures) c.verdict_round.ensures.ok

@@ -1,0 +1,35 @@
+use Rattle.std.proofs.Common.{◌≡◌, ◌∙◌, ap}
+use Rattle.machine_steps.specs.Machine.{earlier}
+use Rattle.machine_steps.specs.Message.{reduce_part}
+use Rattle.tuple_values.specs.Statements.{no_left}
+use Rattle.tuple_values.specs.Views.{statement as statement_of}
+use Rattle.part_steps.specs.Behind.{Behind, behind, fault_below, joined_below, tuples as tuples_of}
+use Rattle.part_steps.specs.Parts.{PartView}
+use Rattle.part_steps.specs.Views.{part_view}
+use Rattle.part_steps.specs.declared.who.Who.TheVariants.{First}
+use Rattle.part_steps.proofs.Instructions.{joined-is, kept-is, reduce-is}
+use Rattle.node_machine.proofs.node.Node.reduce_result.Goals as goal
+
+pub returns : goal.returns
+returns c =
+    let a = c.args.self.now in
+    let is = c.self.view_is in
+    let w = statement_of c.in_ok-reduced.reduced.statement in
+    let op = c.in_ok-reduced.reduced.op in
+    let p = c.in_ok-reduced.ensures in
+    let part = reduce_part a.nodes a.layouts p.tuples a.control.slots in
+    let e = reduce-is a.nodes a.layouts w a.control.slots p.tuples no_left p.statement in
+    let V : PartView = record { who = First; nodes = a.nodes; layouts = a.layouts; statement = w } in
+    let same : part_view c.in_ok-part.part ≡ V = c.in_ok-part.ensures
+    ∙ (λ i. record { who = First; nodes = (c.self.invariant.owners ∙ (λ j. (is j).nodes)) i; layouts = (is i).layouts; statement = w }) in
+    let B : Behind = behind V a.id a.pieces a.received in
+    let here : behind (part_view c.in_ok-part.part) c.self.inside.id c.deref.result.now c.all_received-received.result.now ≡ B =
+    (λ i. behind (same i) (is i).id ((c.deref.ensures.value ∙ (λ j. (is j).pieces)) i) ((c.all_received-received.ensures ∙ (λ j. (is j).received)) i)) in
+    record {
+      tuples = p.tuples;
+      op = op;
+      slot = p.slot;
+      is = p.is;
+      value = c.in_ok-values.ensures.value ∙ (λ i. joined_below (here i) op (tuples_of (here i))) ∙ joined-is a.nodes a First w part e p.tuples no_left p.statement op;
+      kept = ap (earlier a.kept) (c.in_ok-values.ensures.fault ∙ (λ i. fault_below (here i) (is i).parts (tuples_of (here i)))) ∙ kept-is a.nodes a First w part e p.tuples no_left p.statement a.parts;
+    }

@@ -1,0 +1,12 @@
+pub mod Codes
+pub mod Copies
+pub mod Fetches
+pub mod Openings
+pub mod Parts
+pub mod Post
+pub mod Prints
+pub mod Programs
+pub mod Reductions
+pub mod Results
+pub mod Trees
+pub mod Views

@@ -1,0 +1,41 @@
+-- The first step of reductions on a node.
+use Rattle.std.specs.Prelude.{◌≡◌, ℕ, ℤ, List}
+use Rattle.op_tables.specs.declared.op.Op.{Op}
+use Rattle.array_meaning.specs.Faults.{Fault}
+use Rattle.machine_steps.specs.Instr.{Instr, Reduce, Tuples}
+use Rattle.machine_steps.specs.Machine.{earlier, keep}
+use Rattle.machine_steps.specs.Message.{reduce_part}
+use Rattle.machine_steps.specs.Node.{Node, join_below, local_outcome, outcome_value}
+use Rattle.node_code.specs.Parallel.{fold_of, joined}
+use Rattle.node_code.specs.ProgramText.{Text}
+use Rattle.tuple_values.specs.Statements.{IsStatement, Statement, no_left}
+use Rattle.part_steps.specs.KeptFaults.{kepts}
+use Rattle.part_steps.specs.declared.reductions.ReduceValues.{ReduceValues}
+use Rattle.node_machine.specs.Parts.{IsOpening}
+use Rattle.node_machine.specs.declared.parts.Opening.{Opening}
+
+-- the instruction is a reduction of the values of this statement by this operator
+pub record IsReduced (i : Instr Fault) (slots : List ℤ) (o : Op) (w : Statement) : Type 0 where
+  pub tuples : Tuples Fault
+  pub slot : ℕ
+  pub is : i ≡ Reduce tuples (fold_of o) slot
+  pub statement : IsStatement w slots tuples no_left
+
+-- what opens its phase
+pub record IsReduceOpening (i : Instr Fault) (a : Node Text Fault) (o : Opening) : Type 0 where
+  pub tuples : Tuples Fault
+  pub op : Op
+  pub slot : ℕ
+  pub is : i ≡ Reduce tuples (fold_of op) slot
+  pub opening : IsOpening (reduce_part a.nodes a.layouts tuples a.control.slots) a o
+
+-- what it comes to behind its phase
+pub record IsReduceResult (i : Instr Fault) (a : Node Text Fault) (r : ReduceValues) : Type 0 where
+  pub tuples : Tuples Fault
+  pub op : Op
+  pub slot : ℕ
+  pub is : i ≡ Reduce tuples (fold_of op) slot
+  pub value : r.value
+      ≡ join_below (joined op) (λ t. outcome_value (local_outcome a.nodes (reduce_part a.nodes a.layouts tuples a.control.slots) tuples a t)) (reduce_part a.nodes a.layouts tuples a.control.slots).tuples
+  pub kept : earlier a.kept (kepts r.fault)
+      ≡ keep (local_outcome a.nodes (reduce_part a.nodes a.layouts tuples a.control.slots) tuples a) a.parts (reduce_part a.nodes a.layouts tuples a.control.slots).tuples a.kept

@@ -1,0 +1,33 @@
+-- Results of evaluations.
+use Rattle.std.specs.Prelude.{◌≡◌, ℤ, List, Result, Ok, Err}
+use Rattle.nest_order.specs.Storage.{Spot}
+use Rattle.array_meaning.specs.Faults.{Fault}
+use Rattle.machine_steps.specs.Instr.{Instr, Fetch, Store}
+use Rattle.owner_tables.specs.declared.spot.Spot.{Spot as HeldSpot}
+use Rattle.owner_tables.specs.Spots.{spot_of}
+use Rattle.serial_run.specs.declared.completion.Fault.{Fault as HeldFault}
+use Rattle.serial_run.specs.Completions.{fault}
+use Rattle.node_machine.specs.declared.elements.FetchedElement.{FetchedElement}
+use Rattle.node_machine.specs.declared.elements.StoredElement.{StoredElement}
+
+abbrev pub spot_result : Result HeldSpot HeldFault → Result Spot Fault
+spot_result (Ok spot) = Ok (spot_of spot)
+spot_result (Err f) = Err (fault f)
+
+abbrev pub value_result : Result ℤ HeldFault → Result ℤ Fault
+value_result (Ok v) = Ok v
+value_result (Err f) = Err (fault f)
+
+-- what the instruction fetches by these slots
+pub record IsFetched (i : Instr Fault) (slots : List ℤ) (f : FetchedElement) : Type 0 where
+  pub element : List ℤ → Result Spot Fault
+  pub is : i ≡ Fetch element f.slot
+  pub value : element slots ≡ spot_result f.element
+
+-- what it stores
+pub record IsStored (i : Instr Fault) (slots : List ℤ) (s : StoredElement) : Type 0 where
+  pub element : List ℤ → Result Spot Fault
+  pub value : List ℤ → Result ℤ Fault
+  pub is : i ≡ Store element value
+  pub spot : element slots ≡ spot_result s.element
+  pub stored : value slots ≡ value_result s.value

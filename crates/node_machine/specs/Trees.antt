@@ -1,0 +1,21 @@
+-- Instructions whose values go round a tree.
+use Rattle.std.specs.Prelude.{◌≡◌, ℕ, Bool, true, false}
+use Rattle.array_meaning.specs.Faults.{Fault}
+use Rattle.machine_steps.specs.Instr.{Control, Instr, Tuples, Reduce}
+use Rattle.machine_steps.specs.Machine.{on, stay}
+use Rattle.node_code.specs.Parallel.{fold_of}
+use Rattle.node_machine.specs.declared.trees.Reduction.{Reduction}
+
+-- where the run goes on behind a verdict: that of a reduction is a step of it
+abbrev pub next_of : Bool → Control Fault → Control Fault
+next_of true = stay
+next_of false = on
+
+abbrev pub step_of : Bool → ℕ
+step_of true = 2
+step_of false = 0
+
+-- the instruction is this reduction
+pub record IsReduction (i : Instr Fault) (r : Reduction) : Type 0 where
+  pub tuples : Tuples Fault
+  pub is : i ≡ Reduce tuples (fold_of r.op) r.slot

@@ -1,0 +1,30 @@
+//! One node of a distributed run.
+//!
+//! Comes in: the node code that all nodes run, the tables of who owns what, and the values at the start. Goes out: `Node`, whose steps are
+//! those of the definitions: a local step, or a letter that is sent or taken.
+//!
+//! What holds in between: a step prepares all that may want memory before it changes anything, so that a node that answers want of memory is
+//! as before; the letters of a phase stand in `Post`; every array access goes by the tables of owners.
+#![tactic(auto)]
+
+mod copies;
+mod elements;
+mod fetches;
+mod letter;
+mod local_steps;
+mod node;
+mod opening;
+mod parts;
+mod pieces;
+mod post;
+mod prints;
+mod program;
+mod reductions;
+mod stage;
+mod steps;
+mod stores;
+mod trees;
+
+pub use letter::NodeLetter;
+pub use node::Node;
+pub use program::NodeProgram;

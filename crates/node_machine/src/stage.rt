@@ -1,0 +1,9 @@
+//! Where a node stands in an instruction.
+
+/// Before an instruction or a step of it, in one of its phases, or behind that phase.
+#[derive(Clone, Copy, Debug, PartialEq, Eq)]
+pub enum Stage {
+    Ready,
+    Passing,
+    Passed,
+}

@@ -1,0 +1,37 @@
+//! What a node does in the message phase of a part: of a parallel statement, a reduction, or a section that is printed.
+//!
+//! Comes in: a statement once the slots are known, the tables of owners, a node's number and its pieces, and the values received. Goes
+//! out: what the node sends and from whom it takes, and behind the phase what is stored, the fault that is kept, the values joined, or the
+//! values of a section.
+//!
+//! What holds in between: who computes a tuple is asked once (`Part`), and sets of elements, messages and values go by that; all values
+//! are taken before any is stored, so that want of memory leaves a node as it was; what is stored at last takes no memory.
+#![tactic(auto)]
+
+mod computing;
+mod gathered;
+mod kept;
+mod local_values;
+mod making;
+mod opening;
+mod parallel;
+mod parcel;
+mod part;
+mod reductions;
+mod row;
+mod sections;
+mod stores;
+mod values;
+mod who;
+
+pub use kept::{Kept, earlier};
+pub use local_values::local_value;
+pub use opening::{inbox, outbox};
+pub use parallel::{ParValues, par_values};
+pub use parcel::Parcel;
+pub use part::Part;
+pub use reductions::{ReduceValues, joined, reduce_values};
+pub use row::Row;
+pub use sections::section_values;
+pub use stores::Stores;
+pub use who::Who;

@@ -1,0 +1,86 @@
+//! The values of elements that lie on a node.
+
+ghost use Rattle.std.specs.Prelude.{◌≡◌, ◌<◌, ◌++◌, ◌∷◌, [], IfOk, OnOk, map, slice_index_or, true};
+ghost use Rattle.machine_steps.specs.Layout.{owns_spot, sizes};
+ghost use Rattle.machine_steps.specs.Node.{local_read};
+ghost use Rattle.nest_order.specs.Storage.{read};
+ghost use Rattle.owner_tables.specs.Spots.{spot_of};
+
+use crate::row::Row;
+use comm_sets::{Owners, Spot};
+use hpf_base::OutOfMemory;
+use letters::Body;
+use std::alloc::Global;
+
+/// The value of an element that the node owns, by the node's number and its pieces of all rows. One that the node doesn't own, or that is
+/// out of bounds, is answered as want of memory.
+pub fn local_value(owners: &Owners, id: u32, pieces: &[Row], spot: Spot) -> Result<i64, OutOfMemory>
+    requires { id < owners.now.nodes }
+    ensures { IfOk result (λ v. v ≡ local_read owners.now.layouts id pieces.now (spot_of spot)) }
+{
+    if owners.is_in_bounds(spot) && owners.owns(id, spot) {
+        Ok(held_value(owners, id, pieces, spot))
+    } else {
+        Err(OutOfMemory)
+    }
+}
+
+/// The value of an element that the node owns.
+pub(crate) fn held_value(owners: &Owners, id: u32, pieces: &[Row], spot: Spot) -> i64
+    requires node { id < owners.now.nodes }
+    requires at { spot.at < slice_index_or (sizes owners.now.layouts) spot.row 0 }
+    requires owner { owns_spot owners.now.layouts id (spot_of spot) ≡ true }
+    ensures { result ≡ local_read owners.now.layouts id pieces.now (spot_of spot) }
+{
+    value_at(
+        pieces,
+        Spot {
+            row: spot.row,
+            at: owners.address(id, spot),
+        },
+    )
+}
+
+/// The value at a place of the pieces; 0 where there is none.
+fn value_at(pieces: &[Row], place: Spot) -> i64
+    ensures { result ≡ read pieces.now (spot_of place) }
+{
+    if place.row < pieces.len() {
+        pieces[place.row].get(place.at)
+    } else {
+        0
+    }
+}
+
+/// The values of elements that the node owns, in order.
+pub(crate) fn local_values(
+    alloc: Global,
+    owners: &Owners,
+    id: u32,
+    pieces: &[Row],
+    spots: &[Spot],
+) -> Result<Body, OutOfMemory>
+    requires { id < owners.now.nodes }
+    ensures { IfOk result (λ body. body ≡ map (local_read owners.now.layouts id pieces.now) (map spot_of spots.now)) }
+{
+    let mut values = Vec::with_capacity(alloc, spots.len())?;
+    for spot in spots {
+        push_value(owners, id, pieces, *spot, &mut values)?;
+    }
+    Ok(Body::from(values))
+}
+
+/// Puts the value of an element that the node owns behind the others.
+fn push_value(
+    owners: &Owners,
+    id: u32,
+    pieces: &[Row],
+    spot: Spot,
+    values: &mut Vec<i64>,
+) -> Result<(), OutOfMemory>
+    requires { id < owners.now.nodes }
+    ensures { OnOk result (values.new.items ≡ values.old.items ++ local_read owners.now.layouts id pieces.now (spot_of spot) ∷ []) }
+{
+    values.push(local_value(owners, id, pieces, spot)?)?;
+    Ok(())
+}

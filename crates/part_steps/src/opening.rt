@@ -1,0 +1,86 @@
+//! The letters of a node in the phase of a part.
+
+ghost use Rattle.std.specs.Prelude.{◌≡◌, ◌<◌, ◌++◌, ◌∷◌, [], All, IfOk, OnOk, if◌then◌else◌, map};
+ghost use Rattle.machine_steps.specs.Message.{has_any, message};
+ghost use Rattle.machine_steps.specs.Node.{local_read, parcel, part_sends};
+ghost use Rattle.owner_tables.specs.Spots.{spot_of};
+ghost use Rattle.part_steps.specs.Openings.{inbox_on, outbox_on};
+ghost use Rattle.part_steps.specs.Parts.{part_of};
+ghost use Rattle.part_steps.specs.Views.{part_view};
+
+use crate::local_values::local_values;
+use crate::parcel::Parcel;
+use crate::part::Part;
+use crate::row::Row;
+use comm_sets::{Spot, incoming, outgoing};
+use hpf_base::OutOfMemory;
+use std::alloc::Global;
+use std::collections::VecDeque;
+
+/// What a node sends: to each node for which it has a message, ascending, the values of the message's elements, row by row, each in
+/// array-element order.
+pub fn outbox(
+    alloc: Global,
+    part: &Part<'_>,
+    id: u32,
+    pieces: &[Row],
+) -> Result<VecDeque<Parcel>, OutOfMemory>
+    requires { id < part.now.owners.now.nodes }
+    ensures parcels { IfOk result (λ o. o.items ≡ outbox_on part.now.owners.now.nodes part.now.owners.now.layouts (part_of (part_view part.now)) id pieces.now) }
+    ensures targets { IfOk result (λ o. All (λ parcel. parcel.to < part.now.owners.now.nodes) o.items) }
+{
+    let messages = outgoing(alloc, part.owners, part, id)?;
+    let mut outbox = VecDeque::new(alloc);
+    for target in 0..part.owners.nodes() {
+        let spots = messages.with(target);
+        push_parcel(alloc, part, id, pieces, target, spots, &mut outbox)?;
+    }
+    Ok(outbox)
+}
+
+/// The nodes that have a message for the node, ascending.
+pub fn inbox(alloc: Global, part: &Part<'_>, id: u32) -> Result<VecDeque<u32>, OutOfMemory>
+    requires { id < part.now.owners.now.nodes }
+    ensures sources { IfOk result (λ i. i.items ≡ inbox_on part.now.owners.now.nodes part.now.owners.now.layouts (part_of (part_view part.now)) id) }
+    ensures below { IfOk result (λ i. All (λ source. source < part.now.owners.now.nodes) i.items) }
+{
+    let messages = incoming(alloc, part.owners, part, id)?;
+    let mut inbox = VecDeque::new(alloc);
+    for source in 0..part.owners.nodes() {
+        push_source(source, messages.with(source), &mut inbox)?;
+    }
+    Ok(inbox)
+}
+
+/// Puts the values of a message behind the others, if there are any.
+fn push_parcel(
+    alloc: Global,
+    part: &Part<'_>,
+    id: u32,
+    pieces: &[Row],
+    target: u32,
+    spots: &[Spot],
+    outbox: &mut VecDeque<Parcel>,
+) -> Result<(), OutOfMemory>
+    requires { id < part.now.owners.now.nodes }
+    ensures { OnOk result (outbox.new.items ≡ outbox.old.items
+        ++ (if has_any (map spot_of spots.now)
+        then record { to = target; body = map (local_read part.now.owners.now.layouts id pieces.now) (map spot_of spots.now) } ∷ []
+        else [])) }
+{
+    if !spots.is_empty() {
+        let body = local_values(alloc, part.owners, id, pieces, spots)?;
+        outbox.push_back(Parcel { to: target, body })?;
+    }
+    Ok(())
+}
+
+/// Puts a node behind the others, if it has a message.
+fn push_source(source: u32, spots: &[Spot], inbox: &mut VecDeque<u32>) -> Result<(), OutOfMemory>
+    ensures { OnOk result (inbox.new.items ≡ inbox.old.items ++ (if has_any (map spot_of spots.now) then source ∷ [] else [])) }
+{
+    if !spots.is_empty() {
+        inbox.push_back(source)?;
+    }
+    Ok(())
+}

@@ -1,0 +1,102 @@
+//! What a reduction comes to on a node.
+
+ghost use Rattle.std.specs.Prelude.{◌≡◌, ◌<◌, Some, IfOk, OnOk};
+ghost use Rattle.machine_steps.specs.Machine.{earlier, kept_of};
+ghost use Rattle.machine_steps.specs.Node.{join_options, outcome_value};
+ghost use Rattle.node_code.specs.Parallel.{joined};
+ghost use Rattle.part_steps.specs.Behind.{behind, fault_below, joined_below, outcome_of, tuples};
+ghost use Rattle.part_steps.specs.Gathered.{behind_of};
+ghost use Rattle.part_steps.specs.KeptFaults.{kepts};
+ghost use Rattle.part_steps.specs.Views.{part_view};
+
+use crate::gathered::Gathered;
+use crate::kept::Kept;
+use crate::parallel::kept_earlier;
+use crate::part::Part;
+use crate::row::Row;
+use hpf_base::OutOfMemory;
+use letters::Body;
+use op_tables::Op;
+use std::alloc::Global;
+use term_values::combined;
+use tuple_values::Outcome;
+
+/// The values of the tuples that a node computes, joined in their order, where there are any, and the first fault.
+#[derive(Drop)]
+pub struct ReduceValues {
+    pub value: Option<i64>,
+    pub fault: Option<Kept>,
+}
+
+/// What a reduction comes to on the node with this number, by its pieces of all rows and the values that it received from each node.
+/// `number` is the part's, which the fault's key has. An element out of bounds is answered as want of memory.
+pub fn reduce_values(
+    alloc: Global,
+    part: &Part<'_>,
+    id: u32,
+    pieces: &[Row],
+    received: &[Body],
+    op: Op,
+    number: u64,
+) -> Result<ReduceValues, OutOfMemory>
+    requires { id < part.now.owners.now.nodes }
+    ensures value { IfOk result (λ r. let b = behind (part_view part.now) id pieces.now received.now in r.value ≡ joined_below b op (tuples b)) }
+    ensures fault { IfOk result (λ r. let b = behind (part_view part.now) id pieces.now received.now in kepts r.fault ≡ fault_below b number (tuples b)) }
+{
+    let gathered = Gathered::new(alloc, part, id, pieces, received)?;
+    let mut values = ReduceValues {
+        value: None,
+        fault: None,
+    };
+    for tuple in 0..part.statement.count() {
+        values.add_tuple(&gathered, tuple, op, number)?;
+    }
+    Ok(values)
+}
+
+impl ReduceValues {
+    /// Adds what a tuple comes to.
+    fn add_tuple(
+        &mut self,
+        gathered: &Gathered<'_>,
+        tuple: usize,
+        op: Op,
+        number: u64,
+    ) -> Result<(), OutOfMemory>
+        requires { tuple < tuples (behind_of gathered.now) }
+        ensures value { OnOk result (self.new.value ≡ join_options (joined op) self.old.value (outcome_value (outcome_of (behind_of gathered.now) tuple))) }
+        ensures fault { OnOk result (kepts self.new.fault ≡ earlier (kepts self.old.fault) (kept_of (outcome_of (behind_of gathered.now) tuple) tuple number)) }
+    {
+        match gathered.outcome(tuple)? {
+            Outcome::Nothing => Ok(()),
+            Outcome::Value(v) => {
+                self.value = joined_behind(op, self.value, v);
+                Ok(())
+            }
+            Outcome::Breaks(fault) => {
+                self.fault = kept_earlier(self.fault.take(), tuple, number, fault);
+                Ok(())
+            }
+        }
+    }
+}
+
+/// A value behind others, joined, where there are others.
+fn joined_behind(op: Op, so_far: Option<i64>, v: i64) -> Option<i64>
+    ensures { result ≡ join_options (joined op) so_far (Some v) }
+{
+    match so_far {
+        None => Some(v),
+        Some(a) => Some(joined(op, a, v)),
+    }
+}
+
+/// Two values joined by the operator of a reduction: those of COUNT are numbers already, which are added.
+pub fn joined(op: Op, a: i64, b: i64) -> i64
+    ensures { result ≡ joined op a b }
+{
+    match op {
+        Op::Count => combined(Op::Sum, a, b),
+        _ => combined(op, a, b),
+    }
+}

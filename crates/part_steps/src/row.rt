@@ -1,0 +1,59 @@
+//! A node's piece of a row.
+
+ghost use Rattle.std.specs.Prelude.{◌≡◌, pos, length, slice_index_or, slice_set, IfOk, replicate, ℤ};
+
+use hpf_base::OutOfMemory;
+use std::alloc::Global;
+use std::marker::Model;
+
+/// The values of a row that lie on one node. Contracts see their list.
+#[derive(Debug, Drop)]
+pub struct Row {
+    values: Vec<i64>,
+}
+
+impl Model for Row {
+    ghost use Rattle.std.specs.Prelude.{List, ℤ};
+
+    ghost Value = { List ℤ };
+
+    ghost view = { λ r. r.values.items };
+}
+
+impl Row {
+    /// So many times one value.
+    pub fn of_one(alloc: Global, value: i64, count: usize) -> Result<Row, OutOfMemory>
+        ensures { IfOk result (λ row. row ≡ replicate count value) }
+    {
+        Ok(Row {
+            values: vec![in alloc; value; count]?,
+        })
+    }
+
+    /// The value at a place, or 0 where there is none.
+    pub fn get(&self, at: usize) -> i64
+        ensures { result ≡ slice_index_or self.now at (pos 0) }
+    {
+        if at < self.values.len() {
+            self.values[at]
+        } else {
+            0
+        }
+    }
+
+    /// Puts a value at a place, if there is such a place. It takes no memory.
+    pub fn set(&mut self, at: usize, value: &i64)
+        ensures { self.new ≡ slice_set self.old at value.now }
+    {
+        if at < self.values.len() {
+            self.values[at] = *value;
+        }
+    }
+
+    /// The values.
+    pub fn as_slice(&self) -> &[i64]
+        ensures { result.now ≡ self.now }
+    {
+        self.values.as_slice()
+    }
+}

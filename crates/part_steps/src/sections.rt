@@ -1,0 +1,59 @@
+//! The values of a section on a node.
+
+ghost use Rattle.std.specs.Prelude.{◌≡◌, ◌<◌, ◌++◌, IfOk, OnOk};
+ghost use Rattle.machine_steps.specs.Machine.{value_or_none};
+ghost use Rattle.machine_steps.specs.Message.{first_read};
+ghost use Rattle.tuple_values.specs.Spots.{read_of, reads_of};
+ghost use Rattle.tuple_values.specs.Statements.{tuple_reads};
+ghost use Rattle.part_steps.specs.Behind.{behind, elements_below, value_of, tuples};
+ghost use Rattle.part_steps.specs.Gathered.{behind_of};
+ghost use Rattle.part_steps.specs.Views.{part_view};
+
+use crate::gathered::Gathered;
+use crate::part::Part;
+use crate::row::Row;
+use comm_sets::Spot;
+use hpf_base::OutOfMemory;
+use letters::Body;
+use std::alloc::Global;
+
+/// The values of the elements that the tuples of a part read, of each tuple the first, in order, on the node with this number, by its
+/// pieces of all rows and the values that it received from each node. What is no element is left out. An element out of bounds is answered as
+/// want of memory.
+pub fn section_values(
+    alloc: Global,
+    part: &Part<'_>,
+    id: u32,
+    pieces: &[Row],
+    received: &[Body],
+) -> Result<Vec<i64>, OutOfMemory>
+    requires { id < part.now.owners.now.nodes }
+    ensures { IfOk result (λ vs. let b = behind (part_view part.now) id pieces.now received.now in vs.items ≡ elements_below b (tuples b)) }
+{
+    let gathered = Gathered::new(alloc, part, id, pieces, received)?;
+    let mut values = Vec::with_capacity(alloc, part.statement.count())?;
+    let mut reads = Vec::new(alloc);
+    for tuple in 0..part.statement.count() {
+        reads.clear();
+        part.statement.read(tuple, &mut reads)?;
+        push_first(&gathered, reads.as_slice(), &mut values)?;
+    }
+    Ok(values)
+}
+
+/// Puts the value of the first of these elements behind the others, where there is one.
+fn push_first(
+    gathered: &Gathered<'_>,
+    reads: &[Option<Spot>],
+    values: &mut Vec<i64>,
+) -> Result<(), OutOfMemory>
+    ensures { OnOk result (values.new.items ≡ values.old.items ++ value_or_none (value_of (behind_of gathered.now)) (first_read (reads_of reads.now))) }
+{
+    match reads {
+        [Some(spot), ..] => {
+            values.push(gathered.get(*spot)?)?;
+            Ok(())
+        }
+        _ => Ok(()),
+    }
+}
