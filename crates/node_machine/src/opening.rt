@@ -83,14 +83,6 @@ impl Node {
         &self.printed
     }
 
-    /// Who owns the elements of its rows, and where they lie.
-    pub fn owners(&self) -> &Owners
-        ensures layouts { result.now.layouts ≡ self.now.layouts }
-        ensures nodes { result.now.nodes ≡ self.now.nodes }
-    {
-        &self.owners
-    }
-
     /// How its run stands, and what it has printed. It takes no memory.
     pub fn into_end(self) -> (Status, Vec<u8>)
         ensures status { status_of result.0 ≡ self.control.status }
