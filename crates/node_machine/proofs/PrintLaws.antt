@@ -1,10 +1,13 @@
 -- Items of a PRINT by their places.
-use Rattle.std.proofs.Common.{◌≡◌, ℕ, zero, suc, ◌<◌, ◌≤◌, List, [], ◌∷◌, map, length, get_or, Some, None, refl, sym, ◌∙◌, ap, arith}
+use Rattle.std.proofs.Common.{◌≡◌, ℕ, ℤ, zero, suc, ◌<◌, ◌≤◌, List, [], ◌∷◌, map, length, get_or, Some, None, refl, sym, ◌∙◌, ap, arith}
 use Rattle.std.specs.List.{slice_get}
 use Rattle.expression_rules.specs.declared.dims.Dim.{Dim}
 use Rattle.node_code.specs.Instructions.{item_of, items_of}
 use Rattle.node_code.specs.Texts.{print_item}
 use Rattle.node_code.specs.declared.instruction.PrintItem.{PrintItem}
+use Rattle.node_machine.specs.Prints.{IsItemStep, IsPrintStep, printed}
+use Rattle.node_machine.specs.declared.prints.PrintStep.{PrintStep}
+use Rattle.node_machine.specs.declared.prints.PrintStep.TheVariants.{Bytes, Section, Line}
 
 module _ (shapes : List (List Dim)) where
   get-item : (items : List PrintItem) (k : ℕ) (d : PrintItem) → k < length items → slice_get (items_of shapes (map print_item items)) k ≡ Some (item_of shapes (print_item (get_or items k d)))
@@ -14,6 +17,13 @@ module _ (shapes : List (List Dim)) where
 
   pub item-there : (items : List PrintItem) (k : ℕ) (i : PrintItem) → k < length items → i ≡ get_or items k i → slice_get (items_of shapes (map print_item items)) k ≡ Some (item_of shapes (print_item i))
   item-there items k i lt e = get-item items k i lt ∙ ap (λ x. Some (item_of shapes (print_item x))) (sym e)
+
+  -- the step of the item that is next
+  pub next-step : (items : List PrintItem) (k : ℕ) (i : PrintItem) (slots : List ℤ) (s : PrintStep) → slice_get (items_of shapes (map print_item items)) k ≡ Some (item_of shapes (print_item i))
+      → IsItemStep (item_of shapes (print_item i)) slots s → IsPrintStep (printed shapes items) slots k s
+  next-step items k i slots (Bytes b) there is = (items_of shapes (map print_item items), item_of shapes (print_item i), refl, there, is)
+  next-step items k i slots Section there is = tt
+  next-step items k i slots Line there is = absurd is
 
   pub items-over : (items : List PrintItem) (k : ℕ) → length items ≤ k → slice_get (items_of shapes (map print_item items)) k ≡ None
   items-over [] k le = refl

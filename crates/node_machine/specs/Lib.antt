@@ -8,5 +8,6 @@ pub mod Prints
 pub mod Programs
 pub mod Reductions
 pub mod Results
+pub mod Sections
 pub mod Trees
 pub mod Views

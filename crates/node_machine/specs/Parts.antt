@@ -32,6 +32,6 @@ IsParOpening i a o = (tuples : Tuples Fault) × (left : List ℤ → ℕ → Opt
 abbrev pub IsParResult : Instr Fault → Node Text Fault → ParValues → Type 0
 IsParResult i a r =
     (tuples : Tuples Fault) × (left : List ℤ → ℕ → Option Spot) × (i ≡ Par tuples left)
-    × (stored r.stores.list.items a.pieces ≡ local_scatter a.layouts a.id (λ t. effect_by (left a.control.slots t) (local_outcome a.nodes (par_part a.layouts tuples left a.control.slots) tuples a t))
+    × (stored r.stores a.pieces ≡ local_scatter a.layouts a.id (λ t. effect_by (left a.control.slots t) (local_outcome a.nodes (par_part a.layouts tuples left a.control.slots) tuples a t))
     (par_part a.layouts tuples left a.control.slots).tuples a.pieces)
     × (earlier a.kept (kepts r.fault) ≡ keep (local_outcome a.nodes (par_part a.layouts tuples left a.control.slots) tuples a) a.parts (par_part a.layouts tuples left a.control.slots).tuples a.kept)

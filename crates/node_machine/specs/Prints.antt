@@ -1,5 +1,5 @@
--- Steps of a PRINT that need no element.
-use Rattle.std.specs.Prelude.{◌≡◌, ℕ, ℤ, List, [], ◌∷◌, ◌++◌, drop, map, Some, None}
+-- Steps of a PRINT.
+use Rattle.std.specs.Prelude.{◌≡◌, ⊤, ℕ, ℤ, List, [], ◌∷◌, ◌++◌, drop, map, Some, None}
 use Rattle.std.specs.List.{slice_get}
 use Rattle.expression_rules.specs.declared.dims.Dim.{Dim}
 use Rattle.array_meaning.specs.Faults.{Fault}
@@ -9,7 +9,7 @@ use Rattle.node_code.specs.Instructions.{items_of}
 use Rattle.node_code.specs.Texts.{print_item}
 use Rattle.node_code.specs.declared.instruction.PrintItem.{PrintItem}
 use Rattle.node_machine.specs.declared.prints.PrintStep.{PrintStep}
-use Rattle.node_machine.specs.declared.prints.PrintStep.TheVariants.{Bytes, Line}
+use Rattle.node_machine.specs.declared.prints.PrintStep.TheVariants.{Bytes, Section, Line}
 
 -- the line of these bytes
 abbrev pub line_of : List ℕ → List ℕ
@@ -20,6 +20,12 @@ abbrev pub IsTextOf : Item → (slots : List ℤ) → List ℕ → Type 0
 IsTextOf (machine.Text bytes) slots b = bytes slots ≡ b
 IsTextOf (Elements tuples element bytes) slots b = ⊥
 
+-- what is next of an item
+abbrev pub IsItemStep : Item → (slots : List ℤ) → PrintStep → Type 0
+IsItemStep item slots (Bytes b) = IsTextOf item slots b.items
+IsItemStep item slots Section = ⊤
+IsItemStep item slots Line = ⊥
+
 -- a line of these items is printed
 abbrev pub printed : List (List Dim) → List PrintItem → Instr Fault
 printed shapes items = Print (items_of shapes (map print_item items)) line_of
@@ -27,4 +33,5 @@ printed shapes items = Print (items_of shapes (map print_item items)) line_of
 -- what is next, behind so many steps
 abbrev pub IsPrintStep : Instr Fault → (slots : List ℤ) → ℕ → PrintStep → Type 0
 IsPrintStep i slots k (Bytes b) = (items : List Item) × (item : Item) × (i ≡ Print items line_of) × (slice_get items k ≡ Some item) × IsTextOf item slots b.items
+IsPrintStep i slots k Section = ⊤
 IsPrintStep i slots k Line = (items : List Item) × (i ≡ Print items line_of) × (slice_get items k ≡ None)

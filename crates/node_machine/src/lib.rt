@@ -20,6 +20,7 @@ mod post;
 mod prints;
 mod program;
 mod reductions;
+mod sections;
 mod stage;
 mod steps;
 mod stores;

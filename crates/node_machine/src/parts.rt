@@ -156,7 +156,7 @@ impl Node {
         ensures { self.new ≡ ready self.old.nodes (record self.old {
           control = on self.old.control;
           substep = 0;
-          pieces = stored values.stores.list.items self.old.pieces;
+          pieces = stored values.stores self.old.pieces;
           kept = earlier self.old.kept (kepts values.fault);
           parts = parts;
         }) }
@@ -170,7 +170,7 @@ impl Node {
 
     /// Stores values.
     fn put_stores(&mut self, stores: &Stores)
-        ensures { self.new ≡ record self.old { pieces = stored stores.now.list.items self.old.pieces } }
+        ensures { self.new ≡ record self.old { pieces = stored stores.now self.old.pieces } }
     {
         stores.apply(&mut self.pieces);
     }

@@ -9,7 +9,7 @@ ghost use Rattle.node_code.specs.ProgramText.{text_meaning};
 ghost use Rattle.node_code.specs.Instructions.{item_of};
 ghost use Rattle.node_code.specs.Texts.{print_item};
 ghost use Rattle.expression_rules.specs.declared.dims.Dim.{Dim};
-ghost use Rattle.node_machine.specs.Prints.{IsPrintStep, IsTextOf, printed};
+ghost use Rattle.node_machine.specs.Prints.{IsItemStep, IsPrintStep, printed};
 ghost use Rattle.node_machine.specs.Programs.{code_of};
 
 use crate::node::Node;
@@ -20,15 +20,16 @@ use node_code::{Instruction, PrintItem};
 use slot_values::{Control, flat_or_zero};
 use std::alloc::Global;
 
-/// A step of a PRINT: bytes of an item, or the end of the line.
+/// A step of a PRINT: the bytes of an item, the elements of a section, or the end of the line.
 #[derive(Drop)]
 pub(crate) enum PrintStep {
     Bytes(Vec<u8>),
+    Section,
     Line,
 }
 
 impl NodeProgram {
-    /// The next step of the PRINT at the place, where it needs no element.
+    /// The next step of the PRINT at the place.
     fn print_step(
         &self,
         alloc: Global,
@@ -58,20 +59,24 @@ fn step_of(
     ensures { (shapes : List (List Dim)) → IfOk result (λ s. IsPrintStep (printed shapes items.now.items) slots.now substep s) }
 {
     if substep < items.len() {
-        Ok(PrintStep::Bytes(bytes_of(alloc, &items[substep], slots)?))
+        let step = item_step(alloc, &items[substep], slots)?;
+        Ok(step)
     } else {
         Ok(PrintStep::Line)
     }
 }
 
-/// The bytes of an item, behind a blank. The elements of a section are answered as want of memory.
-fn bytes_of(alloc: Global, item: &PrintItem, slots: &[i64]) -> Result<Vec<u8>, OutOfMemory>
-    ensures { (shapes : List (List Dim)) → IfOk result (λ b. IsTextOf (item_of shapes (print_item item.now)) slots.now b.items) }
+/// The step of an item: its bytes, behind a blank, or its elements.
+fn item_step(alloc: Global, item: &PrintItem, slots: &[i64]) -> Result<PrintStep, OutOfMemory>
+    ensures { (shapes : List (List Dim)) → IfOk result (λ s. IsItemStep (item_of shapes (print_item item.now)) slots.now s) }
 {
     match item {
-        PrintItem::Bytes(bytes) => behind_blank(alloc, bytes),
-        PrintItem::Number(f) => number_bytes(alloc, flat_or_zero(slots, &[], f)?),
-        PrintItem::Section(_, _) => Err(OutOfMemory),
+        PrintItem::Bytes(bytes) => Ok(PrintStep::Bytes(behind_blank(alloc, bytes)?)),
+        PrintItem::Number(f) => {
+            let number = flat_or_zero(slots, &[], f)?;
+            Ok(PrintStep::Bytes(number_bytes(alloc, number)?))
+        }
+        PrintItem::Section(_, _) => Ok(PrintStep::Section),
     }
 }
 
@@ -86,7 +91,7 @@ fn behind_blank(alloc: Global, bytes: &[u8]) -> Result<Vec<u8>, OutOfMemory>
 }
 
 /// A number in decimal, behind a blank.
-fn number_bytes(alloc: Global, number: i64) -> Result<Vec<u8>, OutOfMemory>
+pub(crate) fn number_bytes(alloc: Global, number: i64) -> Result<Vec<u8>, OutOfMemory>
     ensures { IfOk result (λ b. b.items ≡ 32 ∷ signed_decimal number) }
 {
     let mut buffer = Buffer::new();
@@ -104,12 +109,13 @@ impl Node {
             .print_step(self.alloc, &self.control, self.substep)?;
         match step {
             PrintStep::Bytes(bytes) => self.print_bytes(&bytes),
+            PrintStep::Section => self.begin_section(),
             PrintStep::Line => self.print_line(),
         }
     }
 
     /// Adds the bytes of an item to the line: node 0 has it.
-    fn print_bytes(&mut self, bytes: &[u8]) -> Result<(), OutOfMemory>
+    pub(crate) fn print_bytes(&mut self, bytes: &[u8]) -> Result<(), OutOfMemory>
         ensures ok { OnOk result (self.new ≡ record self.old { substep = suc self.old.substep; line = at_root self.old.id (self.old.line ++ bytes.now) }) }
         ensures err { OnErr result (self.new ≡ self.old) }
     {

@@ -39,6 +39,7 @@ impl Node {
             Kind::Par => self.finish_par(),
             Kind::Verdict => self.finish_verdict(),
             Kind::Reduce => self.finish_reduce(),
+            Kind::Print => self.finish_section(),
             _ => Err(OutOfMemory),
         }
     }
