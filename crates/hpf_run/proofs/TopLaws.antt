@@ -74,7 +74,7 @@ pub finished-reported : (names : List Entry) (arrays : Bool) (s : serial.Outcome
     → out ≡ with_arrays arrays names o.printed.items (map (λ a. a.items) o.arrays.items) → IsReported names arrays s record { status = Done; out = out; err = [] }
 finished-reported names arrays s o out w end is =
     let same : out ≡ with_arrays arrays names s.printed s.arrays = is ∙ ap (λ b. with_arrays arrays names b (map (λ a. a.items) o.arrays.items)) w.printed
-        ∙ ap (with_arrays arrays names s.printed) (w.arrays end) in
+    ∙ ap (with_arrays arrays names s.printed) (w.arrays end) in
     subst (λ b. IsReported names arrays s record { status = Done; out = b; err = [] }) (sym same) (reported _ (report_end end))
 
 -- what a source had left, whether it tells it or not

@@ -8,7 +8,7 @@ use Rattle.hpf_run.proofs.actions.report.Goals as goal
 pub returns-in-Finished : goal.returns-in-Finished
 returns-in-Finished c = λ names. reported _ (report_end (ap end_seen c.in-Finished.is))
 
-pub returns-in-Faulted : goal.returns-in-Faulted
-returns-in-Faulted c = λ names.
+pub returns : goal.returns
+returns c = λ names.
     faulted-reported names false (outcome_seen c.args.outcome) c.args.outcome.printed.items c.in-Faulted.fault (outcome_of c.faulted.result) refl
     (ap end_seen c.in-Faulted.is) (c.faulted.ensures names)
