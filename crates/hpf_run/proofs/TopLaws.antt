@@ -1,23 +1,29 @@
 -- From what the parts answer to what the top call means.
-use Rattle.std.proofs.Common.{◌≡◌, ℕ, ◌+◌, ◌<◌, ◌≤◌, List, [], ◌++◌, length, take, Option, None, Some, refl, sym, ◌∙◌, ap, subst, arith}
+use Rattle.std.proofs.Common.{◌≡◌, ℕ, ◌+◌, ◌<◌, ◌≤◌, Bool, false, List, [], ◌++◌, length, take, Option, None, Some, map, refl, sym, ◌∙◌, ap, subst, arith}
 use Rattle.std.proofs.lemmas.List.{append-nil, length-append, take_at}
 use Rattle.hpf_base.specs.declared.refusal.Refusal.{Refusal}
-use Rattle.hpf_base.specs.declared.status.Status.TheVariants.{Done, Refused, TooLong, Usage, WriteFault}
+use Rattle.hpf_base.specs.declared.status.Status.TheVariants.{Done, Fault, Refused, TooLong, Usage, WriteFault}
 use Rattle.hpf_base.specs.declared.status.Status.{Status}
 use Rattle.hpf_base.specs.declared.limits.TheConstants.{MAX_SOURCE_BYTES}
 use Rattle.hpf_ports.specs.Ports.{Gave, IsAtEnd, Rose, AreAppended}
 use Rattle.hpf_base.specs.FirstBreach.{least}
-use Rattle.hpf_run.specs.Outcome.{is_of_text, is_too_long, is_usage, text_accepted, text_refused, check_done, map_done, run_done, run_left_out, serial_left_out, serial_report, report_end, report_fault, unbuilt, ActionOutcome, IsReportOf, means_memory, means_outcome, all_written, err_failed, out_failed, Delivered, Had, IsRead, Meant, Outcome, TextOutcome, Port, port, refusal_line, too_long_line, usage_line}
-use Rattle.hpf_run.specs.Reply.{ActionMeant, IsReplyOf, IsReported, TextMeant, action_memory, action_outcome, reply_memory, reply_refused, reported, reported_memory, text_memory, text_outcome}
+use Rattle.hpf_run.specs.Outcome.{is_of_text, is_too_long, is_usage, text_accepted, text_refused, check_done, map_done, run_left_out, run_report, serial_left_out, serial_report, report_end, report_fault, unbuilt, ActionOutcome, IsReportOf, means_memory, means_outcome, all_written, err_failed, out_failed, Delivered, Had, IsRead, Meant, Outcome, TextOutcome, Port, port, refusal_line, too_long_line, usage_line, with_arrays}
+use Rattle.hpf_run.specs.Reply.{ActionMeant, IsFaulted, IsReplyOf, IsReported, TextMeant, action_memory, action_outcome, reply_memory, reply_refused, reported, reported_fault, reported_memory, fault_memory, text_memory, text_outcome}
 use Rattle.hpf_run.specs.Accepted.{IsAccepted, IsRefused}
 use Rattle.syntax_tree.specs.MainProgram.{MainProgram}
 use Rattle.hpf_words.specs.declared.job.Action.{Action}
-use Rattle.hpf_words.specs.declared.job.Action.TheVariants.{Serial}
+use Rattle.hpf_words.specs.declared.job.Action.TheVariants.{Run, Serial}
 use Rattle.hpf_words.specs.declared.job.Job.{Job}
+use Rattle.left_out_forms.specs.Forms.{unbuilt_on_nodes}
 use Rattle.name_table.specs.Entries.{entries}
 use Rattle.name_table.specs.declared.names.Entry.{Entry}
 use Rattle.array_meaning.specs.Serial as serial
 use Rattle.array_meaning.specs.Serial.{serial}
+use Rattle.serial_run.specs.declared.completion.Fault.{Fault as HeldFault}
+use Rattle.serial_run.specs.Completions.{fault}
+use Rattle.distributed_run.specs.declared.run.NodesOutcome.{NodesOutcome}
+use Rattle.distributed_run.specs.Outcomes.{IsOutcome}
+use Rattle.run_report.specs.FaultLine.{fault_line}
 use Rattle.hpf_run.specs.Command.{IsCommand, IsNoCommand}
 
 -- the reply to a refusal is what a job makes of a text that is refused so
@@ -27,29 +33,49 @@ refused-meant text job r o is (reply_refused line line_is) =
 refused-meant text job r o is reply_memory = text_memory
 
 -- what the job's action makes of an accepted text is what the job makes of it
-pub accepted-meant : (text : List ℕ) (job : Job) (p : MainProgram) (o : Outcome) → IsAccepted job.grid text p → ActionMeant job.grid text p job.action o
+pub accepted-meant : (text : List ℕ) (job : Job) (p : MainProgram) (o : Outcome) → IsAccepted job.grid text p → ActionMeant job.grid job.arrays p job.action o
     → TextMeant text job o
 accepted-meant text job p o is (action_outcome made by) = text_outcome made (text_accepted p is made by)
 accepted-meant text job p o is action_memory = text_memory
 
 -- the reply to a refusal is what an action makes of an accepted text that it leaves out so
-pub left_out-meant : (grid text : List ℕ) (p : MainProgram) (act : Action) (r : Refusal) (o : Outcome)
-    → ActionOutcome grid text p act record { status = Refused; out = []; err = refusal_line r } → IsReplyOf r o → ActionMeant grid text p act o
-left_out-meant grid text p act r o is (reply_refused line line_is) =
-    subst (λ l. ActionMeant grid text p act record { status = Refused; out = []; err = l }) (sym line_is) (action_outcome _ is)
-left_out-meant grid text p act r o is reply_memory = action_memory
+pub left_out-meant : (grid : List ℕ) (arrays : Bool) (p : MainProgram) (act : Action) (r : Refusal) (o : Outcome)
+    → ActionOutcome grid arrays p act record { status = Refused; out = []; err = refusal_line r } → IsReplyOf r o → ActionMeant grid arrays p act o
+left_out-meant grid arrays p act r o is (reply_refused line line_is) =
+    subst (λ l. ActionMeant grid arrays p act record { status = Refused; out = []; err = l }) (sym line_is) (action_outcome _ is)
+left_out-meant grid arrays p act r o is reply_memory = action_memory
 
 -- what an action prints
-pub done-meant : (grid text : List ℕ) (p : MainProgram) (act : Action) (bytes printed : List ℕ) → bytes ≡ printed
-    → ActionOutcome grid text p act record { status = Done; out = printed; err = [] } → ActionMeant grid text p act record { status = Done; out = bytes; err = [] }
-done-meant grid text p act bytes printed same is =
-    subst (λ b. ActionMeant grid text p act record { status = Done; out = b; err = [] }) (sym same) (action_outcome _ is)
+pub done-meant : (grid : List ℕ) (arrays : Bool) (p : MainProgram) (act : Action) (bytes printed : List ℕ) → bytes ≡ printed
+    → ActionOutcome grid arrays p act record { status = Done; out = printed; err = [] } → ActionMeant grid arrays p act record { status = Done; out = bytes; err = [] }
+done-meant grid arrays p act bytes printed same is =
+    subst (λ b. ActionMeant grid arrays p act record { status = Done; out = b; err = [] }) (sym same) (action_outcome _ is)
 
--- the report of a program is what `serial` makes of a text that is accepted as it
-pub reported-meant : (grid text : List ℕ) (p : MainProgram) (o : Outcome) → least (unbuilt p) ≡ None → IsReported (entries p) (serial p) o
-    → ActionMeant grid text p Serial o
-reported-meant grid text p o built (reported o' is) = action_outcome o' (serial_report built o' is)
-reported-meant grid text p o built reported_memory = action_memory
+-- the report of a program is what `serial` makes of it, and `run`
+pub reported-meant : (grid : List ℕ) (arrays : Bool) (p : MainProgram) (o : Outcome) → least (unbuilt p) ≡ None → IsReported (entries p) false (serial p) o
+    → ActionMeant grid arrays p Serial o
+reported-meant grid arrays p o built (reported o' is) = action_outcome o' (serial_report built o' is)
+reported-meant grid arrays p o built reported_memory = action_memory
+
+pub run-meant : (grid : List ℕ) (arrays : Bool) (p : MainProgram) (o : Outcome) → least (unbuilt_on_nodes p) ≡ None → IsReported (entries p) arrays (serial p) o
+    → ActionMeant grid arrays p Run o
+run-meant grid arrays p o built (reported o' is) = action_outcome o' (run_report built o' is)
+run-meant grid arrays p o built reported_memory = action_memory
+
+-- a fault that is reported behind what was printed is the report of a program that has this fault
+pub faulted-reported : (names : List Entry) (arrays : Bool) (s : serial.Outcome) (printed : List ℕ) (f : HeldFault) (o : Outcome) → printed ≡ s.printed
+    → s.end ≡ serial.Faulted (fault f) → IsFaulted names printed f o → IsReported names arrays s o
+faulted-reported names arrays s printed f o same end reported_fault =
+    subst (λ b. IsReported names arrays s record { status = Fault; out = b; err = fault_line names (fault f) }) (sym same) (reported _ (report_fault (fault f) end))
+faulted-reported names arrays s printed f o same end fault_memory = reported_memory
+
+-- what nodes that are finished have printed, with their last arrays where they are asked for, is the report of the program
+pub finished-reported : (names : List Entry) (arrays : Bool) (s : serial.Outcome) (o : NodesOutcome) (out : List ℕ) → IsOutcome o s → s.end ≡ serial.Finished
+    → out ≡ with_arrays arrays names o.printed.items (map (λ a. a.items) o.arrays.items) → IsReported names arrays s record { status = Done; out = out; err = [] }
+finished-reported names arrays s o out w end is =
+    let same : out ≡ with_arrays arrays names s.printed s.arrays = is ∙ ap (λ b. with_arrays arrays names b (map (λ a. a.items) o.arrays.items)) w.printed
+    ∙ ap (with_arrays arrays names s.printed) (w.arrays end) in
+    subst (λ b. IsReported names arrays s record { status = Done; out = b; err = [] }) (sym same) (reported _ (report_end end))
 
 -- what a source had left, whether it tells it or not
 some_had : (left : Option (List ℕ)) → (bytes : List ℕ) × Had left bytes
@@ -68,24 +94,24 @@ read_had (Some left) left' bytes gave end =
     gave.2 ∙ ap (λ rest. bytes ++ rest) none ∙ append-nil bytes
 
 -- a text's outcome comes from a source that was read to its end
-read_reported : (names : List Entry) (s : serial.Outcome) (o : Outcome) (left left' : Option (List ℕ)) (text : List ℕ) → IsReportOf names s o → Gave left left' text
+read_reported : (names : List Entry) (arrays : Bool) (s : serial.Outcome) (o : Outcome) (left left' : Option (List ℕ)) (text : List ℕ) → IsReportOf names arrays s o → Gave left left' text
     → IsAtEnd left' → IsRead o.status left left' text
-read_reported names s o left left' text (report_end is) gave end = (gave, end)
-read_reported names s o left left' text (report_fault f is) gave end = (gave, end)
+read_reported names arrays s o left left' text (report_end is) gave end = (gave, end)
+read_reported names arrays s o left left' text (report_fault f is) gave end = (gave, end)
 
-read_action : (grid text : List ℕ) (p : MainProgram) (act : Action) (o : Outcome) (left left' : Option (List ℕ)) → ActionOutcome grid text p act o
+read_action : (grid text : List ℕ) (arrays : Bool) (p : MainProgram) (act : Action) (o : Outcome) (left left' : Option (List ℕ)) → ActionOutcome grid arrays p act o
     → Gave left left' text → IsAtEnd left' → IsRead o.status left left' text
-read_action grid text p act o left left' check_done gave end = (gave, end)
-read_action grid text p act o left left' map_done gave end = (gave, end)
-read_action grid text p act o left left' (serial_report built o' report) gave end = read_reported (entries p) (serial p) o' left left' text report gave end
-read_action grid text p act o left left' (serial_left_out r is) gave end = (gave, end)
-read_action grid text p act o left left' (run_done q reads) gave end = (gave, end)
-read_action grid text p act o left left' (run_left_out number is) gave end = (gave, end)
+read_action grid text arrays p act o left left' check_done gave end = (gave, end)
+read_action grid text arrays p act o left left' map_done gave end = (gave, end)
+read_action grid text arrays p act o left left' (serial_report built o' report) gave end = read_reported (entries p) false (serial p) o' left left' text report gave end
+read_action grid text arrays p act o left left' (serial_left_out r is) gave end = (gave, end)
+read_action grid text arrays p act o left left' (run_report built o' report) gave end = read_reported (entries p) arrays (serial p) o' left left' text report gave end
+read_action grid text arrays p act o left left' (run_left_out r is) gave end = (gave, end)
 
 read_whole : (text : List ℕ) (job : Job) (o : Outcome) (left left' : Option (List ℕ)) → TextOutcome text job o → Gave left left' text → IsAtEnd left'
     → IsRead o.status left left' text
 read_whole text job o left left' (text_refused r is) gave end = (gave, end)
-read_whole text job o left left' (text_accepted p accepted o' made) gave end = read_action job.grid text p job.action o' left left' made gave end
+read_whole text job o left left' (text_accepted p accepted o' made) gave end = read_action job.grid text job.arrays p job.action o' left left' made gave end
 
 -- what the job makes of the text is what the call means
 pub text-meant : (words : List (List ℕ)) (source source' : Port) (job : Job) (text : List ℕ) (o : Outcome) → IsCommand words job

@@ -1,5 +1,5 @@
 -- What a call of the program means to answer.
-use Rattle.std.specs.Prelude.{◌≡◌, ℕ, ◌+◌, ◌<◌, ◌≤◌, Bool, true, false, List, [], ◌++◌, length, take, codes, Option, None, Some, decimal}
+use Rattle.std.specs.Prelude.{◌≡◌, ℕ, ◌+◌, ◌<◌, ◌≤◌, Bool, true, false, ℤ, List, [], ◌++◌, length, take, codes, Option, None, Some, decimal}
 use Rattle.std.specs.List.{flat_map}
 use Rattle.hpf_base.specs.declared.refusal.Refusal.{Refusal}
 use Rattle.hpf_base.specs.declared.status.Status.{Status}
@@ -56,14 +56,14 @@ refusal_line refusal =
     codes "hpf: line " ++ decimal refusal.line ++ codes ": refused " ++ decimal (number_of refusal.reason) ++ codes " " ++ name_of refusal.reason ++ codes "\n"
 
 -- what a program printed and, where they are asked for, the lines of its last arrays behind it
-abbrev pub printed_with : Bool → List Entry → serial.Outcome → List ℕ
-printed_with false names s = s.printed
-printed_with true names s = s.printed ++ arrays_text names s.arrays
+abbrev pub with_arrays : Bool → List Entry → List ℕ → List (List ℤ) → List ℕ
+with_arrays false names printed arrays = printed
+with_arrays true names printed arrays = printed ++ arrays_text names arrays
 
 -- what a program comes to is reported by what it printed and then, where it ended with a fault, by the line of that, and else by its last
 -- arrays, where they are asked for
 pub data IsReportOf (names : List Entry) (arrays : Bool) (s : serial.Outcome) : Outcome → Type 0 where
-  report_end : s.end ≡ Finished → IsReportOf names arrays s record { status = Done; out = printed_with arrays names s; err = [] }
+  report_end : s.end ≡ Finished → IsReportOf names arrays s record { status = Done; out = with_arrays arrays names s.printed s.arrays; err = [] }
   report_fault : (f : faults.Fault) → s.end ≡ Faulted f → IsReportOf names arrays s record { status = Fault; out = s.printed; err = fault_line names f }
 
 -- what isn't built of a program for `serial`: DO loops with INDEPENDENT before them

@@ -10,6 +10,9 @@ use Rattle.hpf_run.specs.declared.reply.Reply.{Reply}
 use Rattle.hpf_run.specs.declared.reply.Reply.TheVariants.{Done, Fault, Refused, Usage, ReadFault, TooLong, Memory}
 use Rattle.name_table.specs.declared.names.Entry.{Entry}
 use Rattle.array_meaning.specs.Serial as serial
+use Rattle.run_report.specs.FaultLine.{fault_line}
+use Rattle.serial_run.specs.declared.completion.Fault.{Fault as HeldFault}
+use Rattle.serial_run.specs.Completions.{fault}
 use Rattle.hpf_run.specs.Outcome.{ActionOutcome, IsReportOf, Outcome, TextOutcome, memory_line, read_fault_line, refusal_line, too_long_line, usage_line}
 
 -- the outcome that a reply stands for
@@ -41,3 +44,8 @@ pub data IsReplyOf (r : Refusal) : Outcome → Type 0 where
 pub data IsReported (names : List Entry) (arrays : Bool) (s : serial.Outcome) : Outcome → Type 0 where
   reported : (o : Outcome) → IsReportOf names arrays s o → IsReported names arrays s o
   reported_memory : IsReported names arrays s record { status = status.Memory; out = []; err = memory_line }
+
+-- a fault is reported behind what was printed, or want of memory
+pub data IsFaulted (names : List Entry) (printed : List ℕ) (f : HeldFault) : Outcome → Type 0 where
+  reported_fault : IsFaulted names printed f record { status = status.Fault; out = printed; err = fault_line names (fault f) }
+  fault_memory : IsFaulted names printed f record { status = status.Memory; out = []; err = memory_line }

@@ -20,7 +20,7 @@ fn reply_to_text(alloc: Global, job: &Job, text: &[u8]) -> Reply
     ensures { TextMeant text.now job.now (outcome_of result) }
 {
     match accept(alloc, &job.grid, text) {
-        Ok(accepted) => reply_to_accepted(alloc, job, text, &accepted),
+        Ok(accepted) => reply_to_accepted(alloc, job, &accepted),
         Err(StaticError::Refused(refusal)) => reply_refused(alloc, refusal),
         Err(StaticError::Memory) => Reply::Memory,
     }
@@ -72,12 +72,13 @@ fn deliver<O: Sink, E: Sink>(reply: &Reply, out: &mut O, err: &mut E) -> Status
 /// The answer is what the words and the source mean: the outcome of the text, or a read fault where the source's count of faults rose in
 /// this call, or want of memory, which may come without a cause. Whatever the action, a text is refused for the first breach of the first
 /// stage that has one: lines, tokens, statements and directives, the nest, names, ranks, mappings onto the grid, bodies. For a text that is
-/// accepted `check` prints so, `map` prints what each node owns of each array when the program starts, `serial` runs the program in one
-/// order where no INDEPENDENT stands before a DO, and `run` runs it on the nodes of the grid where it is of the narrow form of first_form;
-/// other programs are left out by these two, with their line.
+/// accepted `check` prints so, and `map` prints what each node owns of each array when the program starts; `serial` runs the program in one
+/// order, and `run` on the nodes of the grid, and both answer what the program means in one order: what it prints and, with `--arrays`, its
+/// last arrays, or what it prints before its first fault, and that fault. Programs with INDEPENDENT before a DO are left out by both, and
+/// those with REDISTRIBUTE by `run`, with the line.
 ///
 /// The answer is delivered whole, or it is `WriteFault`: then the count of the sink at fault rose in this call, and that sink holds a
-/// proper prefix of its text. Words that are no job, and a job that isn't built yet (`messages`, `bulk` and `--arrays`), are
+/// proper prefix of its text. Words that are no job, and a job that isn't built yet (`messages` and `bulk`), are
 /// no command: for them the source isn't touched. `rt`, `gate` and `--threads` have no part in any answer.
 pub fn hpf_top<R, S: Source, O: Sink, E: Sink, G: Gate>(
     _rt: &R,

@@ -5,7 +5,7 @@ use Rattle.hpf_run.proofs.TopLaws.{done-meant}
 use Rattle.hpf_run.proofs.actions.accepted_reply.Goals as goal
 
 pub returns-in-Ok : goal.returns-in-Ok
-returns-in-Ok c = λ grid text p. done-meant grid text p Check c.in-Ok.line.items accepted_line c.in-Ok.ensures.items check_done
+returns-in-Ok c = λ grid arrays p. done-meant grid arrays p Check c.in-Ok.line.items accepted_line c.in-Ok.ensures.items check_done
 
 pub returns-in-Err : goal.returns-in-Err
-returns-in-Err c = λ grid text p. action_memory
+returns-in-Err c = λ grid arrays p. action_memory

@@ -9,9 +9,9 @@ use Rattle.hpf_run.proofs.TopLaws.{done-meant}
 use Rattle.hpf_run.proofs.actions.map_reply.Goals as goal
 
 pub returns-in-Ok : goal.returns-in-Ok
-returns-in-Ok c = λ text p same.
-    done-meant c.args.grid.now text p Map c.in-Ok.text.items (map_text (product c.args.grid.now) (start_maps c.args.grid.now p))
+returns-in-Ok c = λ arrays p same.
+    done-meant c.args.grid.now arrays p Map c.in-Ok.text.items (map_text (product c.args.grid.now) (start_maps c.args.grid.now p))
     (c.in-Ok.ensures ∙ ap (map_text (product c.args.grid.now)) same) map_done
 
 pub returns-in-Err : goal.returns-in-Err
-returns-in-Err c = λ text p same. action_memory
+returns-in-Err c = λ arrays p same. action_memory

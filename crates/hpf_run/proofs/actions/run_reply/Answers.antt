@@ -1,25 +1,29 @@
-use Rattle.std.proofs.Common.{subst}
-use Rattle.first_form.specs.Form.{program_of}
-use Rattle.first_form.specs.Meaning.{printed_of}
-use Rattle.first_form.specs.Refusal.{IsCauseOf}
-use Rattle.hpf_run.specs.Reply.{action_memory}
-use Rattle.hpf_run.specs.Outcome.{run_done, run_left_out}
+use Rattle.std.proofs.Common.{◌∙◌, ap, subst, sym}
+use Rattle.std.specs.List.{flat_map}
+use Rattle.hpf_base.specs.FirstBreach.{least}
+use Rattle.syntax_tree.specs.MainProgram.{main_program}
+use Rattle.syntax_tree.specs.Statement.{block_of}
+use Rattle.statement_walk.specs.Heads.{all_heads}
+use Rattle.array_meaning.specs.Serial.{serial}
+use Rattle.left_out_forms.specs.Forms.{left_out}
 use Rattle.hpf_words.specs.declared.job.Action.TheVariants.{Run}
-use Rattle.hpf_run.proofs.TopLaws.{done-meant, left_out-meant}
+use Rattle.hpf_run.specs.Outcome.{run_left_out}
+use Rattle.hpf_run.specs.Reply.{IsReported, action_memory, outcome_of}
+use Rattle.hpf_run.proofs.TopLaws.{left_out-meant, run-meant}
 use Rattle.hpf_run.proofs.actions.run_reply.Goals as goal
 
-pub returns-in-Ok-run_first : goal.returns-in-Ok-run_first
-returns-in-Ok-run_first c = λ grid p.
-    done-meant grid c.args.text.now p Run c.in-Ok-run_first.printed.items (printed_of (program_of c.in-Ok.program)) c.in-Ok-run_first.ensures
-    (run_done (program_of c.in-Ok.program) c.in-Ok.ensures.read)
+pub returns-in-Ok-None : goal.returns-in-Ok-None
+returns-in-Ok-None c =
+    let p = main_program c.args.program.now.tree in
+    let built = ap (λ l. least (flat_map left_out (all_heads (block_of l)))) (sym c.deref.ensures.value) ∙ sym c.in-Ok-None.ensures ∙ c.in-Ok-None.field-0-is in
+    run-meant c.args.job.now.grid c.args.job.now.arrays p (outcome_of c.run_nodes.result) built
+    (subst (λ es. IsReported es c.args.job.now.arrays (serial p) (outcome_of c.run_nodes.result)) c.requires.names c.run_nodes.ensures)
 
-pub returns-in-Ok : goal.returns-in-Ok
-returns-in-Ok c = λ grid p. action_memory
+pub returns-in-Ok-Some : goal.returns-in-Ok-Some
+returns-in-Ok-Some c =
+    let p = main_program c.args.program.now.tree in
+    let first = ap (λ l. least (flat_map left_out (all_heads (block_of l)))) (sym c.deref.ensures.value) ∙ sym c.in-Ok-Some.ensures ∙ c.in-Ok-Some.field-0-is in
+    left_out-meant c.args.job.now.grid c.args.job.now.arrays p Run c.in-Ok-Some.refusal _ (run_left_out c.in-Ok-Some.refusal first) c.reply_refused.ensures
 
-pub returns-in-Err-LeftOut : goal.returns-in-Err-LeftOut
-returns-in-Err-LeftOut c = λ grid p.
-    left_out-meant grid c.args.text.now p Run _ _
-    (run_left_out c.in-Err-LeftOut.line (subst (IsCauseOf c.args.text.now) c.in-Err-LeftOut.field-0-is c.in-Err-LeftOut.ensures.refused)) c.reply_refused.ensures
-
-pub returns : goal.returns
-returns c = λ grid p. action_memory
+pub returns-in-Err : goal.returns-in-Err
+returns-in-Err c = action_memory

@@ -1,0 +1,11 @@
+use Rattle.std.proofs.Common.{subst, sym}
+use Rattle.hpf_base.specs.declared.status.Status.TheVariants.{Fault}
+use Rattle.hpf_run.specs.Reply.{IsFaulted, fault_memory, reported_fault}
+use Rattle.hpf_run.proofs.actions.faulted.Goals as goal
+
+pub returns-in-Ok : goal.returns-in-Ok
+returns-in-Ok c = λ names.
+    subst (λ l. IsFaulted names c.args.printed.items c.args.fault record { status = Fault; out = c.args.printed.items; err = l }) (sym (c.in-Ok.ensures names)) reported_fault
+
+pub returns-in-Err : goal.returns-in-Err
+returns-in-Err c = λ names. fault_memory
