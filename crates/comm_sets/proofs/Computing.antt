@@ -1,9 +1,9 @@
--- The nodes that compute a tuple.
-use Rattle.std.proofs.Common.{◌≡◌, ℕ, zero, suc, ◌+◌, ◌<◌, ◌≤◌, nat_eq, ◌||◌, Bool, true, false, if◌then◌else◌, List, ◌∷◌, filter, All, refl, ◌∙◌, ap, arith, eq-eqb, ◌⊎◌, inl, inr}
+-- The nodes that compute a tuple, and the tuples that a node computes.
+use Rattle.std.proofs.Common.{◌≡◌, ℕ, zero, suc, ◌+◌, ◌<◌, ◌≤◌, nat_eq, ◌||◌, Bool, true, false, if◌then◌else◌, List, [], ◌∷◌, ◌++◌, filter, All, refl, ◌∙◌, ap, arith, eq-eqb, ◌⊎◌, inl, inr}
 use Rattle.std.proofs.lemmas.Bool.{cases_order, ne_eqb}
-use Rattle.std.proofs.lemmas.List.Elements.{All-filter}
+use Rattle.std.proofs.lemmas.List.Elements.{All-filter, filter-append}
 use Rattle.std.specs.List.{list_any, range_with_len}
-use Rattle.hpf_base.proofs.Sections.{All-range}
+use Rattle.hpf_base.proofs.Sections.{All-range, range_with_len-add}
 
 -- each of them is a node
 pub are-nodes : (computes : ℕ → Bool) (nodes : ℕ) → All (λ node. node < nodes) (filter computes (range_with_len 0 nodes))
@@ -43,3 +43,10 @@ one-of computes lo (suc len) k ge lt = by_order (cases_order lo k) (λ (less : l
 -- a node is one of them where it computes the tuple
 pub computes-it : (computes : ℕ → Bool) (nodes node : ℕ) → node < nodes → list_any (λ other. nat_eq other node) (filter computes (range_with_len 0 nodes)) ≡ computes node
 computes-it computes nodes node lt = one-of computes 0 nodes node (omega arith) (omega arith)
+
+-- those that pass, with one number more
+pub filter-more : (P : ℕ → Bool) (n : ℕ) → filter P (range_with_len 0 (n + 1)) ≡ filter P (range_with_len 0 n) ++ filter P (n ∷ [])
+filter-more P n = ap (filter P) (range_with_len-add 0 n 1) ∙ filter-append P (range_with_len 0 n) ((0 + n) ∷ []) ∙ ap (λ k. filter P (range_with_len 0 n) ++ filter P (k ∷ [])) same
+  where
+    same : 0 + n ≡ n
+    same = omega arith

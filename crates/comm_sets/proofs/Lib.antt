@@ -1,8 +1,12 @@
 pub mod Ascending
 pub mod AllSpots
+pub mod Alone
 pub mod Arranging
 pub mod Noting
 pub mod Lookups
 pub mod Computing
 pub mod Sent
 pub mod MessageLaws
+pub mod Marking
+pub mod Pairs
+pub mod Covering

@@ -1,3 +1,6 @@
 pub mod Ascending
+pub mod Exchanges
+pub mod Marks
 pub mod Moves
 pub mod Noted
+pub mod Rounds

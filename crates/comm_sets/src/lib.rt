@@ -1,24 +1,33 @@
 //! Who sends which elements to whom.
 //!
 //! Comes in: who owns each element of arrays and copies; and which elements are read at which tuples and which nodes compute each
-//! tuple, or who owns each element after a redistribution. Goes out: all messages from one node, or to one node, each the list
-//! of its elements. What holds in between: one pass over the tuples, or over the elements, notes what goes from one end to the
-//! other, in a list for each node at the other end; sorted and without repetitions such a list is the message. The time of a part goes with
-//! its tuples, and its memory with what is sent; there is no table of all elements.
+//! tuple, or who owns each element after a redistribution. Goes out: all messages from and to one node, each the list of its
+//! elements, and the tuples that it computes. What holds in between: one pass over the tuples, or over the elements, notes what goes
+//! from one end to the other, in a list for each node at the other end; sorted and without repetitions such a list is the message. The time
+//! of a part goes with its tuples, and its memory with what is sent and computed; there is no table of all elements.
 #![tactic(auto)]
 
+mod exchanged;
+mod exchanging;
+mod laws;
 mod lookup;
+mod marks;
 mod messages;
 mod reads;
 mod receiving;
 mod remapping;
+mod rounds;
 mod sending;
 
+pub use exchanged::Exchange;
+pub use exchanging::exchange;
 pub use hpf_base::OutOfMemory;
+pub use laws::rounds_cover;
 pub use lookup::value_in;
+pub use marks::is_unchanged;
 pub use messages::Messages;
 pub use owner_tables::{Owners, Spot};
 pub use reads::Reads;
-pub use receiving::incoming;
+pub use redistribute_rounds::{Pair, Rounds};
 pub use remapping::{remap_incoming, remap_outgoing};
-pub use sending::outgoing;
+pub use rounds::remap_rounds;

@@ -1,6 +1,6 @@
 //! What is read at the tuples of a part.
 
-ghost use Rattle.std.specs.Prelude.{◌≡◌, ◌<◌, ◌++◌, ℕ, OnOk, filter, map, option_map};
+ghost use Rattle.std.specs.Prelude.{◌≡◌, ◌<◌, ◌++◌, ℕ, IfOk, OnOk, filter, map, option_map, true};
 ghost use Rattle.std.specs.List.{range_with_len};
 ghost use Rattle.machine_steps.specs.Message.{Part};
 ghost use Rattle.owner_tables.specs.Spots.{spot_of};
@@ -18,13 +18,19 @@ pub trait Reads {
     fn tuples(&self) -> usize
         ensures { result ≡ (part self.now).tuples };
 
-    /// The nodes that compute the tuple, counted from 0, ascending.
-    fn computing(&self, tuple: usize) -> &[u32]
-        requires { tuple < (part self.now).tuples }
-        ensures { result.now ≡ filter (λ node. (part self.now).computes node tuple) (range_with_len 0 (nodes self.now)) };
-
     /// Puts the elements that are read at the tuple, in order, behind the others; None where one is no element.
     fn read(&self, tuple: usize, reads: &mut Vec<Option<Spot>>) -> Result<(), OutOfMemory>
         requires { tuple < (part self.now).tuples }
         ensures { OnOk result (map (option_map spot_of) reads.new.items ≡ map (option_map spot_of) reads.old.items ++ (part self.now).reads tuple) };
+
+    /// The nodes that compute the tuple at which these elements are read, counted from 0, ascending.
+    fn computing(&self, tuple: usize, reads: &[Option<Spot>]) -> Result<&[u32], OutOfMemory>
+        requires tuple { tuple < (part self.now).tuples }
+        requires reads { map (option_map spot_of) reads.now ≡ (part self.now).reads tuple }
+        ensures { IfOk result (λ computing. computing.now ≡ filter (λ node. (part self.now).computes node tuple) (range_with_len 0 (nodes self.now))) };
+
+    /// Where there is one node, it computes each tuple. It does nothing.
+    fn alone(&self)
+        requires { nodes self.now ≡ 1 }
+        ensures { (tuple : ℕ) → tuple < (part self.now).tuples → (part self.now).computes 0 tuple ≡ true };
 }

@@ -1,62 +1,47 @@
-//! The messages to a node.
+//! What a node takes at a tuple, noted.
 
-ghost use Rattle.std.specs.Prelude.{◌≡◌, ◌<◌, ◌&&◌, IfOk, OnOk, length, map, option_map};
-ghost use Rattle.std.specs.List.{range_with_len};
-ghost use Rattle.machine_steps.specs.Message.{message, names_spot};
+ghost use Rattle.std.specs.Prelude.{◌≡◌, ◌<◌, ◌++◌, ◌&&◌, ◌∷◌, [], if◌then◌else◌, nat_eq, IfOk, OnOk, length, map, option_map};
+ghost use Rattle.std.specs.List.{list_any};
+ghost use Rattle.machine_steps.specs.Message.{names_spot};
 ghost use Rattle.owner_tables.specs.Spots.{spot_of};
 ghost use Rattle.comm_sets.specs.Noted.{Noted, is_named, is_sent};
 
 use crate::messages::Messages;
-use crate::reads::Reads;
 use hpf_base::OutOfMemory;
 use owner_tables::{Owners, Spot};
-use std::alloc::Global;
 
-/// The messages to a node from each node, node 0 first: of each the elements that the target needs, that it doesn't own, and
-/// whose least owner is the source, each once, row by row, each in array-element order. A node needs every element that is read
-/// at a tuple that it computes.
-pub fn incoming<P: Reads>(
-    alloc: Global,
-    owners: &Owners,
-    part: &P,
-    to: u32,
-) -> Result<Messages, OutOfMemory>
-    requires nodes { P.nodes part.now ≡ owners.now.nodes }
-    requires to { to < owners.now.nodes }
-    ensures { IfOk result (λ messages. messages
-        ≡ map (λ from. message owners.now.nodes owners.now.layouts (P.part part.now) from to) (range_with_len 0 owners.now.nodes)) }
-{
-    let mut messages = Messages::none(alloc, owners.nodes())?;
-    let mut reads = Vec::new(alloc);
-    for tuple in 0..part.tuples() {
-        receive_tuple(&mut messages, owners, part, to, tuple, &mut reads)?;
-    }
-    messages.arrange();
-    Ok(messages)
-}
-
-/// Notes what is read at the tuple, if the node computes it. What the list of reads held before is dropped.
-fn receive_tuple<P: Reads>(
+/// Notes what is read at the tuple, and the tuple's number, if the node computes it. A number past 2^32 - 1 is answered as want of memory.
+pub(crate) fn receive_tuple(
     messages: &mut Messages,
+    computed: &mut Vec<u32>,
     owners: &Owners,
-    part: &P,
     to: u32,
+    computing: &[u32],
     tuple: usize,
-    reads: &mut Vec<Option<Spot>>,
+    reads: &[Option<Spot>],
 ) -> Result<(), OutOfMemory>
     requires nodes { length messages.old ≡ owners.now.nodes }
-    requires to { to < P.nodes part.now }
-    requires owners { to < owners.now.nodes }
-    requires tuple { tuple < (P.part part.now).tuples }
-    ensures { OnOk result (Noted messages.old messages.new (λ from s. ((P.part part.now).computes to tuple && names_spot ((P.part part.now).reads tuple) s)
+    requires to { to < owners.now.nodes }
+    ensures messages { OnOk result (Noted messages.old messages.new (λ from s. (list_any (λ node. nat_eq node to) computing.now && names_spot (map (option_map spot_of) reads.now) s)
         && is_sent owners.now.nodes owners.now.layouts from to s)) }
+    ensures computed { OnOk result (computed.new.items ≡ computed.old.items ++ (if list_any (λ node. nat_eq node to) computing.now then tuple ∷ [] else [])) }
 {
-    if part.computing(tuple).contains(&to) {
-        reads.clear();
-        part.read(tuple, reads)?;
-        receive_reads(messages, owners, to, reads.as_slice())?;
+    if computing.contains(&to) {
+        receive_reads(messages, owners, to, reads)?;
+        computed.push(number_of(tuple)?)?;
     }
     Ok(())
+}
+
+/// The number of a tuple, if it is at most 2^32 - 1.
+pub(crate) fn number_of(tuple: usize) -> Result<u32, OutOfMemory>
+    ensures { IfOk result (λ number. number ≡ tuple) }
+{
+    if tuple <= u32::MAX as usize {
+        Ok(tuple as u32)
+    } else {
+        Err(OutOfMemory)
+    }
 }
 
 /// Notes what is read.

@@ -9,6 +9,7 @@ ghost use Rattle.owner_tables.specs.Spots.{spot_of};
 ghost use Rattle.comm_sets.specs.Moves.{is_moved, moves, node_of};
 ghost use Rattle.comm_sets.specs.Noted.{Noted};
 
+use crate::marks::is_unchanged;
 use crate::messages::Messages;
 use crate::sending::send;
 use hpf_base::OutOfMemory;
@@ -73,6 +74,27 @@ fn moved(alloc: Global, before: &Owners, after: &Owners, end: End) -> Result<Mes
 
 /// Notes the elements of a row that are sent from the end or to it.
 fn move_row(
+    messages: &mut Messages,
+    before: &Owners,
+    after: &Owners,
+    end: End,
+    row: usize,
+) -> Result<(), OutOfMemory>
+    requires nodes { before.now.nodes ≡ after.now.nodes }
+    requires lists { length messages.old ≡ before.now.nodes }
+    requires sizes { sizes before.now.layouts ≡ sizes after.now.layouts }
+    requires end { node_of end < before.now.nodes }
+    ensures { OnOk result (Noted messages.old messages.new (λ other s. (nat_eq row s.row && nat_lt s.at (slice_index_or (sizes before.now.layouts) row 0))
+        && moves before.now.nodes before.now.layouts after.now.layouts end other s)) }
+{
+    if is_unchanged(before, after, row) {
+        return Ok(());
+    }
+    move_elements(messages, before, after, end, row)
+}
+
+/// Notes them, element by element.
+fn move_elements(
     messages: &mut Messages,
     before: &Owners,
     after: &Owners,

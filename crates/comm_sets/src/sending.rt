@@ -1,51 +1,19 @@
-//! The messages from a node.
+//! What is sent by a node at a tuple, noted.
 
-ghost use Rattle.std.specs.Prelude.{◌≡◌, ◌<◌, ◌==◌, ◌&&◌, not, nat_eq, nat_lt, All, IfOk, OnOk, length, map, option_map, slice_index_or};
-ghost use Rattle.std.specs.List.{list_any, range_with_len};
-ghost use Rattle.machine_steps.specs.Layout.{sizes, owns_spot, least_owner_of};
-ghost use Rattle.machine_steps.specs.Message.{message, names_spot};
+ghost use Rattle.std.specs.Prelude.{◌≡◌, ◌<◌, ◌&&◌, not, nat_eq, All, OnOk, length, map, option_map, slice_index_or};
+ghost use Rattle.std.specs.List.{list_any};
+ghost use Rattle.machine_steps.specs.Layout.{sizes, owns_spot};
+ghost use Rattle.machine_steps.specs.Message.{names_spot};
 ghost use Rattle.nest_order.specs.LastValue.{is_same_spot};
 ghost use Rattle.owner_tables.specs.Spots.{spot_of};
 ghost use Rattle.comm_sets.specs.Noted.{Noted, is_named, is_sent};
 
 use crate::messages::Messages;
-use crate::reads::Reads;
 use hpf_base::OutOfMemory;
 use owner_tables::{Owners, Spot};
-use std::alloc::Global;
 
-/// The messages from a node to each node, node 0 first: of each the elements that the target needs, that it doesn't own, and
-/// whose least owner is the source, each once, row by row, each in array-element order. A node needs every element that is read
-/// at a tuple that it computes.
-pub fn outgoing<P: Reads>(
-    alloc: Global,
-    owners: &Owners,
-    part: &P,
-    from: u32,
-) -> Result<Messages, OutOfMemory>
-    requires { P.nodes part.now ≡ owners.now.nodes }
-    ensures { IfOk result (λ messages. messages
-        ≡ map (λ to. message owners.now.nodes owners.now.layouts (P.part part.now) from to) (range_with_len 0 owners.now.nodes)) }
-{
-    let mut messages = Messages::none(alloc, owners.nodes())?;
-    let mut reads = Vec::new(alloc);
-    for tuple in 0..part.tuples() {
-        reads.clear();
-        part.read(tuple, &mut reads)?;
-        send_reads(
-            &mut messages,
-            owners,
-            from,
-            part.computing(tuple),
-            reads.as_slice(),
-        )?;
-    }
-    messages.arrange();
-    Ok(messages)
-}
-
-/// Notes what is read at a tuple.
-fn send_reads(
+/// Notes what the source sends of the elements that are read at a tuple, by the nodes that compute it.
+pub(crate) fn send_reads(
     messages: &mut Messages,
     owners: &Owners,
     from: u32,

@@ -18,7 +18,7 @@ use Rattle.node_law.specs.Reached.{EndsInLockstep}
 use Rattle.machine_steps.specs.Layout.{Layout}
 use Rattle.machine_steps.specs.Node.{Node}
 use Rattle.node_code.specs.ProgramText.{Text}
-use Rattle.nodes_lowered.specs.OnNodes.{AreLaid, BreaksNoRule}
+use Rattle.nodes_lowered.specs.OnNodes.{LieAsDeclared, BreaksNoRule}
 use Rattle.nodes_lowered.specs.ProgramLayouts.{program_layouts}
 use Rattle.nodes_lowered.specs.ProgramRuns.{AreLastNodes, RunOnNodes, program_nodes, program_steps}
 use Rattle.nodes_lowered.proofs.StartLaid.{program-laid}
@@ -29,11 +29,11 @@ module _ (grid : List ℕ) (p : MainProgram) (names : List Entry) (maps : List A
   abbrev layouts : List Layout
   layouts = program_layouts nodes names maps
 
-  pub laid : AreLaid nodes names layouts
+  pub laid : LieAsDeclared nodes names layouts
   laid =
-      subst (λ k. AreLaid k names (program_layouts k names maps)) (sym count)
-      (subst (λ es. AreLaid (product grid) es (program_layouts (product grid) es maps)) (sym same)
-      (subst (λ ms. AreLaid (product grid) (entries p) (program_layouts (product grid) (entries p) ms)) (sym started)
+      subst (λ k. LieAsDeclared k names (program_layouts k names maps)) (sym count)
+      (subst (λ es. LieAsDeclared (product grid) es (program_layouts (product grid) es maps)) (sym same)
+      (subst (λ ms. LieAsDeclared (product grid) (entries p) (program_layouts (product grid) (entries p) ms)) (sym started)
       (program-laid grid p is (subst (All (IsArrayMap (product grid))) started valid))))
 
   pub some-nodes : 1 ≤ nodes
@@ -41,7 +41,7 @@ module _ (grid : List ℕ) (p : MainProgram) (names : List Entry) (maps : List A
 
   module _ (rules : BreaksNoRule p) (first : List (Node Text Fault)) (begin : first ≡ program_nodes nodes p layouts) where
     run : RunOnNodes nodes p layouts
-    run = run-on-nodes nodes p layouts (let n : 1 ≤ nodes = some-nodes in omega (arith, n)) rules (subst (λ es. AreLaid nodes es layouts) same laid)
+    run = run-on-nodes nodes p layouts (let n : 1 ≤ nodes = some-nodes in omega (arith, n)) rules (subst (λ es. LieAsDeclared nodes es layouts) same laid)
 
     pub first-count : length first ≡ nodes
     first-count = ap length begin ∙ run.count

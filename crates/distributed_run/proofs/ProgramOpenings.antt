@@ -20,7 +20,7 @@ use Rattle.node_code.specs.Instructions.{Instruction}
 use Rattle.node_code.specs.ProgramText.{Text, texts}
 use Rattle.lowering.specs.StatementCode.{block_slots, program_code}
 use Rattle.node_machine.specs.Openings.{opening_machine, start_rows}
-use Rattle.nodes_lowered.specs.OnNodes.{AreLaid, IsLaid}
+use Rattle.nodes_lowered.specs.OnNodes.{LieAsDeclared, LiesAsDeclared}
 use Rattle.nodes_lowered.specs.ProgramLayouts.{maps_behind, program_layouts}
 use Rattle.nodes_lowered.specs.ProgramRuns.{program_shapes, text_opening}
 use Rattle.nodes_lowered.proofs.Laid.{array-size}
@@ -28,7 +28,7 @@ use Rattle.distributed_run.specs.Starts.{start_of}
 
 -- ---- rows
 
-row-is : (nodes : ℕ) (w : What) (layout : Layout) → IsLaid nodes w layout → replicate (size_of layout) (start_of w) ≡ (initial_array w).elements
+row-is : (nodes : ℕ) (w : What) (layout : Layout) → LiesAsDeclared nodes w layout → replicate (size_of layout) (start_of w) ≡ (initial_array w).elements
 row-is nodes (what.Array ds v) layout h = ap (λ k. replicate k v) (sym (array-size ds layout h.0))
 row-is nodes (what.Scalar v) layout h = ap (λ k. replicate k (pos 0)) h
 row-is nodes (what.Constant v) layout h = ap (λ k. replicate k (pos 0)) h
@@ -41,7 +41,7 @@ values_of es = map (λ (e : Entry). start_of e.what) es ++ pos 0 ∷ []
 abbrev elements_of : List Entry → Storage
 elements_of es = map (λ (a : Array). a.elements) (map (λ (e : Entry). initial_array e.what) es) ++ [] ∷ []
 
-rows-are : (nodes : ℕ) (es : List Entry) (layouts : List Layout) → AreLaid nodes es layouts → start_rows layouts (values_of es) ≡ elements_of es
+rows-are : (nodes : ℕ) (es : List Entry) (layouts : List Layout) → LieAsDeclared nodes es layouts → start_rows layouts (values_of es) ≡ elements_of es
 rows-are nodes [] [] h = absurd h
 rows-are nodes [] (copy ∷ []) h = ap (λ k. replicate k (pos 0) ∷ []) h
 rows-are nodes [] (copy ∷ layout ∷ layouts) h = absurd h
@@ -69,7 +69,7 @@ machine layouts code slots rows = record {
 module _ (nodes : ℕ) (p : MainProgram) (layouts : List Layout) (is : List Instruction) (hidden : ℕ) (shapes : List (List Dim)) (slots values : List ℤ) where
   abbrev Opens : List Entry → Type 0
   Opens names =
-      AreLaid nodes names layouts → is ≡ program_code (length names) (resolved_block names p.body) → hidden ≡ block_slots (resolved_block names p.body)
+      LieAsDeclared nodes names layouts → is ≡ program_code (length names) (resolved_block names p.body) → hidden ≡ block_slots (resolved_block names p.body)
       → shapes ≡ map (λ (e : Entry). (initial_array e.what).dims) names → slots ≡ map (λ (e : Entry). initial_scalar e.what) names ++ replicate hidden (pos 0)
       → values ≡ values_of names → opening_machine (texts nodes shapes is) slots layouts values ≡ text_opening nodes p layouts
 

@@ -13,7 +13,7 @@ ghost use Rattle.node_code.specs.Texts.{instructions};
 ghost use Rattle.lowering.specs.StatementCode.{block_slots, program_code};
 ghost use Rattle.node_machine.specs.Openings.{opening_machine};
 ghost use Rattle.node_machine.specs.Programs.{code_of};
-ghost use Rattle.nodes_lowered.specs.OnNodes.{AreLaid};
+ghost use Rattle.nodes_lowered.specs.OnNodes.{LieAsDeclared};
 ghost use Rattle.nodes_lowered.specs.ProgramLayouts.{program_layouts};
 ghost use Rattle.nodes_lowered.specs.ProgramRuns.{program_nodes};
 
@@ -42,7 +42,7 @@ pub(crate) fn first_nodes(
     requires few { nodes ≤ MAX_NODES }
     requires names { program.now.names ≡ entries (main_program program.now.tree) }
     requires valid { All (IsArrayMap nodes) maps.now }
-    requires laid { AreLaid nodes program.now.names (program_layouts nodes program.now.names maps.now) }
+    requires laid { LieAsDeclared nodes program.now.names (program_layouts nodes program.now.names maps.now) }
     ensures { IfOk result (λ first. first.items ≡ program_nodes nodes (main_program program.now.tree) (program_layouts nodes program.now.names maps.now)) }
 {
     let names = &program.names;

@@ -1,14 +1,12 @@
 -- What it is for a program to be lowered: the machine over its code ends as it does.
 use Rattle.std.specs.Prelude.{◌≡◌, ℕ, ◌<◌, List, [], ◌∷◌, ◌++◌, length, map, replicate, slice_index_or, ℤ, pos, None}
 use Rattle.hpf_base.specs.ElementOrder.{product}
-use Rattle.name_table.specs.declared.names.Entry.{Entry}
 use Rattle.nest_order.specs.Storage.{row_of}
 use Rattle.array_meaning.specs.Faults.{Fault}
 use Rattle.array_meaning.specs.State.{State, scalar, array}
 use Rattle.array_meaning.specs.Statements.{Block}
 use Rattle.array_meaning.specs.Runs as runs
 use Rattle.array_meaning.specs.Runs.{Completion, Run}
-use Rattle.array_meaning.specs.Resolution.{initial_state}
 use Rattle.array_meaning.specs.Serial as serial
 use Rattle.array_meaning.specs.Serial.{Outcome}
 use Rattle.machine_steps.specs.Layout.{Layout, size_of}
@@ -69,7 +67,3 @@ IsEnd n m (serial.Faulted f) arrays = m.control.status ≡ Faulted f
 -- the machine ends with an outcome: what was printed, and the end
 abbrev pub MachineHas : ℕ → ArrayTable → Machine Instruction Fault → Outcome → Type 0
 MachineHas n table m o = (k : ℕ) × ((steps (meaning_of table) k m).printed ≡ o.printed) × IsEnd n (steps (meaning_of table) k m) o.end o.arrays
-
--- the arrays of these names, where copies have these layouts
-abbrev pub table_of : List Entry → (List ℕ → Layout) → ArrayTable
-table_of names copies = record { shapes = map (λ a. a.dims) (initial_state names).arrays; copies = copies }

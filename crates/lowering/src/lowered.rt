@@ -1,7 +1,6 @@
 //! Programs as node code.
 
-ghost use Rattle.std.specs.Prelude.{◌≡◌, ◌≤◌, ℕ, List, length};
-ghost use Rattle.hpf_base.specs.ElementOrder.{product};
+ghost use Rattle.std.specs.Prelude.{◌≤◌, ℕ, List, length};
 ghost use Rattle.syntax_tree.specs.Statement as syntax;
 ghost use Rattle.name_table.specs.declared.names.Entry.{Entry};
 ghost use Rattle.hpf_base.specs.declared.index.Shape.{Shape};
@@ -12,9 +11,9 @@ ghost use Rattle.array_meaning.specs.Serial.{outcome};
 ghost use Rattle.array_meaning.specs.Execution.{run_block};
 ghost use Rattle.array_meaning.specs.State.{State};
 ghost use Rattle.array_meaning.specs.Statements.{Block};
-ghost use Rattle.lowering.specs.Lowered.{IsState, IsTable, opening, MachineEnds, MachineHas, table_of};
+ghost use Rattle.lowering.specs.Lowered.{IsState, IsTable, opening, MachineEnds, MachineHas};
 ghost use Rattle.lowering.specs.WellFormed.{IsWellFormedBlock};
-ghost use Rattle.machine_steps.specs.Layout.{IsDealt, Layout, size_of};
+ghost use Rattle.machine_steps.specs.Layout.{IsDealt, Layout};
 ghost use Rattle.node_code.specs.Instructions.{ArrayTable, meaning_of};
 
 /// The machine with whole arrays ends over a program's code as the program does: with the first fault, its line, kind and tuple, and
@@ -27,10 +26,9 @@ pub fn programs_lowered()
 
 /// The same of the serial outcome of a program, where these names are declared.
 pub fn outcomes_lowered()
-    ensures { (names : List Entry) (body : syntax.Block) (copies : List ℕ → Layout) (layouts : List Layout)
-        → ((extents : List ℕ) → size_of (copies extents) ≡ product extents)
-        → IsWellFormedBlock (length names) (resolved_block names body)
-        → MachineHas (length names) (table_of names copies)
+    ensures { (names : List Entry) (body : syntax.Block) (table : ArrayTable) (layouts : List Layout)
+        → IsTable (initial_state names) table → IsWellFormedBlock (length names) (resolved_block names body)
+        → MachineHas (length names) table
         (opening (length names) (resolved_block names body) (initial_state names) layouts) (outcome names body) }
 {}
 

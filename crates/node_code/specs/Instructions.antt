@@ -16,8 +16,9 @@ use Rattle.array_meaning.specs.Elementals.{each}
 use Rattle.array_meaning.specs.Execution.{decimals}
 use Rattle.machine_steps.specs.Layout.{Layout}
 use Rattle.machine_steps.specs.Instr as machine
-use Rattle.machine_steps.specs.Instr.{Instr, Local, Control}
+use Rattle.machine_steps.specs.Instr.{Instr, Local, Control, Remapping, Rounds}
 use Rattle.machine_steps.specs.Machine.{on, faulted, set_slot}
+use Rattle.owner_tables.specs.SameLayouts.{is_same_layout}
 use Rattle.node_code.specs.Flat.{Flat, Flats, slot, flat_value, flat_values, slots_value}
 use Rattle.node_code.specs.Forms.{Sub, selections_in}
 use Rattle.node_code.specs.Parallel.{at_line, shape_of, spot_of, Assignment, assignment_size, assignment_tuples, assigned_spot, Evaluation, evaluation_extents, evaluation_size, evaluation_tuples, reduction_tuples, fold_of, copy_spot, forall_tuples, forall_spot, forall_mask_tuples}
@@ -69,6 +70,12 @@ pub data Instruction : Type 0 where
   Inside : (line array : ℕ) → List Sub → Instruction
   -- a line of these items is printed
   Print : List PrintItem → Instruction
+  -- a slot is joined with the elements of a copy, joined by the operator of a reduction
+  FoldCopy : (copy : ℕ) → Op → (slot : ℕ) → Instruction
+  -- a slot gets the element of a copy at the last position where the copy `set` isn't 0, if there is one and the two lie alike
+  LastCopy : (copy set slot : ℕ) → Instruction
+  -- arrays get new mappings (HPF 2.0, 8.3)
+  Remap : List Remapping → Instruction
 
 abbrev pub spot_in : ℕ → List Dim → List ℤ → Result Spot Cause
 spot_in a dims subscripts = if_in_bounds (element_place dims subscripts) >>= (λ k. Ok (record { row = a; at = k }))
@@ -126,11 +133,12 @@ module _ (shapes : List (List Dim)) where
 
 -- ---- all instructions
 
--- what instructions know of arrays: the dimensions of those that are declared, by the places of their names, and the layout of a copy of
--- these extents
+-- what instructions know of arrays: the dimensions of those that are declared, by the places of their names, the layout of a copy of
+-- these extents, and the rounds in which arrays get new mappings
 pub record ArrayTable : Type 0 where
   pub shapes : List (List Dim)
   pub copies : List ℕ → Layout
+  pub rounds : List Remapping → Rounds
 
 abbrev pub meaning_of : ArrayTable → Instruction → Instr Fault
 meaning_of table (Set line x f) = Local (λ c. set_result (at_line line (flat_value c.slots [] [] f)) x c)
@@ -156,3 +164,6 @@ meaning_of table Verdict = machine.Verdict
 meaning_of table (Reduce p o x) = machine.Reduce (reduction_tuples table.shapes p o) (fold_of o) x
 meaning_of table (Inside line a subs) = Local (λ c. go_on_if (at_line line (all_inside table.shapes a (selections_in c.slots subs))) c)
 meaning_of table (Print items) = machine.Print (items_of table.shapes items) (λ bytes. drop 1 bytes ++ 10 ∷ [])
+meaning_of table (FoldCopy copy o x) = machine.FoldCopy copy (fold_of o) x
+meaning_of table (LastCopy copy set x) = machine.LastCopy copy set is_same_layout x
+meaning_of table (Remap new) = machine.Remap new (table.rounds new)

@@ -6,7 +6,7 @@ use Rattle.machine_steps.specs.Instr.{Control, Instr, Local}
 use Rattle.machine_steps.specs.Machine.{finish, instr_at}
 use Rattle.machine_steps.specs.Node.{Node, begun_by}
 use Rattle.node_code.specs.FaultValues.{fault_values}
-use Rattle.node_code.specs.Instructions.{Instruction, Set, Fetch, Store, TestBounds, TestStride, Trips, Jump, JumpIfZero, Halt, Limits, OwnLimits, ForallLimits, OneToOne, Par, ParForall, MakeCopy, ParCopy, ParForallCopy, Verdict, Reduce, Inside, Print, meaning_of}
+use Rattle.node_code.specs.Instructions.{Instruction, Set, Fetch, Store, TestBounds, TestStride, Trips, Jump, JumpIfZero, Halt, Limits, OwnLimits, ForallLimits, OneToOne, Par, ParForall, MakeCopy, ParCopy, ParForallCopy, Verdict, Reduce, Inside, Print, FoldCopy, LastCopy, Remap, meaning_of}
 use Rattle.node_code.specs.ProgramText.{Text, table_on, text_meaning, texts}
 use Rattle.node_code.specs.Texts.{instruction, instructions}
 use Rattle.node_code.specs.declared.instruction.Instruction.{Instruction as HeldInstruction}
@@ -52,6 +52,9 @@ module _ (nodes : ℕ) (shapes : List (List Dim)) where
   local-begun count (Reduce p o x) a is = cc
   local-begun count (Inside line b subs) a is = refl
   local-begun count (Print items) a is = cc
+  local-begun count (FoldCopy copy o x) a is = cc
+  local-begun count (LastCopy copy set x) a is = cc
+  local-begun count (Remap new) a is = cc
 
   pub local-step : (count : ℕ) (i : Instruction) (instr : Instr Fault) (a : Node Text Fault) (c : Control Fault)
       → instr ≡ meaning_of (table_on nodes shapes) i → is_local i ≡ true → c ≡ local_control shapes i a.control

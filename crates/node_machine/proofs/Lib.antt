@@ -1,8 +1,10 @@
+mod ExchangeLaws
 mod FetchLaws
 mod FirstPieces
 mod Instructions
 mod Picks
 mod PostLaws
 mod PrintLaws
+mod RemapSteps
 mod StoredPieces
 mod TreeSteps

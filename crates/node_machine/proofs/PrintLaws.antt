@@ -1,7 +1,8 @@
--- Items of a PRINT by their places.
-use Rattle.std.proofs.Common.{◌≡◌, ℕ, ℤ, zero, suc, ◌<◌, ◌≤◌, List, [], ◌∷◌, map, length, get_or, Some, None, refl, sym, ◌∙◌, ap, arith}
+-- Items of a PRINT by their places, and their bytes on node 0.
+use Rattle.std.proofs.Common.{◌≡◌, ℕ, ℤ, zero, suc, ◌<◌, ◌≤◌, ◌==◌, Bool, true, false, if◌then◌else◌, eqb-true, List, [], ◌∷◌, ◌++◌, map, length, get_or, Some, None, refl, sym, ◌∙◌, ap, arith}
 use Rattle.std.specs.List.{slice_get}
 use Rattle.expression_rules.specs.declared.dims.Dim.{Dim}
+use Rattle.machine_steps.specs.Node.{at_root}
 use Rattle.node_code.specs.Instructions.{item_of, items_of}
 use Rattle.node_code.specs.Texts.{print_item}
 use Rattle.node_code.specs.declared.instruction.PrintItem.{PrintItem}
@@ -22,10 +23,24 @@ module _ (shapes : List (List Dim)) where
   pub next-step : (items : List PrintItem) (k : ℕ) (i : PrintItem) (slots : List ℤ) (s : PrintStep) → slice_get (items_of shapes (map print_item items)) k ≡ Some (item_of shapes (print_item i))
       → IsItemStep (item_of shapes (print_item i)) slots s → IsPrintStep (printed shapes items) slots k s
   next-step items k i slots (Bytes b) there is = (items_of shapes (map print_item items), item_of shapes (print_item i), refl, there, is)
-  next-step items k i slots Section there is = tt
+  next-step items k i slots Section there is = record {
+    items = items_of shapes (map print_item items);
+    count = is.0;
+    element = is.1;
+    is = refl;
+    item = there ∙ ap Some is.2;
+  }
   next-step items k i slots Line there is = absurd is
 
   pub items-over : (items : List PrintItem) (k : ℕ) → length items ≤ k → slice_get (items_of shapes (map print_item items)) k ≡ None
   items-over [] k le = refl
   items-over (i ∷ is) zero le = absurd (omega arith)
   items-over (i ∷ is) (suc k) le = items-over is k (omega arith)
+
+-- what the other nodes would add doesn't count
+pub same-at-root : (id : ℕ) (line xs ys : List ℕ) → (id ≡ 0 → xs ≡ ys) → at_root id (line ++ xs) ≡ at_root id (line ++ ys)
+same-at-root id line xs ys same = by_test (id == 0) refl
+  where
+    by_test : (b : Bool) → (id == 0) ≡ b → (if b then line ++ xs else []) ≡ (if b then line ++ ys else [])
+    by_test true e = ap (λ zs. line ++ zs) (same (eqb-true id 0 e))
+    by_test false e = refl

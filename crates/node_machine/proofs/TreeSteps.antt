@@ -1,15 +1,16 @@
 -- The steps of instructions whose values go round a tree.
 use Rattle.std.proofs.Common.{◌≡◌, ℕ, zero, suc, ◌≤◌, ◌*◌, ◌+◌, Bool, true, false, if◌then◌else◌, not, nat_lt, List, ℤ, refl, sym, ◌∙◌, ap, arith}
 use Rattle.array_meaning.specs.Faults.{Fault}
-use Rattle.machine_steps.specs.Instr.{Instr, Reduce, Tuples, Verdict}
+use Rattle.machine_steps.specs.Instr.{Instr, FoldCopy, LastCopy, Reduce, Tuples, Verdict}
 use Rattle.machine_steps.specs.Machine.{on, stay}
-use Rattle.machine_steps.specs.Node.{Node, begun_by, done_by, join_options, kept_values, opened, option_values, reduce_begun, reduce_done, reduce_ended, tree_absorbed, tree_next, values_option, verdict_done}
+use Rattle.machine_steps.specs.Node.{Node, begun_by, done_by, fold_ended, join_options, kept_values, last_ended, opened, option_values, own_fold, own_last, positioned_values, reduce_begun, reduce_done, reduce_ended, tree_absorbed, tree_next, values_option, verdict_done}
 use Rattle.machine_steps.specs.Tree.{levels_of, tree_sends}
 use Rattle.node_code.specs.FaultValues.{fault_values}
 use Rattle.node_code.specs.Parallel.{fold_of}
 use Rattle.node_code.specs.ProgramText.{Text}
+use Rattle.owner_tables.specs.SameLayouts.{is_same_layout}
 use Rattle.tree_steps.specs.Absorbed.{absorbed_values, joined_values}
-use Rattle.tree_steps.specs.declared.joining.Joining.TheVariants.{Kept, Options}
+use Rattle.tree_steps.specs.declared.joining.Joining.TheVariants.{Kept, Later, Options}
 use Rattle.op_tables.specs.declared.op.Op.{Op}
 
 module _ (count : ℕ) (a : Node Text Fault) where
@@ -89,3 +90,31 @@ module _ (count : ℕ) (a : Node Text Fault) where
     third-done round numbers at er e =
         let r : round ≡ suc a.round = omega (arith, er) in
         (λ j. tree_next count (reduce_ended count (fold_of o) slot) (with_round (r j) (e j))) ∙ third-over a.substep at ∙ ap (λ x. done_by fault_values count x a) (sym is)
+
+  -- ---- copies that are folded
+
+  module _ (i : Instr Fault) (copy : ℕ) (o : Op) (slot : ℕ) (is : i ≡ FoldCopy copy (fold_of o) slot) where
+    pub fold-begun : (numbers : List ℤ) → numbers ≡ option_values (own_fold count copy (fold_of o) a)
+        → tree_next count (fold_ended count (fold_of o) slot) (with_round 0 numbers) ≡ begun_by fault_values count i a
+    fold-begun numbers e = ap (λ v. tree_next count (fold_ended count (fold_of o) slot) (with_round 0 v)) e ∙ ap (λ x. begun_by fault_values count x a) (sym is)
+
+    pub fold-done : (round : ℕ) (numbers : List ℤ) → round ≡ a.round + 1
+        → numbers ≡ absorbed_values (joined_values (Options o)) (levels_of count) a.round a.id a.folded a.received
+        → tree_next count (fold_ended count (fold_of o) slot) (with_round round numbers) ≡ done_by fault_values count i a
+    fold-done round numbers er e =
+        let r : round ≡ suc a.round = omega (arith, er) in
+        (λ j. tree_next count (fold_ended count (fold_of o) slot) (with_round (r j) (e j))) ∙ ap (λ x. done_by fault_values count x a) (sym is)
+
+  -- ---- last values
+
+  module _ (i : Instr Fault) (copy set slot : ℕ) (is : i ≡ LastCopy copy set is_same_layout slot) where
+    pub last-begun : (numbers : List ℤ) → numbers ≡ positioned_values (own_last count copy set is_same_layout a)
+        → tree_next count (last_ended count slot) (with_round 0 numbers) ≡ begun_by fault_values count i a
+    last-begun numbers e = ap (λ v. tree_next count (last_ended count slot) (with_round 0 v)) e ∙ ap (λ x. begun_by fault_values count x a) (sym is)
+
+    pub last-done : (round : ℕ) (numbers : List ℤ) → round ≡ a.round + 1
+        → numbers ≡ absorbed_values (joined_values Later) (levels_of count) a.round a.id a.folded a.received
+        → tree_next count (last_ended count slot) (with_round round numbers) ≡ done_by fault_values count i a
+    last-done round numbers er e =
+        let r : round ≡ suc a.round = omega (arith, er) in
+        (λ j. tree_next count (last_ended count slot) (with_round (r j) (e j))) ∙ ap (λ x. done_by fault_values count x a) (sym is)

@@ -1,4 +1,4 @@
--- Copies that are made.
+-- No public clause cites this file. Copies that are made.
 use Rattle.std.specs.Prelude.{◌≡◌, ℕ, ℤ, pos, List}
 use Rattle.array_meaning.specs.Faults.{Fault}
 use Rattle.machine_steps.specs.Instr.{Instr, MakeCopy}

@@ -1,12 +1,15 @@
 pub mod Codes
 pub mod Copies
+pub mod Exchanges
 pub mod Fetches
+pub mod Folds
 pub mod Openings
 pub mod Parts
 pub mod Post
 pub mod Prints
 pub mod Programs
 pub mod Reductions
+pub mod Remaps
 pub mod Results
 pub mod Sections
 pub mod Trees

@@ -1,4 +1,4 @@
--- Parallel statements on a node.
+-- No public clause cites this file. Parallel statements on a node.
 use Rattle.std.specs.Prelude.{◌≡◌, ℕ, ℤ, List, Option}
 use Rattle.nest_order.specs.Storage.{Spot}
 use Rattle.array_meaning.specs.Faults.{Fault}
@@ -24,14 +24,19 @@ pub record IsParallel (i : Instr Fault) (slots : List ℤ) (w : Statement) : Typ
 abbrev pub IsOpening : Part → Node Text Fault → Opening → Type 0
 IsOpening part a o = settled (record a { received = no_values a.nodes }) o.outbox.items o.inbox.items ≡ part_opened a.nodes part a
 
--- the part of an instruction that a node runs
-abbrev pub IsParOpening : Instr Fault → Node Text Fault → Opening → Type 0
-IsParOpening i a o = (tuples : Tuples Fault) × (left : List ℤ → ℕ → Option Spot) × (i ≡ Par tuples left) × IsOpening (par_part a.layouts tuples left a.control.slots) a o
+-- what opens the phase of the parallel statement
+pub record IsParOpening (i : Instr Fault) (a : Node Text Fault) (o : Opening) : Type 0 where
+  pub tuples : Tuples Fault
+  pub left : List ℤ → ℕ → Option Spot
+  pub is : i ≡ Par tuples left
+  pub opening : IsOpening (par_part a.layouts tuples left a.control.slots) a o
 
 -- what the parallel statement comes to behind its phase
-abbrev pub IsParResult : Instr Fault → Node Text Fault → ParValues → Type 0
-IsParResult i a r =
-    (tuples : Tuples Fault) × (left : List ℤ → ℕ → Option Spot) × (i ≡ Par tuples left)
-    × (stored r.stores a.pieces ≡ local_scatter a.layouts a.id (λ t. effect_by (left a.control.slots t) (local_outcome a.nodes (par_part a.layouts tuples left a.control.slots) tuples a t))
-    (par_part a.layouts tuples left a.control.slots).tuples a.pieces)
-    × (earlier a.kept (kepts r.fault) ≡ keep (local_outcome a.nodes (par_part a.layouts tuples left a.control.slots) tuples a) a.parts (par_part a.layouts tuples left a.control.slots).tuples a.kept)
+pub record IsParResult (i : Instr Fault) (a : Node Text Fault) (r : ParValues) : Type 0 where
+  pub tuples : Tuples Fault
+  pub left : List ℤ → ℕ → Option Spot
+  pub is : i ≡ Par tuples left
+  pub pieces : stored r.stores a.pieces
+      ≡ local_scatter a.layouts a.id (λ t. effect_by (left a.control.slots t) (local_outcome a.nodes (par_part a.layouts tuples left a.control.slots) tuples a t)) (par_part a.layouts tuples left a.control.slots).tuples a.pieces
+  pub kept : earlier a.kept (kepts r.fault)
+      ≡ keep (local_outcome a.nodes (par_part a.layouts tuples left a.control.slots) tuples a) a.parts (par_part a.layouts tuples left a.control.slots).tuples a.kept

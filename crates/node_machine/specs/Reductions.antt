@@ -1,4 +1,4 @@
--- The first step of reductions on a node.
+-- No public clause cites this file. The first step of reductions on a node.
 use Rattle.std.specs.Prelude.{◌≡◌, ℕ, ℤ, List}
 use Rattle.op_tables.specs.declared.op.Op.{Op}
 use Rattle.array_meaning.specs.Faults.{Fault}

@@ -1,4 +1,4 @@
--- Results of evaluations.
+-- No public clause cites this file. Results of evaluations.
 use Rattle.std.specs.Prelude.{◌≡◌, ℤ, List, Result, Ok, Err}
 use Rattle.nest_order.specs.Storage.{Spot}
 use Rattle.array_meaning.specs.Faults.{Fault}

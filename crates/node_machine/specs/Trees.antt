@@ -1,4 +1,4 @@
--- Instructions whose values go round a tree.
+-- No public clause cites this file. Instructions whose values go round a tree.
 use Rattle.std.specs.Prelude.{◌≡◌, ℕ, Bool, true, false}
 use Rattle.array_meaning.specs.Faults.{Fault}
 use Rattle.machine_steps.specs.Instr.{Control, Instr, Tuples, Reduce}

@@ -9,9 +9,13 @@
 
 mod copies;
 mod elements;
+mod exchanges;
 mod fetches;
+mod folds;
+mod last_values;
 mod letter;
 mod local_steps;
+mod looks;
 mod node;
 mod opening;
 mod parts;
@@ -20,6 +24,7 @@ mod post;
 mod prints;
 mod program;
 mod reductions;
+mod remaps;
 mod sections;
 mod stage;
 mod steps;

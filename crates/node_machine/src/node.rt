@@ -12,11 +12,13 @@ use crate::letter::NodeLetter;
 use crate::post::Post;
 use crate::program::NodeProgram;
 use crate::stage::Stage;
+use exchange_plans::Plans;
 use hpf_base::OutOfMemory;
 use letters::{Body, Letter};
 use node_law::{Act, NodeId, PhasedNode};
 use owner_tables::Owners;
 use part_steps::{Kept, Parcel, Row};
+use remap_steps::Redistribution;
 use slot_values::{Control, Status};
 use std::alloc::Global;
 use std::collections::VecDeque;
@@ -43,6 +45,9 @@ pub struct Node {
     pub(crate) post: Post,
     pub(crate) round: u32,
     pub(crate) folded: Vec<i64>,
+    /// The redistribution under way, kept from round to round so that it is computed once. No contract sees it.
+    pub(crate) moving: Option<Redistribution>,
+    pub(crate) plans: Plans,
 }
 
 impl Model for Node {
@@ -155,6 +160,18 @@ impl Node {
         ensures { self.new ≡ settled (record self.old { received = received.items }) outbox.items inbox.items }
     {
         self.post.open(outbox, inbox, received);
+        self.stage = Stage::Passing;
+        self.settle();
+    }
+
+    /// Opens a phase in which what was received before stays. It takes no memory.
+    pub(crate) fn reopen(&mut self, outbox: VecDeque<Parcel>, inbox: VecDeque<u32>)
+        requires targets { All (λ parcel. parcel.to < self.old.nodes) outbox.items }
+        requires sources { All (λ source. source < self.old.nodes) inbox.items }
+        requires room { length self.old.received ≡ self.old.nodes }
+        ensures { self.new ≡ settled self.old outbox.items inbox.items }
+    {
+        self.post.reopen(outbox, inbox);
         self.stage = Stage::Passing;
         self.settle();
     }

@@ -12,6 +12,7 @@ use crate::node::Node;
 use crate::post::Post;
 use crate::program::NodeProgram;
 use crate::stage::Stage;
+use exchange_plans::Plans;
 use hpf_base::OutOfMemory;
 use owner_tables::Owners;
 use part_steps::Row;
@@ -58,6 +59,8 @@ impl Node {
             post: Post::first(alloc, nodes)?,
             round: 0,
             folded: Vec::new(alloc),
+            moving: None,
+            plans: Plans::new(alloc),
         })
     }
 

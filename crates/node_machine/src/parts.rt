@@ -10,11 +10,14 @@ ghost use Rattle.part_steps.specs.KeptFaults.{kepts};
 ghost use Rattle.part_steps.specs.Parts.{part_of};
 ghost use Rattle.part_steps.specs.Stores.{stored};
 ghost use Rattle.tuple_values.specs.Views.{statement as statement_of};
+ghost use Rattle.exchange_plans.specs.Exchanged.{HasLists};
+ghost use Rattle.node_machine.specs.Exchanges.{IsExchangeBy, IsExchangeHere};
 ghost use Rattle.node_machine.specs.Parts.{IsOpening, IsParallel, IsParOpening, IsParResult};
 ghost use Rattle.node_machine.specs.Programs.{code_of};
 
 use crate::node::Node;
 use crate::program::NodeProgram;
+use comm_sets::Exchange;
 use hpf_base::OutOfMemory;
 use node_code::Instruction;
 use part_steps::{Kept, ParValues, Parcel, Part, Stores, Who, earlier, inbox, outbox, par_values};
@@ -62,19 +65,21 @@ impl NodeProgram {
 }
 
 impl Node {
-    /// What opens the phase of a statement.
+    /// What opens the phase of a statement, by what the node exchanges in it.
     pub(crate) fn opening_of(
         &self,
         statement: &ParallelStatement<'_>,
         who: Who,
+        exchange: &Exchange,
     ) -> Result<Opening, OutOfMemory>
+        requires { IsExchangeBy self.now who (statement_of statement.now) exchange.now }
         ensures is { (p : PartOf) → part_of (record { who = who; nodes = self.now.nodes; layouts = self.now.layouts; statement = statement_of statement.now }) ≡ p → IfOk result (IsOpening p self.now) }
         ensures targets { IfOk result (λ o. All (λ parcel. parcel.to < self.now.nodes) o.outbox.items) }
         ensures sources { IfOk result (λ o. All (λ source. source < self.now.nodes) o.inbox.items) }
     {
-        let part = Part::new(self.alloc, statement, &self.owners, who)?;
-        let outbox = outbox(self.alloc, &part, self.id, &self.pieces)?;
-        let inbox = inbox(self.alloc, &part, self.id)?;
+        let part = Part::new(statement, &self.owners, who);
+        let outbox = outbox(self.alloc, &part, self.id, &self.pieces, exchange)?;
+        let inbox = inbox(self.alloc, &part, self.id, exchange)?;
         Ok(Opening { outbox, inbox })
     }
 
@@ -87,19 +92,50 @@ impl Node {
         Ok(statement)
     }
 
-    /// What opens the phase of the parallel statement at the node's place.
+    /// What the node exchanges for the parallel statement at its place, from one pass over the tuples.
+    fn par_exchange(&self) -> Result<Exchange, OutOfMemory>
+        ensures is { IfOk result (IsExchangeHere self.now) }
+        ensures lists { IfOk result (HasLists self.now.nodes) }
+    {
+        let statement = self.parallel()?;
+        let exchange = self.exchange_by(&statement, Who::Left)?;
+        Ok(exchange)
+    }
+
+    /// Makes and keeps that, unless it is kept.
+    fn plan_par(&mut self) -> Result<(), OutOfMemory>
+        ensures { self.new ≡ self.old }
+    {
+        if self.keeps_exchange() {
+            return Ok(());
+        }
+        let exchange = self.par_exchange()?;
+        self.keep_exchange(exchange)
+    }
+
+    /// What opens the phase of the parallel statement at the node's place, whose exchange is kept.
     fn par_opening(&self) -> Result<Opening, OutOfMemory>
         ensures is { IfOk result (IsParOpening (instr_at text_meaning self.now.code self.now.control.at) self.now) }
         ensures targets { IfOk result (λ o. All (λ parcel. parcel.to < self.now.nodes) o.outbox.items) }
         ensures sources { IfOk result (λ o. All (λ source. source < self.now.nodes) o.inbox.items) }
     {
         let statement = self.parallel()?;
-        let opening = self.opening_of(&statement, Who::Left)?;
+        let exchange = self.kept_exchange()?;
+        let opening = self.opening_of(&statement, Who::Left, exchange)?;
         Ok(opening)
     }
 
     /// Opens the phase of the parallel statement at the node's place. For want of memory nothing changes.
     pub(crate) fn begin_par(&mut self) -> Result<(), OutOfMemory>
+        ensures ok { OnOk result (self.new ≡ begun_by fault_values self.old.nodes (instr_at text_meaning self.old.code self.old.control.at) self.old) }
+        ensures err { OnErr result (self.new ≡ self.old) }
+    {
+        self.plan_par()?;
+        self.open_par()
+    }
+
+    /// The same where its exchange is kept.
+    fn open_par(&mut self) -> Result<(), OutOfMemory>
         ensures ok { OnOk result (self.new ≡ begun_by fault_values self.old.nodes (instr_at text_meaning self.old.code self.old.control.at) self.old) }
         ensures err { OnErr result (self.new ≡ self.old) }
     {
@@ -109,13 +145,14 @@ impl Node {
         Ok(())
     }
 
-    /// What the parallel statement at the node's place comes to behind its phase.
+    /// What the parallel statement at the node's place, whose exchange is kept, comes to behind its phase.
     fn par_result(&self) -> Result<ParValues, OutOfMemory>
         ensures is { IfOk result (IsParResult (instr_at text_meaning self.now.code self.now.control.at) self.now) }
         ensures few { IfOk result (λ r. self.now.control.at < 2 ^ 63) }
     {
         let statement = self.parallel()?;
-        let part = Part::new(self.alloc, &statement, &self.owners, Who::Left)?;
+        let exchange = self.kept_exchange()?;
+        let part = Part::new(&statement, &self.owners, Who::Left);
         let received = self.post.all_received();
         let values = par_values(
             self.alloc,
@@ -123,6 +160,7 @@ impl Node {
             self.id,
             &self.pieces,
             received,
+            exchange,
             self.parts,
         )?;
         Ok(values)
@@ -131,6 +169,15 @@ impl Node {
     /// Behind the phase of the parallel statement at the node's place: stores the values, and keeps the first fault. For want of memory
     /// nothing changes.
     pub(crate) fn finish_par(&mut self) -> Result<(), OutOfMemory>
+        ensures ok { OnOk result (self.new ≡ done_by fault_values self.old.nodes (instr_at text_meaning self.old.code self.old.control.at) self.old) }
+        ensures err { OnErr result (self.new ≡ self.old) }
+    {
+        self.plan_par()?;
+        self.close_par()
+    }
+
+    /// The same where its exchange is kept.
+    fn close_par(&mut self) -> Result<(), OutOfMemory>
         ensures ok { OnOk result (self.new ≡ done_by fault_values self.old.nodes (instr_at text_meaning self.old.code self.old.control.at) self.old) }
         ensures err { OnErr result (self.new ≡ self.old) }
     {

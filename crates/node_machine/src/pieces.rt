@@ -44,7 +44,7 @@ impl Node {
 }
 
 /// The number at a place; 0 where there is none.
-fn value_at(values: &[i64], at: usize) -> i64
+pub(crate) fn value_at(values: &[i64], at: usize) -> i64
     ensures { result ≡ slice_index_or values.now at (pos 0) }
 {
     if at < values.len() { values[at] } else { 0 }

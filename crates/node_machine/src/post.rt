@@ -66,6 +66,17 @@ impl Post {
         self.received = received;
     }
 
+    /// The same, where what was taken so far stays. It takes no memory.
+    pub fn reopen(&mut self, outbox: VecDeque<Parcel>, inbox: VecDeque<u32>)
+        requires targets { All (λ parcel. parcel.to < length self.old.next_to) outbox.items }
+        requires sources { All (λ source. source < length self.old.next_from) inbox.items }
+        requires room { All (λ source. source < length self.old.received) inbox.items }
+        ensures { self.new ≡ record self.old { outbox = outbox.items; inbox = inbox.items } }
+    {
+        self.outbox = outbox;
+        self.inbox = inbox;
+    }
+
     /// What was taken from a node, or nothing.
     pub fn received(&self, node: u32) -> &[i64]
         ensures { result.now ≡ slice_index_or self.now.received node [] }
@@ -109,6 +120,16 @@ impl Post {
         match self.inbox.front() {
             Some(source) => Some(*source),
             None => None,
+        }
+    }
+
+    /// The number of the next letter from a node; 0 where there is no such node.
+    pub fn number_from(&self, node: u32) -> u64
+        ensures { result ≡ slice_index_or self.now.next_from node 0 }
+    {
+        match self.next_from.get(node as usize) {
+            Some(number) => *number,
+            None => 0,
         }
     }
 

@@ -8,11 +8,14 @@ ghost use Rattle.node_code.specs.ProgramText.{text_meaning};
 ghost use Rattle.part_steps.specs.KeptFaults.{kepts};
 ghost use Rattle.tuple_values.specs.Views.{statement as statement_of};
 ghost use Rattle.node_machine.specs.Programs.{code_of};
+ghost use Rattle.exchange_plans.specs.Exchanged.{HasLists};
+ghost use Rattle.node_machine.specs.Exchanges.{IsExchangeHere};
 ghost use Rattle.node_machine.specs.Reductions.{IsReduced, IsReduceOpening, IsReduceResult};
 
 use crate::node::Node;
 use crate::parts::Opening;
 use crate::program::NodeProgram;
+use comm_sets::Exchange;
 use hpf_base::OutOfMemory;
 use node_code::Instruction;
 use op_tables::Op;
@@ -65,19 +68,51 @@ impl Node {
         Ok(reduced)
     }
 
-    /// What opens the phase of the reduction at the node's place.
+    /// What the node exchanges for the reduction at its place, from one pass over the tuples.
+    fn reduce_exchange(&self) -> Result<Exchange, OutOfMemory>
+        ensures is { IfOk result (IsExchangeHere self.now) }
+        ensures lists { IfOk result (HasLists self.now.nodes) }
+    {
+        let reduced = self.reduced()?;
+        let exchange = self.exchange_by(&reduced.statement, Who::First)?;
+        Ok(exchange)
+    }
+
+    /// Makes and keeps that, unless it is kept.
+    fn plan_reduce(&mut self) -> Result<(), OutOfMemory>
+        ensures { self.new ≡ self.old }
+    {
+        if self.keeps_exchange() {
+            return Ok(());
+        }
+        let exchange = self.reduce_exchange()?;
+        self.keep_exchange(exchange)
+    }
+
+    /// What opens the phase of the reduction at the node's place, whose exchange is kept.
     fn reduce_opening(&self) -> Result<Opening, OutOfMemory>
         ensures is { IfOk result (IsReduceOpening (instr_at text_meaning self.now.code self.now.control.at) self.now) }
         ensures targets { IfOk result (λ o. All (λ parcel. parcel.to < self.now.nodes) o.outbox.items) }
         ensures sources { IfOk result (λ o. All (λ source. source < self.now.nodes) o.inbox.items) }
     {
         let reduced = self.reduced()?;
-        let opening = self.opening_of(&reduced.statement, Who::First)?;
+        let exchange = self.kept_exchange()?;
+        let opening = self.opening_of(&reduced.statement, Who::First, exchange)?;
         Ok(opening)
     }
 
     /// Opens the phase of the reduction at the node's place. For want of memory nothing changes.
     pub(crate) fn begin_first(&mut self) -> Result<(), OutOfMemory>
+        requires first { self.old.substep ≡ 0 }
+        ensures ok { OnOk result (self.new ≡ begun_by fault_values self.old.nodes (instr_at text_meaning self.old.code self.old.control.at) self.old) }
+        ensures err { OnErr result (self.new ≡ self.old) }
+    {
+        self.plan_reduce()?;
+        self.open_first()
+    }
+
+    /// The same where its exchange is kept.
+    fn open_first(&mut self) -> Result<(), OutOfMemory>
         requires first { self.old.substep ≡ 0 }
         ensures ok { OnOk result (self.new ≡ begun_by fault_values self.old.nodes (instr_at text_meaning self.old.code self.old.control.at) self.old) }
         ensures err { OnErr result (self.new ≡ self.old) }
@@ -88,19 +123,20 @@ impl Node {
         Ok(())
     }
 
-    /// What the reduction at the node's place comes to behind its phase.
+    /// What the reduction at the node's place, whose exchange is kept, comes to behind its phase.
     fn reduce_result(&self) -> Result<ReduceValues, OutOfMemory>
         ensures { IfOk result (IsReduceResult (instr_at text_meaning self.now.code self.now.control.at) self.now) }
     {
         let reduced = self.reduced()?;
-        let part = Part::new(self.alloc, &reduced.statement, &self.owners, Who::First)?;
+        let exchange = self.kept_exchange()?;
+        let part = Part::new(&reduced.statement, &self.owners, Who::First);
         let received = self.post.all_received();
         let values = reduce_values(
-            self.alloc,
             &part,
             self.id,
             &self.pieces,
             received,
+            exchange,
             reduced.op,
             self.parts,
         )?;
@@ -110,6 +146,16 @@ impl Node {
     /// Behind the phase of the reduction at the node's place: keeps the values, joined, and the first fault. For want of memory nothing
     /// changes.
     pub(crate) fn finish_first(&mut self) -> Result<(), OutOfMemory>
+        requires first { self.old.substep ≡ 0 }
+        ensures ok { OnOk result (self.new ≡ done_by fault_values self.old.nodes (instr_at text_meaning self.old.code self.old.control.at) self.old) }
+        ensures err { OnErr result (self.new ≡ self.old) }
+    {
+        self.plan_reduce()?;
+        self.close_first()
+    }
+
+    /// The same where its exchange is kept.
+    fn close_first(&mut self) -> Result<(), OutOfMemory>
         requires first { self.old.substep ≡ 0 }
         ensures ok { OnOk result (self.new ≡ done_by fault_values self.old.nodes (instr_at text_meaning self.old.code self.old.control.at) self.old) }
         ensures err { OnErr result (self.new ≡ self.old) }

@@ -18,7 +18,7 @@ use crate::program::NodeProgram;
 use expression_rules::Dims;
 use hpf_base::OutOfMemory;
 use node_code::{Instruction, PrintItem};
-use part_steps::{Part, Who, section_values};
+use part_steps::{Part, Who, exchange_of, section_values};
 use slot_values::Control;
 use std::alloc::Global;
 use tuple_values::ParallelStatement;
@@ -97,7 +97,8 @@ impl Node {
         ensures sources { IfOk result (λ o. All (λ source. source < self.now.nodes) o.inbox.items) }
     {
         let statement = self.section()?;
-        let opening = self.opening_of(&statement, Who::Root)?;
+        let exchange = self.exchange_by(&statement, Who::Root)?;
+        let opening = self.opening_of(&statement, Who::Root, &exchange)?;
         Ok(opening)
     }
 
@@ -112,14 +113,25 @@ impl Node {
         Ok(())
     }
 
-    /// The numbers of the section at the node's place behind its phase.
+    /// The numbers of the section at the node's place behind its phase: node 0 has them, and they are nothing on any other.
     fn section_bytes(&self) -> Result<Vec<u8>, OutOfMemory>
         ensures { IfOk result (λ b. IsSectionBytes (instr_at text_meaning self.now.code self.now.control.at) self.now b.items) }
     {
         let statement = self.section()?;
-        let part = Part::new(self.alloc, &statement, &self.owners, Who::Root)?;
+        if self.id != 0 {
+            return Ok(Vec::new(self.alloc));
+        }
+        let part = Part::new(&statement, &self.owners, Who::Root);
+        let exchange = exchange_of(self.alloc, &part, self.id)?;
         let received = self.post.all_received();
-        let values = section_values(self.alloc, &part, self.id, &self.pieces, received)?;
+        let values = section_values(
+            self.alloc,
+            &part,
+            self.id,
+            &self.pieces,
+            received,
+            &exchange,
+        )?;
         let bytes = decimals(self.alloc, &values)?;
         Ok(bytes)
     }

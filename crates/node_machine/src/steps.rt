@@ -26,6 +26,9 @@ impl Node {
             Kind::MakeCopy => self.make_copy(),
             Kind::Print => self.print(),
             Kind::Fetch => self.fetch(),
+            Kind::FoldCopy => self.begin_fold(),
+            Kind::LastCopy => self.begin_last(),
+            Kind::Remap => self.begin_remap(),
         }
     }
 
@@ -40,6 +43,9 @@ impl Node {
             Kind::Verdict => self.finish_verdict(),
             Kind::Reduce => self.finish_reduce(),
             Kind::Print => self.finish_section(),
+            Kind::FoldCopy => self.finish_fold(),
+            Kind::LastCopy => self.finish_last(),
+            Kind::Remap => self.finish_remap(),
             _ => Err(OutOfMemory),
         }
     }
@@ -65,6 +71,9 @@ enum Kind {
     Reduce,
     MakeCopy,
     Print,
+    FoldCopy,
+    LastCopy,
+    Remap,
 }
 
 fn kind_of(i: &Instruction) -> Kind {
@@ -79,6 +88,9 @@ fn kind_of(i: &Instruction) -> Kind {
         Instruction::Verdict => Kind::Verdict,
         Instruction::Reduce { .. } => Kind::Reduce,
         Instruction::Print(_) => Kind::Print,
+        Instruction::FoldCopy { .. } => Kind::FoldCopy,
+        Instruction::LastCopy { .. } => Kind::LastCopy,
+        Instruction::Remap(_) => Kind::Remap,
         _ => Kind::Local,
     }
 }

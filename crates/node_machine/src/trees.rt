@@ -69,7 +69,7 @@ impl NodeProgram {
 
 impl Node {
     /// Opens a round of a tree, in which the node has these numbers. For want of memory nothing changes.
-    fn open_round(&mut self, round: u32, folded: Vec<i64>) -> Result<(), OutOfMemory>
+    pub(crate) fn open_round(&mut self, round: u32, folded: Vec<i64>) -> Result<(), OutOfMemory>
         ensures ok { OnOk result (self.new ≡ opened self.old.nodes (tree_sends (levels_of self.old.nodes) round) (λ q. folded.items) (record self.old { round = round; folded = folded.items })) }
         ensures err { OnErr result (self.new ≡ self.old) }
     {
@@ -129,14 +129,14 @@ impl Node {
     }
 
     /// Whether a round is past the last one of a tree.
-    fn is_past(&self, round: u32) -> bool
+    pub(crate) fn is_past(&self, round: u32) -> bool
         ensures { result ≡ not (nat_lt round (2 * levels_of self.now.nodes)) }
     {
         round >= 2 * levels_of(self.owners.nodes())
     }
 
     /// What the node has behind a round.
-    fn absorbed(&self, joining: Joining) -> Result<Vec<i64>, OutOfMemory>
+    pub(crate) fn absorbed(&self, joining: Joining) -> Result<Vec<i64>, OutOfMemory>
         ensures { IfOk result (λ v. v.items ≡ absorbed_values (joined_values joining) (levels_of self.now.nodes) self.now.round self.now.id self.now.folded self.now.received) }
     {
         absorbed(
@@ -151,7 +151,7 @@ impl Node {
     }
 
     /// The number of the next round.
-    fn next_round(&self) -> Result<u32, OutOfMemory>
+    pub(crate) fn next_round(&self) -> Result<u32, OutOfMemory>
         ensures { IfOk result (λ round. round ≡ self.now.round + 1) }
     {
         match self.round.checked_add(1) {

@@ -15,7 +15,7 @@ use Rattle.array_meaning.specs.Resolution.{initial_array}
 use Rattle.array_meaning.specs.State.{Array}
 use Rattle.machine_steps.specs.Layout.{IsDealt, Layout, owned_in, size_of, sizes}
 use Rattle.machine_steps.specs.Agrees.{IsWhole}
-use Rattle.nodes_lowered.specs.OnNodes.{AreLaid, IsLaid, program_opening}
+use Rattle.nodes_lowered.specs.OnNodes.{LieAsDeclared, LiesAsDeclared, program_opening}
 
 -- ---- sizes
 
@@ -27,7 +27,7 @@ pub array-size : (ds : List Dim) (layout : Layout) → layout.shape ≡ shape_of
 unfolding size_of
 array-size ds layout e = shape-size ds ∙ ap (λ s. product (extents_of s)) (sym e)
 
-row-size : (count : ℕ) (w : What) (layout : Layout) → IsLaid count w layout → length (initial_array w).elements ≡ size_of layout
+row-size : (count : ℕ) (w : What) (layout : Layout) → LiesAsDeclared count w layout → length (initial_array w).elements ≡ size_of layout
 row-size count (what.Array ds v) layout h = length-replicate (elements ds) v ∙ array-size ds layout h.0
 row-size count (what.Scalar v) layout h = sym h
 row-size count (what.Constant v) layout h = sym h
@@ -37,7 +37,7 @@ row-size count what.Arrangement layout h = sym h
 abbrev rows : List Entry → Storage
 rows es = map (λ (a : Array). a.elements) (map (λ (e : Entry). initial_array e.what) es) ++ [] ∷ []
 
-rows-sized : (count : ℕ) (es : List Entry) (layouts : List Layout) → AreLaid count es layouts → map length (rows es) ≡ sizes layouts
+rows-sized : (count : ℕ) (es : List Entry) (layouts : List Layout) → LieAsDeclared count es layouts → map length (rows es) ≡ sizes layouts
 rows-sized count [] [] h = absurd h
 rows-sized count [] (copy ∷ []) h = ap (λ k. k ∷ []) (sym h)
 rows-sized count [] (copy ∷ layout ∷ layouts) h = absurd h
@@ -54,14 +54,14 @@ HasOwner count layouts row at = (node : ℕ) × (node < count) × (owned_in layo
 none-below : {A : Type 0} (at size : ℕ) → size ≡ 0 → at < size → A
 none-below at size e lt = absurd (omega (arith, e, lt))
 
-laid-owned : (count : ℕ) (w : What) (layout : Layout) → IsLaid count w layout → IsDealt count layout
+laid-owned : (count : ℕ) (w : What) (layout : Layout) → LiesAsDeclared count w layout → IsDealt count layout
 laid-owned count (what.Array ds v) layout h = h.1
 laid-owned count (what.Scalar v) layout h = λ at lt. none-below at (size_of layout) h lt
 laid-owned count (what.Constant v) layout h = λ at lt. none-below at (size_of layout) h lt
 laid-owned count what.Template layout h = λ at lt. none-below at (size_of layout) h lt
 laid-owned count what.Arrangement layout h = λ at lt. none-below at (size_of layout) h lt
 
-rows-owned : (count : ℕ) (es : List Entry) (layouts : List Layout) → AreLaid count es layouts → (row at : ℕ) → at < get_or (sizes layouts) row 0
+rows-owned : (count : ℕ) (es : List Entry) (layouts : List Layout) → LieAsDeclared count es layouts → (row at : ℕ) → at < get_or (sizes layouts) row 0
     → HasOwner count layouts row at
 rows-owned count [] [] h row at lt = absurd h
 rows-owned count [] (copy ∷ []) h zero at lt = none-below at (size_of copy) h lt
@@ -71,7 +71,7 @@ rows-owned count (e ∷ es) [] h row at lt = absurd h
 rows-owned count (e ∷ es) (layout ∷ layouts) h zero at lt = laid-owned count e.what layout h.0 at lt
 rows-owned count (e ∷ es) (layout ∷ layouts) h (suc row) at lt = rows-owned count es layouts h.1 row at lt
 
-pub opening-whole : (count : ℕ) (p : MainProgram) (layouts : List Layout) → AreLaid count (entries p) layouts → IsWhole count [] (program_opening p layouts)
+pub opening-whole : (count : ℕ) (p : MainProgram) (layouts : List Layout) → LieAsDeclared count (entries p) layouts → IsWhole count [] (program_opening p layouts)
 opening-whole count p layouts h = record {
   shaped = rows-sized count (entries p) layouts h;
   declared = tt;

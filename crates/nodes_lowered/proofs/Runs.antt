@@ -13,7 +13,6 @@ use Rattle.machine_steps.specs.Layout.{Layout}
 use Rattle.machine_steps.specs.Instr.{Status}
 use Rattle.machine_steps.specs.Machine.{Machine, steps}
 use Rattle.machine_steps.specs.Agrees.{IsOver, first_own, standing}
-use Rattle.owner_tables.specs.CopyLayout.{copy_layout}
 use Rattle.owner_tables.proofs.CopyLaws.{copy-dealt, copy-size}
 use Rattle.node_code.specs.Instructions.{ArrayTable, Instruction, meaning_of}
 use Rattle.node_code.specs.FaultValues.{fault_values}
@@ -23,7 +22,7 @@ use Rattle.well_formed.proofs.Programs.{lowered, valid}
 use Rattle.node_run.proofs.CodedSteps.{steps-coded, valid-coded, whole-coded}
 use Rattle.node_run.proofs.Openings.{openings-run}
 use Rattle.node_run.proofs.Wholes.{steps-whole}
-use Rattle.nodes_lowered.specs.OnNodes.{AreLaid, BreaksNoRule, program_opening}
+use Rattle.nodes_lowered.specs.OnNodes.{LieAsDeclared, BreaksNoRule, program_opening}
 use Rattle.nodes_lowered.specs.ProgramRuns.{RunOnNodes, end_by_status, program_nodes, program_shapes, text_opening}
 use Rattle.nodes_lowered.proofs.Laid.{opening-whole}
 use Rattle.nodes_lowered.proofs.LastNodes.{arrays-count, arrays-so, ended-so, last-nodes}
@@ -33,7 +32,7 @@ end-over : (n : ℕ) (m : Machine Instruction Fault) (e : End) (arrays : List (L
 end-over n m serial.Finished arrays h = subst (λ (s : Status Fault). IsOver s) (sym h.0) tt
 end-over n m (serial.Faulted f) arrays h = subst (λ (s : Status Fault). IsOver s) (sym h) tt
 
-pub run-on-nodes : (nodes : ℕ) (p : MainProgram) (layouts : List Layout) → 0 < nodes → BreaksNoRule p → AreLaid nodes (entries p) layouts
+pub run-on-nodes : (nodes : ℕ) (p : MainProgram) (layouts : List Layout) → 0 < nodes → BreaksNoRule p → LieAsDeclared nodes (entries p) layouts
     → RunOnNodes nodes p layouts
 run-on-nodes nodes p layouts some rules laid =
     let table : ArrayTable = table_on nodes (program_shapes p) in
@@ -41,7 +40,7 @@ run-on-nodes nodes p layouts some rules laid =
     let m : Machine Instruction Fault = program_opening p layouts in
     let coded : Machine Text Fault = text_opening nodes p layouts in
     let o : Outcome = serial.serial p in
-    let has = lowered p (copy_layout nodes) layouts (copy-size nodes) rules.0 rules.1 in
+    let has = lowered p table layouts (record { shapes = refl; copies = copy-size nodes }) rules.0 rules.1 in
     let same = steps-coded (text nodes (program_shapes p)) (meaning_of table) text_meaning (λ i. refl) has.0 m in
     let code = valid-coded (text nodes (program_shapes p)) (meaning_of table) text_meaning (λ i. refl) nodes [] m.code
     (valid nodes p [] table (omega arith) (λ extents. copy-dealt nodes extents some) rules.0 rules.1) in

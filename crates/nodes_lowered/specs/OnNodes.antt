@@ -23,17 +23,17 @@ BreaksNoRule p = HasNoBreach p × NoBreach (Among (body_breaches (entries p) p.b
 
 -- an array has the shape of its declaration (Fortran 95, 5.1.2.4.1), and each of its elements has an owner; what is no array has no
 -- elements
-abbrev pub IsLaid : ℕ → What → Layout → Type 0
-IsLaid count (what.Array ds v) layout = (layout.shape ≡ shape_of ds) × IsDealt count layout
-IsLaid count w layout = size_of layout ≡ 0
+abbrev pub LiesAsDeclared : ℕ → What → Layout → Type 0
+LiesAsDeclared count (what.Array ds v) layout = (layout.shape ≡ shape_of ds) × IsDealt count layout
+LiesAsDeclared count w layout = size_of layout ≡ 0
 
 -- so the declared names lie, in order, and behind them the copy of a mask, which has no elements before it is made
-abbrev pub AreLaid : ℕ → List Entry → List Layout → Type 0
-AreLaid count [] [] = ⊥
-AreLaid count [] (copy ∷ []) = size_of copy ≡ 0
-AreLaid count [] (copy ∷ layout ∷ layouts) = ⊥
-AreLaid count (e ∷ es) [] = ⊥
-AreLaid count (e ∷ es) (layout ∷ layouts) = IsLaid count e.what layout × AreLaid count es layouts
+abbrev pub LieAsDeclared : ℕ → List Entry → List Layout → Type 0
+LieAsDeclared count [] [] = ⊥
+LieAsDeclared count [] (copy ∷ []) = size_of copy ≡ 0
+LieAsDeclared count [] (copy ∷ layout ∷ layouts) = ⊥
+LieAsDeclared count (e ∷ es) [] = ⊥
+LieAsDeclared count (e ∷ es) (layout ∷ layouts) = LiesAsDeclared count e.what layout × LieAsDeclared count es layouts
 
 -- the machine with whole arrays before the first instruction of a program
 abbrev pub program_opening : MainProgram → List Layout → Machine Instruction Fault

@@ -1,6 +1,8 @@
 mod AlikeLaws
 pub mod CopyLaws
 mod Counting
+mod Dealt
 pub mod Ranges
 mod Rows
+pub mod SameLayouts
 mod TableLaws

@@ -1,6 +1,8 @@
 -- The layouts of the rows.
-use Rattle.std.proofs.Common.{◌≡◌, ℕ, zero, suc, ◌<◌, List, [], ◌∷◌, get_or, set, length, map, refl, sym, ◌∙◌, ap, arith}
+use Rattle.std.proofs.Common.{◌≡◌, ℕ, zero, suc, ◌<◌, ◌≤◌, List, [], ◌∷◌, get_or, set, length, map, refl, sym, ◌∙◌, ap, arith}
 use Rattle.std.proofs.lemmas.List.{get_or-map, length-map, map-set}
+use Rattle.hpf_base.specs.declared.mapping.Mapping.{Mapping}
+use Rattle.machine_steps.specs.Machine.{with_mapping}
 use Rattle.machine_steps.specs.Layout.{Layout, owned_by, owned_in, size_of, sizes}
 use Rattle.owner_tables.specs.Views.{OwnersView, TableView}
 
@@ -22,14 +24,30 @@ with_row row layout v = record { layouts = set v.layouts row layout; nodes = v.n
 abbrev seen : List TableView → ℕ → OwnersView
 seen tables nodes = record { layouts = map (λ t. t.layout) tables; nodes = nodes }
 
+pub rows-many : (tables : List TableView) (nodes : ℕ) (v : OwnersView) → seen tables nodes ≡ v → length v.layouts ≡ length tables
+rows-many tables nodes v is = ap (λ w. length w.layouts) (sym is) ∙ length-map tables (λ t. t.layout)
+
 pub row-set : (tables : List TableView) (nodes row : ℕ) (table : TableView) (v : OwnersView) → seen tables nodes ≡ v
     → seen (set tables row table) nodes ≡ with_row row table.layout v
 row-set tables nodes row table v is =
     ap (λ (ls : List Layout). let w : OwnersView = record { layouts = ls; nodes = nodes } in w) (map-set (λ t. t.layout) tables row table) ∙ ap (with_row row table.layout) is
 
-pub row-layout : (tables : List TableView) (nodes row : ℕ) (table : TableView) (v : OwnersView) → seen tables nodes ≡ v → row < length v.layouts
-    → table ≡ get_or tables row table → table.layout ≡ get_or v.layouts row table.layout
-row-layout tables nodes row table v is within at =
-    let many : length v.layouts ≡ length tables = ap (λ w. length w.layouts) (sym is) ∙ length-map tables (λ t. t.layout) in
-    ap (λ t. t.layout) at ∙ sym (get_or-map (λ t. t.layout) tables row table table.layout (omega (arith, within, many)))
-    ∙ ap (λ w. get_or w.layouts row table.layout) is
+pub row-layout : (tables : List TableView) (nodes row : ℕ) (table : TableView) (v : OwnersView) (d : Layout) → seen tables nodes ≡ v → row < length v.layouts
+    → table ≡ get_or tables row table → table.layout ≡ get_or v.layouts row d
+row-layout tables nodes row table v d is within at =
+    let many : length v.layouts ≡ length tables = rows-many tables nodes v is in
+    ap (λ t. t.layout) at ∙ sym (get_or-map (λ t. t.layout) tables row table d (omega (arith, within, many)))
+    ∙ ap (λ w. get_or w.layouts row d) is
+
+-- a row that isn't there gets no mapping
+pub mapping-past : (layouts : List Layout) (row : ℕ) (mapping : Mapping) → length layouts ≤ row → with_mapping layouts row mapping ≡ layouts
+mapping-past [] row mapping past = refl
+mapping-past (l ∷ ls) zero mapping past = absurd (omega (arith, past))
+mapping-past (l ∷ ls) (suc row) mapping past = ap (λ rest. l ∷ rest) (mapping-past ls row mapping (omega (arith, past)))
+
+-- a layout of the same shape gives its mapping
+pub mapping-set : (layouts : List Layout) (row : ℕ) (layout d : Layout) → row < length layouts → (get_or layouts row d).shape ≡ layout.shape
+    → set layouts row layout ≡ with_mapping layouts row layout.mapping
+mapping-set [] row layout d within same = absurd (omega (arith, within))
+mapping-set (l ∷ ls) zero layout d within same = ap (λ shape. record { shape = shape; mapping = layout.mapping } ∷ ls) (sym same)
+mapping-set (l ∷ ls) (suc row) layout d within same = ap (λ rest. l ∷ rest) (mapping-set ls row layout d (omega (arith, within)) same)

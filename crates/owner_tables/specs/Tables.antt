@@ -1,6 +1,7 @@
 -- What the tables of a row hold.
-use Rattle.std.specs.Prelude.{◌≡◌, length, map}
+use Rattle.std.specs.Prelude.{◌≡◌, ◌≤◌, length, map}
 use Rattle.std.specs.List.{range_with_len}
+use Rattle.hpf_base.specs.declared.limits.TheConstants.{MAX_NODES}
 use Rattle.machine_steps.specs.Layout.{Layout, size_of}
 use Rattle.owner_tables.specs.declared.tables.Tables.TheInside.{Inside}
 use Rattle.owner_tables.specs.Alike.{alike_nodes, leader}
@@ -15,6 +16,8 @@ abbrev pub view_of : Inside → TableView
 view_of t = record { layout = layout_of t; nodes = t.nodes }
 
 pub record AreTables (t : Inside) : Type 0 where
+  pub some : 1 ≤ t.nodes
+  pub few : t.nodes ≤ MAX_NODES
   pub laid : IsLaid t.nodes (layout_of t)
   pub owned : AreOwnedByLeast t.nodes (layout_of t) (size_of (layout_of t))
   pub alike : map (λ v. v.items) t.alike.items ≡ map (alike_nodes t.mapping t.nodes) (range_with_len 0 t.nodes)

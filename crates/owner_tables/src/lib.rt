@@ -16,6 +16,7 @@ mod least;
 mod numbers;
 mod owner_table;
 mod owners;
+mod same;
 mod spot;
 mod tables;
 

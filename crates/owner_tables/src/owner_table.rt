@@ -5,6 +5,7 @@ ghost use Rattle.hpf_base.specs.declared.limits.TheConstants.{MAX_NODES};
 ghost use Rattle.machine_steps.specs.Layout.{count_passing, owned_by, size_of};
 ghost use Rattle.owner_tables.specs.CopyLayout.{copy_layout};
 ghost use Rattle.owner_tables.specs.Layouts.{IsLaid};
+ghost use Rattle.owner_tables.specs.SameLayouts.{is_same_layout, is_same_shape};
 
 use crate::copies::{CopyLayout, copy_layout};
 use crate::tables::Tables;
@@ -76,6 +77,15 @@ impl OwnerTable {
         &self.tables
     }
 
+    /// The number of nodes, from 1 to 64.
+    pub fn nodes(&self) -> u32
+        ensures value { result ≡ self.now.nodes }
+        ensures some { 1 ≤ self.now.nodes }
+        ensures few { self.now.nodes ≤ MAX_NODES }
+    {
+        self.tables.nodes()
+    }
+
     /// The number of elements.
     pub fn size(&self) -> usize
         ensures { result ≡ size_of self.now.layout }
@@ -89,5 +99,19 @@ impl OwnerTable {
         ensures { result ≡ count_passing (owned_by self.now.layout node) 0 (size_of self.now.layout) }
     {
         self.tables.owned(node)
+    }
+
+    /// Whether the row has the shape of another.
+    pub(crate) fn is_shaped_as(&self, other: &OwnerTable) -> bool
+        ensures { result ≡ is_same_shape self.now.layout.shape other.now.layout.shape }
+    {
+        self.tables.is_shaped_as(&other.tables)
+    }
+
+    /// Whether the row has the shape and the mapping of another. It compares these alone, and takes no memory.
+    pub fn lies_as(&self, other: &OwnerTable) -> bool
+        ensures { result ≡ is_same_layout self.now.layout other.now.layout }
+    {
+        self.tables.lies_as(&other.tables)
     }
 }

@@ -1,9 +1,10 @@
 //! The tables of all rows.
 
-ghost use Rattle.std.specs.Prelude.{◌≡◌, ◌<◌, ◌≤◌, ◌++◌, ◌∷◌, [], IfOk, OnErr, OnOk, filter, length, nat_lt, slice_index_or, slice_set, true};
-ghost use Rattle.std.specs.List.{range_with_len};
+ghost use Rattle.std.specs.Prelude.{◌≡◌, ◌<◌, ◌≤◌, ◌++◌, ◌∷◌, ◌&&◌, [], IfOk, IfSome, IsTrue, None, OnErr, OnOk, Some, filter, if◌then◌else◌, length, nat_lt, option_map, slice_index_or, slice_set, true};
+ghost use Rattle.std.specs.List.{range_with_len, slice_get};
 ghost use Rattle.hpf_base.specs.declared.limits.TheConstants.{MAX_NODES};
-ghost use Rattle.machine_steps.specs.Layout.{address, count_passing, least_owner_of, owned_by, owned_in, owns_spot, size_of, sizes};
+ghost use Rattle.machine_steps.specs.Layout.{AreOwned, address, count_passing, least_owner_of, owned_by, owned_in, owns_spot, size_of, sizes};
+ghost use Rattle.machine_steps.specs.Machine.{with_mapping};
 ghost use Rattle.owner_tables.specs.Spots.{spot_of};
 
 use crate::owner_table::OwnerTable;
@@ -67,6 +68,23 @@ impl Owners {
         }
     }
 
+    /// Gives a row the mapping of a table, whose shape the row has, if there is such a row. Want of memory is the answer, too, where the
+    /// row has another shape or the table is one for another number of nodes; then nothing changes.
+    pub fn set_mapping(&mut self, row: usize, table: &OwnerTable) -> Result<(), OutOfMemory>
+        ensures row { OnOk result (self.new ≡ record { layouts = with_mapping self.old.layouts row table.now.layout.mapping; nodes = self.old.nodes }) }
+        ensures same { OnErr result (self.new ≡ self.old) }
+    {
+        if row >= self.tables.len() {
+            return Ok(());
+        }
+        if table.nodes() != self.nodes || !self.tables[row].is_shaped_as(table) {
+            return Err(OutOfMemory);
+        }
+        let table = table.shared()?;
+        self.set(row, table);
+        Ok(())
+    }
+
     /// The same tables, for another node.
     pub fn shared(&self) -> Result<Owners, OutOfMemory>
         ensures { IfOk result (λ owners. owners ≡ self.now) }
@@ -91,11 +109,44 @@ impl Owners {
         self.nodes
     }
 
+    /// Each element has an owner. It takes no memory.
+    pub fn are_dealt(&self)
+        ensures { AreOwned self.now.nodes self.now.layouts }
+    {
+        for row in 0..self.tables.len() {
+            self.row(row).is_dealt();
+        }
+    }
+
     /// The number of rows.
     pub fn rows(&self) -> usize
         ensures { result ≡ length self.now.layouts }
     {
         self.tables.len()
+    }
+
+    /// The table of a row, if there is such a row.
+    pub fn table(&self, row: usize) -> Option<&OwnerTable>
+        ensures layout { option_map (λ t. t.now.layout) result ≡ slice_get self.now.layouts row }
+        ensures nodes { IfSome result (λ t. t.now.nodes ≡ self.now.nodes) }
+    {
+        self.tables.get(row)
+    }
+
+    /// Whether all rows are those of another, for as many nodes: true only where they are the same. It compares shapes and mappings, and
+    /// takes no memory.
+    pub fn lies_as(&self, other: &Owners) -> bool
+        ensures { IsTrue result → self.now ≡ other.now }
+    {
+        if self.nodes != other.nodes || self.tables.len() != other.tables.len() {
+            return false;
+        }
+        for row in 0..self.tables.len() {
+            if !self.tables[row].lies_as(&other.tables[row]) {
+                return false;
+            }
+        }
+        true
     }
 
     /// The number of elements of a row; 0 where there is no such row.
@@ -150,6 +201,19 @@ impl Owners {
         ensures { result ≡ address self.now.layouts node (spot_of spot) }
     {
         self.row(spot.row).address(node, spot.at)
+    }
+
+    /// The local address, from 0, of the element on the node, if there is such an element and the node owns it: by one look-up of the row.
+    pub fn held(&self, node: u32, spot: Spot) -> Option<usize>
+        requires { node < self.now.nodes }
+        ensures { result ≡ (if nat_lt spot.at (slice_index_or (sizes self.now.layouts) spot.row 0) && owns_spot self.now.layouts node (spot_of spot)
+            then Some (address self.now.layouts node (spot_of spot)) else None) }
+    {
+        if spot.row < self.tables.len() {
+            self.row(spot.row).held(node, spot.at)
+        } else {
+            None
+        }
     }
 
     /// How many elements of the row the node owns: the length of its piece. It is 0 where there is no such row.

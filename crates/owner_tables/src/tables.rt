@@ -1,15 +1,17 @@
 //! The look-ups of one row's tables.
 
-ghost use Rattle.std.specs.Prelude.{◌≡◌, ◌<◌, ◌≤◌, IfOk, filter, true};
+ghost use Rattle.std.specs.Prelude.{◌≡◌, ◌<◌, ◌≤◌, ◌&&◌, IfOk, None, Some, filter, if◌then◌else◌, nat_lt, true};
 ghost use Rattle.std.specs.List.{range_with_len};
 ghost use Rattle.hpf_base.specs.declared.limits.TheConstants.{MAX_NODES};
-ghost use Rattle.machine_steps.specs.Layout.{count_passing, owned_by, size_of};
+ghost use Rattle.machine_steps.specs.Layout.{IsDealt, count_passing, owned_by, size_of};
 ghost use Rattle.owner_tables.specs.Layouts.{IsLaid};
 ghost use Rattle.owner_tables.specs.Numbers.{least_at};
+ghost use Rattle.owner_tables.specs.SameLayouts.{is_same_layout, is_same_shape};
 
 use crate::alike::{alike_nodes, leaders};
 use crate::least::least_owners;
 use crate::numbers::{Numbers, numbered};
+use crate::same::{is_same_mapping, is_same_shape};
 use hpf_base::{Mapping, OutOfMemory, Shape};
 use std::alloc::Global;
 use std::marker::Model;
@@ -50,6 +52,7 @@ impl Tables {
         mapping: Mapping,
     ) -> Result<Tables, OutOfMemory>
         requires some { 1 ≤ nodes }
+        requires few { nodes ≤ MAX_NODES }
         requires laid { IsLaid nodes (record { shape = shape; mapping = mapping }) }
         ensures { IfOk result (λ t. t ≡ record { layout = record { shape = shape; mapping = mapping }; nodes = nodes }) }
     {
@@ -118,5 +121,48 @@ impl Tables {
     {
         let _node = node;
         self.numbers.addresses[at] as usize
+    }
+
+    /// The local address, from 0, of the element at the position, if there is one and the node owns it.
+    pub(crate) fn held(&self, node: u32, at: usize) -> Option<usize>
+        requires { node < self.now.nodes }
+        ensures { result ≡ (if nat_lt at (size_of self.now.layout) && owned_by self.now.layout node at
+            then Some (count_passing (owned_by self.now.layout node) 0 at) else None) }
+    {
+        if at < self.size() && self.owns(node, at) {
+            Some(self.address(node, at))
+        } else {
+            None
+        }
+    }
+
+    /// Each element has an owner. It does nothing.
+    pub(crate) fn is_dealt(&self)
+        ensures { IsDealt self.now.nodes self.now.layout }
+    {
+        let _ = &self.least;
+    }
+
+    /// The number of nodes, from 1 to 64.
+    pub(crate) fn nodes(&self) -> u32
+        ensures value { result ≡ self.now.nodes }
+        ensures some { 1 ≤ self.now.nodes }
+        ensures few { self.now.nodes ≤ MAX_NODES }
+    {
+        self.nodes
+    }
+
+    /// Whether the row has the shape of another.
+    pub(crate) fn is_shaped_as(&self, other: &Tables) -> bool
+        ensures { result ≡ is_same_shape self.now.layout.shape other.now.layout.shape }
+    {
+        is_same_shape(&self.shape, &other.shape)
+    }
+
+    /// Whether the row has the shape and the mapping of another.
+    pub(crate) fn lies_as(&self, other: &Tables) -> bool
+        ensures { result ≡ is_same_layout self.now.layout other.now.layout }
+    {
+        is_same_shape(&self.shape, &other.shape) && is_same_mapping(&self.mapping, &other.mapping)
     }
 }

@@ -1,13 +1,12 @@
 -- Nodes among all nodes.
-use Rattle.std.proofs.Common.{◌≡◌, ℕ, ◌+◌, ◌-◌, ◌<◌, ◌≤◌, ◌==◌, Bool, List, [], ◌∷◌, ◌++◌, filter, min, max, ◌∙◌, ap, sym, arith, Option, None}
+use Rattle.std.proofs.Common.{◌≡◌, ℕ, ◌+◌, ◌-◌, ◌<◌, ◌≤◌, ◌==◌, Bool, List, [], ◌∷◌, filter, min, max, ◌∙◌, ap, sym, arith, Option, None}
 use Rattle.std.proofs.lemmas.Bool.Decides.{nat_tests}
-use Rattle.std.proofs.lemmas.List.Elements.{filter-append}
 use Rattle.std.specs.List.{range_with_len}
 use Rattle.nest_order.specs.Storage.{Spot}
 use Rattle.machine_steps.specs.Layout.{Layout}
 use Rattle.machine_steps.specs.Message.{computes_left}
 use Rattle.hpf_base.specs.Positions.{in_section}
-use Rattle.hpf_base.proofs.Sections.{filter-range, range_with_len-add}
+use Rattle.hpf_base.proofs.Sections.{filter-range}
 
 -- the one with a number is one of them
 pub one-of : (k nodes : ℕ) → k < nodes → filter (λ node. k == node) (range_with_len 0 nodes) ≡ k ∷ []
@@ -29,10 +28,3 @@ root-of nodes some = ap (λ (test : ℕ → Bool). filter test (range_with_len 0
 -- where nothing is assigned, node 0 computes
 pub root-computes : (layouts : List Layout) (nodes : ℕ) (left : Option Spot) → 1 ≤ nodes → left ≡ None → 0 ∷ [] ≡ filter (λ node. computes_left layouts node left) (range_with_len 0 nodes)
 root-computes layouts nodes left some e = sym (root-of nodes some) ∙ ap (λ l. filter (λ node. computes_left layouts node l) (range_with_len 0 nodes)) (sym e)
-
--- those that pass, with one node more
-pub filter-more : (P : ℕ → Bool) (n : ℕ) → filter P (range_with_len 0 (n + 1)) ≡ filter P (range_with_len 0 n) ++ filter P (n ∷ [])
-filter-more P n = ap (filter P) (range_with_len-add 0 n 1) ∙ filter-append P (range_with_len 0 n) ((0 + n) ∷ []) ∙ ap (λ k. filter P (range_with_len 0 n) ++ filter P (k ∷ [])) same
-  where
-    same : 0 + n ≡ n
-    same = omega arith

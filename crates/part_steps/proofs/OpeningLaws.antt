@@ -6,8 +6,7 @@ use Rattle.std.specs.List.{All, range_with_len}
 use Rattle.nest_order.specs.Storage.{Spot}
 use Rattle.machine_steps.specs.Message.{has_any}
 use Rattle.machine_steps.specs.Node.{Parcel, parcel}
-use Rattle.comm_sets.proofs.Computing.{are-nodes}
-use Rattle.part_steps.proofs.Nodes.{filter-more}
+use Rattle.comm_sets.proofs.Computing.{are-nodes, filter-more}
 
 module _ (message : ℕ → List Spot) (n : ℕ) (spots : List Spot) (is : spots ≡ message n) where
   -- one node more that sends

@@ -1,6 +1,5 @@
 -- Parts: statements with who computes their tuples.
-use Rattle.std.specs.Prelude.{ℕ, ◌==◌, Bool, List, [], map}
-use Rattle.std.specs.List.{range_with_len}
+use Rattle.std.specs.Prelude.{ℕ, ◌==◌, Bool, List}
 use Rattle.machine_steps.specs.Layout.{Layout, in_bounds}
 use Rattle.machine_steps.specs.Message.{Part, computes_left, first_read, least_or_zero}
 use Rattle.tuple_values.specs.Statements.{Statement, tuple_count, tuple_reads, tuple_left}
@@ -16,12 +15,6 @@ abbrev pub computed_by : Who → ℕ → List Layout → Statement → (node tup
 computed_by Left nodes layouts w node t = computes_left layouts node (in_bounds layouts (tuple_left w t))
 computed_by First nodes layouts w node t = computing_node nodes layouts w t == node
 computed_by Root nodes layouts w node t = node == 0
-
--- the nodes that compute the tuples, where the first reads say so
-abbrev pub firsts_of : Who → ℕ → List Layout → Statement → List ℕ
-firsts_of Left nodes layouts w = []
-firsts_of First nodes layouts w = map (computing_node nodes layouts w) (range_with_len 0 (tuple_count w))
-firsts_of Root nodes layouts w = []
 
 -- a statement with who computes its tuples, and how the rows lie on so many nodes
 pub record PartView : Type 0 where

@@ -4,8 +4,9 @@
 //! out: what the node sends and from whom it takes, and behind the phase what is stored, the fault that is kept, the values joined, or the
 //! values of a section.
 //!
-//! What holds in between: who computes a tuple is asked once (`Part`), and sets of elements, messages and values go by that; all values
-//! are taken before any is stored, so that want of memory leaves a node as it was; what is stored at last takes no memory.
+//! What holds in between: one pass over all tuples asks who computes each and what it reads (`exchange_of`), and all else goes by what the
+//! pass gave; values are asked of the tuples alone that the node computes; all values are taken before any is stored, so that want of
+//! memory leaves a node as it was; what is stored at last takes no memory.
 #![tactic(auto)]
 
 mod computing;
@@ -26,7 +27,7 @@ mod who;
 
 pub use kept::{Kept, earlier};
 pub use local_values::local_value;
-pub use opening::{inbox, outbox};
+pub use opening::{exchange_of, inbox, outbox};
 pub use parallel::{ParValues, par_values};
 pub use parcel::Parcel;
 pub use part::Part;

@@ -1,6 +1,6 @@
 //! The values of elements that lie on a node.
 
-ghost use Rattle.std.specs.Prelude.{◌≡◌, ◌<◌, ◌++◌, ◌∷◌, [], IfOk, OnOk, map, slice_index_or, true};
+ghost use Rattle.std.specs.Prelude.{◌≡◌, ◌<◌, ◌++◌, ◌∷◌, ◌&&◌, [], IfOk, OnOk, None, Some, if◌then◌else◌, map, nat_lt, slice_index_or};
 ghost use Rattle.machine_steps.specs.Layout.{owns_spot, sizes};
 ghost use Rattle.machine_steps.specs.Node.{local_read};
 ghost use Rattle.nest_order.specs.Storage.{read};
@@ -18,27 +18,22 @@ pub fn local_value(owners: &Owners, id: u32, pieces: &[Row], spot: Spot) -> Resu
     requires { id < owners.now.nodes }
     ensures { IfOk result (λ v. v ≡ local_read owners.now.layouts id pieces.now (spot_of spot)) }
 {
-    if owners.is_in_bounds(spot) && owners.owns(id, spot) {
-        Ok(held_value(owners, id, pieces, spot))
-    } else {
-        Err(OutOfMemory)
+    match held_value(owners, id, pieces, spot) {
+        Some(value) => Ok(value),
+        None => Err(OutOfMemory),
     }
 }
 
-/// The value of an element that the node owns.
-pub(crate) fn held_value(owners: &Owners, id: u32, pieces: &[Row], spot: Spot) -> i64
-    requires node { id < owners.now.nodes }
-    requires at { spot.at < slice_index_or (sizes owners.now.layouts) spot.row 0 }
-    requires owner { owns_spot owners.now.layouts id (spot_of spot) ≡ true }
-    ensures { result ≡ local_read owners.now.layouts id pieces.now (spot_of spot) }
+/// The value of an element, if there is such an element and the node owns it.
+pub(crate) fn held_value(owners: &Owners, id: u32, pieces: &[Row], spot: Spot) -> Option<i64>
+    requires { id < owners.now.nodes }
+    ensures { result ≡ (if nat_lt spot.at (slice_index_or (sizes owners.now.layouts) spot.row 0) && owns_spot owners.now.layouts id (spot_of spot)
+        then Some (local_read owners.now.layouts id pieces.now (spot_of spot)) else None) }
 {
-    value_at(
-        pieces,
-        Spot {
-            row: spot.row,
-            at: owners.address(id, spot),
-        },
-    )
+    match owners.held(id, spot) {
+        Some(at) => Some(value_at(pieces, Spot { row: spot.row, at })),
+        None => None,
+    }
 }
 
 /// The value at a place of the pieces; 0 where there is none.
@@ -52,7 +47,8 @@ fn value_at(pieces: &[Row], place: Spot) -> i64
     }
 }
 
-/// The values of elements that the node owns, in order.
+/// The values of elements that the node owns, in order. One that the node doesn't own, or that is out of bounds, is answered as want of
+/// memory.
 pub(crate) fn local_values(
     alloc: Global,
     owners: &Owners,

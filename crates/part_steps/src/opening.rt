@@ -4,6 +4,7 @@ ghost use Rattle.std.specs.Prelude.{◌≡◌, ◌<◌, ◌++◌, ◌∷◌, [],
 ghost use Rattle.machine_steps.specs.Message.{has_any, message};
 ghost use Rattle.machine_steps.specs.Node.{local_read, parcel, part_sends};
 ghost use Rattle.owner_tables.specs.Spots.{spot_of};
+ghost use Rattle.part_steps.specs.Exchanged.{IsExchange};
 ghost use Rattle.part_steps.specs.Openings.{inbox_on, outbox_on};
 ghost use Rattle.part_steps.specs.Parts.{part_of};
 ghost use Rattle.part_steps.specs.Views.{part_view};
@@ -12,10 +13,18 @@ use crate::local_values::local_values;
 use crate::parcel::Parcel;
 use crate::part::Part;
 use crate::row::Row;
-use comm_sets::{Spot, incoming, outgoing};
+use comm_sets::{Exchange, Spot, exchange};
 use hpf_base::OutOfMemory;
 use std::alloc::Global;
 use std::collections::VecDeque;
+
+/// What a node exchanges in the phase of a part, and which tuples it computes, from one pass over the tuples.
+pub fn exchange_of(alloc: Global, part: &Part<'_>, id: u32) -> Result<Exchange, OutOfMemory>
+    requires { id < part.now.owners.now.nodes }
+    ensures { IfOk result (IsExchange (part_view part.now) id) }
+{
+    exchange(alloc, part.owners, part, id)
+}
 
 /// What a node sends: to each node for which it has a message, ascending, the values of the message's elements, row by row, each in
 /// array-element order.
@@ -24,30 +33,37 @@ pub fn outbox(
     part: &Part<'_>,
     id: u32,
     pieces: &[Row],
+    exchange: &Exchange,
 ) -> Result<VecDeque<Parcel>, OutOfMemory>
-    requires { id < part.now.owners.now.nodes }
+    requires id { id < part.now.owners.now.nodes }
+    requires exchange { IsExchange (part_view part.now) id exchange.now }
     ensures parcels { IfOk result (λ o. o.items ≡ outbox_on part.now.owners.now.nodes part.now.owners.now.layouts (part_of (part_view part.now)) id pieces.now) }
     ensures targets { IfOk result (λ o. All (λ parcel. parcel.to < part.now.owners.now.nodes) o.items) }
 {
-    let messages = outgoing(alloc, part.owners, part, id)?;
     let mut outbox = VecDeque::new(alloc);
     for target in 0..part.owners.nodes() {
-        let spots = messages.with(target);
+        let spots = exchange.outgoing.with(target);
         push_parcel(alloc, part, id, pieces, target, spots, &mut outbox)?;
     }
     Ok(outbox)
 }
 
 /// The nodes that have a message for the node, ascending.
-pub fn inbox(alloc: Global, part: &Part<'_>, id: u32) -> Result<VecDeque<u32>, OutOfMemory>
-    requires { id < part.now.owners.now.nodes }
+pub fn inbox(
+    alloc: Global,
+    part: &Part<'_>,
+    id: u32,
+    exchange: &Exchange,
+) -> Result<VecDeque<u32>, OutOfMemory>
+    requires id { id < part.now.owners.now.nodes }
+    requires exchange { IsExchange (part_view part.now) id exchange.now }
     ensures sources { IfOk result (λ i. i.items ≡ inbox_on part.now.owners.now.nodes part.now.owners.now.layouts (part_of (part_view part.now)) id) }
     ensures below { IfOk result (λ i. All (λ source. source < part.now.owners.now.nodes) i.items) }
 {
-    let messages = incoming(alloc, part.owners, part, id)?;
+    let _ = id;
     let mut inbox = VecDeque::new(alloc);
     for source in 0..part.owners.nodes() {
-        push_source(source, messages.with(source), &mut inbox)?;
+        push_source(source, exchange.incoming.with(source), &mut inbox)?;
     }
     Ok(inbox)
 }

@@ -1,10 +1,14 @@
 //! What a parallel statement comes to on a node.
 
 ghost use Rattle.std.specs.Prelude.{◌≡◌, ◌<◌, ℤ, List, Some, IfOk, OnOk};
+ghost use Rattle.array_meaning.specs.Faults.{Fault as FaultOf};
 ghost use Rattle.machine_steps.specs.Instr.{Value};
-ghost use Rattle.machine_steps.specs.Machine.{earlier, kept_of};
+ghost use Rattle.machine_steps.specs.Machine.{earlier, effect_by, kept_of};
+ghost use Rattle.machine_steps.specs.Node.{local_apply};
 ghost use Rattle.serial_run.specs.Completions.{fault as fault_of};
+ghost use Rattle.tuple_values.specs.Spots.{read_of};
 ghost use Rattle.part_steps.specs.Behind.{applied, behind, fault_below, outcome_of, stored_below, tuples};
+ghost use Rattle.part_steps.specs.Exchanged.{IsComputed, IsExchange};
 ghost use Rattle.part_steps.specs.Gathered.{behind_of};
 ghost use Rattle.part_steps.specs.KeptFaults.{kepts};
 ghost use Rattle.part_steps.specs.Stores.{stored};
@@ -15,6 +19,7 @@ use crate::kept::{Kept, earlier};
 use crate::part::Part;
 use crate::row::Row;
 use crate::stores::Stores;
+use comm_sets::{Exchange, Spot};
 use hpf_base::OutOfMemory;
 use letters::Body;
 use slot_values::Fault;
@@ -28,47 +33,65 @@ pub struct ParValues {
     pub fault: Option<Kept>,
 }
 
-/// What a parallel statement comes to on the node with this number, by its pieces of all rows and the values that it received from each
-/// node. Nothing is stored yet. `number` is the part's, which the fault's key has. An element out of bounds is answered as want of memory.
+/// What a parallel statement comes to on the node with this number, by its pieces of all rows, the values that it received from each
+/// node, and what it exchanged. Nothing is stored yet. `number` is the part's, which the fault's key has. An element out of bounds is
+/// answered as want of memory.
 pub fn par_values(
     alloc: Global,
     part: &Part<'_>,
     id: u32,
     pieces: &[Row],
     received: &[Body],
+    exchange: &Exchange,
     number: u64,
 ) -> Result<ParValues, OutOfMemory>
-    requires { id < part.now.owners.now.nodes }
+    requires id { id < part.now.owners.now.nodes }
+    requires exchange { IsExchange (part_view part.now) id exchange.now }
     ensures stores { IfOk result (λ r. let b = behind (part_view part.now) id pieces.now received.now in (ps : List (List ℤ)) → stored r.stores ps ≡ stored_below b (tuples b) ps) }
     ensures fault { IfOk result (λ r. let b = behind (part_view part.now) id pieces.now received.now in kepts r.fault ≡ fault_below b number (tuples b)) }
 {
-    let gathered = Gathered::new(alloc, part, id, pieces, received)?;
+    let gathered = Gathered::new(part, id, pieces, received, exchange);
+    gathered_values(alloc, &gathered, number)
+}
+
+/// What it comes to by what the node has behind the phase.
+fn gathered_values(
+    alloc: Global,
+    gathered: &Gathered<'_>,
+    number: u64,
+) -> Result<ParValues, OutOfMemory>
+    ensures stores { IfOk result (λ r. let b = behind_of gathered.now in (ps : List (List ℤ)) → stored r.stores ps ≡ stored_below b (tuples b) ps) }
+    ensures fault { IfOk result (λ r. let b = behind_of gathered.now in kepts r.fault ≡ fault_below b number (tuples b)) }
+{
     let mut values = ParValues {
         stores: Stores::new(alloc),
         fault: None,
     };
-    for tuple in 0..part.statement.count() {
-        values.add_tuple(&gathered, tuple, number)?;
+    let computed = gathered.computed();
+    for tuple in computed {
+        values.add_tuple(gathered, *tuple as usize, number)?;
     }
     Ok(values)
 }
 
 impl ParValues {
-    /// Adds what a tuple comes to.
+    /// Adds what a tuple that the node computes comes to.
     fn add_tuple(
         &mut self,
         gathered: &Gathered<'_>,
         tuple: usize,
         number: u64,
     ) -> Result<(), OutOfMemory>
-        requires { tuple < tuples (behind_of gathered.now) }
+        requires { IsComputed (behind_of gathered.now) tuple }
         ensures stores { OnOk result ((ps : List (List ℤ)) → stored self.new.stores ps
             ≡ applied (behind_of gathered.now) tuple (outcome_of (behind_of gathered.now) tuple) (stored self.old.stores ps)) }
         ensures fault { OnOk result (kepts self.new.fault ≡ earlier (kepts self.old.fault) (kept_of (outcome_of (behind_of gathered.now) tuple) tuple number)) }
     {
-        match gathered.outcome(tuple)? {
+        let statement = gathered.part.statement;
+        let place = statement.place(tuple)?;
+        match gathered.outcome(tuple, place)? {
             Outcome::Nothing => Ok(()),
-            Outcome::Value(v) => self.add_value(gathered, tuple, &v),
+            Outcome::Value(v) => self.add_value(gathered, statement.left_at(place), &v),
             Outcome::Breaks(fault) => {
                 self.fault = kept_earlier(self.fault.take(), tuple, number, fault);
                 Ok(())
@@ -76,19 +99,18 @@ impl ParValues {
         }
     }
 
-    /// Adds the value of a tuple.
+    /// Adds the value of an element that is assigned, where there is one.
     fn add_value(
         &mut self,
         gathered: &Gathered<'_>,
-        tuple: usize,
+        left: Option<Spot>,
         v: &i64,
     ) -> Result<(), OutOfMemory>
-        requires { tuple < tuples (behind_of gathered.now) }
         ensures stores { OnOk result ((ps : List (List ℤ)) → stored self.new.stores ps
-            ≡ applied (behind_of gathered.now) tuple (Value v.now) (stored self.old.stores ps)) }
+            ≡ local_apply {F = FaultOf} gathered.now.part.now.owners.now.layouts gathered.now.id (effect_by (read_of left) (Value v.now)) (stored self.old.stores ps)) }
         ensures fault { OnOk result (self.new.fault ≡ self.old.fault) }
     {
-        match gathered.part.statement.left(tuple) {
+        match left {
             None => Ok(()),
             Some(spot) => self.stores.add(gathered.part.owners, gathered.id, spot, v),
         }

@@ -5,6 +5,7 @@ ghost use Rattle.machine_steps.specs.Machine.{earlier, kept_of};
 ghost use Rattle.machine_steps.specs.Node.{join_options, outcome_value};
 ghost use Rattle.node_code.specs.Parallel.{joined};
 ghost use Rattle.part_steps.specs.Behind.{behind, fault_below, joined_below, outcome_of, tuples};
+ghost use Rattle.part_steps.specs.Exchanged.{IsComputed, IsExchange};
 ghost use Rattle.part_steps.specs.Gathered.{behind_of};
 ghost use Rattle.part_steps.specs.KeptFaults.{kepts};
 ghost use Rattle.part_steps.specs.Views.{part_view};
@@ -14,10 +15,10 @@ use crate::kept::Kept;
 use crate::parallel::kept_earlier;
 use crate::part::Part;
 use crate::row::Row;
+use comm_sets::Exchange;
 use hpf_base::OutOfMemory;
 use letters::Body;
 use op_tables::Op;
-use std::alloc::Global;
 use term_values::combined;
 use tuple_values::Outcome;
 
@@ -28,34 +29,48 @@ pub struct ReduceValues {
     pub fault: Option<Kept>,
 }
 
-/// What a reduction comes to on the node with this number, by its pieces of all rows and the values that it received from each node.
-/// `number` is the part's, which the fault's key has. An element out of bounds is answered as want of memory.
+/// What a reduction comes to on the node with this number, by its pieces of all rows, the values that it received from each node, and what
+/// it exchanged. `number` is the part's, which the fault's key has. An element out of bounds is answered as want of memory.
 pub fn reduce_values(
-    alloc: Global,
     part: &Part<'_>,
     id: u32,
     pieces: &[Row],
     received: &[Body],
+    exchange: &Exchange,
     op: Op,
     number: u64,
 ) -> Result<ReduceValues, OutOfMemory>
-    requires { id < part.now.owners.now.nodes }
+    requires id { id < part.now.owners.now.nodes }
+    requires exchange { IsExchange (part_view part.now) id exchange.now }
     ensures value { IfOk result (λ r. let b = behind (part_view part.now) id pieces.now received.now in r.value ≡ joined_below b op (tuples b)) }
     ensures fault { IfOk result (λ r. let b = behind (part_view part.now) id pieces.now received.now in kepts r.fault ≡ fault_below b number (tuples b)) }
 {
-    let gathered = Gathered::new(alloc, part, id, pieces, received)?;
+    let gathered = Gathered::new(part, id, pieces, received, exchange);
+    gathered_values(&gathered, op, number)
+}
+
+/// What it comes to by what the node has behind the phase.
+fn gathered_values(
+    gathered: &Gathered<'_>,
+    op: Op,
+    number: u64,
+) -> Result<ReduceValues, OutOfMemory>
+    ensures value { IfOk result (λ r. let b = behind_of gathered.now in r.value ≡ joined_below b op (tuples b)) }
+    ensures fault { IfOk result (λ r. let b = behind_of gathered.now in kepts r.fault ≡ fault_below b number (tuples b)) }
+{
     let mut values = ReduceValues {
         value: None,
         fault: None,
     };
-    for tuple in 0..part.statement.count() {
-        values.add_tuple(&gathered, tuple, op, number)?;
+    let computed = gathered.computed();
+    for tuple in computed {
+        values.add_tuple(gathered, *tuple as usize, op, number)?;
     }
     Ok(values)
 }
 
 impl ReduceValues {
-    /// Adds what a tuple comes to.
+    /// Adds what a tuple that the node computes comes to.
     fn add_tuple(
         &mut self,
         gathered: &Gathered<'_>,
@@ -63,11 +78,12 @@ impl ReduceValues {
         op: Op,
         number: u64,
     ) -> Result<(), OutOfMemory>
-        requires { tuple < tuples (behind_of gathered.now) }
+        requires { IsComputed (behind_of gathered.now) tuple }
         ensures value { OnOk result (self.new.value ≡ join_options (joined op) self.old.value (outcome_value (outcome_of (behind_of gathered.now) tuple))) }
         ensures fault { OnOk result (kepts self.new.fault ≡ earlier (kepts self.old.fault) (kept_of (outcome_of (behind_of gathered.now) tuple) tuple number)) }
     {
-        match gathered.outcome(tuple)? {
+        let place = gathered.part.statement.place(tuple)?;
+        match gathered.outcome(tuple, place)? {
             Outcome::Nothing => Ok(()),
             Outcome::Value(v) => {
                 self.value = joined_behind(op, self.value, v);

@@ -21,6 +21,13 @@ impl Model for Row {
 }
 
 impl Row {
+    /// These values, as they lie. It takes no memory.
+    pub fn of(values: Vec<i64>) -> Row
+        ensures { result ≡ values.items }
+    {
+        Row { values }
+    }
+
     /// So many times one value.
     pub fn of_one(alloc: Global, value: i64, count: usize) -> Result<Row, OutOfMemory>
         ensures { IfOk result (λ row. row ≡ replicate count value) }

@@ -6,19 +6,20 @@ ghost use Rattle.machine_steps.specs.Message.{first_read};
 ghost use Rattle.tuple_values.specs.Spots.{read_of, reads_of};
 ghost use Rattle.tuple_values.specs.Statements.{tuple_reads};
 ghost use Rattle.part_steps.specs.Behind.{behind, elements_below, value_of, tuples};
+ghost use Rattle.part_steps.specs.Exchanged.{IsExchange};
 ghost use Rattle.part_steps.specs.Gathered.{behind_of};
 ghost use Rattle.part_steps.specs.Views.{part_view};
 
 use crate::gathered::Gathered;
 use crate::part::Part;
 use crate::row::Row;
-use comm_sets::Spot;
+use comm_sets::{Exchange, Spot};
 use hpf_base::OutOfMemory;
 use letters::Body;
 use std::alloc::Global;
 
 /// The values of the elements that the tuples of a part read, of each tuple the first, in order, on the node with this number, by its
-/// pieces of all rows and the values that it received from each node. What is no element is left out. An element out of bounds is answered as
+/// pieces of all rows, the values that it received from each node, and what it exchanged. What is no element is left out. An element out of bounds is answered as
 /// want of memory.
 pub fn section_values(
     alloc: Global,
@@ -26,11 +27,13 @@ pub fn section_values(
     id: u32,
     pieces: &[Row],
     received: &[Body],
+    exchange: &Exchange,
 ) -> Result<Vec<i64>, OutOfMemory>
-    requires { id < part.now.owners.now.nodes }
+    requires id { id < part.now.owners.now.nodes }
+    requires exchange { IsExchange (part_view part.now) id exchange.now }
     ensures { IfOk result (λ vs. let b = behind (part_view part.now) id pieces.now received.now in vs.items ≡ elements_below b (tuples b)) }
 {
-    let gathered = Gathered::new(alloc, part, id, pieces, received)?;
+    let gathered = Gathered::new(part, id, pieces, received, exchange);
     let mut values = Vec::with_capacity(alloc, part.statement.count())?;
     let mut reads = Vec::new(alloc);
     for tuple in 0..part.statement.count() {

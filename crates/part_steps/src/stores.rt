@@ -45,19 +45,22 @@ impl Stores {
         requires { id < owners.now.nodes }
         ensures { OnOk result ((pieces : List (List ℤ)) → stored self.new pieces ≡ local_write owners.now.layouts id (spot_of spot) value.now (stored self.old pieces)) }
     {
-        if !owners.is_in_bounds(spot) {
-            return Err(OutOfMemory);
+        match owners.held(id, spot) {
+            Some(at) => {
+                self.list.push(Store {
+                    spot: Spot { row: spot.row, at },
+                    value: *value,
+                })?;
+                Ok(())
+            }
+            None => {
+                if owners.is_in_bounds(spot) {
+                    Ok(())
+                } else {
+                    Err(OutOfMemory)
+                }
+            }
         }
-        if owners.owns(id, spot) {
-            self.list.push(Store {
-                spot: Spot {
-                    row: spot.row,
-                    at: owners.address(id, spot),
-                },
-                value: *value,
-            })?;
-        }
-        Ok(())
     }
 
     /// Stores the values. It takes no memory.

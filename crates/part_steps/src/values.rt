@@ -1,45 +1,52 @@
 //! The values of elements and of tuples on a node behind the phase of a part.
 
-ghost use Rattle.std.specs.Prelude.{◌≡◌, ◌<◌, [], IfOk, slice_index_or, true};
+ghost use Rattle.std.specs.Prelude.{◌≡◌, ◌<◌, [], IfOk, slice_index_or};
 ghost use Rattle.machine_steps.specs.Layout.{sizes};
 ghost use Rattle.owner_tables.specs.Spots.{spot_of};
-ghost use Rattle.part_steps.specs.Behind.{behind, outcome_of, received_value, tuples, value_of};
+ghost use Rattle.tuple_values.specs.Outcomes.{outcome_view};
+ghost use Rattle.tuple_values.specs.Statements.{tuple_place};
+ghost use Rattle.tuple_values.specs.Views.{statement as statement_of};
+ghost use Rattle.part_steps.specs.Behind.{behind, outcome_of, received_value, value_of};
+ghost use Rattle.part_steps.specs.Exchanged.{IsComputed, IsExchange, computed_of};
 ghost use Rattle.part_steps.specs.Gathered.{behind_of};
 ghost use Rattle.part_steps.specs.Views.{part_view};
-ghost use Rattle.part_steps.specs.Openings.{is_complete, is_nothing, messages_or, messages_to};
-ghost use Rattle.part_steps.specs.Parts.{part_of};
-ghost use Rattle.tuple_values.specs.Outcomes.{outcome_view};
 
 use crate::gathered::Gathered;
 use crate::local_values::held_value;
 use crate::part::Part;
 use crate::row::Row;
-use comm_sets::{Messages, Spot, incoming, value_in};
+use comm_sets::{Exchange, Spot, value_in};
 use hpf_base::OutOfMemory;
 use letters::Body;
-use std::alloc::Global;
 use tuple_values::{Elements, Outcome};
 
 impl<'a> Gathered<'a> {
-    /// The node's number, its pieces of all rows, and the values that it received from each node.
+    /// The node's number, its pieces of all rows, the values that it received from each node, and what it exchanged.
     pub(crate) fn new(
-        alloc: Global,
         part: &'a Part<'a>,
         id: u32,
         pieces: &'a [Row],
         received: &'a [Body],
-    ) -> Result<Gathered<'a>, OutOfMemory>
-        requires { id < part.now.owners.now.nodes }
-        ensures { IfOk result (λ g. behind_of g ≡ behind (part_view part.now) id pieces.now received.now) }
+        exchange: &'a Exchange,
+    ) -> Gathered<'a>
+        requires id { id < part.now.owners.now.nodes }
+        requires exchange { IsExchange (part_view part.now) id exchange.now }
+        ensures { behind_of result ≡ behind (part_view part.now) id pieces.now received.now }
     {
-        let messages = messages_to(alloc, part, id, received)?;
-        Ok(Gathered {
+        Gathered {
             part,
             id,
             pieces,
             received,
-            messages,
-        })
+            exchange,
+        }
+    }
+
+    /// The tuples that the node computes, ascending.
+    pub(crate) fn computed(&self) -> &[u32]
+        ensures { result.now ≡ computed_of (behind_of self.now) }
+    {
+        self.exchange.computed.as_slice()
     }
 
     /// The value of an element. One out of bounds is answered as want of memory.
@@ -47,11 +54,11 @@ impl<'a> Gathered<'a> {
         ensures { IfOk result (λ v. v ≡ value_of (behind_of self.now) (spot_of spot)) }
     {
         let owners = self.part.owners;
+        if let Some(value) = held_value(owners, self.id, self.pieces, spot) {
+            return Ok(value);
+        }
         if !owners.is_in_bounds(spot) {
             return Err(OutOfMemory);
-        }
-        if owners.owns(self.id, spot) {
-            return Ok(held_value(owners, self.id, self.pieces, spot));
         }
         Ok(self.received_value(spot))
     }
@@ -62,26 +69,20 @@ impl<'a> Gathered<'a> {
         ensures { result ≡ received_value (behind_of self.now) (spot_of spot) }
     {
         let source = self.part.owners.least_owner(spot);
-        match &self.messages {
-            Some(messages) => value_in(
-                messages.with(source),
-                values_from(self.received, source),
-                spot,
-            ),
-            None => 0,
-        }
+        value_in(
+            self.exchange.incoming.with(source),
+            values_from(self.received, source),
+            spot,
+        )
     }
 
-    /// What a tuple comes to on the node: nothing where it doesn't compute it.
-    pub(crate) fn outcome(&self, tuple: usize) -> Result<Outcome, OutOfMemory>
-        requires { tuple < tuples (behind_of self.now) }
+    /// What a tuple that the node computes comes to, by the place of what is assigned.
+    pub(crate) fn outcome(&self, tuple: usize, place: Option<usize>) -> Result<Outcome, OutOfMemory>
+        requires computed { IsComputed (behind_of self.now) tuple }
+        requires place { place ≡ tuple_place (statement_of self.now.part.now.statement.now) tuple }
         ensures { IfOk result (λ o. outcome_view o ≡ outcome_of (behind_of self.now) tuple) }
     {
-        if self.part.computes(self.id, tuple) {
-            self.part.statement.outcome(tuple, self)
-        } else {
-            Ok(Outcome::Nothing)
-        }
+        self.part.statement.outcome(tuple, place, self)
     }
 }
 
@@ -94,32 +95,6 @@ impl<'a> Elements for Gathered<'a> {
     fn value(&self, spot: Spot) -> Result<i64, OutOfMemory> {
         self.get(spot)
     }
-}
-
-/// The messages to a node that received these values; None where it received none.
-fn messages_to(
-    alloc: Global,
-    part: &Part<'_>,
-    id: u32,
-    received: &[Body],
-) -> Result<Option<Messages>, OutOfMemory>
-    requires { id < part.now.owners.now.nodes }
-    ensures messages { IfOk result (λ m. let all = messages_to part.now.owners.now.nodes part.now.owners.now.layouts (part_of (part_view part.now)) id in messages_or all m ≡ all) }
-    ensures complete { IfOk result (λ m. is_complete received.now m ≡ true) }
-{
-    if is_nothing(received) {
-        Ok(None)
-    } else {
-        let messages = incoming(alloc, part.owners, part, id)?;
-        Ok(Some(messages))
-    }
-}
-
-/// Whether no values were received.
-fn is_nothing(received: &[Body]) -> bool
-    ensures { result ≡ is_nothing received.now }
-{
-    received.iter().all(|body| body.len() == 0)
 }
 
 /// The values received from a node; none where there is no such node.

@@ -2,7 +2,7 @@
 use Rattle.std.proofs.Common.{◌≡◌, true, refl}
 use Rattle.std.proofs.lemmas.Bool.{false≢true}
 use Rattle.machine_steps.specs.Instr.{Local}
-use Rattle.node_code.specs.Instructions.{ArrayTable, Instruction, Set, Fetch, Store, TestBounds, TestStride, Trips, Jump, JumpIfZero, Halt, Limits, OwnLimits, ForallLimits, OneToOne, Par, ParForall, MakeCopy, ParCopy, ParForallCopy, Verdict, Reduce, Inside, Print, meaning_of}
+use Rattle.node_code.specs.Instructions.{ArrayTable, Instruction, Set, Fetch, Store, TestBounds, TestStride, Trips, Jump, JumpIfZero, Halt, Limits, OwnLimits, ForallLimits, OneToOne, Par, ParForall, MakeCopy, ParCopy, ParForallCopy, Verdict, Reduce, Inside, Print, FoldCopy, LastCopy, Remap, meaning_of}
 use Rattle.slot_values.specs.LocalInstructions.{is_local, local_control}
 
 pub local_meaning : (table : ArrayTable) (i : Instruction) → is_local i ≡ true → meaning_of table i ≡ Local (local_control table.shapes i)
@@ -28,3 +28,6 @@ local_meaning table Verdict h = absurd (false≢true h)
 local_meaning table (Reduce p o x) h = absurd (false≢true h)
 local_meaning table (Inside line a subs) h = refl
 local_meaning table (Print items) h = absurd (false≢true h)
+local_meaning table (FoldCopy copy o x) h = absurd (false≢true h)
+local_meaning table (LastCopy copy set x) h = absurd (false≢true h)
+local_meaning table (Remap new) h = absurd (false≢true h)

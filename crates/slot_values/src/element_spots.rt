@@ -44,7 +44,7 @@ fn spot_by_one(shapes: &[Dims], array: usize, subscript: &Flat, slots: &[i64]) -
     ensures stopped { IfErr result (IsStop (element_spot shapes.now array (AndFlat (flat subscript.now) NoFlat) slots.now)) }
 {
     let i = flat_value(slots, &[], subscript)?;
-    let spot = spot_at(array, place_by_one(shapes, array, &i))?;
+    let spot = spot_at(array, element_place_of_one(shapes, array, &i))?;
     Ok(spot)
 }
 
@@ -62,7 +62,7 @@ fn spot_by_two(
     let pair = two_values(slots, &[], subscripts)?;
     spot_at(
         array,
-        place_by_two(shapes, array, &pair.first, &pair.second),
+        element_place_of_two(shapes, array, &pair.first, &pair.second),
     )
 }
 
@@ -92,7 +92,7 @@ pub fn element_place(shapes: &[Dims], array: usize, subscripts: &[i64]) -> Optio
 }
 
 /// The same of one subscript.
-fn place_by_one(shapes: &[Dims], array: usize, subscript: &i64) -> Option<usize>
+pub fn element_place_of_one(shapes: &[Dims], array: usize, subscript: &i64) -> Option<usize>
     ensures { result ≡ element_place (shape_of shapes.now array) (subscript.now ∷ []) }
 {
     if array < shapes.len() {
@@ -102,8 +102,13 @@ fn place_by_one(shapes: &[Dims], array: usize, subscript: &i64) -> Option<usize>
     }
 }
 
-/// The same of two.
-fn place_by_two(shapes: &[Dims], array: usize, first: &i64, second: &i64) -> Option<usize>
+/// The same of two subscripts.
+pub fn element_place_of_two(
+    shapes: &[Dims],
+    array: usize,
+    first: &i64,
+    second: &i64,
+) -> Option<usize>
     ensures { result ≡ element_place (shape_of shapes.now array) (first.now ∷ second.now ∷ []) }
 {
     if array < shapes.len() {

@@ -22,7 +22,7 @@ mod slot_terms;
 mod space_tests;
 
 pub use control::{Control, Status, halt, jump, jump_if_zero};
-pub use element_spots::{element_place, element_spot};
+pub use element_spots::{element_place, element_place_of_one, element_place_of_two, element_spot};
 pub use expressions::{flat_or_zero, flat_value, flat_values, slot};
 pub use forall_tests::{forall_limits, one_to_one};
 pub use hpf_base::OutOfMemory;

@@ -42,6 +42,9 @@ pub fn is_local(i: &Instruction) -> bool
         Instruction::Reduce { .. } => false,
         Instruction::Inside { .. } => true,
         Instruction::Print(_) => false,
+        Instruction::FoldCopy { .. } => false,
+        Instruction::LastCopy { .. } => false,
+        Instruction::Remap(_) => false,
     }
 }
 

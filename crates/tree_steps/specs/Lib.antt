@@ -1,2 +1,3 @@
 pub mod Absorbed
+pub mod Positions
 pub mod Rounds

@@ -5,6 +5,7 @@ ghost use Rattle.tree_steps.specs.Absorbed.{joined_values};
 
 use crate::kept_faults::{kept_numbers, kept_of_numbers};
 use crate::optional_values::{option_numbers, option_of_numbers, options_joined};
+use crate::positioned_values::{later, positioned_numbers, positioned_of_numbers};
 use hpf_base::OutOfMemory;
 use op_tables::Op;
 use part_steps::earlier;
@@ -17,6 +18,8 @@ pub enum Joining {
     Kept,
     /// Values that may be missing, joined by the operator of a reduction.
     Options(Op),
+    /// Values with their positions, of which the one at the later position is kept.
+    Later,
 }
 
 impl Joining {
@@ -29,6 +32,10 @@ impl Joining {
             Joining::Options(op) => {
                 let value = options_joined(op, option_of_numbers(a), option_of_numbers(b));
                 option_numbers(alloc, value)
+            }
+            Joining::Later => {
+                let last = later(positioned_of_numbers(a), positioned_of_numbers(b));
+                positioned_numbers(alloc, last)
             }
         }
     }

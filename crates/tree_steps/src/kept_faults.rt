@@ -34,7 +34,7 @@ fn numbers_of(alloc: Global, kept: &Kept) -> Result<Vec<i64>, OutOfMemory>
 }
 
 /// The number in a letter.
-fn signed(number: &u64) -> Result<i64, AllocError>
+pub(crate) fn signed(number: &u64) -> Result<i64, AllocError>
     ensures { IfOk result (λ v. v ≡ pos number.now) }
 {
     if *number <= i64::MAX as u64 {

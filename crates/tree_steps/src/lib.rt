@@ -1,8 +1,8 @@
 //! What a node does in the rounds of a tree.
 //!
 //! Comes in: the number of nodes, a round and a node's number; what the node has, and what it received from each node. Goes out: to whom
-//! the node sends in the round and from whom it takes, and what it has behind the round; kept faults, and values that may be missing, as
-//! the numbers that go round; and at the end the value of a reduction.
+//! the node sends in the round and from whom it takes, and what it has behind the round; kept faults, values that may be missing, and values
+//! with their positions, as the numbers that go round; and at the end the value of a reduction, or the last value.
 //!
 //! What holds in between: a node sends to one node at most in a round, and takes from one at most; what goes round is a list of numbers,
 //! and how two are joined is told by a `Joining` alone; nothing is changed, so want of memory leaves a node as it was.
@@ -13,6 +13,7 @@ mod kept_faults;
 mod laws;
 mod openings;
 mod optional_values;
+mod positioned_values;
 mod rounds;
 mod tree_values;
 
@@ -21,7 +22,8 @@ pub use joining::Joining;
 pub use kept_faults::{kept_numbers, kept_of_numbers};
 pub use laws::law_of_absorbed;
 pub use openings::{inbox, outbox};
-pub use optional_values::{option_numbers, reduced};
+pub use optional_values::{option_numbers, options_joined, reduced};
 pub use part_steps::{Kept, Parcel};
+pub use positioned_values::{Positioned, last_value, positioned_numbers};
 pub use rounds::{levels_of, source_of, target_of};
 pub use tree_values::absorbed;

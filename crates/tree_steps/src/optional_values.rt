@@ -29,7 +29,7 @@ pub(crate) fn option_of_numbers(numbers: &[i64]) -> Option<i64>
 }
 
 /// Two values joined, where both are there.
-pub(crate) fn options_joined(op: Op, a: Option<i64>, b: Option<i64>) -> Option<i64>
+pub fn options_joined(op: Op, a: Option<i64>, b: Option<i64>) -> Option<i64>
     ensures { result ≡ join_options (joined op) a b }
 {
     match a {

@@ -1,7 +1,6 @@
 pub mod ByElements
 pub mod Here
 pub mod Outcomes
-pub mod Sections
 pub mod Spots
 pub mod Statements
 pub mod Targets

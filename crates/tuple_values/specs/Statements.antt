@@ -1,6 +1,5 @@
 -- What parallel statements are, once the slots are known.
-use Rattle.std.specs.Prelude.{◌≡◌, ℕ, List, [], ◌++◌, length, map, ℤ, Bool, true, Option, Some, None, option_map, Result}
-use Rattle.std.specs.List.{range_with_len}
+use Rattle.std.specs.Prelude.{◌≡◌, ℕ, List, [], ◌++◌, length, ℤ, Bool, true, Option, Some, None, option_map, Result}
 use Rattle.hpf_base.specs.ElementOrder.{product}
 use Rattle.op_tables.specs.declared.op.Op.{Op}
 use Rattle.op_tables.specs.Operators.{is_true}
@@ -70,11 +69,6 @@ left_in Nowhere p = None
 left_in (InCopy row) p = option_map (spot_in_row row) p
 left_in (InSection a ds) p = option_map (spot_in_row a) p
 left_in (ByIndices a ds) p = option_map (spot_in_row a) p
-
--- the places that are kept: those at all tuples, where they go by indices
-abbrev pub kept_places : List (List Dim) → List ℤ → Option (List Selection) → List ℕ → Target → List (Option ℕ)
-kept_places shapes slots indices ns (ByIndices a ds) = map (indexed_place shapes slots indices ns a ds) (range_with_len 0 (product ns))
-kept_places shapes slots indices ns other = []
 
 -- how many selections are kept
 abbrev pub kept_rank : Target → ℕ

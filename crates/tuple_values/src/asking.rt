@@ -1,15 +1,16 @@
 //! What is asked of parallel statements.
 
-ghost use Rattle.std.specs.Prelude.{◌≡◌, ◌<◌, ◌++◌, map, slice_index_or, None, IfErr, IfOk, Ok, OnOk};
+ghost use Rattle.std.specs.Prelude.{◌≡◌, ◌<◌, ◌++◌, map, IfErr, IfOk, Ok, OnOk};
 ghost use Rattle.machine_steps.specs.Instr.{Value};
 ghost use Rattle.machine_steps.specs.Machine.{value_by};
 ghost use Rattle.node_code.specs.Parallel.{as_asked, mask_reads, reads_at};
+ghost use Rattle.node_code.specs.Texts.{subs};
 ghost use Rattle.op_tables.specs.Operators.{is_true};
 ghost use Rattle.term_values.specs.Stops.{IsStop};
 ghost use Rattle.tuple_values.specs.ByElements.{value_by_elements};
 ghost use Rattle.tuple_values.specs.Outcomes.{outcome_view};
 ghost use Rattle.tuple_values.specs.Spots.{read_of, reads_of};
-ghost use Rattle.tuple_values.specs.Statements.{asked_by, asked_outcome, axes_in, bounded_value, counted_by, entries, form_at, tuple_count, tuple_left, tuple_outcome, tuple_place, tuple_reads};
+ghost use Rattle.tuple_values.specs.Statements.{asked_by, asked_outcome, axes_in, bounded_value, counted_by, entries, form_at, indexed_place, left_in, tuple_count, tuple_left, tuple_outcome, tuple_place, tuple_reads};
 ghost use Rattle.tuple_values.specs.Views.{statement};
 
 use crate::assigned::assigned_place;
@@ -18,11 +19,13 @@ use crate::here::Here;
 use crate::outcome::{Outcome, broken};
 use crate::reads::{form_reads, in_row, section_read};
 use crate::right::Right;
+use crate::sections::section_place;
 use crate::statement::ParallelStatement;
 use crate::target::Target;
 use crate::values::{form_value, section_value};
 use array_meaning::FaultKind;
 use hpf_base::OutOfMemory;
+use node_code::Sub;
 use op_tables::Op;
 use owner_tables::Spot;
 use term_values::{Stop, fault};
@@ -36,17 +39,61 @@ impl<'a> ParallelStatement<'a> {
     }
 
     /// The element that is assigned at a tuple, by the tuple's number from 0; None where nothing is assigned, and where a subscript is
-    /// out of bounds. It takes no memory.
-    pub fn left(&self, tuple: usize) -> Option<Spot>
+    /// out of bounds.
+    pub fn left(&self, tuple: usize) -> Result<Option<Spot>, OutOfMemory>
         requires { tuple < tuple_count (statement self.now) }
-        ensures { read_of result ≡ tuple_left (statement self.now) tuple }
+        ensures { IfOk result (λ spot. read_of spot ≡ tuple_left (statement self.now) tuple) }
+    {
+        let place = self.place(tuple)?;
+        Ok(self.left_at(place))
+    }
+
+    /// The place in its row of what is assigned at a tuple; None where a subscript is out of bounds. Where nothing is assigned it is the
+    /// tuple's number.
+    pub fn place(&self, tuple: usize) -> Result<Option<usize>, OutOfMemory>
+        requires { tuple < tuple_count (statement self.now) }
+        ensures { IfOk result (λ place. place ≡ tuple_place (statement self.now) tuple) }
+    {
+        match &self.target {
+            Target::Nothing => Ok(Some(tuple)),
+            Target::Copy(_) => Ok(Some(tuple)),
+            Target::Section(a, ds) => Ok(assigned_place(
+                self.shapes,
+                *a,
+                ds,
+                &self.space.extents,
+                tuple,
+            )),
+            Target::Indexed(a, ds) => self.indexed_place(*a, ds, tuple),
+        }
+    }
+
+    /// The element that is assigned at this place of its row; None where nothing is assigned, and where there is no place. It takes no
+    /// memory.
+    pub fn left_at(&self, place: Option<usize>) -> Option<Spot>
+        ensures { read_of result ≡ left_in (statement self.now).target place }
     {
         match &self.target {
             Target::Nothing => None,
-            Target::Copy(row) => in_row(*row, self.place(tuple)),
-            Target::Section(a, _) => in_row(*a, self.place(tuple)),
-            Target::Indexed(a, _) => in_row(*a, self.place(tuple)),
+            Target::Copy(row) => in_row(*row, place),
+            Target::Section(a, _) => in_row(*a, place),
+            Target::Indexed(a, _) => in_row(*a, place),
         }
+    }
+
+    /// The place at a tuple by subscripts that are expressions of the indices.
+    fn indexed_place(
+        &self,
+        array: usize,
+        section: &[Sub],
+        tuple: usize,
+    ) -> Result<Option<usize>, OutOfMemory>
+        requires { tuple < tuple_count (statement self.now) }
+        ensures { IfOk result (λ place. let w = statement self.now in place ≡ indexed_place w.shapes w.slots w.indices w.extents array (subs section.now) tuple) }
+    {
+        let x = self.space.entries(tuple)?;
+        let here = self.here(x.as_slice());
+        section_place(&here, array, section)
     }
 
     /// Puts the elements that are read at a tuple behind the others, in order: first that of the mask, then those of the expression as
@@ -60,14 +107,21 @@ impl<'a> ParallelStatement<'a> {
         self.read_form(x.as_slice(), reads)
     }
 
-    /// What a tuple comes to. An element is asked for only where the value of the tuple needs it.
+    /// What a tuple comes to at which this is the place of what is assigned. An element is asked for only where the value of the tuple needs
+    /// it.
     #[tactic(auto, using(crate::proofs::ByReads::where_not_asked))]
-    pub fn outcome<E: Elements>(&self, tuple: usize, elements: &E) -> Result<Outcome, OutOfMemory>
-        requires { tuple < tuple_count (statement self.now) }
+    pub fn outcome<E: Elements>(
+        &self,
+        tuple: usize,
+        place: Option<usize>,
+        elements: &E,
+    ) -> Result<Outcome, OutOfMemory>
+        requires tuple { tuple < tuple_count (statement self.now) }
+        requires place { place ≡ tuple_place (statement self.now) tuple }
         ensures { IfOk result (λ o. outcome_view o ≡ tuple_outcome (statement self.now) tuple (map (value_by (E.get elements.now)) (tuple_reads (statement self.now) tuple))) }
     {
         if self.is_asked(tuple, elements)? {
-            self.asked_outcome(tuple, elements)
+            self.asked_outcome(tuple, place, elements)
         } else {
             Ok(Outcome::Nothing)
         }
@@ -75,12 +129,18 @@ impl<'a> ParallelStatement<'a> {
 
     /// What a tuple comes to that the mask asks for.
     #[tactic(auto, using(crate::proofs::ByReads::has_value, crate::proofs::ByReads::is_broken))]
-    fn asked_outcome<E: Elements>(&self, tuple: usize, elements: &E) -> Result<Outcome, OutOfMemory>
-        requires { tuple < tuple_count (statement self.now) }
+    fn asked_outcome<E: Elements>(
+        &self,
+        tuple: usize,
+        place: Option<usize>,
+        elements: &E,
+    ) -> Result<Outcome, OutOfMemory>
+        requires tuple { tuple < tuple_count (statement self.now) }
+        requires place { place ≡ tuple_place (statement self.now) tuple }
         ensures { IfOk result (λ o. outcome_view o ≡ asked_outcome (statement self.now) (E.get elements.now) tuple) }
     {
         let x = self.space.entries(tuple)?;
-        match self.value(tuple, x.as_slice(), elements) {
+        match self.value(tuple, place, x.as_slice(), elements) {
             Ok(v) => Ok(joined_value(self.joined, v)),
             Err(stop) => broken(
                 *self.space.extents.allocator(),
@@ -88,25 +148,6 @@ impl<'a> ParallelStatement<'a> {
                 x.as_slice(),
                 stop,
             ),
-        }
-    }
-
-    /// The place in its row of what is assigned at a tuple.
-    fn place(&self, tuple: usize) -> Option<usize>
-        requires { tuple < tuple_count (statement self.now) }
-        ensures { result ≡ tuple_place (statement self.now) tuple }
-    {
-        match &self.target {
-            Target::Nothing => Some(tuple),
-            Target::Copy(_) => Some(tuple),
-            Target::Section(a, ds) => assigned_place(
-                self.shapes,
-                *a,
-                ds,
-                &self.space.extents,
-                tuple,
-            ),
-            Target::Indexed(_, _) => kept_place(&self.places, tuple),
         }
     }
 
@@ -126,14 +167,20 @@ impl<'a> ParallelStatement<'a> {
         }
     }
 
-    /// The value at a tuple with these entries: the bounds of what is assigned come first.
-    fn value<E: Elements>(&self, tuple: usize, x: &[i64], elements: &E) -> Result<i64, Stop>
-        requires tuple { tuple < tuple_count (statement self.now) }
+    /// The value at a tuple with this place of what is assigned and these entries: the bounds of what is assigned come first.
+    fn value<E: Elements>(
+        &self,
+        tuple: usize,
+        place: Option<usize>,
+        x: &[i64],
+        elements: &E,
+    ) -> Result<i64, Stop>
+        requires place { place ≡ tuple_place (statement self.now) tuple }
         requires entries { x.now ≡ entries (statement self.now) tuple }
         ensures value { IfOk result (λ v. bounded_value (statement self.now) (E.get elements.now) tuple ≡ Ok v) }
         ensures stopped { IfErr result (IsStop (bounded_value (statement self.now) (E.get elements.now) tuple)) }
     {
-        match self.place(tuple) {
+        match place {
             None => Err(fault(FaultKind::Bounds)),
             Some(_) => self.value_of_form(x, elements),
         }
@@ -192,17 +239,6 @@ impl<'a> ParallelStatement<'a> {
                 Ok(())
             }
         }
-    }
-}
-
-/// The place that is kept of a tuple.
-fn kept_place(places: &[Option<usize>], tuple: usize) -> Option<usize>
-    ensures { result ≡ slice_index_or places.now tuple None }
-{
-    if tuple < places.len() {
-        places[tuple]
-    } else {
-        None
     }
 }
 

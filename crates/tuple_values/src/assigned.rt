@@ -7,10 +7,10 @@ ghost use Rattle.array_meaning.specs.Sections.{positions, subscripts_at};
 ghost use Rattle.node_code.specs.Parallel.{shape_of};
 ghost use Rattle.term_values.specs.SectionSubscripts.{positions_behind, subscript_at};
 
-use crate::places::{element_place, element_place_of_one, element_place_of_two};
 use crate::tuple::{positions, subscripts_at};
 use array_meaning::Selection;
 use expression_rules::Dims;
+use slot_values::{element_place, element_place_of_one, element_place_of_two};
 use term_values::{Number, divided, nth};
 
 /// The place of a section's element at the tuple with a number.

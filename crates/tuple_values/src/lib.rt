@@ -6,7 +6,7 @@
 //!
 //! What holds in between: all of it is what node_code's definitions say of the instruction, whatever the elements are: they are asked for
 //! one by one (`Elements`), and only where the definitions' evaluation comes to them. A tuple has at most seven entries, so none of it needs
-//! memory of its own; only the places of a FORALL's left side are kept, for all tuples.
+//! memory of its own, and nothing is kept of the tuples.
 #![tactic(auto)]
 
 mod asking;
@@ -15,7 +15,6 @@ mod elements;
 mod here;
 mod making;
 mod outcome;
-mod places;
 mod reads;
 mod right;
 mod sections;

@@ -1,19 +1,17 @@
 //! The parallel statements of instructions.
 
-ghost use Rattle.std.specs.Prelude.{◌≡◌, ◌<◌, ◌≤◌, ◌∷◌, [], ℕ, length, map, option_map, IfOk};
-ghost use Rattle.std.specs.List.{range_with_len};
+ghost use Rattle.std.specs.Prelude.{◌≡◌, ◌≤◌, ◌∷◌, [], ℕ, length, option_map, IfOk, None};
 ghost use Rattle.hpf_base.specs.ElementOrder.{product};
 ghost use Rattle.array_meaning.specs.Sections.{extents};
 ghost use Rattle.node_code.specs.Forms.{selections_in};
 ghost use Rattle.node_code.specs.Instructions.{section_spot};
 ghost use Rattle.node_code.specs.Parallel.{assigned_spot, assignment_tuples, copy_spot, evaluation_tuples, forall_mask_tuples, forall_spot, forall_tuples, reduction_tuples};
-ghost use Rattle.node_code.specs.Texts.{assignment, evaluation, subs};
-ghost use Rattle.tuple_values.specs.Statements.{indexed_place, no_left, tuple_count, tuple_reads, IsStatement};
+ghost use Rattle.node_code.specs.Texts.{assignment, evaluation, form, subs, when};
+ghost use Rattle.tuple_values.specs.Statements.{kept_rank, no_left, tuple_count, tuple_reads, IsStatement};
+ghost use Rattle.tuple_values.specs.Targets.{target as target_of};
 ghost use Rattle.tuple_values.specs.Views.{statement};
 
-use crate::here::Here;
 use crate::right::Right;
-use crate::sections::section_place;
 use crate::space::{Space, index_space, section_space};
 use crate::statement::ParallelStatement;
 use crate::target::Target;
@@ -37,17 +35,8 @@ impl<'a> ParallelStatement<'a> {
     {
         let space = section_space(alloc, slots, &p.over)?;
         let left = narrow_selections(alloc, slots, &p.left)?;
-        Ok(ParallelStatement {
-            shapes,
-            slots,
-            line: p.line,
-            space,
-            mask: p.mask,
-            target: Target::Section(p.array, left),
-            places: Vec::new(alloc),
-            right: Right::Form(&p.right),
-            joined: None,
-        })
+        let target = Target::Section(p.array, left);
+        Ok(assigning(shapes, slots, p, space, target))
     }
 
     /// An assignment of a FORALL.
@@ -60,18 +49,8 @@ impl<'a> ParallelStatement<'a> {
         ensures { IfOk result (λ w. IsStatement (statement w) slots.now (forall_tuples shapes.now (assignment p.now)) (forall_spot shapes.now (assignment p.now))) }
     {
         let space = index_space(alloc, slots, &p.over)?;
-        let places = indexed_places(alloc, shapes, slots, &space, p.array, &p.left)?;
-        Ok(ParallelStatement {
-            shapes,
-            slots,
-            line: p.line,
-            space,
-            mask: p.mask,
-            target: Target::Indexed(p.array, &p.left),
-            places,
-            right: Right::Form(&p.right),
-            joined: None,
-        })
+        let target = Target::Indexed(p.array, &p.left);
+        Ok(assigning(shapes, slots, p, space, target))
     }
 
     /// An array expression, whose values go into its copy.
@@ -84,17 +63,7 @@ impl<'a> ParallelStatement<'a> {
         ensures { IfOk result (λ w. IsStatement (statement w) slots.now (evaluation_tuples shapes.now (evaluation p.now)) (copy_spot p.now.copy)) }
     {
         let space = section_space(alloc, slots, &p.over)?;
-        Ok(ParallelStatement {
-            shapes,
-            slots,
-            line: p.line,
-            space,
-            mask: None,
-            target: Target::Copy(p.copy),
-            places: Vec::new(alloc),
-            right: Right::Form(&p.form),
-            joined: None,
-        })
+        Ok(evaluating(shapes, slots, p, space, Target::Copy(p.copy), None))
     }
 
     /// The mask of a FORALL, whose values go into its copy.
@@ -107,17 +76,7 @@ impl<'a> ParallelStatement<'a> {
         ensures { IfOk result (λ w. IsStatement (statement w) slots.now (forall_mask_tuples shapes.now (evaluation p.now)) (copy_spot p.now.copy)) }
     {
         let space = index_space(alloc, slots, &p.over)?;
-        Ok(ParallelStatement {
-            shapes,
-            slots,
-            line: p.line,
-            space,
-            mask: None,
-            target: Target::Copy(p.copy),
-            places: Vec::new(alloc),
-            right: Right::Form(&p.form),
-            joined: None,
-        })
+        Ok(evaluating(shapes, slots, p, space, Target::Copy(p.copy), None))
     }
 
     /// A reduction of an array expression: of COUNT the values are 1 where the expression is true, and 0 where it is false.
@@ -131,17 +90,7 @@ impl<'a> ParallelStatement<'a> {
         ensures { IfOk result (λ w. IsStatement (statement w) slots.now (reduction_tuples shapes.now (evaluation p.now) op) no_left) }
     {
         let space = section_space(alloc, slots, &p.over)?;
-        Ok(ParallelStatement {
-            shapes,
-            slots,
-            line: p.line,
-            space,
-            mask: None,
-            target: Target::Nothing,
-            places: Vec::new(alloc),
-            right: Right::Form(&p.form),
-            joined: Some(op),
-        })
+        Ok(evaluating(shapes, slots, p, space, Target::Nothing, Some(op)))
     }
 
     /// The elements of a section, as PRINT lists them.
@@ -163,10 +112,76 @@ impl<'a> ParallelStatement<'a> {
             space,
             mask: None,
             target: Target::Nothing,
-            places: Vec::new(alloc),
             right: Right::Section(array, section),
             joined: None,
         })
+    }
+}
+
+/// An assignment at the tuples of a space, to a target of at most seven dimensions.
+fn assigning<'a>(
+    shapes: &'a [Dims],
+    slots: &'a [i64],
+    p: &'a Assignment,
+    space: Space,
+    target: Target<'a>,
+) -> ParallelStatement<'a>
+    requires { kept_rank (target_of target) ≤ 7 }
+    ensures { statement result ≡ record {
+      shapes = shapes.now;
+      slots = slots.now;
+      line = p.now.line;
+      extents = space.extents.items;
+      indices = option_map (λ ds. ds.items) space.indices;
+      mask = option_map when p.now.mask;
+      target = target_of target.entry;
+      form = form p.now.right;
+      joined = None;
+    } }
+{
+    ParallelStatement {
+        shapes,
+        slots,
+        line: p.line,
+        space,
+        mask: p.mask,
+        target,
+        right: Right::Form(&p.right),
+        joined: None,
+    }
+}
+
+/// An array expression at the tuples of a space, whose values go to a target of at most seven dimensions, or are joined.
+fn evaluating<'a>(
+    shapes: &'a [Dims],
+    slots: &'a [i64],
+    p: &'a Evaluation,
+    space: Space,
+    target: Target<'a>,
+    joined: Option<Op>,
+) -> ParallelStatement<'a>
+    requires { kept_rank (target_of target) ≤ 7 }
+    ensures { statement result ≡ record {
+      shapes = shapes.now;
+      slots = slots.now;
+      line = p.now.line;
+      extents = space.extents.items;
+      indices = option_map (λ ds. ds.items) space.indices;
+      mask = None;
+      target = target_of target.entry;
+      form = form p.now.form;
+      joined = joined;
+    } }
+{
+    ParallelStatement {
+        shapes,
+        slots,
+        line: p.line,
+        space,
+        mask: None,
+        target,
+        right: Right::Form(&p.form),
+        joined,
     }
 }
 
@@ -184,47 +199,4 @@ fn narrow_selections(
         return Err(OutOfMemory);
     }
     Ok(ds)
-}
-
-/// The places of an array's elements at all tuples, by subscripts that are expressions of the indices.
-fn indexed_places(
-    alloc: Global,
-    shapes: &[Dims],
-    slots: &[i64],
-    space: &Space,
-    array: usize,
-    section: &[Sub],
-) -> Result<Vec<Option<usize>>, OutOfMemory>
-    ensures { IfOk result (λ ps. ps.items ≡ map (indexed_place shapes.now slots.now (option_map (λ ds. ds.items) space.now.indices) space.now.extents.items array (subs section.now)) (range_with_len 0 (product space.now.extents.items))) }
-{
-    let mut places = Vec::with_capacity(alloc, space.count)?;
-    for t in 0..space.count {
-        let at = indexed_place(alloc, shapes, slots, space, array, section, t)?;
-        places.push(at)?;
-    }
-    Ok(places)
-}
-
-/// The place at a tuple.
-fn indexed_place(
-    alloc: Global,
-    shapes: &[Dims],
-    slots: &[i64],
-    space: &Space,
-    array: usize,
-    section: &[Sub],
-    tuple: usize,
-) -> Result<Option<usize>, OutOfMemory>
-    requires { tuple < product space.now.extents.items }
-    ensures { IfOk result (λ p. p ≡ indexed_place shapes.now slots.now (option_map (λ ds. ds.items) space.now.indices) space.now.extents.items array (subs section.now) tuple) }
-{
-    let x = space.entries(tuple)?;
-    let here = Here {
-        alloc,
-        shapes,
-        slots,
-        axes: space.axes(x.as_slice()),
-        tuple: x.as_slice(),
-    };
-    section_place(&here, array, section)
 }

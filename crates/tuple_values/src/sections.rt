@@ -5,17 +5,16 @@ ghost use Rattle.array_meaning.specs.declared.sections.Selection.TheVariants.{Al
 ghost use Rattle.node_code.specs.Flat.{slot};
 ghost use Rattle.node_code.specs.Forms.{sequence_in};
 ghost use Rattle.node_code.specs.Texts.{sub, subs};
+ghost use Rattle.slot_values.specs.Sections.{selection_at};
 ghost use Rattle.term_values.specs.SectionSubscripts.{positions_behind, subscript_at};
 ghost use Rattle.tuple_values.specs.Here.{place_here, subscripts_here};
-ghost use Rattle.tuple_values.specs.Sections.{selection_of};
 
 use crate::here::Here;
-use crate::places::{element_place, element_place_of_one, element_place_of_two};
 use crate::tuple::Tuple;
 use array_meaning::Sequence;
 use hpf_base::{MAX_RANK, OutOfMemory};
 use node_code::Sub;
-use slot_values::{flat_or_zero, slot};
+use slot_values::{element_place, element_place_of_one, element_place_of_two, flat_or_zero, slot};
 use term_values::{Number, nth};
 
 /// The place of a section's element.
@@ -87,7 +86,7 @@ fn subscripts_of(here: &Here<'_>, section: &[Sub]) -> Result<Tuple, OutOfMemory>
 
 /// What a section subscript comes to at positions, of which the first is its own if it is a triplet.
 fn subscript(here: &Here<'_>, d: &Sub, positions: &[i64]) -> Result<Number, OutOfMemory>
-    ensures { IfOk result (λ i. i.value ≡ subscript_at (selection_of here.now.slots.now here.now.axes.now (sub d.now)) positions.now) }
+    ensures { IfOk result (λ i. i.value ≡ subscript_at (selection_at here.now.slots.now here.now.axes.now (sub d.now)) positions.now) }
 {
     match d {
         Sub::At(f) => Ok(Number {
@@ -127,7 +126,7 @@ fn stride(slots: &[i64], triplet: usize) -> i64
 
 /// The positions of the dimensions behind one.
 fn positions_behind<'a>(d: &Sub, positions: &'a [i64]) -> &'a [i64]
-    ensures { (slots axes : List ℤ) → result.now ≡ positions_behind (selection_of slots axes (sub d.now)) positions.now }
+    ensures { (slots axes : List ℤ) → result.now ≡ positions_behind (selection_at slots axes (sub d.now)) positions.now }
 {
     match d {
         Sub::At(_) => positions,

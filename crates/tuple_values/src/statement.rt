@@ -1,7 +1,7 @@
 //! Parallel statements, once the slots are known.
 
-ghost use Rattle.std.specs.Prelude.{◌≡◌, ◌≤◌, option_map};
-ghost use Rattle.tuple_values.specs.Statements.{kept_places, kept_rank};
+ghost use Rattle.std.specs.Prelude.{◌≤◌};
+ghost use Rattle.tuple_values.specs.Statements.{kept_rank};
 ghost use Rattle.tuple_values.specs.Targets.{target as target_of};
 
 use crate::right::Right;
@@ -21,11 +21,8 @@ pub struct ParallelStatement<'a> {
     pub(crate) space: Space,
     pub(crate) mask: Option<When>,
     pub(crate) target: Target<'a>,
-    /// The places at all tuples, where what is assigned goes by indices.
-    pub(crate) places: Vec<Option<usize>>,
     pub(crate) right: Right<'a>,
     /// The operator by which the values are joined.
     pub(crate) joined: Option<Op>,
     ghost target_rank: { kept_rank (target_of target) ≤ 7 },
-    ghost placed: { places.items ≡ kept_places shapes.now slots.now (option_map (λ ds. ds.items) space.indices) space.extents.items (target_of target) },
 }

@@ -1,7 +1,6 @@
 -- Programs that break no rule.
 use Rattle.std.proofs.Common.{◌≡◌, ◌≤◌, ℕ, List, [], length}
 use Rattle.std.specs.List.{flat_map}
-use Rattle.hpf_base.specs.ElementOrder.{product}
 use Rattle.hpf_base.specs.FirstBreach.{Among}
 use Rattle.hpf_base.specs.Refusal.{NoBreach}
 use Rattle.hpf_base.specs.declared.index.Shape.{Shape}
@@ -19,9 +18,9 @@ use Rattle.body_check.specs.ForallRules.{forall_breaches_at}
 use Rattle.array_meaning.specs.Resolution.{resolved_block, initial_state}
 use Rattle.array_meaning.specs.Serial.{outcome}
 use Rattle.machine_steps.specs.Agrees.{IsValidCode}
-use Rattle.machine_steps.specs.Layout.{IsDealt, Layout, size_of}
+use Rattle.machine_steps.specs.Layout.{IsDealt, Layout}
 use Rattle.node_code.specs.Instructions.{ArrayTable, meaning_of}
-use Rattle.lowering.specs.Lowered.{opening, MachineHas, table_of}
+use Rattle.lowering.specs.Lowered.{IsTable, MachineHas, opening}
 use Rattle.lowering.specs.StatementCode.{program_code}
 use Rattle.lowering.specs.WellFormed.{IsWellFormedBlock}
 use Rattle.lowering.proofs.Outcomes.{outcome-is}
@@ -43,11 +42,11 @@ well_formed p names bodies =
     block_good t [] p.body
     (all_good t (all_heads p.body) (all_empty (name_breaches_at t) (all_heads p.body) own) (all_empty (forall_breaches_at (entries p)) (all_heads p.body) body))
 
-pub lowered : (p : MainProgram) (copies : List ℕ → Layout) (layouts : List Layout) → ((extents : List ℕ) → size_of (copies extents) ≡ product extents) →
+pub lowered : (p : MainProgram) (table : ArrayTable) (layouts : List Layout) → IsTable (initial_state (entries p)) table →
     HasNoBreach p → NoBreach (Among (body_breaches (entries p) p.body)) →
-    MachineHas (length (entries p)) (table_of (entries p) copies) (opening (length (entries p)) (resolved_block (entries p) p.body) (initial_state (entries p)) layouts)
+    MachineHas (length (entries p)) table (opening (length (entries p)) (resolved_block (entries p) p.body) (initial_state (entries p)) layouts)
     (outcome (entries p) p.body)
-lowered p copies layouts sized rules bodies = outcome-is (entries p) p.body copies layouts sized (well_formed p rules.names bodies)
+lowered p table layouts is-table rules bodies = outcome-is (entries p) p.body table layouts is-table (well_formed p rules.names bodies)
 
 pub valid : (count : ℕ) (p : MainProgram) (shapes : List Shape) (table : ArrayTable) → length shapes ≤ length (entries p) →
     ((extents : List ℕ) → IsDealt count (table.copies extents)) → HasNoBreach p → NoBreach (Among (body_breaches (entries p) p.body)) →

@@ -1,7 +1,6 @@
 //! Programs that break no rule.
 
-ghost use Rattle.std.specs.Prelude.{◌≡◌, ◌≤◌, ℕ, List, length};
-ghost use Rattle.hpf_base.specs.ElementOrder.{product};
+ghost use Rattle.std.specs.Prelude.{◌≤◌, ℕ, List, length};
 ghost use Rattle.hpf_base.specs.FirstBreach.{Among};
 ghost use Rattle.hpf_base.specs.Refusal.{NoBreach};
 ghost use Rattle.hpf_base.specs.declared.index.Shape.{Shape};
@@ -13,9 +12,9 @@ ghost use Rattle.body_check.specs.BodyRules.{body_breaches};
 ghost use Rattle.array_meaning.specs.Resolution.{resolved_block, initial_state};
 ghost use Rattle.array_meaning.specs.Serial.{outcome};
 ghost use Rattle.machine_steps.specs.Agrees.{IsValidCode};
-ghost use Rattle.machine_steps.specs.Layout.{IsDealt, Layout, size_of};
+ghost use Rattle.machine_steps.specs.Layout.{IsDealt, Layout};
 ghost use Rattle.node_code.specs.Instructions.{ArrayTable, meaning_of};
-ghost use Rattle.lowering.specs.Lowered.{opening, MachineHas, table_of};
+ghost use Rattle.lowering.specs.Lowered.{IsTable, MachineHas, opening};
 ghost use Rattle.lowering.specs.StatementCode.{program_code};
 ghost use Rattle.lowering.specs.WellFormed.{IsWellFormedBlock};
 
@@ -29,10 +28,9 @@ pub fn programs_are_well_formed()
 /// The machine with whole arrays ends over the code of a program that breaks no rule of names, ranks and bodies as the program does:
 /// with the first fault, its line, kind and tuple, and the bytes that were printed before it, or finished with its bytes and arrays.
 pub fn accepted_programs_lowered()
-    ensures { (p : MainProgram) (copies : List ℕ → Layout) (layouts : List Layout)
-        → ((extents : List ℕ) → size_of (copies extents) ≡ product extents)
+    ensures { (p : MainProgram) (table : ArrayTable) (layouts : List Layout) → IsTable (initial_state (entries p)) table
         → HasNoBreach p → NoBreach (Among (body_breaches (entries p) p.body))
-        → MachineHas (length (entries p)) (table_of (entries p) copies)
+        → MachineHas (length (entries p)) table
         (opening (length (entries p)) (resolved_block (entries p) p.body) (initial_state (entries p)) layouts)
         (outcome (entries p) p.body) }
 {}

@@ -1,14 +1,15 @@
-use Rattle.std.proofs.Common.{◌&&◌, nat_eq, nat_lt, ap, ◌∙◌}
+use Rattle.std.proofs.Common.{◌&&◌, nat_eq, nat_lt, get_or, refl}
+use Rattle.machine_steps.specs.Layout.{sizes}
 use Rattle.comm_sets.specs.Moves.{moves}
-use Rattle.comm_sets.proofs.Noting.{noted-more, both-tests}
-use Rattle.comm_sets.proofs.Sent.{positions-more}
+use Rattle.comm_sets.proofs.Marking.{none-moves}
+use Rattle.comm_sets.proofs.Noting.{noted-none, noted-same}
 use Rattle.comm_sets.proofs.remapping.move_row.Goals as goal
 
-pub loop-at-preserved : goal.loop-at-preserved
-loop-at-preserved c =
+pub returns-then-is_unchanged : goal.returns-then-is_unchanged
+returns-then-is_unchanged c =
     let old = c.args.before.now in
+    let new = c.args.after.now in
     let row = c.args.row in
-    let at = c.loop-at.at in
-    noted-more c.loop-at.invariant c.in_ok-move_spot.ensures (λ other lt s.
-    both-tests (nat_eq row s.row && nat_eq at s.at) (nat_eq row s.row && nat_lt s.at at) (moves old.nodes old.layouts c.args.after.now.layouts c.args.end other s)
-    ∙ ap (λ b. b && moves old.nodes old.layouts c.args.after.now.layouts c.args.end other s) (positions-more row at s))
+    noted-same (λ other s. (nat_eq row s.row && nat_lt s.at (get_or (sizes old.layouts) row 0)) && moves old.nodes old.layouts new.layouts c.args.end other s)
+    (λ other lt s. none-moves old.nodes old.layouts new.layouts c.args.end row (c.if-is_unchanged.ensures refl) other s (nat_lt s.at (get_or (sizes old.layouts) row 0)))
+    (noted-none c.args.messages.now)

@@ -15,14 +15,14 @@ with-requires c =
     let owners = c.args.part.now.owners.now in
     let from : ℕ → List Spot = λ p. message owners.nodes owners.layouts (part_of (part_view c.args.part.now)) p c.args.id in
     let below : c.loop-source.source < owners.nodes = omega (arith, c.loop-source-test.true, c.nodes-source-end.ensures.value) in
-    is-listed c.in_ok-messages.messages from owners.nodes c.in_ok-messages.ensures c.loop-source.source below
+    is-listed c.args.exchange.now.incoming from owners.nodes c.requires.exchange.incoming c.loop-source.source below
 
 pub loop-source-preserved : goal.loop-source-preserved
 loop-source-preserved c =
     let owners = c.args.part.now.owners.now in
     let from : ℕ → List Spot = λ p. message owners.nodes owners.layouts (part_of (part_view c.args.part.now)) p c.args.id in
     let below : c.loop-source.source < owners.nodes = omega (arith, c.loop-source-test.true, c.nodes-source-end.ensures.value) in
-    sources-more from c.loop-source.source (map spot_of c.with.result.now) (c.with.ensures ∙ listed-is c.in_ok-messages.messages from owners.nodes c.in_ok-messages.ensures c.loop-source.source below [])
+    sources-more from c.loop-source.source (map spot_of c.with.result.now) (c.with.ensures ∙ listed-is c.args.exchange.now.incoming from owners.nodes c.requires.exchange.incoming c.loop-source.source below [])
     c.loop-source.inbox.items c.push_source.new.inbox.items c.in_ok-push_source.ensures c.loop-source.invariant
 
 pub returns-clause-below : goal.returns-clause-below

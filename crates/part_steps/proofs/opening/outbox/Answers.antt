@@ -15,7 +15,7 @@ with-spots-requires c =
     let owners = c.args.part.now.owners.now in
     let to : ℕ → List Spot = λ q. message owners.nodes owners.layouts (part_of (part_view c.args.part.now)) c.args.id q in
     let below : c.loop-target.target < owners.nodes = omega (arith, c.loop-target-test.true, c.nodes-target-end.ensures.value) in
-    is-listed c.in_ok-messages.messages to owners.nodes c.in_ok-messages.ensures c.loop-target.target below
+    is-listed c.args.exchange.now.outgoing to owners.nodes c.requires.exchange.outgoing c.loop-target.target below
 
 pub loop-target-preserved : goal.loop-target-preserved
 loop-target-preserved c =
@@ -23,7 +23,7 @@ loop-target-preserved c =
     let to : ℕ → List Spot = λ q. message owners.nodes owners.layouts (part_of (part_view c.args.part.now)) c.args.id q in
     let below : c.loop-target.target < owners.nodes = omega (arith, c.loop-target-test.true, c.nodes-target-end.ensures.value) in
     parcels-more to c.loop-target.target (map spot_of c.with-spots.result.now)
-    (c.with-spots.ensures ∙ listed-is c.in_ok-messages.messages to owners.nodes c.in_ok-messages.ensures c.loop-target.target below []) (local_read owners.layouts c.args.id c.args.pieces.now)
+    (c.with-spots.ensures ∙ listed-is c.args.exchange.now.outgoing to owners.nodes c.requires.exchange.outgoing c.loop-target.target below []) (local_read owners.layouts c.args.id c.args.pieces.now)
     c.loop-target.outbox.items c.push_parcel.new.outbox.items c.in_ok-push_parcel.ensures c.loop-target.invariant
 
 pub returns-clause-targets : goal.returns-clause-targets

@@ -1,6 +1,7 @@
-use Rattle.std.proofs.Common.{suc, ◌++◌, sym, ◌∙◌, ap}
-use Rattle.machine_steps.specs.Node.{at_root, done_by, print_done, ready}
+use Rattle.std.proofs.Common.{suc, sym, ◌∙◌, ap}
+use Rattle.machine_steps.specs.Node.{done_by, print_done, ready}
 use Rattle.node_code.specs.FaultValues.{fault_values}
+use Rattle.node_machine.proofs.PrintLaws.{same-at-root}
 use Rattle.node_machine.proofs.node.Node.finish_section.Goals as goal
 
 pub returns-clause-ok : goal.returns-clause-ok
@@ -8,5 +9,5 @@ returns-clause-ok c =
     let a = c.args.self.now in
     let r = c.in_ok-bytes.ensures in
     c.reset.ensures ∙ ap (λ x. ready x.nodes x) c.in_ok-print_bytes.ensures.ok
-    ∙ (λ i. ready a.nodes (record a { substep = suc a.substep; line = at_root a.id (a.line ++ (c.deref.ensures.value ∙ r.bytes) i) }))
+    ∙ ap (λ line. ready a.nodes (record a { substep = suc a.substep; line = line })) (same-at-root a.id a.line _ _ (λ root. c.deref.ensures.value ∙ r.bytes root))
     ∙ ap (λ x. print_done a.nodes x a) (sym r.prints.item) ∙ ap (λ x. done_by fault_values a.nodes x a) (sym r.prints.is)

@@ -8,6 +8,10 @@ use Rattle.part_steps.specs.Parts.{PartView}
 use Rattle.part_steps.specs.Views.{part_view}
 use Rattle.part_steps.specs.declared.who.Who.TheVariants.{First}
 use Rattle.part_steps.proofs.Instructions.{joined-is, kept-is, reduce-is}
+use Rattle.machine_steps.specs.Machine.{instr_at}
+use Rattle.node_code.specs.ProgramText.{text_meaning}
+use Rattle.node_machine.specs.Exchanges.{part_on}
+use Rattle.node_machine.proofs.ExchangeLaws.{exchange-at, exchange-by, reduction-planned}
 use Rattle.node_machine.proofs.node.Node.reduce_result.Goals as goal
 
 pub returns : goal.returns
@@ -20,10 +24,10 @@ returns c =
     let part = reduce_part a.nodes a.layouts p.tuples a.control.slots in
     let e = reduce-is a.nodes a.layouts w a.control.slots p.tuples no_left p.statement in
     let V : PartView = record { who = First; nodes = a.nodes; layouts = a.layouts; statement = w } in
-    let same : part_view c.in_ok-part.part ≡ V = c.in_ok-part.ensures
+    let same : part_view c.new-part.result ≡ V = c.new-part.ensures
     ∙ (λ i. record { who = First; nodes = (c.self.invariant.owners ∙ (λ j. (is j).nodes)) i; layouts = (is i).layouts; statement = w }) in
     let B : Behind = behind V a.id a.pieces a.received in
-    let here : behind (part_view c.in_ok-part.part) c.self.inside.id c.deref.result.now c.all_received-received.result.now ≡ B =
+    let here : behind (part_view c.new-part.result) c.self.inside.id c.deref.result.now c.all_received-received.result.now ≡ B =
     (λ i. behind (same i) (is i).id ((c.deref.ensures.value ∙ (λ j. (is j).pieces)) i) ((c.all_received-received.ensures ∙ (λ j. (is j).received)) i)) in
     record {
       tuples = p.tuples;
@@ -33,3 +37,14 @@ returns c =
       value = c.in_ok-values.ensures.value ∙ (λ i. joined_below (here i) op (tuples_of (here i))) ∙ joined-is a.nodes a First w part e p.tuples no_left p.statement op;
       kept = ap (earlier a.kept) (c.in_ok-values.ensures.fault ∙ (λ i. fault_below (here i) (is i).parts (tuples_of (here i)))) ∙ kept-is a.nodes a First w part e p.tuples no_left p.statement a.parts;
     }
+
+pub reduce_values-requires-clause-exchange : goal.reduce_values-requires-clause-exchange
+reduce_values-requires-clause-exchange c =
+    let a = c.args.self.now in
+    let is = c.self.view_is in
+    let i = instr_at text_meaning a.code a.control.at in
+    let w = statement_of c.in_ok-reduced.reduced.statement in
+    let same : part_view c.new-part.result ≡ part_on a First w = c.new-part.ensures
+    ∙ (λ i. record { who = First; nodes = (c.self.invariant.owners ∙ (λ j. (is j).nodes)) i; layouts = (is i).layouts; statement = w }) in
+    exchange-at (part_view c.new-part.result) (part_on a First w) c.self.inside.id a.id c.in_ok-exchange.exchange.now same (λ i. (is i).id)
+    (exchange-by a i w First c.in_ok-exchange.exchange.now (reduction-planned a i w c.in_ok-reduced.reduced.op c.in_ok-reduced.ensures) c.in_ok-exchange.ensures)

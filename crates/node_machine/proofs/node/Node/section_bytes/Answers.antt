@@ -18,13 +18,13 @@ returns c =
     let part = gather_part s.prints.count s.prints.element a.control.slots in
     let e = gather-is a.nodes a.layouts w a.control.slots s.prints.count s.prints.element s.tuples s.reads in
     let V : PartView = record { who = Root; nodes = a.nodes; layouts = a.layouts; statement = w } in
-    let same : part_view c.in_ok-part.part ≡ V = c.in_ok-part.ensures
+    let same : part_view c.new-part.result ≡ V = c.new-part.ensures
     ∙ (λ i. record { who = Root; nodes = (c.self.invariant.owners ∙ (λ j. (is j).nodes)) i; layouts = (is i).layouts; statement = w }) in
     let B : Behind = behind V a.id a.pieces a.received in
-    let here : behind (part_view c.in_ok-part.part) c.self.inside.id c.deref.result.now c.all_received-received.result.now ≡ B =
+    let here : behind (part_view c.new-part.result) c.self.inside.id c.deref.result.now c.all_received-received.result.now ≡ B =
     (λ i. behind (same i) (is i).id ((c.deref.ensures.value ∙ (λ j. (is j).pieces)) i) ((c.all_received-received.ensures ∙ (λ j. (is j).received)) i)) in
     record {
       prints = s.prints;
-      bytes = c.in_ok-bytes.ensures ∙ ap decimals (c.deref-2.ensures.value ∙ c.in_ok-values.ensures ∙ (λ i. elements_below (here i) (tuples_of (here i)))
+      bytes = λ root. c.in_ok-bytes.ensures ∙ ap decimals (c.deref-2.ensures.value ∙ c.in_ok-values.ensures ∙ (λ i. elements_below (here i) (tuples_of (here i)))
           ∙ elements-are a.nodes a Root w part e s.prints.count s.prints.element s.tuples s.reads);
     }

@@ -14,6 +14,8 @@ pub invariant_of-result : goal.invariant_of-result
 invariant_of-result c =
     let least = c.deref-3.ensures.value in
     record {
+      some = c.requires.some;
+      few = c.requires.few;
       laid = c.requires.laid;
       owned = c.in_ok-least.ensures.owned;
       alike = c.in_ok-alike.ensures;

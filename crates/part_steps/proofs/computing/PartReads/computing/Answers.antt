@@ -1,22 +1,23 @@
-use Rattle.std.proofs.Common.{[], ◌∷◌, length, filter, get_or, sym, ◌∙◌, ap, subst, ◌<◌, List, ℕ}
+use Rattle.std.proofs.Common.{[], ◌∷◌, filter, sym, ◌∙◌, ap}
 use Rattle.std.specs.List.{range_with_len}
+use Rattle.machine_steps.specs.Layout.{in_bounds}
+use Rattle.machine_steps.specs.Message.{first_read, least_or_zero}
+use Rattle.tuple_values.specs.Statements.{tuple_reads}
 use Rattle.tuple_values.specs.Views.{statement}
-use Rattle.part_steps.specs.Parts.{computed_by}
-use Rattle.part_steps.proofs.Firsts.{has-first, computing-first}
-use Rattle.part_steps.proofs.Nodes.{root-of}
+use Rattle.part_steps.specs.Parts.{computed_by, computing_node}
+use Rattle.part_steps.proofs.Nodes.{one-of, root-of}
+use Rattle.part_steps.proofs.Owners.{least-below}
 use Rattle.part_steps.proofs.computing.PartReads.computing.Goals as goal
-
-pub one_of-requires : goal.one_of-requires
-one_of-requires c =
-    let p = c.args.self.now in
-    let inside : List ℕ → Type 0 = λ xs. c.args.tuple < length xs in
-    subst inside (sym c.deref.ensures.value) (has-first p.who p.owners.now.nodes p.owners.now.layouts (statement p.statement.now) p.firsts.items p.computed c.in-First.is c.args.tuple c.requires)
 
 pub returns-in-First : goal.returns-in-First
 returns-in-First c =
     let p = c.args.self.now in
-    c.one_of.ensures ∙ ap (λ xs. get_or xs c.args.tuple 0 ∷ []) c.deref.ensures.value
-    ∙ computing-first p.who p.owners.now.nodes p.owners.now.layouts (statement p.statement.now) p.firsts.items p.computed c.in-First.is c.args.tuple c.requires p.some
+    let owners = p.owners.now in
+    let w = statement p.statement.now in
+    let t = c.args.tuple in
+    c.first_node.ensures ∙ ap (λ rs. least_or_zero owners.nodes owners.layouts (in_bounds owners.layouts (first_read rs)) ∷ []) c.requires.reads
+    ∙ sym (one-of (computing_node owners.nodes owners.layouts w t) owners.nodes (least-below owners.nodes owners.layouts (in_bounds owners.layouts (first_read (tuple_reads w t))) p.some))
+    ∙ ap (λ who. filter (λ node. computed_by who owners.nodes owners.layouts w node t) (range_with_len 0 owners.nodes)) (sym c.in-First.is)
 
 pub returns-in-Root : goal.returns-in-Root
 returns-in-Root c =

@@ -1,41 +1,31 @@
 use Rattle.std.proofs.Common.{w64, SFits, map, ◌∙◌, rules}
 use Rattle.std.proofs.lemmas.Int.{to_z-of_z}
-use Rattle.machine_steps.specs.Layout.{least_owner_of}
 use Rattle.machine_steps.specs.Message.{message}
 use Rattle.owner_tables.specs.Spots.{spot_of}
 use Rattle.part_steps.specs.Parts.{part_of}
 use Rattle.part_steps.specs.Views.{part_view}
 use Rattle.part_steps.proofs.Listed.{is-listed}
-use Rattle.part_steps.proofs.Messages.{nothing-is, messages-are, ascends, received-is}
+use Rattle.part_steps.proofs.Messages.{ascends, received-is}
 use Rattle.part_steps.proofs.gathered.Gathered.received_value.Goals as goal
 
 pub with-requires : goal.with-requires
 with-requires c =
     let self = c.args.self.now in
     let owners = self.part.now.owners.now in
-    let part = part_of (part_view self.part.now) in
-    is-listed c.in-Some.messages (λ p. message owners.nodes owners.layouts part p self.id) owners.nodes
-    (messages-are owners.nodes owners.layouts part self.id self.messages c.in-Some.messages self.incoming c.in-Some.is) c.least_owner-source.result c.least_owner-source.ensures.below
+    is-listed self.exchange.now.incoming (λ p. message owners.nodes owners.layouts (part_of (part_view self.part.now)) p self.id) owners.nodes self.exchanged.incoming
+    c.least_owner-source.result c.least_owner-source.ensures.below
 
 pub value_in-requires : goal.value_in-requires
 value_in-requires c =
     let self = c.args.self.now in
     let owners = self.part.now.owners.now in
-    ascends owners.nodes owners.layouts (part_of (part_view self.part.now)) self.id self.messages c.in-Some.messages self.incoming c.in-Some.is c.least_owner-source.result
-    (map spot_of c.with.result.now) c.with.ensures
+    ascends owners.nodes owners.layouts (part_of (part_view self.part.now)) self.id self.exchange.now.incoming self.exchanged.incoming c.least_owner-source.result (map spot_of c.with.result.now) c.with.ensures
 
-pub returns-in-Some : goal.returns-in-Some
-returns-in-Some c =
+pub returns : goal.returns
+returns c =
     let self = c.args.self.now in
     let owners = self.part.now.owners.now in
     let fits : SFits w64 c.value_in.result = search rules in
     to_z-of_z w64 c.value_in.result fits ∙ c.value_in.ensures
-    ∙ received-is owners.nodes owners.layouts (part_of (part_view self.part.now)) self.id self.messages c.in-Some.messages self.incoming c.in-Some.is self.received.now (spot_of c.args.spot)
+    ∙ received-is owners.nodes owners.layouts (part_of (part_view self.part.now)) self.id self.exchange.now.incoming self.exchanged.incoming self.received.now (spot_of c.args.spot)
     c.least_owner-source.result (map spot_of c.with.result.now) c.values_from.result.now c.least_owner-source.ensures.value c.least_owner-source.ensures.below c.with.ensures c.values_from.ensures
-
-pub returns-in-None : goal.returns-in-None
-returns-in-None c =
-    let self = c.args.self.now in
-    let owners = self.part.now.owners.now in
-    let least = least_owner_of owners.nodes owners.layouts (spot_of c.args.spot) in
-    nothing-is self.received.now self.messages self.complete c.in-None.is (message owners.nodes owners.layouts (part_of (part_view self.part.now)) least self.id) least (spot_of c.args.spot)

@@ -1,0 +1,100 @@
+//! One pass over the tuples of a part.
+
+ghost use Rattle.std.specs.Prelude.{◌≡◌, ◌<◌, IfOk};
+ghost use Rattle.comm_sets.specs.Exchanges.{AreExchanged};
+
+use crate::exchanged::Exchange;
+use crate::messages::Messages;
+use crate::reads::Reads;
+use crate::receiving::{number_of, receive_tuple};
+use crate::sending::send_reads;
+use hpf_base::OutOfMemory;
+use owner_tables::Owners;
+use std::alloc::Global;
+
+/// What the node exchanges, from one pass over the tuples. A message holds the elements that the target needs, that it doesn't own, and
+/// whose least owner is the source, each once, row by row, each in array-element order. A node needs every element that is read at a tuple
+/// that it computes. Where there is one node no read is evaluated. Want of memory is the answer, too, where the node computes a tuple whose
+/// number is past 2^32 - 1.
+pub fn exchange<P: Reads>(
+    alloc: Global,
+    owners: &Owners,
+    part: &P,
+    id: u32,
+) -> Result<Exchange, OutOfMemory>
+    requires nodes { P.nodes part.now ≡ owners.now.nodes }
+    requires id { id < owners.now.nodes }
+    ensures { IfOk result (AreExchanged owners.now.nodes owners.now.layouts (P.part part.now) id) }
+{
+    if owners.nodes() == 1 {
+        alone(alloc, owners, part, id)
+    } else {
+        among_nodes(alloc, owners, part, id)
+    }
+}
+
+/// The same of the only node, which owns each element, so that nothing is sent. No read is evaluated.
+fn alone<P: Reads>(
+    alloc: Global,
+    owners: &Owners,
+    part: &P,
+    id: u32,
+) -> Result<Exchange, OutOfMemory>
+    requires nodes { P.nodes part.now ≡ owners.now.nodes }
+    requires one { owners.now.nodes ≡ 1 }
+    requires id { id < owners.now.nodes }
+    ensures { IfOk result (AreExchanged owners.now.nodes owners.now.layouts (P.part part.now) id) }
+{
+    owners.are_dealt();
+    part.alone();
+    let outgoing = Messages::none(alloc, owners.nodes())?;
+    let incoming = Messages::none(alloc, owners.nodes())?;
+    let mut computed = Vec::new(alloc);
+    for tuple in 0..part.tuples() {
+        computed.push(number_of(tuple)?)?;
+    }
+    Ok(Exchange {
+        outgoing,
+        incoming,
+        computed,
+    })
+}
+
+/// The same of a node among several.
+fn among_nodes<P: Reads>(
+    alloc: Global,
+    owners: &Owners,
+    part: &P,
+    id: u32,
+) -> Result<Exchange, OutOfMemory>
+    requires nodes { P.nodes part.now ≡ owners.now.nodes }
+    requires id { id < owners.now.nodes }
+    ensures { IfOk result (AreExchanged owners.now.nodes owners.now.layouts (P.part part.now) id) }
+{
+    let mut outgoing = Messages::none(alloc, owners.nodes())?;
+    let mut incoming = Messages::none(alloc, owners.nodes())?;
+    let mut computed = Vec::new(alloc);
+    let mut reads = Vec::new(alloc);
+    for tuple in 0..part.tuples() {
+        reads.clear();
+        part.read(tuple, &mut reads)?;
+        let computing = part.computing(tuple, reads.as_slice())?;
+        send_reads(&mut outgoing, owners, id, computing, reads.as_slice())?;
+        receive_tuple(
+            &mut incoming,
+            &mut computed,
+            owners,
+            id,
+            computing,
+            tuple,
+            reads.as_slice(),
+        )?;
+    }
+    outgoing.arrange();
+    incoming.arrange();
+    Ok(Exchange {
+        outgoing,
+        incoming,
+        computed,
+    })
+}

@@ -1,0 +1,4 @@
+pub mod Agreement
+pub mod Exchanged
+pub mod Planned
+pub mod Plans

@@ -1,0 +1,159 @@
+//! How the rows lie on the nodes.
+
+ghost use Rattle.std.specs.Prelude.{◌≡◌, ◌≤◌, All, IfOk};
+ghost use Rattle.hpf_base.specs.declared.limits.TheConstants.{MAX_NODES};
+ghost use Rattle.hpf_base.specs.Mapping.{IsShape};
+ghost use Rattle.array_maps.specs.Maps.{AreMaps, AreNewMaps, IsArrayMap, IsMapOf, IsNewMap};
+
+use array_maps::{ArrayMap, Maps, NewMap, NewMaps};
+use hpf_base::{Grid, Index, MapDims, Mapping, OutOfMemory, Shape};
+use node_code::NewMapping;
+use owner_tables::{OwnerTable, Owners};
+use std::alloc::Global;
+use std::collections::VecDeque;
+
+/// The tables of the arrays with these mappings, and behind them those of so many copies without elements.
+pub fn owners_of(
+    alloc: Global,
+    maps: &[ArrayMap],
+    copies: usize,
+    nodes: u32,
+) -> Result<Owners, OutOfMemory>
+    requires some { 1 ≤ nodes }
+    requires few { nodes ≤ MAX_NODES }
+    requires valid { All (IsArrayMap nodes) maps.now }
+{
+    let mut owners = Owners::new(alloc, nodes);
+    for map in maps {
+        owners.push(table(alloc, &map.shape, &map.start, nodes)?)?;
+    }
+    for _copy in 0..copies {
+        owners.push(OwnerTable::of_copy(alloc, nodes, &[0])?)?;
+    }
+    Ok(owners)
+}
+
+/// The new mappings of each REDISTRIBUTE, in the order of the text.
+pub fn moves_of(
+    alloc: Global,
+    maps: &Maps,
+    nodes: u32,
+) -> Result<VecDeque<Vec<NewMapping>>, OutOfMemory>
+    requires some { 1 ≤ nodes }
+    requires few { nodes ≤ MAX_NODES }
+    requires valid { AreMaps nodes maps.now }
+{
+    all_moves(alloc, maps, maps.moves.as_slice(), nodes)
+}
+
+/// The same of each of these.
+fn all_moves(
+    alloc: Global,
+    maps: &Maps,
+    all: &[NewMaps],
+    nodes: u32,
+) -> Result<VecDeque<Vec<NewMapping>>, OutOfMemory>
+    requires some { 1 ≤ nodes }
+    requires few { nodes ≤ MAX_NODES }
+    requires maps { AreMaps nodes maps.now }
+    requires all { All (AreNewMaps nodes maps.now.arrays) all.now }
+{
+    let mut moves = VecDeque::new(alloc);
+    for new in all {
+        moves.push_back(new_mappings(alloc, maps, new, nodes)?)?;
+    }
+    Ok(moves)
+}
+
+/// The new mappings of one REDISTRIBUTE.
+fn new_mappings(
+    alloc: Global,
+    maps: &Maps,
+    new: &NewMaps,
+    nodes: u32,
+) -> Result<Vec<NewMapping>, OutOfMemory>
+    requires some { 1 ≤ nodes }
+    requires few { nodes ≤ MAX_NODES }
+    requires maps { AreMaps nodes maps.now }
+    requires new { AreNewMaps nodes maps.now.arrays new.now }
+{
+    let mut mappings = Vec::new(alloc);
+    for map in new.as_slice() {
+        mappings.push(new_mapping(alloc, maps.arrays.as_slice(), map, nodes)?)?;
+    }
+    Ok(mappings)
+}
+
+fn new_mapping(
+    alloc: Global,
+    arrays: &[ArrayMap],
+    new: &NewMap,
+    nodes: u32,
+) -> Result<NewMapping, OutOfMemory>
+    requires some { 1 ≤ nodes }
+    requires few { nodes ≤ MAX_NODES }
+    requires arrays { All (IsArrayMap nodes) arrays.now }
+    requires new { IsNewMap nodes arrays.now new.now }
+{
+    let array = new.array.0 as usize;
+    let table = table(alloc, &arrays[array].shape, &new.map, nodes)?;
+    Ok(NewMapping { array, table })
+}
+
+/// The table of an array of this shape with this mapping.
+fn table(
+    alloc: Global,
+    shape: &Shape,
+    mapping: &Mapping,
+    nodes: u32,
+) -> Result<OwnerTable, OutOfMemory>
+    requires some { 1 ≤ nodes }
+    requires few { nodes ≤ MAX_NODES }
+    requires shape { IsShape shape.now }
+    requires mapping { IsMapOf nodes shape.now mapping.now }
+    ensures { IfOk result (λ t. t.nodes ≡ nodes) }
+{
+    let shape = same_shape(alloc, shape);
+    let mapping = same_mapping(alloc, mapping)?;
+    OwnerTable::new(alloc, nodes, shape, mapping)
+}
+
+/// The same shape once more.
+fn same_shape(alloc: Global, shape: &Shape) -> Shape
+    ensures { result ≡ shape.now }
+{
+    Shape {
+        lower: same_index(alloc, &shape.lower),
+        extent: same_index(alloc, &shape.extent),
+    }
+}
+
+fn same_index(alloc: Global, index: &Index) -> Index
+    ensures { result ≡ index.now }
+{
+    match Index::new(alloc, index.numbers()) {
+        Some(same) => same,
+        None => unreachable!(),
+    }
+}
+
+/// The same mapping once more.
+fn same_mapping(alloc: Global, mapping: &Mapping) -> Result<Mapping, OutOfMemory>
+    ensures { IfOk result (λ same. same ≡ mapping.now) }
+{
+    let mut dims = Vec::new(alloc);
+    dims.extend_from_slice(mapping.dims.as_slice())?;
+    Ok(Mapping {
+        grid: same_grid(alloc, &mapping.grid),
+        dims: MapDims::new(dims),
+    })
+}
+
+fn same_grid(alloc: Global, grid: &Grid) -> Grid
+    ensures { result ≡ grid.now }
+{
+    match Grid::new(alloc, grid.dims()) {
+        Some(same) => same,
+        None => unreachable!(),
+    }
+}

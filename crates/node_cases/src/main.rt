@@ -1,0 +1,57 @@
+//! Tries node code on nodes: code that is written by hand, whose outcome is known.
+//!
+//! Comes in: cases on standard input. Goes out: the same lines, and behind each case what its code comes to on the machine with whole arrays
+//! of this crate, and whether the nodes come to the same. What holds in between: `case` begins a case and `run` ends it; these lines say what
+//! it is.
+//!
+//! - `text`: an HPF program, written as `case_texts` says. Its arrays, with their values and their mappings, are those of the code: the rows A,
+//!   B and so on in the order of their declaration.
+//! - `copies`: how many further rows there are, for copies; they have the next letters.
+//! - `slots`: the values of the slots at the start.
+//! - `grids`: the grids of nodes on which the code runs, as `4` or `2x2`; without such a line 1, 2, 3, 4 and 64 nodes.
+//! - A line that begins with a number is the instruction with that place, written as `instructions` says.
+//! - `show`, a grid, and words: `rows` and letters for what each node holds of these rows, `slots` for the last slots of node 0, `letters` for
+//!   each letter, with its phase, source, target, number and values.
+//!
+//! Other lines are remarks.
+#![tactic(auto)]
+
+mod answer;
+mod case;
+mod compare;
+mod declared;
+mod driver;
+mod evaluation;
+mod expressions;
+mod instructions;
+mod layouts;
+mod limits;
+mod line;
+mod local;
+mod machine;
+mod parallel;
+mod prints;
+mod sections;
+mod show;
+mod trouble;
+mod world;
+
+use crate::answer::answer_to;
+use crate::case::Case;
+use std::io;
+use std::io::{BufRead, BufReader};
+
+fn main(rt: HostRuntime) -> io::Result<()> {
+    let alloc = rt.alloc();
+    let mut open = Case::new(alloc);
+    for line in BufReader::new(alloc, rt.reader())?.lines(alloc) {
+        let line = line?;
+        println!(rt; "{line}")?;
+        if line.as_str() == "run" {
+            print!(rt; "{}", answer_to(alloc, &open)?)?;
+        } else {
+            open.go_on(alloc, line.as_str())?;
+        }
+    }
+    Ok(())
+}

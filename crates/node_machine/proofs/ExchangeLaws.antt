@@ -1,0 +1,53 @@
+-- What a node exchanges for a statement is what it exchanges for the instruction.
+use Rattle.std.proofs.Common.{◌≡◌, ℕ, length, Some, ap, sym, ◌∙◌, subst}
+use Rattle.std.proofs.lemmas.List.FromFn.{length-map-range_with_len}
+use Rattle.std.proofs.lemmas.Option.{same_Some}
+use Rattle.array_meaning.specs.Faults.{Fault}
+use Rattle.machine_steps.specs.Instr.{Instr}
+use Rattle.machine_steps.specs.Node.{Node}
+use Rattle.comm_sets.specs.declared.exchanged.Exchange.{Exchange}
+use Rattle.comm_sets.specs.Exchanges.{AreExchanged}
+use Rattle.node_code.specs.ProgramText.{Text}
+use Rattle.op_tables.specs.declared.op.Op.{Op}
+use Rattle.tuple_values.specs.Statements.{Statement, no_left}
+use Rattle.part_steps.specs.Exchanged.{IsExchange}
+use Rattle.part_steps.specs.Parts.{PartView, part_of}
+use Rattle.part_steps.specs.declared.who.Who.{Who}
+use Rattle.part_steps.specs.declared.who.Who.TheVariants.{Left, First}
+use Rattle.part_steps.proofs.Instructions.{par-is, reduce-is}
+use Rattle.exchange_plans.specs.Exchanged.{HasLists, IsExchangeOf}
+use Rattle.exchange_plans.specs.Planned.{planned}
+use Rattle.node_machine.specs.Exchanges.{IsExchangeBy, owners_of, part_on}
+use Rattle.node_machine.specs.Parts.{IsParallel}
+use Rattle.node_machine.specs.Reductions.{IsReduced}
+
+-- of parts that are one
+pub exchange-at : (v w : PartView) (x y : ℕ) (e : Exchange) → v ≡ w → x ≡ y → IsExchange w y e → IsExchange v x e
+exchange-at v w x y e parts ids is = rw (parts, ids) is
+
+module _ (a : Node Text Fault) (i : Instr Fault) (w : Statement) where
+  -- ---- the part that the instruction is
+
+  pub parallel-planned : IsParallel i a.control.slots w → planned a.nodes a.layouts a.control.slots i ≡ Some (part_of (part_on a Left w))
+  parallel-planned p = ap (planned a.nodes a.layouts a.control.slots) p.is ∙ ap Some (sym (par-is a.nodes a.layouts w a.control.slots p.tuples p.left p.statement))
+
+  pub reduction-planned : (o : Op) → IsReduced i a.control.slots o w → planned a.nodes a.layouts a.control.slots i ≡ Some (part_of (part_on a First w))
+  reduction-planned o p = ap (planned a.nodes a.layouts a.control.slots) p.is ∙ ap Some (sym (reduce-is a.nodes a.layouts w a.control.slots p.tuples no_left p.statement))
+
+  -- ---- both ways
+
+  module _ (who : Who) (e : Exchange) (is : planned a.nodes a.layouts a.control.slots i ≡ Some (part_of (part_on a who w))) where
+    pub exchange-by : IsExchangeOf i a.control.slots (owners_of a) a.id e → IsExchangeBy a who w e
+    exchange-by h = h.exchanged (part_of (part_on a who w)) is
+
+    pub exchange-of : IsExchangeBy a who w e → IsExchangeOf i a.control.slots (owners_of a) a.id e
+    exchange-of h = record {
+      exchanged = λ part is_part. subst (λ p. AreExchanged a.nodes a.layouts p a.id e) (same_Some _ _ (sym is ∙ is_part)) h;
+    }
+
+-- there is a list for each node
+pub exchange-lists : (v : PartView) (id : ℕ) (e : Exchange) → IsExchange v id e → HasLists v.nodes e
+exchange-lists v id e is = record {
+  outgoing = ap length is.outgoing ∙ length-map-range_with_len _ 0 v.nodes;
+  incoming = ap length is.incoming ∙ length-map-range_with_len _ 0 v.nodes;
+}

@@ -1,0 +1,28 @@
+-- No public clause cites this file. New mappings on a node.
+use Rattle.std.specs.Prelude.{◌≡◌, List, length, nat_lt, if◌then◌else◌}
+use Rattle.array_meaning.specs.Faults.{Fault}
+use Rattle.machine_steps.specs.Instr.{Instr, Remap, Remapping}
+use Rattle.machine_steps.specs.Machine.{on, remapped}
+use Rattle.machine_steps.specs.Node.{Node, ready, settled}
+use Rattle.comm_sets.specs.Rounds.{rounds_on}
+use Rattle.node_code.specs.ProgramText.{Text}
+use Rattle.remap_steps.specs.Redistributions.{Redistribution, all_rounds, moved_pieces, round_inbox, round_outbox}
+
+-- the instruction gives new mappings, and this is the redistribution that they need
+pub record IsRemap (i : Instr Fault) (a : Node Text Fault) (r : Redistribution) : Type 0 where
+  pub new : List Remapping
+  pub is : i ≡ Remap new (rounds_on a.nodes new)
+  pub moving : r ≡ record { nodes = a.nodes; old = a.layouts; new = remapped new a.layouts; id = a.id }
+
+module _ (r : Redistribution) (a : Node Text Fault) where
+  -- the node in its round
+  abbrev pub round_opened : Node Text Fault
+  round_opened = settled a (round_outbox r a.round a.pieces) (round_inbox r a.round)
+
+  -- the node behind the last round
+  abbrev pub remap_ended : Node Text Fault
+  remap_ended = ready a.nodes (record a { control = on a.control; substep = 0; layouts = r.new; pieces = moved_pieces r a.pieces a.received })
+
+  -- the one or the other
+  abbrev pub round_next : Node Text Fault
+  round_next = if nat_lt a.round (length (all_rounds r)) then round_opened else remap_ended

@@ -1,0 +1,190 @@
+//! Instructions that fold a copy.
+
+ghost use Rattle.std.specs.Prelude.{◌≡◌, ◌<◌, ◌^◌, ◌∷◌, [], IfOk, OnOk, OnErr, slice_index_or};
+ghost use Rattle.machine_steps.specs.Instr.{FoldCopy};
+ghost use Rattle.machine_steps.specs.Layout.{sizes};
+ghost use Rattle.machine_steps.specs.Machine.{instr_at, slot_of};
+ghost use Rattle.machine_steps.specs.Node.{begun_by, done_by, fold_ended, join_behind, join_options, option_values, own_fold, tree_next, values_option};
+ghost use Rattle.node_code.specs.FaultValues.{fault_values};
+ghost use Rattle.node_code.specs.Parallel.{fold_of, joined};
+ghost use Rattle.node_code.specs.ProgramText.{text_meaning};
+ghost use Rattle.owner_tables.specs.Spots.{spot_of};
+ghost use Rattle.node_machine.specs.Folds.{own_element, own_elements};
+ghost use Rattle.node_machine.specs.Programs.{code_of};
+
+use crate::node::Node;
+use crate::pieces::value_at;
+use crate::program::NodeProgram;
+use hpf_base::OutOfMemory;
+use node_code::Instruction;
+use op_tables::Op;
+use owner_tables::{Owners, Spot};
+use part_steps::{Row, joined, local_value};
+use slot_values::Control;
+use tree_steps::{Joining, option_numbers, options_joined, reduced};
+
+/// A copy that is folded: how its elements are joined, and the slot that they are joined with.
+#[derive(Clone, Copy, Debug)]
+pub(crate) struct Folding {
+    pub(crate) copy: usize,
+    pub(crate) op: Op,
+    pub(crate) slot: usize,
+}
+
+impl NodeProgram {
+    /// The copy that the instruction at the place folds.
+    fn folding(&self, control: &Control) -> Result<Folding, OutOfMemory>
+        ensures is { IfOk result (λ f. instr_at text_meaning (code_of self.now) control.now.at ≡ FoldCopy f.copy (fold_of f.op) f.slot) }
+        ensures few { IfOk result (λ f. control.now.at < 2 ^ 63) }
+    {
+        let Some(i) = self.instruction(control.at) else {
+            return Err(OutOfMemory);
+        };
+        match i {
+            Instruction::FoldCopy { copy, op, slot } => Ok(Folding {
+                copy: *copy,
+                op: *op,
+                slot: *slot,
+            }),
+            _ => Err(OutOfMemory),
+        }
+    }
+}
+
+impl Node {
+    /// The copy that the instruction at the node's place folds.
+    fn folding(&self) -> Result<Folding, OutOfMemory>
+        ensures is { IfOk result (λ f. instr_at text_meaning self.now.code self.now.control.at ≡ FoldCopy f.copy (fold_of f.op) f.slot) }
+        ensures few { IfOk result (λ f. self.now.control.at < 2 ^ 63) }
+    {
+        let folding = self.program().folding(&self.control)?;
+        Ok(folding)
+    }
+
+    /// The fold of the copy at the node's place begins. For want of memory nothing changes.
+    pub(crate) fn begin_fold(&mut self) -> Result<(), OutOfMemory>
+        ensures ok { OnOk result (self.new ≡ begun_by fault_values self.old.nodes (instr_at text_meaning self.old.code self.old.control.at) self.old) }
+        ensures err { OnErr result (self.new ≡ self.old) }
+    {
+        let folding = self.folding()?;
+        let numbers = self.own_fold(folding)?;
+        self.fold_round(0, numbers, folding)
+    }
+
+    /// The fold of the copy at the node's place goes on behind a round. For want of memory nothing changes.
+    pub(crate) fn finish_fold(&mut self) -> Result<(), OutOfMemory>
+        ensures ok { OnOk result (self.new ≡ done_by fault_values self.old.nodes (instr_at text_meaning self.old.code self.old.control.at) self.old) }
+        ensures err { OnErr result (self.new ≡ self.old) }
+    {
+        let folding = self.folding()?;
+        let numbers = self.absorbed(Joining::Options(folding.op))?;
+        let round = self.next_round()?;
+        self.fold_round(round, numbers, folding)
+    }
+
+    /// The number of the elements whose least owner the node is, joined in order, if there are any.
+    fn own_fold(&self, folding: Folding) -> Result<Vec<i64>, OutOfMemory>
+        ensures { IfOk result (λ v. v.items ≡ option_values (own_fold self.now.nodes folding.copy (fold_of folding.op) self.now)) }
+    {
+        let value = own_elements(
+            &self.owners,
+            self.id,
+            &self.pieces,
+            folding.op,
+            folding.copy,
+        )?;
+        option_numbers(self.alloc, value)
+    }
+
+    /// The next round of the fold of a copy, or its end, in which the node has these numbers. For want of memory nothing changes.
+    fn fold_round(
+        &mut self,
+        round: u32,
+        folded: Vec<i64>,
+        folding: Folding,
+    ) -> Result<(), OutOfMemory>
+        requires in_code { self.old.control.at < 2 ^ 63 }
+        ensures ok { OnOk result (self.new ≡ tree_next self.old.nodes (fold_ended self.old.nodes (fold_of folding.op) folding.slot) (record self.old { round = round; folded = folded.items })) }
+        ensures err { OnErr result (self.new ≡ self.old) }
+    {
+        if self.is_past(round) {
+            self.end_fold(round, &folded, folding);
+            Ok(())
+        } else {
+            self.open_round(round, folded)
+        }
+    }
+
+    /// The end of the fold of a copy: its slot is joined with the value. It takes no memory.
+    fn end_fold(&mut self, round: u32, folded: &[i64], folding: Folding)
+        requires in_code { self.old.control.at < 2 ^ 63 }
+        ensures { self.new ≡ fold_ended self.old.nodes (fold_of folding.op) folding.slot (record self.old { round = round; folded = folded.now }) }
+    {
+        let _ = round;
+        let value = self.joined_slot(folding, folded);
+        self.set_slot(folding.slot, &value[0]);
+        self.reset();
+    }
+
+    /// The value of the slot, joined with what the tree has joined.
+    fn joined_slot(&self, folding: Folding, folded: &[i64]) -> [i64; 1]
+        ensures { result ≡ joined folding.op (slot_of self.now.control folding.slot) (join_behind (joined folding.op) (fold_of folding.op).unit (values_option folded.now)) ∷ [] }
+    {
+        let before = value_at(&self.control.slots, folding.slot);
+        [joined(folding.op, before, reduced(folding.op, folded))]
+    }
+}
+
+/// The elements so far, joined, where there were any.
+#[derive(Drop)]
+struct OwnFold {
+    value: Option<i64>,
+}
+
+impl OwnFold {
+    /// Joins an element behind them, where there is one.
+    fn add(&mut self, op: Op, element: Option<i64>)
+        ensures { self.new.value ≡ join_options (joined op) self.old.value element }
+    {
+        self.value = options_joined(op, self.value, element);
+    }
+}
+
+/// The elements of a copy whose least owner the node is, joined in order, if there are any. An element without owners is answered as want of
+/// memory.
+fn own_elements(
+    owners: &Owners,
+    id: u32,
+    pieces: &[Row],
+    op: Op,
+    copy: usize,
+) -> Result<Option<i64>, OutOfMemory>
+    requires { id < owners.now.nodes }
+    ensures { IfOk result (λ v. v ≡ own_elements owners.now.layouts id pieces.now owners.now.nodes (joined op) copy (slice_index_or (sizes owners.now.layouts) copy 0)) }
+{
+    let mut fold = OwnFold { value: None };
+    for at in 0..owners.size(copy) {
+        let element = own_element(owners, id, pieces, Spot { row: copy, at })?;
+        fold.add(op, element);
+    }
+    Ok(fold.value)
+}
+
+/// The value of an element, if the node is its least owner.
+fn own_element(
+    owners: &Owners,
+    id: u32,
+    pieces: &[Row],
+    spot: Spot,
+) -> Result<Option<i64>, OutOfMemory>
+    requires one { id < owners.now.nodes }
+    requires at { spot.at < slice_index_or (sizes owners.now.layouts) spot.row 0 }
+    ensures { IfOk result (λ v. v ≡ own_element owners.now.layouts id pieces.now owners.now.nodes (spot_of spot)) }
+{
+    if owners.least_owner(spot) == id {
+        let value = local_value(owners, id, pieces, spot)?;
+        Ok(Some(value))
+    } else {
+        Ok(None)
+    }
+}

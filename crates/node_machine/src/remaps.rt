@@ -1,0 +1,218 @@
+//! Instructions that give arrays new mappings.
+
+ghost use Rattle.std.specs.Prelude.{◌≡◌, ◌<◌, ◌^◌, IfOk, OnOk, OnErr, length, map};
+ghost use Rattle.machine_steps.specs.Instr.{Remap};
+ghost use Rattle.machine_steps.specs.Machine.{instr_at, on, remapped};
+ghost use Rattle.machine_steps.specs.Node.{begun_by, done_by, no_values, ready};
+ghost use Rattle.comm_sets.specs.Rounds.{rounds_on};
+ghost use Rattle.node_code.specs.FaultValues.{fault_values};
+ghost use Rattle.node_code.specs.ProgramText.{text_meaning};
+ghost use Rattle.node_code.specs.Texts.{remapping};
+ghost use Rattle.remap_steps.specs.Redistributions.{moved_pieces};
+ghost use Rattle.node_machine.specs.Programs.{code_of};
+ghost use Rattle.node_machine.specs.Remaps.{IsRemap, round_opened};
+
+use crate::node::Node;
+use crate::program::NodeProgram;
+use hpf_base::OutOfMemory;
+use letters::Body;
+use node_code::{Instruction, NewMapping};
+use owner_tables::Owners;
+use part_steps::Row;
+use remap_steps::Redistribution;
+use slot_values::Control;
+
+/// How rows lie, and a node's pieces of them.
+#[derive(Drop)]
+struct NewRows {
+    owners: Owners,
+    pieces: Vec<Row>,
+}
+
+impl NodeProgram {
+    /// The new mappings at the place.
+    fn new_mappings(&self, control: &Control) -> Result<&Vec<NewMapping>, OutOfMemory>
+        ensures is { IfOk result (λ new. instr_at text_meaning (code_of self.now) control.now.at ≡ Remap (map remapping new.now.items) (rounds_on self.now.nodes (map remapping new.now.items))) }
+        ensures few { IfOk result (λ new. control.now.at < 2 ^ 63) }
+    {
+        let Some(i) = self.instruction(control.at) else {
+            return Err(OutOfMemory);
+        };
+        match i {
+            Instruction::Remap(new) => Ok(new),
+            _ => Err(OutOfMemory),
+        }
+    }
+}
+
+/// How rows lie behind new mappings. A mapping of another shape or on another number of nodes is answered as want of memory.
+fn owners_behind(owners: &Owners, new: &[NewMapping]) -> Result<Owners, OutOfMemory>
+    ensures layouts { IfOk result (λ after. after.layouts ≡ remapped (map remapping new.now) owners.now.layouts) }
+    ensures nodes { IfOk result (λ after. after.nodes ≡ owners.now.nodes) }
+{
+    let mut after = owners.shared()?;
+    for mapping in new {
+        after.set_mapping(mapping.array, &mapping.table)?;
+    }
+    Ok(after)
+}
+
+impl Node {
+    /// The redistribution at the node's place: that of the round before, if it is held.
+    fn redistribution(&mut self) -> Result<Redistribution, OutOfMemory>
+        ensures is { IfOk result (IsRemap (instr_at text_meaning self.new.code self.new.control.at) self.new) }
+        ensures few { IfOk result (λ r. self.new.control.at < 2 ^ 63) }
+        ensures same { self.new ≡ self.old }
+    {
+        let new = self.program().new_mappings(&self.control)?;
+        let after = owners_behind(&self.owners, new)?;
+        let held = self.held();
+        let moving = Redistribution::held_or_new(self.alloc, held, &self.owners, &after, self.id)?;
+        Ok(moving)
+    }
+
+    /// The redistribution that is held, which is no longer held then. It takes no memory.
+    fn held(&mut self) -> Option<Redistribution>
+        ensures { self.new ≡ self.old }
+    {
+        self.moving.take()
+    }
+
+    /// Holds a redistribution for the next round. It takes no memory.
+    fn hold(&mut self, moving: Redistribution)
+        ensures { self.new ≡ self.old }
+    {
+        self.moving = Some(moving);
+    }
+
+    /// The redistribution at the node's place begins. For want of memory nothing changes.
+    pub(crate) fn begin_remap(&mut self) -> Result<(), OutOfMemory>
+        ensures ok { OnOk result (self.new ≡ begun_by fault_values self.old.nodes (instr_at text_meaning self.old.code self.old.control.at) self.old) }
+        ensures err { OnErr result (self.new ≡ self.old) }
+    {
+        let moving = self.redistribution()?;
+        self.begin_moving(moving)
+    }
+
+    /// The same by the redistribution.
+    fn begin_moving(&mut self, moving: Redistribution) -> Result<(), OutOfMemory>
+        requires is { IsRemap (instr_at text_meaning self.old.code self.old.control.at) self.old moving }
+        requires in_code { self.old.control.at < 2 ^ 63 }
+        ensures ok { OnOk result (self.new ≡ begun_by fault_values self.old.nodes (instr_at text_meaning self.old.code self.old.control.at) self.old) }
+        ensures err { OnErr result (self.new ≡ self.old) }
+    {
+        let received = self.room()?;
+        if moving.rounds() > 0 {
+            self.first_round(moving, received)
+        } else {
+            let rows = self.rows_behind(&moving, &received)?;
+            self.put_rows(rows);
+            Ok(())
+        }
+    }
+
+    /// The redistribution at the node's place goes on behind a round. For want of memory nothing changes.
+    pub(crate) fn finish_remap(&mut self) -> Result<(), OutOfMemory>
+        ensures ok { OnOk result (self.new ≡ done_by fault_values self.old.nodes (instr_at text_meaning self.old.code self.old.control.at) self.old) }
+        ensures err { OnErr result (self.new ≡ self.old) }
+    {
+        let moving = self.redistribution()?;
+        self.finish_moving(moving)
+    }
+
+    /// The same by the redistribution.
+    fn finish_moving(&mut self, moving: Redistribution) -> Result<(), OutOfMemory>
+        requires is { IsRemap (instr_at text_meaning self.old.code self.old.control.at) self.old moving }
+        requires in_code { self.old.control.at < 2 ^ 63 }
+        ensures ok { OnOk result (self.new ≡ done_by fault_values self.old.nodes (instr_at text_meaning self.old.code self.old.control.at) self.old) }
+        ensures err { OnErr result (self.new ≡ self.old) }
+    {
+        let round = self.next_round()?;
+        if (round as usize) < moving.rounds() {
+            self.later_round(moving, round)
+        } else {
+            let rows = self.rows_behind(&moving, self.post.all_received())?;
+            self.put_rows(rows);
+            Ok(())
+        }
+    }
+
+    /// Opens the first round, with room for what is received. For want of memory nothing changes.
+    fn first_round(
+        &mut self,
+        moving: Redistribution,
+        received: Vec<Body>,
+    ) -> Result<(), OutOfMemory>
+        requires nodes { moving.nodes ≡ self.old.nodes }
+        requires room { received.items ≡ no_values self.old.nodes }
+        requires len { length received.items ≡ self.old.nodes }
+        ensures ok { OnOk result (self.new ≡ round_opened moving (record self.old { received = no_values self.old.nodes; round = 0 })) }
+        ensures err { OnErr result (self.new ≡ self.old) }
+    {
+        let outbox = moving.outbox(self.alloc, 0, &self.pieces)?;
+        let inbox = moving.inbox(self.alloc, 0)?;
+        self.to_round(0);
+        self.open(outbox, inbox, received);
+        self.hold(moving);
+        Ok(())
+    }
+
+    /// Opens a later round: what was received so far stays. For want of memory nothing changes.
+    fn later_round(&mut self, moving: Redistribution, round: u32) -> Result<(), OutOfMemory>
+        requires nodes { moving.nodes ≡ self.old.nodes }
+        ensures ok { OnOk result (self.new ≡ round_opened moving (record self.old { round = round })) }
+        ensures err { OnErr result (self.new ≡ self.old) }
+    {
+        let outbox = moving.outbox(self.alloc, round as usize, &self.pieces)?;
+        let inbox = moving.inbox(self.alloc, round as usize)?;
+        if self.post.all_received().len() != self.owners.nodes() as usize {
+            return Err(OutOfMemory);
+        }
+        self.to_round(round);
+        self.reopen(outbox, inbox);
+        self.hold(moving);
+        Ok(())
+    }
+
+    /// The number of the round. It takes no memory.
+    fn to_round(&mut self, round: u32)
+        ensures { self.new ≡ record self.old { round = round } }
+    {
+        self.round = round;
+    }
+
+    /// The rows behind the last round, by what was received.
+    fn rows_behind(
+        &self,
+        moving: &Redistribution,
+        received: &[Body],
+    ) -> Result<NewRows, OutOfMemory>
+        requires { IsRemap (instr_at text_meaning self.now.code self.now.control.at) self.now moving.now }
+        ensures layouts { IfOk result (λ rows. rows.owners.layouts ≡ moving.now.new) }
+        ensures nodes { IfOk result (λ rows. rows.owners.nodes ≡ self.now.nodes) }
+        ensures pieces { IfOk result (λ rows. rows.pieces.items ≡ moved_pieces moving.now self.now.pieces received.now) }
+        ensures many { IfOk result (λ rows. length rows.pieces.items ≡ length rows.owners.layouts) }
+    {
+        let pieces = moving.moved_pieces(self.alloc, &self.pieces, received)?;
+        let owners = moving.after().shared()?;
+        Ok(NewRows { owners, pieces })
+    }
+
+    /// Puts rows in the place of the others, and goes on. It takes no memory.
+    fn put_rows(&mut self, rows: NewRows)
+        requires in_code { self.old.control.at < 2 ^ 63 }
+        requires nodes { rows.owners.nodes ≡ self.old.nodes }
+        requires many { length rows.pieces.items ≡ length rows.owners.layouts }
+        ensures { self.new ≡ ready self.old.nodes (record self.old {
+          control = on self.old.control;
+          substep = 0;
+          layouts = rows.owners.layouts;
+          pieces = rows.pieces.items;
+        }) }
+    {
+        self.owners = rows.owners;
+        self.pieces = rows.pieces;
+        self.go_on();
+        self.reset();
+    }
+}

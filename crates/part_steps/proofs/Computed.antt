@@ -1,0 +1,99 @@
+-- The tuples that a node computes, one after the other.
+use Rattle.std.proofs.Common.{◌≡◌, ℕ, zero, suc, ◌+◌, ◌<◌, ℤ, Bool, true, false, List, [], ◌∷◌, ◌++◌, length, map, drop, filter, get_or, Option, Some, None, if◌then◌else◌, refl, sym, ◌∙◌, ap, arith, subst}
+use Rattle.std.proofs.lemmas.List.{drop_more}
+use Rattle.std.proofs.lemmas.List.Elements.{filter_passes}
+use Rattle.std.specs.List.{range_with_len}
+use Rattle.nest_order.specs.Storage.{Storage}
+use Rattle.op_tables.specs.declared.op.Op.{Op}
+use Rattle.array_meaning.specs.Faults.{Fault}
+use Rattle.machine_steps.specs.Instr.{Nothing}
+use Rattle.machine_steps.specs.Machine.{Kept, earlier, is_before, kept_of, value_by}
+use Rattle.machine_steps.specs.Node.{join_options, outcome_value}
+use Rattle.node_code.specs.Parallel.{joined}
+use Rattle.node_run.proofs.Keeping.{before-order}
+use Rattle.node_run.proofs.Picked.{picked-none}
+use Rattle.comm_sets.proofs.Computing.{are-nodes, filter-more}
+use Rattle.tuple_values.specs.Statements.{tuple_outcome, tuple_reads}
+use Rattle.part_steps.specs.Behind.{Behind, applied, fault_below, joined_below, outcome_of, stored_below, tuples, value_of}
+use Rattle.part_steps.specs.Exchanged.{IsComputed, computed_of}
+use Rattle.part_steps.specs.Parts.{part_of}
+
+-- ---- a state by the items of a list
+
+module _ {S : Type 0} (step : ℕ → S → S) where
+  -- the first item first
+  abbrev pub over : List ℕ → S → S
+  over [] s = s
+  over (t ∷ ts) s = over ts (step t s)
+
+  over-append : (xs ys : List ℕ) (s : S) → over (xs ++ ys) s ≡ over ys (over xs s)
+  over-append [] ys s = refl
+  over-append (x ∷ xs) ys s = over-append xs ys (step x s)
+
+  -- one item more
+  pub over-next : (xs : List ℕ) (i x : ℕ) (before after whole : S) → i < length xs → x ≡ get_or xs i x → after ≡ step x before → over (drop i xs) before ≡ whole → over (drop (i + 1) xs) after ≡ whole
+  over-next xs i x before after whole lt is stepped so_far =
+      ap (over (drop (i + 1) xs)) stepped ∙ ap (λ y. over (drop (i + 1) xs) (step y before)) is ∙ ap (λ l. over l before) (sym (drop_more xs i x lt)) ∙ so_far
+
+  -- the first so many numbers, of which those that don't pass change nothing
+  pub over-passing : (P : ℕ → Bool) (below : ℕ → S) → ((n : ℕ) → below (suc n) ≡ step n (below n)) → ((n : ℕ) → P n ≡ false → (s : S) → step n s ≡ s)
+      → (n : ℕ) → over (filter P (range_with_len 0 n)) (below 0) ≡ below n
+  over-passing P below grows idle zero = refl
+  over-passing P below grows idle (suc n) =
+      let next : suc n ≡ n + 1 = omega arith in
+      ap (λ k. over (filter P (range_with_len 0 k)) (below 0)) next ∙ ap (λ ts. over ts (below 0)) (filter-more P n) ∙ over-append (filter P (range_with_len 0 n)) (filter P (n ∷ [])) (below 0)
+      ∙ ap (over (filter P (n ∷ []))) (over-passing P below grows idle n) ∙ last (P n) refl
+    where
+      last : (b : Bool) → P n ≡ b → over (if b then n ∷ [] else []) (below n) ≡ below (suc n)
+      last true e = sym (grows n)
+      last false e = sym (grows n ∙ idle n e (below n))
+
+-- ---- what a node makes of the tuples that it computes
+
+join-none : (join : ℤ → ℤ → ℤ) (so_far : Option ℤ) → join_options join so_far None ≡ so_far
+join-none join None = refl
+join-none join (Some a) = refl
+
+module _ (b : Behind) where
+  -- what a tuple comes to that the node doesn't compute, and that it computes
+  nothing-else : (t : ℕ) → (part_of b.part).computes b.id t ≡ false → outcome_of b t ≡ Nothing
+  nothing-else t e = ap (λ c. if c then tuple_outcome b.part.statement t (map (value_by (value_of b)) (tuple_reads b.part.statement t)) else Nothing) e
+
+  pub outcome-is : (t : ℕ) → IsComputed b t → tuple_outcome b.part.statement t (map (value_by (value_of b)) (tuple_reads b.part.statement t)) ≡ outcome_of b t
+  outcome-is t is = ap (λ c. if c then tuple_outcome b.part.statement t (map (value_by (value_of b)) (tuple_reads b.part.statement t)) else Nothing) (sym is.computes)
+
+  abbrev pub store_of : ℕ → Storage → Storage
+  store_of t pieces = applied b t (outcome_of b t) pieces
+
+  abbrev pub keep_of : ℕ → ℕ → Option (Kept Fault) → Option (Kept Fault)
+  keep_of number t so_far = earlier so_far (kept_of (outcome_of b t) t number)
+
+  abbrev pub join_of : Op → ℕ → Option ℤ → Option ℤ
+  join_of op t so_far = join_options (joined op) so_far (outcome_value (outcome_of b t))
+
+  module _ (computed : List ℕ) (are : computed ≡ computed_of b) where
+    abbrev passes : ℕ → Bool
+    passes = (part_of b.part).computes b.id
+
+    -- each of them is one
+    pub is-computed : (i d : ℕ) → i < length computed → IsComputed b (get_or computed i d)
+    is-computed i d lt = subst (λ (ts : List ℕ). i < length ts → IsComputed b (get_or ts i d)) (sym are) (λ lt'. record {
+      below = are-nodes passes (tuples b) i d lt';
+      computes = filter_passes passes (range_with_len 0 (tuples b)) i d lt';
+    }) lt
+
+    pub stored-over : (pieces : Storage) → over store_of computed pieces ≡ stored_below b (tuples b) pieces
+    stored-over pieces =
+        ap (λ ts. over store_of ts pieces) are
+        ∙ over-passing store_of passes (λ n. stored_below b n pieces) (λ n. refl) (λ n e s. ap (λ o. applied b n o s) (nothing-else n e)) (tuples b)
+
+    pub fault-over : (number : ℕ) → over (keep_of number) computed None ≡ fault_below b number (tuples b)
+    fault-over number =
+        ap (λ ts. over (keep_of number) ts None) are
+        ∙ over-passing (keep_of number) passes (fault_below b number) (λ n. refl)
+        (λ n e s. ap (λ o. earlier s (kept_of o n number)) (nothing-else n e) ∙ picked-none is_before before-order s) (tuples b)
+
+    pub joined-over : (op : Op) → over (join_of op) computed None ≡ joined_below b op (tuples b)
+    joined-over op =
+        ap (λ ts. over (join_of op) ts None) are
+        ∙ over-passing (join_of op) passes (joined_below b op) (λ n. refl) (λ n e s. ap (λ o. join_options (joined op) s (outcome_value o)) (nothing-else n e) ∙ join-none (joined op) s) (tuples b)

@@ -1,0 +1,20 @@
+use Rattle.std.proofs.Common.{map, refl, sym, ◌∙◌, ap, arith}
+use Rattle.std.specs.List.{range_with_len}
+use Rattle.machine_steps.specs.Layout.{sizes}
+use Rattle.machine_steps.specs.Message.{remap_message}
+use Rattle.comm_sets.specs.Rounds.{remap_rounds}
+use Rattle.remap_steps.proofs.redistribution.Redistribution.new.Goals as goal
+
+pub invariant_of-result : goal.invariant_of-result
+invariant_of-result c =
+    let before = c.in_ok-before.ensures in
+    let after = c.in_ok-after.ensures in
+    let many = ap (λ o. o.nodes) before in
+    record {
+      nodes = many ∙ c.if-not-are_sized_alike.ensures.nodes refl ∙ sym (ap (λ o. o.nodes) after);
+      sizes = ap (λ o. sizes o.layouts) before ∙ c.if-not-are_sized_alike.ensures.sizes refl ∙ sym (ap (λ o. sizes o.layouts) after);
+      node = omega (arith, c.if-id-nodes.false, c.nodes.ensures.value, many);
+      rounds = c.in_ok-rounds.ensures ∙ sym (λ i. remap_rounds (before i).nodes (before i).layouts (after i).layouts);
+      outgoing = c.in_ok-outgoing.ensures
+          ∙ sym (λ i. map (remap_message (before i).nodes (before i).layouts (after i).layouts c.args.id) (range_with_len 0 (before i).nodes));
+    }
