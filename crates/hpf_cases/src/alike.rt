@@ -1,7 +1,7 @@
 //! Runs on nodes beside runs in one order.
 
 use crate::stream::Stream;
-use hpf_ports::{MemSink, MemSource, OpenGate};
+use hpf_ports::{MemSink, OpenGate};
 use hpf_run::hpf_top;
 use std::alloc::{AllocError, Global};
 use std::fmt::Write;
@@ -43,28 +43,15 @@ fn answer_on(alloc: Global, action: &str, grid: &str, text: &[u8]) -> Result<Ans
     for word in [action, "--grid", grid] {
         words.push(String::from_str(alloc, word)?)?;
     }
-    let stream = Stream::new(alloc);
-    let mut src = MemSource::new(
-        Vec::from_slice(alloc, text)?,
-        stream.piece.max(1),
-        stream.fails,
-    );
-    let mut out = sink(alloc)?;
-    let mut err = sink(alloc)?;
+    let mut src = Stream::new(alloc).source(Vec::from_slice(alloc, text)?);
+    let mut out = Stream::new(alloc).sink(alloc)?;
+    let mut err = Stream::new(alloc).sink(alloc)?;
     let status = hpf_top(&(), alloc, &words, &mut src, &mut out, &mut err, &OpenGate);
     Ok(Answer {
         status: status.exit_code(),
         out,
         err,
     })
-}
-
-fn sink(alloc: Global) -> Result<MemSink, AllocError> {
-    let stream = Stream::new(alloc);
-    match MemSink::new(alloc, stream.room, stream.piece.max(1), stream.fails) {
-        Ok(sink) => Ok(sink),
-        Err(_) => Err(AllocError),
-    }
 }
 
 fn is_same(one: &Answer, other: &Answer) -> bool {

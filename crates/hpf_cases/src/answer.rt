@@ -3,9 +3,8 @@
 use crate::alike::write_alike;
 use crate::case::{Case, Wanted};
 use crate::job::write_job;
-use crate::stream::Stream;
 use case_texts::{TextError, text_of, write_text};
-use hpf_ports::{MemSink, MemSource, OpenGate, Source, read_all};
+use hpf_ports::{MemSink, OpenGate, Source, read_all};
 use hpf_run::hpf_top;
 use std::alloc::{AllocError, Global};
 use std::fmt::Write;
@@ -48,9 +47,9 @@ fn write_run(
     text: Vec<u8>,
 ) -> Result<(), AllocError> {
     let words = words_of(alloc, case.words.as_str())?;
-    let mut src = MemSource::new(text, case.source.piece.max(1), case.source.fails);
-    let mut out = sink(alloc, case.out)?;
-    let mut err = sink(alloc, case.err)?;
+    let mut src = case.source.source(text);
+    let mut out = case.out.sink(alloc)?;
+    let mut err = case.err.sink(alloc)?;
     let status = hpf_top(&(), alloc, &words, &mut src, &mut out, &mut err, &OpenGate);
     write!(answer, "  status {}, ", status.exit_code())?;
     write_left(alloc, answer, &mut src)?;
@@ -67,13 +66,6 @@ fn words_of(alloc: Global, line: &str) -> Result<Vec<String>, AllocError> {
         }
     }
     Ok(words)
-}
-
-fn sink(alloc: Global, stream: Stream) -> Result<MemSink, AllocError> {
-    match MemSink::new(alloc, stream.room, stream.piece.max(1), stream.fails) {
-        Ok(sink) => Ok(sink),
-        Err(_) => Err(AllocError),
-    }
 }
 
 /// Writes how many bytes a source still gives.

@@ -1,5 +1,6 @@
 //! How sources and sinks behave.
 
+use hpf_ports::{MemSink, MemSource};
 use std::alloc::{AllocError, Global};
 
 /// How a source or a sink behaves.
@@ -38,6 +39,19 @@ impl Stream {
             room: 65536,
             piece: 4096,
             fails: Vec::new(alloc),
+        }
+    }
+
+    /// A source that gives these bytes so.
+    pub fn source(self, bytes: Vec<u8>) -> MemSource {
+        MemSource::new(bytes, self.piece.max(1), self.fails)
+    }
+
+    /// A sink that takes bytes so.
+    pub fn sink(self, alloc: Global) -> Result<MemSink, AllocError> {
+        match MemSink::new(alloc, self.room, self.piece.max(1), self.fails) {
+            Ok(sink) => Ok(sink),
+            Err(_) => Err(AllocError),
         }
     }
 
