@@ -7,13 +7,13 @@ use Rattle.std.proofs.lemmas.List.{get_or-map, get_or_default, length-map}
 use Rattle.std.proofs.lemmas.List.Elements.{All-map}
 use Rattle.std.specs.List.{list_all}
 use Rattle.std.specs.Ordering.{int_eq}
-use Rattle.hpf_base.specs.declared.mapping.AlignDim.{AlignDim}
-use Rattle.hpf_base.specs.declared.mapping.AlignDim.TheVariants.{Linear, At, Every}
-use Rattle.hpf_base.specs.declared.mapping.MapDim.{MapDim}
-use Rattle.hpf_base.specs.declared.mapping.Mapping.{Mapping}
-use Rattle.hpf_base.specs.Alignment.{agrees, agrees_at, align_through, aligned, composed, composed_align, composed_entry, owns_at}
+use Rattle.mappings.specs.declared.mapping.AlignDim.{AlignDim}
+use Rattle.mappings.specs.declared.mapping.AlignDim.TheVariants.{Linear, At, Every}
+use Rattle.mappings.specs.declared.mapping.MapDim.{MapDim}
+use Rattle.mappings.specs.declared.mapping.Mapping.{Mapping}
+use Rattle.mappings.specs.Alignment.{agrees, agrees_at, align_through, aligned, composed, composed_align, composed_entry, owns_at}
 use Rattle.hpf_base.specs.Grid.{node_coordinates}
-use Rattle.hpf_base.specs.Mapping.{IsAlign, IsMapDim, IsMapping, MoveApart, moves_along}
+use Rattle.mappings.specs.Mapping.{IsAlign, IsMapDim, IsMapping, MoveApart, moves_along}
 use Rattle.hpf_base.proofs.Integers.{linear_of_linear}
 
 get_or-map_default : {X Y : Type 0} (f : X → Y) (xs : List X) (k : ℕ) (d : X) → get_or (map f xs) k (f d) ≡ f (get_or xs k d)

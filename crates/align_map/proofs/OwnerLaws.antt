@@ -6,15 +6,15 @@ use Rattle.std.proofs.lemmas.List.Elements.{All-head, All-tail}
 use Rattle.std.proofs.lemmas.Option.{get_or_from_slice_get, slice_get_within}
 use Rattle.std.proofs.lemmas.Int.{ints}
 use Rattle.std.specs.List.{list_all, range_with_len}
-use Rattle.hpf_base.specs.declared.mapping.Line.{Line}
-use Rattle.hpf_base.specs.declared.mapping.MapDim.{MapDim}
-use Rattle.hpf_base.specs.declared.mapping.Mapping.{Mapping}
-use Rattle.hpf_base.specs.Alignment.{agrees, agrees_at, aligned, owns_at, position_at}
+use Rattle.mappings.specs.declared.mapping.Line.{Line}
+use Rattle.mappings.specs.declared.mapping.MapDim.{MapDim}
+use Rattle.mappings.specs.declared.mapping.Mapping.{Mapping}
+use Rattle.mappings.specs.Alignment.{agrees, agrees_at, aligned, owns_at, position_at}
 use Rattle.hpf_base.specs.ElementOrder.{product}
 use Rattle.hpf_base.specs.Grid.{IsGrid, node_coordinates}
-use Rattle.hpf_base.specs.Mapping.{InLine, IsMapDim, IsMapping}
-use Rattle.hpf_base.specs.Owner.{coordinate}
-use Rattle.hpf_base.proofs.Lines.{coordinate-below}
+use Rattle.mappings.specs.Mapping.{InLine, IsMapDim, IsMapping}
+use Rattle.mappings.specs.Owner.{coordinate}
+use Rattle.mappings.proofs.Lines.{coordinate-below}
 use Rattle.hpf_base.proofs.Places.{IsPlace, number_of, number_of-below, place_at-number_of, places-get}
 
 first_or_later : (p : ℕ → Bool) (a n m : ℕ) → (a ≡ m) ⊎ (a ≡ m → ⊥) → ((k : ℕ) → a ≤ k → k < m → p k ≡ false) → p m ≡ true

@@ -2,11 +2,12 @@
 
 ghost use Rattle.std.specs.Prelude.{◌≡◌, ◌≢◌, ℕ, ◌<◌, ℤ, pos, ◌+ℤ◌, ◌*ℤ◌, FitsSigned, List, map, length, All, AllPairs, IfOk};
 ghost use Rattle.std.specs.Int.{w64};
-ghost use Rattle.hpf_base.specs.Alignment.{align_through, composed, composed_align, composed_entry};
-ghost use Rattle.hpf_base.specs.Mapping.{FitsAlign, IsAlign, IsMapping, MoveApart};
+ghost use Rattle.mappings.specs.Alignment.{align_through, composed, composed_align, composed_entry};
+ghost use Rattle.mappings.specs.Mapping.{FitsAlign, IsAlign, IsMapping, MoveApart};
 
 use crate::subscripts::{linear, product};
-use hpf_base::{AlignDim, Grid, MapDim, MapDims, Mapping, OutOfMemory};
+use hpf_base::{Grid, OutOfMemory};
+use mappings::{AlignDim, MapDim, MapDims, Mapping};
 use std::alloc::Global;
 
 /// The mapping of an array whose elements are aligned with those of `target`'s array: `align` has, for each dimension

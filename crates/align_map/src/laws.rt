@@ -1,9 +1,9 @@
 //! Laws of alignment.
 
 ghost use Rattle.std.specs.Prelude.{◌≡◌, ℕ, ℤ, List, map, Option};
-ghost use Rattle.hpf_base.specs.Alignment.{aligned, composed, owns_at};
-ghost use Rattle.hpf_base.specs.declared.mapping.AlignDim.{AlignDim};
-ghost use Rattle.hpf_base.specs.declared.mapping.Mapping.{Mapping};
+ghost use Rattle.mappings.specs.Alignment.{aligned, composed, owns_at};
+ghost use Rattle.mappings.specs.declared.mapping.AlignDim.{AlignDim};
+ghost use Rattle.mappings.specs.declared.mapping.Mapping.{Mapping};
 
 /// To compose and then to own is to own through both: a node owns an element of the alignee, by the composed mapping,
 /// exactly where it owns, by the target's mapping, what the element is aligned with. A subscript that is `*` stays

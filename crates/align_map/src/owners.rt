@@ -1,15 +1,16 @@
 //! The owners of an element.
 
 ghost use Rattle.std.specs.Prelude.{◌≡◌, ◌+◌, ◌<◌, ◌≤◌, ℤ, pos, ◌+ℤ◌, ◌-ℤ◌, ◌*ℤ◌, unsigned_abs, length, map, Some, slice_index, IsTrue};
-ghost use Rattle.hpf_base.specs.Alignment.{agrees, aligned, least_owner, owns, position_at};
+ghost use Rattle.mappings.specs.Alignment.{agrees, aligned, least_owner, owns, position_at};
 ghost use Rattle.hpf_base.specs.ElementOrder.{product};
 ghost use Rattle.hpf_base.specs.Grid.{node_coordinates};
-ghost use Rattle.hpf_base.specs.Mapping.{InLine, IsAlign, IsLine, IsMapDim, IsMapping, MapsInside};
-ghost use Rattle.hpf_base.specs.Owner.{coordinate};
+ghost use Rattle.mappings.specs.Mapping.{InLine, IsAlign, IsLine, IsMapDim, IsMapping, MapsInside};
+ghost use Rattle.mappings.specs.Owner.{coordinate};
 
 use crate::subscripts::linear;
 use distribution::owner;
-use hpf_base::{AlignDim, Grid, Index, Line, MapDim, Mapping, NodeId};
+use hpf_base::{Grid, Index, NodeId};
+use mappings::{AlignDim, Line, MapDim, Mapping};
 
 /// Whether the node owns the element with the subscripts `index`: its coordinate in the grid is that of the
 /// position that the element is given, in every distributed dimension of the template; a dimension over which the

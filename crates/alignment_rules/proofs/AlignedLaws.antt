@@ -2,8 +2,8 @@
 use Rattle.std.proofs.Common.{◌≡◌, ℤ, Bool, true, false, List, [], length, Option, Some, None, subst, ◌∙◌, All}
 use Rattle.std.specs.Prelude.{if◌then◌else◌}
 use Rattle.std.specs.List.{list_any}
-use Rattle.hpf_base.specs.Mapping.{IsAlign}
-use Rattle.hpf_base.specs.declared.mapping.AlignDim.{AlignDim}
+use Rattle.mappings.specs.Mapping.{IsAlign}
+use Rattle.mappings.specs.declared.mapping.AlignDim.{AlignDim}
 use Rattle.syntax_tree.specs.Directive as directive
 use Rattle.expression_rules.specs.Symbols.{Name}
 use Rattle.distribution_rules.specs.Distributed.{all_or_none}

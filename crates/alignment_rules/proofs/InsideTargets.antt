@@ -8,9 +8,9 @@ use Rattle.std.proofs.lemmas.Bool.Decides.{nat_tests}
 use Rattle.std.proofs.lemmas.Int.{ints}
 use lib.Dec.{T}
 use lib.Signed.{le_z_yes}
-use Rattle.hpf_base.specs.Alignment.{aligned}
-use Rattle.hpf_base.specs.declared.mapping.AlignDim.{AlignDim}
-use Rattle.hpf_base.specs.declared.mapping.AlignDim.TheVariants as align
+use Rattle.mappings.specs.Alignment.{aligned}
+use Rattle.mappings.specs.declared.mapping.AlignDim.{AlignDim}
+use Rattle.mappings.specs.declared.mapping.AlignDim.TheVariants as align
 use Rattle.hpf_base.specs.declared.refusal.Reason.TheVariants as reason
 use Rattle.hpf_base.proofs.Integers.{sum-*ℤ}
 use Rattle.syntax_tree.specs.Directive.{Source}

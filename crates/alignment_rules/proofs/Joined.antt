@@ -3,7 +3,7 @@ use Rattle.std.proofs.Common.{◌≡◌, ℕ, ◌+◌, ◌<◌, Bool, true, fals
 use Rattle.std.specs.Prelude.{◌||◌, if◌then◌else◌}
 use Rattle.std.specs.List.{list_any}
 use Rattle.std.proofs.lemmas.List.{append-nil}
-use Rattle.hpf_base.specs.declared.mapping.AlignDim.{AlignDim}
+use Rattle.mappings.specs.declared.mapping.AlignDim.{AlignDim}
 use Rattle.expression_rules.proofs.Lists.{drop_item}
 use Rattle.distribution_rules.specs.Distributed.{all_or_none, and_more}
 use Rattle.alignment_rules.specs.declared.alignment_values.Alignment.{Alignment}

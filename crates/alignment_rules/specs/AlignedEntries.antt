@@ -1,8 +1,8 @@
 -- The alignment of an alignee whose ALIGN breaks no rule.
 use Rattle.std.specs.Prelude.{◌≡◌, ℕ, ℤ, ◌≤ℤ◌, ⊤, All, AllPairs, List, [], ◌∷◌, length, map, Option, Some}
-use Rattle.hpf_base.specs.Alignment.{aligned}
-use Rattle.hpf_base.specs.Mapping.{IsAlign, MoveApart}
-use Rattle.hpf_base.specs.declared.mapping.AlignDim.{AlignDim}
+use Rattle.mappings.specs.Alignment.{aligned}
+use Rattle.mappings.specs.Mapping.{IsAlign, MoveApart}
+use Rattle.mappings.specs.declared.mapping.AlignDim.{AlignDim}
 use Rattle.expression_rules.specs.declared.dims.Dim.{Dim}
 
 -- one entry for each dimension of the target; each moves along a dimension of the alignee, if any, and no two move along one

@@ -2,8 +2,8 @@
 use Rattle.std.specs.Prelude.{ℕ, zero, suc, Bool, true, false, ◌||◌, nat_lt, bytes_eq, unsigned_abs, List, [], ◌∷◌, length, drop, ℤ, ◌-ℤ◌, ◌*ℤ◌, Option, Some, None, if◌then◌else◌}
 use Rattle.std.specs.List.{list_any}
 use Rattle.hpf_base.specs.declared.limits.TheConstants.{MAX_ALIGN_FACTOR, MAX_ALIGN_OFFSET}
-use Rattle.hpf_base.specs.declared.mapping.AlignDim.{AlignDim}
-use Rattle.hpf_base.specs.declared.mapping.AlignDim.TheVariants.{Linear, At, Every}
+use Rattle.mappings.specs.declared.mapping.AlignDim.{AlignDim}
+use Rattle.mappings.specs.declared.mapping.AlignDim.TheVariants.{Linear, At, Every}
 use Rattle.syntax_tree.specs.Directive as directive
 use Rattle.syntax_tree.specs.Directive.{Source, Dummy, Spread}
 use Rattle.expression_rules.specs.Symbols.{Name}

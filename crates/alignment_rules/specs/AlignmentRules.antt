@@ -2,8 +2,8 @@
 use Rattle.std.specs.Prelude.{ℕ, ◌==◌, Bool, true, false, ◌&&◌, ◌||◌, not, int_le, int_div, List, [], ◌∷◌, ◌++◌, map, filter, length, ℤ, ◌+ℤ◌, ◌-ℤ◌, ◌*ℤ◌, Option, Some, None, if◌then◌else◌}
 use Rattle.std.specs.List.{list_any, list_all, flat_map}
 use Rattle.op_tables.specs.Operators.{is_zero}
-use Rattle.hpf_base.specs.declared.mapping.AlignDim.{AlignDim}
-use Rattle.hpf_base.specs.declared.mapping.AlignDim.TheVariants.{Linear, At, Every}
+use Rattle.mappings.specs.declared.mapping.AlignDim.{AlignDim}
+use Rattle.mappings.specs.declared.mapping.AlignDim.TheVariants.{Linear, At, Every}
 use Rattle.hpf_base.specs.declared.refusal.Reason.{Reason}
 use Rattle.hpf_base.specs.declared.refusal.Reason.TheVariants as reason
 use Rattle.syntax_tree.specs.Expression.{Part, One, Range, Glued, Maybe, Absent, Present}

@@ -1,8 +1,8 @@
 -- What private contracts see of the entries of alignments, whose numbers are wide until they are within the limits. No public clause cites
 -- this file.
 use Rattle.std.specs.Prelude.{◌+◌, ◌^◌, ◌≤ℤ◌, ⊤, pos, neg_ℤ, ◌∷◌, [], ◌++◌, Option, Some, None, if◌then◌else◌}
-use Rattle.hpf_base.specs.declared.mapping.AlignDim.{AlignDim}
-use Rattle.hpf_base.specs.declared.mapping.AlignDim.TheVariants as align
+use Rattle.mappings.specs.declared.mapping.AlignDim.{AlignDim}
+use Rattle.mappings.specs.declared.mapping.AlignDim.TheVariants as align
 use Rattle.alignment_rules.specs.declared.alignment_values.Alignment.{Alignment}
 use Rattle.alignment_rules.specs.declared.alignment_values.Alignment.TheVariants.{Known, PastLimits, Unknown}
 use Rattle.alignment_rules.specs.declared.entries.WideAlign.{WideAlign}

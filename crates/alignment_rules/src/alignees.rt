@@ -22,7 +22,8 @@ use crate::pairs::{are_matched, pairs};
 use crate::sources::sources;
 use distribution_rules::{Object, ObjectKind, Setting, dims_of, lesser};
 use expression_rules::Dim;
-use hpf_base::{AlignDim, Name, Reason};
+use hpf_base::{Name, Reason};
+use mappings::AlignDim;
 use std::alloc::{AllocError, Global};
 use syntax_tree::{AlignSpec, Source};
 

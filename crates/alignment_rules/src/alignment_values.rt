@@ -3,7 +3,8 @@
 ghost use Rattle.std.specs.Prelude.{◌≡◌};
 
 use expression_rules::Dim;
-use hpf_base::{AlignDim, Name};
+use hpf_base::Name;
+use mappings::AlignDim;
 use linear_subscripts::LinearForm;
 use std::marker::Model;
 
@@ -67,7 +68,7 @@ pub struct AlignDims {
 
 impl Model for AlignDims {
     ghost use Rattle.std.specs.Prelude.{List};
-    ghost use Rattle.hpf_base.specs.declared.mapping.AlignDim.{AlignDim};
+    ghost use Rattle.mappings.specs.declared.mapping.AlignDim.{AlignDim};
 
     ghost Value = { List AlignDim };
 

@@ -1,10 +1,10 @@
 //! The numbers of alignments (HPF 2.0, 3.4).
 
 ghost use Rattle.std.specs.Prelude.{All};
-ghost use Rattle.hpf_base.specs.Mapping.{FitsAlign};
+ghost use Rattle.mappings.specs.Mapping.{FitsAlign};
 
 use crate::alignment_values::AlignDims;
-use hpf_base::AlignDim;
+use mappings::AlignDim;
 
 /// The numbers of an entry fit 64 bits.
 fn entry_fits(entry: &AlignDim)

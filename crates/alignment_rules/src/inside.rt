@@ -8,7 +8,7 @@ ghost use Rattle.alignment_rules.specs.WideEntries.{IsNear, align_dim};
 use crate::entries::{WideAlign, difference, extent, product, wide};
 use crate::pairs::dim_at;
 use expression_rules::Dim;
-use hpf_base::AlignDim;
+use mappings::AlignDim;
 
 /// It is known that the dimension is empty.
 fn is_empty_dim(dim: Option<Dim>) -> bool

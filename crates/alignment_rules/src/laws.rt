@@ -1,7 +1,7 @@
 //! Laws of alignments that break no rule (HPF 2.0, 3.4).
 
 ghost use Rattle.std.specs.Prelude.{◌≡◌, ℤ, [], List, length};
-ghost use Rattle.hpf_base.specs.declared.mapping.AlignDim.{AlignDim};
+ghost use Rattle.mappings.specs.declared.mapping.AlignDim.{AlignDim};
 ghost use Rattle.syntax_tree.specs.Directive.{Alignment};
 ghost use Rattle.expression_rules.specs.Symbols.{Name};
 ghost use Rattle.distribution_rules.specs.Setting.{Setting, dims_of};

@@ -1,9 +1,10 @@
 -- Which mappings serve a program that runs on so many nodes.
 use Rattle.std.specs.Prelude.{◌≡◌, ℕ, ◌<◌, List, length, All, AllPairs, Some, slice_get}
 use Rattle.hpf_base.specs.declared.index.Shape.{Shape}
-use Rattle.hpf_base.specs.declared.mapping.Mapping.{Mapping}
+use Rattle.mappings.specs.declared.mapping.Mapping.{Mapping}
 use Rattle.hpf_base.specs.ElementOrder.{elements, product}
-use Rattle.hpf_base.specs.Mapping.{IsMapping, IsShape, MapsInside}
+use Rattle.hpf_base.specs.Shape.{IsShape}
+use Rattle.mappings.specs.Mapping.{IsMapping, MapsInside}
 use Rattle.array_maps.specs.declared.maps.ArrayMap.{ArrayMap}
 use Rattle.array_maps.specs.declared.maps.NewMap.{NewMap}
 use Rattle.array_maps.specs.declared.maps.Maps.{Maps}

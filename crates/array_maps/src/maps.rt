@@ -2,7 +2,8 @@
 
 ghost use Rattle.std.specs.Prelude.{◌≡◌};
 
-use hpf_base::{ArrayId, Mapping, Name, Shape};
+use hpf_base::{ArrayId, Name, Shape};
+use mappings::Mapping;
 use std::marker::Model;
 
 /// An array with the mapping that it has when the program starts.

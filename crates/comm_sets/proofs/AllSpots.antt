@@ -5,8 +5,8 @@ use Rattle.std.proofs.lemmas.Bool.Decides.{nat_tests}
 use Rattle.std.proofs.lemmas.List.Folds.{list_any-append}
 use Rattle.std.proofs.lemmas.List.Kept.{IsStrictlySortedBy-filter}
 use Rattle.std.specs.List.{AllByRecursion, range_with_len}
-use Rattle.nest_order.specs.Storage.{Spot}
-use Rattle.nest_order.specs.LastValue.{is_same_spot}
+use Rattle.storage.specs.Storage.{Spot}
+use Rattle.storage.specs.Storage.{is_same_spot}
 use Rattle.machine_steps.specs.Layout.{Layout, sizes}
 use Rattle.machine_steps.specs.Message.{spots_from, all_spots}
 use Rattle.comm_sets.specs.Ascending.{spot_cmp, Ascends}

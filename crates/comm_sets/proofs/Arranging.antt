@@ -5,8 +5,8 @@ use Rattle.std.proofs.lemmas.List.{get_or-map, get_or-set_same, get_or-set_other
 use Rattle.std.proofs.lemmas.List.Sorted.{list_any-IsPermutation}
 use Rattle.std.specs.List.{AllByRecursion, dedup, dedup_from, list_any}
 use Rattle.std.specs.List.Sorted.{IsStrictlySortedBy, IsPermutation}
-use Rattle.nest_order.specs.Storage.{Spot}
-use Rattle.nest_order.specs.LastValue.{is_same_spot}
+use Rattle.storage.specs.Storage.{Spot}
+use Rattle.storage.specs.Storage.{is_same_spot}
 use Rattle.comm_sets.specs.Ascending.{spot_cmp, Ascends}
 use Rattle.comm_sets.specs.Noted.{Lists, is_among, ArrangedTo, SameAmong}
 

@@ -7,8 +7,8 @@ use Rattle.std.specs.Cmp.{IsTotalOrder, both_tied, nat_cmp_is, unsigned_tied}
 use Rattle.std.specs.List.{AllByRecursion}
 use Rattle.std.specs.List.Sorted.{IsStrictlySortedBy}
 use Rattle.std.specs.Ordering.{nat_cmp, ordering_then, ordering_reverse, is_eq, eq_by_cmp}
-use Rattle.nest_order.specs.Storage.{Spot}
-use Rattle.nest_order.specs.LastValue.{is_same_spot}
+use Rattle.storage.specs.Storage.{Spot}
+use Rattle.storage.specs.Storage.{is_same_spot}
 use Rattle.comm_sets.specs.Ascending.{spot_cmp, Ascends}
 use Rattle.comm_sets.specs.Noted.{is_among}
 

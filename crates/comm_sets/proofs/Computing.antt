@@ -3,7 +3,7 @@ use Rattle.std.proofs.Common.{◌≡◌, ℕ, zero, suc, ◌+◌, ◌<◌, ◌�
 use Rattle.std.proofs.lemmas.Bool.{cases_order, ne_eqb}
 use Rattle.std.proofs.lemmas.List.Elements.{All-filter, filter-append}
 use Rattle.std.specs.List.{list_any, range_with_len}
-use Rattle.hpf_base.proofs.Sections.{All-range, range_with_len-add}
+use Rattle.hpf_base.proofs.Ranges.{All-range, range_with_len-add}
 
 -- each of them is a node
 pub are-nodes : (computes : ℕ → Bool) (nodes : ℕ) → All (λ node. node < nodes) (filter computes (range_with_len 0 nodes))

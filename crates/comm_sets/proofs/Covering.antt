@@ -8,8 +8,8 @@ use Rattle.std.proofs.lemmas.Map.Views.{any-filter_same}
 use Rattle.std.specs.Cmp.{first_so, second_so}
 use mathlib.Core.Bool.{true≢false}
 use Rattle.std.specs.List.{All, flat_map, list_any, range_with_len}
-use Rattle.hpf_base.proofs.Sections.{All-range}
-use Rattle.nest_order.specs.Storage.{Spot}
+use Rattle.hpf_base.proofs.Ranges.{All-range}
+use Rattle.storage.specs.Storage.{Spot}
 use Rattle.machine_steps.specs.Agrees.{AreCovered}
 use Rattle.machine_steps.specs.Instr.{Remapping}
 use Rattle.machine_steps.specs.Layout.{AreOwned, Layout, sizes, owns_spot, least_owner_of}

@@ -9,8 +9,8 @@ use Rattle.std.proofs.lemmas.Map.Keys.{Less-from_sorted, sorted_head, sorted_tai
 use Rattle.std.specs.List.{AllWithin}
 use Rattle.std.specs.List.Sorted.{IsNonDecreasingBy}
 use Rattle.std.specs.Ordering.{eq_by_cmp, is_eq, is_lt, ordering_index, ordering_reverse}
-use Rattle.nest_order.specs.Storage.{Spot}
-use Rattle.nest_order.specs.LastValue.{is_same_spot}
+use Rattle.storage.specs.Storage.{Spot}
+use Rattle.storage.specs.Storage.{is_same_spot}
 use Rattle.machine_steps.specs.Message.{lookup}
 use Rattle.comm_sets.specs.Ascending.{spot_cmp, Ascends}
 use Rattle.comm_sets.specs.Noted.{is_among}

@@ -6,8 +6,8 @@ use mathlib.Core.Bool.{true≢false}
 use Rattle.std.proofs.lemmas.Option.{same_Some}
 use Rattle.std.specs.Option.{is_some}
 use Rattle.std.specs.List.{list_any, range_with_len, slice_get}
-use Rattle.hpf_base.proofs.Sections.{range_with_len-add}
-use Rattle.nest_order.specs.Storage.{Spot}
+use Rattle.hpf_base.proofs.Ranges.{range_with_len-add}
+use Rattle.storage.specs.Storage.{Spot}
 use Rattle.machine_steps.specs.Layout.{Layout, owned_by, owned_in, owns_spot, least_owner_of}
 use Rattle.machine_steps.specs.Message.{spots_from}
 use Rattle.comm_sets.specs.Marks.{Marked, is_marked, any_moved}

@@ -4,7 +4,7 @@ use Rattle.std.proofs.lemmas.Bool.{cases_lt}
 use Rattle.std.proofs.lemmas.List.{get_or_past}
 use Rattle.std.proofs.lemmas.List.FromFn.{get_or-map-range_with_len, length-map-range_with_len}
 use Rattle.std.specs.List.{range_with_len}
-use Rattle.nest_order.specs.Storage.{Spot}
+use Rattle.storage.specs.Storage.{Spot}
 use Rattle.machine_steps.specs.Layout.{Layout, owns_spot, least_owner_of}
 use Rattle.machine_steps.specs.Message.{Part, needs, message, remap_message}
 use Rattle.comm_sets.specs.Ascending.{Ascends}

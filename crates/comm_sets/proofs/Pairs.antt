@@ -6,7 +6,7 @@ use Rattle.std.proofs.lemmas.List.Concat.{flat_map-append}
 use Rattle.std.proofs.lemmas.List.Kept.{AllPairs-cons, AllPairs-filter}
 use mathlib.Core.Bool.{true≢false}
 use Rattle.std.specs.List.{All, AllPairs, flat_map, list_any, range_with_len}
-use Rattle.hpf_base.proofs.Sections.{All-range, range_with_len-add}
+use Rattle.hpf_base.proofs.Ranges.{All-range, range_with_len-add}
 use Rattle.machine_steps.specs.Layout.{Layout}
 use Rattle.machine_steps.specs.Message.{all_spots, has_any, remap_message}
 use Rattle.redistribute_rounds.specs.declared.pair.Pair.{Pair}

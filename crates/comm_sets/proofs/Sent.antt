@@ -5,7 +5,7 @@ use Rattle.std.proofs.lemmas.Bool.Decides.{nat_tests}
 use Rattle.std.proofs.lemmas.List.{get_or-replicate, get_or_past, length-map, length-replicate}
 use Rattle.std.proofs.lemmas.List.FromFn.{fill_by_all}
 use Rattle.std.specs.List.{range_with_len}
-use Rattle.nest_order.specs.Storage.{Spot}
+use Rattle.storage.specs.Storage.{Spot}
 use Rattle.machine_steps.specs.Layout.{Layout, size_of, sizes, owns_spot, least_owner_of}
 use Rattle.machine_steps.specs.Message.{Part, any_below, names_spot, needs, message, all_spots}
 use Rattle.comm_sets.specs.Noted.{Lists, is_among, is_sent, Noted, Arranged}

@@ -2,7 +2,7 @@
 -- Marks on pairs of nodes: that of a pair stands at 64 times its source and its target.
 use Rattle.std.specs.Prelude.{◌≡◌, ℕ, ◌+◌, ◌*◌, ◌<◌, ◌==◌, ◌&&◌, ◌||◌, not, Bool, false, List, length, slice_index_or}
 use Rattle.std.specs.List.{list_any}
-use Rattle.nest_order.specs.Storage.{Spot}
+use Rattle.storage.specs.Storage.{Spot}
 use Rattle.machine_steps.specs.Layout.{Layout}
 use Rattle.redistribute_rounds.specs.declared.pair.Pair.{Pair}
 use Rattle.comm_sets.specs.Moves.{is_moved}

@@ -1,6 +1,6 @@
 -- What a redistribution sends.
 use Rattle.std.specs.Prelude.{ℕ, ◌==◌, ◌&&◌, not, Bool, List}
-use Rattle.nest_order.specs.Storage.{Spot}
+use Rattle.storage.specs.Storage.{Spot}
 use Rattle.machine_steps.specs.Layout.{Layout, owns_spot, least_owner_of}
 use Rattle.comm_sets.specs.declared.remapping.End.{End}
 use Rattle.comm_sets.specs.declared.remapping.End.TheVariants.{Source, Target}

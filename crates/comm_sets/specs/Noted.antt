@@ -1,8 +1,8 @@
 -- Lists of elements, one for each node.
 use Rattle.std.specs.Prelude.{◌≡◌, ℕ, ◌<◌, ◌==◌, ◌&&◌, ◌||◌, not, nat_lt, Bool, false, List, [], Option, Some, None, length, slice_index_or}
 use Rattle.std.specs.List.{list_any}
-use Rattle.nest_order.specs.Storage.{Spot}
-use Rattle.nest_order.specs.LastValue.{is_same_spot}
+use Rattle.storage.specs.Storage.{Spot}
+use Rattle.storage.specs.Storage.{is_same_spot}
 use Rattle.machine_steps.specs.Layout.{Layout, sizes, owns_spot, least_owner_of}
 use Rattle.comm_sets.specs.Ascending.{Ascends}
 

@@ -2,7 +2,7 @@
 
 ghost use Rattle.std.specs.Prelude.{◌≡◌, ◌<◌, ◌≤◌, ◌*◌, ◌+◌, ◌&&◌, All, IfOk, IsTrue, false, length, map, nat_eq, not, replicate, slice_index_or, slice_set, true};
 ghost use Rattle.std.specs.List.{list_any, range_with_len};
-ghost use Rattle.nest_order.specs.Storage.{Spot};
+ghost use Rattle.storage.specs.Storage.{Spot};
 ghost use Rattle.machine_steps.specs.Layout.{owned_in, owns_spot, sizes};
 ghost use Rattle.machine_steps.specs.Message.{all_spots};
 ghost use Rattle.owner_tables.specs.Spots.{spot_of};

@@ -1,7 +1,7 @@
 //! Lists of elements, one for each node.
 
 ghost use Rattle.std.specs.Prelude.{◌≡◌, ◌<◌, ◌&&◌, [], IfOk, OnOk, length, map, nat_eq, replicate, slice_index_or};
-ghost use Rattle.nest_order.specs.LastValue.{is_same_spot};
+ghost use Rattle.storage.specs.Storage.{is_same_spot};
 ghost use Rattle.owner_tables.specs.Spots.{spot_of};
 ghost use Rattle.comm_sets.specs.Ascending.{Ascends};
 ghost use Rattle.comm_sets.specs.Noted.{Arranged, Noted, OneMore, SameAmong};

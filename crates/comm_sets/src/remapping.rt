@@ -2,7 +2,7 @@
 
 ghost use Rattle.std.specs.Prelude.{◌≡◌, ◌<◌, ◌&&◌, IfOk, OnOk, filter, length, map, nat_eq, nat_lt, slice_index_or};
 ghost use Rattle.std.specs.List.{range_with_len};
-ghost use Rattle.nest_order.specs.LastValue.{is_same_spot};
+ghost use Rattle.storage.specs.Storage.{is_same_spot};
 ghost use Rattle.machine_steps.specs.Layout.{sizes};
 ghost use Rattle.machine_steps.specs.Message.{all_spots, remap_message};
 ghost use Rattle.owner_tables.specs.Spots.{spot_of};

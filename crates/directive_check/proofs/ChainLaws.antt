@@ -1,7 +1,7 @@
 -- Alignments one after the other, step by step, and elements inside the bounds at their end.
 use Rattle.std.proofs.Common.{◌≡◌, ℕ, zero, suc, ◌+◌, ◌<◌, Bool, true, false, List, [], ◌∷◌, drop, length, get_or, add-one, Option, Some, None, bytes_eq, refl, sym, ap, ◌∙◌}
 use Rattle.std.specs.Prelude.{◌&&◌, ◌||◌, slice_index_or}
-use Rattle.hpf_base.specs.declared.mapping.AlignDim.{AlignDim}
+use Rattle.mappings.specs.declared.mapping.AlignDim.{AlignDim}
 use Rattle.expression_rules.specs.Symbols.{Name}
 use Rattle.expression_rules.specs.declared.dims.Dim.{Dim}
 use Rattle.expression_rules.proofs.Folds.{and_assoc}

@@ -3,11 +3,11 @@ use Rattle.std.proofs.Common.{◌≡◌, ℕ, ℤ, pos, Bool, true, false, List,
 use Rattle.std.specs.Prelude.{◌*ℤ◌, All, IfSome, option_and_then, option_map, slice_index_or, if◌then◌else◌}
 use Rattle.std.proofs.Math.IntN.{*ℤ-one, *ℤ_comm, +ℤ_idr}
 use Rattle.std.proofs.lemmas.List.Elements.{All-cons, All-nil}
-use Rattle.hpf_base.specs.Alignment.{align_through, composed_align}
-use Rattle.hpf_base.specs.declared.mapping.AlignDim.{AlignDim}
-use Rattle.hpf_base.specs.declared.mapping.AlignDim.TheVariants.{Linear, At, Every}
-use Rattle.hpf_base.specs.declared.mapping.Form.{Form}
-use Rattle.hpf_base.specs.declared.mapping.MapDim.{MapDim}
+use Rattle.mappings.specs.Alignment.{align_through, composed_align}
+use Rattle.mappings.specs.declared.mapping.AlignDim.{AlignDim}
+use Rattle.mappings.specs.declared.mapping.AlignDim.TheVariants.{Linear, At, Every}
+use Rattle.mappings.specs.declared.mapping.Form.{Form}
+use Rattle.mappings.specs.declared.mapping.MapDim.{MapDim}
 use Rattle.expression_rules.specs.Dims.{extent}
 use Rattle.expression_rules.specs.Symbols.{Name}
 use Rattle.expression_rules.specs.declared.dims.Dim.{Dim}

@@ -2,7 +2,7 @@
 use Rattle.std.proofs.Common.{◌≡◌, ℕ, zero, suc, List, [], ◌∷◌, ◌++◌, length, Option, Some, None, bytes_eq, refl, ap, ◌∙◌}
 use Rattle.std.specs.Prelude.{◌&&◌, ◌||◌, not, is_some, unwrap_or, if◌then◌else◌}
 use Rattle.std.specs.List.{flat_map}
-use Rattle.hpf_base.specs.declared.mapping.Mapping.{Mapping}
+use Rattle.mappings.specs.declared.mapping.Mapping.{Mapping}
 use Rattle.hpf_base.specs.declared.refusal.Reason.TheVariants.{BadDirective}
 use Rattle.syntax_tree.specs.Directive.{Distribution}
 use Rattle.expression_rules.specs.Symbols.{Name, is_among}

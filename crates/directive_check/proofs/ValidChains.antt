@@ -1,12 +1,12 @@
 -- Mappings through chains of alignments are valid, where each alignment of the chain is.
 use Rattle.std.proofs.Common.{◌≡◌, ℕ, zero, suc, ℤ, ◌+ℤ◌, ◌*ℤ◌, List, [], ◌∷◌, length, map, get_or, All, AllPairs, Option, Some, None, refl, sym, ap, subst, ◌∙◌}
 use Rattle.std.proofs.lemmas.Option.{same_Some}
-use Rattle.hpf_base.specs.Alignment.{align_through, composed, composed_align, composed_entry}
-use Rattle.hpf_base.specs.Mapping.{IsAlign, IsMapping, MoveApart}
-use Rattle.hpf_base.specs.declared.mapping.AlignDim.{AlignDim}
-use Rattle.hpf_base.specs.declared.mapping.AlignDim.TheVariants.{Linear, At, Every}
-use Rattle.hpf_base.specs.declared.mapping.MapDim.{MapDim}
-use Rattle.hpf_base.specs.declared.mapping.Mapping.{Mapping}
+use Rattle.mappings.specs.Alignment.{align_through, composed, composed_align, composed_entry}
+use Rattle.mappings.specs.Mapping.{IsAlign, IsMapping, MoveApart}
+use Rattle.mappings.specs.declared.mapping.AlignDim.{AlignDim}
+use Rattle.mappings.specs.declared.mapping.AlignDim.TheVariants.{Linear, At, Every}
+use Rattle.mappings.specs.declared.mapping.MapDim.{MapDim}
+use Rattle.mappings.specs.declared.mapping.Mapping.{Mapping}
 use Rattle.hpf_base.proofs.Integers.{*ℤ_assoc, linear_of_linear}
 use Rattle.align_map.proofs.ComposedLaws.{IsMapping-composed}
 use Rattle.syntax_tree.specs.Directive as directive

@@ -6,7 +6,7 @@ use Rattle.std.proofs.lemmas.List.{length-map}
 use Rattle.std.proofs.lemmas.List.Elements.{All-map}
 use Rattle.std.proofs.lemmas.Nat.{div_below}
 use Rattle.hpf_base.specs.ElementOrder.{elements, extents_of, index_at, product}
-use Rattle.hpf_base.specs.Mapping.{IsShape}
+use Rattle.hpf_base.specs.Shape.{IsShape}
 use Rattle.hpf_base.specs.declared.limits.TheConstants.{MAX_BOUND}
 use Rattle.hpf_base.proofs.ElementOrder.{factor_some}
 use Rattle.hpf_base.proofs.Elements.{elements-get, length-elements}

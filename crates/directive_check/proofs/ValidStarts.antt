@@ -4,12 +4,12 @@ use Rattle.std.specs.Prelude.{⊤, IfSome, is_some, unwrap_or, ◌&&◌, not, if
 use Rattle.std.proofs.lemmas.List.{length-map}
 use Rattle.std.proofs.lemmas.List.Elements.{All-append, All-cons, All-nil}
 use Rattle.std.proofs.lemmas.Option.{same_Some}
-use Rattle.hpf_base.specs.Alignment.{composed}
+use Rattle.mappings.specs.Alignment.{composed}
 use Rattle.hpf_base.specs.ElementOrder.{elements, product}
 use Rattle.hpf_base.specs.Grid.{IsGrid}
-use Rattle.hpf_base.specs.Mapping.{IsMapping}
-use Rattle.hpf_base.specs.declared.mapping.AlignDim.{AlignDim}
-use Rattle.hpf_base.specs.declared.mapping.Mapping.{Mapping}
+use Rattle.mappings.specs.Mapping.{IsMapping}
+use Rattle.mappings.specs.declared.mapping.AlignDim.{AlignDim}
+use Rattle.mappings.specs.declared.mapping.Mapping.{Mapping}
 use Rattle.hpf_base.specs.declared.refusal.Reason.TheVariants as reason
 use Rattle.syntax_tree.specs.Directive as directive
 use Rattle.expression_rules.specs.Dims.{AreDims, IsDim}

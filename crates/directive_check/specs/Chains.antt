@@ -1,9 +1,9 @@
 -- Alignments one after the other (HPF 2.0, 3.4): where an object's alignment leads, through the targets that are aligned themselves.
 use Rattle.std.specs.Prelude.{ℕ, zero, suc, Bool, true, false, ◌&&◌, ◌||◌, nat_lt, bytes_eq, unsigned_abs, is_some, List, ◌∷◌, length, Option, Some, None, if◌then◌else◌}
-use Rattle.hpf_base.specs.Alignment.{composed_align}
+use Rattle.mappings.specs.Alignment.{composed_align}
 use Rattle.hpf_base.specs.declared.limits.TheConstants.{MAX_ALIGN_OFFSET}
-use Rattle.hpf_base.specs.declared.mapping.AlignDim.{AlignDim}
-use Rattle.hpf_base.specs.declared.mapping.AlignDim.TheVariants.{Linear, At, Every}
+use Rattle.mappings.specs.declared.mapping.AlignDim.{AlignDim}
+use Rattle.mappings.specs.declared.mapping.AlignDim.TheVariants.{Linear, At, Every}
 use Rattle.expression_rules.specs.Symbols.{Name}
 use Rattle.expression_rules.specs.declared.dims.Dim.{Dim}
 use Rattle.distribution_rules.specs.Distributed.{all_or_none}

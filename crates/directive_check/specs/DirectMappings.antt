@@ -1,8 +1,8 @@
 -- What private contracts see of the mappings that DISTRIBUTE gives. No public clause cites this file.
 use Rattle.std.specs.Prelude.{◌≡◌, ⊤, All, List, pos, unwrap_or}
-use Rattle.hpf_base.specs.declared.mapping.AlignDim.{AlignDim}
-use Rattle.hpf_base.specs.declared.mapping.AlignDim.TheVariants.{Linear, At, Every}
-use Rattle.hpf_base.specs.declared.mapping.Mapping.{Mapping}
+use Rattle.mappings.specs.declared.mapping.AlignDim.{AlignDim}
+use Rattle.mappings.specs.declared.mapping.AlignDim.TheVariants.{Linear, At, Every}
+use Rattle.mappings.specs.declared.mapping.Mapping.{Mapping}
 use Rattle.syntax_tree.specs.Directive.{Distribution}
 use Rattle.expression_rules.specs.Symbols.{Name}
 use Rattle.distribution_rules.specs.Setting.{Setting}

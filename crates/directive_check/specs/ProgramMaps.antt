@@ -2,9 +2,9 @@
 -- mapping isn't known, the array counts as replicated; in a program that keeps the rules each mapping is known.
 use Rattle.std.specs.Prelude.{ℕ, suc, List, [], ◌∷◌, ◌++◌, map, pos, Option, Some, None, unwrap_or, if◌then◌else◌}
 use Rattle.std.specs.List.{flat_map}
-use Rattle.hpf_base.specs.Alignment.{composed}
+use Rattle.mappings.specs.Alignment.{composed}
 use Rattle.hpf_base.specs.declared.index.Shape.{Shape}
-use Rattle.hpf_base.specs.declared.mapping.Mapping.{Mapping}
+use Rattle.mappings.specs.declared.mapping.Mapping.{Mapping}
 use Rattle.syntax_tree.specs.Directive as directive
 use Rattle.syntax_tree.specs.MainProgram.{MainProgram}
 use Rattle.expression_rules.specs.Dims.{extent}

@@ -14,7 +14,8 @@ use crate::root_alignments::{is_on_cycle, root_alignment, root_of};
 use alignment_rules::{Alignment, has_elements, is_inside};
 use distribution_rules::{Setting, dims_of, lesser, reason_if};
 use expression_rules::Dim;
-use hpf_base::{AlignDim, Name, Reason, Refusal, at_line, earlier};
+use hpf_base::{Name, Reason, Refusal, at_line, earlier};
+use mappings::AlignDim;
 use std::alloc::{AllocError, Global};
 
 /// The first of what is wrong with mapped objects among the others, where these are mapped, each as it is mapped first. An `Err` is want

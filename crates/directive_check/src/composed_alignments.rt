@@ -1,14 +1,15 @@
 //! The alignment of an object with what its target is aligned with (HPF 2.0, 3.4).
 
 ghost use Rattle.std.specs.Prelude.{◌≡◌, option_copied, option_map, slice_index_or, IfOk};
-ghost use Rattle.hpf_base.specs.Alignment.{align_through};
-ghost use Rattle.hpf_base.specs.declared.mapping.AlignDim.TheVariants.{At, Every, Linear};
+ghost use Rattle.mappings.specs.Alignment.{align_through};
+ghost use Rattle.mappings.specs.declared.mapping.AlignDim.TheVariants.{At, Every, Linear};
 ghost use Rattle.distribution_rules.specs.Distributed.{all_or_none};
 ghost use Rattle.directive_check.specs.Chains.{composed_alignment, entry_through, known_or_past, within_limits};
 
 use crate::subscripts::{linear, product};
 use alignment_rules::{AlignDims, Alignment};
-use hpf_base::{AlignDim, MAX_ALIGN_FACTOR, MAX_ALIGN_OFFSET};
+use hpf_base::{MAX_ALIGN_FACTOR, MAX_ALIGN_OFFSET};
+use mappings::AlignDim;
 use std::alloc::{AllocError, Global};
 
 /// The alignment of an alignee, where that of its target is `outer`. An `Err` is want of memory, here and below.

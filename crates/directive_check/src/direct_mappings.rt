@@ -1,7 +1,7 @@
 //! The mappings that DISTRIBUTE and REDISTRIBUTE give, and those of what is aligned with their objects (HPF 2.0, 3.3 and 3.4).
 
 ghost use Rattle.std.specs.Prelude.{◌≡◌, All, IfOk, IfSome, Some};
-ghost use Rattle.hpf_base.specs.Alignment.{composed, composed_align};
+ghost use Rattle.mappings.specs.Alignment.{composed, composed_align};
 ghost use Rattle.syntax_tree.specs.Directive.{distribution};
 ghost use Rattle.directive_check.specs.DirectMappings.{IsDirect, IsDirectAlign};
 ghost use Rattle.directive_check.specs.MappedSteps.{how_of, mapped};
@@ -14,7 +14,8 @@ use crate::mapped_objects::find_mapped;
 use crate::root_alignments::root_alignment;
 use alignment_rules::Alignment;
 use distribution_rules::{Setting, dims_of, distributed, distribution_values};
-use hpf_base::{AlignDim, Grid, MapDim, MapDims, Mapping, Name};
+use hpf_base::{Grid, Name};
+use mappings::{AlignDim, MapDim, MapDims, Mapping};
 use std::alloc::{AllocError, Global};
 use syntax_tree::{Directive, DistSpec, Names};
 

@@ -5,8 +5,8 @@ use Rattle.std.proofs.lemmas.List.{length-replicate}
 use Rattle.std.proofs.lemmas.List.{ext_get_or}
 use Rattle.std.proofs.lemmas.List.FromFn.{get_or-map-range_with_len, length-map-range_with_len}
 use Rattle.std.proofs.lemmas.Option.{same_Some, slice_get_cases, slice_get_read}
-use Rattle.hpf_base.proofs.Sections.{map-range_agree}
-use Rattle.nest_order.specs.Storage.{Spot, read}
+use Rattle.hpf_base.proofs.Ranges.{map-range_agree}
+use Rattle.storage.specs.Storage.{Spot, read}
 use Rattle.array_meaning.specs.Faults.{Fault}
 use Rattle.array_meaning.specs.Serial as serial
 use Rattle.array_meaning.specs.Serial.{Outcome}

@@ -7,7 +7,7 @@ use Rattle.name_table.specs.Entries.{entries}
 use Rattle.name_table.specs.declared.names.Entry.{Entry}
 use Rattle.name_table.specs.declared.names.What.{What}
 use Rattle.name_table.specs.declared.names.What.TheVariants as what
-use Rattle.nest_order.specs.Storage.{Storage}
+use Rattle.storage.specs.Storage.{Storage}
 use Rattle.array_meaning.specs.Faults.{Fault}
 use Rattle.array_meaning.specs.Resolution.{initial_array, initial_scalar, resolved_block}
 use Rattle.array_meaning.specs.State.{Array}

@@ -2,7 +2,7 @@
 -- The last values of the elements, as the least owner of each has it.
 use Rattle.std.specs.Prelude.{ℕ, ℤ, pos, List, length, map, Option, Some, None, slice_index_or}
 use Rattle.std.specs.List.{range_with_len, slice_get}
-use Rattle.nest_order.specs.Storage.{Spot}
+use Rattle.storage.specs.Storage.{Spot}
 use Rattle.array_meaning.specs.Faults.{Fault}
 use Rattle.machine_steps.specs.Layout.{Layout, least_owner_of, sizes}
 use Rattle.machine_steps.specs.Node.{Node, local_read}

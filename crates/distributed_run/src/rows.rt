@@ -7,7 +7,8 @@ ghost use Rattle.nodes_lowered.specs.ProgramLayouts.{empty_layout, layout_by, ma
 ghost use Rattle.distributed_run.specs.Starts.{first_layout};
 
 use array_maps::ArrayMap;
-use hpf_base::{Grid, Index, MapDims, Mapping, OutOfMemory, Shape};
+use hpf_base::{Grid, Index, OutOfMemory, Shape};
+use mappings::{MapDims, Mapping};
 use name_table::{Entry, Names, What};
 use owner_tables::{OwnerTable, Owners};
 use std::alloc::Global;

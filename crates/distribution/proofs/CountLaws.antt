@@ -4,8 +4,8 @@ use Rattle.std.proofs.lemmas.List.{length-append}
 use Rattle.std.proofs.lemmas.List.Elements.{filter-append}
 use Rattle.std.specs.List.{range_with_len}
 use Rattle.std.specs.Prelude.{filter}
-use Rattle.hpf_base.specs.Positions.{section}
-use Rattle.hpf_base.proofs.Sections.{range_with_len-more}
+use Rattle.mappings.specs.Positions.{section}
+use Rattle.hpf_base.proofs.Ranges.{range_with_len-more}
 
 length-filter_one : (P : ℕ → Bool) (t : Bool) (j : ℕ) → P j ≡ t → length (filter P (j ∷ [])) ≡ cond t 1 0
 length-filter_one P true j is = ap (λ b. length (cond b (j ∷ []) [])) is

@@ -1,9 +1,9 @@
 -- How many positions of a line are owned (HPF 2.0, DISTRIBUTE).
 use Rattle.std.specs.Prelude.{ℕ, ◌-◌, ◌==◌, filter, length}
-use Rattle.hpf_base.specs.declared.mapping.Line.{Line}
-use Rattle.hpf_base.specs.LocalOrder.{owned}
-use Rattle.hpf_base.specs.Owner.{coordinate}
-use Rattle.hpf_base.specs.Positions.{section}
+use Rattle.mappings.specs.declared.mapping.Line.{Line}
+use Rattle.mappings.specs.LocalOrder.{owned}
+use Rattle.mappings.specs.Owner.{coordinate}
+use Rattle.mappings.specs.Positions.{section}
 
 -- how many positions the processor owns
 abbrev pub owned_count : Line → ℕ → ℕ

@@ -1,13 +1,13 @@
 //! How many positions a processor owns.
 
 ghost use Rattle.std.specs.Prelude.{◌≡◌, ◌<◌, ◌≤◌, ◌==◌, filter, length};
-ghost use Rattle.hpf_base.specs.Mapping.{IsLine};
-ghost use Rattle.hpf_base.specs.Owner.{coordinate};
-ghost use Rattle.hpf_base.specs.Positions.{section};
+ghost use Rattle.mappings.specs.Mapping.{IsLine};
+ghost use Rattle.mappings.specs.Owner.{coordinate};
+ghost use Rattle.mappings.specs.Positions.{section};
 ghost use Rattle.distribution.specs.Counts.{owned_count, rank};
 
 use crate::owners::owner;
-use hpf_base::Line;
+use mappings::Line;
 
 /// How many positions of the line the processor with the coordinate `node` owns.
 pub fn owned_count(line: &Line, node: u32) -> u64

@@ -1,10 +1,10 @@
 //! The owner of a position.
 
 ghost use Rattle.std.specs.Prelude.{◌≡◌, ◌<◌, ◌≤◌};
-ghost use Rattle.hpf_base.specs.Mapping.{IsLine};
-ghost use Rattle.hpf_base.specs.Owner.{coordinate};
+ghost use Rattle.mappings.specs.Mapping.{IsLine};
+ghost use Rattle.mappings.specs.Owner.{coordinate};
 
-use hpf_base::{Form, Line};
+use mappings::{Form, Line};
 
 /// The coordinate, from 0, of the processor that owns the position `pos`, which is counted from 1 and at most the
 /// extent (HPF 2.0, DISTRIBUTE): 0 in a dimension that isn't distributed; under BLOCK(m) one less than

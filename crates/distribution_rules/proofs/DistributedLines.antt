@@ -6,13 +6,13 @@ use Rattle.std.proofs.lemmas.Bool.Decides.{nat_tests}
 use Rattle.std.proofs.lemmas.Grind.{div_ceil_times}
 use Rattle.std.proofs.lemmas.Option.{same_Some, slice_get_within, slice_get-get_or}
 use Rattle.std.specs.Int.{div_ceil}
-use Rattle.hpf_base.specs.Mapping.{IsForm}
-use Rattle.hpf_base.specs.Owner.{default_block}
+use Rattle.mappings.specs.Mapping.{IsForm}
+use Rattle.mappings.specs.Owner.{default_block}
 use Rattle.hpf_base.specs.declared.limits.TheConstants.{MAX_BLOCK, MAX_CYCLIC, MAX_TEMPLATE_EXTENT}
-use Rattle.hpf_base.specs.declared.mapping.Form.{Form}
-use Rattle.hpf_base.specs.declared.mapping.Form.TheVariants as form
+use Rattle.mappings.specs.declared.mapping.Form.{Form}
+use Rattle.mappings.specs.declared.mapping.Form.TheVariants as form
 use Rattle.hpf_base.specs.declared.refusal.Reason.{Reason}
-use Rattle.hpf_base.proofs.Blocks.{default_block-all, default_block-some}
+use Rattle.mappings.proofs.Blocks.{default_block-all, default_block-some}
 use Rattle.expression_rules.specs.Dims.{extent}
 use Rattle.expression_rules.specs.declared.dims.Dim.{Dim}
 use Rattle.expression_rules.specs.declared.evaluated.Evaluated.TheVariants as evaluated

@@ -8,13 +8,13 @@ use Rattle.std.proofs.lemmas.List.Kept.{AllPairs-cons}
 use Rattle.std.proofs.lemmas.Option.{same_Some, slice_get_within}
 use Rattle.hpf_base.specs.ElementOrder.{product}
 use Rattle.hpf_base.specs.Grid.{IsGrid}
-use Rattle.hpf_base.specs.Mapping.{IsAlign, IsForm, MoveApart, moves_along}
+use Rattle.mappings.specs.Mapping.{IsAlign, IsForm, MoveApart, moves_along}
 use Rattle.hpf_base.specs.declared.limits.TheConstants.{MAX_BOUND, MAX_NODES, MAX_TEMPLATE_EXTENT}
-use Rattle.hpf_base.specs.declared.mapping.AlignDim.TheVariants.{Linear}
-use Rattle.hpf_base.specs.declared.mapping.Form.{Form}
-use Rattle.hpf_base.specs.declared.mapping.Form.TheVariants.{Whole}
-use Rattle.hpf_base.specs.declared.mapping.MapDim.{MapDim}
-use Rattle.hpf_base.specs.declared.mapping.Mapping.{Mapping}
+use Rattle.mappings.specs.declared.mapping.AlignDim.TheVariants.{Linear}
+use Rattle.mappings.specs.declared.mapping.Form.{Form}
+use Rattle.mappings.specs.declared.mapping.Form.TheVariants.{Whole}
+use Rattle.mappings.specs.declared.mapping.MapDim.{MapDim}
+use Rattle.mappings.specs.declared.mapping.Mapping.{Mapping}
 use Rattle.hpf_base.specs.declared.refusal.Reason.TheVariants as reason
 use Rattle.expression_rules.specs.Dims.{IsDim, extent}
 use Rattle.expression_rules.specs.declared.dims.Dim.{Dim}

@@ -6,7 +6,7 @@ use Rattle.std.proofs.lemmas.List.{drop-drop}
 use Rattle.std.proofs.lemmas.List.Elements.{All-drop, All-head}
 use Rattle.hpf_base.specs.Grid.{IsGrid}
 use Rattle.hpf_base.specs.declared.limits.TheConstants.{MAX_NODES}
-use Rattle.hpf_base.specs.declared.mapping.MapDim.{MapDim}
+use Rattle.mappings.specs.declared.mapping.MapDim.{MapDim}
 use Rattle.distribution_rules.specs.Distributed.{all_or_none, and_more, map_dim}
 use Rattle.expression_rules.specs.declared.dims.Dim.{Dim}
 use Rattle.distribution_rules.specs.declared.evaluated_formats.FormatValue.{FormatValue}

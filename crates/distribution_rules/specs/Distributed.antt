@@ -1,13 +1,13 @@
 -- The mapping that DISTRIBUTE gives its object (HPF 2.0, 3.3).
 use Rattle.std.specs.Prelude.{ℕ, ◌==◌, Bool, ◌&&◌, nat_le, unsigned_abs, List, [], ◌∷◌, length, pos, Option, Some, None, option_map, option_and_then, if◌then◌else◌}
 use Rattle.hpf_base.specs.ElementOrder.{product}
-use Rattle.hpf_base.specs.Owner.{default_block}
+use Rattle.mappings.specs.Owner.{default_block}
 use Rattle.hpf_base.specs.declared.limits.TheConstants.{MAX_RANK}
-use Rattle.hpf_base.specs.declared.mapping.AlignDim.TheVariants.{Linear}
-use Rattle.hpf_base.specs.declared.mapping.Form.{Form}
-use Rattle.hpf_base.specs.declared.mapping.Form.TheVariants as form
-use Rattle.hpf_base.specs.declared.mapping.MapDim.{MapDim}
-use Rattle.hpf_base.specs.declared.mapping.Mapping.{Mapping}
+use Rattle.mappings.specs.declared.mapping.AlignDim.TheVariants.{Linear}
+use Rattle.mappings.specs.declared.mapping.Form.{Form}
+use Rattle.mappings.specs.declared.mapping.Form.TheVariants as form
+use Rattle.mappings.specs.declared.mapping.MapDim.{MapDim}
+use Rattle.mappings.specs.declared.mapping.Mapping.{Mapping}
 use Rattle.expression_rules.specs.Dims.{extent}
 use Rattle.expression_rules.specs.declared.dims.Dim.{Dim}
 use Rattle.expression_rules.specs.declared.evaluated.Evaluated.TheVariants as evaluated

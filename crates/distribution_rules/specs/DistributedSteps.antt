@@ -1,7 +1,7 @@
 -- What private contracts see of distributed dimensions, one after the other. No public clause cites this file.
 use Rattle.std.specs.Prelude.{ℕ, Bool, false, List, [], ◌∷◌, ◌++◌, Option, Some, None, option_map, Vec}
 use Rattle.std.specs.declared.alloc.Global.{Global}
-use Rattle.hpf_base.specs.declared.mapping.MapDim.{MapDim}
+use Rattle.mappings.specs.declared.mapping.MapDim.{MapDim}
 use Rattle.expression_rules.specs.declared.dims.Dim.{Dim}
 use Rattle.distribution_rules.specs.declared.evaluated_formats.FormatValue.{FormatValue}
 use Rattle.distribution_rules.specs.declared.evaluated_formats.FormatValue.TheVariants.{Undistributed}

@@ -2,10 +2,10 @@
 use Rattle.std.specs.Prelude.{◌≡◌, ℕ, pos, List, [], All, length, slice_get, Option, Some, IfSome}
 use Rattle.hpf_base.specs.ElementOrder.{product}
 use Rattle.hpf_base.specs.Grid.{IsGrid}
-use Rattle.hpf_base.specs.Mapping.{IsMapping}
-use Rattle.hpf_base.specs.declared.mapping.AlignDim.TheVariants.{Linear}
-use Rattle.hpf_base.specs.declared.mapping.MapDim.{MapDim}
-use Rattle.hpf_base.specs.declared.mapping.Mapping.{Mapping}
+use Rattle.mappings.specs.Mapping.{IsMapping}
+use Rattle.mappings.specs.declared.mapping.AlignDim.TheVariants.{Linear}
+use Rattle.mappings.specs.declared.mapping.MapDim.{MapDim}
+use Rattle.mappings.specs.declared.mapping.Mapping.{Mapping}
 use Rattle.expression_rules.specs.Dims.{IsDim, extent}
 use Rattle.expression_rules.specs.declared.dims.Dim.{Dim}
 use Rattle.distribution_rules.specs.declared.evaluated_formats.DistributionValues.{DistributionValues}

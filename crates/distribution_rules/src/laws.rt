@@ -1,6 +1,6 @@
 //! Laws of distributions.
 
-ghost use Rattle.hpf_base.specs.declared.mapping.Mapping.{Mapping};
+ghost use Rattle.mappings.specs.declared.mapping.Mapping.{Mapping};
 ghost use Rattle.distribution_rules.specs.declared.evaluated_formats.DistributionValues.{DistributionValues};
 ghost use Rattle.distribution_rules.specs.declared.objects.Object.{Object};
 ghost use Rattle.distribution_rules.specs.MappingOf.{GivesMapping};

@@ -13,7 +13,8 @@ use crate::evaluated_formats::{DistributionValues, FormatValue, Processors};
 use crate::processors::has_nodes;
 use crate::setting::Setting;
 use expression_rules::{Dim, Evaluated};
-use hpf_base::{AlignDim, Form, Grid, Line, MAX_RANK, MapDim, MapDims, Mapping};
+use hpf_base::{Grid, MAX_RANK};
+use mappings::{AlignDim, Form, Line, MapDim, MapDims, Mapping};
 use std::alloc::{AllocError, Global};
 
 /// The mapping that a distribution gives an object of these dimensions; None where something that it needs isn't known, is past a limit, or

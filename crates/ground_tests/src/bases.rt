@@ -1,6 +1,7 @@
 //! Grids, index tuples, mappings and names.
 
-use hpf_base::{AlignDim, Form, Grid, Index, Line, MapDim, MapDims, Name};
+use hpf_base::{Grid, Index, Name};
+use mappings::{AlignDim, Form, Line, MapDim, MapDims};
 use std::test::Fail;
 
 #[test]

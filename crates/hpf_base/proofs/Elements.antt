@@ -8,7 +8,7 @@ use Rattle.std.proofs.lemmas.List.FromFn.{length-map-range_with_len}
 use Rattle.std.proofs.lemmas.Nat.{div-add-mod', div_below}
 use Rattle.hpf_base.specs.declared.index.Shape.{Shape}
 use Rattle.hpf_base.specs.ElementOrder.{elements, extents_of, index_at, IsInside, places, product}
-use Rattle.hpf_base.specs.Mapping.{IsShape}
+use Rattle.hpf_base.specs.Shape.{IsShape}
 use Rattle.hpf_base.proofs.ElementOrder.{factor_some}
 use Rattle.hpf_base.proofs.Places.{IsPlace, length-place_at, number_of, number_of-below, place_at, place_at-number_of, places-by_number, places-get}
 

@@ -1,10 +1,8 @@
-pub mod Blocks
 pub mod Digits
 pub mod FirstBreaches
 pub mod FirstLine
-pub mod Sections
+pub mod Ranges
 pub mod ElementOrder
 pub mod Places
-pub mod Lines
 pub mod Integers
 pub mod Elements

@@ -7,7 +7,7 @@ use Rattle.std.proofs.lemmas.List.FromFn.{get_or-map-range_with_len}
 use Rattle.std.proofs.lemmas.Nat.{mul-add-lt, div-mul-add, mod-mul-add}
 use Rattle.std.specs.List.{flat_map, range_with_len}
 use Rattle.hpf_base.specs.ElementOrder.{places, product}
-use Rattle.hpf_base.proofs.Sections.{map-range_agree, range_with_len-add}
+use Rattle.hpf_base.proofs.Ranges.{map-range_agree, range_with_len-add}
 
 -- the n-th tuple
 abbrev pub place_at : List ℕ → ℕ → List ℕ

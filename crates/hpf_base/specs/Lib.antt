@@ -1,12 +1,8 @@
-pub mod Alignment
 pub mod ElementOrder
 pub mod FirstBreach
 pub mod Grid
-pub mod LocalOrder
-pub mod Mapping
 pub mod Name
-pub mod Owner
-pub mod Positions
 pub mod Refusal
+pub mod Shape
 pub mod Status
 pub mod Text

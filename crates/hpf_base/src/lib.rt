@@ -1,9 +1,9 @@
 //! The ground floor: the types that every layer shares, and the definitions that they are proved by.
 //!
-//! Comes in: nothing. Goes out: limits, numbers of nodes, grids, shapes and mappings of arrays, refusals and statuses.
-//! In `specs/`: who owns an element, where it lies, what the lines of a text are, and which of a set of breaches is the
-//! first. What holds in between: each definition is a filter, a table, a relation or a whole list in the words of the
-//! standards, and no crate states it a second time.
+//! Comes in: nothing. Goes out: limits, numbers of nodes, grids, shapes of arrays, refusals and statuses. In `specs/`: the
+//! order of the elements of an array, what the lines of a text are, and which of a set of breaches is the first. What holds
+//! in between: each definition is a filter, a table, a relation or a whole list in the words of the standards, and no crate
+//! states it a second time.
 #![tactic(auto)]
 
 mod array_id;
@@ -11,7 +11,6 @@ mod first_breach;
 mod grid;
 mod index;
 mod limits;
-mod mapping;
 mod memory;
 mod name;
 mod node;
@@ -28,7 +27,6 @@ pub use limits::{
     MAX_LOGICAL_LINE_BYTES, MAX_NAME_BYTES, MAX_NAMES, MAX_NESTING, MAX_NODES, MAX_OFFSET,
     MAX_RANK, MAX_SOURCE_BYTES, MAX_TEMPLATE_EXTENT, MAX_TOTAL_ELEMENTS, MAX_TUPLES,
 };
-pub use mapping::{AlignDim, Form, Line, MapDim, MapDims, Mapping};
 pub use memory::OutOfMemory;
 pub use name::Name;
 pub use node::NodeId;

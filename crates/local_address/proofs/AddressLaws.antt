@@ -4,11 +4,11 @@ use Rattle.std.proofs.lemmas.Bool.{both_ways, cases_order, true≢false}
 use Rattle.std.proofs.lemmas.List.Elements.{filter_passes}
 use Rattle.std.proofs.lemmas.Option.{get_or_from_slice_get, same_Some, slice_get-get_or, slice_get_within}
 use Rattle.hpf_base.specs.declared.index.Shape.{Shape}
-use Rattle.hpf_base.specs.declared.mapping.Mapping.{Mapping}
-use Rattle.hpf_base.specs.Alignment.{owns}
+use Rattle.mappings.specs.declared.mapping.Mapping.{Mapping}
+use Rattle.mappings.specs.Alignment.{owns}
 use Rattle.hpf_base.specs.ElementOrder.{elements, IsInside}
-use Rattle.hpf_base.specs.LocalOrder.{local_elements}
-use Rattle.hpf_base.specs.Mapping.{IsShape}
+use Rattle.mappings.specs.LocalOrder.{local_elements}
+use Rattle.hpf_base.specs.Shape.{IsShape}
 use Rattle.hpf_base.proofs.Elements.{Contains-filter, elements-contains}
 
 -- an element stands at one address

@@ -8,13 +8,13 @@ use Rattle.std.proofs.lemmas.List.{get_or-map}
 use Rattle.std.proofs.lemmas.List.Elements.{All-head, All-tail}
 use Rattle.std.specs.List.{list_all}
 use Rattle.std.specs.Ordering.{int_eq}
-use Rattle.hpf_base.specs.declared.mapping.AlignDim.{AlignDim}
-use Rattle.hpf_base.specs.declared.mapping.AlignDim.TheVariants.{Linear, At, Every}
-use Rattle.hpf_base.specs.declared.mapping.MapDim.{MapDim}
-use Rattle.hpf_base.specs.declared.mapping.Mapping.{Mapping}
-use Rattle.hpf_base.specs.Alignment.{agrees, agrees_at, aligned, owns}
+use Rattle.mappings.specs.declared.mapping.AlignDim.{AlignDim}
+use Rattle.mappings.specs.declared.mapping.AlignDim.TheVariants.{Linear, At, Every}
+use Rattle.mappings.specs.declared.mapping.MapDim.{MapDim}
+use Rattle.mappings.specs.declared.mapping.Mapping.{Mapping}
+use Rattle.mappings.specs.Alignment.{agrees, agrees_at, aligned, owns}
 use Rattle.hpf_base.specs.Grid.{node_coordinates}
-use Rattle.hpf_base.specs.Mapping.{InLine, IsAlign, IsMapDim, IsMapping, MoveApart, moves_along}
+use Rattle.mappings.specs.Mapping.{InLine, IsAlign, IsMapDim, IsMapping, MoveApart, moves_along}
 use Rattle.local_address.specs.declared.axes.Axis.{Axis}
 use Rattle.local_address.specs.Runs.{HasLine, InAxis, IsOfGrid, along, axis_along, axis_by, axis_or, coordinate_on, fixed_agrees, fixed_subscript, own_on}
 use Rattle.local_address.proofs.Tuples.{each}

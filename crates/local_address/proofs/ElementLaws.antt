@@ -11,7 +11,7 @@ use Rattle.std.specs.List.{list_any}
 use Rattle.std.specs.Ordering.{int_eq}
 use Rattle.hpf_base.specs.declared.index.Shape.{Shape}
 use Rattle.hpf_base.specs.ElementOrder.{elements, extents_of, index_at, product}
-use Rattle.hpf_base.specs.Mapping.{IsShape}
+use Rattle.hpf_base.specs.Shape.{IsShape}
 use Rattle.hpf_base.proofs.ElementOrder.{factor_some}
 use Rattle.hpf_base.proofs.Elements.{elements-get, length-elements}
 use Rattle.hpf_base.proofs.Places.{length-place_at, place_at}

@@ -13,15 +13,16 @@ use Rattle.std.proofs.lemmas.Option.{get_or_from_slice_get, slice_get-get_or, sl
 use Rattle.std.specs.List.{list_all, list_any}
 use Rattle.std.specs.Ordering.{int_eq}
 use Rattle.hpf_base.specs.declared.index.Shape.{Shape}
-use Rattle.hpf_base.specs.declared.mapping.AlignDim.{AlignDim}
-use Rattle.hpf_base.specs.declared.mapping.AlignDim.TheVariants.{Linear, At, Every}
-use Rattle.hpf_base.specs.declared.mapping.MapDim.{MapDim}
-use Rattle.hpf_base.specs.declared.mapping.Mapping.{Mapping}
-use Rattle.hpf_base.specs.Alignment.{aligned, owns}
+use Rattle.mappings.specs.declared.mapping.AlignDim.{AlignDim}
+use Rattle.mappings.specs.declared.mapping.AlignDim.TheVariants.{Linear, At, Every}
+use Rattle.mappings.specs.declared.mapping.MapDim.{MapDim}
+use Rattle.mappings.specs.declared.mapping.Mapping.{Mapping}
+use Rattle.mappings.specs.Alignment.{aligned, owns}
 use Rattle.hpf_base.specs.ElementOrder.{elements, extents_of, IsInside, product}
 use Rattle.hpf_base.specs.Grid.{node_coordinates}
-use Rattle.hpf_base.specs.LocalOrder.{local_elements}
-use Rattle.hpf_base.specs.Mapping.{InLine, IsAlign, IsMapping, IsShape, MapsInside}
+use Rattle.mappings.specs.LocalOrder.{local_elements}
+use Rattle.hpf_base.specs.Shape.{IsShape}
+use Rattle.mappings.specs.Mapping.{InLine, IsAlign, IsMapping, MapsInside}
 use Rattle.hpf_base.proofs.ElementOrder.{product-some}
 use Rattle.hpf_base.proofs.Elements.{elements-contains, elements-get, length-elements}
 use Rattle.hpf_base.proofs.Places.{length-place_at, place_at, places-get}

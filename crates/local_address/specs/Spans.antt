@@ -2,9 +2,9 @@
 use Rattle.std.specs.Prelude.{ℤ, List, [], ◌∷◌, length, map, Option, Some, None}
 use Rattle.std.specs.List.{range_with_len}
 use Rattle.hpf_base.specs.declared.index.Shape.{Shape}
-use Rattle.hpf_base.specs.declared.mapping.Mapping.{Mapping}
+use Rattle.mappings.specs.declared.mapping.Mapping.{Mapping}
 use Rattle.hpf_base.specs.ElementOrder.{product}
-use Rattle.hpf_base.specs.LocalOrder.{local_elements}
+use Rattle.mappings.specs.LocalOrder.{local_elements}
 use Rattle.local_address.specs.declared.spans.Span.{Span}
 
 -- the last of a list that begins with x

@@ -4,11 +4,12 @@ ghost use Rattle.std.specs.Prelude.{◌≡◌, ℕ, ◌<◌, All, Some, slice_ge
 ghost use Rattle.std.specs.List.{list_all};
 ghost use Rattle.hpf_base.specs.ElementOrder.{product};
 ghost use Rattle.hpf_base.specs.Grid.{node_coordinates};
-ghost use Rattle.hpf_base.specs.Mapping.{InLine, IsLine, IsMapDim};
+ghost use Rattle.mappings.specs.Mapping.{InLine, IsLine, IsMapDim};
 ghost use Rattle.local_address.specs.Runs.{HasLine, InAxis, IsOfGrid, axis_along, axis_by, coordinate_on, fixed_agrees, fixed_subscript, own_on, procs_on};
 
 use align_map::{coordinate_of, linear, node_coordinate};
-use hpf_base::{AlignDim, Grid, Line, MapDim, Mapping, NodeId};
+use hpf_base::{Grid, NodeId};
+use mappings::{AlignDim, Line, MapDim, Mapping};
 
 /// An entry of a mapping that moves along a dimension of the array: what has the subscript i there has `factor * i + offset` in the line.
 #[derive(Clone, Copy, Debug)]

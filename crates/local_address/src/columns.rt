@@ -3,13 +3,15 @@
 ghost use Rattle.std.specs.Prelude.{◌≡◌, ℕ, ◌<◌, ◌≤◌, ◌^◌, ℤ, pos, ◌+ℤ◌, unsigned_abs, All, length, IfOk, Some, slice_get, slice_index_or, map, [], List};
 ghost use Rattle.hpf_base.specs.declared.limits.TheConstants.{MAX_RANK};
 ghost use Rattle.hpf_base.specs.ElementOrder.{elements, extents_of, product};
-ghost use Rattle.hpf_base.specs.Mapping.{IsMapping, IsShape, MapsInside};
+ghost use Rattle.hpf_base.specs.Shape.{IsShape};
+ghost use Rattle.mappings.specs.Mapping.{IsMapping, MapsInside};
 ghost use Rattle.local_address.specs.Runs.{HasLine, InAxis, IsOfGrid, axis_along, column_of, columns_of, run_of};
 
 use crate::axes::{axis_along, own_on};
 use crate::element::{element_count, extent_of};
 use crate::runs::{Run, runs_on};
-use hpf_base::{Mapping, NodeId, OutOfMemory, Shape};
+use hpf_base::{NodeId, OutOfMemory, Shape};
+use mappings::Mapping;
 use std::alloc::Global;
 use std::marker::Model;
 

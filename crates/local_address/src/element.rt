@@ -2,7 +2,7 @@
 
 ghost use Rattle.std.specs.Prelude.{◌≡◌, ◌<◌, ◌≤◌, ◌^◌, ℤ, pos, ◌+ℤ◌, ◌≤ℤ◌, neg_ℤ, Some, All, length, map, slice_get, slice_index, slice_index_or, unsigned_abs};
 ghost use Rattle.hpf_base.specs.ElementOrder.{elements, extents_of, product};
-ghost use Rattle.hpf_base.specs.Mapping.{IsShape};
+ghost use Rattle.hpf_base.specs.Shape.{IsShape};
 
 use hpf_base::{Index, Shape};
 use std::alloc::Global;

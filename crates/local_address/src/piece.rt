@@ -2,15 +2,17 @@
 
 ghost use Rattle.std.specs.Prelude.{◌≡◌, ◌↔◌, ℕ, ◌<◌, All, length, slice_get, Some, IfOk, IsNone, IsTrue, OnOk, filter, false, [], ◌∷◌, ◌++◌};
 ghost use Rattle.hpf_base.specs.declared.index.Shape.{Shape};
-ghost use Rattle.hpf_base.specs.declared.mapping.Mapping.{Mapping};
-ghost use Rattle.hpf_base.specs.Alignment.{owns};
+ghost use Rattle.mappings.specs.declared.mapping.Mapping.{Mapping};
+ghost use Rattle.mappings.specs.Alignment.{owns};
 ghost use Rattle.hpf_base.specs.ElementOrder.{elements, IsInside, product};
-ghost use Rattle.hpf_base.specs.LocalOrder.{local_elements};
-ghost use Rattle.hpf_base.specs.Mapping.{IsMapping, IsShape, MapsInside};
+ghost use Rattle.mappings.specs.LocalOrder.{local_elements};
+ghost use Rattle.hpf_base.specs.Shape.{IsShape};
+ghost use Rattle.mappings.specs.Mapping.{IsMapping, MapsInside};
 
 use crate::element::{element_count, nth_element};
 use align_map::owns;
-use hpf_base::{Index, Mapping, NodeId, OutOfMemory, Shape};
+use hpf_base::{Index, NodeId, OutOfMemory, Shape};
+use mappings::Mapping;
 use std::alloc::Global;
 use std::marker::Model;
 

@@ -3,8 +3,9 @@
 ghost use Rattle.std.specs.Prelude.{◌≡◌, ◌<◌, ◌≤◌, ◌^◌, ℤ, All, List, length, map, IfOk};
 ghost use Rattle.hpf_base.specs.declared.limits.TheConstants.{MAX_RANK};
 ghost use Rattle.hpf_base.specs.ElementOrder.{elements, extents_of, product};
-ghost use Rattle.hpf_base.specs.LocalOrder.{local_elements};
-ghost use Rattle.hpf_base.specs.Mapping.{IsMapping, IsShape, MapsInside};
+ghost use Rattle.mappings.specs.LocalOrder.{local_elements};
+ghost use Rattle.hpf_base.specs.Shape.{IsShape};
+ghost use Rattle.mappings.specs.Mapping.{IsMapping, MapsInside};
 ghost use Rattle.local_address.specs.Runs.{columns_of, run_of, tuples};
 ghost use Rattle.local_address.specs.Spans.{owned_spans, span_of};
 
@@ -12,7 +13,8 @@ use crate::axes::fixed_agree;
 use crate::columns::{Column, columns, runs_of_node};
 use crate::element::element_count;
 use crate::runs::{Run, firsts, has_empty, lasts, tuple_count};
-use hpf_base::{Index, Mapping, NodeId, OutOfMemory, Shape};
+use hpf_base::{Index, NodeId, OutOfMemory, Shape};
+use mappings::Mapping;
 use std::alloc::Global;
 
 /// How many elements of an array a node owns, at least one, and the first and the last of them in array-element order

@@ -16,7 +16,7 @@ use Rattle.lowering.specs.WellFormed.{IsScalar, AreScalar}
 use Rattle.machine_steps.specs.Instr.{Running}
 use Rattle.machine_steps.specs.Instr.{Control}
 use Rattle.machine_steps.specs.Machine.{store_control, store_in, write_to, faulted, steps}
-use Rattle.nest_order.specs.Storage.{Storage, Spot, write}
+use Rattle.storage.specs.Storage.{Storage, Spot, write}
 use Rattle.node_code.specs.Flat.{Flat, Flats, flat_value, flat_values}
 use Rattle.node_code.specs.Instructions.{TestBounds, go_on_if, Instruction, Set, Store, spot_in, meaning_of, ArrayTable}
 use Rattle.node_code.specs.Parallel.{fault_at, at_line, shape_of}

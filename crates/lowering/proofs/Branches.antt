@@ -20,7 +20,7 @@ use Rattle.lowering.specs.WellFormed.{IsScalar}
 use Rattle.lowering.specs.StatementCode.{arm_code, loop_code}
 use Rattle.machine_steps.specs.Instr.{Running}
 use Rattle.machine_steps.specs.Machine.{steps}
-use Rattle.nest_order.specs.Storage.{Storage}
+use Rattle.storage.specs.Storage.{Storage}
 use Rattle.node_code.specs.Flat.{slot, Slot}
 use Rattle.node_code.specs.Instructions.{go_if, Instruction, Set, Trips, Jump, JumpIfZero, begin_trips, meaning_of, ArrayTable}
 use Rattle.node_code.specs.Parallel.{at_line}

@@ -2,8 +2,8 @@
 use Rattle.std.proofs.Common.{◌≡◌, ℕ, ◌+◌, List, [], ◌∷◌, ◌++◌, length, ℤ, pos, Some, None, Result, Ok, Err, refl, sym, ap, ◌∙◌, subst, arith, append-nil, replicate, slice_set, get_or-set_same}
 use Rattle.std.proofs.lemmas.List.{length-replicate}
 use Rattle.hpf_base.specs.ElementOrder.{product}
-use Rattle.nest_order.specs.Storage.{Storage, read, row_of}
-use Rattle.nest_order.specs.Effect.{Effect, scatter}
+use Rattle.storage.specs.Storage.{Storage, read, row_of}
+use Rattle.storage.specs.Effect.{Effect, scatter}
 use Rattle.array_meaning.specs.Faults.{Cause, Fault, at_tuple}
 use Rattle.array_meaning.specs.State.{State}
 use Rattle.array_meaning.specs.Runs.{Run, with_value}

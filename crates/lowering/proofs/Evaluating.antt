@@ -6,7 +6,7 @@ use Rattle.op_tables.specs.declared.op.Op.{Op}
 use Rattle.op_tables.specs.declared.op.Op.TheVariants as op
 use Rattle.op_tables.specs.Reductions.{reduced, unit_of, combined}
 use Rattle.expression_rules.specs.declared.dims.Dim.{Dim}
-use Rattle.nest_order.specs.Storage.{Storage, read}
+use Rattle.storage.specs.Storage.{Storage, read}
 use Rattle.array_meaning.specs.Faults.{Cause, Fault, ◌>>=◌, at_tuple}
 use Rattle.array_meaning.specs.State.{State}
 use Rattle.array_meaning.specs.Sections.{positions, space_size}

@@ -5,7 +5,7 @@ use Rattle.std.specs.List.{list_all}
 use Rattle.hpf_base.specs.declared.limits.TheConstants.{MAX_TUPLES}
 use Rattle.hpf_base.specs.ElementOrder.{product}
 use Rattle.op_tables.specs.Operators.{is_true}
-use Rattle.nest_order.specs.Storage.{Storage, read}
+use Rattle.storage.specs.Storage.{Storage, read}
 use Rattle.array_meaning.specs.declared.faults.FaultKind.{FaultKind}
 use Rattle.array_meaning.specs.declared.faults.FaultKind.TheVariants.{NotOneToOne, SpaceLimit}
 use Rattle.array_meaning.specs.declared.sections.Sequence.{Sequence}

@@ -9,7 +9,7 @@ use Rattle.lowering.proofs.Terms.{HoldsScalars, HoldsArrays}
 use Rattle.machine_steps.specs.Instr.{Running}
 use Rattle.machine_steps.specs.Instr.{Control, Finished}
 use Rattle.machine_steps.specs.Machine.{Machine, steps}
-use Rattle.nest_order.specs.Storage.{Storage, row_of, write}
+use Rattle.storage.specs.Storage.{Storage, row_of, write}
 use Rattle.node_code.specs.Flat.{slot, Flat, flat_value}
 use Rattle.node_code.specs.Instructions.{set_result, Instruction, Set, Jump, JumpIfZero, go_if, ArrayTable, meaning_of}
 use Rattle.node_code.specs.Parallel.{at_line}

@@ -19,7 +19,7 @@ use Rattle.lowering.specs.WellFormed.{AreScalarSubscripts}
 use Rattle.lowering.specs.StatementCode.{item_code}
 use Rattle.machine_steps.specs.Instr.{Running}
 use Rattle.machine_steps.specs.Machine.{element_values, value_or_none}
-use Rattle.nest_order.specs.Storage.{Storage, read}
+use Rattle.storage.specs.Storage.{Storage, read}
 use Rattle.node_code.specs.Forms.{SectionForm, Sub, selections_in}
 use Rattle.node_code.specs.Instructions.{Instruction, OwnLimits, Inside, go_on_if, all_inside, ArrayTable}
 use Rattle.node_code.specs.Parallel.{at_line, shape_of, Evaluation, spot_of, evaluation_size}

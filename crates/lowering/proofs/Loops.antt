@@ -7,7 +7,7 @@ use Rattle.lowering.proofs.Goes.{Holds, Kept, kept-refl, Goes, goes-on, Flows, s
 use Rattle.lowering.proofs.Reach.{HasAt, has-back, has-drop, Reaches, reaches-on, stands, Place}
 use Rattle.lowering.proofs.Trips.{left-true, left-less, none-left}
 use Rattle.lowering.specs.StatementCode.{loop_code}
-use Rattle.nest_order.specs.Storage.{Storage}
+use Rattle.storage.specs.Storage.{Storage}
 use Rattle.node_code.specs.Flat.{slot, Int, Slot, Operated, NoFlat, AndFlat}
 use Rattle.node_code.specs.Instructions.{Instruction, Jump, ArrayTable}
 use Rattle.op_tables.specs.Operators.{wrapped, is_true}

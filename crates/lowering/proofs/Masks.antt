@@ -9,8 +9,8 @@ use Rattle.array_meaning.specs.Terms.{Term, Number, Scalar, Index, Element, Sect
 use Rattle.array_meaning.specs.declared.sections.Selection.{Selection}
 use Rattle.lowering.proofs.Goes.{Holds}
 use Rattle.lowering.specs.ExpressionCode.{first_subs, first_subs_of, or_no_sub, subscripts_slots, subs_of, parts_slots, all_parts_slots, form_of, forms_of, control_slots, triplet, slots_of}
-use Rattle.nest_order.specs.Effect.{Effect, Put, Fail, scatter}
-use Rattle.nest_order.specs.Storage.{Storage, row_of, write}
+use Rattle.storage.specs.Effect.{Effect, Put, Fail, scatter}
+use Rattle.storage.specs.Storage.{Storage, row_of, write}
 use Rattle.node_code.specs.Flat.{slot}
 use Rattle.node_code.specs.Forms.{Sub, SubAt, SubAlong, Form, FlatForm, SectionForm, OperationForm, Forms, NoForm, AndForm, selections_in, elemental_in, elementals_in}
 use Rattle.node_code.specs.Instructions.{Instruction, ArrayTable}

@@ -1,7 +1,7 @@
 -- A parallel statement and its Verdict on the machine.
 use Rattle.std.proofs.Common.{◌≡◌, ℕ, ◌+◌, ◌<◌, List, ◌∷◌, [], ℤ, Option, Some, None, refl, ap, ◌∙◌, arith}
-use Rattle.nest_order.specs.Storage.{Storage, Spot, read}
-use Rattle.nest_order.specs.Effect.{scatter}
+use Rattle.storage.specs.Storage.{Storage, Spot, read}
+use Rattle.storage.specs.Effect.{scatter}
 use Rattle.array_meaning.specs.Faults.{Fault}
 use Rattle.machine_steps.specs.Instr as instr
 use Rattle.machine_steps.specs.Instr.{Running, Faulted, Control, Tuples}

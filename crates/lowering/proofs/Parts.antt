@@ -19,7 +19,7 @@ use Rattle.lowering.specs.ExpressionCode.{all_slots_of, flats_of, codes_of, set_
 use Rattle.lowering.specs.WellFormed.{IsArray, AreArrays, AreScalarSubscripts, IsScalar, AreScalar}
 use Rattle.machine_steps.specs.Instr.{Running}
 use Rattle.machine_steps.specs.Machine.{steps}
-use Rattle.nest_order.specs.Storage.{Storage}
+use Rattle.storage.specs.Storage.{Storage}
 use Rattle.node_code.specs.Flat.{slot, Flat, Int, Slot, NoFlat, Operated, flat_values, or_zero}
 use Rattle.node_code.specs.Forms.{Sub, SubAt, SubAlong, Form, FlatForm, SectionForm, OperationForm, Forms, NoForm, selections_in, elemental_in, elementals_in, sequence_in}
 use Rattle.node_code.specs.Instructions.{Instruction, Fetch, Set, TestStride, go_on_if, meaning_of, ArrayTable}

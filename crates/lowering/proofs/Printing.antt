@@ -1,6 +1,6 @@
 -- A PRINT on the machine: its items one after another, and then the line.
 use Rattle.std.proofs.Common.{◌≡◌, ℕ, suc, ◌+◌, List, [], ◌∷◌, ◌++◌, length, ℤ, Some, None, refl, sym, ap, ◌∙◌, arith, append-nil, append_assoc, length-append, drop, slice_get}
-use Rattle.nest_order.specs.Storage.{Storage, Spot, read}
+use Rattle.storage.specs.Storage.{Storage, Spot, read}
 use Rattle.array_meaning.specs.Faults.{Fault}
 use Rattle.machine_steps.specs.Instr.{Item}
 use Rattle.machine_steps.specs.Machine.{Machine, item_bytes, print_step, step, step_by, steps, instr_of}

@@ -4,7 +4,7 @@ use Rattle.std.proofs.Math.ListN.{get_or-append, get_or-map}
 use Rattle.std.proofs.Math.Seq.{get_or-append_seam}
 use Rattle.std.proofs.lemmas.List.{length-map, length-replicate}
 use Rattle.std.proofs.lemmas.Option.{slice_get-get_or}
-use Rattle.nest_order.specs.Storage.{Storage}
+use Rattle.storage.specs.Storage.{Storage}
 use Rattle.array_meaning.specs.Faults.{Fault}
 use Rattle.array_meaning.specs.State.{Array, State, no_array}
 use Rattle.array_meaning.specs.Statements.{Block}

@@ -5,7 +5,7 @@ use Rattle.machine_steps.specs.Instr.{Running}
 use Rattle.machine_steps.specs.Layout.{Layout}
 use Rattle.machine_steps.specs.Instr.{Running, Faulted}
 use Rattle.machine_steps.specs.Machine.{Machine, step, step_by, steps, instr_of}
-use Rattle.nest_order.specs.Storage.{Storage}
+use Rattle.storage.specs.Storage.{Storage}
 use Rattle.node_code.specs.Flat.{slot}
 use Rattle.node_code.specs.Instructions.{Instruction, meaning_of, ArrayTable}
 use Rattle.node_code.specs.Parallel.{fault_at}

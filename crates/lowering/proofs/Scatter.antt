@@ -18,8 +18,8 @@ use Rattle.lowering.proofs.Terms.{HoldsArrays}
 use Rattle.machine_steps.specs.Instr.{Outcome}
 use Rattle.machine_steps.specs.Machine.{effect_by, value_by}
 use Rattle.lowering.proofs.Keeping.{IsOutcome}
-use Rattle.nest_order.specs.Effect.{Effect, Skip, Put, Fail, scatter}
-use Rattle.nest_order.specs.Storage.{Storage, Spot, read, row_of}
+use Rattle.storage.specs.Effect.{Effect, Skip, Put, Fail, scatter}
+use Rattle.storage.specs.Storage.{Storage, Spot, read, row_of}
 use Rattle.node_code.specs.Instructions.{Instruction, ArrayTable}
 use Rattle.node_code.specs.Parallel.{fault_at, at_line, shape_of, outcome_of, reads_at, all_reads_at, value_by_reads, values_by_reads, spot_of, assigned_value}
 

@@ -23,7 +23,7 @@ use Rattle.machine_steps.specs.Instr.{Running}
 use Rattle.machine_steps.specs.Instr.{Outcome}
 use Rattle.machine_steps.specs.Machine as machine
 use Rattle.machine_steps.specs.Machine.{effect_of, value_by}
-use Rattle.nest_order.specs.Storage.{Storage, read}
+use Rattle.storage.specs.Storage.{Storage, read}
 use Rattle.node_code.specs.Forms.{Sub, selections_in, elemental_in}
 use Rattle.node_code.specs.Instructions.{Instruction, Limits, Par, Verdict, go_on_if, ArrayTable}
 use Rattle.node_code.specs.Parallel.{When, assignment_tuples, assigned_spot, at_line, Assignment, assignment_size, mask_reads, is_asked, outcome_if, assigned_value, reads_at, spot_of}

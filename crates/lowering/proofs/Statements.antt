@@ -27,7 +27,7 @@ use Rattle.lowering.proofs.Wheres.{where-goes}
 use Rattle.lowering.specs.ExpressionCode.{subscripts_slots, subs_of, slots_of, flat_of, code_of, control_slots, control_code}
 use Rattle.lowering.specs.WellFormed.{IsScalar}
 use Rattle.lowering.specs.StatementCode.{loop_code, statement_slots, arms_slots, block_slots, statement_code, arms_code, block_code, items_slots, item_code, items_code, print_items}
-use Rattle.nest_order.specs.Storage.{Storage, read}
+use Rattle.storage.specs.Storage.{Storage, read}
 use Rattle.node_code.specs.Flat.{slot, Flat}
 use Rattle.node_code.specs.Instructions.{items_of, Instruction, Set, Jump, Halt, Print, PrintItem, PrintBytes, ArrayTable}
 use Rattle.array_meaning.specs.Statements as statements

@@ -2,8 +2,8 @@
 use Rattle.std.proofs.Common.{◌≡◌, ℕ, ◌+◌, ◌<◌, List, [], ◌∷◌, ◌++◌, length, ℤ, Bool, true, false, Option, Some, None, Result, Ok, Err, refl, sym, ap, ◌∙◌, subst}
 use Rattle.std.proofs.lemmas.List.{length-map}
 use Rattle.expression_rules.specs.declared.dims.Dim.{Dim}
-use Rattle.nest_order.specs.Storage.{Storage, Spot, read}
-use Rattle.nest_order.specs.Effect.{Effect, scatter}
+use Rattle.storage.specs.Storage.{Storage, Spot, read}
+use Rattle.storage.specs.Effect.{Effect, scatter}
 use Rattle.array_meaning.specs.Faults.{Cause, Fault, ◌>>=◌, at_tuple}
 use Rattle.array_meaning.specs.State.{State, stored, store_all}
 use Rattle.array_meaning.specs.Runs.{one_step}

@@ -11,7 +11,7 @@ use Rattle.lowering.specs.ExpressionCode.{all_slots_of, flats_of, codes_of, oper
 use Rattle.machine_steps.specs.Instr.{Running}
 use Rattle.machine_steps.specs.Instr.{Control}
 use Rattle.machine_steps.specs.Machine.{fetch_control, faulted, steps}
-use Rattle.nest_order.specs.Storage.{Storage, row_of, read}
+use Rattle.storage.specs.Storage.{Storage, row_of, read}
 use Rattle.node_code.specs.Flat.{slot, Flat, Slot, Flats, Operated, flat_value, flat_values}
 use Rattle.array_meaning.specs.Faults.{Fault}
 use Rattle.node_code.specs.Instructions.{set_result, Instruction, Set, Fetch, spot_in, meaning_of, ArrayTable}

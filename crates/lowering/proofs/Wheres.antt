@@ -24,7 +24,7 @@ use Rattle.lowering.proofs.Sections.{assignment-goes}
 use Rattle.lowering.specs.ExpressionCode.{own_evaluation, first_subs, or_no_sub, parts_slots, parts_code, form_of}
 use Rattle.lowering.specs.WellFormed.{AreMasked, IsArray}
 use Rattle.lowering.specs.StatementCode.{assignment_code, masked_slots, masked_code, where_code}
-use Rattle.nest_order.specs.Storage.{Storage}
+use Rattle.storage.specs.Storage.{Storage}
 use Rattle.node_code.specs.Forms.{Sub, selections_in, elemental_in}
 use Rattle.node_code.specs.Instructions.{Instruction, OwnLimits, MakeCopy, ParCopy, Verdict, go_on_if, ArrayTable}
 use Rattle.node_code.specs.Parallel.{When, evaluation_tuples, at_line, Evaluation, evaluation_extents, as_asked}

@@ -1,7 +1,7 @@
 -- What it is for a program to be lowered: the machine over its code ends as it does.
 use Rattle.std.specs.Prelude.{◌≡◌, ℕ, ◌<◌, List, [], ◌∷◌, ◌++◌, length, map, replicate, slice_index_or, ℤ, pos, None}
 use Rattle.hpf_base.specs.ElementOrder.{product}
-use Rattle.nest_order.specs.Storage.{row_of}
+use Rattle.storage.specs.Storage.{row_of}
 use Rattle.array_meaning.specs.Faults.{Fault}
 use Rattle.array_meaning.specs.State.{State, scalar, array}
 use Rattle.array_meaning.specs.Statements.{Block}

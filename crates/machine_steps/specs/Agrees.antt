@@ -4,7 +4,7 @@ use Rattle.std.specs.List.{range_with_len}
 use Rattle.hpf_base.specs.declared.index.Shape.{Shape}
 use Rattle.node_law.specs.NodeSteps.{Move, after_at, sent}
 use Rattle.node_law.specs.Phases.{PhaseShare, next_number, LeadsTo, Lockstep, all_moves, number_after}
-use Rattle.nest_order.specs.Storage.{Spot, read}
+use Rattle.storage.specs.Storage.{Spot, read}
 use Rattle.machine_steps.specs.Layout.{Layout, sizes, pieces, IsDealt, AreOwned}
 use Rattle.machine_steps.specs.Instr.{Status, Running, Finished, Faulted, Tuples, Fold, Remapping, Rounds, Item, Text, Elements, Instr, Fetch, Par, Reduce, MakeCopy, FoldCopy, LastCopy, Remap, Print}
 use Rattle.machine_steps.specs.Machine.{Machine, Kept, is_before, remapped, instr_at}

@@ -1,8 +1,8 @@
 -- What an instruction of node code means. All nodes run the same code, and what an instruction means is a function of numbers that
 -- all of them have alike: the slots.
 use Rattle.std.specs.Prelude.{ℕ, Bool, ℤ, List, Option, Result}
-use Rattle.hpf_base.specs.declared.mapping.Mapping.{Mapping}
-use Rattle.nest_order.specs.Storage.{Spot}
+use Rattle.mappings.specs.declared.mapping.Mapping.{Mapping}
+use Rattle.storage.specs.Storage.{Spot}
 use Rattle.machine_steps.specs.Layout.{Layout}
 
 -- a run goes on, or is finished, or ended with a fault. A fault is of any type F

@@ -1,10 +1,10 @@
 -- How the elements of an array or of a copy lie on the nodes, and what a node holds of them.
 use Rattle.std.specs.Prelude.{ℕ, zero, suc, ◌+◌, ◌<◌, ◌≡◌, Bool, true, List, [], ◌∷◌, map, if◌then◌else◌, ℤ, Option, Some, None, nat_lt, slice_index_or}
 use Rattle.hpf_base.specs.declared.index.Shape.{Shape}
-use Rattle.hpf_base.specs.declared.mapping.Mapping.{Mapping}
-use Rattle.hpf_base.specs.Alignment.{owns}
+use Rattle.mappings.specs.declared.mapping.Mapping.{Mapping}
+use Rattle.mappings.specs.Alignment.{owns}
 use Rattle.hpf_base.specs.ElementOrder.{elements, extents_of, product}
-use Rattle.nest_order.specs.Storage.{Storage, Spot}
+use Rattle.storage.specs.Storage.{Storage, Spot}
 
 -- the shape of an array or of a copy, and where its elements lie now
 pub record Layout : Type 0 where

@@ -1,10 +1,10 @@
 -- The machine with whole arrays: one state, no nodes and no letters. A step is one instruction, or one step of a Reduce or a Print.
 use Rattle.std.specs.Prelude.{ℕ, zero, suc, ◌+◌, ◌==◌, ◌&&◌, ◌||◌, Bool, false, ℤ, pos, List, [], ◌∷◌, ◌++◌, map, length, replicate, Option, Some, None, Result, Ok, Err, slice_index_or, slice_set, nat_lt, if◌then◌else◌}
 use Rattle.std.specs.List.{slice_get, fold}
-use Rattle.hpf_base.specs.declared.mapping.Mapping.{Mapping}
-use Rattle.nest_order.specs.Storage.{Storage, Spot, row_of, read, write}
-use Rattle.nest_order.specs.Effect.{Effect, Skip, Put, Fail, scatter}
-use Rattle.nest_order.specs.Nest.{is_set}
+use Rattle.mappings.specs.declared.mapping.Mapping.{Mapping}
+use Rattle.storage.specs.Storage.{Storage, Spot, row_of, read, write}
+use Rattle.storage.specs.Effect.{Effect, Skip, Put, Fail, scatter}
+use Rattle.storage.specs.Truth.{is_set}
 use Rattle.machine_steps.specs.Layout.{Layout, size_of}
 use Rattle.machine_steps.specs.Instr.{Status, Running, Finished, Faulted, Control, Outcome, Nothing, Value, Breaks, Tuples, Fold, Remapping, Item, Text, Elements, Instr, Local, Fetch, Store, Par, Verdict, Reduce, MakeCopy, FoldCopy, LastCopy, Remap, Print}
 

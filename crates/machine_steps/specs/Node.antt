@@ -5,9 +5,9 @@ use Rattle.node_law.specs.declared.act.Act.{Act}
 use Rattle.node_law.specs.declared.act.Act.TheVariants as act
 use Rattle.node_law.specs.NodeSteps.{NodeSteps}
 use Rattle.node_law.specs.Phases.{next_number}
-use Rattle.nest_order.specs.Storage.{Storage, Spot, read, write}
-use Rattle.nest_order.specs.Effect.{Effect, Skip, Put, Fail}
-use Rattle.nest_order.specs.Nest.{is_set}
+use Rattle.storage.specs.Storage.{Storage, Spot, read, write}
+use Rattle.storage.specs.Effect.{Effect, Skip, Put, Fail}
+use Rattle.storage.specs.Truth.{is_set}
 use Rattle.machine_steps.specs.Layout.{Layout, size_of, sizes, owned_by, owned_in, owns_spot, least_owner_of, piece, address}
 use Rattle.machine_steps.specs.Instr.{Status, Running, Finished, Faulted, Control, Outcome, Nothing, Value, Breaks, Tuples, Fold, Rounds, Remapping, Item, Text, Elements, Instr, Local, Fetch, Store, Par, Verdict, Reduce, MakeCopy, FoldCopy, LastCopy, Remap, Print}
 use Rattle.machine_steps.specs.Machine.{Kept, on, stay, faulted, slot_of, set_slot, store_control, verdict_control, last_control, picked, store_in, outcome_of, effect_by, earlier, keep, lie_alike, last_passing, remapped, item_bytes, instr_at}

@@ -1,8 +1,8 @@
 -- Parallel statements one behind the other: they are the parted order of a nest.
 use Rattle.std.specs.Prelude.{◌≡◌, ℕ, zero, suc, ◌+◌, ◌<◌, ℤ, List, Option, None}
-use Rattle.nest_order.specs.Storage.{Storage, Spot, read}
-use Rattle.nest_order.specs.Effect.{Effect}
-use Rattle.nest_order.specs.Orders.{parted}
+use Rattle.storage.specs.Storage.{Storage, Spot, read}
+use Rattle.storage.specs.Effect.{Effect}
+use Rattle.storage.specs.Parted.{parted}
 use Rattle.machine_steps.specs.Instr.{Running, Outcome, Breaks, Tuples, Instr, Par}
 use Rattle.machine_steps.specs.Machine.{Machine, Kept, outcome_of, effect_by, keep, instr_at}
 

@@ -1,8 +1,8 @@
 -- An act that faults is the last of its part.
 use Rattle.std.proofs.Common.{◌≡◌, ℕ, zero, suc, ◌<◌, List, [], ◌∷◌, arith}
 use Rattle.std.specs.Prelude.{slice_get}
-use Rattle.nest_order.specs.Storage.{Storage}
-use Rattle.nest_order.specs.Effect.{Fail}
+use Rattle.storage.specs.Storage.{Storage}
+use Rattle.storage.specs.Effect.{Fail}
 use Rattle.nest_order.specs.Parts.{NestPart, Acts, Tests}
 use Rattle.nest_order.specs.Nest.{Interpretation, effects, effect_at, part_of}
 

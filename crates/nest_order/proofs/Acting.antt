@@ -5,15 +5,16 @@ use Rattle.std.specs.List.{Contains}
 use Rattle.std.proofs.lemmas.Bool.{cases_eq, cases_lt}
 use Rattle.std.proofs.lemmas.Option.{slice_get_past}
 use Rattle.std.proofs.lemmas.List.Elements.{Contains-append_left, Contains-append_right, Contains-append_cases}
-use Rattle.nest_order.specs.Storage.{Storage, Spot, row_of, read, write, Alike}
-use Rattle.nest_order.specs.Effect.{Effect, Skip, Put, Fail, apply, then_apply}
+use Rattle.storage.specs.Storage.{Storage, Spot, row_of, read, write, Alike}
+use Rattle.storage.specs.Effect.{Effect, Skip, Put, Fail, apply, then_apply}
 use Rattle.nest_order.specs.Orders.{alone, Apart}
 use Rattle.nest_order.specs.Turns.{joined_up_to}
 use Rattle.nest_order.specs.Items.{Items, Done, Then, If, Repeat, Branches, EndIf, Branch, Evaluation, holds_in, EachIn, EachInBranches}
 use Rattle.nest_order.specs.Parts.{most, Conditions, set_condition, guard_holds, IsBelow, Iteration, NestPart, Acts, Tests, count_items, count_branches, flat, flat_branches, is_evaluated, is_tested}
 use Rattle.nest_order.specs.Listed.{value_or, Names, names_in, names_of, go_on, touched, listed}
-use Rattle.nest_order.specs.Nest.{Interpretation, evaluated, is_set, number_for, condition_at, conditions_in, put_truth, effects, effect_at, nest_effects, nest_act, writes, AgreeOn, IsNamed, IsNear, IsParallel, touches_of}
-use Rattle.nest_order.proofs.StorageLemmas.{Alike-write, Alike-trans, Alike-sym, Alike-refl, read-write_other, read-write_both, read-write_at}
+use Rattle.nest_order.specs.Nest.{Interpretation, evaluated, condition_at, conditions_in, put_truth, effects, effect_at, nest_effects, nest_act, writes, AgreeOn, IsNamed, IsNear, IsParallel, touches_of}
+use Rattle.storage.specs.Truth.{is_set, number_for}
+use Rattle.storage.proofs.StorageLemmas.{Alike-write, Alike-trans, Alike-sym, Alike-refl, read-write_other, read-write_both, read-write_at}
 use Rattle.nest_order.proofs.Flattening.{set_at, set_other, Kept, AllBelow, below-more, all_below-more, holds_kept, tested_kept}
 use Rattle.nest_order.proofs.Touching.{AllIn, in_turn_of, touched_listed}
 

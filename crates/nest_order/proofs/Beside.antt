@@ -9,8 +9,8 @@ use Rattle.std.proofs.lemmas.List.Elements.{Contains-append_left, Contains-appen
 use Rattle.std.proofs.lemmas.List.Sums.{AllPass-from_list_all, fold_more}
 use Rattle.std.proofs.lemmas.List.{get_or_past, take_all}
 use Rattle.nest_order.specs.Turns.{◌>>=◌, in_turn, joined_up_to, after_turns}
-use Rattle.nest_order.specs.Storage.{Storage, Spot, row_of, read, write, Alike}
-use Rattle.nest_order.specs.Effect.{Effect, Skip, Put, Fail, then_apply}
+use Rattle.storage.specs.Storage.{Storage, Spot, row_of, read, write, Alike}
+use Rattle.storage.specs.Effect.{Effect, Skip, Put, Fail, then_apply}
 use Rattle.nest_order.specs.Items.{Items, Done, Then, If, Repeat, Branches, EndIf, Branch, Evaluation, exec, exec_branches, EachIn, EachInBranches}
 use Rattle.nest_order.specs.Listed.{counted, Names, listed, listed_branches, AreKnown}
 use Rattle.nest_order.specs.Nest.{Interpretation, evaluated, writes, AgreeOn, plain_loops}
@@ -18,7 +18,7 @@ use Rattle.nest_order.specs.LastValue.{copy_at}
 use Rattle.nest_order.specs.Reduction.{Operator, Or, Statement, assigned, joined, unit_of}
 use Rattle.nest_order.specs.Copies.{Kind, Shared, New, Assigned, Reduced, has_copies, scalar_at, InIteration, in_iteration, items_in, branches_in, seen_by, own_spot, own_effect, with_copies, copied}
 use Rattle.nest_order.specs.Scalars.{assigns_row, assigned_by, assigned_by_branches, AreAssigned, ReadsLate, ReadsLateBranches, MayName, MayNameAll, AllFit, Reducing, reduced_effect, IsPlain, IsReduction, IsPlainOr, IsAction, IsCondition, Touches, MayCopy, CopiesAgree}
-use Rattle.nest_order.proofs.StorageLemmas.{Alike-trans, Alike-refl, Alike-write, spots, read-write_other, read-write_rows, read-write_at}
+use Rattle.storage.proofs.StorageLemmas.{Alike-trans, Alike-refl, Alike-write, spots, read-write_other, read-write_rows, read-write_at}
 use Rattle.nest_order.proofs.Joins.{operator_joins}
 use Rattle.nest_order.proofs.Reducing.{reduces}
 use Rattle.nest_order.proofs.Touching.{AllIn, in_turn_of, taken_in, later_in}

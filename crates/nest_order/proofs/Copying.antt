@@ -2,7 +2,7 @@
 use Rattle.std.proofs.Common.{◌≡◌, ℕ, zero, suc, ◌+◌, ◌<◌, ◌≤◌, List, [], ◌∷◌, length, get_or, Bool, true, false, if◌then◌else◌, refl, ap, sym, ◌∙◌, arith, ℤ, pos, ⊎_elim}
 use Rattle.std.proofs.lemmas.Bool.{cases_lt}
 use Rattle.std.proofs.lemmas.List.{get_or_past, get_or-replicate, length-replicate}
-use Rattle.nest_order.specs.Storage.{Storage, Spot, row_of, read, Alike}
+use Rattle.storage.specs.Storage.{Storage, Spot, row_of, read, Alike}
 use Rattle.nest_order.specs.LastValue.{copy_at}
 use Rattle.nest_order.specs.Reduction.{unit_of}
 use Rattle.nest_order.specs.Copies.{Kind, Shared, New, Assigned, Reduced, has_copies, scalar_at, each_row, entry_copies, seen_by, own_spot, with_copies}

@@ -6,10 +6,10 @@ use mir.Syntax.{w64}
 use Rattle.std.specs.List.{Contains, AllByRecursion}
 use Rattle.std.proofs.lemmas.Int.{SFits-int_wrap}
 use Rattle.std.proofs.Math.Facts.{sfits_lit}
-use Rattle.nest_order.specs.Storage.{Storage, Spot, row_of, read}
-use Rattle.nest_order.specs.Effect.{Skip, Put, Fail}
+use Rattle.storage.specs.Storage.{Storage, Spot, row_of, read}
+use Rattle.storage.specs.Effect.{Skip, Put, Fail}
 use Rattle.nest_order.specs.Items.{EachIn}
-use Rattle.nest_order.specs.Nest.{is_set}
+use Rattle.storage.specs.Truth.{is_set}
 use Rattle.nest_order.specs.Reduction.{Sum, OnRight, IsOf, value_in}
 use Rattle.nest_order.specs.Copies.{Shared, New, Assigned, has_copies, scalar_at}
 use Rattle.nest_order.specs.Scalars.{AllFit, MayName, MayNameAll, ReadsLate, IsAction, IsCondition, MayCopy}

@@ -5,12 +5,13 @@ use Rattle.std.specs.Int.{int_wrap}
 use mir.Syntax.{w64}
 use Rattle.std.specs.List.{Contains, AllByRecursion}
 use Rattle.std.proofs.lemmas.List.Elements.{All-contains, All-from_recursion}
-use Rattle.nest_order.specs.Storage.{Storage, Spot, row_of, read}
-use Rattle.nest_order.specs.Effect.{Effect, Skip, Put, Fail}
-use Rattle.nest_order.specs.Orders.{kept, IsLeastKept}
+use Rattle.storage.specs.Storage.{Storage, Spot, row_of, read}
+use Rattle.storage.specs.Effect.{Effect, Skip, Put, Fail}
+use Rattle.storage.specs.Parted.{kept, IsLeastKept}
 use Rattle.nest_order.specs.Items.{EachIn}
 use Rattle.nest_order.specs.Listed.{listed}
-use Rattle.nest_order.specs.Nest.{nest_effects, nest_act, is_set, writes, IsNamed, IsNear, IsParallel}
+use Rattle.nest_order.specs.Nest.{nest_effects, nest_act, writes, IsNamed, IsNear, IsParallel}
+use Rattle.storage.specs.Truth.{is_set}
 use Rattle.nest_order.specs.Example.{Assignment, Set, Add, Divide, Comparison, Exceeds, interpretation, names, spots_written, a_at, b_at, x_at, s_at, body, entry, faulty}
 
 first_of_two : (x y : Spot) → Contains (x ∷ y ∷ []) x

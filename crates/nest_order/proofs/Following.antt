@@ -2,9 +2,10 @@
 use Rattle.std.proofs.Common.{ℤ, ◌≡◌, ℕ, zero, suc, ◌<◌, ◌≤◌, List, length, Some, None, Result, Ok, Err, Bool, true, false, refl, ap, sym, subst, arith}
 use Rattle.std.specs.Prelude.{if◌then◌else◌}
 use Rattle.nest_order.specs.Turns.{◌>>=◌, in_turn}
-use Rattle.nest_order.specs.Storage.{Storage, Spot}
-use Rattle.nest_order.specs.Effect.{Effect, Skip, Put, Fail, then_apply}
-use Rattle.nest_order.specs.Orders.{plain, parted, kept, NoneKept, IsLeastKept}
+use Rattle.storage.specs.Storage.{Storage, Spot}
+use Rattle.storage.specs.Effect.{Effect, Skip, Put, Fail, then_apply}
+use Rattle.nest_order.specs.Orders.{plain}
+use Rattle.storage.specs.Parted.{parted, kept, NoneKept, IsLeastKept}
 use Rattle.nest_order.specs.Items.{Done, Then, If, Repeat, Branches, EndIf, Branch, exec_branches, Items, exec}
 use Rattle.nest_order.specs.Listed.{Names}
 use Rattle.nest_order.specs.Nest.{Interpretation, evaluated, nest_effects, nest_act, IsParallel, EndAlike, plain_loops}

@@ -3,12 +3,14 @@ use Rattle.std.proofs.Common.{◌≡◌, ℕ, zero, suc, ◌<◌, ◌≤◌, Lis
 use Rattle.std.specs.Prelude.{nat_eq, ◌&&◌, ◌||◌, if◌then◌else◌}
 use Rattle.std.specs.List.{Contains}
 use Rattle.std.proofs.lemmas.Bool.Decides.{nat_tests}
-use Rattle.nest_order.specs.Storage.{Storage, Spot, row_of, read, write}
-use Rattle.nest_order.specs.Effect.{Effect, Skip, Put, Fail, apply}
-use Rattle.nest_order.specs.Orders.{alone, parted, kept, Apart}
-use Rattle.nest_order.specs.LastValue.{copy_at, is_same_spot, note_scalar, stores_to, assigns, scalar_after, last_value}
+use Rattle.storage.specs.Storage.{Storage, Spot, row_of, read, write}
+use Rattle.storage.specs.Effect.{Effect, Skip, Put, Fail, apply}
+use Rattle.nest_order.specs.Orders.{alone, Apart}
+use Rattle.storage.specs.Parted.{parted, kept}
+use Rattle.nest_order.specs.LastValue.{copy_at, note_scalar, stores_to, assigns, scalar_after, last_value}
+use Rattle.storage.specs.Storage.{is_same_spot}
 use Rattle.nest_order.specs.Stores.{noted, noted_by_parts}
-use Rattle.nest_order.proofs.StorageLemmas.{read-write_other, read-write_at}
+use Rattle.storage.proofs.StorageLemmas.{read-write_other, read-write_at}
 use Rattle.nest_order.proofs.Parting.{Alike-alone, kept_alone, parted_alone}
 
 -- the test of spots, with what it shows

@@ -1,4 +1,3 @@
-mod StorageLemmas
 mod Parting
 mod Flattening
 mod Touching

@@ -4,15 +4,17 @@ use Rattle.std.specs.Prelude.{if◌then◌else◌, slice_get}
 use Rattle.std.specs.List.{Contains}
 use Rattle.std.proofs.lemmas.List.Elements.{Contains-append_left}
 use Rattle.nest_order.specs.Turns.{◌>>=◌, in_turn, joined_up_to}
-use Rattle.nest_order.specs.Storage.{Storage, Spot, row_of, write, Alike}
-use Rattle.nest_order.specs.Effect.{Effect, Skip, Put, Fail, apply, then_apply}
-use Rattle.nest_order.specs.Orders.{plain_parts, plain, parted, kept, NoneKept, IsLeastKept}
+use Rattle.storage.specs.Storage.{Storage, Spot, row_of, write, Alike}
+use Rattle.storage.specs.Effect.{Effect, Skip, Put, Fail, apply, then_apply}
+use Rattle.nest_order.specs.Orders.{plain_parts, plain}
+use Rattle.storage.specs.Parted.{parted, kept, NoneKept, IsLeastKept}
 use Rattle.nest_order.specs.Items.{Items, Evaluation, holds_in, exec}
 use Rattle.nest_order.specs.Parts.{Conditions, set_condition, guard_holds, IsBelow, Iteration, NestPart, Acts, Tests, count_items, flat, do_part, do_parts, Matches, is_tested}
 use Rattle.nest_order.specs.Listed.{Names, go_on, touched, listed}
-use Rattle.nest_order.specs.Nest.{Interpretation, evaluated, number_for, condition_at, conditions_in, put_truth, effects, effect_at, nest_effects, nest_act, writes, IsNamed, IsParallel, SameBelow}
+use Rattle.nest_order.specs.Nest.{Interpretation, evaluated, condition_at, conditions_in, put_truth, effects, effect_at, nest_effects, nest_act, writes, IsNamed, IsParallel, SameBelow}
+use Rattle.storage.specs.Truth.{number_for}
 use Rattle.nest_order.specs.Stores.{noted, noted_by_parts, noted_by_all, Observed, observed, observed_loops}
-use Rattle.nest_order.proofs.StorageLemmas.{Alike-trans, Alike-sym, Alike-refl}
+use Rattle.storage.proofs.StorageLemmas.{Alike-trans, Alike-sym, Alike-refl}
 use Rattle.nest_order.proofs.Flattening.{holds_kept, items_taken}
 use Rattle.nest_order.proofs.Touching.{AllIn, touched_listed}
 use Rattle.nest_order.proofs.Numbering.{in_turn-add, in_turn-same}

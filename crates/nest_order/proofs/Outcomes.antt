@@ -3,8 +3,8 @@ use Rattle.std.proofs.Common.{◌≡◌, ℕ, ◌+◌, ◌<◌, List, length, Op
 use Rattle.std.specs.Prelude.{if◌then◌else◌, IfSome}
 use Rattle.std.specs.List.{Contains}
 use Rattle.nest_order.specs.Turns.{◌>>=◌}
-use Rattle.nest_order.specs.Storage.{Storage, Spot, row_of, write}
-use Rattle.nest_order.specs.Effect.{Effect, Skip, Put, Fail, apply, then_apply}
+use Rattle.storage.specs.Storage.{Storage, Spot, row_of, write}
+use Rattle.storage.specs.Effect.{Effect, Skip, Put, Fail, apply, then_apply}
 use Rattle.nest_order.specs.Items.{Evaluation, holds_in}
 use Rattle.nest_order.specs.Parts.{set_condition, guard_holds, IsBelow, Iteration, NestPart, Acts, Tests, do_part, is_tested}
 use Rattle.nest_order.specs.Listed.{value_or, Names, names_in, go_on}

@@ -4,11 +4,12 @@ use Rattle.std.proofs.Common.{◌≡◌, ℕ, zero, suc, ◌<◌, ◌≤◌, ◌
 use Rattle.std.proofs.lemmas.Bool.{cases_eq, cases_lt}
 use Rattle.std.proofs.lemmas.Bool.Decides.{nat_tests}
 use Rattle.std.specs.List.{Contains}
-use Rattle.nest_order.specs.Storage.{Storage, Spot, read, write, Alike}
+use Rattle.storage.specs.Storage.{Storage, Spot, read, write, Alike}
 use Rattle.nest_order.specs.Turns.{◌>>=◌}
-use Rattle.nest_order.specs.Effect.{Effect, Skip, Put, Fail, apply, then_apply, scatter}
-use Rattle.nest_order.specs.Orders.{alone, plain_parts, plain, parted, kept, Apart, IsLeastKept, NoneKept}
-use Rattle.nest_order.proofs.StorageLemmas.{Alike-write, Alike-refl, Alike-trans, Alike-sym, spots, read-write_other, read-write_both, Storage-ext}
+use Rattle.storage.specs.Effect.{Effect, Skip, Put, Fail, apply, then_apply, scatter}
+use Rattle.nest_order.specs.Orders.{alone, plain_parts, plain, Apart}
+use Rattle.storage.specs.Parted.{parted, kept, IsLeastKept, NoneKept}
+use Rattle.storage.proofs.StorageLemmas.{Alike-write, Alike-refl, Alike-trans, Alike-sym, spots, read-write_other, read-write_both, Storage-ext}
 
 -- the least number below n that has a decided fact, or none has it
 bounded : (P : ℕ → Type 0) (n : ℕ) → ((i : ℕ) → P i ⊎ (P i → ⊥)) → ((i : ℕ) × (i < n) × P i × ((x : ℕ) → x < i → P x → ⊥)) ⊎ ((i : ℕ) → i < n → P i → ⊥)

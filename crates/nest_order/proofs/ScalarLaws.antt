@@ -4,17 +4,18 @@ use Rattle.std.specs.Prelude.{◌&&◌, nat_eq}
 use Rattle.std.proofs.lemmas.Bool.{cases_eq}
 use Rattle.std.proofs.lemmas.Bool.Decides.{nat_tests}
 use Rattle.nest_order.specs.Turns.{◌>>=◌}
-use Rattle.nest_order.specs.Storage.{Storage, Spot, read, write, Alike}
-use Rattle.nest_order.specs.Effect.{Effect, Skip, Put, Fail, then_apply}
+use Rattle.storage.specs.Storage.{Storage, Spot, read, write, Alike}
+use Rattle.storage.specs.Effect.{Effect, Skip, Put, Fail, then_apply}
 use Rattle.nest_order.specs.Items.{Items}
 use Rattle.nest_order.specs.Listed.{Names}
 use Rattle.nest_order.specs.Nest.{Interpretation, evaluated, plain_loops}
-use Rattle.nest_order.specs.LastValue.{copy_at, is_same_spot, note_scalar}
+use Rattle.nest_order.specs.LastValue.{copy_at, note_scalar}
+use Rattle.storage.specs.Storage.{is_same_spot}
 use Rattle.nest_order.specs.Stores.{noted, Observed, observed, observed_loops}
 use Rattle.nest_order.specs.Reduction.{Operator}
 use Rattle.nest_order.specs.Copies.{Kind, Shared, New, Assigned, Reduced, has_copies, scalar_at, items_in, own_spot, with_copies, copied}
 use Rattle.nest_order.specs.Scalars.{MayName, Reducing, MayCopy, CopiesAgree, EndWithCopies}
-use Rattle.nest_order.proofs.StorageLemmas.{read-write_other, read-write_at}
+use Rattle.storage.proofs.StorageLemmas.{read-write_other, read-write_at}
 use Rattle.nest_order.proofs.Copying.{own-shared, own-copy}
 use Rattle.nest_order.proofs.Beside.{spot-scalar, does, LoopsFollow, at_start, loops_follow, copies_agree}
 

@@ -1,9 +1,9 @@
 -- Fortran's loops of a nest end as its parted order does.
 use Rattle.std.proofs.Common.{◌≡◌, ℕ, ◌<◌, ◌≤◌, List, length, Option, Result, Ok, Err, true, refl, ap, sym, ◌∙◌, arith, ℤ, pos, ◌⊎◌, ⊎_elim}
 use Rattle.std.proofs.lemmas.List.{ext_get_or}
-use Rattle.nest_order.specs.Storage.{Storage, Spot, row_of, read}
-use Rattle.nest_order.specs.Effect.{Effect}
-use Rattle.nest_order.specs.Orders.{parted, kept, NoneKept, IsLeastKept}
+use Rattle.storage.specs.Storage.{Storage, Spot, row_of, read}
+use Rattle.storage.specs.Effect.{Effect}
+use Rattle.storage.specs.Parted.{parted, kept, NoneKept, IsLeastKept}
 use Rattle.nest_order.specs.Items.{Items}
 use Rattle.nest_order.specs.Listed.{Names}
 use Rattle.nest_order.specs.Nest.{Interpretation, nest_effects, nest_act, plain_loops, EndAlike, SameBelow, IsParallel, touches_of}

@@ -1,8 +1,8 @@
 -- Scalars that a nest assigns: each is one object in Fortran's loops, and has a copy for each iteration where the nest is taken
 -- apart (HPF 2.0, section 5.1).
 use Rattle.std.specs.Prelude.{ℕ, suc, List, [], ◌∷◌, slice_index_or, replicate, ℤ, pos, Option, Some, None, Bool, true, false, if◌then◌else◌}
-use Rattle.nest_order.specs.Storage.{Storage, Spot}
-use Rattle.nest_order.specs.Effect.{Effect, Skip, Put, Fail}
+use Rattle.storage.specs.Storage.{Storage, Spot}
+use Rattle.storage.specs.Effect.{Effect, Skip, Put, Fail}
 use Rattle.nest_order.specs.Items.{Items, Done, Then, If, Repeat, Branches, EndIf, Branch}
 use Rattle.nest_order.specs.Nest.{Interpretation}
 use Rattle.nest_order.specs.LastValue.{copy_at}

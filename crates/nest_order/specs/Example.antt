@@ -15,11 +15,12 @@
 use Rattle.std.specs.Prelude.{ℕ, zero, suc, ◌+◌, List, [], ◌∷◌, ℤ, pos, ◌+ℤ◌, int_lt, int_div, Option, Some, None, Result, Ok, Bool, if◌then◌else◌}
 use Rattle.std.specs.Int.{int_wrap}
 use mir.Syntax.{w64}
-use Rattle.nest_order.specs.Storage.{Storage, Spot, read}
-use Rattle.nest_order.specs.Effect.{Effect, Put, Fail}
+use Rattle.storage.specs.Storage.{Storage, Spot, read}
+use Rattle.storage.specs.Effect.{Effect, Put, Fail}
 use Rattle.nest_order.specs.Items.{Items, Done, Then, If, Repeat, EndIf, Branch}
 use Rattle.nest_order.specs.Listed.{Names}
-use Rattle.nest_order.specs.Nest.{Interpretation, is_set}
+use Rattle.nest_order.specs.Nest.{Interpretation}
+use Rattle.storage.specs.Truth.{is_set}
 use Rattle.nest_order.specs.Reduction.{Sum, Statement, OnRight}
 use Rattle.nest_order.specs.Copies.{Kind, Shared, New, Reduced, scalar_at}
 use Rattle.nest_order.specs.Scalars.{Reducing}

@@ -1,16 +1,12 @@
 -- A scalar that the iterations of a nest assign, each in a copy of its own.
-use Rattle.std.specs.Prelude.{ℕ, zero, suc, nat_eq, ℤ, Bool, false, ◌&&◌, ◌||◌, if◌then◌else◌}
-use Rattle.nest_order.specs.Storage.{Storage, Spot, read}
-use Rattle.nest_order.specs.Effect.{Effect, Skip, Put, Fail}
+use Rattle.std.specs.Prelude.{ℕ, zero, suc, ℤ, Bool, false, ◌||◌, if◌then◌else◌}
+use Rattle.storage.specs.Storage.{Storage, Spot, is_same_spot, read}
+use Rattle.storage.specs.Effect.{Effect, Skip, Put, Fail}
 use Rattle.nest_order.specs.Stores.{noted_by_all}
 
 -- the copy that iteration i has: the row of copies has a position for each iteration
 abbrev pub copy_at : ℕ → ℕ → Spot
 copy_at row i = record { row = row; at = i }
-
--- one row and one position: two copies at one position aren't one spot
-abbrev pub is_same_spot : Spot → Spot → Bool
-is_same_spot one other = nat_eq one.row other.row && nat_eq one.at other.at
 
 -- the scalar after a store at iteration i. A store to another iteration's copy isn't one of it
 abbrev pub note_scalar : ℕ → ℕ → Spot → ℤ → ℤ → ℤ

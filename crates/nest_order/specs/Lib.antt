@@ -1,7 +1,5 @@
 pub mod Turns
-pub mod Storage
 pub mod Copies
-pub mod Effect
 pub mod Orders
 pub mod Items
 pub mod Parts

@@ -2,8 +2,9 @@
 use Rattle.std.specs.Prelude.{◌≡◌, ℕ, zero, suc, ◌+◌, ◌<◌, List, [], ◌∷◌, ◌++◌, length, slice_get, ℤ, pos, negsuc, Option, Some, None, Result, Ok, Err, Bool, true, false, if◌then◌else◌}
 use Rattle.std.specs.List.{Contains}
 use Rattle.nest_order.specs.Turns.{in_turn, joined_up_to}
-use Rattle.nest_order.specs.Storage.{Storage, Spot, row_of, read, Alike}
-use Rattle.nest_order.specs.Effect.{Effect, Skip, Put, Fail, then_apply}
+use Rattle.storage.specs.Storage.{Storage, Spot, row_of, read, Alike}
+use Rattle.storage.specs.Truth.{is_set, number_for}
+use Rattle.storage.specs.Effect.{Effect, Skip, Put, Fail, then_apply}
 use Rattle.nest_order.specs.Items.{Items, Evaluation, holds_in, EachIn, exec}
 use Rattle.nest_order.specs.Parts.{Conditions, guard_holds, is_tested, NestPart, Acts, Tests, flat, count_items}
 use Rattle.nest_order.specs.Listed.{Names, listed, AreKnown}
@@ -16,17 +17,6 @@ pub record Interpretation (A C F : Type 0) : Type 0 where
 -- the same as an evaluation, in which a fault ends what follows
 abbrev pub evaluated : {A C F : Type 0} → Interpretation A C F → Evaluation A C Storage F
 evaluated interpretation = record { action = λ action m. then_apply (interpretation.effect action m) m; condition = interpretation.condition }
-
--- a stored condition holds where it isn't 0
-abbrev pub is_set : ℤ → Bool
-is_set (pos zero) = false
-is_set (pos (suc n)) = true
-is_set (negsuc n) = true
-
--- the number that a condition is stored as
-abbrev pub number_for : Bool → ℤ
-number_for true = pos 1
-number_for false = pos 0
 
 -- `row` is the first of the rows of conditions, and i the iteration
 module _ {A C F : Type 0} (interpretation : Interpretation A C F) (row i : ℕ) where

@@ -2,8 +2,8 @@
 use Rattle.std.specs.Prelude.{◌≡◌, ℕ, zero, suc, ◌<◌, ◌⊎◌, List, ℤ, Result}
 use Rattle.std.specs.List.{Contains}
 use Rattle.nest_order.specs.Turns.{in_turn}
-use Rattle.nest_order.specs.Storage.{Storage, Spot, read, Alike}
-use Rattle.nest_order.specs.Effect.{Effect, Put, Fail, apply, then_apply, scatter}
+use Rattle.storage.specs.Storage.{Storage, Spot, read, Alike}
+use Rattle.storage.specs.Effect.{Effect, Put, Fail, apply, then_apply, scatter}
 
 -- `act i j m` is what part j does at iteration i from the storage m, and `start` is the storage at the nest's entry
 module _ {F : Type 0} (act : ℕ → ℕ → Storage → Effect F) (start : Storage) where
@@ -19,28 +19,6 @@ module _ {F : Type 0} (act : ℕ → ℕ → Storage → Effect F) (start : Stor
   -- the plain order: all parts of an iteration, and only then the next iteration, up to the first fault
   abbrev pub plain : ℕ → ℕ → Result Storage F
   plain parts n = in_turn n (λ i. plain_parts i parts) start
-
-  -- the parted order: each part at all n iterations before the next part. All its values are taken before any is
-  -- stored, and an iteration with a fault goes on in the later parts
-  abbrev pub parted : ℕ → ℕ → Storage
-  parted n zero = start
-  parted n (suc j) = scatter (λ i. act i j (parted n j)) n (parted n j)
-
-  -- what part j does at iteration i in the parted order. Its faults are kept, and end nothing
-  abbrev pub kept : ℕ → ℕ → ℕ → Effect F
-  kept n i j = act i j (parted n j)
-
-  -- no part keeps a fault at an iteration, also where the plain order would have ended before
-  abbrev pub NoneKept : ℕ → ℕ → Type 0
-  NoneKept n parts = (i j : ℕ) (fault : F) → i < n → j < parts → kept n i j ≡ Fail fault → ⊥
-
-  -- a fault is kept at iteration i in part j, and none at a smaller key. The iteration counts first, then the number of
-  -- parts applied before: the least key isn't the fault that the parted order meets first
-  pub record IsLeastKept (n parts i j : ℕ) (fault : F) : Type 0 where
-    pub iteration : i < n
-    pub part : j < parts
-    pub here : kept n i j ≡ Fail fault
-    pub sooner : (i' j' : ℕ) (other : F) → i' < n → j' < parts → (i' < i) ⊎ ((i' ≡ i) × (j' < j)) → kept n i' j' ≡ Fail other → ⊥
 
   -- No iteration stores where another one touches, and what its parts do depends on what it touches alone. This is
   -- asked of the iteration alone, and not of every storage: a part is free where the iteration never comes

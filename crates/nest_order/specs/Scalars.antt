@@ -3,8 +3,8 @@ use Rattle.std.specs.Prelude.{◌≡◌, ℕ, ◌<◌, ◌⊎◌, List, length, 
 use Rattle.std.specs.Int.{w64}
 use Rattle.std.specs.List.{Contains, list_all}
 use Rattle.nest_order.specs.Turns.{after_turns}
-use Rattle.nest_order.specs.Storage.{Storage, Spot, row_of, read, Alike}
-use Rattle.nest_order.specs.Effect.{Effect, Skip, Put, Fail}
+use Rattle.storage.specs.Storage.{Storage, Spot, row_of, read, Alike}
+use Rattle.storage.specs.Effect.{Effect, Skip, Put, Fail}
 use Rattle.nest_order.specs.Items.{Items, Done, Then, If, Repeat, Branches, EndIf, Branch, EachIn}
 use Rattle.nest_order.specs.Listed.{Names, names_in, listed, AreKnown}
 use Rattle.nest_order.specs.Nest.{Interpretation, evaluated, writes, AgreeOn}

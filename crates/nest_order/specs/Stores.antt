@@ -1,8 +1,8 @@
 -- What is noted of the stores of a nest, in the order of its plain loops.
 use Rattle.std.specs.Prelude.{ℕ, zero, suc, ℤ, Result, Ok}
 use Rattle.nest_order.specs.Turns.{◌>>=◌, in_turn}
-use Rattle.nest_order.specs.Storage.{Storage, Spot}
-use Rattle.nest_order.specs.Effect.{Effect, Skip, Put, Fail, then_apply}
+use Rattle.storage.specs.Storage.{Storage, Spot}
+use Rattle.storage.specs.Effect.{Effect, Skip, Put, Fail, then_apply}
 use Rattle.nest_order.specs.Items.{Items, Evaluation, exec}
 use Rattle.nest_order.specs.Nest.{Interpretation}
 

@@ -1,9 +1,9 @@
 //! A small nest on which the laws are seen to be met.
 
 ghost use Rattle.std.specs.Prelude.{◌≡◌, ℕ, ◌<◌, ◌≤◌, List, [], ◌∷◌, length, pos, Ok, Err, false};
-ghost use Rattle.nest_order.specs.Storage.{row_of};
-ghost use Rattle.nest_order.specs.Effect.{Fail};
-ghost use Rattle.nest_order.specs.Orders.{parted, kept, IsLeastKept};
+ghost use Rattle.storage.specs.Storage.{row_of};
+ghost use Rattle.storage.specs.Effect.{Fail};
+ghost use Rattle.storage.specs.Parted.{parted, kept, IsLeastKept};
 ghost use Rattle.nest_order.specs.Nest.{nest_effects, nest_act, plain_loops, IsParallel};
 ghost use Rattle.nest_order.specs.LastValue.{note_scalar, scalar_after, last_value};
 ghost use Rattle.nest_order.specs.Stores.{observed_loops};

@@ -1,9 +1,10 @@
 //! The value of a scalar after a nest that assigns it.
 
 ghost use Rattle.std.specs.Prelude.{◌≡◌, ℕ, ℤ, List, ◌<◌, ◌≤◌, length, Ok};
-ghost use Rattle.nest_order.specs.Storage.{Storage, Spot, row_of};
-ghost use Rattle.nest_order.specs.Effect.{Effect};
-ghost use Rattle.nest_order.specs.Orders.{parted, kept, Apart, NoneKept};
+ghost use Rattle.storage.specs.Storage.{Storage, Spot, row_of};
+ghost use Rattle.storage.specs.Effect.{Effect};
+ghost use Rattle.nest_order.specs.Orders.{Apart};
+ghost use Rattle.storage.specs.Parted.{parted, kept, NoneKept};
 ghost use Rattle.nest_order.specs.Items.{Items};
 ghost use Rattle.nest_order.specs.Listed.{Names};
 ghost use Rattle.nest_order.specs.Nest.{Interpretation, nest_effects, nest_act, SameBelow, IsParallel};

@@ -1,9 +1,10 @@
 //! A nest of statements as acts of parts on one storage.
 
 ghost use Rattle.std.specs.Prelude.{◌≡◌, ℕ, ◌<◌, ◌≤◌, ℤ, List, length, Ok, Err, None};
-ghost use Rattle.nest_order.specs.Storage.{Storage, Spot};
-ghost use Rattle.nest_order.specs.Effect.{Fail};
-ghost use Rattle.nest_order.specs.Orders.{plain, parted, kept, Apart, NoneKept, IsLeastKept};
+ghost use Rattle.storage.specs.Storage.{Storage, Spot};
+ghost use Rattle.storage.specs.Effect.{Fail};
+ghost use Rattle.nest_order.specs.Orders.{plain, Apart};
+ghost use Rattle.storage.specs.Parted.{parted, kept, NoneKept, IsLeastKept};
 ghost use Rattle.nest_order.specs.Items.{Items};
 ghost use Rattle.nest_order.specs.Parts.{flat};
 ghost use Rattle.nest_order.specs.Listed.{Names};

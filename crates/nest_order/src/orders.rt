@@ -1,9 +1,10 @@
 //! The law of fission.
 
 ghost use Rattle.std.specs.Prelude.{◌≡◌, ℕ, ◌<◌, ◌⊎◌, List, Ok, Err};
-ghost use Rattle.nest_order.specs.Storage.{Storage, Spot};
-ghost use Rattle.nest_order.specs.Effect.{Effect};
-ghost use Rattle.nest_order.specs.Orders.{plain_parts, plain, parted, kept, Apart, NoneKept, IsLeastKept};
+ghost use Rattle.storage.specs.Storage.{Storage, Spot};
+ghost use Rattle.storage.specs.Effect.{Effect};
+ghost use Rattle.nest_order.specs.Orders.{plain_parts, plain, Apart};
+ghost use Rattle.storage.specs.Parted.{parted, kept, NoneKept, IsLeastKept};
 
 /// The law of fission. Let no iteration store where another one touches, and let each iteration's parts depend on what
 /// it touches alone. Where no fault is kept, the plain order ends with the storage of the parted order. Else it ends

@@ -1,11 +1,11 @@
 //! One scalar against the copies that iterations have of it.
 
 ghost use Rattle.std.specs.Prelude.{◌≡◌, ℕ, ◌⊎◌, ◌<◌, ◌≤◌, List, length, Option, Ok, Err};
-ghost use Rattle.nest_order.specs.Storage.{Storage, Spot, read};
+ghost use Rattle.storage.specs.Storage.{Storage, Spot, read};
 ghost use Rattle.nest_order.specs.Items.{Items};
 ghost use Rattle.nest_order.specs.Listed.{Names};
 ghost use Rattle.nest_order.specs.LastValue.{note_scalar};
-ghost use Rattle.nest_order.specs.Orders.{parted, kept, NoneKept, IsLeastKept};
+ghost use Rattle.storage.specs.Parted.{parted, kept, NoneKept, IsLeastKept};
 ghost use Rattle.nest_order.specs.Nest.{Interpretation, nest_effects, nest_act, plain_loops, IsParallel};
 ghost use Rattle.nest_order.specs.Stores.{observed_loops};
 ghost use Rattle.nest_order.specs.Copies.{Kind, New, Assigned, scalar_at, InIteration, with_copies, copied, items_in};

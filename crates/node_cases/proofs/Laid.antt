@@ -1,8 +1,8 @@
 -- Arrays with valid mappings lie on the nodes.
 use Rattle.std.proofs.Common.{ℕ}
 use Rattle.hpf_base.specs.declared.index.Shape.{Shape}
-use Rattle.hpf_base.specs.declared.mapping.Mapping.{Mapping}
-use Rattle.hpf_base.specs.Mapping.{IsShape}
+use Rattle.mappings.specs.declared.mapping.Mapping.{Mapping}
+use Rattle.hpf_base.specs.Shape.{IsShape}
 use Rattle.array_maps.specs.Maps.{IsMapOf}
 use Rattle.owner_tables.specs.Layouts.{IsLaid}
 

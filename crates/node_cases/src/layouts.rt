@@ -2,11 +2,12 @@
 
 ghost use Rattle.std.specs.Prelude.{◌≡◌, ◌≤◌, All, IfOk};
 ghost use Rattle.hpf_base.specs.declared.limits.TheConstants.{MAX_NODES};
-ghost use Rattle.hpf_base.specs.Mapping.{IsShape};
+ghost use Rattle.hpf_base.specs.Shape.{IsShape};
 ghost use Rattle.array_maps.specs.Maps.{AreMaps, AreNewMaps, IsArrayMap, IsMapOf, IsNewMap};
 
 use array_maps::{ArrayMap, Maps, NewMap, NewMaps};
-use hpf_base::{Grid, Index, MapDims, Mapping, OutOfMemory, Shape};
+use hpf_base::{Grid, Index, OutOfMemory, Shape};
+use mappings::{MapDims, Mapping};
 use node_code::NewMapping;
 use owner_tables::{OwnerTable, Owners};
 use std::alloc::Global;

@@ -3,8 +3,8 @@ use Rattle.std.proofs.Common.{nat_eq, ◌≡◌, ℕ, zero, suc, ◌+◌, ◌<�
 use Rattle.std.specs.List.{range_with_len, filter}
 use Rattle.std.proofs.lemmas.Bool.{eqb-true, cases_eq}
 use Rattle.std.proofs.lemmas.List.Elements.{filter-append}
-use Rattle.nest_order.specs.Storage.{Spot, Storage}
-use Rattle.nest_order.specs.LastValue.{is_same_spot}
+use Rattle.storage.specs.Storage.{Spot, Storage}
+use Rattle.storage.specs.Storage.{is_same_spot}
 use Rattle.machine_steps.specs.Layout.{Layout, least_owner_of, owns_spot, sizes}
 use Rattle.machine_steps.specs.Message.{fetch_part, has_any, lookup, message, needs, spots_from}
 use Rattle.machine_steps.specs.Node.{held_or_received, local_read, parcel, part_sends}

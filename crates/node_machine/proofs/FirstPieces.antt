@@ -1,7 +1,7 @@
 -- A node's pieces of rows whose elements have one value.
 use Rattle.std.proofs.Common.{◌≡◌, ℕ, zero, suc, ◌<◌, ◌≤◌, ◌+◌, ℤ, List, [], ◌∷◌, ◌++◌, length, get_or, replicate, take, slice_index_or, refl, sym, ◌∙◌, ap, arith}
 use Rattle.std.proofs.lemmas.List.{take_all, take_more}
-use Rattle.nest_order.specs.Storage.{Storage}
+use Rattle.storage.specs.Storage.{Storage}
 use Rattle.machine_steps.specs.Layout.{Layout, count_passing, owned_by, owned_in, pieces, size_of, sizes}
 use Rattle.owner_tables.proofs.Ranges.{values-replicate}
 use Rattle.node_machine.specs.Openings.{start_rows}

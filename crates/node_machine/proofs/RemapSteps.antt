@@ -1,9 +1,9 @@
 -- The steps of a redistribution.
 use Rattle.std.proofs.Common.{◌≡◌, ℕ, ℤ, zero, suc, ◌+◌, true, false, List, [], ◌∷◌, length, nat_lt, refl, sym, ◌∙◌, ap}
 use Rattle.std.proofs.lemmas.List.{length-map}
-use Rattle.hpf_base.specs.declared.mapping.Mapping.{Mapping}
+use Rattle.mappings.specs.declared.mapping.Mapping.{Mapping}
 use Rattle.array_meaning.specs.Faults.{Fault}
-use Rattle.nest_order.specs.Storage.{Spot}
+use Rattle.storage.specs.Storage.{Spot}
 use Rattle.machine_steps.specs.Instr.{Instr, Remapping}
 use Rattle.machine_steps.specs.Layout.{Layout, size_of, sizes}
 use Rattle.machine_steps.specs.Machine.{remapped, with_mapping}

@@ -1,7 +1,7 @@
 -- Stores make no row longer and no row more.
 use Rattle.std.proofs.Common.{◌≡◌, List, [], ◌∷◌, length, refl, ◌∙◌}
 use Rattle.std.proofs.lemmas.List.{length-set}
-use Rattle.nest_order.specs.Storage.{Storage, write}
+use Rattle.storage.specs.Storage.{Storage, write}
 use Rattle.owner_tables.specs.Spots.{spot_of}
 use Rattle.part_steps.specs.Stores.{stored_all}
 use Rattle.part_steps.specs.declared.stores.Store.{Store}

@@ -1,6 +1,6 @@
 -- No public clause cites this file. Who sends the value of an element that all nodes fetch.
 use Rattle.std.specs.Prelude.{ℕ, ◌==◌, ◌&&◌, Bool, not, List}
-use Rattle.nest_order.specs.Storage.{Spot}
+use Rattle.storage.specs.Storage.{Spot}
 use Rattle.machine_steps.specs.Layout.{Layout, least_owner_of, owns_spot}
 
 -- the least owner sends it to each node that doesn't own the element

@@ -1,7 +1,7 @@
 -- No public clause cites this file. Copies that are folded, and last values of copies.
 use Rattle.std.specs.Prelude.{ℕ, ◌==◌, ◌&&◌, Bool, ℤ, List, Option, Some, None, if◌then◌else◌}
-use Rattle.nest_order.specs.Nest.{is_set}
-use Rattle.nest_order.specs.Storage.{Spot, Storage}
+use Rattle.storage.specs.Truth.{is_set}
+use Rattle.storage.specs.Storage.{Spot, Storage}
 use Rattle.machine_steps.specs.Layout.{Layout, least_owner_of, owns_spot}
 use Rattle.machine_steps.specs.Machine.{last_passing}
 use Rattle.machine_steps.specs.Node.{Positioned, join_below, local_read}

@@ -1,7 +1,7 @@
 -- Nodes at the beginning of a run.
 use Rattle.std.specs.Prelude.{ℕ, ℤ, pos, List, [], ◌∷◌, replicate, None}
 use Rattle.array_meaning.specs.Faults.{Fault}
-use Rattle.nest_order.specs.Storage.{Storage}
+use Rattle.storage.specs.Storage.{Storage}
 use Rattle.machine_steps.specs.Agrees.{first_own, standing}
 use Rattle.machine_steps.specs.Instr.{Running}
 use Rattle.machine_steps.specs.Layout.{Layout, size_of}

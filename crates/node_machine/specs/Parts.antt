@@ -1,6 +1,6 @@
 -- No public clause cites this file. Parallel statements on a node.
 use Rattle.std.specs.Prelude.{◌≡◌, ℕ, ℤ, List, Option}
-use Rattle.nest_order.specs.Storage.{Spot}
+use Rattle.storage.specs.Storage.{Spot}
 use Rattle.array_meaning.specs.Faults.{Fault}
 use Rattle.machine_steps.specs.Instr.{Instr, Par, Tuples}
 use Rattle.machine_steps.specs.Machine.{earlier, effect_by, keep}

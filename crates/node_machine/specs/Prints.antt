@@ -1,7 +1,7 @@
 -- No public clause cites this file. Steps of a PRINT.
 use Rattle.std.specs.Prelude.{◌≡◌, ℕ, ℤ, List, [], ◌∷◌, ◌++◌, drop, map, Option, Some, None}
 use Rattle.std.specs.List.{slice_get}
-use Rattle.nest_order.specs.Storage.{Spot}
+use Rattle.storage.specs.Storage.{Spot}
 use Rattle.expression_rules.specs.declared.dims.Dim.{Dim}
 use Rattle.array_meaning.specs.Execution.{decimals}
 use Rattle.array_meaning.specs.Faults.{Fault}

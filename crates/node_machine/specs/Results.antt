@@ -1,6 +1,6 @@
 -- No public clause cites this file. Results of evaluations.
 use Rattle.std.specs.Prelude.{◌≡◌, ℤ, List, Result, Ok, Err}
-use Rattle.nest_order.specs.Storage.{Spot}
+use Rattle.storage.specs.Storage.{Spot}
 use Rattle.array_meaning.specs.Faults.{Fault}
 use Rattle.machine_steps.specs.Instr.{Instr, Fetch, Store}
 use Rattle.owner_tables.specs.declared.spot.Spot.{Spot as HeldSpot}

@@ -1,7 +1,7 @@
 //! A node's pieces of all rows.
 
 ghost use Rattle.std.specs.Prelude.{◌≡◌, ◌<◌, length, pos, slice_index_or, true};
-ghost use Rattle.nest_order.specs.Storage.{row_of, write};
+ghost use Rattle.storage.specs.Storage.{row_of, write};
 ghost use Rattle.machine_steps.specs.Layout.{owns_spot, sizes};
 ghost use Rattle.machine_steps.specs.Node.{local_read, local_write};
 ghost use Rattle.owner_tables.specs.Spots.{spot_of};

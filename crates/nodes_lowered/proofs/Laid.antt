@@ -9,7 +9,7 @@ use Rattle.name_table.specs.Entries.{entries}
 use Rattle.name_table.specs.declared.names.Entry.{Entry}
 use Rattle.name_table.specs.declared.names.What.{What}
 use Rattle.name_table.specs.declared.names.What.TheVariants as what
-use Rattle.nest_order.specs.Storage.{Storage}
+use Rattle.storage.specs.Storage.{Storage}
 use Rattle.directive_check.specs.ProgramMaps.{shape_of}
 use Rattle.array_meaning.specs.Resolution.{initial_array}
 use Rattle.array_meaning.specs.State.{Array}

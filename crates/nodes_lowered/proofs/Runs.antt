@@ -5,7 +5,7 @@ use Rattle.std.proofs.lemmas.List.{length-map}
 use Rattle.std.proofs.lemmas.List.FromFn.{length-range_with_len}
 use Rattle.syntax_tree.specs.MainProgram.{MainProgram}
 use Rattle.name_table.specs.Entries.{entries}
-use Rattle.nest_order.specs.Storage.{row_of}
+use Rattle.storage.specs.Storage.{row_of}
 use Rattle.array_meaning.specs.Faults.{Fault}
 use Rattle.array_meaning.specs.Serial as serial
 use Rattle.array_meaning.specs.Serial.{End, Outcome}

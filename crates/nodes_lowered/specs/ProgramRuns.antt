@@ -8,7 +8,7 @@ use Rattle.node_law.specs.Cores.{start}
 use Rattle.node_law.specs.NodeSteps.{NodeSteps}
 use Rattle.node_law.specs.Phases.{Lockstep}
 use Rattle.node_law.specs.Reached.{EndsInLockstep}
-use Rattle.nest_order.specs.Storage.{Spot, read, row_of}
+use Rattle.storage.specs.Storage.{Spot, read, row_of}
 use Rattle.array_meaning.specs.Faults.{Fault}
 use Rattle.array_meaning.specs.Resolution.{initial_state}
 use Rattle.array_meaning.specs.Serial as serial

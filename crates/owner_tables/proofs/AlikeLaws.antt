@@ -7,18 +7,19 @@ use Rattle.std.proofs.lemmas.List.FromFn.{get_or-map-range_with_len}
 use Rattle.std.specs.List.{list_all, range_with_len}
 use Rattle.std.specs.Prelude.{option_map, unsigned_abs}
 use Rattle.hpf_base.specs.declared.index.Shape.{Shape}
-use Rattle.hpf_base.specs.declared.mapping.AlignDim.{AlignDim}
-use Rattle.hpf_base.specs.declared.mapping.AlignDim.TheVariants.{Linear, At, Every}
-use Rattle.hpf_base.specs.declared.mapping.Line.{Line}
-use Rattle.hpf_base.specs.declared.mapping.MapDim.{MapDim}
-use Rattle.hpf_base.specs.declared.mapping.Mapping.{Mapping}
-use Rattle.hpf_base.specs.Alignment.{agrees, agrees_at, aligned, owns}
+use Rattle.mappings.specs.declared.mapping.AlignDim.{AlignDim}
+use Rattle.mappings.specs.declared.mapping.AlignDim.TheVariants.{Linear, At, Every}
+use Rattle.mappings.specs.declared.mapping.Line.{Line}
+use Rattle.mappings.specs.declared.mapping.MapDim.{MapDim}
+use Rattle.mappings.specs.declared.mapping.Mapping.{Mapping}
+use Rattle.mappings.specs.Alignment.{agrees, agrees_at, aligned, owns}
 use Rattle.hpf_base.specs.ElementOrder.{extents_of, product}
 use Rattle.hpf_base.specs.Grid.{node_coordinates}
-use Rattle.hpf_base.specs.Mapping.{IsAlign, IsMapping, IsShape}
+use Rattle.hpf_base.specs.Shape.{IsShape}
+use Rattle.mappings.specs.Mapping.{IsAlign, IsMapping}
 use Rattle.hpf_base.proofs.Elements.{elements-get}
 use Rattle.hpf_base.proofs.Places.{length-place_at, place_at}
-use Rattle.hpf_base.proofs.Sections.{same_test}
+use Rattle.mappings.proofs.Sections.{same_test}
 use Rattle.local_address.proofs.ElementLaws.{length-index_at}
 use Rattle.machine_steps.specs.Layout.{Layout, count_passing, element_index, first, owned_by, size_of}
 use Rattle.owner_tables.specs.Alike.{alike_nodes, is_alike, is_alike_at, is_alike_in, leader}

@@ -11,15 +11,15 @@ use Rattle.std.proofs.lemmas.Simd.{splat_is_map}
 use Rattle.std.specs.List.{list_any}
 use Rattle.std.specs.Option.{option_map}
 use Rattle.hpf_base.specs.declared.limits.TheConstants.{MAX_BOUND, MAX_ELEMENTS, MAX_NODES}
-use Rattle.hpf_base.specs.declared.mapping.AlignDim.TheVariants.{Linear}
-use Rattle.hpf_base.specs.declared.mapping.Line.{Line}
-use Rattle.hpf_base.specs.declared.mapping.MapDim.{MapDim}
-use Rattle.hpf_base.specs.Alignment.{agrees_at, aligned, owns, position_at}
+use Rattle.mappings.specs.declared.mapping.AlignDim.TheVariants.{Linear}
+use Rattle.mappings.specs.declared.mapping.Line.{Line}
+use Rattle.mappings.specs.declared.mapping.MapDim.{MapDim}
+use Rattle.mappings.specs.Alignment.{agrees_at, aligned, owns, position_at}
 use Rattle.hpf_base.specs.ElementOrder.{elements, extents_of, index_at, product}
 use Rattle.hpf_base.specs.Grid.{node_coordinates}
-use Rattle.hpf_base.specs.Mapping.{InLine, IsLine, IsMapDim, MapsInside, MoveApart}
-use Rattle.hpf_base.specs.Owner.{block_line, coordinate, default_block}
-use Rattle.hpf_base.proofs.Blocks.{coordinate-within, default_block-all, default_block-some}
+use Rattle.mappings.specs.Mapping.{InLine, IsLine, IsMapDim, MapsInside, MoveApart}
+use Rattle.mappings.specs.Owner.{block_line, coordinate, default_block}
+use Rattle.mappings.proofs.Blocks.{coordinate-within, default_block-all, default_block-some}
 use Rattle.hpf_base.proofs.ElementOrder.{product-some}
 use Rattle.hpf_base.proofs.Elements.{elements-get, length-elements}
 use Rattle.hpf_base.proofs.Places.{length-place_at, number_of, place_at, place_at-number_of, places-get}

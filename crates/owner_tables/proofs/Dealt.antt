@@ -1,7 +1,7 @@
 -- Rows whose elements have owners, one after the other.
 use Rattle.std.proofs.Common.{◌≡◌, ℕ, ◌+◌, ◌<◌, ◌≤◌, true, List, get_or, sym, ◌∙◌, ap, arith, ◌⊎◌, inl, inr}
 use Rattle.std.proofs.lemmas.Bool.{cases_lt}
-use Rattle.nest_order.specs.Storage.{Spot}
+use Rattle.storage.specs.Storage.{Spot}
 use Rattle.machine_steps.specs.Layout.{IsDealt, Layout, owned_by, owned_in, owns_spot, size_of, sizes}
 use Rattle.owner_tables.specs.Views.{TableView}
 

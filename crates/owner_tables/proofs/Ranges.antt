@@ -3,7 +3,7 @@ use Rattle.std.proofs.Common.{◌≡◌, ℕ, zero, suc, ◌+◌, ◌<◌, ◌�
 use Rattle.std.proofs.lemmas.Option.{same_Some}
 use Rattle.std.proofs.lemmas.List.Elements.{filter-append}
 use Rattle.std.specs.List.{range_with_len}
-use Rattle.hpf_base.proofs.Sections.{range_with_len-add}
+use Rattle.hpf_base.proofs.Ranges.{range_with_len-add}
 use Rattle.machine_steps.specs.Layout.{count_passing, first, values_at}
 
 -- tests that agree on the range find the same first number, the same numbers and as many

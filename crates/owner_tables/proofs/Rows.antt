@@ -1,7 +1,7 @@
 -- The layouts of the rows.
 use Rattle.std.proofs.Common.{◌≡◌, ℕ, zero, suc, ◌<◌, ◌≤◌, List, [], ◌∷◌, get_or, set, length, map, refl, sym, ◌∙◌, ap, arith}
 use Rattle.std.proofs.lemmas.List.{get_or-map, length-map, map-set}
-use Rattle.hpf_base.specs.declared.mapping.Mapping.{Mapping}
+use Rattle.mappings.specs.declared.mapping.Mapping.{Mapping}
 use Rattle.machine_steps.specs.Machine.{with_mapping}
 use Rattle.machine_steps.specs.Layout.{Layout, owned_by, owned_in, size_of, sizes}
 use Rattle.owner_tables.specs.Views.{OwnersView, TableView}

@@ -6,18 +6,18 @@ use Rattle.std.specs.Bool.{Decides}
 use Rattle.std.specs.Cmp.{first_so, second_so, signed_Decides, unsigned_Decides}
 use Rattle.std.specs.Cmp.Lexicographic.{pointwise, pointwise_decides}
 use Rattle.std.specs.Ordering.{int_eq}
-use Rattle.hpf_base.specs.contracts.mapping.AlignDimPartialEq.TheImpl.{eq-value as eq-align}
-use Rattle.hpf_base.specs.contracts.mapping.FormPartialEq.TheImpl.{eq-value as eq-form}
-use Rattle.hpf_base.specs.contracts.mapping.LinePartialEq.TheImpl.{eq-value as eq-line}
-use Rattle.hpf_base.specs.contracts.mapping.MapDimPartialEq.TheImpl.{eq-value as eq-dim}
+use Rattle.mappings.specs.contracts.mapping.AlignDimPartialEq.TheImpl.{eq-value as eq-align}
+use Rattle.mappings.specs.contracts.mapping.FormPartialEq.TheImpl.{eq-value as eq-form}
+use Rattle.mappings.specs.contracts.mapping.LinePartialEq.TheImpl.{eq-value as eq-line}
+use Rattle.mappings.specs.contracts.mapping.MapDimPartialEq.TheImpl.{eq-value as eq-dim}
 use Rattle.hpf_base.specs.declared.index.Shape.{Shape}
-use Rattle.hpf_base.specs.declared.mapping.AlignDim.{AlignDim}
-use Rattle.hpf_base.specs.declared.mapping.AlignDim.TheVariants.{Linear, At, Every}
-use Rattle.hpf_base.specs.declared.mapping.Form.{Form}
-use Rattle.hpf_base.specs.declared.mapping.Form.TheVariants.{Whole, Block, Cyclic}
-use Rattle.hpf_base.specs.declared.mapping.Line.{Line}
-use Rattle.hpf_base.specs.declared.mapping.MapDim.{MapDim}
-use Rattle.hpf_base.specs.declared.mapping.Mapping.{Mapping}
+use Rattle.mappings.specs.declared.mapping.AlignDim.{AlignDim}
+use Rattle.mappings.specs.declared.mapping.AlignDim.TheVariants.{Linear, At, Every}
+use Rattle.mappings.specs.declared.mapping.Form.{Form}
+use Rattle.mappings.specs.declared.mapping.Form.TheVariants.{Whole, Block, Cyclic}
+use Rattle.mappings.specs.declared.mapping.Line.{Line}
+use Rattle.mappings.specs.declared.mapping.MapDim.{MapDim}
+use Rattle.mappings.specs.declared.mapping.Mapping.{Mapping}
 use Rattle.machine_steps.specs.Layout.{Layout}
 use Rattle.owner_tables.specs.SameLayouts.{is_same_align, is_same_dim, is_same_form, is_same_layout, is_same_line, is_same_mapping, is_same_shape}
 

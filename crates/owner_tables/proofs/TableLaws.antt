@@ -5,8 +5,8 @@ use Rattle.std.proofs.lemmas.List.FromFn.{get_or-map-range_with_len, length-map-
 use Rattle.std.proofs.lemmas.Simd.{map-map}
 use Rattle.std.specs.List.{range_with_len}
 use Rattle.std.specs.Vec.{vec_len}
-use Rattle.hpf_base.specs.declared.mapping.Mapping.{Mapping}
-use Rattle.hpf_base.proofs.Sections.{map-range_agree}
+use Rattle.mappings.specs.declared.mapping.Mapping.{Mapping}
+use Rattle.hpf_base.proofs.Ranges.{map-range_agree}
 use Rattle.machine_steps.specs.Layout.{Layout, count_passing, owned_by, size_of}
 use Rattle.owner_tables.specs.declared.tables.Tables.TheInside.{Inside}
 use Rattle.owner_tables.specs.Alike.{alike_nodes, is_alike, leader}

@@ -1,10 +1,10 @@
 -- Nodes that own the same elements.
 use Rattle.std.specs.Prelude.{ℕ, ◌==◌, Bool, true, List, filter, slice_index}
 use Rattle.std.specs.List.{list_all, range_with_len}
-use Rattle.hpf_base.specs.declared.mapping.AlignDim.{AlignDim}
-use Rattle.hpf_base.specs.declared.mapping.AlignDim.TheVariants.{Linear, At, Every}
-use Rattle.hpf_base.specs.declared.mapping.MapDim.{MapDim}
-use Rattle.hpf_base.specs.declared.mapping.Mapping.{Mapping}
+use Rattle.mappings.specs.declared.mapping.AlignDim.{AlignDim}
+use Rattle.mappings.specs.declared.mapping.AlignDim.TheVariants.{Linear, At, Every}
+use Rattle.mappings.specs.declared.mapping.MapDim.{MapDim}
+use Rattle.mappings.specs.declared.mapping.Mapping.{Mapping}
 use Rattle.hpf_base.specs.Grid.{node_coordinates}
 use Rattle.machine_steps.specs.Layout.{first}
 

@@ -1,11 +1,11 @@
 -- How the elements of a copy lie on the nodes.
 use Rattle.std.specs.Prelude.{ℕ, ◌==◌, pos, List, [], ◌∷◌, length, map, slice_index_or, if◌then◌else◌}
 use Rattle.hpf_base.specs.declared.index.Shape.{Shape}
-use Rattle.hpf_base.specs.declared.mapping.AlignDim.TheVariants.{Linear}
-use Rattle.hpf_base.specs.declared.mapping.MapDim.{MapDim}
-use Rattle.hpf_base.specs.declared.mapping.Mapping.{Mapping}
+use Rattle.mappings.specs.declared.mapping.AlignDim.TheVariants.{Linear}
+use Rattle.mappings.specs.declared.mapping.MapDim.{MapDim}
+use Rattle.mappings.specs.declared.mapping.Mapping.{Mapping}
 use Rattle.hpf_base.specs.ElementOrder.{product}
-use Rattle.hpf_base.specs.Owner.{block_line}
+use Rattle.mappings.specs.Owner.{block_line}
 use Rattle.machine_steps.specs.Layout.{Layout}
 
 -- the extents that a copy has: all are 0 where it has no elements

@@ -1,7 +1,8 @@
 -- Layouts that are valid for a number of nodes.
 use Rattle.std.specs.Prelude.{◌≡◌, ℕ, length, All}
 use Rattle.hpf_base.specs.ElementOrder.{elements, product}
-use Rattle.hpf_base.specs.Mapping.{IsMapping, IsShape, MapsInside}
+use Rattle.hpf_base.specs.Shape.{IsShape}
+use Rattle.mappings.specs.Mapping.{IsMapping, MapsInside}
 use Rattle.machine_steps.specs.Layout.{Layout}
 
 -- every element lies inside the template, whose grid has so many nodes

@@ -1,5 +1,5 @@
 -- What contracts see of an element.
-use Rattle.nest_order.specs.Storage.{Spot}
+use Rattle.storage.specs.Storage.{Spot}
 use Rattle.owner_tables.specs.declared.spot.Spot as code
 
 abbrev pub spot_of : code.Spot → Spot

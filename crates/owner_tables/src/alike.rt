@@ -7,7 +7,8 @@ ghost use Rattle.hpf_base.specs.Grid.{node_coordinates};
 ghost use Rattle.owner_tables.specs.Alike.{alike_nodes, is_alike, is_alike_in};
 
 use align_map::node_coordinate;
-use hpf_base::{AlignDim, Grid, MapDim, Mapping, NodeId, OutOfMemory};
+use hpf_base::{Grid, NodeId, OutOfMemory};
+use mappings::{AlignDim, MapDim, Mapping};
 use std::alloc::Global;
 
 /// For each of so many nodes those that own what it owns, ascending.

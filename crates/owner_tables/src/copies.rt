@@ -3,14 +3,12 @@
 ghost use Rattle.std.specs.Prelude.{◌≡◌, ◌<◌, ◌≤◌, ◌^◌, [], ◌∷◌, All, IfOk, IsTrue, length, map, pos, replicate};
 ghost use Rattle.hpf_base.specs.declared.limits.TheConstants.{MAX_ELEMENTS, MAX_NODES, MAX_RANK};
 ghost use Rattle.hpf_base.specs.ElementOrder.{product};
-ghost use Rattle.hpf_base.specs.Owner.{block_line};
+ghost use Rattle.mappings.specs.Owner.{block_line};
 ghost use Rattle.owner_tables.specs.CopyLayout.{copy_dims, copy_extents, copy_layout, copy_mapping, copy_shape};
 ghost use Rattle.owner_tables.specs.Layouts.{IsLaid};
 
-use hpf_base::{
-    AlignDim, Form, Grid, Index, Line, MAX_ELEMENTS, MAX_RANK, MapDim, MapDims, Mapping,
-    OutOfMemory, Shape,
-};
+use hpf_base::{Grid, Index, MAX_ELEMENTS, MAX_RANK, OutOfMemory, Shape};
+use mappings::{AlignDim, Form, Line, MapDim, MapDims, Mapping};
 use std::alloc::Global;
 
 /// The shape and the mapping of a copy.

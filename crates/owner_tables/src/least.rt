@@ -2,16 +2,17 @@
 
 ghost use Rattle.std.specs.Prelude.{◌≡◌, ◌<◌, ◌≤◌, ◌^◌, All, IfOk, IfSome, true, length, map};
 ghost use Rattle.std.specs.List.{range_with_len};
-ghost use Rattle.hpf_base.specs.Alignment.{owns};
+ghost use Rattle.mappings.specs.Alignment.{owns};
 ghost use Rattle.hpf_base.specs.ElementOrder.{product};
-ghost use Rattle.hpf_base.specs.Mapping.{IsMapping, MapsInside};
+ghost use Rattle.mappings.specs.Mapping.{IsMapping, MapsInside};
 ghost use Rattle.machine_steps.specs.Layout.{first, owned_by, size_of};
 ghost use Rattle.owner_tables.specs.Alike.{leader};
 ghost use Rattle.owner_tables.specs.Layouts.{IsLaid};
 ghost use Rattle.owner_tables.specs.Numbers.{AreOwnedByLeast, least_at, least_owners};
 
 use align_map::{least_owner, owns};
-use hpf_base::{Index, Mapping, NodeId, OutOfMemory, Shape};
+use hpf_base::{Index, NodeId, OutOfMemory, Shape};
+use mappings::Mapping;
 use local_address::{element_count, nth_element};
 use std::alloc::Global;
 

@@ -9,7 +9,8 @@ ghost use Rattle.owner_tables.specs.SameLayouts.{is_same_layout, is_same_shape};
 
 use crate::copies::{CopyLayout, copy_layout};
 use crate::tables::Tables;
-use hpf_base::{Mapping, OutOfMemory, Shape};
+use hpf_base::{OutOfMemory, Shape};
+use mappings::Mapping;
 use std::alloc::Global;
 use std::marker::Model;
 use std::sync::Arc;

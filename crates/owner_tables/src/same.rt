@@ -3,7 +3,8 @@
 ghost use Rattle.std.specs.Prelude.{◌≡◌};
 ghost use Rattle.owner_tables.specs.SameLayouts.{is_same_mapping, is_same_shape};
 
-use hpf_base::{Mapping, Shape};
+use hpf_base::Shape;
+use mappings::Mapping;
 
 /// Whether two shapes have the same bounds.
 pub(crate) fn is_same_shape(one: &Shape, other: &Shape) -> bool

@@ -12,7 +12,8 @@ use crate::alike::{alike_nodes, leaders};
 use crate::least::least_owners;
 use crate::numbers::{Numbers, numbered};
 use crate::same::{is_same_mapping, is_same_shape};
-use hpf_base::{Mapping, OutOfMemory, Shape};
+use hpf_base::{OutOfMemory, Shape};
+use mappings::Mapping;
 use std::alloc::Global;
 use std::marker::Model;
 

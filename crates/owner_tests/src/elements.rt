@@ -1,11 +1,12 @@
 //! Owners of elements of mapped arrays (HPF 2.0, ALIGN and DISTRIBUTE), and composed mappings.
 
 ghost use Rattle.std.specs.Prelude.{◌≡◌, ◌∷◌, []};
-ghost use Rattle.hpf_base.specs.Mapping.{IsMapping, MapsInside};
+ghost use Rattle.mappings.specs.Mapping.{IsMapping, MapsInside};
 
 use crate::maps::{beside_a_plane, strided};
 use align_map::{compose, least_owner, owns};
-use hpf_base::{AlignDim, Index, Mapping, NodeId};
+use hpf_base::{Index, NodeId};
+use mappings::{AlignDim, Mapping};
 use std::alloc::Global;
 use std::test::*;
 

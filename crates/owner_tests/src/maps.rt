@@ -1,12 +1,13 @@
 //! Mappings of small arrays.
 
 ghost use Rattle.std.specs.Prelude.{◌≡◌, ◌≢◌, ◌∷◌, [], ℤ, pos, negsuc, ◌≤ℤ◌, IfSome};
-ghost use Rattle.hpf_base.specs.declared.mapping.Form.TheVariants.{Whole, Block, Cyclic};
-ghost use Rattle.hpf_base.specs.declared.mapping.AlignDim.TheVariants.{Linear};
-ghost use Rattle.hpf_base.specs.Alignment.{aligned};
-ghost use Rattle.hpf_base.specs.Mapping.{InLine, IsAlign, IsLine, IsMapping, MapsInside};
+ghost use Rattle.mappings.specs.declared.mapping.Form.TheVariants.{Whole, Block, Cyclic};
+ghost use Rattle.mappings.specs.declared.mapping.AlignDim.TheVariants.{Linear};
+ghost use Rattle.mappings.specs.Alignment.{aligned};
+ghost use Rattle.mappings.specs.Mapping.{InLine, IsAlign, IsLine, IsMapping, MapsInside};
 
-use hpf_base::{AlignDim, Form, Grid, Line, MapDim, MapDims, Mapping};
+use hpf_base::Grid;
+use mappings::{AlignDim, Form, Line, MapDim, MapDims, Mapping};
 use std::alloc::Global;
 
 /// The mapping of a vector that is aligned with a template of one dimension.

@@ -2,10 +2,11 @@
 
 ghost use Rattle.std.specs.Prelude.{◌≡◌, ◌<◌, ◌^◌, ◌∷◌, [], ℤ, pos, ◌≤ℤ◌};
 ghost use Rattle.hpf_base.specs.ElementOrder.{product};
-ghost use Rattle.hpf_base.specs.Mapping.{IsMapping, MapsInside};
+ghost use Rattle.mappings.specs.Mapping.{IsMapping, MapsInside};
 
 use crate::maps::{line_map, plane, strided};
-use hpf_base::{AlignDim, Form, Grid, Index, Line, MapDims, Mapping, NodeId, Shape};
+use hpf_base::{Grid, Index, NodeId, Shape};
+use mappings::{AlignDim, Form, Line, MapDims, Mapping};
 use local_address::Piece;
 use std::alloc::Global;
 use std::test::*;

@@ -1,7 +1,7 @@
 //! Owners of positions of a line (HPF 2.0, DISTRIBUTE).
 
 use distribution::{owned_count, owner, rank};
-use hpf_base::{Form, Line};
+use mappings::{Form, Line};
 
 #[test]
 fn cyclic_by_twos(rt: HostRuntime) {

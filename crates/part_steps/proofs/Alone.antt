@@ -1,7 +1,7 @@
 -- Where there is one node, it computes each tuple.
 use Rattle.std.proofs.Common.{◌≡◌, ℕ, ◌<◌, nat_lt, Bool, true, false, List, Option, None, Some, get_or, if◌then◌else◌, refl, sym, subst, arith, eq-eqb}
 use Rattle.std.proofs.lemmas.Bool.Decides.{nat_tests}
-use Rattle.nest_order.specs.Storage.{Spot}
+use Rattle.storage.specs.Storage.{Spot}
 use Rattle.machine_steps.specs.Layout.{AreOwned, Layout, in_bounds, sizes}
 use Rattle.machine_steps.specs.Message.{computes_left, first_read}
 use Rattle.tuple_values.specs.Statements.{Statement, tuple_left, tuple_reads}

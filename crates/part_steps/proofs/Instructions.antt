@@ -1,6 +1,6 @@
 -- The parts of instructions, and what a node makes of them, by the steps of the machine.
 use Rattle.std.proofs.Common.{◌≡◌, ℕ, ℤ, ◌==◌, List, [], ◌∷◌, map, Option, if◌then◌else◌, sym, ◌∙◌}
-use Rattle.nest_order.specs.Storage.{Spot}
+use Rattle.storage.specs.Storage.{Spot}
 use Rattle.op_tables.specs.declared.op.Op.{Op}
 use Rattle.array_meaning.specs.Faults.{Fault}
 use Rattle.machine_steps.specs.Instr.{Tuples, Nothing}

@@ -1,7 +1,7 @@
 -- The messages to a node, and what it received by them.
 use Rattle.std.proofs.Common.{◌≡◌, ℕ, ℤ, ◌<◌, List, [], map, get_or, sym, ◌∙◌, ap, subst}
 use Rattle.std.specs.List.{range_with_len}
-use Rattle.nest_order.specs.Storage.{Spot}
+use Rattle.storage.specs.Storage.{Spot}
 use Rattle.machine_steps.specs.Layout.{Layout, least_owner_of}
 use Rattle.machine_steps.specs.Message.{Part, message, lookup}
 use Rattle.comm_sets.specs.Ascending.{Ascends}

@@ -2,11 +2,11 @@
 use Rattle.std.proofs.Common.{◌≡◌, ℕ, ◌+◌, ◌-◌, ◌<◌, ◌≤◌, ◌==◌, Bool, List, [], ◌∷◌, filter, min, max, ◌∙◌, ap, sym, arith, Option, None}
 use Rattle.std.proofs.lemmas.Bool.Decides.{nat_tests}
 use Rattle.std.specs.List.{range_with_len}
-use Rattle.nest_order.specs.Storage.{Spot}
+use Rattle.storage.specs.Storage.{Spot}
 use Rattle.machine_steps.specs.Layout.{Layout}
 use Rattle.machine_steps.specs.Message.{computes_left}
-use Rattle.hpf_base.specs.Positions.{in_section}
-use Rattle.hpf_base.proofs.Sections.{filter-range}
+use Rattle.mappings.specs.Positions.{in_section}
+use Rattle.mappings.proofs.Sections.{filter-range}
 
 -- the one with a number is one of them
 pub one-of : (k nodes : ℕ) → k < nodes → filter (λ node. k == node) (range_with_len 0 nodes) ≡ k ∷ []

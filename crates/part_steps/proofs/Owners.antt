@@ -1,6 +1,6 @@
 -- The nodes that tables of owners name.
 use Rattle.std.proofs.Common.{ℕ, zero, suc, ◌+◌, ◌<◌, ◌≤◌, Bool, true, false, List, Option, Some, None, if◌then◌else◌, arith}
-use Rattle.nest_order.specs.Storage.{Spot}
+use Rattle.storage.specs.Storage.{Spot}
 use Rattle.machine_steps.specs.Layout.{Layout, first, owns_spot}
 use Rattle.machine_steps.specs.Message.{least_or_zero}
 

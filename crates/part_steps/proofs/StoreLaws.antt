@@ -1,7 +1,7 @@
 -- Stores one by one.
 use Rattle.std.proofs.Common.{◌≡◌, ℕ, ℤ, ◌+◌, ◌<◌, true, List, [], ◌∷◌, ◌++◌, length, take, get_or, if◌then◌else◌, add-one, refl, sym, ◌∙◌, ap, subst}
 use Rattle.std.proofs.Math.Seq.{take-suc}
-use Rattle.nest_order.specs.Storage.{Storage, Spot, write}
+use Rattle.storage.specs.Storage.{Storage, Spot, write}
 use Rattle.machine_steps.specs.Layout.{Layout, owns_spot}
 use Rattle.machine_steps.specs.Node.{local_write, local_spot}
 use Rattle.owner_tables.specs.Spots.{spot_of}

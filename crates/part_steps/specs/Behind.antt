@@ -1,6 +1,6 @@
 -- What a node makes of a part behind its phase.
 use Rattle.std.specs.Prelude.{ℕ, ℤ, List, [], map, slice_index_or, Option, None, if◌then◌else◌}
-use Rattle.nest_order.specs.Storage.{Storage, Spot}
+use Rattle.storage.specs.Storage.{Storage, Spot}
 use Rattle.op_tables.specs.declared.op.Op.{Op}
 use Rattle.array_meaning.specs.Faults.{Fault}
 use Rattle.machine_steps.specs.Instr.{Outcome, Nothing}

@@ -1,7 +1,7 @@
 -- What a node sends and takes in the phase of a part.
 use Rattle.std.specs.Prelude.{ℕ, List, map, filter}
 use Rattle.std.specs.List.{range_with_len}
-use Rattle.nest_order.specs.Storage.{Storage}
+use Rattle.storage.specs.Storage.{Storage}
 use Rattle.machine_steps.specs.Layout.{Layout}
 use Rattle.machine_steps.specs.Message.{Part, message}
 use Rattle.machine_steps.specs.Node.{Parcel, parcel, part_sends, local_read}

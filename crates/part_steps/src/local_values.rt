@@ -3,7 +3,7 @@
 ghost use Rattle.std.specs.Prelude.{◌≡◌, ◌<◌, ◌++◌, ◌∷◌, ◌&&◌, [], IfOk, OnOk, None, Some, if◌then◌else◌, map, nat_lt, slice_index_or};
 ghost use Rattle.machine_steps.specs.Layout.{owns_spot, sizes};
 ghost use Rattle.machine_steps.specs.Node.{local_read};
-ghost use Rattle.nest_order.specs.Storage.{read};
+ghost use Rattle.storage.specs.Storage.{read};
 ghost use Rattle.owner_tables.specs.Spots.{spot_of};
 
 use crate::row::Row;

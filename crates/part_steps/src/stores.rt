@@ -1,7 +1,7 @@
 //! What is stored in a node's pieces.
 
 ghost use Rattle.std.specs.Prelude.{◌≡◌, ◌<◌, ◌++◌, ◌∷◌, [], ℤ, List, IfOk, OnOk};
-ghost use Rattle.nest_order.specs.Storage.{write};
+ghost use Rattle.storage.specs.Storage.{write};
 ghost use Rattle.machine_steps.specs.Node.{local_write};
 ghost use Rattle.owner_tables.specs.Spots.{spot_of};
 ghost use Rattle.part_steps.specs.Stores.{stored};

@@ -5,7 +5,7 @@ use Rattle.std.proofs.lemmas.List.{map-append}
 use Rattle.std.proofs.lemmas.List.Sums.{fold-append}
 use Rattle.std.proofs.Math.Nat.{pow-suc}
 use Rattle.std.specs.List.{fold, range_with_len}
-use Rattle.hpf_base.proofs.Sections.{range_with_len-add}
+use Rattle.hpf_base.proofs.Ranges.{range_with_len-add}
 use Rattle.nest_order.specs.Reduction.{IsJoin}
 use Rattle.reduction_tree.specs.declared.tree.TreeAct.{TreeAct}
 use Rattle.reduction_tree.specs.declared.tree.TreeAct.TheVariants.{Idle, Send, Take}

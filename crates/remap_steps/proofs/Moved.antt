@@ -3,8 +3,8 @@ use Rattle.std.proofs.Common.{◌≡◌, ℕ, zero, suc, ℤ, pos, ◌+◌, ◌<
 use Rattle.std.proofs.lemmas.List.{take_all, take_more}
 use Rattle.std.proofs.lemmas.List.Elements.{All-cons, All-nil}
 use Rattle.std.specs.List.{All, range_with_len}
-use Rattle.hpf_base.proofs.Sections.{map-agree}
-use Rattle.nest_order.specs.Storage.{Spot, Storage, row_of}
+use Rattle.hpf_base.proofs.Ranges.{map-agree}
+use Rattle.storage.specs.Storage.{Spot, Storage, row_of}
 use Rattle.machine_steps.specs.Layout.{count_passing, least_owner_of, owned_in, owns_spot, sizes}
 use Rattle.machine_steps.specs.Message.{lookup}
 use Rattle.machine_steps.specs.Node.{pieces_by}

@@ -8,7 +8,7 @@ use mathlib.Core.Bool.{true≢false}
 use Rattle.std.specs.Cmp.{first_so, second_so}
 use Rattle.std.specs.List.{All, list_any, range_with_len, slice_get}
 use Rattle.std.specs.Option.{is_some}
-use Rattle.hpf_base.proofs.Sections.{All-range}
+use Rattle.hpf_base.proofs.Ranges.{All-range}
 use Rattle.machine_steps.specs.Layout.{Layout}
 use Rattle.machine_steps.specs.Message.{has_any, remap_message}
 use Rattle.redistribute_rounds.specs.declared.pair.Pair.{Pair}

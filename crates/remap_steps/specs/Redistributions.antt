@@ -1,7 +1,7 @@
 -- What a node sends, takes and has in a redistribution (HPF 2.0, 8.3).
 use Rattle.std.specs.Prelude.{ℕ, ℤ, ◌&&◌, Bool, List, [], map, filter, slice_index_or}
 use Rattle.std.specs.List.{list_any, range_with_len}
-use Rattle.nest_order.specs.Storage.{Storage, Spot}
+use Rattle.storage.specs.Storage.{Storage, Spot}
 use Rattle.machine_steps.specs.Layout.{Layout, owned_in, sizes}
 use Rattle.machine_steps.specs.Message.{has_any, remap_message}
 use Rattle.machine_steps.specs.Node.{Parcel, parcel, local_read, held_or_received, pieces_by}

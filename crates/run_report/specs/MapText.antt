@@ -1,7 +1,7 @@
 -- The text of a program's start mappings.
 use Rattle.std.specs.Prelude.{ℕ, List, ◌++◌, codes, decimal, Option, Some, None}
 use Rattle.std.specs.List.{flat_map, range_with_len}
-use Rattle.hpf_base.specs.LocalOrder.{local_elements}
+use Rattle.mappings.specs.LocalOrder.{local_elements}
 use Rattle.local_address.specs.declared.spans.Span.{Span}
 use Rattle.local_address.specs.Spans.{span_of}
 use Rattle.array_maps.specs.declared.maps.ArrayMap.{ArrayMap}

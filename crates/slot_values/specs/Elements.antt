@@ -1,7 +1,7 @@
 -- Elements by their places in an array.
 use Rattle.std.specs.Prelude.{ℕ, List, [], ℤ, Option, Result, Ok}
 use Rattle.expression_rules.specs.declared.dims.Dim.{Dim}
-use Rattle.nest_order.specs.Storage.{Spot}
+use Rattle.storage.specs.Storage.{Spot}
 use Rattle.array_meaning.specs.declared.sections.Selection.{Selection}
 use Rattle.array_meaning.specs.Elementals.{each}
 use Rattle.array_meaning.specs.Faults.{Cause, ◌>>=◌}

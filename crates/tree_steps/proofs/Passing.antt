@@ -4,8 +4,8 @@ use Rattle.std.proofs.Math.Nat.{mod-le}
 use Rattle.std.proofs.lemmas.Bool.{and_left, and_right, cases_eq, ne_eqb}
 use Rattle.std.proofs.lemmas.Bool.Decides.{nat_tests}
 use Rattle.std.specs.List.{range_with_len}
-use Rattle.hpf_base.specs.Positions.{in_section}
-use Rattle.hpf_base.proofs.Sections.{filter-range}
+use Rattle.mappings.specs.Positions.{in_section}
+use Rattle.mappings.proofs.Sections.{filter-range}
 use Rattle.machine_steps.specs.Tree.{sends_up}
 
 -- one that passes alone

@@ -3,7 +3,7 @@ use Rattle.std.proofs.Common.{◌≡◌, ℕ, ◌+◌, List, [], ◌∷◌, ◌+
 use Rattle.std.proofs.lemmas.List.{length-map}
 use Rattle.op_tables.specs.declared.op.Op.{Op}
 use Rattle.expression_rules.specs.declared.dims.Dim.{Dim}
-use Rattle.nest_order.specs.Storage.{Spot}
+use Rattle.storage.specs.Storage.{Spot}
 use Rattle.array_meaning.specs.Elementals.{Elemental, Same, Selected, Operation, Elementals, NoOperand, Operand, operated}
 use Rattle.array_meaning.specs.Faults.{Cause, Fault, AtTuple, ◌>>=◌, at_tuple, with_more}
 use Rattle.array_meaning.specs.State.{element_place, if_in_bounds}

@@ -1,7 +1,7 @@
 -- The values of two operands.
 use Rattle.std.proofs.Common.{◌≡◌, ◌∙◌, List, [], ◌∷◌, length, ℤ, ap, Ok, arith}
 use Rattle.std.specs.Prelude.{slice_index_or}
-use Rattle.nest_order.specs.Storage.{Spot}
+use Rattle.storage.specs.Storage.{Spot}
 use Rattle.array_meaning.specs.Faults.{with_more}
 use Rattle.node_code.specs.declared.form.Form.{Form as HeldForm}
 use Rattle.node_code.specs.Texts.{form, forms_of}

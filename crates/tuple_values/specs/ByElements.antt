@@ -1,7 +1,7 @@
 -- Elemental expressions at a tuple, by the elements where they read them.
 use Rattle.std.specs.Prelude.{List, [], ℤ, Result, Ok}
 use Rattle.expression_rules.specs.declared.dims.Dim.{Dim}
-use Rattle.nest_order.specs.Storage.{Spot}
+use Rattle.storage.specs.Storage.{Spot}
 use Rattle.array_meaning.specs.Faults.{Cause, ◌>>=◌, with_more}
 use Rattle.array_meaning.specs.State.{element_place, if_in_bounds}
 use Rattle.array_meaning.specs.Sections.{subscripts_at}

@@ -1,6 +1,6 @@
 -- What stands at a tuple: the places of sections, reads and values.
 use Rattle.std.specs.Prelude.{ℕ, List, ℤ, Option, Result}
-use Rattle.nest_order.specs.Storage.{Spot}
+use Rattle.storage.specs.Storage.{Spot}
 use Rattle.op_tables.specs.declared.op.Op.{Op}
 use Rattle.array_meaning.specs.Elementals.{operated}
 use Rattle.array_meaning.specs.Faults.{Cause, ◌>>=◌}

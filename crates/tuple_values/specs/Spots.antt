@@ -1,6 +1,6 @@
 -- What contracts see of elements that are read.
 use Rattle.std.specs.Prelude.{List, map, Option, option_map}
-use Rattle.nest_order.specs.Storage.{Spot}
+use Rattle.storage.specs.Storage.{Spot}
 use Rattle.owner_tables.specs.declared.spot.Spot as code
 use Rattle.owner_tables.specs.Spots.{spot_of}
 

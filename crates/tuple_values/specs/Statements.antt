@@ -4,7 +4,7 @@ use Rattle.hpf_base.specs.ElementOrder.{product}
 use Rattle.op_tables.specs.declared.op.Op.{Op}
 use Rattle.op_tables.specs.Operators.{is_true}
 use Rattle.expression_rules.specs.declared.dims.Dim.{Dim}
-use Rattle.nest_order.specs.Storage.{Spot}
+use Rattle.storage.specs.Storage.{Spot}
 use Rattle.array_meaning.specs.Faults.{Cause, Fault, ◌>>=◌, at_tuple}
 use Rattle.array_meaning.specs.State.{element_place, if_in_bounds}
 use Rattle.array_meaning.specs.declared.sections.Selection.{Selection}

@@ -1,7 +1,7 @@
 //! The values of elements.
 
 ghost use Rattle.std.specs.Prelude.{◌≡◌, ℤ, IfOk};
-ghost use Rattle.nest_order.specs.Storage.{Spot};
+ghost use Rattle.storage.specs.Storage.{Spot};
 ghost use Rattle.owner_tables.specs.Spots.{spot_of};
 
 use hpf_base::OutOfMemory;

@@ -1,6 +1,6 @@
 use Rattle.std.proofs.Common.{◌≤◌, ◌∙◌, ap, arith, map, length}
 use Rattle.std.proofs.lemmas.List.{take_all}
-use Rattle.hpf_base.specs.Alignment.{composed_entry}
+use Rattle.mappings.specs.Alignment.{composed_entry}
 use Rattle.align_map.proofs.ComposedLaws.{IsMapping-composed, IsMapping-composed_parts}
 use Rattle.align_map.proofs.composition.compose.Goals as goal
 

@@ -1,5 +1,5 @@
 use Rattle.std.proofs.Common.{◌≡◌, map, take}
-use Rattle.hpf_base.specs.Alignment.{composed_entry}
+use Rattle.mappings.specs.Alignment.{composed_entry}
 use Rattle.align_map.proofs.composition.compose.Given as goal
 
 abbrev pub invariant-loop-entry : goal.invariant-loop-entry

@@ -1,7 +1,7 @@
 use Rattle.std.proofs.Common.{◌≡◌, Some, map, false, sym, ◌∙◌, arith, length}
 use Rattle.std.proofs.lemmas.Bool.{both_ways}
 use borrow.Author.Count.{below_more}
-use Rattle.hpf_base.specs.Alignment.{owns}
+use Rattle.mappings.specs.Alignment.{owns}
 use Rattle.hpf_base.specs.ElementOrder.{product}
 use Rattle.align_map.proofs.OwnerLaws.{find-range, has_owner}
 use Rattle.align_map.proofs.owners.least_owner.Goals as goal

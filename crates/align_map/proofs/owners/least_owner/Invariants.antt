@@ -1,5 +1,5 @@
 use Rattle.std.proofs.Common.{◌≡◌, ℕ, ◌<◌, false}
-use Rattle.hpf_base.specs.Alignment.{owns}
+use Rattle.mappings.specs.Alignment.{owns}
 use Rattle.align_map.proofs.owners.least_owner.Given as goal
 
 abbrev pub invariant-loop-node : goal.invariant-loop-node

@@ -1,6 +1,6 @@
 use Rattle.std.proofs.Common.{◌≡◌, Some, map, drop}
 use Rattle.std.specs.List.{list_all}
-use Rattle.hpf_base.specs.Alignment.{agrees, owns}
+use Rattle.mappings.specs.Alignment.{agrees, owns}
 use Rattle.hpf_base.specs.Grid.{node_coordinates}
 use Rattle.align_map.proofs.owners.owns.Given as goal
 

@@ -1,5 +1,5 @@
 use Rattle.std.specs.List.{AllWithin}
-use Rattle.hpf_base.specs.Mapping.{FitsAlign}
+use Rattle.mappings.specs.Mapping.{FitsAlign}
 use Rattle.alignment_rules.proofs.fits.entries_fit.Given as goal
 
 abbrev pub invariant-loop-entry : goal.invariant-loop-entry

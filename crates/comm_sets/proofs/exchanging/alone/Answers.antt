@@ -1,6 +1,6 @@
 use Rattle.std.proofs.Common.{◌≡◌, ◌<◌, [], ◌∷◌, ◌++◌, List, filter, if◌then◌else◌, replicate, true, sym, ◌∙◌, ap, arith}
 use Rattle.std.specs.List.{range_with_len}
-use Rattle.nest_order.specs.Storage.{Spot}
+use Rattle.storage.specs.Storage.{Spot}
 use Rattle.comm_sets.proofs.Alone.{none-sent, none-taken}
 use Rattle.comm_sets.proofs.Computing.{filter-more}
 use Rattle.comm_sets.proofs.exchanging.alone.Goals as goal

@@ -1,7 +1,7 @@
 use Rattle.std.proofs.Common.{◌≡◌, ℕ, ◌<◌, nat_eq, ◌&&◌, ◌||◌, ◌++◌, [], ◌∷◌, List, map, option_map, filter, All, if◌then◌else◌, sym, subst, ap, ◌∙◌, arith}
 use Rattle.std.proofs.lemmas.List.{length-replicate}
 use Rattle.std.specs.List.{list_any, range_with_len}
-use Rattle.nest_order.specs.Storage.{Spot}
+use Rattle.storage.specs.Storage.{Spot}
 use Rattle.machine_steps.specs.Message.{names_spot}
 use Rattle.owner_tables.specs.Spots.{spot_of}
 use Rattle.comm_sets.specs.Noted.{is_sent}

@@ -3,7 +3,7 @@ use Rattle.std.proofs.lemmas.List.Filters.{dedup_is}
 use Rattle.std.proofs.lemmas.List.Kept.{IsStrictlySortedBy-dedup}
 use Rattle.owner_tables.specs.Spots.{spot_of}
 use Rattle.comm_sets.specs.Ascending.{spot_cmp}
-use Rattle.nest_order.specs.LastValue.{is_same_spot}
+use Rattle.storage.specs.Storage.{is_same_spot}
 use Rattle.comm_sets.proofs.Arranging.{sorted-map, same-among}
 use Rattle.comm_sets.proofs.Ascending.{spot-total, same-tied, same-true}
 use Rattle.comm_sets.proofs.messages.arrange_list.Goals as goal

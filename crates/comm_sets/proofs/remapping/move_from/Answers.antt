@@ -1,7 +1,7 @@
 use Rattle.std.proofs.Common.{◌≡◌, ℕ, ◌<◌, nat_eq, ◌==◌, ◌&&◌, not, Bool, true, false, List, All, filter, eq-eqb, refl, sym, ◌∙◌, ap, subst, arith}
 use Rattle.std.specs.List.{list_any, range_with_len}
-use Rattle.nest_order.specs.Storage.{Spot}
-use Rattle.nest_order.specs.LastValue.{is_same_spot}
+use Rattle.storage.specs.Storage.{Spot}
+use Rattle.storage.specs.Storage.{is_same_spot}
 use Rattle.machine_steps.specs.Layout.{owns_spot, least_owner_of}
 use Rattle.owner_tables.specs.Spots.{spot_of}
 use Rattle.comm_sets.specs.Moves.{is_moved}

@@ -1,6 +1,6 @@
 use Rattle.std.specs.List.{list_any}
 use Rattle.std.proofs.Common.{◌&&◌, not, nat_eq, take}
-use Rattle.nest_order.specs.LastValue.{is_same_spot}
+use Rattle.storage.specs.Storage.{is_same_spot}
 use Rattle.machine_steps.specs.Layout.{owns_spot}
 use Rattle.owner_tables.specs.Spots.{spot_of}
 use Rattle.comm_sets.specs.Noted.{Noted}

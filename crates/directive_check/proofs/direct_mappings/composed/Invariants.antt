@@ -1,5 +1,5 @@
 use Rattle.std.proofs.Common.{◌≡◌, ◌++◌, drop, map}
-use Rattle.hpf_base.specs.Alignment.{composed_entry}
+use Rattle.mappings.specs.Alignment.{composed_entry}
 use Rattle.directive_check.proofs.direct_mappings.composed.Given as goal
 
 abbrev pub invariant-loop-entry : goal.invariant-loop-entry

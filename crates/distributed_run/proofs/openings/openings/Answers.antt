@@ -1,5 +1,5 @@
 use Rattle.std.specs.Arc.{arc_value}
-use Rattle.hpf_base.proofs.Sections.{map-range_push}
+use Rattle.hpf_base.proofs.Ranges.{map-range_push}
 use Rattle.machine_steps.specs.Agrees.{first_own, standing}
 use Rattle.node_machine.specs.Openings.{opening_machine}
 use Rattle.node_machine.specs.Programs.{code_of}

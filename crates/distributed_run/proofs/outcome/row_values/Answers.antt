@@ -1,5 +1,5 @@
 use Rattle.std.proofs.Common.{rules, ◌≡◌, ℕ, ℤ, ◌∷◌, [], ◌++◌, refl}
-use Rattle.hpf_base.proofs.Sections.{map-range_push}
+use Rattle.hpf_base.proofs.Ranges.{map-range_push}
 use Rattle.distributed_run.specs.Values.{value_of}
 use Rattle.distributed_run.proofs.outcome.row_values.Goals as goal
 

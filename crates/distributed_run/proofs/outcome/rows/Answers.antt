@@ -1,6 +1,6 @@
 use Rattle.std.proofs.Common.{◌≡◌, ◌∷◌, [], ◌++◌, map, arith}
 use Rattle.std.proofs.lemmas.Grind.{common_steps}
-use Rattle.hpf_base.proofs.Sections.{map-range_push}
+use Rattle.hpf_base.proofs.Ranges.{map-range_push}
 use Rattle.distributed_run.specs.Values.{row_values}
 use Rattle.distributed_run.proofs.outcome.rows.Goals as goal
 

@@ -1,6 +1,6 @@
 use Rattle.std.proofs.Common.{◌==◌, true, false, sym, ◌∙◌, arith, eq-eqb}
 use Rattle.std.proofs.lemmas.Bool.{ne_eqb}
-use Rattle.hpf_base.specs.Owner.{coordinate}
+use Rattle.mappings.specs.Owner.{coordinate}
 use Rattle.distribution.proofs.CountLaws.{count_more}
 use Rattle.distribution.proofs.counts.owned_up_to.Goals as goal
 use Rattle.distribution.proofs.counts.owned_up_to.Goals.{then-owner-node, else-owner-node}

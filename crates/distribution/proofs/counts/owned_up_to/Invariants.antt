@@ -1,6 +1,6 @@
 use Rattle.std.proofs.Common.{◌≡◌, ◌-◌, ◌<◌, ◌==◌, filter, length}
-use Rattle.hpf_base.specs.Owner.{coordinate}
-use Rattle.hpf_base.specs.Positions.{section}
+use Rattle.mappings.specs.Owner.{coordinate}
+use Rattle.mappings.specs.Positions.{section}
 use Rattle.distribution.proofs.counts.owned_up_to.Given as goal
 
 abbrev pub invariant-loop-pos : goal.invariant-loop-pos

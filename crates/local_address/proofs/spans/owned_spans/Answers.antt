@@ -1,7 +1,7 @@
 use Rattle.std.proofs.Common.{ℕ, sym, ◌∙◌, ap, arith, map, ◌++◌, ◌∷◌, []}
 use Rattle.std.proofs.lemmas.List.FromFn.{map-range_with_len_more}
 use Rattle.std.specs.List.{range_with_len}
-use Rattle.hpf_base.specs.LocalOrder.{local_elements}
+use Rattle.mappings.specs.LocalOrder.{local_elements}
 use Rattle.local_address.specs.Spans.{span_of}
 use Rattle.local_address.proofs.spans.owned_spans.Goals as goal
 

@@ -1,6 +1,6 @@
 use Rattle.std.proofs.Common.{[], ◌∷◌, ◌∙◌, ap, map}
 use Rattle.std.proofs.lemmas.List.{map-append}
-use Rattle.hpf_base.proofs.Sections.{map-range_push}
+use Rattle.hpf_base.proofs.Ranges.{map-range_push}
 use Rattle.owner_tables.specs.Alike.{alike_nodes}
 use Rattle.owner_tables.proofs.alike.alike_nodes.Goals as goal
 

@@ -1,6 +1,6 @@
 use Rattle.std.proofs.Common.{sym, ◌∙◌, ap, find}
 use Rattle.std.specs.List.{range_with_len}
-use Rattle.hpf_base.specs.Alignment.{owns}
+use Rattle.mappings.specs.Alignment.{owns}
 use Rattle.owner_tables.proofs.Ranges.{first-found}
 use Rattle.owner_tables.proofs.least.first_owner.Goals as goal
 

@@ -1,8 +1,8 @@
 use Rattle.std.proofs.Common.{[], sym, ◌∙◌, ap, subst}
 use Rattle.std.proofs.lemmas.Option.{get_or_from_slice_get, slice_get_within}
-use Rattle.hpf_base.specs.Alignment.{owns}
+use Rattle.mappings.specs.Alignment.{owns}
 use Rattle.hpf_base.specs.ElementOrder.{elements}
-use Rattle.hpf_base.specs.Mapping.{MapsInside}
+use Rattle.mappings.specs.Mapping.{MapsInside}
 use Rattle.machine_steps.specs.Layout.{first, owned_by, size_of}
 use Rattle.owner_tables.proofs.least.least_at.Goals as goal
 

@@ -3,7 +3,7 @@ use Rattle.std.proofs.lemmas.List.Elements.{All-push}
 use Rattle.std.proofs.lemmas.List.FromFn.{length-map-range_with_len}
 use Rattle.std.specs.List.{range_with_len}
 use borrow.Author.Count.{below_more}
-use Rattle.hpf_base.proofs.Sections.{map-range_push}
+use Rattle.hpf_base.proofs.Ranges.{map-range_push}
 use Rattle.machine_steps.specs.Layout.{Layout, owned_by, size_of}
 use Rattle.owner_tables.specs.Numbers.{least_at}
 use Rattle.owner_tables.proofs.least.least_owners.Goals as goal

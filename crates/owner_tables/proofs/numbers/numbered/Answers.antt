@@ -1,5 +1,5 @@
 use Rattle.std.proofs.Common.{◌<◌, ◌≤◌, ◌==◌, ◌∙◌, arith, get_or}
-use Rattle.hpf_base.proofs.Sections.{map-range_push}
+use Rattle.hpf_base.proofs.Ranges.{map-range_push}
 use Rattle.owner_tables.specs.Numbers.{number_at}
 use Rattle.owner_tables.proofs.Counting.{count-here, counts-next}
 use Rattle.owner_tables.proofs.Ranges.{count-most, replicate-range}

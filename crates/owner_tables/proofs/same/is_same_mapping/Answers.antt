@@ -1,6 +1,6 @@
 use Rattle.std.proofs.Common.{◌≡◌, ◌==◌, ◌&&◌, Bool, true, ◌∙◌, ap}
 use Rattle.std.specs.Cmp.Lexicographic.{pointwise}
-use Rattle.hpf_base.specs.contracts.mapping.MapDimPartialEq.TheImpl.{eq-value}
+use Rattle.mappings.specs.contracts.mapping.MapDimPartialEq.TheImpl.{eq-value}
 use Rattle.owner_tables.specs.SameLayouts.{is_same_dim}
 use Rattle.owner_tables.proofs.SameLayouts.{dims-eq}
 use Rattle.owner_tables.proofs.same.is_same_mapping.Goals as goal

@@ -1,4 +1,4 @@
-use Rattle.hpf_base.specs.Mapping.{MapsInside}
+use Rattle.mappings.specs.Mapping.{MapsInside}
 use Rattle.owner_tests.proofs.SmallArrays.{plane-elements}
 use Rattle.owner_tests.proofs.pieces.ends_of.Goals as goal
 

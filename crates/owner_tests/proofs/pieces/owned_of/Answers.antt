@@ -1,7 +1,7 @@
 use Rattle.std.proofs.Common.{◌∷◌, [], ◌∙◌, ap}
 use Rattle.std.proofs.lemmas.Int.{to_z-of_z}
 use Rattle.std.specs.Int.{w64}
-use Rattle.hpf_base.specs.Mapping.{MapsInside}
+use Rattle.mappings.specs.Mapping.{MapsInside}
 use Rattle.owner_tests.proofs.SmallArrays.{vector-elements}
 use Rattle.owner_tests.proofs.pieces.owned_of.Goals as goal
 

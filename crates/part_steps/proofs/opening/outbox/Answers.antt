@@ -1,6 +1,6 @@
 use Rattle.std.proofs.Common.{◌≡◌, ℕ, ℤ, ◌<◌, Bool, [], List, map, filter, ◌∙◌, ap, arith}
 use Rattle.std.specs.List.{range_with_len}
-use Rattle.nest_order.specs.Storage.{Spot}
+use Rattle.storage.specs.Storage.{Spot}
 use Rattle.machine_steps.specs.Message.{message}
 use Rattle.machine_steps.specs.Node.{parcel, part_sends, local_read}
 use Rattle.owner_tables.specs.Spots.{spot_of}

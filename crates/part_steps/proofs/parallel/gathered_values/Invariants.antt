@@ -1,5 +1,5 @@
 use Rattle.std.proofs.Common.{◌≡◌, drop}
-use Rattle.nest_order.specs.Storage.{Storage}
+use Rattle.storage.specs.Storage.{Storage}
 use Rattle.part_steps.specs.Behind.{fault_below, stored_below, tuples}
 use Rattle.part_steps.specs.Gathered.{behind_of}
 use Rattle.part_steps.specs.KeptFaults.{kepts}

@@ -1,7 +1,7 @@
 use Rattle.std.proofs.Common.{◌≡◌, ◌<◌, ◌++◌, ℕ, sym, ◌∙◌, ap, arith, append_assoc, get_or, length}
 use Rattle.std.proofs.lemmas.List.FromFn.{get_or-map-range_with_len, length-map-range_with_len}
 use Rattle.hpf_base.specs.ElementOrder.{product}
-use Rattle.hpf_base.specs.LocalOrder.{local_elements}
+use Rattle.mappings.specs.LocalOrder.{local_elements}
 use Rattle.local_address.specs.Spans.{span_of}
 use Rattle.run_report.specs.MapText.{array_lines, node_line}
 use Rattle.run_report.proofs.Lines.{lines_more}

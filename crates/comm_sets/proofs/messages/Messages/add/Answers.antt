@@ -1,6 +1,6 @@
 use Rattle.std.proofs.Common.{◌<◌, ◌&&◌, nat_eq, length, map, set, ap, subst, arith}
 use Rattle.std.proofs.lemmas.List.{length-map}
-use Rattle.nest_order.specs.LastValue.{is_same_spot}
+use Rattle.storage.specs.Storage.{is_same_spot}
 use Rattle.owner_tables.specs.Spots.{spot_of}
 use Rattle.comm_sets.specs.Noted.{Lists, Noted}
 use Rattle.comm_sets.proofs.Noting.{noted-row}

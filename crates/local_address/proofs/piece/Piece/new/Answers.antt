@@ -1,7 +1,7 @@
 use Rattle.std.proofs.Common.{◌≡◌, ◌≢◌, ◌≤◌, sym, arith, length, AllPairs, subst}
-use Rattle.hpf_base.specs.Alignment.{owns}
+use Rattle.mappings.specs.Alignment.{owns}
 use Rattle.hpf_base.specs.ElementOrder.{elements}
-use Rattle.hpf_base.specs.LocalOrder.{local_elements}
+use Rattle.mappings.specs.LocalOrder.{local_elements}
 use Rattle.hpf_base.proofs.Elements.{AllPairs-filter, elements-distinct, length-elements}
 use Rattle.local_address.proofs.PieceLaws.{filter_all, filter_one_more}
 use Rattle.local_address.proofs.piece.Piece.new.Goals as goal

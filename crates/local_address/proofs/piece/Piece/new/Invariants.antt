@@ -1,5 +1,5 @@
 use Rattle.std.proofs.Common.{◌≡◌, filter, take}
-use Rattle.hpf_base.specs.Alignment.{owns}
+use Rattle.mappings.specs.Alignment.{owns}
 use Rattle.hpf_base.specs.ElementOrder.{elements}
 use Rattle.local_address.proofs.piece.Piece.new.Given as goal
 

@@ -1,6 +1,6 @@
 use Rattle.std.proofs.Common.{◌≡◌, ◌&&◌, ℕ, false, true, if◌then◌else◌, nat_lt, Some, None, get_or, w64, SFits, sym, ◌∙◌, ap, rules}
 use Rattle.std.proofs.lemmas.Int.{to_z-of_z}
-use Rattle.nest_order.specs.Storage.{Spot, write}
+use Rattle.storage.specs.Storage.{Spot, write}
 use Rattle.machine_steps.specs.Layout.{address, owns_spot, sizes}
 use Rattle.machine_steps.specs.Node.{local_spot}
 use Rattle.owner_tables.specs.Spots.{spot_of}

@@ -1,6 +1,6 @@
 use Rattle.std.proofs.Common.{◌≡◌, length, ◌∙◌, ap, arith}
 use Rattle.std.proofs.lemmas.List.{length-map}
-use Rattle.hpf_base.proofs.Sections.{map-range_push}
+use Rattle.hpf_base.proofs.Ranges.{map-range_push}
 use Rattle.machine_steps.specs.Layout.{size_of, sizes}
 use Rattle.remap_steps.specs.Redistributions.{moved_row}
 use Rattle.remap_steps.proofs.Made.{seen}

@@ -1,5 +1,5 @@
 -- Whole arrays and copies, by row and position.
-use Rattle.std.specs.Prelude.{◌≡◌, ℕ, List, [], length, slice_index_or, slice_set, ℤ, pos}
+use Rattle.std.specs.Prelude.{◌≡◌, ℕ, nat_eq, List, [], length, slice_index_or, slice_set, ℤ, pos, Bool, ◌&&◌}
 
 -- the elements of each array and each copy, in element order. There are no nodes and no pieces here
 abbrev pub Storage : Type 0
@@ -9,6 +9,10 @@ Storage = List (List ℤ)
 pub record Spot : Type 0 where
   pub row : ℕ
   pub at : ℕ
+
+-- one row and one position: two elements at one position of different rows aren't one
+abbrev pub is_same_spot : Spot → Spot → Bool
+is_same_spot one other = nat_eq one.row other.row && nat_eq one.at other.at
 
 -- the elements of one array or copy. Where there is no such row, there are none
 abbrev pub row_of : Storage → ℕ → List ℤ

@@ -1,12 +1,12 @@
 -- What a node holds of an array, and in which order.
 use Rattle.std.specs.Prelude.{ℕ, ℤ, List, ◌==◌, filter, map}
 use Rattle.hpf_base.specs.declared.index.Shape.{Shape}
-use Rattle.hpf_base.specs.declared.mapping.Line.{Line}
-use Rattle.hpf_base.specs.declared.mapping.Mapping.{Mapping}
-use Rattle.hpf_base.specs.Alignment.{owns}
+use Rattle.mappings.specs.declared.mapping.Line.{Line}
+use Rattle.mappings.specs.declared.mapping.Mapping.{Mapping}
+use Rattle.mappings.specs.Alignment.{owns}
 use Rattle.hpf_base.specs.ElementOrder.{elements}
-use Rattle.hpf_base.specs.Owner.{coordinate}
-use Rattle.hpf_base.specs.Positions.{positions, element}
+use Rattle.mappings.specs.Owner.{coordinate}
+use Rattle.mappings.specs.Positions.{positions, element}
 use Rattle.std.specs.List.{range_with_len}
 
 -- the positions that a processor owns, in array-element order; a local address is a place in this list, from 0

@@ -4,10 +4,10 @@ use Rattle.std.proofs.Math.Nat.{lt_of_mul-lt-mul_right, mul-le-mul_left, mul_com
 use Rattle.std.proofs.lemmas.Bool.{eqb-true}
 use Rattle.std.proofs.lemmas.Grind.{div_ceil_times}
 use Rattle.std.specs.Int.{div_ceil}
-use Rattle.hpf_base.specs.LocalOrder.{owned}
-use Rattle.hpf_base.specs.Owner.{block_line, coordinate, default_block}
-use Rattle.hpf_base.specs.Positions.{in_section, section}
-use Rattle.hpf_base.proofs.Sections.{same_test, in_section_true, in_section_holds, filter-positions}
+use Rattle.mappings.specs.LocalOrder.{owned}
+use Rattle.mappings.specs.Owner.{block_line, coordinate, default_block}
+use Rattle.mappings.specs.Positions.{in_section, section}
+use Rattle.mappings.proofs.Sections.{same_test, in_section_true, in_section_holds, filter-positions}
 
 -- a block is no smaller than 1
 pub default_block-some : (extent procs : ℕ) → 1 ≤ default_block extent procs

@@ -1,6 +1,6 @@
 -- What a part does at an iteration.
 use Rattle.std.specs.Prelude.{ℕ, zero, suc, ℤ, Result, Ok, Err}
-use Rattle.nest_order.specs.Storage.{Storage, Spot, write}
+use Rattle.storage.specs.Storage.{Storage, Spot, write}
 
 -- nothing, one store, or a fault. A part whose condition fails has Skip, which is no store of the old value
 pub data Effect (F : Type 0) : Type 0 where

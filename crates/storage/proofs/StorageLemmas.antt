@@ -2,7 +2,7 @@
 use Rattle.std.proofs.Common.{◌≡◌, ℕ, ◌<◌, [], length, get_or, set, refl, ap, sym, ◌∙◌, subst, ◌⊎◌, inl, inr, ⊎_elim, ℤ, pos, arith, get_or-set_other, get_or-set_same}
 use Rattle.std.proofs.lemmas.Bool.{cases_eq, cases_lt}
 use Rattle.std.proofs.lemmas.List.{length-set, ext_get_or, get_or_past}
-use Rattle.nest_order.specs.Storage.{Storage, Spot, row_of, read, write, Alike}
+use Rattle.storage.specs.Storage.{Storage, Spot, row_of, read, write, Alike}
 
 -- a row after a write of a row
 row_of-set_same : (m : Storage) (p k : ℕ) (v : ℤ) → row_of (set m p (set (row_of m p) k v)) p ≡ set (row_of m p) k v

@@ -9,7 +9,8 @@ use Rattle.std.proofs.lemmas.Option.{slice_get-map, slice_get-get_or}
 use Rattle.std.specs.Prelude.{All, Some, filter, slice_get}
 use Rattle.std.specs.Option.{option_map}
 use Rattle.std.specs.List.{range_with_len}
-use Rattle.hpf_base.specs.Positions.{in_section, positions, section}
+use Rattle.hpf_base.proofs.Ranges.{range_with_len-add}
+use Rattle.mappings.specs.Positions.{in_section, positions, section}
 
 -- two tests that are true together are one
 pub same_test : (a b : Bool) → (a ≡ true → b ≡ true) → (b ≡ true → a ≡ true) → a ≡ b
@@ -26,25 +27,6 @@ in_section_false a b j h = grind (arith, nat_tests)
 
 pub in_section_holds : (a b j : ℕ) → a ≤ j → j ≤ b → in_section a b j ≡ true
 in_section_holds a b j h k = grind (arith, nat_tests)
-
--- a list of numbers in two parts
-pub range_with_len-add : (a n m : ℕ) → range_with_len a (n + m) ≡ range_with_len a n ++ range_with_len (a + n) m
-range_with_len-add a zero m =
-    let len : zero + m ≡ m = omega arith in
-    let at : a + zero ≡ a = omega arith in
-    ap (range_with_len a) len ∙ ap (λ b. range_with_len b m) (sym at)
-range_with_len-add a (suc n) m =
-    let len : suc n + m ≡ suc (n + m) = omega arith in
-    let at : a + 1 + n ≡ a + suc n = omega arith in
-    ap (range_with_len a) len
-    ∙ ap (λ t. a ∷ t) (range_with_len-add (a + 1) n m ∙ ap (λ b. range_with_len (a + 1) n ++ range_with_len b m) at)
-
--- one number more at the end
-pub range_with_len-more : (a p : ℕ) → a ≤ p → range_with_len a (p + 1 - a) ≡ range_with_len a (p - a) ++ p ∷ []
-range_with_len-more a p low =
-    let count : p + 1 - a ≡ p - a + 1 = omega arith in
-    let at : a + (p - a) ≡ p = omega arith in
-    ap (range_with_len a) count ∙ range_with_len-add a (p - a) 1 ∙ ap (λ n. range_with_len a (p - a) ++ n ∷ []) at
 
 -- the number in front of a filtered list of numbers is kept or not
 filter-range_front : (t : Bool) (lo n a b : ℕ) (rest : List ℕ) → in_section a b lo ≡ t
@@ -107,46 +89,3 @@ section-join a b k k' order = cases (cases_lt k a) (cases_lt b k)
         let last : min b k' + 1 - (a + (k + 1 - a)) ≡ min b k' - k = omega arith in
         let whole : min b k' + 1 - a ≡ k + 1 - a + (min b k' - k) = omega arith in
         rw (first, at, last, whole) (sym (range_with_len-add a (k + 1 - a) (min b k' - k)))
-
--- what holds of each number of a list of numbers
-pub All-range : (P : ℕ → Type 0) (a n : ℕ) → ((j : ℕ) → a ≤ j → j < a + n → P j) → All P (range_with_len a n)
-All-range P a n each k d below =
-    let inside : k < n = omega (arith, length-range_with_len a n) in
-    subst P (sym (get_or-range_with_len a n k d inside)) (each (a + k) (omega arith) (omega arith))
-
--- two functions that agree at each element give one list
-pub map-agree : {X Y : Type 0} (f g : X → Y) (xs : List X) → All (λ x. f x ≡ g x) xs → map f xs ≡ map g xs
-map-agree f g [] same = refl
-map-agree f g (x ∷ xs) same =
-    ap (λ y. y ∷ map f xs) (All-head (λ x. f x ≡ g x) x xs same)
-    ∙ ap (λ ys. g x ∷ ys) (map-agree f g xs (All-tail (λ x. f x ≡ g x) x xs same))
-
-pub map-range_agree : {Y : Type 0} (f g : ℕ → Y) (a n : ℕ) → ((j : ℕ) → a ≤ j → j < a + n → f j ≡ g j)
-    → map f (range_with_len a n) ≡ map g (range_with_len a n)
-map-range_agree f g a n same = map-agree f g (range_with_len a n) (All-range (λ j. f j ≡ g j) a n same)
-
--- numbers that are shifted
-pub map-range_shifted : (a b n : ℕ) (f : ℕ → ℕ) → ((j : ℕ) → a ≤ j → j < a + n → f j + a ≡ b + j)
-    → map f (range_with_len a n) ≡ range_with_len b n
-map-range_shifted a b n f shifted = same_lists _ _
-    (length-map-range_with_len f a n ∙ sym (length-range_with_len b n))
-    (λ k d below.
-    let inside : k < n = omega (arith, length-map-range_with_len f a n) in
-    let at : f (a + k) + a ≡ b + (a + k) = shifted (a + k) (omega arith) (omega arith) in
-    let here : f (a + k) ≡ b + k = omega arith in
-    get_or-map-range_with_len f a n k (a + k) d inside refl ∙ here ∙ sym (get_or-range_with_len b n k d inside))
-
--- a list that is made of a function of the place has one element more
-pub map-range_push : {Y : Type 0} (f : ℕ → Y) (xs ys : List Y) (y : Y) (n : ℕ) → ys ≡ xs ++ y ∷ [] → xs ≡ map f (range_with_len 0 n) → y ≡ f n
-    → ys ≡ map f (range_with_len 0 (n + 1))
-map-range_push f xs ys y n pushed made value =
-    let at : 0 + n ≡ n = omega arith in
-    pushed ∙ ap (λ l. l ++ y ∷ []) made ∙ ap (λ v. map f (range_with_len 0 n) ++ v ∷ []) value ∙ sym (map-range_with_len_more f 0 n n at)
-
--- an element of a list that is made of a function of the place
-pub slice_get-map-range : {Y : Type 0} (f : ℕ → Y) (n k : ℕ) → k < n → slice_get (map f (range_with_len 0 n)) k ≡ Some (f k)
-slice_get-map-range f n k below =
-    let inside : k < length (range_with_len 0 n) = omega (arith, length-range_with_len 0 n) in
-    let at : 0 + k ≡ k = omega arith in
-    slice_get-map f (range_with_len 0 n) k
-    ∙ ap (option_map f) (slice_get-get_or (range_with_len 0 n) k 0 inside ∙ ap Some (get_or-range_with_len 0 n k 0 below ∙ at))

@@ -3,12 +3,12 @@ use Rattle.std.proofs.Common.{ℕ, ◌-◌, ◌<◌, ◌≤◌, arith}
 use Rattle.std.proofs.Math.Nat.{lt_of_mul-lt-mul_right, mul_comm}
 use Rattle.std.proofs.lemmas.Nat.{mod_below}
 use Rattle.std.specs.Int.{div_ceil}
-use Rattle.hpf_base.specs.declared.mapping.Form.{Form}
-use Rattle.hpf_base.specs.declared.mapping.Form.TheVariants.{Whole, Block, Cyclic}
-use Rattle.hpf_base.specs.declared.mapping.Line.{Line}
-use Rattle.hpf_base.specs.Mapping.{IsForm, IsLine}
-use Rattle.hpf_base.specs.Owner.{coordinate, coordinate_under}
-use Rattle.hpf_base.proofs.Blocks.{coordinate-within}
+use Rattle.mappings.specs.declared.mapping.Form.{Form}
+use Rattle.mappings.specs.declared.mapping.Form.TheVariants.{Whole, Block, Cyclic}
+use Rattle.mappings.specs.declared.mapping.Line.{Line}
+use Rattle.mappings.specs.Mapping.{IsForm, IsLine}
+use Rattle.mappings.specs.Owner.{coordinate, coordinate_under}
+use Rattle.mappings.proofs.Blocks.{coordinate-within}
 
 coordinate_under-below : (form : Form) (extent procs j : ℕ) → IsForm form extent procs → 1 ≤ procs → 1 ≤ j → j ≤ extent
     → coordinate_under form procs j < procs

@@ -2,14 +2,14 @@
 -- the grid have answers by these definitions too; each public call asks for elements inside and nodes of the grid.
 use Rattle.std.specs.Prelude.{ℕ, ℤ, pos, ◌+ℤ◌, ◌-ℤ◌, ◌*ℤ◌, unsigned_abs, Bool, true, ◌==◌, List, map, find, slice_index, slice_index_or, Option, Some, None, option_map}
 use Rattle.std.specs.List.{list_all, range_with_len}
-use Rattle.hpf_base.specs.declared.mapping.AlignDim.{AlignDim}
-use Rattle.hpf_base.specs.declared.mapping.AlignDim.TheVariants.{Linear, At, Every}
-use Rattle.hpf_base.specs.declared.mapping.Line.{Line}
-use Rattle.hpf_base.specs.declared.mapping.MapDim.{MapDim}
-use Rattle.hpf_base.specs.declared.mapping.Mapping.{Mapping}
+use Rattle.mappings.specs.declared.mapping.AlignDim.{AlignDim}
+use Rattle.mappings.specs.declared.mapping.AlignDim.TheVariants.{Linear, At, Every}
+use Rattle.mappings.specs.declared.mapping.Line.{Line}
+use Rattle.mappings.specs.declared.mapping.MapDim.{MapDim}
+use Rattle.mappings.specs.declared.mapping.Mapping.{Mapping}
 use Rattle.hpf_base.specs.ElementOrder.{product}
 use Rattle.hpf_base.specs.Grid.{node_coordinates}
-use Rattle.hpf_base.specs.Owner.{coordinate}
+use Rattle.mappings.specs.Owner.{coordinate}
 
 -- the subscript that a dimension of the target is given for subscripts of the alignee; None stands for `*`
 abbrev pub aligned : AlignDim → List (Option ℤ) → Option ℤ

@@ -2,9 +2,9 @@
 -- definition too; each public call asks for a position from 1 to the extent.
 use Rattle.std.specs.Prelude.{ℕ, ◌-◌, ◌%◌, max, pos}
 use Rattle.std.specs.Int.{div_ceil}
-use Rattle.hpf_base.specs.declared.mapping.Form.{Form}
-use Rattle.hpf_base.specs.declared.mapping.Form.TheVariants.{Whole, Block, Cyclic}
-use Rattle.hpf_base.specs.declared.mapping.Line.{Line}
+use Rattle.mappings.specs.declared.mapping.Form.{Form}
+use Rattle.mappings.specs.declared.mapping.Form.TheVariants.{Whole, Block, Cyclic}
+use Rattle.mappings.specs.declared.mapping.Line.{Line}
 
 -- the coordinate, from 0, of the processor that owns a position under a format
 abbrev pub coordinate_under : Form → ℕ → ℕ → ℕ

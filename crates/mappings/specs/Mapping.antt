@@ -4,14 +4,14 @@ use Rattle.std.specs.Int.{w64}
 use Rattle.std.specs.Ordering.{int_eq}
 use Rattle.hpf_base.specs.declared.limits.TheConstants.{MAX_BLOCK, MAX_BOUND, MAX_CYCLIC, MAX_ELEMENTS, MAX_NODES, MAX_TEMPLATE_EXTENT}
 use Rattle.hpf_base.specs.declared.index.Shape.{Shape}
-use Rattle.hpf_base.specs.declared.mapping.AlignDim.{AlignDim}
-use Rattle.hpf_base.specs.declared.mapping.AlignDim.TheVariants.{Linear, At, Every}
-use Rattle.hpf_base.specs.declared.mapping.Form.{Form}
-use Rattle.hpf_base.specs.declared.mapping.Form.TheVariants.{Whole, Block, Cyclic}
-use Rattle.hpf_base.specs.declared.mapping.Line.{Line}
-use Rattle.hpf_base.specs.declared.mapping.MapDim.{MapDim}
-use Rattle.hpf_base.specs.declared.mapping.Mapping.{Mapping}
-use Rattle.hpf_base.specs.Alignment.{aligned, position_at}
+use Rattle.mappings.specs.declared.mapping.AlignDim.{AlignDim}
+use Rattle.mappings.specs.declared.mapping.AlignDim.TheVariants.{Linear, At, Every}
+use Rattle.mappings.specs.declared.mapping.Form.{Form}
+use Rattle.mappings.specs.declared.mapping.Form.TheVariants.{Whole, Block, Cyclic}
+use Rattle.mappings.specs.declared.mapping.Line.{Line}
+use Rattle.mappings.specs.declared.mapping.MapDim.{MapDim}
+use Rattle.mappings.specs.declared.mapping.Mapping.{Mapping}
+use Rattle.mappings.specs.Alignment.{aligned, position_at}
 use Rattle.hpf_base.specs.ElementOrder.{extents_of, product}
 
 -- a format that deals out so many positions to so many processors (HPF 2.0, DISTRIBUTE)
@@ -26,12 +26,6 @@ pub record IsLine (line : Line) : Type 0 where
   pub extent : line.extent ≤ MAX_TEMPLATE_EXTENT
   pub lower : unsigned_abs line.lower ≤ MAX_BOUND
   pub form : IsForm line.form line.extent line.procs
-
-pub record IsShape (shape : Shape) : Type 0 where
-  pub rank : length shape.lower ≡ length shape.extent
-  pub lower : All (λ lower. unsigned_abs lower ≤ MAX_BOUND) shape.lower
-  pub extent : All (λ extent. (pos 0 ≤ℤ extent) × (extent ≤ℤ pos (2 * MAX_BOUND + 1))) shape.extent
-  pub size : product (extents_of shape) ≤ MAX_ELEMENTS
 
 -- an alignment of an array of so many dimensions
 abbrev pub IsAlign : ℕ → AlignDim → Type 0

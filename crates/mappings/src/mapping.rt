@@ -2,7 +2,7 @@
 
 ghost use Rattle.std.specs.Prelude.{◌≡◌};
 
-use crate::grid::Grid;
+use hpf_base::Grid;
 use std::marker::Model;
 
 /// The distribution format of a dimension (HPF 2.0, DISTRIBUTE).
@@ -53,7 +53,7 @@ pub struct MapDims {
 
 impl Model for MapDims {
     ghost use Rattle.std.specs.Prelude.{List};
-    ghost use Rattle.hpf_base.specs.declared.mapping.MapDim.{MapDim};
+    ghost use Rattle.mappings.specs.declared.mapping.MapDim.{MapDim};
 
     ghost Value = { List MapDim };
 

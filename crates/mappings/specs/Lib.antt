@@ -1,0 +1,5 @@
+pub mod Mapping
+pub mod Alignment
+pub mod Owner
+pub mod Positions
+pub mod LocalOrder

@@ -1,0 +1,11 @@
+//! Mappings: how the elements of an array lie on the nodes of a grid (HPF 2.0, DISTRIBUTE and ALIGN).
+//!
+//! Comes in: a grid. Goes out: the formats of distributed dimensions, what a dimension of a template is given for an element,
+//! and mappings. In `specs/`: which mappings are valid, who owns an element, and which elements a node holds, in which order.
+//! What holds in between: a mapping says who owns an element and nothing else; how that is found in little time is for the
+//! crates above.
+#![tactic(auto)]
+
+mod mapping;
+
+pub use mapping::{AlignDim, Form, Line, MapDim, MapDims, Mapping};

@@ -1,0 +1,4 @@
+pub mod Storage
+pub mod Effect
+pub mod Truth
+pub mod Parted
