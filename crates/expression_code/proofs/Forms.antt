@@ -3,11 +3,11 @@ use Rattle.std.proofs.Common.{◌≡◌, ℕ, Global, List, sym, ap, ◌∙◌}
 use Rattle.std.specs.Prelude.{Vec}
 use Rattle.op_tables.specs.declared.op.Op.{Op}
 use Rattle.array_meaning.specs.Terms.{Apply, Element, Section}
-use Rattle.program_plan.specs.declared.terms.Term.{Term as HeldTerm}
-use Rattle.program_plan.specs.declared.terms.Term.TheVariants as held
-use Rattle.program_plan.specs.declared.terms.SectionSubscript.{SectionSubscript as HeldSubscript}
-use Rattle.program_plan.specs.Plans.{term, terms_of, subscripts_of}
-use Rattle.program_plan.proofs.Rows.{apply_vec, element_vec, section_vec}
+use Rattle.resolved_program.specs.declared.terms.Term.{Term as HeldTerm}
+use Rattle.resolved_program.specs.declared.terms.Term.TheVariants as held
+use Rattle.resolved_program.specs.declared.terms.SectionSubscript.{SectionSubscript as HeldSubscript}
+use Rattle.resolved_program.specs.Resolved.{term, terms_of, subscripts_of}
+use Rattle.resolved_program.proofs.Rows.{apply_vec, element_vec, section_vec}
 
 pub element_is : (t : HeldTerm) (a : ℕ) (v : Vec HeldTerm Global) (ts : List HeldTerm) → t ≡ held.Element a v → ts ≡ v.items → Element a (terms_of ts) ≡ term t
 element_is t a v ts is all = ap (λ l. Element a (terms_of l)) all ∙ sym (element_vec a v) ∙ ap term (sym is)

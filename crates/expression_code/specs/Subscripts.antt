@@ -1,8 +1,8 @@
 -- One subscript of a section, as a plan holds it.
 use Rattle.std.specs.Prelude.{ℕ, ◌+◌, List, [], ◌∷◌, ◌++◌}
-use Rattle.program_plan.specs.declared.terms.SectionSubscript.{SectionSubscript as HeldSubscript}
-use Rattle.program_plan.specs.declared.terms.SectionSubscript.TheBlock.{Subscript as Subscript', Triplet as Triplet'}
-use Rattle.program_plan.specs.Plans.{term}
+use Rattle.resolved_program.specs.declared.terms.SectionSubscript.{SectionSubscript as HeldSubscript}
+use Rattle.resolved_program.specs.declared.terms.SectionSubscript.TheBlock.{Subscript as Subscript', Triplet as Triplet'}
+use Rattle.resolved_program.specs.Resolved.{term}
 use Rattle.node_code.specs.Forms.{Sub, SubAt, SubAlong}
 use Rattle.node_code.specs.Instructions.{Instruction, TestStride}
 use Rattle.lowering.specs.ExpressionCode.{slots_of, flat_of, code_of, control_slots, control_code, triplet}

@@ -6,7 +6,7 @@ ghost use Rattle.lowering.specs.ExpressionCode.{all_parts_code, all_slots_of, co
 ghost use Rattle.node_code.specs.Flat.{Operated};
 ghost use Rattle.node_code.specs.Instructions as code;
 ghost use Rattle.node_code.specs.Texts.{instruction, instructions};
-ghost use Rattle.program_plan.specs.Plans.{control, subscripts_of, term, terms_of};
+ghost use Rattle.resolved_program.specs.Resolved.{control, subscripts_of, term, terms_of};
 ghost use Rattle.expression_code.specs.Subscripts.{subscript_code};
 
 use crate::controls::{three_code, three_values};
@@ -18,7 +18,7 @@ use crate::values::flats_of;
 use hpf_base::OutOfMemory;
 use node_code::{Flat, Instruction};
 use op_tables::Op;
-use program_plan::{Control, SectionSubscript, Term};
+use resolved_program::{Control, SectionSubscript, Term};
 use std::alloc::Global;
 
 /// The code of a scalar expression: a Fetch for each element, a Set for each operator that may divide by zero, and its reductions.

@@ -4,7 +4,7 @@ ghost use Rattle.std.specs.Prelude.{◌≡◌, ◌+◌, IfOk, OnOk, [], ◌∷�
 ghost use Rattle.lowering.specs.ExpressionCode.{control_slots, flat_of, slots_of, three_code, triplet};
 ghost use Rattle.node_code.specs.Instructions as text;
 ghost use Rattle.node_code.specs.Texts.{flat, instructions};
-ghost use Rattle.program_plan.specs.Plans.{term};
+ghost use Rattle.resolved_program.specs.Resolved.{term};
 
 use crate::slots::slots_of;
 use crate::sums::plus;
@@ -12,7 +12,7 @@ use crate::texts::joined;
 use crate::values::flat_of;
 use hpf_base::OutOfMemory;
 use node_code::{Flat, Instruction};
-use program_plan::Term;
+use resolved_program::Term;
 use std::alloc::Global;
 
 /// What gives the three values behind their code, which takes the slots from some `b` on.

@@ -3,14 +3,14 @@
 ghost use Rattle.std.specs.Prelude.{◌≡◌, option_map, IfOk};
 ghost use Rattle.lowering.specs.ExpressionCode.{first_subs, first_subs_of, form_of, forms_of, or_no_sub, own_evaluation};
 ghost use Rattle.node_code.specs.Texts.{evaluation, subs};
-ghost use Rattle.program_plan.specs.Plans.{term, terms_of};
+ghost use Rattle.resolved_program.specs.Resolved.{term, terms_of};
 
 use crate::slots::parts_slots;
 use crate::sums::plus;
 use crate::values::{form_of, subs_of};
 use hpf_base::OutOfMemory;
 use node_code::{Evaluation, Sub};
-use program_plan::Term;
+use resolved_program::Term;
 use std::alloc::Global;
 
 /// An array expression over its own space, with the row of the copy that gets its values, where one does.

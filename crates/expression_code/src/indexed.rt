@@ -6,12 +6,12 @@ ghost use Rattle.lowering.specs.ExpressionCode.{index_flat, index_flats, index_f
 ghost use Rattle.node_code.specs.Flat.{Operated};
 ghost use Rattle.node_code.specs.Forms.{OperationForm, SectionForm};
 ghost use Rattle.node_code.specs.Texts.{flat, flats_of, form, forms_of, subs};
-ghost use Rattle.program_plan.specs.Plans.{term, terms_of};
+ghost use Rattle.resolved_program.specs.Resolved.{term, terms_of};
 
 use hpf_base::OutOfMemory;
 use node_code::{Flat, Form, Sub};
 use op_tables::Op;
-use program_plan::Term;
+use resolved_program::Term;
 use std::alloc::Global;
 
 /// A subscript, which names no element.

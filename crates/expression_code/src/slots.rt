@@ -3,13 +3,13 @@
 ghost use Rattle.std.specs.Prelude.{◌≡◌, ◌+◌, IfOk};
 ghost use Rattle.lowering.specs.ExpressionCode.{all_parts_slots, all_slots_of, control_slots, one_if, parts_slots, slots_of, subscripts_slots};
 ghost use Rattle.op_tables.specs.Operators.{can_divide};
-ghost use Rattle.program_plan.specs.Plans.{control, subscripts_of, term, terms_of};
+ghost use Rattle.resolved_program.specs.Resolved.{control, subscripts_of, term, terms_of};
 ghost use Rattle.expression_code.specs.Subscripts.{subscript_slots};
 
 use crate::sums::{can_divide, one_if, plus, plus_three};
 use hpf_base::OutOfMemory;
 use op_tables::Op;
-use program_plan::{Control, SectionSubscript, Term};
+use resolved_program::{Control, SectionSubscript, Term};
 
 /// How many slots the code of a scalar expression takes.
 #[cycle(slots)]

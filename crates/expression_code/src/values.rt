@@ -6,7 +6,7 @@ ghost use Rattle.node_code.specs.Forms.{OperationForm, SectionForm};
 ghost use Rattle.node_code.specs.Texts.{flat, form, sub, subs};
 ghost use Rattle.node_code.specs.Texts as text;
 ghost use Rattle.op_tables.specs.Operators.{can_divide};
-ghost use Rattle.program_plan.specs.Plans.{subscripts_of, term, terms_of};
+ghost use Rattle.resolved_program.specs.Resolved.{subscripts_of, term, terms_of};
 ghost use Rattle.expression_code.specs.Subscripts.{sub_of};
 
 use crate::slots::{all_slots_of, parts_slots, slots_of, subscript_slots};
@@ -14,7 +14,7 @@ use crate::sums::{can_divide, plus, plus_three};
 use hpf_base::OutOfMemory;
 use node_code::{Flat, Form, Sub};
 use op_tables::Op;
-use program_plan::{SectionSubscript, Term};
+use resolved_program::{SectionSubscript, Term};
 use std::alloc::Global;
 
 /// The expression over the slots that has the value of a scalar expression behind its code.

@@ -19,8 +19,8 @@ use Rattle.name_table.specs.Entries.{entries}
 use Rattle.name_table.specs.declared.names.Entry.{Entry}
 use Rattle.array_meaning.specs.Serial as serial
 use Rattle.array_meaning.specs.Serial.{serial}
-use Rattle.serial_run.specs.declared.completion.Fault.{Fault as HeldFault}
-use Rattle.serial_run.specs.Completions.{fault}
+use Rattle.term_values.specs.declared.faults.Fault.{Fault as HeldFault}
+use Rattle.term_values.specs.Faults.{fault}
 use Rattle.distributed_run.specs.declared.run.NodesOutcome.{NodesOutcome}
 use Rattle.distributed_run.specs.Outcomes.{IsOutcome}
 use Rattle.run_report.specs.FaultLine.{fault_line}

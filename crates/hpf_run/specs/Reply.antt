@@ -11,8 +11,8 @@ use Rattle.hpf_run.specs.declared.reply.Reply.TheVariants.{Done, Fault, Refused,
 use Rattle.name_table.specs.declared.names.Entry.{Entry}
 use Rattle.array_meaning.specs.Serial as serial
 use Rattle.run_report.specs.FaultLine.{fault_line}
-use Rattle.serial_run.specs.declared.completion.Fault.{Fault as HeldFault}
-use Rattle.serial_run.specs.Completions.{fault}
+use Rattle.term_values.specs.declared.faults.Fault.{Fault as HeldFault}
+use Rattle.term_values.specs.Faults.{fault}
 use Rattle.hpf_run.specs.Outcome.{ActionOutcome, IsReportOf, Outcome, TextOutcome, memory_line, read_fault_line, refusal_line, too_long_line, usage_line}
 
 -- the outcome that a reply stands for

@@ -25,8 +25,9 @@ use hpf_words::{Action, Job};
 use left_out_forms::first_left_out;
 use name_table::{Names, Program};
 use run_report::{arrays_text, fault_line, map_text};
-use serial_run::{End, Fault, Outcome, first_independent, run_serial};
+use serial_run::{End, Outcome, first_independent, run_serial};
 use std::alloc::Global;
+use term_values::Fault;
 
 /// What the job's action makes of a text, which is accepted as the program.
 pub fn reply_to_accepted(alloc: Global, job: &Job, accepted: &Accepted) -> Reply

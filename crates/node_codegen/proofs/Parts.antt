@@ -4,14 +4,14 @@ use Rattle.std.proofs.lemmas.List.{length-map}
 use Rattle.node_code.specs.declared.instruction.Instruction.{Instruction as HeldInstruction}
 use Rattle.node_code.specs.Instructions.{Instruction}
 use Rattle.node_code.specs.Texts.{instruction, instructions}
-use Rattle.program_plan.specs.declared.statements.Action.{Action}
-use Rattle.program_plan.specs.declared.statements.Action.TheVariants as action
-use Rattle.program_plan.specs.declared.statements.Arm.{Arm}
-use Rattle.program_plan.specs.declared.statements.Loop.{Loop}
-use Rattle.program_plan.specs.declared.statements.Nest.{Nest}
-use Rattle.program_plan.specs.declared.statements.Statement.{Statement}
-use Rattle.program_plan.specs.Plans.{arms_of, block_of, loop_of, statement}
-use Rattle.program_plan.proofs.Rows.{do_vec, if_vec}
+use Rattle.resolved_program.specs.declared.statements.Action.{Action}
+use Rattle.resolved_program.specs.declared.statements.Action.TheVariants as action
+use Rattle.resolved_program.specs.declared.statements.Arm.{Arm}
+use Rattle.resolved_program.specs.declared.statements.Loop.{Loop}
+use Rattle.resolved_program.specs.declared.statements.Nest.{Nest}
+use Rattle.resolved_program.specs.declared.statements.Statement.{Statement}
+use Rattle.resolved_program.specs.Resolved.{arms_of, block_of, loop_of, statement}
+use Rattle.resolved_program.proofs.Rows.{do_vec, if_vec}
 use Rattle.lowering.specs.ExpressionCode.{control_code, control_slots}
 use Rattle.lowering.specs.StatementCode.{block_code, loop_code, statement_code}
 use Rattle.node_codegen.specs.Arms.{AreArms, arms_before}

@@ -6,8 +6,8 @@ use Rattle.array_meaning.specs.Statements.{Arms}
 use Rattle.node_code.specs.declared.instruction.Instruction.{Instruction as HeldInstruction}
 use Rattle.node_code.specs.Instructions.{Instruction, Jump}
 use Rattle.node_code.specs.Texts.{instructions}
-use Rattle.program_plan.specs.declared.statements.Arm.{Arm as HeldArm}
-use Rattle.program_plan.specs.Plans.{with_arm}
+use Rattle.resolved_program.specs.declared.statements.Arm.{Arm as HeldArm}
+use Rattle.resolved_program.specs.Resolved.{with_arm}
 use Rattle.lowering.specs.StatementCode.{arms_code}
 
 abbrev pub codes : List (Vec HeldInstruction Global) → List (List Instruction)

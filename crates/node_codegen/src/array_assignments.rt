@@ -4,7 +4,7 @@ ghost use Rattle.std.specs.Prelude.{◌≡◌, ◌+◌, [], ◌∷◌, ◌++◌,
 ghost use Rattle.node_code.specs.Instructions.{Limits, Par, Verdict};
 ghost use Rattle.node_code.specs.Texts as text;
 ghost use Rattle.node_code.specs.Texts.{instructions, when};
-ghost use Rattle.program_plan.specs.Plans.{subscripts_of, term};
+ghost use Rattle.resolved_program.specs.Resolved.{subscripts_of, term};
 ghost use Rattle.lowering.specs.ExpressionCode.{first_subs, form_of, or_no_sub, parts_code, subscripts_code, subscripts_slots};
 ghost use Rattle.lowering.specs.StatementCode.{assignment, assignment_code};
 
@@ -14,7 +14,7 @@ use expression_code::{
 };
 use hpf_base::OutOfMemory;
 use node_code::{Assignment, Instruction, When};
-use program_plan::{SectionAssignment, SectionSubscript, Term};
+use resolved_program::{SectionAssignment, SectionSubscript, Term};
 use std::alloc::Global;
 
 /// The code of an array assignment.

@@ -3,14 +3,14 @@
 ghost use Rattle.std.specs.Prelude.{◌≡◌, ◌+◌, [], ◌∷◌, ◌++◌, IfOk};
 ghost use Rattle.node_code.specs.Instructions.{Set, Store, TestBounds};
 ghost use Rattle.node_code.specs.Texts.{instructions};
-ghost use Rattle.program_plan.specs.Plans.{term, terms_of};
+ghost use Rattle.resolved_program.specs.Resolved.{term, terms_of};
 ghost use Rattle.lowering.specs.ExpressionCode.{all_slots_of, code_of, codes_of, flat_of, flats_of};
 
 use crate::sequences::{with_last, with_more};
 use expression_code::{all_slots_of, code_of, codes_of, flat_of, flats_of, plus};
 use hpf_base::OutOfMemory;
 use node_code::Instruction;
-use program_plan::Term;
+use resolved_program::Term;
 use std::alloc::Global;
 
 /// The code that gives a slot the value of an expression.

@@ -5,7 +5,7 @@ ghost use Rattle.array_meaning.specs.Forall.{all_subscripts};
 ghost use Rattle.node_code.specs.Instructions.{ForallLimits};
 ghost use Rattle.node_code.specs.Texts as text;
 ghost use Rattle.node_code.specs.Texts.{instructions, when};
-ghost use Rattle.program_plan.specs.Plans.{control, element_assignment, term};
+ghost use Rattle.resolved_program.specs.Resolved.{control, element_assignment, term};
 ghost use Rattle.lowering.specs.ExpressionCode.{index_flat, index_form, subs_of};
 ghost use Rattle.lowering.specs.StatementCode as definition;
 ghost use Rattle.lowering.specs.StatementCode.{forall_assignments_code, forall_code, forall_mask_code, one_to_one_code, triplets, where_true};
@@ -16,7 +16,7 @@ use crate::sequences::{with_last, with_more};
 use expression_code::{all_index_flats, index_form, index_subs};
 use hpf_base::OutOfMemory;
 use node_code::{Assignment, Evaluation, Instruction, When};
-use program_plan::{Control, ElementAssignment, Term};
+use resolved_program::{Control, ElementAssignment, Term};
 use std::alloc::Global;
 
 /// The code of a FORALL: the header, the limits, the values of the mask into the copy, and the assignments one after another.

@@ -3,7 +3,7 @@
 ghost use Rattle.std.specs.Prelude.{◌≡◌, ◌+◌, [], ◌∷◌, ◌++◌, IfOk, map};
 ghost use Rattle.node_code.specs.Instructions.{TestStride};
 ghost use Rattle.node_code.specs.Texts.{instructions, subs};
-ghost use Rattle.program_plan.specs.Plans.{control};
+ghost use Rattle.resolved_program.specs.Resolved.{control};
 ghost use Rattle.lowering.specs.ExpressionCode.{control_code, control_slots, subs_of, subscripts_code, subscripts_slots};
 ghost use Rattle.lowering.specs.StatementCode.{triplets};
 
@@ -11,7 +11,7 @@ use crate::sequences::with_last;
 use expression_code::{control_code, control_slots, joined, plus};
 use hpf_base::OutOfMemory;
 use node_code::{Instruction, Sub};
-use program_plan::Control;
+use resolved_program::Control;
 use std::alloc::Global;
 
 /// How many slots the code of a header takes.

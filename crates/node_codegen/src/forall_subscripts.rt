@@ -4,13 +4,13 @@ ghost use Rattle.std.specs.Prelude.{◌≡◌, ◌++◌, IfOk, OnOk, map, option
 ghost use Rattle.array_meaning.specs.Terms.{list_of};
 ghost use Rattle.array_meaning.specs.Forall.{all_subscripts, body_subscripts, mask_subscripts, subscripts_in, subscripts_in_all};
 ghost use Rattle.node_code.specs.Texts.{flat};
-ghost use Rattle.program_plan.specs.Plans.{element_assignment, term, terms_of};
+ghost use Rattle.resolved_program.specs.Resolved.{element_assignment, term, terms_of};
 ghost use Rattle.lowering.specs.ExpressionCode.{index_flat};
 
 use expression_code::all_index_flats;
 use hpf_base::OutOfMemory;
 use node_code::Flat;
-use program_plan::{ElementAssignment, Term};
+use resolved_program::{ElementAssignment, Term};
 use std::alloc::Global;
 
 /// Those of the mask and of all assignments.

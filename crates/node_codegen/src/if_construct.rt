@@ -3,7 +3,7 @@
 ghost use Rattle.std.specs.Prelude.{◌≡◌, ◌+◌, [], ◌∷◌, ◌++◌, IfOk, length};
 ghost use Rattle.node_code.specs.Instructions.{JumpIfZero, Set};
 ghost use Rattle.node_code.specs.Texts.{instructions};
-ghost use Rattle.program_plan.specs.Plans.{term};
+ghost use Rattle.resolved_program.specs.Resolved.{term};
 ghost use Rattle.lowering.specs.ExpressionCode.{code_of, flat_of, slots_of};
 ghost use Rattle.node_codegen.specs.Arms.{arms_before, codes, jumping_to};
 
@@ -11,7 +11,7 @@ use crate::sequences::{place_behind, with_last, with_more};
 use expression_code::{code_of, flat_of, joined, plus, slots_of};
 use hpf_base::OutOfMemory;
 use node_code::Instruction;
-use program_plan::Term;
+use resolved_program::Term;
 use std::alloc::Global;
 
 /// The codes of arms, without their jumps to the end of the IF.

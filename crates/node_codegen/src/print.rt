@@ -4,7 +4,7 @@ ghost use Rattle.std.specs.Prelude.{◌≡◌, [], ◌∷◌, ◌++◌, IfOk, ma
 ghost use Rattle.node_code.specs.Instructions.{Print};
 ghost use Rattle.node_code.specs.Texts as text;
 ghost use Rattle.node_code.specs.Texts.{instructions};
-ghost use Rattle.program_plan.specs.Plans.{item, subscripts_of};
+ghost use Rattle.resolved_program.specs.Resolved.{item, subscripts_of};
 ghost use Rattle.lowering.specs.ExpressionCode.{subs_of, subscripts_code, without_copy};
 ghost use Rattle.node_code.specs.Forms.{SectionForm};
 ghost use Rattle.array_meaning.specs.Statements.{Elements};
@@ -17,7 +17,7 @@ use expression_code::{
 };
 use hpf_base::OutOfMemory;
 use node_code::{Evaluation, Form, Instruction, PrintItem};
-use program_plan::{Item, SectionSubscript};
+use resolved_program::{Item, SectionSubscript};
 use std::alloc::Global;
 
 /// How many slots the code of an item takes.

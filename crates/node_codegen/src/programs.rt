@@ -2,7 +2,7 @@
 
 ghost use Rattle.std.specs.Prelude.{◌≡◌, IfOk};
 ghost use Rattle.node_code.specs.Texts.{instructions};
-ghost use Rattle.program_plan.specs.Plans.{block_of};
+ghost use Rattle.resolved_program.specs.Resolved.{block_of};
 ghost use Rattle.lowering.specs.StatementCode.{block_slots, program_code};
 
 use crate::sequences::with_last;
@@ -11,7 +11,7 @@ use crate::statements::block_code;
 use expression_code::joined;
 use hpf_base::OutOfMemory;
 use node_code::Instruction;
-use program_plan::Plan;
+use resolved_program::ResolvedProgram;
 use std::alloc::Global;
 
 /// The node code of a program.
@@ -26,7 +26,7 @@ pub struct Code {
 
 /// The node code of a plan with so many declared names: what `lowering` gives for the block that the plan stands for. It takes memory; an
 /// `Err` is want of it, also where a place or a slot has no number of 64 bits.
-pub fn compile(alloc: Global, names: usize, plan: &Plan) -> Result<Code, OutOfMemory>
+pub fn compile(alloc: Global, names: usize, plan: &ResolvedProgram) -> Result<Code, OutOfMemory>
     ensures code { IfOk result (λ c. instructions c.instructions.items ≡ program_code names (block_of plan.now.body.items)) }
     ensures hidden { IfOk result (λ c. c.hidden ≡ block_slots (block_of plan.now.body.items)) }
 {
@@ -39,7 +39,7 @@ pub fn compile(alloc: Global, names: usize, plan: &Plan) -> Result<Code, OutOfMe
 }
 
 /// Its instructions. An EXIT or CYCLE outside of loops goes to the Halt at place 1.
-fn program_code(alloc: Global, names: usize, plan: &Plan) -> Result<Vec<Instruction>, OutOfMemory>
+fn program_code(alloc: Global, names: usize, plan: &ResolvedProgram) -> Result<Vec<Instruction>, OutOfMemory>
     ensures { IfOk result (λ v. instructions v.items ≡ program_code names (block_of plan.now.body.items)) }
 {
     let mut code = Vec::new(alloc);

@@ -1,7 +1,7 @@
 //! How many slots the code of statements takes.
 
 ghost use Rattle.std.specs.Prelude.{◌≡◌, IfOk, max};
-ghost use Rattle.program_plan.specs.Plans.{arms_of, block_of, statement, with_arm};
+ghost use Rattle.resolved_program.specs.Resolved.{arms_of, block_of, statement, with_arm};
 ghost use Rattle.lowering.specs.StatementCode.{arms_slots, block_slots, statement_slots};
 ghost use Rattle.array_meaning.specs.Statements.{Arms};
 
@@ -10,7 +10,7 @@ use crate::print::items_slots;
 use crate::where_construct::masked_slots;
 use expression_code::{all_slots_of, control_slots, parts_slots, plus, slots_of, subscripts_slots};
 use hpf_base::OutOfMemory;
-use program_plan::{Action, Arm, Statement};
+use resolved_program::{Action, Arm, Statement};
 
 /// How many slots the code of statements takes, one behind the other: they take the same ones.
 #[cycle(slots)]

@@ -2,7 +2,7 @@
 
 ghost use Rattle.std.specs.Prelude.{◌≡◌, ◌+◌, IfOk};
 ghost use Rattle.node_code.specs.Texts.{instructions};
-ghost use Rattle.program_plan.specs.Plans.{arms_of, block_of, statement};
+ghost use Rattle.resolved_program.specs.Resolved.{arms_of, block_of, statement};
 ghost use Rattle.lowering.specs.StatementCode.{block_code, statement_code};
 ghost use Rattle.node_codegen.specs.Arms.{AreArms, IsArm, codes};
 
@@ -17,7 +17,7 @@ use crate::where_construct::where_code;
 use expression_code::{control_code, control_slots, joined, plus, slots_of};
 use hpf_base::OutOfMemory;
 use node_code::Instruction;
-use program_plan::{Action, Arm, Statement};
+use resolved_program::{Action, Arm, Statement};
 use std::alloc::Global;
 
 /// The code of statements, one behind the other, from the place `pc` on, with slots from `b` on, and with the places where EXIT and

@@ -3,7 +3,7 @@
 ghost use Rattle.std.specs.Prelude.{◌≡◌, [], ◌∷◌, ◌++◌, IfOk, map};
 ghost use Rattle.node_code.specs.Instructions.{MakeCopy, OwnLimits, ParCopy, Verdict};
 ghost use Rattle.node_code.specs.Texts.{instructions, when};
-ghost use Rattle.program_plan.specs.Plans.{section_assignment, term};
+ghost use Rattle.resolved_program.specs.Resolved.{section_assignment, term};
 ghost use Rattle.lowering.specs.ExpressionCode.{first_subs, form_of, or_no_sub, own_evaluation, parts_code, parts_slots};
 ghost use Rattle.lowering.specs.StatementCode.{masked_code, masked_slots, where_code};
 
@@ -12,7 +12,7 @@ use crate::sequences::with_more;
 use expression_code::{joined, own_evaluation, parts_code, parts_slots, plus, subscripts_slots};
 use hpf_base::OutOfMemory;
 use node_code::{Instruction, When};
-use program_plan::{SectionAssignment, Term};
+use resolved_program::{SectionAssignment, Term};
 use std::alloc::Global;
 
 /// How many slots the code of the assignments of a WHERE takes.

@@ -5,8 +5,8 @@ use Rattle.array_meaning.specs.Faults.{Fault}
 use Rattle.machine_steps.specs.Instr.{Instr, Fetch, Store}
 use Rattle.owner_tables.specs.declared.spot.Spot.{Spot as HeldSpot}
 use Rattle.owner_tables.specs.Spots.{spot_of}
-use Rattle.serial_run.specs.declared.completion.Fault.{Fault as HeldFault}
-use Rattle.serial_run.specs.Completions.{fault}
+use Rattle.term_values.specs.declared.faults.Fault.{Fault as HeldFault}
+use Rattle.term_values.specs.Faults.{fault}
 use Rattle.node_machine.specs.declared.elements.FetchedElement.{FetchedElement}
 use Rattle.node_machine.specs.declared.elements.StoredElement.{StoredElement}
 

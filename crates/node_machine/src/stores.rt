@@ -5,7 +5,7 @@ ghost use Rattle.machine_steps.specs.Machine.{faulted, instr_at, on, store_contr
 ghost use Rattle.machine_steps.specs.Node.{begun_by, local_write};
 ghost use Rattle.node_code.specs.FaultValues.{fault_values};
 ghost use Rattle.node_code.specs.ProgramText.{text_meaning};
-ghost use Rattle.serial_run.specs.Completions.{fault};
+ghost use Rattle.term_values.specs.Faults.{fault};
 ghost use Rattle.node_machine.specs.Programs.{code_of};
 ghost use Rattle.node_machine.specs.Results.{spot_result, value_result};
 

@@ -2,7 +2,7 @@
 use Rattle.std.specs.Prelude.{Option, option_map}
 use Rattle.array_meaning.specs.Faults.{Fault}
 use Rattle.machine_steps.specs.Machine.{Kept}
-use Rattle.serial_run.specs.Completions.{fault}
+use Rattle.term_values.specs.Faults.{fault}
 use Rattle.part_steps.specs.declared.kept.Kept.{Kept as HeldKept}
 
 abbrev pub kept_view : HeldKept → Kept Fault

@@ -5,7 +5,7 @@ ghost use Rattle.array_meaning.specs.Faults.{Fault as FaultOf};
 ghost use Rattle.machine_steps.specs.Instr.{Value};
 ghost use Rattle.machine_steps.specs.Machine.{earlier, effect_by, kept_of};
 ghost use Rattle.machine_steps.specs.Node.{local_apply};
-ghost use Rattle.serial_run.specs.Completions.{fault as fault_of};
+ghost use Rattle.term_values.specs.Faults.{fault as fault_of};
 ghost use Rattle.tuple_values.specs.Spots.{read_of};
 ghost use Rattle.part_steps.specs.Behind.{applied, behind, fault_below, outcome_of, stored_below, tuples};
 ghost use Rattle.part_steps.specs.Exchanged.{IsComputed, IsExchange};

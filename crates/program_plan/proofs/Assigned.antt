@@ -10,11 +10,11 @@ use Rattle.syntax_tree.specs.declared.stmt.Kind as Kind
 use Rattle.syntax_tree.specs.Expression.{expression}
 use Rattle.syntax_tree.specs.Statement.{assignments_in, variable}
 use Rattle.array_meaning.specs.Resolution.{element_assignments, left_of, section_assignments, term_of, to_element, to_section}
-use Rattle.program_plan.specs.declared.terms.Term.{Term as HeldTerm}
-use Rattle.program_plan.specs.declared.terms.Term.TheVariants as held
-use Rattle.program_plan.specs.declared.terms.SectionSubscript.{SectionSubscript as HeldSubscript}
-use Rattle.program_plan.specs.Plans.{element_assignment, section_assignment, term}
-use Rattle.program_plan.proofs.Rows.{element_vec, section_vec}
+use Rattle.resolved_program.specs.declared.terms.Term.{Term as HeldTerm}
+use Rattle.resolved_program.specs.declared.terms.Term.TheVariants as held
+use Rattle.resolved_program.specs.declared.terms.SectionSubscript.{SectionSubscript as HeldSubscript}
+use Rattle.resolved_program.specs.Resolved.{element_assignment, section_assignment, term}
+use Rattle.resolved_program.proofs.Rows.{element_vec, section_vec}
 
 pub section_added : (names : List Entry) (n : ℕ) (k : Kind.Kind) (l : Ref) (r : Expr) (left right : HeldTerm) (a : ℕ) (v : Vec HeldSubscript Global) →
     k ≡ Kind.Assign l r → left ≡ held.Section a v → term left ≡ left_of names [] (variable l) → term right ≡ term_of names [] (expression r) →

@@ -1,5 +1,3 @@
-pub mod Rows
-mod Made
 mod Parts
 mod Assigned
 mod NestLaws

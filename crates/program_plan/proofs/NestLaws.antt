@@ -10,10 +10,10 @@ use Rattle.syntax_tree.specs.Statement.{Axis, Independent, do_construct, indepen
 use Rattle.syntax_tree.proofs.Rows.{do_parts}
 use Rattle.array_meaning.specs.Statements.{Block, Done, Then, Statement, Do, Mark, Unmarked, Outermost, Loop}
 use Rattle.array_meaning.specs.Resolution.{do_loop, inner_mark, loop_of, nest_of, outermost, place_of, resolved, resolved_block, union, with_inner_unmarked}
-use Rattle.program_plan.specs.declared.statements.Nest.{Nest as HeldNest}
+use Rattle.resolved_program.specs.declared.statements.Nest.{Nest as HeldNest}
 use Rattle.program_plan.specs.Nests.{IsNestOf, body_in, count_round, mark_of, new_round, reduction_round, with_nest}
-use Rattle.program_plan.specs.Plans as plan
-use Rattle.program_plan.specs.Plans.{inner_loops, innermost}
+use Rattle.resolved_program.specs.Resolved as plan
+use Rattle.resolved_program.specs.Resolved.{inner_loops, innermost}
 
 -- ---- a DO, by its fields
 

@@ -16,10 +16,10 @@ use Rattle.syntax_tree.proofs.Rows.{call_vec, reference_vec}
 use Rattle.array_meaning.specs.Terms.{Apply, Element as Element', Reduce, Section, SectionSubscripts, Terms}
 use Rattle.array_meaning.specs.Resolution.{called, dims_of, first_named, first_term, inquiry, is_element, no_dim, place_of, section_subscript, section_subscripts, term_of, terms_of}
 use Rattle.name_table.specs.Entries.{declared_as}
-use Rattle.program_plan.specs.declared.terms.SectionSubscript.{SectionSubscript as HeldSubscript}
-use Rattle.program_plan.specs.Made.{before}
-use Rattle.program_plan.specs.Plans.{with_subscript}
-use Rattle.program_plan.proofs.Made.{before_next}
+use Rattle.resolved_program.specs.declared.terms.SectionSubscript.{SectionSubscript as HeldSubscript}
+use Rattle.resolved_program.specs.Made.{before}
+use Rattle.resolved_program.specs.Resolved.{with_subscript}
+use Rattle.resolved_program.proofs.Made.{before_next}
 
 -- a name with subscripts
 pub subscripted : (x : Name) (subs : _) (v : Vec Subscript Global) → subs ≡ Some v → Element x (parts_of v.items) ≡ reference x (back-Ref-subs subs)

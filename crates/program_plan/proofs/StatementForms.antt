@@ -14,14 +14,14 @@ use Rattle.syntax_tree.specs.Statement.{assignments_of, axis}
 use Rattle.syntax_tree.proofs.Rows.{arms_vec, assignments_vec, block_vec}
 use Rattle.array_meaning.specs.Statements.{Arm, Arms, Do, Done, If, NoArm, Statement, Then, Unmarked, Where}
 use Rattle.array_meaning.specs.Resolution.{inner_mark, resolved, resolved_arms, resolved_block, section_assignments, term_of, with_inner_unmarked}
-use Rattle.program_plan.specs.declared.statements.Statement.{Statement as HeldStatement}
-use Rattle.program_plan.specs.declared.terms.Term.{Term as HeldTerm}
-use Rattle.program_plan.specs.declared.statements.Arm.{Arm as PlannedArm}
-use Rattle.program_plan.specs.declared.statements.Action.TheViews.{roll-Arm, rolls-struct-Arm}
-use Rattle.program_plan.specs.Made.{before}
+use Rattle.resolved_program.specs.declared.statements.Statement.{Statement as HeldStatement}
+use Rattle.resolved_program.specs.declared.terms.Term.{Term as HeldTerm}
+use Rattle.resolved_program.specs.declared.statements.Arm.{Arm as PlannedArm}
+use Rattle.resolved_program.specs.declared.statements.Action.TheViews.{roll-Arm, rolls-struct-Arm}
+use Rattle.resolved_program.specs.Made.{before}
 use Rattle.program_plan.specs.Nests.{with_nest}
-use Rattle.program_plan.specs.Plans.{arms_of, block_of, statement, term, with_arm}
-use Rattle.program_plan.proofs.Rows as plan
+use Rattle.resolved_program.specs.Resolved.{arms_of, block_of, statement, term, with_arm}
+use Rattle.resolved_program.proofs.Rows as plan
 use Rattle.program_plan.proofs.NestLaws.{two}
 
 -- ---- what is made

@@ -2,8 +2,8 @@
 use Rattle.std.specs.Prelude.{◌≡◌, ℕ, suc, List, Option, None, Some}
 use Rattle.array_meaning.specs.Statements.{Block, Done, Statement, Do, Mark, Unmarked, Outermost}
 use Rattle.array_meaning.specs.Resolution.{inner_mark, union}
-use Rattle.program_plan.specs.declared.statements.Nest.{Nest as HeldNest}
-use Rattle.program_plan.specs.Plans.{do_loop, inner_loops, innermost}
+use Rattle.resolved_program.specs.declared.statements.Nest.{Nest as HeldNest}
+use Rattle.resolved_program.specs.Resolved.{do_loop, inner_loops, innermost}
 
 -- the mark of the loop that is a whole block, by what is kept of its nest
 abbrev pub mark_of : Option HeldNest → Block → Mark

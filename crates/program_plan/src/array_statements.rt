@@ -6,15 +6,14 @@ ghost use Rattle.syntax_tree.specs.Statement.{assignments_of, axis};
 ghost use Rattle.syntax_tree.specs.Statement as syntax;
 ghost use Rattle.array_meaning.specs.Statements.{Where};
 ghost use Rattle.array_meaning.specs.Resolution.{resolved, section_assignments, term_of};
-ghost use Rattle.program_plan.specs.Plans.{statement, term};
+ghost use Rattle.resolved_program.specs.Resolved.{statement, term};
 
 use crate::assignments::{element_assignments, section_assignments};
 use crate::controls::{controls, indices};
 use crate::expressions::term;
-use crate::statements::Action;
-use crate::terms::Term;
 use hpf_base::{Name, OutOfMemory};
 use name_table::Names;
+use resolved_program::{Action, Term};
 use std::alloc::Global;
 use syntax_tree::{Expr, Header, Stmt};
 

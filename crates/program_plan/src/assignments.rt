@@ -4,13 +4,12 @@ ghost use Rattle.std.specs.Prelude.{◌≡◌, ◌++◌, [], map, IfOk, OnOk};
 ghost use Rattle.syntax_tree.specs.Expression.{expression};
 ghost use Rattle.syntax_tree.specs.Statement.{assignments_in, assignments_of, variable};
 ghost use Rattle.array_meaning.specs.Resolution.{assignment, element_assignments, left_of, section_assignments, term_of};
-ghost use Rattle.program_plan.specs.Plans.{element_assignment, section_assignment, statement, term};
+ghost use Rattle.resolved_program.specs.Resolved.{element_assignment, section_assignment, statement, term};
 
 use crate::expressions::{reference_term, term};
-use crate::statements::{Action, ElementAssignment, SectionAssignment};
-use crate::terms::Term;
 use hpf_base::{Name, OutOfMemory};
 use name_table::Names;
+use resolved_program::{Action, ElementAssignment, SectionAssignment, Term};
 use std::alloc::Global;
 use syntax_tree::{Expr, Kind, Ref, Stmt};
 

@@ -7,7 +7,7 @@ ghost use Rattle.array_meaning.specs.Statements as meaning;
 ghost use Rattle.array_meaning.specs.Statements.{Done, If, NoArm, Then};
 ghost use Rattle.array_meaning.specs.Resolution.{resolved, resolved_arms, resolved_block, with_inner_unmarked};
 ghost use Rattle.program_plan.specs.Nests.{body_in, with_nest};
-ghost use Rattle.program_plan.specs.Plans.{arms_of, block_of, statement, term};
+ghost use Rattle.resolved_program.specs.Resolved.{arms_of, block_of, statement, term};
 
 use crate::array_statements::{forall, where_alone, where_else};
 use crate::assignments::assignment;
@@ -16,10 +16,9 @@ use crate::expressions::term;
 use crate::items::items;
 use crate::named::place_of;
 use crate::nests::nest_of;
-use crate::statements::{Action, Arm, Loop, Nest, Plan, Statement};
-use crate::terms::Term;
 use hpf_base::OutOfMemory;
 use name_table::{Names, Program};
+use resolved_program::{Action, Arm, Loop, Nest, ResolvedProgram, Statement, Term};
 use std::alloc::Global;
 use syntax_tree::{DoLoop, Kind, Stmt};
 
@@ -27,11 +26,11 @@ use syntax_tree::{DoLoop, Kind, Stmt};
 /// place among `program.names` and an index of a FORALL by its place in the header, both from 0. A named constant, SIZE, LBOUND and
 /// UBOUND are numbers, a whole array is the section of all its elements, and what a triplet leaves out stands there. Of a nest of
 /// INDEPENDENT loops (HPF 2.0, 5.1) the outermost alone is marked. It takes memory; an `Err` is want of it.
-pub fn plan(alloc: Global, program: &Program) -> Result<Plan, OutOfMemory>
+pub fn plan(alloc: Global, program: &Program) -> Result<ResolvedProgram, OutOfMemory>
     ensures { IfOk result (λ p. block_of p.body.items ≡ resolved_block program.now.names (main_program program.now.tree).body) }
 {
     let body = block(alloc, &program.names, &program.tree.body)?;
-    Ok(Plan { body })
+    Ok(ResolvedProgram { body })
 }
 
 /// The statements, in order.

@@ -4,12 +4,12 @@ ghost use Rattle.std.specs.Prelude.{◌≡◌, drop, pos, unwrap_or, IfOk};
 ghost use Rattle.expression_rules.specs.Dims.{AreDims};
 ghost use Rattle.op_tables.specs.Operators.{operator_value};
 ghost use Rattle.array_meaning.specs.Resolution.{constant, constants, inquiry, or_zero};
-ghost use Rattle.program_plan.specs.Plans.{term, terms_of};
+ghost use Rattle.resolved_program.specs.Resolved.{term, terms_of};
 
-use crate::terms::Term;
 use expression_rules::{Dim, Evaluated, Numbers, inquired};
 use hpf_base::OutOfMemory;
 use op_tables::{Op, apply};
+use resolved_program::Term;
 use std::alloc::Global;
 
 /// SIZE, LBOUND or UBOUND of an array of these dimensions, with all arguments. An `Err` is want of memory.

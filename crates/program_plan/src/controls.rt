@@ -4,13 +4,12 @@ ghost use Rattle.std.specs.Prelude.{◌≡◌, [], map, option_map, IfOk};
 ghost use Rattle.syntax_tree.specs.Expression.{expression};
 ghost use Rattle.syntax_tree.specs.Statement.{axis};
 ghost use Rattle.array_meaning.specs.Resolution.{control_of, step_of, term_of};
-ghost use Rattle.program_plan.specs.Plans.{control, term};
+ghost use Rattle.resolved_program.specs.Resolved.{control, term};
 
 use crate::expressions::term;
-use crate::statements::Control;
-use crate::terms::Term;
 use hpf_base::{Name, OutOfMemory};
 use name_table::Names;
+use resolved_program::{Control, Term};
 use std::alloc::Global;
 use syntax_tree::{Expr, Header};
 

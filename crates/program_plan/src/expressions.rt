@@ -8,17 +8,17 @@ ghost use Rattle.array_meaning.specs.Terms.{Apply, More, NoTerm, Number, Reduce,
 ghost use Rattle.array_meaning.specs.Resolution.{alone, called, first_named, first_term, is_element, is_one, no_dim, place_of, section_subscript, section_subscripts, term_of, term_or, terms_of, whole};
 ghost use Rattle.name_table.specs.Entries.{declared_as};
 ghost use Rattle.expression_rules.specs.Partial.{maybe_of};
-ghost use Rattle.program_plan.specs.Made.{terms_before};
-ghost use Rattle.program_plan.specs.Plans.{subscripts_of, term, with_subscript};
-ghost use Rattle.program_plan.specs.Plans as plan;
+ghost use Rattle.resolved_program.specs.Made.{terms_before};
+ghost use Rattle.resolved_program.specs.Resolved.{subscripts_of, term, with_subscript};
+ghost use Rattle.resolved_program.specs.Resolved as plan;
 
 use crate::constants::inquiry;
 use crate::named::{dims_of, first_named, index_of, place_of};
-use crate::terms::{SectionSubscript, Term};
 use expression_rules::Dim;
 use hpf_base::{Name, OutOfMemory};
 use name_table::{Names, What};
 use op_tables::{Op, is_inquiry, is_reduction};
+use resolved_program::{SectionSubscript, Term};
 use std::alloc::Global;
 use syntax_tree::{Expr, Ref, Subscript};
 

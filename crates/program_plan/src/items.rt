@@ -3,14 +3,13 @@
 ghost use Rattle.std.specs.Prelude.{◌≡◌, map, IfOk};
 ghost use Rattle.syntax_tree.specs.Statement as syntax;
 ghost use Rattle.array_meaning.specs.Resolution.{item, item_of};
-ghost use Rattle.program_plan.specs.Plans as plan;
-ghost use Rattle.program_plan.specs.Plans.{term};
+ghost use Rattle.resolved_program.specs.Resolved as plan;
+ghost use Rattle.resolved_program.specs.Resolved.{term};
 
 use crate::expressions::term;
-use crate::statements::Item;
-use crate::terms::Term;
 use hpf_base::OutOfMemory;
 use name_table::Names;
+use resolved_program::{Item, Term};
 use std::alloc::Global;
 
 /// The items, in order.

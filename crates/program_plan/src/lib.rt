@@ -1,8 +1,7 @@
-//! Programs whose names are resolved, as interpreters and node code read them.
+//! Names resolved: from a program as it is read to one in which no name is met again.
 //!
-//! Comes in: a program that keeps the rules, with its declared names. Goes out: its statements, in which no name is met again. What
-//! holds in between: variables go by their place among the declared names, the indices of a FORALL by their place in its header, and
-//! what a plan stands for (`specs/Plans.antt`) is the resolved program of the definitions.
+//! Comes in: a program that keeps the rules, with its declared names. Goes out: its statements with their names resolved (`plan`). What
+//! holds in between: what they stand for is the resolved program of the definitions.
 #![tactic(auto)]
 
 mod array_statements;
@@ -14,11 +13,5 @@ mod expressions;
 mod items;
 mod named;
 mod nests;
-mod statements;
-mod terms;
 
 pub use blocks::plan;
-pub use statements::{
-    Action, Arm, Control, ElementAssignment, Item, Loop, Nest, Plan, SectionAssignment, Statement,
-};
-pub use terms::{SectionSubscript, Term};

@@ -8,9 +8,9 @@ ghost use Rattle.array_meaning.specs.Resolution.{place_of, resolved, resolved_bl
 ghost use Rattle.program_plan.specs.Nests.{IsNestOf, count_round, new_round, reduction_round};
 
 use crate::named::place_of;
-use crate::statements::Nest;
 use hpf_base::{Name, OutOfMemory};
 use name_table::Names;
+use resolved_program::Nest;
 use std::alloc::{AllocError, Global};
 use syntax_tree::{DoLoop, Kind, Mark, Stmt};
 

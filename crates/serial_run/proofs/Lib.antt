@@ -1,10 +1,5 @@
 pub mod ForallStores
 pub mod IndexTuples
-pub mod Linears
-pub mod OneToOne
-pub mod Products
-pub mod Subscripts
-pub mod Wrapped
 mod Statements
 mod Stores
 mod StoredSections

@@ -1,13 +1,13 @@
 -- What statements come to, by the parts of a plan.
 use Rattle.std.proofs.Common.{◌≡◌, ℕ, suc, ◌+◌, ◌-◌, ◌<◌, ap, sym, ◌∙◌, ℤ, ◌+ℤ◌, List, ◌∷◌, if◌then◌else◌, Vec, Global, Ok, Option, arith, ◌⊎◌, inl, inr}
-use Rattle.program_plan.specs.declared.statements.Action.{Action}
-use Rattle.program_plan.specs.declared.statements.Action.TheVariants as action
-use Rattle.program_plan.specs.declared.statements.Arm.{Arm, out-Arm}
-use Rattle.program_plan.specs.declared.statements.Loop.{Loop}
-use Rattle.program_plan.specs.declared.statements.Nest.{Nest}
-use Rattle.program_plan.specs.declared.statements.Statement.{Statement}
-use Rattle.program_plan.specs.Plans.{arms_of, block_of, loop_of, statement, term}
-use Rattle.program_plan.proofs.Rows.{arm_parts, do_vec, if_vec}
+use Rattle.resolved_program.specs.declared.statements.Action.{Action}
+use Rattle.resolved_program.specs.declared.statements.Action.TheVariants as action
+use Rattle.resolved_program.specs.declared.statements.Arm.{Arm, out-Arm}
+use Rattle.resolved_program.specs.declared.statements.Loop.{Loop}
+use Rattle.resolved_program.specs.declared.statements.Nest.{Nest}
+use Rattle.resolved_program.specs.declared.statements.Statement.{Statement}
+use Rattle.resolved_program.specs.Resolved.{arms_of, block_of, loop_of, statement, term}
+use Rattle.resolved_program.proofs.Rows.{arm_parts, do_vec, if_vec}
 use Rattle.op_tables.specs.Operators.{wrapped}
 use Rattle.array_meaning.specs.declared.sections.Sequence.{Sequence}
 use Rattle.array_meaning.specs.State.{State, set_scalar}

@@ -1,17 +1,14 @@
 -- The run of the definitions that a statement's completion in code belongs to.
 use Rattle.std.specs.Prelude.{◌≡◌, ℕ, Result, Ok, Err}
-use Rattle.array_meaning.specs.Faults.{Cause, Fault}
+use Rattle.array_meaning.specs.Faults.{Cause}
 use Rattle.array_meaning.specs.Runs.{Completion, Normal, Exited, Cycled, Stopped, Faulted, Run}
 use Rattle.array_meaning.specs.State.{State}
 use Rattle.serial_run.specs.declared.completion.Completion.{Completion as HeldCompletion}
 use Rattle.serial_run.specs.declared.completion.Completion.TheVariants as held
-use Rattle.serial_run.specs.declared.completion.Fault.{Fault as HeldFault}
 use Rattle.term_values.specs.declared.stops.Stop.{Stop}
 use Rattle.term_values.specs.declared.stops.Stop.TheVariants as stop
-use Rattle.term_values.specs.Stops.{cause, IsStop}
-
-abbrev pub fault : HeldFault → Fault
-fault f = record { line = f.line; kind = (cause f.cause).kind; at = (cause f.cause).at }
+use Rattle.term_values.specs.Faults.{fault}
+use Rattle.term_values.specs.Stops.{IsStop}
 
 abbrev pub completion : HeldCompletion → Completion
 completion held.Normal = Normal

@@ -1,5 +1,4 @@
 pub mod Completions
-pub mod Linears
 pub mod ForallParts
 pub mod Arms
 pub mod Printing

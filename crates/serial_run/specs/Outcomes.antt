@@ -4,7 +4,7 @@ use Rattle.array_meaning.specs.Serial.{End, Finished, Faulted, Outcome}
 use Rattle.serial_run.specs.declared.serial.End.{End as HeldEnd}
 use Rattle.serial_run.specs.declared.serial.End.TheVariants as held
 use Rattle.serial_run.specs.declared.serial.Outcome.{Outcome as HeldOutcome}
-use Rattle.serial_run.specs.Completions.{fault}
+use Rattle.term_values.specs.Faults.{fault}
 
 abbrev pub end_seen : HeldEnd → End
 end_seen held.Finished = Finished

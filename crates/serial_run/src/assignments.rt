@@ -3,13 +3,13 @@
 ghost use Rattle.std.specs.Prelude.{◌≡◌, IfErr, IfOk, Ok, OnOk};
 ghost use Rattle.array_meaning.specs.Execution.{assign_element, assign_scalar, run};
 ghost use Rattle.array_meaning.specs.Statements.{AssignElement, AssignScalar};
-ghost use Rattle.program_plan.specs.Plans.{term, terms_of};
+ghost use Rattle.resolved_program.specs.Resolved.{term, terms_of};
 ghost use Rattle.term_values.specs.States.{state_of};
 ghost use Rattle.term_values.specs.Stops.{IsStop};
 ghost use Rattle.serial_run.specs.Completions.{IsRun, IsStopped};
 
 use crate::completion::{Completion, ended};
-use program_plan::Term;
+use resolved_program::Term;
 use std::alloc::AllocError;
 use term_values::{State, Stop, value, variable_place};
 

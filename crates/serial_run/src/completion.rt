@@ -4,14 +4,7 @@ ghost use Rattle.std.specs.Prelude.{◌≡◌, IfOk};
 ghost use Rattle.serial_run.specs.Completions.{IsEnd, IsFaulted};
 
 use std::alloc::AllocError;
-use term_values::{Cause, Stop};
-
-/// A fault, and the number of its statement's line.
-#[derive(Drop)]
-pub struct Fault {
-    pub line: u32,
-    pub cause: Cause,
-}
+use term_values::{Fault, Stop};
 
 /// How a statement completes (Fortran 95, 8.1): so that the next one follows, by EXIT, CYCLE or STOP, or with a fault.
 #[derive(Drop)]

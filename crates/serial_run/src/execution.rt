@@ -4,7 +4,7 @@ ghost use Rattle.std.specs.Prelude.{◌≡◌, ◌+ℤ◌, IfErr, IfOk, Ok};
 ghost use Rattle.op_tables.specs.Operators.{wrapped};
 ghost use Rattle.array_meaning.specs.Execution.{condition, iterate, run, run_block};
 ghost use Rattle.array_meaning.specs.State.{set_scalar};
-ghost use Rattle.program_plan.specs.Plans.{arms_of, block_of, statement, term};
+ghost use Rattle.resolved_program.specs.Resolved.{arms_of, block_of, statement, term};
 ghost use Rattle.term_values.specs.States.{state_of};
 ghost use Rattle.term_values.specs.Stops.{IsStop};
 ghost use Rattle.serial_run.specs.Arms.{IsArms};
@@ -17,7 +17,7 @@ use crate::print::run_print;
 use crate::section_assignments::run_assign_section;
 use crate::where_construct::run_where;
 use array_meaning::Sequence;
-use program_plan::{Action, Arm, Statement, Term};
+use resolved_program::{Action, Arm, Statement, Term};
 use std::alloc::AllocError;
 use term_values::{State, Stop, index_values, value};
 

@@ -6,7 +6,7 @@ ghost use Rattle.hpf_base.specs.ElementOrder.{product};
 ghost use Rattle.array_meaning.specs.Expressions.{all_index_values};
 ghost use Rattle.array_meaning.specs.Forall.{assign_all_forall, assign_forall, index_extents, mask_over, run_forall};
 ghost use Rattle.array_meaning.specs.Runs.{one_step};
-ghost use Rattle.program_plan.specs.Plans.{control, element_assignment, term};
+ghost use Rattle.resolved_program.specs.Resolved.{control, element_assignment, term};
 ghost use Rattle.term_values.specs.States.{state_of};
 ghost use Rattle.term_values.specs.Stops.{IsStop};
 ghost use Rattle.serial_run.specs.Completions.{IsRun, IsStopped};
@@ -14,13 +14,13 @@ ghost use Rattle.serial_run.specs.ForallParts.{forall_masked, forall_over, foral
 ghost use Rattle.serial_run.specs.SectionStores.{branch_mask};
 
 use crate::completion::{Completion, ended, faulted};
-use crate::forall_limits::is_forall_in_limits;
 use crate::forall_stores::{forall_stores, mask_values};
 use crate::one_to_one::check_one_to_one;
 use crate::section_assignments::store_each;
 use crate::section_stores::{Branch, Space};
 use array_meaning::{FaultKind, Sequence};
-use program_plan::{Control, ElementAssignment, Term};
+use forall_conditions::is_forall_in_limits;
+use resolved_program::{Control, ElementAssignment, Term};
 use std::alloc::{AllocError, Global};
 use term_values::{State, Stop, fault, index_values, size};
 

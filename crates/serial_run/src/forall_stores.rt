@@ -8,7 +8,7 @@ ghost use Rattle.array_meaning.specs.Expressions.{value};
 ghost use Rattle.array_meaning.specs.Faults.{at_tuple};
 ghost use Rattle.array_meaning.specs.Forall.{indices_at};
 ghost use Rattle.array_meaning.specs.Terms.{More, NoTerm};
-ghost use Rattle.program_plan.specs.Plans.{element_assignment, term};
+ghost use Rattle.resolved_program.specs.Resolved.{element_assignment, term};
 ghost use Rattle.term_values.specs.States.{state_of};
 ghost use Rattle.term_values.specs.Stops.{IsStop};
 ghost use Rattle.serial_run.specs.SectionStores.{Keeps, branch_mask};
@@ -17,7 +17,7 @@ ghost use Rattle.serial_run.specs.ForallParts.{element_store, forall_store, fora
 use crate::index_tuples::{advance, tuple_at};
 use crate::section_stores::{Space, is_chosen};
 use array_meaning::{Sequence, Store};
-use program_plan::{ElementAssignment, Term};
+use resolved_program::{ElementAssignment, Term};
 use term_values::{State, Stop, at_tuple, element_place, value, values};
 
 /// The values of a mask at the first tuples, in order; or its first fault, with its tuple.

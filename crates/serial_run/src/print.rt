@@ -4,7 +4,7 @@ ghost use Rattle.std.specs.Fmt.{signed_decimal};
 ghost use Rattle.std.specs.Prelude.{◌≡◌, ◌++◌, ◌∷◌, [], drop, IfErr, IfOk, map, Ok, OnOk};
 ghost use Rattle.array_meaning.specs.Execution.{all_item_bytes, decimals, item_bytes, print, run};
 ghost use Rattle.array_meaning.specs.Statements.{Print};
-ghost use Rattle.program_plan.specs.Plans.{item, subscripts_of};
+ghost use Rattle.resolved_program.specs.Resolved.{item, subscripts_of};
 ghost use Rattle.term_values.specs.States.{state_of};
 ghost use Rattle.term_values.specs.Stops.{IsStop};
 ghost use Rattle.term_values.specs.declared.stops.Stop.TheVariants.{Memory};
@@ -13,7 +13,7 @@ ghost use Rattle.serial_run.specs.Printing.{Adds, section_elements};
 
 use crate::completion::{Completion, ended};
 use itoa::Buffer;
-use program_plan::{Item, SectionSubscript};
+use resolved_program::{Item, SectionSubscript};
 use std::alloc::AllocError;
 use term_values::{ArrayValue, Elemental, State, Stop, array_value, selections, value};
 

@@ -4,7 +4,7 @@ ghost use Rattle.std.specs.Prelude.{◌≡◌, IfErr, IfOk, Ok, OnOk};
 ghost use Rattle.array_meaning.specs.ArrayAssignments.{assign_section, assign_where};
 ghost use Rattle.array_meaning.specs.Execution.{run};
 ghost use Rattle.array_meaning.specs.Statements.{AssignSection};
-ghost use Rattle.program_plan.specs.Plans.{section_assignment, subscripts_of, term};
+ghost use Rattle.resolved_program.specs.Resolved.{section_assignment, subscripts_of, term};
 ghost use Rattle.term_values.specs.States.{state_of};
 ghost use Rattle.serial_run.specs.Completions.{IsRun, IsStopped};
 ghost use Rattle.serial_run.specs.SectionStores.{branch_mask, stored_each};
@@ -12,7 +12,7 @@ ghost use Rattle.serial_run.specs.SectionStores.{branch_mask, stored_each};
 use crate::completion::{Completion, ended};
 use crate::section_stores::{Space, section_stores, where_stores};
 use array_meaning::Store;
-use program_plan::{SectionAssignment, SectionSubscript, Term};
+use resolved_program::{SectionAssignment, SectionSubscript, Term};
 use std::alloc::AllocError;
 use term_values::{State, Stop};
 

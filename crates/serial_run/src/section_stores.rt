@@ -7,7 +7,7 @@ ghost use Rattle.array_meaning.specs.ArrayAssignments.{if_true, mask_of};
 ghost use Rattle.array_meaning.specs.Sections.{positions, subscripts_at};
 ghost use Rattle.array_meaning.specs.State.{place_in};
 ghost use Rattle.array_meaning.specs.Faults.{at_tuple};
-ghost use Rattle.program_plan.specs.Plans.{section_assignment, subscripts_of, term};
+ghost use Rattle.resolved_program.specs.Resolved.{section_assignment, subscripts_of, term};
 ghost use Rattle.term_values.specs.States.{state_of};
 ghost use Rattle.term_values.specs.Stops.{IsStop};
 ghost use Rattle.term_values.specs.Views.{elemental};
@@ -15,11 +15,8 @@ ghost use Rattle.serial_run.specs.SectionStores.{Keeps, branch_mask, kept_of, ma
 
 use crate::position_tuples::{advance, tuple_at};
 use array_meaning::{Selection, Store};
-use program_plan::{SectionAssignment, SectionSubscript, Term};
-use term_values::{
-    Elemental, State, Stop, at_tuple, element_place, elemental_of, extents, selections, space_size,
-    subscripts_at, value_at,
-};
+use resolved_program::{SectionAssignment, SectionSubscript, Term};
+use term_values::{Elemental, State, Stop, at_tuple, element_place, elemental_of, extents, selections, space_size, subscripts_at, value_at};
 
 /// Where an assignment stands: not in a WHERE, or before or behind its ELSEWHERE.
 #[derive(Clone, Copy)]

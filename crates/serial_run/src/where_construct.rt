@@ -3,7 +3,7 @@
 ghost use Rattle.std.specs.Prelude.{◌≡◌, IfErr, IfOk, Ok, map};
 ghost use Rattle.array_meaning.specs.ArrayAssignments.{assign_all_where, assign_where, run_where};
 ghost use Rattle.array_meaning.specs.Runs.{one_step};
-ghost use Rattle.program_plan.specs.Plans.{section_assignment, term};
+ghost use Rattle.resolved_program.specs.Resolved.{section_assignment, term};
 ghost use Rattle.term_values.specs.States.{state_of};
 ghost use Rattle.term_values.specs.Stops.{IsStop};
 ghost use Rattle.term_values.specs.Views.{array_value_of};
@@ -14,7 +14,7 @@ ghost use Rattle.serial_run.specs.WhereConstruct.{mask_value, run_branches};
 use crate::completion::{Completion, ended, faulted};
 use crate::section_assignments::assign_where;
 use crate::section_stores::{Branch, Space};
-use program_plan::{SectionAssignment, Term};
+use resolved_program::{SectionAssignment, Term};
 use std::alloc::AllocError;
 use term_values::{ArrayValue, State, Stop, array_value, elemental_of};
 

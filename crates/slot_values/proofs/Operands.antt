@@ -13,11 +13,11 @@ use Rattle.node_code.specs.ForallLimits.{term_of, terms_of as terms_of_flats}
 use Rattle.node_code.specs.Forms.{elemental_at, elementals_at}
 use Rattle.node_code.specs.Texts.{flat, flats_of, form, forms_of}
 use Rattle.node_code.proofs.Rows.{operated_vec, operation_vec}
-use Rattle.program_plan.specs.declared.terms.Term.{Term as HeldTerm}
-use Rattle.program_plan.specs.declared.terms.Term.TheVariants as held_term
-use Rattle.program_plan.specs.Made.{before}
-use Rattle.program_plan.specs.Plans.{term, terms_of}
-use Rattle.program_plan.proofs.Rows.{apply_vec}
+use Rattle.resolved_program.specs.declared.terms.Term.{Term as HeldTerm}
+use Rattle.resolved_program.specs.declared.terms.Term.TheVariants as held_term
+use Rattle.resolved_program.specs.Made.{before}
+use Rattle.resolved_program.specs.Resolved.{term, terms_of}
+use Rattle.resolved_program.proofs.Rows.{apply_vec}
 use Rattle.slot_values.specs.Operations.{operation_value}
 use Rattle.term_values.specs.declared.array_values.Elemental.{Elemental as HeldElemental}
 use Rattle.term_values.specs.Views.{elemental, elementals_of}

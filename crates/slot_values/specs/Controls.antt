@@ -1,7 +1,7 @@
 -- The place of the next instruction, the slots, and how a run stands, apart from where they lie in memory.
 use Rattle.array_meaning.specs.Faults.{Fault}
 use Rattle.machine_steps.specs.Instr.{Status, Running, Finished, Faulted, Control}
-use Rattle.serial_run.specs.Completions.{fault}
+use Rattle.term_values.specs.Faults.{fault}
 use Rattle.slot_values.specs.declared.control.Control.{Control as HeldControl}
 use Rattle.slot_values.specs.declared.control.Status.{Status as HeldStatus}
 use Rattle.slot_values.specs.declared.control.Status.TheVariants as held

@@ -10,8 +10,7 @@ ghost use Rattle.slot_values.specs.Tested.{IsStopped, IsTested};
 
 use crate::expressions::slot;
 use hpf_base::OutOfMemory;
-use serial_run::Fault;
-use term_values::Stop;
+use term_values::{Fault, Stop};
 
 /// How a run stands: it goes on, is finished, or ended with a fault.
 #[derive(Drop)]

@@ -17,9 +17,9 @@ use crate::control::{Control, go_on_if};
 use crate::sections::selections_at;
 use crate::slot_terms::{sequences_of, slots_state, terms};
 use array_meaning::{FaultKind, Selection};
+use forall_conditions::{are_subscripts_in_limits, is_one_to_one};
 use hpf_base::OutOfMemory;
 use node_code::{Flat, Sub};
-use serial_run::{are_subscripts_in_limits, is_one_to_one};
 use std::alloc::{AllocError, Global};
 use term_values::{Stop, extents, fault, size};
 

@@ -32,5 +32,5 @@ pub use owner_tables::Spot;
 pub use scalar_instructions::{set, test_bounds, test_stride, trips};
 pub use section_bounds::inside;
 pub use sections::{elemental_at, selections_at};
-pub use serial_run::Fault;
+pub use term_values::Fault;
 pub use space_tests::{limits, own_limits};

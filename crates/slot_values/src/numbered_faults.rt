@@ -2,14 +2,13 @@
 
 ghost use Rattle.std.specs.Prelude.{◌≡◌, pos, unsigned_abs, box_value, IfOk};
 ghost use Rattle.node_code.specs.FaultNumbers.{fault_numbers, fault_of, kind_at, kind_number, location_of};
-ghost use Rattle.serial_run.specs.Completions.{fault};
+ghost use Rattle.term_values.specs.Faults.{fault};
 ghost use Rattle.term_values.specs.Stops.{cause};
 
 use array_meaning::FaultKind;
 use hpf_base::OutOfMemory;
-use serial_run::Fault;
 use std::alloc::{AllocError, Global};
-use term_values::Cause;
+use term_values::{Cause, Fault};
 
 /// The numbers of a fault: the line, the kind, and where it comes.
 pub fn fault_numbers(alloc: Global, f: &Fault) -> Result<Vec<i64>, OutOfMemory>

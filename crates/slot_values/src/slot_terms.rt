@@ -3,12 +3,12 @@
 ghost use Rattle.std.specs.Prelude.{◌≡◌, IfOk};
 ghost use Rattle.node_code.specs.ForallLimits.{sequences_of, slots_state, term_of, terms_of};
 ghost use Rattle.node_code.specs.Texts.{flat, flats_of};
-ghost use Rattle.program_plan.specs.Plans.{term, terms_of as plan_terms_of};
+ghost use Rattle.resolved_program.specs.Resolved.{term, terms_of as plan_terms_of};
 ghost use Rattle.term_values.specs.States.{state_of};
 
 use array_meaning::{Selection, Sequence};
 use node_code::Flat;
-use program_plan::Term;
+use resolved_program::Term;
 use std::alloc::{AllocError, Global};
 use term_values::State;
 

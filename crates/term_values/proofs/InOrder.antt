@@ -3,8 +3,8 @@ use Rattle.std.proofs.Common.{◌≡◌, List, [], ◌∷◌, ◌++◌, ℤ, ref
 use Rattle.array_meaning.specs.Faults.{Cause, ◌>>=◌, with_more}
 use Rattle.array_meaning.specs.State.{State}
 use Rattle.array_meaning.specs.Expressions.{values}
-use Rattle.program_plan.specs.declared.terms.Term.{Term as HeldTerm}
-use Rattle.program_plan.specs.Plans.{terms_of}
+use Rattle.resolved_program.specs.declared.terms.Term.{Term as HeldTerm}
+use Rattle.resolved_program.specs.Resolved.{terms_of}
 use Rattle.term_values.specs.declared.stops.Stop.{Stop}
 use Rattle.term_values.specs.declared.stops.Stop.TheVariants.{Fault, Memory}
 use Rattle.term_values.specs.Stops.{IsStop}

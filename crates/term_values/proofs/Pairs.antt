@@ -5,8 +5,8 @@ use Rattle.array_meaning.specs.Elementals.{value_at, values_at}
 use Rattle.array_meaning.specs.Expressions.{value, values}
 use Rattle.array_meaning.specs.Faults.{with_more}
 use Rattle.array_meaning.specs.State.{State}
-use Rattle.program_plan.specs.declared.terms.Term.{Term as HeldTerm}
-use Rattle.program_plan.specs.Plans.{term, terms_of}
+use Rattle.resolved_program.specs.declared.terms.Term.{Term as HeldTerm}
+use Rattle.resolved_program.specs.Resolved.{term, terms_of}
 use Rattle.term_values.specs.declared.array_values.Elemental.{Elemental as HeldElemental}
 use Rattle.term_values.specs.declared.stops.Stop.{Stop}
 use Rattle.term_values.specs.declared.stops.Stop.TheVariants.{Fault, Memory}

@@ -2,12 +2,12 @@
 use Rattle.std.proofs.Common.{◌≡◌, ℕ, List, ◌∷◌, ℤ, refl, ap, sym, ◌∙◌, Global}
 use Rattle.std.specs.Prelude.{Vec}
 use Rattle.op_tables.specs.declared.op.Op.{Op}
-use Rattle.program_plan.specs.declared.terms.Term.{Term as HeldTerm}
-use Rattle.program_plan.specs.declared.terms.Term.TheVariants as held
-use Rattle.program_plan.specs.declared.terms.SectionSubscript.{SectionSubscript as HeldSubscript}
-use Rattle.program_plan.specs.declared.terms.SectionSubscript.TheBlock.{Subscript as Subscript', Triplet as Triplet'}
-use Rattle.program_plan.specs.Plans.{term, terms_of, subscripts_of}
-use Rattle.program_plan.proofs.Rows.{element_vec, section_vec, apply_vec}
+use Rattle.resolved_program.specs.declared.terms.Term.{Term as HeldTerm}
+use Rattle.resolved_program.specs.declared.terms.Term.TheVariants as held
+use Rattle.resolved_program.specs.declared.terms.SectionSubscript.{SectionSubscript as HeldSubscript}
+use Rattle.resolved_program.specs.declared.terms.SectionSubscript.TheBlock.{Subscript as Subscript', Triplet as Triplet'}
+use Rattle.resolved_program.specs.Resolved.{term, terms_of, subscripts_of}
+use Rattle.resolved_program.proofs.Rows.{element_vec, section_vec, apply_vec}
 use Rattle.array_meaning.specs.Faults.{with_more}
 use Rattle.array_meaning.specs.Expressions.{value, elemental, selections}
 use Rattle.array_meaning.specs.State.{State}

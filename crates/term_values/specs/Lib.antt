@@ -5,4 +5,5 @@ pub mod SectionSubscripts
 pub mod Spaces
 pub mod States
 pub mod Stops
+pub mod Faults
 pub mod Views

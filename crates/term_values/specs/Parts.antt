@@ -1,9 +1,9 @@
 -- The parts of an evaluation, each as a call answers it.
 use Rattle.std.specs.Prelude.{ℕ, List, ℤ, Result, Ok}
 use Rattle.op_tables.specs.declared.op.Op.{Op}
-use Rattle.program_plan.specs.declared.terms.SectionSubscript.{SectionSubscript as HeldSubscript}
-use Rattle.program_plan.specs.declared.terms.SectionSubscript.TheBlock.{Subscript as Subscript', Triplet as Triplet'}
-use Rattle.program_plan.specs.Plans.{term}
+use Rattle.resolved_program.specs.declared.terms.SectionSubscript.{SectionSubscript as HeldSubscript}
+use Rattle.resolved_program.specs.declared.terms.SectionSubscript.TheBlock.{Subscript as Subscript', Triplet as Triplet'}
+use Rattle.resolved_program.specs.Resolved.{term}
 use Rattle.array_meaning.specs.Terms.{Term, Terms, SectionSubscripts}
 use Rattle.array_meaning.specs.Faults.{Cause, ◌>>=◌}
 use Rattle.array_meaning.specs.State.{State, element, place_in}

@@ -3,7 +3,7 @@
 ghost use Rattle.std.specs.Prelude.{◌≡◌, length, IfOk, IfErr, Ok, [], ◌∷◌};
 ghost use Rattle.array_meaning.specs.Expressions.{value, values, elemental as evaluated, elementals, selections};
 ghost use Rattle.array_meaning.specs.Terms.{More, NoTerm};
-ghost use Rattle.program_plan.specs.Plans.{term, terms_of, subscripts_of};
+ghost use Rattle.resolved_program.specs.Resolved.{term, terms_of, subscripts_of};
 ghost use Rattle.term_values.specs.Parts.{element_value, operation, operation_value, reduction_value, same, selected, selection, variable_place};
 ghost use Rattle.term_values.specs.States.{state_of};
 ghost use Rattle.term_values.specs.Views.{elemental, elementals_of};
@@ -21,7 +21,7 @@ use crate::stops::Stop;
 use crate::wrapping::Pair;
 use array_meaning::Selection;
 use op_tables::Op;
-use program_plan::{SectionSubscript, Term};
+use resolved_program::{SectionSubscript, Term};
 use smallvec::SmallVec;
 
 /// The value of a scalar expression (Fortran 95, 7.1.7), or its first fault; `indices` are the values of the indices of a FORALL, and

@@ -4,7 +4,7 @@ ghost use Rattle.std.specs.Prelude.{◌≡◌, ◌≢◌, ◌<◌, ◌^◌, pos,
 ghost use Rattle.expression_rules.specs.Dims.{at_least_none};
 ghost use Rattle.array_meaning.specs.Expressions.{index_values};
 ghost use Rattle.array_meaning.specs.Sections.{sequence, value_count};
-ghost use Rattle.program_plan.specs.Plans.{control};
+ghost use Rattle.resolved_program.specs.Resolved.{control};
 ghost use Rattle.term_values.specs.States.{state_of};
 ghost use Rattle.term_values.specs.Stops.{IsStop};
 
@@ -12,7 +12,7 @@ use crate::expressions::value;
 use crate::state::State;
 use crate::stops::{Stop, fault};
 use array_meaning::{FaultKind, Sequence};
-use program_plan::Control;
+use resolved_program::Control;
 
 /// The values that the index of a DO or FORALL takes; a fault where an expression has one, or the step is 0.
 pub fn index_values(s: &State, c: &Control) -> Result<Sequence, Stop>

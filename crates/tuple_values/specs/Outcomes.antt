@@ -5,7 +5,7 @@ use Rattle.machine_steps.specs.Instr.{Outcome, Nothing, Value, Breaks}
 use Rattle.term_values.specs.declared.stops.Stop.{Stop}
 use Rattle.term_values.specs.declared.stops.Stop.TheVariants as stop
 use Rattle.term_values.specs.Stops.{cause}
-use Rattle.serial_run.specs.Completions.{fault}
+use Rattle.term_values.specs.Faults.{fault}
 use Rattle.tuple_values.specs.declared.outcome.Outcome.{Outcome as HeldOutcome}
 use Rattle.tuple_values.specs.declared.outcome.Outcome.TheVariants as held
 

@@ -4,9 +4,8 @@ ghost use Rattle.std.specs.Prelude.{IfOk};
 ghost use Rattle.tuple_values.specs.Outcomes.{IsBroken};
 
 use hpf_base::OutOfMemory;
-use serial_run::Fault;
 use std::alloc::Global;
-use term_values::{Stop, at_tuple};
+use term_values::{Fault, Stop, at_tuple};
 
 /// What a tuple comes to: nothing where the mask doesn't ask for it, a value, or a fault.
 #[derive(Drop)]

@@ -1,6 +1,6 @@
 use Rattle.std.proofs.Common.{◌≡◌, IfOk, length, ap, subst, ◌∙◌}
 use Rattle.node_code.specs.Texts.{instructions}
-use Rattle.program_plan.specs.Plans.{block_of}
+use Rattle.resolved_program.specs.Resolved.{block_of}
 use Rattle.lowering.specs.StatementCode.{program_code}
 use Rattle.distributed_run.proofs.openings.compiled.Goals as goal
 

@@ -1,7 +1,7 @@
 use Rattle.std.proofs.Common.{◌≡◌, ◌++◌, drop}
 use Rattle.lowering.specs.ExpressionCode.{all_parts_code, codes_of, subscripts_code}
 use Rattle.node_code.specs.Texts.{instructions}
-use Rattle.program_plan.specs.Plans.{subscripts_of, terms_of}
+use Rattle.resolved_program.specs.Resolved.{subscripts_of, terms_of}
 use Rattle.expression_code.proofs.code.+code.Given as goal
 
 -- the code so far, before that of the rest, is all

@@ -1,6 +1,6 @@
 use Rattle.std.proofs.Common.{◌≡◌, drop}
 use Rattle.lowering.specs.ExpressionCode.{first_subs_of, forms_of}
-use Rattle.program_plan.specs.Plans.{terms_of}
+use Rattle.resolved_program.specs.Resolved.{terms_of}
 use Rattle.expression_code.proofs.evaluations.+space.Given as goal
 
 -- the first section is one of the rest

@@ -6,7 +6,7 @@ use Rattle.node_code.specs.Texts.{flat}
 use Rattle.expression_code.proofs.Forms.{apply_is}
 use Rattle.node_code.proofs.Rows.{operated_vec}
 use Rattle.expression_code.proofs.Lists.{flats_made}
-use Rattle.program_plan.specs.Plans.{terms_of}
+use Rattle.resolved_program.specs.Resolved.{terms_of}
 use Rattle.expression_code.proofs.indexed.+index_flat.Goals as goal
 
 pub index_flat-returns-in-Apply : goal.index_flat-returns-in-Apply

@@ -1,5 +1,5 @@
 use Rattle.std.proofs.Common.{ap, ◌∙◌}
-use Rattle.program_plan.specs.Plans.{terms_of}
+use Rattle.resolved_program.specs.Resolved.{terms_of}
 use Rattle.expression_code.proofs.Lists.{flat_list, index_list, list_of_flats}
 use Rattle.expression_code.proofs.indexed.all_index_flats.Goals as goal
 

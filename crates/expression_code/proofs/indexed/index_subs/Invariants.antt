@@ -1,7 +1,7 @@
 use Rattle.std.proofs.Common.{◌≡◌, ◌++◌, drop}
 use Rattle.lowering.specs.ExpressionCode.{index_subs}
 use Rattle.node_code.specs.Texts.{subs}
-use Rattle.program_plan.specs.Plans.{terms_of}
+use Rattle.resolved_program.specs.Resolved.{terms_of}
 use Rattle.expression_code.proofs.indexed.index_subs.Given as goal
 
 -- what is made so far, before what the rest makes, is all

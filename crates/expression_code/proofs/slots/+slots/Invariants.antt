@@ -1,6 +1,6 @@
 use Rattle.std.proofs.Common.{◌≡◌, ◌+◌, drop}
 use Rattle.lowering.specs.ExpressionCode.{all_parts_slots, all_slots_of, subscripts_slots}
-use Rattle.program_plan.specs.Plans.{subscripts_of, terms_of}
+use Rattle.resolved_program.specs.Resolved.{subscripts_of, terms_of}
 use Rattle.expression_code.proofs.slots.+slots.Given as goal
 
 -- the slots so far, and those of the rest, are all

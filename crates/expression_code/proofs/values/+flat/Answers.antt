@@ -4,7 +4,7 @@ use Rattle.lowering.specs.ExpressionCode.{all_slots_of, flat_of, flats_of, opera
 use Rattle.node_code.specs.Flat.{Operated, Slot}
 use Rattle.node_code.specs.Texts.{flat}
 use Rattle.expression_code.proofs.Forms.{apply_is, element_is}
-use Rattle.program_plan.specs.Plans.{terms_of}
+use Rattle.resolved_program.specs.Resolved.{terms_of}
 use Rattle.expression_code.proofs.Lists.{flats_made}
 use Rattle.node_code.proofs.Rows.{operated_vec}
 use Rattle.expression_code.proofs.values.+flat.Goals as goal

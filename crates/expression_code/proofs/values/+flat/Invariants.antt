@@ -1,7 +1,7 @@
 use Rattle.std.proofs.Common.{◌≡◌, ◌++◌, drop, map}
 use Rattle.lowering.specs.ExpressionCode.{flats_of}
 use Rattle.node_code.specs.Texts.{flat}
-use Rattle.program_plan.specs.Plans.{terms_of}
+use Rattle.resolved_program.specs.Resolved.{terms_of}
 use Rattle.expression_code.proofs.Lists.{flat_list}
 use Rattle.expression_code.proofs.values.+flat.Given as goal
 

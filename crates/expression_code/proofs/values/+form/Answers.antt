@@ -6,7 +6,7 @@ use Rattle.node_code.specs.Texts.{form}
 use Rattle.expression_code.proofs.Forms.{apply_is, section_is}
 use Rattle.node_code.proofs.Rows.{operation_vec}
 use Rattle.expression_code.proofs.Lists.{forms_made}
-use Rattle.program_plan.specs.Plans.{terms_of}
+use Rattle.resolved_program.specs.Resolved.{terms_of}
 use Rattle.expression_code.proofs.values.+form.Goals as goal
 
 pub form_of-returns-in-Section : goal.form_of-returns-in-Section

@@ -1,7 +1,7 @@
 use Rattle.std.proofs.Common.{◌≡◌, ◌++◌, drop, map}
 use Rattle.lowering.specs.ExpressionCode.{forms_of}
 use Rattle.node_code.specs.Texts.{form}
-use Rattle.program_plan.specs.Plans.{terms_of}
+use Rattle.resolved_program.specs.Resolved.{terms_of}
 use Rattle.expression_code.proofs.Lists.{form_list}
 use Rattle.expression_code.proofs.values.+form.Given as goal
 

@@ -1,7 +1,7 @@
 use Rattle.std.proofs.Common.{◌≡◌, ◌++◌, drop}
 use Rattle.lowering.specs.ExpressionCode.{subs_of}
 use Rattle.node_code.specs.Texts.{subs}
-use Rattle.program_plan.specs.Plans.{subscripts_of}
+use Rattle.resolved_program.specs.Resolved.{subscripts_of}
 use Rattle.expression_code.proofs.values.subs_of.Given as goal
 
 -- what is made so far, before what the rest makes, is all

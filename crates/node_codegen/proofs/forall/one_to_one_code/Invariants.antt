@@ -1,6 +1,6 @@
 use Rattle.std.proofs.Common.{◌≡◌, ◌++◌, drop, map}
 use Rattle.node_code.specs.Texts.{instructions}
-use Rattle.program_plan.specs.Plans.{control, element_assignment}
+use Rattle.resolved_program.specs.Resolved.{control, element_assignment}
 use Rattle.lowering.specs.ExpressionCode.{subs_of}
 use Rattle.lowering.specs.StatementCode.{one_to_one_code, triplets}
 use Rattle.node_codegen.proofs.forall.one_to_one_code.Given as goal

@@ -1,7 +1,7 @@
 use Rattle.std.proofs.Common.{◌≡◌, ◌++◌, drop, map}
 use Rattle.array_meaning.specs.Forall.{body_subscripts}
 use Rattle.node_code.specs.Texts.{flat}
-use Rattle.program_plan.specs.Plans.{element_assignment}
+use Rattle.resolved_program.specs.Resolved.{element_assignment}
 use Rattle.lowering.specs.ExpressionCode.{index_flat}
 use Rattle.node_codegen.proofs.forall_subscripts.body_subscripts.Given as goal
 

@@ -1,6 +1,6 @@
 use Rattle.std.proofs.Common.{◌≡◌, ◌++◌, drop, map}
 use Rattle.node_code.specs.Texts.{instructions}
-use Rattle.program_plan.specs.Plans.{item}
+use Rattle.resolved_program.specs.Resolved.{item}
 use Rattle.lowering.specs.StatementCode.{items_code}
 use Rattle.node_codegen.proofs.print.items_code.Given as goal
 

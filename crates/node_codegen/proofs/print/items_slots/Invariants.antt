@@ -1,5 +1,5 @@
 use Rattle.std.proofs.Common.{◌≡◌, ◌+◌, drop, map}
-use Rattle.program_plan.specs.Plans.{item}
+use Rattle.resolved_program.specs.Resolved.{item}
 use Rattle.lowering.specs.StatementCode.{items_slots}
 use Rattle.node_codegen.proofs.print.items_slots.Given as goal
 

@@ -1,6 +1,6 @@
 use Rattle.std.proofs.Common.{◌≡◌, ◌++◌, drop, map}
 use Rattle.node_code.specs.Texts.{print_item}
-use Rattle.program_plan.specs.Plans.{item}
+use Rattle.resolved_program.specs.Resolved.{item}
 use Rattle.lowering.specs.StatementCode.{print_items}
 use Rattle.node_codegen.proofs.print.print_items.Given as goal
 

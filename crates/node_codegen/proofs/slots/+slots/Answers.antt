@@ -1,6 +1,6 @@
 use Rattle.std.proofs.Common.{◌≡◌, ◌+◌, ℕ, IfOk, max, arith, sym, ap, ◌∙◌, subst}
-use Rattle.program_plan.specs.Plans.{arms_of, block_of, statement}
-use Rattle.program_plan.proofs.Rows.{arm_parts, do_vec, if_vec}
+use Rattle.resolved_program.specs.Resolved.{arms_of, block_of, statement}
+use Rattle.resolved_program.proofs.Rows.{arm_parts, do_vec, if_vec}
 use Rattle.lowering.specs.StatementCode.{arms_slots, block_slots, statement_slots}
 use Rattle.node_codegen.proofs.slots.+slots.Goals as goal
 

@@ -1,5 +1,5 @@
 use Rattle.std.proofs.Common.{◌≡◌, drop, max}
-use Rattle.program_plan.specs.Plans.{arms_of, block_of}
+use Rattle.resolved_program.specs.Resolved.{arms_of, block_of}
 use Rattle.lowering.specs.StatementCode.{arms_slots, block_slots}
 use Rattle.node_codegen.proofs.slots.+slots.Given as goal
 

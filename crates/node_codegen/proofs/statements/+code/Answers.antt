@@ -4,9 +4,9 @@ use Rattle.std.proofs.Math.ListN.{drop_of_length-le}
 use Rattle.expression_rules.proofs.Lists.{drop_item}
 use Rattle.node_code.specs.Instructions.{JumpIfZero}
 use Rattle.node_code.specs.Texts.{instruction, instructions}
-use Rattle.program_plan.specs.declared.statements.Arm.{out-Arm}
-use Rattle.program_plan.specs.Plans.{arms_of, block_of, term}
-use Rattle.program_plan.proofs.Rows.{arm_parts}
+use Rattle.resolved_program.specs.declared.statements.Arm.{out-Arm}
+use Rattle.resolved_program.specs.Resolved.{arms_of, block_of, term}
+use Rattle.resolved_program.proofs.Rows.{arm_parts}
 use Rattle.lowering.specs.StatementCode.{arms_code, block_code}
 use Rattle.node_codegen.specs.Arms.{AreArms, arms_before, codes, jumping_to}
 use Rattle.node_codegen.proofs.Arms.{arm_is, arms_next, codes_next}

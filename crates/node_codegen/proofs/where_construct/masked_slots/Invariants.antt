@@ -1,5 +1,5 @@
 use Rattle.std.proofs.Common.{◌≡◌, drop, map, max}
-use Rattle.program_plan.specs.Plans.{section_assignment}
+use Rattle.resolved_program.specs.Resolved.{section_assignment}
 use Rattle.lowering.specs.StatementCode.{masked_slots}
 use Rattle.node_codegen.proofs.where_construct.masked_slots.Given as goal
 

@@ -1,7 +1,7 @@
 use Rattle.std.proofs.Common.{◌++◌, map, ap, ◌∙◌}
-use Rattle.program_plan.specs.Plans.{element_assignment}
+use Rattle.resolved_program.specs.Resolved.{element_assignment}
 use Rattle.program_plan.proofs.Assigned.{element_added}
-use Rattle.program_plan.proofs.Made.{one_more}
+use Rattle.resolved_program.proofs.Made.{one_more}
 use Rattle.program_plan.proofs.assignments.add_element_assignment.Goals as goal
 
 pub returns-in-Element : goal.returns-in-Element

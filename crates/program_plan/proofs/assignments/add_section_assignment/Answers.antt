@@ -1,7 +1,7 @@
 use Rattle.std.proofs.Common.{◌++◌, map, ap, ◌∙◌}
-use Rattle.program_plan.specs.Plans.{section_assignment}
+use Rattle.resolved_program.specs.Resolved.{section_assignment}
 use Rattle.program_plan.proofs.Assigned.{section_added}
-use Rattle.program_plan.proofs.Made.{one_more}
+use Rattle.resolved_program.proofs.Made.{one_more}
 use Rattle.program_plan.proofs.assignments.add_section_assignment.Goals as goal
 
 pub returns-in-Section : goal.returns-in-Section

@@ -1,7 +1,7 @@
 use Rattle.std.proofs.Common.{sym, ap, ◌∙◌}
 use Rattle.array_meaning.specs.Resolution.{assignment}
-use Rattle.program_plan.specs.Plans.{term}
-use Rattle.program_plan.proofs.Rows.{element_vec, section_vec}
+use Rattle.resolved_program.specs.Resolved.{term}
+use Rattle.resolved_program.proofs.Rows.{element_vec, section_vec}
 use Rattle.program_plan.proofs.assignments.assignment_of.Goals as goal
 
 pub returns-in-Element : goal.returns-in-Element

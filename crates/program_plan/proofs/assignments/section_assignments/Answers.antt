@@ -4,8 +4,8 @@ use Rattle.expression_rules.proofs.Lists.{drop_item}
 use Rattle.syntax_tree.specs.declared.stmt.Stmt.{Stmt}
 use Rattle.syntax_tree.specs.Statement.{assignments_in, assignments_of}
 use Rattle.array_meaning.specs.Resolution.{section_assignments}
-use Rattle.program_plan.specs.Plans.{section_assignment}
-use Rattle.program_plan.proofs.Made.{joined_all, joined_next}
+use Rattle.resolved_program.specs.Resolved.{section_assignment}
+use Rattle.resolved_program.proofs.Made.{joined_all, joined_next}
 use Rattle.program_plan.proofs.assignments.section_assignments.Goals as goal
 
 pub loop-stmt-preserved : goal.loop-stmt-preserved

@@ -1,7 +1,7 @@
 use Rattle.std.proofs.Common.{◌≡◌, ◌++◌, drop, map}
 use Rattle.syntax_tree.specs.Statement.{assignments_of}
 use Rattle.array_meaning.specs.Resolution.{section_assignments}
-use Rattle.program_plan.specs.Plans.{section_assignment}
+use Rattle.resolved_program.specs.Resolved.{section_assignment}
 use Rattle.program_plan.proofs.assignments.section_assignments.Given as goal
 
 -- what is made so far, before what the rest makes, is all

@@ -2,8 +2,8 @@ use Rattle.std.proofs.Common.{◌≡◌, drop}
 use Rattle.syntax_tree.specs.Statement as syntax
 use Rattle.array_meaning.specs.Statements.{Then}
 use Rattle.array_meaning.specs.Resolution.{resolved_arms, resolved_block}
-use Rattle.program_plan.specs.Made.{before}
-use Rattle.program_plan.specs.Plans.{statement, with_arm}
+use Rattle.resolved_program.specs.Made.{before}
+use Rattle.resolved_program.specs.Resolved.{statement, with_arm}
 use Rattle.program_plan.proofs.blocks.+block.Given as goal
 
 -- what is made so far, before what the rest makes, is all

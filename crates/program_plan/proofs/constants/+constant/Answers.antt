@@ -1,8 +1,8 @@
 use Rattle.std.proofs.Common.{rules, ap, sym, ◌∙◌, to_z-of_z, SFits, w64, unwrap_or, pos}
 use Rattle.op_tables.specs.Operators.{operator_value}
 use Rattle.array_meaning.specs.Resolution.{constant, constants}
-use Rattle.program_plan.specs.Plans.{term, terms_of}
-use Rattle.program_plan.proofs.Rows.{apply_vec}
+use Rattle.resolved_program.specs.Resolved.{term, terms_of}
+use Rattle.resolved_program.proofs.Rows.{apply_vec}
 use Rattle.program_plan.proofs.constants.+constant.Goals as goal
 
 pub constant-returns-in_ok-numbers-in-Apply : goal.constant-returns-in_ok-numbers-in-Apply

@@ -1,6 +1,6 @@
 use Rattle.std.proofs.Common.{◌≡◌, ◌++◌, drop}
 use Rattle.array_meaning.specs.Resolution.{constants}
-use Rattle.program_plan.specs.Plans.{terms_of}
+use Rattle.resolved_program.specs.Resolved.{terms_of}
 use Rattle.program_plan.proofs.constants.+constant.Given as goal
 
 -- the values so far, with those of the rest, are all

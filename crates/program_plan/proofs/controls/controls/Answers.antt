@@ -3,8 +3,8 @@ use Rattle.expression_rules.proofs.Lists.{drop_item}
 use Rattle.syntax_tree.specs.declared.stmt.Header.{Header}
 use Rattle.syntax_tree.specs.Statement.{axis}
 use Rattle.array_meaning.specs.Resolution.{control_of}
-use Rattle.program_plan.specs.Plans.{control}
-use Rattle.program_plan.proofs.Made.{joined_all, joined_next, one_more}
+use Rattle.resolved_program.specs.Resolved.{control}
+use Rattle.resolved_program.proofs.Made.{joined_all, joined_next, one_more}
 use Rattle.program_plan.proofs.controls.controls.Goals as goal
 
 pub loop-x-preserved : goal.loop-x-preserved

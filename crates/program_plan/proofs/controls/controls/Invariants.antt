@@ -1,7 +1,7 @@
 use Rattle.std.proofs.Common.{◌≡◌, ◌++◌, [], drop, map}
 use Rattle.syntax_tree.specs.Statement.{axis}
 use Rattle.array_meaning.specs.Resolution.{control_of}
-use Rattle.program_plan.specs.Plans.{control}
+use Rattle.resolved_program.specs.Resolved.{control}
 use Rattle.program_plan.proofs.controls.controls.Given as goal
 
 -- what is made so far, before what the rest makes, is all

@@ -7,10 +7,10 @@ use Rattle.std.specs.Prelude.{slice_index_or}
 use Rattle.syntax_tree.specs.Expression.{Element as Part, More as Parts, arguments_of, parts_of, subscript}
 use Rattle.array_meaning.specs.Terms.{Apply, Element, More, Section}
 use Rattle.array_meaning.specs.Resolution.{dims_of, no_dim, place_of, section_subscript, section_subscripts, term_of, terms_of}
-use Rattle.program_plan.specs.Made.{before, terms_before}
-use Rattle.program_plan.specs.Plans.{term, with_subscript}
-use Rattle.program_plan.proofs.Rows.{apply_vec, element_vec, section_vec}
-use Rattle.program_plan.proofs.Made.{before_next, made_all, made_next, subscripts_made, terms_made}
+use Rattle.resolved_program.specs.Made.{before, terms_before}
+use Rattle.resolved_program.specs.Resolved.{term, with_subscript}
+use Rattle.resolved_program.proofs.Rows.{apply_vec, element_vec, section_vec}
+use Rattle.resolved_program.proofs.Made.{before_next, made_all, made_next, subscripts_made, terms_made}
 use Rattle.program_plan.proofs.Parts.{applied, call_term, element_term, section_next, section_term, subscripted}
 use Rattle.program_plan.proofs.expressions.+term.Goals as goal
 

@@ -1,8 +1,8 @@
 use Rattle.std.proofs.Common.{◌≡◌, drop, vec_len}
 use Rattle.syntax_tree.specs.Expression.{arguments_of, parts_of}
 use Rattle.array_meaning.specs.Resolution.{section_subscripts, terms_of}
-use Rattle.program_plan.specs.Made.{before, terms_before}
-use Rattle.program_plan.specs.Plans.{with_subscript}
+use Rattle.resolved_program.specs.Made.{before, terms_before}
+use Rattle.resolved_program.specs.Resolved.{with_subscript}
 use Rattle.program_plan.proofs.expressions.+term.Given as goal
 
 -- what is made so far, before what the rest makes, is all

@@ -1,7 +1,7 @@
 use Rattle.std.proofs.Common.{Some, None, sym, ap, ◌∙◌}
 use Rattle.array_meaning.specs.Terms.{Section}
 use Rattle.array_meaning.specs.Resolution.{alone, whole}
-use Rattle.program_plan.proofs.Rows.{section_vec}
+use Rattle.resolved_program.proofs.Rows.{section_vec}
 use Rattle.program_plan.proofs.expressions.declared.Goals as goal
 
 pub returns-in_ok-subscripts-in-Array : goal.returns-in_ok-subscripts-in-Array

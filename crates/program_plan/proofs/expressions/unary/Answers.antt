@@ -1,7 +1,7 @@
 use Rattle.std.proofs.Common.{ap, ◌∙◌}
 use Rattle.array_meaning.specs.Terms.{Apply}
-use Rattle.program_plan.specs.Plans.{terms_of}
-use Rattle.program_plan.proofs.Rows.{apply_vec}
+use Rattle.resolved_program.specs.Resolved.{terms_of}
+use Rattle.resolved_program.proofs.Rows.{apply_vec}
 use Rattle.program_plan.proofs.expressions.unary.Goals as goal
 
 pub returns : goal.returns

@@ -3,8 +3,8 @@ use Rattle.std.specs.Prelude.{slice_index_or}
 use Rattle.std.proofs.lemmas.List.{drop_more}
 use Rattle.expression_rules.specs.declared.dims.Dim.{Dim}
 use Rattle.array_meaning.specs.Resolution.{whole}
-use Rattle.program_plan.specs.Plans.{with_subscript}
-use Rattle.program_plan.proofs.Made.{made_all, made_next, subscripts_made}
+use Rattle.resolved_program.specs.Resolved.{with_subscript}
+use Rattle.resolved_program.proofs.Made.{made_all, made_next, subscripts_made}
 use Rattle.program_plan.proofs.expressions.whole.Goals as goal
 
 abbrev zero_dim : Dim

@@ -1,7 +1,7 @@
 use Rattle.std.proofs.Common.{◌≡◌, drop}
 use Rattle.array_meaning.specs.Resolution.{whole}
-use Rattle.program_plan.specs.Made.{before}
-use Rattle.program_plan.specs.Plans.{with_subscript}
+use Rattle.resolved_program.specs.Made.{before}
+use Rattle.resolved_program.specs.Resolved.{with_subscript}
 use Rattle.program_plan.proofs.expressions.whole.Given as goal
 
 -- the subscripts so far, before those of the rest, are all

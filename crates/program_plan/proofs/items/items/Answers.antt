@@ -3,8 +3,8 @@ use Rattle.expression_rules.proofs.Lists.{drop_item}
 use Rattle.syntax_tree.specs.declared.stmt.Item.{Item}
 use Rattle.syntax_tree.specs.Statement as syntax
 use Rattle.array_meaning.specs.Resolution.{item_of}
-use Rattle.program_plan.specs.Plans.{item}
-use Rattle.program_plan.proofs.Made.{joined_all, joined_next, one_more}
+use Rattle.resolved_program.specs.Resolved.{item}
+use Rattle.resolved_program.proofs.Made.{joined_all, joined_next, one_more}
 use Rattle.program_plan.proofs.items.items.Goals as goal
 
 pub loop-one-preserved : goal.loop-one-preserved

@@ -1,7 +1,7 @@
 use Rattle.std.proofs.Common.{◌≡◌, ◌++◌, drop, map}
 use Rattle.syntax_tree.specs.Statement as syntax
 use Rattle.array_meaning.specs.Resolution.{item_of}
-use Rattle.program_plan.specs.Plans.{item}
+use Rattle.resolved_program.specs.Resolved.{item}
 use Rattle.program_plan.proofs.items.items.Given as goal
 
 -- what is made so far, before what the rest makes, is all

@@ -1,7 +1,7 @@
 use Rattle.std.proofs.Common.{sym, ap, ◌∙◌}
 use Rattle.array_meaning.specs.Resolution.{item}
-use Rattle.program_plan.specs.Plans.{term}
-use Rattle.program_plan.proofs.Rows.{section_vec}
+use Rattle.resolved_program.specs.Resolved.{term}
+use Rattle.resolved_program.proofs.Rows.{section_vec}
 use Rattle.program_plan.proofs.items.printed.Goals as goal
 
 pub returns-in-Section : goal.returns-in-Section

@@ -2,8 +2,8 @@ use Rattle.std.proofs.Common.{◌≡◌, ◌∙◌, sym, ap, subst, Ok, IfOk, �
 use Rattle.std.proofs.Math.Seq.{drop-cons}
 use Rattle.array_meaning.specs.Runs.{with_value}
 use Rattle.array_meaning.specs.Execution.{run_arms, run_block}
-use Rattle.program_plan.specs.declared.statements.Arm.{out-Arm}
-use Rattle.program_plan.specs.Plans.{arms_of, block_of}
+use Rattle.resolved_program.specs.declared.statements.Arm.{out-Arm}
+use Rattle.resolved_program.specs.Resolved.{arms_of, block_of}
 use Rattle.term_values.specs.States.{state_of}
 use Rattle.serial_run.specs.Arms.{IsArms}
 use Rattle.serial_run.specs.Completions.{IsRun, completion}

@@ -2,7 +2,7 @@ use Rattle.std.proofs.Common.{◌≡◌, ◌-◌, drop}
 use Rattle.array_meaning.specs.State.{State}
 use Rattle.array_meaning.specs.Runs.{Run}
 use Rattle.array_meaning.specs.Execution.{iterate, run_arms, run_block}
-use Rattle.program_plan.specs.Plans.{arms_of, block_of}
+use Rattle.resolved_program.specs.Resolved.{arms_of, block_of}
 use Rattle.term_values.specs.States.{state_of}
 use Rattle.serial_run.proofs.execution.+run.Given as goal
 

@@ -1,6 +1,6 @@
 use Rattle.std.proofs.Common.{◌≡◌, drop, map}
 use Rattle.array_meaning.specs.Expressions.{all_index_values}
-use Rattle.program_plan.specs.Plans.{control}
+use Rattle.resolved_program.specs.Resolved.{control}
 use Rattle.term_values.specs.States.{state_of}
 use Rattle.term_values.proofs.InOrder.{prefixed}
 use Rattle.serial_run.proofs.forall.all_index_values.Given as goal

@@ -1,6 +1,6 @@
 use Rattle.std.proofs.Common.{◌≡◌, drop, map}
 use Rattle.array_meaning.specs.Forall.{assign_all_forall}
-use Rattle.program_plan.specs.Plans.{element_assignment}
+use Rattle.resolved_program.specs.Resolved.{element_assignment}
 use Rattle.term_values.specs.States.{state_of}
 use Rattle.serial_run.specs.SectionStores.{branch_mask}
 use Rattle.serial_run.proofs.forall.assign_all_forall.Given as goal

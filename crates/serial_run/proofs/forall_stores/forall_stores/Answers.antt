@@ -1,5 +1,5 @@
 use Rattle.std.proofs.Common.{◌∙◌, rules}
-use Rattle.program_plan.specs.Plans.{element_assignment}
+use Rattle.resolved_program.specs.Resolved.{element_assignment}
 use Rattle.term_values.specs.States.{state_of}
 use Rattle.serial_run.specs.SectionStores.{branch_mask}
 use Rattle.serial_run.proofs.ForallStores.{forall_next, forall_stop}

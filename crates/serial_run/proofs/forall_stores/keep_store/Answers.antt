@@ -1,6 +1,6 @@
 use Rattle.std.proofs.Common.{rules, ◌≡◌, ◌∙◌, ap, true, Some}
 use Rattle.array_meaning.specs.ArrayAssignments.{if_true}
-use Rattle.program_plan.specs.Plans.{element_assignment}
+use Rattle.resolved_program.specs.Resolved.{element_assignment}
 use Rattle.term_values.specs.States.{state_of}
 use Rattle.serial_run.specs.SectionStores.{branch_mask}
 use Rattle.serial_run.specs.ForallParts.{forall_store}

@@ -1,5 +1,5 @@
 use Rattle.std.proofs.Common.{◌∙◌, rules}
-use Rattle.program_plan.specs.Plans.{term}
+use Rattle.resolved_program.specs.Resolved.{term}
 use Rattle.term_values.specs.States.{state_of}
 use Rattle.serial_run.proofs.ForallStores.{mask_stop}
 use Rattle.serial_run.proofs.forall_stores.mask_values.Goals as goal

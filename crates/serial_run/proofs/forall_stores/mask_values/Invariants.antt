@@ -2,7 +2,7 @@ use Rattle.std.proofs.Common.{◌≡◌, Ok}
 use Rattle.array_meaning.specs.Elementals.{each}
 use Rattle.array_meaning.specs.Expressions.{value}
 use Rattle.array_meaning.specs.Forall.{indices_at}
-use Rattle.program_plan.specs.Plans.{term}
+use Rattle.resolved_program.specs.Resolved.{term}
 use Rattle.term_values.specs.States.{state_of}
 use Rattle.serial_run.specs.ForallParts.{IsTuple}
 use Rattle.serial_run.proofs.forall_stores.mask_values.Given as goal

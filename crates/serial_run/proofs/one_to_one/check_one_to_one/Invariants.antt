@@ -1,6 +1,6 @@
 use Rattle.std.proofs.Common.{◌≡◌, drop, map}
 use Rattle.array_meaning.specs.Forall.{check_one_to_one}
-use Rattle.program_plan.specs.Plans.{element_assignment}
+use Rattle.resolved_program.specs.Resolved.{element_assignment}
 use Rattle.term_values.specs.States.{state_of}
 use Rattle.serial_run.proofs.one_to_one.check_one_to_one.Given as goal
 

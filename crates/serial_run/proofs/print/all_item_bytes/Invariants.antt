@@ -1,6 +1,6 @@
 use Rattle.std.proofs.Common.{◌≡◌, drop, map}
 use Rattle.array_meaning.specs.Execution.{all_item_bytes}
-use Rattle.program_plan.specs.Plans.{item}
+use Rattle.resolved_program.specs.Resolved.{item}
 use Rattle.term_values.specs.States.{state_of}
 use Rattle.term_values.proofs.InOrder.{prefixed}
 use Rattle.serial_run.proofs.print.all_item_bytes.Given as goal

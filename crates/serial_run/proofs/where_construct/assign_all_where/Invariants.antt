@@ -1,6 +1,6 @@
 use Rattle.std.proofs.Common.{◌≡◌, drop, map}
 use Rattle.array_meaning.specs.ArrayAssignments.{assign_all_where}
-use Rattle.program_plan.specs.Plans.{section_assignment}
+use Rattle.resolved_program.specs.Resolved.{section_assignment}
 use Rattle.term_values.specs.States.{state_of}
 use Rattle.serial_run.specs.SectionStores.{branch_mask}
 use Rattle.serial_run.proofs.where_construct.assign_all_where.Given as goal

@@ -5,7 +5,7 @@ use Rattle.array_meaning.specs.Elementals.{Operand, Operation}
 use Rattle.node_code.specs.Forms.{elementals_at}
 use Rattle.node_code.specs.Texts.{forms_of}
 use Rattle.term_values.specs.Views.{elemental}
-use Rattle.program_plan.specs.Made.{before}
+use Rattle.resolved_program.specs.Made.{before}
 use Rattle.term_values.proofs.Operands.{operation_vec}
 use Rattle.slot_values.proofs.Operands.{all_operands, before_next, operation_is}
 use Rattle.slot_values.proofs.sections.+elemental_at.Goals as goal

@@ -2,7 +2,7 @@ use Rattle.std.proofs.Common.{◌≡◌, drop}
 use Rattle.node_code.specs.Forms.{elementals_at}
 use Rattle.node_code.specs.Texts.{forms_of}
 use Rattle.array_meaning.specs.Elementals.{Operand}
-use Rattle.program_plan.specs.Made.{before}
+use Rattle.resolved_program.specs.Made.{before}
 use Rattle.term_values.specs.Views.{elemental}
 use Rattle.slot_values.proofs.sections.+elemental_at.Given as goal
 

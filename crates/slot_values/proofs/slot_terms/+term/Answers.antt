@@ -4,8 +4,8 @@ use Rattle.expression_rules.proofs.Lists.{drop_item}
 use Rattle.array_meaning.specs.Terms.{More}
 use Rattle.node_code.specs.ForallLimits.{terms_of}
 use Rattle.node_code.specs.Texts.{flats_of}
-use Rattle.program_plan.specs.Made.{before}
-use Rattle.program_plan.specs.Plans.{term}
+use Rattle.resolved_program.specs.Made.{before}
+use Rattle.resolved_program.specs.Resolved.{term}
 use Rattle.slot_values.proofs.Operands.{all_terms, apply_is, before_next}
 use Rattle.slot_values.proofs.slot_terms.+term.Goals as goal
 

@@ -2,8 +2,8 @@ use Rattle.std.proofs.Common.{◌≡◌, drop}
 use Rattle.array_meaning.specs.Terms.{More}
 use Rattle.node_code.specs.ForallLimits.{terms_of}
 use Rattle.node_code.specs.Texts.{flats_of}
-use Rattle.program_plan.specs.Made.{before}
-use Rattle.program_plan.specs.Plans.{term}
+use Rattle.resolved_program.specs.Made.{before}
+use Rattle.resolved_program.specs.Resolved.{term}
 use Rattle.slot_values.proofs.slot_terms.+term.Given as goal
 
 -- the terms so far, before those that are left

@@ -4,7 +4,7 @@ use Rattle.array_meaning.specs.Elementals.{Operation}
 use Rattle.array_meaning.specs.Expressions.{elementals}
 use Rattle.array_meaning.specs.Faults.{◌>>=◌}
 use Rattle.expression_rules.proofs.Lists.{drop_item}
-use Rattle.program_plan.specs.Plans.{terms_of}
+use Rattle.resolved_program.specs.Resolved.{terms_of}
 use Rattle.term_values.proofs.Operands.{all_operands, before_operands, operand_after, operation_vec}
 use Rattle.term_values.specs.States.{state_of}
 use Rattle.term_values.specs.Stops.{IsStop}

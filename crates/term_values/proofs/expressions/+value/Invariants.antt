@@ -1,5 +1,5 @@
 use Rattle.std.proofs.Common.{◌≡◌, drop}
-use Rattle.program_plan.specs.Plans.{terms_of, subscripts_of}
+use Rattle.resolved_program.specs.Resolved.{terms_of, subscripts_of}
 use Rattle.array_meaning.specs.Expressions.{values, elementals, selections}
 use Rattle.term_values.specs.States.{state_of}
 use Rattle.term_values.proofs.InOrder.{after, prefixed}

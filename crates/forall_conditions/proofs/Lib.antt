@@ -1,0 +1,5 @@
+mod Linears
+mod OneToOne
+mod Products
+mod Subscripts
+mod Wrapped

@@ -1,0 +1,13 @@
+//! What the statements of a FORALL have to keep at run time: small subscripts, and no element assigned twice.
+//!
+//! Comes in: the state before a FORALL, and its indices, mask and assignments with their names resolved. Goes out: whether its
+//! indices and subscripts are in the limits, and whether no assignment assigns an element at two tuples (Fortran 95, 7.5.4.3). What
+//! holds in between: each answer is that of the definitions of the meaning, from the linear form of each subscript.
+#![tactic(auto)]
+
+mod forall_limits;
+mod linear;
+mod one_to_one;
+
+pub use forall_limits::{are_subscripts_in_limits, is_forall_in_limits};
+pub use one_to_one::is_one_to_one;

@@ -1,8 +1,0 @@
-use Rattle.std.proofs.Common.{◌≡◌, drop}
-use Rattle.std.specs.List.{list_any}
-use Rattle.array_meaning.specs.Forall.{depends_on}
-use Rattle.serial_run.specs.Linears.{linear_of}
-use Rattle.serial_run.proofs.one_to_one.has_factor.Given as goal
-
-abbrev pub invariant-loop-x : goal.invariant-loop-x
-invariant-loop-x l = list_any (λ x. depends_on l.k (linear_of x)) l.xs ≡ list_any (λ x. depends_on l.k (linear_of x)) (drop l.x-index l.xs)
