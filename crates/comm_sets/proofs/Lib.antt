@@ -10,3 +10,4 @@ pub mod MessageLaws
 pub mod Marking
 pub mod Pairs
 pub mod Covering
+pub mod Parcels

@@ -1,13 +1,15 @@
 //! What nodes send to each other.
 //!
-//! Comes in: the values that a letter carries, and of which run, phase and pair of nodes it is. Goes out: letters. What
-//! holds in between: contracts see the body as the list of its values, so that two letters with the same values are
+//! Comes in: the values that a letter carries, and of which run, phase and pair of nodes it is. Goes out: letters, and
+//! what is still to be sent. What holds in between: contracts see the body as the list of its values, so that two letters with the same values are
 //! equal, whatever memory they lie in. What the values stand for isn't written in a letter: each taker knows the list.
 #![tactic(auto)]
 
 mod body;
 mod letter;
+mod parcel;
 
 pub use body::Body;
 pub use hpf_base::NodeId;
 pub use letter::Letter;
+pub use parcel::Parcel;

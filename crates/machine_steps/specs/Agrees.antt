@@ -10,7 +10,8 @@ use Rattle.machine_steps.specs.Instr.{Status, Running, Finished, Faulted, Tuples
 use Rattle.machine_steps.specs.Machine.{Machine, Kept, is_before, remapped, instr_at}
 use Rattle.machine_steps.specs.Tree.{levels_of, tree_sends}
 use Rattle.machine_steps.specs.Message.{Part, par_part, reduce_part, gather_part, fetch_part, message, remap_message, has_any}
-use Rattle.machine_steps.specs.Node.{Node, Letter, Ready, FaultValues, join_behind, join_below, at_root, part_sends, remap_sends, node_steps}
+use Rattle.machine_steps.specs.Node.{Node, Ready, FaultValues, join_behind, join_below, at_root, part_sends, remap_sends, node_steps}
+use Rattle.letters.specs.declared.letter.Letter.{Letter}
 
 -- so many nodes, by number
 abbrev pub by_number : {A : Type 0} → ℕ → (ℕ → A) → ℕ → Option A
@@ -157,7 +158,7 @@ pub record Exchange : Type 0 where
 abbrev pub Carries : ℕ → ℕ → (next_to : ℕ → List ℕ) → (ℕ → PhaseShare Letter) → Exchange → Type 0
 Carries count n next_to shares exchange =
     (p q : ℕ) → p < count → q < count
-    → sent q (shares p).front ≡ (if exchange.sends p q then record { run = 1; phase = n; from = p; to = q; number = slice_index_or (next_to p) q 0; body = exchange.body p q } ∷
+    → sent q (shares p).front ≡ (if exchange.sends p q then record { run = 1; phase = n; from = record { 0 = p }; to = record { 0 = q }; number = slice_index_or (next_to p) q 0; body = exchange.body p q } ∷
     [] else [])
 
 -- the message phase of a part, by the whole arrays: the elements that q needs, that q doesn't own and whose least owner is p, in order

@@ -5,6 +5,8 @@ use Rattle.node_law.specs.declared.act.Act.{Act}
 use Rattle.node_law.specs.declared.act.Act.TheVariants as act
 use Rattle.node_law.specs.NodeSteps.{NodeSteps}
 use Rattle.node_law.specs.Phases.{next_number}
+use Rattle.letters.specs.declared.letter.Letter.{Letter}
+use Rattle.letters.specs.Parcel.{Parcel}
 use Rattle.storage.specs.Storage.{Storage, Spot, read, write}
 use Rattle.storage.specs.Effect.{Effect, Skip, Put, Fail}
 use Rattle.storage.specs.Truth.{is_set}
@@ -13,20 +15,6 @@ use Rattle.machine_steps.specs.Instr.{Status, Running, Finished, Faulted, Contro
 use Rattle.machine_steps.specs.Machine.{Kept, on, stay, faulted, slot_of, set_slot, store_control, verdict_control, last_control, picked, store_in, outcome_of, effect_by, earlier, keep, lie_alike, last_passing, remapped, item_bytes, instr_at}
 use Rattle.machine_steps.specs.Message.{Part, par_part, reduce_part, gather_part, fetch_part, message, remap_message, has_any, lookup}
 use Rattle.machine_steps.specs.Tree.{levels_of, tree_sends}
-
--- what is still to be sent: a target and the values
-pub record Parcel : Type 0 where
-  pub to : ℕ
-  pub body : List ℤ
-
--- the values that a node sends to another in a phase, with the number of the run, of the phase, and of the pair's letters
-pub record Letter : Type 0 where
-  pub run : ℕ
-  pub phase : ℕ
-  pub from : ℕ
-  pub to : ℕ
-  pub number : ℕ
-  pub body : List ℤ
 
 -- a node is before an instruction, or in one of its phases, with what is still to be sent and from whom letters are still to be
 -- taken, or behind that phase
@@ -158,10 +146,10 @@ act_of (Faulted fault) stage = act.Done
 module _ {C F : Type 0} where
   -- a node that has nothing to send has no letter, and what is told here of it is never sent
   abbrev pub letter_of : Stage → Node C F → Letter
-  letter_of (Passing (m ∷ outbox) inbox) a = record { run = 1; phase = a.phase; from = a.id; to = m.to; number = slice_index_or a.next_to m.to 0; body = m.body }
-  letter_of (Passing [] inbox) a = record { run = 1; phase = a.phase; from = a.id; to = a.id; number = 0; body = [] }
-  letter_of Ready a = record { run = 1; phase = a.phase; from = a.id; to = a.id; number = 0; body = [] }
-  letter_of Passed a = record { run = 1; phase = a.phase; from = a.id; to = a.id; number = 0; body = [] }
+  letter_of (Passing (m ∷ outbox) inbox) a = record { run = 1; phase = a.phase; from = record { 0 = a.id }; to = record { 0 = m.to }; number = slice_index_or a.next_to m.to 0; body = m.body }
+  letter_of (Passing [] inbox) a = record { run = 1; phase = a.phase; from = record { 0 = a.id }; to = record { 0 = a.id }; number = 0; body = [] }
+  letter_of Ready a = record { run = 1; phase = a.phase; from = record { 0 = a.id }; to = record { 0 = a.id }; number = 0; body = [] }
+  letter_of Passed a = record { run = 1; phase = a.phase; from = record { 0 = a.id }; to = record { 0 = a.id }; number = 0; body = [] }
 
   abbrev pub after_send_by : Stage → Node C F → Node C F
   after_send_by (Passing (m ∷ outbox) inbox) a = settled (record a { next_to = slice_set a.next_to m.to (next_number (slice_index_or a.next_to m.to 0)) }) outbox inbox
@@ -182,7 +170,7 @@ module _ {C F : Type 0} where
 
   -- the letter of this run and pair with the pair's next number
   abbrev pub awaits_by : Stage → Node C F → Letter → Bool
-  awaits_by (Passing [] (p ∷ inbox)) a l = (l.run == 1) && ((l.from == p) && ((l.to == a.id) && (l.number == slice_index_or a.next_from p 0)))
+  awaits_by (Passing [] (p ∷ inbox)) a l = (l.run == 1) && ((l.from.0 == p) && ((l.to.0 == a.id) && (l.number == slice_index_or a.next_from p 0)))
   awaits_by (Passing [] []) a l = false
   awaits_by (Passing (m ∷ outbox) inbox) a l = false
   awaits_by Ready a l = false

@@ -2,8 +2,9 @@
 
 use crate::trouble::Trouble;
 use crate::world::World;
+use letters::Letter;
 use node_law::{Act, PhasedNode};
-use node_machine::{Node, NodeLetter};
+use node_machine::Node;
 use std::alloc::{AllocError, Global};
 use std::collections::VecDeque;
 
@@ -43,7 +44,7 @@ pub enum Left {
 #[derive(Drop)]
 pub struct Nodes {
     pub nodes: Vec<Node>,
-    queues: Vec<VecDeque<NodeLetter>>,
+    queues: Vec<VecDeque<Letter>>,
     pub letters: Vec<Sent>,
 }
 
@@ -124,15 +125,15 @@ impl Nodes {
     }
 
     /// Notes a letter, and puts it into its queue.
-    fn post(&mut self, alloc: Global, letter: NodeLetter) -> Result<Step, Trouble> {
-        let from = letter.letter.from.0;
-        let to = letter.letter.to.0;
+    fn post(&mut self, alloc: Global, letter: Letter) -> Result<Step, Trouble> {
+        let from = letter.from.0;
+        let to = letter.to.0;
         self.letters.push(Sent {
-            phase: letter.letter.phase,
+            phase: letter.phase,
             from,
             to,
-            number: letter.letter.number,
-            values: Vec::from_slice(alloc, letter.letter.body.as_slice())?,
+            number: letter.number,
+            values: Vec::from_slice(alloc, letter.body.as_slice())?,
         })?;
         let pair = self.pair(from as usize, to as usize);
         if pair >= self.queues.len() {
@@ -161,7 +162,7 @@ impl Nodes {
 }
 
 /// Gives a node a letter, if it is the one that the node waits for.
-fn take(node: &mut Node, letter: NodeLetter) -> Step {
+fn take(node: &mut Node, letter: Letter) -> Step {
     match node.next_act() {
         Act::Take(_) => {
             if !node.is_awaited(&letter) {

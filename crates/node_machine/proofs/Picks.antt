@@ -3,7 +3,8 @@ use Rattle.std.proofs.Common.{◌≡◌, ℕ, zero, suc, ◌+◌, ◌-◌, ◌<�
 use Rattle.std.specs.List.{range_with_len, filter}
 use Rattle.std.proofs.lemmas.List.Elements.{filter-append}
 use Rattle.hpf_base.proofs.Ranges.{range_with_len-more}
-use Rattle.machine_steps.specs.Node.{Parcel, no_values}
+use Rattle.machine_steps.specs.Node.{no_values}
+use Rattle.letters.specs.Parcel.{Parcel}
 
 range-more : (n : ℕ) → range_with_len 0 (n + 1) ≡ range_with_len 0 n ++ n ∷ []
 range-more n =

@@ -8,7 +8,7 @@ use Rattle.machine_steps.specs.Message.{Part, par_part}
 use Rattle.machine_steps.specs.Node.{Node, local_outcome, local_scatter, no_values, part_opened, settled}
 use Rattle.node_code.specs.ProgramText.{Text}
 use Rattle.tuple_values.specs.Statements.{IsStatement, Statement}
-use Rattle.part_steps.specs.KeptFaults.{kepts}
+use Rattle.slot_values.specs.KeptFaults.{kepts}
 use Rattle.part_steps.specs.Stores.{stored}
 use Rattle.part_steps.specs.declared.parallel.ParValues.{ParValues}
 use Rattle.node_machine.specs.declared.parts.Opening.{Opening}

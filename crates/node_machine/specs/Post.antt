@@ -1,7 +1,7 @@
 -- No public clause cites this file. What of a phase is still to be sent and to be taken.
 use Rattle.std.specs.Prelude.{ℕ, ℤ, List, [], ◌∷◌, slice_index_or, slice_set, Option, Some, None, Bool, true, false}
 use Rattle.node_law.specs.Phases.{next_number}
-use Rattle.machine_steps.specs.Node.{Parcel}
+use Rattle.letters.specs.Parcel.{Parcel}
 
 -- the parcels and the sources that are left, the next one first, and by the other node's number the values taken and the numbers of the
 -- next letters

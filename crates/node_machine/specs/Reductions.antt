@@ -9,7 +9,7 @@ use Rattle.machine_steps.specs.Node.{Node, join_below, local_outcome, outcome_va
 use Rattle.node_code.specs.Parallel.{fold_of, joined}
 use Rattle.node_code.specs.ProgramText.{Text}
 use Rattle.tuple_values.specs.Statements.{IsStatement, Statement, no_left}
-use Rattle.part_steps.specs.KeptFaults.{kepts}
+use Rattle.slot_values.specs.KeptFaults.{kepts}
 use Rattle.part_steps.specs.declared.reductions.ReduceValues.{ReduceValues}
 use Rattle.node_machine.specs.Parts.{IsOpening}
 use Rattle.node_machine.specs.declared.parts.Opening.{Opening}

@@ -3,10 +3,11 @@ use Rattle.std.specs.Prelude.{◌≡◌, ℕ, ◌<◌, ◌≤◌, List, length}
 use Rattle.std.specs.Arc.{arc_value}
 use Rattle.hpf_base.specs.declared.limits.TheConstants.{MAX_NODES}
 use Rattle.array_meaning.specs.Faults.{Fault}
-use Rattle.machine_steps.specs.Node.{Node, Parcel, Stage, Ready, Passing, Passed, settled}
+use Rattle.machine_steps.specs.Node.{Node, Stage, Ready, Passing, Passed, settled}
+use Rattle.letters.specs.Parcel.{Parcel}
 use Rattle.node_code.specs.ProgramText.{Text}
 use Rattle.slot_values.specs.Controls.{control_of}
-use Rattle.part_steps.specs.KeptFaults.{kepts}
+use Rattle.slot_values.specs.KeptFaults.{kepts}
 use Rattle.exchange_plans.specs.Plans.{ArePlans}
 use Rattle.node_machine.specs.declared.node.Node.TheInside.{Inside}
 use Rattle.node_machine.specs.Programs.{code_of}

@@ -8,7 +8,8 @@ ghost use Rattle.tuple_values.specs.Views.{statement as statement_of};
 use crate::node::Node;
 use comm_sets::Exchange;
 use hpf_base::OutOfMemory;
-use part_steps::{Part, Row, Who, exchange_of};
+use owner_tables::Row;
+use part_steps::{Part, Who, exchange_of};
 use tuple_values::ParallelStatement;
 
 /// How many words what is kept may take in any case.

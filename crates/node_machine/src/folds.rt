@@ -18,8 +18,8 @@ use crate::program::NodeProgram;
 use hpf_base::OutOfMemory;
 use node_code::Instruction;
 use op_tables::Op;
-use owner_tables::{Owners, Spot};
-use part_steps::{Row, joined, local_value};
+use owner_tables::{Owners, Row, Spot, local_value};
+use part_steps::joined;
 use slot_values::Control;
 use tree_steps::{Joining, option_numbers, options_joined, reduced};
 

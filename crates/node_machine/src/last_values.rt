@@ -17,8 +17,7 @@ use crate::node::Node;
 use crate::program::NodeProgram;
 use hpf_base::OutOfMemory;
 use node_code::Instruction;
-use owner_tables::{Owners, Spot};
-use part_steps::{Row, local_value};
+use owner_tables::{Owners, Row, Spot, local_value};
 use slot_values::Control;
 use tree_steps::{Joining, Positioned, last_value, positioned_numbers};
 

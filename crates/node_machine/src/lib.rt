@@ -13,7 +13,6 @@ mod exchanges;
 mod fetches;
 mod folds;
 mod last_values;
-mod letter;
 mod local_steps;
 mod looks;
 mod node;
@@ -31,6 +30,5 @@ mod steps;
 mod stores;
 mod trees;
 
-pub use letter::NodeLetter;
 pub use node::Node;
 pub use program::NodeProgram;

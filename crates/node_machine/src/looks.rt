@@ -3,7 +3,6 @@
 ghost use Rattle.std.specs.Prelude.{◌≡◌, ◌==◌, ◌&&◌, slice_index_or};
 ghost use Rattle.machine_steps.specs.Node.{awaits_by};
 
-use crate::letter::NodeLetter;
 use crate::node::Node;
 use crate::stage::Stage;
 use letters::Letter;
@@ -17,7 +16,7 @@ impl Node {
     }
 
     /// Whether a letter is the one that the node takes next: the letter of this run and pair with the pair's next number.
-    pub fn is_awaited(&self, mail: &NodeLetter) -> bool
+    pub fn is_awaited(&self, mail: &Letter) -> bool
         ensures { result ≡ awaits_by self.now.stage self.now mail.now }
     {
         match self.stage {
@@ -26,7 +25,7 @@ impl Node {
                 if let Some(_target) = self.post.target() {
                     false
                 } else if let Some(source) = self.post.source() {
-                    self.is_next(&mail.letter, source)
+                    self.is_next(mail, source)
                 } else {
                     false
                 }

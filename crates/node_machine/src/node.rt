@@ -8,18 +8,16 @@ ghost use Rattle.node_code.specs.FaultValues.{fault_values};
 ghost use Rattle.node_code.specs.ProgramText.{text_meaning};
 ghost use Rattle.node_machine.specs.Views.{closed};
 
-use crate::letter::NodeLetter;
 use crate::post::Post;
 use crate::program::NodeProgram;
 use crate::stage::Stage;
 use exchange_plans::Plans;
 use hpf_base::OutOfMemory;
-use letters::{Body, Letter};
+use letters::{Body, Letter, Parcel};
 use node_law::{Act, NodeId, PhasedNode};
-use owner_tables::Owners;
-use part_steps::{Kept, Parcel, Row};
+use owner_tables::{Owners, Row};
 use remap_steps::Redistribution;
-use slot_values::{Control, Status};
+use slot_values::{Control, Kept, Status};
 use std::alloc::Global;
 use std::collections::VecDeque;
 use std::marker::Model;
@@ -72,7 +70,7 @@ impl PhasedNode for Node {
     ghost use Rattle.node_code.specs.FaultValues.{fault_values};
     ghost use Rattle.node_code.specs.ProgramText.{text_meaning};
 
-    type Mail = NodeLetter;
+    type Mail = Letter;
 
     ghost steps = { node_steps fault_values text_meaning };
 
@@ -96,7 +94,7 @@ impl PhasedNode for Node {
         }
     }
 
-    fn send(&mut self) -> NodeLetter {
+    fn send(&mut self) -> Letter {
         let (parcel, number) = self.post.send();
         let letter = Letter {
             run: 1,
@@ -107,11 +105,11 @@ impl PhasedNode for Node {
             body: parcel.body,
         };
         self.settle();
-        NodeLetter { letter }
+        letter
     }
 
-    fn take(&mut self, mail: NodeLetter) {
-        self.post.take(mail.letter.body);
+    fn take(&mut self, mail: Letter) {
+        self.post.take(mail.body);
         self.settle();
     }
 }

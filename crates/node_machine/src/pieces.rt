@@ -7,8 +7,7 @@ ghost use Rattle.machine_steps.specs.Node.{local_read, local_write};
 ghost use Rattle.owner_tables.specs.Spots.{spot_of};
 
 use crate::node::Node;
-use owner_tables::Spot;
-use part_steps::Row;
+use owner_tables::{Row, Spot};
 
 impl Node {
     /// The node's piece of a row, in array-element order; nothing where there is no such row.

@@ -1,12 +1,11 @@
 //! The letters of a phase.
 
 ghost use Rattle.std.specs.Prelude.{◌≡◌, ◌≢◌, ◌<◌, ◌≤◌, ℕ, List, [], ◌∷◌, All, IfOk, length, replicate, slice_index_or};
-ghost use Rattle.machine_steps.specs.Node.{Parcel as ParcelView};
+ghost use Rattle.letters.specs.Parcel.{Parcel as ParcelView};
 ghost use Rattle.node_machine.specs.Post.{Post as PostView, after_send, after_take, target_of, source_of, nothing_left};
 
 use hpf_base::OutOfMemory;
-use letters::Body;
-use part_steps::Parcel;
+use letters::{Body, Parcel};
 use std::alloc::Global;
 use std::collections::VecDeque;
 use std::marker::Model;

@@ -5,7 +5,7 @@ ghost use Rattle.machine_steps.specs.Machine.{earlier, instr_at};
 ghost use Rattle.machine_steps.specs.Node.{begun_by, done_by, ready};
 ghost use Rattle.node_code.specs.FaultValues.{fault_values};
 ghost use Rattle.node_code.specs.ProgramText.{text_meaning};
-ghost use Rattle.part_steps.specs.KeptFaults.{kepts};
+ghost use Rattle.slot_values.specs.KeptFaults.{kepts};
 ghost use Rattle.tuple_values.specs.Views.{statement as statement_of};
 ghost use Rattle.node_machine.specs.Programs.{code_of};
 ghost use Rattle.exchange_plans.specs.Exchanged.{HasLists};

@@ -17,8 +17,7 @@ use crate::program::NodeProgram;
 use hpf_base::OutOfMemory;
 use letters::Body;
 use node_code::{Instruction, NewMapping};
-use owner_tables::Owners;
-use part_steps::Row;
+use owner_tables::{Owners, Row};
 use remap_steps::Redistribution;
 use slot_values::Control;
 

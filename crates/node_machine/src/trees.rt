@@ -9,7 +9,7 @@ ghost use Rattle.machine_steps.specs.Tree.{levels_of, tree_sends};
 ghost use Rattle.node_code.specs.FaultValues.{fault_values};
 ghost use Rattle.node_code.specs.Parallel.{fold_of};
 ghost use Rattle.node_code.specs.ProgramText.{text_meaning};
-ghost use Rattle.part_steps.specs.KeptFaults.{kepts};
+ghost use Rattle.slot_values.specs.KeptFaults.{kepts};
 ghost use Rattle.tree_steps.specs.Absorbed.{absorbed_values, joined_values};
 ghost use Rattle.node_machine.specs.Programs.{code_of};
 ghost use Rattle.node_machine.specs.Trees.{IsReduction, next_of, step_of};
@@ -17,10 +17,10 @@ ghost use Rattle.node_machine.specs.Trees.{IsReduction, next_of, step_of};
 use crate::node::Node;
 use crate::program::NodeProgram;
 use hpf_base::OutOfMemory;
+use letters::Parcel;
 use node_code::Instruction;
 use op_tables::Op;
-use part_steps::{Kept, Parcel};
-use slot_values::{Control, Status};
+use slot_values::{Control, Kept, Status};
 use std::collections::VecDeque;
 use tree_steps::{
     Joining, absorbed, inbox, kept_numbers, kept_of_numbers, levels_of, option_numbers, outbox,

@@ -16,7 +16,8 @@ use Rattle.array_meaning.specs.Serial.{End, Outcome}
 use Rattle.machine_steps.specs.Layout.{AreOwned, Layout, least_owner_of, owned_in, piece, sizes}
 use Rattle.machine_steps.specs.Instr.{Status, Running, Finished, Faulted}
 use Rattle.machine_steps.specs.Machine.{Machine}
-use Rattle.machine_steps.specs.Node.{Letter, Node, local_read, node_steps}
+use Rattle.machine_steps.specs.Node.{Node, local_read, node_steps}
+use Rattle.letters.specs.declared.letter.Letter.{Letter}
 use Rattle.machine_steps.specs.Agrees.{openings}
 use Rattle.node_code.specs.FaultValues.{fault_values}
 use Rattle.node_code.specs.ProgramText.{Text, text, text_meaning}

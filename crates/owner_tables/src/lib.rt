@@ -2,7 +2,8 @@
 //!
 //! Comes in: the shape of an array and the mapping by which its elements lie on the nodes, or the extents of a copy. Goes out: for each
 //! element its owners, the owner with the least number, and the local address, each by a look-up; and how many elements a node owns. The
-//! tables of all rows stand in `Owners`, and are shared by the nodes.
+//! tables of all rows stand in `Owners`, and are shared by the nodes. A node's piece of a row is a `Row`, and `local_value` is the value of
+//! an element that it owns.
 //!
 //! What holds in between: where a node owns one element, any node owns it exactly where the two agree in each distributed dimension that
 //! isn't replicated. So elements with the same least owner have the same owners, the least owner tells all of them, and an element has one
@@ -13,14 +14,18 @@ mod alike;
 mod copies;
 mod laws;
 mod least;
+mod local_values;
 mod numbers;
 mod owner_table;
 mod owners;
+mod row;
 mod same;
 mod spot;
 mod tables;
 
 pub use laws::{copies_are_dealt, copies_have_sizes, pieces_of_one_value};
+pub use local_values::{held_value, local_value, local_values};
 pub use owner_table::OwnerTable;
 pub use owners::Owners;
+pub use row::Row;
 pub use spot::Spot;

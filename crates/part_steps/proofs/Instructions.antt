@@ -7,7 +7,8 @@ use Rattle.machine_steps.specs.Instr.{Tuples, Nothing}
 use Rattle.machine_steps.specs.Layout.{Layout, in_bounds}
 use Rattle.machine_steps.specs.Machine.{value_by, effect_by, earlier, keep, element_values}
 use Rattle.machine_steps.specs.Message.{Part, message, par_part, reduce_part, gather_part, computes_left, first_read, least_or_zero}
-use Rattle.machine_steps.specs.Node.{Node, Parcel, part_opened, settled, no_values, held_or_received, gathered, local_outcome, local_scatter, join_below, outcome_value}
+use Rattle.machine_steps.specs.Node.{Node, part_opened, settled, no_values, held_or_received, gathered, local_outcome, local_scatter, join_below, outcome_value}
+use Rattle.letters.specs.Parcel.{Parcel}
 use Rattle.node_code.specs.Parallel.{joined}
 use Rattle.tuple_values.specs.Statements.{Statement, IsStatement, tuple_count, tuple_reads, tuple_outcome}
 use Rattle.part_steps.specs.declared.who.Who.{Who}

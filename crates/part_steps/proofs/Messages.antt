@@ -6,7 +6,7 @@ use Rattle.machine_steps.specs.Layout.{Layout, least_owner_of}
 use Rattle.machine_steps.specs.Message.{Part, message, lookup}
 use Rattle.comm_sets.specs.Ascending.{Ascends}
 use Rattle.comm_sets.proofs.MessageLaws.{incoming-ascend}
-use Rattle.part_steps.proofs.Listed.{listed-is}
+use Rattle.owner_tables.proofs.Listed.{listed-is}
 
 module _ (nodes : ℕ) (layouts : List Layout) (part : Part) (id : ℕ) (messages : List (List Spot)) (are : messages ≡ map (λ p. message nodes layouts part p id) (range_with_len 0 nodes)) where
   -- a message is in order

@@ -1,12 +1,12 @@
 -- What is sent and taken, node by node.
-use Rattle.std.proofs.Common.{◌≡◌, ℕ, ℤ, ◌+◌, ◌<◌, Bool, true, false, List, [], ◌∷◌, ◌++◌, map, filter, if◌then◌else◌, refl, sym, ◌∙◌, ap, subst}
+use Rattle.std.proofs.Common.{◌≡◌, ℕ, ℤ, ◌+◌, Bool, true, false, List, [], ◌∷◌, ◌++◌, map, filter, if◌then◌else◌, refl, sym, ◌∙◌, ap}
 use Rattle.std.proofs.lemmas.List.{map-append}
-use Rattle.std.proofs.lemmas.List.Elements.{All-map}
-use Rattle.std.specs.List.{All, range_with_len}
+use Rattle.std.specs.List.{range_with_len}
 use Rattle.storage.specs.Storage.{Spot}
 use Rattle.machine_steps.specs.Message.{has_any}
-use Rattle.machine_steps.specs.Node.{Parcel, parcel}
-use Rattle.comm_sets.proofs.Computing.{are-nodes, filter-more}
+use Rattle.machine_steps.specs.Node.{parcel}
+use Rattle.letters.specs.Parcel.{Parcel}
+use Rattle.comm_sets.proofs.Computing.{filter-more}
 
 module _ (message : ℕ → List Spot) (n : ℕ) (spots : List Spot) (is : spots ≡ message n) where
   -- one node more that sends
@@ -31,14 +31,3 @@ module _ (message : ℕ → List Spot) (n : ℕ) (spots : List Spot) (is : spots
         let sends : ℕ → Bool = λ q. has_any (message q) in
         e ∙ (λ i. so_far i ++ (if has_any (is i) then record { to = n; body = map read (is i) } ∷ [] else [])) ∙ ap (λ ps. map body (filter sends (range_with_len 0 n)) ++ ps) (one-parcel (sends n))
         ∙ sym (ap (map body) (filter-more sends n) ∙ map-append body (filter sends (range_with_len 0 n)) (filter sends (n ∷ [])))
-
--- all of them are nodes
-pub sources-below : (sends : ℕ → Bool) (nodes : ℕ) (sources : List ℕ) → sources ≡ filter sends (range_with_len 0 nodes) → All (λ source. source < nodes) sources
-sources-below sends nodes sources e =
-    let below : List ℕ → Type 0 = λ xs. All (λ source. source < nodes) xs in
-    subst below (sym e) (are-nodes sends nodes)
-
-pub targets-below : (sends : ℕ → Bool) (body : ℕ → List ℤ) (nodes : ℕ) (parcels : List Parcel) → parcels ≡ map (parcel body) (filter sends (range_with_len 0 nodes)) → All (λ p. p.to < nodes) parcels
-targets-below sends body nodes parcels e =
-    let below : List Parcel → Type 0 = λ ps. All (λ p. p.to < nodes) ps in
-    subst below (sym e) (All-map (λ p. p.to < nodes) (parcel body) (filter sends (range_with_len 0 nodes)) (are-nodes sends nodes))

@@ -4,7 +4,8 @@ use Rattle.std.specs.List.{range_with_len}
 use Rattle.storage.specs.Storage.{Storage}
 use Rattle.machine_steps.specs.Layout.{Layout}
 use Rattle.machine_steps.specs.Message.{Part, message}
-use Rattle.machine_steps.specs.Node.{Parcel, parcel, part_sends, local_read}
+use Rattle.machine_steps.specs.Node.{parcel, part_sends, local_read}
+use Rattle.letters.specs.Parcel.{Parcel}
 
 module _ (nodes : ℕ) (layouts : List Layout) (part : Part) (id : ℕ) where
   -- to each node for which it has a message, the values of the message's elements

@@ -5,9 +5,9 @@ ghost use Rattle.part_steps.specs.Exchanged.{IsExchange};
 ghost use Rattle.part_steps.specs.Views.{part_view};
 
 use crate::part::Part;
-use crate::row::Row;
 use comm_sets::Exchange;
 use letters::Body;
+use owner_tables::Row;
 
 /// The values of elements on a node behind the phase of a part: its own, or received. Contracts see it by `behind_of`.
 #[derive(Drop)]

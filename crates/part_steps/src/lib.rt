@@ -11,28 +11,20 @@
 
 mod computing;
 mod gathered;
-mod kept;
-mod local_values;
 mod making;
 mod opening;
 mod parallel;
-mod parcel;
 mod part;
 mod reductions;
-mod row;
 mod sections;
 mod stores;
 mod values;
 mod who;
 
-pub use kept::{Kept, earlier};
-pub use local_values::local_value;
 pub use opening::{exchange_of, inbox, outbox};
 pub use parallel::{ParValues, par_values};
-pub use parcel::Parcel;
 pub use part::Part;
 pub use reductions::{ReduceValues, joined, reduce_values};
-pub use row::Row;
 pub use sections::section_values;
 pub use stores::Stores;
 pub use who::Who;

@@ -9,12 +9,11 @@ ghost use Rattle.part_steps.specs.Openings.{inbox_on, outbox_on};
 ghost use Rattle.part_steps.specs.Parts.{part_of};
 ghost use Rattle.part_steps.specs.Views.{part_view};
 
-use crate::local_values::local_values;
-use crate::parcel::Parcel;
 use crate::part::Part;
-use crate::row::Row;
 use comm_sets::{Exchange, Spot, exchange};
 use hpf_base::OutOfMemory;
+use letters::Parcel;
+use owner_tables::{Row, local_values};
 use std::alloc::Global;
 use std::collections::VecDeque;
 

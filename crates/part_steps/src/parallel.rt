@@ -10,19 +10,18 @@ ghost use Rattle.tuple_values.specs.Spots.{read_of};
 ghost use Rattle.part_steps.specs.Behind.{applied, behind, fault_below, outcome_of, stored_below, tuples};
 ghost use Rattle.part_steps.specs.Exchanged.{IsComputed, IsExchange};
 ghost use Rattle.part_steps.specs.Gathered.{behind_of};
-ghost use Rattle.part_steps.specs.KeptFaults.{kepts};
+ghost use Rattle.slot_values.specs.KeptFaults.{kepts};
 ghost use Rattle.part_steps.specs.Stores.{stored};
 ghost use Rattle.part_steps.specs.Views.{part_view};
 
 use crate::gathered::Gathered;
-use crate::kept::{Kept, earlier};
+use letters::Body;
+use owner_tables::Row;
 use crate::part::Part;
-use crate::row::Row;
 use crate::stores::Stores;
 use comm_sets::{Exchange, Spot};
 use hpf_base::OutOfMemory;
-use letters::Body;
-use slot_values::Fault;
+use slot_values::{Fault, Kept, earlier};
 use std::alloc::Global;
 use tuple_values::Outcome;
 

@@ -7,18 +7,18 @@ ghost use Rattle.node_code.specs.Parallel.{joined};
 ghost use Rattle.part_steps.specs.Behind.{behind, fault_below, joined_below, outcome_of, tuples};
 ghost use Rattle.part_steps.specs.Exchanged.{IsComputed, IsExchange};
 ghost use Rattle.part_steps.specs.Gathered.{behind_of};
-ghost use Rattle.part_steps.specs.KeptFaults.{kepts};
+ghost use Rattle.slot_values.specs.KeptFaults.{kepts};
 ghost use Rattle.part_steps.specs.Views.{part_view};
 
 use crate::gathered::Gathered;
-use crate::kept::Kept;
+use letters::Body;
+use owner_tables::Row;
 use crate::parallel::kept_earlier;
 use crate::part::Part;
-use crate::row::Row;
 use comm_sets::Exchange;
 use hpf_base::OutOfMemory;
-use letters::Body;
 use op_tables::Op;
+use slot_values::Kept;
 use term_values::combined;
 use tuple_values::Outcome;
 

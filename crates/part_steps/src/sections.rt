@@ -12,10 +12,10 @@ ghost use Rattle.part_steps.specs.Views.{part_view};
 
 use crate::gathered::Gathered;
 use crate::part::Part;
-use crate::row::Row;
 use comm_sets::{Exchange, Spot};
 use hpf_base::OutOfMemory;
 use letters::Body;
+use owner_tables::Row;
 use std::alloc::Global;
 
 /// The values of the elements that the tuples of a part read, of each tuple the first, in order, on the node with this number, by its

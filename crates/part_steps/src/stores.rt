@@ -6,9 +6,9 @@ ghost use Rattle.machine_steps.specs.Node.{local_write};
 ghost use Rattle.owner_tables.specs.Spots.{spot_of};
 ghost use Rattle.part_steps.specs.Stores.{stored};
 
-use crate::row::Row;
 use comm_sets::{Owners, Spot};
 use hpf_base::OutOfMemory;
+use owner_tables::Row;
 use std::alloc::Global;
 
 /// A value for a place of the node's pieces.

@@ -12,12 +12,11 @@ ghost use Rattle.part_steps.specs.Gathered.{behind_of};
 ghost use Rattle.part_steps.specs.Views.{part_view};
 
 use crate::gathered::Gathered;
-use crate::local_values::held_value;
 use crate::part::Part;
-use crate::row::Row;
 use comm_sets::{Exchange, Spot, value_in};
 use hpf_base::OutOfMemory;
 use letters::Body;
+use owner_tables::{Row, held_value};
 use tuple_values::{Elements, Outcome};
 
 impl<'a> Gathered<'a> {

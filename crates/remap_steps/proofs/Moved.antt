@@ -11,7 +11,7 @@ use Rattle.machine_steps.specs.Node.{pieces_by}
 use Rattle.owner_tables.proofs.Ranges.{count-more}
 use Rattle.comm_sets.specs.Ascending.{Ascends}
 use Rattle.comm_sets.proofs.MessageLaws.{remap_message-ascends}
-use Rattle.part_steps.proofs.Listed.{listed-is}
+use Rattle.owner_tables.proofs.Listed.{listed-is}
 use Rattle.remap_steps.specs.Redistributions.{Redistribution, message_between, messages_to, moved_row, value_behind}
 use Rattle.remap_steps.proofs.Nodes.{map-more}
 

@@ -4,7 +4,8 @@ use Rattle.std.specs.List.{list_any, range_with_len}
 use Rattle.storage.specs.Storage.{Storage, Spot}
 use Rattle.machine_steps.specs.Layout.{Layout, owned_in, sizes}
 use Rattle.machine_steps.specs.Message.{has_any, remap_message}
-use Rattle.machine_steps.specs.Node.{Parcel, parcel, local_read, held_or_received, pieces_by}
+use Rattle.machine_steps.specs.Node.{parcel, local_read, held_or_received, pieces_by}
+use Rattle.letters.specs.Parcel.{Parcel}
 use Rattle.redistribute_rounds.specs.declared.pair.Pair.{Pair}
 use Rattle.comm_sets.specs.Rounds.{is_pair, remap_rounds}
 

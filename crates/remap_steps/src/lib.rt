@@ -14,5 +14,6 @@ mod redistribution;
 
 pub use comm_sets::Owners;
 pub use hpf_base::OutOfMemory;
-pub use part_steps::{Parcel, Row};
+pub use owner_tables::Row;
+pub use letters::Parcel;
 pub use redistribution::Redistribution;

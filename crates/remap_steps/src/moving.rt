@@ -10,7 +10,7 @@ use crate::redistribution::Redistribution;
 use comm_sets::{Messages, Spot, is_unchanged, remap_incoming, value_in};
 use hpf_base::OutOfMemory;
 use letters::Body;
-use part_steps::{Row, local_value};
+use owner_tables::{Row, local_value};
 use std::alloc::Global;
 
 impl Redistribution {

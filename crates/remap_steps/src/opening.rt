@@ -10,8 +10,8 @@ ghost use Rattle.remap_steps.specs.Redistributions.{all_rounds, message_between,
 use crate::redistribution::Redistribution;
 use comm_sets::{Pair, Spot};
 use hpf_base::OutOfMemory;
-use letters::Body;
-use part_steps::{Parcel, Row, local_value};
+use letters::{Body, Parcel};
+use owner_tables::{Row, local_value};
 use std::alloc::Global;
 use std::collections::VecDeque;
 

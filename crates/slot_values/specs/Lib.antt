@@ -1,5 +1,6 @@
 pub mod Controls
 pub mod Elements
+pub mod KeptFaults
 pub mod LocalInstructions
 pub mod Operations
 pub mod Sections

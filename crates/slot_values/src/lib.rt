@@ -6,13 +6,14 @@
 //!
 //! What holds in between: an evaluation changes nothing; want of memory leaves the control as it was, so the instruction can be run
 //! again; tests either go on to the next instruction or end the run with a fault at their line, and change nothing else. The limits of a
-//! FORALL are those of `serial_run`, asked of a state that has the slots as its scalars.
+//! FORALL are those of the sequential run, asked of a state that has the slots as its scalars.
 #![tactic(auto)]
 
 mod control;
 mod element_spots;
 mod expressions;
 mod forall_tests;
+mod kept;
 mod local_instructions;
 mod numbered_faults;
 mod scalar_instructions;
@@ -26,11 +27,12 @@ pub use element_spots::{element_place, element_place_of_one, element_place_of_tw
 pub use expressions::{flat_or_zero, flat_value, flat_values, slot};
 pub use forall_tests::{forall_limits, one_to_one};
 pub use hpf_base::OutOfMemory;
+pub use kept::{Kept, earlier};
 pub use local_instructions::{is_local, run_local};
 pub use numbered_faults::{fault_numbers, fault_of_numbers};
 pub use owner_tables::Spot;
 pub use scalar_instructions::{set, test_bounds, test_stride, trips};
 pub use section_bounds::inside;
 pub use sections::{elemental_at, selections_at};
-pub use term_values::Fault;
 pub use space_tests::{limits, own_limits};
+pub use term_values::Fault;

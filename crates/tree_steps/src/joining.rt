@@ -8,7 +8,7 @@ use crate::optional_values::{option_numbers, option_of_numbers, options_joined};
 use crate::positioned_values::{later, positioned_numbers, positioned_of_numbers};
 use hpf_base::OutOfMemory;
 use op_tables::Op;
-use part_steps::earlier;
+use slot_values::earlier;
 use std::alloc::Global;
 
 /// What goes round a tree, and so how two are joined.

@@ -3,11 +3,10 @@
 ghost use Rattle.std.specs.Prelude.{◌≡◌, pos, Some, IfOk};
 ghost use Rattle.machine_steps.specs.Node.{kept_values, values_kept};
 ghost use Rattle.node_code.specs.FaultValues.{fault_values};
-ghost use Rattle.part_steps.specs.KeptFaults.{kepts};
+ghost use Rattle.slot_values.specs.KeptFaults.{kepts};
 
 use hpf_base::OutOfMemory;
-use part_steps::Kept;
-use slot_values::{fault_numbers, fault_of_numbers};
+use slot_values::{Kept, fault_numbers, fault_of_numbers};
 use std::alloc::{AllocError, Global};
 
 /// The numbers of a kept fault: the tuple, the part, and those of the fault; none where no fault is kept. A number past 2^63 - 1 is

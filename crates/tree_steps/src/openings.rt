@@ -9,8 +9,7 @@ ghost use Rattle.machine_steps.specs.Tree.{levels_of, tree_sends};
 use crate::rounds::{source_of, target_of};
 use crate::tree_values::copied;
 use hpf_base::OutOfMemory;
-use letters::Body;
-use part_steps::Parcel;
+use letters::{Body, Parcel};
 use std::alloc::Global;
 use std::collections::VecDeque;
 

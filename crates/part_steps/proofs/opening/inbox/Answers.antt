@@ -6,8 +6,9 @@ use Rattle.machine_steps.specs.Node.{part_sends}
 use Rattle.owner_tables.specs.Spots.{spot_of}
 use Rattle.part_steps.specs.Parts.{part_of}
 use Rattle.part_steps.specs.Views.{part_view}
-use Rattle.part_steps.proofs.Listed.{is-listed, listed-is}
-use Rattle.part_steps.proofs.OpeningLaws.{sources-more, sources-below}
+use Rattle.owner_tables.proofs.Listed.{is-listed, listed-is}
+use Rattle.part_steps.proofs.OpeningLaws.{sources-more}
+use Rattle.comm_sets.proofs.Parcels.{sources-below}
 use Rattle.part_steps.proofs.opening.inbox.Goals as goal
 
 pub with-requires : goal.with-requires

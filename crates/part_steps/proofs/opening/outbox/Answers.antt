@@ -6,8 +6,9 @@ use Rattle.machine_steps.specs.Node.{parcel, part_sends, local_read}
 use Rattle.owner_tables.specs.Spots.{spot_of}
 use Rattle.part_steps.specs.Parts.{part_of}
 use Rattle.part_steps.specs.Views.{part_view}
-use Rattle.part_steps.proofs.Listed.{is-listed, listed-is}
-use Rattle.part_steps.proofs.OpeningLaws.{parcels-more, targets-below}
+use Rattle.owner_tables.proofs.Listed.{is-listed, listed-is}
+use Rattle.part_steps.proofs.OpeningLaws.{parcels-more}
+use Rattle.comm_sets.proofs.Parcels.{targets-below}
 use Rattle.part_steps.proofs.opening.outbox.Goals as goal
 
 pub with-spots-requires : goal.with-spots-requires

@@ -2,7 +2,7 @@ use Rattle.std.proofs.Common.{◌≡◌, drop}
 use Rattle.storage.specs.Storage.{Storage}
 use Rattle.part_steps.specs.Behind.{fault_below, stored_below, tuples}
 use Rattle.part_steps.specs.Gathered.{behind_of}
-use Rattle.part_steps.specs.KeptFaults.{kepts}
+use Rattle.slot_values.specs.KeptFaults.{kepts}
 use Rattle.part_steps.specs.Stores.{stored}
 use Rattle.part_steps.proofs.Computed.{keep_of, over, store_of}
 use Rattle.part_steps.proofs.parallel.gathered_values.Given as goal

@@ -1,7 +1,7 @@
 use Rattle.std.proofs.Common.{◌≡◌, drop}
 use Rattle.part_steps.specs.Behind.{fault_below, joined_below, tuples}
 use Rattle.part_steps.specs.Gathered.{behind_of}
-use Rattle.part_steps.specs.KeptFaults.{kepts}
+use Rattle.slot_values.specs.KeptFaults.{kepts}
 use Rattle.part_steps.proofs.Computed.{join_of, keep_of, over}
 use Rattle.part_steps.proofs.reductions.gathered_values.Given as goal
 

@@ -4,7 +4,7 @@ use Rattle.machine_steps.specs.Message.{message}
 use Rattle.owner_tables.specs.Spots.{spot_of}
 use Rattle.part_steps.specs.Parts.{part_of}
 use Rattle.part_steps.specs.Views.{part_view}
-use Rattle.part_steps.proofs.Listed.{is-listed}
+use Rattle.owner_tables.proofs.Listed.{is-listed}
 use Rattle.part_steps.proofs.Messages.{ascends, received-is}
 use Rattle.part_steps.proofs.gathered.Gathered.received_value.Goals as goal
 

@@ -1,7 +1,7 @@
 use Rattle.std.proofs.Common.{◌≡◌, ℕ, [], ◌∷◌, ◌++◌, filter, sym, ◌∙◌, ap, arith}
 use Rattle.std.specs.List.{range_with_len}
 use Rattle.comm_sets.proofs.Computing.{filter-more}
-use Rattle.part_steps.proofs.OpeningLaws.{sources-below}
+use Rattle.comm_sets.proofs.Parcels.{sources-below}
 use Rattle.remap_steps.specs.Redistributions.{sends_in}
 use Rattle.remap_steps.proofs.Made.{seen}
 use Rattle.remap_steps.proofs.redistribution.Redistribution.inbox.Goals as goal

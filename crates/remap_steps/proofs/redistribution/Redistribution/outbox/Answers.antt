@@ -1,7 +1,7 @@
 use Rattle.std.proofs.Common.{◌≡◌, ℕ, [], ◌∷◌, ◌++◌, filter, map, sym, ◌∙◌, ap, arith}
 use Rattle.std.specs.List.{range_with_len}
 use Rattle.machine_steps.specs.Node.{local_read, parcel}
-use Rattle.part_steps.proofs.OpeningLaws.{targets-below}
+use Rattle.comm_sets.proofs.Parcels.{targets-below}
 use Rattle.remap_steps.specs.Redistributions.{message_between, sends_in}
 use Rattle.remap_steps.proofs.Made.{seen}
 use Rattle.remap_steps.proofs.Nodes.{map-more}

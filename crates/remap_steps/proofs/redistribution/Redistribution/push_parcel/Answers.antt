@@ -1,6 +1,6 @@
 use Rattle.std.proofs.Common.{◌≡◌, Bool, true, if◌then◌else◌, List, ℤ, [], ◌∷◌, ◌++◌, map, ◌∙◌, ap}
 use Rattle.machine_steps.specs.Node.{local_read, parcel}
-use Rattle.part_steps.proofs.Listed.{is-listed, listed-is}
+use Rattle.owner_tables.proofs.Listed.{is-listed, listed-is}
 use Rattle.remap_steps.specs.Redistributions.{message_between, sends_in}
 use Rattle.remap_steps.proofs.Made.{seen}
 use Rattle.remap_steps.proofs.redistribution.Redistribution.push_parcel.Goals as goal

@@ -6,8 +6,9 @@ ghost use Rattle.machine_steps.specs.Node.{local_read};
 ghost use Rattle.storage.specs.Storage.{read};
 ghost use Rattle.owner_tables.specs.Spots.{spot_of};
 
+use crate::owners::Owners;
 use crate::row::Row;
-use comm_sets::{Owners, Spot};
+use crate::spot::Spot;
 use hpf_base::OutOfMemory;
 use letters::Body;
 use std::alloc::Global;
@@ -25,7 +26,7 @@ pub fn local_value(owners: &Owners, id: u32, pieces: &[Row], spot: Spot) -> Resu
 }
 
 /// The value of an element, if there is such an element and the node owns it.
-pub(crate) fn held_value(owners: &Owners, id: u32, pieces: &[Row], spot: Spot) -> Option<i64>
+pub fn held_value(owners: &Owners, id: u32, pieces: &[Row], spot: Spot) -> Option<i64>
     requires { id < owners.now.nodes }
     ensures { result ≡ (if nat_lt spot.at (slice_index_or (sizes owners.now.layouts) spot.row 0) && owns_spot owners.now.layouts id (spot_of spot)
         then Some (local_read owners.now.layouts id pieces.now (spot_of spot)) else None) }
@@ -49,7 +50,7 @@ fn value_at(pieces: &[Row], place: Spot) -> i64
 
 /// The values of elements that the node owns, in order. One that the node doesn't own, or that is out of bounds, is answered as want of
 /// memory.
-pub(crate) fn local_values(
+pub fn local_values(
     alloc: Global,
     owners: &Owners,
     id: u32,

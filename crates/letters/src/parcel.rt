@@ -1,6 +1,6 @@
 //! What is still to be sent of a phase.
 
-use letters::Body;
+use crate::body::Body;
 use std::marker::Model;
 
 /// The values that a node is to send to another.
@@ -12,7 +12,7 @@ pub struct Parcel {
 }
 
 impl Model for Parcel {
-    ghost use Rattle.machine_steps.specs.Node.{Parcel as ParcelView};
+    ghost use Rattle.letters.specs.Parcel.{Parcel as ParcelView};
 
     ghost Value = { ParcelView };
 

@@ -2,9 +2,9 @@
 
 ghost use Rattle.std.specs.Prelude.{◌≡◌, Some};
 ghost use Rattle.machine_steps.specs.Machine.{earlier, is_before};
-ghost use Rattle.part_steps.specs.KeptFaults.{kept_view, kepts};
+ghost use Rattle.slot_values.specs.KeptFaults.{kept_view, kepts};
 
-use slot_values::Fault;
+use term_values::Fault;
 
 /// A fault with its key: the number of its tuple, and then that of its part since the last verdict, both from 0.
 #[derive(Drop)]
