@@ -7,14 +7,14 @@ ghost use Rattle.term_values.specs.States.{state_of};
 ghost use Rattle.serial_run.specs.Completions.{completion};
 ghost use Rattle.serial_run.specs.Outcomes.{end_seen, outcome_seen};
 
-use crate::completion::{Completion, Fault};
+use crate::completion::Completion;
 use crate::execution::run_block;
 use crate::initial_state::initial_state;
 use hpf_base::OutOfMemory;
 use name_table::Program;
 use program_plan::plan;
 use std::alloc::Global;
-use term_values::{Array, State};
+use term_values::{Array, Fault, State};
 
 /// How a program ends: at its end or by STOP, or with a fault.
 #[derive(Drop)]
