@@ -4,7 +4,6 @@ ghost use Rattle.std.specs.Prelude.{◌≡◌, Bool, false, ℕ, List, map, true
 ghost use Rattle.hpf_base.specs.ElementOrder.{product};
 ghost use Rattle.syntax_tree.specs.MainProgram.{MainProgram, main_program};
 ghost use Rattle.name_table.specs.Entries.{entries};
-ghost use Rattle.name_table.specs.declared.names.Entry.{Entry};
 ghost use Rattle.array_maps.specs.Maps.{IsArrayMap};
 ghost use Rattle.directive_check.specs.ProgramMaps.{start_maps};
 ghost use Rattle.array_meaning.specs.Serial.{Outcome as SerialOutcome, outcome, serial};
@@ -81,17 +80,17 @@ fn serial_reply(alloc: Global, program: &Program) -> Reply
 
 /// What the run of a program in one order comes to.
 fn run_program(alloc: Global, program: &Program) -> Reply
-    ensures { (names : List Entry) → IsReported names false (outcome program.now.names (main_program program.now.tree).body) (outcome_of result) }
+    ensures { IsReported program.now.names false (outcome program.now.names (main_program program.now.tree).body) (outcome_of result) }
 {
     match run_serial(alloc, program) {
-        Ok(outcome) => report(alloc, outcome),
+        Ok(outcome) => report(alloc, &program.names, outcome),
         Err(_) => Reply::Memory,
     }
 }
 
 /// The reply to what a program came to in one order.
-fn report(alloc: Global, outcome: Outcome) -> Reply
-    ensures { (names : List Entry) → IsReported names false (outcome_seen outcome) (outcome_of result) }
+fn report(alloc: Global, names: &Names, outcome: Outcome) -> Reply
+    ensures { IsReported names.now false (outcome_seen outcome) (outcome_of result) }
 {
     let Outcome {
         printed,
@@ -100,7 +99,7 @@ fn report(alloc: Global, outcome: Outcome) -> Reply
     } = outcome;
     match end {
         End::Finished => Reply::Done(printed),
-        End::Faulted(fault) => faulted(alloc, printed, fault),
+        End::Faulted(fault) => faulted(alloc, names, printed, fault),
     }
 }
 
@@ -147,7 +146,7 @@ fn report_nodes(alloc: Global, names: &Names, arrays: bool, outcome: NodesOutcom
             Ok(printed) => Reply::Done(printed),
             Err(_) => Reply::Memory,
         },
-        End::Faulted(fault) => faulted(alloc, printed, fault),
+        End::Faulted(fault) => faulted(alloc, names, printed, fault),
     }
 }
 
@@ -170,10 +169,10 @@ fn with_arrays(
 }
 
 /// The reply to a fault behind what was printed.
-fn faulted(alloc: Global, printed: Vec<u8>, fault: Fault) -> Reply
-    ensures { (names : List Entry) → IsFaulted names printed.items fault (outcome_of result) }
+fn faulted(alloc: Global, names: &Names, printed: Vec<u8>, fault: Fault) -> Reply
+    ensures { IsFaulted names.now printed.items fault (outcome_of result) }
 {
-    match fault_line(alloc, fault.line, &fault.cause) {
+    match fault_line(alloc, names, fault.line, &fault.cause) {
         Ok(line) => Reply::Fault(printed, line),
         Err(_) => Reply::Memory,
     }

@@ -7,6 +7,7 @@ use node_machine::Node;
 use slot_values::{Fault, Status};
 use std::alloc::AllocError;
 use std::fmt::Write;
+use term_values::{Interference, Place};
 
 /// Writes numbers, a blank before each.
 pub fn write_numbers(out: &mut String, numbers: &[i64]) -> Result<(), AllocError> {
@@ -50,15 +51,29 @@ pub fn write_status(out: &mut String, status: &Status) -> Result<(), AllocError>
 
 fn write_fault(out: &mut String, fault: &Fault) -> Result<(), AllocError> {
     write!(out, "line {}: {:?}", fault.line, fault.cause.kind)?;
-    match &fault.cause.tuple {
-        Some(tuple) => write_tuple(out, tuple.as_slice()),
-        None => Ok(()),
+    match &fault.cause.at {
+        Place::Nowhere => Ok(()),
+        Place::AtTuple(tuple) => write_tuple(out, tuple.as_slice()),
+        Place::Between(pair) => write_interference(out, pair),
     }
 }
 
 fn write_tuple(out: &mut String, tuple: &[i64]) -> Result<(), AllocError> {
     out.push_str(" at")?;
     write_numbers(out, tuple)
+}
+
+/// Writes the tuples of two iterations, and the object by the place of its name and its subscripts.
+fn write_interference(out: &mut String, pair: &Interference) -> Result<(), AllocError> {
+    out.push_str(" between")?;
+    write_numbers(out, pair.earlier.as_slice())?;
+    out.push_str(" and")?;
+    write_numbers(out, pair.later.as_slice())?;
+    write!(out, " on {}", pair.object.name)?;
+    match &pair.object.subscripts {
+        Some(subscripts) => write_numbers(out, subscripts.as_slice()),
+        None => Ok(()),
+    }
 }
 
 /// Writes how a run on nodes was left, if not all of them ended.

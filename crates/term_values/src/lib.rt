@@ -29,6 +29,6 @@ pub use reductions::{combined, unit_of};
 pub use sequences::{index_values, sequence};
 pub use spaces::{extents, own_size, size, space_size};
 pub use state::{Array, State};
-pub use stops::{Cause, Stop, at_tuple, fault};
+pub use stops::{Cause, Interference, Object, Place, Stop, at_tuple, fault};
 pub use subscripts::{Division, divided, nth, positions, subscripts_at};
 pub use wrapping::{Number, sum};

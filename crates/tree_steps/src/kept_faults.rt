@@ -43,7 +43,7 @@ pub(crate) fn signed(number: &u64) -> Result<i64, AllocError>
     }
 }
 
-/// The kept fault that numbers spell, if they spell one. Numbers that no fault at a tuple has are answered as want of memory.
+/// The kept fault that numbers spell, if they spell one. A line past 32 bits is answered as want of memory.
 pub fn kept_of_numbers(alloc: Global, numbers: &[i64]) -> Result<Option<Kept>, OutOfMemory>
     ensures { IfOk result (λ kept. kepts kept ≡ values_kept fault_values numbers.now) }
 {

@@ -4,8 +4,8 @@ use Rattle.hpf_run.specs.Reply.{IsFaulted, fault_memory, reported_fault}
 use Rattle.hpf_run.proofs.actions.faulted.Goals as goal
 
 pub returns-in-Ok : goal.returns-in-Ok
-returns-in-Ok c = λ names.
-    subst (λ l. IsFaulted names c.args.printed.items c.args.fault record { status = Fault; out = c.args.printed.items; err = l }) (sym (c.in-Ok.ensures names)) reported_fault
+returns-in-Ok c =
+    subst (λ l. IsFaulted c.args.names.now c.args.printed.items c.args.fault record { status = Fault; out = c.args.printed.items; err = l }) (sym c.in-Ok.ensures) reported_fault
 
 pub returns-in-Err : goal.returns-in-Err
-returns-in-Err c = λ names. fault_memory
+returns-in-Err c = fault_memory

@@ -16,4 +16,4 @@ returns-in-Finished c = λ s w. reported_memory
 pub returns : goal.returns
 returns c = λ s w.
     faulted-reported c.args.names.now c.args.arrays s c.args.outcome.printed.items c.in-Faulted.fault (outcome_of c.faulted.result) w.printed
-    (sym w.end ∙ ap end_seen c.in-Faulted.is) (c.faulted.ensures c.args.names.now)
+    (sym w.end ∙ ap end_seen c.in-Faulted.is) c.faulted.ensures

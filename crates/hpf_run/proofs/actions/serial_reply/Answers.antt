@@ -17,7 +17,7 @@ returns-in-None c = λ grid arrays.
     let p = main_program c.args.program.now.tree in
     let built = ap (λ l. least (flat_map left_out (marks (block_of l)))) (sym c.deref.ensures.value) ∙ sym c.first_independent.ensures ∙ c.in-None.is in
     reported-meant grid arrays p (outcome_of c.run_program.result) built
-    (subst (λ es. IsReported (entries p) false (outcome es p.body) (outcome_of c.run_program.result)) c.requires.names (c.run_program.ensures (entries p)))
+    (subst (λ es. IsReported es false (outcome es p.body) (outcome_of c.run_program.result)) c.requires.names c.run_program.ensures)
 
 pub returns-in-Some : goal.returns-in-Some
 returns-in-Some c = λ grid arrays.
