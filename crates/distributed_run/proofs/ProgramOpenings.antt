@@ -71,7 +71,7 @@ module _ (nodes : ℕ) (p : MainProgram) (layouts : List Layout) (is : List Inst
   Opens names =
       LieAsDeclared nodes names layouts → is ≡ program_code (length names) (resolved_block names p.body) → hidden ≡ block_slots (resolved_block names p.body)
       → shapes ≡ map (λ (e : Entry). (initial_array e.what).dims) names → slots ≡ map (λ (e : Entry). initial_scalar e.what) names ++ replicate hidden (pos 0)
-      → values ≡ values_of names → opening_machine (texts nodes shapes is) slots layouts values ≡ text_opening nodes p layouts
+      → values ≡ values_of names → opening_machine (texts nodes [] shapes is) slots layouts values ≡ text_opening nodes p layouts
 
   opens : Opens (entries p)
   opens laid code slots-behind dims first starts =
@@ -79,10 +79,10 @@ module _ (nodes : ℕ) (p : MainProgram) (layouts : List Layout) (is : List Inst
       let block : Block = resolved_block es p.body in
       let scalars : List ℤ = map (λ (e : Entry). initial_scalar e.what) es in
       let shaped : shapes ≡ program_shapes p = dims ∙ sym (map-map (λ (a : Array). a.dims) (λ (e : Entry). initial_array e.what) es) in
-      ap (λ t. machine layouts t slots (start_rows layouts values)) (ap (λ s. texts nodes s is) shaped ∙ ap (texts nodes (program_shapes p)) code)
-      ∙ ap (λ s. machine layouts (texts nodes (program_shapes p) (program_code (length es) block)) s (start_rows layouts values))
+      ap (λ t. machine layouts t slots (start_rows layouts values)) (ap (λ s. texts nodes [] s is) shaped ∙ ap (texts nodes [] (program_shapes p)) code)
+      ∙ ap (λ s. machine layouts (texts nodes [] (program_shapes p) (program_code (length es) block)) s (start_rows layouts values))
       (first ∙ ap (λ k. scalars ++ replicate k (pos 0)) slots-behind)
-      ∙ ap (machine layouts (texts nodes (program_shapes p) (program_code (length es) block)) (scalars ++ replicate (block_slots block) (pos 0)))
+      ∙ ap (machine layouts (texts nodes [] (program_shapes p) (program_code (length es) block)) (scalars ++ replicate (block_slots block) (pos 0)))
       (ap (start_rows layouts) starts ∙ rows-are nodes es layouts laid)
 
   pub opening-is : (names : List Entry) → names ≡ entries p → Opens names

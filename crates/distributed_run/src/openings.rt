@@ -1,6 +1,6 @@
 //! The nodes at the start.
 
-ghost use Rattle.std.specs.Prelude.{◌≡◌, ◌≤◌, All, IfOk, length};
+ghost use Rattle.std.specs.Prelude.{◌≡◌, ◌≤◌, [], All, IfOk, length};
 ghost use Rattle.std.specs.Arc.{arc_value};
 ghost use Rattle.hpf_base.specs.declared.limits.TheConstants.{MAX_NODES};
 ghost use Rattle.syntax_tree.specs.MainProgram.{main_program};
@@ -64,19 +64,20 @@ fn compiled(alloc: Global, program: &Program) -> Result<Code, OutOfMemory>
     compile(alloc, program.names.len(), &plan)
 }
 
-/// The program that the nodes share.
+/// The program that the nodes share. None of its instructions names a mapping.
 fn program_text(
     alloc: Global,
     nodes: u32,
     shapes: Vec<Dims>,
     code: Vec<Instruction>,
 ) -> Result<Arc<NodeProgram>, OutOfMemory>
-    ensures code { IfOk result (λ text. code_of (arc_value text) ≡ texts nodes shapes.items (instructions code.items)) }
+    ensures code { IfOk result (λ text. code_of (arc_value text) ≡ texts nodes [] shapes.items (instructions code.items)) }
     ensures nodes { IfOk result (λ text. (arc_value text).nodes ≡ nodes) }
 {
     let program = NodeProgram {
         nodes,
         shapes,
+        tables: Vec::new(alloc),
         code,
     };
     Ok(Arc::new(alloc, program)?)

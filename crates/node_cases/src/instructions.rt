@@ -57,7 +57,7 @@ fn read_instruction(
 
 fn read_remap(moves: &mut VecDeque<Vec<NewMapping>>) -> Result<Instruction, Trouble> {
     match moves.pop_front() {
-        Some(new) => Ok(Instruction::Remap(new)),
+        Some(new) => Ok(Instruction::Remap { line: 0, new }),
         None => Err(Trouble::Malformed),
     }
 }

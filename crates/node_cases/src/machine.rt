@@ -170,7 +170,7 @@ fn step(m: &mut Machine, i: &Instruction) -> Result<(), Trouble> {
             last_value(m, *copy, *set, *slot);
             Ok(())
         }
-        Instruction::Remap(_) => {
+        Instruction::Remap { .. } => {
             m.go_on();
             Ok(())
         }

@@ -1,5 +1,5 @@
 -- The instructions of node code, and what each does on the machine with whole arrays.
-use Rattle.std.specs.Prelude.{ℕ, zero, suc, ◌+◌, List, [], ◌∷◌, ◌++◌, drop, slice_set, ℤ, pos, Bool, true, false, Option, Result, Ok, Err, if◌then◌else◌}
+use Rattle.std.specs.Prelude.{ℕ, zero, suc, ◌+◌, List, [], ◌∷◌, ◌++◌, drop, slice_get, slice_set, ℤ, pos, Bool, true, false, Option, Some, None, Result, Ok, Err, if◌then◌else◌}
 use Rattle.std.specs.Fmt.{signed_decimal}
 use Rattle.hpf_base.specs.ElementOrder.{product}
 use Rattle.op_tables.specs.declared.op.Op.{Op}
@@ -14,11 +14,12 @@ use Rattle.array_meaning.specs.declared.sections.Selection.{Selection}
 use Rattle.array_meaning.specs.Sections.{sequence, extents, subscripts_at, positions}
 use Rattle.array_meaning.specs.Elementals.{each}
 use Rattle.array_meaning.specs.Execution.{decimals}
+use Rattle.mappings.specs.declared.mapping.Mapping.{Mapping}
 use Rattle.machine_steps.specs.Layout.{Layout}
 use Rattle.machine_steps.specs.Instr as machine
 use Rattle.machine_steps.specs.Instr.{Instr, Local, Control, Remapping, Rounds}
 use Rattle.machine_steps.specs.Machine.{on, faulted, set_slot}
-use Rattle.owner_tables.specs.SameLayouts.{is_same_layout}
+use Rattle.machine_steps.specs.SameLayouts.{is_same_layout}
 use Rattle.node_code.specs.Flat.{Flat, Flats, slot, flat_value, flat_values, slots_value}
 use Rattle.node_code.specs.Forms.{Sub, selections_in}
 use Rattle.node_code.specs.Parallel.{at_line, shape_of, spot_of, Assignment, assignment_size, assignment_tuples, assigned_spot, Evaluation, evaluation_extents, evaluation_size, evaluation_tuples, reduction_tuples, fold_of, copy_spot, forall_tuples, forall_spot, forall_mask_tuples}
@@ -29,6 +30,11 @@ pub data PrintItem : Type 0 where
   PrintBytes : List ℕ → PrintItem
   PrintNumber : Flat → PrintItem
   PrintSection : (array : ℕ) → List Sub → PrintItem
+
+-- an array, by the place of its name, gets the program's mapping of this number
+pub record NewMapping : Type 0 where
+  pub array : ℕ
+  pub map : ℕ
 
 pub data Instruction : Type 0 where
   -- a slot gets a value, or there is a fault
@@ -74,8 +80,8 @@ pub data Instruction : Type 0 where
   FoldCopy : (copy : ℕ) → Op → (slot : ℕ) → Instruction
   -- a slot gets the element of a copy at the last position where the copy `set` isn't 0, if there is one and the two lie alike
   LastCopy : (copy set slot : ℕ) → Instruction
-  -- arrays get new mappings (HPF 2.0, 8.3)
-  Remap : List Remapping → Instruction
+  -- arrays get new mappings, one after another (HPF 2.0, 8.3)
+  Remap : (line : ℕ) → List NewMapping → Instruction
 
 abbrev pub spot_in : ℕ → List Dim → List ℤ → Result Spot Cause
 spot_in a dims subscripts = if_in_bounds (element_place dims subscripts) >>= (λ k. Ok (record { row = a; at = k }))
@@ -131,12 +137,25 @@ module _ (shapes : List (List Dim)) where
   items_of [] = []
   items_of (i ∷ is) = item_of i ∷ items_of is
 
+-- ---- new mappings
+
+-- a mapping where its number has one
+abbrev pub remapping_by : ℕ → Option Mapping → List Remapping → List Remapping
+remapping_by row None rest = rest
+remapping_by row (Some mapping) rest = record { row = row; mapping = mapping } ∷ rest
+
+-- new mappings, by the mappings of the program
+abbrev pub remappings : List Mapping → List NewMapping → List Remapping
+remappings maps [] = []
+remappings maps (first ∷ new) = remapping_by first.array (slice_get maps first.map) (remappings maps new)
+
 -- ---- all instructions
 
--- what instructions know of arrays: the dimensions of those that are declared, by the places of their names, the layout of a copy of
--- these extents, and the rounds in which arrays get new mappings
+-- what instructions know of arrays: the dimensions of those that are declared, by the places of their names, the program's mappings by
+-- their numbers, the layout of a copy of these extents, and the rounds in which arrays get new mappings
 pub record ArrayTable : Type 0 where
   pub shapes : List (List Dim)
+  pub maps : List Mapping
   pub copies : List ℕ → Layout
   pub rounds : List Remapping → Rounds
 
@@ -166,4 +185,4 @@ meaning_of table (Inside line a subs) = Local (λ c. go_on_if (at_line line (all
 meaning_of table (Print items) = machine.Print (items_of table.shapes items) (λ bytes. drop 1 bytes ++ 10 ∷ [])
 meaning_of table (FoldCopy copy o x) = machine.FoldCopy copy (fold_of o) x
 meaning_of table (LastCopy copy set x) = machine.LastCopy copy set is_same_layout x
-meaning_of table (Remap new) = machine.Remap new (table.rounds new)
+meaning_of table (Remap line new) = machine.Remap (remappings table.maps new) (table.rounds (remappings table.maps new))

@@ -3,7 +3,7 @@ use Rattle.std.specs.Prelude.{◌≡◌, ℕ, ℤ, pos, List}
 use Rattle.array_meaning.specs.Faults.{Fault}
 use Rattle.machine_steps.specs.Instr.{Instr, MakeCopy}
 use Rattle.machine_steps.specs.Layout.{Layout}
-use Rattle.owner_tables.specs.CopyLayout.{copy_layout}
+use Rattle.machine_steps.specs.CopyLayout.{copy_layout}
 use Rattle.node_machine.specs.declared.copies.MadeCopy.{MadeCopy}
 
 -- what the instruction makes by these slots, on so many nodes

@@ -90,7 +90,7 @@ fn kind_of(i: &Instruction) -> Kind {
         Instruction::Print(_) => Kind::Print,
         Instruction::FoldCopy { .. } => Kind::FoldCopy,
         Instruction::LastCopy { .. } => Kind::LastCopy,
-        Instruction::Remap(_) => Kind::Remap,
+        Instruction::Remap { .. } => Kind::Remap,
         _ => Kind::Local,
     }
 }

@@ -30,4 +30,4 @@ local_meaning table (Inside line a subs) h = refl
 local_meaning table (Print items) h = absurd (false≢true h)
 local_meaning table (FoldCopy copy o x) h = absurd (false≢true h)
 local_meaning table (LastCopy copy set x) h = absurd (false≢true h)
-local_meaning table (Remap new) h = absurd (false≢true h)
+local_meaning table (Remap line new) h = absurd (false≢true h)

@@ -44,7 +44,7 @@ pub fn is_local(i: &Instruction) -> bool
         Instruction::Print(_) => false,
         Instruction::FoldCopy { .. } => false,
         Instruction::LastCopy { .. } => false,
-        Instruction::Remap(_) => false,
+        Instruction::Remap { .. } => false,
     }
 }
 
