@@ -27,9 +27,9 @@ use Rattle.lowering.proofs.Pars.{par-reaches, par-stops}
 module _ (table : ArrayTable) (code : List Instruction) (n many leave again : ℕ) (sized : (ns : List ℕ) → size_of (table.copies ns) ≡ product ns) (line b pc to : ℕ)
     (form : Form) (over : List Sub) (par : Instruction) (tuples : Tuples Fault) (is : meaning_of table par ≡ instr.Par tuples (copy_spot n)) where
   abbrev p : Evaluation
-  p = record { line = line; form = form; over = over; copy = n }
+  p = record { line = line; form = form; over = over }
 
-  module _ (has : HasAt code pc (MakeCopy p ∷ par ∷ Verdict ∷ [])) (slots : List ℤ) (rows : Storage) (s : State) (holds : Holds table code n many None s slots rows)
+  module _ (has : HasAt code pc (MakeCopy n p ∷ par ∷ Verdict ∷ [])) (slots : List ℤ) (rows : Storage) (s : State) (holds : Holds table code n many None s slots rows)
       (ns : List ℕ) (shape : evaluation_extents p slots ≡ ns) (counted : tuples.count slots ≡ product ns)
       (tuple : ℕ → List ℤ) (f : ℕ → Result ℤ Cause)
       (does : (rows1 : Storage) → HoldsArrays n table.shapes s rows1 → (u : ℕ) → machine.outcome_of tuples slots (read rows1) u
@@ -76,7 +76,7 @@ module _ (table : ArrayTable) (code : List Instruction) (n many leave again : �
     m1 = stands table code (pc + 1) slots rows1 s.printed
 
     makes : Reaches table code m0 m1
-    makes i = (1, record i { layouts = slice_set i.layouts n (table.copies (evaluation_extents p slots)) }, one table code pc slots rows s.printed (MakeCopy p) has.0 i)
+    makes i = (1, record i { layouts = slice_set i.layouts n (table.copies (evaluation_extents p slots)) }, one table code pc slots rows s.printed (MakeCopy n p) has.0 i)
 
     by_each : (q : Result (List ℤ) Cause) → Filled table code n many line count s slots rows1 holds2 empty effect q count → Keeps line outcome q count
         → Goes table code n many None leave again to b slots m0 (with_value line s q next)

@@ -18,7 +18,7 @@ use Rattle.node_code.specs.Flat.{slot}
 use Rattle.node_code.specs.Forms.{Form, elemental_in}
 use Rattle.node_code.specs.Parallel.{at_line, outcome_of, reads_at, value_by_reads, Evaluation, evaluation_extents, evaluation_size, evaluation_tuples, reduction_tuples, counted, counted_outcome, joined, fold_of}
 use Rattle.node_code.specs.Instructions.{Instruction, OwnLimits, ArrayTable, meaning_of, go_on_if}
-use Rattle.lowering.specs.ExpressionCode.{own_evaluation, without_copy, reduce_code}
+use Rattle.lowering.specs.ExpressionCode.{own_evaluation, reduce_code}
 use Rattle.lowering.proofs.Reach.{Idle, HasAt, same-refl, same-set, slot-set, stands, one, Comes, comes-on}
 use Rattle.lowering.proofs.Terms.{HoldsArrays}
 use Rattle.lowering.proofs.Keeping.{IsOutcome, Keeps, keeps}
@@ -29,10 +29,10 @@ pub result-outcome : (line : ℕ) (q : Result ℤ Cause) → IsOutcome line (out
 result-outcome line (Ok v) = λ t. refl
 result-outcome line (Err c) = refl
 
-module _ (n : ℕ) (shapes : List (List Dim)) (s : State) (rows : Storage) (arrays : HoldsArrays n shapes s rows) (line : ℕ) (form : Form) (copy : ℕ) (slots : List ℤ)
+module _ (n : ℕ) (shapes : List (List Dim)) (s : State) (rows : Storage) (arrays : HoldsArrays n shapes s rows) (line : ℕ) (form : Form) (slots : List ℤ)
     (x : Elemental) (right : elemental_in slots form ≡ x) (named : NamesBelow n x) where
   abbrev p : Evaluation
-  p = own_evaluation line form copy
+  p = own_evaluation line form
 
   pub own-shape : evaluation_extents p slots ≡ first_extents (sections x)
   own-shape = sym (shape-first slots p.form) ∙ ap (λ y. first_extents (sections y)) right
@@ -89,7 +89,7 @@ module _ (table : ArrayTable) (code : List Instruction) (line n : ℕ) (s : Stat
   reduce-comes pc b x o form slots r has right named le lt = by_limits (space_size ns (sections r)) refl
     where
       p : Evaluation
-      p = without_copy line form
+      p = own_evaluation line form
 
       ns : List ℕ
       ns = first_extents (sections r)
@@ -110,7 +110,7 @@ module _ (table : ArrayTable) (code : List Instruction) (line n : ℕ) (s : Stat
       outcome = machine.outcome_of (reduction_tuples table.shapes p o) slots (read rows)
 
       tuple-is : (u : ℕ) → outcome u ≡ counted_outcome o (outcome_of (at_line line (at_tuple (positions ns u) (value_at s (positions ns u) r))))
-      tuple-is u = ap (counted_outcome o) (own-outcome n table.shapes s rows arrays line form 0 slots r right named u)
+      tuple-is u = ap (counted_outcome o) (own-outcome n table.shapes s rows arrays line form slots r right named u)
 
       kept-is : Keeps line outcome (values_over s ns r count) count
       kept-is = keeps line outcome (positions ns) (λ u. value_at s (positions ns u) r) count
@@ -129,7 +129,7 @@ module _ (table : ArrayTable) (code : List Instruction) (line n : ℕ) (s : Stat
       two : (i : Idle) → steps (meaning_of table) 2 (stands table code (pc + 1) slots rows out i) ≡ judged (keep outcome 0 count None) (folded (fold_of o) outcome count) i
       two i =
           ap (λ m. step (meaning_of table) m) (ap (λ z. step_by (instr_of (meaning_of table) z) (stands table code (pc + 1) slots rows out i)) has.1.0
-          ∙ ap (λ k. values 1 (keep outcome 0 k None) (folded (fold_of o) outcome k) i) (ap product (own-shape n table.shapes s rows arrays line form 0 slots r right named)))
+          ∙ ap (λ k. values 1 (keep outcome 0 k None) (folded (fold_of o) outcome k) i) (ap product (own-shape n table.shapes s rows arrays line form slots r right named)))
           ∙ ap (λ z. step_by (instr_of (meaning_of table) z) (values 1 (keep outcome 0 count None) (folded (fold_of o) outcome count) i)) has.1.0
 
       three : (v : ℤ) (i : Idle) → steps (meaning_of table) 1 (judged None v i) ≡ stands table code (pc + 1 + 1) (slice_set slots x v) rows out
@@ -159,7 +159,7 @@ module _ (table : ArrayTable) (code : List Instruction) (line n : ℕ) (s : Stat
           ≡ record (stands table code pc slots rows out i) { control = go_on_if {A = ℕ} (at_line line q) (record { at = pc; slots = slots; status = Running }) }
       limits q e i = one table code pc slots rows out (OwnLimits p) has.0 i
           ∙ ap (λ q. record (stands table code pc slots rows out i) { control = go_on_if {A = ℕ} (at_line line q) (record { at = pc; slots = slots; status = Running }) })
-          (own-limits n table.shapes s rows arrays line form 0 slots r right named ∙ e)
+          (own-limits n table.shapes s rows arrays line form slots r right named ∙ e)
 
       by_limits : (q : Result ℕ Cause) → space_size ns (sections r) ≡ q → Comes table code line rows out pc (pc + 2) b slots P
           (q >>= (λ k. values_over s ns r k >>= pair) >>= second)

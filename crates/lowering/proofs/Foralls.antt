@@ -283,13 +283,13 @@ module _ (table : ArrayTable) (code : List Instruction) (n many leave again : 鈩
           (subst (Goes table code n many None leave again to b1 slots (stands table code pc slots rows s.printed))
           (sym (value-bind line s (each (indices_at axes) (位 u. value (indices_at axes u) s t) (product ns)) (位 vs. Ok (mask_of vs))
           (位 m. assign_all_forall axes (product ns) m body s)))
-          (copy-goes table code n many leave again sized line b1 pc to (index_form t) over (ParForallCopy p) (forall_mask_tuples table.shapes p) refl
+          (copy-goes table code n many leave again sized line b1 pc to (index_form t) over (ParForallCopy n p) (forall_mask_tuples table.shapes p) refl
           (has.0, (has.1.0, (has.1.1.0, tt))) slots rows s holds ns (extents-are slots gives) (ap product (extents-are slots gives)) (indices_at axes)
           (位 u. value (indices_at axes u) s t)
           does (位 vs. assign_all_forall axes (product ns) (mask_of vs) body s) goes))
         where
           p : Evaluation
-          p = record { line = line; form = index_form t; over = over; copy = n }
+          p = record { line = line; form = index_form t; over = over }
 
           cs : List Instruction
           cs = forall_assignments_code over (Some (where_true n true)) body

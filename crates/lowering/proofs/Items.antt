@@ -14,7 +14,7 @@ use Rattle.lowering.proofs.Parts.{SubsGive, subscripts-come}
 use Rattle.lowering.proofs.Reach.{HasAt, has-front, has-back, SameBelow, same-refl, Reaches, stands, one, Comes, comes-on, comes-then, comes-at}
 use Rattle.lowering.proofs.Scatter.{space-size}
 use Rattle.lowering.proofs.Terms.{HoldsScalars, HoldsArrays}
-use Rattle.lowering.specs.ExpressionCode.{without_copy, subscripts_slots, subs_of, subscripts_code}
+use Rattle.lowering.specs.ExpressionCode.{own_evaluation, subscripts_slots, subs_of, subscripts_code}
 use Rattle.lowering.specs.WellFormed.{AreScalarSubscripts}
 use Rattle.lowering.specs.StatementCode.{item_code}
 use Rattle.machine_steps.specs.Instr.{Running}
@@ -57,12 +57,12 @@ module _ (table : ArrayTable) (code : List Instruction) (line n : ℕ) (s : Stat
   SpreadGives b a subs slots bytes = (later : List ℤ) → SameBelow b slots later → spread a (selections_in later subs) ≡ bytes
 
   spread-comes : (pc b a : ℕ) (subs : List Sub) (slots : List ℤ) (ds : List Selection) → a < n
-      → HasAt code pc (OwnLimits (without_copy line (SectionForm a subs)) ∷ Inside line a subs ∷ []) → SubsGive b subs slots ds
+      → HasAt code pc (OwnLimits (own_evaluation line (SectionForm a subs)) ∷ Inside line a subs ∷ []) → SubsGive b subs slots ds
       → Comes table code line rows out pc (pc + 2) b slots (SpreadGives b a subs) (array_value s (Selected a ds) >>= (λ v. Ok (decimals v.elements)))
   spread-comes pc b a subs slots ds la has gives = by_limits (space_size ns (ds ∷ [])) refl
     where
       p : Evaluation
-      p = without_copy line (SectionForm a subs)
+      p = own_evaluation line (SectionForm a subs)
 
       ns : List ℕ
       ns = extents ds
@@ -146,7 +146,7 @@ module _ (table : ArrayTable) (code : List Instruction) (line n : ℕ) (s : Stat
       let c = subscripts_code line b rs in
       let b1 : ℕ = b + subscripts_slots rs in
       let subs = subs_of b rs in
-      let p : Evaluation = without_copy line (SectionForm a subs) in
+      let p : Evaluation = own_evaluation line (SectionForm a subs) in
       let last = OwnLimits p ∷ Inside line a subs ∷ [] in
       let pc1 : ℕ = pc + length c in
       let long : pc1 + 2 ≡ pc + length (c ++ last) = omega (arith, length-append c last) in

@@ -89,7 +89,7 @@ module _ (table : ArrayTable) (code : List Instruction) (n many leave again : �
       (λ slots1 r e same gives holds1. behind slots1 r (gives.0 slots1 (same-refl b1 slots1)) gives.1 holds1)))
     where
       p : Evaluation
-      p = own_evaluation line (form_of b mask) n
+      p = own_evaluation line (form_of b mask)
 
       does : ArrayValue → Run
       does m = then_do (assign_all_where m.extents (mask_of m.elements) body s) (assign_all_where m.extents (negated_mask m.elements) others)
@@ -110,7 +110,7 @@ module _ (table : ArrayTable) (code : List Instruction) (n many leave again : �
       co = masked_code b1 (or_no_sub first, where_true n false) others
 
       tail : List Instruction
-      tail = OwnLimits p ∷ MakeCopy p ∷ ParCopy p ∷ Verdict ∷ (cb ++ co)
+      tail = OwnLimits p ∷ MakeCopy n p ∷ ParCopy n p ∷ Verdict ∷ (cb ++ co)
 
       pc1 : ℕ
       pc1 = pc + length c
@@ -144,7 +144,7 @@ module _ (table : ArrayTable) (code : List Instruction) (n many leave again : �
           valued vs = record { extents = ns; elements = vs }
 
           shape : evaluation_extents p slots1 ≡ ns
-          shape = own-shape n table.shapes s rows holds1.arrays line (form_of b mask) n slots1 r right named
+          shape = own-shape n table.shapes s rows holds1.arrays line (form_of b mask) slots1 r right named
 
           count : ℕ
           count = product ns
@@ -152,7 +152,7 @@ module _ (table : ArrayTable) (code : List Instruction) (n many leave again : �
           m0 : Place
           m0 = stands table code (pc1 + 1) slots1 rows s.printed
 
-          at_copy : HasAt code (pc1 + 1) (MakeCopy p ∷ ParCopy p ∷ Verdict ∷ [])
+          at_copy : HasAt code (pc1 + 1) (MakeCopy n p ∷ ParCopy n p ∷ Verdict ∷ [])
           at_copy = (at_tail.1.0, (at_tail.1.1.0, (at_tail.1.1.1.0, tt)))
 
           bodies : (vs : List ℤ) (rows3 : Storage) → Holds table code n many (Some vs) s slots1 rows3 → Goes table code n many None leave again to b1 slots1
@@ -171,9 +171,9 @@ module _ (table : ArrayTable) (code : List Instruction) (n many leave again : �
           by_values k e =
               subst (λ k. Goes table code n many None leave again to b1 slots1 m0 (with_value line s (values_over s ns r k >>= (λ vs. Ok (valued vs))) does)) (sym e)
               (subst (Goes table code n many None leave again to b1 slots1 m0) (sym (value-bind line s (values_over s ns r count) (λ vs. Ok (valued vs)) does))
-              (copy-goes table code n many leave again sized line b1 (pc1 + 1) to (form_of b mask) p.over (ParCopy p) (evaluation_tuples table.shapes p) refl at_copy slots1 rows
+              (copy-goes table code n many leave again sized line b1 (pc1 + 1) to (form_of b mask) p.over (ParCopy n p) (evaluation_tuples table.shapes p) refl at_copy slots1 rows
               s holds1 ns shape (ap product shape) (positions ns) (λ t. value_at s (positions ns t) r)
-              (λ rows1 arrays u. own-outcome n table.shapes s rows1 arrays line (form_of b mask) n slots1 r right named u) (λ vs. does (valued vs))
+              (λ rows1 arrays u. own-outcome n table.shapes s rows1 arrays line (form_of b mask) slots1 r right named u) (λ vs. does (valued vs))
               (λ vs rows3 holds3. let e : pc1 + 1 + 3 ≡ pc1 + 4 = omega arith in subst
               (λ at. Goes table code n many None leave again to b1 slots1 (stands table code at slots1 rows3 s.printed) (does (valued vs))) (sym e)
               (bodies vs rows3 holds3))))
@@ -189,7 +189,7 @@ module _ (table : ArrayTable) (code : List Instruction) (n many leave again : �
                 one table code pc1 slots1 rows s.printed (OwnLimits p) at_tail.0 i
                     ∙ ap (λ q. record (stands table code pc1 slots1 rows s.printed i)
                     { control = go_on_if {A = ℕ} (at_line line q) (record { at = pc1; slots = slots1; status = Running }) })
-                    (own-limits n table.shapes s rows holds1.arrays line (form_of b mask) n slots1 r right named ∙ e),
+                    (own-limits n table.shapes s rows holds1.arrays line (form_of b mask) slots1 r right named ∙ e),
               ))
               (kept-refl table code n many None b1 slots1) (by_values k (space-size ns (sections r) k e))
           by_limits (Err c) e =
@@ -200,7 +200,7 @@ module _ (table : ArrayTable) (code : List Instruction) (n many leave again : �
                   one table code pc1 slots1 rows s.printed (OwnLimits p) at_tail.0 i
                       ∙ ap (λ q. record (stands table code pc1 slots1 rows s.printed i)
                       { control = go_on_if {A = ℕ} (at_line line q) (record { at = pc1; slots = slots1; status = Running }) })
-                      (own-limits n table.shapes s rows holds1.arrays line (form_of b mask) n slots1 r right named ∙ e),
+                      (own-limits n table.shapes s rows holds1.arrays line (form_of b mask) slots1 r right named ∙ e),
                 ),
                 refl,
                 refl,

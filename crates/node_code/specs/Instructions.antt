@@ -64,10 +64,11 @@ pub data Instruction : Type 0 where
   -- an assignment at the tuples of its space, and one of a FORALL
   Par : Assignment → Instruction
   ParForall : Assignment → Instruction
-  -- a copy of the extents of an array expression, with 0 everywhere, and its values into the copy; also those of a FORALL's mask
-  MakeCopy : Evaluation → Instruction
-  ParCopy : Evaluation → Instruction
-  ParForallCopy : Evaluation → Instruction
+  -- a copy, by its row, of the extents of an array expression, with 0 everywhere, and its values into the copy; also those of a FORALL's
+  -- mask
+  MakeCopy : (copy : ℕ) → Evaluation → Instruction
+  ParCopy : (copy : ℕ) → Evaluation → Instruction
+  ParForallCopy : (copy : ℕ) → Evaluation → Instruction
   -- the run ends with the kept fault of the least key, if there is one
   Verdict : Instruction
   -- a slot gets a reduction of an array expression, or the run ends with the first fault of its tuples
@@ -176,9 +177,9 @@ meaning_of table (ForallLimits line over subscripts) = Local (λ c. go_on_if (at
 meaning_of table (OneToOne line over left) = Local (λ c. go_on_if (at_line line (one_to_one over left c.slots)) c)
 meaning_of table (Par p) = machine.Par (assignment_tuples table.shapes p) (assigned_spot table.shapes p)
 meaning_of table (ParForall p) = machine.Par (forall_tuples table.shapes p) (forall_spot table.shapes p)
-meaning_of table (MakeCopy p) = machine.MakeCopy p.copy (λ slots. table.copies (evaluation_extents p slots)) (λ slots. pos 0)
-meaning_of table (ParCopy p) = machine.Par (evaluation_tuples table.shapes p) (copy_spot p.copy)
-meaning_of table (ParForallCopy p) = machine.Par (forall_mask_tuples table.shapes p) (copy_spot p.copy)
+meaning_of table (MakeCopy copy p) = machine.MakeCopy copy (λ slots. table.copies (evaluation_extents p slots)) (λ slots. pos 0)
+meaning_of table (ParCopy copy p) = machine.Par (evaluation_tuples table.shapes p) (copy_spot copy)
+meaning_of table (ParForallCopy copy p) = machine.Par (forall_mask_tuples table.shapes p) (copy_spot copy)
 meaning_of table Verdict = machine.Verdict
 meaning_of table (Reduce p o x) = machine.Reduce (reduction_tuples table.shapes p o) (fold_of o) x
 meaning_of table (Inside line a subs) = Local (λ c. go_on_if (at_line line (all_inside table.shapes a (selections_in c.slots subs))) c)

@@ -39,7 +39,11 @@ pub fn compile(alloc: Global, names: usize, plan: &ResolvedProgram) -> Result<Co
 }
 
 /// Its instructions. An EXIT or CYCLE outside of loops goes to the Halt at place 1.
-fn program_code(alloc: Global, names: usize, plan: &ResolvedProgram) -> Result<Vec<Instruction>, OutOfMemory>
+fn program_code(
+    alloc: Global,
+    names: usize,
+    plan: &ResolvedProgram,
+) -> Result<Vec<Instruction>, OutOfMemory>
     ensures { IfOk result (λ v. instructions v.items ≡ program_code names (block_of plan.now.body.items)) }
 {
     let mut code = Vec::new(alloc);

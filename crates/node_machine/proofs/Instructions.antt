@@ -46,9 +46,9 @@ module _ (nodes : ℕ) (maps : List Mapping) (shapes : List (List Dim)) where
   local-begun count (OneToOne line over left) a is = refl
   local-begun count (Par p) a is = cc
   local-begun count (ParForall p) a is = cc
-  local-begun count (MakeCopy p) a is = cc
-  local-begun count (ParCopy p) a is = cc
-  local-begun count (ParForallCopy p) a is = cc
+  local-begun count (MakeCopy copy p) a is = cc
+  local-begun count (ParCopy copy p) a is = cc
+  local-begun count (ParForallCopy copy p) a is = cc
   local-begun count Verdict a is = cc
   local-begun count (Reduce p o x) a is = cc
   local-begun count (Inside line b subs) a is = refl

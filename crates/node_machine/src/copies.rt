@@ -36,10 +36,10 @@ impl NodeProgram {
             return Err(OutOfMemory);
         };
         match i {
-            Instruction::MakeCopy(p) => {
-                let over = selections_at(alloc, &control.slots, &[], &p.over)?;
+            Instruction::MakeCopy { copy, evaluation } => {
+                let over = selections_at(alloc, &control.slots, &[], &evaluation.over)?;
                 Ok(MadeCopy {
-                    copy: p.copy,
+                    copy: *copy,
                     extents: extents(alloc, &over)?,
                 })
             }
