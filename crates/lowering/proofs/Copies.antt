@@ -8,7 +8,7 @@ use Rattle.array_meaning.specs.Faults.{Cause, Fault, at_tuple}
 use Rattle.array_meaning.specs.State.{State}
 use Rattle.array_meaning.specs.Runs.{Run, with_value}
 use Rattle.array_meaning.specs.Elementals.{each}
-use Rattle.machine_steps.specs.Layout.{size_of}
+use Rattle.machine_steps.specs.Layout.{Layout, size_of}
 use Rattle.machine_steps.specs.Instr as instr
 use Rattle.machine_steps.specs.Instr.{Outcome, Tuples}
 use Rattle.machine_steps.specs.Machine as machine
@@ -16,7 +16,7 @@ use Rattle.machine_steps.specs.Machine.{effect_of, effect_by}
 use Rattle.node_code.specs.Forms.{Sub, Form}
 use Rattle.node_code.specs.Parallel.{fault_at, at_line, outcome_of, Evaluation, evaluation_extents, copy_spot}
 use Rattle.node_code.specs.Instructions.{Instruction, MakeCopy, Verdict, ArrayTable, meaning_of}
-use Rattle.lowering.proofs.Reach.{Place, HasAt, Reaches, reaches-on, stops-on, stands, one}
+use Rattle.lowering.proofs.Reach.{Idle, Place, HasAt, Reaches, reaches-on, stops-on, stands, one}
 use Rattle.lowering.proofs.Terms.{HoldsArrays}
 use Rattle.lowering.proofs.Goes.{Holds, kept-refl, Goes, goes-on}
 use Rattle.lowering.proofs.Keeping.{IsOutcome, Keeps, keeps}
@@ -24,7 +24,7 @@ use Rattle.lowering.proofs.Masks.{holds-copy, holds-some, value_effect, Filled, 
 use Rattle.lowering.proofs.Evaluating.{result-outcome}
 use Rattle.lowering.proofs.Pars.{par-reaches, par-stops}
 
-module _ (table : ArrayTable) (code : List Instruction) (n many leave again : ℕ) (sized : (ns : List ℕ) → size_of (table.copies ns) ≡ product ns) (line b pc to : ℕ)
+module _ (table : ArrayTable) (code : List Instruction) (n many leave again : ℕ) (sized : (layouts : List Layout) (ns : List ℕ) → size_of (table.copies layouts ns) ≡ product ns) (line b pc to : ℕ)
     (form : Form) (over : List Sub) (par : Instruction) (tuples : Tuples Fault) (is : meaning_of table par ≡ instr.Par tuples (copy_spot n)) where
   abbrev p : Evaluation
   p = record { line = line; form = form; over = over }
@@ -40,7 +40,7 @@ module _ (table : ArrayTable) (code : List Instruction) (n many leave again : �
     count = product ns
 
     abbrev zeros : List ℤ
-    zeros = replicate (size_of (table.copies (evaluation_extents p slots))) (pos 0)
+    zeros = replicate (product (evaluation_extents p slots)) (pos 0)
 
     abbrev rows1 : Storage
     rows1 = slice_set rows n zeros
@@ -49,8 +49,7 @@ module _ (table : ArrayTable) (code : List Instruction) (n many leave again : �
     holds2 = holds-copy table code n many s slots rows zeros holds
 
     empty : length (row_of rows1 n) ≡ count
-    empty = ap length (get_or-set_same rows n zeros [] holds.wide) ∙ length-replicate (size_of (table.copies (evaluation_extents p slots))) (pos 0)
-        ∙ sized (evaluation_extents p slots) ∙ ap product shape
+    empty = ap length (get_or-set_same rows n zeros [] holds.wide) ∙ length-replicate (product (evaluation_extents p slots)) (pos 0) ∙ ap product shape
 
     abbrev outcome : ℕ → Outcome Fault
     outcome = machine.outcome_of tuples slots (read rows1)
@@ -76,7 +75,14 @@ module _ (table : ArrayTable) (code : List Instruction) (n many leave again : �
     m1 = stands table code (pc + 1) slots rows1 s.printed
 
     makes : Reaches table code m0 m1
-    makes i = (1, record i { layouts = slice_set i.layouts n (table.copies (evaluation_extents p slots)) }, one table code pc slots rows s.printed (MakeCopy n p) has.0 i)
+    makes i =
+        let layout : Layout = table.copies i.layouts (evaluation_extents p slots) in
+        let j : Idle = record i { layouts = slice_set i.layouts n layout } in (
+          1,
+          j,
+          one table code pc slots rows s.printed (MakeCopy n p) has.0 i
+              ∙ ap (λ k. stands table code (pc + 1) slots (slice_set rows n (replicate k (pos 0))) s.printed j) (sized i.layouts (evaluation_extents p slots)),
+        )
 
     by_each : (q : Result (List ℤ) Cause) → Filled table code n many line count s slots rows1 holds2 empty effect q count → Keeps line outcome q count
         → Goes table code n many None leave again to b slots m0 (with_value line s q next)

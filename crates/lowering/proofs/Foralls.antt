@@ -21,7 +21,7 @@ use Rattle.array_meaning.specs.Elementals.{value_at, each}
 use Rattle.array_meaning.specs.Expressions.{value, values, selections, index_values, all_index_values}
 use Rattle.array_meaning.specs.ArrayAssignments.{Mask, store_at, if_true, mask_of}
 use Rattle.array_meaning.specs.Forall.{index_extents, indices_at, all_subscripts, is_index_in_limits, is_forall_in_limits, is_one_to_one, check, check_limits, check_one_to_one, mask_over, assign_forall, assign_all_forall, run_forall}
-use Rattle.machine_steps.specs.Layout.{size_of}
+use Rattle.machine_steps.specs.Layout.{Layout, size_of}
 use Rattle.machine_steps.specs.Instr.{Running, Local, Outcome}
 use Rattle.machine_steps.specs.Machine as machine
 use Rattle.machine_steps.specs.Machine.{step_by, steps}
@@ -269,7 +269,7 @@ module _ (table : ArrayTable) (code : List Instruction) (n many leave again : �
 
     -- ---- the mask
 
-    module _ (sized : (ms : List ℕ) → size_of (table.copies ms) ≡ product ms) (body : List ElementAssignment) (ok_body : AreIndexedAssignments n body) where
+    module _ (sized : (layouts : List Layout) (ms : List ℕ) → size_of (table.copies layouts ms) ≡ product ms) (body : List ElementAssignment) (ok_body : AreIndexedAssignments n body) where
       behind-goes : (mask : Option Term) (pc : ℕ) (slots : List ℤ) (rows : Storage) (s : State) → IsIndexedMask n mask
           → HasAt code pc (forall_mask_code n line over mask ++ forall_assignments_code over (option_map (λ t. where_true n true) mask) body)
           → Holds table code n many None s slots rows → Gives slots
@@ -330,7 +330,7 @@ module _ (table : ArrayTable) (code : List Instruction) (n many leave again : �
 
   -- ---- the statement
 
-  pub forall-goes : (sized : (ms : List ℕ) → size_of (table.copies ms) ≡ product ms) (line b pc : ℕ) (controls : List Control) (mask : Option Term)
+  pub forall-goes : (sized : (layouts : List Layout) (ms : List ℕ) → size_of (table.copies layouts ms) ≡ product ms) (line b pc : ℕ) (controls : List Control) (mask : Option Term)
       (body : List ElementAssignment) (slots : List ℤ) (rows : Storage) (s : State) → AreControls n controls → IsIndexedMask n mask → AreIndexedAssignments n body
       → HasAt code pc (forall_code n line b controls mask body) → n ≤ b → b + subscripts_slots (triplets controls) ≤ many → Holds table code n many None s slots rows
       → Goes table code n many None leave again (pc + length (forall_code n line b controls mask body)) b slots (stands table code pc slots rows s.printed)

@@ -1,6 +1,6 @@
 -- The code of a WHERE does what it means.
 use Rattle.std.proofs.Common.{max, ◌≡◌, ℕ, ◌+◌, ◌≤◌, List, [], ◌∷◌, ◌++◌, length, ℤ, pos, Bool, true, false, Option, Some, None, Result, Ok, Err, refl, sym, ap, ◌∙◌, subst, arith, length-append, slice_index_or}
-use Rattle.machine_steps.specs.Layout.{size_of}
+use Rattle.machine_steps.specs.Layout.{Layout, size_of}
 use Rattle.machine_steps.specs.Instr.{Running}
 use Rattle.lowering.proofs.Evaluating.{own-shape, own-limits, own-outcome}
 use Rattle.lowering.proofs.Copies.{copy-goes}
@@ -31,7 +31,7 @@ use Rattle.node_code.specs.Parallel.{When, evaluation_tuples, at_line, Evaluatio
 use Rattle.op_tables.specs.Operators.{is_true}
 use Rattle.array_meaning.specs.Runs as runs
 
-module _ (table : ArrayTable) (code : List Instruction) (n many leave again : ℕ) (sized : (ns : List ℕ) → size_of (table.copies ns) ≡ product ns) where
+module _ (table : ArrayTable) (code : List Instruction) (n many leave again : ℕ) (sized : (layouts : List Layout) (ns : List ℕ) → size_of (table.copies layouts ns) ≡ product ns) where
   -- the copy isn't kept any longer
   pub forget : (copy : Option (List ℤ)) (to b : ℕ) (slots : List ℤ) (m : Place) (r : Run) → Goes table code n many copy leave again to b slots m r
       → Goes table code n many None leave again to b slots m r

@@ -40,7 +40,7 @@ opening n body s layouts = record {
 -- the arrays as declared, and copies with a layout that has room for their elements
 pub record IsTable (s : State) (table : ArrayTable) : Type 0 where
   pub shapes : table.shapes ≡ map (λ a. a.dims) s.arrays
-  pub copies : (extents : List ℕ) → size_of (table.copies extents) ≡ product extents
+  pub copies : (layouts : List Layout) (extents : List ℕ) → size_of (table.copies layouts extents) ≡ product extents
 
 -- the slots of the declared names are the scalars, and the rows the arrays, of which there are as many as names
 abbrev pub IsLeft : ℕ → Machine Instruction Fault → State → Type 0

@@ -13,7 +13,7 @@ ghost use Rattle.array_meaning.specs.State.{State};
 ghost use Rattle.array_meaning.specs.Statements.{Block};
 ghost use Rattle.lowering.specs.Lowered.{IsState, IsTable, opening, MachineEnds, MachineHas};
 ghost use Rattle.lowering.specs.WellFormed.{IsWellFormedBlock};
-ghost use Rattle.machine_steps.specs.Layout.{IsDealt, Layout};
+ghost use Rattle.machine_steps.specs.Layout.{AreOwned, IsDealt, Layout};
 ghost use Rattle.node_code.specs.Instructions.{ArrayTable, meaning_of};
 
 /// The machine with whole arrays ends over a program's code as the program does: with the first fault, its line, kind and tuple, and
@@ -36,6 +36,6 @@ pub fn outcomes_lowered()
 /// owner, and the values of reductions are joined alike in any order and grouping.
 pub fn code_is_valid()
     ensures { (count n : ℕ) (shapes : List Shape) (table : ArrayTable) (body : Block)
-        → length shapes ≤ n → ((extents : List ℕ) → IsDealt count (table.copies extents))
+        → length shapes ≤ n → ((layouts : List Layout) → AreOwned count layouts → (extents : List ℕ) → IsDealt count (table.copies layouts extents))
         → IsWellFormedBlock n body → IsValidCode (meaning_of table) count shapes (program_code n body) }
 {}

@@ -153,11 +153,11 @@ remappings maps (first ∷ new) = remapping_by first.array (slice_get maps first
 -- ---- all instructions
 
 -- what instructions know of arrays: the dimensions of those that are declared, by the places of their names, the program's mappings by
--- their numbers, the layout of a copy of these extents, and the rounds in which arrays get new mappings
+-- their numbers, the layout of a copy of these extents by the layouts of all rows now, and the rounds in which arrays get new mappings
 pub record ArrayTable : Type 0 where
   pub shapes : List (List Dim)
   pub maps : List Mapping
-  pub copies : List ℕ → Layout
+  pub copies : List Layout → (extents : List ℕ) → Layout
   pub rounds : List Remapping → Rounds
 
 abbrev pub meaning_of : ArrayTable → Instruction → Instr Fault
@@ -177,7 +177,7 @@ meaning_of table (ForallLimits line over subscripts) = Local (λ c. go_on_if (at
 meaning_of table (OneToOne line over left) = Local (λ c. go_on_if (at_line line (one_to_one over left c.slots)) c)
 meaning_of table (Par p) = machine.Par (assignment_tuples table.shapes p) (assigned_spot table.shapes p)
 meaning_of table (ParForall p) = machine.Par (forall_tuples table.shapes p) (forall_spot table.shapes p)
-meaning_of table (MakeCopy copy p) = machine.MakeCopy copy (λ slots. table.copies (evaluation_extents p slots)) (λ slots. pos 0)
+meaning_of table (MakeCopy copy p) = machine.MakeCopy copy (λ layouts slots. table.copies layouts (evaluation_extents p slots)) (λ slots. pos 0)
 meaning_of table (ParCopy copy p) = machine.Par (evaluation_tuples table.shapes p) (copy_spot copy)
 meaning_of table (ParForallCopy copy p) = machine.Par (forall_mask_tuples table.shapes p) (copy_spot copy)
 meaning_of table Verdict = machine.Verdict

@@ -8,8 +8,8 @@ use Rattle.node_machine.specs.declared.copies.MadeCopy.{MadeCopy}
 
 -- what the instruction makes by these slots, on so many nodes
 pub record IsMade (i : Instr Fault) (nodes : ℕ) (slots : List ℤ) (m : MadeCopy) : Type 0 where
-  pub layout : List ℤ → Layout
+  pub layout : List Layout → List ℤ → Layout
   pub start : List ℤ → ℤ
   pub is : i ≡ MakeCopy m.copy layout start
-  pub lies : layout slots ≡ copy_layout nodes m.extents.items
+  pub lies : (layouts : List Layout) → layout layouts slots ≡ copy_layout nodes m.extents.items
   pub zero : start slots ≡ pos 0

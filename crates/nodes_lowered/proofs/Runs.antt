@@ -40,10 +40,10 @@ run-on-nodes nodes p layouts some rules laid =
     let m : Machine Instruction Fault = program_opening p layouts in
     let coded : Machine Text Fault = text_opening nodes p layouts in
     let o : Outcome = serial.serial p in
-    let has = lowered p table layouts (record { shapes = refl; copies = copy-size nodes }) rules.0 rules.1 in
+    let has = lowered p table layouts (record { shapes = refl; copies = λ layouts extents. copy-size nodes extents }) rules.0 rules.1 in
     let same = steps-coded (text nodes [] (program_shapes p)) (meaning_of table) text_meaning (λ i. refl) has.0 m in
     let code = valid-coded (text nodes [] (program_shapes p)) (meaning_of table) text_meaning (λ i. refl) nodes [] m.code
-    (valid nodes p [] table (omega arith) (λ extents. copy-dealt nodes extents some) rules.0 rules.1) in
+    (valid nodes p [] table (omega arith) (λ layouts owned extents. copy-dealt nodes extents some) rules.0 rules.1) in
     let whole = whole-coded (text nodes [] (program_shapes p)) nodes [] m (opening-whole nodes p layouts laid) in
     let over = subst (λ (x : Machine Text Fault). IsOver x.control.status) (sym same) (end-over n (steps (meaning_of table) has.0 m) o.end o.arrays has.2) in
     let run = openings-run fault_values text_meaning nodes has.0 [] coded some refl refl code whole over in

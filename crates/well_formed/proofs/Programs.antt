@@ -18,7 +18,7 @@ use Rattle.body_check.specs.ForallRules.{forall_breaches_at}
 use Rattle.array_meaning.specs.Resolution.{resolved_block, initial_state}
 use Rattle.array_meaning.specs.Serial.{outcome}
 use Rattle.machine_steps.specs.Agrees.{IsValidCode}
-use Rattle.machine_steps.specs.Layout.{IsDealt, Layout}
+use Rattle.machine_steps.specs.Layout.{AreOwned, IsDealt, Layout}
 use Rattle.node_code.specs.Instructions.{ArrayTable, meaning_of}
 use Rattle.lowering.specs.Lowered.{IsTable, MachineHas, opening}
 use Rattle.lowering.specs.StatementCode.{program_code}
@@ -49,7 +49,7 @@ pub lowered : (p : MainProgram) (table : ArrayTable) (layouts : List Layout) →
 lowered p table layouts is-table rules bodies = outcome-is (entries p) p.body table layouts is-table (well_formed p rules.names bodies)
 
 pub valid : (count : ℕ) (p : MainProgram) (shapes : List Shape) (table : ArrayTable) → length shapes ≤ length (entries p) →
-    ((extents : List ℕ) → IsDealt count (table.copies extents)) → HasNoBreach p → NoBreach (Among (body_breaches (entries p) p.body)) →
+    ((layouts : List Layout) → AreOwned count layouts → (extents : List ℕ) → IsDealt count (table.copies layouts extents)) → HasNoBreach p → NoBreach (Among (body_breaches (entries p) p.body)) →
     IsValidCode (meaning_of table) count shapes (program_code (length (entries p)) (resolved_block (entries p) p.body))
 valid count p shapes table few dealt rules bodies =
     code-valid count (length (entries p)) shapes table few dealt (resolved_block (entries p) p.body) (well_formed p rules.names bodies)

@@ -12,7 +12,7 @@ ghost use Rattle.body_check.specs.BodyRules.{body_breaches};
 ghost use Rattle.array_meaning.specs.Resolution.{resolved_block, initial_state};
 ghost use Rattle.array_meaning.specs.Serial.{outcome};
 ghost use Rattle.machine_steps.specs.Agrees.{IsValidCode};
-ghost use Rattle.machine_steps.specs.Layout.{IsDealt, Layout};
+ghost use Rattle.machine_steps.specs.Layout.{AreOwned, IsDealt, Layout};
 ghost use Rattle.node_code.specs.Instructions.{ArrayTable, meaning_of};
 ghost use Rattle.lowering.specs.Lowered.{IsTable, MachineHas, opening};
 ghost use Rattle.lowering.specs.StatementCode.{program_code};
@@ -38,7 +38,7 @@ pub fn accepted_programs_lowered()
 /// Every instruction of its code is one that so many nodes can run.
 pub fn accepted_code_is_valid()
     ensures { (count : ℕ) (p : MainProgram) (shapes : List Shape) (table : ArrayTable)
-        → length shapes ≤ length (entries p) → ((extents : List ℕ) → IsDealt count (table.copies extents))
+        → length shapes ≤ length (entries p) → ((layouts : List Layout) → AreOwned count layouts → (extents : List ℕ) → IsDealt count (table.copies layouts extents))
         → HasNoBreach p → NoBreach (Among (body_breaches (entries p) p.body))
         → IsValidCode (meaning_of table) count shapes (program_code (length (entries p)) (resolved_block (entries p) p.body)) }
 {}
