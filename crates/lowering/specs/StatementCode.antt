@@ -175,7 +175,11 @@ abbrev mutual
   block_slots Done = 0
   block_slots (Then line s rest) = max (statement_slots s) (block_slots rest)
 
--- `copy` is the row of the copy of a mask, and no statement has two
+-- how many copies the code of a block names: that of a mask, and no statement has two
+abbrev pub block_copies : Block → ℕ
+block_copies body = 1
+
+-- `copy` is the row of the first of the copies
 module _ (copy : ℕ) where
   abbrev mutual
     -- the statement of a line at a place `pc`, with the places where EXIT and CYCLE go. A DO keeps its four slots from its body
