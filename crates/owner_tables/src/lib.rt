@@ -12,9 +12,9 @@
 
 mod alike;
 mod copies;
+mod held_values;
 mod laws;
 mod least;
-mod local_values;
 mod numbers;
 mod owner_table;
 mod owners;
@@ -22,8 +22,8 @@ mod row;
 mod same;
 mod tables;
 
+pub use held_values::{held_value, local_value, local_values};
 pub use laws::{copies_are_dealt, copies_have_sizes, pieces_of_one_value};
-pub use local_values::{held_value, local_value, local_values};
 pub use owner_table::OwnerTable;
 pub use owners::Owners;
 pub use row::Row;
