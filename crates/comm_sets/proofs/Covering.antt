@@ -16,10 +16,10 @@ use Rattle.machine_steps.specs.Layout.{AreOwned, Layout, sizes, owns_spot, least
 use Rattle.machine_steps.specs.Machine.{remapped}
 use Rattle.machine_steps.specs.Message.{all_spots, has_any, remap_message, spots_from}
 use Rattle.owner_tables.proofs.Ranges.{first-passes}
-use Rattle.redistribute_rounds.specs.declared.pair.Pair.{Pair}
+use Rattle.letters.specs.declared.pair.Pair.{Pair}
 use Rattle.redistribute_rounds.proofs.Legal.{rotation_legal}
 use Rattle.comm_sets.specs.Moves.{is_moved}
-use Rattle.comm_sets.specs.Rounds.{all_pairs, is_pair, moving_pairs, pair_of, remap_rounds, rounds_on}
+use Rattle.machine_steps.specs.Rounds.{all_pairs, is_pair, moving_pairs, pair_of, remap_rounds, rounds_on}
 use Rattle.comm_sets.proofs.Marking.{in_row}
 use Rattle.comm_sets.proofs.Pairs.{has_any-filter, kept-between, kept-distinct, pairs_from}
 

@@ -9,11 +9,11 @@ use Rattle.std.specs.List.{All, AllPairs, flat_map, list_any, range_with_len}
 use Rattle.hpf_base.proofs.Ranges.{All-range, range_with_len-add}
 use Rattle.machine_steps.specs.Layout.{Layout}
 use Rattle.machine_steps.specs.Message.{all_spots, has_any, remap_message}
-use Rattle.redistribute_rounds.specs.declared.pair.Pair.{Pair}
+use Rattle.letters.specs.declared.pair.Pair.{Pair}
 use Rattle.redistribute_rounds.specs.Rounds.{IsBetween}
 use Rattle.comm_sets.specs.Marks.{Marked, any_moved, is_marked, is_marked_pair}
 use Rattle.comm_sets.specs.Moves.{is_moved}
-use Rattle.comm_sets.specs.Rounds.{all_pairs, moving_pairs, pair_of}
+use Rattle.machine_steps.specs.Rounds.{all_pairs, moving_pairs, pair_of}
 use Rattle.comm_sets.proofs.AllSpots.{or_false}
 use Rattle.comm_sets.proofs.Marking.{unmarked-pair}
 

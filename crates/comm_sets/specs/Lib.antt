@@ -3,4 +3,3 @@ pub mod Exchanges
 pub mod Marks
 pub mod Moves
 pub mod Noted
-pub mod Rounds

@@ -4,7 +4,7 @@ use Rattle.std.specs.Prelude.{◌≡◌, ℕ, ◌+◌, ◌*◌, ◌<◌, ◌==�
 use Rattle.std.specs.List.{list_any}
 use Rattle.storage.specs.Storage.{Spot}
 use Rattle.machine_steps.specs.Layout.{Layout}
-use Rattle.redistribute_rounds.specs.declared.pair.Pair.{Pair}
+use Rattle.letters.specs.declared.pair.Pair.{Pair}
 use Rattle.comm_sets.specs.Moves.{is_moved}
 
 abbrev pub is_marked : List Bool → (from to : ℕ) → Bool

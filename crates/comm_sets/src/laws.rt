@@ -4,7 +4,7 @@ ghost use Rattle.std.specs.Prelude.{ℕ, List};
 ghost use Rattle.machine_steps.specs.Agrees.{AreCovered};
 ghost use Rattle.machine_steps.specs.Instr.{Remapping};
 ghost use Rattle.machine_steps.specs.Layout.{AreOwned, Layout};
-ghost use Rattle.comm_sets.specs.Rounds.{rounds_on};
+ghost use Rattle.machine_steps.specs.Rounds.{rounds_on};
 
 /// Where each element has an owner, each pair of nodes with a message stands in a round.
 pub fn rounds_cover()

@@ -2,10 +2,10 @@
 
 ghost use Rattle.std.specs.Prelude.{◌≡◌, map, pos, slice_index_or};
 ghost use Rattle.machine_steps.specs.Message.{lookup};
-ghost use Rattle.owner_tables.specs.Spots.{spot_of};
+ghost use Rattle.storage.specs.Spots.{spot_of};
 ghost use Rattle.comm_sets.specs.Ascending.{Ascends};
 
-use owner_tables::Spot;
+use storage::Spot;
 
 /// The value of the element, by the elements of a message and the values that came for them, in order; 0 where it is none of them.
 /// It is found by a search, since the elements stand row by row, each in array-element order.

@@ -5,7 +5,7 @@ ghost use Rattle.std.specs.List.{list_any, range_with_len};
 ghost use Rattle.storage.specs.Storage.{Spot};
 ghost use Rattle.machine_steps.specs.Layout.{owned_in, owns_spot, sizes};
 ghost use Rattle.machine_steps.specs.Message.{all_spots};
-ghost use Rattle.owner_tables.specs.Spots.{spot_of};
+ghost use Rattle.storage.specs.Spots.{spot_of};
 ghost use Rattle.comm_sets.specs.Marks.{Marked, any_moved};
 ghost use Rattle.comm_sets.specs.Moves.{is_moved};
 

@@ -2,14 +2,14 @@
 
 ghost use Rattle.std.specs.Prelude.{◌≡◌, ◌<◌, ◌&&◌, [], IfOk, OnOk, length, map, nat_eq, replicate, slice_index_or};
 ghost use Rattle.storage.specs.Storage.{is_same_spot};
-ghost use Rattle.owner_tables.specs.Spots.{spot_of};
+ghost use Rattle.storage.specs.Spots.{spot_of};
 ghost use Rattle.comm_sets.specs.Ascending.{Ascends};
 ghost use Rattle.comm_sets.specs.Noted.{Arranged, Noted, OneMore, SameAmong};
 
 use hpf_base::OutOfMemory;
-use owner_tables::Spot;
 use std::alloc::Global;
 use std::marker::Model;
+use storage::Spot;
 
 /// The messages between one node and each node, by the number of the other node: of each the elements, row by row, each in
 /// array-element order. Contracts see the list of these lists.
@@ -20,7 +20,7 @@ pub struct Messages {
 
 impl Model for Messages {
     ghost use Rattle.std.specs.Prelude.{map};
-    ghost use Rattle.owner_tables.specs.Spots.{spot_of};
+    ghost use Rattle.storage.specs.Spots.{spot_of};
     ghost use Rattle.comm_sets.specs.Noted.{Lists};
 
     ghost Value = { Lists };

@@ -3,10 +3,10 @@
 ghost use Rattle.std.specs.Prelude.{◌≡◌, ◌<◌, ◌++◌, ℕ, IfOk, OnOk, filter, map, option_map, true};
 ghost use Rattle.std.specs.List.{range_with_len};
 ghost use Rattle.machine_steps.specs.Message.{Part};
-ghost use Rattle.owner_tables.specs.Spots.{spot_of};
+ghost use Rattle.storage.specs.Spots.{spot_of};
 
 use hpf_base::OutOfMemory;
-use owner_tables::Spot;
+use storage::Spot;
 
 /// The elements that a part reads at its tuples, and the nodes that compute each tuple, of `nodes` nodes in all. Contracts see the `part`.
 pub trait Reads {

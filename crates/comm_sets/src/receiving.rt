@@ -3,7 +3,7 @@
 ghost use Rattle.std.specs.Prelude.{◌≡◌, ◌<◌, ◌++◌, ◌&&◌, ◌∷◌, [], if◌then◌else◌, nat_eq, IfOk, OnOk, length, map, option_map};
 ghost use Rattle.std.specs.List.{list_any};
 ghost use Rattle.machine_steps.specs.Message.{names_spot};
-ghost use Rattle.owner_tables.specs.Spots.{spot_of};
+ghost use Rattle.storage.specs.Spots.{spot_of};
 ghost use Rattle.comm_sets.specs.Noted.{Noted, is_named, is_sent};
 
 use crate::messages::Messages;

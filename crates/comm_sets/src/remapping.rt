@@ -5,7 +5,7 @@ ghost use Rattle.std.specs.List.{range_with_len};
 ghost use Rattle.storage.specs.Storage.{is_same_spot};
 ghost use Rattle.machine_steps.specs.Layout.{sizes};
 ghost use Rattle.machine_steps.specs.Message.{all_spots, remap_message};
-ghost use Rattle.owner_tables.specs.Spots.{spot_of};
+ghost use Rattle.storage.specs.Spots.{spot_of};
 ghost use Rattle.comm_sets.specs.Moves.{is_moved, moves, node_of};
 ghost use Rattle.comm_sets.specs.Noted.{Noted};
 

@@ -4,7 +4,7 @@ ghost use Rattle.std.specs.Prelude.{◌≡◌, ◌<◌, ◌≤◌, ◌*◌, ◌+
 ghost use Rattle.std.specs.List.{range_with_len};
 ghost use Rattle.machine_steps.specs.Layout.{sizes};
 ghost use Rattle.comm_sets.specs.Marks.{is_marked_pair};
-ghost use Rattle.comm_sets.specs.Rounds.{all_pairs, pair_of, remap_rounds};
+ghost use Rattle.machine_steps.specs.Rounds.{all_pairs, pair_of, remap_rounds};
 
 use crate::marks::{mark_rows, unmarked};
 use hpf_base::{NodeId, OutOfMemory};

@@ -23,9 +23,9 @@ all-behind nodes what.Template maps h = h
 all-behind nodes what.Arrangement maps h = h
 
 -- one more name lies, before those that are left
-pub next-layout : (nodes : ℕ) (es : List Entry) (n : ℕ) (e : Entry) (made all : List Layout) (maps : List ArrayMap) → slice_get es n ≡ Some e
-    → made ++ program_layouts nodes (drop n es) maps ≡ all
-    → (made ++ layout_by nodes e.what maps ∷ []) ++ program_layouts nodes (drop (n + 1) es) (maps_behind e.what maps) ≡ all
-next-layout nodes es n e made all maps at before =
-    append_assoc made (layout_by nodes e.what maps ∷ []) (program_layouts nodes (drop (n + 1) es) (maps_behind e.what maps))
-    ∙ ap (λ l. made ++ program_layouts nodes l maps) (sym (drop-entry es n e at)) ∙ before
+pub next-layout : (nodes room : ℕ) (es : List Entry) (n : ℕ) (e : Entry) (made all : List Layout) (maps : List ArrayMap) → slice_get es n ≡ Some e
+    → made ++ program_layouts nodes room (drop n es) maps ≡ all
+    → (made ++ layout_by nodes e.what maps ∷ []) ++ program_layouts nodes room (drop (n + 1) es) (maps_behind e.what maps) ≡ all
+next-layout nodes room es n e made all maps at before =
+    append_assoc made (layout_by nodes e.what maps ∷ []) (program_layouts nodes room (drop (n + 1) es) (maps_behind e.what maps))
+    ∙ ap (λ l. made ++ program_layouts nodes room l maps) (sym (drop-entry es n e at)) ∙ before

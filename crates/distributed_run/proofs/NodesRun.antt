@@ -18,7 +18,7 @@ use Rattle.node_law.specs.Reached.{EndsInLockstep}
 use Rattle.machine_steps.specs.Layout.{Layout}
 use Rattle.machine_steps.specs.Node.{Node}
 use Rattle.node_code.specs.ProgramText.{Text}
-use Rattle.nodes_lowered.specs.OnNodes.{LieAsDeclared, BreaksNoRule}
+use Rattle.nodes_lowered.specs.OnNodes.{LieAsDeclared, BreaksNoRule, program_copies}
 use Rattle.nodes_lowered.specs.ProgramLayouts.{program_layouts}
 use Rattle.nodes_lowered.specs.ProgramRuns.{AreLastNodes, RunOnNodes, program_nodes, program_steps}
 use Rattle.nodes_lowered.proofs.StartLaid.{program-laid}
@@ -27,21 +27,21 @@ use Rattle.nodes_lowered.proofs.Runs.{run-on-nodes}
 module _ (grid : List ℕ) (p : MainProgram) (names : List Entry) (maps : List ArrayMap) (nodes : ℕ) (is : IsGrid grid) (count : nodes ≡ product grid)
     (same : names ≡ entries p) (started : maps ≡ start_maps grid p) (valid : All (IsArrayMap (product grid)) maps) where
   abbrev layouts : List Layout
-  layouts = program_layouts nodes names maps
+  layouts = program_layouts nodes (program_copies p) names maps
 
-  pub laid : LieAsDeclared nodes names layouts
+  pub laid : LieAsDeclared nodes (program_copies p) names layouts
   laid =
-      subst (λ k. LieAsDeclared k names (program_layouts k names maps)) (sym count)
-      (subst (λ es. LieAsDeclared (product grid) es (program_layouts (product grid) es maps)) (sym same)
-      (subst (λ ms. LieAsDeclared (product grid) (entries p) (program_layouts (product grid) (entries p) ms)) (sym started)
-      (program-laid grid p is (subst (All (IsArrayMap (product grid))) started valid))))
+      subst (λ k. LieAsDeclared k (program_copies p) names (program_layouts k (program_copies p) names maps)) (sym count)
+      (subst (λ es. LieAsDeclared (product grid) (program_copies p) es (program_layouts (product grid) (program_copies p) es maps)) (sym same)
+      (subst (λ ms. LieAsDeclared (product grid) (program_copies p) (entries p) (program_layouts (product grid) (program_copies p) (entries p) ms)) (sym started)
+      (program-laid grid (program_copies p) p is (subst (All (IsArrayMap (product grid))) started valid))))
 
   pub some-nodes : 1 ≤ nodes
   some-nodes = subst (λ (n : ℕ). 1 ≤ n) (sym count) (product-some grid is.extents)
 
   module _ (rules : BreaksNoRule p) (first : List (Node Text Fault)) (begin : first ≡ program_nodes nodes p layouts) where
     run : RunOnNodes nodes p layouts
-    run = run-on-nodes nodes p layouts (let n : 1 ≤ nodes = some-nodes in omega (arith, n)) rules (subst (λ es. LieAsDeclared nodes es layouts) same laid)
+    run = run-on-nodes nodes p layouts (let n : 1 ≤ nodes = some-nodes in omega (arith, n)) rules (subst (λ es. LieAsDeclared nodes (program_copies p) es layouts) same laid)
 
     pub first-count : length first ≡ nodes
     first-count = ap length begin ∙ run.count

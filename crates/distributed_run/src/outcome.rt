@@ -7,7 +7,7 @@ ghost use Rattle.array_meaning.specs.Serial.{serial};
 ghost use Rattle.serial_run.specs.Outcomes.{end_seen};
 ghost use Rattle.machine_steps.specs.Instr.{Finished};
 ghost use Rattle.machine_steps.specs.Layout.{AreOwned, sizes};
-ghost use Rattle.owner_tables.specs.Spots.{spot_of};
+ghost use Rattle.storage.specs.Spots.{spot_of};
 ghost use Rattle.slot_values.specs.Controls.{status_of};
 ghost use Rattle.nodes_lowered.specs.ProgramRuns.{AreLastNodes, end_by_status};
 ghost use Rattle.distributed_run.specs.Outcomes.{IsOutcome};

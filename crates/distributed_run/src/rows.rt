@@ -1,6 +1,6 @@
 //! How the arrays of a program lie at the start.
 
-ghost use Rattle.std.specs.Prelude.{◌≡◌, ◌<◌, ◌≤◌, All, IfOk, Some, drop, length, slice_get};
+ghost use Rattle.std.specs.Prelude.{◌≡◌, ◌<◌, ◌≤◌, ◌++◌, All, IfOk, OnOk, Some, drop, length, replicate, slice_get};
 ghost use Rattle.hpf_base.specs.declared.limits.TheConstants.{MAX_NODES};
 ghost use Rattle.array_maps.specs.Maps.{IsArrayMap};
 ghost use Rattle.nodes_lowered.specs.ProgramLayouts.{empty_layout, layout_by, maps_behind, program_layouts};
@@ -13,18 +13,19 @@ use name_table::{Entry, Names, What};
 use owner_tables::{OwnerTable, Owners};
 use std::alloc::Global;
 
-/// The tables of the declared names, by their places, and behind them that of the copy of a mask before it is made. These are the mappings
+/// The tables of the declared names, by their places, and behind them those of so many copies before they are made. These are the mappings
 /// of the arrays among the names; what is no array has no elements.
 pub(crate) fn program_owners(
     alloc: Global,
     names: &Names,
     maps: &[ArrayMap],
+    copies: usize,
     nodes: u32,
 ) -> Result<Owners, OutOfMemory>
     requires some { 1 ≤ nodes }
     requires few { nodes ≤ MAX_NODES }
     requires valid { All (IsArrayMap nodes) maps.now }
-    ensures { IfOk result (λ owners. owners ≡ record { layouts = program_layouts nodes names.now maps.now; nodes = nodes }) }
+    ensures { IfOk result (λ owners. owners ≡ record { layouts = program_layouts nodes copies names.now maps.now; nodes = nodes }) }
 {
     let mut owners = Owners::new(alloc, nodes);
     let mut rest = maps;
@@ -33,8 +34,26 @@ pub(crate) fn program_owners(
         owners.push(table_by(alloc, what, rest, nodes)?)?;
         rest = maps_behind(what, rest);
     }
-    owners.push(empty_table(alloc, nodes)?)?;
+    push_copies(alloc, &mut owners, copies, nodes)?;
     Ok(owners)
+}
+
+/// Puts the tables of so many copies behind the others.
+fn push_copies(
+    alloc: Global,
+    owners: &mut Owners,
+    copies: usize,
+    nodes: u32,
+) -> Result<(), OutOfMemory>
+    requires some { 1 ≤ nodes }
+    requires few { nodes ≤ MAX_NODES }
+    requires nodes { owners.old.nodes ≡ nodes }
+    ensures { OnOk result (owners.new ≡ record { layouts = owners.old.layouts ++ replicate copies (empty_layout nodes); nodes = nodes }) }
+{
+    for copy in 0..copies {
+        owners.push(empty_table(alloc, nodes)?)?;
+    }
+    Ok(())
 }
 
 /// The entry at a place.

@@ -1,6 +1,6 @@
 //! What a run begins with: the slots, the values of the elements, and the dimensions of the arrays.
 
-ghost use Rattle.std.specs.Prelude.{◌≡◌, ◌++◌, ◌∷◌, [], IfOk, map, pos, replicate};
+ghost use Rattle.std.specs.Prelude.{◌≡◌, ◌++◌, IfOk, map, pos, replicate};
 ghost use Rattle.array_meaning.specs.Resolution.{initial_array, initial_scalar};
 ghost use Rattle.distributed_run.specs.Starts.{start_of};
 
@@ -25,15 +25,20 @@ pub(crate) fn first_slots(
     Ok(slots)
 }
 
-/// The value of the elements of each row at the start: of the declared names, by their places, and of the copy of a mask behind them.
-pub(crate) fn first_values(alloc: Global, names: &Names) -> Result<Vec<i64>, OutOfMemory>
-    ensures { IfOk result (λ values. values.items ≡ map (λ e. start_of e.what) names.now ++ pos 0 ∷ []) }
+/// The value of the elements of each row at the start: of the declared names, by their places, and of so many copies behind them.
+pub(crate) fn first_values(
+    alloc: Global,
+    names: &Names,
+    copies: usize,
+) -> Result<Vec<i64>, OutOfMemory>
+    ensures { IfOk result (λ values. values.items ≡ map (λ e. start_of e.what) names.now ++ replicate copies (pos 0)) }
 {
     let mut values = Vec::new(alloc);
     for place in 0..names.len() {
         values.push(start_of(&entry_at(names, place).what))?;
     }
-    values.push(0)?;
+    let zeros = vec![in alloc; 0; copies]?;
+    values.extend_from_slice(&zeros)?;
     Ok(values)
 }
 

@@ -96,27 +96,27 @@ module _ (old new : List ℤ) where
           computes = λ node t. computes_left layouts node (in_bounds layouts (spot_of table.shapes p.array (subscripts_at (left (indices t i) i) (indices t i))));
         })
 
-    evaluation_same : (p : Evaluation) → agree_on_evaluation old new p ≡ true →
-        planned nodes layouts old (meaning_of table (code.ParCopy p)) ≡ planned nodes layouts new (meaning_of table (code.ParCopy p))
-    evaluation_same p is =
+    evaluation_same : (copy : ℕ) (p : Evaluation) → agree_on_evaluation old new p ≡ true →
+        planned nodes layouts old (meaning_of table (code.ParCopy copy p)) ≡ planned nodes layouts new (meaning_of table (code.ParCopy copy p))
+    evaluation_same copy p is =
         let over : selections_at old [] p.over ≡ selections_at new [] p.over = selections_same [] p.over (both _ _ is).0 in
         let form : elemental_at old [] p.form ≡ elemental_at new [] p.form = elemental_same [] p.form (both _ _ is).1 in
         λ i. Some (record {
           tuples = product (extents (over i));
           reads = λ t. reads_at table.shapes (positions (extents (over i)) t) (form i);
-          computes = λ node t. computes_left layouts node (in_bounds layouts (Some (record { row = p.copy; at = t })));
+          computes = λ node t. computes_left layouts node (in_bounds layouts (Some (record { row = copy; at = t })));
         })
 
-    mask_same : (p : Evaluation) → agree_on_evaluation old new p ≡ true →
-        planned nodes layouts old (meaning_of table (code.ParForallCopy p)) ≡ planned nodes layouts new (meaning_of table (code.ParForallCopy p))
-    mask_same p is =
+    mask_same : (copy : ℕ) (p : Evaluation) → agree_on_evaluation old new p ≡ true →
+        planned nodes layouts old (meaning_of table (code.ParForallCopy copy p)) ≡ planned nodes layouts new (meaning_of table (code.ParForallCopy copy p))
+    mask_same copy p is =
         let over : selections_at old [] p.over ≡ selections_at new [] p.over = selections_same [] p.over (both _ _ is).0 in
         let indices : (t : ℕ) → indices_in p.over old t ≡ indices_in p.over new t = indices_same p.over (both _ _ is).0 in
         let form : (axes : List ℤ) → elemental_at old axes p.form ≡ elemental_at new axes p.form = λ axes. elemental_same axes p.form (both _ _ is).1 in
         λ i. Some (record {
           tuples = product (extents (over i));
           reads = λ t. reads_at table.shapes (indices t i) (form (indices t i) i);
-          computes = λ node t. computes_left layouts node (in_bounds layouts (Some (record { row = p.copy; at = t })));
+          computes = λ node t. computes_left layouts node (in_bounds layouts (Some (record { row = copy; at = t })));
         })
 
     reduction_same : (p : Evaluation) (o : _) (x : ℕ) → agree_on_evaluation old new p ≡ true →
@@ -133,7 +133,7 @@ module _ (old new : List ℤ) where
     pub parts_same : (i : Instruction) → agree_on old new i ≡ true → planned nodes layouts old (meaning_of table i) ≡ planned nodes layouts new (meaning_of table i)
     parts_same (code.Par p) is = assignment_same p is
     parts_same (code.ParForall p) is = forall_same p is
-    parts_same (code.ParCopy p) is = evaluation_same p is
-    parts_same (code.ParForallCopy p) is = mask_same p is
+    parts_same (code.ParCopy copy p) is = evaluation_same copy p is
+    parts_same (code.ParForallCopy copy p) is = mask_same copy p is
     parts_same (code.Reduce p o x) is = reduction_same p o x is
     parts_same i is = absurd (true≢false (sym is))

@@ -51,7 +51,7 @@ agree_on_evaluation old new p = agree_on_subs old new p.over && agree_on_form ol
 abbrev pub agree_on : List ℤ → List ℤ → Instruction → Bool
 agree_on old new (code.Par p) = agree_on_assignment old new p
 agree_on old new (code.ParForall p) = agree_on_assignment old new p
-agree_on old new (code.ParCopy p) = agree_on_evaluation old new p
-agree_on old new (code.ParForallCopy p) = agree_on_evaluation old new p
+agree_on old new (code.ParCopy copy p) = agree_on_evaluation old new p
+agree_on old new (code.ParForallCopy copy p) = agree_on_evaluation old new p
 agree_on old new (code.Reduce p o x) = agree_on_evaluation old new p
 agree_on old new i = false

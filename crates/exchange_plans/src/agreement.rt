@@ -15,8 +15,8 @@ pub fn agrees(i: &Instruction, kept: &[i64], slots: &[i64]) -> bool
     match i {
         Instruction::Par(p) => assignment_agrees(p, kept, slots),
         Instruction::ParForall(p) => assignment_agrees(p, kept, slots),
-        Instruction::ParCopy(p) => evaluation_agrees(p, kept, slots),
-        Instruction::ParForallCopy(p) => evaluation_agrees(p, kept, slots),
+        Instruction::ParCopy { evaluation, .. } => evaluation_agrees(evaluation, kept, slots),
+        Instruction::ParForallCopy { evaluation, .. } => evaluation_agrees(evaluation, kept, slots),
         Instruction::Reduce { evaluation, .. } => evaluation_agrees(evaluation, kept, slots),
         _ => false,
     }

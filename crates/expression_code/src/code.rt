@@ -124,7 +124,7 @@ fn reduction_code(
     ensures { IfOk result (λ v. instructions v.items ≡ code_of line b (Reduce op (term t.now))) }
 {
     let mut code = parts_code(alloc, line, b, t)?;
-    let limits = own_evaluation(alloc, line, b, t, 0)?;
+    let limits = own_evaluation(alloc, line, b, t)?;
     code.push(Instruction::OwnLimits(limits))?;
     code.push(reduce(alloc, line, b, op, t)?)?;
     Ok(code)
@@ -132,9 +132,9 @@ fn reduction_code(
 
 /// The Reduce of a reduction.
 fn reduce(alloc: Global, line: u32, b: usize, op: Op, t: &Term) -> Result<Instruction, OutOfMemory>
-    ensures { IfOk result (λ i. instruction i ≡ code.Reduce (own_evaluation line (form_of b (term t.now)) 0) op (b + parts_slots (term t.now))) }
+    ensures { IfOk result (λ i. instruction i ≡ code.Reduce (own_evaluation line (form_of b (term t.now))) op (b + parts_slots (term t.now))) }
 {
-    let evaluation = own_evaluation(alloc, line, b, t, 0)?;
+    let evaluation = own_evaluation(alloc, line, b, t)?;
     let slot = plus(b, parts_slots(t)?)?;
     Ok(Instruction::Reduce {
         evaluation,

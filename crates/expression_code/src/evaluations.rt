@@ -13,21 +13,19 @@ use node_code::{Evaluation, Sub};
 use resolved_program::Term;
 use std::alloc::Global;
 
-/// An array expression over its own space, with the row of the copy that gets its values, where one does.
+/// An array expression over its own space.
 pub fn own_evaluation(
     alloc: Global,
     line: u32,
     b: usize,
     t: &Term,
-    copy: usize,
 ) -> Result<Evaluation, OutOfMemory>
-    ensures { IfOk result (λ e. evaluation e ≡ own_evaluation line (form_of b (term t.now)) copy) }
+    ensures { IfOk result (λ e. evaluation e ≡ own_evaluation line (form_of b (term t.now))) }
 {
     Ok(Evaluation {
         line,
         form: form_of(alloc, b, t)?,
         over: own_space(alloc, b, t)?,
-        copy,
     })
 }
 

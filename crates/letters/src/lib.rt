@@ -7,9 +7,11 @@
 
 mod body;
 mod letter;
+mod pair;
 mod parcel;
 
 pub use body::Body;
 pub use hpf_base::NodeId;
 pub use letter::Letter;
+pub use pair::Pair;
 pub use parcel::Parcel;

@@ -27,18 +27,18 @@ use Rattle.node_code.specs.Parallel.{at_line}
 use Rattle.op_tables.specs.Operators.{wrapped, is_zero, is_true}
 use Rattle.array_meaning.specs.Runs as runs
 
-module _ (table : ArrayTable) (code : List Instruction) (n many : ℕ) (copy : Option (List ℤ)) (leave again : ℕ) where
+module _ (table : ArrayTable) (row_count : ℕ) (code : List Instruction) (n many : ℕ) (copy : Option (List ℤ)) (leave again : ℕ) where
   -- a jump behind what was made
-  pub goes-jump : (mid to b : ℕ) (slots : List ℤ) (m : Place) (r : Run) → slice_get code mid ≡ Some (Jump to) → Goes table code n many copy leave again mid b slots m r
-      → Goes table code n many copy leave again to b slots m r
+  pub goes-jump : (mid to b : ℕ) (slots : List ℤ) (m : Place row_count) (r : Run) → slice_get code mid ≡ Some (Jump to) → Goes table row_count code n many copy leave again mid b slots m r
+      → Goes table row_count code n many copy leave again to b slots m r
   goes-jump mid to b slots m r h g = by_flow r.completion g
     where
-      by_flow : (flow : Completion) → Flows table code n many copy leave again mid b slots m r.state flow → Flows table code n many copy leave again to b slots m r.state flow
+      by_flow : (flow : Completion) → Flows table row_count code n many copy leave again mid b slots m r.state flow → Flows table row_count code n many copy leave again to b slots m r.state flow
       by_flow Normal g = (
         g.0,
         g.1,
-        reaches-on table code m (stands table code mid g.0 g.1 r.state.printed) (stands table code to g.0 g.1 r.state.printed) g.2
-            (jump-reaches table code n many copy mid to g.0 g.1 r.state.printed h),
+        reaches-on table row_count code m (stands table row_count code mid g.0 g.1 r.state.printed) (stands table row_count code to g.0 g.1 r.state.printed) g.2
+            (jump-reaches table row_count code n many copy mid to g.0 g.1 r.state.printed h),
         g.3,
         g.4,
       )
@@ -48,13 +48,13 @@ module _ (table : ArrayTable) (code : List Instruction) (n many : ℕ) (copy : O
       by_flow (runs.Faulted f) g = g
 
   abbrev pub Makes : (ℕ → List Instruction) → ℕ → ℕ → (State → Run) → Type 0
-  Makes part b pc does = (slots : List ℤ) (rows : Storage) (s : State) → HasAt code pc (part pc) → Holds table code n many copy s slots rows
-      → Goes table code n many copy leave again (pc + length (part pc)) b slots (stands table code pc slots rows s.printed) (does s)
+  Makes part b pc does = (slots : List ℤ) (rows : Storage) (s : State) → HasAt code pc (part pc) → Holds table row_count code n many copy s slots rows
+      → Goes table row_count code n many copy leave again (pc + length (part pc)) b slots (stands table row_count code pc slots rows s.printed) (does s)
 
   pub arm-goes : (line b pc : ℕ) (cond : Term) (part rest : ℕ → List Instruction) (does others : State → Run) (slots : List ℤ) (rows : Storage) (s : State) → IsScalar n cond
       → HasAt code pc (arm_code line pc b cond part rest) → n ≤ b → b + (slots_of cond + 1) ≤ many
-      → Holds table code n many copy s slots rows → ((pc : ℕ) → Makes part b pc does) → ((pc : ℕ) → Makes rest b pc others)
-      → Goes table code n many copy leave again (pc + length (arm_code line pc b cond part rest)) b slots (stands table code pc slots rows s.printed)
+      → Holds table row_count code n many copy s slots rows → ((pc : ℕ) → Makes part b pc does) → ((pc : ℕ) → Makes rest b pc others)
+      → Goes table row_count code n many copy leave again (pc + length (arm_code line pc b cond part rest)) b slots (stands table row_count code pc slots rows s.printed)
       (with_value line s (condition s cond) (λ holds. (if holds then does else others) s))
   arm-goes line b pc cond part rest does others slots rows s ok has le few holds makes makes_rest =
       let c = code_of line b cond in
@@ -72,101 +72,101 @@ module _ (table : ArrayTable) (code : List Instruction) (n many : ℕ) (copy : O
       let h2 : HasAt code (pc1 + 2) tail = has-drop code 2 pc1 all h1 in
       let h3 : HasAt code (inner + length (part inner)) (Jump to ∷ rest next) = has-back code inner (part inner) (Jump to ∷ rest next) h2 in
       let e1 : pc1 + 1 + 1 ≡ inner = omega arith in
-      goes-at table code n many copy leave again to (pc + length (c ++ all)) b slots (stands table code pc slots rows s.printed)
+      goes-at table row_count code n many copy leave again to (pc + length (c ++ all)) b slots (stands table row_count code pc slots rows s.printed)
       (with_value line s (condition s cond) (λ holds. (if holds then does else others) s)) long
-      (subst (Goes table code n many copy leave again to b slots (stands table code pc slots rows s.printed))
+      (subst (Goes table row_count code n many copy leave again to b slots (stands table row_count code pc slots rows s.printed))
       (sym (value-bind line s (value [] s cond) (λ v. Ok (is_true v)) (λ holds. (if holds then does else others) s)))
-      (goes-value table code n many copy leave again line pc pc1 to b b slots rows s (Gives x (flat_of b cond)) (value [] s cond) (λ v. (if is_true v then does else others) s)
+      (goes-value table row_count code n many copy leave again line pc pc1 to b b slots rows s (Gives x (flat_of b cond)) (value [] s cond) (λ v. (if is_true v then does else others) s)
       (omega arith) le holds
-      (term-comes table code line n s rows s.printed holds.arrays cond pc b slots ok (has-front code pc c all has) holds.scalars le (omega (arith, few, holds.size)))
+      (term-comes table row_count code line n s rows s.printed holds.arrays cond pc b slots ok (has-front code pc c all has) holds.scalars le (omega (arith, few, holds.size)))
       (λ slots1 v e same gives holds1.
       let slots2 : List ℤ = slice_set slots1 x v in
-      let holds2 : Holds table code n many copy s slots2 rows = holds-slot table code n many copy s slots1 rows x v (omega (arith, le)) holds1 in
-      let r1 = set-reaches table code n many copy line pc1 x slots1 rows s.printed (flat_of b cond) v h1.0 (gives slots1 (same-refl x slots1)) in
+      let holds2 : Holds table row_count code n many copy s slots2 rows = holds-slot table row_count code n many copy s slots1 rows x v (omega (arith, le)) holds1 in
+      let r1 = set-reaches table row_count code n many copy line pc1 x slots1 rows s.printed (flat_of b cond) v h1.0 (gives slots1 (same-refl x slots1)) in
       let here : slot slots2 x ≡ v = get_or-set_same slots1 x v (pos 0) (omega (arith, few, holds1.size)) in
-      goes-on table code n many copy leave again to b b slots1 slots2 (stands table code pc1 slots1 rows s.printed) (stands table code (pc1 + 1) slots2 rows s.printed)
+      goes-on table row_count code n many copy leave again to b b slots1 slots2 (stands table row_count code pc1 slots1 rows s.printed) (stands table row_count code (pc1 + 1) slots2 rows s.printed)
       ((if is_true v then does else others) s) (omega arith) r1 (λ j from lt. sym (get_or-set_other slots1 x j v (pos 0) (λ e. absurd (omega (arith, e, lt)))))
-      (by_test slots2 to next inner x (is_true v) e1 (λ t et. test-reaches table code n many copy (pc1 + 1) next x slots2 rows s.printed t h1.1.0 (ap is_true here ∙ et)) refl
-      (goes-jump (inner + length (part inner)) to b slots2 (stands table code inner slots2 rows s.printed) (does s) h3.0
+      (by_test slots2 to next inner x (is_true v) e1 (λ t et. test-reaches table row_count code n many copy (pc1 + 1) next x slots2 rows s.printed t h1.1.0 (ap is_true here ∙ et)) refl
+      (goes-jump (inner + length (part inner)) to b slots2 (stands table row_count code inner slots2 rows s.printed) (does s) h3.0
       (makes inner slots2 rows s (has-front code inner (part inner) (Jump to ∷ rest next) h2) holds2))
       (makes_rest next slots2 rows s h3.1 holds2)))))
     where
       by_test : (slots2 : List ℤ) (to next inner x : ℕ) (t : Bool) → pc + length (code_of line b cond) + 1 + 1 ≡ inner
-          → ((u : Bool) → t ≡ u → Reaches table code (stands table code (pc + length (code_of line b cond) + 1) slots2 rows s.printed)
-          (λ i. record (stands table code (pc + length (code_of line b cond) + 1) slots2 rows s.printed i)
+          → ((u : Bool) → t ≡ u → Reaches table row_count code (stands table row_count code (pc + length (code_of line b cond) + 1) slots2 rows s.printed)
+          (λ i. record (stands table row_count code (pc + length (code_of line b cond) + 1) slots2 rows s.printed i)
           { control = go_if u next (record { at = pc + length (code_of line b cond) + 1; slots = slots2; status = Running }) }))
-          → t ≡ t → Goes table code n many copy leave again to b slots2 (stands table code inner slots2 rows s.printed) (does s)
-          → Goes table code n many copy leave again to b slots2 (stands table code next slots2 rows s.printed) (others s)
-          → Goes table code n many copy leave again to b slots2 (stands table code (pc + length (code_of line b cond) + 1) slots2 rows s.printed) ((if t then does else others) s)
+          → t ≡ t → Goes table row_count code n many copy leave again to b slots2 (stands table row_count code inner slots2 rows s.printed) (does s)
+          → Goes table row_count code n many copy leave again to b slots2 (stands table row_count code next slots2 rows s.printed) (others s)
+          → Goes table row_count code n many copy leave again to b slots2 (stands table row_count code (pc + length (code_of line b cond) + 1) slots2 rows s.printed) ((if t then does else others) s)
       by_test slots2 to next inner x true e reach same yes' no' =
-          goes-on table code n many copy leave again to b b slots2 slots2 (stands table code (pc + length (code_of line b cond) + 1) slots2 rows s.printed)
-          (stands table code inner slots2 rows s.printed) (does s) (omega arith)
-          (subst (λ p. Reaches table code (stands table code (pc + length (code_of line b cond) + 1) slots2 rows s.printed) (stands table code p slots2 rows s.printed)) e
-          (reach true refl)) (kept-refl table code n many copy b slots2) yes'
+          goes-on table row_count code n many copy leave again to b b slots2 slots2 (stands table row_count code (pc + length (code_of line b cond) + 1) slots2 rows s.printed)
+          (stands table row_count code inner slots2 rows s.printed) (does s) (omega arith)
+          (subst (λ p. Reaches table row_count code (stands table row_count code (pc + length (code_of line b cond) + 1) slots2 rows s.printed) (stands table row_count code p slots2 rows s.printed)) e
+          (reach true refl)) (kept-refl table row_count code n many copy b slots2) yes'
       by_test slots2 to next inner x false e reach same yes' no' =
-          goes-on table code n many copy leave again to b b slots2 slots2 (stands table code (pc + length (code_of line b cond) + 1) slots2 rows s.printed)
-          (stands table code next slots2 rows s.printed) (others s) (omega arith) (reach false refl) (kept-refl table code n many copy b slots2) no'
+          goes-on table row_count code n many copy leave again to b b slots2 slots2 (stands table row_count code (pc + length (code_of line b cond) + 1) slots2 rows s.printed)
+          (stands table row_count code next slots2 rows s.printed) (others s) (omega arith) (reach false refl) (kept-refl table row_count code n many copy b slots2) no'
 
   -- a loop from its head on, when its numbers stand in their slots
   pub enters : (line pc v x : ℕ) (bcode : ℕ → ℕ → ℕ → List Instruction) (brun : State → Run) (slots : List ℤ) (rows : Storage) (s : State) (a z d : ℤ)
-      → HasAt code pc (loop_code line pc v x bcode) → x < n → n ≤ v → v + 4 ≤ many → Body table code n many copy line pc v x bcode brun
-      → Holds table code n many copy s slots rows → slot slots v ≡ a → slot slots (v + 1) ≡ z → slot slots (v + 2) ≡ d
-      → Goes table code n many copy leave again (behind table code n many copy line pc v x bcode brun) v slots (stands table code pc slots rows s.printed)
+      → HasAt code pc (loop_code line pc v x bcode) → x < n → n ≤ v → v + 4 ≤ many → Body table row_count code n many copy line pc v x bcode brun
+      → Holds table row_count code n many copy s slots rows → slot slots v ≡ a → slot slots (v + 1) ≡ z → slot slots (v + 2) ≡ d
+      → Goes table row_count code n many copy leave again (behind table row_count code n many copy line pc v x bcode brun) v slots (stands table row_count code pc slots rows s.printed)
       (with_value line s (sequence a z d) (λ p. iterate p.count x p.first p.step brun s))
   enters line pc v x bcode brun slots rows s a z d has lx lv few makes holds e1 e2 e3 =
-      goes-on table code n many copy leave again to v v slots slots1 (stands table code pc slots rows s.printed) m1
+      goes-on table row_count code n many copy leave again to v v slots slots1 (stands table row_count code pc slots rows s.printed) m1
       (with_value line s (sequence a z d) (λ p. iterate p.count x p.first p.step brun s)) (omega arith) r1 (λ j from lt. sym (other j from))
       (by_span (is_zero d) (value_count (wrapped a) (wrapped z) (wrapped d)) (count-small a z d)
-      (λ i. one table code (pc + 1) slots1 rows s.printed (Trips line v (v + 1) (v + 2) (v + 3) leave1) has.1.0 i
+      (λ i. one table row_count code (pc + 1) slots1 rows s.printed (Trips line v (v + 1) (v + 2) (v + 3) leave1) has.1.0 i
       ∙ rw (other v lv, other (v + 1) (omega (arith, lv)), other (v + 2) (omega (arith, lv)), e1, e2, e3) refl))
     where
       to : ℕ
-      to = behind table code n many copy line pc v x bcode brun
+      to = behind table row_count code n many copy line pc v x bcode brun
 
       leave1 : ℕ
-      leave1 = leave_at table code n many copy line pc v x bcode brun
+      leave1 = leave_at table row_count code n many copy line pc v x bcode brun
 
       slots1 : List ℤ
       slots1 = slice_set slots x a
 
-      m1 : Place
-      m1 = stands table code (pc + 1) slots1 rows s.printed
+      m1 : Place row_count
+      m1 = stands table row_count code (pc + 1) slots1 rows s.printed
 
-      r1 : Reaches table code (stands table code pc slots rows s.printed) m1
-      r1 = set-reaches table code n many copy line pc x slots rows s.printed (Slot v) a has.0 (ap Ok e1)
+      r1 : Reaches table row_count code (stands table row_count code pc slots rows s.printed) m1
+      r1 = set-reaches table row_count code n many copy line pc x slots rows s.printed (Slot v) a has.0 (ap Ok e1)
 
       other : (j : ℕ) → n ≤ j → slot slots1 j ≡ slot slots j
       other j from = get_or-set_other slots x j a (pos 0) (λ e. absurd (omega (arith, e, from, lx)))
 
-      holds1 : Holds table code n many copy (set_scalar s x a) slots1 rows
-      holds1 = holds-scalar table code n many copy s slots rows x a lx (omega (arith, few, lv)) holds
+      holds1 : Holds table row_count code n many copy (set_scalar s x a) slots1 rows
+      holds1 = holds-scalar table row_count code n many copy s slots rows x a lx (omega (arith, few, lv)) holds
 
       result : Bool → ℕ → Result Sequence Cause
       result t k = if t then fails ZeroStride else Ok record { first = a; step = d; count = k }
 
       by_span : (t : Bool) (k : ℕ) → k ≤ 2 ^ 64
-          → ((i : Idle) → steps (meaning_of table) 1 (m1 i)
+          → ((i : Idle row_count) → steps (meaning_of table) 1 (m1 i)
           ≡ record (m1 i) { control = begin_trips (v + 3) leave1 (at_line line (result t k)) (record { at = pc + 1; slots = slots1; status = Running }) })
-          → Goes table code n many copy leave again to v slots1 m1 (with_value line s (result t k) (λ p. iterate p.count x p.first p.step brun s))
+          → Goes table row_count code n many copy leave again to v slots1 m1 (with_value line s (result t k) (λ p. iterate p.count x p.first p.step brun s))
       by_span true k small g = λ i. (_, (1, g i), refl, refl)
       by_span false zero small g =
-          goes-on table code n many copy leave again to v v slots1 slots1 m1 (stands table code leave1 slots1 rows s.printed) (normal (set_scalar s x a)) (omega arith)
-          (λ i. (1, i, g i)) (kept-refl table code n many copy v slots1)
-          (ends-loop table code n many copy line pc v x bcode brun leave again has lx lv few makes slots1 rows (set_scalar s x a) holds1)
+          goes-on table row_count code n many copy leave again to v v slots1 slots1 m1 (stands table row_count code leave1 slots1 rows s.printed) (normal (set_scalar s x a)) (omega arith)
+          (λ i. (1, i, g i)) (kept-refl table row_count code n many copy v slots1)
+          (ends-loop table row_count code n many copy line pc v x bcode brun leave again has lx lv few makes slots1 rows (set_scalar s x a) holds1)
       by_span false (suc k) small g =
           let left : ℤ = wrapped (pos k) in
           let slots2 : List ℤ = slice_set slots1 (v + 3) left in
           let e : pc + 1 + 1 ≡ pc + 2 = omega arith in
-          let in1 : ℕ = inside table code n many copy line pc v x bcode brun in
-          let g2 : Reaches table code m1 (stands table code (pc + 2) slots2 rows s.printed) = subst (λ p. Reaches table code m1 (stands table code p slots2 rows s.printed)) e
+          let in1 : ℕ = inside table row_count code n many copy line pc v x bcode brun in
+          let g2 : Reaches table row_count code m1 (stands table row_count code (pc + 2) slots2 rows s.printed) = subst (λ p. Reaches table row_count code m1 (stands table row_count code p slots2 rows s.printed)) e
           (λ i. (1, i, g i)) in
-          goes-on table code n many copy leave again to v v slots1 slots2 m1 (stands table code in1 slots2 rows s.printed) (iterate (suc k) x a d brun s) (omega arith)
-          (reaches-on table code m1 (stands table code (pc + 2) slots2 rows s.printed) (stands table code in1 slots2 rows s.printed) g2
-          (jump-reaches table code n many copy (pc + 2) in1 slots2 rows s.printed (has-drop code 2 pc (loop_code line pc v x bcode) has).0))
+          goes-on table row_count code n many copy leave again to v v slots1 slots2 m1 (stands table row_count code in1 slots2 rows s.printed) (iterate (suc k) x a d brun s) (omega arith)
+          (reaches-on table row_count code m1 (stands table row_count code (pc + 2) slots2 rows s.printed) (stands table row_count code in1 slots2 rows s.printed) g2
+          (jump-reaches table row_count code n many copy (pc + 2) in1 slots2 rows s.printed (has-drop code 2 pc (loop_code line pc v x bcode) has).0))
           (λ j from lt. sym (get_or-set_other slots1 (v + 3) j left (pos 0) (λ e. absurd (omega (arith, e, lt)))))
-          (from-inside table code n many copy line pc v x bcode brun leave again has lx lv few makes k
-          (from-again table code n many copy line pc v x bcode brun leave again has lx lv few makes k (omega (arith, small))) s slots2 rows a d
-          (holds-slot table code n many copy (set_scalar s x a) slots1 rows (v + 3) left (omega (arith, lv)) holds1) (
+          (from-inside table row_count code n many copy line pc v x bcode brun leave again has lx lv few makes k
+          (from-again table row_count code n many copy line pc v x bcode brun leave again has lx lv few makes k (omega (arith, small))) s slots2 rows a d
+          (holds-slot table row_count code n many copy (set_scalar s x a) slots1 rows (v + 3) left (omega (arith, lv)) holds1) (
             get_or-set_other slots1 (v + 3) v left (pos 0) (λ e. absurd (omega (arith, e))) ∙ other v lv ∙ e1,
             get_or-set_other slots1 (v + 3) (v + 2) left (pos 0) (λ e. absurd (omega (arith, e))) ∙ other (v + 2) (omega (arith, lv)) ∙ e3,
             get_or-set_same slots1 (v + 3) left (pos 0) (omega (arith, few, holds1.size)),

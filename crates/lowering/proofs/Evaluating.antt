@@ -18,7 +18,7 @@ use Rattle.node_code.specs.Flat.{slot}
 use Rattle.node_code.specs.Forms.{Form, elemental_in}
 use Rattle.node_code.specs.Parallel.{at_line, outcome_of, reads_at, value_by_reads, Evaluation, evaluation_extents, evaluation_size, evaluation_tuples, reduction_tuples, counted, counted_outcome, joined, fold_of}
 use Rattle.node_code.specs.Instructions.{Instruction, OwnLimits, ArrayTable, meaning_of, go_on_if}
-use Rattle.lowering.specs.ExpressionCode.{own_evaluation, without_copy, reduce_code}
+use Rattle.lowering.specs.ExpressionCode.{own_evaluation, reduce_code}
 use Rattle.lowering.proofs.Reach.{Idle, HasAt, same-refl, same-set, slot-set, stands, one, Comes, comes-on}
 use Rattle.lowering.proofs.Terms.{HoldsArrays}
 use Rattle.lowering.proofs.Keeping.{IsOutcome, Keeps, keeps}
@@ -29,10 +29,10 @@ pub result-outcome : (line : ℕ) (q : Result ℤ Cause) → IsOutcome line (out
 result-outcome line (Ok v) = λ t. refl
 result-outcome line (Err c) = refl
 
-module _ (n : ℕ) (shapes : List (List Dim)) (s : State) (rows : Storage) (arrays : HoldsArrays n shapes s rows) (line : ℕ) (form : Form) (copy : ℕ) (slots : List ℤ)
+module _ (n : ℕ) (shapes : List (List Dim)) (s : State) (rows : Storage) (arrays : HoldsArrays n shapes s rows) (line : ℕ) (form : Form) (slots : List ℤ)
     (x : Elemental) (right : elemental_in slots form ≡ x) (named : NamesBelow n x) where
   abbrev p : Evaluation
-  p = own_evaluation line form copy
+  p = own_evaluation line form
 
   pub own-shape : evaluation_extents p slots ≡ first_extents (sections x)
   own-shape = sym (shape-first slots p.form) ∙ ap (λ y. first_extents (sections y)) right
@@ -82,14 +82,14 @@ module _ (line : ℕ) (o : Op) (outcome : ℕ → Outcome Fault) where
 
 -- ---- a reduction of what is left of its operand
 
-module _ (table : ArrayTable) (code : List Instruction) (line n : ℕ) (s : State) (rows : Storage) (out : List ℕ) (arrays : HoldsArrays n table.shapes s rows) where
+module _ (table : ArrayTable) (row_count : ℕ) (code : List Instruction) (line n : ℕ) (s : State) (rows : Storage) (out : List ℕ) (arrays : HoldsArrays n table.shapes s rows) where
   pub reduce-comes : (pc b x : ℕ) (o : Op) (form : Form) (slots : List ℤ) (r : Elemental) → HasAt code pc (reduce_code line o form x) → elemental_in slots form ≡ r
       → NamesBelow n r → b ≤ x → x < length slots
-      → Comes table code line rows out pc (pc + 2) b slots (λ slots' v. slot slots' x ≡ v) (reduction s o r)
+      → Comes table row_count code line rows out pc (pc + 2) b slots (λ slots' v. slot slots' x ≡ v) (reduction s o r)
   reduce-comes pc b x o form slots r has right named le lt = by_limits (space_size ns (sections r)) refl
     where
       p : Evaluation
-      p = without_copy line form
+      p = own_evaluation line form
 
       ns : List ℕ
       ns = first_extents (sections r)
@@ -110,7 +110,7 @@ module _ (table : ArrayTable) (code : List Instruction) (line n : ℕ) (s : Stat
       outcome = machine.outcome_of (reduction_tuples table.shapes p o) slots (read rows)
 
       tuple-is : (u : ℕ) → outcome u ≡ counted_outcome o (outcome_of (at_line line (at_tuple (positions ns u) (value_at s (positions ns u) r))))
-      tuple-is u = ap (counted_outcome o) (own-outcome n table.shapes s rows arrays line form 0 slots r right named u)
+      tuple-is u = ap (counted_outcome o) (own-outcome n table.shapes s rows arrays line form slots r right named u)
 
       kept-is : Keeps line outcome (values_over s ns r count) count
       kept-is = keeps line outcome (positions ns) (λ u. value_at s (positions ns u) r) count
@@ -120,23 +120,23 @@ module _ (table : ArrayTable) (code : List Instruction) (line n : ℕ) (s : Stat
       control : Control Fault
       control = record { at = pc + 1; slots = slots; status = Running }
 
-      values : ℕ → Option (Kept Fault) → ℤ → Idle → Machine Instruction Fault
-      values k kept v i = record (stands table code (pc + 1) slots rows out i) { substep = k; kept = kept; parts = k; joined = v }
+      values : ℕ → Option (Kept Fault) → ℤ → Idle row_count → Machine Instruction Fault
+      values k kept v i = record (stands table row_count code (pc + 1) slots rows out i) { substep = k; kept = kept; parts = k; joined = v }
 
-      judged : Option (Kept Fault) → ℤ → Idle → Machine Instruction Fault
-      judged kept v i = record (stands table code (pc + 1) slots rows out i) { control = verdict_control kept stay control; substep = 2; joined = v }
+      judged : Option (Kept Fault) → ℤ → Idle row_count → Machine Instruction Fault
+      judged kept v i = record (stands table row_count code (pc + 1) slots rows out i) { control = verdict_control kept stay control; substep = 2; joined = v }
 
-      two : (i : Idle) → steps (meaning_of table) 2 (stands table code (pc + 1) slots rows out i) ≡ judged (keep outcome 0 count None) (folded (fold_of o) outcome count) i
+      two : (i : Idle row_count) → steps (meaning_of table) 2 (stands table row_count code (pc + 1) slots rows out i) ≡ judged (keep outcome 0 count None) (folded (fold_of o) outcome count) i
       two i =
-          ap (λ m. step (meaning_of table) m) (ap (λ z. step_by (instr_of (meaning_of table) z) (stands table code (pc + 1) slots rows out i)) has.1.0
-          ∙ ap (λ k. values 1 (keep outcome 0 k None) (folded (fold_of o) outcome k) i) (ap product (own-shape n table.shapes s rows arrays line form 0 slots r right named)))
+          ap (λ m. step (meaning_of table) m) (ap (λ z. step_by (instr_of (meaning_of table) z) (stands table row_count code (pc + 1) slots rows out i)) has.1.0
+          ∙ ap (λ k. values 1 (keep outcome 0 k None) (folded (fold_of o) outcome k) i) (ap product (own-shape n table.shapes s rows arrays line form slots r right named)))
           ∙ ap (λ z. step_by (instr_of (meaning_of table) z) (values 1 (keep outcome 0 count None) (folded (fold_of o) outcome count) i)) has.1.0
 
-      three : (v : ℤ) (i : Idle) → steps (meaning_of table) 1 (judged None v i) ≡ stands table code (pc + 1 + 1) (slice_set slots x v) rows out
-          (record { layouts = i.layouts; joined = v })
+      three : (v : ℤ) (i : Idle row_count) → steps (meaning_of table) 1 (judged None v i) ≡ stands table row_count code (pc + 1 + 1) (slice_set slots x v) rows out
+          (record { layouts = i.layouts; joined = v; laid = i.laid })
       three v i = ap (λ z. step_by (instr_of (meaning_of table) z) (judged None v i)) has.1.0
 
-      by_each : (q : Result (List ℤ) Cause) → Keeps line outcome q count → Folds line o outcome q count → Comes table code line rows out (pc + 1) (pc + 2) b slots P
+      by_each : (q : Result (List ℤ) Cause) → Keeps line outcome q count → Folds line o outcome q count → Comes table row_count code line rows out (pc + 1) (pc + 2) b slots P
           (q >>= pair >>= second)
       by_each (Ok vs) kept joins =
           let v : ℤ = reduced o vs in
@@ -144,9 +144,9 @@ module _ (table : ArrayTable) (code : List Instruction) (line n : ℕ) (s : Stat
             slice_set slots x v,
             (λ i. (
               3,
-              record { layouts = i.layouts; joined = v },
+              record { layouts = i.layouts; joined = v; laid = i.laid },
               ap (step (meaning_of table)) (two i ∙ ap (λ k. judged k (folded (fold_of o) outcome count) i) kept ∙ ap (λ z. judged None z i) joins) ∙ three v i
-                  ∙ ap (λ at. stands table code at (slice_set slots x v) rows out (record { layouts = i.layouts; joined = v })) e,
+                  ∙ ap (λ at. stands table row_count code at (slice_set slots x v) rows out (record { layouts = i.layouts; joined = v; laid = i.laid })) e,
             )),
             same-set b x slots v le,
             slot-set x slots v lt,
@@ -154,19 +154,19 @@ module _ (table : ArrayTable) (code : List Instruction) (line n : ℕ) (s : Stat
       by_each (Err c) kept joins = λ i.
           (judged (Some kept.0) (folded (fold_of o) outcome count) i, (2, two i ∙ ap (λ k. judged k (folded (fold_of o) outcome count) i) kept.1), ap Faulted kept.2, refl)
 
-      limits : (q : Result ℕ Cause) → space_size ns (sections r) ≡ q → (i : Idle)
-          → steps (meaning_of table) 1 (stands table code pc slots rows out i)
-          ≡ record (stands table code pc slots rows out i) { control = go_on_if {A = ℕ} (at_line line q) (record { at = pc; slots = slots; status = Running }) }
-      limits q e i = one table code pc slots rows out (OwnLimits p) has.0 i
-          ∙ ap (λ q. record (stands table code pc slots rows out i) { control = go_on_if {A = ℕ} (at_line line q) (record { at = pc; slots = slots; status = Running }) })
-          (own-limits n table.shapes s rows arrays line form 0 slots r right named ∙ e)
+      limits : (q : Result ℕ Cause) → space_size ns (sections r) ≡ q → (i : Idle row_count)
+          → steps (meaning_of table) 1 (stands table row_count code pc slots rows out i)
+          ≡ record (stands table row_count code pc slots rows out i) { control = go_on_if {A = ℕ} (at_line line q) (record { at = pc; slots = slots; status = Running }) }
+      limits q e i = one table row_count code pc slots rows out (OwnLimits p) has.0 i
+          ∙ ap (λ q. record (stands table row_count code pc slots rows out i) { control = go_on_if {A = ℕ} (at_line line q) (record { at = pc; slots = slots; status = Running }) })
+          (own-limits n table.shapes s rows arrays line form slots r right named ∙ e)
 
-      by_limits : (q : Result ℕ Cause) → space_size ns (sections r) ≡ q → Comes table code line rows out pc (pc + 2) b slots P
+      by_limits : (q : Result ℕ Cause) → space_size ns (sections r) ≡ q → Comes table row_count code line rows out pc (pc + 2) b slots P
           (q >>= (λ k. values_over s ns r k >>= pair) >>= second)
       by_limits (Ok k) e =
           let many : k ≡ count = space-size ns (sections r) k e in
-          comes-on table code line rows out pc (pc + 1) (pc + 2) b b slots slots P (values_over s ns r k >>= pair >>= second) (omega arith) (λ i. (1, i, limits (Ok k) e i))
+          comes-on table row_count code line rows out pc (pc + 1) (pc + 2) b b slots slots P (values_over s ns r k >>= pair >>= second) (omega arith) (λ i. (1, i, limits (Ok k) e i))
           (same-refl b slots)
-          (subst (λ k. Comes table code line rows out (pc + 1) (pc + 2) b slots P (values_over s ns r k >>= pair >>= second)) (sym many)
+          (subst (λ k. Comes table row_count code line rows out (pc + 1) (pc + 2) b slots P (values_over s ns r k >>= pair >>= second)) (sym many)
           (by_each (values_over s ns r count) kept-is (folds-all line o outcome (positions ns) (λ t. value_at s (positions ns t) r) count tuple-is)))
       by_limits (Err c) e = λ i. (_, (1, limits (Err c) e i), refl, refl)

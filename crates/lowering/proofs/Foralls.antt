@@ -21,7 +21,7 @@ use Rattle.array_meaning.specs.Elementals.{value_at, each}
 use Rattle.array_meaning.specs.Expressions.{value, values, selections, index_values, all_index_values}
 use Rattle.array_meaning.specs.ArrayAssignments.{Mask, store_at, if_true, mask_of}
 use Rattle.array_meaning.specs.Forall.{index_extents, indices_at, all_subscripts, is_index_in_limits, is_forall_in_limits, is_one_to_one, check, check_limits, check_one_to_one, mask_over, assign_forall, assign_all_forall, run_forall}
-use Rattle.machine_steps.specs.Layout.{size_of}
+use Rattle.machine_steps.specs.Layout.{Layout, size_of}
 use Rattle.machine_steps.specs.Instr.{Running, Local, Outcome}
 use Rattle.machine_steps.specs.Machine as machine
 use Rattle.machine_steps.specs.Machine.{step_by, steps}
@@ -139,26 +139,26 @@ module _ (line : ℕ) (mask : Option Term) (body : List ElementAssignment) (axes
           let none : n ≡ 0 = (Decides-eqb n 0).0 is in
           sym (ap (λ r. then_do r (behind n)) (all-pass (index_extents axes) body s) ∙ ap (λ k. behind k s) none ∙ by_mask mask)
 
-module _ (table : ArrayTable) (code : List Instruction) (n many leave again : ℕ) where
+module _ (table : ArrayTable) (row_count : ℕ) (code : List Instruction) (n many leave again : ℕ) where
   -- ---- tests
 
   test-goes : (copy : Option (List ℤ)) (line pc b : ℕ) (x : Instruction) (test : List ℤ → Result ℕ Cause) (t : Bool) (kind : FaultKind) (slots : List ℤ) (rows : Storage)
       (s : State) → slice_get code pc ≡ Some x → meaning_of table x ≡ Local (λ c. go_on_if (at_line line (test c.slots)) c)
-      → test slots ≡ (if t then Ok 0 else fails kind) → Holds table code n many copy s slots rows → Goes table code n many copy leave again (pc + 1) b slots
-      (stands table code pc slots rows s.printed) (one_step line s (check t kind s))
+      → test slots ≡ (if t then Ok 0 else fails kind) → Holds table row_count code n many copy s slots rows → Goes table row_count code n many copy leave again (pc + 1) b slots
+      (stands table row_count code pc slots rows s.printed) (one_step line s (check t kind s))
   test-goes copy line pc b x test t kind slots rows s h is e holds =
-      by_test t (λ i. one table code pc slots rows s.printed x h i ∙ ap (λ z. step_by z (stands table code pc slots rows s.printed i)) is
-      ∙ ap (λ q. record (stands table code pc slots rows s.printed i) { control = go_on_if {A = ℕ} (at_line line q) (record { at = pc; slots = slots; status = Running }) })
+      by_test t (λ i. one table row_count code pc slots rows s.printed x h i ∙ ap (λ z. step_by z (stands table row_count code pc slots rows s.printed i)) is
+      ∙ ap (λ q. record (stands table row_count code pc slots rows s.printed i) { control = go_on_if {A = ℕ} (at_line line q) (record { at = pc; slots = slots; status = Running }) })
       e)
     where
       by_test : (t : Bool)
-          → ((i : Idle) → steps (meaning_of table) 1 (stands table code pc slots rows s.printed i)
-          ≡ record (stands table code pc slots rows s.printed i) {
+          → ((i : Idle row_count) → steps (meaning_of table) 1 (stands table row_count code pc slots rows s.printed i)
+          ≡ record (stands table row_count code pc slots rows s.printed i) {
             control = go_on_if {A = ℕ} (at_line line (if t then Ok 0 else fails kind))
                 (record { at = pc; slots = slots; status = Running });
           })
-          → Goes table code n many copy leave again (pc + 1) b slots (stands table code pc slots rows s.printed) (one_step line s (check t kind s))
-      by_test true g = (slots, rows, (λ i. (1, i, g i)), kept-refl table code n many copy b slots, holds)
+          → Goes table row_count code n many copy leave again (pc + 1) b slots (stands table row_count code pc slots rows s.printed) (one_step line s (check t kind s))
+      by_test true g = (slots, rows, (λ i. (1, i, g i)), kept-refl table row_count code n many copy b slots, holds)
       by_test false g = λ i. (_, (1, g i), refl, refl)
 
   -- what the slots say of the header
@@ -172,7 +172,7 @@ module _ (table : ArrayTable) (code : List Instruction) (n many leave again : �
     abbrev Gives : List ℤ → Type 0
     Gives slots = selections_in slots over ≡ map Along axes
 
-    gives-kept : (copy : Option (List ℤ)) (slots slots1 : List ℤ) → Gives slots → Kept table code n many copy b1 slots slots1 → Gives slots1
+    gives-kept : (copy : Option (List ℤ)) (slots slots1 : List ℤ) → Gives slots → Kept table row_count code n many copy b1 slots slots1 → Gives slots1
     gives-kept copy slots slots1 gives kept = sym (header-kept n b b1 controls slots slots1 le (omega (arith, room)) kept) ∙ gives
 
     extents-are : (slots : List ℤ) → Gives slots → extents (selections_in slots over) ≡ ns
@@ -184,19 +184,19 @@ module _ (table : ArrayTable) (code : List Instruction) (n many leave again : �
     -- ---- limits
 
     all-one-to-one : (copy : Option (List ℤ)) (xs : List ElementAssignment) (pc : ℕ) (slots : List ℤ) (rows : Storage) (s : State) → AreIndexedAssignments n xs
-        → HasAt code pc (one_to_one_code over xs) → Holds table code n many copy s slots rows → Gives slots
-        → Goes table code n many copy leave again (pc + length (one_to_one_code over xs)) b1 slots (stands table code pc slots rows s.printed)
+        → HasAt code pc (one_to_one_code over xs) → Holds table row_count code n many copy s slots rows → Gives slots
+        → Goes table row_count code n many copy leave again (pc + length (one_to_one_code over xs)) b1 slots (stands table row_count code pc slots rows s.printed)
         (all_one_to_one (product ns == 0) ns xs s)
     all-one-to-one copy [] pc slots rows s ok has holds gives =
         let e : pc ≡ pc + 0 = omega arith in
-        goes-at table code n many copy leave again pc (pc + 0) b1 slots (stands table code pc slots rows s.printed) (normal s) e
-        (lands-done table code n many copy leave again pc b1 slots rows s holds)
+        goes-at table row_count code n many copy leave again pc (pc + 0) b1 slots (stands table row_count code pc slots rows s.printed) (normal s) e
+        (lands-done table row_count code n many copy leave again pc b1 slots rows s holds)
     all-one-to-one copy (x ∷ xs) pc slots rows s ok has holds gives =
         let cs = one_to_one_code over xs in
         let e : pc + 1 + length cs ≡ pc + length (one_to_one_code over (x ∷ xs)) = omega arith in
-        goes-at table code n many copy leave again (pc + 1 + length cs) (pc + length (one_to_one_code over (x ∷ xs))) b1 slots (stands table code pc slots rows s.printed)
+        goes-at table row_count code n many copy leave again (pc + 1 + length cs) (pc + length (one_to_one_code over (x ∷ xs))) b1 slots (stands table row_count code pc slots rows s.printed)
         (all_one_to_one (product ns == 0) ns (x ∷ xs) s) e
-        (goes-then-kept table code n many copy leave again (pc + 1) (pc + 1 + length cs) b1 slots (stands table code pc slots rows s.printed)
+        (goes-then-kept table row_count code n many copy leave again (pc + 1) (pc + 1 + length cs) b1 slots (stands table row_count code pc slots rows s.printed)
         (one_is_to_one (product ns == 0) ns x s) (all_one_to_one (product ns == 0) ns xs)
         (test-goes copy x.line pc b1 (OneToOne x.line over (map index_flat (list_of x.subscripts))) (one_to_one over (map index_flat (list_of x.subscripts)))
         ((product ns == 0) || is_one_to_one s (list_of x.subscripts) 0 ns) NotOneToOne slots rows s has.0 refl
@@ -207,22 +207,22 @@ module _ (table : ArrayTable) (code : List Instruction) (n many leave again : �
     -- ---- assignments
 
     assigns-all : (copy : Option (List ℤ)) (when : Option When) (m : Mask)
-        → ((s : State) (slots : List ℤ) (rows : Storage) → Holds table code n many copy s slots rows → (t : ℕ) (values : List ℤ)
+        → ((s : State) (slots : List ℤ) (rows : Storage) → Holds table row_count code n many copy s slots rows → (t : ℕ) (values : List ℤ)
         → is_asked when (values_of rows (mask_reads when t) ++ values) ≡ m t)
         → (xs : List ElementAssignment) (pc : ℕ) (slots : List ℤ) (rows : Storage) (s : State) → AreIndexedAssignments n xs
-        → HasAt code pc (forall_assignments_code over when xs) → Holds table code n many copy s slots rows → Gives slots
-        → Goes table code n many copy leave again (pc + length (forall_assignments_code over when xs)) b1 slots (stands table code pc slots rows s.printed)
+        → HasAt code pc (forall_assignments_code over when xs) → Holds table row_count code n many copy s slots rows → Gives slots
+        → Goes table row_count code n many copy leave again (pc + length (forall_assignments_code over when xs)) b1 slots (stands table row_count code pc slots rows s.printed)
         (assign_all_forall axes (product ns) m xs s)
     assigns-all copy when m asked [] pc slots rows s ok has holds gives =
         let e : pc ≡ pc + 0 = omega arith in
-        goes-at table code n many copy leave again pc (pc + 0) b1 slots (stands table code pc slots rows s.printed) (normal s) e
-        (lands-done table code n many copy leave again pc b1 slots rows s holds)
+        goes-at table row_count code n many copy leave again pc (pc + 0) b1 slots (stands table row_count code pc slots rows s.printed) (normal s) e
+        (lands-done table row_count code n many copy leave again pc b1 slots rows s holds)
     assigns-all copy when m asked (x ∷ xs) pc slots rows s ok has holds gives =
-        goes-at table code n many copy leave again (pc + 2 + length cs) (pc + length (forall_assignments_code over when (x ∷ xs))) b1 slots
-        (stands table code pc slots rows s.printed) (assign_all_forall axes (product ns) m (x ∷ xs) s) long
-        (goes-then-kept table code n many copy leave again (pc + 2) (pc + 2 + length cs) b1 slots (stands table code pc slots rows s.printed)
+        goes-at table row_count code n many copy leave again (pc + 2 + length cs) (pc + length (forall_assignments_code over when (x ∷ xs))) b1 slots
+        (stands table row_count code pc slots rows s.printed) (assign_all_forall axes (product ns) m (x ∷ xs) s) long
+        (goes-then-kept table row_count code n many copy leave again (pc + 2) (pc + 2 + length cs) b1 slots (stands table row_count code pc slots rows s.printed)
         (one_step x.line s (assign_forall axes (product ns) m x s)) (assign_all_forall axes (product ns) m xs)
-        (stores-go table code n many copy leave again (ParForall p) (forall_tuples table.shapes p) (forall_spot table.shapes p) refl x.line x.array b1 pc ok.0
+        (stores-go table row_count code n many copy leave again (ParForall p) (forall_tuples table.shapes p) (forall_spot table.shapes p) refl x.line x.array b1 pc ok.0
         (has.0, (has.1.0, tt)) slots rows s holds (product ns) (ap product (extents-are slots gives)) (indices_at axes) at_a_tuple (λ u lt. does u))
         (λ slots1 rows1 s1 kept holds1. assigns-all copy when m asked xs (pc + 2) slots1 rows1 s1 ok.3 at_rest holds1 (gives-kept copy slots slots1 gives kept)))
       where
@@ -269,27 +269,27 @@ module _ (table : ArrayTable) (code : List Instruction) (n many leave again : �
 
     -- ---- the mask
 
-    module _ (sized : (ms : List ℕ) → size_of (table.copies ms) ≡ product ms) (body : List ElementAssignment) (ok_body : AreIndexedAssignments n body) where
+    module _ (sized : (layouts : List Layout) (ms : List ℕ) → size_of (table.copies layouts ms) ≡ product ms) (body : List ElementAssignment) (ok_body : AreIndexedAssignments n body) where
       behind-goes : (mask : Option Term) (pc : ℕ) (slots : List ℤ) (rows : Storage) (s : State) → IsIndexedMask n mask
           → HasAt code pc (forall_mask_code n line over mask ++ forall_assignments_code over (option_map (λ t. where_true n true) mask) body)
-          → Holds table code n many None s slots rows → Gives slots
-          → Goes table code n many None leave again
+          → Holds table row_count code n many None s slots rows → Gives slots
+          → Goes table row_count code n many None leave again
           (pc + length (forall_mask_code n line over mask ++ forall_assignments_code over (option_map (λ t. where_true n true) mask) body)) b1 slots
-          (stands table code pc slots rows s.printed) (behind line mask body axes (product ns) s)
+          (stands table row_count code pc slots rows s.printed) (behind line mask body axes (product ns) s)
       behind-goes None pc slots rows s ok has holds gives = assigns-all None None (λ t. true) (λ s slots rows h t values. refl) body pc slots rows s ok_body has holds gives
       behind-goes (Some t) pc slots rows s ok has holds gives =
-          goes-at table code n many None leave again to (pc + length (forall_mask_code n line over (Some t) ++ cs)) b1 slots (stands table code pc slots rows s.printed)
+          goes-at table row_count code n many None leave again to (pc + length (forall_mask_code n line over (Some t) ++ cs)) b1 slots (stands table row_count code pc slots rows s.printed)
           (behind line (Some t) body axes (product ns) s) long
-          (subst (Goes table code n many None leave again to b1 slots (stands table code pc slots rows s.printed))
+          (subst (Goes table row_count code n many None leave again to b1 slots (stands table row_count code pc slots rows s.printed))
           (sym (value-bind line s (each (indices_at axes) (λ u. value (indices_at axes u) s t) (product ns)) (λ vs. Ok (mask_of vs))
           (λ m. assign_all_forall axes (product ns) m body s)))
-          (copy-goes table code n many leave again sized line b1 pc to (index_form t) over (ParForallCopy p) (forall_mask_tuples table.shapes p) refl
+          (copy-goes table row_count code n many leave again sized line b1 pc to (index_form t) over (ParForallCopy n p) (forall_mask_tuples table.shapes p) refl
           (has.0, (has.1.0, (has.1.1.0, tt))) slots rows s holds ns (extents-are slots gives) (ap product (extents-are slots gives)) (indices_at axes)
           (λ u. value (indices_at axes u) s t)
           does (λ vs. assign_all_forall axes (product ns) (mask_of vs) body s) goes))
         where
           p : Evaluation
-          p = record { line = line; form = index_form t; over = over; copy = n }
+          p = record { line = line; form = index_form t; over = over }
 
           cs : List Instruction
           cs = forall_assignments_code over (Some (where_true n true)) body
@@ -315,31 +315,31 @@ module _ (table : ArrayTable) (code : List Instruction) (n many leave again : �
               ≡ outcome_of (at_line line (at_tuple (indices_at axes u) (value (indices_at axes u) s t)))
           does rows1 arrays u = does-at rows1 arrays (indices_in over slots u) ∙ ap (λ y. outcome_of (at_line line (at_tuple y (value y s t)))) (indices-are slots gives u)
 
-          asked : (vs : List ℤ) (s1 : State) (slots1 : List ℤ) (rows1 : Storage) → Holds table code n many (Some vs) s1 slots1 rows1 → (u : ℕ) (values : List ℤ)
+          asked : (vs : List ℤ) (s1 : State) (slots1 : List ℤ) (rows1 : Storage) → Holds table row_count code n many (Some vs) s1 slots1 rows1 → (u : ℕ) (values : List ℤ)
               → is_asked (Some (where_true n true)) (values_of rows1 (mask_reads (Some (where_true n true)) u) ++ values) ≡ mask_of vs u
           asked vs s1 slots1 rows1 h u values = ap (λ r. is_true (slice_index_or r u (pos 0))) (h.copied vs refl)
 
-          goes : (vs : List ℤ) (rows3 : Storage) → Holds table code n many (Some vs) s slots rows3 → Goes table code n many None leave again to b1 slots
-              (stands table code (pc + 3) slots rows3 s.printed) (assign_all_forall axes (product ns) (mask_of vs) body s)
+          goes : (vs : List ℤ) (rows3 : Storage) → Holds table row_count code n many (Some vs) s slots rows3 → Goes table row_count code n many None leave again to b1 slots
+              (stands table row_count code (pc + 3) slots rows3 s.printed) (assign_all_forall axes (product ns) (mask_of vs) body s)
           goes vs rows3 holds3 =
               let e : pc + 1 + 1 + 1 ≡ pc + 3 = omega arith in
-              forget table code n many leave again sized (Some vs) to b1 slots (stands table code (pc + 3) slots rows3 s.printed)
+              forget table row_count code n many leave again sized (Some vs) to b1 slots (stands table row_count code (pc + 3) slots rows3 s.printed)
               (assign_all_forall axes (product ns) (mask_of vs) body s)
               (assigns-all (Some vs) (Some (where_true n true)) (mask_of vs) (asked vs) body (pc + 3) slots rows3 s ok_body (subst (λ at. HasAt code at cs) e has.1.1.1) holds3
               gives)
 
   -- ---- the statement
 
-  pub forall-goes : (sized : (ms : List ℕ) → size_of (table.copies ms) ≡ product ms) (line b pc : ℕ) (controls : List Control) (mask : Option Term)
+  pub forall-goes : (sized : (layouts : List Layout) (ms : List ℕ) → size_of (table.copies layouts ms) ≡ product ms) (line b pc : ℕ) (controls : List Control) (mask : Option Term)
       (body : List ElementAssignment) (slots : List ℤ) (rows : Storage) (s : State) → AreControls n controls → IsIndexedMask n mask → AreIndexedAssignments n body
-      → HasAt code pc (forall_code n line b controls mask body) → n ≤ b → b + subscripts_slots (triplets controls) ≤ many → Holds table code n many None s slots rows
-      → Goes table code n many None leave again (pc + length (forall_code n line b controls mask body)) b slots (stands table code pc slots rows s.printed)
+      → HasAt code pc (forall_code n line b controls mask body) → n ≤ b → b + subscripts_slots (triplets controls) ≤ many → Holds table row_count code n many None s slots rows
+      → Goes table row_count code n many None leave again (pc + length (forall_code n line b controls mask body)) b slots (stands table row_count code pc slots rows s.printed)
       (run_forall line controls mask body s)
   forall-goes sized line b pc controls mask body slots rows s ok ok_mask ok_body has le few holds =
-      goes-at table code n many None leave again to (pc + length (c1 ++ tail)) b slots (stands table code pc slots rows s.printed) (run_forall line controls mask body s) long
-      (goes-value table code n many None leave again line pc pc1 to b b1 slots rows s P (all_index_values s controls) does (omega arith) le holds
-      (by_header (all_index_values s controls) (subst (Comes table code line rows s.printed pc pc1 b slots (SubsGive b1 over')) (header-is s controls)
-      (subscripts-come table code line n s rows s.printed holds.arrays (triplets controls) pc b slots (header-scalar n controls ok)
+      goes-at table row_count code n many None leave again to (pc + length (c1 ++ tail)) b slots (stands table row_count code pc slots rows s.printed) (run_forall line controls mask body s) long
+      (goes-value table row_count code n many None leave again line pc pc1 to b b1 slots rows s P (all_index_values s controls) does (omega arith) le holds
+      (by_header (all_index_values s controls) (subst (Comes table row_count code line rows s.printed pc pc1 b slots (SubsGive b1 over')) (header-is s controls)
+      (subscripts-come table row_count code line n s rows s.printed holds.arrays (triplets controls) pc b slots (header-scalar n controls ok)
       (has-front code pc c1 tail has) holds.scalars le (omega (arith, few, holds.size)))))
       (λ slots1 axes e same gives holds1. behind_header slots1 axes (gives slots1 (same-refl b1 slots1)) holds1))
     where
@@ -382,20 +382,20 @@ module _ (table : ArrayTable) (code : List Instruction) (n many leave again : �
           else then_do (one_step line s (check_limits axes (all_subscripts mask body) s))
           (λ s. then_do (check_one_to_one (index_extents axes) body s) (behind line mask body axes (product (index_extents axes))))
 
-      by_header : (r : Result (List Sequence) Cause) → Comes table code line rows s.printed pc pc1 b slots (SubsGive b1 over') (r >>= (λ axes. Ok (map Along axes)))
-          → Comes table code line rows s.printed pc pc1 b slots P r
+      by_header : (r : Result (List Sequence) Cause) → Comes table row_count code line rows s.printed pc pc1 b slots (SubsGive b1 over') (r >>= (λ axes. Ok (map Along axes)))
+          → Comes table row_count code line rows s.printed pc pc1 b slots P r
       by_header (Ok axes) h = h
       by_header (Err c) h = h
 
-      behind_header : (slots1 : List ℤ) (axes : List Sequence) → selections_in slots1 over' ≡ map Along axes → Holds table code n many None s slots1 rows
-          → Goes table code n many None leave again to b1 slots1 (stands table code pc1 slots1 rows s.printed) (does axes)
+      behind_header : (slots1 : List ℤ) (axes : List Sequence) → selections_in slots1 over' ≡ map Along axes → Holds table row_count code n many None s slots1 rows
+          → Goes table row_count code n many None leave again to b1 slots1 (stands table row_count code pc1 slots1 rows s.printed) (does axes)
       behind_header slots1 axes gives holds1 =
-          subst (Goes table code n many None leave again to b1 slots1 (stands table code pc1 slots1 rows s.printed)) (sym (forall-is line mask body axes count s))
-          (goes-then-kept table code n many None leave again (pc1 + 1) to b1 slots1 (stands table code pc1 slots1 rows s.printed) (one_step line s (check test SpaceLimit s)) rest
+          subst (Goes table row_count code n many None leave again to b1 slots1 (stands table row_count code pc1 slots1 rows s.printed)) (sym (forall-is line mask body axes count s))
+          (goes-then-kept table row_count code n many None leave again (pc1 + 1) to b1 slots1 (stands table row_count code pc1 slots1 rows s.printed) (one_step line s (check test SpaceLimit s)) rest
           (test-goes None line pc1 b1 (ForallLimits line over' (map index_flat (all_subscripts mask body))) (forall_limits over' (map index_flat (all_subscripts mask body)))
           test SpaceLimit slots1 rows s at_tail.0 refl limits holds1)
           (λ slots2 rows2 s2 kept2 holds2.
-          goes-then-kept table code n many None leave again (pc1 + 1 + length c2) to b1 slots2 (stands table code (pc1 + 1) slots2 rows2 s2.printed)
+          goes-then-kept table row_count code n many None leave again (pc1 + 1 + length c2) to b1 slots2 (stands table row_count code (pc1 + 1) slots2 rows2 s2.printed)
           (all_one_to_one (count == 0) (index_extents axes) body s2) (behind line mask body axes count)
           (all-one-to-one line b b1 controls axes le refl None body (pc1 + 1) slots2 rows2 s2 ok_body (has-front code (pc1 + 1) c2 c3 at_tail.1) holds2
           (gives-kept line b b1 controls axes le refl None slots1 slots2 gives kept2))

@@ -27,15 +27,16 @@ pub ends-bind : {A : Type 0} (line : ℕ) (s : State) (r : Result A Cause) (f : 
 ends-bind line s (Ok a) f = refl
 ends-bind line s (Err c) f = refl
 
-module _ (table : ArrayTable) (code : List Instruction) (n many : ℕ) (copy : Option (List ℤ)) where
-  -- the slots, as many as there are, hold the scalars first, and the rows the arrays; behind these stands the copy that is
-  -- to be kept, where there is one
+module _ (table : ArrayTable) (row_count : ℕ) (code : List Instruction) (n many : ℕ) (copy : Option (List ℤ)) where
+  -- the slots, as many as there are, hold the scalars first, and the rows, as many as there are, the arrays; behind these stands the copy
+  -- that is to be kept, where there is one
   pub record Holds (s : State) (slots : List ℤ) (rows : Storage) : Type 0 where
     pub scalars : HoldsScalars n s slots
     pub arrays : HoldsArrays n table.shapes s rows
     pub places : length s.scalars ≡ n
     pub more_places : length s.arrays ≡ n
     pub wide : n < length rows
+    pub more_rows : length rows ≡ row_count
     pub copied : (m : List ℤ) → copy ≡ Some m → row_of rows n ≡ m
     pub size : length slots ≡ many
 
@@ -50,28 +51,28 @@ module _ (table : ArrayTable) (code : List Instruction) (n many : ℕ) (copy : O
   kept-refl b xs k from lt = refl
 
   -- the run comes to a place, with what a state is
-  abbrev pub Lands : ℕ → ℕ → List ℤ → Place → State → Type 0
-  Lands to b slots m s = (slots' : List ℤ) × (rows' : Storage) × Reaches table code m (stands table code to slots' rows' s.printed) × Kept b slots slots' × Holds s slots' rows'
+  abbrev pub Lands : ℕ → ℕ → List ℤ → Place row_count → State → Type 0
+  Lands to b slots m s = (slots' : List ℤ) × (rows' : Storage) × Reaches table row_count code m (stands table row_count code to slots' rows' s.printed) × Kept b slots slots' × Holds s slots' rows'
 
   module _ (leave again : ℕ) where
-    abbrev pub Flows : ℕ → ℕ → List ℤ → Place → State → Completion → Type 0
+    abbrev pub Flows : ℕ → ℕ → List ℤ → Place row_count → State → Completion → Type 0
     Flows to b slots m s Normal = Lands to b slots m s
     Flows to b slots m s Exited = Lands leave b slots m s
     Flows to b slots m s Cycled = Lands again b slots m s
     Flows to b slots m s Stopped =
-        (i : Idle) → (m' : Machine Instruction Fault) × ((k : ℕ) × (steps (meaning_of table) k (m i) ≡ m')) × (m'.control.status ≡ Finished) × (m'.printed ≡ s.printed)
+        (i : Idle row_count) → (m' : Machine Instruction Fault) × ((k : ℕ) × (steps (meaning_of table) k (m i) ≡ m')) × (m'.control.status ≡ Finished) × (m'.printed ≡ s.printed)
         × Holds s m'.control.slots m'.rows
-    Flows to b slots m s (runs.Faulted f) = Stops table code m f s.printed
+    Flows to b slots m s (runs.Faulted f) = Stops table row_count code m f s.printed
 
-    abbrev pub Goes : ℕ → ℕ → List ℤ → Place → Run → Type 0
+    abbrev pub Goes : ℕ → ℕ → List ℤ → Place row_count → Run → Type 0
     Goes to b slots m r = Flows to b slots m r.state r.completion
 
-    lands-on : (to b b1 : ℕ) (slots slots1 : List ℤ) (m m1 : Place) (s : State) → b ≤ b1 → Reaches table code m m1 → Kept b slots slots1 → Lands to b1 slots1 m1 s
+    lands-on : (to b b1 : ℕ) (slots slots1 : List ℤ) (m m1 : Place row_count) (s : State) → b ≤ b1 → Reaches table row_count code m m1 → Kept b slots slots1 → Lands to b1 slots1 m1 s
         → Lands to b slots m s
     lands-on to b b1 slots slots1 m m1 s le reach kept h =
-        (h.0, h.1, reaches-on table code m m1 (stands table code to h.0 h.1 s.printed) reach h.2, kept-on b b1 slots slots1 h.0 le kept h.3, h.4)
+        (h.0, h.1, reaches-on table row_count code m m1 (stands table row_count code to h.0 h.1 s.printed) reach h.2, kept-on b b1 slots slots1 h.0 le kept h.3, h.4)
 
-    flows-on : (to b b1 : ℕ) (slots slots1 : List ℤ) (m m1 : Place) (s : State) (flow : Completion) → b ≤ b1 → Reaches table code m m1 → Kept b slots slots1
+    flows-on : (to b b1 : ℕ) (slots slots1 : List ℤ) (m m1 : Place row_count) (s : State) (flow : Completion) → b ≤ b1 → Reaches table row_count code m m1 → Kept b slots slots1
         → Flows to b1 slots1 m1 s flow → Flows to b slots m s flow
     flows-on to b b1 slots slots1 m m1 s Normal le reach kept h = lands-on to b b1 slots slots1 m m1 s le reach kept h
     flows-on to b b1 slots slots1 m m1 s Exited le reach kept h = lands-on leave b b1 slots slots1 m m1 s le reach kept h
@@ -79,34 +80,34 @@ module _ (table : ArrayTable) (code : List Instruction) (n many : ℕ) (copy : O
     flows-on to b b1 slots slots1 m m1 s Stopped le reach kept h = λ i.
         let a = reach i in
         let b = h a.1 in
-        (b.0, (b.1.0 + a.0, steps-more table code a.0 b.1.0 (m i) ∙ ap (steps (meaning_of table) b.1.0) a.2 ∙ b.1.1), b.2, b.3, b.4)
-    flows-on to b b1 slots slots1 m m1 s (runs.Faulted f) le reach kept h = stops-on table code m m1 f s.printed reach h
+        (b.0, (b.1.0 + a.0, steps-more table row_count code a.0 b.1.0 (m i) ∙ ap (steps (meaning_of table) b.1.0) a.2 ∙ b.1.1), b.2, b.3, b.4)
+    flows-on to b b1 slots slots1 m m1 s (runs.Faulted f) le reach kept h = stops-on table row_count code m m1 f s.printed reach h
 
-    pub goes-on : (to b b1 : ℕ) (slots slots1 : List ℤ) (m m1 : Place) (r : Run) → b ≤ b1 → Reaches table code m m1 → Kept b slots slots1 → Goes to b1 slots1 m1 r
+    pub goes-on : (to b b1 : ℕ) (slots slots1 : List ℤ) (m m1 : Place row_count) (r : Run) → b ≤ b1 → Reaches table row_count code m m1 → Kept b slots slots1 → Goes to b1 slots1 m1 r
         → Goes to b slots m r
     goes-on to b b1 slots slots1 m m1 r le reach kept h = flows-on to b b1 slots slots1 m m1 r.state r.completion le reach kept h
 
     -- one statement and what follows it, which may use the hidden slots
-    pub goes-then-kept : (mid to b : ℕ) (slots : List ℤ) (m : Place) (r : Run) (f : State → Run) → Goes mid b slots m r
-        → ((slots1 : List ℤ) (rows1 : Storage) (s : State) → Kept b slots slots1 → Holds s slots1 rows1 → Goes to b slots1 (stands table code mid slots1 rows1 s.printed) (f s))
+    pub goes-then-kept : (mid to b : ℕ) (slots : List ℤ) (m : Place row_count) (r : Run) (f : State → Run) → Goes mid b slots m r
+        → ((slots1 : List ℤ) (rows1 : Storage) (s : State) → Kept b slots slots1 → Holds s slots1 rows1 → Goes to b slots1 (stands table row_count code mid slots1 rows1 s.printed) (f s))
         → Goes to b slots m (then_do r f)
     goes-then-kept mid to b slots m r f h next = by_flow r.completion h
       where
         by_flow : (flow : Completion) → Flows mid b slots m r.state flow → Goes to b slots m (if_normal flow r.state f)
-        by_flow Normal h = goes-on to b b slots h.0 m (stands table code mid h.0 h.1 r.state.printed) (f r.state) (omega arith) h.2 h.3 (next h.0 h.1 r.state h.3 h.4)
+        by_flow Normal h = goes-on to b b slots h.0 m (stands table row_count code mid h.0 h.1 r.state.printed) (f r.state) (omega arith) h.2 h.3 (next h.0 h.1 r.state h.3 h.4)
         by_flow Exited h = h
         by_flow Cycled h = h
         by_flow Stopped h = h
         by_flow (runs.Faulted f) h = h
 
     -- one statement and what follows it
-    pub goes-then : (mid to b : ℕ) (slots : List ℤ) (m : Place) (r : Run) (f : State → Run) → Goes mid b slots m r
-        → ((slots1 : List ℤ) (rows1 : Storage) (s : State) → Holds s slots1 rows1 → Goes to b slots1 (stands table code mid slots1 rows1 s.printed) (f s))
+    pub goes-then : (mid to b : ℕ) (slots : List ℤ) (m : Place row_count) (r : Run) (f : State → Run) → Goes mid b slots m r
+        → ((slots1 : List ℤ) (rows1 : Storage) (s : State) → Holds s slots1 rows1 → Goes to b slots1 (stands table row_count code mid slots1 rows1 s.printed) (f s))
         → Goes to b slots m (then_do r f)
     goes-then mid to b slots m r f h next = by_flow r.completion h
       where
         by_flow : (flow : Completion) → Flows mid b slots m r.state flow → Goes to b slots m (if_normal flow r.state f)
-        by_flow Normal h = goes-on to b b slots h.0 m (stands table code mid h.0 h.1 r.state.printed) (f r.state) (omega arith) h.2 h.3 (next h.0 h.1 r.state h.4)
+        by_flow Normal h = goes-on to b b slots h.0 m (stands table row_count code mid h.0 h.1 r.state.printed) (f r.state) (omega arith) h.2 h.3 (next h.0 h.1 r.state h.4)
         by_flow Exited h = h
         by_flow Cycled h = h
         by_flow Stopped h = h
@@ -114,27 +115,28 @@ module _ (table : ArrayTable) (code : List Instruction) (n many : ℕ) (copy : O
 
     -- a value and what follows it
     pub goes-value : {A : Type 0} (line pc pc1 to b b1 : ℕ) (slots : List ℤ) (rows : Storage) (s : State) (P : List ℤ → A → Type 0) (r : Result A Cause) (next : A → Run)
-        → b ≤ b1 → n ≤ b → Holds s slots rows → Comes table code line rows s.printed pc pc1 b slots P r
-        → ((slots1 : List ℤ) (a : A) → r ≡ Ok a → SameBelow b slots slots1 → P slots1 a → Holds s slots1 rows → Goes to b1 slots1 (stands table code pc1 slots1 rows s.printed)
-        (next a)) → Goes to b slots (stands table code pc slots rows s.printed) (with_value line s r next)
+        → b ≤ b1 → n ≤ b → Holds s slots rows → Comes table row_count code line rows s.printed pc pc1 b slots P r
+        → ((slots1 : List ℤ) (a : A) → r ≡ Ok a → SameBelow b slots slots1 → P slots1 a → Holds s slots1 rows → Goes to b1 slots1 (stands table row_count code pc1 slots1 rows s.printed)
+        (next a)) → Goes to b slots (stands table row_count code pc slots rows s.printed) (with_value line s r next)
     goes-value line pc pc1 to b b1 slots rows s P (Ok a) next le from holds h go =
         let same = h.2 in
-        goes-on to b b1 slots h.0 (stands table code pc slots rows s.printed) (stands table code pc1 h.0 rows s.printed) (next a) le h.1 (λ k from lt. same.1 k lt)
+        goes-on to b b1 slots h.0 (stands table row_count code pc slots rows s.printed) (stands table row_count code pc1 h.0 rows s.printed) (next a) le h.1 (λ k from lt. same.1 k lt)
         (go h.0 a refl same h.3 (record {
           scalars = λ k lt. sym (same.1 k (omega (arith, lt, from))) ∙ holds.scalars k lt;
           arrays = holds.arrays;
           places = holds.places;
           more_places = holds.more_places;
           wide = holds.wide;
+          more_rows = holds.more_rows;
           copied = holds.copied;
           size = sym same.0 ∙ holds.size;
         }))
     goes-value line pc pc1 to b b1 slots rows s P (Err c) next le from holds h go = h
 
-    pub lands-done : (pc b : ℕ) (slots : List ℤ) (rows : Storage) (s : State) → Holds s slots rows → Goes pc b slots (stands table code pc slots rows s.printed) (normal s)
+    pub lands-done : (pc b : ℕ) (slots : List ℤ) (rows : Storage) (s : State) → Holds s slots rows → Goes pc b slots (stands table row_count code pc slots rows s.printed) (normal s)
     lands-done pc b slots rows s holds = (slots, rows, (λ i. (0, i, refl)), kept-refl b slots, holds)
 
-    pub goes-at : (to to' b : ℕ) (slots : List ℤ) (m : Place) (r : Run) → to ≡ to' → Goes to b slots m r → Goes to' b slots m r
+    pub goes-at : (to to' b : ℕ) (slots : List ℤ) (m : Place row_count) (r : Run) → to ≡ to' → Goes to b slots m r → Goes to' b slots m r
     goes-at to to' b slots m r e h = subst (λ x. Goes x b slots m r) e h
 
   -- ---- single instructions
@@ -144,28 +146,28 @@ module _ (table : ArrayTable) (code : List Instruction) (n many : ℕ) (copy : O
 
   pub set-reaches : (line pc x : ℕ) (slots : List ℤ) (rows : Storage) (out : List ℕ) (f : Flat) (v : ℤ) → slice_get code pc ≡ Some (Set line x f) → flat_value slots [] [] f
       ≡ Ok v
-      → Reaches table code (stands table code pc slots rows out) (stands table code (pc + 1) (slice_set slots x v) rows out)
+      → Reaches table row_count code (stands table row_count code pc slots rows out) (stands table row_count code (pc + 1) (slice_set slots x v) rows out)
   set-reaches line pc x slots rows out f v h e =
       λ i. (
         1,
         i,
-        one table code pc slots rows out (Set line x f) h i
-            ∙ ap (λ r. record (stands table code pc slots rows out i) { control = set_result (at_line line r) x (control pc slots) }) e,
+        one table row_count code pc slots rows out (Set line x f) h i
+            ∙ ap (λ r. record (stands table row_count code pc slots rows out i) { control = set_result (at_line line r) x (control pc slots) }) e,
       )
 
   pub jump-reaches : (pc target : ℕ) (slots : List ℤ) (rows : Storage) (out : List ℕ) → slice_get code pc ≡ Some (Jump target)
-      → Reaches table code (stands table code pc slots rows out) (stands table code target slots rows out)
-  jump-reaches pc target slots rows out h i = (1, i, one table code pc slots rows out (Jump target) h i)
+      → Reaches table row_count code (stands table row_count code pc slots rows out) (stands table row_count code target slots rows out)
+  jump-reaches pc target slots rows out h i = (1, i, one table row_count code pc slots rows out (Jump target) h i)
 
   pub test-reaches : (pc target x : ℕ) (slots : List ℤ) (rows : Storage) (out : List ℕ) (holds : Bool) → slice_get code pc ≡ Some (JumpIfZero target x) → is_true (slot slots x)
       ≡ holds
-      → Reaches table code (stands table code pc slots rows out) (λ i. record (stands table code pc slots rows out i) { control = go_if holds target (control pc slots) })
+      → Reaches table row_count code (stands table row_count code pc slots rows out) (λ i. record (stands table row_count code pc slots rows out i) { control = go_if holds target (control pc slots) })
   test-reaches pc target x slots rows out holds h e =
       λ i. (
         1,
         i,
-        one table code pc slots rows out (JumpIfZero target x) h i
-            ∙ ap (λ t. record (stands table code pc slots rows out i) { control = go_if t target (control pc slots) }) e,
+        one table row_count code pc slots rows out (JumpIfZero target x) h i
+            ∙ ap (λ t. record (stands table row_count code pc slots rows out i) { control = go_if t target (control pc slots) }) e,
       )
 
   -- ---- stores
@@ -177,6 +179,7 @@ module _ (table : ArrayTable) (code : List Instruction) (n many : ℕ) (copy : O
     places = h.places;
     more_places = h.more_places;
     wide = h.wide;
+    more_rows = h.more_rows;
     copied = h.copied;
     size = length-set slots x v ∙ h.size;
   }
@@ -192,6 +195,7 @@ module _ (table : ArrayTable) (code : List Instruction) (n many : ℕ) (copy : O
     places = length-set s.scalars k v ∙ h.places;
     more_places = h.more_places;
     wide = h.wide;
+    more_rows = h.more_rows;
     copied = h.copied;
     size = length-set slots k v ∙ h.size;
   }
@@ -220,6 +224,7 @@ module _ (table : ArrayTable) (code : List Instruction) (n many : ℕ) (copy : O
     places = h.places;
     more_places = length-set s.arrays a (put s a k v) ∙ h.more_places;
     wide = omega (arith, h.wide, length-set rows a (slice_set (row_of rows a) k v));
+    more_rows = length-set rows a (slice_set (row_of rows a) k v) ∙ h.more_rows;
     copied = λ m e. get_or-set_other rows a n (slice_set (row_of rows a) k v) [] (λ e. absurd (omega (arith, e, lt))) ∙ h.copied m e;
     size = h.size;
   }

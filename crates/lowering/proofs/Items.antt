@@ -14,7 +14,7 @@ use Rattle.lowering.proofs.Parts.{SubsGive, subscripts-come}
 use Rattle.lowering.proofs.Reach.{HasAt, has-front, has-back, SameBelow, same-refl, Reaches, stands, one, Comes, comes-on, comes-then, comes-at}
 use Rattle.lowering.proofs.Scatter.{space-size}
 use Rattle.lowering.proofs.Terms.{HoldsScalars, HoldsArrays}
-use Rattle.lowering.specs.ExpressionCode.{without_copy, subscripts_slots, subs_of, subscripts_code}
+use Rattle.lowering.specs.ExpressionCode.{own_evaluation, subscripts_slots, subs_of, subscripts_code}
 use Rattle.lowering.specs.WellFormed.{AreScalarSubscripts}
 use Rattle.lowering.specs.StatementCode.{item_code}
 use Rattle.machine_steps.specs.Instr.{Running}
@@ -24,7 +24,7 @@ use Rattle.node_code.specs.Forms.{SectionForm, Sub, selections_in}
 use Rattle.node_code.specs.Instructions.{Instruction, OwnLimits, Inside, go_on_if, all_inside, ArrayTable}
 use Rattle.node_code.specs.Parallel.{at_line, shape_of, Evaluation, spot_of, evaluation_size}
 
-module _ (table : ArrayTable) (code : List Instruction) (line n : ℕ) (s : State) (rows : Storage) (out : List ℕ) (arrays : HoldsArrays n table.shapes s rows) where
+module _ (table : ArrayTable) (row_count : ℕ) (code : List Instruction) (line n : ℕ) (s : State) (rows : Storage) (out : List ℕ) (arrays : HoldsArrays n table.shapes s rows) where
   -- elements are in bounds, or the first that isn't is the fault
   elements-are : (a : ℕ) (tuple : ℕ → List ℤ) (subscripts : ℕ → List ℤ) (t : ℕ) → a < n
       → each tuple (λ t. element s a (subscripts t)) t
@@ -57,12 +57,12 @@ module _ (table : ArrayTable) (code : List Instruction) (line n : ℕ) (s : Stat
   SpreadGives b a subs slots bytes = (later : List ℤ) → SameBelow b slots later → spread a (selections_in later subs) ≡ bytes
 
   spread-comes : (pc b a : ℕ) (subs : List Sub) (slots : List ℤ) (ds : List Selection) → a < n
-      → HasAt code pc (OwnLimits (without_copy line (SectionForm a subs)) ∷ Inside line a subs ∷ []) → SubsGive b subs slots ds
-      → Comes table code line rows out pc (pc + 2) b slots (SpreadGives b a subs) (array_value s (Selected a ds) >>= (λ v. Ok (decimals v.elements)))
+      → HasAt code pc (OwnLimits (own_evaluation line (SectionForm a subs)) ∷ Inside line a subs ∷ []) → SubsGive b subs slots ds
+      → Comes table row_count code line rows out pc (pc + 2) b slots (SpreadGives b a subs) (array_value s (Selected a ds) >>= (λ v. Ok (decimals v.elements)))
   spread-comes pc b a subs slots ds la has gives = by_limits (space_size ns (ds ∷ [])) refl
     where
       p : Evaluation
-      p = without_copy line (SectionForm a subs)
+      p = own_evaluation line (SectionForm a subs)
 
       ns : List ℕ
       ns = extents ds
@@ -79,17 +79,17 @@ module _ (table : ArrayTable) (code : List Instruction) (line n : ℕ) (s : Stat
       limits : evaluation_size p slots ≡ space_size ns (ds ∷ [])
       limits = ap (λ x. space_size (extents x) (x ∷ [])) here
 
-      by_inside : (q : Result (List ℕ) Cause) → all_inside table.shapes a ds ≡ q → Comes table code line rows out (pc + 1) (pc + 2) b slots (SpreadGives b a subs)
+      by_inside : (q : Result (List ℕ) Cause) → all_inside table.shapes a ds ≡ q → Comes table row_count code line rows out (pc + 1) (pc + 2) b slots (SpreadGives b a subs)
           (q >>= (λ ks. Ok (element_values (read rows) (λ t. spot_of table.shapes a (subscripts_at ds (positions ns t))) (product ns))) >>= pair >>= second)
       by_inside (Ok ks) e =
           let at : pc + 1 + 1 ≡ pc + 2 = omega arith in (
             slots,
-            subst (λ to. Reaches table code (stands table code (pc + 1) slots rows out) (stands table code to slots rows out)) at
+            subst (λ to. Reaches table row_count code (stands table row_count code (pc + 1) slots rows out) (stands table row_count code to slots rows out)) at
                 (λ i. (
                   1,
                   i,
-                  one table code (pc + 1) slots rows out (Inside line a subs) has.1.0 i
-                      ∙ ap (λ q. record (stands table code (pc + 1) slots rows out i)
+                  one table row_count code (pc + 1) slots rows out (Inside line a subs) has.1.0 i
+                      ∙ ap (λ q. record (stands table row_count code (pc + 1) slots rows out i)
                       { control = go_on_if {A = List ℕ} (at_line line q) (record { at = pc + 1; slots = slots; status = Running }) }) (ap (all_inside table.shapes a) here ∙ e),
                 )),
             same-refl b slots,
@@ -100,29 +100,29 @@ module _ (table : ArrayTable) (code : List Instruction) (line n : ℕ) (s : Stat
             _,
             (
               1,
-              one table code (pc + 1) slots rows out (Inside line a subs) has.1.0 i
-                  ∙ ap (λ q. record (stands table code (pc + 1) slots rows out i)
+              one table row_count code (pc + 1) slots rows out (Inside line a subs) has.1.0 i
+                  ∙ ap (λ q. record (stands table row_count code (pc + 1) slots rows out i)
                   { control = go_on_if {A = List ℕ} (at_line line q) (record { at = pc + 1; slots = slots; status = Running }) }) (ap (all_inside table.shapes a) here ∙ e),
             ),
             refl,
             refl,
           )
 
-      by_limits : (q : Result ℕ Cause) → space_size ns (ds ∷ []) ≡ q → Comes table code line rows out pc (pc + 2) b slots (SpreadGives b a subs)
+      by_limits : (q : Result ℕ Cause) → space_size ns (ds ∷ []) ≡ q → Comes table row_count code line rows out pc (pc + 2) b slots (SpreadGives b a subs)
           (q >>= (λ k. values_over s ns (Selected a ds) k >>= pair) >>= second)
       by_limits (Ok k) e =
-          comes-on table code line rows out pc (pc + 1) (pc + 2) b b slots slots (SpreadGives b a subs) (values_over s ns (Selected a ds) k >>= pair >>= second) (omega arith)
+          comes-on table row_count code line rows out pc (pc + 1) (pc + 2) b b slots slots (SpreadGives b a subs) (values_over s ns (Selected a ds) k >>= pair >>= second) (omega arith)
           (λ i. (
             1,
             i,
-            one table code pc slots rows out (OwnLimits p) has.0 i
-                ∙ ap (λ q. record (stands table code pc slots rows out i) { control = go_on_if {A = ℕ} (at_line line q) (record { at = pc; slots = slots; status = Running }) })
+            one table row_count code pc slots rows out (OwnLimits p) has.0 i
+                ∙ ap (λ q. record (stands table row_count code pc slots rows out i) { control = go_on_if {A = ℕ} (at_line line q) (record { at = pc; slots = slots; status = Running }) })
                 (limits ∙ e),
           ))
           (same-refl b slots)
-          (subst (λ k. Comes table code line rows out (pc + 1) (pc + 2) b slots (SpreadGives b a subs) (values_over s ns (Selected a ds) k >>= pair >>= second))
+          (subst (λ k. Comes table row_count code line rows out (pc + 1) (pc + 2) b slots (SpreadGives b a subs) (values_over s ns (Selected a ds) k >>= pair >>= second))
           (sym (space-size ns (ds ∷ []) k e))
-          (subst (λ r. Comes table code line rows out (pc + 1) (pc + 2) b slots (SpreadGives b a subs) (r >>= pair >>= second))
+          (subst (λ r. Comes table row_count code line rows out (pc + 1) (pc + 2) b slots (SpreadGives b a subs) (r >>= pair >>= second))
           (sym (elements-are a (positions ns) (λ t. subscripts_at ds (positions ns t)) (product ns) la))
           (by_inside (all_inside table.shapes a ds) refl)))
       by_limits (Err c) e =
@@ -130,8 +130,8 @@ module _ (table : ArrayTable) (code : List Instruction) (line n : ℕ) (s : Stat
             _,
             (
               1,
-              one table code pc slots rows out (OwnLimits p) has.0 i
-                  ∙ ap (λ q. record (stands table code pc slots rows out i) { control = go_on_if {A = ℕ} (at_line line q) (record { at = pc; slots = slots; status = Running }) })
+              one table row_count code pc slots rows out (OwnLimits p) has.0 i
+                  ∙ ap (λ q. record (stands table row_count code pc slots rows out i) { control = go_on_if {A = ℕ} (at_line line q) (record { at = pc; slots = slots; status = Running }) })
                   (limits ∙ e),
             ),
             refl,
@@ -140,18 +140,18 @@ module _ (table : ArrayTable) (code : List Instruction) (line n : ℕ) (s : Stat
 
   pub elements-come : (a : ℕ) (rs : SectionSubscripts) (pc b : ℕ) (slots : List ℤ) → a < n → AreScalarSubscripts n rs → HasAt code pc (item_code line b (Elements a rs))
       → HoldsScalars n s slots → n ≤ b → b + subscripts_slots rs ≤ length slots
-      → Comes table code line rows out pc (pc + length (item_code line b (Elements a rs))) b slots (SpreadGives (b + subscripts_slots rs) a (subs_of b rs))
+      → Comes table row_count code line rows out pc (pc + length (item_code line b (Elements a rs))) b slots (SpreadGives (b + subscripts_slots rs) a (subs_of b rs))
       (item_bytes s (Elements a rs))
   elements-come a rs pc b slots la ok has holds le few =
       let c = subscripts_code line b rs in
       let b1 : ℕ = b + subscripts_slots rs in
       let subs = subs_of b rs in
-      let p : Evaluation = without_copy line (SectionForm a subs) in
+      let p : Evaluation = own_evaluation line (SectionForm a subs) in
       let last = OwnLimits p ∷ Inside line a subs ∷ [] in
       let pc1 : ℕ = pc + length c in
       let long : pc1 + 2 ≡ pc + length (c ++ last) = omega (arith, length-append c last) in
-      comes-at table code line rows out pc (pc1 + 2) (pc + length (c ++ last)) b slots (SpreadGives b1 a subs) (item_bytes s (Elements a rs)) long
-      (comes-then table code line rows out pc pc1 (pc1 + 2) b b1 slots (SubsGive b1 subs) (SpreadGives b1 a subs) (selections [] s rs)
+      comes-at table row_count code line rows out pc (pc1 + 2) (pc + length (c ++ last)) b slots (SpreadGives b1 a subs) (item_bytes s (Elements a rs)) long
+      (comes-then table row_count code line rows out pc pc1 (pc1 + 2) b b1 slots (SubsGive b1 subs) (SpreadGives b1 a subs) (selections [] s rs)
       (λ ds. array_value s (Selected a ds) >>= (λ v. Ok (decimals v.elements))) (omega arith)
-      (subscripts-come table code line n s rows out arrays rs pc b slots ok (has-front code pc c last has) holds le few)
+      (subscripts-come table row_count code line n s rows out arrays rs pc b slots ok (has-front code pc c last has) holds le few)
       (λ slots1 ds e same gives. spread-comes pc1 b1 a subs slots1 ds la (has-back code pc c last has) gives))

@@ -118,8 +118,8 @@ set-seam : (vs : List ℤ) (z v : ℤ) (rest : List ℤ) → slice_set (vs ++ z 
 set-seam [] z v rest = refl
 set-seam (w ∷ vs) z v rest = ap (λ l. w ∷ l) (set-seam vs z v rest)
 
-module _ (table : ArrayTable) (code : List Instruction) (n many : ℕ) where
-  pub holds-copy : (s : State) (slots : List ℤ) (rows : Storage) (x : List ℤ) → Holds table code n many None s slots rows → Holds table code n many None s slots
+module _ (table : ArrayTable) (row_count : ℕ) (code : List Instruction) (n many : ℕ) where
+  pub holds-copy : (s : State) (slots : List ℤ) (rows : Storage) (x : List ℤ) → Holds table row_count code n many None s slots rows → Holds table row_count code n many None s slots
       (slice_set rows n x)
   holds-copy s slots rows x h = record {
     scalars = h.scalars;
@@ -127,11 +127,12 @@ module _ (table : ArrayTable) (code : List Instruction) (n many : ℕ) where
     places = h.places;
     more_places = h.more_places;
     wide = omega (arith, h.wide, length-set rows n x);
+    more_rows = length-set rows n x ∙ h.more_rows;
     size = h.size;
     copied = λ m e. cc;
   }
 
-  pub holds-some : (s : State) (slots : List ℤ) (rows : Storage) (m : List ℤ) → row_of rows n ≡ m → Holds table code n many None s slots rows → Holds table code n many
+  pub holds-some : (s : State) (slots : List ℤ) (rows : Storage) (m : List ℤ) → row_of rows n ≡ m → Holds table row_count code n many None s slots rows → Holds table row_count code n many
       (Some m) s slots rows
   holds-some s slots rows m e h = record {
     scalars = h.scalars;
@@ -139,6 +140,7 @@ module _ (table : ArrayTable) (code : List Instruction) (n many : ℕ) where
     places = h.places;
     more_places = h.more_places;
     wide = h.wide;
+    more_rows = h.more_rows;
     size = h.size;
     copied =
         λ m' e'. e ∙ some-eq m m' e';
@@ -151,10 +153,10 @@ module _ (table : ArrayTable) (code : List Instruction) (n many : ℕ) where
   value_effect line t (Ok v) = Put (record { row = n; at = t }) v
   value_effect line t (Err c) = Fail (fault_at line c)
 
-  module _ (line count : ℕ) (s : State) (slots : List ℤ) (rows : Storage) (holds : Holds table code n many None s slots rows) (empty : length (row_of rows n) ≡ count)
+  module _ (line count : ℕ) (s : State) (slots : List ℤ) (rows : Storage) (holds : Holds table row_count code n many None s slots rows) (empty : length (row_of rows n) ≡ count)
       (effect : ℕ → Effect Fault) where
     abbrev pub Filled : Result (List ℤ) Cause → ℕ → Type 0
-    Filled (Ok vs) t = (rest : List ℤ) × (row_of (scatter effect t rows) n ≡ vs ++ rest) × (length vs ≡ t) × (t + length rest ≡ count) × Holds table code n many None s slots
+    Filled (Ok vs) t = (rest : List ℤ) × (row_of (scatter effect t rows) n ≡ vs ++ rest) × (length vs ≡ t) × (t + length rest ≡ count) × Holds table row_count code n many None s slots
         (scatter effect t rows)
     Filled (Err c) t = ⊤
 

@@ -1,5 +1,5 @@
 -- The machine over the code of a program has its serial outcome.
-use Rattle.std.proofs.Common.{◌≡◌, ℕ, List, length, map, sym, ◌∙◌}
+use Rattle.std.proofs.Common.{◌≡◌, ◌≤◌, ◌+◌, ℕ, List, length, map, sym, ◌∙◌}
 use Rattle.std.proofs.Math.ListN.{get_or-map}
 use Rattle.std.proofs.lemmas.List.{length-map}
 use Rattle.syntax_tree.specs.Statement as syntax
@@ -17,6 +17,7 @@ use Rattle.machine_steps.specs.Instr.{Finished}
 use Rattle.machine_steps.specs.Layout.{Layout}
 use Rattle.machine_steps.specs.Machine.{Machine, steps}
 use Rattle.node_code.specs.Instructions.{Instruction, ArrayTable, meaning_of}
+use Rattle.lowering.specs.StatementCode.{block_copies}
 use Rattle.lowering.specs.WellFormed.{IsWellFormedBlock}
 use Rattle.lowering.specs.Lowered.{opening, EndsAs, IsEnd, IsLeft, IsTable, MachineHas}
 use Rattle.lowering.proofs.Programs.{program-ends}
@@ -38,15 +39,16 @@ end-is n m s Cycled h = (h.1, left-is n m s h.0 h.2)
 end-is n m s Stopped h = (h.1, left-is n m s h.0 h.2)
 end-is n m s (runs.Faulted f) h = (h.1, h.0)
 
-pub outcome-is : (names : List Entry) (body : syntax.Block) (table : ArrayTable) (layouts : List Layout)
-    → IsTable (initial_state names) table → IsWellFormedBlock (length names) (resolved_block names body)
-    → MachineHas (length names) table (opening (length names) (resolved_block names body) (initial_state names) layouts) (outcome names body)
-outcome-is names body table layouts is-table ok =
+pub outcome-is : (names : List Entry) (room : ℕ) (body : syntax.Block) (table : ArrayTable) (layouts : List Layout)
+    → IsTable (initial_state names) table → block_copies (resolved_block names body) ≤ room → length layouts ≡ length names + room
+    → IsWellFormedBlock (length names) (resolved_block names body)
+    → MachineHas (length names) table (opening (length names) room (resolved_block names body) (initial_state names) layouts) (outcome names body)
+outcome-is names room body table layouts is-table roomy laid ok =
     let n : ℕ = length names in
     let block : Block = resolved_block names body in
     let s : State = initial_state names in
     let scalars : length s.scalars ≡ n = length-map names (λ (e : Entry). initial_scalar e.what) in
     let arrays : length s.arrays ≡ n = length-map names (λ (e : Entry). initial_array e.what) in
-    let ends = program-ends table n block s (record { scalars = scalars; arrays = arrays }) is-table layouts ok in
-    let is = end-is n (steps (meaning_of table) ends.0 (opening n block s layouts)) (run_block block s).state (run_block block s).completion ends.1 in
+    let ends = program-ends table n room block s (record { scalars = scalars; arrays = arrays }) is-table roomy layouts laid ok in
+    let is = end-is n (steps (meaning_of table) ends.0 (opening n room block s layouts)) (run_block block s).state (run_block block s).completion ends.1 in
     (ends.0, is.0, is.1)

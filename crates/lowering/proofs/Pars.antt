@@ -10,7 +10,7 @@ use Rattle.machine_steps.specs.Machine.{Machine, Kept, keep, effect_of, verdict_
 use Rattle.node_code.specs.Instructions.{Instruction, Verdict, ArrayTable, meaning_of}
 use Rattle.lowering.proofs.Reach.{Idle, HasAt, Reaches, Stops, stands}
 
-module _ (table : ArrayTable) (code : List Instruction) (n : ℕ) (par : Instruction) (tuples : Tuples Fault) (left : List ℤ → ℕ → Option Spot) (pc : ℕ) (slots : List ℤ)
+module _ (table : ArrayTable) (row_count : ℕ) (code : List Instruction) (n : ℕ) (par : Instruction) (tuples : Tuples Fault) (left : List ℤ → ℕ → Option Spot) (pc : ℕ) (slots : List ℤ)
     (rows : Storage) (out : List ℕ)
     (is : meaning_of table par ≡ instr.Par tuples left) (has : HasAt code pc (par ∷ Verdict ∷ [])) (count : ℕ) (many : tuples.count slots ≡ count) where
   abbrev kept : Option (Kept Fault)
@@ -19,23 +19,23 @@ module _ (table : ArrayTable) (code : List Instruction) (n : ℕ) (par : Instruc
   abbrev stored : Storage
   stored = scatter (effect_of tuples left slots (read rows)) count rows
 
-  abbrev behind : ℕ → Idle → Machine Instruction Fault
-  behind k i = record (stands table code (pc + 1) slots (scatter (effect_of tuples left slots (read rows)) k rows) out i)
+  abbrev behind : ℕ → Idle row_count → Machine Instruction Fault
+  behind k i = record (stands table row_count code (pc + 1) slots (scatter (effect_of tuples left slots (read rows)) k rows) out i)
       { kept = keep (machine.outcome_of tuples slots (read rows)) 0 k None; parts = 0 + 1 }
 
-  abbrev after : Option (Kept Fault) → Idle → Machine Instruction Fault
-  after k i = record (stands table code (pc + 1) slots stored out i) { control = verdict_control k on (record { at = pc + 1; slots = slots; status = Running }) }
+  abbrev after : Option (Kept Fault) → Idle row_count → Machine Instruction Fault
+  after k i = record (stands table row_count code (pc + 1) slots stored out i) { control = verdict_control k on (record { at = pc + 1; slots = slots; status = Running }) }
 
-  two : (i : Idle) → steps (meaning_of table) 2 (stands table code pc slots rows out i) ≡ after kept i
+  two : (i : Idle row_count) → steps (meaning_of table) 2 (stands table row_count code pc slots rows out i) ≡ after kept i
   two i =
-      ap (λ m. step (meaning_of table) m) (ap (λ z. step_by (instr_of (meaning_of table) z) (stands table code pc slots rows out i)) has.0
-      ∙ ap (λ z. step_by z (stands table code pc slots rows out i)) is ∙ ap (λ k. behind k i) many)
+      ap (λ m. step (meaning_of table) m) (ap (λ z. step_by (instr_of (meaning_of table) z) (stands table row_count code pc slots rows out i)) has.0
+      ∙ ap (λ z. step_by z (stands table row_count code pc slots rows out i)) is ∙ ap (λ k. behind k i) many)
       ∙ ap (λ z. step_by (instr_of (meaning_of table) z) (behind count i)) has.1.0
 
   -- where no fault is kept the run goes on with what was stored
-  pub par-reaches : kept ≡ None → Reaches table code (stands table code pc slots rows out) (stands table code (pc + 2) slots stored out)
-  par-reaches none i = let e : pc + 1 + 1 ≡ pc + 2 = omega arith in (2, i, two i ∙ ap (λ k. after k i) none ∙ ap (λ at. stands table code at slots stored out i) e)
+  pub par-reaches : kept ≡ None → Reaches table row_count code (stands table row_count code pc slots rows out) (stands table row_count code (pc + 2) slots stored out)
+  par-reaches none i = let e : pc + 1 + 1 ≡ pc + 2 = omega arith in (2, i, two i ∙ ap (λ k. after k i) none ∙ ap (λ at. stands table row_count code at slots stored out i) e)
 
   -- else it ends
-  pub par-stops : (f : Fault) → ((k : Kept Fault) × (kept ≡ Some k) × (k.fault ≡ f) × (k.tuple < count)) → Stops table code (stands table code pc slots rows out) f out
+  pub par-stops : (f : Fault) → ((k : Kept Fault) × (kept ≡ Some k) × (k.fault ≡ f) × (k.tuple < count)) → Stops table row_count code (stands table row_count code pc slots rows out) f out
   par-stops f k i = (after (Some k.0) i, (2, two i ∙ ap (λ z. after z i) k.1), ap Faulted k.2, refl)

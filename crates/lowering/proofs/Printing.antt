@@ -20,8 +20,8 @@ past-end : {A : Type 0} (xs : List A) → slice_get xs (length xs) ≡ None
 past-end [] = refl
 past-end (x ∷ xs) = past-end xs
 
-module _ (table : ArrayTable) (code : List Instruction) (pc : ℕ) (slots : List ℤ) (rows : Storage) (out : List ℕ) (items : List PrintItem)
-    (has : slice_get code pc ≡ Some (Print items)) (i : Idle) where
+module _ (table : ArrayTable) (row_count : ℕ) (code : List Instruction) (pc : ℕ) (slots : List ℤ) (rows : Storage) (out : List ℕ) (items : List PrintItem)
+    (has : slice_get code pc ≡ Some (Print items)) (i : Idle row_count) where
   abbrev all : List Item
   all = items_of table.shapes items
 
@@ -30,7 +30,7 @@ module _ (table : ArrayTable) (code : List Instruction) (pc : ℕ) (slots : List
 
   -- behind so many items
   abbrev behind : ℕ → List ℕ → Machine Instruction Fault
-  behind k line = record (stands table code pc slots rows out i) { substep = k; line = line }
+  behind k line = record (stands table row_count code pc slots rows out i) { substep = k; line = line }
 
   next : (k : ℕ) (line : List ℕ) → step (meaning_of table) (behind k line) ≡ print_step (slice_get all k) whole (behind k line)
   next k line = ap (λ o. step_by (instr_of (meaning_of table) o) (behind k line)) has
@@ -48,10 +48,10 @@ module _ (table : ArrayTable) (code : List Instruction) (pc : ℕ) (slots : List
       (suc h.0, ap (steps (meaning_of table) h.0) one ∙ h.1 ∙ ap (behind (length all)) (append_assoc line bytes (all_bytes slots (read rows) rest)))
 
   pub prints-line : (k : ℕ)
-      × (steps (meaning_of table) k (stands table code pc slots rows out i) ≡ stands table code (pc + 1) slots rows (out ++ whole (all_bytes slots (read rows) all)) i)
+      × (steps (meaning_of table) k (stands table row_count code pc slots rows out i) ≡ stands table row_count code (pc + 1) slots rows (out ++ whole (all_bytes slots (read rows) all)) i)
   prints-line =
       let h = printing all [] [] refl in (
         1 + h.0,
-        steps-more table code h.0 1 (stands table code pc slots rows out i) ∙ ap (step (meaning_of table)) h.1
+        steps-more table row_count code h.0 1 (stands table row_count code pc slots rows out i) ∙ ap (step (meaning_of table)) h.1
             ∙ next (length all) (all_bytes slots (read rows) all) ∙ ap (λ o. print_step o whole (behind (length all) (all_bytes slots (read rows) all))) (past-end all),
       )

@@ -1,5 +1,5 @@
 -- The machine over the code of a program ends as the program does.
-use Rattle.std.proofs.Common.{◌≡◌, ℕ, ◌+◌, ◌<◌, List, [], ◌∷◌, ◌++◌, map, replicate, length, ℤ, pos, Some, None, refl, sym, ap, ◌∙◌, subst, arith, length-append, append_assoc, slice_index_or}
+use Rattle.std.proofs.Common.{◌≡◌, ℕ, ◌+◌, ◌<◌, ◌≤◌, List, [], ◌∷◌, ◌++◌, map, replicate, length, ℤ, pos, Some, None, refl, sym, ap, ◌∙◌, subst, arith, length-append, append_assoc, slice_index_or}
 use Rattle.std.proofs.Math.ListN.{get_or-append, get_or-map}
 use Rattle.std.proofs.Math.Seq.{get_or-append_seam}
 use Rattle.std.proofs.lemmas.List.{length-map, length-replicate}
@@ -15,7 +15,7 @@ use Rattle.machine_steps.specs.Layout.{Layout}
 use Rattle.machine_steps.specs.Instr.{Finished}
 use Rattle.machine_steps.specs.Machine.{Machine, steps}
 use Rattle.node_code.specs.Instructions.{Instruction, Jump, Halt, meaning_of, ArrayTable}
-use Rattle.lowering.specs.StatementCode.{block_slots, block_code, program_code}
+use Rattle.lowering.specs.StatementCode.{block_copies, block_slots, block_code, program_code}
 use Rattle.lowering.specs.WellFormed.{IsWellFormedBlock}
 use Rattle.lowering.specs.Lowered.{IsState, IsTable, opening, IsLeft, EndsAs, MachineEnds}
 use Rattle.lowering.proofs.Reach.{Idle, Place, HasAt, has-front, has-back, Reaches, reaches-on, stands, one, steps-more}
@@ -32,9 +32,16 @@ has-all (i ∷ is) pre =
     let rest' = subst (λ l. HasAt l (length (pre ++ i ∷ [])) is) (append_assoc pre (i ∷ []) is) rest in
     (here, subst (λ m. HasAt (pre ++ i ∷ is) m is) n rest')
 
-module _ (table : ArrayTable) (n : ℕ) (body : Block) (s : State) (is : IsState n s) (tabled : IsTable s table) where
+-- copies that aren't made yet
+abbrev unmade : ℕ → Storage
+unmade room = replicate room []
+
+module _ (table : ArrayTable) (n room : ℕ) (body : Block) (s : State) (is : IsState n s) (tabled : IsTable s table) (roomy : block_copies body ≤ room) where
   abbrev code : List Instruction
   code = program_code n body
+
+  abbrev row_count : ℕ
+  row_count = n + room
 
   abbrev many : ℕ
   many = n + block_slots body
@@ -46,26 +53,33 @@ module _ (table : ArrayTable) (n : ℕ) (body : Block) (s : State) (is : IsState
   elements = map (λ (a : Array). a.elements) s.arrays
 
   abbrev rows : Storage
-  rows = elements ++ [] ∷ []
+  rows = elements ++ unmade room
 
-  holds : Holds table code n many None s slots rows
+  as_many : length rows ≡ row_count
+  as_many = omega (arith, is.arrays, length-append elements (unmade room), length-map s.arrays (λ (a : Array). a.elements), unmade-many)
+    where
+      unmade-many : length (unmade room) ≡ room
+      unmade-many = length-replicate room []
+
+  holds : Holds table row_count code n many None s slots rows
   holds = record {
     scalars = λ k lt. get_or-append s.scalars (replicate (block_slots body) (pos 0)) (pos 0) k (omega (arith, lt, is.scalars));
     arrays = record {
-      elements = λ a lt. get_or-append elements ([] ∷ []) [] a (omega (arith, lt, is.arrays, length-map s.arrays (λ (a : Array). a.elements)))
+      elements = λ a lt. get_or-append elements (unmade room) [] a (omega (arith, lt, is.arrays, length-map s.arrays (λ (a : Array). a.elements)))
           ∙ get_or-map (λ (a : Array). a.elements) s.arrays a no_array;
       shape = λ a lt. sym (ap (λ shapes. slice_index_or shapes a []) tabled.shapes ∙ get_or-map (λ (a : Array). a.dims) s.arrays a no_array);
     };
     places = is.scalars;
     more_places = is.arrays;
-    wide = omega (arith, is.arrays, length-append elements ([] ∷ []), length-map s.arrays (λ (a : Array). a.elements));
+    wide = let some : 1 ≤ room = roomy in omega (arith, some, as_many);
+    more_rows = as_many;
     copied = λ m e. cc;
     size = length-append s.scalars (replicate (block_slots body) (pos 0)) ∙ omega (arith, is.scalars, length-replicate (block_slots body) (pos 0));
   }
 
-  pub program-ends : (layouts : List Layout) → IsWellFormedBlock n body → MachineEnds n table (opening n body s layouts) (run_block body s)
-  program-ends layouts ok = by_completion r.completion
-      (block-goes table code n many tabled.copies body n 2 1 1 slots rows s ok (has-front code 2 (block_code n body n 2 1 1) (Jump 1 ∷ []) all.1.1) (omega arith)
+  pub program-ends : (layouts : List Layout) → length layouts ≡ row_count → IsWellFormedBlock n body → MachineEnds n table (opening n room body s layouts) (run_block body s)
+  program-ends layouts laid ok = by_completion r.completion
+      (block-goes table row_count code n many tabled.copies body n 2 1 1 slots rows s ok (has-front code 2 (block_code n body n 2 1 1) (Jump 1 ∷ []) all.1.1) (omega arith)
       (omega arith) holds)
     where
       r : Run
@@ -74,46 +88,46 @@ module _ (table : ArrayTable) (n : ℕ) (body : Block) (s : State) (is : IsState
       all : HasAt code 0 code
       all = has-all code []
 
-      m0 : Place
-      m0 = stands table code 0 slots rows s.printed
+      m0 : Place row_count
+      m0 = stands table row_count code 0 slots rows s.printed
 
-      i0 : Idle
-      i0 = record { layouts = layouts; joined = pos 0 }
+      i0 : Idle row_count
+      i0 = record { layouts = layouts; joined = pos 0; laid = laid }
 
-      begin : Place
-      begin = stands table code 2 slots rows s.printed
+      begin : Place row_count
+      begin = stands table row_count code 2 slots rows s.printed
 
-      begins : Reaches table code m0 begin
-      begins = jump-reaches table code n many None 0 2 slots rows s.printed all.0
+      begins : Reaches table row_count code m0 begin
+      begins = jump-reaches table row_count code n many None 0 2 slots rows s.printed all.0
 
-      halts : (slots1 : List ℤ) (rows1 : Storage) → Reaches table code begin (stands table code 1 slots1 rows1 r.state.printed)
-          → Holds table code n many None r.state slots1 rows1
+      halts : (slots1 : List ℤ) (rows1 : Storage) → Reaches table row_count code begin (stands table row_count code 1 slots1 rows1 r.state.printed)
+          → Holds table row_count code n many None r.state slots1 rows1
           → (k : ℕ) × (((steps (meaning_of table) k (m0 i0)).control.status ≡ Finished) × ((steps (meaning_of table) k (m0 i0)).printed ≡ r.state.printed)
           × IsLeft n (steps (meaning_of table) k (m0 i0)) r.state)
       halts slots1 rows1 reach h =
-          let m1 = stands table code 1 slots1 rows1 r.state.printed in
-          let a = reaches-on table code m0 begin m1 begins reach i0 in
+          let m1 = stands table row_count code 1 slots1 rows1 r.state.printed in
+          let a = reaches-on table row_count code m0 begin m1 begins reach i0 in
           let end : Machine Instruction Fault = record (m1 a.1) { control = record { at = 1; slots = slots1; status = Finished } } in
-          let e : steps (meaning_of table) (1 + a.0) (m0 i0) ≡ end = steps-more table code a.0 1 (m0 i0) ∙ ap (steps (meaning_of table) 1) a.2
-          ∙ one table code 1 slots1 rows1 r.state.printed Halt all.1.0 a.1 in
+          let e : steps (meaning_of table) (1 + a.0) (m0 i0) ≡ end = steps-more table row_count code a.0 1 (m0 i0) ∙ ap (steps (meaning_of table) 1) a.2
+          ∙ one table row_count code 1 slots1 rows1 r.state.printed Halt all.1.0 a.1 in
           (1 + a.0, rw (e) (refl, refl, (h.scalars, h.arrays.elements, h.more_places)))
 
-      by_completion : (c : Completion) → Flows table code n many None 1 1 (2 + length (block_code n body n 2 1 1)) n slots begin r.state c → (k : ℕ)
+      by_completion : (c : Completion) → Flows table row_count code n many None 1 1 (2 + length (block_code n body n 2 1 1)) n slots begin r.state c → (k : ℕ)
           × EndsAs n (steps (meaning_of table) k (m0 i0)) r.state c
       by_completion Normal h =
           let to : ℕ = 2 + length (block_code n body n 2 1 1) in
           let last : HasAt code to (Jump 1 ∷ []) = has-back code 2 (block_code n body n 2 1 1) (Jump 1 ∷ []) all.1.1 in
-          halts h.0 h.1 (reaches-on table code begin (stands table code to h.0 h.1 r.state.printed) (stands table code 1 h.0 h.1 r.state.printed) h.2
-          (jump-reaches table code n many None to 1 h.0 h.1 r.state.printed last.0)) h.4
+          halts h.0 h.1 (reaches-on table row_count code begin (stands table row_count code to h.0 h.1 r.state.printed) (stands table row_count code 1 h.0 h.1 r.state.printed) h.2
+          (jump-reaches table row_count code n many None to 1 h.0 h.1 r.state.printed last.0)) h.4
       by_completion Exited h = halts h.0 h.1 h.2 h.4
       by_completion Cycled h = halts h.0 h.1 h.2 h.4
       by_completion Stopped h =
           let a = begins i0 in
           let b = h a.1 in
-          let e : steps (meaning_of table) (b.1.0 + a.0) (m0 i0) ≡ b.0 = steps-more table code a.0 b.1.0 (m0 i0) ∙ ap (steps (meaning_of table) b.1.0) a.2 ∙ b.1.1 in
+          let e : steps (meaning_of table) (b.1.0 + a.0) (m0 i0) ≡ b.0 = steps-more table row_count code a.0 b.1.0 (m0 i0) ∙ ap (steps (meaning_of table) b.1.0) a.2 ∙ b.1.1 in
           (b.1.0 + a.0, rw (e) (b.2, b.3, (b.4.scalars, b.4.arrays.elements, b.4.more_places)))
       by_completion (runs.Faulted f) h =
           let a = begins i0 in
           let b = h a.1 in
-          let e : steps (meaning_of table) (b.1.0 + a.0) (m0 i0) ≡ b.0 = steps-more table code a.0 b.1.0 (m0 i0) ∙ ap (steps (meaning_of table) b.1.0) a.2 ∙ b.1.1 in
+          let e : steps (meaning_of table) (b.1.0 + a.0) (m0 i0) ≡ b.0 = steps-more table row_count code a.0 b.1.0 (m0 i0) ∙ ap (steps (meaning_of table) b.1.0) a.2 ∙ b.1.1 in
           (b.1.0 + a.0, rw (e) (b.2, b.3))

@@ -47,31 +47,33 @@ same-set b x xs v le = (sym (length-set xs x v), λ k lt. sym (get_or-set_other 
 pub slot-set : (x : ℕ) (xs : List ℤ) (v : ℤ) → x < length xs → slot (slice_set xs x v) x ≡ v
 slot-set x xs v lt = get_or-set_same xs x v (pos 0) lt
 
--- what a machine has besides between two instructions, which nothing asks for: where the rows lie, and what the last reduction gave
-pub record Idle : Type 0 where
+-- what a machine with so many rows has besides between two instructions, which no instruction of a program asks for: where the rows lie,
+-- each of which has a layout, and what the last reduction gave
+pub record Idle (row_count : ℕ) : Type 0 where
   pub layouts : List Layout
   pub joined : ℤ
+  pub laid : length layouts ≡ row_count
 
 -- a machine but for that
-abbrev pub Place : Type 0
-Place = Idle → Machine Instruction Fault
+abbrev pub Place : ℕ → Type 0
+Place row_count = Idle row_count → Machine Instruction Fault
 
-module _ (table : ArrayTable) (code : List Instruction) where
-  abbrev pub Reaches : Place → Place → Type 0
-  Reaches m m' = (i : Idle) → (k : ℕ) × (j : Idle) × (steps (meaning_of table) k (m i) ≡ m' j)
+module _ (table : ArrayTable) (row_count : ℕ) (code : List Instruction) where
+  abbrev pub Reaches : Place row_count → Place row_count → Type 0
+  Reaches m m' = (i : Idle row_count) → (k : ℕ) × (j : Idle row_count) × (steps (meaning_of table) k (m i) ≡ m' j)
 
   pub steps-more : (j k : ℕ) (m : Machine Instruction Fault) → steps (meaning_of table) (k + j) m ≡ steps (meaning_of table) k (steps (meaning_of table) j m)
   steps-more zero k m = let e : k + 0 ≡ k = omega arith in ap (λ x. steps (meaning_of table) x m) e
   steps-more (suc j) k m = let e : k + suc j ≡ suc (k + j) = omega arith in ap (λ x. steps (meaning_of table) x m) e ∙ steps-more j k (step (meaning_of table) m)
 
-  pub reaches-on : (m m' m'' : Place) → Reaches m m' → Reaches m' m'' → Reaches m m''
+  pub reaches-on : (m m' m'' : Place row_count) → Reaches m m' → Reaches m' m'' → Reaches m m''
   reaches-on m m' m'' r q i =
       let a = r i in
       let b = q a.1 in
       (b.0 + a.0, b.1, steps-more a.0 b.0 (m i) ∙ ap (steps (meaning_of table) b.0) a.2 ∙ b.2)
 
   -- the machine at a place of the code between two instructions of a statement that keeps no fault
-  abbrev pub stands : ℕ → List ℤ → Storage → List ℕ → Place
+  abbrev pub stands : ℕ → List ℤ → Storage → List ℕ → Place row_count
   stands pc slots rows out i = record {
     code = code;
     control = record { at = pc; slots = slots; status = Running };
@@ -85,15 +87,15 @@ module _ (table : ArrayTable) (code : List Instruction) where
     printed = out;
   }
 
-  pub one : (pc : ℕ) (slots : List ℤ) (rows : Storage) (out : List ℕ) (x : Instruction) → slice_get code pc ≡ Some x → (i : Idle)
+  pub one : (pc : ℕ) (slots : List ℤ) (rows : Storage) (out : List ℕ) (x : Instruction) → slice_get code pc ≡ Some x → (i : Idle row_count)
       → steps (meaning_of table) 1 (stands pc slots rows out i) ≡ step_by (meaning_of table x) (stands pc slots rows out i)
   one pc slots rows out x h i = ap (λ o. step_by (instr_of (meaning_of table) o) (stands pc slots rows out i)) h
 
   -- the run ends with a fault, with this printed
-  abbrev pub Stops : Place → Fault → List ℕ → Type 0
-  Stops m f out = (i : Idle) → (m' : Machine Instruction Fault) × ((k : ℕ) × (steps (meaning_of table) k (m i) ≡ m')) × (m'.control.status ≡ Faulted f) × (m'.printed ≡ out)
+  abbrev pub Stops : Place row_count → Fault → List ℕ → Type 0
+  Stops m f out = (i : Idle row_count) → (m' : Machine Instruction Fault) × ((k : ℕ) × (steps (meaning_of table) k (m i) ≡ m')) × (m'.control.status ≡ Faulted f) × (m'.printed ≡ out)
 
-  pub stops-on : (m m' : Place) (f : Fault) (out : List ℕ) → Reaches m m' → Stops m' f out → Stops m f out
+  pub stops-on : (m m' : Place row_count) (f : Fault) (out : List ℕ) → Reaches m m' → Stops m' f out → Stops m f out
   stops-on m m' f out r s i =
       let a = r i in
       let b = s a.1 in

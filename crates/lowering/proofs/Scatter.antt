@@ -46,18 +46,18 @@ store-last : (s : State) (a : ℕ) (stores : List (Option Store)) (v : Option St
 store-last s a [] v = refl
 store-last s a (w ∷ stores) v = store-last (stored a s w) a stores v
 
-module _ (table : ArrayTable) (code : List Instruction) (n many : ℕ) (copy : Option (List ℤ)) (line a : ℕ) (la : a < n) (s : State) (slots : List ℤ) (rows : Storage)
-    (holds : Holds table code n many copy s slots rows) (effect : ℕ → Effect Fault) where
+module _ (table : ArrayTable) (row_count : ℕ) (code : List Instruction) (n many : ℕ) (copy : Option (List ℤ)) (line a : ℕ) (la : a < n) (s : State) (slots : List ℤ) (rows : Storage)
+    (holds : Holds table row_count code n many copy s slots rows) (effect : ℕ → Effect Fault) where
   -- the rows behind the first tuples, by the meaning's results
   abbrev pub Scattered : Result (List (Option Store)) Cause → ℕ → Type 0
-  Scattered (Ok stores) t = Holds table code n many copy (store_all s a stores) slots (scatter effect t rows)
+  Scattered (Ok stores) t = Holds table row_count code n many copy (store_all s a stores) slots (scatter effect t rows)
   Scattered (Err c) t = ⊤
 
   one-more : (t : ℕ) (r : Result (List (Option Store)) Cause) (q : Result (Option Store) Cause) → effect t ≡ effect_for line a q → Scattered r t
       → Scattered (r >>= (λ vs. q >>= (λ v. Ok (vs ++ v ∷ [])))) (suc t)
   one-more t (Ok vs) (Ok None) e h = rw (e, store-last s a vs None) h
   one-more t (Ok vs) (Ok (Some st)) e h = rw (e, store-last s a vs (Some st))
-      (holds-store table code n many copy (store_all s a vs) slots (scatter effect t rows) a st.place st.value la h)
+      (holds-store table row_count code n many copy (store_all s a vs) slots (scatter effect t rows) a st.place st.value la h)
   one-more t (Ok vs) (Err c) e h = tt
   one-more t (Err c) q e h = tt
 

@@ -28,9 +28,9 @@ use Rattle.node_code.specs.Forms.{Sub, selections_in, elemental_in}
 use Rattle.node_code.specs.Instructions.{Instruction, Limits, Par, Verdict, go_on_if, ArrayTable}
 use Rattle.node_code.specs.Parallel.{When, assignment_tuples, assigned_spot, at_line, Assignment, assignment_size, mask_reads, is_asked, outcome_if, assigned_value, reads_at, spot_of}
 
-module _ (table : ArrayTable) (code : List Instruction) (n many : ℕ) (copy : Option (List ℤ)) (leave again : ℕ) (p : Assignment) (la : p.array < n) where
+module _ (table : ArrayTable) (row_count : ℕ) (code : List Instruction) (n many : ℕ) (copy : Option (List ℤ)) (leave again : ℕ) (p : Assignment) (la : p.array < n) where
   -- what the slots say, and which tuples are chosen
-  module _ (b pc : ℕ) (has : HasAt code pc (Limits p ∷ Par p ∷ Verdict ∷ [])) (slots : List ℤ) (rows : Storage) (s : State) (holds : Holds table code n many copy s slots rows)
+  module _ (b pc : ℕ) (has : HasAt code pc (Limits p ∷ Par p ∷ Verdict ∷ [])) (slots : List ℤ) (rows : Storage) (s : State) (holds : Holds table row_count code n many copy s slots rows)
       (ds : List Selection) (r : Elemental) (ns : List ℕ) (chosen : ℕ → Bool)
       (left : selections_in slots p.left ≡ ds) (right : elemental_in slots p.right ≡ r) (over : extents (selections_in slots p.over) ≡ ns) (named : NamesBelow n r)
       (mask : (t : ℕ) (values : List ℤ) → t < product ns → is_asked p.mask (values_of rows (mask_reads p.mask t) ++ values) ≡ chosen t) where
@@ -51,23 +51,23 @@ module _ (table : ArrayTable) (code : List Instruction) (n many : ℕ) (copy : O
         (subst (λ o. Does p.line p.array (spot_of table.shapes p.array (subscripts_at ds x)) o (at_tuple x (at_a_tuple t))) (sym here)
         (masked-does n table.shapes s rows holds.arrays x p.line p.array ds r p.mask t (chosen t) la named (λ values. mask t values lt)))
 
-    abbrev end : ℕ → Storage → Place
-    end at rows = stands table code at slots rows s.printed
+    abbrev end : ℕ → Storage → Place row_count
+    end at rows = stands table row_count code at slots rows s.printed
 
     -- behind the limits: the parallel statement and its Verdict
-    par-goes : Goes table code n many copy leave again (pc + 3) b slots (end (pc + 1) rows)
+    par-goes : Goes table row_count code n many copy leave again (pc + 3) b slots (end (pc + 1) rows)
         (one_step p.line s (each (positions ns) at_a_tuple (product ns) >>= (λ stores. Ok (store_all s p.array stores))))
     par-goes =
         let e : pc + 1 + 2 ≡ pc + 3 = omega arith in
-        goes-at table code n many copy leave again (pc + 1 + 2) (pc + 3) b slots (end (pc + 1) rows)
+        goes-at table row_count code n many copy leave again (pc + 1 + 2) (pc + 3) b slots (end (pc + 1) rows)
         (one_step p.line s (each (positions ns) at_a_tuple (product ns) >>= (λ stores. Ok (store_all s p.array stores)))) e
-        (stores-go table code n many copy leave again (Par p) (assignment_tuples table.shapes p) (assigned_spot table.shapes p) refl p.line p.array b
+        (stores-go table row_count code n many copy leave again (Par p) (assignment_tuples table.shapes p) (assigned_spot table.shapes p) refl p.line p.array b
         (pc + 1) la has.1 slots rows s holds (product ns) (ap product over) (positions ns) at_a_tuple tuple-is)
 
     -- the shapes and limits first
-    pub assigned-goes : Goes table code n many copy leave again (pc + 3) b slots (end pc rows) (one_step p.line s (assign_elemental ns chosen p.array ds r s))
+    pub assigned-goes : Goes table row_count code n many copy leave again (pc + 3) b slots (end pc rows) (one_step p.line s (assign_elemental ns chosen p.array ds r s))
     assigned-goes =
-        subst (Goes table code n many copy leave again (pc + 3) b slots (end pc rows))
+        subst (Goes table row_count code n many copy leave again (pc + 3) b slots (end pc rows))
         (sym (ends-bind p.line s (space_size ns (ds ∷ sections r)) (λ k. each (positions ns) at_a_tuple k >>= (λ stores. Ok (store_all s p.array stores)))))
         (by_limits (space_size ns (ds ∷ sections r)) refl)
       where
@@ -77,43 +77,43 @@ module _ (table : ArrayTable) (code : List Instruction) (n many : ℕ) (copy : O
             ∙ ap (λ x. space_size (extents (selections_in slots p.over)) (ds ∷ sections x)) right
             ∙ ap (λ x. space_size x (ds ∷ sections r)) over
 
-        by_limits : (q : Result ℕ Cause) → space_size ns (ds ∷ sections r) ≡ q → Goes table code n many copy leave again (pc + 3) b slots (end pc rows)
+        by_limits : (q : Result ℕ Cause) → space_size ns (ds ∷ sections r) ≡ q → Goes table row_count code n many copy leave again (pc + 3) b slots (end pc rows)
             (with_value p.line s q (λ k. one_step p.line s (each (positions ns) at_a_tuple k >>= (λ stores. Ok (store_all s p.array stores)))))
         by_limits (Ok k) e =
             let many' : k ≡ product ns = space-size ns (ds ∷ sections r) k e in
-            goes-on table code n many copy leave again (pc + 3) b b slots slots (end pc rows) (end (pc + 1) rows)
+            goes-on table row_count code n many copy leave again (pc + 3) b b slots slots (end pc rows) (end (pc + 1) rows)
             (one_step p.line s (each (positions ns) at_a_tuple k >>= (λ stores. Ok (store_all s p.array stores)))) (omega arith)
             (λ i. (
               1,
               i,
-              one table code pc slots rows s.printed (Limits p) has.0 i
+              one table row_count code pc slots rows s.printed (Limits p) has.0 i
                   ∙ ap (λ q. record (end pc rows i) { control = go_on_if {A = ℕ} (at_line p.line q) (record { at = pc; slots = slots; status = Running }) }) (limits ∙ e),
             ))
-            (kept-refl table code n many copy b slots)
-            (subst (λ k. Goes table code n many copy leave again (pc + 3) b slots (end (pc + 1) rows)
+            (kept-refl table row_count code n many copy b slots)
+            (subst (λ k. Goes table row_count code n many copy leave again (pc + 3) b slots (end (pc + 1) rows)
             (one_step p.line s (each (positions ns) at_a_tuple k >>= (λ stores. Ok (store_all s p.array stores))))) (sym many') par-goes)
         by_limits (Err c) e =
             λ i. (
               _,
               (
                 1,
-                one table code pc slots rows s.printed (Limits p) has.0 i
+                one table row_count code pc slots rows s.printed (Limits p) has.0 i
                     ∙ ap (λ q. record (end pc rows i) { control = go_on_if {A = ℕ} (at_line p.line q) (record { at = pc; slots = slots; status = Running }) }) (limits ∙ e),
               ),
               refl,
               refl,
             )
 
-module _ (table : ArrayTable) (code : List Instruction) (n many : ℕ) (copy : Option (List ℤ)) (leave again : ℕ) where
+module _ (table : ArrayTable) (row_count : ℕ) (code : List Instruction) (n many : ℕ) (copy : Option (List ℤ)) (leave again : ℕ) where
   -- an assignment to a section, over its own shape or over a mask's
   pub assignment-goes : (line b pc a : ℕ) (rs : SectionSubscripts) (t : Term) (m : Option (List Sub × When)) (slots : List ℤ) (rows : Storage) (s : State)
       (shape : List Selection → List ℕ) (chosen : ℕ → Bool) → a < n → AreScalarSubscripts n rs → IsArray n t → HasAt code pc (assignment_code line b a rs t m)
-      → n ≤ b → b + (subscripts_slots rs + parts_slots t) ≤ many → Holds table code n many copy s slots rows
+      → n ≤ b → b + (subscripts_slots rs + parts_slots t) ≤ many → Holds table row_count code n many copy s slots rows
       → ((later : List ℤ) (ds : List Selection) → SameBelow b slots later → selections_in later (subs_of b rs) ≡ ds
       → extents (selections_in later (assignment line b a rs t m).over) ≡ shape ds)
       → ((ds : List Selection) (u : ℕ) (values : List ℤ) → u < product (shape ds) → is_asked (assignment line b a rs t m).mask
       (values_of rows (mask_reads (assignment line b a rs t m).mask u) ++ values) ≡ chosen u)
-      → Goes table code n many copy leave again (pc + length (assignment_code line b a rs t m)) b slots (stands table code pc slots rows s.printed)
+      → Goes table row_count code n many copy leave again (pc + length (assignment_code line b a rs t m)) b slots (stands table row_count code pc slots rows s.printed)
       (one_step line s (selections [] s rs >>= (λ ds. elemental [] s t >>= (λ r. assign_elemental (shape ds) chosen a ds r s))))
   assignment-goes line b pc a rs t m slots rows s shape chosen la oks ok has le few holds over mask =
       let p = assignment line b a rs t m in
@@ -127,30 +127,30 @@ module _ (table : ArrayTable) (code : List Instruction) (n many : ℕ) (copy : O
       let to : ℕ = pc2 + 3 in
       let long : to ≡ pc + length (c1 ++ (c2 ++ last)) = omega (arith, length-append c1 (c2 ++ last), length-append c2 last) in
       let h1 : HasAt code pc1 (c2 ++ last) = has-back code pc c1 (c2 ++ last) has in
-      goes-at table code n many copy leave again to (pc + length (c1 ++ (c2 ++ last))) b slots (stands table code pc slots rows s.printed)
+      goes-at table row_count code n many copy leave again to (pc + length (c1 ++ (c2 ++ last))) b slots (stands table row_count code pc slots rows s.printed)
       (one_step line s (selections [] s rs >>= (λ ds. elemental [] s t >>= (λ r. assign_elemental (shape ds) chosen a ds r s)))) long
-      (subst (Goes table code n many copy leave again to b slots (stands table code pc slots rows s.printed))
+      (subst (Goes table row_count code n many copy leave again to b slots (stands table row_count code pc slots rows s.printed))
       (sym (ends-bind line s (selections [] s rs) (λ ds. elemental [] s t >>= (λ r. assign_elemental (shape ds) chosen a ds r s))))
-      (goes-value table code n many copy leave again line pc pc1 to b b1 slots rows s (SubsGive b1 (subs_of b rs)) (selections [] s rs)
+      (goes-value table row_count code n many copy leave again line pc pc1 to b b1 slots rows s (SubsGive b1 (subs_of b rs)) (selections [] s rs)
       (λ ds. one_step line s (elemental [] s t >>= (λ r. assign_elemental (shape ds) chosen a ds r s))) (omega arith) le holds
-      (subscripts-come table code line n s rows s.printed holds.arrays rs pc b slots oks (has-front code pc c1 (c2 ++ last) has) holds.scalars le
+      (subscripts-come table row_count code line n s rows s.printed holds.arrays rs pc b slots oks (has-front code pc c1 (c2 ++ last) has) holds.scalars le
       (omega (arith, few, holds.size)))
       (λ slots1 ds e1 same1 gives1 holds1.
-      subst (Goes table code n many copy leave again to b1 slots1 (stands table code pc1 slots1 rows s.printed))
+      subst (Goes table row_count code n many copy leave again to b1 slots1 (stands table row_count code pc1 slots1 rows s.printed))
       (sym (ends-bind line s (elemental [] s t) (λ r. assign_elemental (shape ds) chosen a ds r s)))
-      (goes-value table code n many copy leave again line pc1 pc2 to b1 b2 slots1 rows s (FormGives n b2 (form_of b1 t)) (elemental [] s t)
+      (goes-value table row_count code n many copy leave again line pc1 pc2 to b1 b2 slots1 rows s (FormGives n b2 (form_of b1 t)) (elemental [] s t)
       (λ r. one_step line s (assign_elemental (shape ds) chosen a ds r s)) (omega arith) (omega (arith, le)) holds1
-      (parts-come table code line n s rows s.printed holds1.arrays t pc1 b1 slots1 ok (has-front code pc1 c2 last h1) holds1.scalars (omega (arith, le))
+      (parts-come table row_count code line n s rows s.printed holds1.arrays t pc1 b1 slots1 ok (has-front code pc1 c2 last h1) holds1.scalars (omega (arith, le))
       (omega (arith, few, holds1.size)))
       (λ slots2 r e2 same2 gives2 holds2.
       let left : selections_in slots2 (subs_of b rs) ≡ ds = gives1 slots2 same2 in
-      assigned-goes table code n many copy leave again p la b2 pc2 (has-back code pc1 c2 last h1) slots2 rows s holds2 ds r (shape ds) chosen left
+      assigned-goes table row_count code n many copy leave again p la b2 pc2 (has-back code pc1 c2 last h1) slots2 rows s holds2 ds r (shape ds) chosen left
       (gives2.0 slots2 (same-refl b2 slots2)) (over slots2 ds (same-on b b b1 slots slots1 slots2 (omega arith) (omega arith) same1 same2) left) gives2.1 (mask ds))))))
 
   -- an assignment without a mask
   pub section-goes : (line b pc a : ℕ) (rs : SectionSubscripts) (t : Term) (slots : List ℤ) (rows : Storage) (s : State) → a < n → AreScalarSubscripts n rs → IsArray n t
       → HasAt code pc (assignment_code line b a rs t None) → n ≤ b → b + (subscripts_slots rs + parts_slots t) ≤ many
-      → Holds table code n many copy s slots rows → Goes table code n many copy leave again (pc + length (assignment_code line b a rs t None)) b slots
-      (stands table code pc slots rows s.printed) (one_step line s (assign_section a rs t s))
+      → Holds table row_count code n many copy s slots rows → Goes table row_count code n many copy leave again (pc + length (assignment_code line b a rs t None)) b slots
+      (stands table row_count code pc slots rows s.printed) (one_step line s (assign_section a rs t s))
   section-goes line b pc a rs t slots rows s la oks ok has le few holds = assignment-goes line b pc a rs t None slots rows s extents (λ u. true) la oks ok has le few holds
       (λ later ds same e. ap extents e) (λ ds u values lt. refl)

@@ -6,7 +6,7 @@ use Rattle.op_tables.specs.Operators.{can_divide}
 use Rattle.array_meaning.specs.Terms.{Term, Number, Scalar, Index, Element, Section, Apply, Reduce, Terms, NoTerm, More, SectionSubscripts, NoSubscript, Subscript, Triplet, Control}
 use Rattle.array_meaning.specs.Statements as statements
 use Rattle.array_meaning.specs.Statements.{Item, Text, Value, Elements, SectionAssignment, ElementAssignment, Block, Done, Then, Statement, AssignScalar, AssignElement, AssignSection, If, Do, Where, Forall, Stop, Exit, Cycle, Continue, Redistribute, Arms, NoArm, Arm}
-use Rattle.machine_steps.specs.Layout.{IsDealt}
+use Rattle.machine_steps.specs.Layout.{AreOwned, IsDealt, Layout}
 use Rattle.machine_steps.specs.Machine.{instr_of}
 use Rattle.machine_steps.specs.Agrees.{IsValidInstr, IsValidCode}
 use Rattle.node_code.specs.Flat.{Flat}
@@ -18,7 +18,8 @@ use Rattle.lowering.specs.StatementCode.{item_slots, item_code, items_code, assi
 use Rattle.lowering.specs.WellFormed.{IsScalar, AreScalar, AreScalarSubscripts, IsArray, AreArrays, IsControl, AreControls, AreMasked, AreItems, IsWellFormed, AreWellFormedArms, IsWellFormedBlock}
 use Rattle.lowering.proofs.Folding.{fold-is}
 
-module _ (count n : ℕ) (shapes : List Shape) (table : ArrayTable) (few : length shapes ≤ n) (dealt : (ns : List ℕ) → IsDealt count (table.copies ns)) where
+module _ (count n : ℕ) (shapes : List Shape) (table : ArrayTable) (few : length shapes ≤ n)
+    (dealt : (layouts : List Layout) → AreOwned count layouts → (ns : List ℕ) → IsDealt count (table.copies layouts ns)) where
   abbrev AllValid : List Instruction → Type 0
   AllValid [] = ⊤
   AllValid (x ∷ xs) = IsValidInstr count shapes (meaning_of table x) × AllValid xs
@@ -105,7 +106,7 @@ module _ (count n : ℕ) (shapes : List Shape) (table : ArrayTable) (few : lengt
 
   forall-mask-valid : (line : ℕ) (over : List Sub) (mask : Option Term) → AllValid (forall_mask_code n line over mask)
   forall-mask-valid line over None = tt
-  forall-mask-valid line over (Some t) = ((few, λ slots. dealt _), (tt, (tt, tt)))
+  forall-mask-valid line over (Some t) = ((few, λ layouts declared owned slots. dealt layouts owned _), (tt, (tt, tt)))
 
   forall-assignments-valid : (over : List Sub) (mask : Option When) (xs : List ElementAssignment) → AllValid (forall_assignments_code over mask xs)
   forall-assignments-valid over mask [] = tt
@@ -149,7 +150,7 @@ module _ (count n : ℕ) (shapes : List Shape) (table : ArrayTable) (few : lengt
         both (parts_code line b mask) _ (parts-valid line b mask ok.0) (
           tt,
           (
-            (few, λ slots. dealt _),
+            (few, λ layouts declared owned slots. dealt layouts owned _),
             (tt, (tt, both (masked_code (b + parts_slots mask) _ body) _ (masked-valid (b + parts_slots mask) _ body ok.1) (masked-valid (b + parts_slots mask) _ others ok.2))),
           ),
         )

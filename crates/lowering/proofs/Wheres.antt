@@ -1,6 +1,6 @@
 -- The code of a WHERE does what it means.
 use Rattle.std.proofs.Common.{max, ◌≡◌, ℕ, ◌+◌, ◌≤◌, List, [], ◌∷◌, ◌++◌, length, ℤ, pos, Bool, true, false, Option, Some, None, Result, Ok, Err, refl, sym, ap, ◌∙◌, subst, arith, length-append, slice_index_or}
-use Rattle.machine_steps.specs.Layout.{size_of}
+use Rattle.machine_steps.specs.Layout.{Layout, size_of}
 use Rattle.machine_steps.specs.Instr.{Running}
 use Rattle.lowering.proofs.Evaluating.{own-shape, own-limits, own-outcome}
 use Rattle.lowering.proofs.Copies.{copy-goes}
@@ -31,16 +31,16 @@ use Rattle.node_code.specs.Parallel.{When, evaluation_tuples, at_line, Evaluatio
 use Rattle.op_tables.specs.Operators.{is_true}
 use Rattle.array_meaning.specs.Runs as runs
 
-module _ (table : ArrayTable) (code : List Instruction) (n many leave again : ℕ) (sized : (ns : List ℕ) → size_of (table.copies ns) ≡ product ns) where
+module _ (table : ArrayTable) (row_count : ℕ) (code : List Instruction) (n many leave again : ℕ) (sized : (layouts : List Layout) (ns : List ℕ) → size_of (table.copies layouts ns) ≡ product ns) where
   -- the copy isn't kept any longer
-  pub forget : (copy : Option (List ℤ)) (to b : ℕ) (slots : List ℤ) (m : Place) (r : Run) → Goes table code n many copy leave again to b slots m r
-      → Goes table code n many None leave again to b slots m r
+  pub forget : (copy : Option (List ℤ)) (to b : ℕ) (slots : List ℤ) (m : Place row_count) (r : Run) → Goes table row_count code n many copy leave again to b slots m r
+      → Goes table row_count code n many None leave again to b slots m r
   forget copy to b slots m r h = by_flow r.completion h
     where
-      holds' : (s : State) (slots : List ℤ) (rows : Storage) → Holds table code n many copy s slots rows → Holds table code n many None s slots rows
-      holds' s slots rows h = record { scalars = h.scalars; arrays = h.arrays; places = h.places; more_places = h.more_places; wide = h.wide; size = h.size; copied = λ m e. cc }
+      holds' : (s : State) (slots : List ℤ) (rows : Storage) → Holds table row_count code n many copy s slots rows → Holds table row_count code n many None s slots rows
+      holds' s slots rows h = record { scalars = h.scalars; arrays = h.arrays; places = h.places; more_places = h.more_places; wide = h.wide; more_rows = h.more_rows; size = h.size; copied = λ m e. cc }
 
-      by_flow : (flow : Completion) → Flows table code n many copy leave again to b slots m r.state flow → Flows table code n many None leave again to b slots m r.state flow
+      by_flow : (flow : Completion) → Flows table row_count code n many copy leave again to b slots m r.state flow → Flows table row_count code n many None leave again to b slots m r.state flow
       by_flow Normal h = (h.0, h.1, h.2, h.3, holds' r.state h.0 h.1 h.4)
       by_flow Exited h = (h.0, h.1, h.2, h.3, holds' r.state h.0 h.1 h.4)
       by_flow Cycled h = (h.0, h.1, h.2, h.3, holds' r.state h.0 h.1 h.4)
@@ -50,13 +50,13 @@ module _ (table : ArrayTable) (code : List Instruction) (n many leave again : �
   -- the assignments of a WHERE, where the copy is as asked
   masked-go : (xs : List SectionAssignment) (b pc : ℕ) (first : Option (List Sub)) (w : Bool) (vs : List ℤ) (ns : List ℕ) (slots : List ℤ) (rows : Storage) (s : State)
       → AreMasked n xs → HasAt code pc (masked_code b (or_no_sub first, where_true n w) xs) → n ≤ b → b + masked_slots xs ≤ many
-      → Holds table code n many (Some vs) s slots rows → FirstWithin n b first → extents (selections_in slots (or_no_sub first)) ≡ ns
-      → Goes table code n many (Some vs) leave again (pc + length (masked_code b (or_no_sub first, where_true n w) xs)) b slots (stands table code pc slots rows s.printed)
+      → Holds table row_count code n many (Some vs) s slots rows → FirstWithin n b first → extents (selections_in slots (or_no_sub first)) ≡ ns
+      → Goes table row_count code n many (Some vs) leave again (pc + length (masked_code b (or_no_sub first, where_true n w) xs)) b slots (stands table row_count code pc slots rows s.printed)
       (assign_all_where ns (λ t. as_asked w (mask_of vs t)) xs s)
   masked-go [] b pc first w vs ns slots rows s ok has le few holds within shape =
       let e : pc ≡ pc + 0 = omega arith in
-      goes-at table code n many (Some vs) leave again pc (pc + 0) b slots (stands table code pc slots rows s.printed) (normal s) e
-      (lands-done table code n many (Some vs) leave again pc b slots rows s holds)
+      goes-at table row_count code n many (Some vs) leave again pc (pc + 0) b slots (stands table row_count code pc slots rows s.printed) (normal s) e
+      (lands-done table row_count code n many (Some vs) leave again pc b slots rows s holds)
   masked-go (x ∷ xs) b pc first w vs ns slots rows s ok has le few holds within shape =
       let m : List Sub × When = (or_no_sub first, where_true n w) in
       let c = assignment_code x.line b x.array x.subscripts x.right (Some m) in
@@ -65,10 +65,10 @@ module _ (table : ArrayTable) (code : List Instruction) (n many leave again : �
       let long : pc1 + length cs ≡ pc + length (c ++ cs) = omega (arith, length-append c cs) in
       let chosen = λ (t : ℕ). as_asked w (mask_of vs t) in
       let now = one_step x.line s (selections [] s x.subscripts >>= (λ ds. elemental [] s x.right >>= (λ r. assign_elemental ns chosen x.array ds r s))) in
-      goes-at table code n many (Some vs) leave again (pc1 + length cs) (pc + length (c ++ cs)) b slots (stands table code pc slots rows s.printed)
+      goes-at table row_count code n many (Some vs) leave again (pc1 + length cs) (pc + length (c ++ cs)) b slots (stands table row_count code pc slots rows s.printed)
       (then_do now (assign_all_where ns chosen xs)) long
-      (goes-then-kept table code n many (Some vs) leave again pc1 (pc1 + length cs) b slots (stands table code pc slots rows s.printed) now (assign_all_where ns chosen xs)
-      (assignment-goes table code n many (Some vs) leave again x.line b pc x.array x.subscripts x.right (Some m) slots rows s (λ ds. ns) chosen ok.0 ok.1 ok.2
+      (goes-then-kept table row_count code n many (Some vs) leave again pc1 (pc1 + length cs) b slots (stands table row_count code pc slots rows s.printed) now (assign_all_where ns chosen xs)
+      (assignment-goes table row_count code n many (Some vs) leave again x.line b pc x.array x.subscripts x.right (Some m) slots rows s (λ ds. ns) chosen ok.0 ok.1 ok.2
       (has-front code pc c cs has) le (omega (arith, few)) holds
       (λ later ds same e. sym (first-kept n b first slots later within (λ k from lt. same.1 k lt)) ∙ shape)
       (λ ds u values lt. ap (λ r. as_asked w (is_true (slice_index_or r u (pos 0)))) (holds.copied vs refl)))
@@ -77,19 +77,19 @@ module _ (table : ArrayTable) (code : List Instruction) (n many leave again : �
 
   pub where-goes : (line b pc : ℕ) (mask : Term) (body others : List SectionAssignment) (slots : List ℤ) (rows : Storage) (s : State) → IsArray n mask → AreMasked n body
       → AreMasked n others → HasAt code pc (where_code n line b mask body others)
-      → n ≤ b → b + (parts_slots mask + max (masked_slots body) (masked_slots others)) ≤ many → Holds table code n many None s slots rows
-      → Goes table code n many None leave again (pc + length (where_code n line b mask body others)) b slots (stands table code pc slots rows s.printed)
+      → n ≤ b → b + (parts_slots mask + max (masked_slots body) (masked_slots others)) ≤ many → Holds table row_count code n many None s slots rows
+      → Goes table row_count code n many None leave again (pc + length (where_code n line b mask body others)) b slots (stands table row_count code pc slots rows s.printed)
       (run_where line mask body others s)
   where-goes line b pc mask body others slots rows s ok ok1 ok2 has le few holds =
-      goes-at table code n many None leave again to (pc + length (c ++ tail)) b slots (stands table code pc slots rows s.printed) (run_where line mask body others s) long
-      (subst (Goes table code n many None leave again to b slots (stands table code pc slots rows s.printed)) (sym (value-bind line s (elemental [] s mask) (array_value s) does))
-      (goes-value table code n many None leave again line pc pc1 to b b1 slots rows s (FormGives n b1 (form_of b mask)) (elemental [] s mask)
+      goes-at table row_count code n many None leave again to (pc + length (c ++ tail)) b slots (stands table row_count code pc slots rows s.printed) (run_where line mask body others s) long
+      (subst (Goes table row_count code n many None leave again to b slots (stands table row_count code pc slots rows s.printed)) (sym (value-bind line s (elemental [] s mask) (array_value s) does))
+      (goes-value table row_count code n many None leave again line pc pc1 to b b1 slots rows s (FormGives n b1 (form_of b mask)) (elemental [] s mask)
       (λ r. with_value line s (array_value s r) does) (omega arith) le holds
-      (parts-come table code line n s rows s.printed holds.arrays mask pc b slots ok (has-front code pc c tail has) holds.scalars le (omega (arith, few, holds.size)))
+      (parts-come table row_count code line n s rows s.printed holds.arrays mask pc b slots ok (has-front code pc c tail has) holds.scalars le (omega (arith, few, holds.size)))
       (λ slots1 r e same gives holds1. behind slots1 r (gives.0 slots1 (same-refl b1 slots1)) gives.1 holds1)))
     where
       p : Evaluation
-      p = own_evaluation line (form_of b mask) n
+      p = own_evaluation line (form_of b mask)
 
       does : ArrayValue → Run
       does m = then_do (assign_all_where m.extents (mask_of m.elements) body s) (assign_all_where m.extents (negated_mask m.elements) others)
@@ -110,7 +110,7 @@ module _ (table : ArrayTable) (code : List Instruction) (n many leave again : �
       co = masked_code b1 (or_no_sub first, where_true n false) others
 
       tail : List Instruction
-      tail = OwnLimits p ∷ MakeCopy p ∷ ParCopy p ∷ Verdict ∷ (cb ++ co)
+      tail = OwnLimits p ∷ MakeCopy n p ∷ ParCopy n p ∷ Verdict ∷ (cb ++ co)
 
       pc1 : ℕ
       pc1 = pc + length c
@@ -130,10 +130,10 @@ module _ (table : ArrayTable) (code : List Instruction) (n many leave again : �
       at_bodies : HasAt code (pc1 + 4) (cb ++ co)
       at_bodies = has-drop code 4 pc1 tail at_tail
 
-      behind : (slots1 : List ℤ) (r : Elemental) → elemental_in slots1 (form_of b mask) ≡ r → NamesBelow n r → Holds table code n many None s slots1 rows
-          → Goes table code n many None leave again to b1 slots1 (stands table code pc1 slots1 rows s.printed) (with_value line s (array_value s r) does)
+      behind : (slots1 : List ℤ) (r : Elemental) → elemental_in slots1 (form_of b mask) ≡ r → NamesBelow n r → Holds table row_count code n many None s slots1 rows
+          → Goes table row_count code n many None leave again to b1 slots1 (stands table row_count code pc1 slots1 rows s.printed) (with_value line s (array_value s r) does)
       behind slots1 r right named holds1 =
-          subst (Goes table code n many None leave again to b1 slots1 (stands table code pc1 slots1 rows s.printed))
+          subst (Goes table row_count code n many None leave again to b1 slots1 (stands table row_count code pc1 slots1 rows s.printed))
           (sym (value-bind line s (space_size ns (sections r)) (λ k. values_over s ns r k >>= (λ vs. Ok (valued vs))) does))
           (by_limits (space_size ns (sections r)) refl)
         where
@@ -144,63 +144,63 @@ module _ (table : ArrayTable) (code : List Instruction) (n many leave again : �
           valued vs = record { extents = ns; elements = vs }
 
           shape : evaluation_extents p slots1 ≡ ns
-          shape = own-shape n table.shapes s rows holds1.arrays line (form_of b mask) n slots1 r right named
+          shape = own-shape n table.shapes s rows holds1.arrays line (form_of b mask) slots1 r right named
 
           count : ℕ
           count = product ns
 
-          m0 : Place
-          m0 = stands table code (pc1 + 1) slots1 rows s.printed
+          m0 : Place row_count
+          m0 = stands table row_count code (pc1 + 1) slots1 rows s.printed
 
-          at_copy : HasAt code (pc1 + 1) (MakeCopy p ∷ ParCopy p ∷ Verdict ∷ [])
+          at_copy : HasAt code (pc1 + 1) (MakeCopy n p ∷ ParCopy n p ∷ Verdict ∷ [])
           at_copy = (at_tail.1.0, (at_tail.1.1.0, (at_tail.1.1.1.0, tt)))
 
-          bodies : (vs : List ℤ) (rows3 : Storage) → Holds table code n many (Some vs) s slots1 rows3 → Goes table code n many None leave again to b1 slots1
-              (stands table code (pc1 + 4) slots1 rows3 s.printed) (does (valued vs))
+          bodies : (vs : List ℤ) (rows3 : Storage) → Holds table row_count code n many (Some vs) s slots1 rows3 → Goes table row_count code n many None leave again to b1 slots1
+              (stands table row_count code (pc1 + 4) slots1 rows3 s.printed) (does (valued vs))
           bodies vs rows3 holds3 =
               let within : FirstWithin n b1 first = first-within n b b1 mask le (omega arith) in
-              forget (Some vs) to b1 slots1 (stands table code (pc1 + 4) slots1 rows3 s.printed) (does (valued vs))
-              (goes-then-kept table code n many (Some vs) leave again mid to b1 slots1 (stands table code (pc1 + 4) slots1 rows3 s.printed)
+              forget (Some vs) to b1 slots1 (stands table row_count code (pc1 + 4) slots1 rows3 s.printed) (does (valued vs))
+              (goes-then-kept table row_count code n many (Some vs) leave again mid to b1 slots1 (stands table row_count code (pc1 + 4) slots1 rows3 s.printed)
               (assign_all_where ns (mask_of vs) body s) (assign_all_where ns (negated_mask vs) others)
               (masked-go body b1 (pc1 + 4) first true vs ns slots1 rows3 s ok1 (has-front code (pc1 + 4) cb co at_bodies) (omega (arith, le))
               (omega (arith, few)) holds3 within shape)
               (λ slots4 rows4 s4 kept holds4. masked-go others b1 mid first false vs ns slots4 rows4 s4 ok2 (has-back code (pc1 + 4) cb co at_bodies) (omega (arith, le))
               (omega (arith, few)) holds4 within (sym (first-kept n b1 first slots1 slots4 within kept) ∙ shape)))
 
-          by_values : (k : ℕ) → k ≡ count → Goes table code n many None leave again to b1 slots1 m0 (with_value line s (values_over s ns r k >>= (λ vs. Ok (valued vs))) does)
+          by_values : (k : ℕ) → k ≡ count → Goes table row_count code n many None leave again to b1 slots1 m0 (with_value line s (values_over s ns r k >>= (λ vs. Ok (valued vs))) does)
           by_values k e =
-              subst (λ k. Goes table code n many None leave again to b1 slots1 m0 (with_value line s (values_over s ns r k >>= (λ vs. Ok (valued vs))) does)) (sym e)
-              (subst (Goes table code n many None leave again to b1 slots1 m0) (sym (value-bind line s (values_over s ns r count) (λ vs. Ok (valued vs)) does))
-              (copy-goes table code n many leave again sized line b1 (pc1 + 1) to (form_of b mask) p.over (ParCopy p) (evaluation_tuples table.shapes p) refl at_copy slots1 rows
+              subst (λ k. Goes table row_count code n many None leave again to b1 slots1 m0 (with_value line s (values_over s ns r k >>= (λ vs. Ok (valued vs))) does)) (sym e)
+              (subst (Goes table row_count code n many None leave again to b1 slots1 m0) (sym (value-bind line s (values_over s ns r count) (λ vs. Ok (valued vs)) does))
+              (copy-goes table row_count code n many leave again sized line b1 (pc1 + 1) to (form_of b mask) p.over (ParCopy n p) (evaluation_tuples table.shapes p) refl at_copy slots1 rows
               s holds1 ns shape (ap product shape) (positions ns) (λ t. value_at s (positions ns t) r)
-              (λ rows1 arrays u. own-outcome n table.shapes s rows1 arrays line (form_of b mask) n slots1 r right named u) (λ vs. does (valued vs))
+              (λ rows1 arrays u. own-outcome n table.shapes s rows1 arrays line (form_of b mask) slots1 r right named u) (λ vs. does (valued vs))
               (λ vs rows3 holds3. let e : pc1 + 1 + 3 ≡ pc1 + 4 = omega arith in subst
-              (λ at. Goes table code n many None leave again to b1 slots1 (stands table code at slots1 rows3 s.printed) (does (valued vs))) (sym e)
+              (λ at. Goes table row_count code n many None leave again to b1 slots1 (stands table row_count code at slots1 rows3 s.printed) (does (valued vs))) (sym e)
               (bodies vs rows3 holds3))))
 
-          by_limits : (q : Result ℕ Cause) → space_size ns (sections r) ≡ q → Goes table code n many None leave again to b1 slots1 (stands table code pc1 slots1 rows s.printed)
+          by_limits : (q : Result ℕ Cause) → space_size ns (sections r) ≡ q → Goes table row_count code n many None leave again to b1 slots1 (stands table row_count code pc1 slots1 rows s.printed)
               (with_value line s q (λ k. with_value line s (values_over s ns r k >>= (λ vs. Ok (valued vs))) does))
           by_limits (Ok k) e =
-              goes-on table code n many None leave again to b1 b1 slots1 slots1 (stands table code pc1 slots1 rows s.printed) m0
+              goes-on table row_count code n many None leave again to b1 b1 slots1 slots1 (stands table row_count code pc1 slots1 rows s.printed) m0
               (with_value line s (values_over s ns r k >>= (λ vs. Ok (valued vs))) does) (omega arith)
               (λ i. (
                 1,
                 i,
-                one table code pc1 slots1 rows s.printed (OwnLimits p) at_tail.0 i
-                    ∙ ap (λ q. record (stands table code pc1 slots1 rows s.printed i)
+                one table row_count code pc1 slots1 rows s.printed (OwnLimits p) at_tail.0 i
+                    ∙ ap (λ q. record (stands table row_count code pc1 slots1 rows s.printed i)
                     { control = go_on_if {A = ℕ} (at_line line q) (record { at = pc1; slots = slots1; status = Running }) })
-                    (own-limits n table.shapes s rows holds1.arrays line (form_of b mask) n slots1 r right named ∙ e),
+                    (own-limits n table.shapes s rows holds1.arrays line (form_of b mask) slots1 r right named ∙ e),
               ))
-              (kept-refl table code n many None b1 slots1) (by_values k (space-size ns (sections r) k e))
+              (kept-refl table row_count code n many None b1 slots1) (by_values k (space-size ns (sections r) k e))
           by_limits (Err c) e =
               λ i. (
                 _,
                 (
                   1,
-                  one table code pc1 slots1 rows s.printed (OwnLimits p) at_tail.0 i
-                      ∙ ap (λ q. record (stands table code pc1 slots1 rows s.printed i)
+                  one table row_count code pc1 slots1 rows s.printed (OwnLimits p) at_tail.0 i
+                      ∙ ap (λ q. record (stands table row_count code pc1 slots1 rows s.printed i)
                       { control = go_on_if {A = ℕ} (at_line line q) (record { at = pc1; slots = slots1; status = Running }) })
-                      (own-limits n table.shapes s rows holds1.arrays line (form_of b mask) n slots1 r right named ∙ e),
+                      (own-limits n table.shapes s rows holds1.arrays line (form_of b mask) slots1 r right named ∙ e),
                 ),
                 refl,
                 refl,

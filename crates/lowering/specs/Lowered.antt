@@ -21,14 +21,14 @@ pub record IsState (n : ℕ) (s : State) : Type 0 where
   pub scalars : length s.scalars ≡ n
   pub arrays : length s.arrays ≡ n
 
--- the machine before the first instruction: the slots are the scalars and then the hidden slots, and the rows are the arrays and then
--- the copy of a mask. How the rows lie plays no part
-abbrev pub opening : ℕ → Block → State → List Layout → Machine Instruction Fault
-opening n body s layouts = record {
+-- the machine before the first instruction: the slots are the scalars and then the hidden slots, and the rows are the arrays and then so
+-- many copies, which aren't made yet. How the rows lie plays no part
+abbrev pub opening : (n room : ℕ) → Block → State → List Layout → Machine Instruction Fault
+opening n room body s layouts = record {
   code = program_code n body;
   control = record { at = 0; slots = s.scalars ++ replicate (block_slots body) (pos 0); status = Running };
   substep = 0;
-  rows = map (λ a. a.elements) s.arrays ++ [] ∷ [];
+  rows = map (λ a. a.elements) s.arrays ++ replicate room [];
   layouts = layouts;
   kept = None;
   parts = 0;
@@ -40,7 +40,7 @@ opening n body s layouts = record {
 -- the arrays as declared, and copies with a layout that has room for their elements
 pub record IsTable (s : State) (table : ArrayTable) : Type 0 where
   pub shapes : table.shapes ≡ map (λ a. a.dims) s.arrays
-  pub copies : (extents : List ℕ) → size_of (table.copies extents) ≡ product extents
+  pub copies : (layouts : List Layout) (extents : List ℕ) → size_of (table.copies layouts extents) ≡ product extents
 
 -- the slots of the declared names are the scalars, and the rows the arrays, of which there are as many as names
 abbrev pub IsLeft : ℕ → Machine Instruction Fault → State → Type 0

@@ -9,7 +9,7 @@ use Rattle.node_code.specs.Flat.{Int, Slot, Operated, NoFlat, AndFlat}
 use Rattle.node_code.specs.Forms.{Sub, SectionForm}
 use Rattle.node_code.specs.Parallel.{When, Assignment, Evaluation}
 use Rattle.node_code.specs.Instructions.{PrintItem, PrintBytes, PrintNumber, PrintSection, Instruction, Set, Store, TestBounds, Trips, Jump, JumpIfZero, Halt, Limits, OwnLimits, ForallLimits, OneToOne, Par, ParForall, MakeCopy, ParCopy, ParForallCopy, Verdict, Inside, Print}
-use Rattle.lowering.specs.ExpressionCode.{slots_of, all_slots_of, subscripts_slots, parts_slots, flat_of, flats_of, subs_of, form_of, code_of, codes_of, subscripts_code, parts_code, control_slots, control_code, own_evaluation, without_copy, index_flat, index_subs, index_form}
+use Rattle.lowering.specs.ExpressionCode.{slots_of, all_slots_of, subscripts_slots, parts_slots, flat_of, flats_of, subs_of, form_of, code_of, codes_of, subscripts_code, parts_code, control_slots, control_code, own_evaluation, index_flat, index_subs, index_form}
 
 -- ---- PRINT
 
@@ -26,7 +26,7 @@ items_slots (i ∷ is) = item_slots i + items_slots is
 abbrev pub item_code : ℕ → ℕ → Item → List Instruction
 item_code line b (Value t) = code_of line b t
 item_code line b (Elements a subs) =
-    subscripts_code line b subs ++ OwnLimits (without_copy line (SectionForm a (subs_of b subs))) ∷ Inside line a (subs_of b subs) ∷ []
+    subscripts_code line b subs ++ OwnLimits (own_evaluation line (SectionForm a (subs_of b subs))) ∷ Inside line a (subs_of b subs) ∷ []
 item_code line b i = []
 
 abbrev pub items_code : ℕ → ℕ → List Item → List Instruction
@@ -106,10 +106,10 @@ where_true copy value = record { copy = copy; value = value }
 -- the values of the mask into a copy, and then each assignment where they are true, or, behind ELSEWHERE, where they are false
 abbrev pub where_code : ℕ → ℕ → ℕ → Term → List SectionAssignment → List SectionAssignment → List Instruction
 where_code copy line b mask body others =
-    let p : Evaluation = own_evaluation line (form_of b mask) copy in
+    let p : Evaluation = own_evaluation line (form_of b mask) in
     let b1 : ℕ = b + parts_slots mask in
     parts_code line b mask
-    ++ OwnLimits p ∷ MakeCopy p ∷ ParCopy p ∷ Verdict
+    ++ OwnLimits p ∷ MakeCopy copy p ∷ ParCopy copy p ∷ Verdict
     ∷ (masked_code b1 (p.over, where_true copy true) body ++ masked_code b1 (p.over, where_true copy false) others)
 
 -- ---- FORALL
@@ -126,7 +126,7 @@ one_to_one_code over (x ∷ xs) = OneToOne x.line over (map index_flat (list_of 
 abbrev pub forall_mask_code : ℕ → ℕ → List Sub → Option Term → List Instruction
 forall_mask_code copy line over None = []
 forall_mask_code copy line over (Some t) =
-    let p : Evaluation = record { line = line; form = index_form t; over = over; copy = copy } in MakeCopy p ∷ ParForallCopy p ∷ Verdict ∷ []
+    let p : Evaluation = record { line = line; form = index_form t; over = over } in MakeCopy copy p ∷ ParForallCopy copy p ∷ Verdict ∷ []
 
 abbrev pub forall_assignment : List Sub → Option When → ElementAssignment → Assignment
 forall_assignment over mask x = record {
@@ -175,7 +175,11 @@ abbrev mutual
   block_slots Done = 0
   block_slots (Then line s rest) = max (statement_slots s) (block_slots rest)
 
--- `copy` is the row of the copy of a mask, and no statement has two
+-- how many copies the code of a block names: that of a mask, and no statement has two
+abbrev pub block_copies : Block → ℕ
+block_copies body = 1
+
+-- `copy` is the row of the first of the copies
 module _ (copy : ℕ) where
   abbrev mutual
     -- the statement of a line at a place `pc`, with the places where EXIT and CYCLE go. A DO keeps its four slots from its body

@@ -13,6 +13,7 @@
 //!   CYCLE go; or the run ends, finished or with the statement's fault.
 //! - Each parallel statement has a Verdict of its own. The keys of faults ascend with the tuples, so its fault is the first one.
 //! - Targets are places of the whole code. Slots from `b` on are free for a statement; a DO keeps four from its body.
+//! - Rows are the declared names, by their places, and then the copies that the code names: `block_copies` of them.
 #![tactic(auto)]
 
 mod lowered;

@@ -1,11 +1,11 @@
 //! Programs as node code.
 
-ghost use Rattle.std.specs.Prelude.{◌≤◌, ℕ, List, length};
+ghost use Rattle.std.specs.Prelude.{◌≡◌, ◌<◌, ◌≤◌, ◌+◌, ℕ, List, length};
 ghost use Rattle.syntax_tree.specs.Statement as syntax;
 ghost use Rattle.name_table.specs.declared.names.Entry.{Entry};
 ghost use Rattle.hpf_base.specs.declared.index.Shape.{Shape};
 ghost use Rattle.machine_steps.specs.Agrees.{IsValidCode};
-ghost use Rattle.lowering.specs.StatementCode.{program_code};
+ghost use Rattle.lowering.specs.StatementCode.{block_copies, program_code};
 ghost use Rattle.array_meaning.specs.Resolution.{resolved_block, initial_state};
 ghost use Rattle.array_meaning.specs.Serial.{outcome};
 ghost use Rattle.array_meaning.specs.Execution.{run_block};
@@ -13,29 +13,31 @@ ghost use Rattle.array_meaning.specs.State.{State};
 ghost use Rattle.array_meaning.specs.Statements.{Block};
 ghost use Rattle.lowering.specs.Lowered.{IsState, IsTable, opening, MachineEnds, MachineHas};
 ghost use Rattle.lowering.specs.WellFormed.{IsWellFormedBlock};
-ghost use Rattle.machine_steps.specs.Layout.{IsDealt, Layout};
+ghost use Rattle.machine_steps.specs.Layout.{AreOwned, IsDealt, Layout};
 ghost use Rattle.node_code.specs.Instructions.{ArrayTable, meaning_of};
 
 /// The machine with whole arrays ends over a program's code as the program does: with the first fault, its line, kind and tuple, and
-/// the bytes that were printed before it, or finished with the program's bytes, scalars and arrays.
+/// the bytes that were printed before it, or finished with the program's bytes, scalars and arrays. Behind the declared names there is
+/// room for as many copies as the code names, or more.
 pub fn programs_lowered()
-    ensures { (n : ℕ) (table : ArrayTable) (body : Block) (s : State) (layouts : List Layout)
-        → IsState n s → IsTable s table → IsWellFormedBlock n body
-        → MachineEnds n table (opening n body s layouts) (run_block body s) }
+    ensures { (n room : ℕ) (table : ArrayTable) (body : Block) (s : State) (layouts : List Layout)
+        → IsState n s → IsTable s table → block_copies body ≤ room → length layouts ≡ n + room → IsWellFormedBlock n body
+        → MachineEnds n table (opening n room body s layouts) (run_block body s) }
 {}
 
 /// The same of the serial outcome of a program, where these names are declared.
 pub fn outcomes_lowered()
-    ensures { (names : List Entry) (body : syntax.Block) (table : ArrayTable) (layouts : List Layout)
-        → IsTable (initial_state names) table → IsWellFormedBlock (length names) (resolved_block names body)
+    ensures { (names : List Entry) (room : ℕ) (body : syntax.Block) (table : ArrayTable) (layouts : List Layout)
+        → IsTable (initial_state names) table → block_copies (resolved_block names body) ≤ room → length layouts ≡ length names + room
+        → IsWellFormedBlock (length names) (resolved_block names body)
         → MachineHas (length names) table
-        (opening (length names) (resolved_block names body) (initial_state names) layouts) (outcome names body) }
+        (opening (length names) room (resolved_block names body) (initial_state names) layouts) (outcome names body) }
 {}
 
 /// Every instruction of a program's code is one that so many nodes can run: no copy is a declared array, each of its elements has an
 /// owner, and the values of reductions are joined alike in any order and grouping.
 pub fn code_is_valid()
     ensures { (count n : ℕ) (shapes : List Shape) (table : ArrayTable) (body : Block)
-        → length shapes ≤ n → ((extents : List ℕ) → IsDealt count (table.copies extents))
+        → length shapes ≤ n → ((layouts : List Layout) → AreOwned count layouts → (extents : List ℕ) → IsDealt count (table.copies layouts extents))
         → IsWellFormedBlock n body → IsValidCode (meaning_of table) count shapes (program_code n body) }
 {}

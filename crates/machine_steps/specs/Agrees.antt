@@ -92,10 +92,11 @@ AreCovered count new rounds layouts =
     → (k : ℕ) × (k < rounds.many layouts) × (rounds.in_round layouts k p q ≡ true)
 
 -- an instruction of a run of so many nodes, over declared arrays of these shapes. A copy is no declared array, and its layout gives
--- each of its elements an owner, whatever the slots
+-- each of its elements an owner, however these lie and whatever the slots
 abbrev pub IsValidInstr : {F : Type 0} → ℕ → List Shape → Instr F → Type 0
 IsValidInstr count shapes (Reduce tuples f slot) = IsFold f
-IsValidInstr count shapes (MakeCopy copy layout start) = (length shapes ≤ copy) × ((slots : List ℤ) → IsDealt count (layout slots))
+IsValidInstr count shapes (MakeCopy copy layout start) = (length shapes ≤ copy) × ((layouts : List Layout) → AreDeclared shapes layouts → AreOwned count layouts
+    → (slots : List ℤ) → IsDealt count (layout layouts slots))
 IsValidInstr count shapes (FoldCopy copy f slot) = IsFold f
 IsValidInstr count shapes (LastCopy copy set alike slot) = (one other : Layout) → alike one other ≡ true → one ≡ other
 IsValidInstr count shapes (Remap new rounds) = AreDealt count shapes new × ((layouts : List Layout) → AreDeclared shapes layouts → AreOwned count layouts

@@ -63,8 +63,8 @@ pub data Instr (F : Type 0) : Type 0 where
   Verdict : Instr F
   -- values are taken and faults are kept; then the first of these ends the run; then the slot gets the values joined
   Reduce : Tuples F → Fold → (slot : ℕ) → Instr F
-  -- a copy with this layout, each element with the value at the start
-  MakeCopy : (copy : ℕ) → (layout : List ℤ → Layout) → (start : List ℤ → ℤ) → Instr F
+  -- a copy with this layout, by the layouts of all rows now and the slots, each element with the value at the start
+  MakeCopy : (copy : ℕ) → (layout : List Layout → List ℤ → Layout) → (start : List ℤ → ℤ) → Instr F
   -- the slot is joined with the elements of a copy, joined
   FoldCopy : (copy : ℕ) → Fold → (slot : ℕ) → Instr F
   -- the slot gets the element of a copy at the last position where the other copy isn't 0. It stays where there is none, or where

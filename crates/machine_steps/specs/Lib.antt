@@ -1,8 +1,11 @@
 pub mod Agrees
+pub mod CopyLayout
 pub mod Instr
 pub mod Layout
 pub mod Machine
 pub mod Message
 pub mod Node
 pub mod Parted
+pub mod Rounds
+pub mod SameLayouts
 pub mod Tree

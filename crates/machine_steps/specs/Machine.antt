@@ -225,8 +225,8 @@ module _ {C F : Type 0} where
   step_by (MakeCopy copy layout start) m = record m {
     control = on m.control;
     substep = 0;
-    rows = slice_set m.rows copy (replicate (size_of (layout m.control.slots)) (start m.control.slots));
-    layouts = slice_set m.layouts copy (layout m.control.slots);
+    rows = slice_set m.rows copy (replicate (size_of (layout m.layouts m.control.slots)) (start m.control.slots));
+    layouts = slice_set m.layouts copy (layout m.layouts m.control.slots);
   }
   step_by (FoldCopy copy f slot) m = record m {
     control = set_slot m.control slot (f.join (slot_of m.control slot) (fold f.join f.unit (row_of m.rows copy)));

@@ -390,8 +390,8 @@ module _ {C F : Type 0} (faults : FaultValues F) (count : ℕ) where
   begun_by (MakeCopy copy layout start) a = record a {
     control = on a.control;
     substep = 0;
-    pieces = slice_set a.pieces copy (piece (owned_by (layout a.control.slots)) a.id (replicate (size_of (layout a.control.slots)) (start a.control.slots)));
-    layouts = slice_set a.layouts copy (layout a.control.slots);
+    pieces = slice_set a.pieces copy (piece (owned_by (layout a.layouts a.control.slots)) a.id (replicate (size_of (layout a.layouts a.control.slots)) (start a.control.slots)));
+    layouts = slice_set a.layouts copy (layout a.layouts a.control.slots);
   }
   begun_by (FoldCopy copy f slot) a = tree_begun count (fold_ended count f slot) (option_values (own_fold count copy f a)) a
   begun_by (LastCopy copy set alike slot) a = tree_begun count (last_ended count slot) (positioned_values (own_last count copy set alike a)) a

@@ -57,7 +57,7 @@ fn read_instruction(
 
 fn read_remap(moves: &mut VecDeque<Vec<NewMapping>>) -> Result<Instruction, Trouble> {
     match moves.pop_front() {
-        Some(new) => Ok(Instruction::Remap(new)),
+        Some(new) => Ok(Instruction::Remap { line: 0, new }),
         None => Err(Trouble::Malformed),
     }
 }
@@ -206,10 +206,22 @@ fn read_parallel(
         "limits" => Ok(Instruction::Limits(read_assignment(alloc, number, line)?)),
         "par" => Ok(Instruction::Par(read_assignment(alloc, number, line)?)),
         "forall" => Ok(Instruction::ParForall(read_assignment(alloc, number, line)?)),
-        "ownlimits" => Ok(Instruction::OwnLimits(read_copy(alloc, number, line)?)),
-        "makecopy" => Ok(Instruction::MakeCopy(read_copy(alloc, number, line)?)),
-        "parcopy" => Ok(Instruction::ParCopy(read_copy(alloc, number, line)?)),
-        "forallcopy" => Ok(Instruction::ParForallCopy(read_copy(alloc, number, line)?)),
+        "ownlimits" => {
+            let (_copy, evaluation) = read_copy(alloc, number, line)?;
+            Ok(Instruction::OwnLimits(evaluation))
+        }
+        "makecopy" => {
+            let (copy, evaluation) = read_copy(alloc, number, line)?;
+            Ok(Instruction::MakeCopy { copy, evaluation })
+        }
+        "parcopy" => {
+            let (copy, evaluation) = read_copy(alloc, number, line)?;
+            Ok(Instruction::ParCopy { copy, evaluation })
+        }
+        "forallcopy" => {
+            let (copy, evaluation) = read_copy(alloc, number, line)?;
+            Ok(Instruction::ParForallCopy { copy, evaluation })
+        }
         "reduce" => read_reduce(alloc, number, line),
         "foralllimits" => read_forall_limits(alloc, number, line),
         "onetoone" => read_one_to_one(alloc, number, line),
@@ -248,26 +260,25 @@ fn read_when(line: &mut Line<'_>, value: bool) -> Result<Option<When>, Trouble> 
     Ok(Some(When { copy, value }))
 }
 
-fn read_evaluation(
-    alloc: Global,
-    number: u32,
-    copy: usize,
-    line: &mut Line<'_>,
-) -> Result<Evaluation, Trouble> {
+fn read_evaluation(alloc: Global, number: u32, line: &mut Line<'_>) -> Result<Evaluation, Trouble> {
     let form = read_form(alloc, line)?;
     read_word(line, "over")?;
     Ok(Evaluation {
         line: number,
         form,
         over: read_subs(alloc, line)?,
-        copy,
     })
 }
 
-fn read_copy(alloc: Global, number: u32, line: &mut Line<'_>) -> Result<Evaluation, Trouble> {
+/// A copy and the array expression for it.
+fn read_copy(
+    alloc: Global,
+    number: u32,
+    line: &mut Line<'_>,
+) -> Result<(usize, Evaluation), Trouble> {
     let copy = read_row(line)?;
     read_word(line, "=")?;
-    read_evaluation(alloc, number, copy, line)
+    Ok((copy, read_evaluation(alloc, number, line)?))
 }
 
 fn read_reduce(alloc: Global, number: u32, line: &mut Line<'_>) -> Result<Instruction, Trouble> {
@@ -275,7 +286,7 @@ fn read_reduce(alloc: Global, number: u32, line: &mut Line<'_>) -> Result<Instru
     read_word(line, "=")?;
     let op = reduction(line.word())?;
     Ok(Instruction::Reduce {
-        evaluation: read_evaluation(alloc, number, 0, line)?,
+        evaluation: read_evaluation(alloc, number, line)?,
         op,
         slot,
     })

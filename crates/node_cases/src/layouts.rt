@@ -34,12 +34,15 @@ pub fn owners_of(
     Ok(owners)
 }
 
-/// The new mappings of each REDISTRIBUTE, in the order of the text.
-pub fn moves_of(
-    alloc: Global,
-    maps: &Maps,
-    nodes: u32,
-) -> Result<VecDeque<Vec<NewMapping>>, OutOfMemory>
+/// The new mappings of each REDISTRIBUTE, in the order of the text, and the tables of these mappings, by their numbers.
+#[derive(Drop)]
+pub struct Moves {
+    pub moves: VecDeque<Vec<NewMapping>>,
+    pub tables: Vec<OwnerTable>,
+}
+
+/// Those of the text. Mappings are numbered in its order.
+pub fn moves_of(alloc: Global, maps: &Maps, nodes: u32) -> Result<Moves, OutOfMemory>
     requires some { 1 ≤ nodes }
     requires few { nodes ≤ MAX_NODES }
     requires valid { AreMaps nodes maps.now }
@@ -47,31 +50,28 @@ pub fn moves_of(
     all_moves(alloc, maps, maps.moves.as_slice(), nodes)
 }
 
-/// The same of each of these.
-fn all_moves(
-    alloc: Global,
-    maps: &Maps,
-    all: &[NewMaps],
-    nodes: u32,
-) -> Result<VecDeque<Vec<NewMapping>>, OutOfMemory>
+/// Those of these redistributions.
+fn all_moves(alloc: Global, maps: &Maps, all: &[NewMaps], nodes: u32) -> Result<Moves, OutOfMemory>
     requires some { 1 ≤ nodes }
     requires few { nodes ≤ MAX_NODES }
     requires maps { AreMaps nodes maps.now }
     requires all { All (AreNewMaps nodes maps.now.arrays) all.now }
 {
     let mut moves = VecDeque::new(alloc);
+    let mut tables = Vec::new(alloc);
     for new in all {
-        moves.push_back(new_mappings(alloc, maps, new, nodes)?)?;
+        moves.push_back(new_mappings(alloc, maps, new, nodes, &mut tables)?)?;
     }
-    Ok(moves)
+    Ok(Moves { moves, tables })
 }
 
-/// The new mappings of one REDISTRIBUTE.
+/// The new mappings of one REDISTRIBUTE, whose tables come behind the others.
 fn new_mappings(
     alloc: Global,
     maps: &Maps,
     new: &NewMaps,
     nodes: u32,
+    tables: &mut Vec<OwnerTable>,
 ) -> Result<Vec<NewMapping>, OutOfMemory>
     requires some { 1 ≤ nodes }
     requires few { nodes ≤ MAX_NODES }
@@ -80,25 +80,29 @@ fn new_mappings(
 {
     let mut mappings = Vec::new(alloc);
     for map in new.as_slice() {
-        mappings.push(new_mapping(alloc, maps.arrays.as_slice(), map, nodes)?)?;
+        let table = new_table(alloc, maps.arrays.as_slice(), map, nodes)?;
+        mappings.push(NewMapping {
+            array: map.array.0 as usize,
+            map: tables.len(),
+        })?;
+        tables.push(table)?;
     }
     Ok(mappings)
 }
 
-fn new_mapping(
+/// The table of an array with its new mapping.
+fn new_table(
     alloc: Global,
     arrays: &[ArrayMap],
     new: &NewMap,
     nodes: u32,
-) -> Result<NewMapping, OutOfMemory>
+) -> Result<OwnerTable, OutOfMemory>
     requires some { 1 ≤ nodes }
     requires few { nodes ≤ MAX_NODES }
     requires arrays { All (IsArrayMap nodes) arrays.now }
     requires new { IsNewMap nodes arrays.now new.now }
 {
-    let array = new.array.0 as usize;
-    let table = table(alloc, &arrays[array].shape, &new.map, nodes)?;
-    Ok(NewMapping { array, table })
+    table(alloc, &arrays[new.array.0 as usize].shape, &new.map, nodes)
 }
 
 /// The table of an array of this shape with this mapping.

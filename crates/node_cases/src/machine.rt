@@ -147,9 +147,9 @@ fn step(m: &mut Machine, i: &Instruction) -> Result<(), Trouble> {
     match i {
         Instruction::Par(p) => par(m, p, false),
         Instruction::ParForall(p) => par(m, p, true),
-        Instruction::MakeCopy(p) => make_copy(m, p),
-        Instruction::ParCopy(p) => par_copy(m, p, false),
-        Instruction::ParForallCopy(p) => par_copy(m, p, true),
+        Instruction::MakeCopy { copy, evaluation } => make_copy(m, *copy, evaluation),
+        Instruction::ParCopy { copy, evaluation } => par_copy(m, *copy, evaluation, false),
+        Instruction::ParForallCopy { copy, evaluation } => par_copy(m, *copy, evaluation, true),
         Instruction::Verdict => {
             if verdict(m) {
                 m.go_on();
@@ -170,7 +170,7 @@ fn step(m: &mut Machine, i: &Instruction) -> Result<(), Trouble> {
             last_value(m, *copy, *set, *slot);
             Ok(())
         }
-        Instruction::Remap(_) => {
+        Instruction::Remap { .. } => {
             m.go_on();
             Ok(())
         }

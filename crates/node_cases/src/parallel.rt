@@ -145,14 +145,19 @@ pub fn verdict(m: &mut Machine) -> bool {
 }
 
 /// The values of an array expression, into a copy.
-pub fn par_copy(m: &mut Machine, p: &Evaluation, is_forall: bool) -> Result<(), Trouble> {
+pub fn par_copy(
+    m: &mut Machine,
+    copy: usize,
+    p: &Evaluation,
+    is_forall: bool,
+) -> Result<(), Trouble> {
     let space = Space::new(m, &p.over, is_forall)?;
     let mut stores: Vec<Stored> = Vec::new(m.alloc);
     for number in 0..space.size() {
         let entries = space.tuple(m, number)?;
         match form(m, space.seen(&entries), &p.form) {
             Ok(value) => stores.push(Stored {
-                row: p.copy,
+                row: copy,
                 place: number,
                 value,
             })?,
@@ -164,12 +169,12 @@ pub fn par_copy(m: &mut Machine, p: &Evaluation, is_forall: bool) -> Result<(), 
 }
 
 /// A copy of the extents of a space, with 0 everywhere.
-pub fn make_copy(m: &mut Machine, p: &Evaluation) -> Result<(), Trouble> {
+pub fn make_copy(m: &mut Machine, copy: usize, p: &Evaluation) -> Result<(), Trouble> {
     let space = Space::new(m, &p.over, false)?;
     let size = space.size();
-    if p.copy < m.rows.len() && p.copy < m.extents.len() {
-        m.rows[p.copy] = vec![in m.alloc; 0; size]?;
-        m.extents[p.copy] = space.extents;
+    if copy < m.rows.len() && copy < m.extents.len() {
+        m.rows[copy] = vec![in m.alloc; 0; size]?;
+        m.extents[copy] = space.extents;
     }
     m.go_on();
     Ok(())

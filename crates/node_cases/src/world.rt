@@ -3,7 +3,7 @@
 use crate::case::Case;
 use crate::declared::{Declared, grid_of, read_declared, shapes_of, starts_of};
 use crate::instructions::read_code;
-use crate::layouts::{moves_of, owners_of};
+use crate::layouts::{Moves, moves_of, owners_of};
 use crate::trouble::Trouble;
 use node_machine::NodeProgram;
 use owner_tables::Owners;
@@ -28,13 +28,15 @@ impl World {
             maps,
             nodes,
         } = read_declared(alloc, case.text.as_str(), &grid)?;
-        let mut moves = moves_of(alloc, &maps, nodes)?;
+        let Moves { moves, tables } = moves_of(alloc, &maps, nodes)?;
+        let mut moves = moves;
         let owners = owners_of(alloc, maps.arrays.as_slice(), case.copies, nodes)?;
         let code = read_code(alloc, &case.code, &mut moves)?;
         let shapes = shapes_of(alloc, &program)?;
         let text = NodeProgram {
             nodes,
             shapes,
+            tables,
             code,
         };
         Ok(World {

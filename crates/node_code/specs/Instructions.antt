@@ -1,5 +1,5 @@
 -- The instructions of node code, and what each does on the machine with whole arrays.
-use Rattle.std.specs.Prelude.{ℕ, zero, suc, ◌+◌, List, [], ◌∷◌, ◌++◌, drop, slice_set, ℤ, pos, Bool, true, false, Option, Result, Ok, Err, if◌then◌else◌}
+use Rattle.std.specs.Prelude.{ℕ, zero, suc, ◌+◌, List, [], ◌∷◌, ◌++◌, drop, slice_get, slice_set, ℤ, pos, Bool, true, false, Option, Some, None, Result, Ok, Err, if◌then◌else◌}
 use Rattle.std.specs.Fmt.{signed_decimal}
 use Rattle.hpf_base.specs.ElementOrder.{product}
 use Rattle.op_tables.specs.declared.op.Op.{Op}
@@ -14,11 +14,12 @@ use Rattle.array_meaning.specs.declared.sections.Selection.{Selection}
 use Rattle.array_meaning.specs.Sections.{sequence, extents, subscripts_at, positions}
 use Rattle.array_meaning.specs.Elementals.{each}
 use Rattle.array_meaning.specs.Execution.{decimals}
+use Rattle.mappings.specs.declared.mapping.Mapping.{Mapping}
 use Rattle.machine_steps.specs.Layout.{Layout}
 use Rattle.machine_steps.specs.Instr as machine
 use Rattle.machine_steps.specs.Instr.{Instr, Local, Control, Remapping, Rounds}
 use Rattle.machine_steps.specs.Machine.{on, faulted, set_slot}
-use Rattle.owner_tables.specs.SameLayouts.{is_same_layout}
+use Rattle.machine_steps.specs.SameLayouts.{is_same_layout}
 use Rattle.node_code.specs.Flat.{Flat, Flats, slot, flat_value, flat_values, slots_value}
 use Rattle.node_code.specs.Forms.{Sub, selections_in}
 use Rattle.node_code.specs.Parallel.{at_line, shape_of, spot_of, Assignment, assignment_size, assignment_tuples, assigned_spot, Evaluation, evaluation_extents, evaluation_size, evaluation_tuples, reduction_tuples, fold_of, copy_spot, forall_tuples, forall_spot, forall_mask_tuples}
@@ -29,6 +30,11 @@ pub data PrintItem : Type 0 where
   PrintBytes : List ℕ → PrintItem
   PrintNumber : Flat → PrintItem
   PrintSection : (array : ℕ) → List Sub → PrintItem
+
+-- an array, by the place of its name, gets the program's mapping of this number
+pub record NewMapping : Type 0 where
+  pub array : ℕ
+  pub map : ℕ
 
 pub data Instruction : Type 0 where
   -- a slot gets a value, or there is a fault
@@ -58,10 +64,11 @@ pub data Instruction : Type 0 where
   -- an assignment at the tuples of its space, and one of a FORALL
   Par : Assignment → Instruction
   ParForall : Assignment → Instruction
-  -- a copy of the extents of an array expression, with 0 everywhere, and its values into the copy; also those of a FORALL's mask
-  MakeCopy : Evaluation → Instruction
-  ParCopy : Evaluation → Instruction
-  ParForallCopy : Evaluation → Instruction
+  -- a copy, by its row, of the extents of an array expression, with 0 everywhere, and its values into the copy; also those of a FORALL's
+  -- mask
+  MakeCopy : (copy : ℕ) → Evaluation → Instruction
+  ParCopy : (copy : ℕ) → Evaluation → Instruction
+  ParForallCopy : (copy : ℕ) → Evaluation → Instruction
   -- the run ends with the kept fault of the least key, if there is one
   Verdict : Instruction
   -- a slot gets a reduction of an array expression, or the run ends with the first fault of its tuples
@@ -74,8 +81,8 @@ pub data Instruction : Type 0 where
   FoldCopy : (copy : ℕ) → Op → (slot : ℕ) → Instruction
   -- a slot gets the element of a copy at the last position where the copy `set` isn't 0, if there is one and the two lie alike
   LastCopy : (copy set slot : ℕ) → Instruction
-  -- arrays get new mappings (HPF 2.0, 8.3)
-  Remap : List Remapping → Instruction
+  -- arrays get new mappings, one after another (HPF 2.0, 8.3)
+  Remap : (line : ℕ) → List NewMapping → Instruction
 
 abbrev pub spot_in : ℕ → List Dim → List ℤ → Result Spot Cause
 spot_in a dims subscripts = if_in_bounds (element_place dims subscripts) >>= (λ k. Ok (record { row = a; at = k }))
@@ -131,13 +138,26 @@ module _ (shapes : List (List Dim)) where
   items_of [] = []
   items_of (i ∷ is) = item_of i ∷ items_of is
 
+-- ---- new mappings
+
+-- a mapping where its number has one
+abbrev pub remapping_by : ℕ → Option Mapping → List Remapping → List Remapping
+remapping_by row None rest = rest
+remapping_by row (Some mapping) rest = record { row = row; mapping = mapping } ∷ rest
+
+-- new mappings, by the mappings of the program
+abbrev pub remappings : List Mapping → List NewMapping → List Remapping
+remappings maps [] = []
+remappings maps (first ∷ new) = remapping_by first.array (slice_get maps first.map) (remappings maps new)
+
 -- ---- all instructions
 
--- what instructions know of arrays: the dimensions of those that are declared, by the places of their names, the layout of a copy of
--- these extents, and the rounds in which arrays get new mappings
+-- what instructions know of arrays: the dimensions of those that are declared, by the places of their names, the program's mappings by
+-- their numbers, the layout of a copy of these extents by the layouts of all rows now, and the rounds in which arrays get new mappings
 pub record ArrayTable : Type 0 where
   pub shapes : List (List Dim)
-  pub copies : List ℕ → Layout
+  pub maps : List Mapping
+  pub copies : List Layout → (extents : List ℕ) → Layout
   pub rounds : List Remapping → Rounds
 
 abbrev pub meaning_of : ArrayTable → Instruction → Instr Fault
@@ -157,13 +177,13 @@ meaning_of table (ForallLimits line over subscripts) = Local (λ c. go_on_if (at
 meaning_of table (OneToOne line over left) = Local (λ c. go_on_if (at_line line (one_to_one over left c.slots)) c)
 meaning_of table (Par p) = machine.Par (assignment_tuples table.shapes p) (assigned_spot table.shapes p)
 meaning_of table (ParForall p) = machine.Par (forall_tuples table.shapes p) (forall_spot table.shapes p)
-meaning_of table (MakeCopy p) = machine.MakeCopy p.copy (λ slots. table.copies (evaluation_extents p slots)) (λ slots. pos 0)
-meaning_of table (ParCopy p) = machine.Par (evaluation_tuples table.shapes p) (copy_spot p.copy)
-meaning_of table (ParForallCopy p) = machine.Par (forall_mask_tuples table.shapes p) (copy_spot p.copy)
+meaning_of table (MakeCopy copy p) = machine.MakeCopy copy (λ layouts slots. table.copies layouts (evaluation_extents p slots)) (λ slots. pos 0)
+meaning_of table (ParCopy copy p) = machine.Par (evaluation_tuples table.shapes p) (copy_spot copy)
+meaning_of table (ParForallCopy copy p) = machine.Par (forall_mask_tuples table.shapes p) (copy_spot copy)
 meaning_of table Verdict = machine.Verdict
 meaning_of table (Reduce p o x) = machine.Reduce (reduction_tuples table.shapes p o) (fold_of o) x
 meaning_of table (Inside line a subs) = Local (λ c. go_on_if (at_line line (all_inside table.shapes a (selections_in c.slots subs))) c)
 meaning_of table (Print items) = machine.Print (items_of table.shapes items) (λ bytes. drop 1 bytes ++ 10 ∷ [])
 meaning_of table (FoldCopy copy o x) = machine.FoldCopy copy (fold_of o) x
 meaning_of table (LastCopy copy set x) = machine.LastCopy copy set is_same_layout x
-meaning_of table (Remap new) = machine.Remap new (table.rounds new)
+meaning_of table (Remap line new) = machine.Remap (remappings table.maps new) (table.rounds (remappings table.maps new))

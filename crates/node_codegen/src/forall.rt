@@ -97,11 +97,17 @@ fn forall_mask_code(
     match mask {
         None => Ok(Vec::new(alloc)),
         Some(t) => {
-            let made = mask_evaluation(alloc, copy, line, b, controls, t)?;
-            let stored = mask_evaluation(alloc, copy, line, b, controls, t)?;
+            let made = mask_evaluation(alloc, line, b, controls, t)?;
+            let stored = mask_evaluation(alloc, line, b, controls, t)?;
             Ok(vec![in alloc;
-                Instruction::MakeCopy(made),
-                Instruction::ParForallCopy(stored),
+                Instruction::MakeCopy {
+                    copy,
+                    evaluation: made,
+                },
+                Instruction::ParForallCopy {
+                    copy,
+                    evaluation: stored,
+                },
                 Instruction::Verdict,
             ]?)
         }
@@ -111,22 +117,16 @@ fn forall_mask_code(
 /// The mask over the space of the indices.
 fn mask_evaluation(
     alloc: Global,
-    copy: usize,
     line: u32,
     b: usize,
     controls: &[Control],
     mask: &Term,
 ) -> Result<Evaluation, OutOfMemory>
-    ensures { IfOk result (λ e. text.evaluation e ≡ record { line = line; form = index_form (term mask.now); over = subs_of b (triplets (map control controls.now)); copy = copy }) }
+    ensures { IfOk result (λ e. text.evaluation e ≡ record { line = line; form = index_form (term mask.now); over = subs_of b (triplets (map control controls.now)) }) }
 {
     let form = index_form(alloc, mask)?;
     let over = header_subs(alloc, b, controls)?;
-    Ok(Evaluation {
-        line,
-        form,
-        over,
-        copy,
-    })
+    Ok(Evaluation { line, form, over })
 }
 
 /// Where the assignments are done: where the mask is true, if there is one.

@@ -5,7 +5,7 @@ ghost use Rattle.node_code.specs.Instructions.{Print};
 ghost use Rattle.node_code.specs.Texts as text;
 ghost use Rattle.node_code.specs.Texts.{instructions};
 ghost use Rattle.resolved_program.specs.Resolved.{item, subscripts_of};
-ghost use Rattle.lowering.specs.ExpressionCode.{subs_of, subscripts_code, without_copy};
+ghost use Rattle.lowering.specs.ExpressionCode.{subs_of, subscripts_code, own_evaluation};
 ghost use Rattle.node_code.specs.Forms.{SectionForm};
 ghost use Rattle.array_meaning.specs.Statements.{Elements};
 ghost use Rattle.lowering.specs.StatementCode as definition;
@@ -114,16 +114,11 @@ fn section(
     array: usize,
     subscripts: &[SectionSubscript],
 ) -> Result<Evaluation, OutOfMemory>
-    ensures { IfOk result (λ e. text.evaluation e ≡ without_copy line (SectionForm array (subs_of b (subscripts_of subscripts.now)))) }
+    ensures { IfOk result (λ e. text.evaluation e ≡ own_evaluation line (SectionForm array (subs_of b (subscripts_of subscripts.now)))) }
 {
     let form = Form::Section(array, subs_of(alloc, b, subscripts)?);
     let over = subs_of(alloc, b, subscripts)?;
-    Ok(Evaluation {
-        line,
-        form,
-        over,
-        copy: 0,
-    })
+    Ok(Evaluation { line, form, over })
 }
 
 /// An item that is printed, behind the code of all.

@@ -3,7 +3,7 @@
 ghost use Rattle.std.specs.Prelude.{◌≡◌, IfOk};
 ghost use Rattle.node_code.specs.Texts.{instructions};
 ghost use Rattle.resolved_program.specs.Resolved.{block_of};
-ghost use Rattle.lowering.specs.StatementCode.{block_slots, program_code};
+ghost use Rattle.lowering.specs.StatementCode.{block_copies, block_slots, program_code};
 
 use crate::sequences::with_last;
 use crate::slots::block_slots;
@@ -17,11 +17,12 @@ use std::alloc::Global;
 /// The node code of a program.
 #[derive(Drop)]
 pub struct Code {
-    /// The instructions, from place 0 on. The slots of the declared names stand first, in their order, and the row behind those of the
-    /// declared names is the copy of masks.
+    /// The instructions, from place 0 on. The slots of the declared names stand first, in their order, and so do their rows.
     pub instructions: Vec<Instruction>,
     /// How many slots it takes behind those of the declared names.
     pub hidden: usize,
+    /// How many copies it names, whose rows stand behind those of the declared names.
+    pub copies: usize,
 }
 
 /// The node code of a plan with so many declared names: what `lowering` gives for the block that the plan stands for. It takes memory; an
@@ -29,17 +30,23 @@ pub struct Code {
 pub fn compile(alloc: Global, names: usize, plan: &ResolvedProgram) -> Result<Code, OutOfMemory>
     ensures code { IfOk result (λ c. instructions c.instructions.items ≡ program_code names (block_of plan.now.body.items)) }
     ensures hidden { IfOk result (λ c. c.hidden ≡ block_slots (block_of plan.now.body.items)) }
+    ensures copies { IfOk result (λ c. c.copies ≡ block_copies (block_of plan.now.body.items)) }
 {
     let hidden = block_slots(&plan.body)?;
     let instructions = program_code(alloc, names, plan)?;
     Ok(Code {
         instructions,
         hidden,
+        copies: 1,
     })
 }
 
 /// Its instructions. An EXIT or CYCLE outside of loops goes to the Halt at place 1.
-fn program_code(alloc: Global, names: usize, plan: &ResolvedProgram) -> Result<Vec<Instruction>, OutOfMemory>
+fn program_code(
+    alloc: Global,
+    names: usize,
+    plan: &ResolvedProgram,
+) -> Result<Vec<Instruction>, OutOfMemory>
     ensures { IfOk result (λ v. instructions v.items ≡ program_code names (block_of plan.now.body.items)) }
 {
     let mut code = Vec::new(alloc);

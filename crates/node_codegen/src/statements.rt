@@ -21,7 +21,7 @@ use resolved_program::{Action, Arm, Statement};
 use std::alloc::Global;
 
 /// The code of statements, one behind the other, from the place `pc` on, with slots from `b` on, and with the places where EXIT and
-/// CYCLE go; `copy` is the row of the copy of a mask.
+/// CYCLE go; `copy` is the row of the first of the copies.
 #[cycle(code)]
 pub(crate) fn block_code(
     alloc: Global,

@@ -58,18 +58,24 @@ fn mask_code(
     mask: &Term,
 ) -> Result<Vec<Instruction>, OutOfMemory>
     ensures { IfOk result (λ v. instructions v.items ≡ parts_code line b (term mask.now)
-        ++ OwnLimits (own_evaluation line (form_of b (term mask.now)) copy)
-        ∷ MakeCopy (own_evaluation line (form_of b (term mask.now)) copy)
-        ∷ ParCopy (own_evaluation line (form_of b (term mask.now)) copy)
+        ++ OwnLimits (own_evaluation line (form_of b (term mask.now)))
+        ∷ MakeCopy copy (own_evaluation line (form_of b (term mask.now)))
+        ∷ ParCopy copy (own_evaluation line (form_of b (term mask.now)))
         ∷ Verdict ∷ []) }
 {
-    let limits = own_evaluation(alloc, line, b, mask, copy)?;
-    let made = own_evaluation(alloc, line, b, mask, copy)?;
-    let stored = own_evaluation(alloc, line, b, mask, copy)?;
+    let limits = own_evaluation(alloc, line, b, mask)?;
+    let made = own_evaluation(alloc, line, b, mask)?;
+    let stored = own_evaluation(alloc, line, b, mask)?;
     let mut code = parts_code(alloc, line, b, mask)?;
     code.push(Instruction::OwnLimits(limits))?;
-    code.push(Instruction::MakeCopy(made))?;
-    code.push(Instruction::ParCopy(stored))?;
+    code.push(Instruction::MakeCopy {
+        copy,
+        evaluation: made,
+    })?;
+    code.push(Instruction::ParCopy {
+        copy,
+        evaluation: stored,
+    })?;
     code.push(Instruction::Verdict)?;
     Ok(code)
 }

@@ -1,6 +1,9 @@
 -- The steps of a redistribution.
-use Rattle.std.proofs.Common.{◌≡◌, ℕ, ℤ, zero, suc, ◌+◌, true, false, List, [], ◌∷◌, length, nat_lt, refl, sym, ◌∙◌, ap}
+use Rattle.std.proofs.Common.{◌≡◌, ℕ, ℤ, zero, suc, ◌+◌, ◌<◌, ◌≤◌, true, false, Option, Some, None, List, [], ◌∷◌, length, get_or, nat_lt, refl, sym, ◌∙◌, ap, subst}
 use Rattle.std.proofs.lemmas.List.{length-map}
+use Rattle.std.proofs.lemmas.Option.{slice_get-get_or, slice_get-map, slice_get_past}
+use Rattle.std.specs.List.{slice_get}
+use Rattle.std.specs.Option.{option_map}
 use Rattle.mappings.specs.declared.mapping.Mapping.{Mapping}
 use Rattle.array_meaning.specs.Faults.{Fault}
 use Rattle.storage.specs.Storage.{Spot}
@@ -8,9 +11,12 @@ use Rattle.machine_steps.specs.Instr.{Instr, Remapping}
 use Rattle.machine_steps.specs.Layout.{Layout, size_of, sizes}
 use Rattle.machine_steps.specs.Machine.{remapped, with_mapping}
 use Rattle.machine_steps.specs.Node.{Node, begun_by, done_by, no_values, pieces_by}
+use Rattle.owner_tables.specs.Views.{TableView}
 use Rattle.node_code.specs.FaultValues.{fault_values}
+use Rattle.node_code.specs.Instructions.{remapping_by}
 use Rattle.node_code.specs.ProgramText.{Text}
 use Rattle.remap_steps.specs.Redistributions.{Redistribution, all_rounds, moved_pieces, value_behind}
+use Rattle.node_machine.specs.Programs.{mappings_of}
 use Rattle.node_machine.specs.Remaps.{IsRemap, remap_ended, round_next, round_opened}
 
 module _ (r : Redistribution) (a : Node Text Fault) where
@@ -26,6 +32,27 @@ module _ (i : Instr Fault) (a : Node Text Fault) (r : Redistribution) (m : IsRem
 
   pub remap-done : round_next r (record a { round = suc a.round }) ≡ done_by fault_values a.nodes i a
   remap-done = ap (λ x. round_next x (record a { round = suc a.round })) m.moving ∙ ap (λ x. done_by fault_values a.nodes x a) (sym m.is)
+
+-- ---- new mappings by their numbers
+
+-- the first of them, and then the others
+pub remapped-first : (row : ℕ) (mapping : Option Mapping) (rest : List Remapping) (layouts : List Layout)
+    → remapped rest (remapped (remapping_by row mapping []) layouts) ≡ remapped (remapping_by row mapping rest) layouts
+remapped-first row None rest layouts = refl
+remapped-first row (Some mapping) rest layouts = refl
+
+module _ (tables : List TableView) (row number : ℕ) (layouts : List Layout) where
+  -- a number that has a mapping, and one that has none
+  pub remapped-there : (d : TableView) → number < length tables
+      → with_mapping layouts row (get_or tables number d).layout.mapping ≡ remapped (remapping_by row (slice_get (mappings_of tables) number) []) layouts
+  remapped-there d lt =
+      let mapping : TableView → Mapping = λ t. t.layout.mapping in
+      ap (λ o. remapped (remapping_by row o []) layouts) (sym (slice_get-map mapping tables number ∙ ap (option_map mapping) (slice_get-get_or tables number d lt)))
+
+  pub remapped-none : length tables ≤ number → layouts ≡ remapped (remapping_by row (slice_get (mappings_of tables) number) []) layouts
+  remapped-none past =
+      let mapping : TableView → Mapping = λ t. t.layout.mapping in
+      ap (λ o. remapped (remapping_by row o []) layouts) (sym (slice_get-map mapping tables number ∙ ap (option_map mapping) (slice_get_past tables number past)))
 
 -- ---- how many rows there are
 

@@ -2,7 +2,7 @@
 use Rattle.std.proofs.Common.{◌≡◌, List, [], ◌∷◌, length, refl, ◌∙◌}
 use Rattle.std.proofs.lemmas.List.{length-set}
 use Rattle.storage.specs.Storage.{Storage, write}
-use Rattle.owner_tables.specs.Spots.{spot_of}
+use Rattle.storage.specs.Spots.{spot_of}
 use Rattle.part_steps.specs.Stores.{stored_all}
 use Rattle.part_steps.specs.declared.stores.Store.{Store}
 

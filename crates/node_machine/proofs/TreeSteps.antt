@@ -8,7 +8,7 @@ use Rattle.machine_steps.specs.Tree.{levels_of, tree_sends}
 use Rattle.node_code.specs.FaultValues.{fault_values}
 use Rattle.node_code.specs.Parallel.{fold_of}
 use Rattle.node_code.specs.ProgramText.{Text}
-use Rattle.owner_tables.specs.SameLayouts.{is_same_layout}
+use Rattle.machine_steps.specs.SameLayouts.{is_same_layout}
 use Rattle.tree_steps.specs.Absorbed.{absorbed_values, joined_values}
 use Rattle.tree_steps.specs.declared.joining.Joining.TheVariants.{Kept, Later, Options}
 use Rattle.op_tables.specs.declared.op.Op.{Op}

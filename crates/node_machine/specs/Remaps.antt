@@ -4,7 +4,7 @@ use Rattle.array_meaning.specs.Faults.{Fault}
 use Rattle.machine_steps.specs.Instr.{Instr, Remap, Remapping}
 use Rattle.machine_steps.specs.Machine.{on, remapped}
 use Rattle.machine_steps.specs.Node.{Node, ready, settled}
-use Rattle.comm_sets.specs.Rounds.{rounds_on}
+use Rattle.machine_steps.specs.Rounds.{rounds_on}
 use Rattle.node_code.specs.ProgramText.{Text}
 use Rattle.remap_steps.specs.Redistributions.{Redistribution, all_rounds, moved_pieces, round_inbox, round_outbox}
 

@@ -3,8 +3,8 @@ use Rattle.std.specs.Prelude.{◌≡◌, ℤ, List, Result, Ok, Err}
 use Rattle.storage.specs.Storage.{Spot}
 use Rattle.array_meaning.specs.Faults.{Fault}
 use Rattle.machine_steps.specs.Instr.{Instr, Fetch, Store}
-use Rattle.owner_tables.specs.declared.spot.Spot.{Spot as HeldSpot}
-use Rattle.owner_tables.specs.Spots.{spot_of}
+use Rattle.storage.specs.declared.spot.Spot.{Spot as HeldSpot}
+use Rattle.storage.specs.Spots.{spot_of}
 use Rattle.term_values.specs.declared.faults.Fault.{Fault as HeldFault}
 use Rattle.term_values.specs.Faults.{fault}
 use Rattle.node_machine.specs.declared.elements.FetchedElement.{FetchedElement}

@@ -6,7 +6,7 @@ ghost use Rattle.machine_steps.specs.Machine.{instr_at, on};
 ghost use Rattle.machine_steps.specs.Node.{begun_by};
 ghost use Rattle.node_code.specs.FaultValues.{fault_values};
 ghost use Rattle.node_code.specs.ProgramText.{text_meaning};
-ghost use Rattle.owner_tables.specs.CopyLayout.{copy_layout};
+ghost use Rattle.machine_steps.specs.CopyLayout.{copy_layout};
 ghost use Rattle.node_machine.specs.Copies.{IsMade};
 ghost use Rattle.node_machine.specs.Programs.{code_of};
 
@@ -36,10 +36,10 @@ impl NodeProgram {
             return Err(OutOfMemory);
         };
         match i {
-            Instruction::MakeCopy(p) => {
-                let over = selections_at(alloc, &control.slots, &[], &p.over)?;
+            Instruction::MakeCopy { copy, evaluation } => {
+                let over = selections_at(alloc, &control.slots, &[], &evaluation.over)?;
                 Ok(MadeCopy {
-                    copy: p.copy,
+                    copy: *copy,
                     extents: extents(alloc, &over)?,
                 })
             }

@@ -8,7 +8,7 @@ ghost use Rattle.machine_steps.specs.Message.{fetch_part, message};
 ghost use Rattle.machine_steps.specs.Node.{begun_by, done_by, fetch_begun, fetch_done, gathered, held_or_received, local_read, no_values, parcel, part_opened};
 ghost use Rattle.node_code.specs.FaultValues.{fault_values};
 ghost use Rattle.node_code.specs.ProgramText.{text_meaning};
-ghost use Rattle.owner_tables.specs.Spots.{spot_of};
+ghost use Rattle.storage.specs.Spots.{spot_of};
 ghost use Rattle.node_machine.specs.Fetches.{fetch_sends};
 ghost use Rattle.node_machine.specs.Results.{spot_result};
 

@@ -8,7 +8,7 @@ ghost use Rattle.machine_steps.specs.Node.{begun_by, done_by, fold_ended, join_b
 ghost use Rattle.node_code.specs.FaultValues.{fault_values};
 ghost use Rattle.node_code.specs.Parallel.{fold_of, joined};
 ghost use Rattle.node_code.specs.ProgramText.{text_meaning};
-ghost use Rattle.owner_tables.specs.Spots.{spot_of};
+ghost use Rattle.storage.specs.Spots.{spot_of};
 ghost use Rattle.node_machine.specs.Folds.{own_element, own_elements};
 ghost use Rattle.node_machine.specs.Programs.{code_of};
 

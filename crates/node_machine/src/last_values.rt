@@ -8,7 +8,7 @@ ghost use Rattle.machine_steps.specs.Machine.{instr_at, last_control, lie_alike}
 ghost use Rattle.machine_steps.specs.Node.{begun_by, done_by, last_ended, own_last, positioned_values, tree_next};
 ghost use Rattle.node_code.specs.FaultValues.{fault_values};
 ghost use Rattle.node_code.specs.ProgramText.{text_meaning};
-ghost use Rattle.owner_tables.specs.SameLayouts.{is_same_layout};
+ghost use Rattle.machine_steps.specs.SameLayouts.{is_same_layout};
 ghost use Rattle.tree_steps.specs.Positions.{positions};
 ghost use Rattle.node_machine.specs.Folds.{element_at, is_set_at, last_set, latest};
 ghost use Rattle.node_machine.specs.Programs.{code_of};

@@ -54,12 +54,20 @@ impl NodeProgram {
             Instruction::ParForall(p) => {
                 ParallelStatement::of_forall_assignment(alloc, &self.shapes, &control.slots, p)
             }
-            Instruction::ParCopy(p) => {
-                ParallelStatement::of_evaluation(alloc, &self.shapes, &control.slots, p)
-            }
-            Instruction::ParForallCopy(p) => {
-                ParallelStatement::of_forall_mask(alloc, &self.shapes, &control.slots, p)
-            }
+            Instruction::ParCopy { copy, evaluation } => ParallelStatement::of_evaluation(
+                alloc,
+                &self.shapes,
+                &control.slots,
+                evaluation,
+                *copy,
+            ),
+            Instruction::ParForallCopy { copy, evaluation } => ParallelStatement::of_forall_mask(
+                alloc,
+                &self.shapes,
+                &control.slots,
+                evaluation,
+                *copy,
+            ),
             _ => Err(OutOfMemory),
         }
     }

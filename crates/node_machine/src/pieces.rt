@@ -4,7 +4,7 @@ ghost use Rattle.std.specs.Prelude.{◌≡◌, ◌<◌, length, pos, slice_index
 ghost use Rattle.storage.specs.Storage.{row_of, write};
 ghost use Rattle.machine_steps.specs.Layout.{owns_spot, sizes};
 ghost use Rattle.machine_steps.specs.Node.{local_read, local_write};
-ghost use Rattle.owner_tables.specs.Spots.{spot_of};
+ghost use Rattle.storage.specs.Spots.{spot_of};
 
 use crate::node::Node;
 use owner_tables::{Row, Spot};

@@ -1,15 +1,16 @@
 //! Instructions that give arrays new mappings.
 
-ghost use Rattle.std.specs.Prelude.{◌≡◌, ◌<◌, ◌^◌, IfOk, OnOk, OnErr, length, map};
+ghost use Rattle.std.specs.Prelude.{◌≡◌, ◌<◌, ◌^◌, ◌∷◌, [], IfOk, OnOk, OnErr, length, map};
 ghost use Rattle.machine_steps.specs.Instr.{Remap};
 ghost use Rattle.machine_steps.specs.Machine.{instr_at, on, remapped};
 ghost use Rattle.machine_steps.specs.Node.{begun_by, done_by, no_values, ready};
-ghost use Rattle.comm_sets.specs.Rounds.{rounds_on};
+ghost use Rattle.machine_steps.specs.Rounds.{rounds_on};
 ghost use Rattle.node_code.specs.FaultValues.{fault_values};
 ghost use Rattle.node_code.specs.ProgramText.{text_meaning};
-ghost use Rattle.node_code.specs.Texts.{remapping};
+ghost use Rattle.node_code.specs.Instructions.{remappings};
+ghost use Rattle.node_code.specs.Texts.{new_mapping};
 ghost use Rattle.remap_steps.specs.Redistributions.{moved_pieces};
-ghost use Rattle.node_machine.specs.Programs.{code_of};
+ghost use Rattle.node_machine.specs.Programs.{code_of, mappings_of};
 ghost use Rattle.node_machine.specs.Remaps.{IsRemap, round_opened};
 
 use crate::node::Node;
@@ -17,7 +18,7 @@ use crate::program::NodeProgram;
 use hpf_base::OutOfMemory;
 use letters::Body;
 use node_code::{Instruction, NewMapping};
-use owner_tables::{Owners, Row};
+use owner_tables::{OwnerTable, Owners, Row};
 use remap_steps::Redistribution;
 use slot_values::Control;
 
@@ -31,29 +32,51 @@ struct NewRows {
 impl NodeProgram {
     /// The new mappings at the place.
     fn new_mappings(&self, control: &Control) -> Result<&Vec<NewMapping>, OutOfMemory>
-        ensures is { IfOk result (λ new. instr_at text_meaning (code_of self.now) control.now.at ≡ Remap (map remapping new.now.items) (rounds_on self.now.nodes (map remapping new.now.items))) }
+        ensures is { IfOk result (λ new. let mappings = remappings (mappings_of self.now.tables.items) (map new_mapping new.now.items) in
+            instr_at text_meaning (code_of self.now) control.now.at ≡ Remap mappings (rounds_on self.now.nodes mappings)) }
         ensures few { IfOk result (λ new. control.now.at < 2 ^ 63) }
     {
         let Some(i) = self.instruction(control.at) else {
             return Err(OutOfMemory);
         };
         match i {
-            Instruction::Remap(new) => Ok(new),
+            Instruction::Remap { new, .. } => Ok(new),
             _ => Err(OutOfMemory),
         }
     }
 }
 
-/// How rows lie behind new mappings. A mapping of another shape or on another number of nodes is answered as want of memory.
-fn owners_behind(owners: &Owners, new: &[NewMapping]) -> Result<Owners, OutOfMemory>
-    ensures layouts { IfOk result (λ after. after.layouts ≡ remapped (map remapping new.now) owners.now.layouts) }
+/// How rows lie after new mappings, by the tables of a program. A mapping of another shape or on another number of nodes is answered as
+/// want of memory.
+fn owners_after(
+    owners: &Owners,
+    tables: &[OwnerTable],
+    new: &[NewMapping],
+) -> Result<Owners, OutOfMemory>
+    ensures layouts { IfOk result (λ after. after.layouts ≡ remapped (remappings (mappings_of tables.now) (map new_mapping new.now)) owners.now.layouts) }
     ensures nodes { IfOk result (λ after. after.nodes ≡ owners.now.nodes) }
 {
     let mut after = owners.shared()?;
     for mapping in new {
-        after.set_mapping(mapping.array, &mapping.table)?;
+        set_mapping(&mut after, tables, mapping)?;
     }
     Ok(after)
+}
+
+/// An array gets a mapping, where its number has one. A mapping of another shape or on another number of nodes is answered as want of
+/// memory.
+fn set_mapping(
+    owners: &mut Owners,
+    tables: &[OwnerTable],
+    new: &NewMapping,
+) -> Result<(), OutOfMemory>
+    ensures layouts { OnOk result (owners.new.layouts ≡ remapped (remappings (mappings_of tables.now) (new_mapping new.now ∷ [])) owners.old.layouts) }
+    ensures nodes { OnOk result (owners.new.nodes ≡ owners.old.nodes) }
+{
+    if new.map < tables.len() {
+        owners.set_mapping(new.array, &tables[new.map])?;
+    }
+    Ok(())
 }
 
 impl Node {
@@ -63,8 +86,9 @@ impl Node {
         ensures few { IfOk result (λ r. self.new.control.at < 2 ^ 63) }
         ensures same { self.new ≡ self.old }
     {
-        let new = self.program().new_mappings(&self.control)?;
-        let after = owners_behind(&self.owners, new)?;
+        let program = self.program();
+        let new = program.new_mappings(&self.control)?;
+        let after = owners_after(&self.owners, &program.tables, new)?;
         let held = self.held();
         let moving = Redistribution::held_or_new(self.alloc, held, &self.owners, &after, self.id)?;
         Ok(moving)

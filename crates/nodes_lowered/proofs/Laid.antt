@@ -1,5 +1,5 @@
 -- Rows that lie so are whole: they have the sizes of their layouts, and each element has an owner.
-use Rattle.std.proofs.Common.{◌≡◌, ℕ, zero, suc, ◌*◌, ◌<◌, true, List, [], ◌∷◌, ◌++◌, length, map, get_or, refl, sym, ap, ◌∙◌, arith}
+use Rattle.std.proofs.Common.{◌≡◌, ℕ, zero, suc, ◌+◌, ◌*◌, ◌<◌, true, List, [], ◌∷◌, ◌++◌, length, map, replicate, get_or, refl, sym, ap, ◌∙◌, arith}
 use Rattle.std.proofs.lemmas.List.{length-replicate}
 use Rattle.hpf_base.specs.ElementOrder.{extents_of, product}
 use Rattle.syntax_tree.specs.MainProgram.{MainProgram}
@@ -15,7 +15,7 @@ use Rattle.array_meaning.specs.Resolution.{initial_array}
 use Rattle.array_meaning.specs.State.{Array}
 use Rattle.machine_steps.specs.Layout.{IsDealt, Layout, owned_in, size_of, sizes}
 use Rattle.machine_steps.specs.Agrees.{IsWhole}
-use Rattle.nodes_lowered.specs.OnNodes.{LieAsDeclared, LiesAsDeclared, program_opening}
+use Rattle.nodes_lowered.specs.OnNodes.{AreUnmade, LieAsDeclared, LiesAsDeclared, program_copies, program_opening}
 
 -- ---- sizes
 
@@ -34,16 +34,37 @@ row-size count (what.Constant v) layout h = sym h
 row-size count what.Template layout h = sym h
 row-size count what.Arrangement layout h = sym h
 
-abbrev rows : List Entry → Storage
-rows es = map (λ (a : Array). a.elements) (map (λ (e : Entry). initial_array e.what) es) ++ [] ∷ []
+-- copies that aren't made
+abbrev unmade : ℕ → Storage
+unmade room = replicate room []
 
-rows-sized : (count : ℕ) (es : List Entry) (layouts : List Layout) → LieAsDeclared count es layouts → map length (rows es) ≡ sizes layouts
-rows-sized count [] [] h = absurd h
-rows-sized count [] (copy ∷ []) h = ap (λ k. k ∷ []) (sym h)
-rows-sized count [] (copy ∷ layout ∷ layouts) h = absurd h
-rows-sized count (e ∷ es) [] h = absurd h
-rows-sized count (e ∷ es) (layout ∷ layouts) h =
-    ap (λ k. k ∷ map length (rows es)) (row-size count e.what layout h.0) ∙ ap (λ ks. size_of layout ∷ ks) (rows-sized count es layouts h.1)
+unmade-sized : (room : ℕ) (copies : List Layout) → AreUnmade room copies → map length (unmade room) ≡ sizes copies
+unmade-sized zero [] h = refl
+unmade-sized zero (copy ∷ copies) h = absurd h
+unmade-sized (suc room) [] h = absurd h
+unmade-sized (suc room) (copy ∷ copies) h = ap (λ k. k ∷ map length (unmade room)) (sym h.0) ∙ ap (λ ks. size_of copy ∷ ks) (unmade-sized room copies h.1)
+
+abbrev rows : ℕ → List Entry → Storage
+rows room es = map (λ (a : Array). a.elements) (map (λ (e : Entry). initial_array e.what) es) ++ unmade room
+
+rows-sized : (count room : ℕ) (es : List Entry) (layouts : List Layout) → LieAsDeclared count room es layouts → map length (rows room es) ≡ sizes layouts
+rows-sized count room [] copies h = unmade-sized room copies h
+rows-sized count room (e ∷ es) [] h = absurd h
+rows-sized count room (e ∷ es) (layout ∷ layouts) h =
+    ap (λ k. k ∷ map length (rows room es)) (row-size count e.what layout h.0) ∙ ap (λ ks. size_of layout ∷ ks) (rows-sized count room es layouts h.1)
+
+-- ---- how many rows there are
+
+unmade-many : (room : ℕ) (copies : List Layout) → AreUnmade room copies → length copies ≡ room
+unmade-many zero [] h = refl
+unmade-many zero (copy ∷ copies) h = absurd h
+unmade-many (suc room) [] h = absurd h
+unmade-many (suc room) (copy ∷ copies) h = ap suc (unmade-many room copies h.1)
+
+pub laid-many : (count room : ℕ) (es : List Entry) (layouts : List Layout) → LieAsDeclared count room es layouts → length layouts ≡ length es + room
+laid-many count room [] copies h = let many : length copies ≡ room = unmade-many room copies h in omega (arith, many)
+laid-many count room (e ∷ es) [] h = absurd h
+laid-many count room (e ∷ es) (layout ∷ layouts) h = let many : length layouts ≡ length es + room = laid-many count room es layouts h.1 in omega (arith, many)
 
 -- ---- owners
 
@@ -61,20 +82,25 @@ laid-owned count (what.Constant v) layout h = λ at lt. none-below at (size_of l
 laid-owned count what.Template layout h = λ at lt. none-below at (size_of layout) h lt
 laid-owned count what.Arrangement layout h = λ at lt. none-below at (size_of layout) h lt
 
-rows-owned : (count : ℕ) (es : List Entry) (layouts : List Layout) → LieAsDeclared count es layouts → (row at : ℕ) → at < get_or (sizes layouts) row 0
-    → HasOwner count layouts row at
-rows-owned count [] [] h row at lt = absurd h
-rows-owned count [] (copy ∷ []) h zero at lt = none-below at (size_of copy) h lt
-rows-owned count [] (copy ∷ []) h (suc row) at lt = none-below at 0 refl lt
-rows-owned count [] (copy ∷ layout ∷ layouts) h row at lt = absurd h
-rows-owned count (e ∷ es) [] h row at lt = absurd h
-rows-owned count (e ∷ es) (layout ∷ layouts) h zero at lt = laid-owned count e.what layout h.0 at lt
-rows-owned count (e ∷ es) (layout ∷ layouts) h (suc row) at lt = rows-owned count es layouts h.1 row at lt
+unmade-owned : (count room : ℕ) (copies : List Layout) → AreUnmade room copies → (row at : ℕ) → at < get_or (sizes copies) row 0 → HasOwner count copies row at
+unmade-owned count zero [] h row at lt = none-below at 0 refl lt
+unmade-owned count zero (copy ∷ copies) h row at lt = absurd h
+unmade-owned count (suc room) [] h row at lt = absurd h
+unmade-owned count (suc room) (copy ∷ copies) h zero at lt = none-below at (size_of copy) h.0 lt
+unmade-owned count (suc room) (copy ∷ copies) h (suc row) at lt = unmade-owned count room copies h.1 row at lt
 
-pub opening-whole : (count : ℕ) (p : MainProgram) (layouts : List Layout) → LieAsDeclared count (entries p) layouts → IsWhole count [] (program_opening p layouts)
+rows-owned : (count room : ℕ) (es : List Entry) (layouts : List Layout) → LieAsDeclared count room es layouts → (row at : ℕ) → at < get_or (sizes layouts) row 0
+    → HasOwner count layouts row at
+rows-owned count room [] copies h row at lt = unmade-owned count room copies h row at lt
+rows-owned count room (e ∷ es) [] h row at lt = absurd h
+rows-owned count room (e ∷ es) (layout ∷ layouts) h zero at lt = laid-owned count e.what layout h.0 at lt
+rows-owned count room (e ∷ es) (layout ∷ layouts) h (suc row) at lt = rows-owned count room es layouts h.1 row at lt
+
+pub opening-whole : (count : ℕ) (p : MainProgram) (layouts : List Layout) → LieAsDeclared count (program_copies p) (entries p) layouts
+    → IsWhole count [] (program_opening p layouts)
 opening-whole count p layouts h = record {
-  shaped = rows-sized count (entries p) layouts h;
+  shaped = rows-sized count (program_copies p) (entries p) layouts h;
   declared = tt;
-  owned = λ spot lt. rows-owned count (entries p) layouts h spot.row spot.at lt;
+  owned = λ spot lt. rows-owned count (program_copies p) (entries p) layouts h spot.row spot.at lt;
   kept = λ k e. cc;
 }

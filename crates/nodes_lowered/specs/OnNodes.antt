@@ -1,5 +1,5 @@
 -- What it is for the arrays of a program to lie on nodes.
-use Rattle.std.specs.Prelude.{◌≡◌, ℕ, List, [], ◌∷◌, length}
+use Rattle.std.specs.Prelude.{◌≡◌, ℕ, zero, suc, List, [], ◌∷◌, length, ⊤}
 use Rattle.hpf_base.specs.FirstBreach.{Among}
 use Rattle.hpf_base.specs.Refusal.{NoBreach}
 use Rattle.syntax_tree.specs.MainProgram.{MainProgram}
@@ -16,6 +16,7 @@ use Rattle.machine_steps.specs.Layout.{IsDealt, Layout, size_of}
 use Rattle.machine_steps.specs.Machine.{Machine}
 use Rattle.node_code.specs.Instructions.{Instruction}
 use Rattle.lowering.specs.Lowered.{opening}
+use Rattle.lowering.specs.StatementCode.{block_copies}
 
 -- no rule of names, ranks and bodies is broken
 abbrev pub BreaksNoRule : MainProgram → Type 0
@@ -27,14 +28,23 @@ abbrev pub LiesAsDeclared : ℕ → What → Layout → Type 0
 LiesAsDeclared count (what.Array ds v) layout = (layout.shape ≡ shape_of ds) × IsDealt count layout
 LiesAsDeclared count w layout = size_of layout ≡ 0
 
--- so the declared names lie, in order, and behind them the copy of a mask, which has no elements before it is made
-abbrev pub LieAsDeclared : ℕ → List Entry → List Layout → Type 0
-LieAsDeclared count [] [] = ⊥
-LieAsDeclared count [] (copy ∷ []) = size_of copy ≡ 0
-LieAsDeclared count [] (copy ∷ layout ∷ layouts) = ⊥
-LieAsDeclared count (e ∷ es) [] = ⊥
-LieAsDeclared count (e ∷ es) (layout ∷ layouts) = LiesAsDeclared count e.what layout × LieAsDeclared count es layouts
+-- so many copies, which have no elements before they are made
+abbrev pub AreUnmade : ℕ → List Layout → Type 0
+AreUnmade zero [] = ⊤
+AreUnmade zero (copy ∷ copies) = ⊥
+AreUnmade (suc room) [] = ⊥
+AreUnmade (suc room) (copy ∷ copies) = (size_of copy ≡ 0) × AreUnmade room copies
+
+-- so the declared names lie on so many nodes, in order, and behind them so many copies
+abbrev pub LieAsDeclared : (count room : ℕ) → List Entry → List Layout → Type 0
+LieAsDeclared count room [] copies = AreUnmade room copies
+LieAsDeclared count room (e ∷ es) [] = ⊥
+LieAsDeclared count room (e ∷ es) (layout ∷ layouts) = LiesAsDeclared count e.what layout × LieAsDeclared count room es layouts
+
+-- how many copies the code of a program names
+abbrev pub program_copies : MainProgram → ℕ
+program_copies p = block_copies (resolved_block (entries p) p.body)
 
 -- the machine with whole arrays before the first instruction of a program
 abbrev pub program_opening : MainProgram → List Layout → Machine Instruction Fault
-program_opening p layouts = opening (length (entries p)) (resolved_block (entries p) p.body) (initial_state (entries p)) layouts
+program_opening p layouts = opening (length (entries p)) (program_copies p) (resolved_block (entries p) p.body) (initial_state (entries p)) layouts

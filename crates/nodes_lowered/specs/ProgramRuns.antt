@@ -28,9 +28,9 @@ use Rattle.nodes_lowered.specs.OnNodes.{program_opening}
 abbrev pub program_shapes : MainProgram → List (List Dim)
 program_shapes p = map (λ a. a.dims) (initial_state (entries p)).arrays
 
--- the machine before the first instruction, over the texts for so many nodes
+-- the machine before the first instruction, over the texts for so many nodes. No instruction of a program names a mapping
 abbrev pub text_opening : ℕ → MainProgram → List Layout → Machine Text Fault
-text_opening nodes p layouts = with_code (text nodes (program_shapes p)) (program_opening p layouts)
+text_opening nodes p layouts = with_code (text nodes [] (program_shapes p)) (program_opening p layouts)
 
 abbrev pub program_nodes : ℕ → MainProgram → List Layout → List (Node Text Fault)
 program_nodes nodes p layouts = openings nodes (text_opening nodes p layouts)

@@ -8,20 +8,20 @@ ghost use Rattle.name_table.specs.Entries.{entries};
 ghost use Rattle.array_maps.specs.Maps.{IsArrayMap};
 ghost use Rattle.directive_check.specs.ProgramMaps.{start_maps};
 ghost use Rattle.machine_steps.specs.Layout.{Layout};
-ghost use Rattle.nodes_lowered.specs.OnNodes.{LieAsDeclared, BreaksNoRule};
+ghost use Rattle.nodes_lowered.specs.OnNodes.{LieAsDeclared, BreaksNoRule, program_copies};
 ghost use Rattle.nodes_lowered.specs.ProgramLayouts.{program_layouts};
 ghost use Rattle.nodes_lowered.specs.ProgramRuns.{RunOnNodes};
 
 /// The arrays of a program lie on as many nodes as a grid has with the mappings that they have at the start, where these are valid: each
-/// has the shape of its declaration, and each of its elements an owner.
+/// has the shape of its declaration, and each of its elements an owner. Behind them there may be any number of copies.
 pub fn arrays_lie_as_mapped()
-    ensures { (grid : List ℕ) (p : MainProgram) → IsGrid grid → All (IsArrayMap (product grid)) (start_maps grid p)
-        → LieAsDeclared (product grid) (entries p) (program_layouts (product grid) (entries p) (start_maps grid p)) }
+    ensures { (grid : List ℕ) (room : ℕ) (p : MainProgram) → IsGrid grid → All (IsArrayMap (product grid)) (start_maps grid p)
+        → LieAsDeclared (product grid) room (entries p) (program_layouts (product grid) room (entries p) (start_maps grid p)) }
 {}
 
 /// For every program that breaks no rule, every number of nodes, and layouts of its arrays by which each element has an owner, the nodes
 /// that begin with its code are phased, and their last nodes have the program's serial outcome: each has the outcome's first fault with its
 /// line, kind and tuple, or is finished with its pieces of the outcome's arrays, and node 0 has printed the outcome's bytes.
 pub fn programs_run_on_nodes()
-    ensures { (nodes : ℕ) (p : MainProgram) (layouts : List Layout) → 0 < nodes → BreaksNoRule p → LieAsDeclared nodes (entries p) layouts → RunOnNodes nodes p layouts }
+    ensures { (nodes : ℕ) (p : MainProgram) (layouts : List Layout) → 0 < nodes → BreaksNoRule p → LieAsDeclared nodes (program_copies p) (entries p) layouts → RunOnNodes nodes p layouts }
 {}

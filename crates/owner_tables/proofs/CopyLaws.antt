@@ -25,7 +25,7 @@ use Rattle.hpf_base.proofs.Elements.{elements-get, length-elements}
 use Rattle.hpf_base.proofs.Places.{length-place_at, number_of, place_at, place_at-number_of, places-get}
 use Rattle.local_address.proofs.ElementLaws.{factors_some}
 use Rattle.machine_steps.specs.Layout.{IsDealt, element_index, owned_by, size_of}
-use Rattle.owner_tables.specs.CopyLayout.{copy_dims, copy_extents, copy_layout, copy_mapping, copy_shape}
+use Rattle.machine_steps.specs.CopyLayout.{copy_dims, copy_extents, copy_layout, copy_mapping, copy_shape}
 use Rattle.owner_tables.specs.Layouts.{IsLaid}
 
 -- ---- the extents

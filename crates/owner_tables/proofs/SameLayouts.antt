@@ -19,7 +19,7 @@ use Rattle.mappings.specs.declared.mapping.Line.{Line}
 use Rattle.mappings.specs.declared.mapping.MapDim.{MapDim}
 use Rattle.mappings.specs.declared.mapping.Mapping.{Mapping}
 use Rattle.machine_steps.specs.Layout.{Layout}
-use Rattle.owner_tables.specs.SameLayouts.{is_same_align, is_same_dim, is_same_form, is_same_layout, is_same_line, is_same_mapping, is_same_shape}
+use Rattle.machine_steps.specs.SameLayouts.{is_same_align, is_same_dim, is_same_form, is_same_layout, is_same_line, is_same_mapping, is_same_shape}
 
 -- a test that holds of the same alone, and of all that are the same
 module _ {A : Type 0} (test : A → A → Bool) (same : (x y : A) → test x y ≡ true → x ≡ y) (itself : (x : A) → test x x ≡ true) where

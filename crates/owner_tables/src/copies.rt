@@ -4,7 +4,7 @@ ghost use Rattle.std.specs.Prelude.{◌≡◌, ◌<◌, ◌≤◌, ◌^◌, [], 
 ghost use Rattle.hpf_base.specs.declared.limits.TheConstants.{MAX_ELEMENTS, MAX_NODES, MAX_RANK};
 ghost use Rattle.hpf_base.specs.ElementOrder.{product};
 ghost use Rattle.mappings.specs.Owner.{block_line};
-ghost use Rattle.owner_tables.specs.CopyLayout.{copy_dims, copy_extents, copy_layout, copy_mapping, copy_shape};
+ghost use Rattle.machine_steps.specs.CopyLayout.{copy_dims, copy_extents, copy_layout, copy_mapping, copy_shape};
 ghost use Rattle.owner_tables.specs.Layouts.{IsLaid};
 
 use hpf_base::{Grid, Index, MAX_ELEMENTS, MAX_RANK, OutOfMemory, Shape};

@@ -4,14 +4,14 @@ ghost use Rattle.std.specs.Prelude.{◌≡◌, ◌<◌, ◌++◌, ◌∷◌, ◌
 ghost use Rattle.machine_steps.specs.Layout.{owns_spot, sizes};
 ghost use Rattle.machine_steps.specs.Node.{local_read};
 ghost use Rattle.storage.specs.Storage.{read};
-ghost use Rattle.owner_tables.specs.Spots.{spot_of};
+ghost use Rattle.storage.specs.Spots.{spot_of};
 
 use crate::owners::Owners;
 use crate::row::Row;
-use crate::spot::Spot;
 use hpf_base::OutOfMemory;
 use letters::Body;
 use std::alloc::Global;
+use storage::Spot;
 
 /// The value of an element that the node owns, by the node's number and its pieces of all rows. One that the node doesn't own, or that is
 /// out of bounds, is answered as want of memory.

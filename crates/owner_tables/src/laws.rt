@@ -3,7 +3,7 @@
 ghost use Rattle.std.specs.Prelude.{◌≡◌, ℕ, ◌≤◌, ℤ, List, replicate};
 ghost use Rattle.hpf_base.specs.ElementOrder.{product};
 ghost use Rattle.machine_steps.specs.Layout.{Layout, IsDealt, count_passing, owned_by, piece, size_of};
-ghost use Rattle.owner_tables.specs.CopyLayout.{copy_layout};
+ghost use Rattle.machine_steps.specs.CopyLayout.{copy_layout};
 
 /// A copy has an element for each tuple of its extents.
 pub fn copies_have_sizes()

@@ -12,8 +12,8 @@ ghost use Rattle.owner_tables.specs.Numbers.{AreOwnedByLeast, least_at, least_ow
 
 use align_map::{least_owner, owns};
 use hpf_base::{Index, NodeId, OutOfMemory, Shape};
-use mappings::Mapping;
 use local_address::{element_count, nth_element};
+use mappings::Mapping;
 use std::alloc::Global;
 
 /// The least owner of each element, in array-element order, where the first node that owns what a node owns is known. An element mostly

@@ -20,7 +20,6 @@ mod owner_table;
 mod owners;
 mod row;
 mod same;
-mod spot;
 mod tables;
 
 pub use held_values::{held_value, local_value, local_values};
@@ -28,4 +27,4 @@ pub use laws::{copies_are_dealt, copies_have_sizes, pieces_of_one_value};
 pub use owner_table::OwnerTable;
 pub use owners::Owners;
 pub use row::Row;
-pub use spot::Spot;
+pub use storage::Spot;

@@ -3,9 +3,9 @@
 ghost use Rattle.std.specs.Prelude.{◌≡◌, ◌<◌, ◌≤◌, IfOk};
 ghost use Rattle.hpf_base.specs.declared.limits.TheConstants.{MAX_NODES};
 ghost use Rattle.machine_steps.specs.Layout.{count_passing, owned_by, size_of};
-ghost use Rattle.owner_tables.specs.CopyLayout.{copy_layout};
+ghost use Rattle.machine_steps.specs.CopyLayout.{copy_layout};
 ghost use Rattle.owner_tables.specs.Layouts.{IsLaid};
-ghost use Rattle.owner_tables.specs.SameLayouts.{is_same_layout, is_same_shape};
+ghost use Rattle.machine_steps.specs.SameLayouts.{is_same_layout, is_same_shape};
 
 use crate::copies::{CopyLayout, copy_layout};
 use crate::tables::Tables;

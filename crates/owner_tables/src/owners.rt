@@ -5,14 +5,14 @@ ghost use Rattle.std.specs.List.{range_with_len, slice_get};
 ghost use Rattle.hpf_base.specs.declared.limits.TheConstants.{MAX_NODES};
 ghost use Rattle.machine_steps.specs.Layout.{AreOwned, address, count_passing, least_owner_of, owned_by, owned_in, owns_spot, size_of, sizes};
 ghost use Rattle.machine_steps.specs.Machine.{with_mapping};
-ghost use Rattle.owner_tables.specs.Spots.{spot_of};
+ghost use Rattle.storage.specs.Spots.{spot_of};
 
 use crate::owner_table::OwnerTable;
-use crate::spot::Spot;
 use crate::tables::Tables;
 use hpf_base::OutOfMemory;
 use std::alloc::Global;
 use std::marker::Model;
+use storage::Spot;
 
 /// The tables of all rows, in order. Contracts see the rows' layouts and the number of nodes.
 #[derive(Drop)]

@@ -1,7 +1,7 @@
 //! Layouts that are the same.
 
 ghost use Rattle.std.specs.Prelude.{◌≡◌};
-ghost use Rattle.owner_tables.specs.SameLayouts.{is_same_mapping, is_same_shape};
+ghost use Rattle.machine_steps.specs.SameLayouts.{is_same_mapping, is_same_shape};
 
 use hpf_base::Shape;
 use mappings::Mapping;

@@ -6,7 +6,7 @@ ghost use Rattle.hpf_base.specs.declared.limits.TheConstants.{MAX_NODES};
 ghost use Rattle.machine_steps.specs.Layout.{IsDealt, count_passing, owned_by, size_of};
 ghost use Rattle.owner_tables.specs.Layouts.{IsLaid};
 ghost use Rattle.owner_tables.specs.Numbers.{least_at};
-ghost use Rattle.owner_tables.specs.SameLayouts.{is_same_layout, is_same_shape};
+ghost use Rattle.machine_steps.specs.SameLayouts.{is_same_layout, is_same_shape};
 
 use crate::alike::{alike_nodes, leaders};
 use crate::least::least_owners;

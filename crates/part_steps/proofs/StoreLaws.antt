@@ -4,7 +4,7 @@ use Rattle.std.proofs.Math.Seq.{take-suc}
 use Rattle.storage.specs.Storage.{Storage, Spot, write}
 use Rattle.machine_steps.specs.Layout.{Layout, owns_spot}
 use Rattle.machine_steps.specs.Node.{local_write, local_spot}
-use Rattle.owner_tables.specs.Spots.{spot_of}
+use Rattle.storage.specs.Spots.{spot_of}
 use Rattle.part_steps.specs.declared.stores.Store.{Store}
 use Rattle.part_steps.specs.Stores.{stored_all}
 

@@ -1,7 +1,7 @@
 -- Values that are to be stored in a node's pieces.
 use Rattle.std.specs.Prelude.{List, [], ◌∷◌}
 use Rattle.storage.specs.Storage.{Storage, write}
-use Rattle.owner_tables.specs.Spots.{spot_of}
+use Rattle.storage.specs.Spots.{spot_of}
 use Rattle.part_steps.specs.declared.stores.Store.{Store}
 use Rattle.part_steps.specs.declared.stores.Stores.{Stores}
 

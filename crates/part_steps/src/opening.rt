@@ -3,7 +3,7 @@
 ghost use Rattle.std.specs.Prelude.{◌≡◌, ◌<◌, ◌++◌, ◌∷◌, [], All, IfOk, OnOk, if◌then◌else◌, map};
 ghost use Rattle.machine_steps.specs.Message.{has_any, message};
 ghost use Rattle.machine_steps.specs.Node.{local_read, parcel, part_sends};
-ghost use Rattle.owner_tables.specs.Spots.{spot_of};
+ghost use Rattle.storage.specs.Spots.{spot_of};
 ghost use Rattle.part_steps.specs.Exchanged.{IsExchange};
 ghost use Rattle.part_steps.specs.Openings.{inbox_on, outbox_on};
 ghost use Rattle.part_steps.specs.Parts.{part_of};

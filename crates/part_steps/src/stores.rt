@@ -3,7 +3,7 @@
 ghost use Rattle.std.specs.Prelude.{◌≡◌, ◌<◌, ◌++◌, ◌∷◌, [], ℤ, List, IfOk, OnOk};
 ghost use Rattle.storage.specs.Storage.{write};
 ghost use Rattle.machine_steps.specs.Node.{local_write};
-ghost use Rattle.owner_tables.specs.Spots.{spot_of};
+ghost use Rattle.storage.specs.Spots.{spot_of};
 ghost use Rattle.part_steps.specs.Stores.{stored};
 
 use comm_sets::{Owners, Spot};

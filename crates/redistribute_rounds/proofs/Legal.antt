@@ -8,8 +8,9 @@ use Rattle.std.proofs.lemmas.Nat.{mod-mul-add}
 use Rattle.std.proofs.Math.Nat.{mod-eq_of_lt}
 use Rattle.std.specs.List.{All, AllPairs, flat_map, range_with_len}
 use Rattle.std.specs.List.Sorted.{IsPermutation}
-use Rattle.redistribute_rounds.specs.declared.pair.Pair.{Pair}
-use Rattle.redistribute_rounds.specs.Rounds.{IsBetween, round_of, rotation_round, rotation_rounds, has_pair, AreLegal}
+use Rattle.letters.specs.declared.pair.Pair.{Pair}
+use Rattle.machine_steps.specs.Rounds.{round_of, rotation_round, rotation_rounds, has_pair}
+use Rattle.redistribute_rounds.specs.Rounds.{IsBetween, AreLegal}
 
 -- the round of a pair, by which of its nodes has the greater number
 abbrev Turned : ℕ → Pair → Type 0

@@ -6,11 +6,10 @@
 //! behind its source.
 #![tactic(auto)]
 
-mod pair;
 mod rotation;
 mod round_list;
 
 pub use hpf_base::{NodeId, OutOfMemory};
-pub use pair::Pair;
+pub use letters::Pair;
 pub use rotation::rounds;
 pub use round_list::Rounds;

@@ -2,11 +2,12 @@
 
 ghost use Rattle.std.specs.Prelude.{◌≡◌, ◌≢◌, ◌++◌, ◌∷◌, [], All, IfOk, OnOk, filter, map};
 ghost use Rattle.std.specs.List.{AllPairs};
-ghost use Rattle.redistribute_rounds.specs.Rounds.{IsBetween, AreLegal, rotation_round, rotation_rounds, has_pair};
+ghost use Rattle.machine_steps.specs.Rounds.{round_of, rotation_round, rotation_rounds, has_pair};
+ghost use Rattle.redistribute_rounds.specs.Rounds.{IsBetween, AreLegal};
 
-use crate::pair::Pair;
 use crate::round_list::Rounds;
 use hpf_base::OutOfMemory;
+use letters::Pair;
 use std::alloc::Global;
 
 /// The rounds of these pairs (HPF 2.0, REDISTRIBUTE, by rotation): each pair is in the round whose number is how many
@@ -44,12 +45,20 @@ fn rotation_round(
     Ok(round)
 }
 
+/// How many nodes the target of a pair lies behind its source, where node 0 comes behind the last node.
+fn round_of(nodes: u32, pair: &Pair) -> u32
+    requires { IsBetween nodes pair.now }
+    ensures { result ≡ round_of nodes pair.now }
+{
+    ((pair.to.0 as u64 + nodes as u64 - pair.from.0 as u64) % nodes as u64) as u32
+}
+
 /// Adds the pair to the round if it is one of this round.
 fn add_pair(round: &mut Vec<Pair>, nodes: u32, shift: u32, pair: &Pair) -> Result<(), OutOfMemory>
     requires { IsBetween nodes pair.now }
     ensures { OnOk result (round.new.items ≡ round.old.items ++ rotation_round nodes (pair.now ∷ []) shift) }
 {
-    if pair.round(nodes) == shift {
+    if round_of(nodes, pair) == shift {
         round.push(*pair)?;
     }
     Ok(())

@@ -11,10 +11,10 @@ use Rattle.std.specs.Option.{is_some}
 use Rattle.hpf_base.proofs.Ranges.{All-range}
 use Rattle.machine_steps.specs.Layout.{Layout}
 use Rattle.machine_steps.specs.Message.{has_any, remap_message}
-use Rattle.redistribute_rounds.specs.declared.pair.Pair.{Pair}
-use Rattle.redistribute_rounds.specs.Rounds.{has_pair, rotation_round, round_of}
+use Rattle.letters.specs.declared.pair.Pair.{Pair}
+use Rattle.machine_steps.specs.Rounds.{has_pair, rotation_round, round_of}
 use Rattle.comm_sets.proofs.Computing.{filter-more}
-use Rattle.comm_sets.specs.Rounds.{all_pairs, is_pair, moving_pairs, remap_rounds}
+use Rattle.machine_steps.specs.Rounds.{all_pairs, is_pair, moving_pairs, remap_rounds}
 
 -- what is made of those that pass, with one node more
 pub map-more : {A : Type 0} (f : ℕ → A) (P : ℕ → Bool) (n : ℕ)

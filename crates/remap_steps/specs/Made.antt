@@ -3,7 +3,7 @@ use Rattle.std.specs.Prelude.{◌≡◌, ◌<◌, map}
 use Rattle.std.specs.List.{range_with_len}
 use Rattle.machine_steps.specs.Layout.{sizes}
 use Rattle.machine_steps.specs.Message.{remap_message}
-use Rattle.comm_sets.specs.Rounds.{remap_rounds}
+use Rattle.machine_steps.specs.Rounds.{remap_rounds}
 use Rattle.remap_steps.specs.declared.redistribution.Redistribution.TheInside.{Inside}
 use Rattle.remap_steps.specs.Redistributions.{Redistribution}
 

@@ -6,8 +6,8 @@ use Rattle.machine_steps.specs.Layout.{Layout, owned_in, sizes}
 use Rattle.machine_steps.specs.Message.{has_any, remap_message}
 use Rattle.machine_steps.specs.Node.{parcel, local_read, held_or_received, pieces_by}
 use Rattle.letters.specs.Parcel.{Parcel}
-use Rattle.redistribute_rounds.specs.declared.pair.Pair.{Pair}
-use Rattle.comm_sets.specs.Rounds.{is_pair, remap_rounds}
+use Rattle.letters.specs.declared.pair.Pair.{Pair}
+use Rattle.machine_steps.specs.Rounds.{is_pair, remap_rounds}
 
 -- the layouts before and after it, on so many nodes, one of which is `id`
 pub record Redistribution : Type 0 where

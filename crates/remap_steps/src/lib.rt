@@ -14,6 +14,6 @@ mod redistribution;
 
 pub use comm_sets::Owners;
 pub use hpf_base::OutOfMemory;
-pub use owner_tables::Row;
 pub use letters::Parcel;
+pub use owner_tables::Row;
 pub use redistribution::Redistribution;

@@ -3,8 +3,8 @@
 ghost use Rattle.std.specs.Prelude.{◌≡◌, ◌<◌, ◌++◌, ◌∷◌, [], All, IfOk, OnOk, filter, map, slice_index_or};
 ghost use Rattle.std.specs.List.{list_any};
 ghost use Rattle.machine_steps.specs.Node.{local_read, parcel};
-ghost use Rattle.owner_tables.specs.Spots.{spot_of};
-ghost use Rattle.comm_sets.specs.Rounds.{is_pair};
+ghost use Rattle.storage.specs.Spots.{spot_of};
+ghost use Rattle.machine_steps.specs.Rounds.{is_pair};
 ghost use Rattle.remap_steps.specs.Redistributions.{all_rounds, message_between, round_inbox, round_outbox, sends_in};
 
 use crate::redistribution::Redistribution;

@@ -16,8 +16,8 @@ is_local_instr instr = false
 
 -- what such an instruction does says nothing of copies, so any number of nodes serves
 abbrev pub is_local : Instruction → Bool
-is_local i = is_local_instr (meaning_of (table_on 1 []) i)
+is_local i = is_local_instr (meaning_of (table_on 1 [] []) i)
 
 -- what such an instruction does; any other one does nothing here
 abbrev pub local_control : List (List Dim) → Instruction → Control Fault → Control Fault
-local_control shapes i c = control_by (meaning_of (table_on 1 shapes) i) c
+local_control shapes i c = control_by (meaning_of (table_on 1 [] shapes) i) c

@@ -5,7 +5,7 @@ ghost use Rattle.array_meaning.specs.State.{element_place};
 ghost use Rattle.node_code.specs.Flat.{AndFlat, NoFlat};
 ghost use Rattle.node_code.specs.Parallel.{shape_of};
 ghost use Rattle.node_code.specs.Texts.{flat, flats_of};
-ghost use Rattle.owner_tables.specs.Spots.{spot_of};
+ghost use Rattle.storage.specs.Spots.{spot_of};
 ghost use Rattle.slot_values.specs.Elements.{element_of, element_spot};
 ghost use Rattle.term_values.specs.Stops.{IsStop};
 
@@ -13,7 +13,7 @@ use crate::expressions::{flat_value, flat_values, two_values};
 use array_meaning::FaultKind;
 use expression_rules::Dims;
 use node_code::Flat;
-use owner_tables::Spot;
+use storage::Spot;
 use term_values::{Stop, fault, place, place_of_one, place_of_two};
 
 /// The element of an array, by the place of its name, that these subscripts name, which are evaluated from left to right; the first fault

@@ -35,16 +35,16 @@ pub fn is_local(i: &Instruction) -> bool
         Instruction::OneToOne { .. } => true,
         Instruction::Par(_) => false,
         Instruction::ParForall(_) => false,
-        Instruction::MakeCopy(_) => false,
-        Instruction::ParCopy(_) => false,
-        Instruction::ParForallCopy(_) => false,
+        Instruction::MakeCopy { .. } => false,
+        Instruction::ParCopy { .. } => false,
+        Instruction::ParForallCopy { .. } => false,
         Instruction::Verdict => false,
         Instruction::Reduce { .. } => false,
         Instruction::Inside { .. } => true,
         Instruction::Print(_) => false,
         Instruction::FoldCopy { .. } => false,
         Instruction::LastCopy { .. } => false,
-        Instruction::Remap(_) => false,
+        Instruction::Remap { .. } => false,
     }
 }
 

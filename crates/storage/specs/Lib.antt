@@ -1,4 +1,5 @@
 pub mod Storage
 pub mod Effect
+pub mod Spots
 pub mod Truth
 pub mod Parted

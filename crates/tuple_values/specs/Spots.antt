@@ -1,8 +1,8 @@
 -- What contracts see of elements that are read.
 use Rattle.std.specs.Prelude.{List, map, Option, option_map}
 use Rattle.storage.specs.Storage.{Spot}
-use Rattle.owner_tables.specs.declared.spot.Spot as code
-use Rattle.owner_tables.specs.Spots.{spot_of}
+use Rattle.storage.specs.declared.spot.Spot as code
+use Rattle.storage.specs.Spots.{spot_of}
 
 abbrev pub read_of : Option code.Spot → Option Spot
 read_of = option_map spot_of

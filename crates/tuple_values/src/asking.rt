@@ -27,7 +27,7 @@ use array_meaning::FaultKind;
 use hpf_base::OutOfMemory;
 use node_code::Sub;
 use op_tables::Op;
-use owner_tables::Spot;
+use storage::Spot;
 use term_values::{Stop, fault};
 
 impl<'a> ParallelStatement<'a> {

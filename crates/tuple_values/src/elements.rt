@@ -2,10 +2,10 @@
 
 ghost use Rattle.std.specs.Prelude.{◌≡◌, ℤ, IfOk};
 ghost use Rattle.storage.specs.Storage.{Spot};
-ghost use Rattle.owner_tables.specs.Spots.{spot_of};
+ghost use Rattle.storage.specs.Spots.{spot_of};
 
 use hpf_base::OutOfMemory;
-use owner_tables::Spot;
+use storage::Spot;
 
 /// Where the values of elements come from.
 pub trait Elements {

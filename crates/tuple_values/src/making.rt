@@ -53,30 +53,32 @@ impl<'a> ParallelStatement<'a> {
         Ok(assigning(shapes, slots, p, space, target))
     }
 
-    /// An array expression, whose values go into its copy.
+    /// An array expression, whose values go into a copy.
     pub fn of_evaluation(
         alloc: Global,
         shapes: &'a [Dims],
         slots: &'a [i64],
         p: &'a Evaluation,
+        copy: usize,
     ) -> Result<ParallelStatement<'a>, OutOfMemory>
-        ensures { IfOk result (λ w. IsStatement (statement w) slots.now (evaluation_tuples shapes.now (evaluation p.now)) (copy_spot p.now.copy)) }
+        ensures { IfOk result (λ w. IsStatement (statement w) slots.now (evaluation_tuples shapes.now (evaluation p.now)) (copy_spot copy)) }
     {
         let space = section_space(alloc, slots, &p.over)?;
-        Ok(evaluating(shapes, slots, p, space, Target::Copy(p.copy), None))
+        Ok(evaluating(shapes, slots, p, space, Target::Copy(copy), None))
     }
 
-    /// The mask of a FORALL, whose values go into its copy.
+    /// The mask of a FORALL, whose values go into a copy.
     pub fn of_forall_mask(
         alloc: Global,
         shapes: &'a [Dims],
         slots: &'a [i64],
         p: &'a Evaluation,
+        copy: usize,
     ) -> Result<ParallelStatement<'a>, OutOfMemory>
-        ensures { IfOk result (λ w. IsStatement (statement w) slots.now (forall_mask_tuples shapes.now (evaluation p.now)) (copy_spot p.now.copy)) }
+        ensures { IfOk result (λ w. IsStatement (statement w) slots.now (forall_mask_tuples shapes.now (evaluation p.now)) (copy_spot copy)) }
     {
         let space = index_space(alloc, slots, &p.over)?;
-        Ok(evaluating(shapes, slots, p, space, Target::Copy(p.copy), None))
+        Ok(evaluating(shapes, slots, p, space, Target::Copy(copy), None))
     }
 
     /// A reduction of an array expression: of COUNT the values are 1 where the expression is true, and 0 where it is false.

@@ -11,7 +11,7 @@ use crate::here::Here;
 use crate::sections::section_place;
 use hpf_base::OutOfMemory;
 use node_code::{Form, Sub};
-use owner_tables::Spot;
+use storage::Spot;
 
 /// Puts the elements that an array expression reads behind the others, in order.
 #[cycle(form_reads)]

@@ -4,7 +4,7 @@ ghost use Rattle.std.specs.Prelude.{◌≡◌, ◌∷◌, [], length, IfErr, IfO
 ghost use Rattle.node_code.specs.Flat.{flat_value, or_zero};
 ghost use Rattle.node_code.specs.Forms.{SectionForm};
 ghost use Rattle.node_code.specs.Texts.{flat, form, forms_of, subs};
-ghost use Rattle.owner_tables.specs.Spots.{spot_of};
+ghost use Rattle.storage.specs.Spots.{spot_of};
 ghost use Rattle.term_values.specs.declared.stops.Stop.TheVariants.{Memory};
 ghost use Rattle.term_values.specs.Stops.{IsStop};
 ghost use Rattle.tuple_values.specs.Here.{operation_here, value_here, values_here};
@@ -15,9 +15,9 @@ use crate::sections::section_place;
 use array_meaning::FaultKind;
 use node_code::{Flat, Form, Sub};
 use op_tables::Op;
-use owner_tables::Spot;
 use slot_values::flat_or_zero;
 use smallvec::SmallVec;
+use storage::Spot;
 use term_values::{Stop, fault, operated, operated_of_two};
 
 /// Two values in order.

@@ -1,5 +1,5 @@
 -- Programs that break no rule.
-use Rattle.std.proofs.Common.{◌≡◌, ◌≤◌, ℕ, List, [], length}
+use Rattle.std.proofs.Common.{◌≡◌, ◌≤◌, ◌+◌, ℕ, List, [], length}
 use Rattle.std.specs.List.{flat_map}
 use Rattle.hpf_base.specs.FirstBreach.{Among}
 use Rattle.hpf_base.specs.Refusal.{NoBreach}
@@ -18,10 +18,10 @@ use Rattle.body_check.specs.ForallRules.{forall_breaches_at}
 use Rattle.array_meaning.specs.Resolution.{resolved_block, initial_state}
 use Rattle.array_meaning.specs.Serial.{outcome}
 use Rattle.machine_steps.specs.Agrees.{IsValidCode}
-use Rattle.machine_steps.specs.Layout.{IsDealt, Layout}
+use Rattle.machine_steps.specs.Layout.{AreOwned, IsDealt, Layout}
 use Rattle.node_code.specs.Instructions.{ArrayTable, meaning_of}
 use Rattle.lowering.specs.Lowered.{IsTable, MachineHas, opening}
-use Rattle.lowering.specs.StatementCode.{program_code}
+use Rattle.lowering.specs.StatementCode.{block_copies, program_code}
 use Rattle.lowering.specs.WellFormed.{IsWellFormedBlock}
 use Rattle.lowering.proofs.Outcomes.{outcome-is}
 use Rattle.lowering.proofs.Validity.{code-valid}
@@ -42,14 +42,15 @@ well_formed p names bodies =
     block_good t [] p.body
     (all_good t (all_heads p.body) (all_empty (name_breaches_at t) (all_heads p.body) own) (all_empty (forall_breaches_at (entries p)) (all_heads p.body) body))
 
-pub lowered : (p : MainProgram) (table : ArrayTable) (layouts : List Layout) → IsTable (initial_state (entries p)) table →
+pub lowered : (p : MainProgram) (room : ℕ) (table : ArrayTable) (layouts : List Layout) → IsTable (initial_state (entries p)) table →
+    block_copies (resolved_block (entries p) p.body) ≤ room → length layouts ≡ length (entries p) + room →
     HasNoBreach p → NoBreach (Among (body_breaches (entries p) p.body)) →
-    MachineHas (length (entries p)) table (opening (length (entries p)) (resolved_block (entries p) p.body) (initial_state (entries p)) layouts)
+    MachineHas (length (entries p)) table (opening (length (entries p)) room (resolved_block (entries p) p.body) (initial_state (entries p)) layouts)
     (outcome (entries p) p.body)
-lowered p table layouts is-table rules bodies = outcome-is (entries p) p.body table layouts is-table (well_formed p rules.names bodies)
+lowered p room table layouts is-table roomy laid rules bodies = outcome-is (entries p) room p.body table layouts is-table roomy laid (well_formed p rules.names bodies)
 
 pub valid : (count : ℕ) (p : MainProgram) (shapes : List Shape) (table : ArrayTable) → length shapes ≤ length (entries p) →
-    ((extents : List ℕ) → IsDealt count (table.copies extents)) → HasNoBreach p → NoBreach (Among (body_breaches (entries p) p.body)) →
+    ((layouts : List Layout) → AreOwned count layouts → (extents : List ℕ) → IsDealt count (table.copies layouts extents)) → HasNoBreach p → NoBreach (Among (body_breaches (entries p) p.body)) →
     IsValidCode (meaning_of table) count shapes (program_code (length (entries p)) (resolved_block (entries p) p.body))
 valid count p shapes table few dealt rules bodies =
     code-valid count (length (entries p)) shapes table few dealt (resolved_block (entries p) p.body) (well_formed p rules.names bodies)

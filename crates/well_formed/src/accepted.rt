@@ -1,6 +1,6 @@
 //! Programs that break no rule.
 
-ghost use Rattle.std.specs.Prelude.{◌≤◌, ℕ, List, length};
+ghost use Rattle.std.specs.Prelude.{◌≡◌, ◌≤◌, ◌+◌, ℕ, List, length};
 ghost use Rattle.hpf_base.specs.FirstBreach.{Among};
 ghost use Rattle.hpf_base.specs.Refusal.{NoBreach};
 ghost use Rattle.hpf_base.specs.declared.index.Shape.{Shape};
@@ -12,10 +12,10 @@ ghost use Rattle.body_check.specs.BodyRules.{body_breaches};
 ghost use Rattle.array_meaning.specs.Resolution.{resolved_block, initial_state};
 ghost use Rattle.array_meaning.specs.Serial.{outcome};
 ghost use Rattle.machine_steps.specs.Agrees.{IsValidCode};
-ghost use Rattle.machine_steps.specs.Layout.{IsDealt, Layout};
+ghost use Rattle.machine_steps.specs.Layout.{AreOwned, IsDealt, Layout};
 ghost use Rattle.node_code.specs.Instructions.{ArrayTable, meaning_of};
 ghost use Rattle.lowering.specs.Lowered.{IsTable, MachineHas, opening};
-ghost use Rattle.lowering.specs.StatementCode.{program_code};
+ghost use Rattle.lowering.specs.StatementCode.{block_copies, program_code};
 ghost use Rattle.lowering.specs.WellFormed.{IsWellFormedBlock};
 
 /// The resolved statements of a program that breaks no rule of names and no rule of bodies are well-formed, whatever the types and
@@ -26,19 +26,21 @@ pub fn programs_are_well_formed()
 {}
 
 /// The machine with whole arrays ends over the code of a program that breaks no rule of names, ranks and bodies as the program does:
-/// with the first fault, its line, kind and tuple, and the bytes that were printed before it, or finished with its bytes and arrays.
+/// with the first fault, its line, kind and tuple, and the bytes that were printed before it, or finished with its bytes and arrays. Behind
+/// the declared names there is room for as many copies as the code names, or more.
 pub fn accepted_programs_lowered()
-    ensures { (p : MainProgram) (table : ArrayTable) (layouts : List Layout) → IsTable (initial_state (entries p)) table
+    ensures { (p : MainProgram) (room : ℕ) (table : ArrayTable) (layouts : List Layout) → IsTable (initial_state (entries p)) table
+        → block_copies (resolved_block (entries p) p.body) ≤ room → length layouts ≡ length (entries p) + room
         → HasNoBreach p → NoBreach (Among (body_breaches (entries p) p.body))
         → MachineHas (length (entries p)) table
-        (opening (length (entries p)) (resolved_block (entries p) p.body) (initial_state (entries p)) layouts)
+        (opening (length (entries p)) room (resolved_block (entries p) p.body) (initial_state (entries p)) layouts)
         (outcome (entries p) p.body) }
 {}
 
 /// Every instruction of its code is one that so many nodes can run.
 pub fn accepted_code_is_valid()
     ensures { (count : ℕ) (p : MainProgram) (shapes : List Shape) (table : ArrayTable)
-        → length shapes ≤ length (entries p) → ((extents : List ℕ) → IsDealt count (table.copies extents))
+        → length shapes ≤ length (entries p) → ((layouts : List Layout) → AreOwned count layouts → (extents : List ℕ) → IsDealt count (table.copies layouts extents))
         → HasNoBreach p → NoBreach (Among (body_breaches (entries p) p.body))
         → IsValidCode (meaning_of table) count shapes (program_code (length (entries p)) (resolved_block (entries p) p.body)) }
 {}

@@ -3,7 +3,7 @@ use Rattle.std.proofs.lemmas.List.{length-replicate}
 use Rattle.std.specs.List.{list_any, range_with_len}
 use Rattle.storage.specs.Storage.{Spot}
 use Rattle.machine_steps.specs.Message.{names_spot}
-use Rattle.owner_tables.specs.Spots.{spot_of}
+use Rattle.storage.specs.Spots.{spot_of}
 use Rattle.comm_sets.specs.Noted.{is_sent}
 use Rattle.comm_sets.proofs.Computing.{are-nodes, computes-it, filter-more}
 use Rattle.comm_sets.proofs.Noting.{noted-more}

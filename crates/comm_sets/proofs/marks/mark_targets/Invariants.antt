@@ -1,7 +1,7 @@
 use Rattle.std.proofs.Common.{◌&&◌, nat_eq, not, take}
 use Rattle.std.specs.List.{list_any}
 use Rattle.machine_steps.specs.Layout.{owns_spot}
-use Rattle.owner_tables.specs.Spots.{spot_of}
+use Rattle.storage.specs.Spots.{spot_of}
 use Rattle.comm_sets.specs.Marks.{Marked}
 use Rattle.comm_sets.proofs.marks.mark_targets.Given as goal
 

@@ -1,7 +1,7 @@
 use Rattle.std.proofs.lemmas.Cmp.{on_total}
 use Rattle.std.proofs.lemmas.List.Filters.{dedup_is}
 use Rattle.std.proofs.lemmas.List.Kept.{IsStrictlySortedBy-dedup}
-use Rattle.owner_tables.specs.Spots.{spot_of}
+use Rattle.storage.specs.Spots.{spot_of}
 use Rattle.comm_sets.specs.Ascending.{spot_cmp}
 use Rattle.storage.specs.Storage.{is_same_spot}
 use Rattle.comm_sets.proofs.Arranging.{sorted-map, same-among}

@@ -1,6 +1,6 @@
 use Rattle.std.proofs.Common.{◌&&◌, map, option_map, take}
 use Rattle.machine_steps.specs.Message.{names_spot}
-use Rattle.owner_tables.specs.Spots.{spot_of}
+use Rattle.storage.specs.Spots.{spot_of}
 use Rattle.comm_sets.specs.Noted.{Noted, is_sent}
 use Rattle.comm_sets.proofs.receiving.receive_reads.Given as goal
 

@@ -3,7 +3,7 @@ use Rattle.std.specs.List.{list_any, range_with_len}
 use Rattle.storage.specs.Storage.{Spot}
 use Rattle.storage.specs.Storage.{is_same_spot}
 use Rattle.machine_steps.specs.Layout.{owns_spot, least_owner_of}
-use Rattle.owner_tables.specs.Spots.{spot_of}
+use Rattle.storage.specs.Spots.{spot_of}
 use Rattle.comm_sets.specs.Moves.{is_moved}
 use Rattle.comm_sets.proofs.Ascending.{same-true}
 use Rattle.comm_sets.proofs.Computing.{are-nodes, computes-it}

@@ -1,7 +1,7 @@
 use Rattle.std.proofs.Common.{[], ◌∷◌, ◌++◌, filter, sym, ◌∙◌, ap}
 use Rattle.std.proofs.lemmas.List.{append_assoc}
 use Rattle.comm_sets.specs.Marks.{is_marked_pair}
-use Rattle.comm_sets.specs.Rounds.{pair_of}
+use Rattle.machine_steps.specs.Rounds.{pair_of}
 use Rattle.comm_sets.proofs.Pairs.{passing, target-more}
 use Rattle.comm_sets.proofs.rounds.push_pairs.Goals as goal
 

@@ -1,9 +1,10 @@
 use Rattle.std.proofs.Common.{◌≡◌, ◌≢◌, ◌≤◌, ◌*◌, false, List, All, IfOk, filter, replicate, sym, ◌∙◌, ap, subst, arith}
 use Rattle.std.specs.List.{AllPairs}
-use Rattle.redistribute_rounds.specs.declared.pair.Pair.{Pair}
-use Rattle.redistribute_rounds.specs.Rounds.{IsBetween, rotation_rounds}
+use Rattle.letters.specs.declared.pair.Pair.{Pair}
+use Rattle.machine_steps.specs.Rounds.{rotation_rounds}
+use Rattle.redistribute_rounds.specs.Rounds.{IsBetween}
 use Rattle.comm_sets.specs.Marks.{is_marked, is_marked_pair}
-use Rattle.comm_sets.specs.Rounds.{all_pairs, moving_pairs}
+use Rattle.machine_steps.specs.Rounds.{all_pairs, moving_pairs}
 use Rattle.comm_sets.proofs.Pairs.{kept-between, kept-distinct, marked-moving}
 use Rattle.comm_sets.proofs.rounds.remap_rounds.Goals as goal
 

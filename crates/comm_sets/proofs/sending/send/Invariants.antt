@@ -2,7 +2,7 @@ use Rattle.std.specs.List.{list_any}
 use Rattle.std.proofs.Common.{◌&&◌, not, nat_eq, take}
 use Rattle.storage.specs.Storage.{is_same_spot}
 use Rattle.machine_steps.specs.Layout.{owns_spot}
-use Rattle.owner_tables.specs.Spots.{spot_of}
+use Rattle.storage.specs.Spots.{spot_of}
 use Rattle.comm_sets.specs.Noted.{Noted}
 use Rattle.comm_sets.proofs.sending.send.Given as goal
 

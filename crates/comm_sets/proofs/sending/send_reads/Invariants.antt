@@ -1,7 +1,7 @@
 use Rattle.std.specs.List.{list_any}
 use Rattle.std.proofs.Common.{◌&&◌, nat_eq, map, option_map, take}
 use Rattle.machine_steps.specs.Message.{names_spot}
-use Rattle.owner_tables.specs.Spots.{spot_of}
+use Rattle.storage.specs.Spots.{spot_of}
 use Rattle.comm_sets.specs.Noted.{Noted, is_sent}
 use Rattle.comm_sets.proofs.sending.send_reads.Given as goal
 

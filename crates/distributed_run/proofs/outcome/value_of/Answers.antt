@@ -2,7 +2,7 @@ use Rattle.std.proofs.Common.{rules, pos, get_or, ◌∙◌, ap, arith, w64}
 use Rattle.std.proofs.lemmas.Int.{to_z-of_z}
 use Rattle.storage.specs.Storage.{row_of}
 use Rattle.machine_steps.specs.Layout.{least_owner_of}
-use Rattle.owner_tables.specs.Spots.{spot_of}
+use Rattle.storage.specs.Spots.{spot_of}
 use Rattle.distributed_run.proofs.LastValues.{least-has, value-by}
 use Rattle.distributed_run.proofs.outcome.value_of.Goals as goal
 

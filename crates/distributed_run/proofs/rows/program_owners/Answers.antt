@@ -10,10 +10,10 @@ loop-place-preserved c = record {
   nodes = ap (λ (o : OwnersView). o.nodes) c.in_ok-push.ensures.row ∙ c.loop-place.invariant.nodes;
   valid = subst (All (IsArrayMap c.args.nodes)) (sym c.maps_behind-rest.ensures)
       (all-behind c.args.nodes c.entry_at.result.now.what c.loop-place.rest.now c.loop-place.invariant.valid);
-  layouts = ap (λ l. l ++ program_layouts c.args.nodes (drop (c.loop-place.place + 1) c.args.names.now) c.maps_behind-rest.result.now)
+  layouts = ap (λ l. l ++ program_layouts c.args.nodes c.args.copies (drop (c.loop-place.place + 1) c.args.names.now) c.maps_behind-rest.result.now)
       (ap (λ (o : OwnersView). o.layouts) c.in_ok-push.ensures.row ∙ ap (λ (t : TableView). c.loop-place.owners.layouts ++ t.layout ∷ []) c.in_ok-table_by.ensures)
       ∙ ap (λ m. (c.loop-place.owners.layouts ++ layout_by c.args.nodes c.entry_at.result.now.what c.loop-place.rest.now ∷ [])
-      ++ program_layouts c.args.nodes (drop (c.loop-place.place + 1) c.args.names.now) m) c.maps_behind-rest.ensures
-      ∙ next-layout c.args.nodes c.args.names.now c.loop-place.place c.entry_at.result.now c.loop-place.owners.layouts
-      (program_layouts c.args.nodes c.args.names.now c.args.maps.now) c.loop-place.rest.now c.entry_at.ensures c.loop-place.invariant.layouts;
+      ++ program_layouts c.args.nodes c.args.copies (drop (c.loop-place.place + 1) c.args.names.now) m) c.maps_behind-rest.ensures
+      ∙ next-layout c.args.nodes c.args.copies c.args.names.now c.loop-place.place c.entry_at.result.now c.loop-place.owners.layouts
+      (program_layouts c.args.nodes c.args.copies c.args.names.now c.args.maps.now) c.loop-place.rest.now c.entry_at.ensures c.loop-place.invariant.layouts;
 }

@@ -8,5 +8,5 @@ abbrev pub invariant-loop-place : goal.invariant-loop-place
 invariant-loop-place l = record {
   nodes : l.owners.nodes ≡ l.nodes;
   valid : All (IsArrayMap l.nodes) l.rest;
-  layouts : l.owners.layouts ++ program_layouts l.nodes (drop l.place l.names) l.rest ≡ program_layouts l.nodes l.names l.maps;
+  layouts : l.owners.layouts ++ program_layouts l.nodes l.copies (drop l.place l.names) l.rest ≡ program_layouts l.nodes l.copies l.names l.maps;
 }

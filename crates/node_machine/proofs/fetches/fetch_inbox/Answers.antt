@@ -1,6 +1,6 @@
 use Rattle.std.proofs.Common.{◌≡◌, ◌<◌, ◌++◌, ◌∷◌, [], true, false, subst, ◌∙◌, rules}
 use Rattle.machine_steps.specs.Layout.{least_owner_of, owns_spot}
-use Rattle.owner_tables.specs.Spots.{spot_of}
+use Rattle.storage.specs.Spots.{spot_of}
 use Rattle.node_machine.proofs.FetchLaws.{fetch-owned, fetch-source}
 use Rattle.node_machine.proofs.fetches.fetch_inbox.Goals as goal
 

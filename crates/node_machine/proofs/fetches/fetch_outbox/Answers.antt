@@ -1,7 +1,7 @@
 use Rattle.std.proofs.Common.{◌≡◌, ◌∷◌, [], ◌∙◌}
 use Rattle.machine_steps.specs.Layout.{least_owner_of}
 use Rattle.machine_steps.specs.Node.{local_read, parcel}
-use Rattle.owner_tables.specs.Spots.{spot_of}
+use Rattle.storage.specs.Spots.{spot_of}
 use Rattle.node_machine.proofs.FetchLaws.{fetch-idle}
 use Rattle.node_machine.proofs.fetches.fetch_outbox.Goals as goal
 

@@ -1,6 +1,6 @@
 use Rattle.std.proofs.Common.{◌≡◌, ◌++◌, ◌∷◌, [], if◌then◌else◌, not, refl, sym, ◌∙◌, ap, arith}
 use Rattle.machine_steps.specs.Node.{parcel}
-use Rattle.owner_tables.specs.Spots.{spot_of}
+use Rattle.storage.specs.Spots.{spot_of}
 use Rattle.node_machine.specs.Fetches.{fetch_sends}
 use Rattle.node_machine.proofs.FetchLaws.{fetch-sent}
 use Rattle.node_machine.proofs.Picks.{parcels-below, picked-more}

@@ -1,7 +1,7 @@
 use Rattle.std.proofs.Common.{◌≡◌, ◌≤◌, map}
 use Rattle.std.specs.List.{range_with_len, filter}
 use Rattle.machine_steps.specs.Node.{parcel}
-use Rattle.owner_tables.specs.Spots.{spot_of}
+use Rattle.storage.specs.Spots.{spot_of}
 use Rattle.node_machine.specs.Fetches.{fetch_sends}
 use Rattle.node_machine.proofs.fetches.fetched_parcels.Given as goal
 

@@ -1,6 +1,6 @@
 use Rattle.std.proofs.Common.{◌≡◌, ◌∷◌, [], false, pos, slice_index_or, ap, ◌∙◌, rules}
 use Rattle.machine_steps.specs.Layout.{owns_spot}
-use Rattle.owner_tables.specs.Spots.{spot_of}
+use Rattle.storage.specs.Spots.{spot_of}
 use Rattle.node_machine.proofs.FetchLaws.{fetch-received}
 use Rattle.node_machine.proofs.fetches.fetched_value.Goals as goal
 

@@ -1,5 +1,5 @@
 use Rattle.std.proofs.Common.{◌≡◌, ◌∙◌, ap}
-use Rattle.owner_tables.specs.CopyLayout.{copy_mapping, copy_shape}
+use Rattle.machine_steps.specs.CopyLayout.{copy_mapping, copy_shape}
 use Rattle.owner_tables.proofs.CopyLaws.{copy-laid}
 use Rattle.owner_tables.proofs.copies.copy_layout.Goals as goal
 

@@ -1,6 +1,6 @@
 use Rattle.std.proofs.Common.{◌≡◌, map, take}
 use Rattle.machine_steps.specs.Node.{local_read}
-use Rattle.owner_tables.specs.Spots.{spot_of}
+use Rattle.storage.specs.Spots.{spot_of}
 use Rattle.owner_tables.proofs.held_values.local_values.Given as goal
 
 abbrev pub invariant-loop-spot : goal.invariant-loop-spot

@@ -1,7 +1,7 @@
 use Rattle.std.proofs.Common.{◌≡◌, ◌==◌, ◌&&◌, Bool, true, ◌∙◌, ap}
 use Rattle.std.specs.Cmp.Lexicographic.{pointwise}
 use Rattle.mappings.specs.contracts.mapping.MapDimPartialEq.TheImpl.{eq-value}
-use Rattle.owner_tables.specs.SameLayouts.{is_same_dim}
+use Rattle.machine_steps.specs.SameLayouts.{is_same_dim}
 use Rattle.owner_tables.proofs.SameLayouts.{dims-eq}
 use Rattle.owner_tables.proofs.same.is_same_mapping.Goals as goal
 

@@ -1,6 +1,6 @@
 use Rattle.std.proofs.Common.{Some, None, if◌then◌else◌, sym, ◌∙◌, ap}
 use Rattle.machine_steps.specs.Layout.{in_bounds}
-use Rattle.owner_tables.specs.Spots.{spot_of}
+use Rattle.storage.specs.Spots.{spot_of}
 use Rattle.tuple_values.specs.Spots.{read_of}
 use Rattle.part_steps.proofs.Nodes.{root-computes}
 use Rattle.part_steps.proofs.computing.assigners.Goals as goal

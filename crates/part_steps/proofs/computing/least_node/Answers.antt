@@ -1,7 +1,7 @@
 use Rattle.std.proofs.Common.{◌≡◌, [], ◌∷◌, if◌then◌else◌, Some, None, get_or, sym, ◌∙◌, ap}
 use Rattle.machine_steps.specs.Layout.{in_bounds, owns_spot}
 use Rattle.machine_steps.specs.Message.{least_or_zero}
-use Rattle.owner_tables.specs.Spots.{spot_of}
+use Rattle.storage.specs.Spots.{spot_of}
 use Rattle.owner_tables.proofs.Ranges.{filter-head}
 use Rattle.tuple_values.specs.Spots.{read_of}
 use Rattle.part_steps.proofs.computing.least_node.Goals as goal

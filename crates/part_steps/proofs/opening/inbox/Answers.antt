@@ -3,7 +3,7 @@ use Rattle.std.specs.List.{range_with_len}
 use Rattle.storage.specs.Storage.{Spot}
 use Rattle.machine_steps.specs.Message.{message}
 use Rattle.machine_steps.specs.Node.{part_sends}
-use Rattle.owner_tables.specs.Spots.{spot_of}
+use Rattle.storage.specs.Spots.{spot_of}
 use Rattle.part_steps.specs.Parts.{part_of}
 use Rattle.part_steps.specs.Views.{part_view}
 use Rattle.owner_tables.proofs.Listed.{is-listed, listed-is}

@@ -1,5 +1,5 @@
 use Rattle.std.proofs.Common.{◌≡◌, take}
-use Rattle.redistribute_rounds.specs.Rounds.{rotation_round}
+use Rattle.machine_steps.specs.Rounds.{rotation_round}
 use Rattle.redistribute_rounds.proofs.rotation.rotation_round.Given as goal
 
 abbrev pub invariant-loop-pair : goal.invariant-loop-pair

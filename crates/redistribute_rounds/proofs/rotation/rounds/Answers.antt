@@ -1,7 +1,8 @@
 use Rattle.std.proofs.Common.{◌≡◌, ◌+◌, ◌-◌, [], ◌∷◌, ◌++◌, map, filter, sym, ◌∙◌, ap, subst, arith}
 use Rattle.std.proofs.lemmas.List.FromFn.{filter_of_map_range_with_len_more}
 use Rattle.std.specs.List.{range_with_len}
-use Rattle.redistribute_rounds.specs.Rounds.{rotation_round, has_pair, AreLegal}
+use Rattle.machine_steps.specs.Rounds.{rotation_round, has_pair}
+use Rattle.redistribute_rounds.specs.Rounds.{AreLegal}
 use Rattle.redistribute_rounds.proofs.Legal.{rotation_legal}
 use Rattle.redistribute_rounds.proofs.rotation.rounds.Goals as goal
 

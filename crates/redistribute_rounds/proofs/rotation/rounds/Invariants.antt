@@ -1,6 +1,6 @@
 use Rattle.std.proofs.Common.{◌≡◌, ◌-◌, ◌≤◌, map, filter, max}
 use Rattle.std.specs.List.{range_with_len}
-use Rattle.redistribute_rounds.specs.Rounds.{rotation_round, has_pair}
+use Rattle.machine_steps.specs.Rounds.{rotation_round, has_pair}
 use Rattle.redistribute_rounds.proofs.rotation.rounds.Given as goal
 
 abbrev pub invariant-loop-shift : goal.invariant-loop-shift

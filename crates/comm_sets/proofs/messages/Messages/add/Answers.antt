@@ -1,7 +1,7 @@
 use Rattle.std.proofs.Common.{◌<◌, ◌&&◌, nat_eq, length, map, set, ap, subst, arith}
 use Rattle.std.proofs.lemmas.List.{length-map}
 use Rattle.storage.specs.Storage.{is_same_spot}
-use Rattle.owner_tables.specs.Spots.{spot_of}
+use Rattle.storage.specs.Spots.{spot_of}
 use Rattle.comm_sets.specs.Noted.{Lists, Noted}
 use Rattle.comm_sets.proofs.Noting.{noted-row}
 use Rattle.comm_sets.proofs.messages.Messages.add.Goals as goal

@@ -1,6 +1,6 @@
 use Rattle.std.proofs.Common.{◌<◌, length, map, arith}
 use Rattle.std.proofs.lemmas.List.{length-map}
-use Rattle.owner_tables.specs.Spots.{spot_of}
+use Rattle.storage.specs.Spots.{spot_of}
 use Rattle.comm_sets.proofs.Arranging.{arranged-more}
 use Rattle.comm_sets.proofs.messages.Messages.arrange.Goals as goal
 

@@ -1,5 +1,5 @@
 use Rattle.std.proofs.Common.{map}
-use Rattle.owner_tables.specs.Spots.{spot_of}
+use Rattle.storage.specs.Spots.{spot_of}
 use Rattle.comm_sets.specs.Noted.{ArrangedTo}
 use Rattle.comm_sets.proofs.messages.Messages.arrange.Given as goal
 

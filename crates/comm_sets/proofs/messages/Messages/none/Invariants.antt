@@ -1,5 +1,5 @@
 use Rattle.std.proofs.Common.{◌≡◌, [], map, replicate}
-use Rattle.owner_tables.specs.Spots.{spot_of}
+use Rattle.storage.specs.Spots.{spot_of}
 use Rattle.comm_sets.proofs.messages.Messages.none.Given as goal
 
 abbrev pub invariant-loop-node : goal.invariant-loop-node

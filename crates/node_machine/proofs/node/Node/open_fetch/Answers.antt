@@ -2,7 +2,7 @@ use Rattle.std.proofs.Common.{◌<◌, slice_index_or, ◌∙◌, rules}
 use Rattle.std.specs.List.{range_with_len}
 use Rattle.machine_steps.specs.Layout.{sizes}
 use Rattle.machine_steps.specs.Node.{settled}
-use Rattle.owner_tables.specs.Spots.{spot_of}
+use Rattle.storage.specs.Spots.{spot_of}
 use Rattle.node_machine.proofs.FetchLaws.{fetch-parcels, fetch-sources}
 use Rattle.node_machine.proofs.node.Node.open_fetch.Goals as goal
 

@@ -1,7 +1,7 @@
 use Rattle.std.proofs.Common.{w64, SFits, map, ◌∙◌, rules}
 use Rattle.std.proofs.lemmas.Int.{to_z-of_z}
 use Rattle.machine_steps.specs.Message.{message}
-use Rattle.owner_tables.specs.Spots.{spot_of}
+use Rattle.storage.specs.Spots.{spot_of}
 use Rattle.part_steps.specs.Parts.{part_of}
 use Rattle.part_steps.specs.Views.{part_view}
 use Rattle.owner_tables.proofs.Listed.{is-listed}

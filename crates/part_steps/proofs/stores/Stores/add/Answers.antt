@@ -3,7 +3,7 @@ use Rattle.std.proofs.lemmas.Int.{to_z-of_z}
 use Rattle.storage.specs.Storage.{Spot, write}
 use Rattle.machine_steps.specs.Layout.{address, owns_spot, sizes}
 use Rattle.machine_steps.specs.Node.{local_spot}
-use Rattle.owner_tables.specs.Spots.{spot_of}
+use Rattle.storage.specs.Spots.{spot_of}
 use Rattle.part_steps.specs.Stores.{stored_all}
 use Rattle.part_steps.proofs.Held.{held-is, held-none, held-owner}
 use Rattle.part_steps.proofs.StoreLaws.{stored-here}

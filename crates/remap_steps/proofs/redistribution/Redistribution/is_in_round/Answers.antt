@@ -1,6 +1,6 @@
 use Rattle.std.proofs.Common.{[], get_or, ◌∙◌, ap}
 use Rattle.std.specs.List.{list_any}
-use Rattle.comm_sets.specs.Rounds.{is_pair}
+use Rattle.machine_steps.specs.Rounds.{is_pair}
 use Rattle.remap_steps.proofs.Made.{seen}
 use Rattle.remap_steps.proofs.Nodes.{got, stands-sends}
 use Rattle.remap_steps.proofs.redistribution.Redistribution.is_in_round.Goals as goal

@@ -2,7 +2,7 @@ use Rattle.std.proofs.Common.{map, refl, sym, ◌∙◌, ap, arith}
 use Rattle.std.specs.List.{range_with_len}
 use Rattle.machine_steps.specs.Layout.{sizes}
 use Rattle.machine_steps.specs.Message.{remap_message}
-use Rattle.comm_sets.specs.Rounds.{remap_rounds}
+use Rattle.machine_steps.specs.Rounds.{remap_rounds}
 use Rattle.remap_steps.proofs.redistribution.Redistribution.new.Goals as goal
 
 pub invariant_of-result : goal.invariant_of-result

@@ -1,7 +1,7 @@
 use Rattle.std.proofs.Common.{◌≡◌, ◌<◌, false, w64, SFits, map, sym, ◌∙◌, arith, rules}
 use Rattle.std.proofs.lemmas.Int.{to_z-of_z}
 use Rattle.machine_steps.specs.Layout.{least_owner_of, owns_spot}
-use Rattle.owner_tables.specs.Spots.{spot_of}
+use Rattle.storage.specs.Spots.{spot_of}
 use Rattle.owner_tables.proofs.Listed.{is-listed}
 use Rattle.remap_steps.specs.Redistributions.{message_between}
 use Rattle.remap_steps.proofs.Made.{seen}

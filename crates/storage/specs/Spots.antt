@@ -1,6 +1,6 @@
--- What contracts see of an element.
+-- What contracts see of an element that code holds.
 use Rattle.storage.specs.Storage.{Spot}
-use Rattle.owner_tables.specs.declared.spot.Spot as code
+use Rattle.storage.specs.declared.spot.Spot as code
 
 abbrev pub spot_of : code.Spot → Spot
 spot_of spot = record { row = spot.row; at = spot.at }

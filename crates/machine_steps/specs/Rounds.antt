@@ -1,12 +1,31 @@
 -- The rounds of a redistribution (HPF 2.0, 8.3).
-use Rattle.std.specs.Prelude.{ℕ, ◌==◌, ◌&&◌, not, Bool, List, [], length, map, filter, slice_index_or}
+use Rattle.std.specs.Prelude.{ℕ, ◌+◌, ◌-◌, ◌%◌, ◌==◌, ◌&&◌, not, Bool, true, false, List, [], ◌∷◌, length, map, filter, slice_index_or}
 use Rattle.std.specs.List.{flat_map, list_any, range_with_len}
+use Rattle.letters.specs.declared.pair.Pair.{Pair}
 use Rattle.machine_steps.specs.Instr.{Remapping, Rounds}
 use Rattle.machine_steps.specs.Layout.{Layout}
 use Rattle.machine_steps.specs.Machine.{remapped}
 use Rattle.machine_steps.specs.Message.{has_any, remap_message}
-use Rattle.redistribute_rounds.specs.declared.pair.Pair.{Pair}
-use Rattle.redistribute_rounds.specs.Rounds.{rotation_rounds}
+
+-- ---- the rounds of a rotation
+
+-- how many nodes the target lies behind the source, where node 0 comes behind the last node
+abbrev pub round_of : ℕ → Pair → ℕ
+round_of nodes pair = (pair.to.0 + nodes - pair.from.0) % nodes
+
+-- the pairs of one round of the rotation, as given
+abbrev pub rotation_round : ℕ → List Pair → ℕ → List Pair
+rotation_round nodes pairs r = filter (λ pair. round_of nodes pair == r) pairs
+
+abbrev pub has_pair : List Pair → Bool
+has_pair [] = false
+has_pair (pair ∷ pairs) = true
+
+-- the rounds of the rotation that have a pair, in order
+abbrev pub rotation_rounds : ℕ → List Pair → List (List Pair)
+rotation_rounds nodes pairs = filter has_pair (map (rotation_round nodes pairs) (range_with_len 1 (nodes - 1)))
+
+-- ---- the rounds of the pairs with a message
 
 abbrev pub pair_of : (from to : ℕ) → Pair
 pair_of from to = record { from = record { 0 = from }; to = record { 0 = to } }
