@@ -2,7 +2,7 @@
 
 ghost use Rattle.std.specs.Prelude.{◌≡◌, Some};
 ghost use Rattle.op_tables.specs.Joins.{IsOverNumbers};
-ghost use Rattle.op_tables.specs.Reductions.{joined_by, made, of_truths, of_values, reduction_of};
+ghost use Rattle.op_tables.specs.Reductions.{combined, joined_by, made, of_truths, of_values, reduction_of};
 
 use crate::join::Join;
 use crate::op::Op;
@@ -36,6 +36,15 @@ pub struct Reduction {
     pub join: Join,
     /// What is made of each.
     pub made: Made,
+}
+
+impl Reduction {
+    /// The value of the elements so far with one element more. It takes no memory.
+    pub fn combined(self, so_far: i64, v: i64) -> i64
+        ensures { result ≡ combined self so_far v }
+    {
+        self.join.join(so_far, self.made.of(v))
+    }
 }
 
 /// The reduction of SUM, PRODUCT, MAXVAL, MINVAL, COUNT, ANY or ALL. That of anything else is the sum. It takes no memory.
