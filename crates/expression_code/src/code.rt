@@ -6,6 +6,7 @@ ghost use Rattle.lowering.specs.ExpressionCode.{all_parts_code, all_slots_of, co
 ghost use Rattle.node_code.specs.Flat.{Operated};
 ghost use Rattle.node_code.specs.Instructions as code;
 ghost use Rattle.node_code.specs.Texts.{instruction, instructions};
+ghost use Rattle.op_tables.specs.Reductions.{reduction_of};
 ghost use Rattle.resolved_program.specs.Resolved.{control, subscripts_of, term, terms_of};
 ghost use Rattle.expression_code.specs.Subscripts.{subscript_code};
 
@@ -17,7 +18,7 @@ use crate::texts::joined;
 use crate::values::flats_of;
 use hpf_base::OutOfMemory;
 use node_code::{Flat, Instruction};
-use op_tables::Op;
+use op_tables::{Op, reduction_of};
 use resolved_program::{Control, SectionSubscript, Term};
 use std::alloc::Global;
 
@@ -132,13 +133,13 @@ fn reduction_code(
 
 /// The Reduce of a reduction.
 fn reduce(alloc: Global, line: u32, b: usize, op: Op, t: &Term) -> Result<Instruction, OutOfMemory>
-    ensures { IfOk result (λ i. instruction i ≡ code.Reduce (own_evaluation line (form_of b (term t.now))) op (b + parts_slots (term t.now))) }
+    ensures { IfOk result (λ i. instruction i ≡ code.Reduce (own_evaluation line (form_of b (term t.now))) (reduction_of op) (b + parts_slots (term t.now))) }
 {
     let evaluation = own_evaluation(alloc, line, b, t)?;
     let slot = plus(b, parts_slots(t)?)?;
     Ok(Instruction::Reduce {
         evaluation,
-        op,
+        reduction: reduction_of(op),
         slot,
     })
 }

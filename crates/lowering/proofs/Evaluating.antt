@@ -3,8 +3,9 @@ use Rattle.std.proofs.Common.{◌≡◌, ℕ, zero, suc, ◌+◌, ◌<◌, ◌�
 use Rattle.std.specs.Bool.{⊤}
 use Rattle.hpf_base.specs.ElementOrder.{product}
 use Rattle.op_tables.specs.declared.op.Op.{Op}
-use Rattle.op_tables.specs.declared.op.Op.TheVariants as op
-use Rattle.op_tables.specs.Reductions.{reduced, unit_of, combined}
+use Rattle.op_tables.specs.declared.reductions.Made.{Made}
+use Rattle.op_tables.specs.Joins.{unit}
+use Rattle.op_tables.specs.Reductions.{reduction_of, reduced, combined}
 use Rattle.expression_rules.specs.declared.dims.Dim.{Dim}
 use Rattle.storage.specs.Storage.{Storage, read}
 use Rattle.array_meaning.specs.Faults.{Cause, Fault, ◌>>=◌, at_tuple}
@@ -16,7 +17,7 @@ use Rattle.machine_steps.specs.Machine as machine
 use Rattle.machine_steps.specs.Machine.{Machine, Kept, keep, folded, verdict_control, stay, step, step_by, steps, instr_of}
 use Rattle.node_code.specs.Flat.{slot}
 use Rattle.node_code.specs.Forms.{Form, elemental_in}
-use Rattle.node_code.specs.Parallel.{at_line, outcome_of, reads_at, value_by_reads, Evaluation, evaluation_extents, evaluation_size, evaluation_tuples, reduction_tuples, counted, counted_outcome, joined, fold_of}
+use Rattle.node_code.specs.Parallel.{at_line, outcome_of, reads_at, value_by_reads, Evaluation, evaluation_extents, evaluation_size, evaluation_tuples, reduction_tuples, made_outcome, fold_of}
 use Rattle.node_code.specs.Instructions.{Instruction, OwnLimits, ArrayTable, meaning_of, go_on_if}
 use Rattle.lowering.specs.ExpressionCode.{own_evaluation, reduce_code}
 use Rattle.lowering.proofs.Reach.{Idle, HasAt, same-refl, same-set, slot-set, stands, one, Comes, comes-on}
@@ -56,26 +57,22 @@ fold-last : (join : ℤ → ℤ → ℤ) (unit : ℤ) (vs : List ℤ) (v : ℤ) 
 fold-last join unit [] v = refl
 fold-last join unit (w ∷ vs) v = fold-last join (join unit w) vs v
 
-joined-is : (o : Op) (so_far v : ℤ) → joined o so_far (counted o v) ≡ combined o so_far v
-joined-is op.Count so_far v = refl
-joined-is o so_far v = refl
-
-counted-outcome : (o : Op) (line : ℕ) (q : Result ℤ Cause) → IsOutcome line (counted_outcome o (outcome_of (at_line line q))) q
-counted-outcome o line (Ok v) = λ t. refl
-counted-outcome o line (Err c) = refl
+made-outcome : (m : Made) (line : ℕ) (q : Result ℤ Cause) → IsOutcome line (made_outcome m (outcome_of (at_line line q))) q
+made-outcome m line (Ok v) = λ t. refl
+made-outcome m line (Err c) = refl
 
 module _ (line : ℕ) (o : Op) (outcome : ℕ → Outcome Fault) where
   abbrev Folds : Result (List ℤ) Cause → ℕ → Type 0
-  Folds (Ok vs) t = folded (fold_of o) outcome t ≡ reduced o vs
+  Folds (Ok vs) t = folded (fold_of (reduction_of o).join) outcome t ≡ reduced o vs
   Folds (Err c) t = ⊤
 
-  fold-one : (t : ℕ) (r : Result (List ℤ) Cause) (q : Result ℤ Cause) → outcome t ≡ counted_outcome o (outcome_of (at_line line q)) → Folds r t
+  fold-one : (t : ℕ) (r : Result (List ℤ) Cause) (q : Result ℤ Cause) → outcome t ≡ made_outcome (reduction_of o).made (outcome_of (at_line line q)) → Folds r t
       → Folds (r >>= (λ vs. q >>= (λ v. Ok (vs ++ v ∷ [])))) (suc t)
-  fold-one t (Ok vs) (Ok v) e h = rw (e, h) (joined-is o (reduced o vs) v ∙ sym (fold-last (combined o) (unit_of o) vs v))
+  fold-one t (Ok vs) (Ok v) e h = rw (e, h) (sym (fold-last (combined (reduction_of o)) (unit (reduction_of o).join) vs v))
   fold-one t (Ok vs) (Err c) e h = tt
   fold-one t (Err c) q e h = tt
 
-  folds-all : (tuple : ℕ → List ℤ) (g : ℕ → Result ℤ Cause) (t : ℕ) → ((u : ℕ) → outcome u ≡ counted_outcome o (outcome_of (at_line line (at_tuple (tuple u) (g u)))))
+  folds-all : (tuple : ℕ → List ℤ) (g : ℕ → Result ℤ Cause) (t : ℕ) → ((u : ℕ) → outcome u ≡ made_outcome (reduction_of o).made (outcome_of (at_line line (at_tuple (tuple u) (g u)))))
       → Folds (each tuple g t) t
   folds-all tuple g zero h = refl
   folds-all tuple g (suc t) h = fold-one t (each tuple g t) (at_tuple (tuple t) (g t)) (h t) (folds-all tuple g t h)
@@ -107,15 +104,15 @@ module _ (table : ArrayTable) (row_count : ℕ) (code : List Instruction) (line 
       second v = Ok (reduced o v.elements)
 
       outcome : ℕ → Outcome Fault
-      outcome = machine.outcome_of (reduction_tuples table.shapes p o) slots (read rows)
+      outcome = machine.outcome_of (reduction_tuples table.shapes p (reduction_of o).made) slots (read rows)
 
-      tuple-is : (u : ℕ) → outcome u ≡ counted_outcome o (outcome_of (at_line line (at_tuple (positions ns u) (value_at s (positions ns u) r))))
-      tuple-is u = ap (counted_outcome o) (own-outcome n table.shapes s rows arrays line form slots r right named u)
+      tuple-is : (u : ℕ) → outcome u ≡ made_outcome (reduction_of o).made (outcome_of (at_line line (at_tuple (positions ns u) (value_at s (positions ns u) r))))
+      tuple-is u = ap (made_outcome (reduction_of o).made) (own-outcome n table.shapes s rows arrays line form slots r right named u)
 
       kept-is : Keeps line outcome (values_over s ns r count) count
       kept-is = keeps line outcome (positions ns) (λ u. value_at s (positions ns u) r) count
           (λ u lt. subst (λ z. IsOutcome line z (at_tuple (positions ns u) (value_at s (positions ns u) r))) (sym (tuple-is u))
-          (counted-outcome o line (at_tuple (positions ns u) (value_at s (positions ns u) r))))
+          (made-outcome (reduction_of o).made line (at_tuple (positions ns u) (value_at s (positions ns u) r))))
 
       control : Control Fault
       control = record { at = pc + 1; slots = slots; status = Running }
@@ -126,11 +123,11 @@ module _ (table : ArrayTable) (row_count : ℕ) (code : List Instruction) (line 
       judged : Option (Kept Fault) → ℤ → Idle row_count → Machine Instruction Fault
       judged kept v i = record (stands table row_count code (pc + 1) slots rows out i) { control = verdict_control kept stay control; substep = 2; joined = v }
 
-      two : (i : Idle row_count) → steps (meaning_of table) 2 (stands table row_count code (pc + 1) slots rows out i) ≡ judged (keep outcome 0 count None) (folded (fold_of o) outcome count) i
+      two : (i : Idle row_count) → steps (meaning_of table) 2 (stands table row_count code (pc + 1) slots rows out i) ≡ judged (keep outcome 0 count None) (folded (fold_of (reduction_of o).join) outcome count) i
       two i =
           ap (λ m. step (meaning_of table) m) (ap (λ z. step_by (instr_of (meaning_of table) z) (stands table row_count code (pc + 1) slots rows out i)) has.1.0
-          ∙ ap (λ k. values 1 (keep outcome 0 k None) (folded (fold_of o) outcome k) i) (ap product (own-shape n table.shapes s rows arrays line form slots r right named)))
-          ∙ ap (λ z. step_by (instr_of (meaning_of table) z) (values 1 (keep outcome 0 count None) (folded (fold_of o) outcome count) i)) has.1.0
+          ∙ ap (λ k. values 1 (keep outcome 0 k None) (folded (fold_of (reduction_of o).join) outcome k) i) (ap product (own-shape n table.shapes s rows arrays line form slots r right named)))
+          ∙ ap (λ z. step_by (instr_of (meaning_of table) z) (values 1 (keep outcome 0 count None) (folded (fold_of (reduction_of o).join) outcome count) i)) has.1.0
 
       three : (v : ℤ) (i : Idle row_count) → steps (meaning_of table) 1 (judged None v i) ≡ stands table row_count code (pc + 1 + 1) (slice_set slots x v) rows out
           (record { layouts = i.layouts; joined = v; laid = i.laid })
@@ -145,14 +142,14 @@ module _ (table : ArrayTable) (row_count : ℕ) (code : List Instruction) (line 
             (λ i. (
               3,
               record { layouts = i.layouts; joined = v; laid = i.laid },
-              ap (step (meaning_of table)) (two i ∙ ap (λ k. judged k (folded (fold_of o) outcome count) i) kept ∙ ap (λ z. judged None z i) joins) ∙ three v i
+              ap (step (meaning_of table)) (two i ∙ ap (λ k. judged k (folded (fold_of (reduction_of o).join) outcome count) i) kept ∙ ap (λ z. judged None z i) joins) ∙ three v i
                   ∙ ap (λ at. stands table row_count code at (slice_set slots x v) rows out (record { layouts = i.layouts; joined = v; laid = i.laid })) e,
             )),
             same-set b x slots v le,
             slot-set x slots v lt,
           )
       by_each (Err c) kept joins = λ i.
-          (judged (Some kept.0) (folded (fold_of o) outcome count) i, (2, two i ∙ ap (λ k. judged k (folded (fold_of o) outcome count) i) kept.1), ap Faulted kept.2, refl)
+          (judged (Some kept.0) (folded (fold_of (reduction_of o).join) outcome count) i, (2, two i ∙ ap (λ k. judged k (folded (fold_of (reduction_of o).join) outcome count) i) kept.1), ap Faulted kept.2, refl)
 
       limits : (q : Result ℕ Cause) → space_size ns (sections r) ≡ q → (i : Idle row_count)
           → steps (meaning_of table) 1 (stands table row_count code pc slots rows out i)

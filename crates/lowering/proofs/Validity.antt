@@ -3,6 +3,7 @@ use Rattle.std.proofs.Common.{ℕ, zero, suc, ◌+◌, ◌≤◌, List, [], ◌�
 use Rattle.std.specs.Bool.{⊤}
 use Rattle.hpf_base.specs.declared.index.Shape.{Shape}
 use Rattle.op_tables.specs.Operators.{can_divide}
+use Rattle.op_tables.specs.Reductions.{reduction_of}
 use Rattle.array_meaning.specs.Terms.{Term, Number, Scalar, Index, Element, Section, Apply, Reduce, Terms, NoTerm, More, SectionSubscripts, NoSubscript, Subscript, Triplet, Control}
 use Rattle.array_meaning.specs.Statements as statements
 use Rattle.array_meaning.specs.Statements.{Item, Text, Value, Elements, SectionAssignment, ElementAssignment, Block, Done, Then, Statement, AssignScalar, AssignElement, AssignSection, If, Do, Where, Forall, Stop, Exit, Cycle, Continue, Redistribute, Arms, NoArm, Arm}
@@ -43,7 +44,7 @@ module _ (count n : ℕ) (shapes : List Shape) (table : ArrayTable) (few : lengt
     term-valid line b (Element a ts) ok = both (codes_of line b ts) _ (terms-valid line b ts ok.1) (tt, tt)
     term-valid line b (Section a subs) ok = tt
     term-valid line b (Apply o ts) ok = both (codes_of line b ts) _ (terms-valid line b ts ok) (set-valid (can_divide o) line _ _)
-    term-valid line b (Reduce o t) ok = both (parts_code line b t) _ (parts-valid line b t ok.1) (tt, (fold-is o ok.0, tt))
+    term-valid line b (Reduce o t) ok = both (parts_code line b t) _ (parts-valid line b t ok.1) (tt, (fold-is (reduction_of o).join, tt))
 
     terms-valid : (line b : ℕ) (ts : Terms) → AreScalar n ts → AllValid (codes_of line b ts)
     terms-valid line b NoTerm ok = tt
@@ -65,7 +66,7 @@ module _ (count n : ℕ) (shapes : List Shape) (table : ArrayTable) (few : lengt
     parts-valid line b (Element a ts) ok = both (codes_of line b ts) _ (terms-valid line b ts ok.1) (tt, tt)
     parts-valid line b (Section a subs) ok = subscripts-valid line b subs ok.1
     parts-valid line b (Apply o ts) ok = all-parts-valid line b ts ok
-    parts-valid line b (Reduce o t) ok = both (parts_code line b t) _ (parts-valid line b t ok.1) (tt, (fold-is o ok.0, tt))
+    parts-valid line b (Reduce o t) ok = both (parts_code line b t) _ (parts-valid line b t ok.1) (tt, (fold-is (reduction_of o).join, tt))
 
     all-parts-valid : (line b : ℕ) (ts : Terms) → AreArrays n ts → AllValid (all_parts_code line b ts)
     all-parts-valid line b NoTerm ok = tt

@@ -1,7 +1,7 @@
 -- What the names in a nest of INDEPENDENT loops stand for (HPF 2.0, 5.1).
 use Rattle.std.specs.Prelude.{bytes_eq, List, [], ◌∷◌, ◌++◌, map, length, Option, Some, None, if◌then◌else◌}
 use Rattle.std.specs.List.{list_any, flat_map}
-use Rattle.op_tables.specs.declared.op.Op.{Op}
+use Rattle.op_tables.specs.declared.join.Join.{Join}
 use Rattle.syntax_tree.specs.Expression.{Expression, Parts}
 use Rattle.syntax_tree.specs.Statement.{Variable, Block, Done, Then, Statement, Assign, If, Do, Arms, NoArm, Arm, Otherwise, Without, With}
 use Rattle.expression_rules.specs.Symbols.{Name, SymbolTable, is_among, changed}
@@ -86,15 +86,15 @@ scalar_assigned h = []
 
 -- ---- reduction statements
 
-abbrev pub operator_if : Option Parts → List Name → Name → Expression → Option Op
+abbrev pub operator_if : Option Parts → List Name → Name → Expression → Option Join
 operator_if None xs x right = if is_among x xs then operator_in x right else None
 operator_if (Some ps) xs x right = None
 
 -- the operator of a reduction statement, where these are the variables of the REDUCTION lists; None of any other assignment
-abbrev pub reduction_operator : List Name → Variable → Expression → Option Op
+abbrev pub reduction_operator : List Name → Variable → Expression → Option Join
 reduction_operator xs left right = operator_if left.subscripts xs left.name right
 
-abbrev pub operator_of : Name → Option Op → List Operator
+abbrev pub operator_of : Name → Option Join → List Operator
 operator_of x None = []
 operator_of x (Some o) = record { variable = x; operator = o } ∷ []
 

@@ -3,8 +3,8 @@ use Rattle.std.specs.Prelude.{ℕ, ℤ, Bool, true, false, ◌&&◌, ◌||◌, n
 use Rattle.std.specs.List.{list_all, flat_map}
 use Rattle.hpf_base.specs.declared.refusal.Reason.TheVariants as reason
 use Rattle.hpf_base.specs.declared.refusal.Refusal.{Refusal}
-use Rattle.op_tables.specs.declared.op.Op.{Op}
-use Rattle.op_tables.specs.contracts.op.OpPartialEq.TheImpl.{eq-value}
+use Rattle.op_tables.specs.declared.join.Join.{Join}
+use Rattle.op_tables.specs.contracts.join.JoinPartialEq.TheImpl.{eq-value}
 use Rattle.op_tables.specs.Arguments.{is_reduction}
 use Rattle.op_tables.specs.Operators.{is_zero}
 use Rattle.syntax_tree.specs.Expression.{Expression, Name as Alone, Element, Call, Part, One, Parts}
@@ -120,15 +120,15 @@ is_assignable n x None = is_scalar (declared_as n.declared x)
 is_assignable n x (Some ps) = list_all is_single (items ps)
 
 -- the first reduction statement of the variable has the same operator
-abbrev pub has_one_operator : NestNames → Name → Option Op → Bool
+abbrev pub has_one_operator : NestNames → Name → Option Join → Bool
 has_one_operator n x None = true
 has_one_operator n x (Some o) = list_all (λ p. not (bytes_eq x p.variable) || eq-value.it o p.operator) n.operators
 
-abbrev pub own_variable : Name → Option Op → Option Name
+abbrev pub own_variable : Name → Option Join → Option Name
 own_variable x o = option_map (λ p. x) o
 
 -- with the operator that it has as a reduction statement
-abbrev pub is_assignment_allowed : NestNames → List Name → Variable → Expression → Option Op → Bool
+abbrev pub is_assignment_allowed : NestNames → List Name → Variable → Expression → Option Join → Bool
 is_assignment_allowed n do_variables left right o =
     is_assignable n left.name left.subscripts
     && (is_allowed_in_nest n do_variables (own_variable left.name o) (designator left) && is_allowed_in_nest n do_variables (own_variable left.name o) right)

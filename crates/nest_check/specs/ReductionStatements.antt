@@ -1,24 +1,14 @@
 -- Reduction statements (HPF 2.0, 5.1.2): `S = S + e` and its like, where e doesn't name S. `S = S + a + b` is none, since its left operand is
 -- `S + a`.
-use Rattle.std.specs.Prelude.{Bool, true, false, ◌&&◌, ◌||◌, not, bytes_eq, Option, Some, None, if◌then◌else◌}
+use Rattle.std.specs.Prelude.{Bool, true, false, ◌&&◌, ◌||◌, not, bytes_eq, Option, None, if◌then◌else◌}
 use Rattle.std.specs.List.{list_all}
+use Rattle.op_tables.specs.declared.join.Join.{Join}
 use Rattle.op_tables.specs.declared.op.Op.{Op}
 use Rattle.op_tables.specs.declared.op.Op.TheVariants as op
+use Rattle.op_tables.specs.Reductions.{joined_by}
 use Rattle.syntax_tree.specs.Expression.{Expression, Name as Alone, Element, Call, Binary, One, End, More}
 use Rattle.expression_rules.specs.Symbols.{Name}
 use Rattle.body_forms.specs.Subexpressions.{subexpressions}
-
--- the operator of the reduction that this operator or procedure makes; `+` and `-` are one
-abbrev pub reduction_of : Op → Option Op
-reduction_of op.Add = Some op.Add
-reduction_of op.Sub = Some op.Add
-reduction_of op.Mul = Some op.Mul
-reduction_of op.Max = Some op.Max
-reduction_of op.Min = Some op.Min
-reduction_of op.BitAnd = Some op.BitAnd
-reduction_of op.BitOr = Some op.BitOr
-reduction_of op.BitXor = Some op.BitXor
-reduction_of o = None
 
 abbrev pub is_difference : Op → Bool
 is_difference op.Sub = true
@@ -46,11 +36,11 @@ is_joined x a b = is_alone x a && is_without x b
 abbrev pub are_operands_of : Name → Op → Expression → Expression → Bool
 are_operands_of x o a b = is_joined x a b || (not (is_difference o) && is_joined x b a)
 
-abbrev pub operator_between : Name → Op → Expression → Expression → Option Op
-operator_between x o a b = if are_operands_of x o a b then reduction_of o else None
+abbrev pub operator_between : Name → Op → Expression → Expression → Option Join
+operator_between x o a b = if are_operands_of x o a b then joined_by o else None
 
--- the operator by which an expression joins a variable with a number, where it does
-abbrev pub operator_in : Name → Expression → Option Op
+-- what an expression joins a variable with a number by, where it does
+abbrev pub operator_in : Name → Expression → Option Join
 operator_in x (Binary o a b) = operator_between x o a b
 operator_in x (Call o (More (One a) (More (One b) End))) = operator_between x o a b
 operator_in x e = None

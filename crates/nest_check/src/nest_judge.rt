@@ -24,7 +24,7 @@ use body_forms::{
     all_pass, axis_passes, formats_pass, headers_pass, items_pass, option_passes, sides_pass,
 };
 use hpf_base::{Name, Reason, Refusal};
-use op_tables::Op;
+use op_tables::Join;
 use statement_walk::{Head, Judge, walk};
 use std::alloc::{AllocError, Global};
 use syntax_tree::{Expr, Mark, Ref, Stmt, Subscript};
@@ -173,7 +173,7 @@ fn is_allowed_with(
     do_variables: &[Name],
     left: &Ref,
     right: &Expr,
-    operator: Option<Op>,
+    operator: Option<Join>,
 ) -> bool
     ensures { result ≡ is_assignment_allowed names.now do_variables.now (variable left.now) (expression right.now) operator }
 {
@@ -195,7 +195,7 @@ fn all_three(a: bool, b: bool, c: bool) -> bool
 }
 
 /// The variable of a reduction statement.
-fn own_variable(name: Name, operator: Option<Op>) -> Option<Name>
+fn own_variable(name: Name, operator: Option<Join>) -> Option<Name>
     ensures { result ≡ own_variable name operator }
 {
     match operator {

@@ -4,7 +4,7 @@ ghost use Rattle.std.specs.Prelude.{◌≡◌, ◌∷◌, [], bytes_eq, IfOk, On
 ghost use Rattle.nest_check.specs.NestRules.{is_own};
 ghost use Rattle.std.specs.Prelude.{◌||◌, not};
 ghost use Rattle.std.specs.List.{list_all};
-ghost use Rattle.op_tables.specs.contracts.op.OpPartialEq.TheImpl.{eq-value};
+ghost use Rattle.op_tables.specs.contracts.join.JoinPartialEq.TheImpl.{eq-value};
 ghost use Rattle.syntax_tree.specs.Expression.{expression};
 ghost use Rattle.syntax_tree.specs.Statement.{independent, variable};
 ghost use Rattle.statement_walk.specs.Head.{Assignment};
@@ -15,7 +15,7 @@ use body_forms::BodyNames;
 use expression_rules::{SymbolTable, is_among};
 use hpf_base::Name;
 use name_table::{Names, What};
-use op_tables::Op;
+use op_tables::Join;
 use std::alloc::{AllocError, Global};
 use std::marker::Model;
 use syntax_tree::{Expr, Mark, Ref};
@@ -24,7 +24,7 @@ use syntax_tree::{Expr, Mark, Ref};
 #[derive(Drop)]
 pub(crate) struct Operator {
     variable: Name,
-    operator: Op,
+    operator: Join,
 }
 
 /// The names of a nest: those of its loops and lists, each once, and those that its body assigns.
@@ -119,7 +119,7 @@ impl<'a> NestNames<'a> {
     }
 
     /// With the operator of a reduction statement, unless there is one of its variable.
-    fn add_operator(&mut self, variable: Name, operator: Op) -> Result<(), AllocError>
+    fn add_operator(&mut self, variable: Name, operator: Join) -> Result<(), AllocError>
         ensures { OnOk result (self.new ≡ record self.old { operators = operator_added self.old.operators (record { variable = variable; operator = operator }) }) }
     {
         if !self.has_operator(&variable) {
@@ -150,14 +150,14 @@ impl<'a> NestNames<'a> {
     }
 
     /// The operator of an assignment that is a reduction statement.
-    pub(crate) fn reduction_operator(&self, left: &Ref, right: &Expr) -> Option<Op>
+    pub(crate) fn reduction_operator(&self, left: &Ref, right: &Expr) -> Option<Join>
         ensures { result ≡ reduction_operator self.now.reduction_names (variable left.now) (expression right.now) }
     {
         reduction_operator(&self.reduction_names, left, right)
     }
 
     /// The first reduction statement of the variable has this operator, if there is one.
-    pub(crate) fn has_one_operator(&self, variable: &Name, operator: Option<Op>) -> bool
+    pub(crate) fn has_one_operator(&self, variable: &Name, operator: Option<Join>) -> bool
         ensures { result ≡ has_one_operator self.now variable.now operator }
     {
         match operator {
@@ -224,7 +224,7 @@ fn is_own(name: &Name, own: Option<Name>) -> bool
 }
 
 /// Each operator of the variable is this one.
-fn all_fit(variable: &Name, operator: Op, operators: &[Operator]) -> bool
+fn all_fit(variable: &Name, operator: Join, operators: &[Operator]) -> bool
     ensures { result ≡ list_all (λ p. not (bytes_eq variable.now p.variable) || eq-value.it operator p.operator) operators.now }
 {
     let mut all = true;

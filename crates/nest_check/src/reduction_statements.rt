@@ -4,16 +4,16 @@ ghost use Rattle.std.specs.Prelude.{◌≡◌};
 ghost use Rattle.syntax_tree.specs.Expression.{Call, arguments_of, expression};
 ghost use Rattle.syntax_tree.specs.Statement.{variable};
 ghost use Rattle.nest_check.specs.NestNames.{reduction_operator};
-ghost use Rattle.nest_check.specs.ReductionStatements.{are_operands_of, is_alone, is_difference, is_joined, is_without, operator_between, operator_in, reduction_of};
+ghost use Rattle.nest_check.specs.ReductionStatements.{are_operands_of, is_alone, is_difference, is_joined, is_without, operator_between, operator_in};
 
 use body_forms::{ExpressionTest, all_pass};
 use expression_rules::is_among;
 use hpf_base::Name;
-use op_tables::Op;
+use op_tables::{Join, Op, joined_by};
 use syntax_tree::{Expr, Ref};
 
 /// The operator of a reduction statement, where these are the REDUCTION variables; None of any other assignment.
-pub(crate) fn reduction_operator(reduction: &[Name], left: &Ref, right: &Expr) -> Option<Op>
+pub(crate) fn reduction_operator(reduction: &[Name], left: &Ref, right: &Expr) -> Option<Join>
     ensures { result ≡ reduction_operator reduction.now (variable left.now) (expression right.now) }
 {
     match &left.subs {
@@ -26,8 +26,8 @@ pub(crate) fn reduction_operator(reduction: &[Name], left: &Ref, right: &Expr) -
     }
 }
 
-/// The operator by which an expression joins a variable with a number.
-fn operator_in(name: &Name, e: &Expr) -> Option<Op>
+/// What an expression joins a variable with a number by.
+fn operator_in(name: &Name, e: &Expr) -> Option<Join>
     ensures { result ≡ operator_in name.now (expression e.now) }
 {
     match e {
@@ -38,7 +38,7 @@ fn operator_in(name: &Name, e: &Expr) -> Option<Op>
 }
 
 /// The same of an intrinsic procedure with its arguments.
-fn operator_of_call(name: &Name, op: Op, arguments: &[Expr]) -> Option<Op>
+fn operator_of_call(name: &Name, op: Op, arguments: &[Expr]) -> Option<Join>
     ensures { result ≡ operator_in name.now (Call op (arguments_of arguments.now)) }
 {
     if arguments.len() == 2 {
@@ -49,11 +49,11 @@ fn operator_of_call(name: &Name, op: Op, arguments: &[Expr]) -> Option<Op>
 }
 
 /// The same of two operands or arguments.
-fn operator_between(name: &Name, op: Op, a: &Expr, b: &Expr) -> Option<Op>
+fn operator_between(name: &Name, op: Op, a: &Expr, b: &Expr) -> Option<Join>
     ensures { result ≡ operator_between name.now op (expression a.now) (expression b.now) }
 {
     if are_operands_of(name, op, a, b) {
-        reduction_of(op)
+        joined_by(op)
     } else {
         None
     }
@@ -129,20 +129,4 @@ fn is_difference(op: Op) -> bool
     ensures { result ≡ is_difference op }
 {
     matches!(op, Op::Sub)
-}
-
-/// The operator of the reduction that this operator or procedure makes.
-fn reduction_of(op: Op) -> Option<Op>
-    ensures { result ≡ reduction_of op }
-{
-    match op {
-        Op::Add | Op::Sub => Some(Op::Add),
-        Op::Mul => Some(Op::Mul),
-        Op::Max => Some(Op::Max),
-        Op::Min => Some(Op::Min),
-        Op::BitAnd => Some(Op::BitAnd),
-        Op::BitOr => Some(Op::BitOr),
-        Op::BitXor => Some(Op::BitXor),
-        _ => None,
-    }
 }

@@ -15,12 +15,15 @@ use Rattle.nest_order.specs.Items.{Items, Done, Then, If, Repeat, Branches, EndI
 use Rattle.nest_order.specs.Listed.{counted, Names, listed, listed_branches, AreKnown}
 use Rattle.nest_order.specs.Nest.{Interpretation, evaluated, writes, AgreeOn, plain_loops}
 use Rattle.nest_order.specs.LastValue.{copy_at}
-use Rattle.nest_order.specs.Reduction.{Operator, Or, Statement, assigned, joined, unit_of}
+use Rattle.op_tables.specs.declared.join.Join.{Join}
+use Rattle.op_tables.specs.declared.join.Join.TheVariants.{Or}
+use Rattle.op_tables.specs.Joins.{IsJoin, IsOverNumbers, join, unit}
+use Rattle.op_tables.proofs.Joins.{joins, numbers_join}
+use Rattle.nest_order.specs.Reduction.{Statement, assigned}
 use Rattle.nest_order.specs.Copies.{Kind, Shared, New, Assigned, Reduced, has_copies, scalar_at, InIteration, in_iteration, items_in, branches_in, seen_by, own_spot, own_effect, with_copies, copied}
 use Rattle.nest_order.specs.Scalars.{assigns_row, assigned_by, assigned_by_branches, AreAssigned, ReadsLate, ReadsLateBranches, MayName, MayNameAll, AllFit, Reducing, reduced_effect, IsPlain, IsReduction, IsPlainOr, IsAction, IsCondition, Touches, MayCopy, CopiesAgree}
 use Rattle.storage.proofs.StorageLemmas.{Alike-trans, Alike-refl, Alike-write, spots, read-write_other, read-write_rows, read-write_at}
-use Rattle.nest_order.proofs.Joins.{operator_joins}
-use Rattle.nest_order.proofs.Reducing.{reduces}
+use Rattle.nest_order.proofs.Reducing.{numbers_reduce}
 use Rattle.nest_order.proofs.Touching.{AllIn, in_turn_of, taken_in, later_in}
 use Rattle.nest_order.proofs.Copying.{seen-shared, seen-copy, own-shared, own-copy, copies-shared, copies-length, copies-value, entry_value, alike-seen}
 
@@ -37,7 +40,7 @@ assigns spots row spot all c =
     grind (arith, nat_tests)
 
 zero_fits : FitsSigned w64 (pos 0)
-zero_fits = (operator_joins Or).unit_in
+zero_fits = (joins Or).unit_in
 
 -- a store of a value of 64 bits leaves values of 64 bits
 fit-write : (m : Storage) (l : Spot) (v : ℤ) → AllFit m → FitsSigned w64 v → AllFit (write m l v)
@@ -53,11 +56,12 @@ fit-write m l v fit fits l' = ⊎_elim
 module _ {A C F M : Type 0} (one : Interpretation A C F) (kinds : ℕ → Kind) (reads : Names A C Spot) (written : A → List Spot)
     (reducing : A → Option (Reducing F)) (start : Storage) (n : ℕ)
     (scalars : (row : ℕ) → has_copies (kinds row) ≡ true → length (row_of start row) ≡ 1)
+    (numbers : (row : ℕ) (op : Join) → kinds row ≡ Reduced op → IsOverNumbers op)
     (store : M → Storage) (put : ℕ → Spot → ℤ → M → M) (puts : (i : ℕ) (spot : Spot) (v : ℤ) (y : M) → store (put i spot v y) ≡ write (store y) spot v)
     (Holds : Storage → M → Type 0)
     (keeps : (i : ℕ) (spot : Spot) (v : ℤ) (s : Storage) (y : M) → i < n → Alike s start → MayName (kinds spot.row) spot → Holds s y
     → Holds (write s spot v) (put i (own_spot kinds i spot) v y))
-    (keeps_reduced : (i row : ℕ) (op : Operator) (v w : ℤ) (s : Storage) (y : M) → i < n → kinds row ≡ Reduced op → Holds s y
+    (keeps_reduced : (i row : ℕ) (op : Join) (v w : ℤ) (s : Storage) (y : M) → i < n → kinds row ≡ Reduced op → Holds s y
     → Holds (write s (scalar_at row) v) (put i (copy_at row i) w y)) where
   abbrev copies0 : Storage
   copies0 = with_copies kinds n start
@@ -81,8 +85,8 @@ module _ {A C F M : Type 0} (one : Interpretation A C F) (kinds : ℕ → Kind) 
       pub new : (row : ℕ) → kinds row ≡ New → before row ≡ true → read s (scalar_at row) ≡ read (store y) (copy_at row i)
       pub assigned : (row : ℕ) → kinds row ≡ Assigned → Touched (scalar_at row) → read s (scalar_at row) ≡ read (store y) (copy_at row i)
       pub kept : (row : ℕ) → kinds row ≡ Assigned → (Contains listed_writes (scalar_at row) → ⊥) → read s (scalar_at row) ≡ read s0 (scalar_at row)
-      pub reduced : (row : ℕ) (op : Operator) → kinds row ≡ Reduced op → read s (scalar_at row) ≡ joined op (read s0 (scalar_at row)) (read (store y) (copy_at row i))
-      pub fits : (row : ℕ) (op : Operator) → kinds row ≡ Reduced op → FitsSigned w64 (read (store y) (copy_at row i))
+      pub reduced : (row : ℕ) (op : Join) → kinds row ≡ Reduced op → read s (scalar_at row) ≡ join op (read s0 (scalar_at row)) (read (store y) (copy_at row i))
+      pub fits : (row : ℕ) (op : Join) → kinds row ≡ Reduced op → FitsSigned w64 (read (store y) (copy_at row i))
       pub others : (row i' : ℕ) → has_copies (kinds row) ≡ true → (i ≡ i' → ⊥) → read (store y) (copy_at row i') ≡ read m0 (copy_at row i')
       pub holds : Holds s y
 
@@ -148,7 +152,7 @@ module _ {A C F M : Type 0} (one : Interpretation A C F) (kinds : ℕ → Kind) 
           reduced =
               λ row op k.
               let c : has_copies (kinds row) ≡ true = ap has_copies k in
-              one_side row c ∙ h.reduced row op k ∙ ap (joined op (read s0 (scalar_at row))) (sym (other_side row i c));
+              one_side row c ∙ h.reduced row op k ∙ ap (join op (read s0 (scalar_at row))) (sym (other_side row i c));
           fits = λ row op k. subst (FitsSigned w64) (sym (other_side row i (ap has_copies k))) (h.fits row op k);
           others = λ row i' c different. other_side row i' c ∙ h.others row i' c different;
           holds = keeps i spot v s y lt h.alike_s (subst (λ k. MayName k spot) (sym e) tt) h.holds;
@@ -158,7 +162,7 @@ module _ {A C F M : Type 0} (one : Interpretation A C F) (kinds : ℕ → Kind) 
     put_copy : (before after : ℕ → Bool) (r : ℕ) (v w : ℤ) (s : Storage) (y : M) → has_copies (kinds r) ≡ true → FitsSigned w64 v
         → ((row : ℕ) → after row ≡ true → (before row ≡ true) ⊎ (r ≡ row)) →
         (kinds r ≡ New → v ≡ w) → (kinds r ≡ Assigned → (v ≡ w) × Contains listed_writes (scalar_at r)) →
-        ((op : Operator) → kinds r ≡ Reduced op → (v ≡ joined op (read s0 (scalar_at r)) w) × FitsSigned w64 w) →
+        ((op : Join) → kinds r ≡ Reduced op → (v ≡ join op (read s0 (scalar_at r)) w) × FitsSigned w64 w) →
         Holds (write s (scalar_at r) v) (put i (copy_at r i) w y) →
         Beside before s y → Beside after (write s (scalar_at r) v) (put i (copy_at r i) w y)
     put_copy before after r v w s y e fits flags is_new is_assigned is_reduced holds h =
@@ -194,9 +198,9 @@ module _ {A C F M : Type 0} (one : Interpretation A C F) (kinds : ℕ → Kind) 
               (cases_eq r row);
           reduced = λ row op k. ⊎_elim
               (λ same.
-              at_one row same ∙ (is_reduced op (ap kinds same ∙ k)).0 ∙ ap (λ q. joined op (read s0 (scalar_at q)) w) same
-              ∙ ap (joined op (read s0 (scalar_at row))) (sym (at_copy row same)))
-              (λ d. one_other (scalar_at row) d ∙ h.reduced row op k ∙ ap (joined op (read s0 (scalar_at row))) (sym (copy_other (copy_at row i) d)))
+              at_one row same ∙ (is_reduced op (ap kinds same ∙ k)).0 ∙ ap (λ q. join op (read s0 (scalar_at q)) w) same
+              ∙ ap (join op (read s0 (scalar_at row))) (sym (at_copy row same)))
+              (λ d. one_other (scalar_at row) d ∙ h.reduced row op k ∙ ap (join op (read s0 (scalar_at row))) (sym (copy_other (copy_at row i) d)))
               (cases_eq r row);
           fits = λ row op k. ⊎_elim
               (λ same. subst (FitsSigned w64) (sym (at_copy row same)) (is_reduced op (ap kinds same ∙ k)).1)
@@ -245,7 +249,7 @@ module _ {A C F M : Type 0} (one : Interpretation A C F) (kinds : ℕ → Kind) 
         plain_put spot v c fits writable = go (kinds spot.row) refl (writable spot c)
           where
             scalar : spot.at ≡ 0 → has_copies (kinds spot.row) ≡ true → MayName (kinds spot.row) spot
-                → ((op : Operator) → kinds spot.row ≡ Reduced op → ⊥)
+                → ((op : Join) → kinds spot.row ≡ Reduced op → ⊥)
                 → Beside (assigned_too before a) (write s spot v) (put i (own_spot kinds i spot) v y)
             scalar z e m not_reduced =
                 let at : spot ≡ scalar_at spot.row = spot-scalar spot z in
@@ -301,19 +305,19 @@ module _ {A C F M : Type 0} (one : Interpretation A C F) (kinds : ℕ → Kind) 
                 let r = by.row in
                 let b : ℤ = read (store y) (copy_at r i) in
                 let acc : ℤ = read s0 (scalar_at r) in
-                let step = reduces op st (red.good s st h.fit e) in
+                let step = numbers_reduce op (numbers r op red.kind) st (red.good s st h.fit e) in
                 let has : has_copies (kinds r) ≡ true = ap has_copies red.kind in
                 let v : ℤ = assigned op st (read s (scalar_at r)) in
                 let w : ℤ = assigned op st b in
-                let passes : v ≡ joined op acc w = ap (assigned op st) (h.reduced r op red.kind) ∙ step.passes acc b (fit0 (scalar_at r)) (h.fits r op red.kind) in
-                let same_op : (op' : Operator) → kinds r ≡ Reduced op' → op ≡ op' = λ op' k. let z : Reduced op ≡ Reduced op' = sym red.kind ∙ k in cc in (
+                let passes : v ≡ join op acc w = ap (assigned op st) (h.reduced r op red.kind) ∙ step.passes acc b (fit0 (scalar_at r)) (h.fits r op red.kind) in
+                let same_op : (op' : Join) → kinds r ≡ Reduced op' → op ≡ op' = λ op' k. let z : Reduced op ≡ Reduced op' = sym red.kind ∙ k in cc in (
                   put i (own_spot kinds i (scalar_at r)) w y,
                   refl,
                   subst (λ l. Beside (assigned_too before a) (write s (scalar_at r) v) (put i l w y)) (sym (own-copy kinds i r has))
                       (put_copy before (assigned_too before a) r v w s y has (step.stays (read s (scalar_at r)) (h.fit (scalar_at r))) (flags (scalar_at r) red.stores)
                       (λ k. let z : New ≡ Reduced op = sym k ∙ red.kind in absurd cc)
                       (λ k. let z : Assigned ≡ Reduced op = sym k ∙ red.kind in absurd cc)
-                      (λ op' k. (subst (λ o. v ≡ joined o acc w) (same_op op' k) passes, step.stays b (h.fits r op red.kind)))
+                      (λ op' k. (subst (λ o. v ≡ join o acc w) (same_op op' k) passes, step.stays b (h.fits r op red.kind)))
                       (keeps_reduced i r op v w s y lt red.kind h.holds) h),
                 )
 
@@ -439,37 +443,37 @@ module _ {A C F M : Type 0} (one : Interpretation A C F) (kinds : ℕ → Kind) 
             (λ l t. in_writes l (later_in (reads.known c) written_body written_others (λ v e. known_way c s false v known.0 is e) l t)) h))
 
   -- the copies of the first iterations joined from the left
-  abbrev pub up : Operator → ℕ → Storage → ℤ → ℕ → ℤ
+  abbrev pub up : Join → ℕ → Storage → ℤ → ℕ → ℤ
   up op row m a zero = a
-  up op row m a (suc k) = joined op (up op row m a k) (read m (copy_at row k))
+  up op row m a (suc k) = join op (up op row m a k) (read m (copy_at row k))
 
-  up-same : (op : Operator) (row : ℕ) (m m' : Storage) (a : ℤ) (k : ℕ) → ((i : ℕ) → i < k → read m (copy_at row i) ≡ read m' (copy_at row i)) → up op row m a k ≡ up op row m' a k
+  up-same : (op : Join) (row : ℕ) (m m' : Storage) (a : ℤ) (k : ℕ) → ((i : ℕ) → i < k → read m (copy_at row i) ≡ read m' (copy_at row i)) → up op row m a k ≡ up op row m' a k
   up-same op row m m' a zero same = refl
   up-same op row m m' a (suc k) same =
-      ap (λ x. joined op x (read m (copy_at row k))) (up-same op row m m' a k (λ i lt. same i (omega arith)))
-      ∙ ap (joined op (up op row m' a k)) (same k (omega arith))
+      ap (λ x. join op x (read m (copy_at row k))) (up-same op row m m' a k (λ i lt. same i (omega arith)))
+      ∙ ap (join op (up op row m' a k)) (same k (omega arith))
 
-  up-fits : (op : Operator) (row : ℕ) (m : Storage) (a : ℤ) (k : ℕ) → FitsSigned w64 a → ((i : ℕ) → i < k → FitsSigned w64 (read m (copy_at row i)))
+  up-fits : (op : Join) → IsJoin (FitsSigned w64) (join op) (unit op) → (row : ℕ) (m : Storage) (a : ℤ) (k : ℕ) → FitsSigned w64 a → ((i : ℕ) → i < k → FitsSigned w64 (read m (copy_at row i)))
       → FitsSigned w64 (up op row m a k)
-  up-fits op row m a zero fits each = fits
-  up-fits op row m a (suc k) fits each =
-      (operator_joins op).closed (up op row m a k) (read m (copy_at row k)) (up-fits op row m a k fits (λ i lt. each i (omega arith)))
+  up-fits op over row m a zero fits each = fits
+  up-fits op over row m a (suc k) fits each =
+      over.closed (up op row m a k) (read m (copy_at row k)) (up-fits op over row m a k fits (λ i lt. each i (omega arith)))
       (each k (omega arith))
 
-  up-joined : (op : Operator) (row : ℕ) (m : Storage) (a b : ℤ) (k : ℕ) → FitsSigned w64 a → FitsSigned w64 b → ((i : ℕ) → i < k → FitsSigned w64 (read m (copy_at row i))) →
-      up op row m (joined op a b) k ≡ joined op a (up op row m b k)
-  up-joined op row m a b zero fits_a fits_b each = refl
-  up-joined op row m a b (suc k) fits_a fits_b each =
+  up-joined : (op : Join) → IsJoin (FitsSigned w64) (join op) (unit op) → (row : ℕ) (m : Storage) (a b : ℤ) (k : ℕ) → FitsSigned w64 a → FitsSigned w64 b → ((i : ℕ) → i < k → FitsSigned w64 (read m (copy_at row i))) →
+      up op row m (join op a b) k ≡ join op a (up op row m b k)
+  up-joined op over row m a b zero fits_a fits_b each = refl
+  up-joined op over row m a b (suc k) fits_a fits_b each =
       let earlier : (i : ℕ) → i < k → FitsSigned w64 (read m (copy_at row i)) = λ i lt. each i (omega arith) in
-      ap (λ x. joined op x (read m (copy_at row k))) (up-joined op row m a b k fits_a fits_b earlier)
-      ∙ (operator_joins op).associative a (up op row m b k) (read m (copy_at row k)) fits_a (up-fits op row m b k fits_b earlier) (each k (omega arith))
+      ap (λ x. join op x (read m (copy_at row k))) (up-joined op over row m a b k fits_a fits_b earlier)
+      ∙ over.associative a (up op row m b k) (read m (copy_at row k)) fits_a (up-fits op over row m b k fits_b earlier) (each k (omega arith))
 
-  up-fold : (op : Operator) (row : ℕ) (m : Storage) (a : ℤ) (k : ℕ) → k ≤ length (row_of m row) → up op row m a k ≡ fold (joined op) a (take k (row_of m row))
+  up-fold : (op : Join) (row : ℕ) (m : Storage) (a : ℤ) (k : ℕ) → k ≤ length (row_of m row) → up op row m a k ≡ fold (join op) a (take k (row_of m row))
   up-fold op row m a zero le = refl
   up-fold op row m a (suc k) le =
       let on : k + 1 ≡ suc k = omega arith in
-      ap (λ x. joined op x (read m (copy_at row k))) (up-fold op row m a k (omega arith))
-      ∙ sym (fold_more (joined op) a (row_of m row) k (pos 0) (omega arith)) ∙ ap (λ j. fold (joined op) a (take j (row_of m row))) on
+      ap (λ x. join op x (read m (copy_at row k))) (up-fold op row m a k (omega arith))
+      ∙ sym (fold_more (join op) a (row_of m row) k (pos 0) (omega arith)) ∙ ap (λ j. fold (join op) a (take j (row_of m row))) on
 
   -- the loops beside those with copies
   module _ (items : ℕ → Items A C) (free : MayCopy one kinds reads written reducing start n items) (E : ℕ → Evaluation (InIteration A) (InIteration C) M F)
@@ -483,12 +487,12 @@ module _ {A C F M : Type 0} (one : Interpretation A C F) (kinds : ℕ → Kind) 
       pub entry : (row i : ℕ) → kinds row ≡ Assigned → k ≤ i → i < n → Touches one kinds reads written reducing start (items i) (scalar_at row)
           → read s (scalar_at row) ≡ read start (scalar_at row)
       pub copies : (row i : ℕ) → has_copies (kinds row) ≡ true → k ≤ i → i < n → read (store y) (copy_at row i) ≡ read copies0 (copy_at row i)
-      pub reduced : (row : ℕ) (op : Operator) → kinds row ≡ Reduced op → read s (scalar_at row) ≡ up op row (store y) (read start (scalar_at row)) k
+      pub reduced : (row : ℕ) (op : Join) → kinds row ≡ Reduced op → read s (scalar_at row) ≡ up op row (store y) (read start (scalar_at row)) k
       pub fit : AllFit s
-      pub fits : (row : ℕ) (op : Operator) → kinds row ≡ Reduced op → (i : ℕ) → i < n → FitsSigned w64 (read (store y) (copy_at row i))
+      pub fits : (row : ℕ) (op : Join) → kinds row ≡ Reduced op → (i : ℕ) → i < n → FitsSigned w64 (read (store y) (copy_at row i))
       pub holds : Holds s y
 
-    unit_at : (row i : ℕ) (op : Operator) → kinds row ≡ Reduced op → i < n → read copies0 (copy_at row i) ≡ unit_of op
+    unit_at : (row i : ℕ) (op : Join) → kinds row ≡ Reduced op → i < n → read copies0 (copy_at row i) ≡ unit op
     unit_at row i op e lt = copies-value kinds n start scalars row i (ap has_copies e) lt ∙ ap (λ k. entry_value kinds n start k (row_of start row)) e
 
     pub at_start : (y : M) → store y ≡ copies0 → Holds start y → Between 0 start y
@@ -500,7 +504,7 @@ module _ {A C F M : Type 0} (one : Interpretation A C F) (kinds : ℕ → Kind) 
       copies = λ row i e le lt. ap (λ m. read m (copy_at row i)) is;
       reduced = λ row op e. refl;
       fit = free.fit;
-      fits = λ row op e i lt. subst (FitsSigned w64) (sym (ap (λ m. read m (copy_at row i)) is ∙ unit_at row i op e lt)) (operator_joins op).unit_in;
+      fits = λ row op e i lt. subst (FitsSigned w64) (sym (ap (λ m. read m (copy_at row i)) is ∙ unit_at row i op e lt)) (numbers_join op (numbers row op e)).unit_in;
       holds = holds;
     }
 
@@ -530,8 +534,8 @@ module _ {A C F M : Type 0} (one : Interpretation A C F) (kinds : ℕ → Kind) 
         reduced =
             λ row op e.
             sym
-            (ap (joined op (read s (scalar_at row))) (b.copies row k (ap has_copies e) (omega arith) lt ∙ unit_at row k op e lt)
-            ∙ (operator_joins op).neutral (read s (scalar_at row)) (b.fit (scalar_at row)));
+            (ap (join op (read s (scalar_at row))) (b.copies row k (ap has_copies e) (omega arith) lt ∙ unit_at row k op e lt)
+            ∙ (numbers_join op (numbers row op e)).neutral (read s (scalar_at row)) (b.fit (scalar_at row)));
         fits = λ row op e. b.fits row op e k lt;
         others = λ row i e d. refl;
         holds = b.holds;
@@ -546,7 +550,7 @@ module _ {A C F M : Type 0} (one : Interpretation A C F) (kinds : ℕ → Kind) 
         copies = λ row i e le lti. h.others row i e (λ same. omega arith) ∙ b.copies row i e (omega arith) lti;
         reduced = λ row op e.
             h.reduced row op e
-            ∙ ap (λ x. joined op x (read (store y') (copy_at row k)))
+            ∙ ap (λ x. join op x (read (store y') (copy_at row k)))
             (b.reduced row op e
             ∙ up-same op row (store y) (store y') (read start (scalar_at row)) k
             (λ i lti. sym (h.others row i (ap has_copies e) (λ same. omega arith))));
@@ -590,11 +594,11 @@ module _ {A C F M : Type 0} (one : Interpretation A C F) (kinds : ℕ → Kind) 
       reduced = λ row op e.
           let entry : ℤ = read start (scalar_at row) in
           let long : length (row_of (store y) row) ≡ n = b.alike_m.extent row ∙ copies-length kinds n start scalars row (ap has_copies e) in
-          let joins = operator_joins op in
+          let over = numbers_join op (numbers row op e) in
           b.reduced row op e
-          ∙ ap (λ a. up op row (store y) a n) (sym (joins.neutral entry (free.fit (scalar_at row))))
-          ∙ up-joined op row (store y) entry (unit_of op) n (free.fit (scalar_at row)) joins.unit_in (b.fits row op e)
-          ∙ ap (joined op entry)
-          (up-fold op row (store y) (unit_of op) n (omega (arith, long))
-          ∙ ap (fold (joined op) (unit_of op)) (take_all n (row_of (store y) row) (omega (arith, long))));
+          ∙ ap (λ a. up op row (store y) a n) (sym (over.neutral entry (free.fit (scalar_at row))))
+          ∙ up-joined op over row (store y) entry (unit op) n (free.fit (scalar_at row)) over.unit_in (b.fits row op e)
+          ∙ ap (join op entry)
+          (up-fold op row (store y) (unit op) n (omega (arith, long))
+          ∙ ap (fold (join op) (unit op)) (take_all n (row_of (store y) row) (omega (arith, long))));
     }

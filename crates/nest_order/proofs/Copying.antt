@@ -4,7 +4,7 @@ use Rattle.std.proofs.lemmas.Bool.{cases_lt}
 use Rattle.std.proofs.lemmas.List.{get_or_past, get_or-replicate, length-replicate}
 use Rattle.storage.specs.Storage.{Storage, Spot, row_of, read, Alike}
 use Rattle.nest_order.specs.LastValue.{copy_at}
-use Rattle.nest_order.specs.Reduction.{unit_of}
+use Rattle.op_tables.specs.Joins.{unit}
 use Rattle.nest_order.specs.Copies.{Kind, Shared, New, Assigned, Reduced, has_copies, scalar_at, each_row, entry_copies, seen_by, own_spot, with_copies}
 
 pub shared_of : (k : Kind) → has_copies k ≡ false → k ≡ Shared
@@ -58,14 +58,14 @@ module _ (kinds : ℕ → Kind) where
     entry_value Shared elements = pos 0
     entry_value New elements = get_or elements 0 (pos 0)
     entry_value Assigned elements = get_or elements 0 (pos 0)
-    entry_value (Reduced op) elements = unit_of op
+    entry_value (Reduced op) elements = unit op
 
     at_entry : (k : Kind) (elements : List ℤ) → has_copies k ≡ true
         → (length (entry_copies k n elements) ≡ n) × ((i : ℕ) → i < n → get_or (entry_copies k n elements) i (pos 0) ≡ entry_value k elements)
     at_entry Shared elements e = absurd cc
     at_entry New elements e = (length-replicate n (get_or elements 0 (pos 0)), λ i lt. get_or-replicate n i (get_or elements 0 (pos 0)) (pos 0) lt)
     at_entry Assigned elements e = (length-replicate n (get_or elements 0 (pos 0)), λ i lt. get_or-replicate n i (get_or elements 0 (pos 0)) (pos 0) lt)
-    at_entry (Reduced op) elements e = (length-replicate n (unit_of op), λ i lt. get_or-replicate n i (unit_of op) (pos 0) lt)
+    at_entry (Reduced op) elements e = (length-replicate n (unit op), λ i lt. get_or-replicate n i (unit op) (pos 0) lt)
 
     module _ (scalars : (row : ℕ) → has_copies (kinds row) ≡ true → length (row_of start row) ≡ 1) where
       there : (row : ℕ) → has_copies (kinds row) ≡ true → row < length start

@@ -10,8 +10,11 @@ use Rattle.storage.specs.Storage.{Storage, Spot, row_of, read}
 use Rattle.storage.specs.Effect.{Skip, Put, Fail}
 use Rattle.nest_order.specs.Items.{EachIn}
 use Rattle.storage.specs.Truth.{is_set}
-use Rattle.nest_order.specs.Reduction.{Sum, OnRight, IsOf, value_in}
-use Rattle.nest_order.specs.Copies.{Shared, New, Assigned, has_copies, scalar_at}
+use Rattle.op_tables.specs.declared.join.Join.{Join}
+use Rattle.op_tables.specs.declared.join.Join.TheVariants.{Sum}
+use Rattle.op_tables.specs.Joins.{IsOverNumbers}
+use Rattle.nest_order.specs.Reduction.{OnRight, IsOf, value_in}
+use Rattle.nest_order.specs.Copies.{Shared, New, Assigned, Reduced, has_copies, scalar_at}
 use Rattle.nest_order.specs.Scalars.{AllFit, MayName, MayNameAll, ReadsLate, IsAction, IsCondition, MayCopy}
 use Rattle.nest_order.specs.Example.{Set, Add, Divide, Exceeds, interpretation, spots_written, a_at, b_at, kinds, body_of_scalars, reads, reducing, fine_scalars}
 
@@ -142,9 +145,20 @@ late i = (
   ((λ x lt. (none_read (b_at i) _ refl, tt)), tt),
 )
 
+numbers : (row : ℕ) (op : Join) → kinds row ≡ Reduced op → IsOverNumbers op
+numbers zero op e = absurd cc
+numbers (suc zero) op e = absurd cc
+numbers (suc (suc zero)) op e = absurd cc
+numbers (suc (suc (suc zero))) op e =
+    let z : Reduced Sum ≡ Reduced op = e in
+    let same : Sum ≡ op = cc in
+    subst IsOverNumbers same tt
+numbers (suc (suc (suc (suc row)))) op e = absurd cc
+
 pub may_copy : MayCopy interpretation kinds reads spots_written reducing fine_scalars 3 body_of_scalars
 may_copy = record {
   scalars = scalar_rows;
+  numbers = numbers;
   fit = start_fits;
   texts = λ i lt. texts i;
   known = λ i lt. (((λ v e. absurd cc), (tt, (tt, tt)), (tt, (tt, tt), tt)), ((λ k ltk. (tt, tt)), tt));

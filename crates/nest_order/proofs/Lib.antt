@@ -7,7 +7,6 @@ mod Beside
 mod ScalarLaws
 mod WholeNest
 mod Numbering
-pub mod Joins
 mod Reducing
 mod Acting
 mod ActNumbers

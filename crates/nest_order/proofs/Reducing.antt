@@ -5,8 +5,11 @@ use Rattle.std.specs.Int.{int_wrap}
 use Rattle.std.specs.List.{AllByRecursion}
 use Rattle.std.proofs.lemmas.Int.{ints, SFits-int_wrap, int_wrap-add_left, int_wrap-add_right}
 use mir.Syntax.{w64}
-use Rattle.nest_order.specs.Reduction.{IsJoin, IsReducing, after_statements, plain_value, copies_of, folded, Operator, Sum, joined, unit_of, Statement, OnRight, OnLeft, Subtracted, assigned, IsOf, value_in, all_assigned}
-use Rattle.nest_order.proofs.Joins.{operator_joins}
+use Rattle.op_tables.specs.declared.join.Join.{Join}
+use Rattle.op_tables.specs.declared.join.Join.TheVariants.{Sum}
+use Rattle.op_tables.specs.Joins.{IsJoin, IsValue, IsOverNumbers, join, unit}
+use Rattle.op_tables.proofs.Joins.{joins, numbers_join}
+use Rattle.nest_order.specs.Reduction.{IsReducing, after_statements, plain_value, copies_of, folded, Statement, OnRight, OnLeft, Subtracted, assigned, IsOf, value_in, all_assigned}
 
 module _ {V : Type 0} (InRange : V → Type 0) (join : V → V → V) (unit : V) (joins : IsJoin InRange join unit) where
   abbrev AllReduce : List (V → V) → Type 0
@@ -40,13 +43,10 @@ module _ {V : Type 0} (InRange : V → Type 0) (join : V → V → V) (unit : V)
       → plain_value entry iterations ≡ join entry (folded join unit (copies_of unit iterations))
   reduced entry iterations f all = ap (λ x. plain_value x iterations) (sym (joins.neutral entry f)) ∙ from_joined iterations all entry unit f joins.unit_in
 
-abbrev pub InBits : ℤ → Type 0
+abbrev InBits : ℤ → Type 0
 InBits z = FitsSigned w64 z
 
-abbrev pub IsGood : Operator → Statement → Type 0
-IsGood op s = IsOf op s × FitsSigned w64 (value_in s)
-
-subtracted : (e : ℤ) → IsReducing InBits (joined Sum) (assigned Sum (Subtracted e))
+subtracted : (e : ℤ) → IsReducing InBits (join Sum) (assigned Sum (Subtracted e))
 subtracted e = record {
   stays = λ a f. SFits-int_wrap w64 (a -ℤ e);
   passes = λ a b f g.
@@ -55,29 +55,44 @@ subtracted e = record {
       ap (int_wrap w64) one ∙ int_wrap-add_left w64 (a +ℤ b) (neg_ℤ e) ∙ ap (int_wrap w64) two ∙ sym (int_wrap-add_right w64 a (b -ℤ e));
 }
 
-pub reduces : (op : Operator) (s : Statement) → IsGood op s → IsReducing InBits (joined op) (assigned op s)
-reduces op (OnRight e) good =
-    let j = operator_joins op in
-    record { stays = λ a f. j.closed a e f good.1; passes = λ a b f g. j.associative a b e f g good.1 }
-reduces op (OnLeft e) good =
-    let j = operator_joins op in
-    record {
-      stays = λ a f. j.closed e a good.1 f;
-      passes = λ a b f g.
-          sym (j.associative e a b good.1 f g) ∙ ap (λ x. joined op x b) (j.commutative e a) ∙ j.associative a e b f good.1 g;
-    }
-reduces op (Subtracted e) good = subst (λ o. IsReducing InBits (joined o) (assigned o (Subtracted e))) (sym good.0) (subtracted e)
+-- reduction statements of an operator, over values that it joins. A difference is one of sums alone
+module _ (op : Join) (InRange : ℤ → Type 0) (over : IsJoin InRange (join op) (unit op))
+    (less : (e : ℤ) → op ≡ Sum → IsReducing InRange (join op) (assigned op (Subtracted e))) where
+  abbrev pub IsGood : Statement → Type 0
+  IsGood s = IsOf op s × InRange (value_in s)
 
-all_reduce : (op : Operator) (statements : List Statement) → AllByRecursion (IsGood op) statements → AllByRecursion (IsReducing InBits (joined op)) (map (assigned op) statements)
-all_reduce op [] all = tt
-all_reduce op (s ∷ ss) all = (reduces op s all.0, all_reduce op ss all.1)
+  pub reduces : (s : Statement) → IsGood s → IsReducing InRange (join op) (assigned op s)
+  reduces (OnRight e) good = record { stays = λ a f. over.closed a e f good.1; passes = λ a b f g. over.associative a b e f g good.1 }
+  reduces (OnLeft e) good = record {
+    stays = λ a f. over.closed e a good.1 f;
+    passes = λ a b f g.
+        sym (over.associative e a b good.1 f g) ∙ ap (λ x. join op x b) (over.commutative e a) ∙ over.associative a e b f good.1 g;
+  }
+  reduces (Subtracted e) good = less e good.0
 
-iterations_reduce : (op : Operator) (iterations : List (List Statement)) → AllByRecursion (AllByRecursion (IsGood op)) iterations →
-    AllByRecursion (AllByRecursion (IsReducing InBits (joined op))) (all_assigned op iterations)
-iterations_reduce op [] all = tt
-iterations_reduce op (ss ∷ rest) all = (all_reduce op ss all.0, iterations_reduce op rest all.1)
+  all_reduce : (statements : List Statement) → AllByRecursion IsGood statements → AllByRecursion (IsReducing InRange (join op)) (map (assigned op) statements)
+  all_reduce [] all = tt
+  all_reduce (s ∷ ss) all = (reduces s all.0, all_reduce ss all.1)
 
-pub variable_reduced : (op : Operator) (entry : ℤ) (iterations : List (List Statement)) → InBits entry → AllByRecursion (AllByRecursion (IsGood op)) iterations →
-    plain_value entry (all_assigned op iterations) ≡ joined op entry (folded (joined op) (unit_of op) (copies_of (unit_of op) (all_assigned op iterations)))
-variable_reduced op entry iterations f all =
-    reduced InBits (joined op) (unit_of op) (operator_joins op) entry (all_assigned op iterations) f (iterations_reduce op iterations all)
+  iterations_reduce : (iterations : List (List Statement)) → AllByRecursion (AllByRecursion IsGood) iterations
+      → AllByRecursion (AllByRecursion (IsReducing InRange (join op))) (all_assigned op iterations)
+  iterations_reduce [] all = tt
+  iterations_reduce (ss ∷ rest) all = (all_reduce ss all.0, iterations_reduce rest all.1)
+
+  pub all_joined : (entry : ℤ) (iterations : List (List Statement)) → InRange entry → AllByRecursion (AllByRecursion IsGood) iterations
+      → plain_value entry (all_assigned op iterations) ≡ join op entry (folded (join op) (unit op) (copies_of (unit op) (all_assigned op iterations)))
+  all_joined entry iterations f all = reduced InRange (join op) (unit op) over entry (all_assigned op iterations) f (iterations_reduce iterations all)
+
+less_of_values : (op : Join) (e : ℤ) → op ≡ Sum → IsReducing (IsValue op) (join op) (assigned op (Subtracted e))
+less_of_values op e is = subst (λ o. IsReducing (IsValue o) (join o) (assigned o (Subtracted e))) (sym is) (subtracted e)
+
+less_of_numbers : (op : Join) (e : ℤ) → op ≡ Sum → IsReducing InBits (join op) (assigned op (Subtracted e))
+less_of_numbers op e is = subst (λ o. IsReducing InBits (join o) (assigned o (Subtracted e))) (sym is) (subtracted e)
+
+pub numbers_reduce : (op : Join) → IsOverNumbers op → (s : Statement) → IsOf op s × FitsSigned w64 (value_in s) → IsReducing InBits (join op) (assigned op s)
+numbers_reduce op over = reduces op InBits (numbers_join op over) (less_of_numbers op)
+
+pub variable_reduced : (op : Join) (entry : ℤ) (iterations : List (List Statement)) → IsValue op entry
+    → AllByRecursion (AllByRecursion (λ s. IsOf op s × IsValue op (value_in s))) iterations
+    → plain_value entry (all_assigned op iterations) ≡ join op entry (folded (join op) (unit op) (copies_of (unit op) (all_assigned op iterations)))
+variable_reduced op = all_joined op (IsValue op) (joins op) (less_of_values op)

@@ -12,7 +12,7 @@ use Rattle.nest_order.specs.Nest.{Interpretation, evaluated, plain_loops}
 use Rattle.nest_order.specs.LastValue.{copy_at, note_scalar}
 use Rattle.storage.specs.Storage.{is_same_spot}
 use Rattle.nest_order.specs.Stores.{noted, Observed, observed, observed_loops}
-use Rattle.nest_order.specs.Reduction.{Operator}
+use Rattle.op_tables.specs.declared.join.Join.{Join}
 use Rattle.nest_order.specs.Copies.{Kind, Shared, New, Assigned, Reduced, has_copies, scalar_at, items_in, own_spot, with_copies, copied}
 use Rattle.nest_order.specs.Scalars.{MayName, Reducing, MayCopy, CopiesAgree, EndWithCopies}
 use Rattle.storage.proofs.StorageLemmas.{read-write_other, read-write_at}
@@ -37,7 +37,7 @@ module _ {A C F : Type 0} (one : Interpretation A C F) (kinds : ℕ → Kind) (r
 
   abbrev plain_does : ℕ → Effect F → Storage → Result Storage F
   plain_does =
-      does one kinds reads written reducing start n free.scalars (λ y. y) plain_put (λ i spot v y. refl) (λ s y. Unit {0})
+      does one kinds reads written reducing start n free.scalars free.numbers (λ y. y) plain_put (λ i spot v y. refl) (λ s y. Unit {0})
       (λ i spot v s y lt alike may h. tt) (λ i row op v w s y lt e h. tt)
 
   plain_acts : (i : ℕ) (e : Effect F) (y : Storage) → then_apply e y ≡ plain_does i e y
@@ -48,23 +48,23 @@ module _ {A C F : Type 0} (one : Interpretation A C F) (kinds : ℕ → Kind) (r
   pub loops_end : EndWithCopies kinds start (plain_loops one items start n) (plain_loops (copied kinds one) (λ i. items_in i (items i)) (with_copies kinds n start) n)
   loops_end =
       go (plain_loops one items start n) (plain_loops (copied kinds one) (λ i. items_in i (items i)) (with_copies kinds n start) n)
-      (loops_follow one kinds reads written reducing start n free.scalars (λ y. y) plain_put (λ i spot v y. refl) (λ s y. Unit {0})
+      (loops_follow one kinds reads written reducing start n free.scalars free.numbers (λ y. y) plain_put (λ i spot v y. refl) (λ s y. Unit {0})
       (λ i spot v s y lt alike may h. tt) (λ i row op v w s y lt e h. tt)
       items free (λ i. evaluated (copied kinds one))
       (λ i a y. plain_acts i ((copied kinds one).effect (record { iteration = i; text = a }) y) y)
       (λ i c y. refl) (with_copies kinds n start)
-      (at_start one kinds reads written reducing start n free.scalars (λ y. y) plain_put (λ i spot v y. refl) (λ s y. Unit {0})
+      (at_start one kinds reads written reducing start n free.scalars free.numbers (λ y. y) plain_put (λ i spot v y. refl) (λ s y. Unit {0})
       (λ i spot v s y lt alike may h. tt) (λ i row op v w s y lt e h. tt)
       items free (λ i. evaluated (copied kinds one))
       (λ i a y. plain_acts i ((copied kinds one).effect (record { iteration = i; text = a }) y) y) (λ i c y. refl) (with_copies kinds n start) refl tt) n (omega arith))
     where
       go : (x r : Result Storage F)
-          → LoopsFollow one kinds reads written reducing start n free.scalars (λ y. y) plain_put (λ i spot v y. refl) (λ s y. Unit {0})
+          → LoopsFollow one kinds reads written reducing start n free.scalars free.numbers (λ y. y) plain_put (λ i spot v y. refl) (λ s y. Unit {0})
           (λ i spot v s y lt alike may h. tt) (λ i row op v w s y lt e h. tt)
           items free (λ i. evaluated (copied kinds one)) (λ i a y. plain_acts i ((copied kinds one).effect (record { iteration = i; text = a }) y) y)
           (λ i c y. refl) n x r → EndWithCopies kinds start x r
       go (Ok s) r h = subst (EndWithCopies kinds start (Ok s)) (sym h.1)
-          (copies_agree one kinds reads written reducing start n free.scalars (λ y. y) plain_put (λ i spot v y. refl) (λ s y. Unit {0})
+          (copies_agree one kinds reads written reducing start n free.scalars free.numbers (λ y. y) plain_put (λ i spot v y. refl) (λ s y. Unit {0})
           (λ i spot v s y lt alike may h. tt) (λ i row op v w s y lt e h. tt)
           items free (λ i. evaluated (copied kinds one)) (λ i a y. plain_acts i ((copied kinds one).effect (record { iteration = i; text = a }) y) y) (λ i c y. refl) s h.0 h.2)
       go (Err f) r h = subst (EndWithCopies kinds start (Err f)) (sym h) refl
@@ -74,7 +74,7 @@ module _ {A C F : Type 0} (one : Interpretation A C F) (kinds : ℕ → Kind) (r
     has : has_copies (kinds row) ≡ true
     has = ⊎_elim (λ e. ap has_copies e) (λ e. ap has_copies e) is
 
-    not_reduced : (op : Operator) → kinds row ≡ Reduced op → ⊥
+    not_reduced : (op : Join) → kinds row ≡ Reduced op → ⊥
     not_reduced op e = ⊎_elim
         (λ is_new. let z : New ≡ Reduced op = sym is_new ∙ e in absurd cc)
         (λ is_assigned. let z : Assigned ≡ Reduced op = sym is_assigned ∙ e in absurd cc)
@@ -122,14 +122,14 @@ module _ {A C F : Type 0} (one : Interpretation A C F) (kinds : ℕ → Kind) (r
         go Assigned e m = scalar m (ap has_copies e)
         go (Reduced op) e m = absurd m
 
-    keeps_reduced : (i r : ℕ) (op : Operator) (v w : ℤ) (s : Storage) (y : Noted) → i < n → kinds r ≡ Reduced op → Holds s y
+    keeps_reduced : (i r : ℕ) (op : Join) (v w : ℤ) (s : Storage) (y : Noted) → i < n → kinds r ≡ Reduced op → Holds s y
         → Holds (write s (scalar_at r) v) (put i (copy_at r i) w y)
     keeps_reduced i r op v w s y lt e h =
         let d : r ≡ row → ⊥ = λ same. not_reduced op (ap kinds (sym same) ∙ e) in
         elsewhere i (scalar_at r) (copy_at r i) v w s y d d h
 
     abbrev noted_does : ℕ → Effect F → Noted → Result Noted F
-    noted_does = does one kinds reads written reducing start n free.scalars store put (λ i spot v y. refl) Holds keeps keeps_reduced
+    noted_does = does one kinds reads written reducing start n free.scalars free.numbers store put (λ i spot v y. refl) Holds keeps keeps_reduced
 
     noted_acts : (i : ℕ) (e : Effect F) (y : Noted) →
         then_apply e y.storage >>= (λ m. let q : Result Noted F = Ok (record { storage = m; noted_so_far = noted (note_scalar row i) e y.noted_so_far }) in q) ≡ noted_does i e y
@@ -148,25 +148,25 @@ module _ {A C F : Type 0} (one : Interpretation A C F) (kinds : ℕ → Kind) (r
         (observed_loops (copied kinds one) (note_scalar row) (λ i. items_in i (items i)) (with_copies kinds n start) (read start (scalar_at row)) n)
     noted_end m is_end =
         go (observed_loops (copied kinds one) (note_scalar row) (λ i. items_in i (items i)) (with_copies kinds n start) (read start (scalar_at row)) n)
-        (subst (λ x. LoopsFollow one kinds reads written reducing start n free.scalars store put (λ i spot v y. refl) Holds keeps keeps_reduced
+        (subst (λ x. LoopsFollow one kinds reads written reducing start n free.scalars free.numbers store put (λ i spot v y. refl) Holds keeps keeps_reduced
         items free (λ i. observed (copied kinds one) (note_scalar row i))
         (λ i a y. noted_acts i ((copied kinds one).effect (record { iteration = i; text = a }) y.storage) y) (λ i c y. refl) n x
         (observed_loops (copied kinds one) (note_scalar row) (λ i. items_in i (items i)) (with_copies kinds n start) (read start (scalar_at row)) n)) is_end
-        (loops_follow one kinds reads written reducing start n free.scalars store put (λ i spot v y. refl) Holds keeps keeps_reduced
+        (loops_follow one kinds reads written reducing start n free.scalars free.numbers store put (λ i spot v y. refl) Holds keeps keeps_reduced
         items free (λ i. observed (copied kinds one) (note_scalar row i))
         (λ i a y. noted_acts i ((copied kinds one).effect (record { iteration = i; text = a }) y.storage) y) (λ i c y. refl) first
-        (at_start one kinds reads written reducing start n free.scalars store put (λ i spot v y. refl) Holds keeps keeps_reduced
+        (at_start one kinds reads written reducing start n free.scalars free.numbers store put (λ i spot v y. refl) Holds keeps keeps_reduced
         items free (λ i. observed (copied kinds one) (note_scalar row i))
         (λ i a y. noted_acts i ((copied kinds one).effect (record { iteration = i; text = a }) y.storage) y) (λ i c y. refl) first refl refl) n (omega arith)))
       where
-        go : (r : Result Noted F) → LoopsFollow one kinds reads written reducing start n free.scalars store put (λ i spot v y. refl) Holds keeps keeps_reduced
+        go : (r : Result Noted F) → LoopsFollow one kinds reads written reducing start n free.scalars free.numbers store put (λ i spot v y. refl) Holds keeps keeps_reduced
             items free (λ i. observed (copied kinds one) (note_scalar row i))
             (λ i a y. noted_acts i ((copied kinds one).effect (record { iteration = i; text = a }) y.storage) y) (λ i c y. refl) n (Ok m) r
             → Ends m r
         go r h = (
           h.0.storage,
           h.1 ∙ ap (λ w. let q : Result Noted F = Ok (record { storage = h.0.storage; noted_so_far = w }) in q) (sym h.2.holds),
-          copies_agree one kinds reads written reducing start n free.scalars store put (λ i spot v y. refl) Holds keeps keeps_reduced
+          copies_agree one kinds reads written reducing start n free.scalars free.numbers store put (λ i spot v y. refl) Holds keeps keeps_reduced
               items free (λ i. observed (copied kinds one) (note_scalar row i))
               (λ i a y. noted_acts i ((copied kinds one).effect (record { iteration = i; text = a }) y.storage) y) (λ i c y. refl) m h.0 h.2,
         )

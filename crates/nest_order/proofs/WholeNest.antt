@@ -9,7 +9,8 @@ use Rattle.nest_order.specs.Listed.{Names}
 use Rattle.nest_order.specs.Nest.{Interpretation, nest_effects, nest_act, plain_loops, EndAlike, SameBelow, IsParallel, touches_of}
 use Rattle.nest_order.specs.LastValue.{note_scalar, last_value}
 use Rattle.nest_order.specs.Stores.{Observed}
-use Rattle.nest_order.specs.Reduction.{joined, unit_of, folded}
+use Rattle.op_tables.specs.Joins.{join, unit}
+use Rattle.nest_order.specs.Reduction.{folded}
 use Rattle.nest_order.specs.Copies.{Kind, New, Assigned, has_copies, scalar_at, InIteration, items_in, with_copies, copied}
 use Rattle.nest_order.specs.Scalars.{Reducing, MayCopy, CopiesAgree, EndWithCopies, PartedAgrees}
 use Rattle.nest_order.proofs.Acting.{parts_apart}
@@ -68,7 +69,7 @@ module _ {A C F : Type 0} (one : Interpretation A C F) (kinds : ℕ → Kind) (r
         shared = λ spot lt e. agree.shared spot e ∙ below.same spot lt;
         reduced = λ row op lt e.
             agree.reduced row op e
-            ∙ ap (λ r. joined op (read start (scalar_at row)) (folded (joined op) (unit_of op) r))
+            ∙ ap (λ r. join op (read start (scalar_at row)) (folded (join op) (unit op) r))
             (ext_get_or (pos 0) (row_of copies row) (row_of last row) (below.alike.extent row) (λ k ltk. below.same (record { row = row; at = k }) lt));
         scalars = by_last;
       }

@@ -1,12 +1,13 @@
 -- Scalars that a nest assigns: each is one object in Fortran's loops, and has a copy for each iteration where the nest is taken
 -- apart (HPF 2.0, section 5.1).
 use Rattle.std.specs.Prelude.{ℕ, suc, List, [], ◌∷◌, slice_index_or, replicate, ℤ, pos, Option, Some, None, Bool, true, false, if◌then◌else◌}
+use Rattle.op_tables.specs.declared.join.Join.{Join}
+use Rattle.op_tables.specs.Joins.{unit}
 use Rattle.storage.specs.Storage.{Storage, Spot}
 use Rattle.storage.specs.Effect.{Effect, Skip, Put, Fail}
 use Rattle.nest_order.specs.Items.{Items, Done, Then, If, Repeat, Branches, EndIf, Branch}
 use Rattle.nest_order.specs.Nest.{Interpretation}
 use Rattle.nest_order.specs.LastValue.{copy_at}
-use Rattle.nest_order.specs.Reduction.{Operator, unit_of}
 
 -- what a row of the storage is to a nest: an array, or a scalar that the nest doesn't assign; a NEW variable; another scalar
 -- that the nest assigns; a REDUCTION variable with its operator
@@ -14,7 +15,7 @@ pub data Kind : Type 0 where
   Shared : Kind
   New : Kind
   Assigned : Kind
-  Reduced : Operator → Kind
+  Reduced : Join → Kind
 
 -- iterations have copies of what the nest assigns, and share the rest
 abbrev pub has_copies : Kind → Bool
@@ -37,7 +38,7 @@ abbrev pub entry_copies : Kind → ℕ → List ℤ → List ℤ
 entry_copies Shared n elements = elements
 entry_copies New n elements = replicate n (slice_index_or elements 0 (pos 0))
 entry_copies Assigned n elements = replicate n (slice_index_or elements 0 (pos 0))
-entry_copies (Reduced op) n elements = replicate n (unit_of op)
+entry_copies (Reduced op) n elements = replicate n (unit op)
 
 -- a text that stands in an iteration
 pub record InIteration (T : Type 0) : Type 0 where

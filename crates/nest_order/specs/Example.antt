@@ -21,7 +21,8 @@ use Rattle.nest_order.specs.Items.{Items, Done, Then, If, Repeat, EndIf, Branch}
 use Rattle.nest_order.specs.Listed.{Names}
 use Rattle.nest_order.specs.Nest.{Interpretation}
 use Rattle.storage.specs.Truth.{is_set}
-use Rattle.nest_order.specs.Reduction.{Sum, Statement, OnRight}
+use Rattle.op_tables.specs.declared.join.Join.TheVariants.{Sum}
+use Rattle.nest_order.specs.Reduction.{Statement, OnRight}
 use Rattle.nest_order.specs.Copies.{Kind, Shared, New, Reduced, scalar_at}
 use Rattle.nest_order.specs.Scalars.{Reducing}
 

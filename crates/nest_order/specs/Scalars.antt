@@ -2,6 +2,8 @@
 use Rattle.std.specs.Prelude.{◌≡◌, ℕ, ◌<◌, ◌⊎◌, List, length, nat_eq, ℤ, Option, Some, None, Result, Ok, Err, Bool, true, false, ◌&&◌, ◌||◌, FitsSigned}
 use Rattle.std.specs.Int.{w64}
 use Rattle.std.specs.List.{Contains, list_all}
+use Rattle.op_tables.specs.declared.join.Join.{Join}
+use Rattle.op_tables.specs.Joins.{IsOverNumbers, join, unit}
 use Rattle.nest_order.specs.Turns.{after_turns}
 use Rattle.storage.specs.Storage.{Storage, Spot, row_of, read, Alike}
 use Rattle.storage.specs.Effect.{Effect, Skip, Put, Fail}
@@ -9,7 +11,7 @@ use Rattle.nest_order.specs.Items.{Items, Done, Then, If, Repeat, Branches, EndI
 use Rattle.nest_order.specs.Listed.{Names, names_in, listed, AreKnown}
 use Rattle.nest_order.specs.Nest.{Interpretation, evaluated, writes, AgreeOn}
 use Rattle.nest_order.specs.LastValue.{last_value}
-use Rattle.nest_order.specs.Reduction.{Operator, Statement, IsOf, value_in, assigned, joined, unit_of, folded}
+use Rattle.nest_order.specs.Reduction.{Statement, IsOf, value_in, assigned, folded}
 use Rattle.nest_order.specs.Copies.{Kind, Shared, New, Assigned, Reduced, has_copies, scalar_at}
 
 -- `reads` is what assignments and conditions read, and `written` what an assignment may write
@@ -72,7 +74,7 @@ pub record Reducing (F : Type 0) : Type 0 where
   pub statement : Storage → Result Statement F
 
 -- what a reduction statement does to its variable
-abbrev pub reduced_effect : {F : Type 0} → ℕ → Operator → Result Statement F → ℤ → Effect F
+abbrev pub reduced_effect : {F : Type 0} → ℕ → Join → Result Statement F → ℤ → Effect F
 reduced_effect row op (Ok statement) value = Put (scalar_at row) (assigned op statement value)
 reduced_effect row op (Err fault) value = Fail fault
 
@@ -89,7 +91,7 @@ module _ {A C F : Type 0} (one : Interpretation A C F) (kinds : ℕ → Kind) (r
 
   -- a reduction statement is one of its variable's operator, over 64 bits. Its expression depends on what it reads alone
   pub record IsReduction (action : A) (by : Reducing F) : Type 0 where
-    pub op : Operator
+    pub op : Join
     pub kind : kinds by.row ≡ Reduced op
     pub near : (m m' : Storage) → Alike m start → Alike m' start → AgreeOn (reads.of_action action) m m' → by.statement m ≡ by.statement m'
     pub is : (m : Storage) → one.effect action m ≡ reduced_effect by.row op (by.statement m) (read m (scalar_at by.row))
@@ -113,9 +115,11 @@ module _ {A C F : Type 0} (one : Interpretation A C F) (kinds : ℕ → Kind) (r
   Touches items spot = Contains (listed reads items) spot ⊎ Contains (listed (writes reads written) items) spot
 
   -- The nest's scalars may have copies. A NEW variable is assigned before it is read. Any other scalar that one iteration
-  -- assigns is touched by no other one. A REDUCTION variable is named in reduction statements alone
+  -- assigns is touched by no other one. A REDUCTION variable is named in reduction statements alone, and is joined over all numbers of
+  -- 64 bits
   pub record MayCopy (n : ℕ) (items : ℕ → Items A C) : Type 0 where
     pub scalars : (row : ℕ) → has_copies (kinds row) ≡ true → length (row_of start row) ≡ 1
+    pub numbers : (row : ℕ) (op : Join) → kinds row ≡ Reduced op → IsOverNumbers op
     pub fit : AllFit start
     pub texts : (i : ℕ) → i < n → EachIn IsAction IsCondition (items i)
     pub known : (i : ℕ) → i < n → AreKnown (evaluated one) reads (items i)
@@ -127,8 +131,8 @@ module _ {A C F : Type 0} (one : Interpretation A C F) (kinds : ℕ → Kind) (r
 -- its copies
 pub record CopiesAgree (kinds : ℕ → Kind) (start m copies : Storage) : Type 0 where
   pub shared : (spot : Spot) → kinds spot.row ≡ Shared → read m spot ≡ read copies spot
-  pub reduced : (row : ℕ) (op : Operator) → kinds row ≡ Reduced op
-      → read m (scalar_at row) ≡ joined op (read start (scalar_at row)) (folded (joined op) (unit_of op) (row_of copies row))
+  pub reduced : (row : ℕ) (op : Join) → kinds row ≡ Reduced op
+      → read m (scalar_at row) ≡ join op (read start (scalar_at row)) (folded (join op) (unit op) (row_of copies row))
 
 -- both loops end with such storages, or both with one fault
 abbrev pub EndWithCopies : {F : Type 0} → (ℕ → Kind) → Storage → Result Storage F → Result Storage F → Type 0
@@ -142,7 +146,7 @@ EndWithCopies kinds start (Err fault) (Err other) = fault ≡ other
 -- last iteration that assigned it, or its entry value
 pub record PartedAgrees {F : Type 0} (kinds : ℕ → Kind) (conditions : ℕ) (effect : ℕ → ℕ → Effect F) (parts n : ℕ) (start m last : Storage) : Type 0 where
   pub shared : (spot : Spot) → spot.row < conditions → kinds spot.row ≡ Shared → read m spot ≡ read last spot
-  pub reduced : (row : ℕ) (op : Operator) → row < conditions → kinds row ≡ Reduced op
-      → read m (scalar_at row) ≡ joined op (read start (scalar_at row)) (folded (joined op) (unit_of op) (row_of last row))
+  pub reduced : (row : ℕ) (op : Join) → row < conditions → kinds row ≡ Reduced op
+      → read m (scalar_at row) ≡ join op (read start (scalar_at row)) (folded (join op) (unit op) (row_of last row))
   pub scalars : (row : ℕ) → row < conditions → (kinds row ≡ New) ⊎ (kinds row ≡ Assigned)
       → read m (scalar_at row) ≡ last_value effect row parts (read start (scalar_at row)) last n

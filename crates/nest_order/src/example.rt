@@ -7,7 +7,9 @@ ghost use Rattle.storage.specs.Parted.{parted, kept, IsLeastKept};
 ghost use Rattle.nest_order.specs.Nest.{nest_effects, nest_act, plain_loops, IsParallel};
 ghost use Rattle.nest_order.specs.LastValue.{note_scalar, scalar_after, last_value};
 ghost use Rattle.nest_order.specs.Stores.{observed_loops};
-ghost use Rattle.nest_order.specs.Reduction.{Sum, joined, unit_of, folded, copies_of};
+ghost use Rattle.op_tables.specs.declared.join.Join.TheVariants.{Sum};
+ghost use Rattle.op_tables.specs.Joins.{join, unit};
+ghost use Rattle.nest_order.specs.Reduction.{folded, copies_of};
 ghost use Rattle.nest_order.specs.Reduction.{plain_value, all_assigned};
 ghost use Rattle.nest_order.specs.Copies.{copied, items_in, with_copies};
 ghost use Rattle.nest_order.specs.Scalars.{ReadsLate, MayCopy};
@@ -48,11 +50,11 @@ pub fn example_last_value()
 
 /// After the nest S is its entry value 100 with the fold of its copies.
 pub fn example_reduction()
-    ensures copies { copies_of (unit_of Sum) (all_assigned Sum sums)
+    ensures copies { copies_of (unit Sum) (all_assigned Sum sums)
         ≡ row_of (parted (nest_act interpretation 4 body) fine 3 9) 3 }
     ensures plain { plain_value (pos 100) (all_assigned Sum sums) ≡ pos 112 }
-    ensures joined { joined Sum (pos 100)
-        (folded (joined Sum) (unit_of Sum) (row_of (parted (nest_act interpretation 4 body) fine 3 9) 3))
+    ensures joined { join Sum (pos 100)
+        (folded (join Sum) (unit Sum) (row_of (parted (nest_act interpretation 4 body) fine 3 9) 3))
         ≡ pos 112 }
 {}
 

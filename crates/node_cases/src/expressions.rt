@@ -8,7 +8,7 @@
 use crate::line::Line;
 use crate::trouble::Trouble;
 use node_code::{Flat, Form, Sub};
-use op_tables::Op;
+use op_tables::{Join, Made, Op, Reduction};
 use std::alloc::Global;
 
 /// The depth of the deepest expression in a case.
@@ -57,15 +57,33 @@ fn named_operator(word: &str) -> Option<Operator> {
 }
 
 /// The reduction of a name.
-pub fn reduction(word: &str) -> Result<Op, Trouble> {
+pub fn reduction(word: &str) -> Result<Reduction, Trouble> {
+    Ok(Reduction {
+        join: joining(word)?,
+        made: made(word),
+    })
+}
+
+/// What COUNT, ANY and ALL join of an element, and what other reductions do.
+fn made(word: &str) -> Made {
     match word {
-        "sum" => Ok(Op::Sum),
-        "product" => Ok(Op::Product),
-        "maxval" => Ok(Op::MaxVal),
-        "minval" => Ok(Op::MinVal),
-        "count" => Ok(Op::Count),
-        "any" => Ok(Op::Any),
-        "all" => Ok(Op::All),
+        "count" | "any" | "all" => Made::Truth,
+        _ => Made::Value,
+    }
+}
+
+/// What joins numbers, by the name of a reduction or of an operator of REDUCTION.
+pub fn joining(word: &str) -> Result<Join, Trouble> {
+    match word {
+        "sum" | "count" => Ok(Join::Sum),
+        "product" => Ok(Join::Product),
+        "maxval" | "max" => Ok(Join::Greatest),
+        "minval" | "min" => Ok(Join::Least),
+        "iand" => Ok(Join::And),
+        "ior" => Ok(Join::Or),
+        "ieor" => Ok(Join::ExclusiveOr),
+        "any" => Ok(Join::Any),
+        "all" => Ok(Join::All),
         _ => Err(Trouble::Malformed),
     }
 }

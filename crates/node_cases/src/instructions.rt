@@ -7,11 +7,11 @@
 //! - `ownlimits`, `parcopy`, `forallcopy` and `makecopy`: `L R = F over (..)`, for the copy R
 //! - `reduce L s1 = sum F over (..)`, `foralllimits L over (..) of (..)`, `onetoone L over (..) of (..)`, `verdict`, `inside L R (..)`
 //! - `print` and items: `text WORD`, `number X`, `section R (..)`
-//! - `foldcopy s1 sum R`, `lastcopy s1 R set R`
+//! - `foldcopy s1 sum R`, also with `max`, `min`, `iand`, `ior` or `ieor`, and `lastcopy s1 R set R`
 //! - `remap`: what the next REDISTRIBUTE of the text says
 
 use crate::expressions::{
-    numbered, read_flat, read_flats, read_form, read_row, read_subs, read_word, reduction,
+    joining, numbered, read_flat, read_flats, read_form, read_row, read_subs, read_word, reduction,
 };
 use crate::line::Line;
 use crate::trouble::Trouble;
@@ -82,9 +82,9 @@ fn read_unless(line: &mut Line<'_>) -> Result<Instruction, Trouble> {
 
 fn read_fold(line: &mut Line<'_>) -> Result<Instruction, Trouble> {
     let slot = read_slot(line)?;
-    let op = reduction(line.word())?;
+    let join = joining(line.word())?;
     let copy = read_row(line)?;
-    Ok(Instruction::FoldCopy { copy, op, slot })
+    Ok(Instruction::FoldCopy { copy, join, slot })
 }
 
 fn read_last(line: &mut Line<'_>) -> Result<Instruction, Trouble> {
@@ -284,10 +284,10 @@ fn read_copy(
 fn read_reduce(alloc: Global, number: u32, line: &mut Line<'_>) -> Result<Instruction, Trouble> {
     let slot = read_slot(line)?;
     read_word(line, "=")?;
-    let op = reduction(line.word())?;
+    let reduction = reduction(line.word())?;
     Ok(Instruction::Reduce {
         evaluation: read_evaluation(alloc, number, line)?,
-        op,
+        reduction,
         slot,
     })
 }

@@ -158,12 +158,12 @@ fn step(m: &mut Machine, i: &Instruction) -> Result<(), Trouble> {
         }
         Instruction::Reduce {
             evaluation,
-            op,
+            reduction,
             slot,
-        } => reduce(m, evaluation, *op, *slot),
+        } => reduce(m, evaluation, reduction, *slot),
         Instruction::Print(items) => print_line(m, items),
-        Instruction::FoldCopy { copy, op, slot } => {
-            fold_copy(m, *copy, *op, *slot);
+        Instruction::FoldCopy { copy, join, slot } => {
+            fold_copy(m, *copy, *join, *slot);
             Ok(())
         }
         Instruction::LastCopy { copy, set, slot } => {

@@ -5,7 +5,7 @@ use crate::machine::{Broken, Kept, Machine, Stand};
 use crate::sections::{Picked, extents_of, picks, size_of, subscripts_at, tuple_of};
 use crate::trouble::Trouble;
 use node_code::{Assignment, Evaluation, Sub, When};
-use op_tables::Op;
+use op_tables::{Join, Made, Reduction};
 use std::alloc::AllocError;
 
 /// What is to be stored, and where.
@@ -181,13 +181,18 @@ pub fn make_copy(m: &mut Machine, copy: usize, p: &Evaluation) -> Result<(), Tro
 }
 
 /// A slot gets a reduction, or the run ends with its first fault.
-pub fn reduce(m: &mut Machine, p: &Evaluation, op: Op, slot: usize) -> Result<(), Trouble> {
+pub fn reduce(
+    m: &mut Machine,
+    p: &Evaluation,
+    reduction: &Reduction,
+    slot: usize,
+) -> Result<(), Trouble> {
     let space = Space::new(m, &p.over, false)?;
-    let mut so_far = unit(op);
+    let mut so_far = unit(reduction.join);
     for number in 0..space.size() {
         let entries = space.tuple(m, number)?;
         match form(m, space.seen(&entries), &p.form) {
-            Ok(value) => so_far = joined(op, so_far, counted(op, value)),
+            Ok(value) => so_far = joined(reduction.join, so_far, made(reduction.made, value)),
             Err(stop) => keep(m, p.line, number, entries, stop)?,
         }
     }
@@ -198,21 +203,22 @@ pub fn reduce(m: &mut Machine, p: &Evaluation, op: Op, slot: usize) -> Result<()
     Ok(())
 }
 
-/// The value of a reduction of no elements (Fortran 95, 13.14).
-fn unit(op: Op) -> i64 {
-    match op {
-        Op::Product | Op::All => 1,
-        Op::MaxVal => i64::MIN,
-        Op::MinVal => i64::MAX,
+/// The value of no elements.
+fn unit(join: Join) -> i64 {
+    match join {
+        Join::Product | Join::All => 1,
+        Join::Greatest => i64::MIN,
+        Join::Least => i64::MAX,
+        Join::And => -1,
         _ => 0,
     }
 }
 
-/// What COUNT adds for a value, and the value of any other reduction.
-fn counted(op: Op, value: i64) -> i64 {
-    match op {
-        Op::Count => truth(value != 0),
-        _ => value,
+/// What is made of a value before it is joined.
+fn made(made: Made, value: i64) -> i64 {
+    match made {
+        Made::Truth => truth(value != 0),
+        Made::Value => value,
     }
 }
 
@@ -221,27 +227,29 @@ fn truth(is_true: bool) -> i64 {
 }
 
 /// Two values joined.
-fn joined(op: Op, one: i64, other: i64) -> i64 {
-    match op {
-        Op::Sum | Op::Count => one.wrapping_add(other),
-        Op::Product => one.wrapping_mul(other),
-        Op::MaxVal => one.max(other),
-        Op::MinVal => one.min(other),
-        Op::Any => truth(one != 0 || other != 0),
-        Op::All => truth(one != 0 && other != 0),
-        _ => one,
+fn joined(join: Join, one: i64, other: i64) -> i64 {
+    match join {
+        Join::Sum => one.wrapping_add(other),
+        Join::Product => one.wrapping_mul(other),
+        Join::Greatest => one.max(other),
+        Join::Least => one.min(other),
+        Join::And => one & other,
+        Join::Or => one | other,
+        Join::ExclusiveOr => one ^ other,
+        Join::Any => truth(one != 0 || other != 0),
+        Join::All => truth(one != 0 && other != 0),
     }
 }
 
 /// A slot is joined with the elements of a copy, joined.
-pub fn fold_copy(m: &mut Machine, copy: usize, op: Op, slot: usize) {
-    let mut so_far = unit(op);
+pub fn fold_copy(m: &mut Machine, copy: usize, join: Join, slot: usize) {
+    let mut so_far = unit(join);
     if let Some(row) = m.rows.get(copy) {
         for element in row {
-            so_far = joined(op, so_far, *element);
+            so_far = joined(join, so_far, *element);
         }
     }
-    let value = joined(op, number_at(&m.slots, slot), so_far);
+    let value = joined(join, number_at(&m.slots, slot), so_far);
     m.set_slot(slot, value);
     m.go_on();
 }

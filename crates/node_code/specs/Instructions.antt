@@ -2,7 +2,8 @@
 use Rattle.std.specs.Prelude.{ℕ, zero, suc, ◌+◌, List, [], ◌∷◌, ◌++◌, drop, slice_get, slice_set, ℤ, pos, Bool, true, false, Option, Some, None, Result, Ok, Err, if◌then◌else◌}
 use Rattle.std.specs.Fmt.{signed_decimal}
 use Rattle.hpf_base.specs.ElementOrder.{product}
-use Rattle.op_tables.specs.declared.op.Op.{Op}
+use Rattle.op_tables.specs.declared.join.Join.{Join}
+use Rattle.op_tables.specs.declared.reductions.Reduction.{Reduction}
 use Rattle.op_tables.specs.Operators.{wrapped, is_zero, is_true}
 use Rattle.expression_rules.specs.declared.dims.Dim.{Dim}
 use Rattle.storage.specs.Storage.{Spot}
@@ -72,13 +73,13 @@ pub data Instruction : Type 0 where
   -- the run ends with the kept fault of the least key, if there is one
   Verdict : Instruction
   -- a slot gets a reduction of an array expression, or the run ends with the first fault of its tuples
-  Reduce : Evaluation → Op → (slot : ℕ) → Instruction
+  Reduce : Evaluation → Reduction → (slot : ℕ) → Instruction
   -- Bounds at the first tuple at which an element of a section is out of bounds
   Inside : (line array : ℕ) → List Sub → Instruction
   -- a line of these items is printed
   Print : List PrintItem → Instruction
-  -- a slot is joined with the elements of a copy, joined by the operator of a reduction
-  FoldCopy : (copy : ℕ) → Op → (slot : ℕ) → Instruction
+  -- a slot is joined with the elements of a copy, joined
+  FoldCopy : (copy : ℕ) → Join → (slot : ℕ) → Instruction
   -- a slot gets the element of a copy at the last position where the copy `set` isn't 0, if there is one and the two lie alike
   LastCopy : (copy set slot : ℕ) → Instruction
   -- arrays get new mappings, one after another (HPF 2.0, 8.3)
@@ -181,9 +182,9 @@ meaning_of table (MakeCopy copy p) = machine.MakeCopy copy (λ layouts slots. ta
 meaning_of table (ParCopy copy p) = machine.Par (evaluation_tuples table.shapes p) (copy_spot copy)
 meaning_of table (ParForallCopy copy p) = machine.Par (forall_mask_tuples table.shapes p) (copy_spot copy)
 meaning_of table Verdict = machine.Verdict
-meaning_of table (Reduce p o x) = machine.Reduce (reduction_tuples table.shapes p o) (fold_of o) x
+meaning_of table (Reduce p r x) = machine.Reduce (reduction_tuples table.shapes p r.made) (fold_of r.join) x
 meaning_of table (Inside line a subs) = Local (λ c. go_on_if (at_line line (all_inside table.shapes a (selections_in c.slots subs))) c)
 meaning_of table (Print items) = machine.Print (items_of table.shapes items) (λ bytes. drop 1 bytes ++ 10 ∷ [])
-meaning_of table (FoldCopy copy o x) = machine.FoldCopy copy (fold_of o) x
+meaning_of table (FoldCopy copy j x) = machine.FoldCopy copy (fold_of j) x
 meaning_of table (LastCopy copy set x) = machine.LastCopy copy set is_same_layout x
 meaning_of table (Remap line new) = machine.Remap (remappings table.maps new) (table.rounds (remappings table.maps new))

@@ -8,7 +8,7 @@ use Rattle.machine_steps.specs.Node.{Node}
 use Rattle.comm_sets.specs.declared.exchanged.Exchange.{Exchange}
 use Rattle.comm_sets.specs.Exchanges.{AreExchanged}
 use Rattle.node_code.specs.ProgramText.{Text}
-use Rattle.op_tables.specs.declared.op.Op.{Op}
+use Rattle.op_tables.specs.declared.join.Join.{Join}
 use Rattle.tuple_values.specs.Statements.{Statement, no_left}
 use Rattle.part_steps.specs.Exchanged.{IsExchange}
 use Rattle.part_steps.specs.Parts.{PartView, part_of}
@@ -31,7 +31,7 @@ module _ (a : Node Text Fault) (i : Instr Fault) (w : Statement) where
   pub parallel-planned : IsParallel i a.control.slots w → planned a.nodes a.layouts a.control.slots i ≡ Some (part_of (part_on a Left w))
   parallel-planned p = ap (planned a.nodes a.layouts a.control.slots) p.is ∙ ap Some (sym (par-is a.nodes a.layouts w a.control.slots p.tuples p.left p.statement))
 
-  pub reduction-planned : (o : Op) → IsReduced i a.control.slots o w → planned a.nodes a.layouts a.control.slots i ≡ Some (part_of (part_on a First w))
+  pub reduction-planned : (o : Join) → IsReduced i a.control.slots o w → planned a.nodes a.layouts a.control.slots i ≡ Some (part_of (part_on a First w))
   reduction-planned o p = ap (planned a.nodes a.layouts a.control.slots) p.is ∙ ap Some (sym (reduce-is a.nodes a.layouts w a.control.slots p.tuples no_left p.statement))
 
   -- ---- both ways

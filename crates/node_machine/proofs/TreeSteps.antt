@@ -11,7 +11,7 @@ use Rattle.node_code.specs.ProgramText.{Text}
 use Rattle.machine_steps.specs.SameLayouts.{is_same_layout}
 use Rattle.tree_steps.specs.Absorbed.{absorbed_values, joined_values}
 use Rattle.tree_steps.specs.declared.joining.Joining.TheVariants.{Kept, Later, Options}
-use Rattle.op_tables.specs.declared.op.Op.{Op}
+use Rattle.op_tables.specs.declared.join.Join.{Join}
 
 module _ (count : ℕ) (a : Node Text Fault) where
   -- the node with these numbers in a round
@@ -53,7 +53,7 @@ module _ (count : ℕ) (a : Node Text Fault) where
 
   -- ---- the second and third step of reductions
 
-  module _ (i : Instr Fault) (tuples : Tuples Fault) (o : Op) (slot : ℕ) (is : i ≡ Reduce tuples (fold_of o) slot) where
+  module _ (i : Instr Fault) (tuples : Tuples Fault) (o : Join) (slot : ℕ) (is : i ≡ Reduce tuples (fold_of o) slot) where
     pub second-begun : (numbers : List ℤ) → a.substep ≡ 1 → numbers ≡ kept_values fault_values a.kept
         → tree_next count (verdict_done count fault_values stay 2) (with_round 0 numbers) ≡ begun_by fault_values count i a
     second-begun numbers at e =
@@ -93,7 +93,7 @@ module _ (count : ℕ) (a : Node Text Fault) where
 
   -- ---- copies that are folded
 
-  module _ (i : Instr Fault) (copy : ℕ) (o : Op) (slot : ℕ) (is : i ≡ FoldCopy copy (fold_of o) slot) where
+  module _ (i : Instr Fault) (copy : ℕ) (o : Join) (slot : ℕ) (is : i ≡ FoldCopy copy (fold_of o) slot) where
     pub fold-begun : (numbers : List ℤ) → numbers ≡ option_values (own_fold count copy (fold_of o) a)
         → tree_next count (fold_ended count (fold_of o) slot) (with_round 0 numbers) ≡ begun_by fault_values count i a
     fold-begun numbers e = ap (λ v. tree_next count (fold_ended count (fold_of o) slot) (with_round 0 v)) e ∙ ap (λ x. begun_by fault_values count x a) (sym is)

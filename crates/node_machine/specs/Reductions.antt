@@ -1,12 +1,13 @@
 -- No public clause cites this file. The first step of reductions on a node.
 use Rattle.std.specs.Prelude.{◌≡◌, ℕ, ℤ, List}
-use Rattle.op_tables.specs.declared.op.Op.{Op}
+use Rattle.op_tables.specs.declared.join.Join.{Join}
+use Rattle.op_tables.specs.Joins.{join}
 use Rattle.array_meaning.specs.Faults.{Fault}
 use Rattle.machine_steps.specs.Instr.{Instr, Reduce, Tuples}
 use Rattle.machine_steps.specs.Machine.{earlier, keep}
 use Rattle.machine_steps.specs.Message.{reduce_part}
 use Rattle.machine_steps.specs.Node.{Node, join_below, local_outcome, outcome_value}
-use Rattle.node_code.specs.Parallel.{fold_of, joined}
+use Rattle.node_code.specs.Parallel.{fold_of}
 use Rattle.node_code.specs.ProgramText.{Text}
 use Rattle.tuple_values.specs.Statements.{IsStatement, Statement, no_left}
 use Rattle.slot_values.specs.KeptFaults.{kepts}
@@ -15,7 +16,7 @@ use Rattle.node_machine.specs.Parts.{IsOpening}
 use Rattle.node_machine.specs.declared.parts.Opening.{Opening}
 
 -- the instruction is a reduction of the values of this statement by this operator
-pub record IsReduced (i : Instr Fault) (slots : List ℤ) (o : Op) (w : Statement) : Type 0 where
+pub record IsReduced (i : Instr Fault) (slots : List ℤ) (o : Join) (w : Statement) : Type 0 where
   pub tuples : Tuples Fault
   pub slot : ℕ
   pub is : i ≡ Reduce tuples (fold_of o) slot
@@ -24,7 +25,7 @@ pub record IsReduced (i : Instr Fault) (slots : List ℤ) (o : Op) (w : Statemen
 -- what opens its phase
 pub record IsReduceOpening (i : Instr Fault) (a : Node Text Fault) (o : Opening) : Type 0 where
   pub tuples : Tuples Fault
-  pub op : Op
+  pub op : Join
   pub slot : ℕ
   pub is : i ≡ Reduce tuples (fold_of op) slot
   pub opening : IsOpening (reduce_part a.nodes a.layouts tuples a.control.slots) a o
@@ -32,10 +33,10 @@ pub record IsReduceOpening (i : Instr Fault) (a : Node Text Fault) (o : Opening)
 -- what it comes to behind its phase
 pub record IsReduceResult (i : Instr Fault) (a : Node Text Fault) (r : ReduceValues) : Type 0 where
   pub tuples : Tuples Fault
-  pub op : Op
+  pub op : Join
   pub slot : ℕ
   pub is : i ≡ Reduce tuples (fold_of op) slot
   pub value : r.value
-      ≡ join_below (joined op) (λ t. outcome_value (local_outcome a.nodes (reduce_part a.nodes a.layouts tuples a.control.slots) tuples a t)) (reduce_part a.nodes a.layouts tuples a.control.slots).tuples
+      ≡ join_below (join op) (λ t. outcome_value (local_outcome a.nodes (reduce_part a.nodes a.layouts tuples a.control.slots) tuples a t)) (reduce_part a.nodes a.layouts tuples a.control.slots).tuples
   pub kept : earlier a.kept (kepts r.fault)
       ≡ keep (local_outcome a.nodes (reduce_part a.nodes a.layouts tuples a.control.slots) tuples a) a.parts (reduce_part a.nodes a.layouts tuples a.control.slots).tuples a.kept

@@ -6,7 +6,8 @@ ghost use Rattle.machine_steps.specs.Layout.{sizes};
 ghost use Rattle.machine_steps.specs.Machine.{instr_at, slot_of};
 ghost use Rattle.machine_steps.specs.Node.{begun_by, done_by, fold_ended, join_behind, join_options, option_values, own_fold, tree_next, values_option};
 ghost use Rattle.node_code.specs.FaultValues.{fault_values};
-ghost use Rattle.node_code.specs.Parallel.{fold_of, joined};
+ghost use Rattle.node_code.specs.Parallel.{fold_of};
+ghost use Rattle.op_tables.specs.Joins.{join};
 ghost use Rattle.node_code.specs.ProgramText.{text_meaning};
 ghost use Rattle.storage.specs.Spots.{spot_of};
 ghost use Rattle.node_machine.specs.Folds.{own_element, own_elements};
@@ -17,9 +18,8 @@ use crate::pieces::value_at;
 use crate::program::NodeProgram;
 use hpf_base::OutOfMemory;
 use node_code::Instruction;
-use op_tables::Op;
+use op_tables::Join;
 use owner_tables::{Owners, Row, Spot, local_value};
-use part_steps::joined;
 use slot_values::Control;
 use tree_steps::{Joining, option_numbers, options_joined, reduced};
 
@@ -27,7 +27,7 @@ use tree_steps::{Joining, option_numbers, options_joined, reduced};
 #[derive(Clone, Copy, Debug)]
 pub(crate) struct Folding {
     pub(crate) copy: usize,
-    pub(crate) op: Op,
+    pub(crate) op: Join,
     pub(crate) slot: usize,
 }
 
@@ -41,9 +41,9 @@ impl NodeProgram {
             return Err(OutOfMemory);
         };
         match i {
-            Instruction::FoldCopy { copy, op, slot } => Ok(Folding {
+            Instruction::FoldCopy { copy, join, slot } => Ok(Folding {
                 copy: *copy,
-                op: *op,
+                op: *join,
                 slot: *slot,
             }),
             _ => Err(OutOfMemory),
@@ -128,10 +128,10 @@ impl Node {
 
     /// The value of the slot, joined with what the tree has joined.
     fn joined_slot(&self, folding: Folding, folded: &[i64]) -> [i64; 1]
-        ensures { result ≡ joined folding.op (slot_of self.now.control folding.slot) (join_behind (joined folding.op) (fold_of folding.op).unit (values_option folded.now)) ∷ [] }
+        ensures { result ≡ join folding.op (slot_of self.now.control folding.slot) (join_behind (join folding.op) (fold_of folding.op).unit (values_option folded.now)) ∷ [] }
     {
         let before = value_at(&self.control.slots, folding.slot);
-        [joined(folding.op, before, reduced(folding.op, folded))]
+        [folding.op.join(before, reduced(folding.op, folded))]
     }
 }
 
@@ -143,8 +143,8 @@ struct OwnFold {
 
 impl OwnFold {
     /// Joins an element behind them, where there is one.
-    fn add(&mut self, op: Op, element: Option<i64>)
-        ensures { self.new.value ≡ join_options (joined op) self.old.value element }
+    fn add(&mut self, op: Join, element: Option<i64>)
+        ensures { self.new.value ≡ join_options (join op) self.old.value element }
     {
         self.value = options_joined(op, self.value, element);
     }
@@ -156,11 +156,11 @@ fn own_elements(
     owners: &Owners,
     id: u32,
     pieces: &[Row],
-    op: Op,
+    op: Join,
     copy: usize,
 ) -> Result<Option<i64>, OutOfMemory>
     requires { id < owners.now.nodes }
-    ensures { IfOk result (λ v. v ≡ own_elements owners.now.layouts id pieces.now owners.now.nodes (joined op) copy (slice_index_or (sizes owners.now.layouts) copy 0)) }
+    ensures { IfOk result (λ v. v ≡ own_elements owners.now.layouts id pieces.now owners.now.nodes (join op) copy (slice_index_or (sizes owners.now.layouts) copy 0)) }
 {
     let mut fold = OwnFold { value: None };
     for at in 0..owners.size(copy) {

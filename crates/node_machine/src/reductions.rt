@@ -18,7 +18,7 @@ use crate::program::NodeProgram;
 use comm_sets::Exchange;
 use hpf_base::OutOfMemory;
 use node_code::Instruction;
-use op_tables::Op;
+use op_tables::Join;
 use part_steps::{Part, ReduceValues, Who, reduce_values};
 use slot_values::Control;
 use std::alloc::Global;
@@ -28,7 +28,7 @@ use tuple_values::ParallelStatement;
 #[derive(Drop)]
 struct Reduced<'a> {
     statement: ParallelStatement<'a>,
-    op: Op,
+    op: Join,
 }
 
 impl NodeProgram {
@@ -44,15 +44,22 @@ impl NodeProgram {
             return Err(OutOfMemory);
         };
         match i {
-            Instruction::Reduce { evaluation, op, .. } => {
+            Instruction::Reduce {
+                evaluation,
+                reduction,
+                ..
+            } => {
                 let statement = ParallelStatement::of_reduction(
                     alloc,
                     &self.shapes,
                     &control.slots,
                     evaluation,
-                    *op,
+                    reduction.made,
                 )?;
-                Ok(Reduced { statement, op: *op })
+                Ok(Reduced {
+                    statement,
+                    op: reduction.join,
+                })
             }
             _ => Err(OutOfMemory),
         }

@@ -19,7 +19,7 @@ use crate::program::NodeProgram;
 use hpf_base::OutOfMemory;
 use letters::Parcel;
 use node_code::Instruction;
-use op_tables::Op;
+use op_tables::Join;
 use slot_values::{Control, Kept, Status};
 use std::collections::VecDeque;
 use tree_steps::{
@@ -30,7 +30,7 @@ use tree_steps::{
 /// A reduction: how its values are joined, and the slot that gets them.
 #[derive(Clone, Copy, Debug)]
 pub(crate) struct Reduction {
-    pub(crate) op: Op,
+    pub(crate) op: Join,
     pub(crate) slot: usize,
 }
 
@@ -58,8 +58,12 @@ impl NodeProgram {
             return Err(OutOfMemory);
         };
         match i {
-            Instruction::Reduce { op, slot, .. } => Ok(Reduction {
-                op: *op,
+            Instruction::Reduce {
+                reduction,
+                slot,
+                ..
+            } => Ok(Reduction {
+                op: reduction.join,
                 slot: *slot,
             }),
             _ => Err(OutOfMemory),

@@ -1,3 +1,5 @@
 pub mod Codes
+pub mod Joins
 pub mod Powers
+pub mod ReductionVariables
 pub mod Wrapping

@@ -2,4 +2,5 @@ pub mod Tables
 pub mod Words
 pub mod Arguments
 pub mod Operators
+pub mod Joins
 pub mod Reductions

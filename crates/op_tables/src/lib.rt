@@ -1,18 +1,22 @@
 //! The words of the language, each with its code, and its operators.
 //!
-//! Comes in: nothing. Goes out: five tables of words, the code of a word that is spelled so, and the value of an operator.
+//! Comes in: nothing. Goes out: five tables of words, the code of a word that is spelled so, the value of an operator, and what reductions
+//! join numbers by.
 //! What holds in between: a table's words are those of `specs/`, distinct and in ascending order, and a word's
 //! code is its place; a look-up gives that code, and None exactly where the word isn't in the table. An operator's value
-//! is that of `specs/Operators.antt`, over numbers of 64 bits that wrap.
+//! is that of `specs/Operators.antt`, over numbers of 64 bits that wrap. What joins numbers (`specs/Joins.antt`) does so in any order and
+//! grouping.
 #![tactic(auto)]
 
 mod arguments;
 mod dots;
 mod intrinsics;
+mod join;
 mod left_out;
 mod marks;
 mod op;
 mod operators;
+mod reductions;
 mod reserved;
 mod statements;
 mod table;
@@ -20,10 +24,12 @@ mod table;
 pub use arguments::{is_inquiry, is_processor_count, is_reduction, takes};
 pub use dots::{dot_word, dot_words};
 pub use intrinsics::{intrinsic_word, intrinsic_words};
+pub use join::{Join, law_of_joins};
 pub use left_out::{left_out_word, left_out_words};
 pub use marks::{symbol, symbols};
 pub use op::Op;
 pub use operators::{DivZero, apply};
+pub use reductions::{Made, Reduction, joined_by, law_of_reduction_variables, reduction_of};
 pub use reserved::is_reserved;
 pub use statements::{statement_word, statement_words};
 pub use table::{Row, Table};

@@ -198,7 +198,7 @@ fn value_of_one(op: Op, a: i64) -> i64
 }
 
 /// The number of a logical value.
-fn truth(holds: bool) -> i64
+pub(crate) fn truth(holds: bool) -> i64
     ensures { result ≡ truth holds }
 {
     if holds { 1 } else { 0 }

@@ -4,12 +4,12 @@ use Rattle.std.proofs.lemmas.List.{drop_more}
 use Rattle.std.proofs.lemmas.List.Elements.{filter_passes}
 use Rattle.std.specs.List.{range_with_len}
 use Rattle.storage.specs.Storage.{Storage}
-use Rattle.op_tables.specs.declared.op.Op.{Op}
+use Rattle.op_tables.specs.declared.join.Join.{Join}
+use Rattle.op_tables.specs.Joins.{join}
 use Rattle.array_meaning.specs.Faults.{Fault}
 use Rattle.machine_steps.specs.Instr.{Nothing}
 use Rattle.machine_steps.specs.Machine.{Kept, earlier, is_before, kept_of, value_by}
 use Rattle.machine_steps.specs.Node.{join_options, outcome_value}
-use Rattle.node_code.specs.Parallel.{joined}
 use Rattle.node_run.proofs.Keeping.{before-order}
 use Rattle.node_run.proofs.Picked.{picked-none}
 use Rattle.comm_sets.proofs.Computing.{are-nodes, filter-more}
@@ -68,8 +68,8 @@ module _ (b : Behind) where
   abbrev pub keep_of : ℕ → ℕ → Option (Kept Fault) → Option (Kept Fault)
   keep_of number t so_far = earlier so_far (kept_of (outcome_of b t) t number)
 
-  abbrev pub join_of : Op → ℕ → Option ℤ → Option ℤ
-  join_of op t so_far = join_options (joined op) so_far (outcome_value (outcome_of b t))
+  abbrev pub join_of : Join → ℕ → Option ℤ → Option ℤ
+  join_of op t so_far = join_options (join op) so_far (outcome_value (outcome_of b t))
 
   module _ (computed : List ℕ) (are : computed ≡ computed_of b) where
     abbrev passes : ℕ → Bool
@@ -93,7 +93,7 @@ module _ (b : Behind) where
         ∙ over-passing (keep_of number) passes (fault_below b number) (λ n. refl)
         (λ n e s. ap (λ o. earlier s (kept_of o n number)) (nothing-else n e) ∙ picked-none is_before before-order s) (tuples b)
 
-    pub joined-over : (op : Op) → over (join_of op) computed None ≡ joined_below b op (tuples b)
+    pub joined-over : (op : Join) → over (join_of op) computed None ≡ joined_below b op (tuples b)
     joined-over op =
         ap (λ ts. over (join_of op) ts None) are
-        ∙ over-passing (join_of op) passes (joined_below b op) (λ n. refl) (λ n e s. ap (λ o. join_options (joined op) s (outcome_value o)) (nothing-else n e) ∙ join-none (joined op) s) (tuples b)
+        ∙ over-passing (join_of op) passes (joined_below b op) (λ n. refl) (λ n e s. ap (λ o. join_options (join op) s (outcome_value o)) (nothing-else n e) ∙ join-none (join op) s) (tuples b)

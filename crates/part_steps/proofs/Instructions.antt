@@ -1,7 +1,8 @@
 -- The parts of instructions, and what a node makes of them, by the steps of the machine.
 use Rattle.std.proofs.Common.{◌≡◌, ℕ, ℤ, ◌==◌, List, [], ◌∷◌, map, Option, if◌then◌else◌, sym, ◌∙◌}
 use Rattle.storage.specs.Storage.{Spot}
-use Rattle.op_tables.specs.declared.op.Op.{Op}
+use Rattle.op_tables.specs.declared.join.Join.{Join}
+use Rattle.op_tables.specs.Joins.{join}
 use Rattle.array_meaning.specs.Faults.{Fault}
 use Rattle.machine_steps.specs.Instr.{Tuples, Nothing}
 use Rattle.machine_steps.specs.Layout.{Layout, in_bounds}
@@ -9,7 +10,6 @@ use Rattle.machine_steps.specs.Machine.{value_by, effect_by, earlier, keep, elem
 use Rattle.machine_steps.specs.Message.{Part, message, par_part, reduce_part, gather_part, computes_left, first_read, least_or_zero}
 use Rattle.machine_steps.specs.Node.{Node, part_opened, settled, no_values, held_or_received, gathered, local_outcome, local_scatter, join_below, outcome_value}
 use Rattle.letters.specs.Parcel.{Parcel}
-use Rattle.node_code.specs.Parallel.{joined}
 use Rattle.tuple_values.specs.Statements.{Statement, IsStatement, tuple_count, tuple_reads, tuple_outcome}
 use Rattle.part_steps.specs.declared.who.Who.{Who}
 use Rattle.part_steps.specs.declared.who.Who.TheVariants.{Left, First, Root}
@@ -65,8 +65,8 @@ module _ {C : Type 0} (nodes : ℕ) (a : Node C Fault) (who : Who) (w : Statemen
     pub kept-is : (number : ℕ) → earlier a.kept (fault_below here number (tuples_of here)) ≡ keep (local_outcome nodes part tuples a) number part.tuples a.kept
     kept-is number = sym (kept-apart (outcome_of here) number (tuples_of here) a.kept) ∙ (λ i. keep (λ t. outcome-is t i) number (e i).tuples a.kept)
 
-    pub joined-is : (op : Op) → joined_below here op (tuples_of here) ≡ join_below (joined op) (λ t. outcome_value (local_outcome nodes part tuples a t)) part.tuples
-    joined-is op = λ i. join_below (joined op) (λ t. outcome_value (outcome-is t i)) (e i).tuples
+    pub joined-is : (op : Join) → joined_below here op (tuples_of here) ≡ join_below (join op) (λ t. outcome_value (local_outcome nodes part tuples a t)) part.tuples
+    joined-is op = λ i. join_below (join op) (λ t. outcome_value (outcome-is t i)) (e i).tuples
 
   -- the values of a section
   pub elements-are : (count : List ℤ → ℕ) (element : List ℤ → ℕ → Option Spot) → tuple_count w ≡ count a.control.slots → ((t : ℕ) → tuple_reads w t ≡ element a.control.slots t ∷ [])

@@ -1,14 +1,14 @@
 -- What a node makes of a part behind its phase.
 use Rattle.std.specs.Prelude.{ℕ, ℤ, List, [], map, slice_index_or, Option, None, if◌then◌else◌}
 use Rattle.storage.specs.Storage.{Storage, Spot}
-use Rattle.op_tables.specs.declared.op.Op.{Op}
+use Rattle.op_tables.specs.declared.join.Join.{Join}
+use Rattle.op_tables.specs.Joins.{join}
 use Rattle.array_meaning.specs.Faults.{Fault}
 use Rattle.machine_steps.specs.Instr.{Outcome, Nothing}
 use Rattle.machine_steps.specs.Layout.{least_owner_of}
 use Rattle.machine_steps.specs.Machine.{Kept, value_by, effect_by, keep, element_values}
 use Rattle.machine_steps.specs.Message.{message, lookup, first_read}
 use Rattle.machine_steps.specs.Node.{held_or_received, local_apply, local_scatter, join_below, outcome_value}
-use Rattle.node_code.specs.Parallel.{joined}
 use Rattle.tuple_values.specs.Statements.{tuple_count, tuple_reads, tuple_left, tuple_outcome}
 use Rattle.part_steps.specs.Parts.{PartView, part_of}
 
@@ -50,8 +50,8 @@ module _ (b : Behind) where
   fault_below number count = keep outcome_of number count None
 
   -- the values of the first tuples, joined
-  abbrev pub joined_below : Op → ℕ → Option ℤ
-  joined_below op count = join_below (joined op) (λ t. outcome_value (outcome_of t)) count
+  abbrev pub joined_below : Join → ℕ → Option ℤ
+  joined_below op count = join_below (join op) (λ t. outcome_value (outcome_of t)) count
 
   -- the values of the elements that the first tuples read, in order
   abbrev pub elements_below : ℕ → List ℤ

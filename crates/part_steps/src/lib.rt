@@ -24,7 +24,7 @@ mod who;
 pub use opening::{exchange_of, inbox, outbox};
 pub use parallel::{ParValues, par_values};
 pub use part::Part;
-pub use reductions::{ReduceValues, joined, reduce_values};
+pub use reductions::{ReduceValues, reduce_values};
 pub use sections::section_values;
 pub use stores::Stores;
 pub use who::Who;

@@ -3,7 +3,7 @@
 ghost use Rattle.std.specs.Prelude.{◌≡◌, ◌<◌, Some, IfOk, OnOk};
 ghost use Rattle.machine_steps.specs.Machine.{earlier, kept_of};
 ghost use Rattle.machine_steps.specs.Node.{join_options, outcome_value};
-ghost use Rattle.node_code.specs.Parallel.{joined};
+ghost use Rattle.op_tables.specs.Joins.{join};
 ghost use Rattle.part_steps.specs.Behind.{behind, fault_below, joined_below, outcome_of, tuples};
 ghost use Rattle.part_steps.specs.Exchanged.{IsComputed, IsExchange};
 ghost use Rattle.part_steps.specs.Gathered.{behind_of};
@@ -11,15 +11,14 @@ ghost use Rattle.slot_values.specs.KeptFaults.{kepts};
 ghost use Rattle.part_steps.specs.Views.{part_view};
 
 use crate::gathered::Gathered;
-use letters::Body;
-use owner_tables::Row;
 use crate::parallel::kept_earlier;
 use crate::part::Part;
 use comm_sets::Exchange;
 use hpf_base::OutOfMemory;
-use op_tables::Op;
+use letters::Body;
+use op_tables::Join;
+use owner_tables::Row;
 use slot_values::Kept;
-use term_values::combined;
 use tuple_values::Outcome;
 
 /// The values of the tuples that a node computes, joined in their order, where there are any, and the first fault.
@@ -37,7 +36,7 @@ pub fn reduce_values(
     pieces: &[Row],
     received: &[Body],
     exchange: &Exchange,
-    op: Op,
+    op: Join,
     number: u64,
 ) -> Result<ReduceValues, OutOfMemory>
     requires id { id < part.now.owners.now.nodes }
@@ -52,7 +51,7 @@ pub fn reduce_values(
 /// What it comes to by what the node has behind the phase.
 fn gathered_values(
     gathered: &Gathered<'_>,
-    op: Op,
+    op: Join,
     number: u64,
 ) -> Result<ReduceValues, OutOfMemory>
     ensures value { IfOk result (λ r. let b = behind_of gathered.now in r.value ≡ joined_below b op (tuples b)) }
@@ -75,11 +74,11 @@ impl ReduceValues {
         &mut self,
         gathered: &Gathered<'_>,
         tuple: usize,
-        op: Op,
+        op: Join,
         number: u64,
     ) -> Result<(), OutOfMemory>
         requires { IsComputed (behind_of gathered.now) tuple }
-        ensures value { OnOk result (self.new.value ≡ join_options (joined op) self.old.value (outcome_value (outcome_of (behind_of gathered.now) tuple))) }
+        ensures value { OnOk result (self.new.value ≡ join_options (join op) self.old.value (outcome_value (outcome_of (behind_of gathered.now) tuple))) }
         ensures fault { OnOk result (kepts self.new.fault ≡ earlier (kepts self.old.fault) (kept_of (outcome_of (behind_of gathered.now) tuple) tuple number)) }
     {
         let place = gathered.part.statement.place(tuple)?;
@@ -98,21 +97,11 @@ impl ReduceValues {
 }
 
 /// A value behind others, joined, where there are others.
-fn joined_behind(op: Op, so_far: Option<i64>, v: i64) -> Option<i64>
-    ensures { result ≡ join_options (joined op) so_far (Some v) }
+fn joined_behind(op: Join, so_far: Option<i64>, v: i64) -> Option<i64>
+    ensures { result ≡ join_options (join op) so_far (Some v) }
 {
     match so_far {
         None => Some(v),
-        Some(a) => Some(joined(op, a, v)),
-    }
-}
-
-/// Two values joined by the operator of a reduction: those of COUNT are numbers already, which are added.
-pub fn joined(op: Op, a: i64, b: i64) -> i64
-    ensures { result ≡ joined op a b }
-{
-    match op {
-        Op::Count => combined(Op::Sum, a, b),
-        _ => combined(op, a, b),
+        Some(a) => Some(op.join(a, v)),
     }
 }

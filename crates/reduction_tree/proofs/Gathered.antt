@@ -6,7 +6,7 @@ use Rattle.std.proofs.lemmas.List.Sums.{fold-append}
 use Rattle.std.proofs.Math.Nat.{pow-suc}
 use Rattle.std.specs.List.{fold, range_with_len}
 use Rattle.hpf_base.proofs.Ranges.{range_with_len-add}
-use Rattle.nest_order.specs.Reduction.{IsJoin}
+use Rattle.op_tables.specs.Joins.{IsJoin}
 use Rattle.reduction_tree.specs.declared.tree.TreeAct.{TreeAct}
 use Rattle.reduction_tree.specs.declared.tree.TreeAct.TheVariants.{Idle, Send, Take}
 use Rattle.reduction_tree.specs.Tree.{levels, up_act, exchanged, act_of, after_act, after_rounds}

@@ -2,7 +2,7 @@
 use Rattle.std.proofs.Common.{◌≡◌, ℕ, zero, suc, ◌+◌, ◌<◌, ◌≤◌, ◌==◌, Bool, true, false, if◌then◌else◌, List, [], ◌∷◌, map, filter, refl, sym, ◌∙◌, ap, arith, ⊎_elim, eq-eqb}
 use Rattle.std.proofs.lemmas.Bool.{ne_eqb, cases_eq}
 use Rattle.std.specs.List.{fold, range_with_len}
-use Rattle.nest_order.specs.Reduction.{IsJoin}
+use Rattle.op_tables.specs.Joins.{IsJoin}
 use Rattle.reduction_tree.proofs.Gathered.{Values, fold-cons, folded-value}
 
 module _ {T : Type 0} (IsValue : T → Type 0) (join : T → T → T) (unit : T) (joins : IsJoin IsValue join unit) where

@@ -4,7 +4,7 @@ use Rattle.std.proofs.lemmas.Cmp.{then_total, on_total, nat_cmp_total}
 use Rattle.std.specs.Cmp.{IsTotalOrder}
 use Rattle.std.specs.Ordering.{nat_cmp, ordering_then}
 use Rattle.std.specs.declared.cmp.Ordering.TheVariants.{Equal}
-use Rattle.nest_order.specs.Reduction.{IsJoin}
+use Rattle.op_tables.specs.Joins.{IsJoin}
 use Rattle.reduction_tree.specs.declared.kept_fault.KeptFault.{KeptFault}
 use Rattle.reduction_tree.specs.FaultOrder.{fault_order}
 use Rattle.reduction_tree.specs.FirstOf.{first_of}

@@ -6,7 +6,7 @@ use Rattle.std.specs.Cmp.{IsTotalOrder}
 use Rattle.std.specs.Ordering.{is_gt, ordering_reverse, ordering_then, nat_cmp, int_cmp}
 use Rattle.std.specs.declared.cmp.Ordering.{Ordering}
 use Rattle.std.specs.declared.cmp.Ordering.TheVariants.{Less, Equal, Greater}
-use Rattle.nest_order.specs.Reduction.{IsJoin}
+use Rattle.op_tables.specs.Joins.{IsJoin}
 use Rattle.reduction_tree.specs.FirstOf.{first_of}
 
 -- where two comparisons together tell nothing apart, neither does

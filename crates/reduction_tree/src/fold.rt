@@ -1,7 +1,7 @@
 //! What a tree joins.
 
 ghost use Rattle.std.specs.Prelude.{◌≡◌, fold};
-ghost use Rattle.nest_order.specs.Reduction.{IsJoin};
+ghost use Rattle.op_tables.specs.Joins.{IsJoin};
 
 /// A way to join two items of one type. Its items are values where its own predicate says so. On values the join is
 /// associative and commutative, and its unit is neutral.

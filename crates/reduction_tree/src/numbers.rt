@@ -1,6 +1,7 @@
 //! Folds of numbers of 64 bits.
 
 use crate::fold::Fold;
+use op_tables::Join;
 
 /// The sum, which wraps (Fortran 95, 13.14, SUM).
 pub struct Sum;
@@ -26,26 +27,26 @@ pub struct BitXor;
 impl Fold for Sum {
     ghost use Rattle.std.specs.Prelude.{FitsSigned};
     ghost use Rattle.std.specs.Int.{w64};
-    ghost use Rattle.nest_order.specs.Reduction.{Sum, joined, unit_of};
-    ghost use Rattle.nest_order.proofs.Joins.{operator_joins};
+    ghost use Rattle.op_tables.specs.declared.join.Join.TheVariants.{Sum};
+    ghost use Rattle.op_tables.specs.Joins.{join, unit};
+    ghost use Rattle.op_tables.proofs.Joins.{joins};
 
     type Item = i64;
 
     ghost is_value = { FitsSigned w64 };
 
-    ghost neutral = { unit_of Sum };
+    ghost neutral = { unit Sum };
 
-    ghost joined = { joined Sum };
+    ghost joined = { join Sum };
 
-    ghost laws = { operator_joins Sum };
+    ghost laws = { joins Sum };
 
     fn unit() -> i64 {
-        0
+        Join::Sum.unit()
     }
 
-    #[tactic(auto, using(std::proofs::lemmas::Int::wraps))]
     fn join(a: i64, b: i64) -> i64 {
-        a.wrapping_add(b)
+        Join::Sum.join(a, b)
     }
 
     fn tell(_a: i64) {}
@@ -54,26 +55,26 @@ impl Fold for Sum {
 impl Fold for Product {
     ghost use Rattle.std.specs.Prelude.{FitsSigned};
     ghost use Rattle.std.specs.Int.{w64};
-    ghost use Rattle.nest_order.specs.Reduction.{Product, joined, unit_of};
-    ghost use Rattle.nest_order.proofs.Joins.{operator_joins};
+    ghost use Rattle.op_tables.specs.declared.join.Join.TheVariants.{Product};
+    ghost use Rattle.op_tables.specs.Joins.{join, unit};
+    ghost use Rattle.op_tables.proofs.Joins.{joins};
 
     type Item = i64;
 
     ghost is_value = { FitsSigned w64 };
 
-    ghost neutral = { unit_of Product };
+    ghost neutral = { unit Product };
 
-    ghost joined = { joined Product };
+    ghost joined = { join Product };
 
-    ghost laws = { operator_joins Product };
+    ghost laws = { joins Product };
 
     fn unit() -> i64 {
-        1
+        Join::Product.unit()
     }
 
-    #[tactic(auto, using(std::proofs::lemmas::Int::wraps))]
     fn join(a: i64, b: i64) -> i64 {
-        a.wrapping_mul(b)
+        Join::Product.join(a, b)
     }
 
     fn tell(_a: i64) {}
@@ -82,25 +83,26 @@ impl Fold for Product {
 impl Fold for Greatest {
     ghost use Rattle.std.specs.Prelude.{FitsSigned};
     ghost use Rattle.std.specs.Int.{w64};
-    ghost use Rattle.nest_order.specs.Reduction.{Greatest, joined, unit_of};
-    ghost use Rattle.nest_order.proofs.Joins.{operator_joins};
+    ghost use Rattle.op_tables.specs.declared.join.Join.TheVariants.{Greatest};
+    ghost use Rattle.op_tables.specs.Joins.{join, unit};
+    ghost use Rattle.op_tables.proofs.Joins.{joins};
 
     type Item = i64;
 
     ghost is_value = { FitsSigned w64 };
 
-    ghost neutral = { unit_of Greatest };
+    ghost neutral = { unit Greatest };
 
-    ghost joined = { joined Greatest };
+    ghost joined = { join Greatest };
 
-    ghost laws = { operator_joins Greatest };
+    ghost laws = { joins Greatest };
 
     fn unit() -> i64 {
-        i64::MIN
+        Join::Greatest.unit()
     }
 
     fn join(a: i64, b: i64) -> i64 {
-        a.max(b)
+        Join::Greatest.join(a, b)
     }
 
     fn tell(_a: i64) {}
@@ -109,25 +111,26 @@ impl Fold for Greatest {
 impl Fold for Least {
     ghost use Rattle.std.specs.Prelude.{FitsSigned};
     ghost use Rattle.std.specs.Int.{w64};
-    ghost use Rattle.nest_order.specs.Reduction.{Least, joined, unit_of};
-    ghost use Rattle.nest_order.proofs.Joins.{operator_joins};
+    ghost use Rattle.op_tables.specs.declared.join.Join.TheVariants.{Least};
+    ghost use Rattle.op_tables.specs.Joins.{join, unit};
+    ghost use Rattle.op_tables.proofs.Joins.{joins};
 
     type Item = i64;
 
     ghost is_value = { FitsSigned w64 };
 
-    ghost neutral = { unit_of Least };
+    ghost neutral = { unit Least };
 
-    ghost joined = { joined Least };
+    ghost joined = { join Least };
 
-    ghost laws = { operator_joins Least };
+    ghost laws = { joins Least };
 
     fn unit() -> i64 {
-        i64::MAX
+        Join::Least.unit()
     }
 
     fn join(a: i64, b: i64) -> i64 {
-        a.min(b)
+        Join::Least.join(a, b)
     }
 
     fn tell(_a: i64) {}
@@ -136,25 +139,26 @@ impl Fold for Least {
 impl Fold for BitAnd {
     ghost use Rattle.std.specs.Prelude.{FitsSigned};
     ghost use Rattle.std.specs.Int.{w64};
-    ghost use Rattle.nest_order.specs.Reduction.{And, joined, unit_of};
-    ghost use Rattle.nest_order.proofs.Joins.{operator_joins};
+    ghost use Rattle.op_tables.specs.declared.join.Join.TheVariants.{And};
+    ghost use Rattle.op_tables.specs.Joins.{join, unit};
+    ghost use Rattle.op_tables.proofs.Joins.{joins};
 
     type Item = i64;
 
     ghost is_value = { FitsSigned w64 };
 
-    ghost neutral = { unit_of And };
+    ghost neutral = { unit And };
 
-    ghost joined = { joined And };
+    ghost joined = { join And };
 
-    ghost laws = { operator_joins And };
+    ghost laws = { joins And };
 
     fn unit() -> i64 {
-        -1
+        Join::And.unit()
     }
 
     fn join(a: i64, b: i64) -> i64 {
-        a & b
+        Join::And.join(a, b)
     }
 
     fn tell(_a: i64) {}
@@ -163,25 +167,26 @@ impl Fold for BitAnd {
 impl Fold for BitOr {
     ghost use Rattle.std.specs.Prelude.{FitsSigned};
     ghost use Rattle.std.specs.Int.{w64};
-    ghost use Rattle.nest_order.specs.Reduction.{Or, joined, unit_of};
-    ghost use Rattle.nest_order.proofs.Joins.{operator_joins};
+    ghost use Rattle.op_tables.specs.declared.join.Join.TheVariants.{Or};
+    ghost use Rattle.op_tables.specs.Joins.{join, unit};
+    ghost use Rattle.op_tables.proofs.Joins.{joins};
 
     type Item = i64;
 
     ghost is_value = { FitsSigned w64 };
 
-    ghost neutral = { unit_of Or };
+    ghost neutral = { unit Or };
 
-    ghost joined = { joined Or };
+    ghost joined = { join Or };
 
-    ghost laws = { operator_joins Or };
+    ghost laws = { joins Or };
 
     fn unit() -> i64 {
-        0
+        Join::Or.unit()
     }
 
     fn join(a: i64, b: i64) -> i64 {
-        a | b
+        Join::Or.join(a, b)
     }
 
     fn tell(_a: i64) {}
@@ -190,25 +195,26 @@ impl Fold for BitOr {
 impl Fold for BitXor {
     ghost use Rattle.std.specs.Prelude.{FitsSigned};
     ghost use Rattle.std.specs.Int.{w64};
-    ghost use Rattle.nest_order.specs.Reduction.{ExclusiveOr, joined, unit_of};
-    ghost use Rattle.nest_order.proofs.Joins.{operator_joins};
+    ghost use Rattle.op_tables.specs.declared.join.Join.TheVariants.{ExclusiveOr};
+    ghost use Rattle.op_tables.specs.Joins.{join, unit};
+    ghost use Rattle.op_tables.proofs.Joins.{joins};
 
     type Item = i64;
 
     ghost is_value = { FitsSigned w64 };
 
-    ghost neutral = { unit_of ExclusiveOr };
+    ghost neutral = { unit ExclusiveOr };
 
-    ghost joined = { joined ExclusiveOr };
+    ghost joined = { join ExclusiveOr };
 
-    ghost laws = { operator_joins ExclusiveOr };
+    ghost laws = { joins ExclusiveOr };
 
     fn unit() -> i64 {
-        0
+        Join::ExclusiveOr.unit()
     }
 
     fn join(a: i64, b: i64) -> i64 {
-        a ^ b
+        Join::ExclusiveOr.join(a, b)
     }
 
     fn tell(_a: i64) {}

@@ -25,7 +25,6 @@ pub use elements::{element_place, operated, operated_of_two};
 pub use expressions::{elemental_of, selections, value, values, variable_place};
 pub use faults::Fault;
 pub use places::{place, place_of_one, place_of_two};
-pub use reductions::{combined, unit_of};
 pub use sequences::{index_values, sequence};
 pub use spaces::{extents, own_size, size, space_size};
 pub use state::{Array, State};

@@ -3,7 +3,7 @@ use Rattle.std.specs.Prelude.{ℕ, ◌+◌, ◌-◌, ◌*◌, ◌%◌, ◌^◌, 
 use Rattle.machine_steps.specs.Machine.{earlier}
 use Rattle.machine_steps.specs.Node.{kept_values, values_kept, join_options, option_values, values_option, later, positioned_values, values_positioned}
 use Rattle.node_code.specs.FaultValues.{fault_values}
-use Rattle.node_code.specs.Parallel.{joined}
+use Rattle.op_tables.specs.Joins.{join}
 use Rattle.tree_steps.specs.Rounds.{up_round}
 use Rattle.tree_steps.specs.declared.joining.Joining.{Joining}
 use Rattle.tree_steps.specs.declared.joining.Joining.TheVariants.{Kept, Later, Options}
@@ -11,7 +11,7 @@ use Rattle.tree_steps.specs.declared.joining.Joining.TheVariants.{Kept, Later, O
 -- two that go round, joined
 abbrev pub joined_values : Joining → List ℤ → List ℤ → List ℤ
 joined_values Kept a b = kept_values fault_values (earlier (values_kept fault_values a) (values_kept fault_values b))
-joined_values (Options o) a b = option_values (join_options (joined o) (values_option a) (values_option b))
+joined_values (Options j) a b = option_values (join_options (join j) (values_option a) (values_option b))
 joined_values Later a b = positioned_values (later (values_positioned a) (values_positioned b))
 
 -- going down: what came, where the node takes in the round up that is undone, else what it has

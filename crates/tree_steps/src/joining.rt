@@ -7,7 +7,7 @@ use crate::kept_faults::{kept_numbers, kept_of_numbers};
 use crate::optional_values::{option_numbers, option_of_numbers, options_joined};
 use crate::positioned_values::{later, positioned_numbers, positioned_of_numbers};
 use hpf_base::OutOfMemory;
-use op_tables::Op;
+use op_tables::Join;
 use slot_values::earlier;
 use std::alloc::Global;
 
@@ -16,8 +16,8 @@ use std::alloc::Global;
 pub enum Joining {
     /// Kept faults, of which the one with the lower key is kept.
     Kept,
-    /// Values that may be missing, joined by the operator of a reduction.
-    Options(Op),
+    /// Values that may be missing, joined.
+    Options(Join),
     /// Values with their positions, of which the one at the later position is kept.
     Later,
 }

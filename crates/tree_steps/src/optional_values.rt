@@ -2,13 +2,12 @@
 
 ghost use Rattle.std.specs.Prelude.{◌≡◌, IfOk};
 ghost use Rattle.machine_steps.specs.Node.{join_behind, join_options, option_values, values_option};
-ghost use Rattle.node_code.specs.Parallel.{fold_of, joined};
+ghost use Rattle.node_code.specs.Parallel.{fold_of};
+ghost use Rattle.op_tables.specs.Joins.{join};
 
 use hpf_base::OutOfMemory;
-use op_tables::Op;
-use part_steps::joined;
+use op_tables::Join;
 use std::alloc::Global;
-use term_values::unit_of;
 
 /// The number of a value, where there is one.
 pub fn option_numbers(alloc: Global, value: Option<i64>) -> Result<Vec<i64>, OutOfMemory>
@@ -29,26 +28,26 @@ pub(crate) fn option_of_numbers(numbers: &[i64]) -> Option<i64>
 }
 
 /// Two values joined, where both are there.
-pub fn options_joined(op: Op, a: Option<i64>, b: Option<i64>) -> Option<i64>
-    ensures { result ≡ join_options (joined op) a b }
+pub fn options_joined(op: Join, a: Option<i64>, b: Option<i64>) -> Option<i64>
+    ensures { result ≡ join_options (join op) a b }
 {
     match a {
         None => b,
         Some(v) => match b {
             None => Some(v),
-            Some(w) => Some(joined(op, v, w)),
+            Some(w) => Some(op.join(v, w)),
         },
     }
 }
 
 /// The value of a reduction, from what its tree has joined: its unit with the values of all nodes, where any node had one (Fortran 95,
 /// 13.14). It takes no memory.
-pub fn reduced(op: Op, folded: &[i64]) -> i64
+pub fn reduced(op: Join, folded: &[i64]) -> i64
     ensures { result ≡ join_behind (fold_of op).join (fold_of op).unit (values_option folded.now) }
 {
-    let unit = unit_of(op);
+    let unit = op.unit();
     match option_of_numbers(folded) {
         None => unit,
-        Some(v) => joined(op, unit, v),
+        Some(v) => op.join(unit, v),
     }
 }

@@ -1,7 +1,7 @@
 -- Values by what is read are values by elements.
 use Rattle.std.proofs.Common.{◌≡◌, ℕ, ◌+◌, List, [], ◌∷◌, ◌++◌, map, length, ℤ, pos, Bool, true, false, Option, Some, None, Result, Ok, refl, sym, ap, ◌∙◌, length-append, append_assoc, append-nil, slice_index_or, option_map}
 use Rattle.std.proofs.lemmas.List.{length-map}
-use Rattle.op_tables.specs.declared.op.Op.{Op}
+use Rattle.op_tables.specs.declared.reductions.Made.{Made}
 use Rattle.expression_rules.specs.declared.dims.Dim.{Dim}
 use Rattle.storage.specs.Storage.{Spot}
 use Rattle.array_meaning.specs.Elementals.{Elemental, Same, Selected, Operation, Elementals, NoOperand, Operand, operated}
@@ -17,7 +17,7 @@ use Rattle.term_values.specs.Stops.{IsStop, cause}
 use Rattle.tuple_values.specs.declared.outcome.Outcome.{Outcome as HeldOutcome}
 use Rattle.tuple_values.specs.ByElements.{value_by_elements, values_by_elements}
 use Rattle.tuple_values.specs.Outcomes.{outcome_view, IsBroken}
-use Rattle.tuple_values.specs.Statements.{Statement, asked_by, asked_outcome, bounded_value, counted_by, entries, form_at, joined_outcome, spot_in_row, tuple_outcome, tuple_place, tuple_reads}
+use Rattle.tuple_values.specs.Statements.{Statement, asked_by, asked_outcome, bounded_value, made_by, entries, form_at, outcome_made_by, spot_in_row, tuple_outcome, tuple_place, tuple_reads}
 
 value-here : (pre : List ℤ) (v : ℤ) (post : List ℤ) → slice_index_or (pre ++ v ∷ post) (length pre) (pos 0) ≡ v
 value-here [] v post = refl
@@ -74,21 +74,21 @@ asked-by-reads : (get : Spot → ℤ) (mask : Option When) (t : ℕ) (reads : Li
 asked-by-reads get None t reads = refl
 asked-by-reads get (Some w) t reads = refl
 
-joined-nothing : (j : Option Op) → Nothing ≡ joined_outcome j Nothing
-joined-nothing None = refl
-joined-nothing (Some o) = refl
+made-nothing : (m : Option Made) → Nothing ≡ outcome_made_by m Nothing
+made-nothing None = refl
+made-nothing (Some m) = refl
 
-joined-value : (j : Option Op) (v : ℤ) → Value (counted_by j v) ≡ joined_outcome j (Value v)
-joined-value None v = refl
-joined-value (Some o) v = refl
+made-value : (m : Option Made) (v : ℤ) → Value (made_by m v) ≡ outcome_made_by m (Value v)
+made-value None v = refl
+made-value (Some m) v = refl
 
-joined-breaks : (j : Option Op) (f : Fault) → Breaks f ≡ joined_outcome j (Breaks f)
-joined-breaks None f = refl
-joined-breaks (Some o) f = refl
+made-breaks : (m : Option Made) (f : Fault) → Breaks f ≡ outcome_made_by m (Breaks f)
+made-breaks None f = refl
+made-breaks (Some m) f = refl
 
 module _ (w : Statement) (get : Spot → ℤ) (t : ℕ) where
   abbrev outcome_by : Bool → Result ℤ Cause → Outcome Fault
-  outcome_by asked r = joined_outcome w.joined (outcome_if asked (at_line w.line (at_tuple (entries w t) r)))
+  outcome_by asked r = outcome_made_by w.made (outcome_if asked (at_line w.line (at_tuple (entries w t) r)))
 
   abbrev values : List ℤ
   values = values_of get (tuple_reads w t)
@@ -102,16 +102,16 @@ module _ (w : Statement) (get : Spot → ℤ) (t : ℕ) where
       (behind-mask w.shapes get (entries w t) w.mask t (form_at w (entries w t))))
 
   pub where_not_asked : asked_by get w.mask t ≡ false → Nothing ≡ tuple_outcome w t values
-  where_not_asked h = joined-nothing w.joined ∙ ap (λ b. outcome_by b (bounded_value w get t)) (sym h) ∙ by-elements
+  where_not_asked h = made-nothing w.made ∙ ap (λ b. outcome_by b (bounded_value w get t)) (sym h) ∙ by-elements
 
   pub where_asked : asked_by get w.mask t ≡ true → asked_outcome w get t ≡ tuple_outcome w t values
   where_asked h = ap (λ b. outcome_by b (bounded_value w get t)) (sym h) ∙ by-elements
 
-  pub has_value : (v : ℤ) (o : HeldOutcome) → bounded_value w get t ≡ Ok v → outcome_view o ≡ Value (counted_by w.joined v) → outcome_view o ≡ asked_outcome w get t
+  pub has_value : (v : ℤ) (o : HeldOutcome) → bounded_value w get t ≡ Ok v → outcome_view o ≡ Value (made_by w.made v) → outcome_view o ≡ asked_outcome w get t
   has_value v o is counts =
-      counts ∙ joined-value w.joined v ∙ ap (outcome_by true) (sym is)
+      counts ∙ made-value w.made v ∙ ap (outcome_by true) (sym is)
 
   pub is_broken : (x : List ℤ) (e : Stop) (o : HeldOutcome) → IsStop (bounded_value w get t) e → x ≡ entries w t → IsBroken w.line x e o → outcome_view o ≡ asked_outcome w get t
   is_broken x stop.Memory o stops same h = absurd h
   is_broken x (stop.Fault c) o stops same h =
-      h ∙ ap (λ y. Breaks (record { line = w.line; kind = (cause c).kind; at = AtTuple y })) same ∙ joined-breaks w.joined _ ∙ ap (outcome_by true) (sym stops)
+      h ∙ ap (λ y. Breaks (record { line = w.line; kind = (cause c).kind; at = AtTuple y })) same ∙ made-breaks w.made _ ∙ ap (outcome_by true) (sym stops)

@@ -1,8 +1,9 @@
 -- What parallel statements are, once the slots are known.
 use Rattle.std.specs.Prelude.{◌≡◌, ℕ, List, [], ◌++◌, length, ℤ, Bool, true, Option, Some, None, option_map, Result}
 use Rattle.hpf_base.specs.ElementOrder.{product}
-use Rattle.op_tables.specs.declared.op.Op.{Op}
+use Rattle.op_tables.specs.declared.reductions.Made.{Made}
 use Rattle.op_tables.specs.Operators.{is_true}
+use Rattle.op_tables.specs.Reductions.{made}
 use Rattle.expression_rules.specs.declared.dims.Dim.{Dim}
 use Rattle.storage.specs.Storage.{Spot}
 use Rattle.array_meaning.specs.Faults.{Cause, Fault, ◌>>=◌, at_tuple}
@@ -12,7 +13,7 @@ use Rattle.array_meaning.specs.Sections.{subscripts_at, positions}
 use Rattle.array_meaning.specs.Elementals.{Elemental}
 use Rattle.machine_steps.specs.Instr.{Outcome, Tuples}
 use Rattle.node_code.specs.Forms.{Sub, Form, selections_at, elemental_at}
-use Rattle.node_code.specs.Parallel.{When, at_line, as_asked, outcome_of, outcome_if, is_asked, mask_reads, shape_of, reads_at, value_by_reads, counted, counted_outcome}
+use Rattle.node_code.specs.Parallel.{When, at_line, as_asked, outcome_of, outcome_if, is_asked, mask_reads, shape_of, reads_at, value_by_reads, made_outcome}
 use Rattle.tuple_values.specs.ByElements.{value_by_elements}
 
 -- what is assigned: nothing, an element of a copy by the tuple's number, or an element of a section; in a FORALL the subscripts are
@@ -24,7 +25,7 @@ pub data Target : Type 0 where
   ByIndices : ℕ → List Sub → Target
 
 -- the dimensions of the arrays and the slots; the line; the extents of the space, and the values of a FORALL's indices; the mask; what is
--- assigned; what is evaluated; and the operator by which the values are joined, where they are
+-- assigned; what is evaluated; and what a reduction makes of the values, where it is one
 pub record Statement : Type 0 where
   pub shapes : List (List Dim)
   pub slots : List ℤ
@@ -34,7 +35,7 @@ pub record Statement : Type 0 where
   pub mask : Option When
   pub target : Target
   pub form : Form
-  pub joined : Option Op
+  pub made : Option Made
 
 -- ---- entries
 
@@ -82,13 +83,13 @@ abbrev pub asked_by : (Spot → ℤ) → Option When → ℕ → Bool
 asked_by get None t = true
 asked_by get (Some w) t = as_asked w.value (is_true (get (spot_in_row w.copy t)))
 
-abbrev pub counted_by : Option Op → ℤ → ℤ
-counted_by None v = v
-counted_by (Some o) v = counted o v
+abbrev pub made_by : Option Made → ℤ → ℤ
+made_by None v = v
+made_by (Some m) v = made m v
 
-abbrev pub joined_outcome : Option Op → Outcome Fault → Outcome Fault
-joined_outcome None r = r
-joined_outcome (Some o) r = counted_outcome o r
+abbrev pub outcome_made_by : Option Made → Outcome Fault → Outcome Fault
+outcome_made_by None r = r
+outcome_made_by (Some m) r = made_outcome m r
 
 -- ---- at a tuple
 
@@ -108,7 +109,7 @@ module _ (w : Statement) where
 
   -- what the tuple comes to by the elements, where the mask asks for it
   abbrev pub asked_outcome : (Spot → ℤ) → ℕ → Outcome Fault
-  asked_outcome get t = joined_outcome w.joined (outcome_of (at_line w.line (at_tuple (entries t) (bounded_value get t))))
+  asked_outcome get t = outcome_made_by w.made (outcome_of (at_line w.line (at_tuple (entries t) (bounded_value get t))))
 
   -- how many tuples there are
   abbrev pub tuple_count : ℕ
@@ -125,7 +126,7 @@ module _ (w : Statement) where
   -- what the tuple comes to, by the values of what is read
   abbrev pub tuple_outcome : ℕ → List ℤ → Outcome Fault
   tuple_outcome t values =
-      joined_outcome w.joined (outcome_if (is_asked w.mask values) (at_line w.line (at_tuple (entries t) (if_in_bounds (tuple_place t)
+      outcome_made_by w.made (outcome_if (is_asked w.mask values) (at_line w.line (at_tuple (entries t) (if_in_bounds (tuple_place t)
       >>= (λ k. value_by_reads w.shapes (entries t) values (length (mask_reads w.mask t)) (form_at (entries t)))))))
 
   -- these are what an instruction evaluates at the tuples, and its left side

@@ -15,5 +15,5 @@ statement w = record {
   mask = option_map when w.mask;
   target = target w.target;
   form = form_of w.right;
-  joined = w.joined;
+  made = w.made;
 }

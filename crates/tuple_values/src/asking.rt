@@ -10,7 +10,7 @@ ghost use Rattle.term_values.specs.Stops.{IsStop};
 ghost use Rattle.tuple_values.specs.ByElements.{value_by_elements};
 ghost use Rattle.tuple_values.specs.Outcomes.{outcome_view};
 ghost use Rattle.tuple_values.specs.Spots.{read_of, reads_of};
-ghost use Rattle.tuple_values.specs.Statements.{asked_by, asked_outcome, axes_in, bounded_value, counted_by, entries, form_at, indexed_place, left_in, tuple_count, tuple_left, tuple_outcome, tuple_place, tuple_reads};
+ghost use Rattle.tuple_values.specs.Statements.{asked_by, asked_outcome, axes_in, bounded_value, made_by, entries, form_at, indexed_place, left_in, tuple_count, tuple_left, tuple_outcome, tuple_place, tuple_reads};
 ghost use Rattle.tuple_values.specs.Views.{statement};
 
 use crate::assigned::assigned_place;
@@ -26,7 +26,7 @@ use crate::values::{form_value, section_value};
 use array_meaning::FaultKind;
 use hpf_base::OutOfMemory;
 use node_code::Sub;
-use op_tables::Op;
+use op_tables::Made;
 use storage::Spot;
 use term_values::{Stop, fault};
 
@@ -141,7 +141,7 @@ impl<'a> ParallelStatement<'a> {
     {
         let x = self.space.entries(tuple)?;
         match self.value(tuple, place, x.as_slice(), elements) {
-            Ok(v) => Ok(joined_value(self.joined, v)),
+            Ok(v) => Ok(value_made(self.made, v)),
             Err(stop) => broken(
                 *self.space.extents.allocator(),
                 self.line,
@@ -249,12 +249,12 @@ fn as_asked(value: bool, v: i64) -> bool
     if value { v != 0 } else { v == 0 }
 }
 
-/// The outcome that a value is, where values are joined by an operator or aren't.
-fn joined_value(op: Option<Op>, v: i64) -> Outcome
-    ensures { outcome_view result ≡ Value (counted_by op v) }
+/// The outcome that a value is, by what a reduction makes of it, where there is one.
+fn value_made(made: Option<Made>, v: i64) -> Outcome
+    ensures { outcome_view result ≡ Value (made_by made v) }
 {
-    match op {
-        Some(Op::Count) => Outcome::Value(if v != 0 { 1 } else { 0 }),
-        _ => Outcome::Value(v),
+    match made {
+        Some(made) => Outcome::Value(made.of(v)),
+        None => Outcome::Value(v),
     }
 }

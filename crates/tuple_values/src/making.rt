@@ -19,7 +19,7 @@ use array_meaning::Selection;
 use expression_rules::Dims;
 use hpf_base::{MAX_RANK, OutOfMemory};
 use node_code::{Assignment, Evaluation, Sub};
-use op_tables::Op;
+use op_tables::Made;
 use slot_values::selections_at;
 use std::alloc::Global;
 
@@ -81,18 +81,18 @@ impl<'a> ParallelStatement<'a> {
         Ok(evaluating(shapes, slots, p, space, Target::Copy(copy), None))
     }
 
-    /// A reduction of an array expression: of COUNT the values are 1 where the expression is true, and 0 where it is false.
+    /// A reduction of an array expression, by what it makes of each value.
     pub fn of_reduction(
         alloc: Global,
         shapes: &'a [Dims],
         slots: &'a [i64],
         p: &'a Evaluation,
-        op: Op,
+        made: Made,
     ) -> Result<ParallelStatement<'a>, OutOfMemory>
-        ensures { IfOk result (λ w. IsStatement (statement w) slots.now (reduction_tuples shapes.now (evaluation p.now) op) no_left) }
+        ensures { IfOk result (λ w. IsStatement (statement w) slots.now (reduction_tuples shapes.now (evaluation p.now) made) no_left) }
     {
         let space = section_space(alloc, slots, &p.over)?;
-        Ok(evaluating(shapes, slots, p, space, Target::Nothing, Some(op)))
+        Ok(evaluating(shapes, slots, p, space, Target::Nothing, Some(made)))
     }
 
     /// The elements of a section, as PRINT lists them.
@@ -115,7 +115,7 @@ impl<'a> ParallelStatement<'a> {
             mask: None,
             target: Target::Nothing,
             right: Right::Section(array, section),
-            joined: None,
+            made: None,
         })
     }
 }
@@ -138,7 +138,7 @@ fn assigning<'a>(
       mask = option_map when p.now.mask;
       target = target_of target.entry;
       form = form p.now.right;
-      joined = None;
+      made = None;
     } }
 {
     ParallelStatement {
@@ -149,7 +149,7 @@ fn assigning<'a>(
         mask: p.mask,
         target,
         right: Right::Form(&p.right),
-        joined: None,
+        made: None,
     }
 }
 
@@ -160,7 +160,7 @@ fn evaluating<'a>(
     p: &'a Evaluation,
     space: Space,
     target: Target<'a>,
-    joined: Option<Op>,
+    made: Option<Made>,
 ) -> ParallelStatement<'a>
     requires { kept_rank (target_of target) ≤ 7 }
     ensures { statement result ≡ record {
@@ -172,7 +172,7 @@ fn evaluating<'a>(
       mask = None;
       target = target_of target.entry;
       form = form p.now.form;
-      joined = joined;
+      made = made;
     } }
 {
     ParallelStatement {
@@ -183,7 +183,7 @@ fn evaluating<'a>(
         mask: None,
         target,
         right: Right::Form(&p.form),
-        joined,
+        made,
     }
 }
 

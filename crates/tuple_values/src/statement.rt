@@ -9,7 +9,7 @@ use crate::space::Space;
 use crate::target::Target;
 use expression_rules::Dims;
 use node_code::When;
-use op_tables::Op;
+use op_tables::Made;
 
 /// What a parallel statement does at each tuple of its space, once the slots are known. Contracts see its `statement`, and of that
 /// `tuple_count`, `tuple_reads`, `tuple_left` and `tuple_outcome`.
@@ -22,7 +22,7 @@ pub struct ParallelStatement<'a> {
     pub(crate) mask: Option<When>,
     pub(crate) target: Target<'a>,
     pub(crate) right: Right<'a>,
-    /// The operator by which the values are joined.
-    pub(crate) joined: Option<Op>,
+    /// What a reduction makes of the values, where it is one.
+    pub(crate) made: Option<Made>,
     ghost target_rank: { kept_rank (target_of target) ≤ 7 },
 }

@@ -1,7 +1,7 @@
 use Rattle.std.proofs.Common.{◌≡◌, bytes_eq, drop}
 use Rattle.std.specs.Prelude.{◌&&◌, ◌||◌, not}
 use Rattle.std.specs.List.{list_all}
-use Rattle.op_tables.specs.contracts.op.OpPartialEq.TheImpl.{eq-value}
+use Rattle.op_tables.specs.contracts.join.JoinPartialEq.TheImpl.{eq-value}
 use Rattle.nest_check.proofs.nest_names.all_fit.Given as goal
 
 abbrev pub invariant-loop-one : goal.invariant-loop-one
