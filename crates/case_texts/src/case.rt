@@ -2,7 +2,7 @@
 
 use std::alloc::{AllocError, Global};
 
-/// A case: its first word, which says what is asked, and the text behind it as it is written.
+/// A case: its first word, which says what is asked, and the text after it as it is written.
 #[derive(Drop)]
 pub struct Case {
     pub word: String,

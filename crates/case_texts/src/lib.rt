@@ -6,9 +6,11 @@
 #![tactic(auto)]
 
 mod case;
+mod driver;
 mod reading;
 mod writing;
 
 pub use case::Case;
+pub use driver::{Answers, print_answers};
 pub use reading::{TextError, text_of};
 pub use writing::{write_error, write_text};

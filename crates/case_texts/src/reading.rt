@@ -43,7 +43,7 @@ pub fn text_of(alloc: Global, written: &str) -> Result<Vec<u8>, TextError> {
     Ok(text)
 }
 
-/// Adds the repetition that stands in front, behind its opening brace, and gives what stands behind it.
+/// Adds the repetition that stands in front, after its opening brace, and gives what stands after it.
 fn push_repeated<'a>(text: &mut Vec<u8>, written: &'a str) -> Result<&'a str, TextError> {
     let Some((repetition, rest)) = written.split_once('}') else {
         return Err(TextError::Malformed);
@@ -76,7 +76,7 @@ fn push_plain(text: &mut Vec<u8>, written: &str) -> Result<(), TextError> {
     Ok(())
 }
 
-/// Adds the byte of the escape that stands in front, behind its backslash, and gives what stands behind it.
+/// Adds the byte of the escape that stands in front, after its backslash, and gives what stands after it.
 fn push_escaped<'a>(text: &mut Vec<u8>, written: &'a [u8]) -> Result<&'a [u8], TextError> {
     match written {
         [b'x', high, low, rest @ ..] => {

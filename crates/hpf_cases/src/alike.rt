@@ -1,6 +1,7 @@
-//! Runs on nodes beside runs in one order.
+//! What the program writes, and runs on nodes beside runs in one order.
 
 use crate::stream::Stream;
+use case_texts::write_text;
 use hpf_ports::{MemSink, OpenGate};
 use hpf_run::hpf_top;
 use std::alloc::{AllocError, Global};
@@ -12,6 +13,20 @@ struct Answer {
     status: u8,
     out: MemSink,
     err: MemSink,
+}
+
+/// Writes what the program writes on four nodes, to standard output and then to standard error.
+pub fn write_writing(
+    alloc: Global,
+    answer: &mut String,
+    action: &str,
+    text: &[u8],
+) -> Result<(), AllocError> {
+    let written = answer_on(alloc, action, "4", text)?;
+    answer.push_str("  ")?;
+    write_text(answer, written.out.bytes())?;
+    write_text(answer, written.err.bytes())?;
+    answer.push_str("\n")
 }
 
 /// Writes for each grid whether `run` answers as `serial` does for the text.

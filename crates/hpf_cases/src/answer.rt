@@ -1,6 +1,6 @@
 //! The answers to cases.
 
-use crate::alike::write_alike;
+use crate::alike::{write_alike, write_writing};
 use crate::case::{Case, Wanted};
 use crate::job::write_job;
 use case_texts::{TextError, text_of, write_text};
@@ -17,7 +17,10 @@ pub fn answer_to(alloc: Global, case: Case) -> Result<String, AllocError> {
             let words = words_of(alloc, case.words.as_str())?;
             write_job(alloc, &mut out, &words)?;
         }
-        Wanted::Answer | Wanted::Alike => match text_of(alloc, case.text.as_str()) {
+        Wanted::Answer | Wanted::Writing | Wanted::Alike => match text_of(
+            alloc,
+            case.text.as_str(),
+        ) {
             Ok(text) => write_answer(alloc, &mut out, case, text)?,
             Err(TextError::Malformed) => out.push_str("  no text is written so\n")?,
             Err(TextError::Memory) => out.push_str("  out of memory\n")?,
@@ -35,6 +38,7 @@ fn write_answer(
 ) -> Result<(), AllocError> {
     match case.wanted {
         Wanted::Alike => write_alike(alloc, answer, case.words.as_str(), &text),
+        Wanted::Writing => write_writing(alloc, answer, case.words.as_str(), &text),
         _ => write_run(alloc, answer, case, text),
     }
 }

@@ -3,11 +3,13 @@
 use crate::stream::Stream;
 use std::alloc::{AllocError, Global};
 
-/// What a case asks for: the job that its words are, or what the program answers, or whether it answers alike in one order and on nodes.
+/// What a case asks for: the job that its words are, or what the program answers, or what it writes, or whether it answers alike in one order
+/// and on nodes.
 #[derive(Clone, Copy)]
 pub enum Wanted {
     Job,
     Answer,
+    Writing,
     Alike,
 }
 
@@ -22,7 +24,7 @@ pub struct Case {
     pub err: Stream,
 }
 
-/// The word in front of a line, and what stands behind it.
+/// The word in front of a line, and what stands after it.
 fn parted(line: &str) -> (&str, &str) {
     line.split_once(' ').unwrap_or((line, ""))
 }
@@ -30,17 +32,18 @@ fn parted(line: &str) -> (&str, &str) {
 impl Case {
     /// The case that begins with a line; None where none does.
     pub fn begin(alloc: Global, line: &str) -> Result<Option<Case>, AllocError> {
-        let (word, words) = parted(line);
-        let wanted = match word {
-            "job" => Wanted::Job,
-            "words" => Wanted::Answer,
-            "alike" => Wanted::Alike,
+        let (word, rest) = parted(line);
+        let (wanted, words, text) = match word {
+            "job" => (Wanted::Job, rest, ""),
+            "words" => (Wanted::Answer, rest, ""),
+            "alike" => (Wanted::Alike, rest, ""),
+            "check" | "serial" => (Wanted::Writing, word, rest),
             _ => return Ok(None),
         };
         Ok(Some(Case {
             wanted,
             words: String::from_str(alloc, words)?,
-            text: String::new(alloc),
+            text: String::from_str(alloc, text)?,
             source: Stream::new(alloc),
             out: Stream::new(alloc),
             err: Stream::new(alloc),

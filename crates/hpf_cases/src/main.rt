@@ -1,17 +1,19 @@
 //! Tries the top call on cases: words, sources and sinks whose answers are known.
 //!
-//! Comes in: cases on standard input. Goes out: the same lines, and behind each case its answer. What holds in between: a
-//! line that begins with one of these words begins a case, with the words of the command line behind it, a blank between two.
+//! Comes in: cases on standard input. Goes out: the same lines, and after each case its answer. What holds in between: a
+//! line that begins with one of these words begins a case, with the words of the command line after it, a blank between two.
 //!
 //! - `job`: the answer is the job that the words are, or that they are none.
 //! - `words`: the answer is the status, how many bytes the source has left, and what standard output and standard error then hold.
-//! - `alike`: behind it stand grids; the answer says of each whether `run` and `serial` on it have the same status and write the same.
+//! - `alike`: grids stand after it; the answer says of each whether `run` and `serial` on it have the same status and write the same.
+//!
+//! A line that begins with `check` or `serial` is a case with its source after the word; the answer is what this action on four nodes writes.
 //!
 //! These lines go on with it:
 //!
 //! - `text`: the source, written as `case_texts` says; on further lines that begin with a bar it goes on.
-//! - `source`, `out` or `err`: how that stream behaves. Behind `piece` stands how many bytes it gives or takes in a call, behind
-//!   `room` how many a sink holds at most, and behind `fails` the numbers of the calls that fail, from 1.
+//! - `source`, `out` or `err`: how that stream behaves. After `piece` stands how many bytes it gives or takes in a call, after
+//!   `room` how many a sink holds at most, and after `fails` the numbers of the calls that fail, from 1.
 //!
 //! Any other line ends it.
 #![tactic(auto)]

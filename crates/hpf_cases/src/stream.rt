@@ -22,7 +22,7 @@ enum Field {
     Fails,
 }
 
-/// What the numbers behind a word say; None behind any other word.
+/// What the numbers after a word say; None after any other word.
 fn field_of(word: &str) -> Option<Field> {
     match word {
         "room" => Some(Field::Room),
@@ -55,7 +55,7 @@ impl Stream {
         }
     }
 
-    /// Takes up what a line says: words, each with its numbers behind it. Other words are passed over.
+    /// Takes up what a line says: words, each with its numbers after it. Other words are passed over.
     pub fn set(&mut self, written: &str) -> Result<(), AllocError> {
         let mut field = None;
         for word in written.split(' ') {

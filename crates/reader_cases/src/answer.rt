@@ -1,7 +1,7 @@
 //! The answers to cases.
 
 use crate::fronts::write_fronts;
-use case_texts::{Case, TextError, text_of, write_error};
+use case_texts::{Answers, Case, TextError, text_of, write_error};
 use hpf_reader::read_program;
 use std::alloc::{AllocError, Global};
 use tree_text::write_program;
@@ -24,17 +24,21 @@ fn asked(word: &str) -> Option<Wanted> {
     }
 }
 
-/// The answer to a case, in lines; none to a remark.
-pub fn answer_to(alloc: Global, case: &Case) -> Result<String, AllocError> {
-    let mut out = String::new(alloc);
-    if let Some(wanted) = asked(case.word.as_str()) {
-        match text_of(alloc, case.written.as_str()) {
-            Ok(text) => write_answer(alloc, &mut out, wanted, &text)?,
-            Err(TextError::Malformed) => out.push_str("  no text is written so\n")?,
-            Err(TextError::Memory) => out.push_str("  out of memory\n")?,
+/// Answers cases of texts.
+pub struct ReaderAnswers;
+
+impl Answers for ReaderAnswers {
+    fn answer_to(&self, alloc: Global, case: &Case) -> Result<String, AllocError> {
+        let mut out = String::new(alloc);
+        if let Some(wanted) = asked(case.word.as_str()) {
+            match text_of(alloc, case.written.as_str()) {
+                Ok(text) => write_answer(alloc, &mut out, wanted, &text)?,
+                Err(TextError::Malformed) => out.push_str("  no text is written so\n")?,
+                Err(TextError::Memory) => out.push_str("  out of memory\n")?,
+            }
         }
+        Ok(out)
     }
-    Ok(out)
 }
 
 fn write_answer(

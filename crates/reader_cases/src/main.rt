@@ -1,7 +1,7 @@
 //! Tries the reader on cases: texts whose answers are known.
 //!
-//! Comes in: cases on standard input. Goes out: the same lines, and behind each case what `read_program` answers. What
-//! holds in between: a line that begins with one of these words is a case, and behind the word is its text.
+//! Comes in: cases on standard input. Goes out: the same lines, and after each case what `read_program` answers. What
+//! holds in between: a line that begins with one of these words is a case, and after the word is its text.
 //!
 //! - `read`: the answer is that the text is read, or its refusal.
 //! - `tree`: the answer is the tree of the text, or its refusal.
@@ -14,33 +14,10 @@
 mod answer;
 mod fronts;
 
-use crate::answer::answer_to;
-use case_texts::Case;
+use crate::answer::ReaderAnswers;
+use case_texts::print_answers;
 use std::io;
-use std::io::{BufRead, BufReader};
-
-/// Prints the answer to a case.
-fn print_answer(rt: &(impl Print + AllocGlobal), case: Option<Case>) -> io::Result<()> {
-    if let Some(case) = case {
-        print!(rt; "{}", answer_to(rt.alloc(), &case)?)?;
-    }
-    Ok(())
-}
 
 fn main(rt: HostRuntime) -> io::Result<()> {
-    let alloc = rt.alloc();
-    let mut open: Option<Case> = None;
-    for line in BufReader::new(alloc, rt.reader())?.lines(alloc) {
-        let line = line?;
-        if line.as_str().starts_with('|') {
-            if let Some(case) = &mut open {
-                case.go_on(line.as_str())?;
-            }
-        } else {
-            print_answer(&rt, open.take())?;
-            open = Some(Case::begin(alloc, line.as_str())?);
-        }
-        println!(rt; "{line}")?;
-    }
-    print_answer(&rt, open)
+    print_answers(&rt, &ReaderAnswers)
 }
