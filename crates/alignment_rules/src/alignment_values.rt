@@ -4,8 +4,8 @@ ghost use Rattle.std.specs.Prelude.{◌≡◌};
 
 use expression_rules::Dim;
 use hpf_base::Name;
-use mappings::AlignDim;
 use linear_subscripts::LinearForm;
+use mappings::AlignDim;
 use std::marker::Model;
 
 /// What stands for a dimension of the target.

@@ -6,8 +6,8 @@ ghost use Rattle.mappings.specs.Mapping.{IsMapping, MapsInside};
 
 use crate::maps::{line_map, plane, strided};
 use hpf_base::{Grid, Index, NodeId, Shape};
-use mappings::{AlignDim, Form, Line, MapDims, Mapping};
 use local_address::Piece;
+use mappings::{AlignDim, Form, Line, MapDims, Mapping};
 use std::alloc::Global;
 use std::test::*;
 

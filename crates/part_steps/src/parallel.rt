@@ -15,12 +15,12 @@ ghost use Rattle.part_steps.specs.Stores.{stored};
 ghost use Rattle.part_steps.specs.Views.{part_view};
 
 use crate::gathered::Gathered;
-use letters::Body;
-use owner_tables::Row;
 use crate::part::Part;
 use crate::stores::Stores;
 use comm_sets::{Exchange, Spot};
 use hpf_base::OutOfMemory;
+use letters::Body;
+use owner_tables::Row;
 use slot_values::{Fault, Kept, earlier};
 use std::alloc::Global;
 use tuple_values::Outcome;

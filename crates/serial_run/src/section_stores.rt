@@ -16,7 +16,10 @@ ghost use Rattle.serial_run.specs.SectionStores.{Keeps, branch_mask, kept_of, ma
 use crate::position_tuples::{advance, tuple_at};
 use array_meaning::{Selection, Store};
 use resolved_program::{SectionAssignment, SectionSubscript, Term};
-use term_values::{Elemental, State, Stop, at_tuple, element_place, elemental_of, extents, selections, space_size, subscripts_at, value_at};
+use term_values::{
+    Elemental, State, Stop, at_tuple, element_place, elemental_of, extents, selections, space_size,
+    subscripts_at, value_at,
+};
 
 /// Where an assignment stands: not in a WHERE, or before or behind its ELSEWHERE.
 #[derive(Clone, Copy)]
