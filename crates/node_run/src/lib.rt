@@ -20,7 +20,7 @@
 
 mod coded;
 mod joining;
-mod letters;
+mod letter_laws;
 mod parted;
 mod pieces;
 mod runs;
@@ -28,7 +28,7 @@ mod trees;
 
 pub use coded::other_texts;
 pub use joining::{folded_from_unit, values_regrouped};
-pub use letters::{message_read, part_letters, remap_letters};
+pub use letter_laws::{message_read, part_letters, remap_letters};
 pub use parted::{least_of_parts, parts_in_a_row};
 pub use pieces::{elements_have_owners, owners_by_mapping, pieces_by_elements};
 pub use runs::{nodes_run, nodes_step, openings_run};
