@@ -1,25 +1,19 @@
-//! What each action makes of a text that is accepted.
+//! What each action makes of an accepted program.
 
-ghost use Rattle.std.specs.Prelude.{◌≡◌, Bool, false, ℕ, List, map, true, All, IfOk};
-ghost use Rattle.hpf_base.specs.ElementOrder.{product};
+ghost use Rattle.std.specs.Prelude.{◌≡◌, Bool, false, ℕ, List, map, true, IfOk};
 ghost use Rattle.syntax_tree.specs.MainProgram.{MainProgram, main_program};
-ghost use Rattle.name_table.specs.Entries.{entries};
-ghost use Rattle.array_maps.specs.Maps.{IsArrayMap};
-ghost use Rattle.directive_check.specs.ProgramMaps.{start_maps};
 ghost use Rattle.array_meaning.specs.Serial.{Outcome as SerialOutcome, outcome, serial};
 ghost use Rattle.serial_run.specs.Outcomes.{outcome_seen};
 ghost use Rattle.distributed_run.specs.Outcomes.{IsOutcome};
 ghost use Rattle.hpf_words.specs.declared.job.Action.TheVariants.{Check, Map, Run, Serial};
-ghost use Rattle.hpf_run.specs.Accepted.{KeepsRules};
 ghost use Rattle.hpf_run.specs.Command.{is_built};
 ghost use Rattle.hpf_run.specs.Outcome.{with_arrays};
 ghost use Rattle.hpf_run.specs.Reply.{ActionMeant, IsFaulted, IsReported, outcome_of};
 
-use crate::accept::Accepted;
 use crate::reply::{Reply, reply_refused};
-use array_maps::Maps;
+use accepted_program::AcceptedProgram;
 use distributed_run::{NodesOutcome, run_on_nodes};
-use hpf_base::{Grid, OutOfMemory};
+use hpf_base::OutOfMemory;
 use hpf_words::{Action, Job};
 use left_out_forms::first_left_out;
 use name_table::{Names, Program};
@@ -28,20 +22,16 @@ use serial_run::{End, Outcome, first_independent, run_serial};
 use std::alloc::Global;
 use term_values::Fault;
 
-/// What the job's action makes of a text, which is accepted as the program.
-pub fn reply_to_accepted(alloc: Global, job: &Job, accepted: &Accepted) -> Reply
+/// What the job's action makes of an accepted program, on the grid that it is accepted on.
+pub fn reply_to_accepted(alloc: Global, job: &Job, accepted: &AcceptedProgram<'_>) -> Reply
     requires built { is_built job.now ≡ true }
-    requires keeps { KeepsRules job.now.grid (main_program accepted.now.program.tree) }
-    requires names { accepted.now.program.names ≡ entries (main_program accepted.now.program.tree) }
-    requires maps { accepted.now.maps.arrays ≡ start_maps job.now.grid (main_program accepted.now.program.tree) }
-    requires valid { All (IsArrayMap (product job.now.grid)) accepted.now.maps.arrays }
-    ensures { ActionMeant job.now.grid job.now.arrays (main_program accepted.now.program.tree) job.now.action (outcome_of result) }
+    ensures { ActionMeant accepted.now.grid.now job.now.arrays (main_program accepted.now.program.tree) job.now.action (outcome_of result) }
 {
     match job.action {
         Action::Check => accepted_reply(alloc),
-        Action::Map => map_reply(alloc, &accepted.maps, &job.grid),
-        Action::Serial => serial_reply(alloc, &accepted.program),
-        Action::Run => run_reply(alloc, &accepted.program, &accepted.maps, job),
+        Action::Map => map_reply(alloc, accepted),
+        Action::Serial => serial_reply(alloc, accepted),
+        Action::Run => run_reply(alloc, accepted, job.arrays),
         Action::Messages | Action::Bulk => unreachable!(),
     }
 }
@@ -56,24 +46,22 @@ fn accepted_reply(alloc: Global) -> Reply
     }
 }
 
-/// What `map` answers, whichever program has these mappings.
-fn map_reply(alloc: Global, maps: &Maps, grid: &Grid) -> Reply
-    requires { All (IsArrayMap (product grid.now)) maps.now.arrays }
-    ensures { (arrays : Bool) (p : MainProgram) → maps.now.arrays ≡ start_maps grid.now p → ActionMeant grid.now arrays p Map (outcome_of result) }
+/// What `map` answers.
+fn map_reply(alloc: Global, accepted: &AcceptedProgram<'_>) -> Reply
+    ensures { (arrays : Bool) → ActionMeant accepted.now.grid.now arrays (main_program accepted.now.program.tree) Map (outcome_of result) }
 {
-    match map_text(alloc, maps, grid) {
+    match map_text(alloc, &accepted.maps, accepted.grid) {
         Ok(text) => Reply::Done(text),
         Err(_) => Reply::Memory,
     }
 }
 
 /// What `serial` answers.
-fn serial_reply(alloc: Global, program: &Program) -> Reply
-    requires names { program.now.names ≡ entries (main_program program.now.tree) }
-    ensures { (grid : List ℕ) (arrays : Bool) → ActionMeant grid arrays (main_program program.now.tree) Serial (outcome_of result) }
+fn serial_reply(alloc: Global, accepted: &AcceptedProgram<'_>) -> Reply
+    ensures { (grid : List ℕ) (arrays : Bool) → ActionMeant grid arrays (main_program accepted.now.program.tree) Serial (outcome_of result) }
 {
-    match first_independent(&program.tree.body) {
-        None => run_program(alloc, program),
+    match first_independent(&accepted.program.tree.body) {
+        None => run_program(alloc, &accepted.program),
         Some(refusal) => reply_refused(alloc, refusal),
     }
 }
@@ -103,31 +91,23 @@ fn report(alloc: Global, names: &Names, outcome: Outcome) -> Reply
     }
 }
 
-/// What `run` answers.
-fn run_reply(alloc: Global, program: &Program, maps: &Maps, job: &Job) -> Reply
-    requires keeps { KeepsRules job.now.grid (main_program program.now.tree) }
-    requires names { program.now.names ≡ entries (main_program program.now.tree) }
-    requires maps { maps.now.arrays ≡ start_maps job.now.grid (main_program program.now.tree) }
-    requires valid { All (IsArrayMap (product job.now.grid)) maps.now.arrays }
-    ensures { ActionMeant job.now.grid job.now.arrays (main_program program.now.tree) Run (outcome_of result) }
+/// What `run` answers, with the last arrays where they are asked for.
+fn run_reply(alloc: Global, accepted: &AcceptedProgram<'_>, arrays: bool) -> Reply
+    ensures { (grid : List ℕ) → ActionMeant grid arrays (main_program accepted.now.program.tree) Run (outcome_of result) }
 {
-    match first_left_out(alloc, &program.tree.body) {
-        Ok(None) => run_nodes(alloc, program, maps, job),
+    match first_left_out(alloc, &accepted.program.tree.body) {
+        Ok(None) => run_nodes(alloc, accepted, arrays),
         Ok(Some(refusal)) => reply_refused(alloc, refusal),
         Err(_) => Reply::Memory,
     }
 }
 
 /// What the run of a program on nodes comes to.
-fn run_nodes(alloc: Global, program: &Program, maps: &Maps, job: &Job) -> Reply
-    requires keeps { KeepsRules job.now.grid (main_program program.now.tree) }
-    requires names { program.now.names ≡ entries (main_program program.now.tree) }
-    requires maps { maps.now.arrays ≡ start_maps job.now.grid (main_program program.now.tree) }
-    requires valid { All (IsArrayMap (product job.now.grid)) maps.now.arrays }
-    ensures { IsReported program.now.names job.now.arrays (serial (main_program program.now.tree)) (outcome_of result) }
+fn run_nodes(alloc: Global, accepted: &AcceptedProgram<'_>, arrays: bool) -> Reply
+    ensures { IsReported accepted.now.program.names arrays (serial (main_program accepted.now.program.tree)) (outcome_of result) }
 {
-    match run_on_nodes(alloc, program, maps, &job.grid) {
-        Ok(outcome) => report_nodes(alloc, &program.names, job.arrays, outcome),
+    match run_on_nodes(alloc, accepted) {
+        Ok(outcome) => report_nodes(alloc, &accepted.program.names, arrays, outcome),
         Err(_) => Reply::Memory,
     }
 }

@@ -1,10 +1,11 @@
--- Nodes run a program that breaks no rule as it runs in one order.
+-- Nodes run a program that keeps the rules as it runs in one order.
 use Rattle.std.proofs.Common.{ℕ, ◌<◌, ◌≤◌, ℤ, List, [], length, refl, sym, ap, subst, ◌∙◌, arith}
 use Rattle.std.specs.List.{range_with_len}
 use Rattle.std.proofs.lemmas.List.{length-map}
 use Rattle.std.proofs.lemmas.List.FromFn.{length-range_with_len}
 use Rattle.syntax_tree.specs.MainProgram.{MainProgram}
 use Rattle.name_table.specs.Entries.{entries}
+use Rattle.accepted_program.specs.Accepted.{KeepsRules}
 use Rattle.storage.specs.Storage.{row_of}
 use Rattle.array_meaning.specs.Faults.{Fault}
 use Rattle.array_meaning.specs.Serial as serial
@@ -22,7 +23,7 @@ use Rattle.well_formed.proofs.Programs.{lowered, valid}
 use Rattle.node_run.proofs.CodedSteps.{steps-coded, valid-coded, whole-coded}
 use Rattle.node_run.proofs.Openings.{openings-run}
 use Rattle.node_run.proofs.Wholes.{steps-whole}
-use Rattle.nodes_lowered.specs.OnNodes.{LieAsDeclared, BreaksNoRule, program_copies, program_opening}
+use Rattle.nodes_lowered.specs.OnNodes.{LieAsDeclared, program_copies, program_opening}
 use Rattle.nodes_lowered.specs.ProgramRuns.{RunOnNodes, end_by_status, program_nodes, program_shapes, text_opening}
 use Rattle.nodes_lowered.proofs.Laid.{laid-many, opening-whole}
 use Rattle.nodes_lowered.proofs.LastNodes.{arrays-count, arrays-so, ended-so, last-nodes}
@@ -32,7 +33,7 @@ end-over : (n : ℕ) (m : Machine Instruction Fault) (e : End) (arrays : List (L
 end-over n m serial.Finished arrays h = subst (λ (s : Status Fault). IsOver s) (sym h.0) tt
 end-over n m (serial.Faulted f) arrays h = subst (λ (s : Status Fault). IsOver s) (sym h) tt
 
-pub run-on-nodes : (nodes : ℕ) (p : MainProgram) (layouts : List Layout) → 0 < nodes → BreaksNoRule p → LieAsDeclared nodes (program_copies p) (entries p) layouts
+pub run-on-nodes : (nodes : ℕ) (p : MainProgram) (layouts : List Layout) → 0 < nodes → KeepsRules p → LieAsDeclared nodes (program_copies p) (entries p) layouts
     → RunOnNodes nodes p layouts
 run-on-nodes nodes p layouts some rules laid =
     let table : ArrayTable = table_on nodes [] (program_shapes p) in
@@ -42,10 +43,10 @@ run-on-nodes nodes p layouts some rules laid =
     let o : Outcome = serial.serial p in
     let enough : 1 ≤ 1 = omega arith in
     let has = lowered p (program_copies p) table layouts (record { shapes = refl; copies = λ layouts extents. copy-size nodes extents }) enough
-    (laid-many nodes (program_copies p) (entries p) layouts laid) rules.0 rules.1 in
+    (laid-many nodes (program_copies p) (entries p) layouts laid) rules.resolved rules.bodies_fine in
     let same = steps-coded (text nodes [] (program_shapes p)) (meaning_of table) text_meaning (λ i. refl) has.0 m in
     let code = valid-coded (text nodes [] (program_shapes p)) (meaning_of table) text_meaning (λ i. refl) nodes [] m.code
-    (valid nodes p [] table (omega arith) (λ layouts owned extents. copy-dealt nodes extents some) rules.0 rules.1) in
+    (valid nodes p [] table (omega arith) (λ layouts owned extents. copy-dealt nodes extents some) rules.resolved rules.bodies_fine) in
     let whole = whole-coded (text nodes [] (program_shapes p)) nodes [] m (opening-whole nodes p layouts laid) in
     let over = subst (λ (x : Machine Text Fault). IsOver x.control.status) (sym same) (end-over n (steps (meaning_of table) has.0 m) o.end o.arrays has.2) in
     let run = openings-run fault_values text_meaning nodes has.0 [] coded some refl refl code whole over in

@@ -1,14 +1,10 @@
 -- What it is for the arrays of a program to lie on nodes.
 use Rattle.std.specs.Prelude.{◌≡◌, ℕ, zero, suc, List, [], ◌∷◌, length, ⊤}
-use Rattle.hpf_base.specs.FirstBreach.{Among}
-use Rattle.hpf_base.specs.Refusal.{NoBreach}
 use Rattle.syntax_tree.specs.MainProgram.{MainProgram}
 use Rattle.name_table.specs.Entries.{entries}
-use Rattle.name_table.specs.Resolved.{HasNoBreach}
 use Rattle.name_table.specs.declared.names.Entry.{Entry}
 use Rattle.name_table.specs.declared.names.What.{What}
 use Rattle.name_table.specs.declared.names.What.TheVariants as what
-use Rattle.body_check.specs.BodyRules.{body_breaches}
 use Rattle.directive_check.specs.ProgramMaps.{shape_of}
 use Rattle.array_meaning.specs.Faults.{Fault}
 use Rattle.array_meaning.specs.Resolution.{resolved_block, initial_state}
@@ -17,10 +13,6 @@ use Rattle.machine_steps.specs.Machine.{Machine}
 use Rattle.node_code.specs.Instructions.{Instruction}
 use Rattle.lowering.specs.Lowered.{opening}
 use Rattle.lowering.specs.StatementCode.{block_copies}
-
--- no rule of names, ranks and bodies is broken
-abbrev pub BreaksNoRule : MainProgram → Type 0
-BreaksNoRule p = HasNoBreach p × NoBreach (Among (body_breaches (entries p) p.body))
 
 -- an array has the shape of its declaration (Fortran 95, 5.1.2.4.1), and each of its elements has an owner; what is no array has no
 -- elements

@@ -7,8 +7,9 @@ ghost use Rattle.syntax_tree.specs.MainProgram.{MainProgram};
 ghost use Rattle.name_table.specs.Entries.{entries};
 ghost use Rattle.array_maps.specs.Maps.{IsArrayMap};
 ghost use Rattle.directive_check.specs.ProgramMaps.{start_maps};
+ghost use Rattle.accepted_program.specs.Accepted.{KeepsRules};
 ghost use Rattle.machine_steps.specs.Layout.{Layout};
-ghost use Rattle.nodes_lowered.specs.OnNodes.{LieAsDeclared, BreaksNoRule, program_copies};
+ghost use Rattle.nodes_lowered.specs.OnNodes.{LieAsDeclared, program_copies};
 ghost use Rattle.nodes_lowered.specs.ProgramLayouts.{program_layouts};
 ghost use Rattle.nodes_lowered.specs.ProgramRuns.{RunOnNodes};
 
@@ -19,9 +20,9 @@ pub fn arrays_lie_as_mapped()
         → LieAsDeclared (product grid) room (entries p) (program_layouts (product grid) room (entries p) (start_maps grid p)) }
 {}
 
-/// For every program that breaks no rule, every number of nodes, and layouts of its arrays by which each element has an owner, the nodes
+/// For every program that keeps the rules of names, ranks and bodies, every number of nodes, and layouts of its arrays by which each element has an owner, the nodes
 /// that begin with its code are phased, and their last nodes have the program's serial outcome: each has the outcome's first fault with its
 /// line, kind and tuple, or is finished with its pieces of the outcome's arrays, and node 0 has printed the outcome's bytes.
 pub fn programs_run_on_nodes()
-    ensures { (nodes : ℕ) (p : MainProgram) (layouts : List Layout) → 0 < nodes → BreaksNoRule p → LieAsDeclared nodes (program_copies p) (entries p) layouts → RunOnNodes nodes p layouts }
+    ensures { (nodes : ℕ) (p : MainProgram) (layouts : List Layout) → 0 < nodes → KeepsRules p → LieAsDeclared nodes (program_copies p) (entries p) layouts → RunOnNodes nodes p layouts }
 {}

@@ -5,20 +5,20 @@ use Rattle.hpf_run.proofs.actions.reply_to_accepted.Goals as goal
 
 pub returns-in-Check : goal.returns-in-Check
 returns-in-Check c =
-    subst (λ act. ActionMeant c.args.job.now.grid c.args.job.now.arrays (main_program c.args.accepted.now.program.tree) act (outcome_of c.accepted_reply.result))
+    subst (λ act. ActionMeant c.args.accepted.now.grid.now c.args.job.now.arrays (main_program c.args.accepted.now.program.tree) act (outcome_of c.accepted_reply.result))
     (sym c.in-Check.is) (c.accepted_reply.ensures _ _ _)
 
 pub returns-in-Map : goal.returns-in-Map
 returns-in-Map c =
-    subst (λ act. ActionMeant c.args.job.now.grid c.args.job.now.arrays (main_program c.args.accepted.now.program.tree) act (outcome_of c.map_reply.result))
-    (sym c.in-Map.is) (c.map_reply.ensures _ _ c.requires.maps)
+    subst (λ act. ActionMeant c.args.accepted.now.grid.now c.args.job.now.arrays (main_program c.args.accepted.now.program.tree) act (outcome_of c.map_reply.result))
+    (sym c.in-Map.is) (c.map_reply.ensures _)
 
 pub returns-in-Serial : goal.returns-in-Serial
 returns-in-Serial c =
-    subst (λ act. ActionMeant c.args.job.now.grid c.args.job.now.arrays (main_program c.args.accepted.now.program.tree) act (outcome_of c.serial_reply.result))
+    subst (λ act. ActionMeant c.args.accepted.now.grid.now c.args.job.now.arrays (main_program c.args.accepted.now.program.tree) act (outcome_of c.serial_reply.result))
     (sym c.in-Serial.is) (c.serial_reply.ensures _ _)
 
 pub returns-in-Run : goal.returns-in-Run
 returns-in-Run c =
-    subst (λ act. ActionMeant c.args.job.now.grid c.args.job.now.arrays (main_program c.args.accepted.now.program.tree) act (outcome_of c.run_reply.result))
-    (sym c.in-Run.is) c.run_reply.ensures
+    subst (λ act. ActionMeant c.args.accepted.now.grid.now c.args.job.now.arrays (main_program c.args.accepted.now.program.tree) act (outcome_of c.run_reply.result))
+    (sym c.in-Run.is) (c.run_reply.ensures _)

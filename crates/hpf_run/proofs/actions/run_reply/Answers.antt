@@ -13,17 +13,17 @@ use Rattle.hpf_run.proofs.TopLaws.{left_out-meant, run-meant}
 use Rattle.hpf_run.proofs.actions.run_reply.Goals as goal
 
 pub returns-in-Ok-None : goal.returns-in-Ok-None
-returns-in-Ok-None c =
-    let p = main_program c.args.program.now.tree in
+returns-in-Ok-None c = λ grid.
+    let p = main_program c.args.accepted.now.program.tree in
     let built = ap (λ l. least (flat_map left_out (all_heads (block_of l)))) (sym c.deref.ensures.value) ∙ sym c.in-Ok-None.ensures ∙ c.in-Ok-None.field-0-is in
-    run-meant c.args.job.now.grid c.args.job.now.arrays p (outcome_of c.run_nodes.result) built
-    (subst (λ es. IsReported es c.args.job.now.arrays (serial p) (outcome_of c.run_nodes.result)) c.requires.names c.run_nodes.ensures)
+    run-meant grid c.args.arrays p (outcome_of c.run_nodes.result) built
+    (subst (λ es. IsReported es c.args.arrays (serial p) (outcome_of c.run_nodes.result)) c.args.accepted.now.names c.run_nodes.ensures)
 
 pub returns-in-Ok-Some : goal.returns-in-Ok-Some
-returns-in-Ok-Some c =
-    let p = main_program c.args.program.now.tree in
+returns-in-Ok-Some c = λ grid.
+    let p = main_program c.args.accepted.now.program.tree in
     let first = ap (λ l. least (flat_map left_out (all_heads (block_of l)))) (sym c.deref.ensures.value) ∙ sym c.in-Ok-Some.ensures ∙ c.in-Ok-Some.field-0-is in
-    left_out-meant c.args.job.now.grid c.args.job.now.arrays p Run c.in-Ok-Some.refusal _ (run_left_out c.in-Ok-Some.refusal first) c.reply_refused.ensures
+    left_out-meant grid c.args.arrays p Run c.in-Ok-Some.refusal _ (run_left_out c.in-Ok-Some.refusal first) c.reply_refused.ensures
 
 pub returns-in-Err : goal.returns-in-Err
-returns-in-Err c = action_memory
+returns-in-Err c = λ grid. action_memory

@@ -14,13 +14,13 @@ use Rattle.hpf_run.proofs.actions.serial_reply.Goals as goal
 
 pub returns-in-None : goal.returns-in-None
 returns-in-None c = λ grid arrays.
-    let p = main_program c.args.program.now.tree in
+    let p = main_program c.args.accepted.now.program.tree in
     let built = ap (λ l. least (flat_map left_out (marks (block_of l)))) (sym c.deref.ensures.value) ∙ sym c.first_independent.ensures ∙ c.in-None.is in
     reported-meant grid arrays p (outcome_of c.run_program.result) built
-    (subst (λ es. IsReported es false (outcome es p.body) (outcome_of c.run_program.result)) c.requires.names c.run_program.ensures)
+    (subst (λ es. IsReported es false (outcome es p.body) (outcome_of c.run_program.result)) c.args.accepted.now.names c.run_program.ensures)
 
 pub returns-in-Some : goal.returns-in-Some
 returns-in-Some c = λ grid arrays.
-    let p = main_program c.args.program.now.tree in
+    let p = main_program c.args.accepted.now.program.tree in
     let first = ap (λ l. least (flat_map left_out (marks (block_of l)))) (sym c.deref.ensures.value) ∙ sym c.first_independent.ensures ∙ c.in-Some.is in
     left_out-meant grid arrays p Serial c.in-Some.refusal _ (serial_left_out c.in-Some.refusal first) c.reply_refused.ensures

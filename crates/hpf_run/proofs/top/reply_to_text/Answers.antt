@@ -1,14 +1,16 @@
 use Rattle.std.proofs.Common.{subst}
 use Rattle.syntax_tree.specs.MainProgram.{main_program}
 use Rattle.hpf_run.specs.Accepted.{IsError}
-use Rattle.hpf_run.specs.Reply.{outcome_of, text_memory}
+use Rattle.hpf_run.specs.Reply.{ActionMeant, outcome_of, text_memory}
 use Rattle.hpf_run.proofs.TopLaws.{accepted-meant, refused-meant}
 use Rattle.hpf_run.proofs.top.reply_to_text.Goals as goal
 
 pub returns-in-Ok : goal.returns-in-Ok
 returns-in-Ok c =
-    accepted-meant c.args.text.now c.args.job.now (main_program c.in-Ok.accepted.program.tree) (outcome_of c.reply_to_accepted.result) c.in-Ok.ensures.accepted
-    c.reply_to_accepted.ensures
+    let p = main_program c.in-Ok.accepted.program.tree in
+    let job = c.args.job.now in
+    accepted-meant c.args.text.now job p (outcome_of c.reply_to_accepted.result) c.in-Ok.ensures.accepted
+    (subst (λ g. ActionMeant g job.arrays p job.action (outcome_of c.reply_to_accepted.result)) c.in-Ok.ensures.grid c.reply_to_accepted.ensures)
 
 pub returns-in-Err-Refused : goal.returns-in-Err-Refused
 returns-in-Err-Refused c =
