@@ -6,9 +6,16 @@ use Rattle.machine_steps.specs.Machine.{on, remapped}
 use Rattle.machine_steps.specs.Node.{Node, ready, settled}
 use Rattle.comm_sets.specs.Rounds.{rounds_on}
 use Rattle.node_code.specs.ProgramText.{Text}
+use Rattle.owner_tables.specs.Views.{OwnersView}
 use Rattle.remap_steps.specs.Redistributions.{Redistribution, all_rounds, moved_pieces, round_inbox, round_outbox}
 
--- the instruction gives new mappings, and this is the redistribution that they need
+-- the instruction gives new mappings, by which the rows lie so
+pub record IsAfter (i : Instr Fault) (a : Node Text Fault) (after : OwnersView) : Type 0 where
+  pub new : List Remapping
+  pub is : i ≡ Remap new (rounds_on a.nodes new)
+  pub layouts : after.layouts ≡ remapped new a.layouts
+
+-- it gives new mappings, and this is the redistribution that they need
 pub record IsRemap (i : Instr Fault) (a : Node Text Fault) (r : Redistribution) : Type 0 where
   pub new : List Remapping
   pub is : i ≡ Remap new (rounds_on a.nodes new)

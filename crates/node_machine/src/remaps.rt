@@ -2,24 +2,20 @@
 
 ghost use Rattle.std.specs.Prelude.{◌≡◌, ◌<◌, ◌^◌, IfOk, OnOk, OnErr, length, map};
 ghost use Rattle.machine_steps.specs.Instr.{Remap};
-ghost use Rattle.machine_steps.specs.Machine.{instr_at, on, remapped};
-ghost use Rattle.machine_steps.specs.Node.{begun_by, done_by, no_values, ready};
+ghost use Rattle.machine_steps.specs.Machine.{on, remapped};
+ghost use Rattle.machine_steps.specs.Node.{no_values, ready};
 ghost use Rattle.comm_sets.specs.Rounds.{rounds_on};
-ghost use Rattle.node_code.specs.FaultValues.{fault_values};
-ghost use Rattle.node_code.specs.ProgramText.{text_meaning};
 ghost use Rattle.node_code.specs.Texts.{remapping};
 ghost use Rattle.remap_steps.specs.Redistributions.{moved_pieces};
-ghost use Rattle.node_machine.specs.Programs.{code_of};
-ghost use Rattle.node_machine.specs.Remaps.{IsRemap, round_opened};
+ghost use Rattle.node_machine.specs.Remaps.{IsAfter, IsRemap, round_opened};
+ghost use Rattle.node_machine.specs.Steps.{begun, done, instr_here};
 
 use crate::node::Node;
-use crate::program::NodeProgram;
 use hpf_base::OutOfMemory;
 use letters::Body;
-use node_code::{Instruction, NewMapping};
+use node_code::NewMapping;
 use owner_tables::{Owners, Row};
 use remap_steps::Redistribution;
-use slot_values::Control;
 
 /// How rows lie, and a node's pieces of them.
 #[derive(Drop)]
@@ -28,24 +24,9 @@ struct NewRows {
     pieces: Vec<Row>,
 }
 
-impl NodeProgram {
-    /// The new mappings at the place.
-    fn new_mappings(&self, control: &Control) -> Result<&Vec<NewMapping>, OutOfMemory>
-        ensures is { IfOk result (λ new. instr_at text_meaning (code_of self.now) control.now.at ≡ Remap (map remapping new.now.items) (rounds_on self.now.nodes (map remapping new.now.items))) }
-        ensures few { IfOk result (λ new. control.now.at < 2 ^ 63) }
-    {
-        let Some(i) = self.instruction(control.at) else {
-            return Err(OutOfMemory);
-        };
-        match i {
-            Instruction::Remap(new) => Ok(new),
-            _ => Err(OutOfMemory),
-        }
-    }
-}
-
-/// How rows lie behind new mappings. A mapping of another shape or on another number of nodes is answered as want of memory.
-fn owners_behind(owners: &Owners, new: &[NewMapping]) -> Result<Owners, OutOfMemory>
+/// How rows lie after new mappings. A mapping of another shape or on another number of nodes, which node code of a program that is in order
+/// doesn't have, is answered as want of memory.
+fn owners_after(owners: &Owners, new: &[NewMapping]) -> Result<Owners, OutOfMemory>
     ensures layouts { IfOk result (λ after. after.layouts ≡ remapped (map remapping new.now) owners.now.layouts) }
     ensures nodes { IfOk result (λ after. after.nodes ≡ owners.now.nodes) }
 {
@@ -57,14 +38,21 @@ fn owners_behind(owners: &Owners, new: &[NewMapping]) -> Result<Owners, OutOfMem
 }
 
 impl Node {
+    /// How rows lie after the new mappings at the node's place.
+    pub(crate) fn owners_after(&self, new: &Vec<NewMapping>) -> Result<Owners, OutOfMemory>
+        requires { instr_here self.now ≡ Remap (map remapping new.now.items) (rounds_on self.now.nodes (map remapping new.now.items)) }
+        ensures { IfOk result (IsAfter (instr_here self.now) self.now) }
+    {
+        let after = owners_after(&self.owners, new)?;
+        Ok(after)
+    }
+
     /// The redistribution at the node's place: that of the round before, if it is held.
-    fn redistribution(&mut self) -> Result<Redistribution, OutOfMemory>
-        ensures is { IfOk result (IsRemap (instr_at text_meaning self.new.code self.new.control.at) self.new) }
-        ensures few { IfOk result (λ r. self.new.control.at < 2 ^ 63) }
+    fn redistribution(&mut self, after: Owners) -> Result<Redistribution, OutOfMemory>
+        requires { IsAfter (instr_here self.old) self.old after }
+        ensures is { IfOk result (IsRemap (instr_here self.new) self.new) }
         ensures same { self.new ≡ self.old }
     {
-        let new = self.program().new_mappings(&self.control)?;
-        let after = owners_behind(&self.owners, new)?;
         let held = self.held();
         let moving = Redistribution::held_or_new(self.alloc, held, &self.owners, &after, self.id)?;
         Ok(moving)
@@ -85,52 +73,56 @@ impl Node {
     }
 
     /// The redistribution at the node's place begins. For want of memory nothing changes.
-    pub(crate) fn begin_remap(&mut self) -> Result<(), OutOfMemory>
-        ensures ok { OnOk result (self.new ≡ begun_by fault_values self.old.nodes (instr_at text_meaning self.old.code self.old.control.at) self.old) }
+    pub(crate) fn begin_remap(&mut self, after: Owners) -> Result<(), OutOfMemory>
+        requires after { IsAfter (instr_here self.old) self.old after }
+        requires in_code { self.old.control.at < 2 ^ 63 }
+        ensures ok { OnOk result (self.new ≡ begun self.old) }
         ensures err { OnErr result (self.new ≡ self.old) }
     {
-        let moving = self.redistribution()?;
+        let moving = self.redistribution(after)?;
         self.begin_moving(moving)
     }
 
     /// The same by the redistribution.
     fn begin_moving(&mut self, moving: Redistribution) -> Result<(), OutOfMemory>
-        requires is { IsRemap (instr_at text_meaning self.old.code self.old.control.at) self.old moving }
+        requires is { IsRemap (instr_here self.old) self.old moving }
         requires in_code { self.old.control.at < 2 ^ 63 }
-        ensures ok { OnOk result (self.new ≡ begun_by fault_values self.old.nodes (instr_at text_meaning self.old.code self.old.control.at) self.old) }
+        ensures ok { OnOk result (self.new ≡ begun self.old) }
         ensures err { OnErr result (self.new ≡ self.old) }
     {
         let received = self.room()?;
         if moving.rounds() > 0 {
             self.first_round(moving, received)
         } else {
-            let rows = self.rows_behind(&moving, &received)?;
+            let rows = self.rows_after(&moving, &received)?;
             self.put_rows(rows);
             Ok(())
         }
     }
 
-    /// The redistribution at the node's place goes on behind a round. For want of memory nothing changes.
-    pub(crate) fn finish_remap(&mut self) -> Result<(), OutOfMemory>
-        ensures ok { OnOk result (self.new ≡ done_by fault_values self.old.nodes (instr_at text_meaning self.old.code self.old.control.at) self.old) }
+    /// The redistribution at the node's place goes on after a round. For want of memory nothing changes.
+    pub(crate) fn finish_remap(&mut self, after: Owners) -> Result<(), OutOfMemory>
+        requires after { IsAfter (instr_here self.old) self.old after }
+        requires in_code { self.old.control.at < 2 ^ 63 }
+        ensures ok { OnOk result (self.new ≡ done self.old) }
         ensures err { OnErr result (self.new ≡ self.old) }
     {
-        let moving = self.redistribution()?;
+        let moving = self.redistribution(after)?;
         self.finish_moving(moving)
     }
 
     /// The same by the redistribution.
     fn finish_moving(&mut self, moving: Redistribution) -> Result<(), OutOfMemory>
-        requires is { IsRemap (instr_at text_meaning self.old.code self.old.control.at) self.old moving }
+        requires is { IsRemap (instr_here self.old) self.old moving }
         requires in_code { self.old.control.at < 2 ^ 63 }
-        ensures ok { OnOk result (self.new ≡ done_by fault_values self.old.nodes (instr_at text_meaning self.old.code self.old.control.at) self.old) }
+        ensures ok { OnOk result (self.new ≡ done self.old) }
         ensures err { OnErr result (self.new ≡ self.old) }
     {
         let round = self.next_round()?;
         if (round as usize) < moving.rounds() {
             self.later_round(moving, round)
         } else {
-            let rows = self.rows_behind(&moving, self.post.all_received())?;
+            let rows = self.rows_after(&moving, self.post.all_received())?;
             self.put_rows(rows);
             Ok(())
         }
@@ -164,6 +156,7 @@ impl Node {
     {
         let outbox = moving.outbox(self.alloc, round as usize, &self.pieces)?;
         let inbox = moving.inbox(self.alloc, round as usize)?;
+        // the first round made room for all nodes
         if self.post.all_received().len() != self.owners.nodes() as usize {
             return Err(OutOfMemory);
         }
@@ -180,13 +173,9 @@ impl Node {
         self.round = round;
     }
 
-    /// The rows behind the last round, by what was received.
-    fn rows_behind(
-        &self,
-        moving: &Redistribution,
-        received: &[Body],
-    ) -> Result<NewRows, OutOfMemory>
-        requires { IsRemap (instr_at text_meaning self.now.code self.now.control.at) self.now moving.now }
+    /// The rows after the last round, by what was received.
+    fn rows_after(&self, moving: &Redistribution, received: &[Body]) -> Result<NewRows, OutOfMemory>
+        requires { IsRemap (instr_here self.now) self.now moving.now }
         ensures layouts { IfOk result (λ rows. rows.owners.layouts ≡ moving.now.new) }
         ensures nodes { IfOk result (λ rows. rows.owners.nodes ≡ self.now.nodes) }
         ensures pieces { IfOk result (λ rows. rows.pieces.items ≡ moved_pieces moving.now self.now.pieces received.now) }
