@@ -1,6 +1,6 @@
 -- The steps of a redistribution.
-use Rattle.std.proofs.Common.{◌≡◌, ℕ, ℤ, zero, suc, ◌+◌, ◌<◌, ◌≤◌, true, false, Option, Some, None, List, [], ◌∷◌, length, get_or, nat_lt, refl, sym, ◌∙◌, ap, subst}
-use Rattle.std.proofs.lemmas.List.{length-map}
+use Rattle.std.proofs.Common.{◌≡◌, ℕ, ℤ, zero, suc, ◌+◌, ◌<◌, ◌≤◌, true, false, Option, Some, None, List, [], ◌∷◌, length, map, drop, get_or, nat_lt, refl, sym, ◌∙◌, ap, subst}
+use Rattle.std.proofs.lemmas.List.{drop_more, length-map}
 use Rattle.std.proofs.lemmas.Option.{slice_get-get_or, slice_get-map, slice_get_past}
 use Rattle.std.specs.List.{slice_get}
 use Rattle.std.specs.Option.{option_map}
@@ -13,8 +13,10 @@ use Rattle.machine_steps.specs.Machine.{remapped, with_mapping}
 use Rattle.machine_steps.specs.Node.{Node, begun_by, done_by, no_values, pieces_by}
 use Rattle.owner_tables.specs.Views.{TableView}
 use Rattle.node_code.specs.FaultValues.{fault_values}
-use Rattle.node_code.specs.Instructions.{remapping_by}
+use Rattle.node_code.specs.Instructions.{remapping_by, remappings}
 use Rattle.node_code.specs.ProgramText.{Text}
+use Rattle.node_code.specs.Texts.{new_mapping}
+use Rattle.node_code.specs.declared.instruction.NewMapping.{NewMapping as HeldMapping}
 use Rattle.remap_steps.specs.Redistributions.{Redistribution, all_rounds, moved_pieces, value_behind}
 use Rattle.node_machine.specs.Programs.{mappings_of}
 use Rattle.node_machine.specs.Remaps.{IsRemap, remap_ended, round_next, round_opened}
@@ -53,6 +55,17 @@ module _ (tables : List TableView) (row number : ℕ) (layouts : List Layout) wh
   remapped-none past =
       let mapping : TableView → Mapping = λ t. t.layout.mapping in
       ap (λ o. remapped (remapping_by row o []) layouts) (sym (slice_get-map mapping tables number ∙ ap (option_map mapping) (slice_get_past tables number past)))
+
+-- those that are left, without the first of them
+pub remapped-next : (tables : List TableView) (new : List HeldMapping) (k : ℕ) (m : HeldMapping) (before after : List Layout) → k < length new → m ≡ get_or new k m
+    → after ≡ remapped (remappings (mappings_of tables) (new_mapping m ∷ [])) before
+    → remapped (remappings (mappings_of tables) (map new_mapping (drop (k + 1) new))) after ≡ remapped (remappings (mappings_of tables) (map new_mapping (drop k new))) before
+remapped-next tables new k m before after lt is set =
+    let maps = mappings_of tables in
+    ap (remapped (remappings maps (map new_mapping (drop (k + 1) new)))) set
+    ∙ remapped-first m.array (slice_get maps m.map) (remappings maps (map new_mapping (drop (k + 1) new))) before
+    ∙ ap (λ x. remapped (remappings maps (map new_mapping (x ∷ drop (k + 1) new))) before) is
+    ∙ ap (λ xs. remapped (remappings maps (map new_mapping xs)) before) (sym (drop_more new k m lt))
 
 -- ---- how many rows there are
 
