@@ -57,15 +57,16 @@ module _ (tables : List TableView) (row number : ℕ) (layouts : List Layout) wh
       ap (λ o. remapped (remapping_by row o []) layouts) (sym (slice_get-map mapping tables number ∙ ap (option_map mapping) (slice_get_past tables number past)))
 
 -- those that are left, without the first of them
-pub remapped-next : (tables : List TableView) (new : List HeldMapping) (k : ℕ) (m : HeldMapping) (before after : List Layout) → k < length new → m ≡ get_or new k m
-    → after ≡ remapped (remappings (mappings_of tables) (new_mapping m ∷ [])) before
+pub remapped-next : (tables : List TableView) (new : List HeldMapping) (k : ℕ) (z : HeldMapping) (before after : List Layout) → k < length new
+    → after ≡ remapped (remappings (mappings_of tables) (new_mapping (get_or new k z) ∷ [])) before
     → remapped (remappings (mappings_of tables) (map new_mapping (drop (k + 1) new))) after ≡ remapped (remappings (mappings_of tables) (map new_mapping (drop k new))) before
-remapped-next tables new k m before after lt is set =
+remapped-next tables new k z before after lt set =
     let maps = mappings_of tables in
-    ap (remapped (remappings maps (map new_mapping (drop (k + 1) new)))) set
-    ∙ remapped-first m.array (slice_get maps m.map) (remappings maps (map new_mapping (drop (k + 1) new))) before
-    ∙ ap (λ x. remapped (remappings maps (map new_mapping (x ∷ drop (k + 1) new))) before) is
-    ∙ ap (λ xs. remapped (remappings maps (map new_mapping xs)) before) (sym (drop_more new k m lt))
+    let m = get_or new k z in
+    let rest = remappings maps (map new_mapping (drop (k + 1) new)) in
+    ap (remapped rest) set
+    ∙ remapped-first m.array (slice_get maps m.map) rest before
+    ∙ ap (λ xs. remapped (remappings maps (map new_mapping xs)) before) (sym (drop_more new k z lt))
 
 -- ---- how many rows there are
 
