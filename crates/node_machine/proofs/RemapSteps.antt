@@ -1,9 +1,7 @@
 -- The steps of a redistribution.
-use Rattle.std.proofs.Common.{◌≡◌, ℕ, ℤ, zero, suc, ◌+◌, ◌<◌, ◌≤◌, true, false, Option, Some, None, List, [], ◌∷◌, length, map, drop, get_or, nat_lt, refl, sym, ◌∙◌, ap, subst}
+use Rattle.std.proofs.Common.{◌≡◌, ℕ, ℤ, zero, suc, ◌+◌, ◌<◌, true, false, Option, Some, None, List, [], ◌∷◌, length, map, drop, get_or, nat_lt, refl, sym, ◌∙◌, ap}
 use Rattle.std.proofs.lemmas.List.{drop_more, length-map}
-use Rattle.std.proofs.lemmas.Option.{slice_get-get_or, slice_get-map, slice_get_past}
 use Rattle.std.specs.List.{slice_get}
-use Rattle.std.specs.Option.{option_map}
 use Rattle.mappings.specs.declared.mapping.Mapping.{Mapping}
 use Rattle.array_meaning.specs.Faults.{Fault}
 use Rattle.storage.specs.Storage.{Spot}
@@ -42,19 +40,6 @@ pub remapped-first : (row : ℕ) (mapping : Option Mapping) (rest : List Remappi
     → remapped rest (remapped (remapping_by row mapping []) layouts) ≡ remapped (remapping_by row mapping rest) layouts
 remapped-first row None rest layouts = refl
 remapped-first row (Some mapping) rest layouts = refl
-
-module _ (tables : List TableView) (row number : ℕ) (layouts : List Layout) where
-  -- a number that has a mapping, and one that has none
-  pub remapped-there : (d : TableView) → number < length tables
-      → with_mapping layouts row (get_or tables number d).layout.mapping ≡ remapped (remapping_by row (slice_get (mappings_of tables) number) []) layouts
-  remapped-there d lt =
-      let mapping : TableView → Mapping = λ t. t.layout.mapping in
-      ap (λ o. remapped (remapping_by row o []) layouts) (sym (slice_get-map mapping tables number ∙ ap (option_map mapping) (slice_get-get_or tables number d lt)))
-
-  pub remapped-none : length tables ≤ number → layouts ≡ remapped (remapping_by row (slice_get (mappings_of tables) number) []) layouts
-  remapped-none past =
-      let mapping : TableView → Mapping = λ t. t.layout.mapping in
-      ap (λ o. remapped (remapping_by row o []) layouts) (sym (slice_get-map mapping tables number ∙ ap (option_map mapping) (slice_get_past tables number past)))
 
 -- those that are left, without the first of them
 pub remapped-next : (tables : List TableView) (new : List HeldMapping) (k : ℕ) (z : HeldMapping) (before after : List Layout) → k < length new
