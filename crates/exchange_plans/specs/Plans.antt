@@ -1,5 +1,6 @@
 -- Plans of a node with a number, over the texts of a program.
 use Rattle.std.specs.Prelude.{◌≡◌, ℕ, List, ℤ, IfSome, true}
+use Rattle.std.specs.Arc.{arc_value}
 use Rattle.std.specs.BTreeMap.{get}
 use Rattle.std.specs.Ordering.{nat_cmp}
 use Rattle.machine_steps.specs.Machine.{instr_at}
@@ -13,7 +14,7 @@ use Rattle.exchange_plans.specs.declared.plans.Plans.{Plans}
 
 -- of the instruction at this place: what the node exchanges for it, by the plan's slots and layouts
 abbrev pub IsPlan : List Text → ℕ → ℕ → Plan → Type 0
-IsPlan code id at plan = IsExchangeOf (instr_at text_meaning code at) plan.slots.items plan.owners id plan.exchange
+IsPlan code id at plan = IsExchangeOf (instr_at text_meaning code at) plan.slots.items plan.owners id (arc_value plan.exchange)
 
 -- by places
 pub record ArePlans (code : List Text) (id : ℕ) (plans : Plans) : Type 0 where

@@ -1,6 +1,7 @@
 //! One plan.
 
 ghost use Rattle.std.specs.Prelude.{◌≡◌, IsTrue, IfOk, length};
+ghost use Rattle.std.specs.Arc.{arc_value};
 ghost use Rattle.node_code.specs.Texts.{instruction};
 ghost use Rattle.exchange_plans.specs.Exchanged.{HasLists};
 ghost use Rattle.exchange_plans.specs.Plans.{Serves};
@@ -11,13 +12,14 @@ use hpf_base::OutOfMemory;
 use node_code::Instruction;
 use owner_tables::Owners;
 use std::alloc::Global;
+use std::sync::Arc;
 
-/// What a node exchanges for an instruction by these slots, where the rows lie so.
+/// What a node exchanges for an instruction by these slots, where the rows lie so. It is shared with who asks for it.
 #[derive(Drop)]
 pub(crate) struct Plan {
     pub(crate) slots: Vec<i64>,
     pub(crate) owners: Owners,
-    pub(crate) exchange: Exchange,
+    pub(crate) exchange: Arc<Exchange>,
     /// Its memory in words, about; the largest number where it is more.
     pub(crate) size: usize,
 }
@@ -28,16 +30,17 @@ impl Plan {
         alloc: Global,
         slots: &[i64],
         owners: &Owners,
-        exchange: Exchange,
+        exchange: &Arc<Exchange>,
     ) -> Result<Plan, OutOfMemory>
-        requires { HasLists owners.now.nodes exchange }
+        requires { HasLists owners.now.nodes (arc_value exchange.now) }
         ensures slots { IfOk result (λ plan. plan.slots.items ≡ slots.now) }
         ensures lies { IfOk result (λ plan. plan.owners ≡ owners.now) }
-        ensures exchange { IfOk result (λ plan. plan.exchange ≡ exchange) }
+        ensures exchange { IfOk result (λ plan. arc_value plan.exchange ≡ arc_value exchange.now) }
     {
-        let size = size_of(slots, owners, &exchange);
+        let size = size_of(slots, owners, exchange);
         let kept = slots.to_vec(alloc)?;
         let owners = owners.shared()?;
+        let exchange = Arc::try_clone(exchange)?;
         Ok(Plan {
             slots: kept,
             owners,

@@ -1,6 +1,7 @@
 //! All plans of a node.
 
 ghost use Rattle.std.specs.Prelude.{◌≡◌, ℕ, List, IfSome};
+ghost use Rattle.std.specs.Arc.{arc_value};
 ghost use Rattle.machine_steps.specs.Machine.{instr_at};
 ghost use Rattle.node_code.specs.Instructions.{ArrayTable, meaning_of};
 ghost use Rattle.node_code.specs.ProgramText.{Text, text_meaning};
@@ -10,11 +11,11 @@ ghost use Rattle.exchange_plans.specs.Plans.{ArePlans, IsPlan};
 
 use crate::plan::Plan;
 use comm_sets::Exchange;
-use hpf_base::OutOfMemory;
 use node_code::Instruction;
 use owner_tables::Owners;
 use std::alloc::Global;
 use std::collections::BTreeMap;
+use std::sync::Arc;
 
 /// What a node exchanges for instructions of its code, one plan a place. Contracts see it by `ArePlans`.
 #[derive(Drop)]
@@ -44,10 +45,10 @@ impl Plans {
         i: &Instruction,
         slots: &[i64],
         owners: &Owners,
-    ) -> Option<&Exchange>
+    ) -> Option<&Arc<Exchange>>
         ensures { (code : List Text) (id : ℕ) (table : ArrayTable) → ArePlans code id self.now
             → instr_at text_meaning code at ≡ meaning_of table (instruction i.now)
-            → IfSome result (λ e. IsExchangeOf (instr_at text_meaning code at) slots.now owners.now id e.now) }
+            → IfSome result (λ e. IsExchangeOf (instr_at text_meaning code at) slots.now owners.now id (arc_value e.now)) }
     {
         let plan = self.plans.get(&at)?;
         if !plan.serves(i, slots, owners) {
@@ -58,24 +59,25 @@ impl Plans {
 
     /// Keeps what the node exchanges for the instruction at the place of the code, by these slots and where the rows lie so, in place of
     /// what was kept for that place. Where all plans together took more than `room` words, about, all others are dropped first. For want of
-    /// memory there are as many plans as before or fewer.
+    /// memory it isn't kept.
     pub fn keep(
         &mut self,
         alloc: Global,
         at: usize,
         slots: &[i64],
         owners: &Owners,
-        exchange: Exchange,
+        exchange: &Arc<Exchange>,
         room: usize,
-    ) -> Result<(), OutOfMemory>
-        requires { HasLists owners.now.nodes exchange }
+    )
+        requires { HasLists owners.now.nodes (arc_value exchange.now) }
         ensures { (code : List Text) (id : ℕ) → ArePlans code id self.old
-            → IsExchangeOf (instr_at text_meaning code at) slots.now owners.now id exchange → ArePlans code id self.new }
+            → IsExchangeOf (instr_at text_meaning code at) slots.now owners.now id (arc_value exchange.now) → ArePlans code id self.new }
     {
-        let plan = Plan::new(alloc, slots, owners, exchange)?;
-        self.drop_at(at);
-        self.make_room(plan.size, room);
-        self.put(at, plan)
+        if let Ok(plan) = Plan::new(alloc, slots, owners, exchange) {
+            self.drop_at(at);
+            self.make_room(plan.size, room);
+            self.put(at, plan);
+        }
     }
 
     /// Drops the plan for a place, if there is one.
@@ -97,13 +99,13 @@ impl Plans {
         }
     }
 
-    /// Puts a plan for a place beside the others.
-    fn put(&mut self, at: usize, plan: Plan) -> Result<(), OutOfMemory>
+    /// Puts a plan for a place beside the others, if there is memory for it.
+    fn put(&mut self, at: usize, plan: Plan)
         ensures { (code : List Text) (id : ℕ) → ArePlans code id self.old → IsPlan code id at plan → ArePlans code id self.new }
     {
         let size = self.size.saturating_add(plan.size);
-        self.plans.insert(at, plan)?;
-        self.size = size;
-        Ok(())
+        if let Ok(_) = self.plans.insert(at, plan) {
+            self.size = size;
+        }
     }
 }

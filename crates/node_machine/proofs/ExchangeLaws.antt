@@ -4,10 +4,13 @@ use Rattle.std.proofs.lemmas.List.FromFn.{length-map-range_with_len}
 use Rattle.std.proofs.lemmas.Option.{same_Some}
 use Rattle.array_meaning.specs.Faults.{Fault}
 use Rattle.machine_steps.specs.Instr.{Instr}
-use Rattle.machine_steps.specs.Node.{Node}
+use Rattle.machine_steps.specs.Machine.{instr_at}
+use Rattle.machine_steps.specs.Node.{Node, begun_by, part_opened, reduce_begun}
 use Rattle.comm_sets.specs.declared.exchanged.Exchange.{Exchange}
 use Rattle.comm_sets.specs.Exchanges.{AreExchanged}
-use Rattle.node_code.specs.ProgramText.{Text}
+use Rattle.node_code.specs.FaultValues.{fault_values}
+use Rattle.node_code.specs.Parallel.{fold_of}
+use Rattle.node_code.specs.ProgramText.{Text, text_meaning}
 use Rattle.op_tables.specs.declared.join.Join.{Join}
 use Rattle.tuple_values.specs.Statements.{Statement, no_left}
 use Rattle.part_steps.specs.Exchanged.{IsExchange}
@@ -18,7 +21,7 @@ use Rattle.part_steps.proofs.Instructions.{par-is, reduce-is}
 use Rattle.exchange_plans.specs.Exchanged.{HasLists, IsExchangeOf}
 use Rattle.exchange_plans.specs.Planned.{planned}
 use Rattle.node_machine.specs.Exchanges.{IsExchangeBy, owners_of, part_on}
-use Rattle.node_machine.specs.Parts.{IsParallel}
+use Rattle.node_machine.specs.Parts.{IsParallel, OpensPart}
 use Rattle.node_machine.specs.Reductions.{IsReduced}
 
 -- of parts that are one
@@ -44,6 +47,22 @@ module _ (a : Node Text Fault) (i : Instr Fault) (w : Statement) where
     exchange-of h = record {
       exchanged = λ part is_part. subst (λ p. AreExchanged a.nodes a.layouts p a.id e) (same_Some _ _ (sym is ∙ is_part)) h;
     }
+
+-- ---- the part at a node's place, whose phase is opened next
+
+module _ (a : Node Text Fault) (w : Statement) where
+  pub par-opens : IsParallel (instr_at text_meaning a.code a.control.at) a.control.slots w → OpensPart a (part_of (part_on a Left w))
+  par-opens p = record {
+    is = parallel-planned a _ w p;
+    opened = ap (λ x. part_opened a.nodes x a) (par-is a.nodes a.layouts w a.control.slots p.tuples p.left p.statement) ∙ ap (λ x. begun_by fault_values a.nodes x a) (sym p.is);
+  }
+
+  pub reduction-opens : (o : Join) → a.substep ≡ 0 → IsReduced (instr_at text_meaning a.code a.control.at) a.control.slots o w → OpensPart a (part_of (part_on a First w))
+  reduction-opens o first p = record {
+    is = reduction-planned a _ w o p;
+    opened = ap (λ x. part_opened a.nodes x a) (reduce-is a.nodes a.layouts w a.control.slots p.tuples no_left p.statement)
+        ∙ ap (λ k. reduce_begun fault_values a.nodes k p.tuples (fold_of o) p.slot a) (sym first) ∙ ap (λ x. begun_by fault_values a.nodes x a) (sym p.is);
+  }
 
 -- there is a list for each node
 pub exchange-lists : (v : PartView) (id : ℕ) (e : Exchange) → IsExchange v id e → HasLists v.nodes e

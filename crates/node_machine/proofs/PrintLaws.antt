@@ -3,12 +3,13 @@ use Rattle.std.proofs.Common.{◌≡◌, ℕ, ℤ, zero, suc, ◌<◌, ◌≤◌
 use Rattle.std.specs.List.{slice_get}
 use Rattle.expression_rules.specs.declared.dims.Dim.{Dim}
 use Rattle.machine_steps.specs.Node.{at_root}
-use Rattle.node_code.specs.Instructions.{item_of, items_of}
+use Rattle.node_code.specs.Instructions.{Instruction, item_of, items_of}
 use Rattle.node_code.specs.Texts.{print_item}
 use Rattle.node_code.specs.declared.instruction.PrintItem.{PrintItem}
-use Rattle.node_machine.specs.Prints.{IsItemStep, IsPrintStep, printed}
-use Rattle.node_machine.specs.declared.prints.PrintStep.{PrintStep}
-use Rattle.node_machine.specs.declared.prints.PrintStep.TheVariants.{Bytes, Section, Line}
+use Rattle.node_machine.specs.Prints.{printed}
+use Rattle.node_machine.specs.Steps.{IsItemStep, TextDoes}
+use Rattle.node_machine.specs.declared.step.Step.{Step}
+use Rattle.node_machine.specs.declared.step.Step.TheVariants as step
 
 module _ (shapes : List (List Dim)) where
   get-item : (items : List PrintItem) (k : ℕ) (d : PrintItem) → k < length items → slice_get (items_of shapes (map print_item items)) k ≡ Some (item_of shapes (print_item (get_or items k d)))
@@ -20,17 +21,11 @@ module _ (shapes : List (List Dim)) where
   item-there items k i lt e = get-item items k i lt ∙ ap (λ x. Some (item_of shapes (print_item x))) (sym e)
 
   -- the step of the item that is next
-  pub next-step : (items : List PrintItem) (k : ℕ) (i : PrintItem) (slots : List ℤ) (s : PrintStep) → slice_get (items_of shapes (map print_item items)) k ≡ Some (item_of shapes (print_item i))
-      → IsItemStep (item_of shapes (print_item i)) slots s → IsPrintStep (printed shapes items) slots k s
-  next-step items k i slots (Bytes b) there is = (items_of shapes (map print_item items), item_of shapes (print_item i), refl, there, is)
-  next-step items k i slots Section there is = record {
-    items = items_of shapes (map print_item items);
-    count = is.0;
-    element = is.1;
-    is = refl;
-    item = there ∙ ap Some is.2;
-  }
-  next-step items k i slots Line there is = absurd is
+  pub next-step : (items : List PrintItem) (i : PrintItem) (text : Instruction) (nodes k : ℕ) (s : Step) → slice_get (items_of shapes (map print_item items)) k ≡ Some (item_of shapes (print_item i))
+      → IsItemStep (item_of shapes (print_item i)) s → TextDoes (printed shapes items) text nodes k s
+  next-step items i text nodes k (step.PrintText t) there is = record { items = items_of shapes (map print_item items); is = refl; there = there ∙ ap Some is }
+  next-step items i text nodes k (step.PrintSection s) there is = record { items = items_of shapes (map print_item items); is = refl; there = there ∙ ap Some is }
+  next-step items i text nodes k s there is = absurd is
 
   pub items-over : (items : List PrintItem) (k : ℕ) → length items ≤ k → slice_get (items_of shapes (map print_item items)) k ≡ None
   items-over [] k le = refl

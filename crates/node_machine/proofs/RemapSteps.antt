@@ -1,9 +1,7 @@
 -- The steps of a redistribution.
-use Rattle.std.proofs.Common.{◌≡◌, ℕ, ℤ, zero, suc, ◌+◌, ◌<◌, ◌≤◌, true, false, Option, Some, None, List, [], ◌∷◌, length, get_or, nat_lt, refl, sym, ◌∙◌, ap, subst}
-use Rattle.std.proofs.lemmas.List.{length-map}
-use Rattle.std.proofs.lemmas.Option.{slice_get-get_or, slice_get-map, slice_get_past}
+use Rattle.std.proofs.Common.{◌≡◌, ℕ, ℤ, zero, suc, ◌+◌, ◌<◌, true, false, Option, Some, None, List, [], ◌∷◌, length, map, drop, get_or, nat_lt, refl, sym, ◌∙◌, ap}
+use Rattle.std.proofs.lemmas.List.{drop_more, length-map}
 use Rattle.std.specs.List.{slice_get}
-use Rattle.std.specs.Option.{option_map}
 use Rattle.mappings.specs.declared.mapping.Mapping.{Mapping}
 use Rattle.array_meaning.specs.Faults.{Fault}
 use Rattle.storage.specs.Storage.{Spot}
@@ -13,8 +11,10 @@ use Rattle.machine_steps.specs.Machine.{remapped, with_mapping}
 use Rattle.machine_steps.specs.Node.{Node, begun_by, done_by, no_values, pieces_by}
 use Rattle.owner_tables.specs.Views.{TableView}
 use Rattle.node_code.specs.FaultValues.{fault_values}
-use Rattle.node_code.specs.Instructions.{remapping_by}
+use Rattle.node_code.specs.Instructions.{remapping_by, remappings}
 use Rattle.node_code.specs.ProgramText.{Text}
+use Rattle.node_code.specs.Texts.{new_mapping}
+use Rattle.node_code.specs.declared.instruction.NewMapping.{NewMapping as HeldMapping}
 use Rattle.remap_steps.specs.Redistributions.{Redistribution, all_rounds, moved_pieces, value_behind}
 use Rattle.node_machine.specs.Programs.{mappings_of}
 use Rattle.node_machine.specs.Remaps.{IsRemap, remap_ended, round_next, round_opened}
@@ -41,18 +41,17 @@ pub remapped-first : (row : ℕ) (mapping : Option Mapping) (rest : List Remappi
 remapped-first row None rest layouts = refl
 remapped-first row (Some mapping) rest layouts = refl
 
-module _ (tables : List TableView) (row number : ℕ) (layouts : List Layout) where
-  -- a number that has a mapping, and one that has none
-  pub remapped-there : (d : TableView) → number < length tables
-      → with_mapping layouts row (get_or tables number d).layout.mapping ≡ remapped (remapping_by row (slice_get (mappings_of tables) number) []) layouts
-  remapped-there d lt =
-      let mapping : TableView → Mapping = λ t. t.layout.mapping in
-      ap (λ o. remapped (remapping_by row o []) layouts) (sym (slice_get-map mapping tables number ∙ ap (option_map mapping) (slice_get-get_or tables number d lt)))
-
-  pub remapped-none : length tables ≤ number → layouts ≡ remapped (remapping_by row (slice_get (mappings_of tables) number) []) layouts
-  remapped-none past =
-      let mapping : TableView → Mapping = λ t. t.layout.mapping in
-      ap (λ o. remapped (remapping_by row o []) layouts) (sym (slice_get-map mapping tables number ∙ ap (option_map mapping) (slice_get_past tables number past)))
+-- those that are left, without the first of them
+pub remapped-next : (tables : List TableView) (new : List HeldMapping) (k : ℕ) (z : HeldMapping) (before after : List Layout) → k < length new
+    → after ≡ remapped (remappings (mappings_of tables) (new_mapping (get_or new k z) ∷ [])) before
+    → remapped (remappings (mappings_of tables) (map new_mapping (drop (k + 1) new))) after ≡ remapped (remappings (mappings_of tables) (map new_mapping (drop k new))) before
+remapped-next tables new k z before after lt set =
+    let maps = mappings_of tables in
+    let m = get_or new k z in
+    let rest = remappings maps (map new_mapping (drop (k + 1) new)) in
+    ap (remapped rest) set
+    ∙ remapped-first m.array (slice_get maps m.map) rest before
+    ∙ ap (λ xs. remapped (remappings maps (map new_mapping xs)) before) (sym (drop_more new k z lt))
 
 -- ---- how many rows there are
 

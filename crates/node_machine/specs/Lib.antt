@@ -12,5 +12,6 @@ pub mod Reductions
 pub mod Remaps
 pub mod Results
 pub mod Sections
+pub mod Steps
 pub mod Trees
 pub mod Views

@@ -1,23 +1,29 @@
 //! Instructions that make a copy.
 
 ghost use Rattle.std.specs.Prelude.{◌≡◌, ◌<◌, ◌^◌, IfOk, OnOk, OnErr, length, pos, replicate, slice_set};
+ghost use Rattle.machine_steps.specs.Instr.{MakeCopy};
 ghost use Rattle.machine_steps.specs.Layout.{owned_by, piece, size_of};
-ghost use Rattle.machine_steps.specs.Machine.{instr_at, on};
-ghost use Rattle.machine_steps.specs.Node.{begun_by};
-ghost use Rattle.node_code.specs.FaultValues.{fault_values};
-ghost use Rattle.node_code.specs.ProgramText.{text_meaning};
+ghost use Rattle.machine_steps.specs.Machine.{on};
+ghost use Rattle.node_code.specs.Parallel.{evaluation_extents};
+ghost use Rattle.node_code.specs.Texts.{evaluation};
 ghost use Rattle.machine_steps.specs.CopyLayout.{copy_layout};
 ghost use Rattle.node_machine.specs.Copies.{IsMade};
-ghost use Rattle.node_machine.specs.Programs.{code_of};
+ghost use Rattle.node_machine.specs.Steps.{instr_here};
 
 use crate::node::Node;
-use crate::program::NodeProgram;
 use hpf_base::OutOfMemory;
-use node_code::Instruction;
+use node_code::Evaluation;
 use owner_tables::{OwnerTable, Row};
-use slot_values::{Control, selections_at};
+use slot_values::selections_at;
 use std::alloc::Global;
 use term_values::extents;
+
+/// A copy of the values of an array expression: its row, and the expression.
+#[derive(Clone, Copy)]
+pub(crate) struct Copying<'a> {
+    pub(crate) copy: usize,
+    pub(crate) evaluation: &'a Evaluation,
+}
 
 /// A copy that is made: its row and its extents.
 #[derive(Drop)]
@@ -26,40 +32,21 @@ pub(crate) struct MadeCopy {
     pub(crate) extents: Vec<u128>,
 }
 
-impl NodeProgram {
-    /// The copy that the instruction at the place makes.
-    fn made(&self, alloc: Global, control: &Control) -> Result<MadeCopy, OutOfMemory>
-        ensures is { IfOk result (λ m. IsMade (instr_at text_meaning (code_of self.now) control.now.at) self.now.nodes control.now.slots.items m) }
-        ensures few { IfOk result (λ m. control.now.at < 2 ^ 63) }
-    {
-        let Some(i) = self.instruction(control.at) else {
-            return Err(OutOfMemory);
-        };
-        match i {
-            Instruction::MakeCopy { copy, evaluation } => {
-                let over = selections_at(alloc, &control.slots, &[], &evaluation.over)?;
-                Ok(MadeCopy {
-                    copy: *copy,
-                    extents: extents(alloc, &over)?,
-                })
-            }
-            _ => Err(OutOfMemory),
-        }
-    }
-}
-
 impl Node {
-    /// Runs the instruction at the node's place, where it makes a copy. For want of memory nothing changes.
-    pub(crate) fn make_copy(&mut self) -> Result<(), OutOfMemory>
-        ensures ok { OnOk result (self.new ≡ begun_by fault_values self.old.nodes (instr_at text_meaning self.old.code self.old.control.at) self.old) }
-        ensures err { OnErr result (self.new ≡ self.old) }
+    /// The copy that the instruction at the node's place makes.
+    pub(crate) fn made(&self, p: Copying<'_>) -> Result<MadeCopy, OutOfMemory>
+        requires { instr_here self.now ≡ MakeCopy p.copy (λ layouts slots. copy_layout self.now.nodes (evaluation_extents (evaluation p.evaluation.now) slots)) (λ slots. pos 0) }
+        ensures { IfOk result (λ m. IsMade (instr_here self.now) self.now.nodes self.now.control.slots m) }
     {
-        let made = self.program().made(self.alloc, &self.control)?;
-        self.put_copy(made.copy, &made.extents)
+        let over = selections_at(self.alloc, &self.control.slots, &[], &p.evaluation.over)?;
+        Ok(MadeCopy {
+            copy: p.copy,
+            extents: extents(self.alloc, &over)?,
+        })
     }
 
-    /// Puts a copy of these extents, with 0 everywhere, into a row.
-    fn put_copy(&mut self, copy: usize, extents: &[u128]) -> Result<(), OutOfMemory>
+    /// Puts a copy of these extents, with 0 everywhere, into a row. For want of memory nothing changes.
+    pub(crate) fn put_copy(&mut self, copy: usize, extents: &[u128]) -> Result<(), OutOfMemory>
         requires in_code { self.old.control.at < 2 ^ 63 }
         ensures ok { OnOk result (let layout = copy_layout self.old.nodes extents.now in self.new ≡ record self.old {
           control = on self.old.control;

@@ -1,21 +1,39 @@
 //! The elements that instructions fetch and store.
 
-ghost use Rattle.std.specs.Prelude.{◌≡◌, ◌<◌, ◌^◌, [], IfOk};
-ghost use Rattle.machine_steps.specs.Machine.{instr_at};
+ghost use Rattle.std.specs.Prelude.{◌≡◌, [], IfOk};
 ghost use Rattle.node_code.specs.Flat.{flat_value};
 ghost use Rattle.node_code.specs.Instructions.{element_in};
 ghost use Rattle.node_code.specs.Parallel.{at_line};
-ghost use Rattle.node_code.specs.ProgramText.{text_meaning};
 ghost use Rattle.node_code.specs.Texts.{flat, flats_of};
-ghost use Rattle.node_machine.specs.Programs.{code_of};
-ghost use Rattle.node_machine.specs.Results.{spot_result, value_result, IsFetched, IsStored};
+ghost use Rattle.node_machine.specs.Results.{IsFetched, IsFetching, IsStored, IsStoring, spot_result, value_result};
+ghost use Rattle.node_machine.specs.Steps.{instr_here};
 
-use crate::program::NodeProgram;
+use crate::node::Node;
 use expression_rules::Dims;
 use hpf_base::OutOfMemory;
-use node_code::{Flat, Instruction};
-use slot_values::{Control, Fault, Spot, element_spot, flat_value};
+use node_code::Flat;
+use slot_values::{Fault, Spot, element_spot, flat_value};
 use term_values::Stop;
+
+/// A fetch, with the dimensions of the arrays.
+#[derive(Clone, Copy)]
+pub(crate) struct Fetching<'a> {
+    pub(crate) shapes: &'a Vec<Dims>,
+    pub(crate) line: u32,
+    pub(crate) array: usize,
+    pub(crate) subscripts: &'a Vec<Flat>,
+    pub(crate) slot: usize,
+}
+
+/// A store, with the dimensions of the arrays.
+#[derive(Clone, Copy)]
+pub(crate) struct Storing<'a> {
+    pub(crate) shapes: &'a Vec<Dims>,
+    pub(crate) line: u32,
+    pub(crate) array: usize,
+    pub(crate) subscripts: &'a Vec<Flat>,
+    pub(crate) value: &'a Flat,
+}
 
 /// An element that is fetched, or the fault of its subscripts, and the slot that gets its value.
 #[derive(Drop)]
@@ -31,49 +49,27 @@ pub(crate) struct StoredElement {
     pub(crate) value: Result<i64, Fault>,
 }
 
-impl NodeProgram {
-    /// What the instruction at the place fetches.
-    pub(crate) fn fetched(&self, control: &Control) -> Result<FetchedElement, OutOfMemory>
-        ensures is { IfOk result (λ f. IsFetched (instr_at text_meaning (code_of self.now) control.now.at) control.now.slots.items f) }
-        ensures few { IfOk result (λ f. control.now.at < 2 ^ 63) }
+impl Node {
+    /// What the fetch at the node's place fetches.
+    pub(crate) fn fetched(&self, f: Fetching<'_>) -> Result<FetchedElement, OutOfMemory>
+        requires { IsFetching (instr_here self.now) f }
+        ensures { IfOk result (λ e. IsFetched (instr_here self.now) self.now.control.slots e) }
     {
-        let Some(i) = self.instruction(control.at) else {
-            return Err(OutOfMemory);
-        };
-        match i {
-            Instruction::Fetch {
-                line,
-                array,
-                subscripts,
-                slot,
-            } => Ok(FetchedElement {
-                element: element(&self.shapes, *line, *array, subscripts, &control.slots)?,
-                slot: *slot,
-            }),
-            _ => Err(OutOfMemory),
-        }
+        Ok(FetchedElement {
+            element: element(f.shapes, f.line, f.array, f.subscripts, &self.control.slots)?,
+            slot: f.slot,
+        })
     }
 
-    /// What the instruction at the place stores.
-    pub(crate) fn stored(&self, control: &Control) -> Result<StoredElement, OutOfMemory>
-        ensures is { IfOk result (λ s. IsStored (instr_at text_meaning (code_of self.now) control.now.at) control.now.slots.items s) }
-        ensures few { IfOk result (λ s. control.now.at < 2 ^ 63) }
+    /// What the store at the node's place stores.
+    pub(crate) fn stored(&self, s: Storing<'_>) -> Result<StoredElement, OutOfMemory>
+        requires { IsStoring (instr_here self.now) s }
+        ensures { IfOk result (λ e. IsStored (instr_here self.now) self.now.control.slots e) }
     {
-        let Some(i) = self.instruction(control.at) else {
-            return Err(OutOfMemory);
-        };
-        match i {
-            Instruction::Store {
-                line,
-                array,
-                subscripts,
-                value,
-            } => Ok(StoredElement {
-                element: element(&self.shapes, *line, *array, subscripts, &control.slots)?,
-                value: value_of(*line, value, &control.slots)?,
-            }),
-            _ => Err(OutOfMemory),
-        }
+        Ok(StoredElement {
+            element: element(s.shapes, s.line, s.array, s.subscripts, &self.control.slots)?,
+            value: value_of(s.line, s.value, &self.control.slots)?,
+        })
     }
 }
 

@@ -3,11 +3,9 @@
 ghost use Rattle.std.specs.Prelude.{◌≡◌, ◌<◌, ◌^◌, ◌==◌, ◌&&◌, ◌∷◌, ◌++◌, [], All, IfOk, OnOk, OnErr, filter, length, map, not, pos, slice_index_or, if◌then◌else◌};
 ghost use Rattle.std.specs.List.{range_with_len};
 ghost use Rattle.machine_steps.specs.Layout.{least_owner_of, owns_spot, sizes};
-ghost use Rattle.machine_steps.specs.Machine.{instr_at, set_slot};
+ghost use Rattle.machine_steps.specs.Machine.{set_slot};
 ghost use Rattle.machine_steps.specs.Message.{fetch_part, message};
-ghost use Rattle.machine_steps.specs.Node.{begun_by, done_by, fetch_begun, fetch_done, gathered, held_or_received, local_read, no_values, parcel, part_opened};
-ghost use Rattle.node_code.specs.FaultValues.{fault_values};
-ghost use Rattle.node_code.specs.ProgramText.{text_meaning};
+ghost use Rattle.machine_steps.specs.Node.{fetch_begun, fetch_done, gathered, held_or_received, local_read, no_values, parcel, part_opened};
 ghost use Rattle.storage.specs.Spots.{spot_of};
 ghost use Rattle.node_machine.specs.Fetches.{fetch_sends};
 ghost use Rattle.node_machine.specs.Results.{spot_result};
@@ -22,18 +20,8 @@ use std::alloc::Global;
 use std::collections::VecDeque;
 
 impl Node {
-    /// Opens the phase of a fetch, where the instruction at the node's place is one, or ends the run with the fault of its subscripts. For
-    /// want of memory nothing changes.
-    pub(crate) fn fetch(&mut self) -> Result<(), OutOfMemory>
-        ensures ok { OnOk result (self.new ≡ begun_by fault_values self.old.nodes (instr_at text_meaning self.old.code self.old.control.at) self.old) }
-        ensures err { OnErr result (self.new ≡ self.old) }
-    {
-        let fetched = self.program().fetched(&self.control)?;
-        self.begin_fetch(fetched.element)
-    }
-
-    /// The same by the element, or the fault.
-    fn begin_fetch(&mut self, element: Result<Spot, Fault>) -> Result<(), OutOfMemory>
+    /// Opens the phase of a fetch of an element, or ends the run with the fault of its subscripts. For want of memory nothing changes.
+    pub(crate) fn begin_fetch(&mut self, element: Result<Spot, Fault>) -> Result<(), OutOfMemory>
         ensures ok { OnOk result (self.new ≡ fetch_begun self.old.nodes (spot_result element) self.old) }
         ensures err { OnErr result (self.new ≡ self.old) }
     {
@@ -51,6 +39,7 @@ impl Node {
         ensures ok { OnOk result (self.new ≡ part_opened self.old.nodes (fetch_part (spot_of spot)) self.old) }
         ensures err { OnErr result (self.new ≡ self.old) }
     {
+        // node code of a program that is in order names no other element
         if !self.owners.is_in_bounds(spot) {
             return Err(OutOfMemory);
         }
@@ -88,23 +77,20 @@ impl Node {
         no_values(self.alloc, self.owners.nodes())
     }
 
-    /// Behind the phase of a fetch the slot gets the value of the element. For want of memory nothing changes.
-    pub(crate) fn finish_fetch(&mut self) -> Result<(), OutOfMemory>
-        ensures ok { OnOk result (self.new ≡ done_by fault_values self.old.nodes (instr_at text_meaning self.old.code self.old.control.at) self.old) }
-        ensures err { OnErr result (self.new ≡ self.old) }
-    {
-        let fetched = self.program().fetched(&self.control)?;
-        self.end_fetch(fetched.element, fetched.slot)
-    }
-
-    /// The same by the element, or the fault, with which the node isn't here.
-    fn end_fetch(&mut self, element: Result<Spot, Fault>, slot: usize) -> Result<(), OutOfMemory>
+    /// After the phase of a fetch the slot gets the value of the element; with a fault the node is never there. For want of memory nothing
+    /// changes.
+    pub(crate) fn end_fetch(
+        &mut self,
+        element: Result<Spot, Fault>,
+        slot: usize,
+    ) -> Result<(), OutOfMemory>
         requires in_code { self.old.control.at < 2 ^ 63 }
         ensures ok { OnOk result (self.new ≡ fetch_done self.old.nodes (spot_result element) slot self.old) }
         ensures err { OnErr result (self.new ≡ self.old) }
     {
         match element {
             Ok(spot) => {
+                // node code of a program that is in order names no other element
                 if !self.owners.is_in_bounds(spot) {
                     return Err(OutOfMemory);
                 }

@@ -3,24 +3,19 @@
 ghost use Rattle.std.specs.Prelude.{◌≡◌, ◌<◌, ◌^◌, ◌∷◌, [], IfOk, OnOk, OnErr, slice_index_or};
 ghost use Rattle.machine_steps.specs.Instr.{FoldCopy};
 ghost use Rattle.machine_steps.specs.Layout.{sizes};
-ghost use Rattle.machine_steps.specs.Machine.{instr_at, slot_of};
-ghost use Rattle.machine_steps.specs.Node.{begun_by, done_by, fold_ended, join_behind, join_options, option_values, own_fold, tree_next, values_option};
-ghost use Rattle.node_code.specs.FaultValues.{fault_values};
+ghost use Rattle.machine_steps.specs.Machine.{slot_of};
+ghost use Rattle.machine_steps.specs.Node.{fold_ended, join_behind, join_options, option_values, own_fold, tree_next, values_option};
 ghost use Rattle.node_code.specs.Parallel.{fold_of};
 ghost use Rattle.op_tables.specs.Joins.{join};
-ghost use Rattle.node_code.specs.ProgramText.{text_meaning};
 ghost use Rattle.storage.specs.Spots.{spot_of};
 ghost use Rattle.node_machine.specs.Folds.{own_element, own_elements};
-ghost use Rattle.node_machine.specs.Programs.{code_of};
+ghost use Rattle.node_machine.specs.Steps.{begun, done, instr_here};
 
 use crate::node::Node;
 use crate::pieces::value_at;
-use crate::program::NodeProgram;
 use hpf_base::OutOfMemory;
-use node_code::Instruction;
 use op_tables::Join;
 use owner_tables::{Owners, Row, Spot, local_value};
-use slot_values::Control;
 use tree_steps::{Joining, option_numbers, options_joined, reduced};
 
 /// A copy that is folded: how its elements are joined, and the slot that they are joined with.
@@ -31,52 +26,25 @@ pub(crate) struct Folding {
     pub(crate) slot: usize,
 }
 
-impl NodeProgram {
-    /// The copy that the instruction at the place folds.
-    fn folding(&self, control: &Control) -> Result<Folding, OutOfMemory>
-        ensures is { IfOk result (λ f. instr_at text_meaning (code_of self.now) control.now.at ≡ FoldCopy f.copy (fold_of f.op) f.slot) }
-        ensures few { IfOk result (λ f. control.now.at < 2 ^ 63) }
-    {
-        let Some(i) = self.instruction(control.at) else {
-            return Err(OutOfMemory);
-        };
-        match i {
-            Instruction::FoldCopy { copy, join, slot } => Ok(Folding {
-                copy: *copy,
-                op: *join,
-                slot: *slot,
-            }),
-            _ => Err(OutOfMemory),
-        }
-    }
-}
-
 impl Node {
-    /// The copy that the instruction at the node's place folds.
-    fn folding(&self) -> Result<Folding, OutOfMemory>
-        ensures is { IfOk result (λ f. instr_at text_meaning self.now.code self.now.control.at ≡ FoldCopy f.copy (fold_of f.op) f.slot) }
-        ensures few { IfOk result (λ f. self.now.control.at < 2 ^ 63) }
-    {
-        let folding = self.program().folding(&self.control)?;
-        Ok(folding)
-    }
-
     /// The fold of the copy at the node's place begins. For want of memory nothing changes.
-    pub(crate) fn begin_fold(&mut self) -> Result<(), OutOfMemory>
-        ensures ok { OnOk result (self.new ≡ begun_by fault_values self.old.nodes (instr_at text_meaning self.old.code self.old.control.at) self.old) }
+    pub(crate) fn begin_fold(&mut self, folding: Folding) -> Result<(), OutOfMemory>
+        requires is { instr_here self.old ≡ FoldCopy folding.copy (fold_of folding.op) folding.slot }
+        requires in_code { self.old.control.at < 2 ^ 63 }
+        ensures ok { OnOk result (self.new ≡ begun self.old) }
         ensures err { OnErr result (self.new ≡ self.old) }
     {
-        let folding = self.folding()?;
         let numbers = self.own_fold(folding)?;
         self.fold_round(0, numbers, folding)
     }
 
-    /// The fold of the copy at the node's place goes on behind a round. For want of memory nothing changes.
-    pub(crate) fn finish_fold(&mut self) -> Result<(), OutOfMemory>
-        ensures ok { OnOk result (self.new ≡ done_by fault_values self.old.nodes (instr_at text_meaning self.old.code self.old.control.at) self.old) }
+    /// The fold of the copy at the node's place goes on after a round. For want of memory nothing changes.
+    pub(crate) fn finish_fold(&mut self, folding: Folding) -> Result<(), OutOfMemory>
+        requires is { instr_here self.old ≡ FoldCopy folding.copy (fold_of folding.op) folding.slot }
+        requires in_code { self.old.control.at < 2 ^ 63 }
+        ensures ok { OnOk result (self.new ≡ done self.old) }
         ensures err { OnErr result (self.new ≡ self.old) }
     {
-        let folding = self.folding()?;
         let numbers = self.absorbed(Joining::Options(folding.op))?;
         let round = self.next_round()?;
         self.fold_round(round, numbers, folding)

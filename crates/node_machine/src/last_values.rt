@@ -4,21 +4,16 @@ ghost use Rattle.std.specs.Prelude.{◌≡◌, ◌<◌, ◌^◌, None, Some, IfO
 ghost use Rattle.std.specs.List.{slice_get};
 ghost use Rattle.machine_steps.specs.Instr.{LastCopy};
 ghost use Rattle.machine_steps.specs.Layout.{sizes};
-ghost use Rattle.machine_steps.specs.Machine.{instr_at, last_control, lie_alike};
-ghost use Rattle.machine_steps.specs.Node.{begun_by, done_by, last_ended, own_last, positioned_values, tree_next};
-ghost use Rattle.node_code.specs.FaultValues.{fault_values};
-ghost use Rattle.node_code.specs.ProgramText.{text_meaning};
+ghost use Rattle.machine_steps.specs.Machine.{last_control, lie_alike};
+ghost use Rattle.machine_steps.specs.Node.{last_ended, own_last, positioned_values, tree_next};
 ghost use Rattle.machine_steps.specs.SameLayouts.{is_same_layout};
 ghost use Rattle.tree_steps.specs.Positions.{positions};
 ghost use Rattle.node_machine.specs.Folds.{element_at, is_set_at, last_set, latest};
-ghost use Rattle.node_machine.specs.Programs.{code_of};
+ghost use Rattle.node_machine.specs.Steps.{begun, done, instr_here};
 
 use crate::node::Node;
-use crate::program::NodeProgram;
 use hpf_base::OutOfMemory;
-use node_code::Instruction;
 use owner_tables::{Owners, Row, Spot, local_value};
-use slot_values::Control;
 use tree_steps::{Joining, Positioned, last_value, positioned_numbers};
 
 /// Two copies, of which the first has values and the second tells where they are set, and the slot that gets the last value.
@@ -29,52 +24,25 @@ pub(crate) struct LastValue {
     pub(crate) slot: usize,
 }
 
-impl NodeProgram {
-    /// The copy of which the instruction at the place takes the last value.
-    fn last(&self, control: &Control) -> Result<LastValue, OutOfMemory>
-        ensures is { IfOk result (λ l. instr_at text_meaning (code_of self.now) control.now.at ≡ LastCopy l.copy l.set is_same_layout l.slot) }
-        ensures few { IfOk result (λ l. control.now.at < 2 ^ 63) }
-    {
-        let Some(i) = self.instruction(control.at) else {
-            return Err(OutOfMemory);
-        };
-        match i {
-            Instruction::LastCopy { copy, set, slot } => Ok(LastValue {
-                copy: *copy,
-                set: *set,
-                slot: *slot,
-            }),
-            _ => Err(OutOfMemory),
-        }
-    }
-}
-
 impl Node {
-    /// The copy of which the instruction at the node's place takes the last value.
-    fn last(&self) -> Result<LastValue, OutOfMemory>
-        ensures is { IfOk result (λ l. instr_at text_meaning self.now.code self.now.control.at ≡ LastCopy l.copy l.set is_same_layout l.slot) }
-        ensures few { IfOk result (λ l. self.now.control.at < 2 ^ 63) }
-    {
-        let last = self.program().last(&self.control)?;
-        Ok(last)
-    }
-
     /// The search for the last value at the node's place begins. For want of memory nothing changes.
-    pub(crate) fn begin_last(&mut self) -> Result<(), OutOfMemory>
-        ensures ok { OnOk result (self.new ≡ begun_by fault_values self.old.nodes (instr_at text_meaning self.old.code self.old.control.at) self.old) }
+    pub(crate) fn begin_last(&mut self, last: LastValue) -> Result<(), OutOfMemory>
+        requires is { instr_here self.old ≡ LastCopy last.copy last.set is_same_layout last.slot }
+        requires in_code { self.old.control.at < 2 ^ 63 }
+        ensures ok { OnOk result (self.new ≡ begun self.old) }
         ensures err { OnErr result (self.new ≡ self.old) }
     {
-        let last = self.last()?;
         let numbers = self.own_last(last)?;
         self.last_round(0, numbers, last.slot)
     }
 
-    /// The search for the last value at the node's place goes on behind a round. For want of memory nothing changes.
-    pub(crate) fn finish_last(&mut self) -> Result<(), OutOfMemory>
-        ensures ok { OnOk result (self.new ≡ done_by fault_values self.old.nodes (instr_at text_meaning self.old.code self.old.control.at) self.old) }
+    /// The search for the last value at the node's place goes on after a round. For want of memory nothing changes.
+    pub(crate) fn finish_last(&mut self, last: LastValue) -> Result<(), OutOfMemory>
+        requires is { instr_here self.old ≡ LastCopy last.copy last.set is_same_layout last.slot }
+        requires in_code { self.old.control.at < 2 ^ 63 }
+        ensures ok { OnOk result (self.new ≡ done self.old) }
         ensures err { OnErr result (self.new ≡ self.old) }
     {
-        let last = self.last()?;
         let numbers = self.absorbed(Joining::Later)?;
         let round = self.next_round()?;
         self.last_round(round, numbers, last.slot)

@@ -1,82 +1,56 @@
 //! Instructions that print a line.
 
-ghost use Rattle.std.specs.Prelude.{◌≡◌, ◌<◌, ◌+◌, ◌^◌, ◌++◌, ◌∷◌, [], List, suc, drop, IfOk, OnOk, OnErr};
+ghost use Rattle.std.specs.Prelude.{◌≡◌, ◌<◌, ◌+◌, ◌^◌, ◌++◌, ◌∷◌, [], suc, drop, map, IfOk, OnOk, OnErr};
 ghost use Rattle.std.specs.Fmt.{signed_decimal};
-ghost use Rattle.machine_steps.specs.Machine.{instr_at, on};
-ghost use Rattle.machine_steps.specs.Node.{at_root, begun_by};
-ghost use Rattle.node_code.specs.FaultValues.{fault_values};
-ghost use Rattle.node_code.specs.ProgramText.{text_meaning};
-ghost use Rattle.node_code.specs.Instructions.{item_of};
+ghost use Rattle.machine_steps.specs.Machine.{on};
+ghost use Rattle.machine_steps.specs.Node.{at_root};
+ghost use Rattle.node_code.specs.Instructions.{Print, item_of};
 ghost use Rattle.node_code.specs.Texts.{print_item};
-ghost use Rattle.expression_rules.specs.declared.dims.Dim.{Dim};
-ghost use Rattle.node_machine.specs.Prints.{IsItemStep, IsPrintStep, printed};
-ghost use Rattle.node_machine.specs.Programs.{code_of};
+ghost use Rattle.node_machine.specs.Prints.{printed, text_of};
+ghost use Rattle.node_machine.specs.Steps.{IsItemStep, TextDoes};
 
 use crate::node::Node;
 use crate::program::NodeProgram;
+use crate::sections::PrintedSection;
+use crate::step::Step;
 use hpf_base::OutOfMemory;
 use itoa::Buffer;
-use node_code::{Instruction, PrintItem};
-use slot_values::{Control, flat_or_zero};
+use node_code::{Flat, PrintItem};
+use slot_values::flat_or_zero;
 use std::alloc::Global;
 
-/// A step of a PRINT: the bytes of an item, the elements of a section, or the end of the line.
-#[derive(Drop)]
-pub(crate) enum PrintStep {
-    Bytes(Vec<u8>),
-    Section,
-    Line,
+/// A text of a PRINT: bytes, or a number over the slots.
+#[derive(Clone, Copy)]
+pub(crate) enum PrintedText<'a> {
+    Bytes(&'a Vec<u8>),
+    Number(&'a Flat),
 }
 
 impl NodeProgram {
-    /// The next step of the PRINT at the place.
-    fn print_step(
-        &self,
-        alloc: Global,
-        control: &Control,
-        substep: usize,
-    ) -> Result<PrintStep, OutOfMemory>
-        ensures is { IfOk result (λ s. IsPrintStep (instr_at text_meaning (code_of self.now) control.now.at) control.now.slots.items substep s) }
-        ensures few { IfOk result (λ s. control.now.at < 2 ^ 63) }
+    /// What a PRINT of these items has done behind so many steps.
+    pub(crate) fn print_step<'a>(&'a self, items: &'a Vec<PrintItem>, substep: usize) -> Step<'a>
+        ensures { TextDoes (printed self.now.shapes.items items.now.items) (Print (map print_item items.now.items)) self.now.nodes substep result }
     {
-        let Some(i) = self.instruction(control.at) else {
-            return Err(OutOfMemory);
-        };
-        match i {
-            Instruction::Print(items) => step_of(alloc, items, &control.slots, substep),
-            _ => Err(OutOfMemory),
+        if substep < items.len() {
+            self.item_step(&items[substep])
+        } else {
+            Step::PrintLine
         }
     }
-}
 
-/// The next step of a PRINT of these items.
-fn step_of(
-    alloc: Global,
-    items: &Vec<PrintItem>,
-    slots: &[i64],
-    substep: usize,
-) -> Result<PrintStep, OutOfMemory>
-    ensures { (shapes : List (List Dim)) → IfOk result (λ s. IsPrintStep (printed shapes items.now.items) slots.now substep s) }
-{
-    if substep < items.len() {
-        let step = item_step(alloc, &items[substep], slots)?;
-        Ok(step)
-    } else {
-        Ok(PrintStep::Line)
-    }
-}
-
-/// The step of an item: its bytes, behind a blank, or its elements.
-fn item_step(alloc: Global, item: &PrintItem, slots: &[i64]) -> Result<PrintStep, OutOfMemory>
-    ensures { (shapes : List (List Dim)) → IfOk result (λ s. IsItemStep (item_of shapes (print_item item.now)) slots.now s) }
-{
-    match item {
-        PrintItem::Bytes(bytes) => Ok(PrintStep::Bytes(behind_blank(alloc, bytes)?)),
-        PrintItem::Number(f) => {
-            let number = flat_or_zero(slots, &[], f)?;
-            Ok(PrintStep::Bytes(number_bytes(alloc, number)?))
+    /// What an item has done.
+    fn item_step<'a>(&'a self, item: &'a PrintItem) -> Step<'a>
+        ensures { IsItemStep (item_of self.now.shapes.items (print_item item.now)) result }
+    {
+        match item {
+            PrintItem::Bytes(bytes) => Step::PrintText(PrintedText::Bytes(bytes)),
+            PrintItem::Number(f) => Step::PrintText(PrintedText::Number(f)),
+            PrintItem::Section(array, section) => Step::PrintSection(PrintedSection {
+                shapes: &self.shapes,
+                array: *array,
+                section,
+            }),
         }
-        PrintItem::Section(_, _) => Ok(PrintStep::Section),
     }
 }
 
@@ -99,26 +73,25 @@ pub(crate) fn number_bytes(alloc: Global, number: i64) -> Result<Vec<u8>, OutOfM
 }
 
 impl Node {
-    /// The next step of the PRINT at the node's place. For want of memory nothing changes.
-    pub(crate) fn print(&mut self) -> Result<(), OutOfMemory>
-        ensures ok { OnOk result (self.new ≡ begun_by fault_values self.old.nodes (instr_at text_meaning self.old.code self.old.control.at) self.old) }
-        ensures err { OnErr result (self.new ≡ self.old) }
+    /// The bytes of a text, behind a blank.
+    pub(crate) fn text(&self, t: PrintedText<'_>) -> Result<Vec<u8>, OutOfMemory>
+        ensures { IfOk result (λ b. b.items ≡ text_of t.entry self.now.control.slots) }
     {
-        let step = self
-            .program()
-            .print_step(self.alloc, &self.control, self.substep)?;
-        match step {
-            PrintStep::Bytes(bytes) => self.print_bytes(&bytes),
-            PrintStep::Section => self.begin_section(),
-            PrintStep::Line => self.print_line(),
+        match t {
+            PrintedText::Bytes(bytes) => behind_blank(self.alloc, bytes),
+            PrintedText::Number(f) => {
+                let number = flat_or_zero(&self.control.slots, &[], f)?;
+                number_bytes(self.alloc, number)
+            }
         }
     }
 
-    /// Adds the bytes of an item to the line: node 0 has it.
+    /// Adds the bytes of an item to the line: node 0 has it. For want of memory nothing changes.
     pub(crate) fn print_bytes(&mut self, bytes: &[u8]) -> Result<(), OutOfMemory>
         ensures ok { OnOk result (self.new ≡ record self.old { substep = suc self.old.substep; line = at_root self.old.id (self.old.line ++ bytes.now) }) }
         ensures err { OnErr result (self.new ≡ self.old) }
     {
+        // a number past its type
         if self.substep == usize::MAX {
             return Err(OutOfMemory);
         }
@@ -131,8 +104,8 @@ impl Node {
         Ok(())
     }
 
-    /// Ends the line: its bytes without the first blank, and a line feed.
-    fn print_line(&mut self) -> Result<(), OutOfMemory>
+    /// Ends the line: its bytes without the first blank, and a line feed. For want of memory nothing changes.
+    pub(crate) fn print_line(&mut self) -> Result<(), OutOfMemory>
         requires in_code { self.old.control.at < 2 ^ 63 }
         ensures ok { OnOk result (self.new ≡ record self.old { control = on self.old.control; substep = 0; line = []; printed = at_root self.old.id (self.old.printed ++ (drop 1 self.old.line ++ 10 ∷ [])) }) }
         ensures err { OnErr result (self.new ≡ self.old) }

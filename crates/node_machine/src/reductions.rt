@@ -1,142 +1,71 @@
 //! The first step of reductions: the values that the node computes, joined.
 
-ghost use Rattle.std.specs.Prelude.{◌≡◌, ◌<◌, All, IfOk, OnOk, OnErr};
-ghost use Rattle.machine_steps.specs.Machine.{earlier, instr_at};
-ghost use Rattle.machine_steps.specs.Node.{begun_by, done_by, ready};
-ghost use Rattle.node_code.specs.FaultValues.{fault_values};
-ghost use Rattle.node_code.specs.ProgramText.{text_meaning};
+ghost use Rattle.std.specs.Prelude.{◌≡◌, IfOk, OnOk, OnErr};
+ghost use Rattle.machine_steps.specs.Instr.{Reduce};
+ghost use Rattle.machine_steps.specs.Machine.{earlier};
+ghost use Rattle.machine_steps.specs.Node.{ready};
+ghost use Rattle.node_code.specs.Parallel.{fold_of, reduction_tuples};
+ghost use Rattle.node_code.specs.Texts.{evaluation as evaluation_of};
 ghost use Rattle.slot_values.specs.KeptFaults.{kepts};
 ghost use Rattle.tuple_values.specs.Views.{statement as statement_of};
-ghost use Rattle.node_machine.specs.Programs.{code_of};
-ghost use Rattle.exchange_plans.specs.Exchanged.{HasLists};
-ghost use Rattle.node_machine.specs.Exchanges.{IsExchangeHere};
-ghost use Rattle.node_machine.specs.Reductions.{IsReduced, IsReduceOpening, IsReduceResult};
+ghost use Rattle.node_machine.specs.Parts.{IsPhase};
+ghost use Rattle.node_machine.specs.Reductions.{IsReduced, IsReduceResult, IsReducing};
+ghost use Rattle.node_machine.specs.Steps.{done, instr_here};
 
 use crate::node::Node;
-use crate::parts::Opening;
-use crate::program::NodeProgram;
-use comm_sets::Exchange;
+use crate::phases::PartPhase;
+use expression_rules::Dims;
 use hpf_base::OutOfMemory;
-use node_code::Instruction;
-use op_tables::Join;
+use node_code::{Evaluation, Instruction};
+use op_tables::Reduction;
 use part_steps::{Part, ReduceValues, Who, reduce_values};
-use slot_values::Control;
-use std::alloc::Global;
 use tuple_values::ParallelStatement;
 
-/// The statement of a reduction, and how its values are joined.
-#[derive(Drop)]
-struct Reduced<'a> {
-    statement: ParallelStatement<'a>,
-    op: Join,
-}
-
-impl NodeProgram {
-    /// The statement of the reduction at the place.
-    fn reduced<'a>(
-        &'a self,
-        alloc: Global,
-        control: &'a Control,
-    ) -> Result<Reduced<'a>, OutOfMemory>
-        ensures { IfOk result (λ r. IsReduced (instr_at text_meaning (code_of self.now) control.now.at) control.now.slots.items r.op (statement_of r.statement)) }
-    {
-        let Some(i) = self.instruction(control.at) else {
-            return Err(OutOfMemory);
-        };
-        match i {
-            Instruction::Reduce {
-                evaluation,
-                reduction,
-                ..
-            } => {
-                let statement = ParallelStatement::of_reduction(
-                    alloc,
-                    &self.shapes,
-                    &control.slots,
-                    evaluation,
-                    reduction.made,
-                )?;
-                Ok(Reduced {
-                    statement,
-                    op: reduction.join,
-                })
-            }
-            _ => Err(OutOfMemory),
-        }
-    }
+/// A reduction, with its instruction and the dimensions of the arrays.
+#[derive(Clone, Copy)]
+pub(crate) struct Reducing<'a> {
+    pub(crate) i: &'a Instruction,
+    pub(crate) shapes: &'a Vec<Dims>,
+    pub(crate) evaluation: &'a Evaluation,
+    pub(crate) reduction: Reduction,
+    pub(crate) slot: usize,
 }
 
 impl Node {
-    /// The statement of the reduction at the node's place.
-    fn reduced(&self) -> Result<Reduced<'_>, OutOfMemory>
-        ensures { IfOk result (λ r. IsReduced (instr_at text_meaning self.now.code self.now.control.at) self.now.control.slots r.op (statement_of r.statement)) }
+    /// The statement of the reduction at the node's place, by the slots.
+    fn reduced<'a>(&'a self, r: Reducing<'a>) -> Result<ParallelStatement<'a>, OutOfMemory>
+        requires { instr_here self.now ≡ Reduce (reduction_tuples r.shapes.now.items (evaluation_of r.evaluation.now) r.reduction.made) (fold_of r.reduction.join) r.slot }
+        ensures { IfOk result (λ w. IsReduced (instr_here self.now) self.now.control.slots r.entry.reduction.join (statement_of w)) }
     {
-        let reduced = self.program.reduced(self.alloc, &self.control)?;
-        Ok(reduced)
+        let statement = ParallelStatement::of_reduction(
+            self.alloc,
+            r.shapes,
+            &self.control.slots,
+            r.evaluation,
+            r.reduction.made,
+        )?;
+        Ok(statement)
     }
 
-    /// What the node exchanges for the reduction at its place, from one pass over the tuples.
-    fn reduce_exchange(&self) -> Result<Exchange, OutOfMemory>
-        ensures is { IfOk result (IsExchangeHere self.now) }
-        ensures lists { IfOk result (HasLists self.now.nodes) }
+    /// The phase of the reduction at the node's place.
+    pub(crate) fn reduce_phase(&self, r: Reducing<'_>) -> Result<PartPhase, OutOfMemory>
+        requires { IsReducing (instr_here self.now) self.now.substep r }
+        ensures { IfOk result (IsPhase self.now) }
     {
-        let reduced = self.reduced()?;
-        let exchange = self.exchange_by(&reduced.statement, Who::First)?;
-        Ok(exchange)
+        let statement = self.reduced(r)?;
+        let phase = self.part_phase(r.i, &statement, Who::First)?;
+        Ok(phase)
     }
 
-    /// Makes and keeps that, unless it is kept.
-    fn plan_reduce(&mut self) -> Result<(), OutOfMemory>
-        ensures { self.new ≡ self.old }
+    /// What the reduction at the node's place comes to after its phase.
+    pub(crate) fn reduce_result(&self, r: Reducing<'_>) -> Result<ReduceValues, OutOfMemory>
+        requires { IsReducing (instr_here self.now) self.now.substep r }
+        ensures { IfOk result (IsReduceResult (instr_here self.now) self.now) }
     {
-        if self.keeps_exchange() {
-            return Ok(());
-        }
-        let exchange = self.reduce_exchange()?;
-        self.keep_exchange(exchange)
-    }
-
-    /// What opens the phase of the reduction at the node's place, whose exchange is kept.
-    fn reduce_opening(&self) -> Result<Opening, OutOfMemory>
-        ensures is { IfOk result (IsReduceOpening (instr_at text_meaning self.now.code self.now.control.at) self.now) }
-        ensures targets { IfOk result (λ o. All (λ parcel. parcel.to < self.now.nodes) o.outbox.items) }
-        ensures sources { IfOk result (λ o. All (λ source. source < self.now.nodes) o.inbox.items) }
-    {
-        let reduced = self.reduced()?;
-        let exchange = self.kept_exchange()?;
-        let opening = self.opening_of(&reduced.statement, Who::First, exchange)?;
-        Ok(opening)
-    }
-
-    /// Opens the phase of the reduction at the node's place. For want of memory nothing changes.
-    pub(crate) fn begin_first(&mut self) -> Result<(), OutOfMemory>
-        requires first { self.old.substep ≡ 0 }
-        ensures ok { OnOk result (self.new ≡ begun_by fault_values self.old.nodes (instr_at text_meaning self.old.code self.old.control.at) self.old) }
-        ensures err { OnErr result (self.new ≡ self.old) }
-    {
-        self.plan_reduce()?;
-        self.open_first()
-    }
-
-    /// The same where its exchange is kept.
-    fn open_first(&mut self) -> Result<(), OutOfMemory>
-        requires first { self.old.substep ≡ 0 }
-        ensures ok { OnOk result (self.new ≡ begun_by fault_values self.old.nodes (instr_at text_meaning self.old.code self.old.control.at) self.old) }
-        ensures err { OnErr result (self.new ≡ self.old) }
-    {
-        let opening = self.reduce_opening()?;
-        let received = self.room()?;
-        self.open(opening.outbox, opening.inbox, received);
-        Ok(())
-    }
-
-    /// What the reduction at the node's place, whose exchange is kept, comes to behind its phase.
-    fn reduce_result(&self) -> Result<ReduceValues, OutOfMemory>
-        ensures { IfOk result (IsReduceResult (instr_at text_meaning self.now.code self.now.control.at) self.now) }
-    {
-        let reduced = self.reduced()?;
-        let exchange = self.kept_exchange()?;
-        let part = Part::new(&reduced.statement, &self.owners, Who::First);
+        let statement = self.reduced(r)?;
+        let found = self.exchange_here(r.i, &statement, Who::First)?;
+        let exchange = &*found.exchange;
+        let part = Part::new(&statement, &self.owners, Who::First);
         let received = self.post.all_received();
         let values = reduce_values(
             &part,
@@ -144,30 +73,19 @@ impl Node {
             &self.pieces,
             received,
             exchange,
-            reduced.op,
+            r.reduction.join,
             self.parts,
         )?;
         Ok(values)
     }
 
-    /// Behind the phase of the reduction at the node's place: keeps the values, joined, and the first fault. For want of memory nothing
+    /// After the phase of the reduction at the node's place: keeps the values, joined, and the first fault. For want of memory nothing
     /// changes.
-    pub(crate) fn finish_first(&mut self) -> Result<(), OutOfMemory>
-        requires first { self.old.substep ≡ 0 }
-        ensures ok { OnOk result (self.new ≡ done_by fault_values self.old.nodes (instr_at text_meaning self.old.code self.old.control.at) self.old) }
+    pub(crate) fn finish_reduce_values(&mut self, values: ReduceValues) -> Result<(), OutOfMemory>
+        requires { IsReduceResult (instr_here self.old) self.old values }
+        ensures ok { OnOk result (self.new ≡ done self.old) }
         ensures err { OnErr result (self.new ≡ self.old) }
     {
-        self.plan_reduce()?;
-        self.close_first()
-    }
-
-    /// The same where its exchange is kept.
-    fn close_first(&mut self) -> Result<(), OutOfMemory>
-        requires first { self.old.substep ≡ 0 }
-        ensures ok { OnOk result (self.new ≡ done_by fault_values self.old.nodes (instr_at text_meaning self.old.code self.old.control.at) self.old) }
-        ensures err { OnErr result (self.new ≡ self.old) }
-    {
-        let values = self.reduce_result()?;
         let parts = self.next_part()?;
         self.put_reduced(values, parts);
         Ok(())

@@ -2,25 +2,29 @@
 
 ghost use Rattle.std.specs.Prelude.{◌≡◌, ◌<◌, ◌^◌, ◌∷◌, [], IfOk, OnOk, OnErr, length, map};
 ghost use Rattle.machine_steps.specs.Instr.{Remap};
-ghost use Rattle.machine_steps.specs.Machine.{instr_at, on, remapped};
-ghost use Rattle.machine_steps.specs.Node.{begun_by, done_by, no_values, ready};
+ghost use Rattle.machine_steps.specs.Machine.{on, remapped};
+ghost use Rattle.machine_steps.specs.Node.{no_values, ready};
 ghost use Rattle.machine_steps.specs.Rounds.{rounds_on};
-ghost use Rattle.node_code.specs.FaultValues.{fault_values};
-ghost use Rattle.node_code.specs.ProgramText.{text_meaning};
 ghost use Rattle.node_code.specs.Instructions.{remappings};
 ghost use Rattle.node_code.specs.Texts.{new_mapping};
 ghost use Rattle.remap_steps.specs.Redistributions.{moved_pieces};
-ghost use Rattle.node_machine.specs.Programs.{code_of, mappings_of};
-ghost use Rattle.node_machine.specs.Remaps.{IsRemap, round_opened};
+ghost use Rattle.node_machine.specs.Programs.{mappings_of};
+ghost use Rattle.node_machine.specs.Remaps.{IsAfter, IsRemap, remappings_of, round_opened};
+ghost use Rattle.node_machine.specs.Steps.{begun, done, instr_here};
 
 use crate::node::Node;
-use crate::program::NodeProgram;
 use hpf_base::OutOfMemory;
 use letters::Body;
-use node_code::{Instruction, NewMapping};
+use node_code::NewMapping;
 use owner_tables::{OwnerTable, Owners, Row};
 use remap_steps::Redistribution;
-use slot_values::Control;
+
+/// New mappings of arrays, with the tables of a program's mappings by their numbers.
+#[derive(Clone, Copy)]
+pub(crate) struct NewMappings<'a> {
+    pub(crate) tables: &'a Vec<OwnerTable>,
+    pub(crate) new: &'a Vec<NewMapping>,
+}
 
 /// How rows lie, and a node's pieces of them.
 #[derive(Drop)]
@@ -29,25 +33,8 @@ struct NewRows {
     pieces: Vec<Row>,
 }
 
-impl NodeProgram {
-    /// The new mappings at the place.
-    fn new_mappings(&self, control: &Control) -> Result<&Vec<NewMapping>, OutOfMemory>
-        ensures is { IfOk result (λ new. let mappings = remappings (mappings_of self.now.tables.items) (map new_mapping new.now.items) in
-            instr_at text_meaning (code_of self.now) control.now.at ≡ Remap mappings (rounds_on self.now.nodes mappings)) }
-        ensures few { IfOk result (λ new. control.now.at < 2 ^ 63) }
-    {
-        let Some(i) = self.instruction(control.at) else {
-            return Err(OutOfMemory);
-        };
-        match i {
-            Instruction::Remap { new, .. } => Ok(new),
-            _ => Err(OutOfMemory),
-        }
-    }
-}
-
-/// How rows lie after new mappings, by the tables of a program. A mapping of another shape or on another number of nodes is answered as
-/// want of memory.
+/// How rows lie after new mappings, by the tables of a program. A mapping of another shape or on another number of nodes, which node code
+/// of a program that is in order doesn't have, is answered as want of memory.
 fn owners_after(
     owners: &Owners,
     tables: &[OwnerTable],
@@ -73,22 +60,29 @@ fn set_mapping(
     ensures layouts { OnOk result (owners.new.layouts ≡ remapped (remappings (mappings_of tables.now) (new_mapping new.now ∷ [])) owners.old.layouts) }
     ensures nodes { OnOk result (owners.new.nodes ≡ owners.old.nodes) }
 {
-    if new.map < tables.len() {
-        owners.set_mapping(new.array, &tables[new.map])?;
+    if new.map >= tables.len() {
+        return Ok(());
     }
+    owners.set_mapping(new.array, &tables[new.map])?;
     Ok(())
 }
 
 impl Node {
+    /// How rows lie after the new mappings at the node's place.
+    pub(crate) fn owners_after(&self, new: NewMappings<'_>) -> Result<Owners, OutOfMemory>
+        requires { instr_here self.now ≡ Remap (remappings_of new) (rounds_on self.now.nodes (remappings_of new)) }
+        ensures { IfOk result (IsAfter (instr_here self.now) self.now) }
+    {
+        let after = owners_after(&self.owners, new.tables, new.new)?;
+        Ok(after)
+    }
+
     /// The redistribution at the node's place: that of the round before, if it is held.
-    fn redistribution(&mut self) -> Result<Redistribution, OutOfMemory>
-        ensures is { IfOk result (IsRemap (instr_at text_meaning self.new.code self.new.control.at) self.new) }
-        ensures few { IfOk result (λ r. self.new.control.at < 2 ^ 63) }
+    fn redistribution(&mut self, after: Owners) -> Result<Redistribution, OutOfMemory>
+        requires { IsAfter (instr_here self.old) self.old after }
+        ensures is { IfOk result (IsRemap (instr_here self.new) self.new) }
         ensures same { self.new ≡ self.old }
     {
-        let program = self.program();
-        let new = program.new_mappings(&self.control)?;
-        let after = owners_after(&self.owners, &program.tables, new)?;
         let held = self.held();
         let moving = Redistribution::held_or_new(self.alloc, held, &self.owners, &after, self.id)?;
         Ok(moving)
@@ -109,52 +103,56 @@ impl Node {
     }
 
     /// The redistribution at the node's place begins. For want of memory nothing changes.
-    pub(crate) fn begin_remap(&mut self) -> Result<(), OutOfMemory>
-        ensures ok { OnOk result (self.new ≡ begun_by fault_values self.old.nodes (instr_at text_meaning self.old.code self.old.control.at) self.old) }
+    pub(crate) fn begin_remap(&mut self, after: Owners) -> Result<(), OutOfMemory>
+        requires after { IsAfter (instr_here self.old) self.old after }
+        requires in_code { self.old.control.at < 2 ^ 63 }
+        ensures ok { OnOk result (self.new ≡ begun self.old) }
         ensures err { OnErr result (self.new ≡ self.old) }
     {
-        let moving = self.redistribution()?;
+        let moving = self.redistribution(after)?;
         self.begin_moving(moving)
     }
 
     /// The same by the redistribution.
     fn begin_moving(&mut self, moving: Redistribution) -> Result<(), OutOfMemory>
-        requires is { IsRemap (instr_at text_meaning self.old.code self.old.control.at) self.old moving }
+        requires is { IsRemap (instr_here self.old) self.old moving }
         requires in_code { self.old.control.at < 2 ^ 63 }
-        ensures ok { OnOk result (self.new ≡ begun_by fault_values self.old.nodes (instr_at text_meaning self.old.code self.old.control.at) self.old) }
+        ensures ok { OnOk result (self.new ≡ begun self.old) }
         ensures err { OnErr result (self.new ≡ self.old) }
     {
         let received = self.room()?;
         if moving.rounds() > 0 {
             self.first_round(moving, received)
         } else {
-            let rows = self.rows_behind(&moving, &received)?;
+            let rows = self.rows_after(&moving, &received)?;
             self.put_rows(rows);
             Ok(())
         }
     }
 
-    /// The redistribution at the node's place goes on behind a round. For want of memory nothing changes.
-    pub(crate) fn finish_remap(&mut self) -> Result<(), OutOfMemory>
-        ensures ok { OnOk result (self.new ≡ done_by fault_values self.old.nodes (instr_at text_meaning self.old.code self.old.control.at) self.old) }
+    /// The redistribution at the node's place goes on after a round. For want of memory nothing changes.
+    pub(crate) fn finish_remap(&mut self, after: Owners) -> Result<(), OutOfMemory>
+        requires after { IsAfter (instr_here self.old) self.old after }
+        requires in_code { self.old.control.at < 2 ^ 63 }
+        ensures ok { OnOk result (self.new ≡ done self.old) }
         ensures err { OnErr result (self.new ≡ self.old) }
     {
-        let moving = self.redistribution()?;
+        let moving = self.redistribution(after)?;
         self.finish_moving(moving)
     }
 
     /// The same by the redistribution.
     fn finish_moving(&mut self, moving: Redistribution) -> Result<(), OutOfMemory>
-        requires is { IsRemap (instr_at text_meaning self.old.code self.old.control.at) self.old moving }
+        requires is { IsRemap (instr_here self.old) self.old moving }
         requires in_code { self.old.control.at < 2 ^ 63 }
-        ensures ok { OnOk result (self.new ≡ done_by fault_values self.old.nodes (instr_at text_meaning self.old.code self.old.control.at) self.old) }
+        ensures ok { OnOk result (self.new ≡ done self.old) }
         ensures err { OnErr result (self.new ≡ self.old) }
     {
         let round = self.next_round()?;
         if (round as usize) < moving.rounds() {
             self.later_round(moving, round)
         } else {
-            let rows = self.rows_behind(&moving, self.post.all_received())?;
+            let rows = self.rows_after(&moving, self.post.all_received())?;
             self.put_rows(rows);
             Ok(())
         }
@@ -188,6 +186,7 @@ impl Node {
     {
         let outbox = moving.outbox(self.alloc, round as usize, &self.pieces)?;
         let inbox = moving.inbox(self.alloc, round as usize)?;
+        // the first round made room for all nodes
         if self.post.all_received().len() != self.owners.nodes() as usize {
             return Err(OutOfMemory);
         }
@@ -204,13 +203,9 @@ impl Node {
         self.round = round;
     }
 
-    /// The rows behind the last round, by what was received.
-    fn rows_behind(
-        &self,
-        moving: &Redistribution,
-        received: &[Body],
-    ) -> Result<NewRows, OutOfMemory>
-        requires { IsRemap (instr_at text_meaning self.now.code self.now.control.at) self.now moving.now }
+    /// The rows after the last round, by what was received.
+    fn rows_after(&self, moving: &Redistribution, received: &[Body]) -> Result<NewRows, OutOfMemory>
+        requires { IsRemap (instr_here self.now) self.now moving.now }
         ensures layouts { IfOk result (λ rows. rows.owners.layouts ≡ moving.now.new) }
         ensures nodes { IfOk result (λ rows. rows.owners.nodes ≡ self.now.nodes) }
         ensures pieces { IfOk result (λ rows. rows.pieces.items ≡ moved_pieces moving.now self.now.pieces received.now) }

@@ -1,96 +1,112 @@
 //! The local steps of a node.
 
 ghost use Rattle.std.specs.Prelude.{◌≡◌, OnOk, OnErr};
-ghost use Rattle.machine_steps.specs.Machine.{instr_at};
-ghost use Rattle.machine_steps.specs.Node.{begun_by, done_by};
-ghost use Rattle.node_code.specs.FaultValues.{fault_values};
-ghost use Rattle.node_code.specs.ProgramText.{text_meaning};
+ghost use Rattle.node_machine.specs.Steps.{IsInCode, IsStepAt, begun, done};
 
 use crate::node::Node;
+use crate::step::Step;
 use hpf_base::OutOfMemory;
-use node_code::Instruction;
 
 impl Node {
+    /// What is to be done next, by the instruction at the node's place.
+    fn step(&self) -> Step<'_>
+        ensures is { IsStepAt self.now.code self.now.control.at self.now.nodes self.now.substep result }
+        ensures few { IsInCode self.now.control.at result }
+    {
+        self.program.step(self.control.at, self.substep)
+    }
+
     /// The local step before an instruction or a step of it. For want of memory nothing changes.
     pub(crate) fn begin(&mut self) -> Result<(), OutOfMemory>
-        ensures ok { OnOk result (self.new ≡ begun_by fault_values self.old.nodes (instr_at text_meaning self.old.code self.old.control.at) self.old) }
+        ensures ok { OnOk result (self.new ≡ begun self.old) }
         ensures err { OnErr result (self.new ≡ self.old) }
     {
-        match self.kind() {
-            Kind::End => self.finish_run(),
-            Kind::Local => self.run_local(),
-            Kind::Store => self.store(),
-            Kind::Par => self.begin_par(),
-            Kind::Verdict => self.begin_verdict(),
-            Kind::Reduce => self.begin_reduce(),
-            Kind::MakeCopy => self.make_copy(),
-            Kind::Print => self.print(),
-            Kind::Fetch => self.fetch(),
-            Kind::FoldCopy => self.begin_fold(),
-            Kind::LastCopy => self.begin_last(),
-            Kind::Remap => self.begin_remap(),
+        match self.step() {
+            Step::End => {
+                self.finish_run();
+                Ok(())
+            }
+            Step::Local => self.run_local(),
+            Step::Fetch(f) => {
+                let fetched = self.fetched(f)?;
+                self.begin_fetch(fetched.element)
+            }
+            Step::Store(s) => {
+                let stored = self.stored(s)?;
+                self.store(stored.element, stored.value)
+            }
+            Step::Par(p) => {
+                let phase = self.par_phase(p)?;
+                self.open_part(phase);
+                Ok(())
+            }
+            Step::Verdict => self.begin_verdict(),
+            Step::ReduceValues(r) => {
+                let phase = self.reduce_phase(r)?;
+                self.open_part(phase);
+                Ok(())
+            }
+            Step::ReduceVerdict => self.begin_reduce_verdict(),
+            Step::ReduceTree(r) => self.begin_reduce_tree(r),
+            Step::MakeCopy(p) => {
+                let made = self.made(p)?;
+                self.put_copy(made.copy, &made.extents)
+            }
+            Step::PrintText(t) => {
+                let bytes = self.text(t)?;
+                self.print_bytes(&bytes)
+            }
+            Step::PrintSection(s) => {
+                let opening = self.section_opening(s)?;
+                self.begin_section(opening)
+            }
+            Step::PrintLine => self.print_line(),
+            Step::FoldCopy(f) => self.begin_fold(f),
+            Step::LastCopy(l) => self.begin_last(l),
+            Step::Remap(new) => {
+                let after = self.owners_after(new)?;
+                self.begin_remap(after)
+            }
         }
     }
 
-    /// The local step behind a phase. For want of memory nothing changes.
+    /// The local step after a phase. For want of memory nothing changes. A step without phases is never there, and changes nothing.
     pub(crate) fn finish_phase(&mut self) -> Result<(), OutOfMemory>
-        ensures ok { OnOk result (self.new ≡ done_by fault_values self.old.nodes (instr_at text_meaning self.old.code self.old.control.at) self.old) }
+        ensures ok { OnOk result (self.new ≡ done self.old) }
         ensures err { OnErr result (self.new ≡ self.old) }
     {
-        match self.kind() {
-            Kind::Fetch => self.finish_fetch(),
-            Kind::Par => self.finish_par(),
-            Kind::Verdict => self.finish_verdict(),
-            Kind::Reduce => self.finish_reduce(),
-            Kind::Print => self.finish_section(),
-            Kind::FoldCopy => self.finish_fold(),
-            Kind::LastCopy => self.finish_last(),
-            Kind::Remap => self.finish_remap(),
-            _ => Err(OutOfMemory),
+        match self.step() {
+            Step::End => Ok(()),
+            Step::Local => Ok(()),
+            Step::Fetch(f) => {
+                let fetched = self.fetched(f)?;
+                self.end_fetch(fetched.element, fetched.slot)
+            }
+            Step::Store(_) => Ok(()),
+            Step::Par(p) => {
+                let values = self.par_result(p)?;
+                self.finish_par(values)
+            }
+            Step::Verdict => self.finish_verdict(),
+            Step::ReduceValues(r) => {
+                let values = self.reduce_result(r)?;
+                self.finish_reduce_values(values)
+            }
+            Step::ReduceVerdict => self.finish_reduce_verdict(),
+            Step::ReduceTree(r) => self.finish_reduce_tree(r),
+            Step::MakeCopy(_) => Ok(()),
+            Step::PrintText(_) => Ok(()),
+            Step::PrintSection(s) => {
+                let bytes = self.section_bytes(s)?;
+                self.finish_section(&bytes)
+            }
+            Step::PrintLine => Ok(()),
+            Step::FoldCopy(f) => self.finish_fold(f),
+            Step::LastCopy(l) => self.finish_last(l),
+            Step::Remap(new) => {
+                let after = self.owners_after(new)?;
+                self.finish_remap(after)
+            }
         }
-    }
-
-    /// Which of the steps is to be made at the node's place.
-    fn kind(&self) -> Kind {
-        match self.program.code.get(self.control.at) {
-            None => Kind::End,
-            Some(i) => kind_of(i),
-        }
-    }
-}
-
-/// The kinds of instructions that have steps of their own.
-#[derive(Clone, Copy, Debug, PartialEq, Eq)]
-enum Kind {
-    End,
-    Local,
-    Fetch,
-    Store,
-    Par,
-    Verdict,
-    Reduce,
-    MakeCopy,
-    Print,
-    FoldCopy,
-    LastCopy,
-    Remap,
-}
-
-fn kind_of(i: &Instruction) -> Kind {
-    match i {
-        Instruction::Fetch { .. } => Kind::Fetch,
-        Instruction::Store { .. } => Kind::Store,
-        Instruction::Par(_) => Kind::Par,
-        Instruction::ParForall(_) => Kind::Par,
-        Instruction::ParCopy { .. } => Kind::Par,
-        Instruction::ParForallCopy { .. } => Kind::Par,
-        Instruction::MakeCopy { .. } => Kind::MakeCopy,
-        Instruction::Verdict => Kind::Verdict,
-        Instruction::Reduce { .. } => Kind::Reduce,
-        Instruction::Print(_) => Kind::Print,
-        Instruction::FoldCopy { .. } => Kind::FoldCopy,
-        Instruction::LastCopy { .. } => Kind::LastCopy,
-        Instruction::Remap { .. } => Kind::Remap,
-        _ => Kind::Local,
     }
 }

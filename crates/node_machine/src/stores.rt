@@ -1,28 +1,16 @@
 //! Instructions that store an element.
 
 ghost use Rattle.std.specs.Prelude.{◌≡◌, ◌<◌, ◌^◌, OnOk, OnErr};
-ghost use Rattle.machine_steps.specs.Machine.{faulted, instr_at, on, store_control, store_in};
-ghost use Rattle.machine_steps.specs.Node.{begun_by, local_write};
-ghost use Rattle.node_code.specs.FaultValues.{fault_values};
-ghost use Rattle.node_code.specs.ProgramText.{text_meaning};
+ghost use Rattle.machine_steps.specs.Machine.{faulted, on, store_control, store_in};
+ghost use Rattle.machine_steps.specs.Node.{local_write};
 ghost use Rattle.term_values.specs.Faults.{fault};
-ghost use Rattle.node_machine.specs.Programs.{code_of};
 ghost use Rattle.node_machine.specs.Results.{spot_result, value_result};
 
 use crate::node::Node;
-use crate::program::NodeProgram;
 use hpf_base::OutOfMemory;
 use slot_values::{Fault, Spot, Status};
 
 impl Node {
-    /// The program.
-    pub(crate) fn program(&self) -> &NodeProgram
-        ensures code { code_of result.now ≡ self.now.code }
-        ensures nodes { result.now.nodes ≡ self.now.nodes }
-    {
-        &*self.program
-    }
-
     /// Ends the run with a fault. It takes no memory.
     pub(crate) fn fail(&mut self, last: Fault)
         ensures { self.new ≡ record self.old { control = faulted self.old.control (fault last); substep = 0 } }
@@ -40,17 +28,8 @@ impl Node {
         self.substep = 0;
     }
 
-    /// Runs the instruction at the node's place, where it stores an element. For want of memory nothing changes.
-    pub(crate) fn store(&mut self) -> Result<(), OutOfMemory>
-        ensures ok { OnOk result (self.new ≡ begun_by fault_values self.old.nodes (instr_at text_meaning self.old.code self.old.control.at) self.old) }
-        ensures err { OnErr result (self.new ≡ self.old) }
-    {
-        let stored = self.program().stored(&self.control)?;
-        self.store_element(stored.element, stored.value)
-    }
-
     /// Stores a value in an element, or ends the run with the fault of the element or of the value. For want of memory nothing changes.
-    fn store_element(
+    pub(crate) fn store(
         &mut self,
         element: Result<Spot, Fault>,
         value: Result<i64, Fault>,
@@ -66,6 +45,7 @@ impl Node {
         match element {
             Ok(spot) => match value {
                 Ok(value) => {
+                    // node code of a program that is in order names no other element
                     if !self.owners.is_in_bounds(spot) {
                         return Err(OutOfMemory);
                     }

@@ -3,24 +3,21 @@
 ghost use Rattle.std.specs.Prelude.{◌≡◌, ◌<◌, ◌≤◌, ◌+◌, ◌*◌, ◌^◌, All, IfOk, OnOk, OnErr, filter, map, nat_lt, not};
 ghost use Rattle.std.specs.List.{range_with_len};
 ghost use Rattle.machine_steps.specs.Instr.{Verdict};
-ghost use Rattle.machine_steps.specs.Machine.{instr_at, verdict_control};
-ghost use Rattle.machine_steps.specs.Node.{begun_by, done_by, kept_values, opened, option_values, parcel, reduce_ended, tree_next, verdict_done};
+ghost use Rattle.machine_steps.specs.Machine.{verdict_control};
+ghost use Rattle.machine_steps.specs.Node.{kept_values, opened, option_values, parcel, reduce_ended, tree_next, verdict_done};
 ghost use Rattle.machine_steps.specs.Tree.{levels_of, tree_sends};
 ghost use Rattle.node_code.specs.FaultValues.{fault_values};
 ghost use Rattle.node_code.specs.Parallel.{fold_of};
-ghost use Rattle.node_code.specs.ProgramText.{text_meaning};
 ghost use Rattle.slot_values.specs.KeptFaults.{kepts};
 ghost use Rattle.tree_steps.specs.Absorbed.{absorbed_values, joined_values};
-ghost use Rattle.node_machine.specs.Programs.{code_of};
-ghost use Rattle.node_machine.specs.Trees.{IsReduction, next_of, step_of};
+ghost use Rattle.node_machine.specs.Steps.{begun, done, instr_here};
+ghost use Rattle.node_machine.specs.Trees.{IsReduceTree, IsReduceVerdict, next_of, step_of};
 
 use crate::node::Node;
-use crate::program::NodeProgram;
 use hpf_base::OutOfMemory;
 use letters::Parcel;
-use node_code::Instruction;
 use op_tables::Join;
-use slot_values::{Control, Kept, Status};
+use slot_values::{Kept, Status};
 use std::collections::VecDeque;
 use tree_steps::{
     Joining, absorbed, inbox, kept_numbers, kept_of_numbers, levels_of, option_numbers, outbox,
@@ -32,43 +29,6 @@ use tree_steps::{
 pub(crate) struct Reduction {
     pub(crate) op: Join,
     pub(crate) slot: usize,
-}
-
-impl NodeProgram {
-    /// Whether the instruction at the place is a verdict; want of memory, where it isn't.
-    fn verdict(&self, control: &Control) -> Result<(), OutOfMemory>
-        ensures is { IfOk result (λ u. instr_at text_meaning (code_of self.now) control.now.at ≡ Verdict) }
-        ensures few { IfOk result (λ u. control.now.at < 2 ^ 63) }
-    {
-        let Some(i) = self.instruction(control.at) else {
-            return Err(OutOfMemory);
-        };
-        match i {
-            Instruction::Verdict => Ok(()),
-            _ => Err(OutOfMemory),
-        }
-    }
-
-    /// The reduction at the place.
-    pub(crate) fn reduction(&self, control: &Control) -> Result<Reduction, OutOfMemory>
-        ensures is { IfOk result (λ r. IsReduction (instr_at text_meaning (code_of self.now) control.now.at) r) }
-        ensures few { IfOk result (λ r. control.now.at < 2 ^ 63) }
-    {
-        let Some(i) = self.instruction(control.at) else {
-            return Err(OutOfMemory);
-        };
-        match i {
-            Instruction::Reduce {
-                reduction,
-                slot,
-                ..
-            } => Ok(Reduction {
-                op: reduction.join,
-                slot: *slot,
-            }),
-            _ => Err(OutOfMemory),
-        }
-    }
 }
 
 impl Node {
@@ -107,15 +67,6 @@ impl Node {
         option_numbers(self.alloc, self.joined)
     }
 
-    /// The reduction at the node's place.
-    fn reduction(&self) -> Result<Reduction, OutOfMemory>
-        ensures is { IfOk result (λ r. IsReduction (instr_at text_meaning self.now.code self.now.control.at) r) }
-        ensures few { IfOk result (λ r. self.now.control.at < 2 ^ 63) }
-    {
-        let reduction = self.program().reduction(&self.control)?;
-        Ok(reduction)
-    }
-
     /// What the node sends in a round of a tree.
     fn round_outbox(&self, round: u32, folded: &[i64]) -> Result<VecDeque<Parcel>, OutOfMemory>
         ensures items { IfOk result (λ o. o.items ≡ map (parcel (λ q. folded.now)) (filter (tree_sends (levels_of self.now.nodes) round self.now.id) (range_with_len 0 self.now.nodes))) }
@@ -139,7 +90,7 @@ impl Node {
         round >= 2 * levels_of(self.owners.nodes())
     }
 
-    /// What the node has behind a round.
+    /// What the node has after a round.
     pub(crate) fn absorbed(&self, joining: Joining) -> Result<Vec<i64>, OutOfMemory>
         ensures { IfOk result (λ v. v.items ≡ absorbed_values (joined_values joining) (levels_of self.now.nodes) self.now.round self.now.id self.now.folded self.now.received) }
     {
@@ -160,26 +111,29 @@ impl Node {
     {
         match self.round.checked_add(1) {
             Some(round) => Ok(round),
+            // a number past its type
             None => Err(OutOfMemory),
         }
     }
 
     /// The verdict at the node's place begins. For want of memory nothing changes.
     pub(crate) fn begin_verdict(&mut self) -> Result<(), OutOfMemory>
-        ensures ok { OnOk result (self.new ≡ begun_by fault_values self.old.nodes (instr_at text_meaning self.old.code self.old.control.at) self.old) }
+        requires is { instr_here self.old ≡ Verdict }
+        requires in_code { self.old.control.at < 2 ^ 63 }
+        ensures ok { OnOk result (self.new ≡ begun self.old) }
         ensures err { OnErr result (self.new ≡ self.old) }
     {
-        self.program().verdict(&self.control)?;
         let numbers = self.own_kept()?;
         self.verdict_round(0, numbers, false)
     }
 
-    /// The verdict at the node's place goes on behind a round. For want of memory nothing changes.
+    /// The verdict at the node's place goes on after a round. For want of memory nothing changes.
     pub(crate) fn finish_verdict(&mut self) -> Result<(), OutOfMemory>
-        ensures ok { OnOk result (self.new ≡ done_by fault_values self.old.nodes (instr_at text_meaning self.old.code self.old.control.at) self.old) }
+        requires is { instr_here self.old ≡ Verdict }
+        requires in_code { self.old.control.at < 2 ^ 63 }
+        ensures ok { OnOk result (self.new ≡ done self.old) }
         ensures err { OnErr result (self.new ≡ self.old) }
     {
-        self.program().verdict(&self.control)?;
         let numbers = self.absorbed(Joining::Kept)?;
         let round = self.next_round()?;
         self.verdict_round(round, numbers, false)
@@ -234,81 +188,45 @@ impl Node {
         }
     }
 
-    /// A step of the reduction at the node's place begins. For want of memory nothing changes.
-    pub(crate) fn begin_reduce(&mut self) -> Result<(), OutOfMemory>
-        ensures ok { OnOk result (self.new ≡ begun_by fault_values self.old.nodes (instr_at text_meaning self.old.code self.old.control.at) self.old) }
-        ensures err { OnErr result (self.new ≡ self.old) }
-    {
-        let reduction = self.reduction()?;
-        if self.substep == 0 {
-            self.begin_first()
-        } else if self.substep == 1 {
-            self.begin_second(reduction)
-        } else {
-            self.begin_third(reduction)
-        }
-    }
-
-    /// The verdict of a reduction begins.
-    fn begin_second(&mut self, reduction: Reduction) -> Result<(), OutOfMemory>
-        requires is { IsReduction (instr_at text_meaning self.old.code self.old.control.at) reduction }
-        requires second { self.old.substep ≡ 1 }
+    /// The verdict of the reduction at the node's place begins. For want of memory nothing changes.
+    pub(crate) fn begin_reduce_verdict(&mut self) -> Result<(), OutOfMemory>
+        requires is { IsReduceVerdict (instr_here self.old) self.old.substep }
         requires in_code { self.old.control.at < 2 ^ 63 }
-        ensures ok { OnOk result (self.new ≡ begun_by fault_values self.old.nodes (instr_at text_meaning self.old.code self.old.control.at) self.old) }
+        ensures ok { OnOk result (self.new ≡ begun self.old) }
         ensures err { OnErr result (self.new ≡ self.old) }
     {
-        let _reduction = reduction;
         let numbers = self.own_kept()?;
         self.verdict_round(0, numbers, true)
     }
 
-    /// The tree of the values of a reduction begins.
-    fn begin_third(&mut self, reduction: Reduction) -> Result<(), OutOfMemory>
-        requires is { IsReduction (instr_at text_meaning self.old.code self.old.control.at) reduction }
-        requires third { 2 ≤ self.old.substep }
+    /// The tree of the values of the reduction at the node's place begins. For want of memory nothing changes.
+    pub(crate) fn begin_reduce_tree(&mut self, reduction: Reduction) -> Result<(), OutOfMemory>
+        requires is { IsReduceTree (instr_here self.old) self.old.substep reduction }
         requires in_code { self.old.control.at < 2 ^ 63 }
-        ensures ok { OnOk result (self.new ≡ begun_by fault_values self.old.nodes (instr_at text_meaning self.old.code self.old.control.at) self.old) }
+        ensures ok { OnOk result (self.new ≡ begun self.old) }
         ensures err { OnErr result (self.new ≡ self.old) }
     {
         let numbers = self.own_joined()?;
         self.reduce_round(0, numbers, reduction)
     }
 
-    /// A step of the reduction at the node's place goes on behind a phase. For want of memory nothing changes.
-    pub(crate) fn finish_reduce(&mut self) -> Result<(), OutOfMemory>
-        ensures ok { OnOk result (self.new ≡ done_by fault_values self.old.nodes (instr_at text_meaning self.old.code self.old.control.at) self.old) }
-        ensures err { OnErr result (self.new ≡ self.old) }
-    {
-        let reduction = self.reduction()?;
-        if self.substep == 0 {
-            self.finish_first()
-        } else if self.substep == 1 {
-            self.finish_second(reduction)
-        } else {
-            self.finish_third(reduction)
-        }
-    }
-
-    /// The verdict of a reduction goes on behind a round.
-    fn finish_second(&mut self, reduction: Reduction) -> Result<(), OutOfMemory>
-        requires is { IsReduction (instr_at text_meaning self.old.code self.old.control.at) reduction }
-        requires second { self.old.substep ≡ 1 }
+    /// The verdict of the reduction at the node's place goes on after a round. For want of memory nothing changes.
+    pub(crate) fn finish_reduce_verdict(&mut self) -> Result<(), OutOfMemory>
+        requires is { IsReduceVerdict (instr_here self.old) self.old.substep }
         requires in_code { self.old.control.at < 2 ^ 63 }
-        ensures ok { OnOk result (self.new ≡ done_by fault_values self.old.nodes (instr_at text_meaning self.old.code self.old.control.at) self.old) }
+        ensures ok { OnOk result (self.new ≡ done self.old) }
         ensures err { OnErr result (self.new ≡ self.old) }
     {
-        let _reduction = reduction;
         let numbers = self.absorbed(Joining::Kept)?;
         let round = self.next_round()?;
         self.verdict_round(round, numbers, true)
     }
 
-    /// The tree of the values of a reduction goes on behind a round.
-    fn finish_third(&mut self, reduction: Reduction) -> Result<(), OutOfMemory>
-        requires is { IsReduction (instr_at text_meaning self.old.code self.old.control.at) reduction }
-        requires third { 2 ≤ self.old.substep }
+    /// The tree of the values of the reduction at the node's place goes on after a round. For want of memory nothing changes.
+    pub(crate) fn finish_reduce_tree(&mut self, reduction: Reduction) -> Result<(), OutOfMemory>
+        requires is { IsReduceTree (instr_here self.old) self.old.substep reduction }
         requires in_code { self.old.control.at < 2 ^ 63 }
-        ensures ok { OnOk result (self.new ≡ done_by fault_values self.old.nodes (instr_at text_meaning self.old.code self.old.control.at) self.old) }
+        ensures ok { OnOk result (self.new ≡ done self.old) }
         ensures err { OnErr result (self.new ≡ self.old) }
     {
         let numbers = self.absorbed(Joining::Options(reduction.op))?;

@@ -5,5 +5,5 @@ use Rattle.node_machine.proofs.node.Node.begin_last.Goals as goal
 pub returns-clause-ok : goal.returns-clause-ok
 returns-clause-ok c =
     let a = c.args.self.now in
-    let l = c.in_ok-last.last in
-    subst (λ x. OnOk c.last_round.result (c.last_round.new.self ≡ x)) (last-begun a.nodes a _ l.copy l.set l.slot c.in_ok-last.ensures.is _ c.in_ok-numbers.ensures) c.last_round.ensures.ok
+    let l = c.args.last in
+    subst (λ x. OnOk c.last_round.result (c.last_round.new.self ≡ x)) (last-begun a.nodes a _ l.copy l.set l.slot c.requires.is _ c.in_ok-numbers.ensures) c.last_round.ensures.ok

@@ -5,5 +5,5 @@ use Rattle.node_machine.proofs.node.Node.finish_fold.Goals as goal
 pub returns-clause-ok : goal.returns-clause-ok
 returns-clause-ok c =
     let a = c.args.self.now in
-    let f = c.in_ok-folding.folding in
-    subst (λ x. OnOk c.fold_round.result (c.fold_round.new.self ≡ x)) (fold-done a.nodes a _ f.copy f.op f.slot c.in_ok-folding.ensures.is _ _ c.in_ok-round.ensures c.in_ok-numbers.ensures) c.fold_round.ensures.ok
+    let f = c.args.folding in
+    subst (λ x. OnOk c.fold_round.result (c.fold_round.new.self ≡ x)) (fold-done a.nodes a _ f.copy f.op f.slot c.requires.is _ _ c.in_ok-round.ensures c.in_ok-numbers.ensures) c.fold_round.ensures.ok

@@ -1,14 +1,13 @@
-use Rattle.std.proofs.Common.{◌≡◌, subst}
-use Rattle.std.specs.Prelude.{OnOk, OnErr}
-use Rattle.machine_steps.specs.Machine.{instr_at}
-use Rattle.machine_steps.specs.Node.{done_by}
+use Rattle.std.proofs.Common.{sym, ◌∙◌, ap}
+use Rattle.machine_steps.specs.Machine.{on}
+use Rattle.machine_steps.specs.Node.{done_by, ready}
 use Rattle.node_code.specs.FaultValues.{fault_values}
-use Rattle.node_code.specs.ProgramText.{text_meaning}
 use Rattle.node_machine.proofs.node.Node.finish_par.Goals as goal
 
 pub returns-clause-ok : goal.returns-clause-ok
 returns-clause-ok c =
-    subst (λ a. OnOk c.close_par.result (c.close_par.new.self ≡ done_by fault_values a.nodes (instr_at text_meaning a.code a.control.at) a)) c.plan_par.ensures c.close_par.ensures.ok
-
-pub returns-clause-err : goal.returns-clause-err
-returns-clause-err c = subst (λ a. OnErr c.close_par.result (c.close_par.new.self ≡ a)) c.plan_par.ensures c.close_par.ensures.err
+    let a = c.args.self.now in
+    let r = c.requires.is in
+    c.put_values.ensures
+    ∙ (λ i. ready a.nodes (record a { control = on a.control; substep = 0; pieces = r.pieces i; kept = r.kept i; parts = c.in_ok-parts.ensures i }))
+    ∙ ap (λ x. done_by fault_values a.nodes x a) (sym r.is)

@@ -1,4 +1,5 @@
-use Rattle.std.proofs.Common.{◌≡◌, ◌∙◌, ap}
+use Rattle.std.proofs.Common.{◌≡◌, ◌∙◌, ap, subst, rules}
+use Rattle.std.specs.Arc.{arc_value}
 use Rattle.machine_steps.specs.Machine.{earlier}
 use Rattle.machine_steps.specs.Message.{reduce_part}
 use Rattle.tuple_values.specs.Statements.{no_left}
@@ -8,9 +9,7 @@ use Rattle.part_steps.specs.Parts.{PartView}
 use Rattle.part_steps.specs.Views.{part_view}
 use Rattle.part_steps.specs.declared.who.Who.TheVariants.{First}
 use Rattle.part_steps.proofs.Instructions.{joined-is, kept-is, reduce-is}
-use Rattle.machine_steps.specs.Machine.{instr_at}
-use Rattle.node_code.specs.ProgramText.{text_meaning}
-use Rattle.node_machine.specs.Exchanges.{part_on}
+use Rattle.node_machine.specs.Exchanges.{IsExchangeBy, part_on}
 use Rattle.node_machine.proofs.ExchangeLaws.{exchange-at, exchange-by, reduction-planned}
 use Rattle.node_machine.proofs.node.Node.reduce_result.Goals as goal
 
@@ -18,9 +17,9 @@ pub returns : goal.returns
 returns c =
     let a = c.args.self.now in
     let is = c.self.view_is in
-    let w = statement_of c.in_ok-reduced.reduced.statement in
-    let op = c.in_ok-reduced.reduced.op in
-    let p = c.in_ok-reduced.ensures in
+    let w = statement_of c.in_ok-statement.statement in
+    let op = c.args.r.reduction.join in
+    let p = c.in_ok-statement.ensures in
     let part = reduce_part a.nodes a.layouts p.tuples a.control.slots in
     let e = reduce-is a.nodes a.layouts w a.control.slots p.tuples no_left p.statement in
     let V : PartView = record { who = First; nodes = a.nodes; layouts = a.layouts; statement = w } in
@@ -34,17 +33,21 @@ returns c =
       op = op;
       slot = p.slot;
       is = p.is;
+      first = c.requires.first;
       value = c.in_ok-values.ensures.value ∙ (λ i. joined_below (here i) op (tuples_of (here i))) ∙ joined-is a.nodes a First w part e p.tuples no_left p.statement op;
       kept = ap (earlier a.kept) (c.in_ok-values.ensures.fault ∙ (λ i. fault_below (here i) (is i).parts (tuples_of (here i)))) ∙ kept-is a.nodes a First w part e p.tuples no_left p.statement a.parts;
     }
+
+pub exchange_here-requires-clause-part : goal.exchange_here-requires-clause-part
+exchange_here-requires-clause-part c = reduction-planned c.args.self.now _ (statement_of c.in_ok-statement.statement) c.args.r.reduction.join c.in_ok-statement.ensures
 
 pub reduce_values-requires-clause-exchange : goal.reduce_values-requires-clause-exchange
 reduce_values-requires-clause-exchange c =
     let a = c.args.self.now in
     let is = c.self.view_is in
-    let i = instr_at text_meaning a.code a.control.at in
-    let w = statement_of c.in_ok-reduced.reduced.statement in
+    let w = statement_of c.in_ok-statement.statement in
+    let e : arc_value c.in_ok-found.found.exchange ≡ c.deref-exchange.result.now = search rules in
     let same : part_view c.new-part.result ≡ part_on a First w = c.new-part.ensures
     ∙ (λ i. record { who = First; nodes = (c.self.invariant.owners ∙ (λ j. (is j).nodes)) i; layouts = (is i).layouts; statement = w }) in
-    exchange-at (part_view c.new-part.result) (part_on a First w) c.self.inside.id a.id c.in_ok-exchange.exchange.now same (λ i. (is i).id)
-    (exchange-by a i w First c.in_ok-exchange.exchange.now (reduction-planned a i w c.in_ok-reduced.reduced.op c.in_ok-reduced.ensures) c.in_ok-exchange.ensures)
+    exchange-at (part_view c.new-part.result) (part_on a First w) c.self.inside.id a.id c.deref-exchange.result.now same (λ i. (is i).id)
+    (subst (IsExchangeBy a First w) e (exchange-by a _ w First (arc_value c.in_ok-found.found.exchange) (reduction-planned a _ w c.args.r.reduction.join c.in_ok-statement.ensures) c.in_ok-found.ensures))

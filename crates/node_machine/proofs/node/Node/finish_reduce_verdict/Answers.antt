@@ -1,0 +1,10 @@
+use Rattle.std.proofs.Common.{◌≡◌, OnOk, subst}
+use Rattle.node_machine.proofs.TreeSteps.{second-done}
+use Rattle.node_machine.proofs.node.Node.finish_reduce_verdict.Goals as goal
+
+pub returns-clause-ok : goal.returns-clause-ok
+returns-clause-ok c =
+    let a = c.args.self.now in
+    let r = c.requires.is in
+    subst (λ x. OnOk c.verdict_round.result (c.verdict_round.new.self ≡ x))
+    (second-done a.nodes a _ r.tuples r.op r.slot r.is _ _ r.second c.in_ok-round.ensures c.in_ok-numbers.ensures) c.verdict_round.ensures.ok
