@@ -1,0 +1,42 @@
+//! Tries owners, mappings and local addresses on small arrays.
+//!
+//! Comes in: cases on standard input. Goes out: the same lines, and after each case its answer. What holds in between: a line that begins with
+//! one of these words is a case. Its parts stand between semicolons, and in each its numbers count, in their order; words among them are for
+//! the reader.
+//!
+//! A line is its format's name, `whole`, `block` or `cyclic`, the size of a block, its lower bound, its extent and its number of processors.
+//! These cases have a line and then positions or coordinates:
+//!
+//! - `owner`: the coordinate of the owner of each position.
+//! - `rank`: how many lesser positions have the owner of each position.
+//! - `count`: how many positions the processor at each coordinate owns.
+//!
+//! An array is the lower bound and the extent of each of its dimensions, one or two. A mapping is the extents of its grid, and an entry for
+//! each distributed dimension, at most two: a line without its processors, the dimension of the grid, from 0, and the alignment: a dimension
+//! of the array, from 0, a factor and an offset; or a subscript; or nothing, where the array is replicated.
+//!
+//! - `owners` has an array and a mapping: the owners of each element, in array-element order.
+//! - `piece` has a node in front of these: the elements that it owns, by their local addresses; and of each element of the array, in
+//!   array-element order, its local address.
+//! - `compose` has the alignment of a vector with a vector, and a mapping of the latter: the alignments of the composed mapping.
+#![tactic(auto)]
+
+mod answer;
+mod composed;
+mod entries;
+mod inside;
+mod lines;
+mod mapped;
+mod numbers;
+mod owned;
+mod parts;
+mod positions;
+mod show;
+
+use crate::answer::OwnerAnswers;
+use case_texts::print_answers;
+use std::io;
+
+fn main(rt: HostRuntime) -> io::Result<()> {
+    print_answers(&rt, &OwnerAnswers)
+}

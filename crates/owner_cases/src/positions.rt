@@ -1,0 +1,74 @@
+//! Owners of positions of a line (HPF 2.0, DISTRIBUTE).
+
+ghost use Rattle.std.specs.Prelude.{IfOk, IfSome};
+ghost use Rattle.mappings.specs.Mapping.{IsLine};
+
+use crate::lines::line_of;
+use crate::numbers::numbers;
+use crate::parts::first_part;
+use case_texts::TextError;
+use distribution::{owned_count, owner, rank};
+use mappings::Line;
+use std::alloc::Global;
+use std::fmt::Write;
+
+/// What is asked of each number.
+#[derive(Clone, Copy)]
+pub enum Asked {
+    Owner,
+    Rank,
+    Count,
+}
+
+/// Writes what is asked of each number after the line.
+pub fn write_positions(
+    alloc: Global,
+    out: &mut String,
+    asked: Asked,
+    written: &str,
+) -> Result<(), TextError> {
+    let (line, rest) = first_part(written);
+    let line = written_line(alloc, line)?.ok_or(TextError::Malformed)?;
+    out.push_str(" ")?;
+    for number in &numbers(alloc, rest)? {
+        match asked_of(asked, &line, *number) {
+            Some(value) => write!(out, " {value}")?,
+            None => out.push_str(" -")?,
+        }
+    }
+    out.push_str("\n")?;
+    Ok(())
+}
+
+/// The line that is written so.
+fn written_line(alloc: Global, text: &str) -> Result<Option<Line>, TextError>
+    ensures { IfOk result (λ line. IfSome line IsLine) }
+{
+    let numbers = numbers(alloc, text)?;
+    match numbers.as_slice() {
+        [size, lower, extent, procs] => match u32::try_from(*procs) {
+            Ok(procs) => Ok(line_of(text, *size, *lower, *extent, procs)),
+            Err(_) => Ok(None),
+        },
+        _ => Ok(None),
+    }
+}
+
+/// What is asked of a position or of a coordinate; None where the line has no such.
+fn asked_of(asked: Asked, line: &Line, number: i64) -> Option<u64>
+    requires { IsLine line.now }
+{
+    let number = u64::try_from(number).ok()?;
+    match asked {
+        Asked::Count => {
+            let node = u32::try_from(number).ok()?;
+            if node >= line.procs {
+                return None;
+            }
+            Some(owned_count(line, node))
+        }
+        _ if number < 1 || number > line.extent => None,
+        Asked::Owner => Some(owner(line, number) as u64),
+        Asked::Rank => Some(rank(line, number)),
+    }
+}
