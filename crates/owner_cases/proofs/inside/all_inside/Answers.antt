@@ -1,4 +1,4 @@
-use Rattle.std.proofs.Common.{sym, subst, arith, length, get_or}
+use Rattle.std.proofs.Common.{sym, subst, arith, get_or}
 use Rattle.std.proofs.lemmas.Option.{get_or_from_slice_get}
 use borrow.Author.Count.{below_more}
 use Rattle.hpf_base.specs.ElementOrder.{elements}
