@@ -33,7 +33,7 @@ pub struct AcceptedProgram<'a> {
     pub ghost names: { program.names ≡ entries (main_program program.tree) } by { names-prop _ _ },
     /// The mappings at the start are its own.
     pub ghost starts: { maps.arrays ≡ start_maps grid.now (main_program program.tree) } by { starts-prop _ _ },
-    /// The mappings behind each REDISTRIBUTE are its own.
+    /// The mappings after each REDISTRIBUTE are its own.
     pub ghost moves: { maps.moves ≡ program_moves grid.now (main_program program.tree) } by { moves-prop _ _ },
     /// Each mapping is onto as many nodes as the grid has, and gives every element of its array a place inside the template.
     pub ghost valid: { AreMaps (product grid.now) maps } by { valid-prop _ _ },

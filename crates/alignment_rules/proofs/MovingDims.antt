@@ -235,7 +235,7 @@ placed_next ss cs v vs p = record {
   names_apart = p.names_apart.1;
 }
 
--- the first entry beside those behind it
+-- the first entry beside those after it
 first_apart : (ss : List Source) (ds : List (Option Dim)) (cs : List ℕ) (v : TargetValue) (vs : List TargetValue) (b along : Option Dim)
     (bs : List (Option Dim)) (e : AlignDim) (es : List AlignDim) → IsPlaced ss cs (v ∷ vs) → entry_of (pair v b (dimension_of ss cs v) along) ≡ Some e →
     all_or_none entry_of (pairs_from ss ds (rest_of cs v) vs bs) ≡ Some es → Each (ApartFrom e) es

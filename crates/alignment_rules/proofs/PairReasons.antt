@@ -52,21 +52,21 @@ tests_regrouped false true false = refl
 tests_regrouped false false true = refl
 tests_regrouped false false false = refl
 
--- lists that are joined one behind the other
+-- lists that are joined one after the other
 flat_append : {X Y : Type 0} (f : X → List Y) (xs ys : List X) → flat_map f (xs ++ ys) ≡ flat_map f xs ++ flat_map f ys
 flat_append f [] ys = refl
 flat_append f (x ∷ xs) ys = ap (λ l. f x ++ l) (flat_append f xs ys) ∙ sym (append_assoc (f x) (flat_map f xs) (flat_map f ys))
 
-flat_behind : {X Y : Type 0} (f : X → List Y) (before after : List Y) (xs ys : List X) → after ≡ before ++ flat_map f xs ++ flat_map f ys →
+flat_after : {X Y : Type 0} (f : X → List Y) (before after : List Y) (xs ys : List X) → after ≡ before ++ flat_map f xs ++ flat_map f ys →
     after ≡ before ++ flat_map f (xs ++ ys)
-flat_behind f before after xs ys is =
+flat_after f before after xs ys is =
     is ∙ append_assoc before (flat_map f xs) (flat_map f ys) ∙ ap (λ l. before ++ l) (sym (flat_append f xs ys))
 
 pub flat_three : {X Y : Type 0} (f : X → List Y) (before one two after : List Y) (xs ys zs : List X) → one ≡ before ++ flat_map f xs → two ≡ one ++ flat_map f ys →
     after ≡ two ++ flat_map f zs → after ≡ before ++ flat_map f (xs ++ ys ++ zs)
 flat_three f before one two after xs ys zs of_one of_two of_all =
-    flat_behind f before after (xs ++ ys) zs
-    (of_all ∙ ap (λ l. l ++ flat_map f zs) (flat_behind f before two xs ys (of_two ∙ ap (λ l. l ++ flat_map f ys) of_one)))
+    flat_after f before after (xs ++ ys) zs
+    (of_all ∙ ap (λ l. l ++ flat_map f zs) (flat_after f before two xs ys (of_two ∙ ap (λ l. l ++ flat_map f ys) of_one)))
 
 pub flat_one : {X Y : Type 0} (f : X → List Y) (x : X) → flat_map f (x ∷ []) ≡ f x
 flat_one f x = append-nil (f x)

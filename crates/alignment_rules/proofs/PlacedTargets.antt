@@ -34,24 +34,24 @@ record ColonFrom (n : ℕ) (ss : List Source) (c : ℕ) : Type 0 where
   within : place < length ss
   colon : at ss place ≡ Spread
 
-behind_one : (s : Source) (ss : List Source) (n c : ℕ) → ColonFrom (suc n) ss c → ColonFrom n (s ∷ ss) c
-behind_one s ss n c h = record { place = suc h.place; is = let e = h.is in omega arith; within = let w = h.within in omega arith; colon = h.colon }
+after_one : (s : Source) (ss : List Source) (n c : ℕ) → ColonFrom (suc n) ss c → ColonFrom n (s ∷ ss) c
+after_one s ss n c h = record { place = suc h.place; is = let e = h.is in omega arith; within = let w = h.within in omega arith; colon = h.colon }
 
-behind_differs : (ss : List Source) (n c : ℕ) → ColonFrom (suc n) ss c → Differs n c
-behind_differs ss n c h = λ same. let e = h.is in omega arith
+after_differs : (ss : List Source) (n c : ℕ) → ColonFrom (suc n) ss c → Differs n c
+after_differs ss n c h = λ same. let e = h.is in omega arith
 
 colons_stand : (n : ℕ) (ss : List Source) → Each (ColonFrom n ss) (colons_from n ss)
 colons_stand n [] = tt
 colons_stand n (Spread ∷ ss) = (
   record { place = 0; is = omega arith; within = omega arith; colon = refl },
-  each_mapped (ColonFrom (suc n) ss) (ColonFrom n (Spread ∷ ss)) (behind_one Spread ss n) _ (colons_stand (suc n) ss),
+  each_mapped (ColonFrom (suc n) ss) (ColonFrom n (Spread ∷ ss)) (after_one Spread ss n) _ (colons_stand (suc n) ss),
 )
-colons_stand n (Dummy x ∷ ss) = each_mapped (ColonFrom (suc n) ss) (ColonFrom n (Dummy x ∷ ss)) (behind_one (Dummy x) ss n) _ (colons_stand (suc n) ss)
-colons_stand n (Collapsed ∷ ss) = each_mapped (ColonFrom (suc n) ss) (ColonFrom n (Collapsed ∷ ss)) (behind_one Collapsed ss n) _ (colons_stand (suc n) ss)
+colons_stand n (Dummy x ∷ ss) = each_mapped (ColonFrom (suc n) ss) (ColonFrom n (Dummy x ∷ ss)) (after_one (Dummy x) ss n) _ (colons_stand (suc n) ss)
+colons_stand n (Collapsed ∷ ss) = each_mapped (ColonFrom (suc n) ss) (ColonFrom n (Collapsed ∷ ss)) (after_one Collapsed ss n) _ (colons_stand (suc n) ss)
 
 colons_differ : (n : ℕ) (ss : List Source) → EachLater Differs (colons_from n ss)
 colons_differ n [] = tt
-colons_differ n (Spread ∷ ss) = (each_mapped (ColonFrom (suc n) ss) (Differs n) (behind_differs ss n) _ (colons_stand (suc n) ss), colons_differ (suc n) ss)
+colons_differ n (Spread ∷ ss) = (each_mapped (ColonFrom (suc n) ss) (Differs n) (after_differs ss n) _ (colons_stand (suc n) ss), colons_differ (suc n) ss)
 colons_differ n (Dummy x ∷ ss) = colons_differ (suc n) ss
 colons_differ n (Collapsed ∷ ss) = colons_differ (suc n) ss
 

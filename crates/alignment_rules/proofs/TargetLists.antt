@@ -16,7 +16,7 @@ pub full_list : (s : Setting) (ds : List Name) (bs : List (Option Dim)) → valu
 full_list s ds [] = refl
 full_list s ds (b ∷ bs) = ap (λ vs. full_value b ∷ vs) (full_list s ds bs)
 
--- what is left behind the next dimension
+-- what is left after the next dimension
 pub drop_next : {X : Type 0} (xs : List X) (n : ℕ) → drop 1 (drop n xs) ≡ drop (n + 1) xs
 drop_next xs n = drop-drop 1 n xs
 

@@ -156,7 +156,7 @@ pub(crate) fn extent(dim: Dim) -> u128
     at_least_none(span(dim))
 }
 
-/// How far a step behind the last subscript of a triplet is above the first.
+/// How far a step after the last subscript of a triplet is above the first.
 fn reach(first: i64, last: i64, step: i64) -> i128
     ensures value { result ≡ last -ℤ first +ℤ step }
     ensures least { neg_ℤ (pos (2 ^ 66)) ≤ℤ result }

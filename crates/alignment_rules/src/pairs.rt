@@ -108,8 +108,8 @@ fn push_pair(
     Ok(())
 }
 
-/// Those behind the first ones.
-fn behind(colons: &[usize], done: usize) -> &[usize]
+/// Those after the first ones.
+fn after(colons: &[usize], done: usize) -> &[usize]
     ensures { result.now ≡ drop done colons.now }
 {
     if done < colons.len() {
@@ -134,7 +134,7 @@ fn pairs_by(
     let mut place = 0;
     let mut done = 0;
     for value in values {
-        let left = behind(colons, done);
+        let left = after(colons, done);
         let dim = dim_from(bounds, place);
         push_pair(&mut pairs, sources, dims, left, value, dim)?;
         done = next_unless(!is_triplet(value), done);

@@ -45,12 +45,12 @@ Trail = List TrailEntry
 abbrev pub reached : ℕ → State → Event → Trail
 reached line s event = record { line = line; scalars = s.scalars; event = event } ∷ []
 
--- what comes behind an evaluation that has no fault
+-- what comes after an evaluation that has no fault
 abbrev pub after_value : {A : Type 0} → Result A Cause → (A → Trail) → Trail
 after_value (Ok a) next = next a
 after_value (Err c) next = []
 
--- what comes behind a statement that completes normally
+-- what comes after a statement that completes normally
 abbrev pub after_run : Run → (State → Trail) → Trail
 after_run r next = if_normal r.completion where
   if_normal : Completion → Trail
@@ -140,7 +140,7 @@ all_items_trail line s (i ∷ is) = item_trail line s i ++ after_value (item_byt
 
 -- ---- all statements
 
--- what comes behind an iteration, where the loop goes on
+-- what comes after an iteration, where the loop goes on
 abbrev pub after_iteration : Run → (State → Trail) → Trail
 after_iteration r next = if_next r.completion where
   if_next : Completion → Trail

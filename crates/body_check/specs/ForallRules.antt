@@ -26,7 +26,7 @@ abbrev pub is_reduction_call : Expression → Bool
 is_reduction_call (Call o ps) = is_reduction o
 is_reduction_call e = false
 
--- an index, with or without subscripts behind it
+-- an index, with or without subscripts after it
 abbrev pub is_index : BodyNames → Expression → Bool
 is_index b (Alone x) = is_among x b.indices
 is_index b (Element x ps) = is_among x b.indices

@@ -8,8 +8,8 @@ use Rattle.op_tables.specs.declared.op.Op.{Op}
 use Rattle.op_tables.specs.declared.op.Op.TheVariants as op
 use Rattle.expression_rules.specs.Symbols.{Name}
 use Rattle.expression_rules.proofs.Folds.{all_append}
-use Rattle.body_forms.specs.declared.linear_forms.Form.{Form}
-use Rattle.body_forms.specs.declared.linear_forms.Form.TheVariants.{Nonlinear, Constant, LinearIn}
+use Rattle.body_forms.specs.declared.linear_forms.Linearity.{Linearity}
+use Rattle.body_forms.specs.declared.linear_forms.Linearity.TheVariants.{Nonlinear, Constant, LinearIn}
 use Rattle.body_forms.specs.Forms.{form_of, is_constant_form, is_linear_form, operation, product, sum}
 use Rattle.body_forms.specs.Subscripts.{both, in_operation, in_product, is_at_most_one, is_empty}
 
@@ -61,7 +61,7 @@ no_product x y true true = refl
 no_product x y true false = refl
 no_product x y false q = refl
 
-product_left : (x : Name) (p : Bool) (b : Form) → (b ≡ Constant) ⊎ (b ≡ Nonlinear) → sum (if p then LinearIn x else Nonlinear) b ≡ product (if p then LinearIn x else Nonlinear) b
+product_left : (x : Name) (p : Bool) (b : Linearity) → (b ≡ Constant) ⊎ (b ≡ Nonlinear) → sum (if p then LinearIn x else Nonlinear) b ≡ product (if p then LinearIn x else Nonlinear) b
 product_left x true b (inl e) = (λ i. sum (LinearIn x) (e i)) ∙ sym (λ i. product (LinearIn x) (e i))
 product_left x true b (inr e) = (λ i. sum (LinearIn x) (e i)) ∙ sym (λ i. product (LinearIn x) (e i))
 product_left x false b e = refl

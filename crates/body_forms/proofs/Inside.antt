@@ -27,7 +27,7 @@ call_passes passes e o v es rest is items good inside =
     whole_passes passes (expression e) (Call o (arguments_of es)) (subexpressions_in_parts (arguments_of es)) rest
     (call_is e o v es is items) refl good inside
 
--- a name with subscripts behind it
+-- a name with subscripts after it
 pub element_is : (x : List ℕ) (subs : Option (Vec Subscript Global)) (v : Vec Subscript Global) (ss : List Subscript) → subs ≡ Some v → ss ≡ v.items →
     reference x (back-Ref-subs subs) ≡ Element x (parts_of ss)
 element_is x subs v ss is items = ap (λ s. reference x (back-Ref-subs s)) is ∙ reference_vec x v ∙ ap (λ l. Element x (parts_of l)) (sym items)

@@ -4,39 +4,39 @@ use Rattle.std.specs.List.{list_all}
 use Rattle.op_tables.specs.declared.op.Op.{Op}
 use Rattle.op_tables.specs.declared.op.Op.TheVariants as op
 use Rattle.expression_rules.specs.Symbols.{Name}
-use Rattle.body_forms.specs.declared.linear_forms.Form.{Form}
-use Rattle.body_forms.specs.declared.linear_forms.Form.TheVariants.{Nonlinear, Constant, LinearIn}
+use Rattle.body_forms.specs.declared.linear_forms.Linearity.{Linearity}
+use Rattle.body_forms.specs.declared.linear_forms.Linearity.TheVariants.{Nonlinear, Constant, LinearIn}
 
 -- the form of an expression that names these indices
-abbrev pub form_of : Option (List Name) → Form
+abbrev pub form_of : Option (List Name) → Linearity
 form_of None = Nonlinear
 form_of (Some []) = Constant
 form_of (Some (x ∷ xs)) = if list_all (bytes_eq x) xs then LinearIn x else Nonlinear
 
-abbrev pub is_linear_form : Form → Bool
+abbrev pub is_linear_form : Linearity → Bool
 is_linear_form Nonlinear = false
 is_linear_form f = true
 
-abbrev pub is_constant_form : Form → Bool
+abbrev pub is_constant_form : Linearity → Bool
 is_constant_form Constant = true
 is_constant_form f = false
 
 -- of a sum, a product and any operation
-abbrev pub sum : Form → Form → Form
+abbrev pub sum : Linearity → Linearity → Linearity
 sum Nonlinear b = Nonlinear
 sum Constant b = b
 sum (LinearIn x) Nonlinear = Nonlinear
 sum (LinearIn x) Constant = LinearIn x
 sum (LinearIn x) (LinearIn y) = if bytes_eq x y then LinearIn x else Nonlinear
 
-abbrev pub product : Form → Form → Form
+abbrev pub product : Linearity → Linearity → Linearity
 product Nonlinear b = Nonlinear
 product Constant b = b
 product (LinearIn x) Nonlinear = Nonlinear
 product (LinearIn x) Constant = LinearIn x
 product (LinearIn x) (LinearIn y) = Nonlinear
 
-abbrev pub operation : Op → Form → Form → Form
+abbrev pub operation : Op → Linearity → Linearity → Linearity
 operation op.Add a b = sum a b
 operation op.Sub a b = sum a b
 operation op.Mul a b = product a b

@@ -63,7 +63,7 @@ abbrev pub items : Parts → List Part
 items End = []
 items (More p ps) = p ∷ items ps
 
--- the subscripts directly behind a name, if there are any, are of the form
+-- the subscripts directly after a name, if there are any, are of the form
 abbrev pub has_linear_subscripts : BodyNames → Expression → Bool
 has_linear_subscripts b (Element x ps) = list_all (is_linear b) (items ps)
 has_linear_subscripts b e = true

@@ -16,7 +16,7 @@ pub trait ExpressionTest {
     fn test(&self, e: &Expr) -> bool
         ensures { result ≡ passes self.now (expression e.now) };
 
-    /// The same of a name with the subscripts behind it.
+    /// The same of a name with the subscripts after it.
     fn test_reference(&self, reference: &Ref) -> bool
         ensures { result ≡ passes self.now (expression (Expr.Ref reference.now)) };
 }
@@ -37,7 +37,7 @@ pub fn all_pass<T: ExpressionTest>(test: &T, e: &Expr) -> bool
     }
 }
 
-/// The same of a name with the subscripts behind it.
+/// The same of a name with the subscripts after it.
 #[cycle(subexpressions)]
 pub fn all_pass_reference<T: ExpressionTest>(test: &T, reference: &Ref) -> bool
     ensures { result ≡ list_all (T.passes test.now) (subexpressions (expression (Expr.Ref reference.now))) }

@@ -39,7 +39,7 @@ less-row row at row' at' lt = ap (λ o. ordering_then o (nat_cmp at at')) (sym (
 pub less-at : (row at at' : ℕ) → at < at' → spot_cmp (record { row = row; at = at }) (record { row = row; at = at' }) ≡ Less
 less-at row at at' lt = ap (λ o. ordering_then o (nat_cmp at at')) (tied_itself nat_cmp_total row) ∙ sym (nat_cmp_is at at' Less lt)
 
--- all are behind the element
+-- all are after the element
 abbrev pub Above : Spot → List Spot → Type 0
 Above spot spots = AllByRecursion (λ s. spot_cmp spot s ≡ Less) spots
 
@@ -65,7 +65,7 @@ above-none spot (s ∷ spots) above =
     let other : is_same_spot s spot ≡ false = same-tied s spot ∙ ap is_eq (spot-total.antisymm s spot ∙ ap (λ o. ordering_reverse o) above.0) in
     ap (λ b. b || is_among spots spot) other ∙ above-none spot spots above.1
 
--- a list behind another
+-- a list after another
 pub ascends-append : (xs ys : List Spot) → Ascends xs → Ascends ys → AllByRecursion (λ x. Above x ys) xs → Ascends (xs ++ ys)
 ascends-append [] ys ascends others before = others
 ascends-append (x ∷ xs) ys ascends others before =
@@ -75,7 +75,7 @@ ascends-append (x ∷ xs) ys ascends others before =
 among-first : (spot : Spot) (spots : List Spot) → is_among (spot ∷ spots) spot ≡ true
 among-first spot spots = ap (λ b. b || is_among spots spot) (same-refl spot)
 
--- what a list in order begins with is behind no element of a list with the same elements
+-- what a list in order begins with is after no element of a list with the same elements
 not-less : (x y : Spot) (xs ys : List Spot) → Ascends (y ∷ ys) → ((s : Spot) → is_among (x ∷ xs) s ≡ is_among (y ∷ ys) s) → spot_cmp x y ≡ Less → ⊥
 not-less x y xs ys ascends same less =
     true≢false (sym (among-first x xs) ∙ same x ∙ above-none x (y ∷ ys) (less, above-lower x y ys less (sorted_head spot_cmp y ys ascends)))

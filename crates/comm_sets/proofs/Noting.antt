@@ -64,7 +64,7 @@ noted-row f rows node old new spot lt more was =
 -- one read more
 pub names-more : {R : Type 0} (f : R → Option Spot) (reads : List R) (i : ℕ) (d : R) (s : Spot) → i < length reads
     → names_spot (map f (take (i + 1) reads)) s ≡ (is_named (f (get_or reads i d)) s || names_spot (map f (take i reads)) s)
-names-more {R} f reads i d s lt = ap (λ rs. names_spot (map f rs) s) (take_more reads i d lt) ∙ behind (take i reads) (get_or reads i d)
+names-more {R} f reads i d s lt = ap (λ rs. names_spot (map f rs) s) (take_more reads i d lt) ∙ one_more (take i reads) (get_or reads i d)
   where
     turned : (a b c : Bool) → (a || (b || c)) ≡ (b || (a || c))
     turned true true c = refl
@@ -75,10 +75,10 @@ names-more {R} f reads i d s lt = ap (λ rs. names_spot (map f rs) s) (take_more
     names-cons None reads = refl
     names-cons (Some x) reads = refl
 
-    behind : (rs : List R) (r : R) → names_spot (map f (rs ++ r ∷ [])) s ≡ (is_named (f r) s || names_spot (map f rs) s)
-    behind [] r = names-cons (f r) []
-    behind (x ∷ rs) r =
-        names-cons (f x) (map f (rs ++ r ∷ [])) ∙ ap (λ b. is_named (f x) s || b) (behind rs r)
+    one_more : (rs : List R) (r : R) → names_spot (map f (rs ++ r ∷ [])) s ≡ (is_named (f r) s || names_spot (map f rs) s)
+    one_more [] r = names-cons (f r) []
+    one_more (x ∷ rs) r =
+        names-cons (f x) (map f (rs ++ r ∷ [])) ∙ ap (λ b. is_named (f x) s || b) (one_more rs r)
         ∙ turned (is_named (f x) s) (is_named (f r) s) (names_spot (map f rs) s)
         ∙ ap (λ b. is_named (f r) s || b) (sym (names-cons (f x) (map f rs)))
 

@@ -67,15 +67,15 @@ abbrev Apart : Pair → Pair → Type 0
 Apart one other = one ≢ other
 
 row-distinct : (from lo len : ℕ) (rest : List Pair) → AllPairs Apart rest → All (λ pair. from < pair.from.0) rest → AllPairs Apart (map (pair_of from) (range_with_len lo len) ++ rest)
-row-distinct from lo zero rest distinct behind = distinct
-row-distinct from lo (suc len) rest distinct behind =
+row-distinct from lo zero rest distinct above = distinct
+row-distinct from lo (suc len) rest distinct above =
     let others = map (pair_of from) (range_with_len (lo + 1) len) in
     AllPairs-cons Apart (pair_of from lo) (others ++ rest)
     (All-append (Apart (pair_of from lo)) others rest
     (All-map (Apart (pair_of from lo)) (pair_of from) (range_with_len (lo + 1) len)
     (All-range (λ to. Apart (pair_of from lo) (pair_of from to)) (lo + 1) len (λ to ge lt e. let same : lo ≡ to = ap (λ p. p.to.0) e in absurd (omega (arith, ge, same)))))
-    (λ i d inside e. let after = behind i d inside in let same = ap (λ p. p.from.0) e in absurd (omega (arith, after, same))))
-    (row-distinct from (lo + 1) len rest distinct behind)
+    (λ i d inside e. let after = above i d inside in let same = ap (λ p. p.from.0) e in absurd (omega (arith, after, same))))
+    (row-distinct from (lo + 1) len rest distinct above)
 
 rows-from : (nodes least lo len : ℕ) → least ≤ lo → All (λ pair. least ≤ pair.from.0) (pairs_from nodes lo len)
 rows-from nodes least lo zero le = All-nil (λ pair. least ≤ pair.from.0)
@@ -104,7 +104,7 @@ module _ (nodes : ℕ) (test : Pair → Bool) where
       (λ pair passes are. record { from = are.0; to = are.1; other = λ e. true≢false (sym (sym (ap (λ b. not b && test pair) (eq-eqb pair.from.0 pair.to.0 e)) ∙ passes)) })
       (all_pairs nodes) (all-are-nodes nodes)
 
--- ---- pairs one behind the other
+-- ---- pairs one after the other
 
 abbrev pub passing : (Pair → Bool) → ℕ → ℕ → List Pair
 passing test from count = filter test (map (pair_of from) (range_with_len 0 count))

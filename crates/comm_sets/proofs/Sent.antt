@@ -92,7 +92,7 @@ rows-more ns row s = by_order (cases_order row s.row)
         let before : nat_lt s.row row ≡ nat_lt s.row (row + 1) = grind (arith, nat_tests) in
         λ i. (here i && nat_lt s.at (get_or ns row 0)) || (before i && nat_lt s.at (get_or ns s.row 0))
 
--- behind the last row there is no element
+-- after the last row there is no element
 pub all-rows : (layouts : List Layout) (s : Spot) → (nat_lt s.row (length layouts) && nat_lt s.at (get_or (sizes layouts) s.row 0)) ≡ nat_lt s.at (get_or (sizes layouts) s.row 0)
 all-rows layouts s = by_case (nat_lt s.row (length layouts)) refl
   where

@@ -18,7 +18,7 @@ pub trait Reads {
     fn tuples(&self) -> usize
         ensures { result ≡ (part self.now).tuples };
 
-    /// Puts the elements that are read at the tuple, in order, behind the others; None where one is no element.
+    /// Puts the elements that are read at the tuple, in order, after the others; None where one is no element.
     fn read(&self, tuple: usize, reads: &mut Vec<Option<Spot>>) -> Result<(), OutOfMemory>
         requires { tuple < (part self.now).tuples }
         ensures { OnOk result (map (option_map spot_of) reads.new.items ≡ map (option_map spot_of) reads.old.items ++ (part self.now).reads tuple) };

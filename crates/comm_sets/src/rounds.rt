@@ -40,7 +40,7 @@ fn marked_pairs(alloc: Global, nodes: u32, marks: &[bool]) -> Result<Vec<Pair>, 
     Ok(pairs)
 }
 
-/// Puts those with this source behind the others.
+/// Puts those with this source after the others.
 fn push_pairs(
     pairs: &mut Vec<Pair>,
     nodes: u32,
@@ -58,7 +58,7 @@ fn push_pairs(
     Ok(())
 }
 
-/// Puts the pair behind the others, if it is marked.
+/// Puts the pair after the others, if it is marked.
 fn push_pair(
     pairs: &mut Vec<Pair>,
     nodes: u32,

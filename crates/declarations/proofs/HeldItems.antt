@@ -14,12 +14,12 @@ use Rattle.syntax_tree.specs.Directive.{Bound, arrangement, directive_of, entity
 use Rattle.syntax_tree.specs.MainProgram.{Directed, Integer, declared_of, named_constant, type_declaration}
 use Rattle.expression_rules.specs.Symbols.{SymbolTable}
 use Rattle.declarations.specs.declared.declared_items.Space.TheVariants.{Template, Arrangement}
-use Rattle.declarations.specs.Declarations.{DimensionAttribute, TypedEntity, Definition, TemplateEntity, ArrangementEntity, PlacedItem, behind_all, bounds_of, items_of, own_or}
+use Rattle.declarations.specs.Declarations.{DimensionAttribute, TypedEntity, Definition, TemplateEntity, ArrangementEntity, PlacedItem, after_all, bounds_of, items_of, own_or}
 use Rattle.declarations.specs.Declaring.{bounds_held, constant_reason, definition_items, items_in, placed_item, space_items, typed_items}
 use Rattle.declarations.specs.DeclarationRules.{item_breaches}
 use Rattle.expression_rules.specs.Inner.{bound_expressions, present}
 use Rattle.declarations.proofs.ItemReasons.{item_reason}
-use Rattle.declarations.proofs.ItemTurns.{behind_append, first_append, first_one}
+use Rattle.declarations.proofs.ItemTurns.{after_append, first_append, first_one}
 
 map_append : {X Y : Type 0} (f : X → Y) (xs ys : List X) → map f (xs ++ ys) ≡ map f xs ++ map f ys
 map_append f [] ys = refl
@@ -29,13 +29,13 @@ map_three : {X Y Z W : Type 0} (f : Z → W) (g : Y → Z) (h : X → Y) (xs : L
 map_three f g h [] = refl
 map_three f g h (x ∷ xs) = ap (λ l. f (g (h x)) ∷ l) (map_three f g h xs)
 
--- what stands behind DIMENSION
+-- what stands after DIMENSION
 abbrev attribute_items : ℕ → Option (List Bound) → List PlacedItem
 attribute_items line bs = map (placed_item line) (map DimensionAttribute (present bs))
 
-attribute_behind : (t : SymbolTable) (line : ℕ) (bs : Option (List Bound)) → behind_all t (attribute_items line bs) ≡ t
-attribute_behind t line None = refl
-attribute_behind t line (Some bs) = refl
+attribute_after : (t : SymbolTable) (line : ℕ) (bs : Option (List Bound)) → after_all t (attribute_items line bs) ≡ t
+attribute_after t line None = refl
+attribute_after t line (Some bs) = refl
 
 attribute_first : (t : SymbolTable) (line : ℕ) (bs : Option (List Bound)) → least (item_breaches t (attribute_items line bs))
     ≡ at_line line (constant_reason t (flat_map bound_expressions (bounds_of bs)))
@@ -52,12 +52,12 @@ integer_items line d =
     (λ e. TypedEntity d.constant (own_or e.bounds (bounds_held d.dims)) e) entity d.entities.items)
 
 module _ (t : SymbolTable) (line : ℕ) (d : IntegerDecl) where
-  pub integer_behind : behind_all t (typed_items line d.constant (bounds_held d.dims) d.entities.items)
-      ≡ behind_all t (map (placed_item line) (items_of (Integer (type_declaration d))))
-  integer_behind = sym (
-      ap (behind_all t) (integer_items line d)
-      ∙ behind_append t (attribute_items line (bounds_held d.dims)) (typed_items line d.constant (bounds_held d.dims) d.entities.items)
-      ∙ ap (λ a. behind_all a (typed_items line d.constant (bounds_held d.dims) d.entities.items)) (attribute_behind t line (bounds_held d.dims)))
+  pub integer_after : after_all t (typed_items line d.constant (bounds_held d.dims) d.entities.items)
+      ≡ after_all t (map (placed_item line) (items_of (Integer (type_declaration d))))
+  integer_after = sym (
+      ap (after_all t) (integer_items line d)
+      ∙ after_append t (attribute_items line (bounds_held d.dims)) (typed_items line d.constant (bounds_held d.dims) d.entities.items)
+      ∙ ap (λ a. after_all a (typed_items line d.constant (bounds_held d.dims) d.entities.items)) (attribute_after t line (bounds_held d.dims)))
 
   pub integer_first :
       earlier (at_line line (constant_reason t (flat_map bound_expressions (bounds_of (bounds_held d.dims)))))
@@ -66,7 +66,7 @@ module _ (t : SymbolTable) (line : ℕ) (d : IntegerDecl) where
   integer_first = sym (
       ap (λ l. least (item_breaches t l)) (integer_items line d)
       ∙ first_append t (attribute_items line (bounds_held d.dims)) (typed_items line d.constant (bounds_held d.dims) d.entities.items)
-      ∙ (λ i. earlier (attribute_first t line (bounds_held d.dims) i) (least (item_breaches (attribute_behind t line (bounds_held d.dims) i)
+      ∙ (λ i. earlier (attribute_first t line (bounds_held d.dims) i) (least (item_breaches (attribute_after t line (bounds_held d.dims) i)
       (typed_items line d.constant (bounds_held d.dims) d.entities.items)))))
 
 -- a PARAMETER

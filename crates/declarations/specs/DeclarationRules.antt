@@ -15,7 +15,7 @@ use Rattle.expression_rules.specs.Constants.{value}
 use Rattle.expression_rules.specs.Operands.{are_operands}
 use Rattle.expression_rules.specs.Inner.{present, bound_expressions}
 use Rattle.declarations.specs.Reasons.{at, when}
-use Rattle.declarations.specs.Declarations.{Item, DimensionAttribute, TypedEntity, Definition, TemplateEntity, ArrangementEntity, PlacedItem, behind, bounds_of, is_past_limits, rank_in_text}
+use Rattle.declarations.specs.Declarations.{Item, DimensionAttribute, TypedEntity, Definition, TemplateEntity, ArrangementEntity, PlacedItem, after, bounds_of, is_past_limits, rank_in_text}
 
 -- the expressions that must be constant where they stand; those of a directive may name what comes later
 abbrev pub constants_of : Item → List Expression
@@ -56,4 +56,4 @@ item_reasons t i =
 -- one item after the other
 abbrev pub item_breaches : SymbolTable → List PlacedItem → List Refusal
 item_breaches t [] = []
-item_breaches t (i ∷ is) = at i.line (item_reasons t i.what) ++ item_breaches (behind t i.what) is
+item_breaches t (i ∷ is) = at i.line (item_reasons t i.what) ++ item_breaches (after t i.what) is

@@ -1,4 +1,4 @@
--- What declarations say of one name after the other, and the symbol table behind them (Fortran 95, 5.1, 5.1.2.5 and 5.2.9; HPF 2.0,
+-- What declarations say of one name after the other, and the symbol table after them (Fortran 95, 5.1, 5.1.2.5 and 5.2.9; HPF 2.0,
 -- 3.6 and 3.7).
 use Rattle.std.specs.Prelude.{ℕ, ◌+◌, Bool, true, false, ◌||◌, nat_lt, unsigned_abs, List, [], ◌∷◌, ◌++◌, map, length, ℤ, pos, Option, Some, None, if◌then◌else◌}
 use Rattle.std.specs.List.{list_any, flat_map}
@@ -18,9 +18,9 @@ use Rattle.expression_rules.specs.Inner.{present}
 
 -- what a declaration says of one name
 pub data Item : Type 0 where
-  -- the bounds behind DIMENSION, which name nothing by themselves
+  -- the bounds after DIMENSION, which name nothing by themselves
   DimensionAttribute : List Bound → Item
-  -- an entity of INTEGER: with PARAMETER or without, and its bounds, its own or those behind DIMENSION
+  -- an entity of INTEGER: with PARAMETER or without, and its bounds, its own or those after DIMENSION
   TypedEntity : Bool → Option (List Bound) → Entity → Item
   -- a name of a PARAMETER statement
   Definition : NamedConstant → Item
@@ -110,18 +110,18 @@ symbol_of t false (Some bs) e = Array (length bs) (known_dims t bs) (start_of t 
 abbrev pub rank_in_text : Entity → ℕ
 rank_in_text e = length (bounds_of e.bounds)
 
--- the symbol table behind an item: a name that is declared twice keeps its first meaning
-abbrev pub behind : SymbolTable → Item → SymbolTable
-behind t (DimensionAttribute bs) = t
-behind t (TypedEntity constant bs e) = added t e.name (symbol_of t constant bs e.start)
-behind t (Definition c) = if satisfies is_uninitialized (find c.name t) then changed c.name (Constant (number t c.value)) t else t
-behind t (TemplateEntity e) = added t e.name (Template (rank_in_text e))
-behind t (ArrangementEntity e) = added t e.name (Arrangement (rank_in_text e))
+-- the symbol table after an item: a name that is declared twice keeps its first meaning
+abbrev pub after : SymbolTable → Item → SymbolTable
+after t (DimensionAttribute bs) = t
+after t (TypedEntity constant bs e) = added t e.name (symbol_of t constant bs e.start)
+after t (Definition c) = if satisfies is_uninitialized (find c.name t) then changed c.name (Constant (number t c.value)) t else t
+after t (TemplateEntity e) = added t e.name (Template (rank_in_text e))
+after t (ArrangementEntity e) = added t e.name (Arrangement (rank_in_text e))
 
-abbrev pub behind_all : SymbolTable → List PlacedItem → SymbolTable
-behind_all t [] = t
-behind_all t (i ∷ is) = behind_all (behind t i.what) is
+abbrev pub after_all : SymbolTable → List PlacedItem → SymbolTable
+after_all t [] = t
+after_all t (i ∷ is) = after_all (after t i.what) is
 
 -- the names that a program declares
 abbrev pub symbol_table : List Declaration → SymbolTable
-symbol_table ds = behind_all [] (items ds)
+symbol_table ds = after_all [] (items ds)

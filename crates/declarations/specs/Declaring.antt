@@ -48,7 +48,7 @@ constant_reason t es =
 abbrev pub bounds_held : Option (Vec HeldBound Global) → Option (List Bound)
 bounds_held bs = option_map (λ v. map bound v.items) bs
 
--- dimensions, and one or more behind them, where all are known
+-- dimensions, and one or more after them, where all are known
 abbrev pub and_dim : Option (List Dim) → Option ℤ → Option ℤ → Option (List Dim)
 and_dim (Some ds) (Some l) (Some u) = Some (ds ++ record { lower = l; upper = u } ∷ [])
 and_dim ds l u = None

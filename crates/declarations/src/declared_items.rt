@@ -5,7 +5,7 @@ ghost use Rattle.syntax_tree.specs.Directive.{arrangement, entity};
 ghost use Rattle.syntax_tree.specs.Expression.{expression};
 ghost use Rattle.syntax_tree.specs.MainProgram.{named_constant};
 ghost use Rattle.expression_rules.specs.Symbols.{find, is_uninitialized, satisfies};
-ghost use Rattle.declarations.specs.Declarations.{behind, own_or, number, rank_in_text, symbol_of, Definition, TypedEntity};
+ghost use Rattle.declarations.specs.Declarations.{after, own_or, number, rank_in_text, symbol_of, Definition, TypedEntity};
 ghost use Rattle.declarations.specs.Declaring.{bounds_held, least_reason, space_item, space_symbol, typed_item};
 ghost use Rattle.declarations.specs.DeclarationRules.{declared_again, item_reasons, past_limits};
 
@@ -36,7 +36,7 @@ fn declared_again(names: &DeclaredNames, name: &Name) -> Option<Reason>
     }
 }
 
-/// The bounds of an entity: its own, or those behind DIMENSION.
+/// The bounds of an entity: its own, or those after DIMENSION.
 fn own_dims<'a>(held: &'a Entity, dims: &'a Option<Vec<Bound>>) -> &'a Option<Vec<Bound>>
     ensures { bounds_held result.now ≡ own_or (entity held.now).bounds (bounds_held dims.now) }
 {
@@ -109,7 +109,7 @@ fn symbol_of(
     }
 }
 
-/// One entity of INTEGER more, with the least reason for which it breaks a rule. `dims` are the bounds behind DIMENSION.
+/// One entity of INTEGER more, with the least reason for which it breaks a rule. `dims` are the bounds after DIMENSION.
 pub(crate) fn typed_entity(
     alloc: Global,
     names: &mut DeclaredNames,
@@ -117,7 +117,7 @@ pub(crate) fn typed_entity(
     dims: &Option<Vec<Bound>>,
     entity: &Entity,
 ) -> Result<Option<Reason>, AllocError>
-    ensures table { OnOk result (names.new ≡ behind names.old (typed_item constant (bounds_held dims.now) entity.now)) }
+    ensures table { OnOk result (names.new ≡ after names.old (typed_item constant (bounds_held dims.now) entity.now)) }
     ensures reason { IfOk result (λ r. r ≡ least_reason (item_reasons names.old (typed_item constant (bounds_held dims.now) entity.now))) }
 {
     let dims = own_dims(entity, dims);
@@ -166,7 +166,7 @@ pub(crate) fn definition(
     names: &mut DeclaredNames,
     constant: &ConstDef,
 ) -> Result<Option<Reason>, AllocError>
-    ensures table { OnOk result (names.new ≡ behind names.old (Definition (named_constant constant.now))) }
+    ensures table { OnOk result (names.new ≡ after names.old (Definition (named_constant constant.now))) }
     ensures reason { IfOk result (λ r. r ≡ least_reason (item_reasons names.old (Definition (named_constant constant.now)))) }
 {
     let reason = definition_reason(alloc, names, constant)?;
@@ -202,7 +202,7 @@ pub(crate) fn space_entity(
     space: Space,
     entity: &Entity,
 ) -> Result<Option<Reason>, AllocError>
-    ensures table { OnOk result (names.new ≡ behind names.old (space_item space (arrangement entity.now))) }
+    ensures table { OnOk result (names.new ≡ after names.old (space_item space (arrangement entity.now))) }
     ensures reason { IfOk result (λ r. r ≡ least_reason (item_reasons names.old (space_item space (arrangement entity.now)))) }
 {
     let rank = rank_in_text(entity);

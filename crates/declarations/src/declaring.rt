@@ -6,7 +6,7 @@ ghost use Rattle.std.specs.List.{flat_map};
 ghost use Rattle.hpf_base.specs.FirstBreach.{least};
 ghost use Rattle.syntax_tree.specs.Directive.{directive_of};
 ghost use Rattle.syntax_tree.specs.MainProgram.{declaration, type_declaration, Directed, Integer};
-ghost use Rattle.declarations.specs.Declarations.{behind_all, bounds_of, items, items_of, symbol_table};
+ghost use Rattle.declarations.specs.Declarations.{after_all, bounds_of, items, items_of, symbol_table};
 ghost use Rattle.declarations.specs.Declaring.{bounds_held, constant_reason, definition_items, items_in, placed_item, space_items, typed_items};
 ghost use Rattle.declarations.specs.DeclarationRules.{item_breaches};
 ghost use Rattle.expression_rules.specs.Inner.{bound_expressions};
@@ -50,7 +50,7 @@ fn declared(
     names: &mut DeclaredNames,
     decl: &Decl,
 ) -> Result<Option<Refusal>, AllocError>
-    ensures table { OnOk result (names.new ≡ behind_all names.old (items_in decl.now)) }
+    ensures table { OnOk result (names.new ≡ after_all names.old (items_in decl.now)) }
     ensures first { IfOk result (λ r. r ≡ least (item_breaches names.old (items_in decl.now))) }
 {
     match &decl.what {
@@ -76,7 +76,7 @@ fn directed(
     line: u32,
     directive: &Directive,
 ) -> Result<Option<Refusal>, AllocError>
-    ensures table { OnOk result (names.new ≡ behind_all names.old (map (placed_item line) (items_of (Directed (directive_of directive.now))))) }
+    ensures table { OnOk result (names.new ≡ after_all names.old (map (placed_item line) (items_of (Directed (directive_of directive.now))))) }
     ensures first { IfOk result (λ r. r ≡ least (item_breaches names.old (map (placed_item line) (items_of (Directed (directive_of directive.now)))))) }
 {
     match directive {
@@ -92,18 +92,18 @@ fn directed(
     }
 }
 
-/// The names of an INTEGER: what stands behind DIMENSION is judged first, and then one entity after the other.
+/// The names of an INTEGER: what stands after DIMENSION is judged first, and then one entity after the other.
 fn integer(
     alloc: Global,
     names: &mut DeclaredNames,
     line: u32,
     typed: &IntegerDecl,
 ) -> Result<Option<Refusal>, AllocError>
-    ensures table { OnOk result (names.new ≡ behind_all names.old (map (placed_item line) (items_of (Integer (type_declaration typed.now))))) }
+    ensures table { OnOk result (names.new ≡ after_all names.old (map (placed_item line) (items_of (Integer (type_declaration typed.now))))) }
     ensures first { IfOk result (λ r. r ≡ least (item_breaches names.old (map (placed_item line) (items_of (Integer (type_declaration typed.now)))))) }
 {
     let attribute = attribute_reason(alloc, names, &typed.dims)?;
-    let behind = entities(
+    let after = entities(
         alloc,
         names,
         line,
@@ -111,10 +111,10 @@ fn integer(
         &typed.dims,
         &typed.entities,
     )?;
-    Ok(earlier(at_line(line, attribute), behind))
+    Ok(earlier(at_line(line, attribute), after))
 }
 
-/// The least reason for which the bounds behind DIMENSION break a rule.
+/// The least reason for which the bounds after DIMENSION break a rule.
 fn attribute_reason(
     alloc: Global,
     names: &DeclaredNames,
@@ -126,7 +126,7 @@ fn attribute_reason(
     dims_reason(alloc, &scope, dims)
 }
 
-/// The names of the entities of an INTEGER, with the first of what is wrong with them. `dims` are the bounds behind DIMENSION.
+/// The names of the entities of an INTEGER, with the first of what is wrong with them. `dims` are the bounds after DIMENSION.
 fn entities(
     alloc: Global,
     names: &mut DeclaredNames,
@@ -135,7 +135,7 @@ fn entities(
     dims: &Option<Vec<Bound>>,
     entities: &[Entity],
 ) -> Result<Option<Refusal>, AllocError>
-    ensures table { OnOk result (names.new ≡ behind_all names.old (typed_items line constant (bounds_held dims.now) entities.now)) }
+    ensures table { OnOk result (names.new ≡ after_all names.old (typed_items line constant (bounds_held dims.now) entities.now)) }
     ensures first { IfOk result (λ r. r ≡ least (item_breaches names.old (typed_items line constant (bounds_held dims.now) entities.now))) }
 {
     let mut first = None;
@@ -153,7 +153,7 @@ fn definitions(
     line: u32,
     constants: &[ConstDef],
 ) -> Result<Option<Refusal>, AllocError>
-    ensures table { OnOk result (names.new ≡ behind_all names.old (definition_items line constants.now)) }
+    ensures table { OnOk result (names.new ≡ after_all names.old (definition_items line constants.now)) }
     ensures first { IfOk result (λ r. r ≡ least (item_breaches names.old (definition_items line constants.now))) }
 {
     let mut first = None;
@@ -171,7 +171,7 @@ fn spaces(
     space: Space,
     entities: &[Entity],
 ) -> Result<Option<Refusal>, AllocError>
-    ensures table { OnOk result (names.new ≡ behind_all names.old (space_items line space entities.now)) }
+    ensures table { OnOk result (names.new ≡ after_all names.old (space_items line space entities.now)) }
     ensures first { IfOk result (λ r. r ≡ least (item_breaches names.old (space_items line space entities.now))) }
 {
     let mut first = None;

@@ -1,7 +1,7 @@
 //! The declarations of a program, one name after the other.
 //!
-//! Comes in: the declarations of a tree. Goes out: the symbol table behind them, and the first breach of the rules of names and
-//! constants among them. What holds in between: each item is judged with the names before it and leaves a table behind; an
+//! Comes in: the declarations of a tree. Goes out: the symbol table after them, and the first breach of the rules of names and
+//! constants among them. What holds in between: each item is judged with the names before it and leaves a table after; an
 //! array in a table is within the limits, and what a broken rule leaves open is unknown.
 #![tactic(auto)]
 

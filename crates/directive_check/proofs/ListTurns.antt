@@ -8,7 +8,7 @@ use Rattle.distribution_rules.specs.Distributed.{all_or_none, and_more}
 pub drop_at : {X : Type 0} (xs : List X) (n : ℕ) (z : X) → n < length xs → drop n xs ≡ get_or xs n z ∷ drop (n + 1) xs
 drop_at xs n z within = drop-cons xs n z within ∙ ap (λ m. get_or xs n z ∷ drop m xs) (sym (add-one n))
 
--- a turn of a loop that puts what an item gives behind the rest
+-- a turn of a loop that puts what an item gives after the rest
 pub push_next : {X A : Type 0} (F : List X → List A) (g : X → List A) → ((x : X) (xs : List X) → F (x ∷ xs) ≡ g x ++ F xs) →
     (xs : List X) (n : ℕ) (z : X) (before after all : List A) → n < length xs → after ≡ before ++ g (get_or xs n z) →
     before ++ F (drop n xs) ≡ all → after ++ F (drop (n + 1) xs) ≡ all
@@ -34,29 +34,29 @@ find_next test xs n z within fails so_far =
 
 -- ---- what is made of each, where it is made of all
 
-abbrev pub behind : {A : Type 0} → List A → Option (List A) → Option (List A)
-behind made rest = option_map (λ l. made ++ l) rest
+abbrev pub prepended : {A : Type 0} → List A → Option (List A) → Option (List A)
+prepended made rest = option_map (λ l. made ++ l) rest
 
-behind_more : {A : Type 0} (made : List A) (a : A) (rest : Option (List A)) → behind made (and_more (Some a) rest) ≡ behind (made ++ a ∷ []) rest
-behind_more made a None = refl
-behind_more made a (Some l) = ap Some (sym (append_assoc made (a ∷ []) l))
+prepended_more : {A : Type 0} (made : List A) (a : A) (rest : Option (List A)) → prepended made (and_more (Some a) rest) ≡ prepended (made ++ a ∷ []) rest
+prepended_more made a None = refl
+prepended_more made a (Some l) = ap Some (sym (append_assoc made (a ∷ []) l))
 
 pub made_next : {X A : Type 0} (f : X → Option A) (xs : List X) (n : ℕ) (z : X) (made after : List A) (a : A) → n < length xs →
-    Some a ≡ f (get_or xs n z) → after ≡ made ++ a ∷ [] → behind made (all_or_none f (drop n xs)) ≡ all_or_none f xs →
-    behind after (all_or_none f (drop (n + 1) xs)) ≡ all_or_none f xs
+    Some a ≡ f (get_or xs n z) → after ≡ made ++ a ∷ [] → prepended made (all_or_none f (drop n xs)) ≡ all_or_none f xs →
+    prepended after (all_or_none f (drop (n + 1) xs)) ≡ all_or_none f xs
 made_next f xs n z made after a within is more so_far =
     let rest = all_or_none f (drop (n + 1) xs) in
-    ap (λ l. behind l rest) more
-    ∙ sym (behind_more made a rest)
-    ∙ ap (behind made) (ap (λ o. and_more o rest) is ∙ ap (all_or_none f) (sym (drop_at xs n z within)))
+    ap (λ l. prepended l rest) more
+    ∙ sym (prepended_more made a rest)
+    ∙ ap (prepended made) (ap (λ o. and_more o rest) is ∙ ap (all_or_none f) (sym (drop_at xs n z within)))
     ∙ so_far
 
-nothing_more : {A : Type 0} (made : List A) (rest : Option (List A)) → behind made (and_more None rest) ≡ None
+nothing_more : {A : Type 0} (made : List A) (rest : Option (List A)) → prepended made (and_more None rest) ≡ None
 nothing_more made None = refl
 nothing_more made (Some l) = refl
 
 pub made_stop : {X A : Type 0} (f : X → Option A) (xs : List X) (n : ℕ) (z : X) (made : List A) → n < length xs →
-    None ≡ f (get_or xs n z) → behind made (all_or_none f (drop n xs)) ≡ all_or_none f xs → None ≡ all_or_none f xs
+    None ≡ f (get_or xs n z) → prepended made (all_or_none f (drop n xs)) ≡ all_or_none f xs → None ≡ all_or_none f xs
 made_stop f xs n z made within is so_far =
     let rest = all_or_none f (drop (n + 1) xs) in
-    sym (nothing_more made rest) ∙ ap (behind made) (ap (λ o. and_more o rest) is ∙ ap (all_or_none f) (sym (drop_at xs n z within))) ∙ so_far
+    sym (nothing_more made rest) ∙ ap (prepended made) (ap (λ o. and_more o rest) is ∙ ap (all_or_none f) (sym (drop_at xs n z within))) ∙ so_far

@@ -1,4 +1,4 @@
--- In a program that breaks no rule of names, what a directive maps stands behind `::`, or is one name.
+-- In a program that breaks no rule of names, what a directive maps stands after `::`, or is one name.
 use Rattle.std.proofs.Common.{◌≡◌, ℕ, Bool, true, false, true≢false, List, [], ◌∷◌, ◌++◌, map, None, refl, sym, ap, ◌∙◌, inl}
 use Rattle.std.specs.Prelude.{◌&&◌, All, is_some, not}
 use Rattle.std.specs.List.{flat_map, list_all}

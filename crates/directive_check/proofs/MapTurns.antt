@@ -47,10 +47,10 @@ new_more s ms d n (o ∷ os) ps =
 pub moved_next : (s : Setting) (ms : List MappedObject) (d : Distribution) (es : List Entry) (n number next : ℕ) (e : Entry) (before after all : List NewMap) →
     Some e ≡ slice_get es n → after ≡ before ++ new_maps_from s ms d number (array_of e.name e.what) → next ≡ number + length (array_of e.name e.what) →
     before ++ new_maps_from s ms d number (arrays (drop n es)) ≡ all → after ++ new_maps_from s ms d next (arrays (drop (n + 1) es)) ≡ all
-moved_next s ms d es n number next e before after all is more behind so_far =
+moved_next s ms d es n number next e before after all is more number_is so_far =
     let own = array_of e.name e.what in
     let rest = arrays (drop (n + 1) es) in
-    (λ i. more i ++ new_maps_from s ms d (behind i) rest)
+    (λ i. more i ++ new_maps_from s ms d (number_is i) rest)
     ∙ append_assoc before (new_maps_from s ms d number own) (new_maps_from s ms d (number + length own) rest)
     ∙ ap (λ l. before ++ l) (sym (new_more s ms d number own rest) ∙ ap (λ l. new_maps_from s ms d number (arrays l)) (sym (drop_slice es n e is)))
     ∙ so_far

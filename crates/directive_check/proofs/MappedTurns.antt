@@ -74,7 +74,7 @@ found_before ms m o found x = by (bytes_eq x m.name.now) refl ∙ sym (how_appen
         ap (λ y. how_mapped (mapped ms) y) ((bytes_eq-Decides x m.name.now).0 e) ∙ how_found ms m.name.now (Some o) found in
         here ∙ ap (λ h. option_or h (only (bytes_eq x m.name.now))) (sym here)
 
--- names of DYNAMIC, one list behind the other
+-- names of DYNAMIC, one list after the other
 pub dynamic_append : (a b : List HeldName) → dynamic (a ++ b) ≡ dynamic a ++ dynamic b
 dynamic_append a b = map-append (λ d. dynamic_at d.line d.name) a b
 

@@ -18,7 +18,7 @@ use Rattle.directive_check.specs.ChainSteps.{chain_breaches_in}
 use Rattle.directive_check.specs.MappingRules.{chain_breaches}
 use Rattle.directive_check.proofs.SameMapped.{MapSame, chain_breaches_same}
 
--- of five lists, one behind the other
+-- of five lists, one after the other
 first_of_five : (a b c d e : List Refusal) → earlier (least a) (earlier (least b) (earlier (least c) (earlier (least d) (least e)))) ≡ least (a ++ b ++ c ++ d ++ e)
 first_of_five a b c d e =
     sym (least_append (a ++ b ++ c ++ d) e
@@ -27,10 +27,10 @@ first_of_five a b c d e =
     ∙ earlier_assoc (earlier (least a) (least b)) (least c) (earlier (least d) (least e))
     ∙ earlier_assoc (least a) (least b) (earlier (least c) (earlier (least d) (least e))))
 
-pub earliest_of_five : (a b c d e : List Refusal) (x y z v w last behind more all : Option Refusal) →
+pub earliest_of_five : (a b c d e : List Refusal) (x y z v w last after more all : Option Refusal) →
     x ≡ least a → y ≡ least b → z ≡ least c → v ≡ least d → w ≡ least e →
-    last ≡ earlier v w → behind ≡ earlier z last → more ≡ earlier y behind → all ≡ earlier x more → all ≡ least (a ++ b ++ c ++ d ++ e)
-earliest_of_five a b c d e x y z v w last behind more all xa yb zc vd we h1 h2 h3 h4 = let five = first_of_five a b c d e in cc
+    last ≡ earlier v w → after ≡ earlier z last → more ≡ earlier y after → all ≡ earlier x more → all ≡ least (a ++ b ++ c ++ d ++ e)
+earliest_of_five a b c d e x y z v w last after more all xa yb zc vd we h1 h2 h3 h4 = let five = first_of_five a b c d e in cc
 
 -- where the first object with each name is known, and each name of DYNAMIC
 pub chained : (s : Setting) (ms firsts objects : List MappedObject) (o : Option Refusal) → objects ≡ ms → MapSame firsts objects →

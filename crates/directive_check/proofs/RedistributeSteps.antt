@@ -7,8 +7,8 @@ use Rattle.syntax_tree.specs.declared.expr.Expr.{Expr}
 use Rattle.syntax_tree.specs.declared.stmt.Arm.{Arm, out-Arm}
 use Rattle.syntax_tree.specs.declared.stmt.DoLoop.{DoLoop, out-DoLoop}
 use Rattle.syntax_tree.specs.declared.stmt.Header.{Header}
-use Rattle.syntax_tree.specs.declared.stmt.Kind as Kind
-use Rattle.syntax_tree.specs.declared.stmt.Kind.TheViews.{is-struct-Arm}
+use Rattle.syntax_tree.specs.declared.stmt.StatementKind as StatementKind
+use Rattle.syntax_tree.specs.declared.stmt.StatementKind.TheViews.{is-struct-Arm}
 use Rattle.syntax_tree.specs.declared.stmt.Stmt.{Stmt}
 use Rattle.syntax_tree.specs.Directive.{Distribution}
 use Rattle.syntax_tree.specs.Expression.{Expression, expression}
@@ -24,12 +24,12 @@ use Rattle.directive_check.specs.Redistributes.{redistribute_of, redistributes}
 both : (a b : List PlacedHead) → redistributes (a ++ b) ≡ redistributes a ++ redistributes b
 both a b = flat_map-append (λ h. redistribute_of h.what) a b
 
--- of a statement and those behind it
+-- of a statement and those after it
 pub statement_more : (xs : List Name) (s : Stmt) (ss : List Stmt) →
     redistributes (heads xs (block_of (s ∷ ss))) ≡ redistributes (statement_heads xs s.line (statement s.line s.what)) ++ redistributes (heads xs (block_of ss))
 statement_more xs s ss = both (statement_heads xs s.line (statement s.line s.what)) (heads xs (block_of ss))
 
--- of an arm and those behind it
+-- of an arm and those after it
 inside_arm : (xs : List Name) (a : Arm) → redistributes (arm_alone xs a) ≡ redistributes (heads xs (block_of (out-Arm a).body.items))
 inside_arm xs a =
     ap (λ x. redistributes (arm_alone xs x)) (is-struct-Arm a)
@@ -46,7 +46,7 @@ past_mark : (xs : List Name) (line : ℕ) (mark : Option Independent) (a : Axis)
 past_mark xs line None a b = refl
 past_mark xs line (Some m) a b = refl
 
-pub in_do : (xs : List Name) (line : ℕ) (k : Kind.Kind) (d : DoLoop) → k ≡ Kind.Do d →
+pub in_do : (xs : List Name) (line : ℕ) (k : StatementKind.StatementKind) (d : DoLoop) → k ≡ StatementKind.Do d →
     redistributes (heads (xs ++ (out-DoLoop d).index ∷ []) (block_of (out-DoLoop d).body.items)) ≡ redistributes (statement_heads xs line (statement line k))
 in_do xs line k d is =
     sym (ap (λ k. redistributes (statement_heads xs line (statement line k))) is
@@ -54,17 +54,17 @@ in_do xs line k d is =
     ∙ past_mark xs line (option_map independent (out-DoLoop d).mark) (axis_in d) (block_of (out-DoLoop d).body.items))
 
 -- of an IF with one action
-pub in_if_one : (xs : List Name) (line : ℕ) (k : Kind.Kind) (cond : Expr) (b : Box Stmt Global) (s : Stmt) → k ≡ Kind.IfOne cond b → s ≡ b.value →
+pub in_if_one : (xs : List Name) (line : ℕ) (k : StatementKind.StatementKind) (cond : Expr) (b : Box Stmt Global) (s : Stmt) → k ≡ StatementKind.IfOne cond b → s ≡ b.value →
     redistributes (statement_heads xs s.line (statement s.line s.what)) ≡ redistributes (statement_heads xs line (statement line k))
 in_if_one xs line k cond b s is same = ap redistributes (if_one_heads xs line k cond b s is same)
 
 -- of an IF without ELSE, and with it
-pub in_if_alone : (xs : List Name) (line : ℕ) (k : Kind.Kind) (as' : Vec Arm Global) (rest : Option (Vec Stmt Global)) (glued : Bool) →
-    k ≡ Kind.If as' rest glued → rest ≡ None → redistributes (arm_heads xs (arms_of as'.items)) ≡ redistributes (statement_heads xs line (statement line k))
+pub in_if_alone : (xs : List Name) (line : ℕ) (k : StatementKind.StatementKind) (as' : Vec Arm Global) (rest : Option (Vec Stmt Global)) (glued : Bool) →
+    k ≡ StatementKind.If as' rest glued → rest ≡ None → redistributes (arm_heads xs (arms_of as'.items)) ≡ redistributes (statement_heads xs line (statement line k))
 in_if_alone xs line k as' rest glued is none = ap redistributes (if_alone_heads xs line k as' rest glued is none)
 
-pub in_if : (xs : List Name) (line : ℕ) (k : Kind.Kind) (as' : Vec Arm Global) (rest : Option (Vec Stmt Global)) (v : Vec Stmt Global) (glued : Bool)
-    (before middle after : List Distribution) → k ≡ Kind.If as' rest glued → rest ≡ Some v →
+pub in_if : (xs : List Name) (line : ℕ) (k : StatementKind.StatementKind) (as' : Vec Arm Global) (rest : Option (Vec Stmt Global)) (v : Vec Stmt Global) (glued : Bool)
+    (before middle after : List Distribution) → k ≡ StatementKind.If as' rest glued → rest ≡ Some v →
     middle ≡ before ++ redistributes (arm_heads xs (arms_of as'.items)) → after ≡ middle ++ redistributes (heads xs (block_of v.items)) →
     after ≡ before ++ redistributes (statement_heads xs line (statement line k))
 in_if xs line k as' rest v glued before middle after is some arms more =
@@ -84,20 +84,20 @@ none_indexed : (xs : List Name) (axes : List Axis) (as' : List Assignment) → r
 none_indexed xs axes [] = refl
 none_indexed xs axes (a ∷ as') = none_indexed xs axes as'
 
-behind_none : (before more : List Distribution) → more ≡ [] → before ≡ before ++ more
-behind_none before more none = sym (ap (λ l. before ++ l) none ∙ append-nil before)
+after_none : (before more : List Distribution) → more ≡ [] → before ≡ before ++ more
+after_none before more none = sym (ap (λ l. before ++ l) none ∙ append-nil before)
 
-pub none_in_where : (xs : List Name) (line : ℕ) (k : Kind.Kind) (mask : Expr) (v : Vec Stmt Global) (rest : Option (Vec Stmt Global)) (one glued : Bool)
-    (before : List Distribution) → k ≡ Kind.Where mask v rest one glued → before ≡ before ++ redistributes (statement_heads xs line (statement line k))
+pub none_in_where : (xs : List Name) (line : ℕ) (k : StatementKind.StatementKind) (mask : Expr) (v : Vec Stmt Global) (rest : Option (Vec Stmt Global)) (one glued : Bool)
+    (before : List Distribution) → k ≡ StatementKind.Where mask v rest one glued → before ≡ before ++ redistributes (statement_heads xs line (statement line k))
 none_in_where xs line k mask v rest one glued before is =
     let first = masked xs (expression mask) (assignments_of v.items) in
     let last = masked xs (expression mask) (elsewhere_of rest) in
-    behind_none before (redistributes (statement_heads xs line (statement line k)))
+    after_none before (redistributes (statement_heads xs line (statement line k)))
     (ap redistributes (sym (where_heads xs line k mask v rest one glued is)) ∙ both first last
     ∙ (λ i. none_masked xs (expression mask) (assignments_of v.items) i ++ none_masked xs (expression mask) (elsewhere_of rest) i))
 
-pub none_in_forall : (xs : List Name) (line : ℕ) (k : Kind.Kind) (axes : Vec Header Global) (mask : Option Expr) (v : Vec Stmt Global) (one glued marked : Bool)
-    (before : List Distribution) → k ≡ Kind.Forall axes mask v one glued marked → before ≡ before ++ redistributes (statement_heads xs line (statement line k))
+pub none_in_forall : (xs : List Name) (line : ℕ) (k : StatementKind.StatementKind) (axes : Vec Header Global) (mask : Option Expr) (v : Vec Stmt Global) (one glued marked : Bool)
+    (before : List Distribution) → k ≡ StatementKind.Forall axes mask v one glued marked → before ≡ before ++ redistributes (statement_heads xs line (statement line k))
 none_in_forall xs line k axes mask v one glued marked before is =
-    behind_none before (redistributes (statement_heads xs line (statement line k)))
+    after_none before (redistributes (statement_heads xs line (statement line k)))
     (ap redistributes (sym (forall_heads xs line k axes mask v one glued marked is)) ∙ none_indexed xs (map axis axes.items) (assignments_of v.items))

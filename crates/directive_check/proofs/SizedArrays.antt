@@ -15,7 +15,7 @@ use Rattle.expression_rules.specs.Symbols.{Name, SymbolTable, added, all_element
 use Rattle.expression_rules.specs.declared.dims.Dim.{Dim}
 use Rattle.expression_rules.specs.declared.symbols.Symbol.{Symbol}
 use Rattle.expression_rules.specs.declared.symbols.Symbol.TheVariants.{Constant, Array, Template, Arrangement}
-use Rattle.declarations.specs.Declarations.{Item, DimensionAttribute, TypedEntity, Definition, TemplateEntity, ArrangementEntity, PlacedItem, behind, behind_all, dims, is_bound_too_far, is_past_limits, is_too_far, is_too_large, items, known_dims, lower_of, number, rank_in_text, symbol_of, symbol_table, with_dim}
+use Rattle.declarations.specs.Declarations.{Item, DimensionAttribute, TypedEntity, Definition, TemplateEntity, ArrangementEntity, PlacedItem, after, after_all, dims, is_bound_too_far, is_past_limits, is_too_far, is_too_large, items, known_dims, lower_of, number, rank_in_text, symbol_of, symbol_table, with_dim}
 
 -- ---- dimensions within the limits
 
@@ -84,7 +84,7 @@ symbol_sized t false (Some bs) e = known_sized t bs
 abbrev pub IsAbsent : Name → SymbolTable → Type 0
 IsAbsent x t = list_any (λ e. bytes_eq x e.0) t ≡ false
 
--- each symbol is within the limits, and no name stands behind itself
+-- each symbol is within the limits, and no name stands after itself
 abbrev pub IsKept : SymbolTable → Type 0
 IsKept [] = ⊤
 IsKept (e ∷ es) = SizedSymbol e.1 × IsAbsent e.0 es × IsKept es
@@ -122,20 +122,20 @@ added_kept t x s sized kept = by (is_declared x t)
     by true = kept
     by false = insert_kept x s t sized kept
 
-behind_kept : (t : SymbolTable) (i : Item) → IsKept t → IsKept (behind t i)
-behind_kept t (DimensionAttribute bs) kept = kept
-behind_kept t (TypedEntity constant bs e) kept = added_kept t e.name (symbol_of t constant bs e.start) (symbol_sized t constant bs e.start) kept
-behind_kept t (Definition c) kept = by (satisfies is_uninitialized (find c.name t))
+after_kept : (t : SymbolTable) (i : Item) → IsKept t → IsKept (after t i)
+after_kept t (DimensionAttribute bs) kept = kept
+after_kept t (TypedEntity constant bs e) kept = added_kept t e.name (symbol_of t constant bs e.start) (symbol_sized t constant bs e.start) kept
+after_kept t (Definition c) kept = by (satisfies is_uninitialized (find c.name t))
   where
     by : (b : Bool) → IsKept (if b then changed c.name (Constant (number t c.value)) t else t)
     by true = insert_kept c.name (Constant (number t c.value)) t tt kept
     by false = kept
-behind_kept t (TemplateEntity e) kept = added_kept t e.name (Template (rank_in_text e)) tt kept
-behind_kept t (ArrangementEntity e) kept = added_kept t e.name (Arrangement (rank_in_text e)) tt kept
+after_kept t (TemplateEntity e) kept = added_kept t e.name (Template (rank_in_text e)) tt kept
+after_kept t (ArrangementEntity e) kept = added_kept t e.name (Arrangement (rank_in_text e)) tt kept
 
-all_kept : (t : SymbolTable) (is : List PlacedItem) → IsKept t → IsKept (behind_all t is)
+all_kept : (t : SymbolTable) (is : List PlacedItem) → IsKept t → IsKept (after_all t is)
 all_kept t [] kept = kept
-all_kept t (i ∷ is) kept = all_kept (behind t i.what) is (behind_kept t i.what kept)
+all_kept t (i ∷ is) kept = all_kept (after t i.what) is (after_kept t i.what kept)
 
 -- of every program
 pub table_kept : (ds : List Declaration) → IsKept (symbol_table ds)

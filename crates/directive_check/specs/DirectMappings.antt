@@ -19,7 +19,7 @@ IsDirectAlign Every = ⊤
 abbrev pub IsDirect : Mapping → Type 0
 IsDirect m = All (λ e. IsDirectAlign e.align) m.dims
 
--- the mapping of an array at the start, and behind a REDISTRIBUTE of what its alignments end at
+-- the mapping of an array at the start, and after a REDISTRIBUTE of what its alignments end at
 abbrev pub started : Setting → List MappedObject → Name → Mapping
 started s ms x = unwrap_or (start_mapping s ms x) (replicated s.grid)
 

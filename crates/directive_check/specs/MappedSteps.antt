@@ -20,7 +20,7 @@ how_of (directive.Distribute d) = Distributed (distribution d)
 how_of (directive.Align a) = Aligned (alignment a)
 how_of d = Distributed no_formats
 
--- the names behind `::`, or exactly one before the list
+-- the names after `::`, or exactly one before the list
 abbrev pub AreListed : Bool → List Name → Type 0
 AreListed colons xs = names_of colons xs ≡ xs
 

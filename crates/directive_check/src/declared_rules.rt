@@ -84,7 +84,7 @@ pub(crate) fn distribute_reason(
     Ok(lesser(bad_distribution(&values), named))
 }
 
-/// The same of its distributees: the names behind `::`, or the one name before the formats.
+/// The same of its distributees: the names after `::`, or the one name before the formats.
 fn distributees_reason(
     setting: &Setting,
     values: &DistributionValues,
@@ -165,7 +165,7 @@ fn align_reason(
     Ok(lesser(own, named))
 }
 
-/// The same of its alignees: the names behind `::`, or the one name before the entries.
+/// The same of its alignees: the names after `::`, or the one name before the entries.
 fn alignees_reason(
     alloc: Global,
     setting: &Setting,

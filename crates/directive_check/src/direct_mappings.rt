@@ -17,7 +17,7 @@ use distribution_rules::{Setting, dims_of, distributed, distribution_values};
 use hpf_base::{Grid, Name};
 use mappings::{AlignDim, MapDim, MapDims, Mapping};
 use std::alloc::{AllocError, Global};
-use syntax_tree::{Directive, DistSpec, Names};
+use syntax_tree::{Directive, DistSpec, NameList};
 
 /// Every node owns all elements.
 pub(crate) fn replicated(alloc: Global, setting: &Setting) -> Mapping
@@ -81,7 +81,7 @@ fn mapped_as(
         | Directive::Dynamic(_)
         | Directive::Passed => {
             let none = DistSpec {
-                names: Names::new(Vec::new(alloc)),
+                names: NameList::new(Vec::new(alloc)),
                 formats: Vec::new(alloc),
                 onto: None,
                 colons: true,

@@ -36,7 +36,7 @@ pub(crate) fn dynamic_names(alloc: Global, decls: &[Decl]) -> Result<Vec<Dynamic
     Ok(names)
 }
 
-/// Those of a declaration, behind the others.
+/// Those of a declaration, after the others.
 fn push_declared(decl: &Decl, names: &mut Vec<DynamicName>) -> Result<(), AllocError>
     ensures { OnOk result (dynamic names.new.items ≡ dynamic names.old.items ++ dynamic_of decl.now.line (declared_of decl.now.what)) }
 {
@@ -70,7 +70,7 @@ fn push_names(line: u32, listed: &[Name], names: &mut Vec<DynamicName>) -> Resul
     Ok(())
 }
 
-/// One more name behind the others, unless it is among them. The answer is whether it was.
+/// One more name after the others, unless it is among them. The answer is whether it was.
 pub(crate) fn add_name(name: &Name, names: &mut Vec<Name>) -> Result<bool, AllocError>
     ensures again { IfOk result (λ b. b ≡ is_among name.now names.old.items) }
     ensures added { OnOk result ((x : Name) → is_among x names.new.items ≡ (bytes_eq x name.now || is_among x names.old.items)) }

@@ -27,7 +27,7 @@ pub(crate) fn mapped_objects(
     Ok(objects)
 }
 
-/// Those of a declaration, behind the others.
+/// Those of a declaration, after the others.
 fn push_declared<'a>(decl: &'a Decl, objects: &mut Vec<MappedObject<'a>>) -> Result<(), AllocError>
     requires { IsListed decl.now }
     ensures { OnOk result (mapped objects.new.items ≡ mapped objects.old.items ++ mapped_by decl.now.line (declared_of decl.now.what)) }
@@ -92,7 +92,7 @@ pub(crate) fn first_mapped<'a>(
     Ok(firsts)
 }
 
-/// One more behind the others, unless it is mapped before.
+/// One more after the others, unless it is mapped before.
 fn add_first<'a>(
     object: &MappedObject<'a>,
     firsts: &mut Vec<MappedObject<'a>>,

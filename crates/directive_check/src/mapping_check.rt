@@ -109,6 +109,6 @@ fn first_breach(
     let chained = first_bad_chain(alloc, setting, firsts, objects)?;
     let named = first_bad_dynamic(alloc, setting, &names)?;
     let moved = first_bad_redistribute(alloc, setting, firsts, &dynamic, &tree.body)?;
-    let behind = earlier(chained, earlier(named, moved));
-    Ok(earlier(declared, earlier(twice, behind)))
+    let after = earlier(chained, earlier(named, moved));
+    Ok(earlier(declared, earlier(twice, after)))
 }

@@ -43,7 +43,7 @@ pub(crate) fn start_maps(
     Ok(ArrayMaps::new(maps))
 }
 
-/// That of a declared name, behind the others.
+/// That of a declared name, after the others.
 fn push_start(
     alloc: Global,
     setting: &Setting,
@@ -164,7 +164,7 @@ fn new_maps(
         match names.get(place) {
             Some(entry) => {
                 push_moved(alloc, setting, objects, spec, number, entry, &mut maps)?;
-                number = behind(number, entry)?;
+                number = after(number, entry)?;
             }
             None => unreachable!(),
         }
@@ -173,7 +173,7 @@ fn new_maps(
 }
 
 /// The number of the next array. More than 4,294,967,295 arrays, which no program has, find no room.
-fn behind(number: u32, entry: &Entry) -> Result<u32, AllocError>
+fn after(number: u32, entry: &Entry) -> Result<u32, AllocError>
     ensures { IfOk result (λ n. n ≡ number + length (array_of entry.now.name entry.now.what)) }
 {
     match (&entry.what, number.checked_add(1)) {
@@ -183,7 +183,7 @@ fn behind(number: u32, entry: &Entry) -> Result<u32, AllocError>
     }
 }
 
-/// The array of a declared name with its new mapping, behind the others, if it moves.
+/// The array of a declared name with its new mapping, after the others, if it moves.
 fn push_moved(
     alloc: Global,
     setting: &Setting,
@@ -241,7 +241,7 @@ fn moved_mapping(
     Ok(or_replicated(alloc, setting, mapping))
 }
 
-/// The object is among the names behind `::`, or it is the one name before the formats.
+/// The object is among the names after `::`, or it is the one name before the formats.
 fn is_named(spec: &DistSpec, name: &Name) -> bool
     ensures { result ≡ is_among name.now (distribution spec.now).names }
 {

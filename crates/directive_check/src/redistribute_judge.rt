@@ -100,7 +100,7 @@ fn redistribute_reason(
     Ok(lesser(own, named))
 }
 
-/// The same of its objects: the names behind `::`, or the one name before the formats.
+/// The same of its objects: the names after `::`, or the one name before the formats.
 fn redistributees_reason(
     objects: &[MappedObject<'_>],
     dynamic: &[Name],

@@ -7,7 +7,7 @@ ghost use Rattle.statement_walk.specs.Heads.{all_heads, arm_heads, heads, statem
 ghost use Rattle.directive_check.specs.Redistributes.{redistributes, said};
 
 use std::alloc::{AllocError, Global};
-use syntax_tree::{Arm, DistSpec, Kind, Stmt};
+use syntax_tree::{Arm, DistSpec, StatementKind, Stmt};
 
 /// A REDISTRIBUTE.
 #[derive(Clone, Copy)]
@@ -27,7 +27,7 @@ pub(crate) fn redistributes(
     Ok(found)
 }
 
-/// Those among the statements, behind the others.
+/// Those among the statements, after the others.
 #[cycle(redistributes)]
 fn push_all<'a>(stmts: &'a [Stmt], found: &mut Vec<Redistribute<'a>>) -> Result<(), AllocError>
     ensures { OnOk result ((xs : List Name) → said found.new.items ≡ said found.old.items ++ redistributes (heads xs (block_of stmts.now))) }
@@ -45,19 +45,19 @@ fn push_one<'a>(stmt: &'a Stmt, found: &mut Vec<Redistribute<'a>>) -> Result<(),
         ++ redistributes (statement_heads xs stmt.now.line (statement stmt.now.line stmt.now.what))) }
 {
     match &stmt.what {
-        Kind::Redistribute(spec) => {
+        StatementKind::Redistribute(spec) => {
             found.push(Redistribute { spec })?;
             Ok(())
         }
-        Kind::IfOne { body, .. } => {
+        StatementKind::IfOne { body, .. } => {
             push_one(body, found)?;
             Ok(())
         }
-        Kind::Do(inner) => {
+        StatementKind::Do(inner) => {
             push_all(&inner.body, found)?;
             Ok(())
         }
-        Kind::If { arms, rest, .. } => {
+        StatementKind::If { arms, rest, .. } => {
             push_arms(arms, found)?;
             match rest {
                 None => Ok(()),
@@ -67,14 +67,14 @@ fn push_one<'a>(stmt: &'a Stmt, found: &mut Vec<Redistribute<'a>>) -> Result<(),
                 }
             }
         }
-        Kind::Where { .. } => Ok(()),
-        Kind::Forall { .. } => Ok(()),
-        Kind::Assign { .. }
-        | Kind::Print(_)
-        | Kind::Stop
-        | Kind::Exit
-        | Kind::Cycle
-        | Kind::Continue => Ok(()),
+        StatementKind::Where { .. } => Ok(()),
+        StatementKind::Forall { .. } => Ok(()),
+        StatementKind::Assign { .. }
+        | StatementKind::Print(_)
+        | StatementKind::Stop
+        | StatementKind::Exit
+        | StatementKind::Cycle
+        | StatementKind::Continue => Ok(()),
     }
 }
 

@@ -12,7 +12,7 @@ use Rattle.line_forms.specs.Printed.{printed, IsWell, value_kept}
 use Rattle.line_forms.specs.DeepFront.{preceded, deep_front}
 use Rattle.line_forms.specs.Ll1.{is_ll1, first_set, Finish, Exactly, AnyName, Begins}
 use Rattle.line_forms.proofs.Begins.{disjoint_starts}
-use Rattle.line_forms.proofs.Standing.{StandsAs, behind_prefix, then_begins, unmapped}
+use Rattle.line_forms.proofs.Standing.{StandsAs, after_prefix, then_begins, unmapped}
 use Rattle.line_forms.proofs.Starting.{starting}
 use Rattle.directive_reader.specs.declared.kind.Kind.{Kind}
 use Rattle.directive_reader.specs.declared.kind.Kind.TheVariants as kind
@@ -37,7 +37,7 @@ unnamed (Word x ∷ ts) b = absurd cc
 unnamed (t ∷ ts) b = refl
 
 module _ (depths : Depths) {A : Type 0} (z : A) where
-  -- lexemes in front of which a well-formed part stands, and nothing behind it
+  -- lexemes in front of which a well-formed part stands, and nothing after it
   abbrev pub Stands : (g : Grammar) → Value g → List Lexeme → Reading A → Type 0
   Stands g v ts r = StandsAs (deep_front depths g v) (printed g v) z Ends ts r
 
@@ -47,9 +47,9 @@ module _ (depths : Depths) {A : Type 0} (z : A) where
       let u = unmapped (deep_front depths g v) (printed g v) (value_kept g v) (λ x. z) Ends (Begins (Finish ∷ [])) ts r ends_begin s in
       starting depths g (Finish ∷ []) l v w ts u.0 u.1
 
-  behind_key : (ks : List Lexeme) (g : Grammar) (v : Value g) (ts : List Lexeme) (r : Reading A)
+  after_key : (ks : List Lexeme) (g : Grammar) (v : Value g) (ts : List Lexeme) (r : Reading A)
       → StandsAs (preceded ks (deep_front depths g v)) (ks ++ printed g v) z Ends ts r → (us : List Lexeme) × (ts ≡ ks ++ us) × Stands g v us r
-  behind_key ks g v ts r s = behind_prefix ks (deep_front depths g v) (printed g v) z Ends ts r s
+  after_key ks g v ts r s = after_prefix ks (deep_front depths g v) (printed g v) z Ends ts r s
 
   -- where the names stand in a DISTRIBUTE
   distributed : (many : Bool) (v : Value (distribution many)) → IsWell (distribution many) v → (us : List Lexeme) (r : Reading A)
@@ -57,7 +57,7 @@ module _ (depths : Depths) {A : Type 0} (z : A) where
   distributed false v w us r s = disjoint_starts opening (AnyName ∷ []) us refl (begins_so (distribution false) v refl w us r s)
   distributed true v w us r s = sym (or-false (starts opening us)) ∙ begins_so (distribution true) v refl w us r s
 
-  -- behind `name` in an ALIGN stands its list, or WITH and a name
+  -- after `name` in an ALIGN stands its list, or WITH and a name
   abbrev one_target : Grammar
   one_target = Sequence Identifier (Sequence (optional_enclosed target) Nothing)
 
@@ -67,15 +67,15 @@ module _ (depths : Depths) {A : Type 0} (z : A) where
   alignee (None, v) w us r s =
       then_begins {Q = is_alignee us ≡ true} None [] z (λ l. is_alignee l ≡ true) (deep_front depths (aligned_with Nothing) v)
       (printed (aligned_with Nothing) v) z Ends us r s (λ r' q. ap is_alignee q.2 ∙ q.1)
-      (λ l q. let p = behind_key (key (codes "WITH")) one_target v l r q in ap is_alignee p.1 ∙ named p.0 (begins_so one_target v refl w.1 p.0 r p.2))
+      (λ l q. let p = after_key (key (codes "WITH")) one_target v l r q in ap is_alignee p.1 ∙ named p.0 (begins_so one_target v refl w.1 p.0 r p.2))
   alignee (Some list, v) w us r s =
       let inner : Grammar = Suffixed (CommaList source) closing in
       then_begins {Q = is_alignee us ≡ true} (deep_front depths (optional_enclosed source) (Some list))
       (printed (optional_enclosed source) (Some list)) z (λ l. Unit {0}) (deep_front depths (aligned_with Nothing) v)
       (printed (aligned_with Nothing) v) z Ends us r s
-      (λ r' q. let p = behind_prefix opening (deep_front depths inner list) (printed inner list) z (λ l. Unit {0}) us r' q in ap is_alignee p.1) (λ l q. tt)
+      (λ r' q. let p = after_prefix opening (deep_front depths inner list) (printed inner list) z (λ l. Unit {0}) us r' q in ap is_alignee p.1) (λ l q. tt)
 
-  -- behind WITH stands a name, and no name behind that
+  -- after WITH stands a name, and no name after that
   abbrev many_targets : Grammar
   many_targets = Sequence (optional_enclosed target) (Prefixed colons (CommaList Identifier))
 
@@ -96,13 +96,13 @@ module _ (depths : Depths) {A : Type 0} (z : A) where
   aligned true (None, v) w us r s =
       let g : Grammar = aligned_with (Prefixed colons (CommaList Identifier)) in
       then_begins {Q = is_many us ≡ true} None [] z (λ l. is_many l ≡ true) (deep_front depths g v) (printed g v) z Ends us r s (λ r' q. ap is_many q.2 ∙ q.1)
-      (λ l q. let p = behind_key (key (codes "WITH")) (Sequence Identifier many_targets) v l r q in ap is_many p.1 ∙ ap not (with_target v w.1 p.0 r p.2))
+      (λ l q. let p = after_key (key (codes "WITH")) (Sequence Identifier many_targets) v l r q in ap is_many p.1 ∙ ap not (with_target v w.1 p.0 r p.2))
   aligned true (Some list, v) w us r s =
       let g : Grammar = aligned_with (Prefixed colons (CommaList Identifier)) in
       let inner : Grammar = Suffixed (CommaList source) closing in
       then_begins {Q = is_many us ≡ true} (deep_front depths (optional_enclosed source) (Some list)) (printed (optional_enclosed source) (Some list))
       z (λ l. Unit {0}) (deep_front depths g v) (printed g v) z Ends us r s
-      (λ r' q. let p = behind_prefix opening (deep_front depths inner list) (printed inner list) z (λ l. Unit {0}) us r' q in ap is_many p.1) (λ l q. tt)
+      (λ r' q. let p = after_prefix opening (deep_front depths inner list) (printed inner list) z (λ l. Unit {0}) us r' q in ap is_many p.1) (λ l q. tt)
 
   -- the grammar of a kind stands in front of lines of that kind, which aren't passed over
   abbrev pub IsOf : Kind → List Lexeme → Type 0
@@ -111,7 +111,7 @@ module _ (depths : Depths) {A : Type 0} (z : A) where
   keyed : (k : Kind) (word : List ℕ) (g : Grammar) (v : Value g) (ts : List Lexeme) (r : Reading A)
       → StandsAs (preceded (key word) (deep_front depths g v)) (key word ++ printed g v) z Ends ts r
       → ((us : List Lexeme) → Stands g v us r → IsOf k (key word ++ us)) → IsOf k ts
-  keyed k word g v ts r s h = let p = behind_key (key word) g v ts r s in subst (IsOf k) (sym p.1) (h p.0 p.2)
+  keyed k word g v ts r s h = let p = after_key (key word) g v ts r s in subst (IsOf k) (sym p.1) (h p.0 p.2)
 
   abbrev lists : Grammar
   lists = Sequence (Optional (attribute_key (codes "NEW")) (enclosed Identifier)) (Optional (attribute_key (codes "REDUCTION")) (enclosed Identifier))

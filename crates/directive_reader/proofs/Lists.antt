@@ -43,12 +43,12 @@ some_names depths ts xs us h =
     (on_next (after_marks opening ts) (λ x. read depths (Suffixed (CommaList Identifier) closing) x.1) HasNames
     (λ x. kept_names (comma_list (starts comma) name (suc (length x.1)) x.1) (names_listed (suc (length x.1)) x.1)))
 
--- names behind a word that stands there
+-- names after a word that stands there
 pub perhaps_named : (depths : Depths) (word : List ℕ) (ts us : List Lexeme) (xs ys : List (List ℕ)) (vs : List Lexeme)
     → starts (attribute_key word) ts ≡ true → us ≡ drop 2 ts → read depths (enclosed Identifier) us ≡ Found (map (λ x. x) xs, vs) → ys ≡ xs
     → read depths (Optional (attribute_key word) (enclosed Identifier)) ts ≡ Found (names_in ys, vs)
-perhaps_named depths word ts us xs ys vs there behind is same =
+perhaps_named depths word ts us xs ys vs there after is same =
     let found : read depths (enclosed Identifier) us ≡ Found (xs, vs) = is ∙ ap (λ l. Found (l, vs)) (map-id xs) in
     ap (λ b. if b then (read depths (enclosed Identifier) (drop 2 ts) >>= λ v. Found (Some v.0, v.1)) else Found (None, ts)) there
-    ∙ ap (λ r. r >>= λ v. Found (Some v.0, v.1)) (ap (read depths (enclosed Identifier)) (sym behind) ∙ found)
+    ∙ ap (λ r. r >>= λ v. Found (Some v.0, v.1)) (ap (read depths (enclosed Identifier)) (sym after) ∙ found)
     ∙ ap (λ n. Found (n, vs)) (sym (some_names depths us xs vs found) ∙ ap names_in (sym same))

@@ -1,4 +1,4 @@
--- A directive's word, and what stands behind it.
+-- A directive's word, and what stands after it.
 use Rattle.std.proofs.Common.{◌≡◌, Bool, false, List, [], ◌∷◌, length, Some, refl, sym, ap, ◌∙◌}
 use Rattle.std.specs.Prelude.{◌==◌, codes, if◌then◌else◌}
 use Rattle.source_lines.specs.declared.token.Token.{Token}
@@ -10,7 +10,7 @@ use Rattle.line_forms.specs.Reading.{Reading, Found, Stopped, ◌>>=◌}
 use Rattle.line_forms.specs.Read.{after_marks, read}
 use Rattle.directive_reader.specs.declared.kind.Kind.{Kind}
 use Rattle.directive_reader.specs.declared.kind.Kind.TheVariants as kind
-use Rattle.directive_reader.specs.Forms.{Form, Known, Passed, alignment, distribution, is_passed}
+use Rattle.directive_reader.specs.Forms.{DirectiveForm, Known, Passed, alignment, distribution, is_passed}
 use Rattle.directive_reader.specs.Reading.{DistributionSpec, AlignmentSpec, distribution_spec, directive, ended, directive_kind, known, alignment_spec, of_kind}
 
 told : {A B C : Type 0} (r : Reading A) (f : A → B) (g : B × List Lexeme → Reading C) → ((r >>= λ v. Found (f v.0, v.1)) >>= g) ≡ (r >>= λ v. g (f v.0, v.1))
@@ -41,8 +41,8 @@ redistributed depths many ts us x vs word is =
     ∙ sym (told (read depths (distribution many) us) (λ v. (many, v)) (λ x. Found (Known (kind.Redistribute x.0.0) x.0.1, x.1)))
     ∙ ap (λ r. r >>= λ x. Found (Known (kind.Redistribute x.0.0) x.0.1, x.1)) is
 
--- something is left behind a directive
-pub left_over : (depths : Depths) (k : Kind) (ts : List Lexeme) (form : Form) (rest : List Token) → is_passed ts ≡ false → directive_kind ts ≡ Some k
+-- something is left after a directive
+pub left_over : (depths : Depths) (k : Kind) (ts : List Lexeme) (form : DirectiveForm) (rest : List Token) → is_passed ts ≡ false → directive_kind ts ≡ Some k
     → known depths k ts ≡ Found (form, lexemes rest) → false ≡ (length rest == 0) → directive depths ts ≡ Stopped read_error.Malformed
 left_over depths k ts form rest other is found more =
     ap (λ b. if b then Found (Passed [], []) else (of_kind depths (directive_kind ts) ts >>= ended)) other

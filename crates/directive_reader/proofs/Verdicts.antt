@@ -24,28 +24,28 @@ use Rattle.line_forms.proofs.Standing.{StandsAs, followed, mapped}
 use Rattle.line_forms.proofs.Complete.{complete}
 use Rattle.directive_reader.specs.declared.kind.Kind.{Kind}
 use Rattle.directive_reader.specs.declared.kind.Kind.TheVariants as kind
-use Rattle.directive_reader.specs.Forms.{Form, Known, Passed, IsForm, form_front, form_printed, form_kept, grammar, is_passed}
+use Rattle.directive_reader.specs.Forms.{DirectiveForm, Known, Passed, IsForm, form_front, form_printed, form_kept, grammar, is_passed}
 use Rattle.directive_reader.specs.Reading.{directive, directive_kind, ended, known, of_kind}
 use Rattle.directive_reader.specs.Breach.{IsBreachAt, IsDirective, IsDirectiveBreach, IsSpelled, IsTooDeep, WhyNotRead, is_left_out}
 use Rattle.directive_reader.proofs.Kinding.{Ends, ends_begin, kind_stands}
 
 -- what is well formed, spells the lexemes and isn't too deep, and of which a tree keeps the form
-pub record Written (depths : Depths) (ts : List Lexeme) (form : Form) : Type 0 where
-  pub written : Form
+pub record Written (depths : Depths) (ts : List Lexeme) (form : DirectiveForm) : Type 0 where
+  pub written : DirectiveForm
   pub well : IsForm written
   pub shallow : form_front depths written ≡ None
   pub spelled : form_printed written ≡ ts
   pub same : form_kept written ≡ form
 
-form_in : Reading Form → Form → Form
+form_in : Reading DirectiveForm → DirectiveForm → DirectiveForm
 form_in (Found x) form = x.0
 form_in (Stopped why) form = form
 
-same_form : (a b : Form) → Found (a, []) ≡ Found (b, []) → a ≡ b
+same_form : (a b : DirectiveForm) → Found (a, []) ≡ Found (b, []) → a ≡ b
 unfolding form_in
 same_form a b h = ap (λ r. form_in r b) h
 
-written_known : (depths : Depths) (ts : List Lexeme) (form : Form) (k : Kind) (r : Reading (Value (grammar k)))
+written_known : (depths : Depths) (ts : List Lexeme) (form : DirectiveForm) (k : Kind) (r : Reading (Value (grammar k)))
     → Holds r (IsInFront depths (grammar k) ts) (IsTooDeepPart depths (grammar k) ts)
     → ((r >>= λ v. Found (Known k v.0, v.1)) >>= ended) ≡ Found (form, []) → Written depths ts form
 written_known depths ts form k (Stopped why) s h = absurd cc
@@ -58,17 +58,17 @@ written_known depths ts form k (Found (v, [])) s h = record {
   same = ap (Known k) s.same ∙ same_form (Known k v) form h;
 }
 
-written_kind : (depths : Depths) (ts : List Lexeme) (form : Form) (o : Option Kind) → (of_kind depths o ts >>= ended) ≡ Found (form, []) → Written depths ts form
+written_kind : (depths : Depths) (ts : List Lexeme) (form : DirectiveForm) (o : Option Kind) → (of_kind depths o ts >>= ended) ≡ Found (form, []) → Written depths ts form
 written_kind depths ts form None h = absurd cc
 written_kind depths ts form (Some k) h = written_known depths ts form k (read depths (grammar k) ts) (reads depths (grammar k) ts) h
 
-written_line : (depths : Depths) (ts : List Lexeme) (form : Form) (b : Bool) → is_passed ts ≡ b
+written_line : (depths : Depths) (ts : List Lexeme) (form : DirectiveForm) (b : Bool) → is_passed ts ≡ b
     → (if b then Found (Passed [], []) else (of_kind depths (directive_kind ts) ts >>= ended)) ≡ Found (form, []) → Written depths ts form
 written_line depths ts form true passed h = record { written = Passed ts; well = passed; shallow = refl; spelled = refl; same = same_form (Passed []) form h }
 written_line depths ts form false other h = written_kind depths ts form (directive_kind ts) h
 
 -- what is read is spelled so
-pub written : (depths : Depths) (ts : List Lexeme) (form : Form) → directive depths ts ≡ Found (form, []) → Written depths ts form
+pub written : (depths : Depths) (ts : List Lexeme) (form : DirectiveForm) → directive depths ts ≡ Found (form, []) → Written depths ts form
 written depths ts form h = written_line depths ts form (is_passed ts) refl h
 
 deep_known : (ts : List Lexeme) (k : Kind) (r : Reading (Value (grammar k)))
@@ -80,7 +80,7 @@ deep_known ts k (Stopped why) s h =
     let d = s (stopped_is why read_error.TooDeep h) in
     record { written = Known k d.written; well = d.well; front = d.front; deep = d.deep; rest = d.rest; parts = d.parts }
   where
-    stopped_is : (a b : ReadError) → ◌≡◌ {A = Reading Form} (Stopped a) (Stopped b) → a ≡ b
+    stopped_is : (a b : ReadError) → ◌≡◌ {A = Reading DirectiveForm} (Stopped a) (Stopped b) → a ≡ b
     stopped_is a b h = cc
 
 deep_kind : (ts : List Lexeme) (o : Option Kind) → (of_kind Limited o ts >>= ended) ≡ Stopped read_error.TooDeep → IsTooDeep ts
@@ -108,20 +108,20 @@ ll1_kind (kind.Align true) = refl
 ll1_kind kind.Independent = refl
 
 module _ (depths : Depths) where
-  known_reads : (k : Kind) (v : Value (grammar k)) → IsForm (Known k v) → (ts : List Lexeme) (r : Reading Form)
+  known_reads : (k : Kind) (v : Value (grammar k)) → IsForm (Known k v) → (ts : List Lexeme) (r : Reading DirectiveForm)
       → StandsAs (deep_front depths (grammar k) v) (printed (grammar k) v) (Known k (value_kept (grammar k) v)) Ends ts r
       → (known depths k ts >>= ended) ≡ r
   known_reads k v w ts r s =
       let o = deep_front depths (grammar k) v in
       let text = printed (grammar k) v in
       let x = value_kept (grammar k) v in
-      let z : Form = Known k x in
+      let z : DirectiveForm = Known k x in
       followed o text z z Ends (Begins (Finish ∷ [])) ts r s ends_begin (known depths k ts)
       (λ r' q. mapped o text x (Known k) (Begins (Finish ∷ [])) ts r' q (read depths (grammar k) ts) (complete depths (grammar k) (Finish ∷ []) (ll1_kind k) v w ts)) ended
       (λ us e. subst (λ us. ended (z, us) ≡ Found (z, us)) (sym e) refl)
 
   -- what stands in front of a line as a directive is read as it, or stops the reading
-  form_reads : (w : Form) → IsForm w → (ts : List Lexeme) (r : Reading Form) → StandsAs (form_front depths w) (form_printed w) (form_kept w) Ends ts r → directive depths ts ≡ r
+  form_reads : (w : DirectiveForm) → IsForm w → (ts : List Lexeme) (r : Reading DirectiveForm) → StandsAs (form_front depths w) (form_printed w) (form_kept w) Ends ts r → directive depths ts ≡ r
   form_reads (Passed ps) w ts r s =
       ap (λ b. if b then Found (Passed [], []) else (of_kind depths (directive_kind ts) ts >>= ended)) (ap is_passed (s.2 ∙ ap (λ l. ps ++ l) s.1 ∙ append-nil ps) ∙ w)
       ∙ ap (λ l. Found (Passed [], l)) (sym s.1) ∙ sym s.3
@@ -131,7 +131,7 @@ module _ (depths : Depths) where
       ∙ ap (λ o. of_kind depths o ts >>= ended) of.0 ∙ known_reads k v w ts r s
 
   -- what is spelled is read
-  pub found : (w : Form) → IsForm w → form_front depths w ≡ None → directive depths (form_printed w) ≡ Found (form_kept w, [])
+  pub found : (w : DirectiveForm) → IsForm w → form_front depths w ≡ None → directive depths (form_printed w) ≡ Found (form_kept w, [])
   found w f h =
       form_reads w f (form_printed w) (Found (form_kept w, []))
       (subst (λ o. StandsAs o (form_printed w) (form_kept w) Ends (form_printed w) (Found (form_kept w, []))) (sym h) ([], refl, sym (append-nil (form_printed w)), refl))
@@ -141,15 +141,15 @@ deep_found ts d =
     form_reads Limited d.written d.well ts (Stopped read_error.TooDeep)
     (subst (λ o. StandsAs o (form_printed d.written) (form_kept d.written) Ends ts (Stopped read_error.TooDeep)) (sym d.deep) (d.rest, d.parts, refl))
 
-any_form : (w : Form) → form_front Any w ≡ None
+any_form : (w : DirectiveForm) → form_front Any w ≡ None
 any_form (Known k v) = any_shallow (grammar k) v
 any_form (Passed ts) = refl
 
 -- two well-formed directives that are spelled alike are one to a tree
-pub one_directive : (a b : Form) → IsForm a → IsForm b → form_printed a ≡ form_printed b → form_kept a ≡ form_kept b
+pub one_directive : (a b : DirectiveForm) → IsForm a → IsForm b → form_printed a ≡ form_printed b → form_kept a ≡ form_kept b
 one_directive a b wa wb h = same_form (form_kept a) (form_kept b) (sym (found Any a wa (any_form a)) ∙ ap (directive Any) h ∙ found Any b wb (any_form b))
 
-is_spelled : (depths : Depths) (ts : List Lexeme) (form : Form) → directive depths ts ≡ Found (form, []) → IsSpelled ts
+is_spelled : (depths : Depths) (ts : List Lexeme) (form : DirectiveForm) → directive depths ts ≡ Found (form, []) → IsSpelled ts
 is_spelled depths ts form h = let w = written depths ts form h in (w.written, w.well, w.spelled)
 
 -- however deep, a directive that is spelled is read
@@ -158,14 +158,14 @@ stopped_so ts why h w =
     let f : Stopped why ≡ Found (form_kept w.0, []) = sym h ∙ ap (directive Any) (sym w.2) ∙ found Any w.0 w.1 (any_form w.0) in
     absurd cc
 
-found_shallow : (ts : List Lexeme) (form : Form) → directive Limited ts ≡ Found (form, []) → IsTooDeep ts → ⊥
+found_shallow : (ts : List Lexeme) (form : DirectiveForm) → directive Limited ts ≡ Found (form, []) → IsTooDeep ts → ⊥
 found_shallow ts form h d = let e : Found (form, []) ≡ Stopped read_error.TooDeep = sym h ∙ deep_found ts d in absurd cc
 
 form_shallow : (ts : List Lexeme) → directive Limited ts ≡ Stopped read_error.Malformed → IsTooDeep ts → ⊥
 form_shallow ts h d = let e : Stopped read_error.Malformed ≡ Stopped read_error.TooDeep = sym h ∙ deep_found ts d in absurd cc
 
 -- the front of a directive is a front of its lexemes
-form_parts : (w : Form) (front : List Lexeme) → form_front Limited w ≡ Some front → (rest : List Lexeme) × (form_printed w ≡ front ++ rest)
+form_parts : (w : DirectiveForm) (front : List Lexeme) → form_front Limited w ≡ Some front → (rest : List Lexeme) × (form_printed w ≡ front ++ rest)
 form_parts (Known k v) front h = front_printed Limited (grammar k) v front h
 form_parts (Passed ts) front h = absurd cc
 
@@ -179,11 +179,11 @@ unspelled ts h s = at (form_front Limited s.0) refl
         let p = form_parts s.0 front f in
         form_shallow ts h (record { written = s.0; well = s.1; front = front; deep = f; rest = p.0; parts = sym s.2 ∙ p.1 })
 
-pub is_directive : (ts : List Lexeme) (form : Form) → directive Limited ts ≡ Found (form, []) → IsDirective ts form
+pub is_directive : (ts : List Lexeme) (form : DirectiveForm) → directive Limited ts ≡ Found (form, []) → IsDirective ts form
 is_directive ts form h = let w = written Limited ts form h in record { written = w.written; well = w.well; shallow = w.shallow; spelled = w.spelled; same = w.same }
 
 -- a directive that is read and isn't left out breaks no rule
-pub fine : (ts : List Lexeme) (form : Form) → is_left_out ts ≡ false → directive Limited ts ≡ Found (form, []) → (r : Reason) → IsDirectiveBreach ts r → ⊥
+pub fine : (ts : List Lexeme) (form : DirectiveForm) → is_left_out ts ≡ false → directive Limited ts ≡ Found (form, []) → (r : Reason) → IsDirectiveBreach ts r → ⊥
 fine ts form within h reason.LeftOut b = cc
 fine ts form within h reason.BadDirective b = b.1 (is_spelled Limited ts form h)
 fine ts form within h reason.Limit b = found_shallow ts form h b
@@ -222,7 +222,7 @@ left_out_deep line ts out deep = least line ts reason.Limit (deep_written ts dee
 left_out_first : (line : ℕ) (ts : List Lexeme) → is_left_out ts ≡ true → (IsTooDeep ts → ⊥) → IsFirstBreach (IsBreachAt line ts) record { line = line; reason = reason.LeftOut }
 left_out_first line ts out h = least line ts reason.LeftOut out (above_left_out ts (λ b. both_ways (is_left_out ts) b.0 out) h)
 
-pub left_out_found : (line : ℕ) (ts : List Lexeme) (form : Form) → is_left_out ts ≡ true → directive Limited ts ≡ Found (form, [])
+pub left_out_found : (line : ℕ) (ts : List Lexeme) (form : DirectiveForm) → is_left_out ts ≡ true → directive Limited ts ≡ Found (form, [])
     → IsFirstBreach (IsBreachAt line ts) record { line = line; reason = reason.LeftOut }
 left_out_found line ts form out h = left_out_first line ts out (found_shallow ts form h)
 
@@ -243,16 +243,16 @@ pub bad_stopped : (line : ℕ) (ts : List Lexeme) (why : ReadError) → is_left_
 bad_stopped line ts why within h = bad line ts within (stopped_so ts why h)
 
 -- one that is spelled by a well-formed directive, and is too deep
-pub deep_first : (line : ℕ) (ts : List Lexeme) (form : Form) → directive Limited ts ≡ Stopped read_error.TooDeep → directive Any ts ≡ Found (form, [])
+pub deep_first : (line : ℕ) (ts : List Lexeme) (form : DirectiveForm) → directive Limited ts ≡ Stopped read_error.TooDeep → directive Any ts ≡ Found (form, [])
     → IsFirstBreach (IsBreachAt line ts) record { line = line; reason = reason.Limit }
 deep_first line ts form deep h = least line ts reason.Limit (deep_written ts deep) (above_limit ts (λ b. b.1 (is_spelled Any ts form h)))
 
 -- what the code says that a line lacks
-pub needs_form : (why : ReadError) (r : Reading Form) → why ≡ read_error.Malformed → (why ≢ read_error.Memory → r ≡ Stopped why) → r ≡ Stopped read_error.Malformed
+pub needs_form : (why : ReadError) (r : Reading DirectiveForm) → why ≡ read_error.Malformed → (why ≢ read_error.Memory → r ≡ Stopped why) → r ≡ Stopped read_error.Malformed
 needs_form why r is h = subst (λ w. w ≢ read_error.Memory → r ≡ Stopped w) is h (λ e. absurd cc)
 
-pub lacks_form : (o : Option ReadError) (r : Reading Form) → o ≡ Some read_error.Malformed → WhyNotRead o r → r ≡ Stopped read_error.Malformed
+pub lacks_form : (o : Option ReadError) (r : Reading DirectiveForm) → o ≡ Some read_error.Malformed → WhyNotRead o r → r ≡ Stopped read_error.Malformed
 lacks_form o r is h = subst (λ o. WhyNotRead o r) is h (λ e. absurd cc)
 
-pub lacks_depth : (o : Option ReadError) (r : Reading Form) → o ≡ Some read_error.TooDeep → WhyNotRead o r → r ≡ Stopped read_error.TooDeep
+pub lacks_depth : (o : Option ReadError) (r : Reading DirectiveForm) → o ≡ Some read_error.TooDeep → WhyNotRead o r → r ≡ Stopped read_error.TooDeep
 lacks_depth o r is h = subst (λ o. WhyNotRead o r) is h (λ e. absurd cc)

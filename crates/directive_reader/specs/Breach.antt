@@ -9,11 +9,11 @@ use Rattle.line_forms.specs.declared.read_error.ReadError.TheVariants as read_er
 use Rattle.line_forms.specs.Marks.{starts, key}
 use Rattle.line_forms.specs.Reading.{Reading, Found, Stopped}
 use Rattle.line_forms.specs.Shape.{names_shape}
-use Rattle.directive_reader.specs.Forms.{Form, IsForm, form_front, form_printed, form_kept}
+use Rattle.directive_reader.specs.Forms.{DirectiveForm, IsForm, form_front, form_printed, form_kept}
 
 -- what a tree keeps of a well-formed directive that spells the line and has no expression deeper than 200
-pub record IsDirective (ts : List Lexeme) (form : Form) : Type 0 where
-  pub written : Form
+pub record IsDirective (ts : List Lexeme) (form : DirectiveForm) : Type 0 where
+  pub written : DirectiveForm
   pub well : IsForm written
   pub shallow : form_front Limited written ≡ None
   pub spelled : form_printed written ≡ ts
@@ -21,16 +21,16 @@ pub record IsDirective (ts : List Lexeme) (form : Form) : Type 0 where
 
 -- a well-formed directive spells the line, its expressions as deep as may be
 abbrev pub IsSpelled : List Lexeme → Type 0
-IsSpelled ts = (written : Form) × IsForm written × (form_printed written ≡ ts)
+IsSpelled ts = (written : DirectiveForm) × IsForm written × (form_printed written ≡ ts)
 
 -- it begins with REALIGN, or names PROCESSORS_SHAPE (HPF 2.0, 7 and 8)
 abbrev pub is_left_out : List Lexeme → Bool
 is_left_out ts = starts (key (codes "REALIGN")) ts || names_shape ts
 
 -- a front of the line is that of a well-formed directive up to and with its first expression that is deeper than 200,
--- whatever stands behind
+-- whatever stands after
 pub record IsTooDeep (ts : List Lexeme) : Type 0 where
-  pub written : Form
+  pub written : DirectiveForm
   pub well : IsForm written
   pub front : List Lexeme
   pub deep : form_front Limited written ≡ Some front
@@ -49,6 +49,6 @@ abbrev pub IsBreachAt : ℕ → List Lexeme → ℕ → Reason → Type 0
 IsBreachAt line ts n reason = (n ≡ line) × IsDirectiveBreach ts reason
 
 -- what a reading stopped at, if it did; want of memory has no cause in the lexemes
-abbrev pub WhyNotRead : Option ReadError → Reading Form → Type 0
-WhyNotRead None r = (form : Form) × (r ≡ Found (form, []))
+abbrev pub WhyNotRead : Option ReadError → Reading DirectiveForm → Type 0
+WhyNotRead None r = (form : DirectiveForm) × (r ≡ Found (form, []))
 WhyNotRead (Some why) r = why ≢ read_error.Memory → r ≡ Stopped why

@@ -44,7 +44,7 @@ source = Choice colon Nothing (Choice star Nothing Identifier)
 abbrev pub target : Grammar
 target = Choice star Nothing Subscript
 
--- name [( target list )], behind WITH
+-- name [( target list )], after WITH
 abbrev pub aligned_with : Grammar → Grammar
 aligned_with g = Prefixed (key (codes "WITH")) (Sequence Identifier (Sequence (optional_enclosed target) g))
 
@@ -74,25 +74,25 @@ abbrev pub is_passed : List Lexeme → Bool
 is_passed ts = list_any (λ w. starts (key w) ts) passed_words
 
 -- a directive of a kind, or one that is passed over
-pub data Form : Type 0 where
-  Known : (k : Kind) → Value (grammar k) → Form
-  Passed : List Lexeme → Form
+pub data DirectiveForm : Type 0 where
+  Known : (k : Kind) → Value (grammar k) → DirectiveForm
+  Passed : List Lexeme → DirectiveForm
 
-abbrev pub form_printed : Form → List Lexeme
+abbrev pub form_printed : DirectiveForm → List Lexeme
 form_printed (Known k v) = printed (grammar k) v
 form_printed (Passed ts) = ts
 
 -- a well-formed directive, however deep its expressions are
-abbrev pub IsForm : Form → Type 0
+abbrev pub IsForm : DirectiveForm → Type 0
 IsForm (Known k v) = IsWell (grammar k) v
 IsForm (Passed ts) = is_passed ts ≡ true
 
 -- its lexemes up to and with its first expression that is too deep; one that is passed over has no expressions
-abbrev pub form_front : Depths → Form → Option (List Lexeme)
+abbrev pub form_front : Depths → DirectiveForm → Option (List Lexeme)
 form_front depths (Known k v) = deep_front depths (grammar k) v
 form_front depths (Passed ts) = None
 
 -- what a tree keeps of it
-abbrev pub form_kept : Form → Form
+abbrev pub form_kept : DirectiveForm → DirectiveForm
 form_kept (Known k v) = Known k (value_kept (grammar k) v)
 form_kept (Passed ts) = Passed []

@@ -20,7 +20,7 @@ use Rattle.directive_reader.specs.declared.kind.Kind.TheVariants as kind
 use Rattle.directive_reader.specs.declared.directive.DirectiveLine.{DirectiveLine}
 use Rattle.directive_reader.specs.declared.directive.DirectiveLine.TheVariants as line
 use Rattle.directive_reader.specs.Reading.{DistributionSpec, AlignmentSpec}
-use Rattle.directive_reader.specs.Forms.{arrangement, format, distribution, source, target, alignment, Form, Known, Passed}
+use Rattle.directive_reader.specs.Forms.{arrangement, format, distribution, source, target, alignment, DirectiveForm, Known, Passed}
 
 -- an arrangement has bounds always, and no initial value
 abbrev bounds_in : Option Expr → Option (List (Value bound)) → List (Value bound)
@@ -57,7 +57,7 @@ abbrev pub alignment_of : (many : Bool) → AlignSpec → Value (alignment many)
 alignment_of false a = (first_of a.names, (option_map (λ v. map source_of v.items) a.source, (a.target, (option_map (λ v. map target_of v.items) a.subs, tt))))
 alignment_of true a = (option_map (λ v. map source_of v.items) a.source, (a.target, (option_map (λ v. map target_of v.items) a.subs, a.names)))
 
--- what stands behind the words DISTRIBUTE and REDISTRIBUTE, and behind ALIGN
+-- what stands after the words DISTRIBUTE and REDISTRIBUTE, and after ALIGN
 abbrev pub distribution_spec_of : DistSpec → DistributionSpec
 distribution_spec_of d = (d.colons, distribution_of d.colons d)
 
@@ -69,7 +69,7 @@ abbrev pub names_in : List (List ℕ) → Option (List (List ℕ))
 names_in [] = None
 names_in (x ∷ xs) = Some (x ∷ xs)
 
-abbrev pub mapping_of : Directive → Form
+abbrev pub mapping_of : Directive → DirectiveForm
 mapping_of (directive.Processors es) = Known kind.Processors (false, map arrangement_of es.items)
 mapping_of (directive.Template es) = Known kind.Template (false, map arrangement_of es.items)
 mapping_of (directive.Dynamic names) = Known kind.Dynamic (false, names)
@@ -77,7 +77,7 @@ mapping_of (directive.Distribute d) = Known (kind.Distribute d.colons) (distribu
 mapping_of (directive.Align a) = Known (kind.Align a.colons) (alignment_of a.colons a)
 mapping_of directive.Passed = Passed []
 
-abbrev pub form_of : DirectiveLine → Form
+abbrev pub form_of : DirectiveLine → DirectiveForm
 form_of (line.Mapping d) = mapping_of d
 form_of (line.Redistribute d) = Known (kind.Redistribute d.colons) (distribution_of d.colons d)
 form_of (line.Independent new reduction) = Known kind.Independent (names_in new, names_in reduction)

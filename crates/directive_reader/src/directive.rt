@@ -1,6 +1,6 @@
 //! Directives as they stand on their lines.
 
-use syntax_tree::{Directive, DistSpec, Names};
+use syntax_tree::{Directive, DistSpec, NameList};
 
 /// A directive (HPF 2.0, 3, 5.1 and 8.5).
 #[derive(Debug, Drop)]
@@ -9,5 +9,5 @@ pub enum DirectiveLine {
     Mapping(Directive),
     Redistribute(DistSpec),
     /// INDEPENDENT, with the names of its lists; a list that isn't there has none.
-    Independent { new: Names, reduction: Names },
+    Independent { new: NameList, reduction: NameList },
 }

@@ -11,8 +11,8 @@ ghost use Rattle.directive_reader.specs.Views.{arrangement_of, format_of, source
 
 use hpf_base::Name;
 use line_forms::{
-    Bounds, Depths, Element, ReadError, after_sign, after_word, behind, enclosed, expr, is_sign,
-    is_word, name, subscript,
+    Bounds, Depths, Element, ReadError, after_sign, after_word, enclosed, expr, is_sign, is_word,
+    name, skip, subscript,
 };
 use source_lines::Token;
 use std::alloc::Global;
@@ -59,10 +59,10 @@ impl Element for Formats {
         tokens: &[Token],
     ) -> Result<(Format, &[Token]), ReadError> {
         if is_sign(tokens, Sign::Star) {
-            return Ok((Format::Star, behind(tokens, 1)));
+            return Ok((Format::Star, skip(tokens, 1)));
         }
         if is_word(tokens, b"BLOCK") {
-            let (size, rest) = size(alloc, depths, behind(tokens, 1))?;
+            let (size, rest) = size(alloc, depths, skip(tokens, 1))?;
             return Ok((Format::Block(size), rest));
         }
         let rest = after_word(tokens, b"CYCLIC")?;
@@ -71,7 +71,7 @@ impl Element for Formats {
     }
 }
 
-/// The size of the blocks that may stand behind a format's word.
+/// The size of the blocks that may stand after a format's word.
 fn size(
     alloc: Global,
     depths: Depths,
@@ -82,19 +82,19 @@ fn size(
     if !is_sign(tokens, Sign::Open) {
         return Ok((None, tokens));
     }
-    let (size, rest) = expr(alloc, depths, behind(tokens, 1))?;
+    let (size, rest) = expr(alloc, depths, skip(tokens, 1))?;
     let rest = after_sign(rest, Sign::Close)?;
     Ok((Some(size), rest))
 }
 
-/// The arrangement that may be named behind ONTO.
+/// The arrangement that may be named after ONTO.
 pub fn onto(tokens: &[Token]) -> Result<(Option<Name>, &[Token]), ReadError>
     ensures { Gives (λ x. (x.0, lexemes x.1.now)) result (read Limited onto (lexemes tokens.now)) }
 {
     if !is_word(tokens, b"ONTO") {
         return Ok((None, tokens));
     }
-    match name(behind(tokens, 1)) {
+    match name(skip(tokens, 1)) {
         Ok((name, rest)) => Ok((Some(name), rest)),
         Err(why) => Err(why),
     }
@@ -116,10 +116,10 @@ impl Element for Sources {
         tokens: &[Token],
     ) -> Result<(Source, &[Token]), ReadError> {
         if is_sign(tokens, Sign::Colon) {
-            return Ok((Source::Colon, behind(tokens, 1)));
+            return Ok((Source::Colon, skip(tokens, 1)));
         }
         if is_sign(tokens, Sign::Star) {
-            return Ok((Source::Star, behind(tokens, 1)));
+            return Ok((Source::Star, skip(tokens, 1)));
         }
         match name(tokens) {
             Ok((dummy, rest)) => Ok((Source::Dummy(dummy), rest)),
@@ -144,7 +144,7 @@ impl Element for Targets {
         tokens: &[Token],
     ) -> Result<(Target, &[Token]), ReadError> {
         if is_sign(tokens, Sign::Star) {
-            return Ok((Target::Star, behind(tokens, 1)));
+            return Ok((Target::Star, skip(tokens, 1)));
         }
         let (subscript, rest) = subscript(alloc, depths, tokens)?;
         Ok((Target::Sub(subscript), rest))

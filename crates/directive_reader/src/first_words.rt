@@ -6,7 +6,7 @@ ghost use Rattle.directive_reader.specs.Forms.{is_passed};
 ghost use Rattle.directive_reader.specs.Reading.{is_alignee, is_many, is_named, directive_kind};
 
 use crate::kind::Kind;
-use line_forms::{behind, is_sign, is_word};
+use line_forms::{is_sign, is_word, skip};
 use source_lines::{Token, TokenKind};
 use syntax_tree::Sign;
 
@@ -21,11 +21,11 @@ pub fn directive_kind(tokens: &[Token]) -> Option<Kind>
     } else if is_word(tokens, b"DYNAMIC") {
         Some(Kind::Dynamic)
     } else if is_word(tokens, b"DISTRIBUTE") {
-        Some(Kind::Distribute(is_sign(behind(tokens, 1), Sign::Open)))
+        Some(Kind::Distribute(is_sign(skip(tokens, 1), Sign::Open)))
     } else if is_word(tokens, b"REDISTRIBUTE") {
-        Some(Kind::Redistribute(is_sign(behind(tokens, 1), Sign::Open)))
+        Some(Kind::Redistribute(is_sign(skip(tokens, 1), Sign::Open)))
     } else if is_word(tokens, b"ALIGN") {
-        Some(Kind::Align(is_many(behind(tokens, 1))))
+        Some(Kind::Align(is_many(skip(tokens, 1))))
     } else if is_word(tokens, b"INDEPENDENT") {
         Some(Kind::Independent)
     } else {
@@ -33,14 +33,14 @@ pub fn directive_kind(tokens: &[Token]) -> Option<Kind>
     }
 }
 
-/// Whether the alignees stand behind `::`, by what stands behind ALIGN.
+/// Whether the alignees stand after `::`, by what stands after ALIGN.
 fn is_many(tokens: &[Token]) -> bool
     ensures { result ≡ is_many (lexemes tokens.now) }
 {
     if is_sign(tokens, Sign::Open) {
         return true;
     }
-    is_word(tokens, b"WITH") && !is_alignee(behind(tokens, 1))
+    is_word(tokens, b"WITH") && !is_alignee(skip(tokens, 1))
 }
 
 /// Whether the word WITH before these tokens is the name of an alignee.
@@ -50,7 +50,7 @@ fn is_alignee(tokens: &[Token]) -> bool
     if is_sign(tokens, Sign::Open) {
         return true;
     }
-    is_word(tokens, b"WITH") && is_named(behind(tokens, 1))
+    is_word(tokens, b"WITH") && is_named(skip(tokens, 1))
 }
 
 /// Whether a word stands in front.

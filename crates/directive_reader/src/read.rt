@@ -16,14 +16,14 @@ use crate::elements::Arrangements;
 use crate::first_words::{directive_kind, is_passed};
 use crate::kind::Kind;
 use crate::refusal::{is_left_out, left_out, not_read};
-use crate::specifications::{alignment_spec, distribution_spec, listed, names_behind};
+use crate::specifications::{alignment_spec, distribution_spec, listed, names_after};
 use hpf_base::StaticError;
 use line_forms::{Depths, ListedNames, ReadError, after_word};
 use source_lines::Token;
 use std::alloc::Global;
-use syntax_tree::{Directive, Names};
+use syntax_tree::{Directive, NameList};
 
-/// The directive that the tokens behind `!HPF$` spell, whole (HPF 2.0, 3, 5.1 and 8.5). One that begins with SEQUENCE,
+/// The directive that the tokens after `!HPF$` spell, whole (HPF 2.0, 3, 5.1 and 8.5). One that begins with SEQUENCE,
 /// NO, INHERIT, RANGE, SHADOW, ON, RESIDENT, TASK_REGION or END is passed over, whatever else stands there.
 ///
 /// `line` is the number of the line, from 1, of which every refusal speaks. Its reason is the least of those that hold:
@@ -74,7 +74,7 @@ pub fn directive(
     Ok(line)
 }
 
-/// A directive of the kind in front, and the tokens behind it.
+/// A directive of the kind in front, and the tokens after it.
 fn of_kind(
     alloc: Global,
     depths: Depths,
@@ -131,7 +131,7 @@ fn dynamic(
     let rest = after_word(tokens, b"DYNAMIC")?;
     let (names, rest) = listed::<ListedNames>(alloc, depths, rest)?;
     Ok((
-        DirectiveLine::Mapping(Directive::Dynamic(Names::new(names))),
+        DirectiveLine::Mapping(Directive::Dynamic(NameList::new(names))),
         rest,
     ))
 }
@@ -183,7 +183,7 @@ fn independent(
     ensures { Gives (λ x. (form_of x.0, lexemes x.1.now)) result (known depths Independent (lexemes tokens.now)) }
 {
     let rest = after_word(tokens, b"INDEPENDENT")?;
-    let (new, rest) = names_behind(alloc, depths, b"NEW", rest)?;
-    let (reduction, rest) = names_behind(alloc, depths, b"REDUCTION", rest)?;
+    let (new, rest) = names_after(alloc, depths, b"NEW", rest)?;
+    let (reduction, rest) = names_after(alloc, depths, b"REDUCTION", rest)?;
     Ok((DirectiveLine::Independent { new, reduction }, rest))
 }

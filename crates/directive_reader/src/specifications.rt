@@ -1,4 +1,4 @@
-//! What stands behind the words of directives.
+//! What stands after the words of directives.
 
 ghost use Rattle.std.specs.Prelude.{◌≡◌, false, true, [], ◌∷◌, map, IfOk};
 ghost use Rattle.syntax_tree.specs.Lexeme.{lexemes};
@@ -14,14 +14,14 @@ ghost use Rattle.directive_reader.specs.Views.{distribution_spec_of, alignment_s
 use crate::elements::{Formats, Sources, Targets, onto};
 use hpf_base::Name;
 use line_forms::{
-    Depths, Element, ListedNames, ReadError, after_sign, after_word, attribute, behind, comma_list,
-    enclosed, is_sign, name, optional_enclosed,
+    Depths, Element, ListedNames, ReadError, after_sign, after_word, attribute, comma_list,
+    enclosed, is_sign, name, optional_enclosed, skip,
 };
 use source_lines::Token;
 use std::alloc::{AllocError, Global};
-use syntax_tree::{AlignSpec, DistSpec, Names, Sign};
+use syntax_tree::{AlignSpec, DistSpec, NameList, Sign};
 
-/// The elements of a list that `::` may stand before, and the tokens behind them.
+/// The elements of a list that `::` may stand before, and the tokens after them.
 pub fn listed<T: Element>(
     alloc: Global,
     depths: Depths,
@@ -30,21 +30,21 @@ pub fn listed<T: Element>(
     ensures { Gives (λ x. ((false, map T.view x.0.items), lexemes x.1.now)) result (read depths (listed T.grammar) (lexemes tokens.now)) }
 {
     if is_sign(tokens, Sign::Colons) {
-        return comma_list::<T>(alloc, depths, behind(tokens, 1));
+        return comma_list::<T>(alloc, depths, skip(tokens, 1));
     }
     comma_list::<T>(alloc, depths, tokens)
 }
 
 /// One name alone.
-fn only(alloc: Global, name: Name) -> Result<Names, AllocError>
+fn only(alloc: Global, name: Name) -> Result<NameList, AllocError>
     ensures { IfOk result (λ names. names ≡ name ∷ []) }
 {
     let mut names = Vec::new(alloc);
     names.push(name)?;
-    Ok(Names::new(names))
+    Ok(NameList::new(names))
 }
 
-/// What DISTRIBUTE or REDISTRIBUTE says, behind its word.
+/// What DISTRIBUTE or REDISTRIBUTE says, after its word.
 pub fn distribution_spec(
     alloc: Global,
     depths: Depths,
@@ -103,7 +103,7 @@ fn many_distribution_spec(
     };
     let rest = after_sign(rest, Sign::Colons)?;
     let (names, rest) = comma_list::<ListedNames>(alloc, depths, rest)?;
-    let (names, colons) = (Names::new(names), true);
+    let (names, colons) = (NameList::new(names), true);
     Ok((
         DistSpec {
             names,
@@ -115,7 +115,7 @@ fn many_distribution_spec(
     ))
 }
 
-/// What ALIGN says, behind its word.
+/// What ALIGN says, after its word.
 pub fn alignment_spec(
     alloc: Global,
     depths: Depths,
@@ -179,7 +179,7 @@ fn many_alignment_spec(
     let (subs, rest) = optional_enclosed::<Targets>(alloc, depths, rest)?;
     let rest = after_sign(rest, Sign::Colons)?;
     let (names, rest) = comma_list::<ListedNames>(alloc, depths, rest)?;
-    let (names, colons) = (Names::new(names), true);
+    let (names, colons) = (NameList::new(names), true);
     Ok((
         AlignSpec {
             names,
@@ -192,18 +192,18 @@ fn many_alignment_spec(
     ))
 }
 
-/// The names in parentheses behind a comma and a word, where these stand; else none.
-pub fn names_behind<'a>(
+/// The names in parentheses after a comma and a word, where these stand; else none.
+pub fn names_after<'a>(
     alloc: Global,
     depths: Depths,
     word: &[u8],
     tokens: &'a [Token],
-) -> Result<(Names, &'a [Token]), ReadError>
+) -> Result<(NameList, &'a [Token]), ReadError>
     ensures { Gives (λ x. (names_in x.0, lexemes x.1.now)) result (read depths (Optional (attribute_key word.now) (enclosed Identifier)) (lexemes tokens.now)) }
 {
     if !attribute(tokens, word) {
-        return Ok((Names::new(Vec::new(alloc)), tokens));
+        return Ok((NameList::new(Vec::new(alloc)), tokens));
     }
-    let (names, rest) = enclosed::<ListedNames>(alloc, depths, behind(tokens, 2))?;
-    Ok((Names::new(names), rest))
+    let (names, rest) = enclosed::<ListedNames>(alloc, depths, skip(tokens, 2))?;
+    Ok((NameList::new(names), rest))
 }

@@ -22,7 +22,7 @@ use Rattle.node_code.specs.ProgramText.{Text, texts}
 use Rattle.lowering.specs.StatementCode.{block_copies, block_slots, program_code}
 use Rattle.node_machine.specs.Openings.{opening_machine, start_rows}
 use Rattle.nodes_lowered.specs.OnNodes.{AreUnmade, LieAsDeclared, LiesAsDeclared}
-use Rattle.nodes_lowered.specs.ProgramLayouts.{empty_layout, maps_behind, program_layouts}
+use Rattle.nodes_lowered.specs.ProgramLayouts.{empty_layout, maps_after, program_layouts}
 use Rattle.nodes_lowered.specs.ProgramRuns.{program_shapes, text_opening}
 use Rattle.nodes_lowered.proofs.Laid.{array-size}
 use Rattle.distributed_run.specs.Starts.{start_of}
@@ -84,14 +84,14 @@ module _ (nodes : ℕ) (p : MainProgram) (layouts : List Layout) (is : List Inst
       → values ≡ values_of (block_copies (resolved_block names p.body)) names → opening_machine (texts nodes [] shapes is) slots layouts values ≡ text_opening nodes p layouts
 
   opens : Opens (entries p)
-  opens laid code slots-behind dims first starts =
+  opens laid code slots-after dims first starts =
       let es : List Entry = entries p in
       let block : Block = resolved_block es p.body in
       let scalars : List ℤ = map (λ (e : Entry). initial_scalar e.what) es in
       let shaped : shapes ≡ program_shapes p = dims ∙ sym (map-map (λ (a : Array). a.dims) (λ (e : Entry). initial_array e.what) es) in
       ap (λ t. machine layouts t slots (start_rows layouts values)) (ap (λ s. texts nodes [] s is) shaped ∙ ap (texts nodes [] (program_shapes p)) code)
       ∙ ap (λ s. machine layouts (texts nodes [] (program_shapes p) (program_code (length es) block)) s (start_rows layouts values))
-      (first ∙ ap (λ k. scalars ++ replicate k (pos 0)) slots-behind)
+      (first ∙ ap (λ k. scalars ++ replicate k (pos 0)) slots-after)
       ∙ ap (machine layouts (texts nodes [] (program_shapes p) (program_code (length es) block)) (scalars ++ replicate (block_slots block) (pos 0)))
       (ap (start_rows layouts) starts ∙ rows-are nodes (block_copies block) es layouts laid)
 
@@ -101,4 +101,4 @@ module _ (nodes : ℕ) (p : MainProgram) (layouts : List Layout) (is : List Inst
 -- each row has a value
 pub values-count : (nodes room : ℕ) (es : List Entry) (maps : List ArrayMap) → length (values_of room es) ≡ length (program_layouts nodes room es maps)
 values-count nodes room [] maps = length-replicate room (pos 0) ∙ sym (length-replicate room (empty_layout nodes))
-values-count nodes room (e ∷ es) maps = ap suc (values-count nodes room es (maps_behind e.what maps))
+values-count nodes room (e ∷ es) maps = ap suc (values-count nodes room es (maps_after e.what maps))

@@ -3,7 +3,7 @@
 ghost use Rattle.std.specs.Prelude.{◌≡◌, ◌<◌, ◌≤◌, ◌++◌, All, IfOk, OnOk, Some, drop, length, replicate, slice_get};
 ghost use Rattle.hpf_base.specs.declared.limits.TheConstants.{MAX_NODES};
 ghost use Rattle.array_maps.specs.Maps.{IsArrayMap};
-ghost use Rattle.nodes_lowered.specs.ProgramLayouts.{empty_layout, layout_by, maps_behind, program_layouts};
+ghost use Rattle.nodes_lowered.specs.ProgramLayouts.{empty_layout, layout_by, maps_after, program_layouts};
 ghost use Rattle.distributed_run.specs.Starts.{first_layout};
 
 use array_maps::ArrayMap;
@@ -13,7 +13,7 @@ use name_table::{Entry, Names, What};
 use owner_tables::{OwnerTable, Owners};
 use std::alloc::Global;
 
-/// The tables of the declared names, by their places, and behind them those of so many copies before they are made. These are the mappings
+/// The tables of the declared names, by their places, and after them those of so many copies before they are made. These are the mappings
 /// of the arrays among the names; what is no array has no elements.
 pub(crate) fn program_owners(
     alloc: Global,
@@ -32,13 +32,13 @@ pub(crate) fn program_owners(
     for place in 0..names.len() {
         let what = &entry_at(names, place).what;
         owners.push(table_by(alloc, what, rest, nodes)?)?;
-        rest = maps_behind(what, rest);
+        rest = maps_after(what, rest);
     }
     push_copies(alloc, &mut owners, copies, nodes)?;
     Ok(owners)
 }
 
-/// Puts the tables of so many copies behind the others.
+/// Puts the tables of so many copies after the others.
 fn push_copies(
     alloc: Global,
     owners: &mut Owners,
@@ -119,18 +119,18 @@ fn empty_table(alloc: Global, nodes: u32) -> Result<OwnerTable, OutOfMemory>
     OwnerTable::of_copy(alloc, nodes, &[0])
 }
 
-/// The mappings of the arrays behind the name.
-fn maps_behind<'a>(what: &What, maps: &'a [ArrayMap]) -> &'a [ArrayMap]
-    ensures { result.now ≡ maps_behind what.now maps.now }
+/// The mappings of the arrays after the name.
+fn maps_after<'a>(what: &What, maps: &'a [ArrayMap]) -> &'a [ArrayMap]
+    ensures { result.now ≡ maps_after what.now maps.now }
 {
     match what {
-        What::Array(_, _) => behind_first(maps),
+        What::Array(_, _) => after_first(maps),
         _ => maps,
     }
 }
 
 /// All but the first.
-fn behind_first(maps: &[ArrayMap]) -> &[ArrayMap]
+fn after_first(maps: &[ArrayMap]) -> &[ArrayMap]
     ensures { result.now ≡ drop 1 maps.now }
 {
     if maps.is_empty() { maps } else { &maps[1..] }

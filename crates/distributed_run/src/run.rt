@@ -47,7 +47,7 @@ pub fn run_on_nodes(
     outcome_of(alloc, &accepted.program, last)
 }
 
-/// The nodes behind their run.
+/// The nodes after their run.
 fn last_nodes(alloc: Global, first: Vec<Node>) -> Result<Vec<Node>, OutOfMemory>
     requires phased { Lockstep program_steps (slice_get first.items) }
     requires few { length first.items < 2 ^ 32 }

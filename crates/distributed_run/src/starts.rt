@@ -25,7 +25,7 @@ pub(crate) fn first_slots(
     Ok(slots)
 }
 
-/// The value of the elements of each row at the start: of the declared names, by their places, and of so many copies behind them.
+/// The value of the elements of each row at the start: of the declared names, by their places, and of so many copies after them.
 pub(crate) fn first_values(
     alloc: Global,
     names: &Names,

@@ -48,7 +48,7 @@ record IsEntry (ds : List (Option Dim)) (ps : List ℕ) (dim g : ℕ) (e : MapDi
   procs : slice_get ps e.grid_dim ≡ Some e.line.procs
   form : IsForm e.line.form e.line.extent e.line.procs
   distributed : e.line.form ≢ Whole
-  behind : dim ≤ at
+  after : dim ≤ at
   later : g ≤ e.grid_dim
 
 weaken : (ds : List (Option Dim)) (ps : List ℕ) (dim g more : ℕ) (e : MapDim) → g ≤ more → IsEntry ds ps (suc dim) more e → IsEntry ds ps dim g e
@@ -63,7 +63,7 @@ weaken ds ps dim g more e before is = record {
   procs = is.procs;
   form = is.form;
   distributed = is.distributed;
-  behind = omega (arith, is.behind);
+  after = omega (arith, is.after);
   later = omega (arith, is.later, before);
 }
 
@@ -77,16 +77,16 @@ along_one x at k is moves = same_Some at k (sym (ap moves_along is) ∙ moves)
 apart : (ds : List (Option Dim)) (ps : List ℕ) (dim g : ℕ) (x y : MapDim) → x.align ≡ Linear dim (pos 1) (pos 0) → x.grid_dim ≡ g → IsEntry ds ps (suc dim) (suc g) y → Apart x y
 apart ds ps dim g x y along on is = (
   λ h. omega (arith, h, on, is.later),
-  λ k this that. omega (arith, along_one x dim k along this, along_one y is.at k is.align that, is.behind),
+  λ k this that. omega (arith, along_one x dim k along this, along_one y is.at k is.align that, is.after),
 )
 
--- what is made of the first dimension and of those behind it
+-- what is made of the first dimension and of those after it
 record Split (wide : Bool) (f : Option Form) (rest : Option (List MapDim)) (make : Form → MapDim) (ms : List MapDim) : Type 0 where
   within : wide ≡ false
   form : Form
   others : List MapDim
   is : f ≡ Some form
-  behind : rest ≡ Some others
+  after : rest ≡ Some others
   all : make form ∷ others ≡ ms
 
 split : (wide : Bool) (f : Option Form) (rest : Option (List MapDim)) (make : Form → MapDim) (ms : List MapDim) →
@@ -94,7 +94,7 @@ split : (wide : Bool) (f : Option Form) (rest : Option (List MapDim)) (make : Fo
 split true f rest make ms is = absurd cc
 split false None rest make ms is = absurd cc
 split false (Some f) None make ms is = absurd cc
-split false (Some f) (Some others) make ms is = record { within = refl; form = f; others = others; is = refl; behind = refl; all = same_Some (make f ∷ others) ms is }
+split false (Some f) (Some others) make ms is = record { within = refl; form = f; others = others; is = refl; after = refl; all = same_Some (make f ∷ others) ms is }
 
 at_most : (limit n : ℕ) → nat_lt limit n ≡ false → n ≤ limit
 at_most limit n h = grind (arith, nat_tests)
@@ -120,7 +120,7 @@ more ds ps f fs dim g (Some d) q ms dds at on some rest none all is =
     let large = neither (leaves_some f q d) (list_any is_block_too_small dds) all in
     let few : extent d ≤ MAX_TEMPLATE_EXTENT = at_most MAX_TEMPLATE_EXTENT (extent d) s.within in
     let good = form_is f d q s.form some few free.0 large.0 s.is in
-    let others = rest s.others free.1 large.1 s.behind in
+    let others = rest s.others free.1 large.1 s.after in
     let first : IsEntry ds ps dim g (make s.form) = record {
       at = dim;
       bounds = d;
@@ -132,7 +132,7 @@ more ds ps f fs dim g (Some d) q ms dds at on some rest none all is =
       procs = on;
       form = good.0;
       distributed = good.1;
-      behind = omega arith;
+      after = omega arith;
       later = omega arith;
     } in
     subst (Made ds ps dim g) s.all (

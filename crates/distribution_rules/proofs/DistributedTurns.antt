@@ -30,7 +30,7 @@ no_procs dim g (Cyclic k ∷ fs) (b ∷ bs) = refl
 add-none : (n : ℕ) → n + 0 ≡ n
 add-none n = omega arith
 
--- the rest behind a dimension, where so many dimensions of the arrangement are taken
+-- the rest after a dimension, where so many dimensions of the arrangement are taken
 abbrev rest : ℕ → ℕ → Option ℕ → List FormatValue → List (Option Dim) → List ℕ → List DistributedDim
 rest dim g taken fs bs ps = distributed_from (suc dim) (g + used taken) fs bs (drop (used taken) ps)
 
@@ -38,7 +38,7 @@ abbrev Step : FormatValue → Type 0
 Step f = (dim g : ℕ) (fs : List FormatValue) (b : Option Dim) (bs : List (Option Dim)) (ps : List ℕ) →
     distributed_from dim g (f ∷ fs) (b ∷ bs) ps ≡ distributed_at f dim b g (procs_for f ps) ++ rest dim g (procs_for f ps) fs bs ps
 
--- one dimension and those behind it
+-- one dimension and those after it
 step : (f : FormatValue) → Step f
 step Undistributed dim g fs b bs ps = ap (λ m. distributed_from (suc dim) m fs bs ps) (sym (add-none g))
 step DefaultBlock dim g fs b bs [] = sym (no_procs (suc dim) (g + 0) fs bs)

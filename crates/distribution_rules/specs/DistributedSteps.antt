@@ -31,7 +31,7 @@ abbrev pub too_small_at : FormatValue → Option Dim → Option ℕ → Bool
 too_small_at f b None = false
 too_small_at f b (Some p) = passes (leaves_some f p) b
 
--- entries of a mapping, and more behind them, where all are known
+-- entries of a mapping, and more after them, where all are known
 abbrev pub and_entries : Option (List MapDim) → Option (List MapDim) → Option (List MapDim)
 and_entries (Some ms) (Some ns) = Some (ms ++ ns)
 and_entries ms ns = None

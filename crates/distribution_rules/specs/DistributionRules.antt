@@ -51,7 +51,7 @@ abbrev pub known_extents : List (Option Dim) → Option (List ℕ) → Processor
 known_extents ds None = Unknown
 known_extents ds (Some ns) = if list_any is_empty_dim ds then Unknown else Extents ns
 
--- behind ONTO stands an arrangement whose rank is the number of the distributed dimensions
+-- after ONTO stands an arrangement whose rank is the number of the distributed dimensions
 abbrev pub onto_object : Option Object → ℕ → Processors
 onto_object o count =
     if has_kind is_arrangement_kind o && (length (object_dims o) == count) then known_extents (object_dims o) (extents (object_dims o))

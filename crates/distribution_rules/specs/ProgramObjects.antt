@@ -18,7 +18,7 @@ abbrev pub arrays_at : Option Entry → List Object
 arrays_at None = []
 arrays_at (Some e) = array_of e.name e.what
 
--- extents, and one or more behind them, where all are known
+-- extents, and one or more after them, where all are known
 abbrev pub and_extent : Option (List ℕ) → Option Dim → Option (List ℕ)
 and_extent (Some ns) (Some d) = Some (ns ++ extent d ∷ [])
 and_extent ns d = None

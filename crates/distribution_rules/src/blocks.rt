@@ -50,7 +50,7 @@ pub(crate) fn procs_for(format: &FormatValue, extents: &[u128], grid_dim: usize)
     }
 }
 
-/// The dimension of an arrangement behind one that is taken, if one is.
+/// The dimension of an arrangement after one that is taken, if one is.
 pub(crate) fn next_grid_dim(grid_dim: usize, procs: Option<u128>) -> usize
     requires { grid_dim + used procs < 2 ^ 64 }
     ensures { result ≡ grid_dim + used procs }

@@ -52,7 +52,7 @@ fn format_values(
     Ok(FormatValues::new(values))
 }
 
-/// A format, with the value of the expression behind it.
+/// A format, with the value of the expression after it.
 fn format_value(
     alloc: Global,
     setting: &Setting,

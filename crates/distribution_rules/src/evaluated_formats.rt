@@ -7,7 +7,7 @@ use hpf_base::Reason;
 use std::alloc::{AllocError, Global};
 use std::marker::Model;
 
-/// A format of a dimension, with the value of the expression behind it. CYCLIC alone is CYCLIC(1).
+/// A format of a dimension, with the value of the expression after it. CYCLIC alone is CYCLIC(1).
 #[derive(Debug, Drop)]
 pub enum FormatValue {
     Undistributed,

@@ -101,7 +101,7 @@ fn one_line(alloc: Global, grid: &Grid) -> Result<ProcessorExtents, AllocError>
     Ok(extents)
 }
 
-/// The arrangement behind ONTO, where so many dimensions are distributed. The object None stands for a name that is no array, template or
+/// The arrangement after ONTO, where so many dimensions are distributed. The object None stands for a name that is no array, template or
 /// arrangement.
 pub(crate) fn onto_object(
     alloc: Global,

@@ -16,7 +16,7 @@ use name_table::{Names, Program, What};
 use std::alloc::{AllocError, Global};
 use syntax_tree::{Bound, Decl, DeclKind, Directive, Entity};
 
-/// The arrays of a program with these names, and its templates and arrangements behind them.
+/// The arrays of a program with these names, and its templates and arrangements after them.
 pub(crate) fn objects_of(
     alloc: Global,
     grid: &Grid,
@@ -101,7 +101,7 @@ fn known_dims(alloc: Global, dims: &[Dim]) -> Result<Vec<Option<Dim>>, AllocErro
     Ok(known)
 }
 
-/// The templates and the arrangements of declarations, behind other objects.
+/// The templates and the arrangements of declarations, after other objects.
 fn push_spaces(
     alloc: Global,
     grid: &Grid,
@@ -166,7 +166,7 @@ fn push_directed(
     }
 }
 
-/// Templates or arrangements, behind other objects.
+/// Templates or arrangements, after other objects.
 fn push_entities(
     alloc: Global,
     grid: &Grid,

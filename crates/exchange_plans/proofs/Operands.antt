@@ -4,8 +4,8 @@ use Rattle.std.specs.Prelude.{Vec}
 use Rattle.op_tables.specs.declared.op.Op.{Op}
 use Rattle.node_code.specs.declared.flat.Flat.{Flat as HeldFlat}
 use Rattle.node_code.specs.declared.flat.Flat.TheVariants as held
-use Rattle.node_code.specs.declared.form.Form.{Form as HeldForm}
-use Rattle.node_code.specs.declared.form.Form.TheVariants as held_form
+use Rattle.node_code.specs.declared.form.ArrayForm.{ArrayForm as HeldForm}
+use Rattle.node_code.specs.declared.form.ArrayForm.TheVariants as held_form
 use Rattle.node_code.specs.Texts.{flat, flats_of, form, forms_of}
 use Rattle.node_code.proofs.Rows.{operated_vec, operation_vec}
 use Rattle.exchange_plans.specs.Agreement.{agree_on_flat, agree_on_flats, agree_on_form, agree_on_forms}

@@ -11,7 +11,7 @@ use Rattle.array_meaning.specs.Sections.{extents, subscripts_at, positions, valu
 use Rattle.machine_steps.specs.Layout.{Layout, in_bounds}
 use Rattle.machine_steps.specs.Message.{computes_left, first_read, least_or_zero}
 use Rattle.node_code.specs.Flat.{Flat, Int, Slot, Axis, Read, Operated, Flats, NoFlat, AndFlat, slot, flat_value, flat_values, or_zero}
-use Rattle.node_code.specs.Forms.{Sub, SubAt, SubAlong, Form, FlatForm, SectionForm, OperationForm, Forms, NoForm, AndForm, sequence_in, selections_at, elemental_at, elementals_at}
+use Rattle.node_code.specs.Forms.{Sub, SubAt, SubAlong, ArrayForm, FlatForm, SectionForm, OperationForm, Forms, NoForm, AndForm, sequence_in, selections_at, elemental_at, elementals_at}
 use Rattle.node_code.specs.Instructions as code
 use Rattle.node_code.specs.Instructions.{ArrayTable, Instruction, meaning_of}
 use Rattle.node_code.specs.Parallel.{Assignment, Evaluation, indices_in, mask_reads, reads_at, spot_of}
@@ -53,7 +53,7 @@ module _ (old new : List ℤ) where
   selections_same axes (SubAlong v ∷ ds) is = λ i. Along (sequence_same v (both _ _ is).0 i) ∷ selections_same axes ds (both _ _ is).1 i
 
   mutual
-    elemental_same : (axes : List ℤ) (f : Form) → agree_on_form old new f ≡ true → elemental_at old axes f ≡ elemental_at new axes f
+    elemental_same : (axes : List ℤ) (f : ArrayForm) → agree_on_form old new f ≡ true → elemental_at old axes f ≡ elemental_at new axes f
     elemental_same axes (FlatForm f) is = λ i. Same (or_zero (flat_same axes f is i))
     elemental_same axes (SectionForm a ds) is = ap (Selected a) (selections_same axes ds is)
     elemental_same axes (OperationForm o fs) is = ap (Operation o) (elementals_same axes fs is)

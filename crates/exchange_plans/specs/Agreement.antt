@@ -3,7 +3,7 @@ use Rattle.std.specs.Prelude.{ℕ, ◌+◌, ◌&&◌, Bool, true, false, List, �
 use Rattle.std.specs.List.{list_all}
 use Rattle.std.specs.Ordering.{int_eq}
 use Rattle.node_code.specs.Flat.{Flat, Int, Slot, Axis, Read, Operated, Flats, NoFlat, AndFlat, slot}
-use Rattle.node_code.specs.Forms.{Sub, SubAt, SubAlong, Form, FlatForm, SectionForm, OperationForm, Forms, NoForm, AndForm}
+use Rattle.node_code.specs.Forms.{Sub, SubAt, SubAlong, ArrayForm, FlatForm, SectionForm, OperationForm, Forms, NoForm, AndForm}
 use Rattle.node_code.specs.Instructions as code
 use Rattle.node_code.specs.Instructions.{Instruction}
 use Rattle.node_code.specs.Parallel.{Assignment, Evaluation}
@@ -32,7 +32,7 @@ abbrev pub agree_on_subs : List ℤ → List ℤ → List Sub → Bool
 agree_on_subs old new ds = list_all (agree_on_sub old new) ds
 
 abbrev mutual
-  pub agree_on_form : List ℤ → List ℤ → Form → Bool
+  pub agree_on_form : List ℤ → List ℤ → ArrayForm → Bool
   agree_on_form old new (FlatForm f) = agree_on_flat old new f
   agree_on_form old new (SectionForm a ds) = agree_on_subs old new ds
   agree_on_form old new (OperationForm o fs) = agree_on_forms old new fs

@@ -5,7 +5,7 @@ ghost use Rattle.node_code.specs.Flat.{slot};
 ghost use Rattle.node_code.specs.Texts.{assignment, evaluation, flat, flats_of, form, forms_of, instruction, sub, subs};
 ghost use Rattle.exchange_plans.specs.Agreement.{agree_at, agree_on, agree_on_assignment, agree_on_evaluation, agree_on_flat, agree_on_flats, agree_on_form, agree_on_forms, agree_on_sub, agree_on_subs};
 
-use node_code::{Assignment, Evaluation, Flat, Form, Instruction, Sub};
+use node_code::{ArrayForm, Assignment, Evaluation, Flat, Instruction, Sub};
 use slot_values::slot;
 
 /// Whether the instruction is a parallel statement or a reduction, and the slots are the kept ones wherever it mentions them. It takes no memory.
@@ -40,19 +40,19 @@ fn evaluation_agrees(p: &Evaluation, kept: &[i64], slots: &[i64]) -> bool
 
 /// Those of a form.
 #[cycle(form_agrees)]
-fn form_agrees(f: &Form, kept: &[i64], slots: &[i64]) -> bool
+fn form_agrees(f: &ArrayForm, kept: &[i64], slots: &[i64]) -> bool
     ensures { result ≡ agree_on_form kept.now slots.now (form f.now) }
 {
     match f {
-        Form::Flat(f) => flat_agrees(f, kept, slots),
-        Form::Section(_, ds) => subs_agree(ds, kept, slots),
-        Form::Operation(_, fs) => forms_agree(fs, kept, slots),
+        ArrayForm::Flat(f) => flat_agrees(f, kept, slots),
+        ArrayForm::Section(_, ds) => subs_agree(ds, kept, slots),
+        ArrayForm::Operation(_, fs) => forms_agree(fs, kept, slots),
     }
 }
 
 /// Those of operands.
 #[cycle(form_agrees)]
-fn forms_agree(fs: &Vec<Form>, kept: &[i64], slots: &[i64]) -> bool
+fn forms_agree(fs: &Vec<ArrayForm>, kept: &[i64], slots: &[i64]) -> bool
     ensures { result ≡ agree_on_forms kept.now slots.now (forms_of fs.now.items) }
 {
     for f in fs {
@@ -83,8 +83,8 @@ fn sub_agrees(d: &Sub, kept: &[i64], slots: &[i64]) -> bool
         Sub::At(f) => flat_agrees(f, kept, slots),
         Sub::Along(v) => {
             slot_agrees(*v, kept, slots)
-                & slot_behind_agrees(*v, 1, kept, slots)
-                & slot_behind_agrees(*v, 2, kept, slots)
+                & slot_after_agrees(*v, 1, kept, slots)
+                & slot_after_agrees(*v, 2, kept, slots)
         }
     }
 }
@@ -123,16 +123,16 @@ fn slot_agrees(k: usize, kept: &[i64], slots: &[i64]) -> bool
     slot(kept, k) == slot(slots, k)
 }
 
-/// The same of the first or second slot behind one.
-fn slot_behind_agrees(v: usize, k: usize, kept: &[i64], slots: &[i64]) -> bool
+/// The same of the first or second slot after one.
+fn slot_after_agrees(v: usize, k: usize, kept: &[i64], slots: &[i64]) -> bool
     requires near { k ≤ 2 }
     ensures { result ≡ agree_at kept.now slots.now (v + k) }
 {
-    slot_behind(kept, v, k) == slot_behind(slots, v, k)
+    slot_after(kept, v, k) == slot_after(slots, v, k)
 }
 
-/// The value of the first or second slot behind one.
-fn slot_behind(slots: &[i64], v: usize, k: usize) -> i64
+/// The value of the first or second slot after one.
+fn slot_after(slots: &[i64], v: usize, k: usize) -> i64
     requires near { k ≤ 2 }
     ensures { result ≡ slot slots.now (v + k) }
 {

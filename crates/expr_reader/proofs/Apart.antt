@@ -8,7 +8,7 @@ use Rattle.syntax_tree.specs.Lexeme.{Lexeme, Word, Integer, Fixed, sign_of}
 use Rattle.syntax_tree.specs.Operators.{binary_of, unary_of, level, left_place, right_place, intrinsic}
 use Rattle.syntax_tree.specs.Expression.{Expression, Number, Name, Call, Unary, Binary, Closed, Part, One, Range, Glued, Parts, End, More, Maybe, Absent, Present, kept, part_kept, all_kept, maybe_kept}
 use Rattle.syntax_tree.specs.Spelling.{binds}
-use Rattle.expr_reader.specs.Reading.{◌>>=◌, Core, Readers, is_open, is_close, is_colon, is_colons, name_with, name_at, are_arguments, if_arguments, arguments_at, call_at, word_at, closed_at, unary_at, operand_at, expr_at, joined_at, goes_with, goes_on, more_with, more_at, rest_at, core_at, from_here, maybe_at, step_at, range_at, one_at, glued_at, part_from, part_at, list_at, at_lexeme, behind, reading, apart}
+use Rattle.expr_reader.specs.Reading.{◌>>=◌, Core, Readers, is_open, is_close, is_colon, is_colons, name_with, name_at, are_arguments, if_arguments, arguments_at, call_at, word_at, closed_at, unary_at, operand_at, expr_at, joined_at, goes_with, goes_on, more_with, more_at, rest_at, core_at, from_here, maybe_at, step_at, range_at, one_at, glued_at, part_from, part_at, list_at, at_lexeme, after, reading, apart}
 
 -- with something done to the value
 abbrev pub mapped : {A : Type 0} → (A → A) → Option (A × ℕ) → Option (A × ℕ)
@@ -210,12 +210,12 @@ agree_at f g t ih = record {
     cores zero = (refl, (λ k. kept_expr f g ih k t), kept_rest f g ih t)
     cores (suc d) = ((ih d).head, (ih d).expr, (ih d).rest)
 
-agree_behind : (ts : List Lexeme) (d : ℕ) → Agrees (behind Glued ts d) (behind apart ts d)
-unfolding behind
-agree_behind [] d = record { head = refl; expr = λ k. refl; more = λ k e n. refl; rest = refl; list = refl }
-agree_behind (t ∷ ts) zero = agree_at (behind Glued ts) (behind apart ts) t (agree_behind ts)
-agree_behind (t ∷ ts) (suc d) = agree_behind ts d
+agree_after : (ts : List Lexeme) (d : ℕ) → Agrees (after Glued ts d) (after apart ts d)
+unfolding after
+agree_after [] d = record { head = refl; expr = λ k. refl; more = λ k e n. refl; rest = refl; list = refl }
+agree_after (t ∷ ts) zero = agree_at (after Glued ts) (after apart ts) t (agree_after ts)
+agree_after (t ∷ ts) (suc d) = agree_after ts d
 
 pub agree : (ts : List Lexeme) → Agrees (reading Glued ts) (reading apart ts)
 unfolding reading
-agree ts = agree_behind ts 0
+agree ts = agree_after ts 0

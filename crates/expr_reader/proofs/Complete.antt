@@ -9,7 +9,7 @@ use Rattle.expr_reader.specs.Reading.{arguments_at, part_at, reading, on}
 use Rattle.expr_reader.proofs.Equations.{core_reading}
 use Rattle.expr_reader.proofs.Sound.{few_levels}
 use Rattle.expr_reader.proofs.Operands.{Comes, Finds, finds, comes_from, starts_number, starts_truth, starts_name, starts_element, starts_call, starts_closed, starts_unary, comes_binary}
-use Rattle.expr_reader.proofs.Lists.{BehindPart, finds_one, finds_range, finds_glued, finds_list, finds_rest, empty_arguments, arguments_are_parts, some_arguments}
+use Rattle.expr_reader.proofs.Lists.{AfterPart, finds_one, finds_range, finds_glued, finds_list, finds_rest, empty_arguments, arguments_are_parts, some_arguments}
 
 mutual
   pub comes : (e : Expression) → IsFormed e → (us : List Lexeme) → Comes e us
@@ -39,7 +39,7 @@ mutual
   comes_rest End w us = ap (λ c. c.rest) (core_reading Glued (Fixed sign.Close) us)
   comes_rest (More p ps) w us = finds_rest p ps us (finds_list p ps us (comes_part p w.0) (comes_rest ps w.1 us))
 
-  comes_part : (p : Part) → IsPart p → (vs : List Lexeme) → BehindPart vs → part_at Glued (λ d. (on Glued (part_spelling p ++ vs) d).core) ≡ Some (p, length (part_spelling p))
+  comes_part : (p : Part) → IsPart p → (vs : List Lexeme) → AfterPart vs → part_at Glued (λ d. (on Glued (part_spelling p ++ vs) d).core) ≡ Some (p, length (part_spelling p))
   comes_part (One e) w vs h = finds_one e vs h (finds 0 e vs (omega arith) (omega arith) (comes e w vs))
   comes_part (Range a b c) w vs h = finds_range a b c vs h (comes_maybe a w.0) (comes_maybe b w.1) (comes_maybe c w.2)
   comes_part (Glued a e) w vs h = finds_glued a e vs h (comes_maybe a w.0) (finds 0 e vs (omega arith) (omega arith) (comes e w.1 vs))

@@ -2,25 +2,25 @@
 use Rattle.std.proofs.Common.{◌≡◌, ℕ, zero, suc, List, [], ◌∷◌, drop, refl, sym, ap, ◌∙◌}
 use Rattle.syntax_tree.specs.Lexeme.{Lexeme}
 use Rattle.syntax_tree.specs.Expression.{Expression, Part, Maybe}
-use Rattle.expr_reader.specs.Reading.{core_at, from_here, list_at, at_lexeme, at_end, behind, reading, on}
+use Rattle.expr_reader.specs.Reading.{core_at, from_here, list_at, at_lexeme, at_end, after, reading, on}
 
 module _ (glue : Maybe → Expression → Part) where
-  behind-drop : (ts : List Lexeme) (d : ℕ) → behind glue ts d ≡ reading glue (drop d ts)
-  unfolding behind reading
-  behind-drop [] zero = refl
-  behind-drop [] (suc d) = refl
-  behind-drop (t ∷ ts) zero = refl
-  behind-drop (t ∷ ts) (suc d) = behind-drop ts d
+  after-drop : (ts : List Lexeme) (d : ℕ) → after glue ts d ≡ reading glue (drop d ts)
+  unfolding after reading
+  after-drop [] zero = refl
+  after-drop [] (suc d) = refl
+  after-drop (t ∷ ts) zero = refl
+  after-drop (t ∷ ts) (suc d) = after-drop ts d
 
-  behind-all : (ts : List Lexeme) → behind glue ts ≡ (λ d. reading glue (drop d ts))
-  behind-all ts = λ i d. behind-drop ts d i
+  after-all : (ts : List Lexeme) → after glue ts ≡ (λ d. reading glue (drop d ts))
+  after-all ts = λ i d. after-drop ts d i
 
   pub reading_at : (t : Lexeme) (ts : List Lexeme) → reading glue (t ∷ ts) ≡ at_lexeme glue (λ d. reading glue (drop d ts)) t
-  unfolding reading behind
-  reading_at t ts = ap (λ f. at_lexeme glue f t) (behind-all ts)
+  unfolding reading after
+  reading_at t ts = ap (λ f. at_lexeme glue f t) (after-all ts)
 
   pub reading_at_end : reading glue [] ≡ at_end glue
-  unfolding reading behind
+  unfolding reading after
   reading_at_end = refl
 
   -- the core at a lexeme

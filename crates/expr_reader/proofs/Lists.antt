@@ -10,7 +10,7 @@ use Rattle.expr_reader.proofs.Equations.{core_reading, list_all, reading_at_end}
 use Rattle.expr_reader.proofs.Sound.{drop_taken}
 use Rattle.expr_reader.proofs.Operands.{Stops, inner, Finds, head_reading, on_taken}
 
--- what may stand behind a part of a list, or behind an expression in it
+-- what may stand after a part of a list, or after an expression in it
 abbrev pub is_halt : Lexeme → Bool
 is_halt (Fixed sign.Close) = true
 is_halt (Fixed sign.Comma) = true
@@ -47,49 +47,49 @@ finds_maybe (Present e) ws h find =
     let f = find e refl in
     ap maybe_at (f.reads ∙ ap Some (f.exact (halts_stop ws (inner e) h) (halts_stop ws 0 h)))
 
--- what is read behind the first of two parts of the lexemes
+-- what is read after the first of two parts of the lexemes
 on_part : (ts us vs : List Lexeme) (n : ℕ) → ts ≡ us ++ vs → n ≡ length us → on Glued ts n ≡ reading Glued vs
 on_part ts us vs n e l = ap (λ ts. on Glued ts n) e ∙ ap (reading Glued) (drop_taken us vs n l)
 
--- what stands behind a whole part of a list
-abbrev pub BehindPart : List Lexeme → Type 0
-BehindPart [] = ⊥
-BehindPart (t ∷ ts) = (is_halt t ≡ true) × (is_colon (sign_of t) ≡ false) × (is_colons (sign_of t) ≡ false)
+-- what stands after a whole part of a list
+abbrev pub AfterPart : List Lexeme → Type 0
+AfterPart [] = ⊥
+AfterPart (t ∷ ts) = (is_halt t ≡ true) × (is_colon (sign_of t) ≡ false) × (is_colons (sign_of t) ≡ false)
 
-behind_part_halts : (ts : List Lexeme) → BehindPart ts → Halts ts
-behind_part_halts [] h = absurd h
-behind_part_halts (t ∷ ts) h = h.0
+after_part_halts : (ts : List Lexeme) → AfterPart ts → Halts ts
+after_part_halts [] h = absurd h
+after_part_halts (t ∷ ts) h = h.0
 
-behind_part_colon : (ts : List Lexeme) → BehindPart ts → is_colon (reading Glued ts).core.head ≡ false
-behind_part_colon [] h = absurd h
-behind_part_colon (t ∷ ts) h = ap is_colon (head_reading t ts) ∙ h.1
+after_part_colon : (ts : List Lexeme) → AfterPart ts → is_colon (reading Glued ts).core.head ≡ false
+after_part_colon [] h = absurd h
+after_part_colon (t ∷ ts) h = ap is_colon (head_reading t ts) ∙ h.1
 
-behind_part_colons : (ts : List Lexeme) → BehindPart ts → is_colons (reading Glued ts).core.head ≡ false
-behind_part_colons [] h = absurd h
-behind_part_colons (t ∷ ts) h = ap is_colons (head_reading t ts) ∙ h.2
+after_part_colons : (ts : List Lexeme) → AfterPart ts → is_colons (reading Glued ts).core.head ≡ false
+after_part_colons [] h = absurd h
+after_part_colons (t ∷ ts) h = ap is_colons (head_reading t ts) ∙ h.2
 
-pub finds_one : (e : Expression) (vs : List Lexeme) → BehindPart vs → Finds 0 e vs → part_at Glued (λ d. (on Glued (spelling e ++ vs) d).core) ≡ Some (One e, length (spelling e))
+pub finds_one : (e : Expression) (vs : List Lexeme) → AfterPart vs → Finds 0 e vs → part_at Glued (λ d. (on Glued (spelling e ++ vs) d).core) ≡ Some (One e, length (spelling e))
 finds_one e vs h f =
     let ts = spelling e ++ vs in
-    let halt = behind_part_halts vs h in
+    let halt = after_part_halts vs h in
     let first : maybe_at ((reading Glued ts).core.expr 0) ≡ (Present e, length (spelling e)) =
     ap maybe_at (f.reads ∙ ap Some (f.exact (halts_stop vs (inner e) halt) (halts_stop vs 0 halt))) in
     ap (λ a. part_from Glued (λ d. (on Glued ts d).core) a.0 a.1) first
-    ∙ cond-false _ _ _ (ap (λ r. is_colon r.core.head) (on_taken (spelling e) vs) ∙ behind_part_colon vs h)
-    ∙ cond-false _ _ (Some (One e, length (spelling e))) (ap (λ r. is_colons r.core.head) (on_taken (spelling e) vs) ∙ behind_part_colons vs h)
+    ∙ cond-false _ _ _ (ap (λ r. is_colon r.core.head) (on_taken (spelling e) vs) ∙ after_part_colon vs h)
+    ∙ cond-false _ _ (Some (One e, length (spelling e))) (ap (λ r. is_colons r.core.head) (on_taken (spelling e) vs) ∙ after_part_colons vs h)
 
 -- the step of a triplet, where what stands before it is text
-finds_step : (a b c : Maybe) (ts text vs : List Lexeme) → BehindPart vs → ts ≡ text ++ (step_spelling c ++ vs)
+finds_step : (a b c : Maybe) (ts text vs : List Lexeme) → AfterPart vs → ts ≡ text ++ (step_spelling c ++ vs)
     → ((e : Expression) → c ≡ Present e → Finds 0 e vs)
     → step_at (λ d. (on Glued ts d).core) a b (length text) ≡ Some (Range a b c, length (text ++ step_spelling c))
 finds_step a b Absent ts text vs h is find =
-    cond-false _ _ (Some (Range a b Absent, length text)) (ap (λ r. is_colon r.core.head) (on_part ts text vs (length text) is refl) ∙ behind_part_colon vs h)
+    cond-false _ _ (Some (Range a b Absent, length text)) (ap (λ r. is_colon r.core.head) (on_part ts text vs (length text) is refl) ∙ after_part_colon vs h)
     ∙ ap (λ l. Some (Range a b Absent, length l)) (sym (append-nil text))
 finds_step a b (Present e) ts text vs h is find =
     let f = find e refl in
     let n = length text in
     let ws = spelling e ++ vs in
-    let halt = behind_part_halts vs h in
+    let halt = after_part_halts vs h in
     let here : on Glued ts n ≡ reading Glued (Fixed sign.Colon ∷ ws) = on_part ts text (Fixed sign.Colon ∷ ws) n is refl in
     let next : on Glued ts (n + 1) ≡ reading Glued ws =
     on_part ts (text ++ Fixed sign.Colon ∷ []) ws (n + 1) (is ∙ sym (append_assoc text (Fixed sign.Colon ∷ []) ws))
@@ -101,11 +101,11 @@ finds_step a b (Present e) ts text vs h is find =
     ∙ ap (λ o. o >>= λ c. Some (Range a b (Present c.0), n + 1 + c.1)) (f.reads ∙ ap Some (f.exact (halts_stop vs (inner e) halt) (halts_stop vs 0 halt)))
     ∙ ap (λ m. Some (Range a b (Present e), m)) long
 
-step_halts : (c : Maybe) (vs : List Lexeme) → BehindPart vs → Halts (step_spelling c ++ vs)
-step_halts Absent vs h = behind_part_halts vs h
+step_halts : (c : Maybe) (vs : List Lexeme) → AfterPart vs → Halts (step_spelling c ++ vs)
+step_halts Absent vs h = after_part_halts vs h
 step_halts (Present e) vs h = refl
 
-pub finds_range : (a b c : Maybe) (vs : List Lexeme) → BehindPart vs → ((e : Expression) (ws : List Lexeme) → a ≡ Present e → Finds 0 e ws)
+pub finds_range : (a b c : Maybe) (vs : List Lexeme) → AfterPart vs → ((e : Expression) (ws : List Lexeme) → a ≡ Present e → Finds 0 e ws)
     → ((e : Expression) (ws : List Lexeme) → b ≡ Present e → Finds 0 e ws) → ((e : Expression) (ws : List Lexeme) → c ≡ Present e → Finds 0 e ws)
     → part_at Glued (λ d. (on Glued (part_spelling (Range a b c) ++ vs) d).core) ≡ Some (Range a b c, length (part_spelling (Range a b c)))
 finds_range a b c vs h fa fb fc =
@@ -114,22 +114,22 @@ finds_range a b c vs h fa fb fc =
     let sc = step_spelling c in
     let ts = part_spelling (Range a b c) ++ vs in
     let n = length ma in
-    let behind_b = sc ++ vs in
-    let behind_colon = mb ++ behind_b in
-    let at_first : ts ≡ ma ++ (Fixed sign.Colon ∷ behind_colon) =
+    let after_b = sc ++ vs in
+    let after_colon = mb ++ after_b in
+    let at_first : ts ≡ ma ++ (Fixed sign.Colon ∷ after_colon) =
     append_assoc ma (Fixed sign.Colon ∷ (mb ++ sc)) vs ∙ ap (λ l. ma ++ (Fixed sign.Colon ∷ l)) (append_assoc mb sc vs) in
-    let at_last : ts ≡ (ma ++ Fixed sign.Colon ∷ []) ++ behind_colon = at_first ∙ sym (append_assoc ma (Fixed sign.Colon ∷ []) behind_colon) in
+    let at_last : ts ≡ (ma ++ Fixed sign.Colon ∷ []) ++ after_colon = at_first ∙ sym (append_assoc ma (Fixed sign.Colon ∷ []) after_colon) in
     let text = (ma ++ Fixed sign.Colon ∷ []) ++ mb in
-    let at_step : ts ≡ text ++ behind_b = at_last ∙ sym (append_assoc (ma ++ Fixed sign.Colon ∷ []) mb behind_b) in
+    let at_step : ts ≡ text ++ after_b = at_last ∙ sym (append_assoc (ma ++ Fixed sign.Colon ∷ []) mb after_b) in
     let first : maybe_at ((reading Glued ts).core.expr 0) ≡ (a, n) =
-    ap (λ ts. maybe_at ((reading Glued ts).core.expr 0)) at_first ∙ finds_maybe a (Fixed sign.Colon ∷ behind_colon) refl (λ e is. fa e _ is) in
+    ap (λ ts. maybe_at ((reading Glued ts).core.expr 0)) at_first ∙ finds_maybe a (Fixed sign.Colon ∷ after_colon) refl (λ e is. fa e _ is) in
     let here : is_colon (on Glued ts n).core.head ≡ true =
-    ap (λ r. is_colon r.core.head) (on_part ts ma (Fixed sign.Colon ∷ behind_colon) n at_first refl)
-    ∙ ap is_colon (head_reading (Fixed sign.Colon) behind_colon) in
-    let next : on Glued ts (n + 1) ≡ reading Glued behind_colon =
-    on_part ts (ma ++ Fixed sign.Colon ∷ []) behind_colon (n + 1) at_last (omega (arith, length-append ma (Fixed sign.Colon ∷ []))) in
+    ap (λ r. is_colon r.core.head) (on_part ts ma (Fixed sign.Colon ∷ after_colon) n at_first refl)
+    ∙ ap is_colon (head_reading (Fixed sign.Colon) after_colon) in
+    let next : on Glued ts (n + 1) ≡ reading Glued after_colon =
+    on_part ts (ma ++ Fixed sign.Colon ∷ []) after_colon (n + 1) at_last (omega (arith, length-append ma (Fixed sign.Colon ∷ []))) in
     let last : maybe_at ((on Glued ts (n + 1)).core.expr 0) ≡ (b, length mb) =
-    ap (λ r. maybe_at (r.core.expr 0)) next ∙ finds_maybe b behind_b (step_halts c vs h) (λ e is. fb e _ is) in
+    ap (λ r. maybe_at (r.core.expr 0)) next ∙ finds_maybe b after_b (step_halts c vs h) (λ e is. fb e _ is) in
     let long : n + 1 + length mb ≡ length text = omega (arith, length-append ma (Fixed sign.Colon ∷ []), length-append (ma ++ Fixed sign.Colon ∷ []) mb) in
     let whole : text ++ sc ≡ part_spelling (Range a b c) = append_assoc (ma ++ Fixed sign.Colon ∷ []) mb sc ∙ append_assoc ma (Fixed sign.Colon ∷ []) (mb ++ sc) in
     ap (λ a. part_from Glued (λ d. (on Glued ts d).core) a.0 a.1) first
@@ -139,7 +139,7 @@ finds_range a b c vs h fa fb fc =
     ∙ finds_step a b c ts text vs h at_step (λ e is. fc e vs is)
     ∙ ap (λ l. Some (Range a b c, length l)) whole
 
-pub finds_glued : (a : Maybe) (e : Expression) (vs : List Lexeme) → BehindPart vs
+pub finds_glued : (a : Maybe) (e : Expression) (vs : List Lexeme) → AfterPart vs
     → ((x : Expression) (ws : List Lexeme) → a ≡ Present x → Finds 0 x ws) → Finds 0 e vs
     → part_at Glued (λ d. (on Glued (part_spelling (Glued a e) ++ vs) d).core) ≡ Some (Glued a e, length (part_spelling (Glued a e)))
 finds_glued a e vs h fa f =
@@ -147,7 +147,7 @@ finds_glued a e vs h fa f =
     let ts = part_spelling (Glued a e) ++ vs in
     let n = length ma in
     let ws = spelling e ++ vs in
-    let halt = behind_part_halts vs h in
+    let halt = after_part_halts vs h in
     let at_first : ts ≡ ma ++ (Fixed sign.Colons ∷ ws) = append_assoc ma (Fixed sign.Colons ∷ spelling e) vs in
     let at_step : ts ≡ (ma ++ Fixed sign.Colons ∷ []) ++ ws = at_first ∙ sym (append_assoc ma (Fixed sign.Colons ∷ []) ws) in
     let first : maybe_at ((reading Glued ts).core.expr 0) ≡ (a, n) =
@@ -162,12 +162,12 @@ finds_glued a e vs h fa f =
     ∙ ap (λ o. o >>= λ c. Some (Glued a c.0, n + 1 + c.1)) (f.reads ∙ ap Some (f.exact (halts_stop vs (inner e) halt) (halts_stop vs 0 halt)))
     ∙ ap (λ m. Some (Glued a e, m)) long
 
-rest_behind_part : (ps : Parts) (us : List Lexeme) → BehindPart (rest_spelling ps ++ us)
-rest_behind_part End us = (refl, refl, refl)
-rest_behind_part (More p ps) us = (refl, refl, refl)
+rest_after_part : (ps : Parts) (us : List Lexeme) → AfterPart (rest_spelling ps ++ us)
+rest_after_part End us = (refl, refl, refl)
+rest_after_part (More p ps) us = (refl, refl, refl)
 
 pub finds_list : (p : Part) (ps : Parts) (us : List Lexeme)
-    → ((vs : List Lexeme) → BehindPart vs → part_at Glued (λ d. (on Glued (part_spelling p ++ vs) d).core) ≡ Some (p, length (part_spelling p)))
+    → ((vs : List Lexeme) → AfterPart vs → part_at Glued (λ d. (on Glued (part_spelling p ++ vs) d).core) ≡ Some (p, length (part_spelling p)))
     → (reading Glued (rest_spelling ps ++ us)).core.rest ≡ Some (ps, length (rest_spelling ps))
     → (reading Glued (parts_spelling (More p ps) ++ us)).list ≡ Some (More p ps, length (parts_spelling (More p ps)))
 finds_list p ps us find rest =
@@ -175,7 +175,7 @@ finds_list p ps us find rest =
     let ts = part_spelling p ++ vs in
     ap (λ ts. (reading Glued ts).list) (append_assoc (part_spelling p) (rest_spelling ps) us)
     ∙ list_all Glued ts
-    ∙ ap (λ o. o >>= λ p. (on Glued ts p.1).core.rest >>= λ ps. Some (More p.0 ps.0, p.1 + ps.1)) (find vs (rest_behind_part ps us))
+    ∙ ap (λ o. o >>= λ p. (on Glued ts p.1).core.rest >>= λ ps. Some (More p.0 ps.0, p.1 + ps.1)) (find vs (rest_after_part ps us))
     ∙ ap (λ o. o >>= λ ps. Some (More p ps.0, length (part_spelling p) + ps.1)) (ap (λ r. r.core.rest) (on_taken (part_spelling p) vs) ∙ rest)
     ∙ ap (λ n. Some (More p ps, n)) (sym (length-append (part_spelling p) (rest_spelling ps)))
 

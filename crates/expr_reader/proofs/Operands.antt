@@ -13,7 +13,7 @@ use Rattle.syntax_tree.specs.Spelling.{binds, spelling, parts_spelling, depth}
 use Rattle.expr_reader.specs.Reading.{◌>>=◌, Readers, is_open, is_close, name_with, name_at, arguments_at, call_at, unary_at, operand_at, joined_at, goes_with, more_with, reading, on}
 use Rattle.expr_reader.specs.Spelled.{Spelled, Ifs}
 use Rattle.expr_reader.proofs.Equations.{core_reading, reading_at_end}
-use Rattle.expr_reader.proofs.Sound.{sound, sound_behind_lexeme, drop_taken, few_levels}
+use Rattle.expr_reader.proofs.Sound.{sound, sound_after_lexeme, drop_taken, few_levels}
 
 -- lexemes that an expression which binds at least so tightly does not go on with
 abbrev pub Stops : ℕ → List Lexeme → Type 0
@@ -65,7 +65,7 @@ pub has_depth : (e : Expression) → 1 ≤ depth e
 has_depth (Number n) = omega arith
 has_depth e = omega arith
 
--- where the reading of an expression's lexemes comes to, with more lexemes behind them
+-- where the reading of an expression's lexemes comes to, with more lexemes after them
 pub record Comes (e : Expression) (us : List Lexeme) : Type 0 where
   pub tree : Expression
   pub rest : List Lexeme
@@ -75,7 +75,7 @@ pub record Comes (e : Expression) (us : List Lexeme) : Type 0 where
   pub exact : Stops (inner e) us → (tree ≡ e) × (rest ≡ us)
   pub deep : depth e ≤ depth tree
 
--- what is read of an expression's lexemes, with more lexemes behind them
+-- what is read of an expression's lexemes, with more lexemes after them
 pub record Finds (k : ℕ) (e : Expression) (us : List Lexeme) : Type 0 where
   pub found : Expression × ℕ
   pub reads : (reading Glued (spelling e ++ us)).core.expr k ≡ Some found
@@ -102,10 +102,10 @@ finds k e us few le c =
 -- the same, for an expression whose first lexeme begins its last operand
 pub record Starts (e : Expression) (us : List Lexeme) : Type 0 where
   pub first : Lexeme
-  pub behind : List Lexeme
+  pub after : List Lexeme
   pub operand : Expression × ℕ
-  pub begins : spelling e ++ us ≡ first ∷ behind
-  pub reads : (k : ℕ) → k ≤ binds e → operand_at (on Glued behind) k first ≡ Some operand
+  pub begins : spelling e ++ us ≡ first ∷ after
+  pub reads : (k : ℕ) → k ≤ binds e → operand_at (on Glued after) k first ≡ Some operand
   pub long : length (spelling e) ≤ operand.1 + 1
   pub exact : Stops (inner e) us → operand.0 ≡ e
   pub deep : depth e ≤ depth operand.0
@@ -113,25 +113,25 @@ pub record Starts (e : Expression) (us : List Lexeme) : Type 0 where
 pub comes_from : (e : Expression) (us : List Lexeme) → Starts e us → Comes e us
 comes_from e us s =
     let x = s.operand in
-    let right = subst (λ o. Ifs o (λ x. Spelled 0 (s.first ∷ s.behind) (x.0, x.1 + 1))) (s.reads 0 (omega arith)) (sound_behind_lexeme s.first s.behind 0 (omega arith)) in
+    let right = subst (λ o. Ifs o (λ x. Spelled 0 (s.first ∷ s.after) (x.0, x.1 + 1))) (s.reads 0 (omega arith)) (sound_after_lexeme s.first s.after 0 (omega arith)) in
     let z : x.1 + 1 ≡ suc x.1 = omega arith in
-    let text : s.first ∷ s.behind ≡ spelling x.0 ++ drop x.1 s.behind = right.takes.0 ∙ ap (λ m. spelling x.0 ++ drop m (s.first ∷ s.behind)) z in
+    let text : s.first ∷ s.after ≡ spelling x.0 ++ drop x.1 s.after = right.takes.0 ∙ ap (λ m. spelling x.0 ++ drop m (s.first ∷ s.after)) z in
     let count : x.1 + 1 ≡ length (spelling x.0) = right.takes.1 in
-    let same : spelling e ++ us ≡ spelling x.0 ++ drop x.1 s.behind = s.begins ∙ text in
+    let same : spelling e ++ us ≡ spelling x.0 ++ drop x.1 s.after = s.begins ∙ text in
     record {
       tree = x.0;
-      rest = drop x.1 s.behind;
+      rest = drop x.1 s.after;
       same = same;
-      short = omega (arith, ap length same, length-append (spelling e) us, length-append (spelling x.0) (drop x.1 s.behind), count, s.long);
+      short = omega (arith, ap length same, length-append (spelling e) us, length-append (spelling x.0) (drop x.1 s.after), count, s.long);
       reads = λ k le.
           ap (λ ts. (reading Glued ts).core.expr k) s.begins
-          ∙ ap (λ c. c.expr k) (core_reading Glued s.first s.behind)
-          ∙ ap (λ o. o >>= λ e. Some ((on Glued s.behind e.1).core.more k e.0 (e.1 + 1))) (s.reads k le)
-          ∙ ap (λ n. Some ((on Glued s.behind x.1).core.more k x.0 n)) count;
+          ∙ ap (λ c. c.expr k) (core_reading Glued s.first s.after)
+          ∙ ap (λ o. o >>= λ e. Some ((on Glued s.after e.1).core.more k e.0 (e.1 + 1))) (s.reads k le)
+          ∙ ap (λ n. Some ((on Glued s.after x.1).core.more k x.0 n)) count;
       exact = λ h.
           let t = s.exact h in
-          let same' : spelling x.0 ++ us ≡ spelling x.0 ++ drop x.1 s.behind = ap (λ t. spelling t ++ us) t ∙ same in
-          (t, sym (sym (drop_taken (spelling x.0) us (x.1 + 1) count) ∙ ap (drop (x.1 + 1)) same' ∙ drop_taken (spelling x.0) (drop x.1 s.behind) (x.1 + 1) count));
+          let same' : spelling x.0 ++ us ≡ spelling x.0 ++ drop x.1 s.after = ap (λ t. spelling t ++ us) t ∙ same in
+          (t, sym (sym (drop_taken (spelling x.0) us (x.1 + 1) count) ∙ ap (drop (x.1 + 1)) same' ∙ drop_taken (spelling x.0) (drop x.1 s.after) (x.1 + 1) count));
       deep = s.deep;
     }
 
@@ -139,14 +139,14 @@ comes_from e us s =
 pub head_reading : (t : Lexeme) (ts : List Lexeme) → (reading Glued (t ∷ ts)).core.head ≡ sign_of t
 head_reading t ts = ap (λ c. c.head) (core_reading Glued t ts)
 
--- what is read behind the lexemes that were taken
+-- what is read after the lexemes that were taken
 pub on_taken : (us ts : List Lexeme) → on Glued (us ++ ts) (length us) ≡ reading Glued ts
 on_taken us ts = ap (reading Glued) (drop_taken us ts (length us) refl)
 
 pub starts_number : (n : ℤ) (us : List Lexeme) → Starts (Number n) us
 starts_number n us = record {
   first = Integer n;
-  behind = us;
+  after = us;
   operand = (Number n, 0);
   begins = refl;
   reads = λ k le. refl;
@@ -158,7 +158,7 @@ starts_number n us = record {
 pub starts_truth : (b : Bool) (us : List Lexeme) → Starts (Truth b) us
 starts_truth true us = record {
   first = Fixed sign.True;
-  behind = us;
+  after = us;
   operand = (Truth true, 0);
   begins = refl;
   reads = λ k le. refl;
@@ -168,7 +168,7 @@ starts_truth true us = record {
 }
 starts_truth false us = record {
   first = Fixed sign.False;
-  behind = us;
+  after = us;
   operand = (Truth false, 0);
   begins = refl;
   reads = λ k le. refl;
@@ -184,7 +184,7 @@ not_opened (t ∷ ts) h = ap is_open (head_reading t ts) ∙ h.0
 pub starts_name : (x : List ℕ) (us : List Lexeme) → is_reserved x ≡ false → Starts (Name x) us
 starts_name x us free = record {
   first = Word x;
-  behind = us;
+  after = us;
   operand = name_at (on Glued us) x;
   begins = refl;
   reads = λ k le. cond-false (is_reserved x) (call_at (on Glued us) (intrinsic x)) (Some (name_at (on Glued us) x)) free;
@@ -202,7 +202,7 @@ starts_element x ps us free h =
     ∙ ap (name_with x) h in
     record {
       first = Word x;
-      behind = vs;
+      after = vs;
       operand = (Element x ps, length (parts_spelling ps) + 1);
       begins = refl;
       reads = λ k le. cond-false (is_reserved x) (call_at (on Glued vs) (intrinsic x)) (Some (name_at (on Glued vs) x)) free ∙ ap Some named;
@@ -228,7 +228,7 @@ starts_call o ps us named h =
     let vs = Fixed sign.Open ∷ (parts_spelling ps ++ us) in
     record {
       first = Word x;
-      behind = vs;
+      after = vs;
       operand = (Call o ps, length (parts_spelling ps) + 1);
       begins = refl;
       reads = λ k le.
@@ -251,7 +251,7 @@ starts_closed a us find =
     ap (λ r. is_close r.core.head) (on_taken (spelling a) ws) ∙ ap is_close (head_reading (Fixed sign.Close) us) in
     record {
       first = Fixed sign.Open;
-      behind = vs;
+      after = vs;
       operand = (Closed a, length (spelling a) + 1);
       begins = ap (λ l. Fixed sign.Open ∷ l) (append_assoc (spelling a) (Fixed sign.Close ∷ []) us);
       reads =
@@ -276,7 +276,7 @@ starts_unary o a us is le find =
     let f = find us in
     record {
       first = operator_lexeme o;
-      behind = vs;
+      after = vs;
       operand = (Unary o f.found.0, f.found.1);
       begins = refl;
       reads = λ k low.
@@ -288,10 +288,10 @@ starts_unary o a us is le find =
       exact = λ h. ap (λ x. Unary o x.0) (f.exact (stops_more (level o + 1) (inner a) us (omega (arith, inner_binds a)) h) h);
     }
 
--- no expression goes on behind it with its subscripts or arguments
-no_open_behind : (t : Lexeme) (o : Op) → binary_of t ≡ Some o → is_open (sign_of t) ≡ false
-no_open_behind (Fixed sign.Open) o h = absurd cc
-no_open_behind t o h = refl
+-- no expression goes on after it with its subscripts or arguments
+no_open_after : (t : Lexeme) (o : Op) → binary_of t ≡ Some o → is_open (sign_of t) ≡ false
+no_open_after (Fixed sign.Open) o h = absurd cc
+no_open_after t o h = refl
 
 pub comes_binary : (o : Op) (a b : Expression) (us : List Lexeme) → binary_of (operator_lexeme o) ≡ Some o → left_place o ≤ binds a
     → right_place o ≤ binds b → ((us : List Lexeme) → Comes a us) → Finds (right_place o) b us → Comes (Binary o a b) us
@@ -300,7 +300,7 @@ comes_binary o a b us is left right come f =
     let ts = operator_lexeme o ∷ vs in
     let c = come ts in
     let below : Ifs (binary_of (operator_lexeme o)) (λ p. level p < inner a) = subst (λ r. Ifs r (λ p. level p < inner a)) (sym is) (stops_at o a left) in
-    let at = c.exact (no_open_behind (operator_lexeme o) o is, below) in
+    let at = c.exact (no_open_after (operator_lexeme o) o is, below) in
     let x = f.found in
     let n = length (spelling a) in
     let tree = Binary o a x.0 in

@@ -13,7 +13,7 @@ use Rattle.syntax_tree.specs.Operators.{binary_of, unary_of, operator_lexeme, le
 use Rattle.syntax_tree.proofs.Intrinsics.{IsNamed, intrinsic_is_named}
 use Rattle.syntax_tree.specs.Expression.{Expression, Name, Binary, Closed, Part, One, Range, Glued, Parts, End, More, Maybe, Absent, Present}
 use Rattle.syntax_tree.specs.Spelling.{binds, spelling, part_spelling, maybe_spelling, step_spelling, parts_spelling, rest_spelling, IsFormed, IsPart, IsMaybe, IsList, AreParts, AreArguments, depth}
-use Rattle.expr_reader.specs.Reading.{◌>>=◌, Core, Readers, is_open, is_close, is_colon, is_colons, name_with, name_at, are_arguments, if_arguments, arguments_at, call_at, word_at, closed_at, unary_at, operand_at, expr_at, joined_at, goes_with, goes_on, more_with, more_at, rest_at, core_at, from_here, maybe_at, step_at, range_at, one_at, glued_at, part_at, list_at, at_lexeme, at_end, behind, reading}
+use Rattle.expr_reader.specs.Reading.{◌>>=◌, Core, Readers, is_open, is_close, is_colon, is_colons, name_with, name_at, are_arguments, if_arguments, arguments_at, call_at, word_at, closed_at, unary_at, operand_at, expr_at, joined_at, goes_with, goes_on, more_with, more_at, rest_at, core_at, from_here, maybe_at, step_at, range_at, one_at, glued_at, part_at, list_at, at_lexeme, at_end, after, reading}
 use Rattle.expr_reader.specs.Spelled.{Takes, Spelled, Ifs}
 
 -- the tools: a step that may fail, and a choice
@@ -130,13 +130,13 @@ arguments_of_list (More (One x) ps) h e = (h.0, arguments_of_list ps h.1 e)
 arguments_of_list (More (Range a b c) ps) h e = absurd cc
 arguments_of_list (More (Glued a c) ps) h e = absurd cc
 
--- at a lexeme, where the readers behind it are sound
+-- at a lexeme, where the readers after it are sound
 module _ (f : ℕ → Readers) (us : List Lexeme) (ih : (d : ℕ) → Sound (drop d us) (f d)) where
   -- an operand has one lexeme more than it counts
   abbrev Operand : ℕ → Lexeme → Expression × ℕ → Type 0
   Operand k t x = Spelled k (t ∷ us) (x.0, x.1 + 1)
 
-  -- a list behind a parenthesis
+  -- a list after a parenthesis
   opened : us ≡ Fixed sign.Open ∷ drop 1 us → (text : List Lexeme) (n : ℕ) → Takes text (drop 1 us) n → Takes (Fixed sign.Open ∷ text) us (n + 1)
   opened o text n h = subst (λ l. Takes (Fixed sign.Open ∷ text) l (n + 1)) (sym o) (takes_one (Fixed sign.Open) (drop 1 us) text n h)
 
@@ -156,7 +156,7 @@ module _ (f : ℕ → Readers) (us : List Lexeme) (ih : (d : ℕ) → Sound (dro
       (λ e. sound_name_with x k le free ((ih 0).head sign.Open (open_is _ e)) (f 1).list (ih 1).list)
       (λ e. sound_bare x k le free)
 
-  -- arguments, and the parenthesis behind them
+  -- arguments, and the parenthesis after them
   abbrev IsArguments : Parts × ℕ → Type 0
   IsArguments ps = AreArguments ps.0 × Takes (parts_spelling ps.0) (drop 1 us) ps.1
 
@@ -384,15 +384,15 @@ sound_at_lexeme f t us ih = record {
     cores zero = ((λ s h. ap (λ t. t ∷ us) (sign_is t s h)), (λ k le. sound_expr f us ih k t le), sound_rest f us ih t)
     cores (suc d) = ((ih d).head, (ih d).expr, (ih d).rest)
 
-sound_behind : (ts : List Lexeme) (d : ℕ) → Sound (drop d ts) (behind Glued ts d)
-unfolding behind
-sound_behind [] d = sound_at_end (drop d [])
-sound_behind (t ∷ ts) zero = sound_at_lexeme (behind Glued ts) t ts (sound_behind ts)
-sound_behind (t ∷ ts) (suc d) = sound_behind ts d
+sound_after : (ts : List Lexeme) (d : ℕ) → Sound (drop d ts) (after Glued ts d)
+unfolding after
+sound_after [] d = sound_at_end (drop d [])
+sound_after (t ∷ ts) zero = sound_at_lexeme (after Glued ts) t ts (sound_after ts)
+sound_after (t ∷ ts) (suc d) = sound_after ts d
 
 pub sound : (ts : List Lexeme) → Sound ts (reading Glued ts)
 unfolding reading
-sound ts = sound_behind ts 0
+sound ts = sound_after ts 0
 
-pub sound_behind_lexeme : (t : Lexeme) (us : List Lexeme) (k : ℕ) → k ≤ 9 → Ifs (operand_at (λ d. reading Glued (drop d us)) k t) (λ x. Spelled k (t ∷ us) (x.0, x.1 + 1))
-sound_behind_lexeme t us k le = sound_operand (λ d. reading Glued (drop d us)) us (λ d. sound (drop d us)) k le t
+pub sound_after_lexeme : (t : Lexeme) (us : List Lexeme) (k : ℕ) → k ≤ 9 → Ifs (operand_at (λ d. reading Glued (drop d us)) k t) (λ x. Spelled k (t ∷ us) (x.0, x.1 + 1))
+sound_after_lexeme t us k le = sound_operand (λ d. reading Glued (drop d us)) us (λ d. sound (drop d us)) k le t

@@ -30,18 +30,18 @@ argument_items (more_of-Expr e row) = ap (More (One (expression e))) (argument_i
 pub call_vec : (v : Vec Expr Global) → arguments (hidden-the_row-Expr-1 v) ≡ arguments_of v.items
 call_vec v = argument_items (hidden-the_row-Expr-1 v) ∙ ap arguments_of (items_hidden-the_row-Expr-1 v)
 
--- the lexemes behind some are those of the tokens behind as many
-pub lexemes_behind : (d : ℕ) (ts : List Token) → drop d (lexemes ts) ≡ lexemes (drop d ts)
-lexemes_behind zero ts = refl
-lexemes_behind (suc d) [] = refl
-lexemes_behind (suc d) (t ∷ ts) = lexemes_behind d ts
+-- the lexemes after some are those of the tokens after as many
+pub lexemes_after : (d : ℕ) (ts : List Token) → drop d (lexemes ts) ≡ lexemes (drop d ts)
+lexemes_after zero ts = refl
+lexemes_after (suc d) [] = refl
+lexemes_after (suc d) (t ∷ ts) = lexemes_after d ts
 
--- what can be read behind a place of the tokens, where the tokens behind it are given
-pub read_behind : (ts us : List Token) (n : ℕ) → us ≡ drop n ts → (read us).core.expr 0 ≡ (reading apart (drop n (lexemes ts))).core.expr 0
-read_behind ts us n h = ap (λ ts. (read ts).core.expr 0) h ∙ ap (λ ts. (reading apart ts).core.expr 0) (sym (lexemes_behind n ts))
+-- what can be read after a place of the tokens, where the tokens after it are given
+pub read_after : (ts us : List Token) (n : ℕ) → us ≡ drop n ts → (read us).core.expr 0 ≡ (reading apart (drop n (lexemes ts))).core.expr 0
+read_after ts us n h = ap (λ ts. (read ts).core.expr 0) h ∙ ap (λ ts. (reading apart ts).core.expr 0) (sym (lexemes_after n ts))
 
 read_at : (t : Token) (ts : List Token) → read (t ∷ ts) ≡ at_lexeme apart (ahead ts) (lexeme_of t.kind)
-read_at t ts = reading_at apart (lexeme_of t.kind) (lexemes ts) ∙ ap (λ f. at_lexeme apart f (lexeme_of t.kind)) (λ i d. reading apart (lexemes_behind d ts i))
+read_at t ts = reading_at apart (lexeme_of t.kind) (lexemes ts) ∙ ap (λ f. at_lexeme apart f (lexeme_of t.kind)) (λ i d. reading apart (lexemes_after d ts i))
 
 read_at_end : read [] ≡ at_end apart
 read_at_end = reading_at_end apart
@@ -50,7 +50,7 @@ core_read : (t : Token) (ts : List Token) → (read (t ∷ ts)).core ≡ core_at
 core_read t ts = ap (λ r. r.core) (read_at t ts)
 
 list_read : (ts : List Token) → (read ts).list ≡ list_at apart (λ d. (ahead ts d).core)
-list_read ts = list_all apart (lexemes ts) ∙ ap (list_at apart) (λ i d. (reading apart (lexemes_behind d ts i)).core)
+list_read ts = list_all apart (lexemes ts) ∙ ap (list_at apart) (λ i d. (reading apart (lexemes_after d ts i)).core)
 
 next_ahead : (t : Token) (ts : List Token) (m n : ℕ) → m ≡ suc n → ahead (t ∷ ts) m ≡ ahead ts n
 next_ahead t ts m n e = ap (λ m. ahead (t ∷ ts) m) e
@@ -229,7 +229,7 @@ called us o args args' n e h g =
     ∙ ap (λ r. r >>= λ ps. Some (Call o ps.0, ps.1 + 1)) g
     ∙ ap (λ b. if b then (arguments_at (ahead us 1) >>= λ ps. Some (Call o ps.0, ps.1 + 1)) else None) h
 
--- the end of what was read behind a place
+-- the end of what was read after a place
 pub ends : {X : Type 0} (ts us : List Token) (n : ℕ) (o : Option (X × ℕ)) (x : X) (count : ℕ) → us ≡ drop n ts → n ≤ length ts → o ≡ Some (x, count)
     → EndsWithin o (length us) → n + count ≤ length ts
 ends ts us n o x count e h is w =

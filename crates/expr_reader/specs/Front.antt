@@ -1,4 +1,4 @@
--- The longest expression at the front, and the lexemes behind it.
+-- The longest expression at the front, and the lexemes after it.
 use Rattle.std.specs.Prelude.{◌≡◌, List, [], ◌∷◌, ◌++◌, ◌≤◌, drop, Option, Some, None, false}
 use Rattle.syntax_tree.specs.Lexeme.{Lexeme, sign_of}
 use Rattle.syntax_tree.specs.Operators.{binary_of}

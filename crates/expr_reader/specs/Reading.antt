@@ -23,7 +23,7 @@ pub record Core : Type 0 where
   pub expr : ℕ → Option (Expression × ℕ)
   -- what the expression of so many lexemes before the place goes on to be
   pub more : ℕ → Expression → ℕ → Expression × ℕ
-  -- the parts of a list behind one, and the parenthesis
+  -- the parts of a list after one, and the parenthesis
   pub rest : Option (Parts × ℕ)
 
 pub record Readers : Type 0 where
@@ -52,7 +52,7 @@ abbrev pub is_colons : Option Sign → Bool
 is_colons (Some sign.Colons) = true
 is_colons s = false
 
--- a name with the subscripts behind it, and how many lexemes these take
+-- a name with the subscripts after it, and how many lexemes these take
 abbrev pub name_with : List ℕ → Option (Parts × ℕ) → Expression × ℕ
 name_with x None = (Name x, 0)
 name_with x (Some s) = (Element x s.0, s.1 + 1)
@@ -69,7 +69,7 @@ are_arguments (More p ps) = false
 abbrev pub if_arguments : Parts × ℕ → Option (Parts × ℕ)
 if_arguments ps = if are_arguments ps.0 then Some ps else None
 
--- the arguments behind a parenthesis, and the parenthesis behind them
+-- the arguments after a parenthesis, and the parenthesis after them
 abbrev pub arguments_at : Readers → Option (Parts × ℕ)
 arguments_at r = if is_close r.core.head then Some (End, 1) else (r.list >>= if_arguments)
 
@@ -89,7 +89,7 @@ unary_at f k None = None
 unary_at f k (Some o) =
     if nat_le k (level o) then ((f 0).core.expr (level o + 1) >>= λ a. Some (Unary o a.0, a.1)) else None
 
--- an operand that begins with the lexeme, and how many it has behind that; f reads at so many lexemes behind it
+-- an operand that begins with the lexeme, and how many it has after that; f reads at so many lexemes after it
 abbrev pub operand_at : (ℕ → Readers) → ℕ → Lexeme → Option (Expression × ℕ)
 operand_at f k (Integer n) = Some (Number n, 0)
 operand_at f k (Word x) = word_at f x
@@ -164,7 +164,7 @@ module _ (glue : Maybe → Expression → Part) where
   abbrev pub glued_at : (ℕ → Core) → Maybe → ℕ → Option (Part × ℕ)
   glued_at g a n = (g (n + 1)).expr 0 >>= λ c. Some (glue a c.0, n + 1 + c.1)
 
-  -- a part that goes on behind its first expression
+  -- a part that goes on after its first expression
   abbrev pub part_from : (ℕ → Core) → Maybe → ℕ → Option (Part × ℕ)
   part_from g a n = if is_colon (g n).head then range_at g a n else if is_colons (g n).head then glued_at g a n else one_at a n
 
@@ -180,17 +180,17 @@ module _ (glue : Maybe → Expression → Part) where
   abbrev pub at_end : Readers
   at_end = record { core = core_at_end; list = None }
 
-  -- at so many lexemes behind the first
-  unfoldable pub behind : List Lexeme → ℕ → Readers
-  behind [] d = at_end
-  behind (t ∷ ts) zero = at_lexeme (behind ts) t
-  behind (t ∷ ts) (suc d) = behind ts d
+  -- at so many lexemes after the first
+  unfoldable pub after : List Lexeme → ℕ → Readers
+  after [] d = at_end
+  after (t ∷ ts) zero = at_lexeme (after ts) t
+  after (t ∷ ts) (suc d) = after ts d
 
   -- at the first of the lexemes
   unfoldable pub reading : List Lexeme → Readers
-  reading ts = behind ts 0
+  reading ts = after ts 0
 
-  -- the lexemes behind so many
+  -- the lexemes after so many
   abbrev pub on : List Lexeme → ℕ → Readers
   on ts d = reading (drop d ts)
 

@@ -22,7 +22,7 @@ EndsWithin (Some x) n = x.1 ≤ n
 abbrev pub read : List Token → Readers
 read tokens = reading apart (lexemes tokens)
 
--- what can be read behind so many of the tokens
+-- what can be read after so many of the tokens
 abbrev pub ahead : List Token → ℕ → Readers
 ahead tokens d = read (drop d tokens)
 

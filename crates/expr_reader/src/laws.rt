@@ -13,7 +13,7 @@ pub fn one_expression()
 {}
 
 /// What stands at the front of lexemes is spelled there; and a well-formed expression that stands there is what is
-/// found, where no expression goes on with what is behind it; with anything behind it, one at least as deep is found.
+/// found, where no expression goes on with what is after it; with anything after it, one at least as deep is found.
 pub fn front_exact()
     ensures sound { (ts : List Lexeme) → Ifs (front ts) (IsFront ts) }
     ensures found { (e : Expression) (us : List Lexeme) → IsFormed e → Ends us → front (spelling e ++ us) ≡ Some (kept e, us) }

@@ -1,7 +1,7 @@
 //! From tokens to the longest expression that they spell.
 //!
 //! Comes in: the tokens of a statement or directive, and a place. Goes out: the tree of the longest expression
-//! that begins there, and the place behind it. What holds in between: the tree is well formed and is spelled by
+//! that begins there, and the place after it. What holds in between: the tree is well formed and is spelled by
 //! the tokens that it takes, no well-formed one takes more of them, and no other has that spelling.
 //!
 //! The reader's calls nest as deeply as the tokens do, and no proof bounds the stack. Measured on x86-64, the deepest

@@ -12,7 +12,7 @@ ghost use Rattle.expr_reader.specs.Reading.{apart, arguments_at, call_at, closed
 ghost use Rattle.expr_reader.specs.TokenReading.{ahead, AreExpressions, EndsWithin, expression_of, maybe_in, read, viewed};
 
 use crate::depth::fits;
-use crate::signs::{behind, closes, opens, ranges, separates, sign_at, steps};
+use crate::signs::{closes, opens, ranges, separates, sign_at, skip, steps};
 use hpf_base::{MAX_DEPTH, Name, Reason, StaticError};
 use op_tables::{Op, is_reserved};
 use source_lines::{Token, TokenKind};
@@ -21,7 +21,7 @@ use syntax_tree::{
     Expr, Ref, Sign, Subscript, binary, intrinsic, left_place, level, right_place, sign_of, unary,
 };
 
-/// The longest expression that begins at the token `from`, counted from 0, and the place behind it.
+/// The longest expression that begins at the token `from`, counted from 0, and the place after it.
 ///
 /// It is refused, at the given line, as NotAStatement exactly where no expression begins there, and as Limit
 /// exactly where the longest one is deeper than 200 (Fortran 95, 7.1).
@@ -35,7 +35,7 @@ pub fn read_expr(
     ensures found { IfOk result (λ x. IsRead tokens.now from (expression x.0) x.1) }
     ensures refused { IfErr result (IsRefused line tokens.now from) }
 {
-    let Some((tree, taken)) = expr(alloc, behind(tokens, from), 0)? else {
+    let Some((tree, taken)) = expr(alloc, skip(tokens, from), 0)? else {
         return Err(StaticError::at(line, Reason::NotAStatement));
     };
     if !fits(&tree, MAX_DEPTH) {
@@ -44,7 +44,7 @@ pub fn read_expr(
     Ok((tree, from + taken))
 }
 
-/// The longest expression at the front, however deep, and the tokens behind it; None where none begins there.
+/// The longest expression at the front, however deep, and the tokens after it; None where none begins there.
 #[tactic(auto, unfolding(crate::specs::Front::front))]
 pub fn front_expr(alloc: Global, tokens: &[Token]) -> Result<Option<(Expr, &[Token])>, AllocError>
     ensures { IfOk result (λ r. Gives (λ x. (expression x.0, lexemes x.1.now)) r (front (lexemes tokens.now))) }
@@ -52,7 +52,7 @@ pub fn front_expr(alloc: Global, tokens: &[Token]) -> Result<Option<(Expr, &[Tok
     let Some((tree, taken)) = expr(alloc, tokens, 0)? else {
         return Ok(None);
     };
-    Ok(Some((tree, behind(tokens, taken))))
+    Ok(Some((tree, skip(tokens, taken))))
 }
 
 /// The longest expression at the front that binds at least as tightly as `place`, and how many tokens it takes.
@@ -140,7 +140,7 @@ fn procedure(word: &Name) -> Option<Op>
     intrinsic(word.bytes())
 }
 
-/// A call of an intrinsic procedure, behind its word.
+/// A call of an intrinsic procedure, after its word.
 #[cycle(reading)]
 #[inline(never)]
 fn call(
@@ -157,13 +157,13 @@ fn call(
     if !opens(rest, 0) {
         return Ok(None);
     }
-    let Some((arguments, taken)) = arguments(alloc, behind(rest, 1))? else {
+    let Some((arguments, taken)) = arguments(alloc, skip(rest, 1))? else {
         return Ok(None);
     };
     Ok(Some((Expr::Call(op, arguments), taken + 1)))
 }
 
-/// The arguments at the front, with the parenthesis behind them.
+/// The arguments at the front, with the parenthesis after them.
 #[cycle(reading)]
 fn arguments(alloc: Global, tokens: &[Token]) -> Result<Option<(Vec<Expr>, usize)>, AllocError>
     ensures within { IfOk result (λ r. EndsWithin r (length tokens.now)) }
@@ -181,14 +181,14 @@ fn arguments(alloc: Global, tokens: &[Token]) -> Result<Option<(Vec<Expr>, usize
     Ok(Some((arguments, taken)))
 }
 
-/// The name, with the subscripts that stand behind it.
+/// The name, with the subscripts that stand after it.
 #[cycle(reading)]
 fn reference(alloc: Global, name: Name, rest: &[Token]) -> Result<(Ref, usize), AllocError>
     ensures within { IfOk result (λ x. x.1 ≤ length rest.now) }
     ensures value { IfOk result (λ x. (expression (Expr.Ref x.0), x.1) ≡ name_at (ahead rest.now) name) }
 {
     if opens(rest, 0)
-        && let Some((parts, taken)) = list(alloc, behind(rest, 1))?
+        && let Some((parts, taken)) = list(alloc, skip(rest, 1))?
     {
         let subs = Some(parts);
         return Ok((Ref { name, subs }, taken + 1));
@@ -196,7 +196,7 @@ fn reference(alloc: Global, name: Name, rest: &[Token]) -> Result<(Ref, usize), 
     Ok((Ref { name, subs: None }, 0))
 }
 
-/// An expression behind a parenthesis.
+/// An expression after a parenthesis.
 #[cycle(reading)]
 fn closed(alloc: Global, rest: &[Token]) -> Result<Option<(Expr, usize)>, AllocError>
     ensures within { IfOk result (λ r. EndsWithin r (length rest.now)) }
@@ -212,7 +212,7 @@ fn closed(alloc: Global, rest: &[Token]) -> Result<Option<(Expr, usize)>, AllocE
     Ok(Some((Expr::Paren(tree), taken + 1)))
 }
 
-/// An operand behind a sign or `.NOT.`.
+/// An operand after a sign or `.NOT.`.
 #[cycle(reading)]
 fn signed(
     alloc: Global,
@@ -252,7 +252,7 @@ fn more(
     let mut tree = tree;
     let mut taken = taken;
     'ops: while let Some(op) = operator(tokens, taken, &tree, place) {
-        let Some((other, count)) = expr(alloc, behind(tokens, taken + 1), right_place(op))? else {
+        let Some((other, count)) = expr(alloc, skip(tokens, taken + 1), right_place(op))? else {
             break;
         };
         tree = Expr::Binary(op, Box::new(alloc, tree)?, Box::new(alloc, other)?);
@@ -280,7 +280,7 @@ fn tightness(tree: &Expr) -> u8
     }
 }
 
-/// The parts of a list at the front, with the parenthesis behind them.
+/// The parts of a list at the front, with the parenthesis after them.
 #[cycle(reading)]
 fn list(alloc: Global, tokens: &[Token]) -> Result<Option<(Vec<Subscript>, usize)>, AllocError>
     ensures within { IfOk result (λ r. EndsWithin r (length tokens.now)) }
@@ -289,7 +289,7 @@ fn list(alloc: Global, tokens: &[Token]) -> Result<Option<(Vec<Subscript>, usize
     let mut parts = Vec::new(alloc);
     let mut taken = 0;
     'parts: loop {
-        let Some((part, count)) = part(alloc, behind(tokens, taken))? else {
+        let Some((part, count)) = part(alloc, skip(tokens, taken))? else {
             return Ok(None);
         };
         parts.push(part)?;
@@ -348,13 +348,13 @@ fn range(
     ensures within { IfOk result (λ r. EndsWithin r (length tokens.now)) }
     ensures value { IfOk result (λ r. viewed subscript r ≡ range_at (λ d. (ahead tokens.now d).core) (maybe_in first) taken) }
 {
-    let (last, count) = maybe(alloc, behind(tokens, taken + 1))?;
+    let (last, count) = maybe(alloc, skip(tokens, taken + 1))?;
     let taken = taken + 1 + count;
     if !ranges(tokens, taken) {
         let step = None;
         return Ok(Some((Subscript::Triplet { first, last, step }, taken)));
     }
-    let Some((step, count)) = expr(alloc, behind(tokens, taken + 1), 0)? else {
+    let Some((step, count)) = expr(alloc, skip(tokens, taken + 1), 0)? else {
         return Ok(None);
     };
     let step = Some(step);
@@ -374,7 +374,7 @@ fn stepped(
     ensures within { IfOk result (λ r. EndsWithin r (length tokens.now)) }
     ensures value { IfOk result (λ r. viewed subscript r ≡ glued_at apart (λ d. (ahead tokens.now d).core) (maybe_in first) taken) }
 {
-    let Some((step, count)) = expr(alloc, behind(tokens, taken + 1), 0)? else {
+    let Some((step, count)) = expr(alloc, skip(tokens, taken + 1), 0)? else {
         return Ok(None);
     };
     let (last, step) = (None, Some(step));

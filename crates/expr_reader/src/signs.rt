@@ -19,7 +19,7 @@ pub(crate) fn sign_at(tokens: &[Token], place: usize) -> Option<Sign>
 }
 
 /// The tokens from a place on.
-pub(crate) fn behind(tokens: &[Token], place: usize) -> &[Token]
+pub(crate) fn skip(tokens: &[Token], place: usize) -> &[Token]
     requires { place ≤ length tokens.now }
     ensures { result.now ≡ drop place tokens.now }
 {

@@ -2,11 +2,11 @@
 use Rattle.std.proofs.Common.{◌≡◌, List, [], ◌∷◌, ◌++◌, map, refl, sym, ap, ◌∙◌}
 use Rattle.std.proofs.lemmas.List.{append-nil}
 use Rattle.node_code.specs.declared.flat.Flat.{Flat as HeldFlat}
-use Rattle.node_code.specs.declared.form.Form.{Form as HeldForm}
+use Rattle.node_code.specs.declared.form.ArrayForm.{ArrayForm as HeldForm}
 use Rattle.array_meaning.specs.Terms.{Terms, NoTerm, More, list_of}
 use Rattle.lowering.specs.ExpressionCode.{index_flat, index_flats}
 use Rattle.node_code.specs.Flat.{Flat, Flats, NoFlat, AndFlat}
-use Rattle.node_code.specs.Forms.{Form, Forms, NoForm, AndForm}
+use Rattle.node_code.specs.Forms.{ArrayForm, Forms, NoForm, AndForm}
 use Rattle.node_code.specs.Texts.{flat, flats_of, form, forms_of}
 
 abbrev pub flat_list : Flats → List Flat
@@ -38,11 +38,11 @@ pub index_list : (ts : Terms) → flat_list (index_flats ts) ≡ map index_flat 
 index_list NoTerm = refl
 index_list (More t ts) = ap (λ l. index_flat t ∷ l) (index_list ts)
 
-abbrev pub form_list : Forms → List Form
+abbrev pub form_list : Forms → List ArrayForm
 form_list NoForm = []
 form_list (AndForm f fs) = f ∷ form_list fs
 
-abbrev forms_in : List Form → Forms
+abbrev forms_in : List ArrayForm → Forms
 forms_in [] = NoForm
 forms_in (f ∷ fs) = AndForm f (forms_in fs)
 

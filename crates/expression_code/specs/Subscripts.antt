@@ -12,7 +12,7 @@ abbrev pub subscript_slots : HeldSubscript → ℕ
 subscript_slots (Subscript' t) = slots_of (term t)
 subscript_slots (Triplet' first last step) = control_slots (triplet (term first) (term last) (term step)) + 3
 
--- what is left of it behind the code
+-- what is left of it after the code
 abbrev pub sub_of : ℕ → HeldSubscript → Sub
 sub_of b (Subscript' t) = SubAt (flat_of b (term t))
 sub_of b (Triplet' first last step) = SubAlong (b + control_slots (triplet (term first) (term last) (term step)))

@@ -245,7 +245,7 @@ pub fn all_parts_code(
     Ok(code)
 }
 
-/// The code of the three values of a control: the first value, the last value and the step, into three slots behind those that it takes.
+/// The code of the three values of a control: the first value, the last value and the step, into three slots after those that it takes.
 pub fn control_code(
     alloc: Global,
     line: u32,

@@ -1,4 +1,4 @@
-//! The three values of a control or of a triplet, in three slots behind those that their code takes. An `Err` is want of memory here.
+//! The three values of a control or of a triplet, in three slots after those that their code takes. An `Err` is want of memory here.
 
 ghost use Rattle.std.specs.Prelude.{◌≡◌, ◌+◌, IfOk, OnOk, [], ◌∷◌, ◌++◌};
 ghost use Rattle.lowering.specs.ExpressionCode.{control_slots, flat_of, slots_of, three_code, triplet};
@@ -15,7 +15,7 @@ use node_code::{Flat, Instruction};
 use resolved_program::Term;
 use std::alloc::Global;
 
-/// What gives the three values behind their code, which takes the slots from some `b` on.
+/// What gives the three values after their code, which takes the slots from some `b` on.
 #[derive(Drop)]
 pub(crate) struct Three {
     pub first: Flat,
@@ -76,7 +76,7 @@ pub(crate) fn three_code(
     Ok(code)
 }
 
-/// Puts a Set behind code.
+/// Puts a Set after code.
 fn push_set(
     code: &mut Vec<Instruction>,
     line: u32,

@@ -9,7 +9,7 @@ ghost use Rattle.node_code.specs.Texts.{flat, flats_of, form, forms_of, subs};
 ghost use Rattle.resolved_program.specs.Resolved.{term, terms_of};
 
 use hpf_base::OutOfMemory;
-use node_code::{Flat, Form, Sub};
+use node_code::{ArrayForm, Flat, Sub};
 use op_tables::Op;
 use resolved_program::Term;
 use std::alloc::Global;
@@ -69,34 +69,34 @@ pub fn index_subs(alloc: Global, terms: &[Term]) -> Result<Vec<Sub>, OutOfMemory
 
 /// An expression.
 #[cycle(index_form)]
-pub fn index_form(alloc: Global, t: &Term) -> Result<Form, OutOfMemory>
+pub fn index_form(alloc: Global, t: &Term) -> Result<ArrayForm, OutOfMemory>
     ensures { IfOk result (λ f. form f ≡ index_form (term t.now)) }
 {
     match t {
         Term::Element(a, subscripts) => section(alloc, *a, subscripts),
         Term::Apply(op, operands) => operation(alloc, *op, operands),
-        _ => Ok(Form::Flat(index_flat(alloc, t)?)),
+        _ => Ok(ArrayForm::Flat(index_flat(alloc, t)?)),
     }
 }
 
 /// An element.
-fn section(alloc: Global, a: usize, subscripts: &[Term]) -> Result<Form, OutOfMemory>
+fn section(alloc: Global, a: usize, subscripts: &[Term]) -> Result<ArrayForm, OutOfMemory>
     ensures { IfOk result (λ f. form f ≡ SectionForm a (index_subs (terms_of subscripts.now))) }
 {
-    Ok(Form::Section(a, index_subs(alloc, subscripts)?))
+    Ok(ArrayForm::Section(a, index_subs(alloc, subscripts)?))
 }
 
 /// An operator.
 #[cycle(index_form)]
-fn operation(alloc: Global, op: Op, operands: &[Term]) -> Result<Form, OutOfMemory>
+fn operation(alloc: Global, op: Op, operands: &[Term]) -> Result<ArrayForm, OutOfMemory>
     ensures { IfOk result (λ f. form f ≡ OperationForm op (index_forms (terms_of operands.now))) }
 {
-    Ok(Form::Operation(op, index_forms(alloc, operands)?))
+    Ok(ArrayForm::Operation(op, index_forms(alloc, operands)?))
 }
 
 /// Expressions in order.
 #[cycle(index_form)]
-pub fn index_forms(alloc: Global, terms: &[Term]) -> Result<Vec<Form>, OutOfMemory>
+pub fn index_forms(alloc: Global, terms: &[Term]) -> Result<Vec<ArrayForm>, OutOfMemory>
     ensures { IfOk result (λ fs. forms_of fs.items ≡ index_forms (terms_of terms.now)) }
 {
     let mut forms = Vec::new(alloc);

@@ -1,14 +1,14 @@
 //! The node code of expressions.
 //!
 //! Comes in: expressions whose names are resolved, as plans hold them. Goes out: their code, how many slots it takes, and what has
-//! their values behind it. What holds in between: what a function makes stands for what the definition of its name in `lowering` gives,
+//! their values after it. What holds in between: what a function makes stands for what the definition of its name in `lowering` gives,
 //! and an `Err` is want of memory, also where a sum of slots is past 64 bits. A part that stands twice in the code is made twice.
 //!
 //! - `sums`: sums of slots.
 //! - `slots`: how many slots code takes.
-//! - `values`: the expressions over the slots that have a value behind the code, and what is left of array expressions.
+//! - `values`: the expressions over the slots that have a value after the code, and what is left of array expressions.
 //! - `evaluations`: array expressions over their own space.
-//! - `texts`: code put behind other code.
+//! - `texts`: code put after other code.
 //! - `controls`: the three values of a control or of a triplet.
 //! - `code`: the code that evaluates an expression.
 //! - `indexed`: expressions of a FORALL, at an index tuple.

@@ -1,4 +1,4 @@
-//! What gives the value of an expression behind its code. Slots from `b` on are those of the code. An `Err` is want of memory here.
+//! What gives the value of an expression after its code. Slots from `b` on are those of the code. An `Err` is want of memory here.
 
 ghost use Rattle.std.specs.Prelude.{◌≡◌, ◌+◌, IfOk};
 ghost use Rattle.lowering.specs.ExpressionCode.{all_slots_of, flat_of, flats_of, form_of, forms_of, operated_flat, subs_of};
@@ -12,12 +12,12 @@ ghost use Rattle.expression_code.specs.Subscripts.{sub_of};
 use crate::slots::{all_slots_of, parts_slots, slots_of, subscript_slots};
 use crate::sums::{can_divide, plus, plus_three};
 use hpf_base::OutOfMemory;
-use node_code::{Flat, Form, Sub};
+use node_code::{ArrayForm, Flat, Sub};
 use op_tables::Op;
 use resolved_program::{SectionSubscript, Term};
 use std::alloc::Global;
 
-/// The expression over the slots that has the value of a scalar expression behind its code.
+/// The expression over the slots that has the value of a scalar expression after its code.
 #[cycle(flat)]
 pub fn flat_of(alloc: Global, b: usize, t: &Term) -> Result<Flat, OutOfMemory>
     ensures { IfOk result (λ f. flat f ≡ flat_of b (term t.now)) }
@@ -88,15 +88,15 @@ fn sub_of(alloc: Global, b: usize, d: &SectionSubscript) -> Result<Sub, OutOfMem
     }
 }
 
-/// What is left of an array expression behind its code.
+/// What is left of an array expression after its code.
 #[cycle(form)]
-pub fn form_of(alloc: Global, b: usize, t: &Term) -> Result<Form, OutOfMemory>
+pub fn form_of(alloc: Global, b: usize, t: &Term) -> Result<ArrayForm, OutOfMemory>
     ensures { IfOk result (λ f. form f ≡ form_of b (term t.now)) }
 {
     match t {
         Term::Section(a, subscripts) => section_form(alloc, b, *a, subscripts),
         Term::Apply(op, operands) => operation_form(alloc, b, *op, operands),
-        _ => Ok(Form::Flat(flat_of(alloc, b, t)?)),
+        _ => Ok(ArrayForm::Flat(flat_of(alloc, b, t)?)),
     }
 }
 
@@ -106,23 +106,28 @@ fn section_form(
     b: usize,
     a: usize,
     subscripts: &[SectionSubscript],
-) -> Result<Form, OutOfMemory>
+) -> Result<ArrayForm, OutOfMemory>
     ensures { IfOk result (λ f. form f ≡ SectionForm a (subs_of b (subscripts_of subscripts.now))) }
 {
-    Ok(Form::Section(a, subs_of(alloc, b, subscripts)?))
+    Ok(ArrayForm::Section(a, subs_of(alloc, b, subscripts)?))
 }
 
 /// The same of an operator.
 #[cycle(form)]
-fn operation_form(alloc: Global, b: usize, op: Op, operands: &[Term]) -> Result<Form, OutOfMemory>
+fn operation_form(
+    alloc: Global,
+    b: usize,
+    op: Op,
+    operands: &[Term],
+) -> Result<ArrayForm, OutOfMemory>
     ensures { IfOk result (λ f. form f ≡ OperationForm op (forms_of b (terms_of operands.now))) }
 {
-    Ok(Form::Operation(op, forms_of(alloc, b, operands)?))
+    Ok(ArrayForm::Operation(op, forms_of(alloc, b, operands)?))
 }
 
 /// What is left of array expressions, in order.
 #[cycle(form)]
-pub fn forms_of(alloc: Global, b: usize, terms: &[Term]) -> Result<Vec<Form>, OutOfMemory>
+pub fn forms_of(alloc: Global, b: usize, terms: &[Term]) -> Result<Vec<ArrayForm>, OutOfMemory>
     ensures { IfOk result (λ fs. text.forms_of fs.items ≡ forms_of b (terms_of terms.now)) }
 {
     let mut forms = Vec::new(alloc);

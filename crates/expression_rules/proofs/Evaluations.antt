@@ -10,14 +10,14 @@ use Rattle.expression_rules.specs.Constants.{called_value, named_first}
 use Rattle.syntax_tree.proofs.Rows.{call_vec}
 use Rattle.expression_rules.specs.declared.evaluated.Evaluated.{Evaluated}
 use Rattle.expression_rules.specs.declared.evaluated.Evaluated.TheVariants.{Invalid, Unknown, Known}
-use Rattle.expression_rules.specs.Constants.{Site, with_more, value, values, values_behind}
+use Rattle.expression_rules.specs.Constants.{Site, with_more, value, values, values_after}
 use Rattle.expression_rules.specs.Partial.{and_one, and_all}
 use Rattle.syntax_tree.specs.Expression.{arguments_of}
 use Rattle.expression_rules.specs.Symbols.{SymbolTable}
 use Rattle.std.proofs.lemmas.List.{append-nil}
 use Rattle.expression_rules.proofs.Lists.{drop_item}
 
--- one value more, and the others behind it
+-- one value more, and the others after it
 pub and_one-with_more : (found : Evaluated (List ℤ)) (f : Evaluated ℤ) (rest : Evaluated (List ℤ)) → and_all (and_one found f) rest ≡ and_all found (with_more f rest)
 and_one-with_more Invalid f rest = refl
 and_one-with_more Unknown Invalid rest = refl
@@ -58,7 +58,7 @@ values_next p t es n e found after f within at is more so_far =
 
 -- a call, as it lies in memory
 pub value_call : (p : Site) (t : SymbolTable) (e : Expr) (o : Op) (v : Vec Expr Global) (es : List Expr) → e ≡ Expr.Call o v → es ≡ v.items →
-    value p t (expression e) ≡ called_value p o (named_first t (arguments_of es)) (values p t (arguments_of es)) (values_behind p t (arguments_of es))
+    value p t (expression e) ≡ called_value p o (named_first t (arguments_of es)) (values p t (arguments_of es)) (values_after p t (arguments_of es))
 value_call p t e o v es is items =
     ap (λ e. value p t (expression e)) is
     ∙ ap (λ ps. value p t (Call o ps)) (call_vec v ∙ ap arguments_of (sym items))

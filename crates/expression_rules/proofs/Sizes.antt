@@ -45,10 +45,10 @@ rest_case : (b rest : Bool) → (b || rest) ≡ false → rest ≡ false
 rest_case true rest h = absurd cc
 rest_case false rest h = h
 
-pub none_behind : (ds : List Dim) (n : ℕ) → list_any is_empty ds ≡ false → list_any is_empty (drop n ds) ≡ false
-none_behind ds zero h = h
-none_behind [] (suc n) h = h
-none_behind (d ∷ ds) (suc n) h = none_behind ds n (rest_case (extent d == 0) (list_any is_empty ds) h)
+pub none_after : (ds : List Dim) (n : ℕ) → list_any is_empty ds ≡ false → list_any is_empty (drop n ds) ≡ false
+none_after ds zero h = h
+none_after [] (suc n) h = h
+none_after (d ∷ ds) (suc n) h = none_after ds n (rest_case (extent d == 0) (list_any is_empty ds) h)
 
 -- a turn of the loop
 pub size_next : (ds : List Dim) (n size : ℕ) (d : Dim) → n < length ds → d ≡ get_or ds n d → size * elements (drop n ds) ≡ elements ds →
@@ -59,7 +59,7 @@ size_next ds n size d within is so_far =
 -- what is multiplied stays within all
 pub size_fits : (ds : List Dim) (n size more : ℕ) → list_any is_empty ds ≡ false → size * elements (drop n ds) ≡ elements ds → elements ds ≤ more → size ≤ more
 size_fits ds n size more some so_far few =
-    let h : size * 1 ≤ size * elements (drop n ds) = mul-le-mul_left size (some_in (drop n ds) (none_behind ds n some)) in
+    let h : size * 1 ≤ size * elements (drop n ds) = mul-le-mul_left size (some_in (drop n ds) (none_after ds n some)) in
     omega (arith, h, so_far, few)
 
 pub product_fits : (a b : ℕ) → a ≤ 2 ^ 20 → b ≤ 2 ^ 42 + 1 → Fits w64 (a * b)

@@ -14,7 +14,7 @@ flat_append f (x ∷ xs) ys = ap (λ l. f x ++ l) (flat_append f xs ys) ∙ sym 
 pub least_both : {X : Type 0} (f : X → List Refusal) (xs ys : List X) → least (flat_map f (xs ++ ys)) ≡ earlier (least (flat_map f xs)) (least (flat_map f ys))
 least_both f xs ys = ap least (flat_append f xs ys) ∙ least_append (flat_map f xs) (flat_map f ys)
 
--- of one and a list behind it
+-- of one and a list after it
 pub least_more : {X : Type 0} (f : X → List Refusal) (x : X) (ys : List X) → least (flat_map f (x ∷ ys)) ≡ earlier (least (f x)) (least (flat_map f ys))
 least_more f x ys = least_append (f x) (flat_map f ys)
 

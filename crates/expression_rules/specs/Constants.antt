@@ -79,7 +79,7 @@ bound_of op.LBound d = lower_bound d
 bound_of op.UBound d = upper_bound d
 bound_of o d = pos (extent d)
 
--- SIZE, LBOUND and UBOUND of dimensions, with the arguments behind the array
+-- SIZE, LBOUND and UBOUND of dimensions, with the arguments after the array
 abbrev pub inquired : Site → Op → List Dim → List ℤ → Evaluated ℤ
 inquired p op.Size ds [] = Known (pos (elements ds))
 inquired p o ds (d ∷ []) = at_dimension p (bound_of o) ds d
@@ -108,10 +108,10 @@ abbrev pub processor_count : Site → Evaluated (List ℤ) → Evaluated ℤ
 processor_count None ns = Invalid
 processor_count (Some grid) ns = processor_count_in grid ns
 
--- an intrinsic procedure, with what its first argument names, all of its arguments, and those behind the first
+-- an intrinsic procedure, with what its first argument names, all of its arguments, and those after the first
 abbrev pub called_value : Site → Op → Option Symbol → Evaluated (List ℤ) → Evaluated (List ℤ) → Evaluated ℤ
-called_value p o s ns behind =
-    if is_inquiry o then of_array p o s behind
+called_value p o s ns after =
+    if is_inquiry o then of_array p o s after
     else (if is_processor_count o then processor_count p ns
     else (if is_reduction o then Invalid else elemental_value o ns))
 
@@ -136,15 +136,15 @@ abbrev mutual
   value p t (Closed a) = value p t a
   value p t (Unary o a) = operated o (with_more (value p t a) (Known []))
   value p t (Binary o a b) = operated o (with_more (value p t a) (with_more (value p t b) (Known [])))
-  value p t (Call o ps) = called_value p o (named_first t ps) (values p t ps) (values_behind p t ps)
+  value p t (Call o ps) = called_value p o (named_first t ps) (values p t ps) (values_after p t ps)
 
   pub values : Site → SymbolTable → Parts → Evaluated (List ℤ)
   values p t End = Known []
   values p t (More q ps) = with_more (part_value p t q) (values p t ps)
 
-  pub values_behind : Site → SymbolTable → Parts → Evaluated (List ℤ)
-  values_behind p t End = Known []
-  values_behind p t (More q ps) = values p t ps
+  pub values_after : Site → SymbolTable → Parts → Evaluated (List ℤ)
+  values_after p t End = Known []
+  values_after p t (More q ps) = values p t ps
 
   pub part_value : Site → SymbolTable → Part → Evaluated ℤ
   part_value p t (One e) = value p t e

@@ -13,7 +13,7 @@ use Rattle.op_tables.specs.Arguments.{takes, is_reduction, is_inquiry, is_proces
 use Rattle.expression_rules.specs.Symbols.{SymbolTable, rank_of, find, satisfies, is_array}
 use Rattle.expression_rules.specs.declared.evaluated.Evaluated.{Evaluated}
 use Rattle.expression_rules.specs.declared.evaluated.Evaluated.TheVariants.{Known}
-use Rattle.expression_rules.specs.Constants.{named_first, values_behind}
+use Rattle.expression_rules.specs.Constants.{named_first, values_after}
 
 abbrev pub is_directive : Context → Bool
 is_directive Directive = true
@@ -120,9 +120,9 @@ are_dimensions rank f = false
 
 -- SIZE, LBOUND or UBOUND of an array's name, with the constant number of one of its dimensions
 abbrev pub is_of_array : SymbolTable → Parts → Bool
-is_of_array t ps = satisfies is_array (named_first t ps) && are_dimensions (rank_of (named_first t ps)) (values_behind None t ps)
+is_of_array t ps = satisfies is_array (named_first t ps) && are_dimensions (rank_of (named_first t ps)) (values_after None t ps)
 
--- the first argument of an inquiry breaks no rule itself, and those behind it are integer scalars
+-- the first argument of an inquiry breaks no rule itself, and those after it are integer scalars
 abbrev pub is_inquired : Bool → Option TypeAndRank → Bool
 is_inquired true s = is_some s
 is_inquired false s = if_typed is_integer_scalar s

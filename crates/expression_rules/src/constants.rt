@@ -4,7 +4,7 @@ ghost use Rattle.std.specs.Prelude.{◌≡◌, ◌∷◌, [], None, drop, option
 ghost use Rattle.expression_rules.specs.Dims.{AreDims, IsDim};
 ghost use Rattle.syntax_tree.specs.Expression.{expression};
 ghost use Rattle.op_tables.specs.Operators.{truth};
-ghost use Rattle.expression_rules.specs.Constants.{bound_of, called_value, inquired, lower_bound, value_of_symbol, named_first, no_dimension, processor_count, processor_count_in, numbered, of_array, of_dimensions, elemental_value, operated, upper_bound, value, values, values_behind, with_more};
+ghost use Rattle.expression_rules.specs.Constants.{bound_of, called_value, inquired, lower_bound, value_of_symbol, named_first, no_dimension, processor_count, processor_count_in, numbered, of_array, of_dimensions, elemental_value, operated, upper_bound, value, values, values_after, with_more};
 ghost use Rattle.expression_rules.specs.Partial.{and_one};
 ghost use Rattle.syntax_tree.specs.Expression.{arguments_of};
 ghost use Rattle.expression_rules.specs.declared.evaluated.Evaluated.TheVariants.{Known};
@@ -77,11 +77,11 @@ fn called_value(
     arguments: &[Expr],
 ) -> Result<Evaluated<i64>, AllocError>
     ensures { IfOk result (λ f. f ≡ called_value (option_copied grid.entry) op (named_first scope.now (arguments_of arguments.now))
-        (values (option_copied grid.entry) scope.now (arguments_of arguments.now)) (values_behind (option_copied grid.entry) scope.now (arguments_of arguments.now))) }
+        (values (option_copied grid.entry) scope.now (arguments_of arguments.now)) (values_after (option_copied grid.entry) scope.now (arguments_of arguments.now))) }
 {
     if is_inquiry(op) {
-        let behind = values(alloc, grid, scope, rest_of(arguments))?;
-        Ok(of_array(grid, op, named_first(scope, arguments), &behind))
+        let after = values(alloc, grid, scope, rest_of(arguments))?;
+        Ok(of_array(grid, op, named_first(scope, arguments), &after))
     } else if is_processor_count(op) {
         let numbers = values(alloc, grid, scope, arguments)?;
         Ok(processor_count(grid, &numbers))
@@ -246,7 +246,7 @@ fn of_dimensions(
     }
 }
 
-/// SIZE, LBOUND or UBOUND of dimensions, with the values of the arguments behind the array (Fortran 95, 13.14). Invalid exactly where
+/// SIZE, LBOUND or UBOUND of dimensions, with the values of the arguments after the array (Fortran 95, 13.14). Invalid exactly where
 /// the grid of a directive is given and there is no dimension of that number; Unknown where there is another number of arguments
 /// than it takes, and without a grid also where there is no such dimension. It takes no memory.
 pub fn inquired(grid: Option<&Grid>, op: Op, dims: &[Dim], numbers: &[i64]) -> Evaluated<i64>

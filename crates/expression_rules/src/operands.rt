@@ -39,7 +39,7 @@ pub fn are_operands(scope: &Scope<'_>, e: &Expr) -> bool
     }
 }
 
-/// The same of a name and the subscripts behind it.
+/// The same of a name and the subscripts after it.
 #[cycle(operands)]
 pub fn is_operand_reference(scope: &Scope<'_>, reference: &Ref) -> bool
     ensures { result ≡ are_operands scope.now (expression (Expr.Ref reference.now)) }

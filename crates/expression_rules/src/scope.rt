@@ -42,7 +42,7 @@ impl<'a> Scope<'a> {
         }
     }
 
-    /// The declared names behind these dummies. It takes no memory.
+    /// The declared names after these dummies. It takes no memory.
     pub fn with_dummies(table: &'a SymbolTable, dummies: &'a [Name]) -> Scope<'a>
         ensures { result ≡ with_dummies table.now dummies.now }
     {
@@ -54,7 +54,7 @@ impl<'a> Scope<'a> {
     }
 
     /// What a name stands for; None exactly where it is neither declared nor a dummy. It takes no memory.
-    #[tactic(auto, using(crate::proofs::Dummies::find_behind))]
+    #[tactic(auto, using(crate::proofs::Dummies::find_after))]
     pub fn find(&self, name: &Name) -> Option<&Symbol>
         ensures { option_copied result ≡ find name.now self.now }
     {

@@ -234,11 +234,8 @@ fn elemental_one(op: Op, a: Option<TypeAndRank>) -> Option<TypeAndRank>
 fn elemental_two(op: Op, a: Option<TypeAndRank>, b: Option<TypeAndRank>) -> Option<TypeAndRank>
     ensures { result ≡ elemental op (a ∷ b ∷ []) }
 {
-    let behind = common(rank_in(operand_type(op), b), Some(0));
-    of_type(
-        result_type(op),
-        common(rank_in(operand_type(op), a), behind),
-    )
+    let after = common(rank_in(operand_type(op), b), Some(0));
+    of_type(result_type(op), common(rank_in(operand_type(op), a), after))
 }
 
 /// The rank of an array, and 0 of anything else.
@@ -279,7 +276,7 @@ fn part_count(parts: &[Subscript]) -> usize
     parts.len()
 }
 
-/// The first argument of an inquiry, or one behind it, is right by itself.
+/// The first argument of an inquiry, or one after it, is right by itself.
 fn is_inquired(first: bool, type_and_rank: Option<TypeAndRank>) -> bool
     ensures { result ≡ is_inquired first type_and_rank }
 {

@@ -4,7 +4,7 @@ use case_texts::write_text;
 use hpf_base::{Grid, Index, Name};
 use std::alloc::{AllocError, Global};
 use std::fmt::Write;
-use syntax_tree::Names;
+use syntax_tree::NameList;
 
 /// Writes how many nodes the grid with these extents has.
 pub fn write_grid(alloc: Global, out: &mut String, written: &str) -> Result<(), AllocError> {
@@ -50,7 +50,7 @@ pub fn write_names(alloc: Global, out: &mut String, written: &str) -> Result<(),
             }
         }
     }
-    let names = Names::new(held);
+    let names = NameList::new(held);
     write!(out, "  {}:", names.as_slice().len())?;
     for name in names.as_slice() {
         out.push(' ')?;

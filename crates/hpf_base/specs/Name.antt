@@ -19,7 +19,7 @@ pub record IsName (bytes : List ℕ) : Type 0 where
 abbrev pub held : Inside → List ℕ
 held n = take n.len n.bytes
 
--- a name is held, with zeros behind it
+-- a name is held, with zeros after it
 pub record IsHeld (n : Inside) : Type 0 where
   pub name : IsName (held n)
   pub whole : length (held n) ≡ n.len

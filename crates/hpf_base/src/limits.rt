@@ -12,7 +12,7 @@ pub const MAX_LINES: u32 = 20_000;
 /// The greatest number of lines that continue one statement or directive (Fortran 95, 3.3.1.3).
 pub const MAX_CONTINUATIONS: usize = 39;
 
-/// The greatest number of bytes of a logical line: its first line and those that continue it, each with a blank behind it.
+/// The greatest number of bytes of a logical line: its first line and those that continue it, each with a blank after it.
 pub const MAX_LOGICAL_LINE_BYTES: usize = 5_320;
 
 /// The greatest number of bytes of a name (Fortran 95, 3.2.1).

@@ -11,10 +11,10 @@ AreAppended-more (Some held) mid end xs ys first second =
     next ∙ ap (λ bytes. Some bytes) (append_assoc held xs ys)
 
 -- what a source over memory has left, with a piece of it copied into the front of a buffer
-pub piece_left : (bytes left piece behind : List ℕ) (given n : ℕ) → drop given bytes ≡ left → length piece ≡ n → piece ≡ take n (drop given bytes)
-    → left ≡ take n (piece ++ behind) ++ drop (given + n) bytes
-piece_left bytes left piece behind given n left_is len piece_is =
+pub piece_left : (bytes left piece after : List ℕ) (given n : ℕ) → drop given bytes ≡ left → length piece ≡ n → piece ≡ take n (drop given bytes)
+    → left ≡ take n (piece ++ after) ++ drop (given + n) bytes
+piece_left bytes left piece after given n left_is len piece_is =
     sym left_is ∙ sym (take-append-drop n (drop given bytes)) ∙ same
   where
-    same : take n (drop given bytes) ++ drop n (drop given bytes) ≡ take n (piece ++ behind) ++ drop (given + n) bytes
-    same = rw (take_at piece behind n len, drop-drop n given bytes, ← piece_is)
+    same : take n (drop given bytes) ++ drop n (drop given bytes) ≡ take n (piece ++ after) ++ drop (given + n) bytes
+    same = rw (take_at piece after n len, drop-drop n given bytes, ← piece_is)

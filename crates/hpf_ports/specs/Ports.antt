@@ -19,7 +19,7 @@ abbrev pub IsAtEnd : Option (List ℕ) → Type 0
 IsAtEnd None = Unit {0}
 IsAtEnd (Some left) = left ≡ []
 
--- the sink took these bytes, behind those that it held
+-- the sink took these bytes, after those that it held
 abbrev pub AreAppended : Option (List ℕ) → Option (List ℕ) → List ℕ → Type 0
 AreAppended None held' bytes = held' ≡ None
 AreAppended (Some held) held' bytes = held' ≡ Some (held ++ bytes)

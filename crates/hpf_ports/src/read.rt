@@ -66,7 +66,7 @@ fn zeroed_chunk(alloc: Global) -> Result<Vec<u8>, AllocError>
     vec![in alloc; 0; CHUNK]
 }
 
-// Reads the source's next bytes behind `text`, at most up to one byte past `MAX_SOURCE_BYTES`, and answers how
+// Reads the source's next bytes after `text`, at most up to one byte past `MAX_SOURCE_BYTES`, and answers how
 // many. The room is made before the read, so that an error has taken nothing.
 fn read_piece<S: Source>(
     src: &mut S,

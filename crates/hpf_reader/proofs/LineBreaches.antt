@@ -12,9 +12,9 @@ use Rattle.source_lines.specs.declared.line.LineKind.TheVariants as line
 use Rattle.syntax_tree.specs.Lexeme.{Lexeme}
 use Rattle.statement_reader.specs.Breaches.{IsStatementBreach}
 use Rattle.directive_reader.specs.Breach.{IsDirectiveBreach}
-use Rattle.nest_rules.specs.declared.program_line.ProgramLine.{ProgramLine as HeldLine}
+use Rattle.construct_rules.specs.declared.program_line.ProgramLine.{ProgramLine as HeldLine}
 use Rattle.hpf_base.specs.FirstBreach.{IsFirstOrNone, is_before, earlier}
-use Rattle.nest_rules.specs.ProgramLine.{line_of, lines_of}
+use Rattle.construct_rules.specs.ProgramLine.{line_of, lines_of}
 use Rattle.hpf_base.proofs.FirstBreaches.{first_both, first_same}
 use Rattle.hpf_reader.specs.ProgramText.{LexemeLine, lexeme_line, OneBreaks, IsLineOf, AreLinesOf, FormBreaks, IsWrong}
 use Rattle.hpf_reader.specs.OneMore.{IsRead, IsScanned}

@@ -16,27 +16,27 @@ use Rattle.statement_reader.proofs.Spelled.{one_form}
 use Rattle.directive_reader.specs.Forms as directives
 use Rattle.directive_reader.specs.Breach.{IsDirective}
 use Rattle.directive_reader.proofs.Verdicts.{one_directive}
-use Rattle.nest_rules.specs.ProgramLine.{ProgramLine, LineContent, OfStatement, OfDirective}
-use Rattle.nest_rules.specs.Breaches.{IsNestBreach}
+use Rattle.construct_rules.specs.ProgramLine.{ProgramLine, LineContent, OfStatement, OfDirective}
+use Rattle.construct_rules.specs.Breaches.{IsNestBreach}
 use Rattle.hpf_base.proofs.FirstBreaches.{first_same}
-use Rattle.nest_reader.specs.SpelledProgram.{SpelledProgram}
-use Rattle.nest_reader.specs.ProgramLines.{IsSpelled}
-use Rattle.nest_reader.proofs.Same.{same_program}
+use Rattle.construct_reader.specs.SpelledProgram.{SpelledProgram}
+use Rattle.construct_reader.specs.ProgramLines.{IsSpelled}
+use Rattle.construct_reader.proofs.Same.{same_program}
 use Rattle.syntax_tree.specs.declared.decl.Tree.{Tree}
 use Rattle.syntax_tree.specs.MainProgram.{MainProgram, main_program}
-use Rattle.nest_reader.specs.Meant.{meant}
-use Rattle.nest_reader.specs.Views.{spelled_program}
-use Rattle.nest_reader.specs.Said.{IsSaid, AreSaid}
-use Rattle.nest_reader.proofs.Meanings.{meant_is}
-use Rattle.nest_reader.proofs.Said.{declarations_said}
+use Rattle.construct_reader.specs.Meant.{meant}
+use Rattle.construct_reader.specs.Views.{spelled_program}
+use Rattle.construct_reader.specs.Said.{IsSaid, AreSaid}
+use Rattle.construct_reader.proofs.Meanings.{meant_is}
+use Rattle.construct_reader.proofs.Said.{declarations_said}
 use Rattle.hpf_reader.specs.ProgramText.{LexemeLine, lexeme_lines, IsContent, IsLineOf, AreLinesOf, IsProgramText, IsMeantBy, TokensBreak, FormsBreak, NestBreaks, IsProgramRefusal, by_nest}
 
 -- lexemes are one directive to a tree
-same_directive : (ts : List Lexeme) (f g : directives.Form) → IsDirective ts f → IsDirective ts g → f ≡ g
+same_directive : (ts : List Lexeme) (f g : directives.DirectiveForm) → IsDirective ts f → IsDirective ts g → f ≡ g
 same_directive ts f g h i = sym h.same ∙ one_directive h.written i.written h.well i.well (h.spelled ∙ sym i.spelled) ∙ i.same
 
 -- lexemes are one statement to a tree
-same_statement : (ts : List Lexeme) (f g : statements.Form) → IsStatement ts f → IsStatement ts g → f ≡ g
+same_statement : (ts : List Lexeme) (f g : statements.StatementForm) → IsStatement ts f → IsStatement ts g → f ≡ g
 same_statement ts f g h i = sym h.same ∙ one_form h.written i.written h.formed i.formed (h.parts ∙ sym i.parts) ∙ i.same
 
 same_content : (k : LineKind) (ts : List Lexeme) (a b : LineContent) → IsContent k ts a → IsContent k ts b → a ≡ b

@@ -16,12 +16,12 @@ use Rattle.syntax_tree.specs.Lexeme.{Lexeme, lexemes}
 use Rattle.syntax_tree.specs.MainProgram.{MainProgram}
 use Rattle.statement_reader.specs.Breaches.{IsStatement, IsStatementBreach}
 use Rattle.directive_reader.specs.Breach.{IsDirective, IsDirectiveBreach}
-use Rattle.nest_rules.specs.ProgramLine.{ProgramLine, LineContent, OfStatement, OfDirective}
-use Rattle.nest_rules.specs.Breaches.{IsNestBreach}
-use Rattle.nest_reader.specs.SpelledProgram.{SpelledProgram}
-use Rattle.nest_reader.specs.ProgramLines.{IsSpelled}
-use Rattle.nest_reader.specs.Formed.{IsProgram}
-use Rattle.nest_reader.specs.Meant.{meant}
+use Rattle.construct_rules.specs.ProgramLine.{ProgramLine, LineContent, OfStatement, OfDirective}
+use Rattle.construct_rules.specs.Breaches.{IsNestBreach}
+use Rattle.construct_reader.specs.SpelledProgram.{SpelledProgram}
+use Rattle.construct_reader.specs.ProgramLines.{IsSpelled}
+use Rattle.construct_reader.specs.Formed.{IsProgram}
+use Rattle.construct_reader.specs.Meant.{meant}
 
 -- a logical line as its lexemes: the number of its first line, whether it is a statement or a directive, and the lexemes
 pub record LexemeLine : Type 0 where

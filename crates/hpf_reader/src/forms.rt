@@ -3,14 +3,14 @@
 ghost use Rattle.std.specs.Prelude.{◌≡◌, IfErr, IfNone, IfOk, OnOk};
 ghost use Rattle.hpf_base.specs.FirstBreach.{IsFirstOrNone};
 ghost use Rattle.hpf_base.specs.Refusal.{IsRefusalBy, NoBreach};
-ghost use Rattle.nest_rules.specs.ProgramLine.{line_of, lines_of};
+ghost use Rattle.construct_rules.specs.ProgramLine.{line_of, lines_of};
 ghost use Rattle.hpf_reader.specs.OneMore.{IsRead};
 ghost use Rattle.hpf_reader.specs.ProgramText.{AreLinesOf, FormBreaks, FormsBreak, IsLineOf};
 
 use crate::scan::TokenLine;
+use construct_rules::{LineContent, ProgramLine};
 use directive_reader::read_directive;
 use hpf_base::{Refusal, StaticError, earlier};
-use nest_rules::{LineContent, ProgramLine};
 use source_lines::LineKind;
 use statement_reader::read_statement;
 use std::alloc::{AllocError, Global};
@@ -40,7 +40,7 @@ fn form(alloc: Global, line: &TokenLine) -> Result<ProgramLine, StaticError>
     }
 }
 
-/// The statement or the directive that a line is, behind those before it; or why it is none.
+/// The statement or the directive that a line is, after those before it; or why it is none.
 fn add_form(
     alloc: Global,
     line: &TokenLine,

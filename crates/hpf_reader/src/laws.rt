@@ -2,7 +2,7 @@
 
 ghost use Rattle.std.specs.Prelude.{◌≡◌, ℕ, List};
 ghost use Rattle.syntax_tree.specs.MainProgram.{MainProgram};
-ghost use Rattle.nest_reader.specs.SpelledProgram.{SpelledProgram};
+ghost use Rattle.construct_reader.specs.SpelledProgram.{SpelledProgram};
 ghost use Rattle.hpf_reader.specs.ProgramText.{IsMeantBy, IsProgramText};
 
 /// A text spells one program at most.

@@ -3,18 +3,18 @@
 ghost use Rattle.std.specs.Prelude.{◌≡◌, IfOk, IfErr, OnOk};
 ghost use Rattle.hpf_base.specs.Refusal.{IsRefusalBy, NoBreach};
 ghost use Rattle.syntax_tree.specs.MainProgram.{main_program};
-ghost use Rattle.nest_rules.specs.Breaches.{IsNestBreach};
-ghost use Rattle.nest_rules.specs.ProgramLine.{lines_of};
-ghost use Rattle.nest_reader.specs.Formed.{IsProgram};
-ghost use Rattle.nest_reader.specs.ProgramLines.{IsSpelled};
-ghost use Rattle.nest_reader.specs.Views.{spelled_program};
+ghost use Rattle.construct_rules.specs.Breaches.{IsNestBreach};
+ghost use Rattle.construct_rules.specs.ProgramLine.{lines_of};
+ghost use Rattle.construct_reader.specs.Formed.{IsProgram};
+ghost use Rattle.construct_reader.specs.ProgramLines.{IsSpelled};
+ghost use Rattle.construct_reader.specs.Views.{spelled_program};
 ghost use Rattle.hpf_reader.specs.ProgramText.{HasNoBreach, IsMeantBy, IsProgramRefusal, IsProgramText};
 
 use crate::forms::forms;
 use crate::scan::scan;
+use construct_reader::read_nest;
+use construct_rules::{ProgramLine, first_breach};
 use hpf_base::StaticError;
-use nest_reader::read_nest;
-use nest_rules::{ProgramLine, first_breach};
 use source_lines::logical_lines;
 use std::alloc::Global;
 use syntax_tree::Tree;

@@ -29,7 +29,7 @@ impl Model for TokenLine {
     ghost view = { λ l. record { number = l.number; kind = l.kind; lexemes = lexemes l.tokens.items } };
 }
 
-/// The tokens of a line, behind those of the lines before it; or why it isn't made of tokens.
+/// The tokens of a line, after those of the lines before it; or why it isn't made of tokens.
 fn add_tokens(
     alloc: Global,
     line: &LogicalLine,

@@ -62,7 +62,7 @@ pub run-meant : (grid : List ℕ) (arrays : Bool) (p : MainProgram) (o : Outcome
 run-meant grid arrays p o built (reported o' is) = action_outcome o' (run_report built o' is)
 run-meant grid arrays p o built reported_memory = action_memory
 
--- a fault that is reported behind what was printed is the report of a program that has this fault
+-- a fault that is reported after what was printed is the report of a program that has this fault
 pub faulted-reported : (names : List Entry) (arrays : Bool) (s : serial.Outcome) (printed : List ℕ) (f : HeldFault) (o : Outcome) → printed ≡ s.printed
     → s.end ≡ serial.Faulted (fault f) → IsFaulted names printed f o → IsReported names arrays s o
 faulted-reported names arrays s printed f o same end reported_fault =

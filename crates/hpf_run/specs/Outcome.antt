@@ -55,7 +55,7 @@ abbrev pub refusal_line : Refusal → List ℕ
 refusal_line refusal =
     codes "hpf: line " ++ decimal refusal.line ++ codes ": refused " ++ decimal (number_of refusal.reason) ++ codes " " ++ name_of refusal.reason ++ codes "\n"
 
--- what a program printed and, where they are asked for, the lines of its last arrays behind it
+-- what a program printed and, where they are asked for, the lines of its last arrays after it
 abbrev pub with_arrays : Bool → List Entry → List ℕ → List (List ℤ) → List ℕ
 with_arrays false names printed arrays = printed
 with_arrays true names printed arrays = printed ++ arrays_text names arrays
@@ -132,7 +132,7 @@ pub data Delivered (o : Outcome) (out out' err err' : Port) : Status → Type 0 
   err_failed : Rose err.faults err'.faults → AreAppended out.bytes out'.bytes o.out → (n : ℕ) → n < length o.err → AreAppended err.bytes err'.bytes (take n o.err)
       → Delivered o out out' err err' WriteFault
 
--- what a call of the program answers, where its source and its two sinks stood so before it and so behind it: the status of
+-- what a call of the program answers, where its source and its two sinks stood so before it and so after it: the status of
 -- what the call means, which is delivered
 pub record IsAnswer (words : List (List ℕ)) (source source' out out' err err' : Port) (status : Status) : Type 0 where
   pub outcome : Outcome

@@ -45,7 +45,7 @@ pub data IsReported (names : List Entry) (arrays : Bool) (s : serial.Outcome) : 
   reported : (o : Outcome) → IsReportOf names arrays s o → IsReported names arrays s o
   reported_memory : IsReported names arrays s record { status = status.Memory; out = []; err = memory_line }
 
--- a fault is reported behind what was printed, or want of memory
+-- a fault is reported after what was printed, or want of memory
 pub data IsFaulted (names : List Entry) (printed : List ℕ) (f : HeldFault) : Outcome → Type 0 where
   reported_fault : IsFaulted names printed f record { status = status.Fault; out = printed; err = fault_line names (fault f) }
   fault_memory : IsFaulted names printed f record { status = status.Memory; out = []; err = memory_line }

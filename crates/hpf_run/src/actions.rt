@@ -148,7 +148,7 @@ fn with_arrays(
     Ok(out)
 }
 
-/// The reply to a fault behind what was printed.
+/// The reply to a fault after what was printed.
 fn faulted(alloc: Global, names: &Names, printed: Vec<u8>, fault: Fault) -> Reply
     ensures { IsFaulted names.now printed.items fault (outcome_of result) }
 {

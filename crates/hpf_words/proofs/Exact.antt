@@ -12,7 +12,7 @@ use Rattle.clap.specs.Faults.{fault_of}
 use Rattle.hpf_base.specs.ElementOrder.{product}
 use Rattle.hpf_base.specs.declared.limits.TheConstants.{MAX_NODES}
 use Rattle.hpf_words.specs.Command.{hpf_app}
-use Rattle.hpf_words.specs.Parts.{Text, Part, Field, Valued, Word, ending, given, waiting, plain, wrong, value_of, flag, action, grid, threads, size, arrays, name_of, option_word, option_named, joined, positional, parts_with, parts_from, word_of, behind_two, begins_with_dash, name_in, value_in}
+use Rattle.hpf_words.specs.Parts.{Text, Part, Field, Valued, Word, ending, given, waiting, plain, wrong, value_of, flag, action, grid, threads, size, arrays, name_of, option_word, option_named, joined, positional, parts_with, parts_from, word_of, after_two, begins_with_dash, name_in, value_in}
 use Rattle.hpf_words.specs.Jobs.{between, is_given, is_once, same, text_of, job_by, job_in, job_of, action_of, grid_of, number_of, extents_of, threads_of, size_of, is_x, is_small, or_default}
 use Rattle.hpf_words.specs.declared.job.Job.{Job}
 use Rattle.hpf_words.proofs.Given.{same_refl, same_is}
@@ -131,9 +131,9 @@ no_value (Some (flag g)) None v word ps = refl
 no_value (Some (flag g)) (Some t) v word ps = refl
 no_value (Some action) t v word ps = refl
 
-no_value_behind : (bs : Text) (v : Valued) (word : Text) (ps : Option (List Part)) → value_with (behind_two bs) v word ps ≡ None
-no_value_behind [] v word ps = refl
-no_value_behind (b ∷ bs) v word ps = no_value (option_named (name_in (b ∷ bs))) (value_in (b ∷ bs)) v word ps
+no_value_after : (bs : Text) (v : Valued) (word : Text) (ps : Option (List Part)) → value_with (after_two bs) v word ps ≡ None
+no_value_after [] v word ps = refl
+no_value_after (b ∷ bs) v word ps = no_value (option_named (name_in (b ∷ bs))) (value_in (b ∷ bs)) v word ps
 
 compared : (word : Text) → Undashed word ⊎ (Lone word ⊎ Same word)
 compared [] = inl (refl, refl, refl)
@@ -144,7 +144,7 @@ compared (b ∷ bs) = go (b == 45) refl bs
     short c cs e d false s = inr (inl (e, rw (e, d) refl, rw (e, d, s) refl))
 
     two : (c : ℕ) (cs : Text) → (b == 45) ≡ true → (d : Bool) → (c == 45) ≡ d → Undashed (b ∷ c ∷ cs) ⊎ (Lone (b ∷ c ∷ cs) ⊎ Same (b ∷ c ∷ cs))
-    two c cs e true d = inr (inr (e, rw (e, d) refl, λ f o. rw (e, d) (no_value_behind cs f (b ∷ c ∷ cs) o)))
+    two c cs e true d = inr (inr (e, rw (e, d) refl, λ f o. rw (e, d) (no_value_after cs f (b ∷ c ∷ cs) o)))
     two c cs e false d = short c cs e d (is_some (slice_get (chars (c ∷ cs)) 0)) refl
 
     go : (x : Bool) → (b == 45) ≡ x → (bs : Text) → Undashed (b ∷ bs) ⊎ (Lone (b ∷ bs) ⊎ Same (b ∷ bs))

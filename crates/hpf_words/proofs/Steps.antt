@@ -10,7 +10,7 @@ use Rattle.clap.specs.Faults.{bundle_fault, flags_fault}
 use Rattle.clap.specs.declared.parser.matches.ValueSource.TheVariants.{CommandLine}
 use Rattle.clap.specs.declared.builder.value_parser.Reading.TheVariants.{AsWritten}
 use Rattle.clap.specs.declared.error.kind.ErrorKind.TheVariants.{UnknownArgument}
-use Rattle.hpf_words.specs.Parts.{Text, Part, Field, Word, ending, plain, wrong, value_of, flag, action, name_of, option_word, option_named, behind_two}
+use Rattle.hpf_words.specs.Parts.{Text, Part, Field, Word, ending, plain, wrong, value_of, flag, action, name_of, option_word, option_named, after_two}
 use Rattle.hpf_words.specs.Jobs.{is_given, same}
 use Rattle.hpf_words.proofs.Rules.{rule, R}
 
@@ -21,7 +21,7 @@ short_kind flags = if is_some (slice_get (chars flags) 0) then wrong else plain
 
 abbrev pub one_kind : Text → Word
 one_kind [] = plain
-one_kind (b ∷ bs) = if b == 45 then behind_two bs else short_kind (b ∷ bs)
+one_kind (b ∷ bs) = if b == 45 then after_two bs else short_kind (b ∷ bs)
 
 abbrev pub kind : Text → Word
 kind [] = plain

@@ -109,7 +109,7 @@ module _ (wt : Waiting) (tr : Bool) (rs : List Row) (p : Option (Text × List Te
           (ends_later (at (held rs p) wt tr (pos ps)) (at (held (rows ps) (Some (name_of action, word ∷ []))) idle tr (pos (ps ++ positional word ∷ []))) word rest (ps ++ positional word ∷ []) o
           (fault ∙ ap (λ b. step_fault S (place b) (held rs p) value) new ∙ first_fault (held rs p) ∙ sound.0) (first_goes new) (later new))
 
--- ---- behind `--`
+-- ---- after `--`
 
 trail : (words : List Text) (wt : Waiting) (rs : List Row) (p : Option (Text × List Text)) (ps : List Part) → IsSound rs p ps
     → Ends (at (held rs p) wt true (pos ps)) words ps (Some (map positional words))

@@ -24,7 +24,7 @@ pub data Field : Type 0 where
   flag : Flag → Field
   action : Field
 
--- an option goes by its name behind the two dashes
+-- an option goes by its name after the two dashes
 abbrev pub name_of : Field → Text
 name_of (value_of grid) = codes "grid"
 name_of (value_of threads) = codes "threads"
@@ -55,7 +55,7 @@ pub data Word : Type 0 where
   -- any other word that begins with `-`
   wrong : Word
 
--- an option, and the text behind `=` where there is one
+-- an option, and the text after `=` where there is one
 abbrev pub option_word : Field → Option Text → Word
 option_word (value_of v) None = waiting v
 option_word (value_of v) (Some text) = given (value_of v, text)
@@ -72,18 +72,18 @@ name_in = before_first is_equals
 abbrev pub value_in : Text → Option Text
 value_in text = if list_any is_equals text then Some (after_first is_equals text) else None
 
--- a word, by what stands behind its two dashes, behind its one dash, and whole
-abbrev pub behind_two : Text → Word
-behind_two [] = ending
-behind_two (b ∷ bs) = option_map_or (λ f. option_word f (value_in (b ∷ bs))) (option_named (name_in (b ∷ bs))) wrong
+-- a word, by what stands after its two dashes, after its one dash, and whole
+abbrev pub after_two : Text → Word
+after_two [] = ending
+after_two (b ∷ bs) = option_map_or (λ f. option_word f (value_in (b ∷ bs))) (option_named (name_in (b ∷ bs))) wrong
 
-abbrev pub behind_one : Text → Word
-behind_one [] = wrong
-behind_one (b ∷ bs) = if b == 45 then behind_two bs else wrong
+abbrev pub after_one : Text → Word
+after_one [] = wrong
+after_one (b ∷ bs) = if b == 45 then after_two bs else wrong
 
 abbrev pub word_of : Text → Word
 word_of [] = plain
-word_of (b ∷ bs) = if b == 45 then behind_one bs else plain
+word_of (b ∷ bs) = if b == 45 then after_one bs else plain
 
 abbrev pub begins_with_dash : Text → Bool
 begins_with_dash [] = false
@@ -95,7 +95,7 @@ positional word = (action, word)
 abbrev pub joined : Part → Option (List Part) → Option (List Part)
 joined p = option_map (λ ps. p ∷ ps)
 
--- behind `--` every word is positional
+-- after `--` every word is positional
 abbrev pub parts_with : Word → Text → List Text → Option (List Part) → (Valued → Option (List Part)) → Option (List Part)
 parts_with ending word rest next value = Some (map positional rest)
 parts_with (given p) word rest next value = joined p next

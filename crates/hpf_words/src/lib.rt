@@ -1,10 +1,10 @@
 //! The words of a command line.
 //!
-//! Comes in: the words behind the program's own name, `ACTION [--grid G] [--threads T] [--size N] [--arrays]`. Goes out: the
+//! Comes in: the words after the program's own name, `ACTION [--grid G] [--threads T] [--size N] [--arrays]`. Goes out: the
 //! job that they are, or that they are none. What holds in between: the words are read from left to right.
 //!
-//! - Behind the first word `--` every word is positional.
-//! - Before it, `--grid`, `--threads` and `--size` have their value behind `=` or as the next word, which then may not begin
+//! - After the first word `--` every word is positional.
+//! - Before it, `--grid`, `--threads` and `--size` have their value after `=` or as the next word, which then may not begin
 //!   with `-`. `--arrays` has none. No other word may begin with `-`, and no option may stand twice.
 //! - One word is positional: the action, `run`, `serial`, `check`, `map`, `messages` or `bulk`.
 //!

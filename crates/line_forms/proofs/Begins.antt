@@ -100,7 +100,7 @@ ends_first AnyName (Word x ∷ ts) a h = (refl, refl)
 ends_first AnyText (Text bytes ∷ ts) a h = (refl, refl)
 ends_first f ts a h = absurd cc
 
--- no expression goes on with what is behind it
+-- no expression goes on with what is after it
 pub ends_all : (fs : List FirstItem) (ts : List Lexeme) → list_all ends_expression fs ≡ true → Begins fs ts → Ends ts
 ends_all fs ts a b = each ends_expression fs ts a b (λ f p h. ends_first f ts p h)
 
@@ -187,7 +187,7 @@ front_end : front [] ≡ None
 unfolding front
 front_end = ap (λ r. r.core.expr 0 >>= λ x. Some (x.0, drop x.1 [])) (reading_at_end apart_of)
 
--- a subscript doesn't go on with what is behind it
+-- a subscript doesn't go on with what is after it
 pub record EndsSubscript (ts : List Lexeme) : Type 0 where
   pub ends : Ends ts
   pub none : front ts ≡ None

@@ -15,14 +15,14 @@ use Rattle.line_forms.specs.declared.read_error.ReadError.TheVariants.{Malformed
 use Rattle.line_forms.specs.Marks.{starts, comma, equals}
 use Rattle.line_forms.specs.Reading.{Reading, Found, Stopped, ◌>>=◌}
 use Rattle.line_forms.specs.Grammar.{Grammar, Value, Nothing, Identifier, Expr, Item, Subscript, Prefixed, Suffixed, Sequence, Optional, Choice, Skipped, CommaList, Header, OptionalToEnd}
-use Rattle.line_forms.specs.Printed.{with_commas, behind_comma, printed, IfFormed, Some_and_all, IsWell, value_kept}
+use Rattle.line_forms.specs.Printed.{with_commas, after_comma, printed, IfFormed, Some_and_all, IsWell, value_kept}
 use Rattle.line_forms.specs.DeepFront.{is_too_deep, preceded, list_front, expr_front, mask_front, deep_front, IsTooDeep}
 use Rattle.line_forms.specs.Read.{after_marks, name, expr, is_index, index_next, comma_list, mask, read}
 use Rattle.line_forms.specs.Ll1.{FirstItem, Finish, Exactly, begins, Begins, first_set, are_marks, disjoint, ends_expression, is_finish, is_filled, is_indexed, is_ll1}
 use Rattle.line_forms.proofs.Shallow.{any_shallow}
 use Rattle.line_forms.proofs.Begins.{starts_all, disjoint_starts, ends_all, finish_all, filled_all, no_index, subscript_all}
 use Rattle.line_forms.proofs.Leaves.{expr_reads, item_reads, subscript_reads}
-use Rattle.line_forms.proofs.Standing.{StandsAs, Stands, stands_whole, stands_deep, behind_prefix, then_reads, then_begins, unmapped, followed, mapped}
+use Rattle.line_forms.proofs.Standing.{StandsAs, Stands, stands_whole, stands_deep, after_prefix, then_reads, then_begins, unmapped, followed, mapped}
 use Rattle.line_forms.proofs.Starting.{three_true, marks_begin, head_stands, mask_begins, starting}
 
 -- a well-formed part that stands in front is read, or stops the reading
@@ -35,7 +35,7 @@ after_marks_found ks us ts m is =
     ∙ cond-true (starts ks (ks ++ us)) (Found (tt, drop (length ks) (ks ++ us))) (Stopped Malformed) (starts_all ks us m)
     ∙ ap (λ l. Found (tt, l)) (drop-append_seam ks us)
 
--- what is read behind fixed lexemes that stand in front
+-- what is read after fixed lexemes that stand in front
 chosen : {A B : Type 0} (ks us ts : List Lexeme) (q : List Lexeme → Reading A) (f : A × List Lexeme → Reading B) (other : Reading B) (r : Reading B)
     → are_marks ks ≡ true → ts ≡ ks ++ us → (q us >>= f) ≡ r → (if starts ks ts then (q (drop (length ks) ts) >>= f) else other) ≡ r
 chosen ks us ts q f other r m is h =
@@ -59,7 +59,7 @@ module _ (depths : Depths) where
 
   prefixed_complete : (ks : List Lexeme) (g : Grammar) (fs : List FirstItem) → are_marks ks ≡ true → Complete depths g fs → Complete depths (Prefixed ks g) fs
   prefixed_complete ks g fs m ih v w ts r s =
-      let p = behind_prefix ks (deep_front depths g v) (printed g v) (value_kept g v) (Begins fs) ts r s in
+      let p = after_prefix ks (deep_front depths g v) (printed g v) (value_kept g v) (Begins fs) ts r s in
       ap (λ q. q >>= λ x. read depths g x.1) (after_marks_found ks p.0 ts m p.1) ∙ ih v w p.0 r p.2
 
   sequence_complete : (g h : Grammar) (fs : List FirstItem) → is_ll1 h fs ≡ true → Complete depths g (first_set h fs) → Complete depths h fs → Complete depths (Sequence g h) fs
@@ -80,14 +80,14 @@ module _ (depths : Depths) where
       ap (read depths (Optional ks g)) s.2
       ∙ cond-false (starts ks s.0) (read depths g (drop (length ks) s.0) >>= λ v. Found (Some v.0, v.1)) (Found (None, s.0)) (disjoint_starts ks fs s.0 a s.1) ∙ sym s.3
   optional_complete ks g fs m a ih (Some v) w ts r s =
-      let p = behind_prefix ks (deep_front depths g v) (printed g v) (Some (value_kept g v)) (Begins fs) ts r s in
+      let p = after_prefix ks (deep_front depths g v) (printed g v) (Some (value_kept g v)) (Begins fs) ts r s in
       chosen ks p.0 ts (read depths g) (λ v. Found (Some v.0, v.1)) (Found (None, ts)) r m p.1
       (mapped (deep_front depths g v) (printed g v) (value_kept g v) (λ v. Some v) (Begins fs) p.0 r p.2 (read depths g p.0) (ih v w p.0))
 
   choice_complete : (ks : List Lexeme) (g h : Grammar) (fs : List FirstItem) → are_marks ks ≡ true → disjoint ks (first_set h fs) ≡ true
       → is_ll1 h fs ≡ true → Complete depths g fs → Complete depths h fs → Complete depths (Choice ks g h) fs
   choice_complete ks g h fs m a l ig ih (inl v) w ts r s =
-      let p = behind_prefix ks (deep_front depths g v) (printed g v) (inl (value_kept g v)) (Begins fs) ts r s in
+      let p = after_prefix ks (deep_front depths g v) (printed g v) (inl (value_kept g v)) (Begins fs) ts r s in
       chosen ks p.0 ts (read depths g) (λ v. Found (inl v.0, v.1)) (read depths h ts >>= λ v. Found (inr v.0, v.1)) r m p.1
       (mapped (deep_front depths g v) (printed g v) (value_kept g v) (λ v. inl v) (Begins fs) p.0 r p.2 (read depths g p.0) (ig v w p.0))
   choice_complete ks g h fs m a l ig ih (inr v) w ts r s =
@@ -104,20 +104,20 @@ module _ (depths : Depths) where
   skipped_complete ks fs m a false w ts r s =
       ap (read depths (Skipped ks)) s.2 ∙ cond-false (starts ks s.0) (Found (false, drop (length ks) s.0)) (Found (false, s.0)) (disjoint_starts ks fs s.0 a s.1) ∙ sym s.3
 
-  -- a list whose elements follow commas, where what stands behind it doesn't go on with it
+  -- a list whose elements follow commas, where what stands after it doesn't go on with it
   module _ (g : Grammar) (fs : List FirstItem) (next : List Lexeme → Bool) (ih : Complete depths g (Exactly comma ∷ fs))
-      (Behind : List Lexeme → Type 0) (begins : (us : List Lexeme) → Behind us → Begins (Exactly comma ∷ fs) us)
-      (stops : (us : List Lexeme) → Behind us → next us ≡ false)
+      (After : List Lexeme → Type 0) (begins : (us : List Lexeme) → After us → Begins (Exactly comma ∷ fs) us)
+      (stops : (us : List Lexeme) → After us → next us ≡ false)
       (goes : (v : Value g) (vs : List (Value g)) (z : List (Value g)) (us : List Lexeme) (r : Reading (List (Value g)))
-      → StandsAs (list_front (deep_front depths g) (printed g) (v ∷ vs)) (with_commas (map (printed g) (v ∷ vs))) z Behind us r
+      → StandsAs (list_front (deep_front depths g) (printed g) (v ∷ vs)) (with_commas (map (printed g) (v ∷ vs))) z After us r
       → next (comma ++ us) ≡ true) where
     row_reads : (most : ℕ) (v : Value g) (vs : List (Value g)) → IsWell g v → All (IsWell g) vs → (ts : List Lexeme) (r : Reading (List (Value g)))
         → StandsAs (list_front (deep_front depths g) (printed g) (v ∷ vs)) (with_commas (map (printed g) (v ∷ vs))) (map (value_kept g) (v ∷ vs))
-        Behind ts r → length ts < most → comma_list next (read depths g) most ts ≡ r
+        After ts r → length ts < most → comma_list next (read depths g) most ts ≡ r
     unfolding comma_list
     row_reads zero v vs w ws ts r s long = absurd (omega arith)
     row_reads (suc most) v [] w ws ts r s long =
-        followed (deep_front depths g v) (printed g v) (value_kept g v) (value_kept g v ∷ []) Behind (Begins (Exactly comma ∷ fs)) ts r s begins (read depths g ts) (ih v w ts)
+        followed (deep_front depths g v) (printed g v) (value_kept g v) (value_kept g v ∷ []) After (Begins (Exactly comma ∷ fs)) ts r s begins (read depths g ts) (ih v w ts)
         (λ x. if next x.1 then (comma_list next (read depths g) most (drop 1 x.1) >>= λ xs. Found (x.0 ∷ xs.0, xs.1)) else Found (x.0 ∷ [], x.1))
         (λ us b.
         cond-false (next us) (comma_list next (read depths g) most (drop 1 us) >>= λ xs. Found (value_kept g v ∷ xs.0, xs.1))
@@ -126,20 +126,20 @@ module _ (depths : Depths) where
         let more = list_front (deep_front depths g) (printed g) (x ∷ xs) in
         let text = with_commas (map (printed g) (x ∷ xs)) in
         let z = map (value_kept g) (v ∷ x ∷ xs) in
-        then_reads (deep_front depths g v) (printed g v) (value_kept g v) (Begins (Exactly comma ∷ fs)) (preceded comma more) (comma ++ text) z Behind
+        then_reads (deep_front depths g v) (printed g v) (value_kept g v) (Begins (Exactly comma ∷ fs)) (preceded comma more) (comma ++ text) z After
         ts r s (read depths g ts) (ih v w ts)
         (λ x. if next x.1 then (comma_list next (read depths g) most (drop 1 x.1) >>= λ xs. Found (x.0 ∷ xs.0, xs.1)) else Found (x.0 ∷ [], x.1))
-        (λ us q. let p = behind_prefix comma more text z Behind us r q in marks_begin comma p.0 us fs refl p.1)
-        (λ us is q. let p = behind_prefix comma more text z Behind us r q in
+        (λ us q. let p = after_prefix comma more text z After us r q in marks_begin comma p.0 us fs refl p.1)
+        (λ us is q. let p = after_prefix comma more text z After us r q in
         let shorter : length p.0 < most = omega (arith, long, ap length is, ap length p.1, length-append (printed g v) us, length-append comma p.0) in
         ap (λ l. if next l then (comma_list next (read depths g) most (drop 1 l) >>= λ xs. Found (value_kept g v ∷ xs.0, xs.1)) else Found (value_kept g v ∷ [], l)) p.1
         ∙ cond-true (next (comma ++ p.0)) (comma_list next (read depths g) most p.0 >>= λ xs. Found (value_kept g v ∷ xs.0, xs.1))
         (Found (value_kept g v ∷ [], comma ++ p.0)) (goes x xs z p.0 r p.2)
-        ∙ mapped more text (map (value_kept g) (x ∷ xs)) (λ xs. value_kept g v ∷ xs) Behind p.0 r p.2 (comma_list next (read depths g) most p.0)
+        ∙ mapped more text (map (value_kept g) (x ∷ xs)) (λ xs. value_kept g v ∷ xs) After p.0 r p.2 (comma_list next (read depths g) most p.0)
         (λ r' q. row_reads most x xs (All-head (IsWell g) x xs ws) (All-tail (IsWell g) x xs ws) p.0 r' q shorter))
 
     list_reads : (vs : List (Value g)) → Some_and_all (IsWell g) vs → (ts : List Lexeme) (r : Reading (List (Value g)))
-        → StandsAs (list_front (deep_front depths g) (printed g) vs) (with_commas (map (printed g) vs)) (map (value_kept g) vs) Behind ts r
+        → StandsAs (list_front (deep_front depths g) (printed g) vs) (with_commas (map (printed g) vs)) (map (value_kept g) vs) After ts r
         → comma_list next (read depths g) (suc (length ts)) ts ≡ r
     list_reads [] w ts r s = absurd w
     list_reads (v ∷ vs) w ts r s = row_reads (suc (length ts)) v vs w.0 w.1 ts r s (omega arith)
@@ -151,29 +151,29 @@ module _ (depths : Depths) where
 
   -- a part that has a name and `=` in front
   indexed : {A : Type 0} (g : Grammar) → is_indexed g ≡ true
-      → (v : Value g) (z : A) (Behind : List Lexeme → Type 0) (ts : List Lexeme) (r : Reading A)
-      → StandsAs (deep_front depths g v) (printed g v) z Behind ts r → is_index ts ≡ true
-  indexed (Sequence Identifier (Prefixed ks g)) h v z Behind ts r s =
-      then_begins None (Word v.0 ∷ []) z (λ us. starts equals us ≡ true) (preceded ks (deep_front depths g v.1)) (ks ++ printed g v.1) z Behind ts r s
+      → (v : Value g) (z : A) (After : List Lexeme → Type 0) (ts : List Lexeme) (r : Reading A)
+      → StandsAs (deep_front depths g v) (printed g v) z After ts r → is_index ts ≡ true
+  indexed (Sequence Identifier (Prefixed ks g)) h v z After ts r s =
+      then_begins None (Word v.0 ∷ []) z (λ us. starts equals us ≡ true) (preceded ks (deep_front depths g v.1)) (ks ++ printed g v.1) z After ts r s
       (λ r' q. ap is_index q.2 ∙ q.1)
-      (λ us q. let p = behind_prefix ks (deep_front depths g v.1) (printed g v.1) z Behind us r q in ap (starts equals) p.1 ∙ equals_first ks p.0 h)
+      (λ us q. let p = after_prefix ks (deep_front depths g v.1) (printed g v.1) z After us r q in ap (starts equals) p.1 ∙ equals_first ks p.0 h)
     where
       equals_first : (ks us : List Lexeme) → starts equals ks ≡ true → starts equals (ks ++ us) ≡ true
       equals_first [] us h = absurd cc
       equals_first (k ∷ ks) us h = h
-  indexed g h v z Behind ts r s = absurd cc
+  indexed g h v z After ts r s = absurd cc
 
   deep_name : (depths : Depths) (e : Expression) (x : List ℕ) → is_too_deep depths e ≡ true → e ≡ Name x → ⊥
   deep_name Limited e x h is = let no : false ≡ true = sym (ap (is_too_deep Limited) is) ∙ h in absurd cc
   deep_name Any e x h is = absurd cc
 
-  -- the indices stop before the mask, and before what stands behind a header
+  -- the indices stop before the mask, and before what stands after a header
   mask_stops : {A : Type 0} (m : Option Expression) (z : A) (fs : List FirstItem) (ts : List Lexeme) (r : Reading A) → IfFormed m
-      → disjoint comma fs ≡ true → disjoint equals fs ≡ true → StandsAs (mask_front depths m) (behind_comma m) z (Begins fs) ts r
+      → disjoint comma fs ≡ true → disjoint equals fs ≡ true → StandsAs (mask_front depths m) (after_comma m) z (Begins fs) ts r
       → index_next ts ≡ false
   mask_stops None z fs ts r w a e s = ap index_next s.2 ∙ ap (λ b. b && is_index (drop 1 s.0)) (disjoint_starts comma fs s.0 a s.1)
   mask_stops (Some e) z fs ts r w a q s =
-      let p = behind_prefix comma (expr_front depths e) (spelling e) z (Begins fs) ts r s in
+      let p = after_prefix comma (expr_front depths e) (spelling e) z (Begins fs) ts r s in
       ap index_next p.1 ∙ at p.0 (is_too_deep depths e) refl p.2
     where
       at : (us : List Lexeme) (b : Bool) → is_too_deep depths e ≡ b → StandsAs (if b then Some (spelling e) else None) (spelling e) z (Begins fs) us r → is_index us ≡ false
@@ -182,13 +182,13 @@ module _ (depths : Depths) where
 
   mask_reads : (m : Option Expression) (fs : List FirstItem) (ts : List Lexeme) (r : Reading (Option Expression)) → IfFormed m
       → list_all ends_expression fs ≡ true → disjoint comma fs ≡ true
-      → StandsAs (mask_front depths m) (behind_comma m) (option_map kept m) (Begins fs) ts r → mask depths ts ≡ r
+      → StandsAs (mask_front depths m) (after_comma m) (option_map kept m) (Begins fs) ts r → mask depths ts ≡ r
   mask_reads None fs ts r w e a s =
       ap (mask depths) s.2
       ∙ cond-false (starts comma s.0) (expr depths (drop 1 s.0) >>= λ x. Found (Some x.0, x.1)) (Found (None, s.0))
       (disjoint_starts comma fs s.0 a s.1) ∙ sym s.3
   mask_reads (Some e) fs ts r w h a s =
-      let p = behind_prefix comma (expr_front depths e) (spelling e) (Some (kept e)) (Begins fs) ts r s in
+      let p = after_prefix comma (expr_front depths e) (spelling e) (Some (kept e)) (Begins fs) ts r s in
       ap (mask depths) p.1
       ∙ mapped (expr_front depths e) (spelling e) (kept e) (λ x. Some x) (Begins fs) p.0 r p.2 (expr depths p.0)
       (expr_reads depths (Begins fs) e w (λ us b. ends_all fs us h b) p.0)
@@ -199,14 +199,14 @@ module _ (depths : Depths) where
       let row = map (value_kept g) v.0 in
       let z : Value (Header g) = (row, option_map kept v.1) in
       let First = λ (us : List Lexeme). Begins (Exactly comma ∷ fs) us × (index_next us ≡ false) in
-      then_reads (list_front (deep_front depths g) (printed g) v.0) (with_commas (map (printed g) v.0)) row First (mask_front depths v.1) (behind_comma v.1) z (Begins fs) ts r s
+      then_reads (list_front (deep_front depths g) (printed g) v.0) (with_commas (map (printed g) v.0)) row First (mask_front depths v.1) (after_comma v.1) z (Begins fs) ts r s
       (comma_list index_next (read depths g) (suc (length ts)) ts)
       (list_reads g fs index_next ih First (λ us b. b.0) (λ us b. b.1)
       (λ v vs z us r q. head_stands depths g v vs z First (λ us. Unit {0}) us r q (λ us b. tt) (λ us vs is. tt) (λ r' q. indexed g x v z (λ us. Unit {0}) us r' q)) v.0 w.0 ts)
       (λ v. mask depths v.1 >>= λ w. Found ((v.0, w.0), w.1))
       (λ us p. (mask_begins depths v.1 z fs us r p, mask_stops v.1 z fs us r w.1 a q p))
       (λ us _ p.
-      mapped (mask_front depths v.1) (behind_comma v.1) (option_map kept v.1) (λ y. (row, y)) (Begins fs) us r p (mask depths us)
+      mapped (mask_front depths v.1) (after_comma v.1) (option_map kept v.1) (λ y. (row, y)) (Begins fs) us r p (mask depths us)
       (λ r' p. mask_reads v.1 fs us r' w.1 e a p))
 
   to_end_some : (g : Grammar) (ts : List Lexeme) → (ts ≡ [] → ⊥) → read depths (OptionalToEnd g) ts ≡ (read depths g ts >>= λ v. Found (Some v.0, v.1))

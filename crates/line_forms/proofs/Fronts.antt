@@ -7,7 +7,7 @@ use Rattle.syntax_tree.specs.Spelling.{spelling, part_spelling, maybe_spelling, 
 use Rattle.line_forms.specs.declared.depths.Depths.{Depths}
 use Rattle.line_forms.specs.Marks.{comma, colon, colons}
 use Rattle.line_forms.specs.Grammar.{Grammar, Value, Output, Shown, Characters, Nothing, Identifier, Expr, Item, Subscript, Prefixed, Suffixed, Sequence, Optional, Choice, Skipped, CommaList, Header, OptionalToEnd}
-use Rattle.line_forms.specs.Printed.{printed, output_spelling, with_commas, behind_comma}
+use Rattle.line_forms.specs.Printed.{printed, output_spelling, with_commas, after_comma}
 use Rattle.line_forms.specs.DeepFront.{is_too_deep, preceded, front_or, list_front, expr_front, maybe_front, step_front, mask_front, output_front, part_front, deep_front}
 
 abbrev FrontOf : Option (List Lexeme) → List Lexeme → Type 0
@@ -52,7 +52,7 @@ module _ (depths : Depths) where
   step_of Absent = tt
   step_of (Present e) = preceded_of colon (expr_front depths e) (spelling e) (expr_of e)
 
-  mask_of : (m : Option Expression) → FrontOf (mask_front depths m) (behind_comma m)
+  mask_of : (m : Option Expression) → FrontOf (mask_front depths m) (after_comma m)
   mask_of None = tt
   mask_of (Some e) = preceded_of comma (expr_front depths e) (spelling e) (expr_of e)
 
@@ -87,7 +87,7 @@ module _ (depths : Depths) where
   front_of (Skipped ks) b = tt
   front_of (CommaList g) vs = list_of (deep_front depths g) (printed g) (front_of g) vs
   front_of (Header g) v =
-      or_of (list_front (deep_front depths g) (printed g) v.0) (with_commas (map (printed g) v.0)) (mask_front depths v.1) (behind_comma v.1)
+      or_of (list_front (deep_front depths g) (printed g) v.0) (with_commas (map (printed g) v.0)) (mask_front depths v.1) (after_comma v.1)
       (list_of (deep_front depths g) (printed g) (front_of g) v.0) (mask_of v.1)
   front_of (OptionalToEnd g) None = tt
   front_of (OptionalToEnd g) (Some v) = front_of g v
@@ -95,7 +95,7 @@ module _ (depths : Depths) where
   pub front_printed : (g : Grammar) (v : Value g) (front : List Lexeme) → deep_front depths g v ≡ Some front → (rest : List Lexeme) × (printed g v ≡ front ++ rest)
   front_printed g v front h = subst (λ o. FrontOf o (printed g v)) h (front_of g v)
 
--- the same of one part behind another
+-- the same of one part after another
 pub front_parted : (o : Option (List Lexeme)) (text : List Lexeme) (p : Option (List Lexeme)) (text' : List Lexeme) (front : List Lexeme)
     → ((f : List Lexeme) → o ≡ Some f → (rest : List Lexeme) × (text ≡ f ++ rest)) → ((f : List Lexeme) → p ≡ Some f → (rest : List Lexeme) × (text' ≡ f ++ rest))
     → front_or o text p ≡ Some front → (rest : List Lexeme) × (text ++ text' ≡ front ++ rest)

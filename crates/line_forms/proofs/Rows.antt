@@ -50,13 +50,13 @@ module _ {X A : Type 0} (view : X → A) (next : List Lexeme → Bool) (part : L
   pub goes : (most : ℕ) → Kept most → (x : X) (us : List Lexeme) → part ts ≡ Found (view x, us) → (more : Bool) → more ≡ next us → more ≡ true
       → (back : List X) → back ≡ front ++ x ∷ [] → (rest : List Lexeme) → rest ≡ drop 1 us → length rest < length ts
       → (n : ℕ) × (length rest < n) × (with_front (map view back) (comma_list next part n rest) ≡ whole)
-  goes zero k x us is more now h back all rest behind less = let no = k.0 in absurd (omega arith)
-  goes (suc most) k x us is more now h back all rest behind less =
+  goes zero k x us is more now h back all rest after less = let no = k.0 in absurd (omega arith)
+  goes (suc most) k x us is more now h back all rest after less =
       let within = k.0 in
       let go : next us ≡ true = sym now ∙ h in
-      (most, omega arith, (λ i. with_front (map view (all i)) (comma_list next part most (behind i))) ∙ on_more most k x us is go)
+      (most, omega arith, (λ i. with_front (map view (all i)) (comma_list next part most (after i))) ∙ on_more most k x us is go)
 
--- fewer lexemes are behind what was read and one more
+-- fewer lexemes are after what was read and one more
 pub fewer : {A : Type 0} (r : Reading A) (ts : List Lexeme) → On r (λ x. length x.1 ≤ length ts) → (x : A) (us : List Lexeme) → r ≡ Found (x, us)
     → 1 ≤ length us → length (drop 1 us) < length ts
 fewer r ts h x us is some =

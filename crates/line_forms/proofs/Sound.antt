@@ -1,4 +1,4 @@
--- What is read is spelled so, and a reading stops as too deep behind such a front.
+-- What is read is spelled so, and a reading stops as too deep after such a front.
 use Rattle.std.proofs.Common.{◌≡◌, ◌≤◌, ℕ, zero, suc, Bool, true, false, List, [], ◌∷◌, ◌++◌, length, drop, Option, Some, None, inl, inr, rules, refl, sym, ap, ◌∙◌, subst, arith, append_assoc, length-append}
 use Rattle.std.specs.Prelude.{if◌then◌else◌, map, not, nat_le, option_map, codes}
 use Rattle.std.proofs.lemmas.Slice.Eq.{bytes_eq-Decides}
@@ -22,7 +22,7 @@ use Rattle.line_forms.specs.declared.read_error.ReadError.TheVariants.{Malformed
 use Rattle.line_forms.specs.Marks.{same, starts, comma, colon, colons}
 use Rattle.line_forms.specs.Reading.{Reading, Found, Stopped, ◌>>=◌}
 use Rattle.line_forms.specs.Grammar.{Grammar, Value, Shown, Characters, Nothing, Identifier, Expr, Item, Subscript, Prefixed, Suffixed, Sequence, Optional, Choice, Skipped, CommaList, Header, OptionalToEnd}
-use Rattle.line_forms.specs.Printed.{with_commas, behind_comma, printed, IfFormed, Some_and_all, IsWell, value_kept}
+use Rattle.line_forms.specs.Printed.{with_commas, after_comma, printed, IfFormed, Some_and_all, IsWell, value_kept}
 use Rattle.line_forms.specs.DeepFront.{is_too_deep, preceded, front_or, expr_front, maybe_front, mask_front, deep_front, IsTooDeep}
 use Rattle.line_forms.specs.Read.{after_marks, name, within_depth, expr, if_there, optional_expr, item, step, triplet, stepped, one, part_from, subscript, is_index, index_next, comma_list, mask, read}
 use Rattle.line_forms.specs.InFront.{On, Holds, IsInFront}
@@ -134,8 +134,8 @@ module _ (depths : Depths) where
     abbrev first : List Lexeme
     first = maybe_spelling wa.written
 
-    behind_first : (ks us : List Lexeme) → a.1 ≡ ks ++ us → ts ≡ first ++ (ks ++ us)
-    behind_first ks us is = wa.parts ∙ ap (λ l. first ++ l) is
+    after_first : (ks us : List Lexeme) → a.1 ≡ ks ++ us → ts ≡ first ++ (ks ++ us)
+    after_first ks us is = wa.parts ∙ ap (λ l. first ++ l) is
 
     module _ (us : List Lexeme) (colon_is : a.1 ≡ colon ++ us) (b : Maybe × List Lexeme) (wb : MaybeInFront depths us b) where
       abbrev second : List Lexeme
@@ -143,7 +143,7 @@ module _ (depths : Depths) where
 
       grouped : (cs vs : List Lexeme) → b.1 ≡ cs ++ vs → ts ≡ (first ++ (colon ++ (second ++ cs))) ++ vs
       grouped cs vs is =
-          behind_first colon us colon_is ∙ ap (λ l. first ++ (colon ++ l)) (wb.parts ∙ ap (λ l. second ++ l) is ∙ sym (append_assoc second cs vs))
+          after_first colon us colon_is ∙ ap (λ l. first ++ (colon ++ l)) (wb.parts ∙ ap (λ l. second ++ l) is ∙ sym (append_assoc second cs vs))
           ∙ sym (append_assoc first (colon ++ (second ++ cs)) vs)
 
       step_sound : Reads depths Subscript ts (step depths a.0 b)
@@ -184,7 +184,7 @@ module _ (depths : Depths) where
           front = first ++ (colon ++ d.front);
           deep = λ i. front_or (wa.shallow i) first (preceded colon (front_or (d.deep i) (spelling d.written) None));
           rest = d.rest;
-          parts = behind_first colon us is ∙ ap (λ l. first ++ (colon ++ l)) d.parts ∙ sym (append_assoc first (colon ++ d.front) d.rest);
+          parts = after_first colon us is ∙ ap (λ l. first ++ (colon ++ l)) d.parts ∙ sym (append_assoc first (colon ++ d.front) d.rest);
         })
 
     stepped_sound : (us : List Lexeme) → a.1 ≡ colons ++ us → Reads depths Subscript ts (stepped depths a.0 us)
@@ -196,7 +196,7 @@ module _ (depths : Depths) where
           same = λ i. Range (wa.same i) Absent (Present (wc.same i));
           well = (wa.formed, wc.well);
           shallow = λ i. front_or (wa.shallow i) first (preceded colons (wc.shallow i));
-          parts = behind_first colons us is ∙ ap (λ l. first ++ (colons ++ l)) wc.parts ∙ sym (append_assoc first (colons ++ spelling wc.written) c.1);
+          parts = after_first colons us is ∙ ap (λ l. first ++ (colons ++ l)) wc.parts ∙ sym (append_assoc first (colons ++ spelling wc.written) c.1);
         })
         (λ d. record {
           written = Glued wa.written d.written;
@@ -204,7 +204,7 @@ module _ (depths : Depths) where
           front = first ++ (colons ++ d.front);
           deep = λ i. front_or (wa.shallow i) first (preceded colons (d.deep i));
           rest = d.rest;
-          parts = behind_first colons us is ∙ ap (λ l. first ++ (colons ++ l)) d.parts ∙ sym (append_assoc first (colons ++ d.front) d.rest);
+          parts = after_first colons us is ∙ ap (λ l. first ++ (colons ++ l)) d.parts ∙ sym (append_assoc first (colons ++ d.front) d.rest);
         })
 
   one_sound : (ts : List Lexeme) (a : Maybe) (us : List Lexeme) → MaybeInFront depths ts (a, us) → Reads depths Subscript ts (one a us)
@@ -237,7 +237,7 @@ after_marks_sound ks ts = holds_test (starts ks ts) (Found (tt, drop (length ks)
 abbrev pub Sound : Depths → Grammar → Type 0
 Sound depths g = (ts : List Lexeme) → Reads depths g ts (read depths g ts)
 
--- parts that are made of one part behind fixed lexemes
+-- parts that are made of one part after fixed lexemes
 record Wraps (ks : List Lexeme) (g g' : Grammar) (depths : Depths) : Type 0 where
   wrap : Value g → Value g'
   keeps : (v : Value g) → value_kept g' (wrap v) ≡ wrap (value_kept g v)
@@ -412,13 +412,13 @@ module _ (depths : Depths) where
       (λ h. record { written = a.written ∷ []; same = λ i. a.same i ∷ []; well = (a.well, All-nil (IsWell g)); shallow = a.shallow; parts = a.parts }))
       (λ d. record { written = d.written ∷ []; well = (d.well, All-nil (IsWell g)); front = d.front; deep = d.deep; rest = d.rest; parts = d.parts })
 
-  -- the expression behind a comma, of what stands in front
+  -- the expression after a comma, of what stands in front
   record MaskInFront (ts : List Lexeme) (x : Option Expression × List Lexeme) : Type 0 where
     written : Option Expression
     same : option_map kept written ≡ x.0
     well : IfFormed written
     shallow : mask_front depths written ≡ None
-    parts : ts ≡ behind_comma written ++ x.1
+    parts : ts ≡ after_comma written ++ x.1
 
   record DeepMask (ts : List Lexeme) : Type 0 where
     written : Expression
@@ -464,7 +464,7 @@ module _ (depths : Depths) where
         same = λ i. (a.same i, b.same i);
         well = (a.well, b.well);
         shallow = λ i. front_or (a.shallow i) text (b.shallow i);
-        parts = a.parts ∙ ap (λ l. text ++ l) b.parts ∙ sym (append_assoc text (behind_comma b.written) w.1);
+        parts = a.parts ∙ ap (λ l. text ++ l) b.parts ∙ sym (append_assoc text (after_comma b.written) w.1);
       })
       (λ d. record {
         written = (a.written, Some d.written);
@@ -518,7 +518,7 @@ module _ (depths : Depths) where
   pub deep_sound : (g : Grammar) (ts : List Lexeme) → read depths g ts ≡ Stopped TooDeep → IsTooDeep depths g ts
   deep_sound g ts h = subst (λ r. Reads depths g ts r) h (reads g ts) refl
 
-  -- no more lexemes are behind than there were
+  -- no more lexemes are after than there were
   pub shorter : (g : Grammar) (ts : List Lexeme) → On (read depths g ts) (λ x. length x.1 ≤ length ts)
   shorter g ts = short (read depths g ts) (sound g ts)
     where

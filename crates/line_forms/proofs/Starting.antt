@@ -11,11 +11,11 @@ use Rattle.line_forms.specs.declared.read_error.ReadError.TheVariants.{TooDeep}
 use Rattle.line_forms.specs.Marks.{starts, comma, colon, colons, equals}
 use Rattle.line_forms.specs.Reading.{Reading, Found, Stopped}
 use Rattle.line_forms.specs.Grammar.{Grammar, Value, Shown, Characters, Nothing, Identifier, Expr, Item, Subscript, Prefixed, Suffixed, Sequence, Optional, Choice, Skipped, CommaList, Header, OptionalToEnd}
-use Rattle.line_forms.specs.Printed.{with_commas, behind_comma, printed, Some_and_all, IsWell, value_kept}
+use Rattle.line_forms.specs.Printed.{with_commas, after_comma, printed, Some_and_all, IsWell, value_kept}
 use Rattle.line_forms.specs.DeepFront.{is_too_deep, preceded, front_or, list_front, expr_front, maybe_front, step_front, mask_front, deep_front}
 use Rattle.line_forms.specs.Ll1.{FirstItem, Exactly, AnyName, AnyText, Operand, is_first, begins, Begins, first_set, are_marks, disjoint, ends_expression, is_finish, is_filled, is_indexed, is_ll1}
 use Rattle.line_forms.proofs.Begins.{begins_left, begins_right, starts_all, operand_first}
-use Rattle.line_forms.proofs.Standing.{StandsAs, Stands, behind_prefix, then_begins, unmapped, text_stands}
+use Rattle.line_forms.proofs.Standing.{StandsAs, Stands, after_prefix, then_begins, unmapped, text_stands}
 
 pub three_true : (a b c : Bool) → (a && b && c) ≡ true → (a ≡ true) × (b ≡ true) × (c ≡ true)
 three_true a b c h = let x = and_parts (a && b) c h in let y = and_parts a b x.0 in (y.0, y.1, x.1)
@@ -51,12 +51,12 @@ module _ (depths : Depths) where
       let all = first_set Subscript fs in
       then_begins (maybe_front depths a) (maybe_spelling a) a (Begins all) (preceded colon last) (colon ++ text) _ (Begins fs) ts r s
       (maybe_begins a a (Exactly colon ∷ Exactly colons ∷ []) w.0 ts)
-      (λ us q. let p = behind_prefix colon last text _ (Begins fs) us r q in subst (Begins all) (sym p.1) refl)
+      (λ us q. let p = after_prefix colon last text _ (Begins fs) us r q in subst (Begins all) (sym p.1) refl)
   part_starts fs (Glued a c) w ts r s =
       let all = first_set Subscript fs in
       then_begins (maybe_front depths a) (maybe_spelling a) a (Begins all) (preceded colons (expr_front depths c)) (colons ++ spelling c) _ (Begins fs) ts r s
       (maybe_begins a a (Exactly colon ∷ Exactly colons ∷ []) w.0 ts)
-      (λ us q. let p = behind_prefix colons (expr_front depths c) (spelling c) _ (Begins fs) us r q in subst (Begins all) (sym p.1) refl)
+      (λ us q. let p = after_prefix colons (expr_front depths c) (spelling c) _ (Begins fs) us r q in subst (Begins all) (sym p.1) refl)
 
   item_starts : (fs : List FirstItem) → Starting depths Item fs
   item_starts fs (Shown e) w ts r s = operand_begins e (AnyText ∷ []) w ts (text_stands (is_too_deep depths e) (spelling e) _ (Begins fs) ts r s)
@@ -64,11 +64,11 @@ module _ (depths : Depths) where
 
   optional_starts : (ks : List Lexeme) (g : Grammar) (fs : List FirstItem) → are_marks ks ≡ true → Starting depths (Optional ks g) fs
   optional_starts ks g fs m None w ts r s = or_right (starts ks ts) (begins fs ts) (subst (Begins fs) (sym s.2) s.1)
-  optional_starts ks g fs m (Some v) w ts r s = let p = behind_prefix ks (deep_front depths g v) (printed g v) _ (Begins fs) ts r s in marks_begin ks p.0 ts fs m p.1
+  optional_starts ks g fs m (Some v) w ts r s = let p = after_prefix ks (deep_front depths g v) (printed g v) _ (Begins fs) ts r s in marks_begin ks p.0 ts fs m p.1
 
   choice_starts : (ks : List Lexeme) (g h : Grammar) (fs : List FirstItem) → are_marks ks ≡ true → Starting depths h fs → Starting depths (Choice ks g h) fs
   choice_starts ks g h fs m ih (inl v) w ts r s =
-      let p = behind_prefix ks (deep_front depths g v) (printed g v) _ (Begins fs) ts r s in marks_begin ks p.0 ts (first_set h fs) m p.1
+      let p = after_prefix ks (deep_front depths g v) (printed g v) _ (Begins fs) ts r s in marks_begin ks p.0 ts (first_set h fs) m p.1
   choice_starts ks g h fs m ih (inr v) w ts r s =
       let u = unmapped (deep_front depths h v) (printed h v) (value_kept h v) (λ v. inr v) (Begins fs) (Begins fs) ts r (λ us b. b) s in
       or_right (starts ks ts) (begins (first_set h fs) ts) (ih v w ts u.0 u.1)
@@ -78,16 +78,16 @@ module _ (depths : Depths) where
   skipped_starts ks fs m false w ts r s = or_right (starts ks ts) (begins fs ts) (subst (Begins fs) (sym s.2) s.1)
 
   -- the first of the elements of a list
-  pub head_stands : {A Q : Type 0} (g : Grammar) (v : Value g) (vs : List (Value g)) (z : A) (Behind First : List Lexeme → Type 0) (ts : List Lexeme) (r : Reading A)
-      → StandsAs (list_front (deep_front depths g) (printed g) (v ∷ vs)) (with_commas (map (printed g) (v ∷ vs))) z Behind ts r
-      → ((us : List Lexeme) → Behind us → First us) → ((us vs : List Lexeme) → us ≡ comma ++ vs → First us)
+  pub head_stands : {A Q : Type 0} (g : Grammar) (v : Value g) (vs : List (Value g)) (z : A) (After First : List Lexeme → Type 0) (ts : List Lexeme) (r : Reading A)
+      → StandsAs (list_front (deep_front depths g) (printed g) (v ∷ vs)) (with_commas (map (printed g) (v ∷ vs))) z After ts r
+      → ((us : List Lexeme) → After us → First us) → ((us vs : List Lexeme) → us ≡ comma ++ vs → First us)
       → ((r' : Reading A) → StandsAs (deep_front depths g v) (printed g v) z First ts r' → Q) → Q
-  head_stands g v [] z Behind First ts r s begins commas ih = let u = unmapped (deep_front depths g v) (printed g v) z (λ z. z) Behind First ts r begins s in ih u.0 u.1
-  head_stands g v (w ∷ ws) z Behind First ts r s begins commas ih =
+  head_stands g v [] z After First ts r s begins commas ih = let u = unmapped (deep_front depths g v) (printed g v) z (λ z. z) After First ts r begins s in ih u.0 u.1
+  head_stands g v (w ∷ ws) z After First ts r s begins commas ih =
       let more = list_front (deep_front depths g) (printed g) (w ∷ ws) in
       let text = with_commas (map (printed g) (w ∷ ws)) in
-      then_begins (deep_front depths g v) (printed g v) z First (preceded comma more) (comma ++ text) z Behind ts r s ih
-      (λ us q. let p = behind_prefix comma more text z Behind us r q in commas us p.0 p.1)
+      then_begins (deep_front depths g v) (printed g v) z First (preceded comma more) (comma ++ text) z After ts r s ih
+      (λ us q. let p = after_prefix comma more text z After us r q in commas us p.0 p.1)
 
   list_starts : {A : Type 0} (g : Grammar) (fs : List FirstItem) → Starting depths g (Exactly comma ∷ fs) → (vs : List (Value g)) (z : A)
       → Some_and_all (IsWell g) vs → (ts : List Lexeme) (r : Reading A)
@@ -102,11 +102,11 @@ module _ (depths : Depths) where
       r' (λ us b. b) q in
       ih v w.0 ts u.0 u.1)
 
-  -- behind the indices of a header
+  -- after the indices of a header
   pub mask_begins : {A : Type 0} (m : Option Expression) (z : A) (fs : List FirstItem) (ts : List Lexeme) (r : Reading A)
-      → StandsAs (mask_front depths m) (behind_comma m) z (Begins fs) ts r → Begins (Exactly comma ∷ fs) ts
+      → StandsAs (mask_front depths m) (after_comma m) z (Begins fs) ts r → Begins (Exactly comma ∷ fs) ts
   mask_begins None z fs ts r s = or_right (starts comma ts) (begins fs ts) (subst (Begins fs) (sym s.2) s.1)
-  mask_begins (Some e) z fs ts r s = let p = behind_prefix comma (expr_front depths e) (spelling e) z (Begins fs) ts r s in marks_begin comma p.0 ts fs refl p.1
+  mask_begins (Some e) z fs ts r s = let p = after_prefix comma (expr_front depths e) (spelling e) z (Begins fs) ts r s in marks_begin comma p.0 ts fs refl p.1
 
   to_end_starts : (g : Grammar) (fs : List FirstItem) → Starting depths g fs → Starting depths (OptionalToEnd g) fs
   to_end_starts g fs ih None w ts r s = begins_right (first_set g fs) fs ts (subst (Begins fs) (sym s.2) s.1)
@@ -121,7 +121,7 @@ module _ (depths : Depths) where
   starting Item fs l v w ts r s = item_starts fs v w ts r s
   starting Subscript fs l v w ts r s = part_starts fs v w ts r s
   starting (Prefixed ks g) fs l v w ts r s =
-      let p = behind_prefix ks (deep_front depths g v) (printed g v) (value_kept g v) (Begins fs) ts r s in
+      let p = after_prefix ks (deep_front depths g v) (printed g v) (value_kept g v) (Begins fs) ts r s in
       marks_begin ks p.0 ts [] (and_parts (are_marks ks) (is_ll1 g fs) l).0 p.1
   starting (Suffixed g ks) fs l v w ts r s =
       let m = and_parts (are_marks ks) (is_ll1 g (Exactly ks ∷ [])) l in
@@ -151,7 +151,7 @@ module _ (depths : Depths) where
   starting (Header g) fs l v w ts r s =
       let m = and_parts (is_indexed g && list_all ends_expression fs && disjoint comma fs && disjoint equals fs) (is_ll1 g (Exactly comma ∷ fs)) l in
       then_begins (list_front (deep_front depths g) (printed g) v.0) (with_commas (map (printed g) v.0)) (map (value_kept g) v.0)
-      (Begins (Exactly comma ∷ fs)) (mask_front depths v.1) (behind_comma v.1) (value_kept (Header g) v) (Begins fs) ts r s
+      (Begins (Exactly comma ∷ fs)) (mask_front depths v.1) (after_comma v.1) (value_kept (Header g) v) (Begins fs) ts r s
       (λ r' q. list_starts g fs (starting g (Exactly comma ∷ fs) m.1) v.0 (map (value_kept g) v.0) w.0 ts r' q)
       (λ us q. mask_begins v.1 (value_kept (Header g) v) fs us r q)
   starting (OptionalToEnd g) fs l v w ts r s =

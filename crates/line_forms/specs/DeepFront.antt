@@ -16,12 +16,12 @@ abbrev pub is_too_deep : Depths → Expression → Bool
 is_too_deep Limited e = not (nat_le (depth e) MAX_DEPTH)
 is_too_deep Any e = false
 
--- a front behind other lexemes
+-- a front after other lexemes
 abbrev pub preceded : List Lexeme → Option (List Lexeme) → Option (List Lexeme)
 preceded ks None = None
 preceded ks (Some front) = Some (ks ++ front)
 
--- the front that a part has, or else, behind the whole part, that of what stands there
+-- the front that a part has, or else, after the whole part, that of what stands there
 abbrev pub front_or : Option (List Lexeme) → List Lexeme → Option (List Lexeme) → Option (List Lexeme)
 front_or (Some front) text next = Some front
 front_or None text next = preceded text next
@@ -79,7 +79,7 @@ deep_front depths (OptionalToEnd g) None = None
 deep_front depths (OptionalToEnd g) (Some v) = deep_front depths g v
 
 -- lexemes are too deep for a part: a front of them is that of a well-formed one up to and with its first expression that
--- is too deep, whatever stands behind
+-- is too deep, whatever stands after
 pub record IsTooDeep (depths : Depths) (g : Grammar) (ts : List Lexeme) : Type 0 where
   pub written : Value g
   pub well : IsWell g written

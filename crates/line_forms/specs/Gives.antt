@@ -19,7 +19,7 @@ abbrev pub with_front : {A : Type 0} → List A → Reading (List A) → Reading
 with_front front (Found x) = Found (front ++ x.0, x.1)
 with_front front (Stopped why) = Stopped why
 
--- a list goes on behind an element: with a comma, and where its elements are indices with a comma and an index
+-- a list goes on after an element: with a comma, and where its elements are indices with a comma and an index
 abbrev pub goes_on : ListKind → List Lexeme → Bool
 goes_on Plain ts = starts comma ts
 goes_on Indices ts = index_next ts

@@ -1,4 +1,4 @@
--- Grammars of lines: what stands in them one behind the other.
+-- Grammars of lines: what stands in them one after the other.
 use Rattle.std.specs.Prelude.{ℕ, Bool, List, Option, ◌⊎◌}
 use Rattle.syntax_tree.specs.Lexeme.{Lexeme}
 use Rattle.syntax_tree.specs.Expression.{Expression, Part}
@@ -15,10 +15,10 @@ pub data Grammar : Type 0 where
   Expr : Grammar
   Item : Grammar
   Subscript : Grammar
-  -- fixed lexemes, and a part behind them or before them
+  -- fixed lexemes, and a part after them or before them
   Prefixed : List Lexeme → Grammar → Grammar
   Suffixed : Grammar → List Lexeme → Grammar
-  -- one part behind another
+  -- one part after another
   Sequence : Grammar → Grammar → Grammar
   -- a part that may be left out, and has fixed lexemes in front where it stands
   Optional : List Lexeme → Grammar → Grammar
@@ -28,7 +28,7 @@ pub data Grammar : Type 0 where
   Skipped : List Lexeme → Grammar
   -- parts with commas between
   CommaList : Grammar → Grammar
-  -- indices with commas between, and an expression behind a comma that may be left out
+  -- indices with commas between, and an expression after a comma that may be left out
   Header : Grammar → Grammar
   -- a part that may be left out at the end of a line
   OptionalToEnd : Grammar → Grammar

@@ -48,7 +48,7 @@ begins fs ts = list_any (λ f. is_first f ts) fs
 abbrev pub Begins : List FirstItem → List Lexeme → Type 0
 Begins fs ts = begins fs ts ≡ true
 
--- how a part of a line may begin, where the rest behind it may begin so
+-- how a part of a line may begin, where the rest after it may begin so
 abbrev pub first_set : Grammar → List FirstItem → List FirstItem
 first_set Nothing fs = fs
 first_set Identifier fs = AnyName ∷ []
@@ -131,7 +131,7 @@ abbrev pub is_indexed : Grammar → Bool
 is_indexed (Sequence Identifier (Prefixed ks g)) = starts equals ks
 is_indexed g = false
 
--- a part of a line is read without looking back, where the rest behind it may begin so: each choice is made by what
+-- a part of a line is read without looking back, where the rest after it may begin so: each choice is made by what
 -- stands in front
 abbrev pub is_ll1 : Grammar → List FirstItem → Bool
 is_ll1 Nothing fs = true

@@ -42,7 +42,7 @@ equals = Fixed sign.Equals ∷ []
 abbrev pub star : List Lexeme
 star = Fixed sign.Star ∷ []
 
--- a word alone, and behind a comma
+-- a word alone, and after a comma
 abbrev pub key : List ℕ → List Lexeme
 key word = Word word ∷ []
 

@@ -14,9 +14,9 @@ with_commas [] = []
 with_commas (a ∷ []) = a
 with_commas (a ∷ b ∷ rest) = a ++ (comma ++ with_commas (b ∷ rest))
 
-abbrev pub behind_comma : Option Expression → List Lexeme
-behind_comma None = []
-behind_comma (Some e) = comma ++ spelling e
+abbrev pub after_comma : Option Expression → List Lexeme
+after_comma None = []
+after_comma (Some e) = comma ++ spelling e
 
 abbrev pub output_spelling : Output → List Lexeme
 output_spelling (Shown e) = spelling e
@@ -38,7 +38,7 @@ printed (Choice ks g h) (inr v) = printed h v
 printed (Skipped ks) true = ks
 printed (Skipped ks) false = []
 printed (CommaList g) vs = with_commas (map (printed g) vs)
-printed (Header g) v = with_commas (map (printed g) v.0) ++ behind_comma v.1
+printed (Header g) v = with_commas (map (printed g) v.0) ++ after_comma v.1
 printed (OptionalToEnd g) None = []
 printed (OptionalToEnd g) (Some v) = printed g v
 

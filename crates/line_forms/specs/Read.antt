@@ -44,7 +44,7 @@ abbrev pub item : Depths → List Lexeme → Reading Output
 item depths (Text bytes ∷ ts) = Found (Characters bytes, ts)
 item depths ts = shown depths ts
 
--- a triplet behind its first colon, and behind `::`
+-- a triplet after its first colon, and after `::`
 abbrev pub step : Depths → Maybe → Maybe × List Lexeme → Reading Part
 step depths a b = if starts colon b.1 then (expr depths (drop 1 b.1) >>= λ c. Found (Range a b.0 (Present c.0), c.1)) else Found (Range a b.0 Absent, b.1)
 
@@ -65,7 +65,7 @@ part_from depths a =
 abbrev pub subscript : Depths → List Lexeme → Reading Part
 subscript depths ts = optional_expr depths ts >>= λ a. part_from depths a
 
--- an index of a header is behind a comma
+-- an index of a header is after a comma
 abbrev pub is_index : List Lexeme → Bool
 is_index (Word x ∷ ts) = starts equals ts
 is_index ts = false
@@ -73,7 +73,7 @@ is_index ts = false
 abbrev pub index_next : List Lexeme → Bool
 index_next ts = starts comma ts && is_index (drop 1 ts)
 
--- parts in front, of which another one follows behind a comma where `next` says so; at most so many
+-- parts in front, of which another one follows after a comma where `next` says so; at most so many
 module _ {A : Type 0} (next : List Lexeme → Bool) (part : List Lexeme → Reading A) where
   unfoldable pub comma_list : ℕ → List Lexeme → Reading (List A)
   comma_list zero ts = Stopped Malformed

@@ -3,7 +3,7 @@ use Rattle.std.specs.Prelude.{List}
 use Rattle.syntax_tree.specs.Lexeme.{Lexeme}
 use Rattle.line_forms.specs.declared.read_error.ReadError.{ReadError}
 
--- what stands in front with what stands behind it; or why nothing is read
+-- what stands in front with what stands after it; or why nothing is read
 pub data Reading (A : Type 0) : Type 0 where
   Found : A × List Lexeme → Reading A
   Stopped : ReadError → Reading A

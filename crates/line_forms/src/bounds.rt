@@ -6,7 +6,7 @@ use crate::depths::Depths;
 use crate::lists::Element;
 use crate::parts::expr;
 use crate::read_error::ReadError;
-use crate::signs::{behind, is_sign};
+use crate::signs::{is_sign, skip};
 use source_lines::Token;
 use std::alloc::Global;
 use syntax_tree::{Bound, Sign};
@@ -31,7 +31,7 @@ impl Element for Bounds {
             let (lower, upper) = (None, first);
             return Ok((Bound { lower, upper }, rest));
         }
-        let (upper, rest) = expr(alloc, depths, behind(rest, 1))?;
+        let (upper, rest) = expr(alloc, depths, skip(rest, 1))?;
         let lower = Some(first);
         Ok((Bound { lower, upper }, rest))
     }

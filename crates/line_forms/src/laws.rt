@@ -13,7 +13,7 @@ ghost use Rattle.line_forms.specs.Reading.{Found, Stopped};
 ghost use Rattle.syntax_tree.specs.Lexeme.{Lexeme};
 
 /// What is read of a part of a line is spelled in front. And a well-formed part without an expression that is too deep,
-/// which stands in front, is what is read, whole or with a rest behind it, where its grammar needs no look back.
+/// which stands in front, is what is read, whole or with a rest after it, where its grammar needs no look back.
 pub fn printed_exact()
     ensures sound { (depths : Depths) (g : Grammar) (ts : List Lexeme) → On (read depths g ts) (IsInFront depths g ts) }
     ensures found { (depths : Depths) (g : Grammar) (fs : List FirstItem) → is_ll1 g fs ≡ true → (v : Value g) → IsWell g v

@@ -1,7 +1,7 @@
 //! From the tokens of a line, or of a part of it, to what they say by a grammar.
 //!
 //! Comes in: the tokens that are left of a line, in order, and whether an expression deeper than `MAX_DEPTH` stops the
-//! reading (`Depths::Limited`) or not (`Depths::Any`). Goes out: what stands in front, and the tokens behind it; or why
+//! reading (`Depths::Limited`) or not (`Depths::Any`). Goes out: what stands in front, and the tokens after it; or why
 //! nothing is read: `ReadError::Malformed` where a token isn't of the form, `ReadError::TooDeep` where an expression is
 //! too deep, whichever comes first from the left, and `ReadError::Memory` for want of memory. What holds in between: a
 //! part is read as its grammar says; what is read is well formed and is spelled in front; and where a grammar needs no
@@ -33,5 +33,5 @@ pub use names::ListedNames;
 pub use parts::{expr, name, optional_expr, subscript};
 pub use read_error::ReadError;
 pub use shape::names_shape;
-pub use signs::{after_sign, after_word, attribute, behind, is_sign, is_word};
+pub use signs::{after_sign, after_word, attribute, is_sign, is_word, skip};
 pub use variables::{Subscripts, variable};

@@ -11,7 +11,7 @@ ghost use Rattle.line_forms.specs.Gives.{Gives, elements, goes_on};
 use crate::depths::Depths;
 use crate::parts::expr;
 use crate::read_error::ReadError;
-use crate::signs::{after_sign, behind, is_sign};
+use crate::signs::{after_sign, is_sign, skip};
 use source_lines::{Token, TokenKind};
 use std::alloc::Global;
 use syntax_tree::{Expr, Sign};
@@ -21,7 +21,7 @@ use syntax_tree::{Expr, Sign};
 enum ListKind {
     /// Any: a comma goes on with the list.
     Plain,
-    /// Indices, each a name with `=` behind it: only a comma with an index behind it goes on with the list.
+    /// Indices, each a name with `=` after it: only a comma with an index after it goes on with the list.
     Indices,
 }
 
@@ -36,7 +36,7 @@ pub trait Element {
     /// What contracts see of it.
     ghost view: { Self.Part → Value grammar };
 
-    /// The one in front, and the tokens behind it.
+    /// The one in front, and the tokens after it.
     fn read(
         alloc: Global,
         depths: Depths,
@@ -45,7 +45,7 @@ pub trait Element {
         ensures { Gives (λ x. (view x.0, lexemes x.1.now)) result (read depths grammar (lexemes tokens.now)) };
 }
 
-/// The elements in front, and the tokens behind them.
+/// The elements in front, and the tokens after them.
 pub fn comma_list<T: Element>(
     alloc: Global,
     depths: Depths,
@@ -56,7 +56,7 @@ pub fn comma_list<T: Element>(
     elements::<T>(alloc, depths, ListKind::Plain, tokens)
 }
 
-/// The indices in front with the expression that may stand behind them and a comma, and the tokens behind these.
+/// The indices in front with the expression that may stand after them and a comma, and the tokens after these.
 pub fn header<T: Element>(
     alloc: Global,
     depths: Depths,
@@ -69,7 +69,7 @@ pub fn header<T: Element>(
     Ok(((indices, mask), rest))
 }
 
-/// The expression behind a comma, if one stands in front, and the tokens behind it.
+/// The expression after a comma, if one stands in front, and the tokens after it.
 fn mask(
     alloc: Global,
     depths: Depths,
@@ -80,11 +80,11 @@ fn mask(
     if !is_sign(tokens, Sign::Comma) {
         return Ok((None, tokens));
     }
-    let (tree, rest) = expr(alloc, depths, behind(tokens, 1))?;
+    let (tree, rest) = expr(alloc, depths, skip(tokens, 1))?;
     Ok((Some(tree), rest))
 }
 
-/// The elements in front, and the tokens behind them.
+/// The elements in front, and the tokens after them.
 fn elements<T: Element>(
     alloc: Global,
     depths: Depths,
@@ -96,27 +96,27 @@ fn elements<T: Element>(
     let mut elements = Vec::new(alloc);
     let mut rest = tokens;
     'elements: loop {
-        let (element, behind_it) = T::read(alloc, depths, rest)?;
+        let (element, after_it) = T::read(alloc, depths, rest)?;
         elements.push(element)?;
-        if !goes_on(behind_it, kind) {
-            return Ok((elements, behind_it));
+        if !goes_on(after_it, kind) {
+            return Ok((elements, after_it));
         }
-        rest = behind(behind_it, 1);
+        rest = skip(after_it, 1);
     }
 }
 
-/// Whether a list goes on behind an element.
+/// Whether a list goes on after an element.
 fn goes_on(tokens: &[Token], kind: ListKind) -> bool
     ensures within { IsTrue result → 1 ≤ length tokens.now }
     ensures value { result ≡ goes_on kind (lexemes tokens.now) }
 {
     match kind {
         ListKind::Plain => is_sign(tokens, Sign::Comma),
-        ListKind::Indices => is_sign(tokens, Sign::Comma) && is_index(behind(tokens, 1)),
+        ListKind::Indices => is_sign(tokens, Sign::Comma) && is_index(skip(tokens, 1)),
     }
 }
 
-/// Whether a name stands in front, and `=` behind it.
+/// Whether a name stands in front, and `=` after it.
 fn is_index(tokens: &[Token]) -> bool
     ensures { result ≡ is_index (lexemes tokens.now) }
 {
@@ -129,7 +129,7 @@ fn is_index(tokens: &[Token]) -> bool
     }
 }
 
-/// The elements in parentheses in front, and the tokens behind them.
+/// The elements in parentheses in front, and the tokens after them.
 pub fn enclosed<T: Element>(
     alloc: Global,
     depths: Depths,
@@ -143,7 +143,7 @@ pub fn enclosed<T: Element>(
     Ok((elements, rest))
 }
 
-/// The elements that may be in parentheses in front, and the tokens behind them.
+/// The elements that may be in parentheses in front, and the tokens after them.
 pub fn optional_enclosed<T: Element>(
     alloc: Global,
     depths: Depths,
@@ -154,7 +154,7 @@ pub fn optional_enclosed<T: Element>(
     if !is_sign(tokens, Sign::Open) {
         return Ok((None, tokens));
     }
-    let (elements, rest) = comma_list::<T>(alloc, depths, behind(tokens, 1))?;
+    let (elements, rest) = comma_list::<T>(alloc, depths, skip(tokens, 1))?;
     let rest = after_sign(rest, Sign::Close)?;
     Ok((Some(elements), rest))
 }

@@ -10,7 +10,7 @@ ghost use Rattle.line_forms.specs.Read.{expr, name, optional_expr, stepped, subs
 
 use crate::depths::Depths;
 use crate::read_error::ReadError;
-use crate::signs::{behind, is_sign};
+use crate::signs::{is_sign, skip};
 use expr_reader::{fits, front_expr};
 use hpf_base::{MAX_DEPTH, Name};
 use op_tables::is_reserved;
@@ -18,7 +18,7 @@ use source_lines::{Token, TokenKind};
 use std::alloc::Global;
 use syntax_tree::{Expr, Sign, Subscript};
 
-/// The name in front, and the tokens behind it.
+/// The name in front, and the tokens after it.
 pub fn name(tokens: &[Token]) -> Result<(Name, &[Token]), ReadError>
     ensures { Gives (λ x. (x.0, lexemes x.1.now)) result (name (lexemes tokens.now)) }
 {
@@ -34,7 +34,7 @@ pub fn name(tokens: &[Token]) -> Result<(Name, &[Token]), ReadError>
     Ok((*word, rest))
 }
 
-/// The longest expression in front, and the tokens behind it.
+/// The longest expression in front, and the tokens after it.
 pub fn expr(alloc: Global, depths: Depths, tokens: &[Token]) -> Result<(Expr, &[Token]), ReadError>
     ensures { Gives (λ x. (expression x.0, lexemes x.1.now)) result (expr depths (lexemes tokens.now)) }
 {
@@ -57,7 +57,7 @@ fn is_too_deep(depths: Depths, tree: &Expr) -> bool
     }
 }
 
-/// An expression that may be in front, and the tokens behind it.
+/// An expression that may be in front, and the tokens after it.
 pub fn optional_expr(
     alloc: Global,
     depths: Depths,
@@ -74,7 +74,7 @@ pub fn optional_expr(
     Ok((Some(tree), rest))
 }
 
-/// The subscript in front, and the tokens behind it.
+/// The subscript in front, and the tokens after it.
 pub fn subscript(
     alloc: Global,
     depths: Depths,
@@ -84,10 +84,10 @@ pub fn subscript(
 {
     let (first, rest) = optional_expr(alloc, depths, tokens)?;
     if is_sign(rest, Sign::Colon) {
-        return triplet(alloc, depths, first, behind(rest, 1));
+        return triplet(alloc, depths, first, skip(rest, 1));
     }
     if is_sign(rest, Sign::Colons) {
-        return stepped(alloc, depths, first, behind(rest, 1));
+        return stepped(alloc, depths, first, skip(rest, 1));
     }
     let Some(e) = first else {
         return Err(ReadError::Malformed);
@@ -95,7 +95,7 @@ pub fn subscript(
     Ok((Subscript::One(e), rest))
 }
 
-/// A triplet behind its first colon.
+/// A triplet after its first colon.
 fn triplet(
     alloc: Global,
     depths: Depths,
@@ -109,12 +109,12 @@ fn triplet(
         let step = None;
         return Ok((Subscript::Triplet { first, last, step }, rest));
     }
-    let (step, rest) = expr(alloc, depths, behind(rest, 1))?;
+    let (step, rest) = expr(alloc, depths, skip(rest, 1))?;
     let step = Some(step);
     Ok((Subscript::Triplet { first, last, step }, rest))
 }
 
-/// A triplet without a last part behind its `::`.
+/// A triplet without a last part after its `::`.
 fn stepped(
     alloc: Global,
     depths: Depths,

@@ -57,33 +57,33 @@ pub fn attribute(tokens: &[Token], word: &[u8]) -> bool
     ensures within { IsTrue result → 2 ≤ length tokens.now }
     ensures value { result ≡ starts (Fixed Comma ∷ Word word.now ∷ []) (lexemes tokens.now) }
 {
-    is_sign(tokens, Sign::Comma) && is_word(behind(tokens, 1), word)
+    is_sign(tokens, Sign::Comma) && is_word(skip(tokens, 1), word)
 }
 
-/// The tokens behind the first few.
-pub fn behind(tokens: &[Token], count: usize) -> &[Token]
+/// The tokens after the first few.
+pub fn skip(tokens: &[Token], count: usize) -> &[Token]
     requires { count ≤ length tokens.now }
     ensures { lexemes result.now ≡ drop count (lexemes tokens.now) }
 {
     tokens.split_at(count).1
 }
 
-/// The tokens behind an operator or delimiter.
+/// The tokens after an operator or delimiter.
 pub fn after_sign(tokens: &[Token], sign: Sign) -> Result<&[Token], ReadError>
     ensures { Gives (λ x. (tt, lexemes x.now)) result (after_marks (Fixed sign ∷ []) (lexemes tokens.now)) }
 {
     if !is_sign(tokens, sign) {
         return Err(ReadError::Malformed);
     }
-    Ok(behind(tokens, 1))
+    Ok(skip(tokens, 1))
 }
 
-/// The tokens behind a word.
+/// The tokens after a word.
 pub fn after_word<'a>(tokens: &'a [Token], word: &[u8]) -> Result<&'a [Token], ReadError>
     ensures { Gives (λ x. (tt, lexemes x.now)) result (after_marks (Word word.now ∷ []) (lexemes tokens.now)) }
 {
     if !is_word(tokens, word) {
         return Err(ReadError::Malformed);
     }
-    Ok(behind(tokens, 1))
+    Ok(skip(tokens, 1))
 }

@@ -34,7 +34,7 @@ impl Element for Subscripts {
     }
 }
 
-/// The name in front with the subscripts that may stand behind it, and the tokens behind these.
+/// The name in front with the subscripts that may stand after it, and the tokens after these.
 pub fn variable(
     alloc: Global,
     depths: Depths,

@@ -17,7 +17,7 @@ use Rattle.expression_rules.specs.Partial.{maybe_of}
 use Rattle.expression_rules.specs.Symbols.{Name, is_among}
 use Rattle.linear_subscripts.specs.LinearForms.{dummies_in}
 
--- of two lists, behind what was found before
+-- of two lists, after what was found before
 pub filter_two : (p : Name → Bool) (before xs ys : List Name) → before ++ filter p xs ++ filter p ys ≡ before ++ filter p (xs ++ ys)
 filter_two p before xs ys = append_assoc before (filter p xs) (filter p ys) ∙ ap (λ l. before ++ l) (sym (filter-append p xs ys))
 
@@ -36,7 +36,7 @@ pub none_found : (p : Name → Bool) (xs : List Name) → (length (filter p xs) 
 none_found p [] = refl
 none_found p (x ∷ xs) = none_more (p x) x (filter p xs) (list_any p xs) (none_found p xs)
 
--- the dummies of three parts, one behind the other
+-- the dummies of three parts, one after the other
 pub three_names : (p : Name → Bool) (before one two after xs ys zs : List Name) → one ≡ before ++ filter p xs → two ≡ one ++ filter p ys → after ≡ two ++ filter p zs →
     after ≡ before ++ filter p (xs ++ ys ++ zs)
 three_names p before one two after xs ys zs of_one of_two of_all =
@@ -69,7 +69,7 @@ call_names ds before after e o v es is items of_all =
     ∙ ap (λ ps. before ++ filter (λ x. is_among x ds) (names_in_parts ps)) (ap arguments_of items ∙ sym (call_vec v))
     ∙ sym (ap (λ f. before ++ dummies_in ds (expression f)) is)
 
--- those of a name with subscripts behind it
+-- those of a name with subscripts after it
 pub element_names : (ds before one after : List Name) (x : Name) (subs : Option (Vec Subscript.Subscript Global)) (v : Vec Subscript.Subscript Global)
     (ss : List Subscript.Subscript) → subs ≡ Some v → ss ≡ v.items →
     one ≡ before ++ filter (λ y. is_among y ds) (x ∷ []) → after ≡ one ++ filter (λ y. is_among y ds) (names_in_parts (parts_of ss)) →

@@ -40,7 +40,7 @@ fn push_name(found: &mut Vec<Name>, dummies: &[Name], name: &Name) -> Result<(),
     Ok(())
 }
 
-/// The dummies of an expression behind those that were found before. An `Err` is want of memory; the list is then of no use.
+/// The dummies of an expression after those that were found before. An `Err` is want of memory; the list is then of no use.
 #[cycle(dummies)]
 #[tactic(auto, using(crate::proofs::FoundNames::filter_two))]
 pub fn push_dummies(found: &mut Vec<Name>, dummies: &[Name], e: &Expr) -> Result<(), AllocError>
@@ -63,7 +63,7 @@ pub fn push_dummies(found: &mut Vec<Name>, dummies: &[Name], e: &Expr) -> Result
     }
 }
 
-/// The same of a name and the subscripts behind it.
+/// The same of a name and the subscripts after it.
 #[cycle(dummies)]
 fn push_reference(
     found: &mut Vec<Name>,

@@ -175,7 +175,7 @@ fn constant_form(value: Evaluated<i64>) -> Option<LinearForm>
     }
 }
 
-/// The linear form behind a sign.
+/// The linear form after a sign.
 #[tactic(auto, using(std::proofs::lemmas::Int::wraps))]
 fn signed_form(op: Op, l: LinearForm) -> LinearForm
     ensures { result ≡ signed_form op l }

@@ -54,7 +54,7 @@ run_count : (xs : List ℤ) → (run_of xs).count ≡ length xs
 run_count [] = refl
 run_count (x ∷ xs) = refl
 
--- one subscript more, behind others
+-- one subscript more, after others
 pub run-more : (run : Run) (xs : List ℤ) (i first last : ℤ) → run ≡ run_of xs → (run.count ≡ 0 → ⊥) → first ≡ run.first → last ≡ i
     → ◌≡◌ {A = Run} (record { count = run.count + 1; first = first; last = last }) (run_of (xs ++ i ∷ []))
 run-more run [] i first last is some first_is last_is = absurd (some (ap (λ r. r.count) is))

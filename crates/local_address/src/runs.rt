@@ -60,7 +60,7 @@ fn subscript(lower: i64, place: u64) -> i64
     lower + place as i64
 }
 
-/// One subscript more, behind the others.
+/// One subscript more, after the others.
 fn more(run: Run, i: i64) -> Run
     requires { run.count ≤ 2 ^ 20 }
     ensures { (xs : List ℤ) → run ≡ run_of xs → result ≡ run_of (xs ++ i ∷ []) }

@@ -11,7 +11,7 @@ use Rattle.array_meaning.specs.declared.faults.FaultKind.TheVariants.{ZeroStride
 use Rattle.array_meaning.specs.declared.sections.Sequence.{Sequence}
 use Rattle.lowering.proofs.Counts.{count-small}
 use Rattle.lowering.proofs.Goes.{Holds, kept-refl, Goes, Flows, goes-on, goes-at, goes-value, value-bind, set-reaches, jump-reaches, test-reaches, holds-slot, holds-scalar}
-use Rattle.lowering.proofs.Loops.{leave_at, inside, behind, Body, ends-loop, from-inside, from-again}
+use Rattle.lowering.proofs.Loops.{leave_at, inside, after, Body, ends-loop, from-inside, from-again}
 use Rattle.lowering.proofs.Parts.{term-comes}
 use Rattle.lowering.proofs.Reach.{Idle, HasAt, has-front, has-back, has-drop, same-refl, Reaches, reaches-on, stands, one, Place}
 use Rattle.lowering.proofs.Terms.{Gives}
@@ -28,7 +28,7 @@ use Rattle.op_tables.specs.Operators.{wrapped, is_zero, is_true}
 use Rattle.array_meaning.specs.Runs as runs
 
 module _ (table : ArrayTable) (row_count : ℕ) (code : List Instruction) (n many : ℕ) (copy : Option (List ℤ)) (leave again : ℕ) where
-  -- a jump behind what was made
+  -- a jump after what was made
   pub goes-jump : (mid to b : ℕ) (slots : List ℤ) (m : Place row_count) (r : Run) → slice_get code mid ≡ Some (Jump to) → Goes table row_count code n many copy leave again mid b slots m r
       → Goes table row_count code n many copy leave again to b slots m r
   goes-jump mid to b slots m r h g = by_flow r.completion g
@@ -111,7 +111,7 @@ module _ (table : ArrayTable) (row_count : ℕ) (code : List Instruction) (n man
   pub enters : (line pc v x : ℕ) (bcode : ℕ → ℕ → ℕ → List Instruction) (brun : State → Run) (slots : List ℤ) (rows : Storage) (s : State) (a z d : ℤ)
       → HasAt code pc (loop_code line pc v x bcode) → x < n → n ≤ v → v + 4 ≤ many → Body table row_count code n many copy line pc v x bcode brun
       → Holds table row_count code n many copy s slots rows → slot slots v ≡ a → slot slots (v + 1) ≡ z → slot slots (v + 2) ≡ d
-      → Goes table row_count code n many copy leave again (behind table row_count code n many copy line pc v x bcode brun) v slots (stands table row_count code pc slots rows s.printed)
+      → Goes table row_count code n many copy leave again (after table row_count code n many copy line pc v x bcode brun) v slots (stands table row_count code pc slots rows s.printed)
       (with_value line s (sequence a z d) (λ p. iterate p.count x p.first p.step brun s))
   enters line pc v x bcode brun slots rows s a z d has lx lv few makes holds e1 e2 e3 =
       goes-on table row_count code n many copy leave again to v v slots slots1 (stands table row_count code pc slots rows s.printed) m1
@@ -121,7 +121,7 @@ module _ (table : ArrayTable) (row_count : ℕ) (code : List Instruction) (n man
       ∙ rw (other v lv, other (v + 1) (omega (arith, lv)), other (v + 2) (omega (arith, lv)), e1, e2, e3) refl))
     where
       to : ℕ
-      to = behind table row_count code n many copy line pc v x bcode brun
+      to = after table row_count code n many copy line pc v x bcode brun
 
       leave1 : ℕ
       leave1 = leave_at table row_count code n many copy line pc v x bcode brun

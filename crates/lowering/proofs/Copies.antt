@@ -13,7 +13,7 @@ use Rattle.machine_steps.specs.Instr as instr
 use Rattle.machine_steps.specs.Instr.{Outcome, Tuples}
 use Rattle.machine_steps.specs.Machine as machine
 use Rattle.machine_steps.specs.Machine.{effect_of, effect_by}
-use Rattle.node_code.specs.Forms.{Sub, Form}
+use Rattle.node_code.specs.Forms.{Sub, ArrayForm}
 use Rattle.node_code.specs.Parallel.{fault_at, at_line, outcome_of, Evaluation, evaluation_extents, copy_spot}
 use Rattle.node_code.specs.Instructions.{Instruction, MakeCopy, Verdict, ArrayTable, meaning_of}
 use Rattle.lowering.proofs.Reach.{Idle, Place, HasAt, Reaches, reaches-on, stops-on, stands, one}
@@ -25,7 +25,7 @@ use Rattle.lowering.proofs.Evaluating.{result-outcome}
 use Rattle.lowering.proofs.Pars.{par-reaches, par-stops}
 
 module _ (table : ArrayTable) (row_count : ℕ) (code : List Instruction) (n many leave again : ℕ) (sized : (layouts : List Layout) (ns : List ℕ) → size_of (table.copies layouts ns) ≡ product ns) (line b pc to : ℕ)
-    (form : Form) (over : List Sub) (par : Instruction) (tuples : Tuples Fault) (is : meaning_of table par ≡ instr.Par tuples (copy_spot n)) where
+    (form : ArrayForm) (over : List Sub) (par : Instruction) (tuples : Tuples Fault) (is : meaning_of table par ≡ instr.Par tuples (copy_spot n)) where
   abbrev p : Evaluation
   p = record { line = line; form = form; over = over }
 

@@ -16,7 +16,7 @@ use Rattle.machine_steps.specs.Instr.{Running, Faulted, Control, Outcome}
 use Rattle.machine_steps.specs.Machine as machine
 use Rattle.machine_steps.specs.Machine.{Machine, Kept, keep, folded, verdict_control, stay, step, step_by, steps, instr_of}
 use Rattle.node_code.specs.Flat.{slot}
-use Rattle.node_code.specs.Forms.{Form, elemental_in}
+use Rattle.node_code.specs.Forms.{ArrayForm, elemental_in}
 use Rattle.node_code.specs.Parallel.{at_line, outcome_of, reads_at, value_by_reads, Evaluation, evaluation_extents, evaluation_size, evaluation_tuples, reduction_tuples, made_outcome, fold_of}
 use Rattle.node_code.specs.Instructions.{Instruction, OwnLimits, ArrayTable, meaning_of, go_on_if}
 use Rattle.lowering.specs.ExpressionCode.{own_evaluation, reduce_code}
@@ -30,7 +30,7 @@ pub result-outcome : (line : ℕ) (q : Result ℤ Cause) → IsOutcome line (out
 result-outcome line (Ok v) = λ t. refl
 result-outcome line (Err c) = refl
 
-module _ (n : ℕ) (shapes : List (List Dim)) (s : State) (rows : Storage) (arrays : HoldsArrays n shapes s rows) (line : ℕ) (form : Form) (slots : List ℤ)
+module _ (n : ℕ) (shapes : List (List Dim)) (s : State) (rows : Storage) (arrays : HoldsArrays n shapes s rows) (line : ℕ) (form : ArrayForm) (slots : List ℤ)
     (x : Elemental) (right : elemental_in slots form ≡ x) (named : NamesBelow n x) where
   abbrev p : Evaluation
   p = own_evaluation line form
@@ -80,7 +80,7 @@ module _ (line : ℕ) (o : Op) (outcome : ℕ → Outcome Fault) where
 -- ---- a reduction of what is left of its operand
 
 module _ (table : ArrayTable) (row_count : ℕ) (code : List Instruction) (line n : ℕ) (s : State) (rows : Storage) (out : List ℕ) (arrays : HoldsArrays n table.shapes s rows) where
-  pub reduce-comes : (pc b x : ℕ) (o : Op) (form : Form) (slots : List ℤ) (r : Elemental) → HasAt code pc (reduce_code line o form x) → elemental_in slots form ≡ r
+  pub reduce-comes : (pc b x : ℕ) (o : Op) (form : ArrayForm) (slots : List ℤ) (r : Elemental) → HasAt code pc (reduce_code line o form x) → elemental_in slots form ≡ r
       → NamesBelow n r → b ≤ x → x < length slots
       → Comes table row_count code line rows out pc (pc + 2) b slots (λ slots' v. slot slots' x ≡ v) (reduction s o r)
   reduce-comes pc b x o form slots r has right named le lt = by_limits (space_size ns (sections r)) refl

@@ -91,12 +91,12 @@ all_one_to_one e ns [] s = normal s
 all_one_to_one e ns (b ∷ bs) s = then_do (one_is_to_one e ns b s) (all_one_to_one e ns bs)
 
 module _ (line : ℕ) (mask : Option Term) (body : List ElementAssignment) (axes : List Sequence) where
-  abbrev behind : ℕ → State → Run
-  behind n s = with_value line s (mask_over s axes n mask) (λ m. assign_all_forall axes n m body s)
+  abbrev after : ℕ → State → Run
+  after n s = with_value line s (mask_over s axes n mask) (λ m. assign_all_forall axes n m body s)
 
   abbrev tested : Bool → ℕ → State → Run
   tested e n s = then_do (one_step line s (check (e || is_forall_in_limits s axes (all_subscripts mask body)) SpaceLimit s))
-      (λ s. then_do (all_one_to_one e (index_extents axes) body s) (behind n))
+      (λ s. then_do (all_one_to_one e (index_extents axes) body s) (after n))
 
   one-to-one-same : (ns : List ℕ) (bs : List ElementAssignment) (s : State) (next : State → Run) → then_do (all_one_to_one false ns bs s) next
       ≡ then_do (check_one_to_one ns bs s) next
@@ -119,12 +119,12 @@ module _ (line : ℕ) (mask : Option Term) (body : List ElementAssignment) (axes
 
   forall-is : (n : ℕ) (s : State)
       → (if n == 0 then normal s else then_do (one_step line s (check_limits axes (all_subscripts mask body) s))
-      (λ s. then_do (check_one_to_one (index_extents axes) body s) (behind n))) ≡ tested (n == 0) n s
+      (λ s. then_do (check_one_to_one (index_extents axes) body s) (after n))) ≡ tested (n == 0) n s
   forall-is n s = by_empty (n == 0) refl
     where
-      by_limits : (t : Bool) → then_do (one_step line s (check t SpaceLimit s)) (λ s. then_do (check_one_to_one (index_extents axes) body s) (behind n))
-          ≡ then_do (one_step line s (check t SpaceLimit s)) (λ s. then_do (all_one_to_one false (index_extents axes) body s) (behind n))
-      by_limits true = sym (one-to-one-same (index_extents axes) body s (behind n))
+      by_limits : (t : Bool) → then_do (one_step line s (check t SpaceLimit s)) (λ s. then_do (check_one_to_one (index_extents axes) body s) (after n))
+          ≡ then_do (one_step line s (check t SpaceLimit s)) (λ s. then_do (all_one_to_one false (index_extents axes) body s) (after n))
+      by_limits true = sym (one-to-one-same (index_extents axes) body s (after n))
       by_limits false = refl
 
       by_mask : (m : Option Term) → with_value line s (mask_over s axes 0 m) (λ m. assign_all_forall axes 0 m body s) ≡ normal s
@@ -133,11 +133,11 @@ module _ (line : ℕ) (mask : Option Term) (body : List ElementAssignment) (axes
 
       by_empty : (e : Bool) → (n == 0) ≡ e
           → (if e then normal s else then_do (one_step line s (check_limits axes (all_subscripts mask body) s))
-          (λ s. then_do (check_one_to_one (index_extents axes) body s) (behind n))) ≡ tested e n s
+          (λ s. then_do (check_one_to_one (index_extents axes) body s) (after n))) ≡ tested e n s
       by_empty false is = by_limits (is_forall_in_limits s axes (all_subscripts mask body))
       by_empty true is =
           let none : n ≡ 0 = (Decides-eqb n 0).0 is in
-          sym (ap (λ r. then_do r (behind n)) (all-pass (index_extents axes) body s) ∙ ap (λ k. behind k s) none ∙ by_mask mask)
+          sym (ap (λ r. then_do r (after n)) (all-pass (index_extents axes) body s) ∙ ap (λ k. after k s) none ∙ by_mask mask)
 
 module _ (table : ArrayTable) (row_count : ℕ) (code : List Instruction) (n many leave again : ℕ) where
   -- ---- tests
@@ -270,16 +270,16 @@ module _ (table : ArrayTable) (row_count : ℕ) (code : List Instruction) (n man
     -- ---- the mask
 
     module _ (sized : (layouts : List Layout) (ms : List ℕ) → size_of (table.copies layouts ms) ≡ product ms) (body : List ElementAssignment) (ok_body : AreIndexedAssignments n body) where
-      behind-goes : (mask : Option Term) (pc : ℕ) (slots : List ℤ) (rows : Storage) (s : State) → IsIndexedMask n mask
+      after-goes : (mask : Option Term) (pc : ℕ) (slots : List ℤ) (rows : Storage) (s : State) → IsIndexedMask n mask
           → HasAt code pc (forall_mask_code n line over mask ++ forall_assignments_code over (option_map (λ t. where_true n true) mask) body)
           → Holds table row_count code n many None s slots rows → Gives slots
           → Goes table row_count code n many None leave again
           (pc + length (forall_mask_code n line over mask ++ forall_assignments_code over (option_map (λ t. where_true n true) mask) body)) b1 slots
-          (stands table row_count code pc slots rows s.printed) (behind line mask body axes (product ns) s)
-      behind-goes None pc slots rows s ok has holds gives = assigns-all None None (λ t. true) (λ s slots rows h t values. refl) body pc slots rows s ok_body has holds gives
-      behind-goes (Some t) pc slots rows s ok has holds gives =
+          (stands table row_count code pc slots rows s.printed) (after line mask body axes (product ns) s)
+      after-goes None pc slots rows s ok has holds gives = assigns-all None None (λ t. true) (λ s slots rows h t values. refl) body pc slots rows s ok_body has holds gives
+      after-goes (Some t) pc slots rows s ok has holds gives =
           goes-at table row_count code n many None leave again to (pc + length (forall_mask_code n line over (Some t) ++ cs)) b1 slots (stands table row_count code pc slots rows s.printed)
-          (behind line (Some t) body axes (product ns) s) long
+          (after line (Some t) body axes (product ns) s) long
           (subst (Goes table row_count code n many None leave again to b1 slots (stands table row_count code pc slots rows s.printed))
           (sym (value-bind line s (each (indices_at axes) (λ u. value (indices_at axes u) s t) (product ns)) (λ vs. Ok (mask_of vs))
           (λ m. assign_all_forall axes (product ns) m body s)))
@@ -341,7 +341,7 @@ module _ (table : ArrayTable) (row_count : ℕ) (code : List Instruction) (n man
       (by_header (all_index_values s controls) (subst (Comes table row_count code line rows s.printed pc pc1 b slots (SubsGive b1 over')) (header-is s controls)
       (subscripts-come table row_count code line n s rows s.printed holds.arrays (triplets controls) pc b slots (header-scalar n controls ok)
       (has-front code pc c1 tail has) holds.scalars le (omega (arith, few, holds.size)))))
-      (λ slots1 axes e same gives holds1. behind_header slots1 axes (gives slots1 (same-refl b1 slots1)) holds1))
+      (λ slots1 axes e same gives holds1. after_header slots1 axes (gives slots1 (same-refl b1 slots1)) holds1))
     where
       over' : List Sub
       over' = subs_of b (triplets controls)
@@ -380,27 +380,27 @@ module _ (table : ArrayTable) (row_count : ℕ) (code : List Instruction) (n man
       does axes =
           if product (index_extents axes) == 0 then normal s
           else then_do (one_step line s (check_limits axes (all_subscripts mask body) s))
-          (λ s. then_do (check_one_to_one (index_extents axes) body s) (behind line mask body axes (product (index_extents axes))))
+          (λ s. then_do (check_one_to_one (index_extents axes) body s) (after line mask body axes (product (index_extents axes))))
 
       by_header : (r : Result (List Sequence) Cause) → Comes table row_count code line rows s.printed pc pc1 b slots (SubsGive b1 over') (r >>= (λ axes. Ok (map Along axes)))
           → Comes table row_count code line rows s.printed pc pc1 b slots P r
       by_header (Ok axes) h = h
       by_header (Err c) h = h
 
-      behind_header : (slots1 : List ℤ) (axes : List Sequence) → selections_in slots1 over' ≡ map Along axes → Holds table row_count code n many None s slots1 rows
+      after_header : (slots1 : List ℤ) (axes : List Sequence) → selections_in slots1 over' ≡ map Along axes → Holds table row_count code n many None s slots1 rows
           → Goes table row_count code n many None leave again to b1 slots1 (stands table row_count code pc1 slots1 rows s.printed) (does axes)
-      behind_header slots1 axes gives holds1 =
+      after_header slots1 axes gives holds1 =
           subst (Goes table row_count code n many None leave again to b1 slots1 (stands table row_count code pc1 slots1 rows s.printed)) (sym (forall-is line mask body axes count s))
           (goes-then-kept table row_count code n many None leave again (pc1 + 1) to b1 slots1 (stands table row_count code pc1 slots1 rows s.printed) (one_step line s (check test SpaceLimit s)) rest
           (test-goes None line pc1 b1 (ForallLimits line over' (map index_flat (all_subscripts mask body))) (forall_limits over' (map index_flat (all_subscripts mask body)))
           test SpaceLimit slots1 rows s at_tail.0 refl limits holds1)
           (λ slots2 rows2 s2 kept2 holds2.
           goes-then-kept table row_count code n many None leave again (pc1 + 1 + length c2) to b1 slots2 (stands table row_count code (pc1 + 1) slots2 rows2 s2.printed)
-          (all_one_to_one (count == 0) (index_extents axes) body s2) (behind line mask body axes count)
+          (all_one_to_one (count == 0) (index_extents axes) body s2) (after line mask body axes count)
           (all-one-to-one line b b1 controls axes le refl None body (pc1 + 1) slots2 rows2 s2 ok_body (has-front code (pc1 + 1) c2 c3 at_tail.1) holds2
           (gives-kept line b b1 controls axes le refl None slots1 slots2 gives kept2))
           (λ slots3 rows3 s3 kept3 holds3.
-          behind-goes line b b1 controls axes le refl sized body ok_body mask (pc1 + 1 + length c2) slots3 rows3 s3 ok_mask (has-back code (pc1 + 1) c2 c3 at_tail.1) holds3
+          after-goes line b b1 controls axes le refl sized body ok_body mask (pc1 + 1 + length c2) slots3 rows3 s3 ok_mask (has-back code (pc1 + 1) c2 c3 at_tail.1) holds3
           (gives-kept line b b1 controls axes le refl None slots2 slots3 (gives-kept line b b1 controls axes le refl None slots1 slots2 gives kept2) kept3))))
         where
           count : ℕ
@@ -410,7 +410,7 @@ module _ (table : ArrayTable) (row_count : ℕ) (code : List Instruction) (n man
           test = (count == 0) || is_forall_in_limits s axes (all_subscripts mask body)
 
           rest : State → Run
-          rest s = then_do (all_one_to_one (count == 0) (index_extents axes) body s) (behind line mask body axes count)
+          rest s = then_do (all_one_to_one (count == 0) (index_extents axes) body s) (after line mask body axes count)
 
           flats : List Term
           flats = map term_of (map index_flat (all_subscripts mask body))

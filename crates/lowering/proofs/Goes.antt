@@ -28,7 +28,7 @@ ends-bind line s (Ok a) f = refl
 ends-bind line s (Err c) f = refl
 
 module _ (table : ArrayTable) (row_count : ℕ) (code : List Instruction) (n many : ℕ) (copy : Option (List ℤ)) where
-  -- the slots, as many as there are, hold the scalars first, and the rows, as many as there are, the arrays; behind these stands the copy
+  -- the slots, as many as there are, hold the scalars first, and the rows, as many as there are, the arrays; after these stands the copy
   -- that is to be kept, where there is one
   pub record Holds (s : State) (slots : List ℤ) (rows : Storage) : Type 0 where
     pub scalars : HoldsScalars n s slots

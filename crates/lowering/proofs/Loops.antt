@@ -27,8 +27,8 @@ module _ (table : ArrayTable) (row_count : ℕ) (code : List Instruction) (n man
   abbrev pub body : List Instruction
   body = bcode inside leave_at again_at
 
-  abbrev pub behind : ℕ
-  behind = inside + length body + 1
+  abbrev pub after : ℕ
+  after = inside + length body + 1
 
   abbrev pub Body : Type 0
   Body = (s : State) (slots : List ℤ) (rows : Storage) → Holds table row_count code n many copy s slots rows → Goes table row_count code n many copy leave_at again_at (inside + length body)
@@ -43,24 +43,24 @@ module _ (table : ArrayTable) (row_count : ℕ) (code : List Instruction) (n man
     numbers-kept slots slots' index step k h kept =
         (sym (kept v lv (omega arith)) ∙ h.0, sym (kept (v + 2) (omega (arith, lv)) (omega arith)) ∙ h.1, sym (kept (v + 3) (omega (arith, lv)) (omega arith)) ∙ h.2)
 
-    -- the instructions behind the head
-    at-leave : slice_get code leave_at ≡ Some (Jump behind)
+    -- the instructions after the head
+    at-leave : slice_get code leave_at ≡ Some (Jump after)
     at-leave = (has-drop code 3 pc (loop_code line pc v x bcode) has).0
 
-    pub ends-loop : (slots : List ℤ) (rows : Storage) (s : State) → Holds table row_count code n many copy s slots rows → Goes table row_count code n many copy leave again behind v slots
+    pub ends-loop : (slots : List ℤ) (rows : Storage) (s : State) → Holds table row_count code n many copy s slots rows → Goes table row_count code n many copy leave again after v slots
         (stands table row_count code leave_at slots rows s.printed) (normal s)
     ends-loop slots rows s holds =
-        (slots, rows, jump-reaches table row_count code n many copy leave_at behind slots rows s.printed at-leave, kept-refl table row_count code n many copy v slots, holds)
+        (slots, rows, jump-reaches table row_count code n many copy leave_at after slots rows s.printed at-leave, kept-refl table row_count code n many copy v slots, holds)
 
     -- what is left of the loop from the place where CYCLE goes
     abbrev FromAgain : ℕ → Type 0
     FromAgain k = (s : State) (slots : List ℤ) (rows : Storage) (index step : ℤ) → Holds table row_count code n many copy s slots rows → Numbers slots index step k
-        → Goes table row_count code n many copy leave again behind v slots (stands table row_count code again_at slots rows s.printed) (iterate k x (wrapped (index +ℤ step)) step brun s)
+        → Goes table row_count code n many copy leave again after v slots (stands table row_count code again_at slots rows s.printed) (iterate k x (wrapped (index +ℤ step)) step brun s)
 
     -- and from the body, where the index is set
     pub from-inside : (k : ℕ) → FromAgain k → (s : State) (slots : List ℤ) (rows : Storage) (index step : ℤ) → Holds table row_count code n many copy (set_scalar s x index) slots rows
         → Numbers slots index step k
-        → Goes table row_count code n many copy leave again behind v slots (stands table row_count code inside slots rows s.printed) (iterate (suc k) x index step brun s)
+        → Goes table row_count code n many copy leave again after v slots (stands table row_count code inside slots rows s.printed) (iterate (suc k) x index step brun s)
     from-inside k next s slots rows index step holds numbers = by_flow (brun (set_scalar s x index)).completion (makes (set_scalar s x index) slots rows holds)
       where
         m : Place row_count
@@ -71,9 +71,9 @@ module _ (table : ArrayTable) (row_count : ℕ) (code : List Instruction) (n man
 
         on : (slots1 : List ℤ) (rows1 : Storage) → Reaches table row_count code m (stands table row_count code again_at slots1 rows1 s'.printed) → Kept table row_count code n many copy (v + 4) slots slots1
             → Holds table row_count code n many copy s' slots1 rows1
-            → Goes table row_count code n many copy leave again behind v slots m (iterate k x (wrapped (index +ℤ step)) step brun s')
+            → Goes table row_count code n many copy leave again after v slots m (iterate k x (wrapped (index +ℤ step)) step brun s')
         on slots1 rows1 reach kept holds1 =
-            goes-on table row_count code n many copy leave again behind v v slots slots1 m (stands table row_count code again_at slots1 rows1 s'.printed)
+            goes-on table row_count code n many copy leave again after v v slots slots1 m (stands table row_count code again_at slots1 rows1 s'.printed)
             (iterate k x (wrapped (index +ℤ step)) step brun s') (omega arith) reach (λ j from lt. kept j from (omega (arith, lt)))
             (next s' slots1 rows1 index step holds1 (numbers-kept slots slots1 index step k numbers kept))
 
@@ -81,12 +81,12 @@ module _ (table : ArrayTable) (row_count : ℕ) (code : List Instruction) (n man
         back = has-back code inside body (Jump again_at ∷ []) (has-drop code 8 pc (loop_code line pc v x bcode) has)
 
         by_flow : (flow : Completion) → Flows table row_count code n many copy leave_at again_at (inside + length body) (v + 4) slots m s' flow
-            → Goes table row_count code n many copy leave again behind v slots m (after_iteration flow s' (iterate k x (wrapped (index +ℤ step)) step brun))
+            → Goes table row_count code n many copy leave again after v slots m (after_iteration flow s' (iterate k x (wrapped (index +ℤ step)) step brun))
         by_flow Normal h = on h.0 h.1 (reaches-on table row_count code m (stands table row_count code (inside + length body) h.0 h.1 s'.printed) (stands table row_count code again_at h.0 h.1 s'.printed) h.2
             (jump-reaches table row_count code n many copy (inside + length body) again_at h.0 h.1 s'.printed back.0)) h.3 h.4
         by_flow Cycled h = on h.0 h.1 h.2 h.3 h.4
         by_flow Exited h =
-            goes-on table row_count code n many copy leave again behind v v slots h.0 m (stands table row_count code leave_at h.0 h.1 s'.printed) (normal s') (omega arith) h.2
+            goes-on table row_count code n many copy leave again after v v slots h.0 m (stands table row_count code leave_at h.0 h.1 s'.printed) (normal s') (omega arith) h.2
             (λ j from lt. h.3 j from (omega (arith, lt))) (ends-loop h.0 h.1 s' h.4)
         by_flow Stopped h = h
         by_flow (runs.Faulted f) h = h
@@ -130,7 +130,7 @@ module _ (table : ArrayTable) (row_count : ℕ) (code : List Instruction) (n man
     from-again zero small s slots rows index step holds numbers =
         let a = advanced s slots rows index step 0 holds numbers in
         let next : ℤ = wrapped (index +ℤ step) in
-        goes-on table row_count code n many copy leave again behind v v slots a.0 (stands table row_count code again_at slots rows s.printed) (stands table row_count code leave_at a.0 rows s.printed)
+        goes-on table row_count code n many copy leave again after v v slots a.0 (stands table row_count code again_at slots rows s.printed) (stands table row_count code leave_at a.0 rows s.printed)
         (normal (set_scalar s x next)) (omega arith)
         (reaches-on table row_count code (stands table row_count code again_at slots rows s.printed) (stands table row_count code (pc + 6) a.0 rows s.printed) (stands table row_count code leave_at a.0 rows s.printed)
         a.1
@@ -148,7 +148,7 @@ module _ (table : ArrayTable) (row_count : ℕ) (code : List Instruction) (n man
         let e7 : pc + 6 + 1 ≡ pc + 7 = omega arith in
         let e8 : pc + 7 + 1 ≡ inside = omega arith in
         let slots2 : List ℤ = slice_set a.0 (v + 3) left in
-        goes-on table row_count code n many copy leave again behind v v slots slots2 (stands table row_count code again_at slots rows s.printed) (stands table row_count code inside slots2 rows s.printed)
+        goes-on table row_count code n many copy leave again after v v slots slots2 (stands table row_count code again_at slots rows s.printed) (stands table row_count code inside slots2 rows s.printed)
         (iterate (suc k) x next step brun s) (omega arith)
         (reaches-on table row_count code (stands table row_count code again_at slots rows s.printed) (stands table row_count code (pc + 6) a.0 rows s.printed) (stands table row_count code inside slots2 rows s.printed)
         a.1

@@ -12,7 +12,7 @@ use Rattle.lowering.specs.ExpressionCode.{first_subs, first_subs_of, or_no_sub, 
 use Rattle.storage.specs.Effect.{Effect, Put, Fail, scatter}
 use Rattle.storage.specs.Storage.{Storage, row_of, write}
 use Rattle.node_code.specs.Flat.{slot}
-use Rattle.node_code.specs.Forms.{Sub, SubAt, SubAlong, Form, FlatForm, SectionForm, OperationForm, Forms, NoForm, AndForm, selections_in, elemental_in, elementals_in}
+use Rattle.node_code.specs.Forms.{Sub, SubAt, SubAlong, ArrayForm, FlatForm, SectionForm, OperationForm, Forms, NoForm, AndForm, selections_in, elemental_in, elementals_in}
 use Rattle.node_code.specs.Instructions.{Instruction, ArrayTable}
 use Rattle.node_code.specs.Parallel.{fault_at}
 use Rattle.std.specs.Option.{option_or}
@@ -32,7 +32,7 @@ either-map f None y = refl
 either-map f (Some x) y = refl
 
 mutual
-  head-form : (slots : List ℤ) (f : Form) → head (sections (elemental_in slots f)) ≡ option_map (selections_in slots) (first_subs f)
+  head-form : (slots : List ℤ) (f : ArrayForm) → head (sections (elemental_in slots f)) ≡ option_map (selections_in slots) (first_subs f)
   head-form slots (FlatForm f) = refl
   head-form slots (SectionForm a subs) = refl
   head-form slots (OperationForm o fs) = head-forms slots fs
@@ -44,7 +44,7 @@ mutual
       (head-form slots f)
       ∙ ap (option_or (option_map (selections_in slots) (first_subs f))) (head-forms slots fs) ∙ either-map (selections_in slots) (first_subs f) (first_subs_of fs)
 
-pub shape-first : (slots : List ℤ) (f : Form) → first_extents (sections (elemental_in slots f)) ≡ extents (selections_in slots (or_no_sub (first_subs f)))
+pub shape-first : (slots : List ℤ) (f : ArrayForm) → first_extents (sections (elemental_in slots f)) ≡ extents (selections_in slots (or_no_sub (first_subs f)))
 shape-first slots f = by_head (sections (elemental_in slots f)) (first_subs f) (head-form slots f)
   where
     by_head : (parts : List (List Selection)) (o : Option (List Sub)) → head parts ≡ option_map (selections_in slots) o → first_extents parts

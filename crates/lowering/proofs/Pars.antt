@@ -19,8 +19,8 @@ module _ (table : ArrayTable) (row_count : ℕ) (code : List Instruction) (n : �
   abbrev stored : Storage
   stored = scatter (effect_of tuples left slots (read rows)) count rows
 
-  abbrev behind : ℕ → Idle row_count → Machine Instruction Fault
-  behind k i = record (stands table row_count code (pc + 1) slots (scatter (effect_of tuples left slots (read rows)) k rows) out i)
+  abbrev parted_to : ℕ → Idle row_count → Machine Instruction Fault
+  parted_to k i = record (stands table row_count code (pc + 1) slots (scatter (effect_of tuples left slots (read rows)) k rows) out i)
       { kept = keep (machine.outcome_of tuples slots (read rows)) 0 k None; parts = 0 + 1 }
 
   abbrev after : Option (Kept Fault) → Idle row_count → Machine Instruction Fault
@@ -29,8 +29,8 @@ module _ (table : ArrayTable) (row_count : ℕ) (code : List Instruction) (n : �
   two : (i : Idle row_count) → steps (meaning_of table) 2 (stands table row_count code pc slots rows out i) ≡ after kept i
   two i =
       ap (λ m. step (meaning_of table) m) (ap (λ z. step_by (instr_of (meaning_of table) z) (stands table row_count code pc slots rows out i)) has.0
-      ∙ ap (λ z. step_by z (stands table row_count code pc slots rows out i)) is ∙ ap (λ k. behind k i) many)
-      ∙ ap (λ z. step_by (instr_of (meaning_of table) z) (behind count i)) has.1.0
+      ∙ ap (λ z. step_by z (stands table row_count code pc slots rows out i)) is ∙ ap (λ k. parted_to k i) many)
+      ∙ ap (λ z. step_by (instr_of (meaning_of table) z) (parted_to count i)) has.1.0
 
   -- where no fault is kept the run goes on with what was stored
   pub par-reaches : kept ≡ None → Reaches table row_count code (stands table row_count code pc slots rows out) (stands table row_count code (pc + 2) slots stored out)

@@ -21,7 +21,7 @@ use Rattle.machine_steps.specs.Instr.{Running}
 use Rattle.machine_steps.specs.Machine.{steps}
 use Rattle.storage.specs.Storage.{Storage}
 use Rattle.node_code.specs.Flat.{slot, Flat, Int, Slot, NoFlat, Operated, flat_values, or_zero}
-use Rattle.node_code.specs.Forms.{Sub, SubAt, SubAlong, Form, FlatForm, SectionForm, OperationForm, Forms, NoForm, selections_in, elemental_in, elementals_in, sequence_in}
+use Rattle.node_code.specs.Forms.{Sub, SubAt, SubAlong, ArrayForm, FlatForm, SectionForm, OperationForm, Forms, NoForm, selections_in, elemental_in, elementals_in, sequence_in}
 use Rattle.node_code.specs.Instructions.{Instruction, Fetch, Set, TestStride, go_on_if, meaning_of, ArrayTable}
 use Rattle.node_code.specs.Parallel.{at_line}
 use Rattle.op_tables.specs.Operators.{wrapped, is_zero, can_divide}
@@ -33,7 +33,7 @@ SequenceGives b v slots p = (later : List ℤ) → SameBelow b slots later → s
 abbrev pub SubsGive : ℕ → List Sub → List ℤ → List Selection → Type 0
 SubsGive b subs slots ds = (later : List ℤ) → SameBelow b slots later → selections_in later subs ≡ ds
 
-abbrev pub FormGives : ℕ → ℕ → Form → List ℤ → Elemental → Type 0
+abbrev pub FormGives : ℕ → ℕ → ArrayForm → List ℤ → Elemental → Type 0
 FormGives n b f slots r = ((later : List ℤ) → SameBelow b slots later → elemental_in later f ≡ r) × NamesBelow n r
 
 abbrev pub FormsGive : ℕ → ℕ → Forms → List ℤ → Elementals → Type 0

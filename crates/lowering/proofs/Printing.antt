@@ -28,24 +28,24 @@ module _ (table : ArrayTable) (row_count : ℕ) (code : List Instruction) (pc : 
   abbrev whole : List ℕ → List ℕ
   whole bytes = drop 1 bytes ++ 10 ∷ []
 
-  -- behind so many items
-  abbrev behind : ℕ → List ℕ → Machine Instruction Fault
-  behind k line = record (stands table row_count code pc slots rows out i) { substep = k; line = line }
+  -- after so many items
+  abbrev after : ℕ → List ℕ → Machine Instruction Fault
+  after k line = record (stands table row_count code pc slots rows out i) { substep = k; line = line }
 
-  next : (k : ℕ) (line : List ℕ) → step (meaning_of table) (behind k line) ≡ print_step (slice_get all k) whole (behind k line)
-  next k line = ap (λ o. step_by (instr_of (meaning_of table) o) (behind k line)) has
+  next : (k : ℕ) (line : List ℕ) → step (meaning_of table) (after k line) ≡ print_step (slice_get all k) whole (after k line)
+  next k line = ap (λ o. step_by (instr_of (meaning_of table) o) (after k line)) has
 
   printing : (rest front : List Item) (line : List ℕ) → all ≡ front ++ rest → (k : ℕ)
-      × (steps (meaning_of table) k (behind (length front) line) ≡ behind (length all) (line ++ all_bytes slots (read rows) rest))
-  printing [] front line e = (0, ap (λ k. behind k line) (ap length (sym (append-nil front) ∙ sym e)) ∙ ap (behind (length all)) (sym (append-nil line)))
+      × (steps (meaning_of table) k (after (length front) line) ≡ after (length all) (line ++ all_bytes slots (read rows) rest))
+  printing [] front line e = (0, ap (λ k. after k line) (ap length (sym (append-nil front) ∙ sym e)) ∙ ap (after (length all)) (sym (append-nil line)))
   printing (x ∷ rest) front line e =
       let bytes = item_bytes x slots (read rows) in
       let long : length (front ++ x ∷ []) ≡ suc (length front) = length-append front (x ∷ []) ∙ omega arith in
       let h = printing rest (front ++ x ∷ []) (line ++ bytes) (e ∙ sym (append_assoc front (x ∷ []) rest)) in
-      let one : step (meaning_of table) (behind (length front) line) ≡ behind (length (front ++ x ∷ [])) (line ++ bytes) =
-      next (length front) line ∙ ap (λ o. print_step o whole (behind (length front) line)) (ap (λ xs. slice_get xs (length front)) e ∙ at-seam front x rest)
-      ∙ ap (λ k. behind k (line ++ bytes)) (sym long) in
-      (suc h.0, ap (steps (meaning_of table) h.0) one ∙ h.1 ∙ ap (behind (length all)) (append_assoc line bytes (all_bytes slots (read rows) rest)))
+      let one : step (meaning_of table) (after (length front) line) ≡ after (length (front ++ x ∷ [])) (line ++ bytes) =
+      next (length front) line ∙ ap (λ o. print_step o whole (after (length front) line)) (ap (λ xs. slice_get xs (length front)) e ∙ at-seam front x rest)
+      ∙ ap (λ k. after k (line ++ bytes)) (sym long) in
+      (suc h.0, ap (steps (meaning_of table) h.0) one ∙ h.1 ∙ ap (after (length all)) (append_assoc line bytes (all_bytes slots (read rows) rest)))
 
   pub prints-line : (k : ℕ)
       × (steps (meaning_of table) k (stands table row_count code pc slots rows out i) ≡ stands table row_count code (pc + 1) slots rows (out ++ whole (all_bytes slots (read rows) all)) i)
@@ -53,5 +53,5 @@ module _ (table : ArrayTable) (row_count : ℕ) (code : List Instruction) (pc : 
       let h = printing all [] [] refl in (
         1 + h.0,
         steps-more table row_count code h.0 1 (stands table row_count code pc slots rows out i) ∙ ap (step (meaning_of table)) h.1
-            ∙ next (length all) (all_bytes slots (read rows) all) ∙ ap (λ o. print_step o whole (behind (length all) (all_bytes slots (read rows) all))) (past-end all),
+            ∙ next (length all) (all_bytes slots (read rows) all) ∙ ap (λ o. print_step o whole (after (length all) (all_bytes slots (read rows) all))) (past-end all),
       )

@@ -25,7 +25,7 @@ has-back code pc (i ∷ a) b h =
     let e : pc + 1 + length a ≡ pc + length (i ∷ a) = omega arith in
     subst (λ n. HasAt code n b) e (has-back code (pc + 1) a b h.1)
 
--- behind the first instructions
+-- after the first instructions
 pub has-drop : (code : List Instruction) (j pc : ℕ) (is : List Instruction) → HasAt code pc is → HasAt code (pc + j) (drop j is)
 has-drop code zero pc is h = let e : pc ≡ pc + 0 = omega arith in subst (λ n. HasAt code n is) e h
 has-drop code (suc j) pc [] h = tt

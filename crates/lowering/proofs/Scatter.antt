@@ -48,7 +48,7 @@ store-last s a (w ∷ stores) v = store-last (stored a s w) a stores v
 
 module _ (table : ArrayTable) (row_count : ℕ) (code : List Instruction) (n many : ℕ) (copy : Option (List ℤ)) (line a : ℕ) (la : a < n) (s : State) (slots : List ℤ) (rows : Storage)
     (holds : Holds table row_count code n many copy s slots rows) (effect : ℕ → Effect Fault) where
-  -- the rows behind the first tuples, by the meaning's results
+  -- the rows after the first tuples, by the meaning's results
   abbrev pub Scattered : Result (List (Option Store)) Cause → ℕ → Type 0
   Scattered (Ok stores) t = Holds table row_count code n many copy (store_all s a stores) slots (scatter effect t rows)
   Scattered (Err c) t = ⊤

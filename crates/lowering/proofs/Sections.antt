@@ -54,7 +54,7 @@ module _ (table : ArrayTable) (row_count : ℕ) (code : List Instruction) (n man
     abbrev end : ℕ → Storage → Place row_count
     end at rows = stands table row_count code at slots rows s.printed
 
-    -- behind the limits: the parallel statement and its Verdict
+    -- after the limits: the parallel statement and its Verdict
     par-goes : Goes table row_count code n many copy leave again (pc + 3) b slots (end (pc + 1) rows)
         (one_step p.line s (each (positions ns) at_a_tuple (product ns) >>= (λ stores. Ok (store_all s p.array stores))))
     par-goes =

@@ -86,7 +86,7 @@ module _ (table : ArrayTable) (row_count : ℕ) (code : List Instruction) (n man
       (goes-value table row_count code n many None leave again line pc pc1 to b b1 slots rows s (FormGives n b1 (form_of b mask)) (elemental [] s mask)
       (λ r. with_value line s (array_value s r) does) (omega arith) le holds
       (parts-come table row_count code line n s rows s.printed holds.arrays mask pc b slots ok (has-front code pc c tail has) holds.scalars le (omega (arith, few, holds.size)))
-      (λ slots1 r e same gives holds1. behind slots1 r (gives.0 slots1 (same-refl b1 slots1)) gives.1 holds1)))
+      (λ slots1 r e same gives holds1. after slots1 r (gives.0 slots1 (same-refl b1 slots1)) gives.1 holds1)))
     where
       p : Evaluation
       p = own_evaluation line (form_of b mask)
@@ -130,9 +130,9 @@ module _ (table : ArrayTable) (row_count : ℕ) (code : List Instruction) (n man
       at_bodies : HasAt code (pc1 + 4) (cb ++ co)
       at_bodies = has-drop code 4 pc1 tail at_tail
 
-      behind : (slots1 : List ℤ) (r : Elemental) → elemental_in slots1 (form_of b mask) ≡ r → NamesBelow n r → Holds table row_count code n many None s slots1 rows
+      after : (slots1 : List ℤ) (r : Elemental) → elemental_in slots1 (form_of b mask) ≡ r → NamesBelow n r → Holds table row_count code n many None s slots1 rows
           → Goes table row_count code n many None leave again to b1 slots1 (stands table row_count code pc1 slots1 rows s.printed) (with_value line s (array_value s r) does)
-      behind slots1 r right named holds1 =
+      after slots1 r right named holds1 =
           subst (Goes table row_count code n many None leave again to b1 slots1 (stands table row_count code pc1 slots1 rows s.printed))
           (sym (value-bind line s (space_size ns (sections r)) (λ k. values_over s ns r k >>= (λ vs. Ok (valued vs))) does))
           (by_limits (space_size ns (sections r)) refl)

@@ -61,14 +61,14 @@ loop_code line pc v x body =
     ∷ Set line (v + 3) (Operated op.Sub (AndFlat (Slot (v + 3)) (AndFlat (Int (pos 1)) NoFlat)))
     ∷ (body inside leave again ++ Jump again ∷ [])
 
--- the condition of an arm into a slot, the arm's body, and what stands behind it; both are given by the places where they begin
+-- the condition of an arm into a slot, the arm's body, and what stands after it; both are given by the places where they begin
 abbrev pub arm_code : ℕ → ℕ → ℕ → Term → (ℕ → List Instruction) → (ℕ → List Instruction) → List Instruction
 arm_code line pc b condition body rest =
     let test = code_of line b condition in
     let x : ℕ = b + slots_of condition in
     let inside : ℕ = pc + length test + 2 in
-    let behind : ℕ = inside + length (body inside) + 1 in
-    test ++ Set line x (flat_of b condition) ∷ JumpIfZero behind x ∷ (body inside ++ Jump (behind + length (rest behind)) ∷ rest behind)
+    let after : ℕ = inside + length (body inside) + 1 in
+    test ++ Set line x (flat_of b condition) ∷ JumpIfZero after x ∷ (body inside ++ Jump (after + length (rest after)) ∷ rest after)
 
 -- ---- array assignment and WHERE
 
@@ -103,7 +103,7 @@ masked_code b m (x ∷ xs) = assignment_code x.line b x.array x.subscripts x.rig
 abbrev pub where_true : ℕ → Bool → When
 where_true copy value = record { copy = copy; value = value }
 
--- the values of the mask into a copy, and then each assignment where they are true, or, behind ELSEWHERE, where they are false
+-- the values of the mask into a copy, and then each assignment where they are true, or, after ELSEWHERE, where they are false
 abbrev pub where_code : ℕ → ℕ → ℕ → Term → List SectionAssignment → List SectionAssignment → List Instruction
 where_code copy line b mask body others =
     let p : Evaluation = own_evaluation line (form_of b mask) in
@@ -155,7 +155,7 @@ forall_code copy line b controls mask body =
 -- ---- all statements
 
 abbrev mutual
-  -- how many slots the code of a statement takes; statements one behind the other take the same ones
+  -- how many slots the code of a statement takes; statements one after the other take the same ones
   pub statement_slots : Statement → ℕ
   statement_slots (AssignScalar k t) = slots_of t
   statement_slots (AssignElement a ts t) = all_slots_of ts + slots_of t

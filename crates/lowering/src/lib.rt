@@ -9,7 +9,7 @@
 //! - An expression's code leaves an expression over the slots that has its value until one of these slots is set again. What may fault
 //!   is evaluated by the code, in order, so what is left can't; what is evaluated once in an array expression is, and of the rest a form
 //!   over the slots is left.
-//! - A statement's code comes to a place with the slots and rows of the state that the statement leaves: behind itself, or where EXIT or
+//! - A statement's code comes to a place with the slots and rows of the state that the statement leaves: after itself, or where EXIT or
 //!   CYCLE go; or the run ends, finished or with the statement's fault.
 //! - Each parallel statement has a Verdict of its own. The keys of faults ascend with the tuples, so its fault is the first one.
 //! - Targets are places of the whole code. Slots from `b` on are free for a statement; a DO keeps four from its body.

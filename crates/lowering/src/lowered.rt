@@ -17,7 +17,7 @@ ghost use Rattle.machine_steps.specs.Layout.{AreOwned, IsDealt, Layout};
 ghost use Rattle.node_code.specs.Instructions.{ArrayTable, meaning_of};
 
 /// The machine with whole arrays ends over a program's code as the program does: with the first fault, its line, kind and tuple, and
-/// the bytes that were printed before it, or finished with the program's bytes, scalars and arrays. Behind the declared names there is
+/// the bytes that were printed before it, or finished with the program's bytes, scalars and arrays. After the declared names there is
 /// room for as many copies as the code names, or more.
 pub fn programs_lowered()
     ensures { (n room : ℕ) (table : ArrayTable) (body : Block) (s : State) (layouts : List Layout)

@@ -10,7 +10,7 @@ use Rattle.machine_steps.specs.Instr.{Status, Running, Finished, Faulted, Tuples
 use Rattle.machine_steps.specs.Machine.{Machine, Kept, is_before, remapped, instr_at}
 use Rattle.machine_steps.specs.Tree.{levels_of, tree_sends}
 use Rattle.machine_steps.specs.Message.{Part, par_part, reduce_part, gather_part, fetch_part, message, remap_message, has_any}
-use Rattle.machine_steps.specs.Node.{Node, Ready, FaultValues, join_behind, join_below, at_root, part_sends, remap_sends, node_steps}
+use Rattle.machine_steps.specs.Node.{Node, Ready, FaultValues, join_after, join_below, at_root, part_sends, remap_sends, node_steps}
 use Rattle.letters.specs.declared.letter.Letter.{Letter}
 
 -- so many nodes, by number
@@ -63,7 +63,7 @@ pub record AreNumbered (count : ℕ) (next_to next_from : ℕ → List ℕ) : Ty
 -- between the steps of a reduction the values of all nodes, joined, are the machine's
 abbrev pub AreJoined : {F : Type 0} → ℕ → Instr F → ℕ → (ℕ → Option ℤ) → ℤ → Type 0
 AreJoined count (Reduce tuples f slot) zero own joined = ⊤
-AreJoined count (Reduce tuples f slot) (suc k) own joined = joined ≡ join_behind f.join f.unit (join_below f.join own count)
+AreJoined count (Reduce tuples f slot) (suc k) own joined = joined ≡ join_after f.join f.unit (join_below f.join own count)
 AreJoined count i substep own joined = ⊤
 
 -- ---- what is asked of code and machine

@@ -17,7 +17,7 @@ use Rattle.machine_steps.specs.Message.{Part, par_part, reduce_part, gather_part
 use Rattle.machine_steps.specs.Tree.{levels_of, tree_sends}
 
 -- a node is before an instruction, or in one of its phases, with what is still to be sent and from whom letters are still to be
--- taken, or behind that phase
+-- taken, or after that phase
 pub data Stage : Type 0 where
   Ready : Stage
   Passing : (outbox : List Parcel) → (inbox : List ℕ) → Stage
@@ -82,9 +82,9 @@ join_options join (Some a) None = Some a
 join_options join (Some a) (Some b) = Some (join a b)
 
 -- a value before others, where there are any
-abbrev pub join_behind : (ℤ → ℤ → ℤ) → ℤ → Option ℤ → ℤ
-join_behind join a None = a
-join_behind join a (Some b) = join a b
+abbrev pub join_after : (ℤ → ℤ → ℤ) → ℤ → Option ℤ → ℤ
+join_after join a None = a
+join_after join a (Some b) = join a b
 
 -- the values of the first numbers, where they have one, joined in order
 abbrev pub join_below : (ℤ → ℤ → ℤ) → (ℕ → Option ℤ) → ℕ → Option ℤ
@@ -101,11 +101,11 @@ pub record Positioned : Type 0 where
   pub at : ℕ
   pub value : ℤ
 
-abbrev pub is_behind : Positioned → Positioned → Bool
-is_behind a b = nat_lt b.at a.at
+abbrev pub is_after : Positioned → Positioned → Bool
+is_after a b = nat_lt b.at a.at
 
 abbrev pub later : Option Positioned → Option Positioned → Option Positioned
-later = picked is_behind
+later = picked is_after
 
 abbrev pub positioned_values : Option Positioned → List ℤ
 positioned_values None = []
@@ -282,7 +282,7 @@ module _ {C F : Type 0} (count : ℕ) where
 
   -- ---- trees
 
-  -- a node behind round `round` of a tree: going up it joins what it received to what it has; going down it takes over what came
+  -- a node after round `round` of a tree: going up it joins what it received to what it has; going down it takes over what came
   abbrev pub tree_absorbed : {T : Type 0} → (T → T → T) → (T → List ℤ) → (List ℤ → T) → Node C F → Node C F
   tree_absorbed join values of a = record a {
     round = suc a.round;
@@ -305,7 +305,7 @@ module _ {C F : Type 0} (count : ℕ) where
   verdict_done faults next substep a = ready count (record a { control = verdict_control (values_kept faults a.folded) next a.control; substep = substep; kept = None; parts = 0 })
 
   abbrev pub reduce_ended : Fold → ℕ → Node C F → Node C F
-  reduce_ended f slot a = ready count (record a { control = set_slot a.control slot (join_behind f.join f.unit (values_option a.folded)); substep = 0; joined = None })
+  reduce_ended f slot a = ready count (record a { control = set_slot a.control slot (join_after f.join f.unit (values_option a.folded)); substep = 0; joined = None })
 
   -- each position is one node's to join: that of the least owner
   abbrev pub own_fold : ℕ → Fold → Node C F → Option ℤ
@@ -317,7 +317,7 @@ module _ {C F : Type 0} (count : ℕ) where
   abbrev pub fold_ended : Fold → ℕ → Node C F → Node C F
   fold_ended f slot a = ready count (record a {
     control = set_slot a.control slot
-        (f.join (slot_of a.control slot) (join_behind f.join f.unit (values_option a.folded)));
+        (f.join (slot_of a.control slot) (join_after f.join f.unit (values_option a.folded)));
     substep = 0;
   })
 
@@ -398,7 +398,7 @@ module _ {C F : Type 0} (faults : FaultValues F) (count : ℕ) where
   begun_by (Remap new rounds) a = remap_next count new rounds (record a { received = no_values count; round = 0 })
   begun_by (Print items line) a = print_begun count (slice_get items a.substep) line a
 
-  -- the local step of a node behind a phase. One without phases is never there
+  -- the local step of a node after a phase. One without phases is never there
   abbrev pub done_by : Instr F → Node C F → Node C F
   done_by (Local f) a = a
   done_by (Fetch element slot) a = fetch_done count (element a.control.slots) slot a

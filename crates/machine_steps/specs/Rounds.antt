@@ -9,7 +9,7 @@ use Rattle.machine_steps.specs.Message.{has_any, remap_message}
 
 -- ---- the rounds of a rotation
 
--- how many nodes the target lies behind the source, where node 0 comes behind the last node
+-- how many nodes the target lies after the source, where node 0 comes after the last node
 abbrev pub round_of : ℕ → Pair → ℕ
 round_of nodes pair = (pair.to.0 + nodes - pair.from.0) % nodes
 

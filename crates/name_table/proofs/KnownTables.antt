@@ -17,7 +17,7 @@ use Rattle.expression_rules.specs.declared.types.TypeAndRank.{TypeAndRank}
 use Rattle.expression_rules.specs.Constants.{value}
 use Rattle.expression_rules.specs.Symbols.{Name, SymbolTable, find, added, changed, is_uninitialized, satisfies}
 use Rattle.expression_rules.specs.Types.{if_typed, is_integer_scalar, type_and_rank}
-use Rattle.declarations.specs.Declarations.{Item, DimensionAttribute, TypedEntity, Definition, TemplateEntity, ArrangementEntity, PlacedItem, behind, behind_all, bounds_of, dims, is_past_limits, items, items_of, number, number_or, own_or, start_of, symbol_of, symbol_table, with_dim}
+use Rattle.declarations.specs.Declarations.{Item, DimensionAttribute, TypedEntity, Definition, TemplateEntity, ArrangementEntity, PlacedItem, after, after_all, bounds_of, dims, is_past_limits, items, items_of, number, number_or, own_or, start_of, symbol_of, symbol_table, with_dim}
 use Rattle.name_table.specs.KnownSymbols.{AllAreKnown, is_known}
 use Rattle.name_table.specs.NameRules.{name_breaches}
 use Rattle.declarations.specs.DeclarationRules.{constants_of, is_invalid, item_breaches, item_reasons, past_limits}
@@ -116,8 +116,8 @@ found_stays e x y s a es own h n = by (bytes_eq x e.0) h
     by true h = absurd (true≢false (sym own ∙ ap is_uninitialized (some_same e.1 a h) ∙ n))
     by false h = h
 
-behind_stays : (e : Name × Symbol) (x : Name) (a : Symbol) (es fs : SymbolTable) → (find x es ≡ Some a → find x fs ≡ Some a) → find x (e ∷ es) ≡ Some a → find x (e ∷ fs) ≡ Some a
-behind_stays e x a es fs more h = by (bytes_eq x e.0) h
+after_stays : (e : Name × Symbol) (x : Name) (a : Symbol) (es fs : SymbolTable) → (find x es ≡ Some a → find x fs ≡ Some a) → find x (e ∷ es) ≡ Some a → find x (e ∷ fs) ≡ Some a
+after_stays e x a es fs more h = by (bytes_eq x e.0) h
   where
     by : (b : Bool) → cond b (Some e.1) (find x es) ≡ Some a → cond b (Some e.1) (find x fs) ≡ Some a
     by true h = h
@@ -131,7 +131,7 @@ changed_kept (e ∷ es) y s own x a h n = by (bytes_eq y e.0) own (λ own h. cha
         → (((a : Symbol) → find y es ≡ Some a → is_uninitialized a ≡ true) → find x es ≡ Some a → find x (changed y s es) ≡ Some a)
         → find x (if b then (e.0, s) ∷ es else e ∷ changed y s es) ≡ Some a
     by true own more = found_stays e x y s a es (own e.1 refl) h n
-    by false own more = behind_stays e x a es (changed y s es) (more own) h
+    by false own more = after_stays e x a es (changed y s es) (more own) h
 
 same_kept : (t : SymbolTable) → Kept t t
 same_kept t x a h n = h
@@ -157,16 +157,16 @@ defined_kept t x s = by (find x t) refl
     by None h = same_kept t
     by (Some a) h = pick a (is_uninitialized a) h refl
 
-behind_kept : (t : SymbolTable) (i : Item) → Kept t (behind t i)
-behind_kept t (DimensionAttribute bs) = same_kept t
-behind_kept t (TypedEntity constant bs e) = added_kept t e.name (symbol_of t constant bs e.start)
-behind_kept t (Definition c) = defined_kept t c.name (Constant (number t c.value))
-behind_kept t (TemplateEntity e) = added_kept t e.name _
-behind_kept t (ArrangementEntity e) = added_kept t e.name _
+after_kept : (t : SymbolTable) (i : Item) → Kept t (after t i)
+after_kept t (DimensionAttribute bs) = same_kept t
+after_kept t (TypedEntity constant bs e) = added_kept t e.name (symbol_of t constant bs e.start)
+after_kept t (Definition c) = defined_kept t c.name (Constant (number t c.value))
+after_kept t (TemplateEntity e) = added_kept t e.name _
+after_kept t (ArrangementEntity e) = added_kept t e.name _
 
-all_kept : (t : SymbolTable) (is : List PlacedItem) → Kept t (behind_all t is)
+all_kept : (t : SymbolTable) (is : List PlacedItem) → Kept t (after_all t is)
 all_kept t [] = same_kept t
-all_kept t (i ∷ is) = kept_on t (behind t i.what) (behind_all (behind t i.what) is) (behind_kept t i.what) (all_kept (behind t i.what) is)
+all_kept t (i ∷ is) = kept_on t (after t i.what) (after_all (after t i.what) is) (after_kept t i.what) (all_kept (after t i.what) is)
 
 -- ---- symbols
 
@@ -243,7 +243,7 @@ valid t i h = fails _ _ (empties _ _ h).1
 added_right : (t : SymbolTable) (x : Name) (s : Symbol) → IsRight s → AllRight t → AllRight (added t x s)
 added_right t x s own r = if_right (is_some (find x t)) t (changed x s t) r (changed_right t x s own r)
 
-item_right : (t u : SymbolTable) → Kept t u → AllRight t → (i : Item) → item_reasons t i ≡ [] → AreTyped u (needed i) → AllRight (behind t i)
+item_right : (t u : SymbolTable) → Kept t u → AllRight t → (i : Item) → item_reasons t i ≡ [] → AreTyped u (needed i) → AllRight (after t i)
 item_right t u k r (DimensionAttribute bs) h typed = r
 item_right t u k r (TypedEntity constant bs e) h typed =
     added_right t e.name (symbol_of t constant bs e.start)
@@ -255,12 +255,12 @@ item_right t u k r (Definition c) h typed =
 item_right t u k r (TemplateEntity e) h typed = added_right t e.name _ tt r
 item_right t u k r (ArrangementEntity e) h typed = added_right t e.name _ tt r
 
-all_right : (u t : SymbolTable) (is : List PlacedItem) → behind_all t is ≡ u → AllRight t → item_breaches t is ≡ [] → AllByRecursion (λ i. AreTyped u (needed i.what)) is →
+all_right : (u t : SymbolTable) (is : List PlacedItem) → after_all t is ≡ u → AllRight t → item_breaches t is ≡ [] → AllByRecursion (λ i. AreTyped u (needed i.what)) is →
     AllRight u
 all_right u t [] e r h typed = subst AllRight e r
 all_right u t (i ∷ is) e r h typed =
-    let s = empties (at i.line (item_reasons t i.what)) (item_breaches (behind t i.what) is) h in
-    all_right u (behind t i.what) is e (item_right t u (subst (Kept t) e (all_kept t (i ∷ is))) r i.what (no_reason i.line (item_reasons t i.what) s.0) typed.0) s.1 typed.1
+    let s = empties (at i.line (item_reasons t i.what)) (item_breaches (after t i.what) is) h in
+    all_right u (after t i.what) is e (item_right t u (subst (Kept t) e (all_kept t (i ∷ is))) r i.what (no_reason i.line (item_reasons t i.what) s.0) typed.0) s.1 typed.1
 
 -- ---- the expressions of declarations have types
 

@@ -16,7 +16,7 @@ use Rattle.expression_rules.specs.declared.symbols.Symbol.TheVariants.{Initializ
 use Rattle.expression_rules.specs.declared.types.Context.TheVariants.{Statement}
 use Rattle.expression_rules.specs.declared.types.DataType.{DataType}
 use Rattle.expression_rules.specs.declared.types.TypeAndRank.{TypeAndRank}
-use Rattle.expression_rules.specs.Constants.{at_dimension, bound_of, called_value, elemental_value, inquired, item_or, named_first, numbered, of_array, operated, part_value, unless_zero, value, value_of_symbol, values, values_behind, with_more}
+use Rattle.expression_rules.specs.Constants.{at_dimension, bound_of, called_value, elemental_value, inquired, item_or, named_first, numbered, of_array, operated, part_value, unless_zero, value, value_of_symbol, values, values_after, with_more}
 use Rattle.expression_rules.specs.Symbols.{Name, SymbolTable, find, is_array, is_uninitialized, rank_of, satisfies}
 use Rattle.expression_rules.specs.Types.{are_dimensions, are_inquired, called_type, common, conforming, count_of, elemental, inquired_from, integer_scalar_if, is_dimension, is_inquired, is_of_array, operand_type, rank_in, reduction, of_type, result_type, type_and_rank, types_and_ranks}
 use Rattle.declarations.specs.Declarations.{if_known, number}
@@ -116,15 +116,15 @@ module _ (t u : SymbolTable) (k : Kept t u) where
     later (Closed a) = later a
     later (Unary o a) = operated_later o _ _ (more_later _ _ _ _ (later a) (λ n h. h))
     later (Binary o a b) = operated_later o _ _ (more_later _ _ _ _ (later a) (more_later _ _ _ _ (later b) (λ n h. h)))
-    later (Call o ps) = call_later o _ _ _ _ _ _ (first_stays t u k ps) (later_parts ps) (later_behind ps)
+    later (Call o ps) = call_later o _ _ _ _ _ _ (first_stays t u k ps) (later_parts ps) (later_after ps)
 
     later_parts : (ps : Parts) → Later (values None t ps) (values None u ps)
     later_parts End = λ n h. h
     later_parts (More q ps) = more_later _ _ _ _ (later_part q) (later_parts ps)
 
-    pub later_behind : (ps : Parts) → Later (values_behind None t ps) (values_behind None u ps)
-    later_behind End = λ n h. h
-    later_behind (More q ps) = later_parts ps
+    pub later_after : (ps : Parts) → Later (values_after None t ps) (values_after None u ps)
+    later_after End = λ n h. h
+    later_after (More q ps) = later_parts ps
 
     later_part : (q : Part) → Later (part_value None t q) (part_value None u q)
     later_part (One e) = later e
@@ -274,9 +274,9 @@ counted t (More q ps) ns h = by (part_value None t q) (values None t ps) (counte
 first_none : (s : Symbol) → None ≡ Some s → ⊥
 first_none s h = true≢false (sym (ap is_some h))
 
-counted_behind : (t : SymbolTable) (ps : Parts) (s : Symbol) (ns : List ℤ) → named_first t ps ≡ Some s → values_behind None t ps ≡ Known ns → count_of ps ≡ suc (length ns)
-counted_behind t End s ns a h = absurd (first_none s a)
-counted_behind t (More q ps) s ns a h = ap suc (counted t ps ns h)
+counted_after : (t : SymbolTable) (ps : Parts) (s : Symbol) (ns : List ℤ) → named_first t ps ≡ Some s → values_after None t ps ≡ Known ns → count_of ps ≡ suc (length ns)
+counted_after t End s ns a h = absurd (first_none s a)
+counted_after t (More q ps) s ns a h = ap suc (counted t ps ns h)
 
 -- which type a call has
 inquiry_counts_no : (o : Op) → is_inquiry o ≡ true → is_processor_count o ≡ false
@@ -324,18 +324,18 @@ module _ (t u : SymbolTable) (k : Kept t u) (right : (x : Name) (s : Symbol) →
   first_right ps s h = absurd (first_none s h)
 
   call_lacks : (o : Op) (ps : Parts) → OneLacks (values None t ps) (types_and_ranks Statement u ps) →
-      (values_behind None t ps ≡ Unknown → are_inquired (types_and_ranks Statement u ps) ≡ false) → Lacks (value None t (Call o ps)) (type_and_rank Statement u (Call o ps))
+      (values_after None t ps ≡ Unknown → are_inquired (types_and_ranks Statement u ps) ≡ false) → Lacks (value None t (Call o ps)) (type_and_rank Statement u (Call o ps))
   call_lacks o ps g f h = by (is_inquiry o) (is_processor_count o) (is_reduction o) refl refl refl h
     where
       by : (i p r : Bool) → is_inquiry o ≡ i → is_processor_count o ≡ p → is_reduction o ≡ r →
-          (if i then of_array None o (named_first t ps) (values_behind None t ps) else (if p then Invalid else
+          (if i then of_array None o (named_first t ps) (values_after None t ps) else (if p then Invalid else
           (if r then Invalid else elemental_value o (values None t ps)))) ≡ Unknown →
           called_type Statement u o ps (types_and_ranks Statement u ps) ≡ None
       by true p r a b c h =
           inquiry_type o u ps (types_and_ranks Statement u ps) a
-          (λ w. array_lacks o (named_first t ps) (named_first u ps) (values_behind None t ps) (values_behind None u ps) (are_inquired (types_and_ranks Statement u ps))
+          (λ w. array_lacks o (named_first t ps) (named_first u ps) (values_after None t ps) (values_after None u ps) (are_inquired (types_and_ranks Statement u ps))
           (count_of ps)
-          a (first_right ps) (first_stays t u k ps) (later_behind t u k ps) f (λ s ns. counted_behind t ps s ns) w h)
+          a (first_right ps) (first_stays t u k ps) (later_after t u k ps) f (λ s ns. counted_after t ps s ns) w h)
       by false true r a b c h = absurd (invalid_unknown _ refl h)
       by false false true a b c h = absurd (invalid_unknown _ refl h)
       by false false false a b c h =
@@ -351,18 +351,18 @@ module _ (t u : SymbolTable) (k : Kept t u) (right : (x : Name) (s : Symbol) →
     lacks (Closed a) = lacks a
     lacks (Unary o a) = unary_lacks o (value None t a) (type_and_rank Statement u a) (lacks a)
     lacks (Binary o a b) = binary_lacks o (value None t a) (value None t b) (type_and_rank Statement u a) (type_and_rank Statement u b) (lacks a) (lacks b)
-    lacks (Call o ps) = call_lacks o ps (lacks_parts ps) (lacks_behind ps)
+    lacks (Call o ps) = call_lacks o ps (lacks_parts ps) (lacks_after ps)
 
     lacks_parts : (ps : Parts) → OneLacks (values None t ps) (types_and_ranks Statement u ps)
     lacks_parts End = none_lacks []
     lacks_parts (More (One e) ps) = more_lacks (value None t e) (values None t ps) (type_and_rank Statement u e) (types_and_ranks Statement u ps) (lacks e) (lacks_parts ps)
     lacks_parts (More q ps) = λ h. absurd (invalid_unknown _ refl h)
 
-    lacks_behind : (ps : Parts) → values_behind None t ps ≡ Unknown → are_inquired (types_and_ranks Statement u ps) ≡ false
-    lacks_behind End = λ h. absurd (known_unknown _ refl h)
-    lacks_behind (More (One e) ps) = λ h. ap (λ b. is_some (type_and_rank Statement u e) && b) (inquired_none (types_and_ranks Statement u ps) (lacks_parts ps h))
+    lacks_after : (ps : Parts) → values_after None t ps ≡ Unknown → are_inquired (types_and_ranks Statement u ps) ≡ false
+    lacks_after End = λ h. absurd (known_unknown _ refl h)
+    lacks_after (More (One e) ps) = λ h. ap (λ b. is_some (type_and_rank Statement u e) && b) (inquired_none (types_and_ranks Statement u ps) (lacks_parts ps h))
         ∙ and_false (is_some (type_and_rank Statement u e))
-    lacks_behind (More q ps) = λ h. refl
+    lacks_after (More q ps) = λ h. refl
 
   -- a constant expression of a type has a number
   pub has_number : (e : Expression) → is_invalid (value None t e) ≡ false → is_some (type_and_rank Statement u e) ≡ true → is_some (number t e) ≡ true

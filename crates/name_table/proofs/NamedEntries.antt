@@ -1,4 +1,4 @@
--- Entries behind their names: the place of a name, and one entry more.
+-- Entries after their names: the place of a name, and one entry more.
 use Rattle.std.proofs.Common.{◌≡◌, ℕ, ◌+◌, Bool, true, false, true≢false, cond, bytes_eq, List, [], ◌∷◌, ◌++◌, map, position, Some, refl, sym, ap, subst, ◌∙◌}
 use Rattle.std.specs.Prelude.{◌||◌, if◌then◌else◌}
 use Rattle.std.specs.Cmp.Lexicographic.{nat_list_eq_equiv}
@@ -24,7 +24,7 @@ map_append : {X Y : Type 0} (f : X → Y) (xs ys : List X) → map f (xs ++ ys) 
 map_append f [] ys = refl
 map_append f (x ∷ xs) ys = ap (λ l. f x ∷ l) (map_append f xs ys)
 
--- each entry stands behind its own name
+-- each entry stands after its own name
 abbrev pub AreNamed : List (Name × Entry) → Type 0
 AreNamed es = map (λ e. e.0) es ≡ map (λ e. e.1.name) es
 
@@ -61,11 +61,11 @@ of_middle : (P : Name → Type 0) (xs : List Name) (x : Name) (ys : List Name) �
 of_middle P [] x ys h = h.0
 of_middle P (k ∷ ks) x ys h = of_middle P ks x ys h.1
 
-new_behind : (x : Name) (xs ys : List Name) → IsDistinct bytes_eq (xs ++ x ∷ ys) → list_any (bytes_eq x) xs ≡ false
+new_after : (x : Name) (xs ys : List Name) → IsDistinct bytes_eq (xs ++ x ∷ ys) → list_any (bytes_eq x) xs ≡ false
 unfolding IsDistinct
-new_behind x [] ys h = refl
-new_behind x (k ∷ ks) ys h =
-    ap (λ b. b || list_any (bytes_eq x) ks) (nat_list_eq_equiv.symm x k ∙ of_middle (λ y. bytes_eq k y ≡ false) ks x ys h.0) ∙ new_behind x ks ys h.1
+new_after x [] ys h = refl
+new_after x (k ∷ ks) ys h =
+    ap (λ b. b || list_any (bytes_eq x) ks) (nat_list_eq_equiv.symm x k ∙ of_middle (λ y. bytes_eq k y ≡ false) ks x ys h.0) ∙ new_after x ks ys h.1
 
 pub is_new : (x : Name) (es : List Entry) (ys : List Name) → IsDistinct bytes_eq (map (λ e. e.name) es ++ x ∷ ys) → IsNew x es
-is_new x es ys h = sym (any_map (λ e. e.name) (bytes_eq x) es) ∙ new_behind x (map (λ e. e.name) es) ys h
+is_new x es ys h = sym (any_map (λ e. e.name) (bytes_eq x) es) ∙ new_after x (map (λ e. e.name) es) ys h

@@ -9,9 +9,9 @@ use Rattle.syntax_tree.specs.declared.stmt.Stmt.{Stmt}
 use Rattle.syntax_tree.specs.declared.stmt.Mark.{Mark}
 use Rattle.syntax_tree.specs.declared.stmt.Arm.{Arm as HeldArm, out-Arm}
 use Rattle.syntax_tree.specs.declared.stmt.DoLoop.{DoLoop, out-DoLoop}
-use Rattle.syntax_tree.specs.declared.stmt.Kind as Kind
-use Rattle.syntax_tree.specs.declared.stmt.Kind.TheViews.{is-struct-Arm}
-use Rattle.syntax_tree.specs.declared.stmt.Kind.TheBlock.{hidden-the_row-Arm-0}
+use Rattle.syntax_tree.specs.declared.stmt.StatementKind as StatementKind
+use Rattle.syntax_tree.specs.declared.stmt.StatementKind.TheViews.{is-struct-Arm}
+use Rattle.syntax_tree.specs.declared.stmt.StatementKind.TheBlock.{hidden-the_row-Arm-0}
 use Rattle.syntax_tree.specs.Statement.{Block, Done, Then, Statement, Do, arms, arms_of, block_of, do_construct, independent, statement}
 use Rattle.syntax_tree.proofs.Rows.{do_parts, arms_vec, block_vec}
 use Rattle.name_table.specs.NameRules.{nest_breaches}
@@ -19,17 +19,17 @@ use Rattle.statement_walk.specs.Nests.{Nest, arm_nests, loop, nest_in, nests, st
 use Rattle.expression_rules.proofs.Turns.{least_both}
 use Rattle.statement_walk.proofs.WalkSteps.{axis_in}
 
-pub if_nests : (line : ℕ) (k : Kind.Kind) (as' : Vec HeldArm Global) (rest : Option (Vec Stmt Global)) (v : Vec Stmt Global) (glued : Bool) → k ≡ Kind.If as' rest glued →
+pub if_nests : (line : ℕ) (k : StatementKind.StatementKind) (as' : Vec HeldArm Global) (rest : Option (Vec Stmt Global)) (v : Vec Stmt Global) (glued : Bool) → k ≡ StatementKind.If as' rest glued →
     rest ≡ Some v →
     arm_nests (arms_of as'.items) ++ nests (block_of v.items) ≡ statement_nests line (statement line k)
 if_nests line k as' rest v glued is some =
-    sym (ap (λ k. statement_nests line (statement line k)) (is ∙ ap (λ r. Kind.If as' r glued) some)
+    sym (ap (λ k. statement_nests line (statement line k)) (is ∙ ap (λ r. StatementKind.If as' r glued) some)
     ∙ (λ i. arm_nests (arms_vec as' i) ++ nests (block_vec v i)))
 
-pub if_alone_nests : (line : ℕ) (k : Kind.Kind) (as' : Vec HeldArm Global) (rest : Option (Vec Stmt Global)) (glued : Bool) → k ≡ Kind.If as' rest glued → rest ≡ None →
+pub if_alone_nests : (line : ℕ) (k : StatementKind.StatementKind) (as' : Vec HeldArm Global) (rest : Option (Vec Stmt Global)) (glued : Bool) → k ≡ StatementKind.If as' rest glued → rest ≡ None →
     arm_nests (arms_of as'.items) ≡ statement_nests line (statement line k)
 if_alone_nests line k as' rest glued is none =
-    sym (ap (λ k. statement_nests line (statement line k)) (is ∙ ap (λ r. Kind.If as' r glued) none)
+    sym (ap (λ k. statement_nests line (statement line k)) (is ∙ ap (λ r. StatementKind.If as' r glued) none)
     ∙ append-nil (arm_nests (arms (hidden-the_row-Arm-0 as')))
     ∙ ap arm_nests (arms_vec as'))
 
@@ -61,7 +61,7 @@ other_loops [] h = refl
 other_loops (s ∷ []) h = absurd (h refl)
 other_loops (s ∷ r ∷ ss) h = not_alone s.line r.line (statement s.line s.what) (statement r.line r.what) (block_of ss)
 
--- the loops behind the first one
+-- the loops after the first one
 pub later_loop : (line : ℕ) (d : DoLoop) (m : Mark) (place : ℕ) → (out-DoLoop d).mark ≡ Some m → (place ≡ 0 → ⊥) →
     slice_get (nest_in (Then line (do_construct d) Done)).loops place ≡ slice_get (nest_in (block_of (out-DoLoop d).body.items)).loops (place - 1)
 later_loop line d m zero is h = absurd (h refl)
@@ -69,7 +69,7 @@ later_loop line d m (suc n) is h =
     let e : suc n - 1 ≡ n = omega arith in
     ap (λ l. slice_get l (suc n)) (marked_loops line d m is) ∙ ap (slice_get (nest_in (block_of (out-DoLoop d).body.items)).loops) (sym e)
 
--- two lists of nests, one behind the other
+-- two lists of nests, one after the other
 pub nests_first : (xs ys zs : List Nest) (first last result : Option Refusal) → first ≡ least (flat_map nest_breaches xs) → last ≡ least (flat_map nest_breaches ys) →
     result ≡ earlier first last → xs ++ ys ≡ zs → result ≡ least (flat_map nest_breaches zs)
 nests_first xs ys zs first last result a b is same =

@@ -8,7 +8,7 @@ use Rattle.name_table.specs.NameRules.{name_breaches}
 use Rattle.name_table.specs.RankRules.{rank_breaches}
 use Rattle.name_table.specs.Resolved.{IsRefusedOrNone, by_names, by_ranks}
 
--- of five lists, one behind the other
+-- of five lists, one after the other
 pub first_of_five : (a b c d e : List Refusal) → earlier (least a) (earlier (least b) (earlier (least c) (earlier (least d) (least e)))) ≡ least (a ++ b ++ c ++ d ++ e)
 first_of_five a b c d e =
     sym (least_append (a ++ b ++ c ++ d) e
@@ -30,10 +30,10 @@ refused_by_ranks p None good is = record { names = first_is (name_breaches p) No
 refused_by_ranks p (Some r) good is = by_ranks (first_is (name_breaches p) None good) (first_is (rank_breaches p) (Some r) is)
 
 -- the earliest of five, one after the other
-pub earliest_of_five : (a b c d e : List Refusal) (x y z v w behind rest more all : Option Refusal) →
+pub earliest_of_five : (a b c d e : List Refusal) (x y z v w after rest more all : Option Refusal) →
     x ≡ least a → y ≡ least b → z ≡ least c → v ≡ least d → w ≡ least e →
-    behind ≡ earlier v w → rest ≡ earlier z behind → more ≡ earlier y rest → all ≡ earlier x more → all ≡ least (a ++ b ++ c ++ d ++ e)
-earliest_of_five a b c d e x y z v w behind rest more all xa yb zc vd we h1 h2 h3 h4 = let five = first_of_five a b c d e in cc
+    after ≡ earlier v w → rest ≡ earlier z after → more ≡ earlier y rest → all ≡ earlier x more → all ≡ least (a ++ b ++ c ++ d ++ e)
+earliest_of_five a b c d e x y z v w after rest more all xa yb zc vd we h1 h2 h3 h4 = let five = first_of_five a b c d e in cc
 
 -- and of two
 pub earliest_of_two : (a b : List Refusal) (x y all : Option Refusal) → x ≡ least a → y ≡ least b → all ≡ earlier x y → all ≡ least (a ++ b)

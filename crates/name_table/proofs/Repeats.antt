@@ -9,9 +9,9 @@ use Rattle.expression_rules.specs.Symbols.{Name, is_among}
 use Rattle.name_table.specs.Uses.{repeats}
 
 -- a name of the list stands before it, or among these
-abbrev pub repeats_behind : List Name → List Name → Bool
-repeats_behind seen [] = false
-repeats_behind seen (x ∷ xs) = is_among x seen || repeats_behind (insert_key bytes_eq seen x) xs
+abbrev pub repeats_after : List Name → List Name → Bool
+repeats_after seen [] = false
+repeats_after seen (x ∷ xs) = is_among x seen || repeats_after (insert_key bytes_eq seen x) xs
 
 -- a name of the list is among these
 abbrev meets : List Name → List Name → Bool
@@ -39,13 +39,13 @@ meets_more seen x (y ∷ ys) =
     ∙ or_middle (is_among y seen) (bytes_eq y x) (meets seen ys) (is_among x ys)
     ∙ ap (λ e. is_among y seen || meets seen ys || (e || is_among x ys)) (nat_list_eq_equiv.symm y x)
 
-behind : (seen : List Name) (xs : List Name) → repeats_behind seen xs ≡ (meets seen xs || repeats xs)
-behind seen [] = refl
-behind seen (x ∷ xs) =
-    elim (is_among x seen) as (λ p. (p || repeats_behind (if p then seen else seen ++ x ∷ []) xs) ≡ (p || meets seen xs || (is_among x xs || repeats xs))) [
+after : (seen : List Name) (xs : List Name) → repeats_after seen xs ≡ (meets seen xs || repeats xs)
+after seen [] = refl
+after seen (x ∷ xs) =
+    elim (is_among x seen) as (λ p. (p || repeats_after (if p then seen else seen ++ x ∷ []) xs) ≡ (p || meets seen xs || (is_among x xs || repeats xs))) [
       | true ↦ refl
-      | false ↦ behind (seen ++ x ∷ []) xs ∙ ap (λ b. b || repeats xs) (meets_more seen x xs) ∙ or_assoc (meets seen xs) (is_among x xs) (repeats xs)
+      | false ↦ after (seen ++ x ∷ []) xs ∙ ap (λ b. b || repeats xs) (meets_more seen x xs) ∙ or_assoc (meets seen xs) (is_among x xs) (repeats xs)
     ]
 
-pub repeats_from_start : (xs : List Name) → repeats_behind [] xs ≡ repeats xs
-repeats_from_start xs = behind [] xs ∙ ap (λ b. b || repeats xs) (meets_none xs)
+pub repeats_from_start : (xs : List Name) → repeats_after [] xs ≡ repeats xs
+repeats_from_start xs = after [] xs ∙ ap (λ b. b || repeats xs) (meets_none xs)

@@ -69,7 +69,7 @@ nest_breaches n = flat_map (λ l. at l.line (reason.Limit ∷ [])) (present (sli
 
 -- ---- programs
 
--- a name behind END PROGRAM that isn't the program's
+-- a name after END PROGRAM that isn't the program's
 abbrev pub is_named : Option Name → Name → Bool
 is_named None x = false
 is_named (Some y) x = bytes_eq y x

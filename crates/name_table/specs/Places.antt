@@ -23,7 +23,7 @@ pub data Requirement : Type 0 where
   Variable : Requirement
   MaskedArray : Expression → Requirement
   ArrayElement : Requirement
-  -- the right side behind this left side: an integer that is a scalar or of its rank
+  -- the right side after this left side: an integer that is a scalar or of its rank
   RightOf : Expression → Requirement
   -- an item of a PRINT: an integer scalar, a whole array of integers or a section of one
   PrintItem : Requirement
@@ -61,7 +61,7 @@ abbrev pub is_element : Expression → Bool
 is_element (Element x ps) = true
 is_element e = false
 
--- a name, or a name with subscripts behind it
+-- a name, or a name with subscripts after it
 abbrev pub is_designator : Expression → Bool
 is_designator (Name x) = true
 is_designator e = is_element e

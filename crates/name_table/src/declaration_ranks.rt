@@ -65,7 +65,7 @@ fn declaration_meets(
     }
 }
 
-/// Whether the expressions in INTEGER pass a test: the bounds behind DIMENSION, and those of the entities. An `Err` is want of
+/// Whether the expressions in INTEGER pass a test: the bounds after DIMENSION, and those of the entities. An `Err` is want of
 /// memory, here and below.
 #[tactic(auto, using(expression_rules::proofs::Folds::all_append))]
 fn in_types<T: ExpressionTest>(test: &T, types: &IntegerDecl) -> Result<bool, AllocError>

@@ -1,4 +1,4 @@
-//! The name behind END PROGRAM (Fortran 95, 11.1).
+//! The name after END PROGRAM (Fortran 95, 11.1).
 
 ghost use Rattle.std.specs.Prelude.{◌≡◌, option_copied};
 ghost use Rattle.hpf_base.specs.FirstBreach.{least};
@@ -9,7 +9,7 @@ use crate::refused::refused_unless;
 use hpf_base::{Name, Reason, Refusal};
 use syntax_tree::{EndForm, Tree};
 
-/// The breach of a name behind END PROGRAM that isn't the program's. It takes no memory.
+/// The breach of a name after END PROGRAM that isn't the program's. It takes no memory.
 pub(crate) fn bad_end_name(tree: &Tree) -> Option<Refusal>
     ensures { result ≡ least (end_breaches (main_program tree.now)) }
 {
@@ -21,7 +21,7 @@ pub(crate) fn bad_end_name(tree: &Tree) -> Option<Refusal>
     }
 }
 
-/// The bytes of the name behind END PROGRAM, where one stands there.
+/// The bytes of the name after END PROGRAM, where one stands there.
 fn end_name(end: &EndForm) -> Option<&[u8]>
     ensures { option_copied result ≡ end_name_of end.now.word end.now.name }
 {

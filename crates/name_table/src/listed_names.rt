@@ -28,7 +28,7 @@ pub(crate) fn is_declared_if_any(table: &SymbolTable, name: &Option<Name>) -> bo
     }
 }
 
-/// The same of what DISTRIBUTE, REDISTRIBUTE or ALIGN maps: the names behind `::`, or the one name before its list. Where there
+/// The same of what DISTRIBUTE, REDISTRIBUTE or ALIGN maps: the names after `::`, or the one name before its list. Where there
 /// isn't exactly one, as in no text, the answer is no.
 pub(crate) fn are_mapped_declared(table: &SymbolTable, colons: bool, names: &[Name]) -> bool
     ensures { result ≡ list_all (λ x. is_declared x table.now) (names_of colons names.now) }

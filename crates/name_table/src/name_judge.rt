@@ -23,11 +23,11 @@ use syntax_tree::{Header, Stmt};
 
 /// Judges the names of a statement.
 #[derive(Clone, Copy)]
-struct Names<'a> {
+struct NameJudge<'a> {
     table: &'a SymbolTable,
 }
 
-impl<'a> Judge for Names<'a> {
+impl<'a> Judge for NameJudge<'a> {
     ghost use Rattle.name_table.specs.NameRules.{name_breaches_at};
 
     ghost breaches = { λ j p. name_breaches_at j.table.now p };
@@ -56,7 +56,7 @@ pub(crate) fn first_bad_name(
     ensures { IfOk result (λ r. r ≡ least (flat_map (name_breaches_at table.now) (all_heads (block_of stmts.now)))) }
 {
     let mut do_variables = Vec::new(alloc);
-    let judge = Names { table };
+    let judge = NameJudge { table };
     let first = walk(alloc, &judge, &mut do_variables, stmts)?;
     Ok(first)
 }

@@ -9,7 +9,7 @@ ghost use Rattle.name_table.specs.NameRules.{nest_breaches};
 ghost use Rattle.statement_walk.specs.Nests.{arm_nests, nest_in, nests, statement_nests};
 
 use hpf_base::{MAX_INDICES, Reason, Refusal, earlier};
-use syntax_tree::{Arm, DoLoop, Kind, Stmt};
+use syntax_tree::{Arm, DoLoop, StatementKind, Stmt};
 
 /// The first nest with a loop too many, where there is one: the line of the first such loop. It takes no memory.
 #[cycle(nests)]
@@ -29,15 +29,15 @@ fn deep_nest_of(stmt: &Stmt) -> Option<Refusal>
     ensures { result ≡ least (flat_map nest_breaches (statement_nests stmt.now.line (statement stmt.now.line stmt.now.what))) }
 {
     match &stmt.what {
-        Kind::IfOne { body, .. } => deep_nest_of(body),
-        Kind::If { arms, rest, .. } => {
+        StatementKind::IfOne { body, .. } => deep_nest_of(body),
+        StatementKind::If { arms, rest, .. } => {
             let first = deep_nest_of_arms(arms);
             match rest {
                 None => first,
                 Some(stmts) => earlier(first, first_deep_nest(stmts)),
             }
         }
-        Kind::Do(inner) => deep_nest_of_do(stmt.line, inner),
+        StatementKind::Do(inner) => deep_nest_of_do(stmt.line, inner),
         _ => None,
     }
 }
@@ -97,7 +97,7 @@ fn loop_of_one(stmt: &Stmt, place: usize) -> Option<u32>
     ensures { result ≡ option_map (λ l. l.line) (slice_get (nest_in (Then stmt.now.line (statement stmt.now.line stmt.now.what) Done)).loops place) }
 {
     match &stmt.what {
-        Kind::Do(inner) => loop_of_do(stmt.line, inner, place),
+        StatementKind::Do(inner) => loop_of_do(stmt.line, inner, place),
         _ => None,
     }
 }

@@ -257,7 +257,7 @@ fn is_logical_array(alloc: Global, scope: &Scope<'_>, mask: &Expr) -> Result<boo
     Ok(is_mask(what))
 }
 
-/// Whether the expression is a name, or a name with subscripts behind it.
+/// Whether the expression is a name, or a name with subscripts after it.
 fn is_designator(e: &Expr) -> bool
     ensures { result ≡ is_designator (expression e.now) }
 {

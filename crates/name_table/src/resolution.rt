@@ -93,8 +93,8 @@ fn first_of_names(
 {
     let directed = first_bad_directive(alloc, table, &tree.decls)?;
     let named = first_bad_name(alloc, table, &tree.body)?;
-    let behind = earlier(first_deep_nest(&tree.body), bad_end_name(tree));
-    Ok(earlier(first, earlier(directed, earlier(named, behind))))
+    let after = earlier(first_deep_nest(&tree.body), bad_end_name(tree));
+    Ok(earlier(first, earlier(directed, earlier(named, after))))
 }
 
 /// The first breach of the rules of types and ranks.

@@ -4,7 +4,7 @@ use Rattle.std.specs.List.{flat_map}
 use Rattle.std.proofs.lemmas.Grind.{flat_map-append}
 use Rattle.std.proofs.lemmas.List.{append-nil}
 use Rattle.syntax_tree.specs.declared.stmt.DoLoop.{DoLoop, out-DoLoop}
-use Rattle.syntax_tree.specs.declared.stmt.Kind as Kind
+use Rattle.syntax_tree.specs.declared.stmt.StatementKind as StatementKind
 use Rattle.syntax_tree.specs.declared.stmt.Mark.{Mark}
 use Rattle.syntax_tree.specs.declared.stmt.Stmt.{Stmt}
 use Rattle.syntax_tree.specs.Statement.{Block, Done, Then, Statement, Do, block_of, do_construct, statement}
@@ -25,7 +25,7 @@ operators_append : (os ps qs : List Operator) → operators_added os (ps ++ qs) 
 operators_append os [] qs = refl
 operators_append os (p ∷ ps) qs = operators_append (operator_added os p) ps qs
 
--- statements one behind the other
+-- statements one after the other
 pub heads_append : (n : NestNames) (hs ks : List Head) → with_heads n (hs ++ ks) ≡ with_heads (with_heads n hs) ks
 heads_append n hs ks =
     let a = ap (all_added n.indices) (flat_map-append do_variable_of hs ks) ∙ all_added_append n.indices (flat_map do_variable_of hs) (flat_map do_variable_of ks) in
@@ -61,7 +61,7 @@ all_names es t =
 pub nest_of_do : (line : ℕ) (d : DoLoop) (m : Mark) → (out-DoLoop d).mark ≡ Some m → nest_in (Then line (do_construct d) Done) ≡ nest_of line m d
 nest_of_do line d m is = ap (λ s. nest_in (Then line s Done)) (do_is d (Some m) is)
 
-pub do_statement : (line : ℕ) (k : Kind.Kind) (d : DoLoop) → k ≡ Kind.Do d → statement line k ≡ do_construct d
+pub do_statement : (line : ℕ) (k : StatementKind.StatementKind) (d : DoLoop) → k ≡ StatementKind.Do d → statement line k ≡ do_construct d
 do_statement line k d is = ap (statement line) is
 
 one_statement : (line : ℕ) (s : Statement) → is_independent s ≡ false → nest_in (Then line s Done) ≡ record { loops = []; body = Then line s Done }

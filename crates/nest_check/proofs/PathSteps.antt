@@ -7,8 +7,8 @@ use Rattle.hpf_base.specs.FirstBreach.{earlier, least}
 use Rattle.hpf_base.proofs.FirstBreaches.{earlier_assoc}
 use Rattle.syntax_tree.specs.declared.stmt.Arm.{Arm, out-Arm}
 use Rattle.syntax_tree.specs.declared.stmt.DoLoop.{DoLoop, out-DoLoop}
-use Rattle.syntax_tree.specs.declared.stmt.Kind.TheBlock.{struct-Arm}
-use Rattle.syntax_tree.specs.declared.stmt.Kind.TheViews.{is-struct-Arm}
+use Rattle.syntax_tree.specs.declared.stmt.StatementKind.TheBlock.{struct-Arm}
+use Rattle.syntax_tree.specs.declared.stmt.StatementKind.TheViews.{is-struct-Arm}
 use Rattle.syntax_tree.specs.declared.stmt.Stmt.{Stmt}
 use Rattle.syntax_tree.specs.Expression.{expression}
 use Rattle.syntax_tree.specs.Statement.{arms_of, block_of, do_construct, statement}
@@ -19,7 +19,7 @@ use Rattle.expression_rules.specs.Symbols.{Name}
 use Rattle.nest_check.specs.Gathering.{axis_in, common_with_arm, reached_arm}
 use Rattle.nest_check.specs.NestNames.{NestNames}
 use Rattle.nest_check.specs.NestRules.{path_breaches_at}
-use Rattle.nest_check.specs.Paths.{ReachedHead, assigned_after, assigned_behind, assigned_by_arms, common, reached, reached_heads, reached_in, reached_in_arms}
+use Rattle.nest_check.specs.Paths.{ReachedHead, assigned_after, assigned_by, assigned_by_arms, common, reached, reached_heads, reached_in, reached_in_arms}
 use Rattle.nest_check.proofs.StatementForms.{do_is}
 use Rattle.nest_check.proofs.States.{state_next}
 
@@ -28,20 +28,20 @@ first_of n rs = least (flat_map (path_breaches_at n) rs)
 
 -- a turn of the loop over statements
 pub walk_next : (n : NestNames) (c : Bool) (ss : List Stmt) (k : ℕ) (s : Stmt) (first found after whole : Option Refusal) (xs ys : List Name) → k < length ss → s ≡ get_or ss k s →
-    found ≡ first_of n (reached_in c xs s.line (statement s.line s.what)) → after ≡ earlier first found → ys ≡ assigned_behind xs (statement s.line s.what) →
+    found ≡ first_of n (reached_in c xs s.line (statement s.line s.what)) → after ≡ earlier first found → ys ≡ assigned_by xs (statement s.line s.what) →
     earlier first (first_of n (reached_heads c xs (block_of (drop k ss)))) ≡ whole →
     earlier after (first_of n (reached_heads c ys (block_of (drop (k + 1) ss)))) ≡ whole
 walk_next n c ss k s first found after whole xs ys within is of_one more kept so_far =
     state_next {A = Option Refusal × List Name} (λ a ss. earlier a.0 (first_of n (reached_heads c a.1 (block_of ss))))
-    (λ a s. (earlier a.0 (first_of n (reached_in c a.1 s.line (statement s.line s.what))), assigned_behind a.1 (statement s.line s.what)))
-    (λ a s ss. let own = reached_in c a.1 s.line (statement s.line s.what) in let rest = reached_heads c (assigned_behind a.1 (statement s.line s.what)) (block_of ss) in
+    (λ a s. (earlier a.0 (first_of n (reached_in c a.1 s.line (statement s.line s.what))), assigned_by a.1 (statement s.line s.what)))
+    (λ a s ss. let own = reached_in c a.1 s.line (statement s.line s.what) in let rest = reached_heads c (assigned_by a.1 (statement s.line s.what)) (block_of ss) in
     ap (earlier a.0) (least_both (path_breaches_at n) own rest) ∙ sym (earlier_assoc a.0 (first_of n own) (first_of n rest)))
     ss k s (first, xs) (after, ys) whole within is (λ i. ((more ∙ ap (earlier first) of_one) i, kept i)) so_far
 
-pub assigned_next : (ss : List Stmt) (k : ℕ) (s : Stmt) (xs ys whole : List Name) → k < length ss → s ≡ get_or ss k s → ys ≡ assigned_behind xs (statement s.line s.what) →
+pub assigned_next : (ss : List Stmt) (k : ℕ) (s : Stmt) (xs ys whole : List Name) → k < length ss → s ≡ get_or ss k s → ys ≡ assigned_by xs (statement s.line s.what) →
     assigned_after xs (block_of (drop k ss)) ≡ whole → assigned_after ys (block_of (drop (k + 1) ss)) ≡ whole
 assigned_next ss k s xs ys whole within is kept so_far =
-    state_next (λ xs ss. assigned_after xs (block_of ss)) (λ xs s. assigned_behind xs (statement s.line s.what)) (λ xs s ss. refl) ss k s xs ys whole within is kept so_far
+    state_next (λ xs ss. assigned_after xs (block_of ss)) (λ xs s. assigned_by xs (statement s.line s.what)) (λ xs s ss. refl) ss k s xs ys whole within is kept so_far
 
 -- the arms of an IF
 pub arm_reached : (xs : List Name) (a : Arm) (as' : List Arm) → reached_in_arms xs (arms_of (a ∷ as')) ≡ reached_arm xs a ++ reached_in_arms xs (arms_of as')
@@ -70,14 +70,14 @@ pub more_first : (n : NestNames) (r : ReachedHead) (rs qs : List ReachedHead) (o
 more_first n r rs qs own inside result a b is same =
     is ∙ (λ i. earlier (a i) (b i)) ∙ sym (least_more (path_breaches_at n) r rs) ∙ ap (first_of n) same
 
--- one behind the other
+-- one after the other
 pub both_first : (n : NestNames) (rs qs ps : List ReachedHead) (first last result : Option Refusal) → first ≡ first_of n rs → last ≡ first_of n qs →
     result ≡ earlier first last → rs ++ qs ≡ ps → result ≡ first_of n ps
 both_first n rs qs ps first last result a b is same =
     is ∙ (λ i. earlier (a i) (b i)) ∙ sym (least_both (path_breaches_at n) rs qs) ∙ ap (first_of n) same
 
-pub nothing_behind : (rs : List ReachedHead) → ((rs ++ []) ++ []) ++ [] ≡ rs
-nothing_behind rs = append-nil ((rs ++ []) ++ []) ∙ append-nil (rs ++ []) ∙ append-nil rs
+pub nothing_after : (rs : List ReachedHead) → ((rs ++ []) ++ []) ++ [] ≡ rs
+nothing_after rs = append-nil ((rs ++ []) ++ []) ∙ append-nil (rs ++ []) ∙ append-nil rs
 
 -- a loop
 pub do_reached : (c : Bool) (xs : List Name) (line : ℕ) (d : DoLoop) → (own inside result : Option Refusal) (n : NestNames) →

@@ -1,11 +1,11 @@
--- What private contracts see of the names of a nest while they are gathered, and of a nest behind its outermost loop. No public clause cites
+-- What private contracts see of the names of a nest while they are gathered, and of a nest after its outermost loop. No public clause cites
 -- this file.
 use Rattle.std.specs.Prelude.{ℕ, Bool, true, false, List, [], ◌∷◌, ◌++◌, map, Some}
 use Rattle.std.specs.List.{flat_map}
 use Rattle.hpf_base.specs.declared.refusal.Refusal.{Refusal}
 use Rattle.syntax_tree.specs.declared.stmt.DoLoop.{DoLoop, out-DoLoop}
 use Rattle.syntax_tree.specs.declared.stmt.Arm.{Arm}
-use Rattle.syntax_tree.specs.declared.stmt.Kind.TheBlock.{struct-Arm}
+use Rattle.syntax_tree.specs.declared.stmt.StatementKind.TheBlock.{struct-Arm}
 use Rattle.syntax_tree.specs.declared.stmt.Mark.{Mark}
 use Rattle.syntax_tree.specs.Expression.{expression}
 use Rattle.expression_rules.specs.Symbols.{Name}

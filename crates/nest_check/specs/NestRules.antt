@@ -163,14 +163,14 @@ may_be_read n xs e = true
 abbrev pub is_readable : NestNames → List Name → Expression → Bool
 is_readable n xs e = list_all (may_be_read n xs) (subexpressions e)
 
-abbrev pub subexpressions_behind : Option Parts → List Expression
-subexpressions_behind None = []
-subexpressions_behind (Some ps) = subexpressions_in_parts ps
+abbrev pub subexpressions_after : Option Parts → List Expression
+subexpressions_after None = []
+subexpressions_after (Some ps) = subexpressions_in_parts ps
 
 -- what a statement reads is assigned, and a loop stands under no IF
 abbrev pub keeps_path_rules : NestNames → Bool → List Name → Head → Bool
 keeps_path_rules n conditional xs (head.Assignment left right) =
-    list_all (may_be_read n xs) (subexpressions_behind left.subscripts) && is_readable n xs right
+    list_all (may_be_read n xs) (subexpressions_after left.subscripts) && is_readable n xs right
 keeps_path_rules n conditional xs (head.Condition cond) = is_readable n xs cond
 keeps_path_rules n conditional xs (head.Do mark axis) = not conditional && list_all (is_readable n xs) (axis_expressions axis)
 keeps_path_rules n conditional xs h = true

@@ -15,12 +15,12 @@ common xs ys = filter (λ x. is_among x ys) xs
 abbrev mutual
   pub assigned_after : List Name → Block → List Name
   assigned_after xs Done = xs
-  assigned_after xs (Then line s b) = assigned_after (assigned_behind xs s) b
+  assigned_after xs (Then line s b) = assigned_after (assigned_by xs s) b
 
-  pub assigned_behind : List Name → Statement → List Name
-  assigned_behind xs (Assign left right) = all_added xs (alone left.name left.subscripts)
-  assigned_behind xs (If arms rest) = assigned_by_arms xs (assigned_by_rest xs rest) arms
-  assigned_behind xs s = xs
+  pub assigned_by : List Name → Statement → List Name
+  assigned_by xs (Assign left right) = all_added xs (alone left.name left.subscripts)
+  assigned_by xs (If arms rest) = assigned_by_arms xs (assigned_by_rest xs rest) arms
+  assigned_by xs s = xs
 
   pub assigned_by_arms : List Name → List Name → Arms → List Name
   assigned_by_arms xs ys NoArm = ys
@@ -44,7 +44,7 @@ reached c xs line what = record { line = line; is_conditional = c; assigned = xs
 abbrev mutual
   pub reached_heads : Bool → List Name → Block → List ReachedHead
   reached_heads c xs Done = []
-  reached_heads c xs (Then line s b) = reached_in c xs line s ++ reached_heads c (assigned_behind xs s) b
+  reached_heads c xs (Then line s b) = reached_in c xs line s ++ reached_heads c (assigned_by xs s) b
 
   pub reached_in : Bool → List Name → ℕ → Statement → List ReachedHead
   reached_in c xs line (Assign left right) = reached c xs line (head.Assignment left right) ∷ []

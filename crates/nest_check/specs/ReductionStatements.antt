@@ -19,7 +19,7 @@ abbrev pub is_alone : Name → Expression → Bool
 is_alone x (Alone y) = bytes_eq x y
 is_alone x e = false
 
--- this name, with or without subscripts behind it
+-- this name, with or without subscripts after it
 abbrev pub refers_to : Name → Expression → Bool
 refers_to x (Alone y) = bytes_eq x y
 refers_to x (Element y ps) = bytes_eq x y

@@ -8,7 +8,7 @@ ghost use Rattle.nest_check.specs.NestNames.{heads_in, heads_in_arms, inner_head
 
 use crate::nest_names::NestNames;
 use std::alloc::AllocError;
-use syntax_tree::{Arm, DoLoop, Kind, Stmt};
+use syntax_tree::{Arm, DoLoop, StatementKind, Stmt};
 
 /// With the loops of the nest that statements are, and those in its body.
 #[cycle(loops)]
@@ -31,7 +31,7 @@ fn add_loops(names: &mut NestNames<'_>, stmt: &Stmt) -> Result<(), AllocError>
     ensures { OnOk result (names.new ≡ with_nest names.old (nest_in (Then stmt.now.line (statement stmt.now.line stmt.now.what) Done))) }
 {
     match &stmt.what {
-        Kind::Do(inner) => match &inner.mark {
+        StatementKind::Do(inner) => match &inner.mark {
             Some(mark) => {
                 names.add_loop(inner.index, mark)?;
                 add_nest(names, &inner.body)?;
@@ -60,7 +60,7 @@ fn is_independent(stmt: &Stmt) -> bool
     ensures { result ≡ is_independent (statement stmt.now.line stmt.now.what) }
 {
     match &stmt.what {
-        Kind::Do(inner) => is_marked(inner),
+        StatementKind::Do(inner) => is_marked(inner),
         _ => false,
     }
 }
@@ -92,9 +92,9 @@ fn add_statement(names: &mut NestNames<'_>, stmt: &Stmt) -> Result<(), AllocErro
     ensures { OnOk result (names.new ≡ with_heads names.old (heads_in (statement stmt.now.line stmt.now.what))) }
 {
     match &stmt.what {
-        Kind::Assign { left, right } => names.add_assignment(left, right),
-        Kind::IfOne { body, .. } => add_statement(names, body),
-        Kind::If { arms, rest, .. } => {
+        StatementKind::Assign { left, right } => names.add_assignment(left, right),
+        StatementKind::IfOne { body, .. } => add_statement(names, body),
+        StatementKind::If { arms, rest, .. } => {
             add_arms(names, arms)?;
             match rest {
                 None => Ok(()),
@@ -104,7 +104,7 @@ fn add_statement(names: &mut NestNames<'_>, stmt: &Stmt) -> Result<(), AllocErro
                 }
             }
         }
-        Kind::Do(inner) => add_do(names, inner),
+        StatementKind::Do(inner) => add_do(names, inner),
         _ => Ok(()),
     }
 }

@@ -8,7 +8,7 @@ use hpf_base::Name;
 use op_tables::is_reduction;
 use syntax_tree::{Expr, Ref};
 
-/// Whether the subscripts directly behind a name are linear in at most one index.
+/// Whether the subscripts directly after a name are linear in at most one index.
 #[derive(Clone, Copy)]
 pub(crate) struct LinearSubscripts<'a> {
     pub(crate) names: &'a BodyNames<'a>,

@@ -24,7 +24,7 @@ use expression_rules::SymbolTable;
 use hpf_base::{Refusal, earlier};
 use name_table::Names;
 use std::alloc::{AllocError, Global};
-use syntax_tree::{Arm, DoLoop, Kind, Mark, Stmt};
+use syntax_tree::{Arm, DoLoop, Mark, StatementKind, Stmt};
 
 /// The first breach of the rules of nests in statements, where there is one, under these declared names. Its line is that of the statement or, for the
 /// NEW and REDUCTION lists, of the directive; its reason is `BadSubscript` for subscripts that aren't linear in at most one index, else `BadIndependent`.
@@ -71,8 +71,8 @@ fn bad_nest_of(
     ensures { IfOk result (λ r. r ≡ least (flat_map (nest_breaches declared.now) (statement_nests stmt.now.line (statement stmt.now.line stmt.now.what)))) }
 {
     match &stmt.what {
-        Kind::IfOne { body, .. } => bad_nest_of(alloc, declared, constants, body),
-        Kind::If { arms, rest, .. } => {
+        StatementKind::IfOne { body, .. } => bad_nest_of(alloc, declared, constants, body),
+        StatementKind::If { arms, rest, .. } => {
             let first = bad_nest_of_arms(alloc, declared, constants, arms)?;
             match rest {
                 None => Ok(first),
@@ -82,7 +82,7 @@ fn bad_nest_of(
                 }
             }
         }
-        Kind::Do(inner) => bad_nest_of_do(alloc, declared, constants, stmt.line, inner),
+        StatementKind::Do(inner) => bad_nest_of_do(alloc, declared, constants, stmt.line, inner),
         _ => Ok(None),
     }
 }
@@ -191,7 +191,7 @@ fn first_in_loops(
     ensures { IfOk result (λ r. r ≡ least (breaches_inside names.now (nest_in (Then stmt.now.line (statement stmt.now.line stmt.now.what) Done)))) }
 {
     match &stmt.what {
-        Kind::Do(inner) => match &inner.mark {
+        StatementKind::Do(inner) => match &inner.mark {
             Some(mark) => {
                 let own = first_in_loop(alloc, names, stmt.line, mark, inner)?;
                 let inside = first_inside(alloc, names, &inner.body)?;

@@ -8,8 +8,8 @@ ghost use Rattle.syntax_tree.specs.Statement.{arms_of, block_of, do_construct, i
 ghost use Rattle.statement_walk.specs.Head as head;
 ghost use Rattle.body_forms.specs.Axes.{axis_of};
 ghost use Rattle.nest_check.specs.Gathering.{common_with_arm, reached_arm};
-ghost use Rattle.nest_check.specs.NestRules.{may_be_read, path_breaches_at, subexpressions_behind};
-ghost use Rattle.nest_check.specs.Paths.{assigned_after, assigned_behind, assigned_by_arms, common, reached, reached_heads, reached_in, reached_in_arms};
+ghost use Rattle.nest_check.specs.NestRules.{may_be_read, path_breaches_at, subexpressions_after};
+ghost use Rattle.nest_check.specs.Paths.{assigned_after, assigned_by, assigned_by_arms, common, reached, reached_heads, reached_in, reached_in_arms};
 
 use crate::distinct_names::{add_scalar, copied};
 use crate::nest_judge::refused_unless;
@@ -19,7 +19,7 @@ use body_forms::{all_pass, all_pass_subscripts, axis_passes};
 use expression_rules::is_among;
 use hpf_base::{Name, Refusal, earlier};
 use std::alloc::{AllocError, Global};
-use syntax_tree::{Arm, DoLoop, Expr, Kind, Ref, Stmt};
+use syntax_tree::{Arm, DoLoop, Expr, Ref, StatementKind, Stmt};
 
 /// The first breach in the body of a nest of the rules of paths, where there is one.
 pub(crate) fn first_bad_path(
@@ -34,7 +34,7 @@ pub(crate) fn first_bad_path(
     Ok(first)
 }
 
-/// The first breach in statements, under an IF or not, behind an assignment of these scalars; those that are assigned behind them are added.
+/// The first breach in statements, under an IF or not, after an assignment of these scalars; those that are assigned after them are added.
 #[cycle(paths)]
 fn walk_paths(
     alloc: Global,
@@ -63,24 +63,24 @@ fn walk_statement(
     assigned: &mut Vec<Name>,
     stmt: &Stmt,
 ) -> Result<Option<Refusal>, AllocError>
-    ensures after { OnOk result (assigned.new.items ≡ assigned_behind assigned.old.items (statement stmt.now.line stmt.now.what)) }
+    ensures after { OnOk result (assigned.new.items ≡ assigned_by assigned.old.items (statement stmt.now.line stmt.now.what)) }
     ensures first { IfOk result (λ r. r ≡ least (flat_map (path_breaches_at names.now) (reached_in conditional assigned.old.items stmt.now.line
         (statement stmt.now.line stmt.now.what)))) }
 {
     match &stmt.what {
-        Kind::Assign { left, right } => {
+        StatementKind::Assign { left, right } => {
             let found = in_assignment(names, conditional, assigned, stmt.line, left, right);
             add_scalar(assigned, left)?;
             Ok(found)
         }
-        Kind::IfOne { cond, body } => {
+        StatementKind::IfOne { cond, body } => {
             let tested = in_condition(names, assigned, stmt.line, cond);
             let mut own = copied(alloc, assigned)?;
             let inside = walk_statement(alloc, names, true, &mut own, body)?;
             keep_common(assigned, &own);
             Ok(earlier(tested, inside))
         }
-        Kind::If { arms, rest, .. } => {
+        StatementKind::If { arms, rest, .. } => {
             let before = copied(alloc, assigned)?;
             match rest {
                 None => {
@@ -94,7 +94,7 @@ fn walk_statement(
                 }
             }
         }
-        Kind::Do(inner) => walk_do(alloc, names, conditional, assigned, stmt.line, inner),
+        StatementKind::Do(inner) => walk_do(alloc, names, conditional, assigned, stmt.line, inner),
         _ => Ok(None),
     }
 }
@@ -138,7 +138,7 @@ fn walk_arm(
     Ok(earlier(tested, inside))
 }
 
-/// The same of a loop, behind which no more is assigned than before it.
+/// The same of a loop, after which no more is assigned than before it.
 #[cycle(paths)]
 fn walk_do(
     alloc: Global,
@@ -189,7 +189,7 @@ fn in_assignment(
 
 /// What stands in the subscripts of a variable may be read.
 fn subscripts_pass(names: &NestNames<'_>, assigned: &[Name], left: &Ref) -> bool
-    ensures { result ≡ list_all (may_be_read names.now assigned.now) (subexpressions_behind (variable left.now).subscripts) }
+    ensures { result ≡ list_all (may_be_read names.now assigned.now) (subexpressions_after (variable left.now).subscripts) }
 {
     match &left.subs {
         None => true,

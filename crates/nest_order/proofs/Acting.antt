@@ -325,14 +325,14 @@ module _ {A C F : Type 0} (S : Interpretation A C F) (N : Names A C Spot) (W : A
       abbrev acts : List (Storage → Effect F) → ℕ → ℕ → Storage → Effect F
       acts es x j m = effect_at (slice_get es j) m
 
-      alone_behind : (e : Storage → Effect F) (es : List (Storage → Effect F)) (m : Storage) (j : ℕ) → alone (acts es) (apply (e m) m) i j ≡ alone (acts (e ∷ es)) m i (suc j)
-      alone_behind e es m zero = refl
-      alone_behind e es m (suc j) = ap (λ x. apply (acts es i j x) x) (alone_behind e es m j)
+      alone_after : (e : Storage → Effect F) (es : List (Storage → Effect F)) (m : Storage) (j : ℕ) → alone (acts es) (apply (e m) m) i j ≡ alone (acts (e ∷ es)) m i (suc j)
+      alone_after e es m zero = refl
+      alone_after e es m (suc j) = ap (λ x. apply (acts es i j x) x) (alone_after e es m j)
 
       proper_at : (es : List (Storage → Effect F)) (m : Storage) → AllProper es m → (j : ℕ) → j < length es → Proper (acts es i j) (alone (acts es) m i j)
       proper_at [] m all j lt = absurd (omega arith)
       proper_at (e ∷ es) m all zero lt = all.0
-      proper_at (e ∷ es) m all (suc j) lt = subst (Proper (acts es i j)) (alone_behind e es m j) (proper_at es (apply (e m) m) all.1 j (omega arith))
+      proper_at (e ∷ es) m all (suc j) lt = subst (Proper (acts es i j)) (alone_after e es m j) (proper_at es (apply (e m) m) all.1 j (omega arith))
 
 module _ {A C F : Type 0} (S : Interpretation A C F) (N : Names A C Spot) (W : A → List Spot) (start : Storage) (row n : ℕ) (items : ℕ → Items A C)
     (free : IsParallel S N W start row n items) where

@@ -52,7 +52,7 @@ tested_kept g es k c d below all kept = ap (λ b. b && none_holds es d) (holds_k
 pub tested_first : (g : Option ℕ) (c : Conditions) → is_tested g [] c ≡ guard_holds g c
 tested_first g c = and-true (guard_holds g c)
 
--- the tests of the branches behind number k, by whether that one was taken
+-- the tests of the branches after number k, by whether that one was taken
 pub tested_later : (g : Option ℕ) (es : List ℕ) (k : ℕ) (c : Conditions) (b : Bool) → is_tested g es c ≡ b → c k ≡ false → is_tested g (k ∷ es) c ≡ b
 tested_later g es k c b h free = ap (λ t. guard_holds g c && (not t && none_holds es c)) free ∙ h
 
@@ -111,7 +111,7 @@ module _ {A C M F : Type 0} (E : Evaluation A C M F) where
       skipped_append k (joined_up_to t lists) (lists t) m c (skipped_turns k g lists m below each t c off) (λ d kept. each t d (holds_kept g k c d below kept ∙ off))
 
   mutual
-    -- behind a guard that doesn't hold nothing is done
+    -- after a guard that doesn't hold nothing is done
     skip : (items : Items A C) (g : Option ℕ) (k : ℕ) → IsBelow g k → (m : M) (c : Conditions) → guard_holds g c ≡ false → Skipped k (flat items g k) m c
     skip Done g k below m c off = (c, refl, λ x lt. refl)
     skip (Then a rest) g k below m c off =
@@ -154,7 +154,7 @@ module _ {A C M F : Type 0} (E : Evaluation A C M F) where
   then_matches k k' c c' s ps qs (Err e) f h next = parts_append ps qs s ∙ ap (λ r. r >>= do_parts E qs) h
   then_matches k k' c c' s ps qs (Ok m) f h next = subst (λ r. Matches k c r (f m)) (sym (leads ps qs s (at m h.0) h.1)) (next m h.0 h.2)
 
-  -- parts that are skipped behind a list of parts
+  -- parts that are skipped after a list of parts
   then_skipped : (k k' : ℕ) (c c' : Conditions) (s : Iteration M) (ps qs : List (NestPart A C)) (q : Result M F) → Matches k' c' (do_parts E ps s) q →
       ((m : M) (d : Conditions) → Kept k' c' d → (Skipped k qs m d) × Kept k c d) → Matches k c (do_parts E (ps ++ qs) s) q
   then_skipped k k' c c' s ps qs (Err e) h next = parts_append ps qs s ∙ ap (λ r. r >>= do_parts E qs) h
@@ -171,7 +171,7 @@ module _ {A C M F : Type 0} (E : Evaluation A C M F) where
       (λ m' d kept. Matches-below k k c d (do_parts E (lists t) (at m' d)) (body t m') (omega arith) kept (each t m' d (holds_kept g k c d below kept ∙ on)))
 
   mutual
-    -- behind a guard that holds the parts do what the statements do
+    -- after a guard that holds the parts do what the statements do
     items_done : (items : Items A C) (g : Option ℕ) (k : ℕ) → IsBelow g k → (m : M) (c : Conditions) → guard_holds g c ≡ true
         → Matches k c (do_parts E (flat items g k) (at m c)) (exec E items m)
     items_done Done g k below m c on = (c, refl, λ x lt. refl)

@@ -105,7 +105,7 @@ module _ {A C L M F : Type 0} (E : Evaluation A C M F) (N : Names A C L) where
   stored g es k test s b is = set_at s.conditions k (if is_tested g es s.conditions then value_or (holds_in E test s.storage) false else false) ∙ is
 
   mutual
-    -- behind a guard that doesn't hold nothing is touched
+    -- after a guard that doesn't hold nothing is touched
     untouched : (items : Items A C) (g : Option ℕ) (k : ℕ) → IsBelow g k → (s : Iteration M) → guard_holds g s.conditions ≡ false → (allowed : List L)
         → Stays (flat items g k) s k allowed
     untouched Done g k below s off allowed = stays_nil s k allowed
@@ -156,7 +156,7 @@ module _ {A C L M F : Type 0} (E : Evaluation A C M F) (N : Names A C L) where
   known_is (Some condition) h b way m = h b way m
 
   mutual
-    -- behind a guard that holds what is touched is listed
+    -- after a guard that holds what is touched is listed
     items_listed : (items : Items A C) → AreKnown E N items → (g : Option ℕ) (k : ℕ) → IsBelow g k → (s : Iteration M)
         → guard_holds g s.conditions ≡ true → Stays (flat items g k) s k (listed N items)
     items_listed Done known g k below s on = stays_nil s k []

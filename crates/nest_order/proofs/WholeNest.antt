@@ -51,7 +51,7 @@ module _ {A C F : Type 0} (one : Interpretation A C F) (kinds : ℕ → Kind) (r
           let within : n ≤ length (row_of copies0 row) = omega (arith, copies-length kinds n start may.scalars row has) in
           let h =
           stores_noted S names writes copies0 conditions n its free parts enough (note_scalar row)
-          (λ i spot value old behind. not_noted row conditions i spot value old lt behind) entry none in
+          (λ i spot value old after. not_noted row conditions i spot value old lt after) entry none in
           let noted = noted_end one kinds reads written reducing start n items may row is m ends in
           same (read m (scalar_at row)) _ noted.0 h.0 (sym noted.1 ∙ h.1)
           ∙ last_copy act copies0 n parts (touches_of S names writes copies0 conditions n its) (parts_apart S names writes copies0 conditions n its free parts) row within entry

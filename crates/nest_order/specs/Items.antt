@@ -5,7 +5,7 @@ use Rattle.nest_order.specs.Turns.{◌>>=◌, in_turn}
 -- A is what an assignment is, and C what a condition is: both are text, and a text has its inner indices' values
 module _ (A C : Type 0) where
   mutual
-    -- an assignment, an IF, and an inner loop of so many trips, each with what stands behind it. The trips of an inner loop
+    -- an assignment, an IF, and an inner loop of so many trips, each with what stands after it. The trips of an inner loop
     -- are known at the nest's entry: it is no loop that an iteration may leave early
     pub data Items : Type 0 where
       Done : Items

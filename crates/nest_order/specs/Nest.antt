@@ -95,7 +95,7 @@ module _ {A C F : Type 0} (interpretation : Interpretation A C F) (names : Names
 
   module _ (row n : ℕ) (items : ℕ → Items A C) where
     -- No two of the n iterations interfere: none writes what is listed for another one. Two that write one value to one spot do.
-    -- The rows of conditions stand behind those that are named, and have a position for each iteration
+    -- The rows of conditions stand after those that are named, and have a position for each iteration
     pub record IsParallel : Type 0 where
       pub named : (i : ℕ) → i < n → EachIn IsNamed IsNear (items i)
       pub known : (i : ℕ) → i < n → AreKnown (evaluated interpretation) names (items i)

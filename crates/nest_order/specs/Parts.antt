@@ -25,7 +25,7 @@ none_holds (number ∷ numbers) conditions = not (conditions number) && none_hol
 abbrev pub is_tested : Option ℕ → List ℕ → Conditions → Bool
 is_tested guard earlier conditions = guard_holds guard conditions && none_holds earlier conditions
 
--- the guard is one of the first k conditions, so that the parts behind it don't store it anew
+-- the guard is one of the first k conditions, so that the parts after it don't store it anew
 abbrev pub IsBelow : Option ℕ → ℕ → Type 0
 IsBelow None k = Unit {0}
 IsBelow (Some number) k = number < k
@@ -60,7 +60,7 @@ module _ {A C : Type 0} where
     count_branches (Branch test body others) = 1 + count_items body + count_branches others
 
   abbrev mutual
-    -- the parts behind a guard, with conditions numbered from k on in text order. Each trip of an inner loop applies the
+    -- the parts after a guard, with conditions numbered from k on in text order. Each trip of an inner loop applies the
     -- same parts anew, so the row in this list is the number of parts applied before
     pub flat : Items A C → Option ℕ → ℕ → List (NestPart A C)
     flat Done guard k = []

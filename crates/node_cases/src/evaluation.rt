@@ -6,7 +6,7 @@ ghost use Rattle.node_cases.specs.declared.evaluation.Stop.TheVariants.{Memory};
 use crate::machine::Machine;
 use crate::sections::{picks, subscripts_at};
 use array_meaning::FaultKind;
-use node_code::{Flat, Form, Sub};
+use node_code::{ArrayForm, Flat, Sub};
 use op_tables::{Op, apply};
 use std::alloc::{AllocError, AllocFailed, Global};
 
@@ -104,14 +104,14 @@ pub fn place(m: &Machine, row: usize, subs: &[Sub], tuple: Tuple<'_>) -> Result<
 }
 
 /// The value of an array expression at a tuple.
-pub fn form(m: &Machine, tuple: Tuple<'_>, x: &Form) -> Result<i64, Stop> {
+pub fn form(m: &Machine, tuple: Tuple<'_>, x: &ArrayForm) -> Result<i64, Stop> {
     match x {
-        Form::Flat(f) => Ok(flat_or_zero(m.alloc, &m.slots, tuple.axes, f)?),
-        Form::Section(row, subs) => {
+        ArrayForm::Flat(f) => Ok(flat_or_zero(m.alloc, &m.slots, tuple.axes, f)?),
+        ArrayForm::Section(row, subs) => {
             let at = place(m, *row, subs, tuple)?;
             Ok(m.element(*row, at))
         }
-        Form::Operation(op, operands) => {
+        ArrayForm::Operation(op, operands) => {
             let mut values = Vec::new(m.alloc);
             for operand in operands {
                 values.push(form(m, tuple, operand)?)?;

@@ -7,7 +7,7 @@
 
 use crate::line::Line;
 use crate::trouble::Trouble;
-use node_code::{Flat, Form, Sub};
+use node_code::{ArrayForm, Flat, Sub};
 use op_tables::{Join, Made, Op, Reduction};
 use std::alloc::Global;
 
@@ -88,7 +88,7 @@ pub fn joining(word: &str) -> Result<Join, Trouble> {
     }
 }
 
-/// The number behind a letter.
+/// The number after a letter.
 pub fn numbered(word: &str, letter: char) -> Option<usize> {
     match word.strip_prefix(letter) {
         Some(digits) => digits.parse::<usize>().ok(),
@@ -191,20 +191,20 @@ pub fn read_word(line: &mut Line<'_>, word: &str) -> Result<(), Trouble> {
 }
 
 /// Reads an array expression.
-pub fn read_form(alloc: Global, line: &mut Line<'_>) -> Result<Form, Trouble> {
+pub fn read_form(alloc: Global, line: &mut Line<'_>) -> Result<ArrayForm, Trouble> {
     form_within(alloc, line, DEPTH)
 }
 
-fn form_within(alloc: Global, line: &mut Line<'_>, depth: u32) -> Result<Form, Trouble> {
+fn form_within(alloc: Global, line: &mut Line<'_>, depth: u32) -> Result<ArrayForm, Trouble> {
     let word = line.word();
     if let Some(leaf) = leaf(word) {
-        return Ok(Form::Flat(leaf));
+        return Ok(ArrayForm::Flat(leaf));
     }
     if word == "flat" {
-        return Ok(Form::Flat(read_flat(alloc, line)?));
+        return Ok(ArrayForm::Flat(read_flat(alloc, line)?));
     }
     if let Some(row) = row(word) {
-        return Ok(Form::Section(row, read_subs(alloc, line)?));
+        return Ok(ArrayForm::Section(row, read_subs(alloc, line)?));
     }
     let Some(Operator { op, operands }) = operator_of(word) else {
         return Err(Trouble::Malformed);
@@ -216,5 +216,5 @@ fn form_within(alloc: Global, line: &mut Line<'_>, depth: u32) -> Result<Form, T
     for _ in 0..operands {
         values.push(form_within(alloc, line, depth - 1)?)?;
     }
-    Ok(Form::Operation(op, values))
+    Ok(ArrayForm::Operation(op, values))
 }

@@ -1,9 +1,9 @@
-//! Instructions, as cases write them, each behind its place. L is a line of the text, P a place in the code, X an expression over slots, F an
+//! Instructions, as cases write them, each after its place. L is a line of the text, P a place in the code, X an expression over slots, F an
 //! array expression, R a row, (..) subscripts.
 //!
 //! - `set L s1 = X`, `fetch L s1 = R (..)`, `store L R (..) = X`, `bounds L R (..)`, `stride L s1`, `jump P`, `unless s1 jump P`, `halt`
 //! - `trips L s1 s2 s3 left s4 else P`: the slots of the first value, the last value and the step
-//! - `limits`, `par` and `forall`: `L R (..) = F over (..)`, and behind it `where R` or `unless R` for a mask
+//! - `limits`, `par` and `forall`: `L R (..) = F over (..)`, and after it `where R` or `unless R` for a mask
 //! - `ownlimits`, `parcopy`, `forallcopy` and `makecopy`: `L R = F over (..)`, for the copy R
 //! - `reduce L s1 = sum F over (..)`, `foralllimits L over (..) of (..)`, `onetoone L over (..) of (..)`, `verdict`, `inside L R (..)`
 //! - `print` and items: `text WORD`, `number X`, `section R (..)`
@@ -115,7 +115,7 @@ fn read_items(alloc: Global, line: &mut Line<'_>) -> Result<Vec<PrintItem>, Trou
     Err(Trouble::Malformed)
 }
 
-/// The instruction of a word behind which a line of the text stands.
+/// The instruction of a word after which a line of the text stands.
 fn read_with_line(alloc: Global, word: &str, line: &mut Line<'_>) -> Result<Instruction, Trouble> {
     let number = match line.word().parse::<u32>() {
         Ok(number) => number,

@@ -13,7 +13,7 @@ use owner_tables::{OwnerTable, Owners};
 use std::alloc::Global;
 use std::collections::VecDeque;
 
-/// The tables of the arrays with these mappings, and behind them those of so many copies without elements.
+/// The tables of the arrays with these mappings, and after them those of so many copies without elements.
 pub fn owners_of(
     alloc: Global,
     maps: &[ArrayMap],
@@ -65,7 +65,7 @@ fn all_moves(alloc: Global, maps: &Maps, all: &[NewMaps], nodes: u32) -> Result<
     Ok(Moves { moves, tables })
 }
 
-/// The new mappings of one REDISTRIBUTE, whose tables come behind the others.
+/// The new mappings of one REDISTRIBUTE, whose tables come after the others.
 fn new_mappings(
     alloc: Global,
     maps: &Maps,

@@ -5,7 +5,7 @@ use crate::machine::Machine;
 use crate::sections::{Picked, extents_of, picks, size_of, subscripts_at, tuple_of};
 use array_meaning::FaultKind;
 use hpf_base::{MAX_FACTOR, MAX_OFFSET, MAX_TUPLES};
-use node_code::{Assignment, Evaluation, Flat, Form, Sub};
+use node_code::{ArrayForm, Assignment, Evaluation, Flat, Sub};
 use slot_values::{Control, Status};
 use std::alloc::AllocError;
 
@@ -41,11 +41,11 @@ fn conforms(m: &Machine, extents: &[usize], subs: &[Sub]) -> Result<(), Stop> {
     }
 }
 
-fn all_conform(m: &Machine, extents: &[usize], x: &Form) -> Result<(), Stop> {
+fn all_conform(m: &Machine, extents: &[usize], x: &ArrayForm) -> Result<(), Stop> {
     match x {
-        Form::Flat(_) => Ok(()),
-        Form::Section(_, subs) => conforms(m, extents, subs),
-        Form::Operation(_, operands) => {
+        ArrayForm::Flat(_) => Ok(()),
+        ArrayForm::Section(_, subs) => conforms(m, extents, subs),
+        ArrayForm::Operation(_, operands) => {
             for operand in operands {
                 all_conform(m, extents, operand)?;
             }
@@ -75,11 +75,11 @@ fn in_limits(m: &Machine, extents: &[usize], subs: &[Sub]) -> Result<(), Stop> {
     }
 }
 
-fn all_in_limits(m: &Machine, extents: &[usize], x: &Form) -> Result<(), Stop> {
+fn all_in_limits(m: &Machine, extents: &[usize], x: &ArrayForm) -> Result<(), Stop> {
     match x {
-        Form::Flat(_) => in_limits(m, extents, &[]),
-        Form::Section(_, subs) => in_limits(m, extents, subs),
-        Form::Operation(_, operands) => {
+        ArrayForm::Flat(_) => in_limits(m, extents, &[]),
+        ArrayForm::Section(_, subs) => in_limits(m, extents, subs),
+        ArrayForm::Operation(_, operands) => {
             for operand in operands {
                 all_in_limits(m, extents, operand)?;
             }

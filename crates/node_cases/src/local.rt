@@ -167,7 +167,7 @@ fn trips(m: &Machine, first: usize, last: usize, step: usize) -> Result<usize, S
     Ok(count_of(number_at(&m.slots, first), number_at(&m.slots, last), step))
 }
 
-/// A loop with this count begins: its slot gets what is left behind the first iteration, or the run goes on elsewhere.
+/// A loop with this count begins: its slot gets what is left after the first iteration, or the run goes on elsewhere.
 fn begin_trips(
     m: &mut Machine,
     line: u32,

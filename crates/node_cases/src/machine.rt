@@ -72,7 +72,7 @@ impl Machine {
         })
     }
 
-    /// The machine behind the run.
+    /// The machine after the run.
     pub fn run(alloc: Global, world: &World) -> Result<Machine, Trouble> {
         let mut m = Machine::opening(alloc, world)?;
         for _ in 0..STEPS {
@@ -125,7 +125,7 @@ impl Machine {
         self.at = self.at.wrapping_add(1);
     }
 
-    /// The run goes on behind what has no fault, and ends with a fault in a line else.
+    /// The run goes on after what has no fault, and ends with a fault in a line else.
     pub fn go_on_if<T: Drop>(&mut self, line: u32, tested: Result<T, Stop>) -> Result<(), Trouble> {
         match tested {
             Ok(_) => self.go_on(),

@@ -1,6 +1,6 @@
 //! Tries node code on nodes: code that is written by hand, whose outcome is known.
 //!
-//! Comes in: cases on standard input. Goes out: the same lines, and behind each case what its code comes to on the machine with whole arrays
+//! Comes in: cases on standard input. Goes out: the same lines, and after each case what its code comes to on the machine with whole arrays
 //! of this crate, and whether the nodes come to the same. What holds in between: `case` begins a case and `run` ends it; these lines say what
 //! it is.
 //!

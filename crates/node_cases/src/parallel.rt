@@ -86,7 +86,7 @@ fn assigned(m: &Machine, p: &Assignment, tuple: Tuple<'_>) -> Result<Stored, Sto
     })
 }
 
-/// Stores values behind a part.
+/// Stores values after a part.
 fn put(m: &mut Machine, stores: &[Stored]) {
     for stored in stores {
         m.set_element(stored.row, stored.place, stored.value);

@@ -49,7 +49,7 @@ pub data Instruction : Type 0 where
   -- ZeroStride where a slot is 0
   TestStride : (line slot : ℕ) → Instruction
   -- the iteration count of a loop by its first value, last value and step: where it is 0 the run goes on at a target, else a slot gets
-  -- what is left of it behind the first iteration, in 64 bits; ZeroStride where the step is 0
+  -- what is left of it after the first iteration, in 64 bits; ZeroStride where the step is 0
   Trips : (line first last step left target : ℕ) → Instruction
   Jump : (target : ℕ) → Instruction
   JumpIfZero : (target slot : ℕ) → Instruction

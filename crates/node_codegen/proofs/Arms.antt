@@ -28,9 +28,9 @@ arm_is line pc b t body rest c p v condition inside whole =
     let lv : length (instructions v) ≡ length c + suc (length p) =
     ap length whole ∙ length-append (instructions c) (JumpIfZero (pc + length c + 1 + length p + 1) x ∷ instructions p)
     ∙ (λ i. length-map c instruction i + suc (length-map p instruction i)) in
-    let behind : pc + length test + 2 + length (body (pc + length test + 2)) + 1 ≡ q = omega (arith, lc, lp, lv) in
+    let after : pc + length test + 2 + length (body (pc + length test + 2)) + 1 ≡ q = omega (arith, lc, lp, lv) in
     let over : pc + length c + 1 + length p + 1 ≡ q = omega (arith, lv) in
-    (λ i. test ++ Set line x (flat_of b t) ∷ JumpIfZero (behind i) x ∷ (same i ++ jump_over (behind i) rest))
+    (λ i. test ++ Set line x (flat_of b t) ∷ JumpIfZero (after i) x ∷ (same i ++ jump_over (after i) rest))
     ∙ sym (ap (λ l. l ++ jump_over q rest) (whole ∙ (λ i. condition i ++ JumpIfZero (over i) x ∷ instructions p))
     ∙ append_assoc (test ++ set) (JumpIfZero q x ∷ instructions p) (jump_over q rest)
     ∙ append_assoc test set (JumpIfZero q x ∷ (instructions p ++ jump_over q rest)))

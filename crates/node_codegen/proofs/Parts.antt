@@ -17,10 +17,10 @@ use Rattle.lowering.specs.StatementCode.{block_code, loop_code, statement_code}
 use Rattle.node_codegen.specs.Arms.{AreArms, arms_before}
 
 -- an IF, by the codes of its arms
-pub if_is : (copy line b pc leave again : ℕ) (a : Action) (as' : Vec Arm Global) (other : Vec Statement Global) (cs : List (List Instruction)) (behind : ℕ) →
-    a ≡ action.If as' other → AreArms copy (arms_of as'.items) b pc leave again cs behind →
-    statement_code copy line (statement a) b pc leave again ≡ arms_before behind cs (λ pc. block_code copy (block_of other.items) b pc leave again)
-if_is copy line b pc leave again a as' other cs behind is arms =
+pub if_is : (copy line b pc leave again : ℕ) (a : Action) (as' : Vec Arm Global) (other : Vec Statement Global) (cs : List (List Instruction)) (after : ℕ) →
+    a ≡ action.If as' other → AreArms copy (arms_of as'.items) b pc leave again cs after →
+    statement_code copy line (statement a) b pc leave again ≡ arms_before after cs (λ pc. block_code copy (block_of other.items) b pc leave again)
+if_is copy line b pc leave again a as' other cs after is arms =
     ap (λ a. statement_code copy line (statement a) b pc leave again) is
     ∙ ap (λ s. statement_code copy line s b pc leave again) (if_vec as' other)
     ∙ arms (λ pc. block_code copy (block_of other.items) b pc leave again)

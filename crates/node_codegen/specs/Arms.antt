@@ -13,23 +13,23 @@ use Rattle.lowering.specs.StatementCode.{arms_code}
 abbrev pub codes : List (Vec HeldInstruction Global) → List (List Instruction)
 codes = map (λ c. instructions c.items)
 
--- codes, each with a jump behind it
+-- codes, each with a jump after it
 abbrev pub jumping_to : ℕ → List (List Instruction) → List Instruction
 jumping_to end = flat_map (λ c. c ++ Jump end ∷ [])
 
--- a jump over what stands behind it, which is given by the place where it begins
+-- a jump over what stands after it, which is given by the place where it begins
 abbrev pub jump_over : ℕ → (ℕ → List Instruction) → List Instruction
-jump_over behind rest = Jump (behind + length (rest behind)) ∷ rest behind
+jump_over after rest = Jump (after + length (rest after)) ∷ rest after
 
--- codes that jump over what stands behind all of them
+-- codes that jump over what stands after all of them
 abbrev pub arms_before : ℕ → List (List Instruction) → (ℕ → List Instruction) → List Instruction
-arms_before behind cs rest = jumping_to (behind + length (rest behind)) cs ++ rest behind
+arms_before after cs rest = jumping_to (after + length (rest after)) cs ++ rest after
 
--- an arm has this code before its jump, whatever stands behind it
+-- an arm has this code before its jump, whatever stands after it
 abbrev pub IsArm : ℕ → HeldArm → ℕ → ℕ → ℕ → ℕ → List Instruction → Type 0
 IsArm copy a b pc leave again c = (tail : Arms) (other : ℕ → List Instruction) →
     arms_code copy (with_arm a tail) other b pc leave again ≡ c ++ jump_over (pc + length c + 1) (λ pc. arms_code copy tail other b pc leave again)
 
 -- arms have these codes before their jumps, up to a place, whatever stands there
 abbrev pub AreArms : ℕ → Arms → ℕ → ℕ → ℕ → ℕ → List (List Instruction) → ℕ → Type 0
-AreArms copy arms b pc leave again cs behind = (other : ℕ → List Instruction) → arms_code copy arms other b pc leave again ≡ arms_before behind cs other
+AreArms copy arms b pc leave again cs after = (other : ℕ → List Instruction) → arms_code copy arms other b pc leave again ≡ arms_before after cs other

@@ -31,8 +31,8 @@ pub(crate) fn assignment_code(
     let limits = assignment(alloc, line, b, array, subscripts, right)?;
     let stored = assignment(alloc, line, b, array, subscripts, right)?;
     let parts = right_code(alloc, line, b, subscripts, right)?;
-    let behind = with_stores(parts, limits, stored)?;
-    with_more(subscripts_code(alloc, line, b, subscripts)?, behind)
+    let after = with_stores(parts, limits, stored)?;
+    with_more(subscripts_code(alloc, line, b, subscripts)?, after)
 }
 
 /// The code of an assignment of a WHERE, whose mask has its slots from `free` on.
@@ -50,11 +50,11 @@ pub(crate) fn masked_assignment_code(
     let limits = masked_assignment(alloc, b, x, free, mask, branch)?;
     let stored = masked_assignment(alloc, b, x, free, mask, branch)?;
     let parts = right_code(alloc, x.line, b, &x.subscripts, &x.right)?;
-    let behind = with_stores(parts, limits, stored)?;
-    with_more(subscripts_code(alloc, x.line, b, &x.subscripts)?, behind)
+    let after = with_stores(parts, limits, stored)?;
+    with_more(subscripts_code(alloc, x.line, b, &x.subscripts)?, after)
 }
 
-/// The code of a right side, whose slots stand behind those of the left side.
+/// The code of a right side, whose slots stand after those of the left side.
 fn right_code(
     alloc: Global,
     line: u32,
@@ -67,7 +67,7 @@ fn right_code(
     parts_code(alloc, line, plus(b, subscripts_slots(subscripts)?)?, right)
 }
 
-/// Code with the stores of an assignment behind it, once its limits are kept. The two are the same assignment.
+/// Code with the stores of an assignment after it, once its limits are kept. The two are the same assignment.
 fn with_stores(
     mut code: Vec<Instruction>,
     limits: Assignment,

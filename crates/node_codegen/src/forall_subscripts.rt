@@ -79,7 +79,7 @@ fn subscripts_in_all(alloc: Global, terms: &[Term]) -> Result<Vec<Flat>, OutOfMe
     Ok(subscripts)
 }
 
-/// Subscripts behind others.
+/// Subscripts after others.
 fn with_more(mut subscripts: Vec<Flat>, more: Vec<Flat>) -> Result<Vec<Flat>, OutOfMemory>
     ensures { IfOk result (λ fs. map flat fs.items ≡ map flat subscripts.items ++ map flat more.items) }
 {
@@ -87,7 +87,7 @@ fn with_more(mut subscripts: Vec<Flat>, more: Vec<Flat>) -> Result<Vec<Flat>, Ou
     Ok(subscripts)
 }
 
-/// Puts subscripts behind others.
+/// Puts subscripts after others.
 fn put_all(subscripts: &mut Vec<Flat>, more: Vec<Flat>) -> Result<(), OutOfMemory>
     ensures { OnOk result (subscripts.new.items ≡ subscripts.old.items ++ more.items) }
 {

@@ -7,7 +7,7 @@ ghost use Rattle.resolved_program.specs.Resolved.{term};
 ghost use Rattle.lowering.specs.ExpressionCode.{code_of, flat_of, slots_of};
 ghost use Rattle.node_codegen.specs.Arms.{arms_before, codes, jumping_to};
 
-use crate::sequences::{place_behind, with_last, with_more};
+use crate::sequences::{place_after, with_last, with_more};
 use expression_code::{code_of, flat_of, joined, plus, slots_of};
 use hpf_base::OutOfMemory;
 use node_code::Instruction;
@@ -18,8 +18,8 @@ use std::alloc::Global;
 #[derive(Drop)]
 pub(crate) struct ArmCodes {
     pub(crate) codes: Vec<Vec<Instruction>>,
-    /// The place behind the last one's jump.
-    pub(crate) behind: usize,
+    /// The place after the last one's jump.
+    pub(crate) after: usize,
 }
 
 /// The condition of an arm into a slot.
@@ -39,7 +39,7 @@ pub(crate) fn condition_code(
     )
 }
 
-/// An arm, by the code of its condition and that of its body, which stands one place behind that: where the slot is 0, the arm and its
+/// An arm, by the code of its condition and that of its body, which stands one place after that: where the slot is 0, the arm and its
 /// jump are passed over.
 pub(crate) fn arm_code(
     pc: usize,
@@ -49,29 +49,29 @@ pub(crate) fn arm_code(
 ) -> Result<Vec<Instruction>, OutOfMemory>
     ensures { IfOk result (λ v. instructions v.items ≡ instructions condition.items ++ JumpIfZero (pc + length condition.items + 1 + length body.items + 1) slot ∷ instructions body.items) }
 {
-    let inside = plus(place_behind(pc, &condition)?, 1)?;
-    let behind = plus(place_behind(inside, &body)?, 1)?;
+    let inside = plus(place_after(pc, &condition)?, 1)?;
+    let after = plus(place_after(inside, &body)?, 1)?;
     let jump = Instruction::JumpIfZero {
-        target: behind,
+        target: after,
         slot,
     };
     with_more(with_last(condition, jump)?, body)
 }
 
-/// An IF, by the codes of its arms and that of ELSE, which stands behind them.
+/// An IF, by the codes of its arms and that of ELSE, which stands after them.
 pub(crate) fn if_code(
     alloc: Global,
     arms: ArmCodes,
     other: Vec<Instruction>,
 ) -> Result<Vec<Instruction>, OutOfMemory>
-    ensures { IfOk result (λ v. instructions v.items ≡ arms_before arms.behind (codes arms.codes.items) (λ pc. instructions other.items)) }
+    ensures { IfOk result (λ v. instructions v.items ≡ arms_before arms.after (codes arms.codes.items) (λ pc. instructions other.items)) }
 {
-    let end = place_behind(arms.behind, &other)?;
+    let end = place_after(arms.after, &other)?;
     let code = arms_jumping(alloc, end, arms.codes)?;
     with_more(code, other)
 }
 
-/// Codes, each with a jump to the end behind it.
+/// Codes, each with a jump to the end after it.
 fn arms_jumping(
     alloc: Global,
     end: usize,

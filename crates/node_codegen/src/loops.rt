@@ -8,7 +8,7 @@ ghost use Rattle.node_code.specs.Texts as text;
 ghost use Rattle.node_code.specs.Texts.{instruction, instructions};
 ghost use Rattle.lowering.specs.StatementCode.{loop_code};
 
-use crate::sequences::{place_behind, with_last};
+use crate::sequences::{place_after, with_last};
 use expression_code::{joined, plus};
 use hpf_base::OutOfMemory;
 use node_code::{Flat, Instruction};
@@ -16,7 +16,7 @@ use op_tables::Op;
 use std::alloc::Global;
 
 /// The code of a loop over the index of a slot, at a place, whose first value, last value, step and iteration count left stand in four
-/// slots from `first` on, with its body's code: that stands 8 places behind the loop's, and EXIT and CYCLE go 3 and 4 behind it.
+/// slots from `first` on, with its body's code: that stands 8 places after the loop's, and EXIT and CYCLE go 3 and 4 after it.
 pub(crate) fn loop_code(
     alloc: Global,
     line: u32,
@@ -31,10 +31,10 @@ pub(crate) fn loop_code(
     let leave = plus(pc, 3)?;
     let again = plus(pc, 4)?;
     let inside = plus(pc, 8)?;
-    let behind = plus(place_behind(inside, &body)?, 1)?;
+    let after = plus(place_after(inside, &body)?, 1)?;
     let mut code = loop_head(alloc, line, first, index, left, leave)?;
     code.push(Instruction::Jump { target: inside })?;
-    code.push(Instruction::Jump { target: behind })?;
+    code.push(Instruction::Jump { target: after })?;
     joined(
         &mut code,
         next_turn(alloc, line, first, index, left, leave)?,

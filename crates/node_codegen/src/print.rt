@@ -16,7 +16,7 @@ use expression_code::{
     code_of, flat_of, joined, plus, slots_of, subs_of, subscripts_code, subscripts_slots,
 };
 use hpf_base::OutOfMemory;
-use node_code::{Evaluation, Form, Instruction, PrintItem};
+use node_code::{ArrayForm, Evaluation, Instruction, PrintItem};
 use resolved_program::{Item, SectionSubscript};
 use std::alloc::Global;
 
@@ -116,12 +116,12 @@ fn section(
 ) -> Result<Evaluation, OutOfMemory>
     ensures { IfOk result (λ e. text.evaluation e ≡ own_evaluation line (SectionForm array (subs_of b (subscripts_of subscripts.now)))) }
 {
-    let form = Form::Section(array, subs_of(alloc, b, subscripts)?);
+    let form = ArrayForm::Section(array, subs_of(alloc, b, subscripts)?);
     let over = subs_of(alloc, b, subscripts)?;
     Ok(Evaluation { line, form, over })
 }
 
-/// An item that is printed, behind the code of all.
+/// An item that is printed, after the code of all.
 fn print_item(alloc: Global, b: usize, i: &Item) -> Result<PrintItem, OutOfMemory>
     ensures { IfOk result (λ p. text.print_item p ≡ definition.print_item b (item i.now)) }
 {

@@ -19,9 +19,9 @@ use std::alloc::Global;
 pub struct Code {
     /// The instructions, from place 0 on. The slots of the declared names stand first, in their order, and so do their rows.
     pub instructions: Vec<Instruction>,
-    /// How many slots it takes behind those of the declared names.
+    /// How many slots it takes after those of the declared names.
     pub hidden: usize,
-    /// How many copies it names, whose rows stand behind those of the declared names.
+    /// How many copies it names, whose rows stand after those of the declared names.
     pub copies: usize,
 }
 

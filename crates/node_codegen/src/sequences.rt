@@ -1,4 +1,4 @@
-//! Code one behind the other.
+//! Code one after the other.
 
 ghost use Rattle.std.specs.Prelude.{◌≡◌, ◌+◌, [], ◌∷◌, ◌++◌, IfOk, length};
 ghost use Rattle.node_code.specs.Texts.{instruction, instructions};
@@ -8,7 +8,7 @@ use hpf_base::OutOfMemory;
 use node_code::Instruction;
 use std::alloc::Global;
 
-/// Code with one instruction more behind it.
+/// Code with one instruction more after it.
 pub(crate) fn with_last(
     mut code: Vec<Instruction>,
     last: Instruction,
@@ -19,7 +19,7 @@ pub(crate) fn with_last(
     Ok(code)
 }
 
-/// Code with other code behind it.
+/// Code with other code after it.
 pub(crate) fn with_more(
     mut code: Vec<Instruction>,
     more: Vec<Instruction>,
@@ -37,8 +37,8 @@ pub(crate) fn only(alloc: Global, one: Instruction) -> Result<Vec<Instruction>, 
     Ok(vec![in alloc; one]?)
 }
 
-/// The place behind code that stands at a place.
-pub(crate) fn place_behind(pc: usize, code: &Vec<Instruction>) -> Result<usize, OutOfMemory>
+/// The place after code that stands at a place.
+pub(crate) fn place_after(pc: usize, code: &Vec<Instruction>) -> Result<usize, OutOfMemory>
     ensures { IfOk result (λ n. n ≡ pc + length code.now.items) }
 {
     plus(pc, code.len())

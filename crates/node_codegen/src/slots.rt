@@ -12,7 +12,7 @@ use expression_code::{all_slots_of, control_slots, parts_slots, plus, slots_of, 
 use hpf_base::OutOfMemory;
 use resolved_program::{Action, Arm, Statement};
 
-/// How many slots the code of statements takes, one behind the other: they take the same ones.
+/// How many slots the code of statements takes, one after the other: they take the same ones.
 #[cycle(slots)]
 pub(crate) fn block_slots(statements: &[Statement]) -> Result<usize, OutOfMemory>
     ensures { IfOk result (λ n. n ≡ block_slots (block_of statements.now)) }

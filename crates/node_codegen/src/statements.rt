@@ -1,4 +1,4 @@
-//! Statements, one behind the other (Fortran 95, 8.1).
+//! Statements, one after the other (Fortran 95, 8.1).
 
 ghost use Rattle.std.specs.Prelude.{◌≡◌, ◌+◌, IfOk};
 ghost use Rattle.node_code.specs.Texts.{instructions};
@@ -12,7 +12,7 @@ use crate::forall::forall_code;
 use crate::if_construct::{ArmCodes, arm_code, condition_code, if_code};
 use crate::loops::loop_code;
 use crate::print::print_code;
-use crate::sequences::{only, place_behind, with_more};
+use crate::sequences::{only, place_after, with_more};
 use crate::where_construct::where_code;
 use expression_code::{control_code, control_slots, joined, plus, slots_of};
 use hpf_base::OutOfMemory;
@@ -20,7 +20,7 @@ use node_code::Instruction;
 use resolved_program::{Action, Arm, Statement};
 use std::alloc::Global;
 
-/// The code of statements, one behind the other, from the place `pc` on, with slots from `b` on, and with the places where EXIT and
+/// The code of statements, one after the other, from the place `pc` on, with slots from `b` on, and with the places where EXIT and
 /// CYCLE go; `copy` is the row of the first of the copies.
 #[cycle(code)]
 pub(crate) fn block_code(
@@ -38,7 +38,7 @@ pub(crate) fn block_code(
     let mut at = pc;
     for s in statements {
         let one = statement_code(alloc, copy, s.line, &s.what, b, at, leave, again)?;
-        at = place_behind(at, &one)?;
+        at = place_after(at, &one)?;
         joined(&mut code, one)?;
     }
     Ok(code)
@@ -68,13 +68,13 @@ fn statement_code(
         ),
         Action::If(arms, other) => {
             let made = arm_codes(alloc, copy, arms, b, pc, leave, again)?;
-            let rest = block_code(alloc, copy, other, b, made.behind, leave, again)?;
+            let rest = block_code(alloc, copy, other, b, made.after, leave, again)?;
             if_code(alloc, made, rest)
         }
         Action::Do(_, l, body) => {
             let head = control_code(alloc, line, b, &l.control)?;
             let first = plus(b, control_slots(&l.control)?)?;
-            let at = place_behind(pc, &head)?;
+            let at = place_after(pc, &head)?;
             let inner = body_code(alloc, copy, body, first, at)?;
             let turns = loop_code(alloc, line, at, first, l.index, inner)?;
             with_more(head, turns)
@@ -121,16 +121,16 @@ fn arm_codes(
     leave: usize,
     again: usize,
 ) -> Result<ArmCodes, OutOfMemory>
-    ensures { IfOk result (λ r. AreArms copy (arms_of arms.now) b pc leave again (codes r.codes.items) r.behind) }
+    ensures { IfOk result (λ r. AreArms copy (arms_of arms.now) b pc leave again (codes r.codes.items) r.after) }
 {
     let mut codes = Vec::new(alloc);
-    let mut behind = pc;
+    let mut after = pc;
     for arm in arms {
-        let one = code_of_arm(alloc, copy, arm, b, behind, leave, again)?;
-        behind = plus(place_behind(behind, &one)?, 1)?;
+        let one = code_of_arm(alloc, copy, arm, b, after, leave, again)?;
+        after = plus(place_after(after, &one)?, 1)?;
         codes.push(one)?;
     }
-    Ok(ArmCodes { codes, behind })
+    Ok(ArmCodes { codes, after })
 }
 
 /// The code of an arm, without its jump to the end of the IF.
@@ -148,7 +148,7 @@ fn code_of_arm(
 {
     let condition = condition_code(alloc, a.line, b, &a.condition)?;
     let slot = plus(b, slots_of(&a.condition)?)?;
-    let inside = plus(place_behind(pc, &condition)?, 1)?;
+    let inside = plus(place_after(pc, &condition)?, 1)?;
     let body = block_code(alloc, copy, &a.body, b, inside, leave, again)?;
     let code = arm_code(pc, slot, condition, body)?;
     Ok(code)

@@ -27,7 +27,7 @@ pub(crate) fn masked_slots(body: &[SectionAssignment]) -> Result<usize, OutOfMem
     Ok(most)
 }
 
-/// The code of a WHERE: the values of the mask into the copy, and then each assignment where they are true, or, behind ELSEWHERE, where
+/// The code of a WHERE: the values of the mask into the copy, and then each assignment where they are true, or, after ELSEWHERE, where
 /// they are false.
 pub(crate) fn where_code(
     alloc: Global,

@@ -50,7 +50,7 @@ impl<M: Drop> Queue<M> {
         self.letters.is_empty()
     }
 
-    /// Puts a letter behind the others.
+    /// Puts a letter after the others.
     pub fn push(&mut self, letter: M)
         requires { length self.old < capacity }
         ensures { self.new ≡ self.old ++ letter ∷ [] }

@@ -15,7 +15,7 @@ use Rattle.node_code.specs.Instructions.{remapping_by, remappings}
 use Rattle.node_code.specs.ProgramText.{Text}
 use Rattle.node_code.specs.Texts.{new_mapping}
 use Rattle.node_code.specs.declared.instruction.NewMapping.{NewMapping as HeldMapping}
-use Rattle.remap_steps.specs.Redistributions.{Redistribution, all_rounds, moved_pieces, value_behind}
+use Rattle.remap_steps.specs.Redistributions.{Redistribution, all_rounds, moved_pieces, value_after}
 use Rattle.node_machine.specs.Programs.{mappings_of}
 use Rattle.node_machine.specs.Remaps.{IsRemap, remap_ended, round_next, round_opened}
 
@@ -68,9 +68,9 @@ pieces-many : (layouts : List Layout) (node : ℕ) (value : Spot → ℤ) (row :
 pieces-many layouts node value row [] = refl
 pieces-many layouts node value row (size ∷ sizes) = ap suc (pieces-many layouts node value (row + 1) sizes)
 
--- as many behind it as before
+-- as many after it as before
 pub moved-many : (i : Instr Fault) (a : Node Text Fault) (r : Redistribution) (pieces : List (List ℤ)) (received : List (List ℤ)) → IsRemap i a r
     → length (moved_pieces r pieces received) ≡ length r.new
 moved-many i a r pieces received m =
-    pieces-many r.new r.id (value_behind r pieces received) 0 (sizes r.old) ∙ length-map r.old size_of ∙ ap (λ x. length x.old) m.moving
+    pieces-many r.new r.id (value_after r pieces received) 0 (sizes r.old) ∙ length-map r.old size_of ∙ ap (λ x. length x.old) m.moving
     ∙ sym (remapped-many m.new a.layouts) ∙ ap (λ x. length x.new) (sym m.moving)

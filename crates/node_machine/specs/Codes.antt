@@ -4,7 +4,7 @@ use Rattle.std.specs.Coded.{Coded, code_by, codes}
 use Rattle.std.proofs.Common.{refl, ◌∙◌, ap}
 use Rattle.op_tables.specs.declared.op.Op.{Op}
 use Rattle.node_code.specs.Flat.{Flat, Int, Slot, Axis, Read, Operated, Flats, NoFlat, AndFlat}
-use Rattle.node_code.specs.Forms.{Sub, Form, FlatForm, SectionForm, OperationForm, Forms, NoForm, AndForm}
+use Rattle.node_code.specs.Forms.{Sub, ArrayForm, FlatForm, SectionForm, OperationForm, Forms, NoForm, AndForm}
 
 -- ---- expressions over slots
 
@@ -88,7 +88,7 @@ data FormToken : Type 0 where
   TAndForm : FormToken
 
 abbrev mutual
-  form_tokens : Form → List FormToken → List FormToken
+  form_tokens : ArrayForm → List FormToken → List FormToken
   form_tokens (FlatForm f) rest = TFlat f ∷ rest
   form_tokens (SectionForm a subs) rest = TSection a subs ∷ rest
   form_tokens (OperationForm o fs) rest = forms_tokens fs (TOperation o ∷ rest)
@@ -99,7 +99,7 @@ abbrev mutual
 
 -- what stands on the stack
 data FormItem : Type 0 where
-  OneForm : Form → FormItem
+  OneForm : ArrayForm → FormItem
   SomeForms : Forms → FormItem
 
 abbrev with_form : FormToken → List FormItem → List FormItem
@@ -115,12 +115,12 @@ abbrev with_forms : List FormToken → List FormItem → List FormItem
 with_forms [] stack = stack
 with_forms (t ∷ ts) stack = with_forms ts (with_form t stack)
 
-abbrev top_form : List FormItem → Form
+abbrev top_form : List FormItem → ArrayForm
 top_form (OneForm f ∷ stack) = f
 top_form stack = FlatForm (Int (pos 0))
 
 mutual
-  form_back : (f : Form) (rest : List FormToken) (stack : List FormItem) → with_forms (form_tokens f rest) stack ≡ with_forms rest (OneForm f ∷ stack)
+  form_back : (f : ArrayForm) (rest : List FormToken) (stack : List FormItem) → with_forms (form_tokens f rest) stack ≡ with_forms rest (OneForm f ∷ stack)
   form_back (FlatForm f) rest stack = refl
   form_back (SectionForm a subs) rest stack = refl
   form_back (OperationForm o fs) rest stack = forms_back fs (TOperation o ∷ rest) stack
@@ -132,5 +132,5 @@ mutual
 form_tokens_code : Coded (List FormToken)
 form_tokens_code = Prim.hlevel (codes, flat_code)
 
-pub form_code : Coded Form
+pub form_code : Coded ArrayForm
 form_code = code_by (List FormToken) form_tokens_code (λ f. form_tokens f []) (λ ts. top_form (with_forms ts [])) (λ f. ap top_form (form_back f [] []))

@@ -69,7 +69,7 @@ pub record IsPhase (a : Node Text Fault) (x : PartPhase) : Type 0 where
   pub exchange : IsExchangeHere a (arc_value x.found.exchange)
   pub lists : HasLists a.nodes (arc_value x.found.exchange)
 
--- what the parallel statement comes to behind its phase
+-- what the parallel statement comes to after its phase
 pub record IsParResult (i : Instr Fault) (a : Node Text Fault) (r : ParValues) : Type 0 where
   pub tuples : Tuples Fault
   pub left : List ℤ → ℕ → Option Spot

@@ -24,7 +24,7 @@ line_of bytes = drop 1 bytes ++ 10 ∷ []
 abbrev pub printed : List (List Dim) → List PrintItem → Instr Fault
 printed shapes items = Print (items_of shapes (map print_item items)) line_of
 
--- behind so many steps the instruction prints this item
+-- after so many steps the instruction prints this item
 pub record PrintsItem (i : Instr Fault) (k : ℕ) (item : Item) : Type 0 where
   pub items : List Item
   pub is : i ≡ Print items line_of

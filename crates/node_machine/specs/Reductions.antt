@@ -29,7 +29,7 @@ pub record IsReduced (i : Instr Fault) (slots : List ℤ) (o : Join) (w : Statem
   pub is : i ≡ Reduce tuples (fold_of o) slot
   pub statement : IsStatement w slots tuples no_left
 
--- what it comes to behind its phase
+-- what it comes to after its phase
 pub record IsReduceResult (i : Instr Fault) (a : Node Text Fault) (r : ReduceValues) : Type 0 where
   pub tuples : Tuples Fault
   pub op : Join

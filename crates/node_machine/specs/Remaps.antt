@@ -34,7 +34,7 @@ module _ (r : Redistribution) (a : Node Text Fault) where
   abbrev pub round_opened : Node Text Fault
   round_opened = settled a (round_outbox r a.round a.pieces) (round_inbox r a.round)
 
-  -- the node behind the last round
+  -- the node after the last round
   abbrev pub remap_ended : Node Text Fault
   remap_ended = ready a.nodes (record a { control = on a.control; substep = 0; layouts = r.new; pieces = moved_pieces r a.pieces a.received })
 

@@ -23,7 +23,7 @@ pub record IsSectionOpening (i : Instr Fault) (a : Node Text Fault) (o : Opening
   pub prints : PrintsSection i a.substep
   pub opening : IsOpening (gather_part prints.count prints.element a.control.slots) a o
 
--- their bytes behind it, which node 0 has
+-- their bytes after it, which node 0 has
 pub record IsSectionBytes (i : Instr Fault) (a : Node Text Fault) (b : List ℕ) : Type 0 where
   pub prints : PrintsSection i a.substep
   pub bytes : a.id ≡ 0 → b

@@ -28,7 +28,7 @@ use Rattle.node_machine.specs.declared.step.Step.TheVariants as step
 abbrev pub instr_here : Node Text Fault → Instr Fault
 instr_here a = instr_at text_meaning a.code a.control.at
 
--- the node behind the local step before that instruction or a step of it, and behind the one after a phase of it
+-- the node after the local step before that instruction or a step of it, and after the one after a phase of it
 abbrev pub begun : Node Text Fault → Node Text Fault
 begun a = begun_by fault_values a.nodes (instr_here a) a
 
@@ -41,7 +41,7 @@ pub record IsLocalAt (code : List Text) (at : ℕ) : Type 0 where
   pub is : slice_get code at ≡ Some text
   pub local : is_local text.instruction ≡ true
 
--- the instruction has this done on so many nodes behind so many of its steps
+-- the instruction has this done on so many nodes after so many of its steps
 abbrev pub Does : Instr Fault → (nodes substep : ℕ) → Step → Type 0
 Does i nodes k step.End = ⊥
 Does i nodes k step.Local = ⊥

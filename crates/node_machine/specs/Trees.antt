@@ -7,7 +7,7 @@ use Rattle.op_tables.specs.declared.join.Join.{Join}
 use Rattle.node_code.specs.Parallel.{fold_of}
 use Rattle.node_machine.specs.declared.trees.Reduction.{Reduction}
 
--- where the run goes on behind a verdict: that of a reduction is a step of it
+-- where the run goes on after a verdict: that of a reduction is a step of it
 abbrev pub next_of : Bool → Control Fault → Control Fault
 next_of true = stay
 next_of false = on

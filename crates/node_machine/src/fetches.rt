@@ -222,7 +222,7 @@ fn fetched_parcels(
     Ok(outbox)
 }
 
-/// Puts a parcel with these values behind the others, where it is to be sent.
+/// Puts a parcel with these values after the others, where it is to be sent.
 fn add_parcel(
     alloc: Global,
     outbox: &mut VecDeque<Parcel>,

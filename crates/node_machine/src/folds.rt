@@ -4,7 +4,7 @@ ghost use Rattle.std.specs.Prelude.{◌≡◌, ◌<◌, ◌^◌, ◌∷◌, [], 
 ghost use Rattle.machine_steps.specs.Instr.{FoldCopy};
 ghost use Rattle.machine_steps.specs.Layout.{sizes};
 ghost use Rattle.machine_steps.specs.Machine.{slot_of};
-ghost use Rattle.machine_steps.specs.Node.{fold_ended, join_behind, join_options, option_values, own_fold, tree_next, values_option};
+ghost use Rattle.machine_steps.specs.Node.{fold_ended, join_after, join_options, option_values, own_fold, tree_next, values_option};
 ghost use Rattle.node_code.specs.Parallel.{fold_of};
 ghost use Rattle.op_tables.specs.Joins.{join};
 ghost use Rattle.storage.specs.Spots.{spot_of};
@@ -96,7 +96,7 @@ impl Node {
 
     /// The value of the slot, joined with what the tree has joined.
     fn joined_slot(&self, folding: Folding, folded: &[i64]) -> [i64; 1]
-        ensures { result ≡ join folding.op (slot_of self.now.control folding.slot) (join_behind (join folding.op) (fold_of folding.op).unit (values_option folded.now)) ∷ [] }
+        ensures { result ≡ join folding.op (slot_of self.now.control folding.slot) (join_after (join folding.op) (fold_of folding.op).unit (values_option folded.now)) ∷ [] }
     {
         let before = value_at(&self.control.slots, folding.slot);
         [folding.op.join(before, reduced(folding.op, folded))]
@@ -110,7 +110,7 @@ struct OwnFold {
 }
 
 impl OwnFold {
-    /// Joins an element behind them, where there is one.
+    /// Joins an element after them, where there is one.
     fn add(&mut self, op: Join, element: Option<i64>)
         ensures { self.new.value ≡ join_options (join op) self.old.value element }
     {

@@ -27,7 +27,7 @@ pub(crate) enum PrintedText<'a> {
 }
 
 impl NodeProgram {
-    /// What a PRINT of these items has done behind so many steps.
+    /// What a PRINT of these items has done after so many steps.
     pub(crate) fn print_step<'a>(&'a self, items: &'a Vec<PrintItem>, substep: usize) -> Step<'a>
         ensures { TextDoes (printed self.now.shapes.items items.now.items) (Print (map print_item items.now.items)) self.now.nodes substep result }
     {
@@ -54,8 +54,8 @@ impl NodeProgram {
     }
 }
 
-/// Bytes behind a blank.
-fn behind_blank(alloc: Global, bytes: &[u8]) -> Result<Vec<u8>, OutOfMemory>
+/// Bytes after a blank.
+fn after_blank(alloc: Global, bytes: &[u8]) -> Result<Vec<u8>, OutOfMemory>
     ensures { IfOk result (λ b. b.items ≡ 32 ∷ bytes.now) }
 {
     let mut text = Vec::new(alloc);
@@ -64,21 +64,21 @@ fn behind_blank(alloc: Global, bytes: &[u8]) -> Result<Vec<u8>, OutOfMemory>
     Ok(text)
 }
 
-/// A number in decimal, behind a blank.
+/// A number in decimal, after a blank.
 pub(crate) fn number_bytes(alloc: Global, number: i64) -> Result<Vec<u8>, OutOfMemory>
     ensures { IfOk result (λ b. b.items ≡ 32 ∷ signed_decimal number) }
 {
     let mut buffer = Buffer::new();
-    behind_blank(alloc, buffer.format(number).as_bytes())
+    after_blank(alloc, buffer.format(number).as_bytes())
 }
 
 impl Node {
-    /// The bytes of a text, behind a blank.
+    /// The bytes of a text, after a blank.
     pub(crate) fn text(&self, t: PrintedText<'_>) -> Result<Vec<u8>, OutOfMemory>
         ensures { IfOk result (λ b. b.items ≡ text_of t.entry self.now.control.slots) }
     {
         match t {
-            PrintedText::Bytes(bytes) => behind_blank(self.alloc, bytes),
+            PrintedText::Bytes(bytes) => after_blank(self.alloc, bytes),
             PrintedText::Number(f) => {
                 let number = flat_or_zero(&self.control.slots, &[], f)?;
                 number_bytes(self.alloc, number)

@@ -25,7 +25,7 @@ pub(crate) struct PrintedSection<'a> {
     pub(crate) section: &'a Vec<Sub>,
 }
 
-/// Numbers in decimal, each behind a blank.
+/// Numbers in decimal, each after a blank.
 fn decimals(alloc: Global, numbers: &[i64]) -> Result<Vec<u8>, OutOfMemory>
     ensures { IfOk result (λ b. b.items ≡ decimals numbers.now) }
 {

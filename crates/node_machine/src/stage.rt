@@ -1,6 +1,6 @@
 //! Where a node stands in an instruction.
 
-/// Before an instruction or a step of it, in one of its phases, or behind that phase.
+/// Before an instruction or a step of it, in one of its phases, or after that phase.
 #[derive(Clone, Copy, Debug, PartialEq, Eq)]
 pub enum Stage {
     Ready,

@@ -49,7 +49,7 @@ pub(crate) enum Step<'a> {
 }
 
 impl NodeProgram {
-    /// What is to be done at a place, behind so many steps of its instruction.
+    /// What is to be done at a place, after so many steps of its instruction.
     pub(crate) fn step(&self, at: usize, substep: usize) -> Step<'_>
         ensures is { IsStepAt (code_of self.now) at self.now.nodes substep result }
         ensures few { IsInCode at result }

@@ -8,7 +8,7 @@
 //! - `coded`: the machine over other texts that mean the same does the same.
 //! - `letters`: the letters of a message phase and of the rounds of a redistribution are exactly those of the whole arrays, and what a
 //!   node receives gives it each value that it needs.
-//! - `parted`: parallel statements one behind the other are the parted order of a nest, and what the machine keeps is its least fault.
+//! - `parted`: parallel statements one after the other are the parted order of a nest, and what the machine keeps is its least fault.
 //! - `joining`: what the nodes join of their own values is what is joined of all values in their order.
 //! - `trees`: the rounds of a tree are those of `reduction_tree`, and what the letters of each tree hold.
 //! - `pieces`: who owns what, and what a node's piece is, by the definitions of mapped arrays.

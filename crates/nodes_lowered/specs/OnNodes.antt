@@ -27,7 +27,7 @@ AreUnmade zero (copy ∷ copies) = ⊥
 AreUnmade (suc room) [] = ⊥
 AreUnmade (suc room) (copy ∷ copies) = (size_of copy ≡ 0) × AreUnmade room copies
 
--- so the declared names lie on so many nodes, in order, and behind them so many copies
+-- so the declared names lie on so many nodes, in order, and after them so many copies
 abbrev pub LieAsDeclared : (count room : ℕ) → List Entry → List Layout → Type 0
 LieAsDeclared count room [] copies = AreUnmade room copies
 LieAsDeclared count room (e ∷ es) [] = ⊥

@@ -14,7 +14,7 @@ ghost use Rattle.nodes_lowered.specs.ProgramLayouts.{program_layouts};
 ghost use Rattle.nodes_lowered.specs.ProgramRuns.{RunOnNodes};
 
 /// The arrays of a program lie on as many nodes as a grid has with the mappings that they have at the start, where these are valid: each
-/// has the shape of its declaration, and each of its elements an owner. Behind them there may be any number of copies.
+/// has the shape of its declaration, and each of its elements an owner. After them there may be any number of copies.
 pub fn arrays_lie_as_mapped()
     ensures { (grid : List ℕ) (room : ℕ) (p : MainProgram) → IsGrid grid → All (IsArrayMap (product grid)) (start_maps grid p)
         → LieAsDeclared (product grid) room (entries p) (program_layouts (product grid) room (entries p) (start_maps grid p)) }

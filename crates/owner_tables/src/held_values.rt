@@ -67,7 +67,7 @@ pub fn local_values(
     Ok(Body::from(values))
 }
 
-/// Puts the value of an element that the node owns behind the others.
+/// Puts the value of an element that the node owns after the others.
 fn push_value(
     owners: &Owners,
     id: u32,

@@ -48,7 +48,7 @@ impl Owners {
         }
     }
 
-    /// Puts a row behind the others. For want of memory nothing changes.
+    /// Puts a row after the others. For want of memory nothing changes.
     pub fn push(&mut self, table: OwnerTable) -> Result<(), OutOfMemory>
         requires { table.nodes ≡ self.old.nodes }
         ensures row { OnOk result (self.new ≡ record { layouts = self.old.layouts ++ table.layout ∷ []; nodes = self.old.nodes }) }

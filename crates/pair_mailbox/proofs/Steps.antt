@@ -8,7 +8,7 @@ use Rattle.crossbeam_queue.proofs.Lists.{at_set, at_snoc}
 use Rattle.pair_mailbox.specs.declared.route.Route.{Route}
 use Rattle.letters.specs.declared.letter.Letter.{Letter}
 use Rattle.pair_mailbox.specs.declared.rule.View.{View}
-use Rattle.pair_mailbox.specs.Rule.{whole, sender, taker, idle, no_route, IsNextLetter, AreNumbered, IsBehind, Knows, Carries}
+use Rattle.pair_mailbox.specs.Rule.{whole, sender, taker, idle, no_route, IsNextLetter, AreNumbered, IsAfter, Knows, Carries}
 
 abbrev All : (ℕ → View → Type 0) → List View → Type 0
 All F views = (seat : ℕ) (v : View) → get_elem? views seat ≡ some v → F seat v
@@ -25,7 +25,7 @@ at_end [] a b (suc j) n e = absurd (some-ne-none b (sym e))
 at_end (x ∷ xs) a b zero n e = absurd (n e)
 at_end (x ∷ xs) a b (suc j) n e = ap suc (at_end xs a b j n e)
 
--- the letter behind others
+-- the letter after others
 here : (taken : List Letter) (x : Letter) (rest : List Letter) → slice_get (taken ++ x ∷ rest) (length taken) ≡ Some x
 here [] x rest = refl
 here (t ∷ ts) x rest = here ts x rest
@@ -48,7 +48,7 @@ begins = record {
   route = no_route;
   sent = [];
   taken = [];
-  behind = record { in_order = refl; few = omega arith };
+  after = record { in_order = refl; few = omega arith };
   numbered = λ k x e. cc;
   knows = all_set (Knows 0 0 no_route [] []) (whole no_route [] [] ∷ []) 0 (whole no_route [] []) ((λ _. (refl, refl, refl)), λ _. (refl, refl, refl))
       (λ j u other e. absurd (other (at_end [] _ u j (λ x. some-ne-none u (sym x)) e)));
@@ -66,7 +66,7 @@ opens seat v route is items views h at = let mine = h.knows seat v at in let out
       route = route;
       sent = [];
       taken = [];
-      behind = record { in_order = none_sent ∙ h.behind.in_order ∙ ap (λ l. l ++ items) none_taken; few = h.behind.few };
+      after = record { in_order = none_sent ∙ h.after.in_order ∙ ap (λ l. l ++ items) none_taken; few = h.after.few };
       numbered = λ k x e. cc;
       knows = λ j u e. ⊎_elim (now j u)
           (λ (i : idle ≡ u). ((λ p. absurd (true≢false (sym (ap (λ (y : View). y.sends) i ∙ p)))), λ p. absurd (true≢false (sym (ap (λ (y : View). y.takes) i ∙ p)))))
@@ -88,7 +88,7 @@ parts seat v a b items views h at =
       route = h.route;
       sent = h.sent;
       taken = h.taken;
-      behind = h.behind;
+      after = h.after;
       numbered = h.numbered;
       knows = λ j u e. ⊎_elim (λ x. ((old j u x).0, λ p. absurd ((old j u x).1 p)))
           (λ (is : r ≡ u). (
@@ -107,7 +107,7 @@ pushes n seat v x four may next items views room h at = let mine = (h.knows seat
     route = h.route;
     sent = sent;
     taken = h.taken;
-    behind = record { in_order = ap (λ l. l ++ x ∷ []) h.behind.in_order ∙ append_assoc h.taken items (x ∷ []); few = omega (arith, length-append items (x ∷ [])) };
+    after = record { in_order = ap (λ l. l ++ x ∷ []) h.after.in_order ∙ append_assoc h.taken items (x ∷ []); few = omega (arith, length-append items (x ∷ [])) };
     numbered = numbered_more h.route h.sent x h.numbered (subst (λ (y : Route × List Letter). IsNextLetter y.0 (length y.1) x) (λ i. (mine.1 i, mine.2 i)) next);
     knows = all_set (Knows h.writer h.reader h.route sent h.taken) views seat w ((λ _. (mine.0, mine.1, ap (λ l. l ++ x ∷ []) mine.2)), λ p. absurd (true≢false (sym p)))
         (λ j u other e. ((λ p. absurd (other (((h.knows j u e).0 p).0 ∙ sym mine.0))), (h.knows j u e).1));
@@ -124,7 +124,7 @@ pops seat v may x items views h at = let mine = (h.knows seat v at).1 may in let
     route = h.route;
     sent = h.sent;
     taken = taken;
-    behind = record { in_order = h.behind.in_order ∙ sym (append_assoc h.taken (x ∷ []) items); few = let f = h.behind.few in omega arith };
+    after = record { in_order = h.after.in_order ∙ sym (append_assoc h.taken (x ∷ []) items); few = let f = h.after.few in omega arith };
     numbered = h.numbered;
     knows = all_set (Knows h.writer h.reader h.route h.sent taken) views seat w ((λ p. absurd (true≢false (sym p))), λ _. (mine.0, mine.1, ap (λ l. l ++ x ∷ []) mine.2))
         (λ j u other e. ((h.knows j u e).0, λ p. absurd (other (((h.knows j u e).1 p).0 ∙ sym mine.0))));
@@ -132,13 +132,13 @@ pops seat v may x items views h at = let mine = (h.knows seat v at).1 may in let
   (
     refl,
     subst (λ (y : Route × List Letter). IsNextLetter y.0 (length y.1) x) (λ i. (sym mine.1 i, sym mine.2 i))
-        (h.numbered (length h.taken) x (ap (λ l. slice_get l (length h.taken)) h.behind.in_order ∙ here h.taken x items)),
+        (h.numbered (length h.taken) x (ap (λ l. slice_get l (length h.taken)) h.after.in_order ∙ here h.taken x items)),
   ),
 )
 
 pub full : (seat : ℕ) (v : View) → v.sends ≡ true → Learns Carries seat v (λ held. length held ≤ length v.sent)
 full seat v may items views h at =
-    let sent : length v.sent ≡ length (h.taken ++ items) = ap length (((h.knows seat v at).0 may).2 ∙ h.behind.in_order) in
+    let sent : length v.sent ≡ length (h.taken ++ items) = ap length (((h.knows seat v at).0 may).2 ∙ h.after.in_order) in
     omega (arith, length-append h.taken items, sent)
 
 pub closes : (seat : ℕ) (v : View) (other : ℕ) (u : View) → v.sends ≡ true → u.takes ≡ true → Merges Carries seat v other u (whole v.route v.sent u.taken) idle
@@ -153,14 +153,14 @@ closes seat v other u a b items views h at two at' = let w : View = whole v.rout
       route = h.route;
       sent = h.sent;
       taken = h.taken;
-      behind = h.behind;
+      after = h.after;
       numbered = h.numbered;
       knows = all_set (Knows h.writer seat h.route h.sent h.taken) vs other idle ((λ p. absurd (true≢false (sym p))), λ p. absurd (true≢false (sym p)))
           (λ j y apart e. now j y e apart);
     }
 
-pub totals : (seat : ℕ) (v : View) → v.sends ≡ true → v.takes ≡ true → Learns Carries seat v (λ items. IsBehind v.taken v.sent items × AreNumbered v.route v.sent)
+pub totals : (seat : ℕ) (v : View) → v.sends ≡ true → v.takes ≡ true → Learns Carries seat v (λ items. IsAfter v.taken v.sent items × AreNumbered v.route v.sent)
 totals seat v a b items views h at = let m = h.knows seat v at in (
-  subst (λ (y : List Letter × List Letter). IsBehind y.0 y.1 items) (λ i. (sym (m.1 b).2 i, sym (m.0 a).2 i)) h.behind,
+  subst (λ (y : List Letter × List Letter). IsAfter y.0 y.1 items) (λ i. (sym (m.1 b).2 i, sym (m.0 a).2 i)) h.after,
   subst (λ (y : Route × List Letter). AreNumbered y.0 y.1) (λ i. (sym (m.0 a).1 i, sym (m.0 a).2 i)) h.numbered,
 )

@@ -42,7 +42,7 @@ abbrev pub AreNumbered : Route → List Letter → Type 0
 AreNumbered route sent = (k : ℕ) (x : Letter) → slice_get sent k ≡ Some x → IsNextLetter route k x
 
 -- what was sent is what was taken followed by what is held, which is at most four letters
-pub record IsBehind (taken sent held : List Letter) : Type 0 where
+pub record IsAfter (taken sent held : List Letter) : Type 0 where
   pub in_order : sent ≡ taken ++ held
   pub few : length held ≤ 4
 
@@ -58,6 +58,6 @@ pub record Carries (held : List Letter) (views : List View) : Type 0 where
   pub route : Route
   pub sent : List Letter
   pub taken : List Letter
-  pub behind : IsBehind taken sent held
+  pub after : IsAfter taken sent held
   pub numbered : AreNumbered route sent
   pub knows : (seat : ℕ) (v : View) → get_elem? views seat ≡ some v → Knows writer reader route sent taken seat v

@@ -1,4 +1,4 @@
-//! A pair's queue behind its last step.
+//! A pair's queue after its last step.
 
 ghost use Rattle.std.specs.Prelude.{◌≡◌, ◌-◌, ◌%◌, ◌^◌, length};
 
@@ -20,7 +20,7 @@ pub struct Closed {
 impl Model for Closed {
     ghost use Rattle.std.specs.Prelude.{◌≡◌, ◌%◌, ◌^◌, length, List};
     ghost use Rattle.letters.specs.declared.letter.Letter.{Letter};
-    ghost use Rattle.pair_mailbox.specs.Rule.{known, IsBehind};
+    ghost use Rattle.pair_mailbox.specs.Rule.{known, IsAfter};
     ghost use Rattle.pair_mailbox.specs.Ends.{Exchanged};
 
     ghost Value = { Exchanged };
@@ -28,7 +28,7 @@ impl Model for Closed {
     ghost view = { λ c. record { route = c.route; letters = (known c.pass).sent; taken = (known c.pass).taken } };
 
     ghost invariant = { λ c. (c.sent ≡ length (known c.pass).sent % 2 ^ 64) × (c.taken ≡ length (known c.pass).taken % 2 ^ 64)
-        × ((held : List Letter) × IsBehind (known c.pass).taken (known c.pass).sent held) };
+        × ((held : List Letter) × IsAfter (known c.pass).taken (known c.pass).sent held) };
 }
 
 impl Closed {

@@ -2,7 +2,7 @@
 
 ghost use Rattle.std.specs.Prelude.{◌≡◌, [], IfOk, List};
 ghost use Rattle.crossbeam_queue.specs.Passes.{IsPassOf};
-ghost use Rattle.pair_mailbox.specs.Rule.{known, IsBehind, AreNumbered, whole, sender, taker, no_route};
+ghost use Rattle.pair_mailbox.specs.Rule.{known, IsAfter, AreNumbered, whole, sender, taker, no_route};
 
 use crate::closed::Closed;
 use crate::ends::{InEnd, OutEnd};
@@ -68,7 +68,7 @@ pub fn close_pair<R: Wait>(_rt: &R, out: OutEnd, inn: InEnd) -> Closed
     requires { out.queue ≡ inn.queue }
     ensures route { result.route ≡ out.route }
     ensures letters { (result.letters ≡ out.sent) × (result.taken ≡ inn.taken) }
-    ensures behind { (held : List _) × IsBehind result.taken result.letters held }
+    ensures after { (held : List _) × IsAfter result.taken result.letters held }
     ensures numbered { AreNumbered result.route result.letters }
 {
     let OutEnd {

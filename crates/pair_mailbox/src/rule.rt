@@ -116,7 +116,7 @@ impl Lesson<Letter, View> for Pop {
 pub struct Total;
 
 impl Lesson<Letter, View> for Total {
-    ghost use Rattle.pair_mailbox.specs.Rule.{IsBehind, AreNumbered};
+    ghost use Rattle.pair_mailbox.specs.Rule.{IsAfter, AreNumbered};
 
-    ghost fact = { λ v held. IsBehind v.taken v.sent held × AreNumbered v.route v.sent };
+    ghost fact = { λ v held. IsAfter v.taken v.sent held × AreNumbered v.route v.sent };
 }

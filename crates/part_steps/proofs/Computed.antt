@@ -14,7 +14,7 @@ use Rattle.node_run.proofs.Keeping.{before-order}
 use Rattle.node_run.proofs.Picked.{picked-none}
 use Rattle.comm_sets.proofs.Computing.{are-nodes, filter-more}
 use Rattle.tuple_values.specs.Statements.{tuple_outcome, tuple_reads}
-use Rattle.part_steps.specs.Behind.{Behind, applied, fault_below, joined_below, outcome_of, stored_below, tuples, value_of}
+use Rattle.part_steps.specs.After.{After, applied, fault_below, joined_below, outcome_of, stored_below, tuples, value_of}
 use Rattle.part_steps.specs.Exchanged.{IsComputed, computed_of}
 use Rattle.part_steps.specs.Parts.{part_of}
 
@@ -54,7 +54,7 @@ join-none : (join : ℤ → ℤ → ℤ) (so_far : Option ℤ) → join_options 
 join-none join None = refl
 join-none join (Some a) = refl
 
-module _ (b : Behind) where
+module _ (b : After) where
   -- what a tuple comes to that the node doesn't compute, and that it computes
   nothing-else : (t : ℕ) → (part_of b.part).computes b.id t ≡ false → outcome_of b t ≡ Nothing
   nothing-else t e = ap (λ c. if c then tuple_outcome b.part.statement t (map (value_by (value_of b)) (tuple_reads b.part.statement t)) else Nothing) e

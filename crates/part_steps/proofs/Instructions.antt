@@ -13,7 +13,7 @@ use Rattle.letters.specs.Parcel.{Parcel}
 use Rattle.tuple_values.specs.Statements.{Statement, IsStatement, tuple_count, tuple_reads, tuple_outcome}
 use Rattle.part_steps.specs.declared.who.Who.{Who}
 use Rattle.part_steps.specs.declared.who.Who.TheVariants.{Left, First, Root}
-use Rattle.part_steps.specs.Behind.{Behind, behind, value_of, outcome_of, stored_below, fault_below, joined_below, elements_below, tuples as tuples_of}
+use Rattle.part_steps.specs.After.{After, after, value_of, outcome_of, stored_below, fault_below, joined_below, elements_below, tuples as tuples_of}
 use Rattle.part_steps.specs.Openings.{outbox_on, inbox_on}
 use Rattle.part_steps.specs.Parts.{PartView, part_of}
 use Rattle.part_steps.proofs.KeptFaults.{kept-apart}
@@ -41,12 +41,12 @@ opened-is nodes a v part e outbox inbox sends takes =
     (λ i. settled (record a { received = no_values nodes }) (sends i) (takes i))
     ∙ (λ i. settled (record a { received = no_values nodes }) (outbox_on nodes a.layouts (e i) a.id a.pieces) (inbox_on nodes a.layouts (e i) a.id))
 
--- ---- behind it
+-- ---- after it
 
 module _ {C : Type 0} (nodes : ℕ) (a : Node C Fault) (who : Who) (w : Statement) (part : Part) (e : part_of (record { who = who; nodes = nodes; layouts = a.layouts; statement = w }) ≡ part) where
   -- the node
-  abbrev pub here : Behind
-  here = behind (record { who = who; nodes = nodes; layouts = a.layouts; statement = w }) a.id a.pieces a.received
+  abbrev pub here : After
+  here = after (record { who = who; nodes = nodes; layouts = a.layouts; statement = w }) a.id a.pieces a.received
 
   abbrev value : Part → Spot → ℤ
   value p = held_or_received nodes a.layouts (λ q. message nodes a.layouts p q a.id) a.id a.pieces a.received

@@ -1,4 +1,4 @@
-//! What a node has behind the phase of a part.
+//! What a node has after the phase of a part.
 
 ghost use Rattle.std.specs.Prelude.{◌<◌};
 ghost use Rattle.part_steps.specs.Exchanged.{IsExchange};
@@ -9,7 +9,7 @@ use comm_sets::Exchange;
 use letters::Body;
 use owner_tables::Row;
 
-/// The values of elements on a node behind the phase of a part: its own, or received. Contracts see it by `behind_of`.
+/// The values of elements on a node after the phase of a part: its own, or received. Contracts see it by `after_of`.
 #[derive(Drop)]
 pub(crate) struct Gathered<'a> {
     pub(crate) part: &'a Part<'a>,

@@ -1,7 +1,7 @@
 //! What a node does in the message phase of a part: of a parallel statement, a reduction, or a section that is printed.
 //!
 //! Comes in: a statement once the slots are known, the tables of owners, a node's number and its pieces, and the values received. Goes
-//! out: what the node sends and from whom it takes, and behind the phase what is stored, the fault that is kept, the values joined, or the
+//! out: what the node sends and from whom it takes, and after the phase what is stored, the fault that is kept, the values joined, or the
 //! values of a section.
 //!
 //! What holds in between: one pass over all tuples asks who computes each and what it reads (`exchange_of`), and all else goes by what the

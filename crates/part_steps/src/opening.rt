@@ -67,7 +67,7 @@ pub fn inbox(
     Ok(inbox)
 }
 
-/// Puts the values of a message behind the others, if there are any.
+/// Puts the values of a message after the others, if there are any.
 fn push_parcel(
     alloc: Global,
     part: &Part<'_>,
@@ -90,7 +90,7 @@ fn push_parcel(
     Ok(())
 }
 
-/// Puts a node behind the others, if it has a message.
+/// Puts a node after the others, if it has a message.
 fn push_source(source: u32, spots: &[Spot], inbox: &mut VecDeque<u32>) -> Result<(), OutOfMemory>
     ensures { OnOk result (inbox.new.items ≡ inbox.old.items ++ (if has_any (map spot_of spots.now) then source ∷ [] else [])) }
 {

@@ -7,9 +7,9 @@ ghost use Rattle.machine_steps.specs.Machine.{earlier, effect_by, kept_of};
 ghost use Rattle.machine_steps.specs.Node.{local_apply};
 ghost use Rattle.term_values.specs.Faults.{fault as fault_of};
 ghost use Rattle.tuple_values.specs.Spots.{read_of};
-ghost use Rattle.part_steps.specs.Behind.{applied, behind, fault_below, outcome_of, stored_below, tuples};
+ghost use Rattle.part_steps.specs.After.{applied, after, fault_below, outcome_of, stored_below, tuples};
 ghost use Rattle.part_steps.specs.Exchanged.{IsComputed, IsExchange};
-ghost use Rattle.part_steps.specs.Gathered.{behind_of};
+ghost use Rattle.part_steps.specs.Gathered.{after_of};
 ghost use Rattle.slot_values.specs.KeptFaults.{kepts};
 ghost use Rattle.part_steps.specs.Stores.{stored};
 ghost use Rattle.part_steps.specs.Views.{part_view};
@@ -46,21 +46,21 @@ pub fn par_values(
 ) -> Result<ParValues, OutOfMemory>
     requires id { id < part.now.owners.now.nodes }
     requires exchange { IsExchange (part_view part.now) id exchange.now }
-    ensures stores { IfOk result (λ r. let b = behind (part_view part.now) id pieces.now received.now in (ps : List (List ℤ)) → stored r.stores ps ≡ stored_below b (tuples b) ps) }
-    ensures fault { IfOk result (λ r. let b = behind (part_view part.now) id pieces.now received.now in kepts r.fault ≡ fault_below b number (tuples b)) }
+    ensures stores { IfOk result (λ r. let b = after (part_view part.now) id pieces.now received.now in (ps : List (List ℤ)) → stored r.stores ps ≡ stored_below b (tuples b) ps) }
+    ensures fault { IfOk result (λ r. let b = after (part_view part.now) id pieces.now received.now in kepts r.fault ≡ fault_below b number (tuples b)) }
 {
     let gathered = Gathered::new(part, id, pieces, received, exchange);
     gathered_values(alloc, &gathered, number)
 }
 
-/// What it comes to by what the node has behind the phase.
+/// What it comes to by what the node has after the phase.
 fn gathered_values(
     alloc: Global,
     gathered: &Gathered<'_>,
     number: u64,
 ) -> Result<ParValues, OutOfMemory>
-    ensures stores { IfOk result (λ r. let b = behind_of gathered.now in (ps : List (List ℤ)) → stored r.stores ps ≡ stored_below b (tuples b) ps) }
-    ensures fault { IfOk result (λ r. let b = behind_of gathered.now in kepts r.fault ≡ fault_below b number (tuples b)) }
+    ensures stores { IfOk result (λ r. let b = after_of gathered.now in (ps : List (List ℤ)) → stored r.stores ps ≡ stored_below b (tuples b) ps) }
+    ensures fault { IfOk result (λ r. let b = after_of gathered.now in kepts r.fault ≡ fault_below b number (tuples b)) }
 {
     let mut values = ParValues {
         stores: Stores::new(alloc),
@@ -81,10 +81,10 @@ impl ParValues {
         tuple: usize,
         number: u64,
     ) -> Result<(), OutOfMemory>
-        requires { IsComputed (behind_of gathered.now) tuple }
+        requires { IsComputed (after_of gathered.now) tuple }
         ensures stores { OnOk result ((ps : List (List ℤ)) → stored self.new.stores ps
-            ≡ applied (behind_of gathered.now) tuple (outcome_of (behind_of gathered.now) tuple) (stored self.old.stores ps)) }
-        ensures fault { OnOk result (kepts self.new.fault ≡ earlier (kepts self.old.fault) (kept_of (outcome_of (behind_of gathered.now) tuple) tuple number)) }
+            ≡ applied (after_of gathered.now) tuple (outcome_of (after_of gathered.now) tuple) (stored self.old.stores ps)) }
+        ensures fault { OnOk result (kepts self.new.fault ≡ earlier (kepts self.old.fault) (kept_of (outcome_of (after_of gathered.now) tuple) tuple number)) }
     {
         let statement = gathered.part.statement;
         let place = statement.place(tuple)?;

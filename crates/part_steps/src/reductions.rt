@@ -4,9 +4,9 @@ ghost use Rattle.std.specs.Prelude.{◌≡◌, ◌<◌, Some, IfOk, OnOk};
 ghost use Rattle.machine_steps.specs.Machine.{earlier, kept_of};
 ghost use Rattle.machine_steps.specs.Node.{join_options, outcome_value};
 ghost use Rattle.op_tables.specs.Joins.{join};
-ghost use Rattle.part_steps.specs.Behind.{behind, fault_below, joined_below, outcome_of, tuples};
+ghost use Rattle.part_steps.specs.After.{after, fault_below, joined_below, outcome_of, tuples};
 ghost use Rattle.part_steps.specs.Exchanged.{IsComputed, IsExchange};
-ghost use Rattle.part_steps.specs.Gathered.{behind_of};
+ghost use Rattle.part_steps.specs.Gathered.{after_of};
 ghost use Rattle.slot_values.specs.KeptFaults.{kepts};
 ghost use Rattle.part_steps.specs.Views.{part_view};
 
@@ -41,21 +41,21 @@ pub fn reduce_values(
 ) -> Result<ReduceValues, OutOfMemory>
     requires id { id < part.now.owners.now.nodes }
     requires exchange { IsExchange (part_view part.now) id exchange.now }
-    ensures value { IfOk result (λ r. let b = behind (part_view part.now) id pieces.now received.now in r.value ≡ joined_below b op (tuples b)) }
-    ensures fault { IfOk result (λ r. let b = behind (part_view part.now) id pieces.now received.now in kepts r.fault ≡ fault_below b number (tuples b)) }
+    ensures value { IfOk result (λ r. let b = after (part_view part.now) id pieces.now received.now in r.value ≡ joined_below b op (tuples b)) }
+    ensures fault { IfOk result (λ r. let b = after (part_view part.now) id pieces.now received.now in kepts r.fault ≡ fault_below b number (tuples b)) }
 {
     let gathered = Gathered::new(part, id, pieces, received, exchange);
     gathered_values(&gathered, op, number)
 }
 
-/// What it comes to by what the node has behind the phase.
+/// What it comes to by what the node has after the phase.
 fn gathered_values(
     gathered: &Gathered<'_>,
     op: Join,
     number: u64,
 ) -> Result<ReduceValues, OutOfMemory>
-    ensures value { IfOk result (λ r. let b = behind_of gathered.now in r.value ≡ joined_below b op (tuples b)) }
-    ensures fault { IfOk result (λ r. let b = behind_of gathered.now in kepts r.fault ≡ fault_below b number (tuples b)) }
+    ensures value { IfOk result (λ r. let b = after_of gathered.now in r.value ≡ joined_below b op (tuples b)) }
+    ensures fault { IfOk result (λ r. let b = after_of gathered.now in kepts r.fault ≡ fault_below b number (tuples b)) }
 {
     let mut values = ReduceValues {
         value: None,
@@ -77,15 +77,15 @@ impl ReduceValues {
         op: Join,
         number: u64,
     ) -> Result<(), OutOfMemory>
-        requires { IsComputed (behind_of gathered.now) tuple }
-        ensures value { OnOk result (self.new.value ≡ join_options (join op) self.old.value (outcome_value (outcome_of (behind_of gathered.now) tuple))) }
-        ensures fault { OnOk result (kepts self.new.fault ≡ earlier (kepts self.old.fault) (kept_of (outcome_of (behind_of gathered.now) tuple) tuple number)) }
+        requires { IsComputed (after_of gathered.now) tuple }
+        ensures value { OnOk result (self.new.value ≡ join_options (join op) self.old.value (outcome_value (outcome_of (after_of gathered.now) tuple))) }
+        ensures fault { OnOk result (kepts self.new.fault ≡ earlier (kepts self.old.fault) (kept_of (outcome_of (after_of gathered.now) tuple) tuple number)) }
     {
         let place = gathered.part.statement.place(tuple)?;
         match gathered.outcome(tuple, place)? {
             Outcome::Nothing => Ok(()),
             Outcome::Value(v) => {
-                self.value = joined_behind(op, self.value, v);
+                self.value = joined_after(op, self.value, v);
                 Ok(())
             }
             Outcome::Breaks(fault) => {
@@ -96,8 +96,8 @@ impl ReduceValues {
     }
 }
 
-/// A value behind others, joined, where there are others.
-fn joined_behind(op: Join, so_far: Option<i64>, v: i64) -> Option<i64>
+/// A value after others, joined, where there are others.
+fn joined_after(op: Join, so_far: Option<i64>, v: i64) -> Option<i64>
     ensures { result ≡ join_options (join op) so_far (Some v) }
 {
     match so_far {

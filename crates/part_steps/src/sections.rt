@@ -5,9 +5,9 @@ ghost use Rattle.machine_steps.specs.Machine.{value_or_none};
 ghost use Rattle.machine_steps.specs.Message.{first_read};
 ghost use Rattle.tuple_values.specs.Spots.{read_of, reads_of};
 ghost use Rattle.tuple_values.specs.Statements.{tuple_reads};
-ghost use Rattle.part_steps.specs.Behind.{behind, elements_below, value_of, tuples};
+ghost use Rattle.part_steps.specs.After.{after, elements_below, value_of, tuples};
 ghost use Rattle.part_steps.specs.Exchanged.{IsExchange};
-ghost use Rattle.part_steps.specs.Gathered.{behind_of};
+ghost use Rattle.part_steps.specs.Gathered.{after_of};
 ghost use Rattle.part_steps.specs.Views.{part_view};
 
 use crate::gathered::Gathered;
@@ -31,7 +31,7 @@ pub fn section_values(
 ) -> Result<Vec<i64>, OutOfMemory>
     requires id { id < part.now.owners.now.nodes }
     requires exchange { IsExchange (part_view part.now) id exchange.now }
-    ensures { IfOk result (λ vs. let b = behind (part_view part.now) id pieces.now received.now in vs.items ≡ elements_below b (tuples b)) }
+    ensures { IfOk result (λ vs. let b = after (part_view part.now) id pieces.now received.now in vs.items ≡ elements_below b (tuples b)) }
 {
     let gathered = Gathered::new(part, id, pieces, received, exchange);
     let mut values = Vec::with_capacity(alloc, part.statement.count())?;
@@ -44,13 +44,13 @@ pub fn section_values(
     Ok(values)
 }
 
-/// Puts the value of the first of these elements behind the others, where there is one.
+/// Puts the value of the first of these elements after the others, where there is one.
 fn push_first(
     gathered: &Gathered<'_>,
     reads: &[Option<Spot>],
     values: &mut Vec<i64>,
 ) -> Result<(), OutOfMemory>
-    ensures { OnOk result (values.new.items ≡ values.old.items ++ value_or_none (value_of (behind_of gathered.now)) (first_read (reads_of reads.now))) }
+    ensures { OnOk result (values.new.items ≡ values.old.items ++ value_or_none (value_of (after_of gathered.now)) (first_read (reads_of reads.now))) }
 {
     match reads {
         [Some(spot), ..] => {

@@ -1,4 +1,4 @@
-//! The values of elements and of tuples on a node behind the phase of a part.
+//! The values of elements and of tuples on a node after the phase of a part.
 
 ghost use Rattle.std.specs.Prelude.{◌≡◌, ◌<◌, [], IfOk, slice_index_or};
 ghost use Rattle.machine_steps.specs.Layout.{sizes};
@@ -6,9 +6,9 @@ ghost use Rattle.storage.specs.Spots.{spot_of};
 ghost use Rattle.tuple_values.specs.Outcomes.{outcome_view};
 ghost use Rattle.tuple_values.specs.Statements.{tuple_place};
 ghost use Rattle.tuple_values.specs.Views.{statement as statement_of};
-ghost use Rattle.part_steps.specs.Behind.{behind, outcome_of, received_value, value_of};
+ghost use Rattle.part_steps.specs.After.{after, outcome_of, received_value, value_of};
 ghost use Rattle.part_steps.specs.Exchanged.{IsComputed, IsExchange, computed_of};
-ghost use Rattle.part_steps.specs.Gathered.{behind_of};
+ghost use Rattle.part_steps.specs.Gathered.{after_of};
 ghost use Rattle.part_steps.specs.Views.{part_view};
 
 use crate::gathered::Gathered;
@@ -30,7 +30,7 @@ impl<'a> Gathered<'a> {
     ) -> Gathered<'a>
         requires id { id < part.now.owners.now.nodes }
         requires exchange { IsExchange (part_view part.now) id exchange.now }
-        ensures { behind_of result ≡ behind (part_view part.now) id pieces.now received.now }
+        ensures { after_of result ≡ after (part_view part.now) id pieces.now received.now }
     {
         Gathered {
             part,
@@ -43,14 +43,14 @@ impl<'a> Gathered<'a> {
 
     /// The tuples that the node computes, ascending.
     pub(crate) fn computed(&self) -> &[u32]
-        ensures { result.now ≡ computed_of (behind_of self.now) }
+        ensures { result.now ≡ computed_of (after_of self.now) }
     {
         self.exchange.computed.as_slice()
     }
 
     /// The value of an element. One out of bounds is answered as want of memory.
     pub(crate) fn get(&self, spot: Spot) -> Result<i64, OutOfMemory>
-        ensures { IfOk result (λ v. v ≡ value_of (behind_of self.now) (spot_of spot)) }
+        ensures { IfOk result (λ v. v ≡ value_of (after_of self.now) (spot_of spot)) }
     {
         let owners = self.part.owners;
         if let Some(value) = held_value(owners, self.id, self.pieces, spot) {
@@ -65,7 +65,7 @@ impl<'a> Gathered<'a> {
     /// The value that the node received of an element.
     fn received_value(&self, spot: Spot) -> i64
         requires { spot.at < slice_index_or (sizes self.now.part.now.owners.now.layouts) spot.row 0 }
-        ensures { result ≡ received_value (behind_of self.now) (spot_of spot) }
+        ensures { result ≡ received_value (after_of self.now) (spot_of spot) }
     {
         let source = self.part.owners.least_owner(spot);
         value_in(
@@ -77,19 +77,19 @@ impl<'a> Gathered<'a> {
 
     /// What a tuple that the node computes comes to, by the place of what is assigned.
     pub(crate) fn outcome(&self, tuple: usize, place: Option<usize>) -> Result<Outcome, OutOfMemory>
-        requires computed { IsComputed (behind_of self.now) tuple }
+        requires computed { IsComputed (after_of self.now) tuple }
         requires place { place ≡ tuple_place (statement_of self.now.part.now.statement.now) tuple }
-        ensures { IfOk result (λ o. outcome_view o ≡ outcome_of (behind_of self.now) tuple) }
+        ensures { IfOk result (λ o. outcome_view o ≡ outcome_of (after_of self.now) tuple) }
     {
         self.part.statement.outcome(tuple, place, self)
     }
 }
 
 impl<'a> Elements for Gathered<'a> {
-    ghost use Rattle.part_steps.specs.Behind.{value_of};
-    ghost use Rattle.part_steps.specs.Gathered.{behind_of};
+    ghost use Rattle.part_steps.specs.After.{value_of};
+    ghost use Rattle.part_steps.specs.Gathered.{after_of};
 
-    ghost get = { λ g. value_of (behind_of g) };
+    ghost get = { λ g. value_of (after_of g) };
 
     fn value(&self, spot: Spot) -> Result<i64, OutOfMemory> {
         self.get(spot)

@@ -6,8 +6,8 @@ use Rattle.syntax_tree.specs.declared.expr.Expr.{Expr}
 use Rattle.syntax_tree.specs.declared.stmt.Arm.{Arm as HeldArm, out-Arm}
 use Rattle.syntax_tree.specs.declared.stmt.Header.{Header}
 use Rattle.syntax_tree.specs.declared.stmt.Stmt.{Stmt}
-use Rattle.syntax_tree.specs.declared.stmt.Kind as Kind
-use Rattle.syntax_tree.specs.declared.stmt.Kind.TheViews.{is-struct-Arm}
+use Rattle.syntax_tree.specs.declared.stmt.StatementKind as StatementKind
+use Rattle.syntax_tree.specs.declared.stmt.StatementKind.TheViews.{is-struct-Arm}
 use Rattle.syntax_tree.specs.Expression.{expression}
 use Rattle.syntax_tree.specs.Statement as syntax
 use Rattle.syntax_tree.specs.Statement.{assignments_of, axis}
@@ -43,35 +43,35 @@ arm_made line t body rest =
 
 -- ---- statements of a tree
 
-pub if_else : (names : List Entry) (line : ℕ) (k : Kind.Kind) (as' : Vec HeldArm Global) (rest : Option (Vec Stmt Global)) (v : Vec Stmt Global) (glued : Bool) →
-    k ≡ Kind.If as' rest glued → rest ≡ Some v →
+pub if_else : (names : List Entry) (line : ℕ) (k : StatementKind.StatementKind) (as' : Vec HeldArm Global) (rest : Option (Vec Stmt Global)) (v : Vec Stmt Global) (glued : Bool) →
+    k ≡ StatementKind.If as' rest glued → rest ≡ Some v →
     If (resolved_arms names (syntax.arms_of as'.items)) (resolved_block names (syntax.block_of v.items)) ≡ resolved names (syntax.statement line k)
 if_else names line k as' rest v glued is some =
-    sym (ap (λ k. resolved names (syntax.statement line k)) (is ∙ ap (λ r. Kind.If as' r glued) some)
+    sym (ap (λ k. resolved names (syntax.statement line k)) (is ∙ ap (λ r. StatementKind.If as' r glued) some)
     ∙ (λ i. If (resolved_arms names (arms_vec as' i)) (resolved_block names (block_vec v i))))
 
-pub if_alone : (names : List Entry) (line : ℕ) (k : Kind.Kind) (as' : Vec HeldArm Global) (rest : Option (Vec Stmt Global)) (glued : Bool) →
-    k ≡ Kind.If as' rest glued → rest ≡ None → If (resolved_arms names (syntax.arms_of as'.items)) Done ≡ resolved names (syntax.statement line k)
+pub if_alone : (names : List Entry) (line : ℕ) (k : StatementKind.StatementKind) (as' : Vec HeldArm Global) (rest : Option (Vec Stmt Global)) (glued : Bool) →
+    k ≡ StatementKind.If as' rest glued → rest ≡ None → If (resolved_arms names (syntax.arms_of as'.items)) Done ≡ resolved names (syntax.statement line k)
 if_alone names line k as' rest glued is none =
-    sym (ap (λ k. resolved names (syntax.statement line k)) (is ∙ ap (λ r. Kind.If as' r glued) none)
+    sym (ap (λ k. resolved names (syntax.statement line k)) (is ∙ ap (λ r. StatementKind.If as' r glued) none)
     ∙ ap (λ x. If (resolved_arms names x) Done) (arms_vec as'))
 
-pub where_else : (names : List Entry) (line : ℕ) (k : Kind.Kind) (mask : Expr) (body : Vec Stmt Global) (rest : Option (Vec Stmt Global)) (v : Vec Stmt Global) (one glued : Bool) →
-    k ≡ Kind.Where mask body rest one glued → rest ≡ Some v →
+pub where_else : (names : List Entry) (line : ℕ) (k : StatementKind.StatementKind) (mask : Expr) (body : Vec Stmt Global) (rest : Option (Vec Stmt Global)) (v : Vec Stmt Global) (one glued : Bool) →
+    k ≡ StatementKind.Where mask body rest one glued → rest ≡ Some v →
     Where (term_of names [] (expression mask)) (section_assignments names (assignments_of body.items)) (section_assignments names (assignments_of v.items)) ≡ resolved names (syntax.statement line k)
 where_else names line k mask body rest v one glued is some =
-    sym (ap (λ k. resolved names (syntax.statement line k)) (is ∙ ap (λ r. Kind.Where mask body r one glued) some)
+    sym (ap (λ k. resolved names (syntax.statement line k)) (is ∙ ap (λ r. StatementKind.Where mask body r one glued) some)
     ∙ (λ i. Where (term_of names [] (expression mask)) (section_assignments names (assignments_vec body i)) (section_assignments names (assignments_vec v i))))
 
-pub where_alone : (names : List Entry) (line : ℕ) (k : Kind.Kind) (mask : Expr) (body : Vec Stmt Global) (rest : Option (Vec Stmt Global)) (one glued : Bool) →
-    k ≡ Kind.Where mask body rest one glued → rest ≡ None →
+pub where_alone : (names : List Entry) (line : ℕ) (k : StatementKind.StatementKind) (mask : Expr) (body : Vec Stmt Global) (rest : Option (Vec Stmt Global)) (one glued : Bool) →
+    k ≡ StatementKind.Where mask body rest one glued → rest ≡ None →
     Where (term_of names [] (expression mask)) (section_assignments names (assignments_of body.items)) [] ≡ resolved names (syntax.statement line k)
 where_alone names line k mask body rest one glued is none =
-    sym (ap (λ k. resolved names (syntax.statement line k)) (is ∙ ap (λ r. Kind.Where mask body r one glued) none)
+    sym (ap (λ k. resolved names (syntax.statement line k)) (is ∙ ap (λ r. StatementKind.Where mask body r one glued) none)
     ∙ ap (λ b. Where (term_of names [] (expression mask)) (section_assignments names b) []) (assignments_vec body))
 
-pub forall_is : (names : List Entry) (line : ℕ) (k : Kind.Kind) (axes : Vec Header Global) (mask : Option Expr) (body : Vec Stmt Global) (one glued marked : Bool) →
-    k ≡ Kind.Forall axes mask body one glued marked →
+pub forall_is : (names : List Entry) (line : ℕ) (k : StatementKind.StatementKind) (axes : Vec Header Global) (mask : Option Expr) (body : Vec Stmt Global) (one glued marked : Bool) →
+    k ≡ StatementKind.Forall axes mask body one glued marked →
     resolved names (syntax.Forall (map axis axes.items) (option_map expression mask) (assignments_of body.items)) ≡ resolved names (syntax.statement line k)
 forall_is names line k axes mask body one glued marked is =
     sym (ap (λ k. resolved names (syntax.statement line k)) is

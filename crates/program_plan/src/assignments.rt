@@ -11,7 +11,7 @@ use hpf_base::{Name, OutOfMemory};
 use name_table::Names;
 use resolved_program::{Action, ElementAssignment, SectionAssignment, Term};
 use std::alloc::Global;
-use syntax_tree::{Expr, Kind, Ref, Stmt};
+use syntax_tree::{Expr, Ref, StatementKind, Stmt};
 
 /// An assignment by itself.
 pub(crate) fn assignment(
@@ -76,7 +76,7 @@ fn add_section_assignment(
     ensures { OnOk result (map section_assignment assignments.new.items
         ≡ map section_assignment assignments.old.items ++ section_assignments names.now (assignments_in stmt.now.line stmt.now.what)) }
 {
-    let Kind::Assign { left, right } = &stmt.what else {
+    let StatementKind::Assign { left, right } = &stmt.what else {
         return Ok(());
     };
     let left = left_side(alloc, names, &[], left)?;
@@ -122,7 +122,7 @@ fn add_element_assignment(
     ensures { OnOk result (map element_assignment assignments.new.items
         ≡ map element_assignment assignments.old.items ++ element_assignments names.now indices.now (assignments_in stmt.now.line stmt.now.what)) }
 {
-    let Kind::Assign { left, right } = &stmt.what else {
+    let StatementKind::Assign { left, right } = &stmt.what else {
         return Ok(());
     };
     let left = left_side(alloc, names, indices, left)?;

@@ -20,7 +20,7 @@ use hpf_base::OutOfMemory;
 use name_table::{Names, Program};
 use resolved_program::{Action, Arm, Loop, Nest, ResolvedProgram, Statement, Term};
 use std::alloc::Global;
-use syntax_tree::{DoLoop, Kind, Stmt};
+use syntax_tree::{DoLoop, StatementKind, Stmt};
 
 /// The plan of a program, whether it keeps the rules or not: its statements in order, with its names resolved. A variable goes by its
 /// place among `program.names` and an index of a FORALL by its place in the header, both from 0. A named constant, SIZE, LBOUND and
@@ -59,24 +59,24 @@ fn action(alloc: Global, names: &Names, stmt: &Stmt) -> Result<Action, OutOfMemo
     ensures { IfOk result (λ a. statement a ≡ resolved names.now (syntax.statement stmt.now.line stmt.now.what)) }
 {
     match &stmt.what {
-        Kind::Assign { left, right } => assignment(alloc, names, left, right),
-        Kind::IfOne { cond, body } => {
+        StatementKind::Assign { left, right } => assignment(alloc, names, left, right),
+        StatementKind::IfOne { cond, body } => {
             let condition = term(alloc, names, &[], cond)?;
             let what = action(alloc, names, body)?;
             if_one(alloc, stmt.line, condition, body.line, what)
         }
-        Kind::If { arms, rest, .. } => {
+        StatementKind::If { arms, rest, .. } => {
             let arms = arms_of(alloc, names, arms)?;
             match rest {
                 None => Ok(Action::If(arms, Vec::new(alloc))),
                 Some(stmts) => Ok(Action::If(arms, block(alloc, names, stmts)?)),
             }
         }
-        Kind::Do(inner) => {
+        StatementKind::Do(inner) => {
             let nest = nest_of(alloc, names, inner)?;
             loop_with(alloc, names, nest, inner)
         }
-        Kind::Where {
+        StatementKind::Where {
             mask,
             body,
             rest,
@@ -85,18 +85,18 @@ fn action(alloc: Global, names: &Names, stmt: &Stmt) -> Result<Action, OutOfMemo
             None => where_alone(alloc, names, mask, body),
             Some(others) => where_else(alloc, names, mask, body, others),
         },
-        Kind::Forall {
+        StatementKind::Forall {
             axes,
             mask,
             body,
             ..
         } => forall(alloc, names, axes, mask, body),
-        Kind::Print(listed) => Ok(Action::Print(items(alloc, names, listed)?)),
-        Kind::Stop => Ok(Action::Stop),
-        Kind::Exit => Ok(Action::Exit),
-        Kind::Cycle => Ok(Action::Cycle),
-        Kind::Continue => Ok(Action::Continue),
-        Kind::Redistribute(_) => Ok(Action::Redistribute),
+        StatementKind::Print(listed) => Ok(Action::Print(items(alloc, names, listed)?)),
+        StatementKind::Stop => Ok(Action::Stop),
+        StatementKind::Exit => Ok(Action::Exit),
+        StatementKind::Cycle => Ok(Action::Cycle),
+        StatementKind::Continue => Ok(Action::Continue),
+        StatementKind::Redistribute(_) => Ok(Action::Redistribute),
     }
 }
 
@@ -192,7 +192,7 @@ fn unmarked_action(alloc: Global, names: &Names, stmt: &Stmt) -> Result<Action, 
     ensures { IfOk result (λ a. statement a ≡ with_nest None (resolved names.now (syntax.statement stmt.now.line stmt.now.what))) }
 {
     match &stmt.what {
-        Kind::Do(inner) => loop_with(alloc, names, None, inner),
+        StatementKind::Do(inner) => loop_with(alloc, names, None, inner),
         _ => action(alloc, names, stmt),
     }
 }

@@ -1,4 +1,4 @@
-//! Values of constant terms: the arguments of SIZE, LBOUND and UBOUND behind the array (Fortran 95, 13.14).
+//! Values of constant terms: the arguments of SIZE, LBOUND and UBOUND after the array (Fortran 95, 13.14).
 
 ghost use Rattle.std.specs.Prelude.{◌≡◌, drop, pos, unwrap_or, IfOk};
 ghost use Rattle.expression_rules.specs.Dims.{AreDims};
@@ -23,7 +23,7 @@ pub(crate) fn inquiry(
     ensures { IfOk result (λ t. term t ≡ inquiry op dims.now (terms_of arguments.now)) }
 {
     let numbers = constants(alloc, arguments)?;
-    let value = inquired(None, op, dims, behind_first(numbers.as_slice()));
+    let value = inquired(None, op, dims, after_first(numbers.as_slice()));
     Ok(Term::Number(or_zero(value)))
 }
 
@@ -73,7 +73,7 @@ fn or_zero(value: Evaluated<i64>) -> i64
 }
 
 /// All but the first.
-fn behind_first(numbers: &[i64]) -> &[i64]
+fn after_first(numbers: &[i64]) -> &[i64]
     ensures { result.now ≡ drop 1 numbers.now }
 {
     match numbers.split_first() {

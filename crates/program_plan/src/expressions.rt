@@ -50,7 +50,7 @@ pub(crate) fn term(
     }
 }
 
-/// A name, with the subscripts behind it.
+/// A name, with the subscripts after it.
 #[cycle(term)]
 pub(crate) fn reference_term(
     alloc: Global,

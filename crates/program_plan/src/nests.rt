@@ -12,7 +12,7 @@ use hpf_base::{Name, OutOfMemory};
 use name_table::Names;
 use resolved_program::Nest;
 use std::alloc::{AllocError, Global};
-use syntax_tree::{DoLoop, Kind, Mark, Stmt};
+use syntax_tree::{DoLoop, Mark, StatementKind, Stmt};
 
 /// The nest of which a loop is the outermost; None where it isn't INDEPENDENT.
 #[cycle(nest)]
@@ -51,7 +51,7 @@ fn nest_of_one(alloc: Global, names: &Names, stmt: &Stmt) -> Result<Option<Nest>
     ensures { IfOk result (λ n. IsNestOf n (Then stmt.now.line (resolved names.now (syntax.statement stmt.now.line stmt.now.what)) Done)) }
 {
     match &stmt.what {
-        Kind::Do(inner) => nest_of(alloc, names, inner),
+        StatementKind::Do(inner) => nest_of(alloc, names, inner),
         _ => Ok(None),
     }
 }

@@ -127,12 +127,12 @@ module _ (nodes : ℕ) (pair : Pair) (pairs : List Pair) where
       let front = rotation_round nodes pairs lo in
       let rest = joined nodes pairs (lo + 1) len in
       let more = joined nodes (pair ∷ pairs) (lo + 1) len in
-      let behind : IsPermutation (front ++ (pair ∷ rest)) (front ++ more) =
+      let after : IsPermutation (front ++ (pair ∷ rest)) (front ++ more) =
       IsPermutation-append_right front (pair ∷ rest) more (inserted (lo + 1) len (omega (arith, ne)) (omega arith)) in
       let whole : front ++ more ≡ joined nodes (pair ∷ pairs) lo (suc len) = ap (λ ps. ps ++ more) (sym (other-round lo ne)) in
       subst (IsPermutation (pair ∷ (front ++ rest))) whole
       (IsPermutation-trans (pair ∷ (front ++ rest)) (front ++ (pair ∷ rest)) (front ++ more)
-      (IsPermutation-sym (front ++ (pair ∷ rest)) (pair ∷ (front ++ rest)) (IsPermutation-middle front pair rest)) behind))
+      (IsPermutation-sym (front ++ (pair ∷ rest)) (pair ∷ (front ++ rest)) (IsPermutation-middle front pair rest)) after))
       (cases_eq (round_of nodes pair) lo)
 
 all-joined : (nodes : ℕ) (pairs : List Pair) → All (IsBetween nodes) pairs → IsPermutation pairs (joined nodes pairs 1 (nodes - 1))

@@ -3,7 +3,7 @@
 //! Comes in: the number of nodes, and the ordered pairs of nodes of which the first sends to the second. Goes out: the
 //! pairs in rounds. What holds in between: each pair stands in exactly one round, and in a round a node sends at most one
 //! letter and takes at most one. The rounds are those of a rotation: in each of them every target lies equally many nodes
-//! behind its source.
+//! after its source.
 #![tactic(auto)]
 
 mod rotation;

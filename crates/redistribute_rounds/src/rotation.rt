@@ -11,7 +11,7 @@ use letters::Pair;
 use std::alloc::Global;
 
 /// The rounds of these pairs (HPF 2.0, REDISTRIBUTE, by rotation): each pair is in the round whose number is how many
-/// nodes its target lies behind its source, modulo the number of nodes. Rounds without a pair are dropped; the others
+/// nodes its target lies after its source, modulo the number of nodes. Rounds without a pair are dropped; the others
 /// are in order, and the pairs of a round in the order in which they were given. The pairs are distinct, and each goes
 /// from a node to another.
 pub fn rounds(alloc: Global, nodes: u32, pairs: &[Pair]) -> Result<Rounds, OutOfMemory>
@@ -45,7 +45,7 @@ fn rotation_round(
     Ok(round)
 }
 
-/// How many nodes the target of a pair lies behind its source, where node 0 comes behind the last node.
+/// How many nodes the target of a pair lies after its source, where node 0 comes after the last node.
 fn round_of(nodes: u32, pair: &Pair) -> u32
     requires { IsBetween nodes pair.now }
     ensures { result ≡ round_of nodes pair.now }

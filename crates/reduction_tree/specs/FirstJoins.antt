@@ -33,15 +33,15 @@ module _ {K : Type 0} (R : K → K → Ordering) (total : IsTotalOrder R) (apart
   first-comm (Some x) None = refl
   first-comm (Some x) (Some y) = ap Some (ap (λ r. if is_gt r then y else x) (total.antisymm x y) ∙ same_either_way x y (R y x) refl)
 
-  not-behind : (x y : K) (r : Ordering) → R x y ≡ r → is_gt r ≡ true → is_gt (R y x) ≡ false
-  not-behind x y Less is gt = absurd (true≢false (sym gt))
-  not-behind x y Equal is gt = absurd (true≢false (sym gt))
-  not-behind x y Greater is gt = ap is_gt (total.antisymm y x ∙ ap ordering_reverse is)
+  not-after : (x y : K) (r : Ordering) → R x y ≡ r → is_gt r ≡ true → is_gt (R y x) ≡ false
+  not-after x y Less is gt = absurd (true≢false (sym gt))
+  not-after x y Equal is gt = absurd (true≢false (sym gt))
+  not-after x y Greater is gt = ap is_gt (total.antisymm y x ∙ ap ordering_reverse is)
 
   of_three : (x y z : K) (xy yz xz : Bool) → is_gt (R x y) ≡ xy → is_gt (R y z) ≡ yz → is_gt (R x z) ≡ xz
       → first_of R (Some (if xy then y else x)) (Some z) ≡ first_of R (Some x) (Some (if yz then z else y))
   of_three x y z true true true ea eb ec = rw (eb, ec) refl
-  of_three x y z true true false ea eb ec = absurd (true≢false (sym ea ∙ upto total x z y ec (not-behind y z (R y z) refl eb)))
+  of_three x y z true true false ea eb ec = absurd (true≢false (sym ea ∙ upto total x z y ec (not-after y z (R y z) refl eb)))
   of_three x y z true false c ea eb ec = rw (ea, eb) refl
   of_three x y z false true c ea eb ec = refl
   of_three x y z false false true ea eb ec = absurd (true≢false (sym ec ∙ upto total x y z ea eb))

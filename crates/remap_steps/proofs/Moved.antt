@@ -1,4 +1,4 @@
--- The pieces of a node behind a redistribution.
+-- The pieces of a node after a redistribution.
 use Rattle.std.proofs.Common.{◌≡◌, ℕ, zero, suc, ℤ, pos, ◌+◌, ◌<◌, ◌≤◌, Bool, true, false, if◌then◌else◌, List, [], ◌∷◌, ◌++◌, length, map, filter, get_or, take, refl, sym, ◌∙◌, ap, subst, arith}
 use Rattle.std.proofs.lemmas.List.{take_all, take_more}
 use Rattle.std.proofs.lemmas.List.Elements.{All-cons, All-nil}
@@ -12,7 +12,7 @@ use Rattle.owner_tables.proofs.Ranges.{count-more}
 use Rattle.comm_sets.specs.Ascending.{Ascends}
 use Rattle.comm_sets.proofs.MessageLaws.{remap_message-ascends}
 use Rattle.owner_tables.proofs.Listed.{listed-is}
-use Rattle.remap_steps.specs.Redistributions.{Redistribution, message_between, messages_to, moved_row, value_behind}
+use Rattle.remap_steps.specs.Redistributions.{Redistribution, message_between, messages_to, moved_row, value_after}
 use Rattle.remap_steps.proofs.Nodes.{map-more}
 
 -- ---- a piece by the local addresses of its elements
@@ -63,7 +63,7 @@ module _ (r : Redistribution) (pieces : Storage) (received : List (List ℤ)) wh
   -- ---- a row that lies as before
 
   own-value : (row at : ℕ) → owned_in r.old row r.id at ≡ true
-      → get_or (row_of pieces row) (count_passing (owned_in r.old row r.id) 0 at) (pos 0) ≡ value_behind r pieces received (record { row = row; at = at })
+      → get_or (row_of pieces row) (count_passing (owned_in r.old row r.id) 0 at) (pos 0) ≡ value_after r pieces received (record { row = row; at = at })
   own-value row at owns =
       ap (λ b. if b then get_or (row_of pieces row) (count_passing (owned_in r.old row r.id) 0 at) (pos 0)
       else lookup (message_between r (least_owner_of r.nodes r.old (record { row = row; at = at })) r.id) (get_or received (least_owner_of r.nodes r.old (record { row = row; at = at })) [])
@@ -76,9 +76,9 @@ module _ (r : Redistribution) (pieces : Storage) (received : List (List ℤ)) wh
       let size = get_or (sizes r.old) row 0 in
       whole-piece P piece size long
       ∙ ap (λ (p : List ℤ). map (λ at. get_or p (count_passing P 0 at) (pos 0)) (filter P (range_with_len 0 size))) is
-      ∙ map-agree (λ at. get_or (row_of pieces row) (count_passing P 0 at) (pos 0)) (λ at. value_behind r pieces received (record { row = row; at = at })) (filter P (range_with_len 0 size))
-      (passing P (λ at. get_or (row_of pieces row) (count_passing P 0 at) (pos 0) ≡ value_behind r pieces received (record { row = row; at = at })) (own-value row) (range_with_len 0 size))
-      ∙ ap (λ (owner : ℕ → ℕ → Bool). map (λ at. value_behind r pieces received (record { row = row; at = at })) (filter (owner r.id) (range_with_len 0 size))) same
+      ∙ map-agree (λ at. get_or (row_of pieces row) (count_passing P 0 at) (pos 0)) (λ at. value_after r pieces received (record { row = row; at = at })) (filter P (range_with_len 0 size))
+      (passing P (λ at. get_or (row_of pieces row) (count_passing P 0 at) (pos 0) ≡ value_after r pieces received (record { row = row; at = at })) (own-value row) (range_with_len 0 size))
+      ∙ ap (λ (owner : ℕ → ℕ → Bool). map (λ at. value_after r pieces received (record { row = row; at = at })) (filter (owner r.id) (range_with_len 0 size))) same
 
   -- ---- what was received
 
@@ -90,7 +90,7 @@ module _ (r : Redistribution) (pieces : Storage) (received : List (List ℤ)) wh
     received-ascends = subst (λ (ss : List Spot). Ascends ss) (sym message-is) (remap_message-ascends r.nodes r.old r.new source r.id)
 
     pub received-is : (spot : Spot) (values : List ℤ) → source ≡ least_owner_of r.nodes r.old spot → values ≡ get_or received source [] → owns_spot r.old r.id spot ≡ false
-        → lookup spots values spot ≡ value_behind r pieces received spot
+        → lookup spots values spot ≡ value_after r pieces received spot
     received-is spot values least vs owns =
         (λ i. lookup (message-is i) (vs i) spot)
         ∙ ap (λ p. lookup (message_between r p r.id) (get_or received p []) spot) least
@@ -100,16 +100,16 @@ module _ (r : Redistribution) (pieces : Storage) (received : List (List ℤ)) wh
   -- ---- all rows
 
   rows-by : (first : ℕ) (ns all : List ℕ) → ((k : ℕ) → get_or all (first + k) 0 ≡ get_or ns k 0)
-      → map (λ row. map (λ at. value_behind r pieces received (record { row = row; at = at })) (filter (owned_in r.new row r.id) (range_with_len 0 (get_or all row 0))))
-      (range_with_len first (length ns)) ≡ pieces_by r.new r.id (value_behind r pieces received) first ns
+      → map (λ row. map (λ at. value_after r pieces received (record { row = row; at = at })) (filter (owned_in r.new row r.id) (range_with_len 0 (get_or all row 0))))
+      (range_with_len first (length ns)) ≡ pieces_by r.new r.id (value_after r pieces received) first ns
   rows-by first [] all same = refl
   rows-by first (n ∷ ns) all same =
       let here : first + 0 ≡ first = omega arith in
       let size : get_or all first 0 ≡ n = ap (λ row. get_or all row 0) (sym here) ∙ same 0 in
-      (λ i. map (λ at. value_behind r pieces received (record { row = first; at = at })) (filter (owned_in r.new first r.id) (range_with_len 0 (size i)))
+      (λ i. map (λ at. value_after r pieces received (record { row = first; at = at })) (filter (owned_in r.new first r.id) (range_with_len 0 (size i)))
       ∷ rows-by (first + 1) ns all (λ k. let next : first + 1 + k ≡ first + suc k = omega arith in ap (λ row. get_or all row 0) next ∙ same (suc k)) i)
 
-  pub all-rows : (n : ℕ) → n ≡ length (sizes r.old) → map (moved_row r pieces received) (range_with_len 0 n) ≡ pieces_by r.new r.id (value_behind r pieces received) 0 (sizes r.old)
+  pub all-rows : (n : ℕ) → n ≡ length (sizes r.old) → map (moved_row r pieces received) (range_with_len 0 n) ≡ pieces_by r.new r.id (value_after r pieces received) 0 (sizes r.old)
   all-rows n count =
       ap (λ m. map (moved_row r pieces received) (range_with_len 0 m)) count
       ∙ rows-by 0 (sizes r.old) (sizes r.old) (λ k. let same : 0 + k ≡ k = omega arith in ap (λ row. get_or (sizes r.old) row 0) same)

@@ -36,19 +36,19 @@ module _ (r : Redistribution) where
   abbrev pub round_inbox : ℕ → List ℕ
   round_inbox round = filter (λ from. sends_in round from r.id) (range_with_len 0 r.nodes)
 
-  -- the value of an element on the node behind the last round: its own, or received
-  abbrev pub value_behind : Storage → List (List ℤ) → Spot → ℤ
-  value_behind pieces received = held_or_received r.nodes r.old (λ from. message_between from r.id) r.id pieces received
+  -- the value of an element on the node after the last round: its own, or received
+  abbrev pub value_after : Storage → List (List ℤ) → Spot → ℤ
+  value_after pieces received = held_or_received r.nodes r.old (λ from. message_between from r.id) r.id pieces received
 
   -- the elements that each node sends to it
   abbrev pub messages_to : List (List Spot)
   messages_to = map (λ from. message_between from r.id) (range_with_len 0 r.nodes)
 
-  -- its piece of a row behind the last round: the elements that it owns after, in array-element order
+  -- its piece of a row after the last round: the elements that it owns after, in array-element order
   abbrev pub moved_row : Storage → List (List ℤ) → ℕ → List ℤ
-  moved_row pieces received row = map (λ at. value_behind pieces received (record { row = row; at = at }))
+  moved_row pieces received row = map (λ at. value_after pieces received (record { row = row; at = at }))
       (filter (owned_in r.new row r.id) (range_with_len 0 (slice_index_or (sizes r.old) row 0)))
 
   -- its pieces of all rows
   abbrev pub moved_pieces : Storage → List (List ℤ) → Storage
-  moved_pieces pieces received = pieces_by r.new r.id (value_behind pieces received) 0 (sizes r.old)
+  moved_pieces pieces received = pieces_by r.new r.id (value_after pieces received) 0 (sizes r.old)

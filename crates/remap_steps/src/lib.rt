@@ -1,7 +1,7 @@
 //! What a node does in a redistribution (HPF 2.0, 8.3).
 //!
 //! Comes in: who owns each element before it and after it, a node's number and its pieces, and the values received. Goes out: what the
-//! node sends in each round and from whom it takes, and behind the last round its pieces.
+//! node sends in each round and from whom it takes, and after the last round its pieces.
 //!
 //! What holds in between: the messages of a node and the rounds are found once, by one pass over the elements each (`Redistribution`), and a
 //! round looks them up; nothing is changed, so want of memory leaves a node as it was. A row that lies as before is sent by no one, and

@@ -1,10 +1,10 @@
-//! The pieces of a node behind a redistribution.
+//! The pieces of a node after a redistribution.
 
 ghost use Rattle.std.specs.Prelude.{◌≡◌, ◌<◌, ◌++◌, ◌∷◌, [], IfOk, IfSome, OnOk, filter, length, map, slice_index_or};
 ghost use Rattle.std.specs.List.{range_with_len};
 ghost use Rattle.machine_steps.specs.Layout.{owned_in, sizes};
 ghost use Rattle.storage.specs.Spots.{spot_of};
-ghost use Rattle.remap_steps.specs.Redistributions.{message_between, messages_to, moved_pieces, moved_row, value_behind};
+ghost use Rattle.remap_steps.specs.Redistributions.{message_between, messages_to, moved_pieces, moved_row, value_after};
 
 use crate::redistribution::Redistribution;
 use comm_sets::{Messages, Spot, is_unchanged, remap_incoming, value_in};
@@ -14,7 +14,7 @@ use owner_tables::{Row, local_value};
 use std::alloc::Global;
 
 impl Redistribution {
-    /// The node's pieces of all rows behind the last round, by its pieces before and the values that it received from each node in all
+    /// The node's pieces of all rows after the last round, by its pieces before and the values that it received from each node in all
     /// rounds: of each row the elements that it owns after, in array-element order. A row that lies as before is copied.
     pub fn moved_pieces(
         &self,
@@ -86,7 +86,7 @@ impl Redistribution {
         Ok(Row::of(values))
     }
 
-    /// Puts the value of an element behind the others, if the node owns it after.
+    /// Puts the value of an element after the others, if the node owns it after.
     fn push_moved(
         &self,
         pieces: &[Row],
@@ -97,17 +97,17 @@ impl Redistribution {
     ) -> Result<(), OutOfMemory>
         requires incoming { incoming.now ≡ messages_to self.now }
         requires spot { spot.at < slice_index_or (sizes self.now.old) spot.row 0 }
-        ensures { OnOk result (values.new.items ≡ values.old.items ++ map (λ at. value_behind self.now pieces.now received.now (record { row = spot.row; at = at }))
+        ensures { OnOk result (values.new.items ≡ values.old.items ++ map (λ at. value_after self.now pieces.now received.now (record { row = spot.row; at = at }))
             (filter (owned_in self.now.new spot.row self.now.id) (spot.at ∷ []))) }
     {
         if self.after.owns(self.id, spot) {
-            values.push(self.value_behind(pieces, received, incoming, spot)?)?;
+            values.push(self.value_after(pieces, received, incoming, spot)?)?;
         }
         Ok(())
     }
 
     /// The value of an element: the node's own, or received.
-    fn value_behind(
+    fn value_after(
         &self,
         pieces: &[Row],
         received: &[Body],
@@ -116,7 +116,7 @@ impl Redistribution {
     ) -> Result<i64, OutOfMemory>
         requires incoming { incoming.now ≡ messages_to self.now }
         requires spot { spot.at < slice_index_or (sizes self.now.old) spot.row 0 }
-        ensures { IfOk result (λ value. value ≡ value_behind self.now pieces.now received.now (spot_of spot)) }
+        ensures { IfOk result (λ value. value ≡ value_after self.now pieces.now received.now (spot_of spot)) }
     {
         if self.before.owns(self.id, spot) {
             return local_value(&self.before, self.id, pieces, spot);

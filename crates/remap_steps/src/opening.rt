@@ -34,7 +34,7 @@ impl Redistribution {
         Ok(outbox)
     }
 
-    /// Puts what the node sends to the target behind the others, if it sends to it.
+    /// Puts what the node sends to the target after the others, if it sends to it.
     fn push_parcel(
         &self,
         alloc: Global,
@@ -66,7 +66,7 @@ impl Redistribution {
         Ok(Body::from(values))
     }
 
-    /// Puts the value of an element on the node behind the others.
+    /// Puts the value of an element on the node after the others.
     fn push_value(
         &self,
         pieces: &[Row],
@@ -91,7 +91,7 @@ impl Redistribution {
         Ok(inbox)
     }
 
-    /// Puts the source behind the others, if it sends to the node.
+    /// Puts the source after the others, if it sends to the node.
     fn push_source(
         &self,
         round: usize,

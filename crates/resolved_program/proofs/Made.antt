@@ -43,7 +43,7 @@ joined_all all ss n made whole end none so_far =
 pub one_more : {A B : Type 0} (f : A → B) (made new : List A) (a : A) → new ≡ made ++ a ∷ [] → map f new ≡ map f made ++ f a ∷ []
 one_more f made new a is = ap (map f) is ∙ map-append f made (a ∷ [])
 
--- behind the last turn
+-- after the last turn
 pub made_all : {A B S : Type 0} (add : A → B → B) (all : List S → B) (ss : List S) (n : ℕ) (made : List A) (whole : B) → length ss ≤ n →
     before add made (all (drop n ss)) ≡ whole → before add made (all []) ≡ whole
 made_all add all ss n made whole end so_far = ap (λ l. before add made (all l)) (sym (drop_of_length-le ss end)) ∙ so_far

@@ -27,7 +27,7 @@ pub enum Action {
     If(Vec<Arm>, Vec<Statement>),
     /// A loop and its body. The nest is that of INDEPENDENT loops of which this one is the outermost.
     Do(Option<Nest>, Loop, Vec<Statement>),
-    /// The mask, the assignments, and those behind ELSEWHERE.
+    /// The mask, the assignments, and those after ELSEWHERE.
     Where(Term, Vec<SectionAssignment>, Vec<SectionAssignment>),
     /// The indices, the mask, and the assignments.
     Forall(Vec<Control>, Option<Term>, Vec<ElementAssignment>),

@@ -6,7 +6,7 @@ use Rattle.name_table.specs.declared.names.Entry.{Entry}
 use Rattle.name_table.specs.declared.names.What.{What}
 use Rattle.name_table.specs.declared.names.What.TheVariants as what
 
--- numbers in decimal, each behind a blank
+-- numbers in decimal, each after a blank
 abbrev pub elements_text : List ℤ → List ℕ
 elements_text = flat_map (λ n. 32 ∷ signed_decimal n)
 

@@ -9,7 +9,7 @@ use name_table::{Names, What};
 use std::alloc::{AllocError, Global};
 
 /// The text of a program's last arrays: for each, in the order of the declarations, a line with its name, an equals sign and its elements in
-/// array-element order, each behind a blank, as `A = 0 2 6`. Each array stands at the place of its name among the declared names.
+/// array-element order, each after a blank, as `A = 0 2 6`. Each array stands at the place of its name among the declared names.
 pub fn arrays_text(
     alloc: Global,
     names: &Names,
@@ -69,7 +69,7 @@ fn add_array(
     }
 }
 
-/// Adds numbers, each behind a blank.
+/// Adds numbers, each after a blank.
 fn add_elements(text: &mut Vec<u8>, elements: &[i64]) -> Result<(), AllocError>
     ensures { OnOk result (text.new.items ≡ text.old.items ++ elements_text elements.now) }
 {

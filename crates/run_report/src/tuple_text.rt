@@ -29,7 +29,7 @@ fn add_numbers(text: &mut Vec<u8>, numbers: &[i64]) -> Result<(), AllocError>
     Ok(())
 }
 
-/// Adds numbers, each behind a comma.
+/// Adds numbers, each after a comma.
 fn add_more(text: &mut Vec<u8>, numbers: &[i64]) -> Result<(), AllocError>
     ensures { OnOk result (text.new.items ≡ text.old.items ++ flat_map (λ n. 44 ∷ signed_decimal n) numbers.now) }
 {

@@ -35,14 +35,14 @@ next_place t n h = sym (ap (λ x. x % n) (next_number t n) ∙ mod-mul-add (t / 
 pub next_quotient : (t n : ℕ) → t % n + 1 < n → t / n ≡ (t + 1) / n
 next_quotient t n h = sym (ap (λ x. x / n) (next_number t n) ∙ div-mul-add (t / n) n (t % n + 1) h)
 
--- the values behind a step of the first index
+-- the values after a step of the first index
 next_values : (p : Sequence) (ps : List Sequence) (t : ℕ) → t % p.count + 1 < p.count →
     set (indices_at (p ∷ ps) t) 0 (wrapped (wrapped (nth p (pos (suc (t % p.count)))) +ℤ p.step)) ≡ indices_at (p ∷ ps) (t + 1)
 next_values p ps t h =
     ap (λ v. v ∷ indices_at ps (t / p.count)) (next_value p (t % p.count) ∙ ap (λ k. wrapped (nth p (pos (suc k)))) (next_place t p.count h))
     ∙ ap (λ q. wrapped (nth p (pos (suc ((t + 1) % p.count)))) ∷ indices_at ps q) (next_quotient t p.count h)
 
--- the same of a tuple in code, with the value of the first index and the one behind it
+-- the same of a tuple in code, with the value of the first index and the one after it
 pub step_is : (axes : List Sequence) (t : ℕ) (x y : IndexTuple) (v w : ℤ) (d : Sequence) → IsTrue (has_next axes x.place) → IsTuple axes t x →
     v ≡ get_or x.values.items 0 v → w ≡ wrapped (v +ℤ (get_or axes 0 d).step) → y.place ≡ x.place + 1 → y.values.items ≡ set x.values.items 0 w →
     IsTuple axes (t + 1) y

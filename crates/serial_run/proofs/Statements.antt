@@ -39,7 +39,7 @@ do_is a nest l body line s p is values =
     ∙ ap (λ x. run x line s) (do_vec nest l body)
     ∙ ap (λ r. with_value line s r (λ p. iterate p.count l.index p.first p.step (run_block (block_of body.items)) s)) values
 
--- an iteration behind which the loop goes on
+-- an iteration after which the loop goes on
 pub iterate_next : (n k x : ℕ) (at at' step : ℤ) (body : State → Run) (s s' : State) (c : Completion) → k < n → at' ≡ wrapped (at +ℤ step) →
     body (set_scalar s x at) ≡ record { state = s'; completion = c } → ((next : State → Run) → after_iteration c s' next ≡ next s') →
     iterate (n - k) x at step body s ≡ iterate (n - (k + 1)) x at' step body s'

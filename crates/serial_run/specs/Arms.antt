@@ -7,7 +7,7 @@ use Rattle.array_meaning.specs.Execution.{run_arms}
 use Rattle.serial_run.specs.declared.completion.Completion.{Completion as HeldCompletion}
 use Rattle.serial_run.specs.Completions.{IsRun}
 
--- a run of one of them, whatever stands behind them; or none whose condition is true
+-- a run of one of them, whatever stands after them; or none whose condition is true
 abbrev pub IsArms : Arms → State → State → Option HeldCompletion → Type 0
 IsArms arms old new (Some c) = (other : State → Run) → IsRun (run_arms arms other old) new c
 IsArms arms old new None = (other : State → Run) → run_arms arms other old ≡ other new

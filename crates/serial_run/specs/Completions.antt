@@ -28,7 +28,7 @@ IsStopped r old new e = IsStop r e × Unchanged e where
   Unchanged (stop.Fault c) = new ≡ old
   Unchanged stop.Memory = Unit {0}
 
--- how a statement completes behind a stop, and behind a step; want of memory has no completion
+-- how a statement completes after a stop, and after a step; want of memory has no completion
 abbrev pub IsFaulted : ℕ → Stop → HeldCompletion → Type 0
 IsFaulted line (stop.Fault c) r = r ≡ held.Faulted record { line = line; cause = c }
 IsFaulted line stop.Memory r = ⊥

@@ -22,7 +22,7 @@ abbrev pub first_place : List Sequence → ℕ → ℕ
 first_place [] t = 0
 first_place (p ∷ ps) t = t % p.count
 
--- whether the first index has a value behind that at a position
+-- whether the first index has a value after that at a position
 abbrev pub has_next : List Sequence → ℕ → Bool
 has_next [] place = false
 has_next (p ∷ ps) place = nat_lt (place + 1) p.count
@@ -59,7 +59,7 @@ forall_masked line axes n mask body s = with_value line s (mask_over s axes n ma
 abbrev pub forall_within : ℕ → List Sequence → ℕ → Option Term → List ElementAssignment → State → Run
 forall_within line axes n mask body s = then_do (check_one_to_one (index_extents axes) body s) (forall_masked line axes n mask body)
 
--- behind the header
+-- after the header
 abbrev pub forall_over : ℕ → List Sequence → Option Term → List ElementAssignment → State → Run
 forall_over line axes mask body s =
     if product (index_extents axes) == 0 then normal s else

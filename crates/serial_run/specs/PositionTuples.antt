@@ -8,7 +8,7 @@ abbrev pub first_position : List ℕ → ℕ → ℕ
 first_position [] t = 0
 first_position (n ∷ ns) t = t % n
 
--- whether the first dimension has a position behind one
+-- whether the first dimension has a position after one
 abbrev pub has_next : List ℕ → ℕ → Bool
 has_next [] place = false
 has_next (n ∷ ns) place = nat_lt (place + 1) n

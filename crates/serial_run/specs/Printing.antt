@@ -1,4 +1,4 @@
--- The bytes that PRINT puts one behind the other.
+-- The bytes that PRINT puts one after the other.
 use Rattle.std.specs.Prelude.{◌≡◌, ℕ, ℤ, List, [], ◌++◌, Result, Ok}
 use Rattle.array_meaning.specs.Terms.{SectionSubscripts}
 use Rattle.array_meaning.specs.Faults.{Cause, ◌>>=◌}
@@ -6,7 +6,7 @@ use Rattle.array_meaning.specs.State.{State}
 use Rattle.array_meaning.specs.Elementals.{Selected, array_value}
 use Rattle.array_meaning.specs.Expressions.{selections}
 
--- the bytes of a result were put behind others
+-- the bytes of a result were put after others
 abbrev pub Adds : Result (List ℕ) Cause → List ℕ → List ℕ → Type 0
 Adds r old new = (bytes : List ℕ) × (r ≡ Ok bytes) × (new ≡ old ++ bytes)
 

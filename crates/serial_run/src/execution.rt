@@ -1,4 +1,4 @@
-//! Statements, one behind the other (Fortran 95, 8.1).
+//! Statements, one after the other (Fortran 95, 8.1).
 
 ghost use Rattle.std.specs.Prelude.{◌≡◌, ◌+ℤ◌, IfErr, IfOk, Ok};
 ghost use Rattle.op_tables.specs.Operators.{wrapped};
@@ -108,7 +108,7 @@ struct IndexValue {
     value: i64,
 }
 
-/// Runs the iterations of a loop. Behind it the index has the value that the next iteration would have had.
+/// Runs the iterations of a loop. After it the index has the value that the next iteration would have had.
 #[cycle(run)]
 #[inline(never)]
 fn iterate(
@@ -140,7 +140,7 @@ fn set_index(s: &mut State, index: usize, at: IndexValue)
     s.set_scalar(index, at.value);
 }
 
-/// The value of an index behind one.
+/// The value of an index after one.
 #[tactic(auto, using(std::proofs::lemmas::Int::wraps))]
 fn next(at: IndexValue, p: Sequence) -> IndexValue
     ensures { result.value ≡ wrapped (at.value +ℤ p.step) }

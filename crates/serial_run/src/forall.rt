@@ -24,7 +24,7 @@ use resolved_program::{Control, ElementAssignment, Term};
 use std::alloc::{AllocError, Global};
 use term_values::{State, Stop, fault, index_values, size};
 
-/// A FORALL behind its header: the values that its indices take, its mask and its assignments.
+/// A FORALL after its header: the values that its indices take, its mask and its assignments.
 #[derive(Clone, Copy)]
 struct Forall<'a> {
     line: u32,
@@ -78,7 +78,7 @@ fn all_index_values(s: &State, controls: &[Control]) -> Result<Vec<Sequence>, St
     Ok(axes)
 }
 
-/// Runs it behind its header.
+/// Runs it after its header.
 fn run_over(s: &mut State, f: Forall<'_>) -> Result<Completion, AllocError>
     ensures { IfOk result (IsRun (forall_over f.entry.line f.entry.axes.now (option_map term f.entry.mask.now) (map element_assignment f.entry.body.now) (state_of s.old)) (state_of s.new)) }
 {

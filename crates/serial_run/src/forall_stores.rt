@@ -75,7 +75,7 @@ pub(crate) fn forall_stores(
     Ok(stores)
 }
 
-/// Puts what is stored at a tuple behind others, if the mask is true at its number.
+/// Puts what is stored at a tuple after others, if the mask is true at its number.
 fn keep_store(
     s: &State,
     space: Space<'_>,

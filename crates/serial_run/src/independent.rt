@@ -7,7 +7,7 @@ ghost use Rattle.syntax_tree.specs.Statement.{arms_of, block_of, do_construct, i
 ghost use Rattle.serial_run.specs.Independent.{arm_marks, left_out, marks, statement_marks};
 
 use hpf_base::{Reason, Refusal, earlier};
-use syntax_tree::{Arm, DoLoop, Kind, Mark, Stmt};
+use syntax_tree::{Arm, DoLoop, Mark, StatementKind, Stmt};
 
 /// `LeftOut` at the least line of an INDEPENDENT that stands before a DO, anywhere in these statements; None exactly where there is
 /// none. It takes no memory.
@@ -28,15 +28,15 @@ fn first_in_statement(stmt: &Stmt) -> Option<Refusal>
     ensures { result ≡ least (flat_map left_out (statement_marks (statement stmt.now.line stmt.now.what))) }
 {
     match &stmt.what {
-        Kind::IfOne { body, .. } => first_in_statement(body),
-        Kind::If { arms, rest, .. } => {
+        StatementKind::IfOne { body, .. } => first_in_statement(body),
+        StatementKind::If { arms, rest, .. } => {
             let first = first_in_arms(arms);
             match rest {
                 None => first,
                 Some(stmts) => earlier(first, first_independent(stmts)),
             }
         }
-        Kind::Do(inner) => first_in_do(inner),
+        StatementKind::Do(inner) => first_in_do(inner),
         _ => None,
     }
 }

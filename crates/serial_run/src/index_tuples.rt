@@ -47,7 +47,7 @@ pub(crate) fn advance(
     Ok(())
 }
 
-/// Whether the first index has a value behind that at a position.
+/// Whether the first index has a value after that at a position.
 fn has_next(axes: &[Sequence], place: usize) -> bool
     ensures { result ≡ has_next axes.now place }
 {

@@ -36,7 +36,7 @@ pub fn initial_scalars(alloc: Global, names: &Names) -> Result<Vec<i64>, AllocEr
     Ok(scalars)
 }
 
-/// Puts the initial value of a name behind others.
+/// Puts the initial value of a name after others.
 fn push_scalar(names: &Names, place: usize, scalars: &mut Vec<i64>) -> Result<(), AllocError>
     ensures { OnOk result (scalars.new.items ≡ scalars.old.items ++ scalar_of (slice_get names.now place) ∷ []) }
 {

@@ -51,7 +51,7 @@ pub(crate) fn advance(
     Ok(())
 }
 
-/// Whether the first dimension has a position behind one.
+/// Whether the first dimension has a position after one.
 fn has_next(extents: &[u128], place: usize) -> bool
     ensures { result ≡ has_next extents.now place }
 {

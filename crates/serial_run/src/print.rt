@@ -40,7 +40,7 @@ fn print(s: &mut State, items: &Vec<Item>) -> Result<(), Stop>
     Ok(())
 }
 
-/// Puts a line behind what was printed, without the first blank.
+/// Puts a line after what was printed, without the first blank.
 fn add_line(s: &mut State, bytes: &[u8]) -> Result<(), Stop>
     ensures value { OnOk result (state_of s.new ≡ record (state_of s.old) { printed = (state_of s.old).printed ++ (drop 1 bytes.now ++ 10 ∷ []) }) }
     ensures stopped { IfErr result (λ e. e ≡ Memory) }
@@ -64,7 +64,7 @@ fn all_item_bytes(s: &State, items: &Vec<Item>) -> Result<Vec<u8>, Stop>
     Ok(bytes)
 }
 
-/// Puts the bytes of an item behind others.
+/// Puts the bytes of an item after others.
 fn add_item(s: &State, i: &Item, bytes: &mut Vec<u8>) -> Result<(), Stop>
     ensures value { OnOk result (Adds (item_bytes (state_of s.now) (item i.now)) bytes.old.items bytes.new.items) }
     ensures stopped { IfErr result (IsStop (item_bytes (state_of s.now) (item i.now))) }
@@ -101,7 +101,7 @@ fn section_value(
     Ok(v)
 }
 
-/// Puts numbers behind bytes, a blank before each.
+/// Puts numbers after bytes, a blank before each.
 fn add_numbers(bytes: &mut Vec<u8>, values: &[i64]) -> Result<(), Stop>
     ensures value { OnOk result (bytes.new.items ≡ bytes.old.items ++ decimals values.now) }
     ensures stopped { IfErr result (λ e. e ≡ Memory) }
@@ -112,7 +112,7 @@ fn add_numbers(bytes: &mut Vec<u8>, values: &[i64]) -> Result<(), Stop>
     Ok(())
 }
 
-/// Puts a blank and a number behind bytes.
+/// Puts a blank and a number after bytes.
 fn add_number(bytes: &mut Vec<u8>, v: i64) -> Result<(), Stop>
     ensures value { OnOk result (bytes.new.items ≡ bytes.old.items ++ 32 ∷ signed_decimal v) }
     ensures stopped { IfErr result (λ e. e ≡ Memory) }

@@ -21,7 +21,7 @@ use term_values::{
     subscripts_at, value_at,
 };
 
-/// Where an assignment stands: not in a WHERE, or before or behind its ELSEWHERE.
+/// Where an assignment stands: not in a WHERE, or before or after its ELSEWHERE.
 #[derive(Clone, Copy)]
 pub(crate) enum Branch {
     Unmasked,
@@ -132,7 +132,7 @@ fn all_stores(s: &State, space: Space<'_>, sides: Sides<'_>, n: usize) -> Result
     Ok(stores)
 }
 
-/// Puts what is stored at a tuple behind others, if the mask is true at its number.
+/// Puts what is stored at a tuple after others, if the mask is true at its number.
 fn keep_store(
     s: &State,
     space: Space<'_>,

@@ -6,8 +6,8 @@ use Rattle.array_meaning.specs.Elementals.{NoOperand, Operand, Operation}
 use Rattle.array_meaning.specs.Terms.{Apply, NoTerm, More}
 use Rattle.node_code.specs.declared.flat.Flat.{Flat as HeldFlat}
 use Rattle.node_code.specs.declared.flat.Flat.TheVariants as held
-use Rattle.node_code.specs.declared.form.Form.{Form as HeldForm}
-use Rattle.node_code.specs.declared.form.Form.TheVariants as held_form
+use Rattle.node_code.specs.declared.form.ArrayForm.{ArrayForm as HeldForm}
+use Rattle.node_code.specs.declared.form.ArrayForm.TheVariants as held_form
 use Rattle.node_code.specs.Flat.{flat_value}
 use Rattle.node_code.specs.ForallLimits.{term_of, terms_of as terms_of_flats}
 use Rattle.node_code.specs.Forms.{elemental_at, elementals_at}

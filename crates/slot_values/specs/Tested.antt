@@ -1,4 +1,4 @@
--- How a run stands behind a test, which changes nothing but that the run goes on or stops.
+-- How a run stands after a test, which changes nothing but that the run goes on or stops.
 use Rattle.std.specs.Prelude.{◌≡◌, ℕ, Bool, true, false, Result, Ok, Err, if◌then◌else◌}
 use Rattle.array_meaning.specs.declared.faults.FaultKind.{FaultKind}
 use Rattle.array_meaning.specs.Faults.{Cause, Fault, fails}
@@ -9,12 +9,12 @@ use Rattle.term_values.specs.declared.stops.Stop.{Stop}
 use Rattle.term_values.specs.declared.stops.Stop.TheVariants as stop
 use Rattle.term_values.specs.Stops.{cause, IsStop}
 
--- behind a stop, which isn't want of memory
+-- after a stop, which isn't want of memory
 abbrev pub IsStopped : ℕ → Stop → (old new : Control Fault) → Type 0
 IsStopped line (stop.Fault c) old new = new ≡ faulted old (fault_at line (cause c))
 IsStopped line stop.Memory old new = ⊥
 
--- behind what a test answers
+-- after what a test answers
 abbrev pub IsTested : ℕ → Result Unit Stop → (old new : Control Fault) → Type 0
 IsTested line (Ok u) old new = new ≡ on old
 IsTested line (Err e) old new = IsStopped line e old new

@@ -61,7 +61,7 @@ pub(crate) fn stop_at(line: u32, stop: Stop, c: &mut Control) -> Result<(), OutO
     }
 }
 
-/// Goes on with the next instruction behind a test that is passed, and else ends the run at a line; nothing changes where memory wants.
+/// Goes on with the next instruction after a test that is passed, and else ends the run at a line; nothing changes where memory wants.
 pub(crate) fn go_on_if(
     line: u32,
     test: Result<(), Stop>,

@@ -1,8 +1,8 @@
 //! Expressions over slots in code, and the instructions that touch no array.
 //!
 //! Comes in: the slots of a node, and an expression, a form or an instruction of node code. Goes out: the value of an expression or its
-//! fault, the sections and the elemental expressions that stand behind forms, the element that subscripts name, and the place, the slots
-//! and the status behind an instruction.
+//! fault, the sections and the elemental expressions that stand after forms, the element that subscripts name, and the place, the slots
+//! and the status after an instruction.
 //!
 //! What holds in between: an evaluation changes nothing; want of memory leaves the control as it was, so the instruction can be run
 //! again; tests either go on to the next instruction or end the run with a fault at their line, and change nothing else. The limits of a

@@ -49,7 +49,7 @@ pub fn is_local(i: &Instruction) -> bool
 }
 
 /// Runs an instruction that touches no array; any other one changes nothing. `shapes` has the dimensions of the declared arrays, by the
-/// places of their names. Behind want of memory nothing has changed.
+/// places of their names. After want of memory nothing has changed.
 pub fn run_local(
     alloc: Global,
     shapes: &[Dims],

@@ -21,7 +21,7 @@ use hpf_base::OutOfMemory;
 use node_code::Flat;
 use term_values::{Number, Stop, fault, sequence};
 
-/// A slot gets the value of an expression, or the run ends with its fault. Behind want of memory nothing has changed.
+/// A slot gets the value of an expression, or the run ends with its fault. After want of memory nothing has changed.
 pub fn set(line: u32, x: usize, value: &Flat, c: &mut Control) -> Result<(), OutOfMemory>
     requires in_code { c.old.at < 2 ^ 63 }
     ensures done { OnOk result (control_of c.new ≡ set_result (at_line line (flat_value c.old.slots.items [] [] (flat value.now))) x (control_of c.old)) }
@@ -36,7 +36,7 @@ pub fn set(line: u32, x: usize, value: &Flat, c: &mut Control) -> Result<(), Out
     }
 }
 
-/// The run ends with a fault where a subscript has one or is out of bounds, and else goes on. Behind want of memory nothing has changed.
+/// The run ends with a fault where a subscript has one or is out of bounds, and else goes on. After want of memory nothing has changed.
 pub fn test_bounds(
     shapes: &[Dims],
     line: u32,
@@ -84,7 +84,7 @@ fn stride(x: usize, slots: &[i64]) -> Result<(), Stop>
 }
 
 /// The iteration count of a loop by the slots of its first value, last value and step (Fortran 95, 8.1.4.4.1). Where it is 0 the run goes
-/// on at a target, else a slot gets what is left of it behind the first iteration, in 64 bits. The run ends with a fault where the step
+/// on at a target, else a slot gets what is left of it after the first iteration, in 64 bits. The run ends with a fault where the step
 /// is 0.
 pub fn trips(
     line: u32,
@@ -125,7 +125,7 @@ fn begin_trips(left: usize, target: usize, p: Sequence, c: &mut Control)
     }
 }
 
-/// What is left of an iteration count behind the first iteration, in 64 bits.
+/// What is left of an iteration count after the first iteration, in 64 bits.
 #[tactic(auto, using(crate::proofs::Begun::in_64_bits))]
 fn trips_left(count: u128) -> Number
     requires some { 1 ≤ count }

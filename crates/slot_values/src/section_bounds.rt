@@ -22,7 +22,7 @@ use std::alloc::Global;
 use term_values::{Stop, at_tuple, extents, fault, positions, size, subscripts_at};
 
 /// The run ends with a fault at the first tuple of positions at which an element of a section is out of bounds, and goes on where there is
-/// none. A section past the limit of tuples is answered as want of memory. Behind want of memory nothing has changed.
+/// none. A section past the limit of tuples is answered as want of memory. After want of memory nothing has changed.
 #[tactic(auto, using(crate::proofs::Tested::tested_as))]
 pub fn inside(
     alloc: Global,

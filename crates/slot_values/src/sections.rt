@@ -9,7 +9,7 @@ ghost use Rattle.term_values.specs.Views.{elemental, elementals_of};
 
 use crate::expressions::{flat_or_zero, slot};
 use array_meaning::{Selection, Sequence};
-use node_code::{Form, Sub};
+use node_code::{ArrayForm, Sub};
 use std::alloc::{AllocError, Global};
 use term_values::{Elemental, sequence};
 
@@ -51,8 +51,8 @@ fn sequence_in(slots: &[i64], v: usize) -> Result<Sequence, AllocError>
     ensures { IfOk result (λ p. p ≡ sequence_in slots.now v) }
 {
     let first = slot(slots, v);
-    let last = slot_behind(slots, v, 1);
-    let step = slot_behind(slots, v, 2);
+    let last = slot_after(slots, v, 1);
+    let step = slot_after(slots, v, 2);
     if step == 0 {
         return Ok(Sequence {
             first,
@@ -66,8 +66,8 @@ fn sequence_in(slots: &[i64], v: usize) -> Result<Sequence, AllocError>
     }
 }
 
-/// The value of the first or second slot behind one.
-fn slot_behind(slots: &[i64], v: usize, k: usize) -> i64
+/// The value of the first or second slot after one.
+fn slot_after(slots: &[i64], v: usize, k: usize) -> i64
     requires near { k ≤ 2 }
     ensures { result ≡ slot slots.now (v + k) }
 {
@@ -83,17 +83,17 @@ pub fn elemental_at(
     alloc: Global,
     slots: &[i64],
     axes: &[i64],
-    x: &Form,
+    x: &ArrayForm,
 ) -> Result<Elemental, AllocError>
     ensures { IfOk result (λ e. elemental e ≡ elemental_at slots.now axes.now (form x.now)) }
 {
     match x {
-        Form::Flat(f) => Ok(Elemental::Same(flat_or_zero(slots, axes, f)?)),
-        Form::Section(a, subs) => Ok(Elemental::Selected(
+        ArrayForm::Flat(f) => Ok(Elemental::Same(flat_or_zero(slots, axes, f)?)),
+        ArrayForm::Section(a, subs) => Ok(Elemental::Selected(
             *a,
             selections_at(alloc, slots, axes, subs)?,
         )),
-        Form::Operation(op, operands) => Ok(Elemental::Operation(
+        ArrayForm::Operation(op, operands) => Ok(Elemental::Operation(
             *op,
             elementals_at(alloc, slots, axes, operands)?,
         )),
@@ -106,7 +106,7 @@ fn elementals_at(
     alloc: Global,
     slots: &[i64],
     axes: &[i64],
-    xs: &Vec<Form>,
+    xs: &Vec<ArrayForm>,
 ) -> Result<Vec<Elemental>, AllocError>
     ensures { IfOk result (λ es. elementals_of es.items ≡ elementals_at slots.now axes.now (forms_of xs.now.items)) }
 {

@@ -16,7 +16,7 @@ use std::alloc::Global;
 use term_values::{Stop, extents, own_size, space_size};
 
 /// The run ends with a fault where a section of an assignment has other extents than its space, or the space is beyond the limits, and
-/// else goes on. Behind want of memory nothing has changed.
+/// else goes on. After want of memory nothing has changed.
 #[tactic(auto, using(crate::proofs::Tested::tested_as))]
 pub fn limits(alloc: Global, p: &Assignment, c: &mut Control) -> Result<(), OutOfMemory>
     requires in_code { c.old.at < 2 ^ 63 }

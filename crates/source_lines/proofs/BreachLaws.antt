@@ -46,7 +46,7 @@ parted (x ∷ xs) (suc n) within =
     let p = parted xs n (omega arith) in
     record { before = x ∷ p.before; x = p.x; after = p.after; whole = ap (λ l. x ∷ l) p.whole; long = ap suc p.long }
 
--- since the line behind the last that may stand is a breach, no more stand before the first
+-- since the line after the last that may stand is a breach, no more stand before the first
 pub clear_few : (lines : List PhysicalLine) (n : ℕ) → IsNumbered lines → IsClear lines n → n ≤ length lines → n ≤ MAX_LINES
 clear_few lines n numbered clear within =
     elim (cases_lt MAX_LINES n) [

@@ -18,9 +18,9 @@ join_more byte piece (next ∷ pieces) last =
     ap (λ l. piece ++ (byte ∷ l)) (join_more byte next pieces last) ∙ sym (append_assoc piece (byte ∷ join_with_byte byte (next ∷ pieces)) (byte ∷ last))
 
 -- two parts in front of the first of some lists
-pub with_two_parts : (part behind : List ℕ) (lists : List (List ℕ)) → with_part part (with_part behind lists) ≡ with_part (part ++ behind) lists
-with_two_parts part behind [] = refl
-with_two_parts part behind (list ∷ lists) = ap (λ l. l ∷ lists) (sym (append_assoc part behind list))
+pub with_two_parts : (part after : List ℕ) (lists : List (List ℕ)) → with_part part (with_part after lists) ≡ with_part (part ++ after) lists
+with_two_parts part after [] = refl
+with_two_parts part after (list ∷ lists) = ap (λ l. l ∷ lists) (sym (append_assoc part after list))
 
 with_no_part : (part : List ℕ) (lists : List (List ℕ)) → with_part [] (with_part part lists) ≡ with_part part lists
 with_no_part part [] = refl

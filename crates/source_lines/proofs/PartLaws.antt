@@ -5,7 +5,7 @@ use Rattle.std.specs.List.{prefix_len}
 use Rattle.std.proofs.lemmas.List.{drop_all}
 use Rattle.source_lines.specs.Cut.{cut}
 use Rattle.source_lines.specs.PhysicalLines.{first_part, is_delimiter, is_comment, parts}
-use Rattle.source_lines.proofs.Cuts.{cut-first, cut_behind-drop}
+use Rattle.source_lines.proofs.Cuts.{cut-first, cut_after-drop}
 
 -- a part stays within its bytes
 pub first_part-within : (bytes : List ℕ) → first_part bytes ≤ length bytes
@@ -28,7 +28,7 @@ first_part-some b bytes = step (is_delimiter b) (b == 33)
     step false true = omega arith
     step false false = omega arith
 
--- the part at the front, and the parts of the bytes behind it
+-- the part at the front, and the parts of the bytes after it
 pub cut-part : (b : ℕ) (bytes : List ℕ)
     → cut first_part (b ∷ bytes) ≡ take (first_part (b ∷ bytes)) (b ∷ bytes) ∷ cut first_part (drop (first_part (b ∷ bytes)) (b ∷ bytes))
 cut-part b bytes = cut-first first_part (b ∷ bytes) (first_part (b ∷ bytes)) refl (first_part-some b bytes) (first_part-within (b ∷ bytes))
@@ -36,13 +36,13 @@ cut-part b bytes = cut-first first_part (b ∷ bytes) (first_part (b ∷ bytes))
 comment_alone : (bytes : List ℕ) → parts (33 ∷ bytes) ≡ []
 comment_alone bytes =
     let e : 1 + length bytes - 1 ≡ length bytes = omega arith in
-    rw (cut_behind-drop first_part bytes (1 + length bytes - 1)) (rw e (rw (drop_all (length bytes) bytes (omega arith)) refl))
+    rw (cut_after-drop first_part bytes (1 + length bytes - 1)) (rw e (rw (drop_all (length bytes) bytes (omega arith)) refl))
 
--- behind the beginning of a comment nothing stands
+-- after the beginning of a comment nothing stands
 pub parts-comment : (b : ℕ) (bytes : List ℕ) → b ≡ 33 → parts (b ∷ bytes) ≡ []
 parts-comment b bytes e = ap (λ (c : ℕ). parts (c ∷ bytes)) e ∙ comment_alone bytes
 
--- a part that is no comment stands, and behind it stand the parts of the bytes behind it
+-- a part that is no comment stands, and after it stand the parts of the bytes after it
 pub parts-part : (b : ℕ) (bytes : List ℕ) → (b == 33) ≡ false
     → parts (b ∷ bytes) ≡ take (first_part (b ∷ bytes)) (b ∷ bytes) ∷ parts (drop (first_part (b ∷ bytes)) (b ∷ bytes))
 parts-part b bytes e = step (first_part (b ∷ bytes)) (first_part-some b bytes) (cut-part b bytes)

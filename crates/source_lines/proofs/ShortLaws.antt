@@ -12,8 +12,8 @@ use Rattle.source_lines.specs.declared.line.LogicalLine.{LogicalLine}
 use Rattle.source_lines.specs.declared.line.LineKind.TheVariants as logical
 use Rattle.source_lines.specs.declared.physical_lines.PhysicalKind.{PhysicalKind}
 use Rattle.source_lines.specs.declared.physical_lines.PhysicalKind.TheVariants.{Directive}
-use Rattle.source_lines.specs.Cut.{cut, cut_behind}
-use Rattle.source_lines.specs.PhysicalLines.{PhysicalLine, code_of, content, first_part, is_bad, is_bad_part, is_comment, is_blank, is_directive, line_kind, is_lone_ampersand, parts, physical_lines, physical_line, numbered_lines, without_blanks, without_blanks_behind}
+use Rattle.source_lines.specs.Cut.{cut, cut_after}
+use Rattle.source_lines.specs.PhysicalLines.{PhysicalLine, code_of, content, first_part, is_bad, is_bad_part, is_comment, is_blank, is_directive, line_kind, is_lone_ampersand, parts, physical_lines, physical_line, numbered_lines, without_blanks, without_blanks_after}
 use Rattle.source_lines.specs.LogicalLines.{between_semicolons, body, continuing_body, groups, joined_bytes, lines_in, lines_of_group, lines_of_kind, logical_line, logical_lines, statements, together, with_part}
 use Rattle.source_lines.specs.Breaches.{is_continued, is_passed, standing, IsLineBreach}
 use Rattle.source_lines.proofs.BreachLaws.{IsClear, fine_clear, parted_at}
@@ -54,8 +54,8 @@ code-short line fine = omega (arith, code-within (content line), content-within 
     long false e bad = ltb-false MAX_LINE_BYTES (length line) e
 
 body-within : (line : PhysicalLine) → length (body line) ≤ length line.code
-body-within line = either-within (is_continued line) (take (length (without_blanks_behind line.code) - 1) line.code) line.code (length line.code)
-    (omega (arith, length-take (length (without_blanks_behind line.code) - 1) line.code)) (omega arith)
+body-within line = either-within (is_continued line) (take (length (without_blanks_after line.code) - 1) line.code) line.code (length line.code)
+    (omega (arith, length-take (length (without_blanks_after line.code) - 1) line.code)) (omega arith)
 
 continuing_body-within : (line : PhysicalLine) → length (continuing_body line) ≤ length line.code
 continuing_body-within line = either-within (starts_with nat_eq (without_blanks (body line)) (38 ∷ [])) (drop 1 (without_blanks (body line))) (body line) (length line.code)
@@ -119,7 +119,7 @@ statements-within bytes =
     All-filter (λ statement. not (list_all is_blank statement)) (λ (list : List ℕ). length list ≤ length bytes) (between_semicolons bytes)
     (subst (λ n. AreWithin n (between_semicolons bytes)) (ap length (concat-cut first_part bytes)) (together-within (cut first_part bytes)))
 
--- a logical line of no more bytes than forty lines have, a blank behind each
+-- a logical line of no more bytes than forty lines have, a blank after each
 abbrev IsShortLine : LogicalLine → Type 0
 IsShortLine line = length line.bytes ≤ MAX_LOGICAL_LINE_BYTES
 
@@ -134,15 +134,15 @@ lines_of_group-short [] short few = All-nil IsShortLine
 lines_of_group-short (line ∷ lines) short few =
     lines_of_kind-short line.kind line.number (joined_bytes line lines) (omega (arith, joined_bytes-within line lines short, few))
 
-groups_behind-short : (first : List PhysicalLine → ℕ) (lines : List PhysicalLine) (skipped : ℕ) → All IsShort lines → All (All IsShort) (cut_behind first lines skipped)
-groups_behind-short first [] skipped short = All-nil (All IsShort)
-groups_behind-short first (line ∷ lines) zero short =
+groups_after-short : (first : List PhysicalLine → ℕ) (lines : List PhysicalLine) (skipped : ℕ) → All IsShort lines → All (All IsShort) (cut_after first lines skipped)
+groups_after-short first [] skipped short = All-nil (All IsShort)
+groups_after-short first (line ∷ lines) zero short =
     let rest : All IsShort lines = All-tail IsShort line lines short in
     let taken = take (first (line ∷ lines) - 1) lines in
-    All-cons (All IsShort) (line ∷ taken) (cut_behind first lines (first (line ∷ lines) - 1))
+    All-cons (All IsShort) (line ∷ taken) (cut_after first lines (first (line ∷ lines) - 1))
     (All-cons IsShort line taken (All-head IsShort line lines short) (All-take IsShort (first (line ∷ lines) - 1) lines rest))
-    (groups_behind-short first lines (first (line ∷ lines) - 1) rest)
-groups_behind-short first (line ∷ lines) (suc skipped) short = groups_behind-short first lines skipped (All-tail IsShort line lines short)
+    (groups_after-short first lines (first (line ∷ lines) - 1) rest)
+groups_after-short first (line ∷ lines) (suc skipped) short = groups_after-short first lines skipped (All-tail IsShort line lines short)
 
 all_flat : {A B : Type 0} (P : B → Type 0) (f : A → List B) (xs : List A) → All (λ x. All P (f x)) xs → All P (flat_map f xs)
 all_flat P f [] all = All-nil P
@@ -155,7 +155,7 @@ lines_in-short lines short clear =
     all_flat IsShortLine lines_of_group (groups (standing lines))
     (λ k d lt.
     lines_of_group-short (get_or (groups (standing lines)) k d)
-    (groups_behind-short (λ rest. prefix_len is_continued rest + 1) (standing lines) 0 here k d lt) (groups_few lines clear k d lt))
+    (groups_after-short (λ rest. prefix_len is_continued rest + 1) (standing lines) 0 here k d lt) (groups_few lines clear k d lt))
 
 -- where a text has no breach, its logical lines are short
 pub lines_short : (text : List ℕ) → NoBreach (IsLineBreach text) → All (λ line. length line.bytes ≤ MAX_LOGICAL_LINE_BYTES) (logical_lines text)

@@ -7,7 +7,7 @@ use Rattle.hpf_base.specs.declared.refusal.Reason.{Reason}
 use Rattle.hpf_base.specs.declared.refusal.Reason.TheVariants.{BadLine, Limit}
 use Rattle.source_lines.specs.declared.physical_lines.PhysicalKind.{PhysicalKind}
 use Rattle.source_lines.specs.declared.physical_lines.PhysicalKind.TheVariants.{Passed, Statement, Directive}
-use Rattle.source_lines.specs.PhysicalLines.{PhysicalLine, numbered_lines, without_blanks_behind}
+use Rattle.source_lines.specs.PhysicalLines.{PhysicalLine, numbered_lines, without_blanks_after}
 
 abbrev pub is_passed : PhysicalKind → Bool
 is_passed Passed = true
@@ -19,17 +19,17 @@ standing lines = filter (λ line. not (is_passed line.kind)) lines
 
 -- the last byte of the line, its comment and blanks aside, is `&`
 abbrev pub is_continued : PhysicalLine → Bool
-is_continued line = ends_with nat_eq (without_blanks_behind line.code) (38 ∷ [])
+is_continued line = ends_with nat_eq (without_blanks_after line.code) (38 ∷ [])
 
 abbrev pub is_directive_kind : PhysicalKind → Bool
 is_directive_kind Directive = true
 is_directive_kind kind = false
 
--- a statement meets a line: a passed one leaves the answer to the lines behind it
+-- a statement meets a line: a passed one leaves the answer to the lines after it
 abbrev pub meets : PhysicalKind → Bool → Bool
-meets Passed behind = behind
-meets Statement behind = true
-meets Directive behind = false
+meets Passed rest = rest
+meets Statement rest = true
+meets Directive rest = false
 
 -- a statement goes on with a statement, passed lines aside; a directive goes on with a directive on the next line
 abbrev pub goes_on : PhysicalKind → List PhysicalLine → Bool
@@ -50,7 +50,7 @@ IsLeastReasonAt before line after None = (reason : Reason) → IsBreachAt before
 IsLeastReasonAt before line after (Some reason) =
     IsBreachAt before line after reason × ((other : Reason) → IsBreachAt before line after other → number_of reason ≤ number_of other)
 
--- the breaches of a text's lines: a line that is bad, alone or as one that is continued, the line behind the last that
+-- the breaches of a text's lines: a line that is bad, alone or as one that is continued, the line after the last that
 -- may stand, and the line that continues one more time than is allowed
 pub record IsBreachIn (lines : List PhysicalLine) (number : ℕ) (reason : Reason) : Type 0 where
   pub before : List PhysicalLine

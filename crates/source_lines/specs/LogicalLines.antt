@@ -7,12 +7,12 @@ use Rattle.source_lines.specs.declared.line.LineKind.TheVariants as logical
 use Rattle.source_lines.specs.declared.physical_lines.PhysicalKind.{PhysicalKind}
 use Rattle.source_lines.specs.declared.physical_lines.PhysicalKind.TheVariants.{Directive}
 use Rattle.source_lines.specs.Cut.{cut}
-use Rattle.source_lines.specs.PhysicalLines.{PhysicalLine, numbered_lines, is_blank, without_blanks, without_blanks_behind, first_part}
+use Rattle.source_lines.specs.PhysicalLines.{PhysicalLine, numbered_lines, is_blank, without_blanks, without_blanks_after, first_part}
 use Rattle.source_lines.specs.Breaches.{standing, is_continued}
 
 -- what a line gives to its logical line: a `&` at its end is left out
 abbrev pub body : PhysicalLine → List ℕ
-body line = if is_continued line then take (length (without_blanks_behind line.code) - 1) line.code else line.code
+body line = if is_continued line then take (length (without_blanks_after line.code) - 1) line.code else line.code
 
 -- a `&` that is the first byte of a continuing line, blanks aside, is left out as well
 abbrev pub continuing_body : PhysicalLine → List ℕ

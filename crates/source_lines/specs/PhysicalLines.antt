@@ -25,8 +25,8 @@ is_blank b = b == 32 || b == 9
 abbrev pub without_blanks : List ℕ → List ℕ
 without_blanks bytes = drop (prefix_len is_blank bytes) bytes
 
-abbrev pub without_blanks_behind : List ℕ → List ℕ
-without_blanks_behind bytes = take (length bytes - suffix_len is_blank bytes) bytes
+abbrev pub without_blanks_after : List ℕ → List ℕ
+without_blanks_after bytes = take (length bytes - suffix_len is_blank bytes) bytes
 
 -- the first bytes, blanks aside, are `!HPF$` in any case
 abbrev pub is_directive : List ℕ → Bool
@@ -36,7 +36,7 @@ is_directive line = starts_with nat_eq (map to_ascii_uppercase (without_blanks l
 abbrev pub line_kind : List ℕ → LineKind
 line_kind line = if is_directive line then logical.Directive else logical.Statement
 
--- what stands behind the five bytes of a directive line, and all of any other line
+-- what stands after the five bytes of a directive line, and all of any other line
 abbrev pub content : List ℕ → List ℕ
 content line = if is_directive line then drop 5 (without_blanks line) else line
 
@@ -85,7 +85,7 @@ is_bad_part kind (b ∷ bytes) = if is_delimiter b then is_bad_text b bytes else
 
 -- the only thing on the line is `&`
 abbrev pub is_lone_ampersand : List ℕ → Bool
-is_lone_ampersand code = bytes_eq (without_blanks (without_blanks_behind code)) (38 ∷ [])
+is_lone_ampersand code = bytes_eq (without_blanks (without_blanks_after code)) (38 ∷ [])
 
 -- the line breaks a rule, whatever stands on other lines
 abbrev pub is_bad : List ℕ → Bool

@@ -18,6 +18,6 @@ IsFirstGroup lines line continuing = groups lines ≡ (line ∷ continuing) ∷ 
 abbrev pub IsLastStatement : List ℕ → List ℕ → Type 0
 IsLastStatement bytes statement = between_semicolons bytes ≡ statement ∷ []
 
--- what stands before the first `;`, and what is behind it
+-- what stands before the first `;`, and what is after it
 abbrev pub IsFirstStatement : List ℕ → List ℕ → List ℕ → Type 0
 IsFirstStatement bytes statement rest = between_semicolons bytes ≡ statement ∷ between_semicolons rest

@@ -2,7 +2,7 @@
 
 ghost use Rattle.std.specs.Prelude.{◌≡◌, ◌-◌, ◌≤◌, length};
 ghost use Rattle.std.specs.List.{list_all, prefix_len, suffix_len};
-ghost use Rattle.source_lines.specs.PhysicalLines.{is_blank, without_blanks, without_blanks_behind};
+ghost use Rattle.source_lines.specs.PhysicalLines.{is_blank, without_blanks, without_blanks_after};
 
 /// A blank, or a tab, which counts as one.
 fn is_blank(byte: u8) -> bool
@@ -51,8 +51,8 @@ pub(crate) fn without_blanks(bytes: &[u8]) -> &[u8]
 }
 
 /// The bytes without the blanks at the end.
-pub(crate) fn without_blanks_behind(bytes: &[u8]) -> &[u8]
-    ensures { result.now ≡ without_blanks_behind bytes.now }
+pub(crate) fn without_blanks_after(bytes: &[u8]) -> &[u8]
+    ensures { result.now ≡ without_blanks_after bytes.now }
 {
     &bytes[..end_of(bytes)]
 }

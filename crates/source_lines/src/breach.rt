@@ -70,7 +70,7 @@ fn is_bad_before(line: &PhysicalLine<'_>, after: &[PhysicalLine<'_>]) -> bool
     line.is_bad() || is_continued(line) && !goes_on(line.kind(), after)
 }
 
-/// The line is the first behind the last that may stand, or continues one more time than is allowed.
+/// The line is the first after the last that may stand, or continues one more time than is allowed.
 fn is_past_limit(line: &PhysicalLine<'_>, continued: usize) -> bool
     ensures { result ≡ ((line.now.number == MAX_LINES + 1) || (not (is_passed line.now.kind) && (continued == MAX_CONTINUATIONS + 1))) }
 {

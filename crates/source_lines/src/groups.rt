@@ -46,7 +46,7 @@ fn first_group<'a, 'b>(
     Some((line, continuing))
 }
 
-/// The logical lines of a line and of those that continue it, behind the others.
+/// The logical lines of a line and of those that continue it, after the others.
 fn push_group(
     alloc: Global,
     line: &PhysicalLine<'_>,

@@ -3,7 +3,7 @@
 ghost use Rattle.std.specs.Prelude.{◌≡◌, IfOk};
 ghost use Rattle.source_lines.specs.LogicalLines.{body, continuing_body, joined_bytes};
 
-use crate::blanks::{without_blanks, without_blanks_behind};
+use crate::blanks::{without_blanks, without_blanks_after};
 use crate::physical_lines::PhysicalLine;
 use std::alloc::{AllocError, Global};
 
@@ -12,7 +12,7 @@ fn body<'a>(line: &PhysicalLine<'a>) -> &'a [u8]
     ensures { result.now ≡ body line.now }
 {
     let code = line.code();
-    match without_blanks_behind(code).strip_suffix(b"&") {
+    match without_blanks_after(code).strip_suffix(b"&") {
         Some(body) => body,
         None => code,
     }

@@ -12,7 +12,7 @@ pub enum LineKind {
 }
 
 /// A statement or a directive: the number of its first line, from 1, and its bytes, where a blank stands between
-/// the pieces of continued lines and where the statement's neighbours behind `;`, comments and the `&` of
+/// the pieces of continued lines and where the statement's neighbours after `;`, comments and the `&` of
 /// continuation are left out.
 #[derive(Debug, Drop)]
 pub struct LogicalLine {

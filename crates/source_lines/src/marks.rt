@@ -3,9 +3,9 @@
 ghost use Rattle.std.specs.Prelude.{◌≡◌, ◌∷◌, [], map, codes, nat_eq};
 ghost use Rattle.std.specs.Char.{to_ascii_uppercase};
 ghost use Rattle.std.specs.List.{ends_with, starts_with};
-ghost use Rattle.source_lines.specs.PhysicalLines.{content, is_lone_ampersand, line_kind, without_blanks_behind, without_return};
+ghost use Rattle.source_lines.specs.PhysicalLines.{content, is_lone_ampersand, line_kind, without_blanks_after, without_return};
 
-use crate::blanks::{without_blanks, without_blanks_behind};
+use crate::blanks::{without_blanks, without_blanks_after};
 use crate::line::LineKind;
 
 /// The line without the carriage return that belongs to its end.
@@ -43,7 +43,7 @@ pub(crate) fn line_kind(line: &[u8]) -> LineKind
     }
 }
 
-/// What stands behind the mark of a directive, and all of any other line.
+/// What stands after the mark of a directive, and all of any other line.
 pub(crate) fn content(line: &[u8]) -> &[u8]
     ensures { result.now ≡ content line.now }
 {
@@ -55,12 +55,12 @@ pub(crate) fn content(line: &[u8]) -> &[u8]
 pub(crate) fn is_lone_ampersand(code: &[u8]) -> bool
     ensures { result ≡ is_lone_ampersand code.now }
 {
-    *without_blanks(without_blanks_behind(code)) == *b"&".as_slice()
+    *without_blanks(without_blanks_after(code)) == *b"&".as_slice()
 }
 
 /// The last byte, blanks aside, is `&`.
 pub(crate) fn is_continued(code: &[u8]) -> bool
-    ensures { result ≡ ends_with nat_eq (without_blanks_behind code.now) (38 ∷ []) }
+    ensures { result ≡ ends_with nat_eq (without_blanks_after code.now) (38 ∷ []) }
 {
-    without_blanks_behind(code).ends_with(b"&")
+    without_blanks_after(code).ends_with(b"&")
 }

@@ -99,9 +99,9 @@ pub(crate) fn numbered_lines(
 {
     let mut lines = Vec::new(alloc);
     let mut rest = text;
-    while let Some((line, behind)) = next_line(rest) {
+    while let Some((line, after)) = next_line(rest) {
         lines.push(physical_line(lines.len() + 1, line))?;
-        rest = behind;
+        rest = after;
     }
     Ok(lines)
 }

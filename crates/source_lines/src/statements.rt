@@ -23,19 +23,19 @@ fn statement_len(bytes: &[u8]) -> usize
     done
 }
 
-/// The first of the statements, and what is behind its `;`, if there is one.
+/// The first of the statements, and what is after its `;`, if there is one.
 fn first_statement(bytes: &[u8]) -> (&[u8], Option<&[u8]>)
     ensures split { MatchOption result.1 (IsLastStatement bytes.now result.0.now) (λ rest. IsFirstStatement bytes.now result.0.now rest.now) }
     ensures shorter { MatchOption result.1 ⊤ (λ rest. length rest.now < length bytes.now) }
 {
     let (statement, rest) = bytes.split_at(statement_len(bytes));
     match rest.split_first() {
-        Some((_, behind)) => (statement, Some(behind)),
+        Some((_, after)) => (statement, Some(after)),
         None => (statement, None),
     }
 }
 
-/// A logical line behind the others.
+/// A logical line after the others.
 pub(crate) fn push_line(
     alloc: Global,
     line: u32,
@@ -50,7 +50,7 @@ pub(crate) fn push_line(
     Ok(())
 }
 
-/// A statement behind the other lines, unless it is empty.
+/// A statement after the other lines, unless it is empty.
 fn push_statement(
     alloc: Global,
     line: u32,
@@ -65,7 +65,7 @@ fn push_statement(
     push_line(alloc, line, LineKind::Statement, statement, lines)
 }
 
-/// The statements of bytes, behind the other lines.
+/// The statements of bytes, after the other lines.
 pub(crate) fn push_statements(
     alloc: Global,
     line: u32,
@@ -76,9 +76,9 @@ pub(crate) fn push_statements(
 {
     let mut rest = Some(bytes);
     while let Some(bytes) = rest {
-        let (statement, behind) = first_statement(bytes);
+        let (statement, after) = first_statement(bytes);
         push_statement(alloc, line, statement, lines)?;
-        rest = behind;
+        rest = after;
     }
     Ok(())
 }

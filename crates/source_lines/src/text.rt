@@ -22,7 +22,7 @@ use std::alloc::Global;
 /// - `BadLine`: a line of more than `MAX_LINE_BYTES`; a control byte other than tab, outside a comment; a byte from 128,
 ///   outside comments and text constants; a text constant that isn't closed on its line; a line with `&` alone; a
 ///   line with `&` at its end that nothing continues; `;` in a directive.
-/// - `Limit`: the line behind `MAX_LINES`, and a line behind `MAX_CONTINUATIONS` that continue the same one.
+/// - `Limit`: the line after `MAX_LINES`, and a line after `MAX_CONTINUATIONS` that continue the same one.
 ///
 /// `Memory` comes only where a growth was refused.
 pub fn logical_lines(alloc: Global, text: &[u8]) -> Result<LogicalLines, StaticError>

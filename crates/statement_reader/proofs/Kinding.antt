@@ -15,7 +15,7 @@ use Rattle.line_forms.specs.Printed.{printed, IsWell, value_kept}
 use Rattle.line_forms.specs.DeepFront.{preceded, deep_front}
 use Rattle.line_forms.specs.Ll1.{is_ll1, first_set, Finish, Exactly, AnyName, Operand, Begins}
 use Rattle.line_forms.proofs.Sound.{starts_split}
-use Rattle.line_forms.proofs.Standing.{StandsAs, behind_prefix, unmapped}
+use Rattle.line_forms.proofs.Standing.{StandsAs, after_prefix, unmapped}
 use Rattle.line_forms.proofs.Starting.{starting}
 use Rattle.statement_reader.specs.declared.kind.Kind.{Kind}
 use Rattle.statement_reader.specs.declared.kind.Kind.TheVariants as kind
@@ -86,7 +86,7 @@ named (Word x ∷ ts) b = record { name = x; rest = ts; free = not-true (is_rese
 named ts b = absurd cc
 
 module _ (depths : Depths) {A : Type 0} (z : A) where
-  -- lexemes in front of which a well-formed part stands, and nothing behind it
+  -- lexemes in front of which a well-formed part stands, and nothing after it
   abbrev pub Stands : (g : Grammar) → Value g → List Lexeme → Reading A → Type 0
   Stands g v ts r = StandsAs (deep_front depths g v) (printed g v) z Ends ts r
 
@@ -95,9 +95,9 @@ module _ (depths : Depths) {A : Type 0} (z : A) where
       let u = unmapped (deep_front depths assignment v) (printed assignment v) (value_kept assignment v) (λ x. z) Ends (Begins (Finish ∷ [])) ts r ends_begin s in
       named ts (starting depths assignment (Finish ∷ []) refl v w ts u.0 u.1)
 
-  behind_key : (ks : List Lexeme) (g : Grammar) (v : Value g) (ts : List Lexeme) (r : Reading A)
+  after_key : (ks : List Lexeme) (g : Grammar) (v : Value g) (ts : List Lexeme) (r : Reading A)
       → StandsAs (preceded ks (deep_front depths g v)) (ks ++ printed g v) z Ends ts r → (us : List Lexeme) × (ts ≡ ks ++ us) × Stands g v us r
-  behind_key ks g v ts r s = behind_prefix ks (deep_front depths g v) (printed g v) z Ends ts r s
+  after_key ks g v ts r s = after_prefix ks (deep_front depths g v) (printed g v) z Ends ts r s
 
   -- a keyword stands in front
   keyed : (k : Kind) (word : List ℕ) (v : Value (grammar k)) → first_set (grammar k) (Finish ∷ []) ≡ Exactly (key word) ∷ [] → IsWell (grammar k) v
@@ -127,8 +127,8 @@ module _ (depths : Depths) {A : Type 0} (z : A) where
   kind_stands (kind.ElseIf true) v w ts r s = ap statement_kind (keyed (kind.ElseIf true) (codes "ELSEIF") v refl w ts r s)
   kind_stands (kind.ElseIf false) v w ts r s =
       let inner = Suffixed condition (key (codes "THEN")) in
-      let p = behind_prefix (key (codes "ELSE")) (preceded (key (codes "IF")) (deep_front depths inner v)) (key (codes "IF") ++ printed inner v) z Ends ts r s in
-      let q = behind_key (key (codes "IF")) inner v p.0 r p.2 in
+      let p = after_prefix (key (codes "ELSE")) (preceded (key (codes "IF")) (deep_front depths inner v)) (key (codes "IF") ++ printed inner v) z Ends ts r s in
+      let q = after_key (key (codes "IF")) inner v p.0 r p.2 in
       ap statement_kind (p.1 ∙ ap (λ l. key (codes "ELSE") ++ l) q.1)
   kind_stands kind.Else v w ts r s = alone kind.Else v refl refl ts r s
   kind_stands (kind.EndIf true) v w ts r s = alone (kind.EndIf true) v refl refl ts r s

@@ -17,13 +17,13 @@ use Rattle.line_forms.specs.DeepFront.{preceded, front_or, deep_front}
 use Rattle.line_forms.specs.Ll1.{Begins, Exactly, Finish, Operand}
 use Rattle.line_forms.proofs.Sound.{sound, deep_sound, sample, starts_split}
 use Rattle.line_forms.proofs.Shallow.{any_shallow}
-use Rattle.line_forms.proofs.Standing.{StandsAs, behind_prefix, then_reads, then_begins, followed, mapped}
+use Rattle.line_forms.proofs.Standing.{StandsAs, after_prefix, then_reads, then_begins, followed, mapped}
 use Rattle.line_forms.proofs.Complete.{complete}
 use Rattle.statement_reader.specs.declared.kind.Kind.{Kind}
 use Rattle.statement_reader.specs.declared.kind.Kind.TheVariants as kind
 use Rattle.statement_reader.specs.Breaches.{IsTooDeep}
 use Rattle.statement_reader.specs.FirstWords.{statement_kind}
-use Rattle.statement_reader.specs.Forms.{grammar, assignment, condition, forall_head, if_head, is_action, Form, Plain, IfOne, as_kept, form_printed, form_kept, form_front, IsForm}
+use Rattle.statement_reader.specs.Forms.{grammar, assignment, condition, forall_head, if_head, is_action, StatementForm, Plain, IfOne, as_kept, form_printed, form_kept, form_front, IsForm}
 use Rattle.statement_reader.specs.Views.{IsOfKind}
 use Rattle.statement_reader.specs.Reading.{is_nothing, ended, whole_of, whole, line, is_action_kind, acting, if_rest, if_line, line_of, reading, statement}
 use Rattle.statement_reader.proofs.Steps.{steps, stops, found_is}
@@ -56,8 +56,8 @@ ended_at : {A : Type 0} (x : A) (us : List Lexeme) → Ends us → ended (x, us)
 ended_at x us e = subst (λ us. ended (x, us) ≡ Found (x, us)) (sym e) refl
 
 module _ (depths : Depths) where
-  -- lexemes in front of which a statement stands, and nothing behind it
-  abbrev pub FormStands : Form → List Lexeme → Reading Form → Type 0
+  -- lexemes in front of which a statement stands, and nothing after it
+  abbrev pub FormStands : StatementForm → List Lexeme → Reading StatementForm → Type 0
   FormStands w ts r = StandsAs (form_front depths w) (form_printed w) (form_kept w) Ends ts r
 
   whole_reads : (k : Kind) (v : Value (grammar k)) → IsWell (grammar k) v → (ts : List Lexeme) (r : Reading (Value (grammar k)))
@@ -67,25 +67,25 @@ module _ (depths : Depths) where
       followed (deep_front depths (grammar k) v) (printed (grammar k) v) x x Ends (Begins (Finish ∷ [])) ts r s ends_begin
       (read depths (grammar k) ts) (complete depths (grammar k) (Finish ∷ []) (ll1_grammar k) v w ts) ended (ended_at x)
 
-  line_reads : (k : Kind) (v : Value (grammar k)) → IsWell (grammar k) v → (ts : List Lexeme) (r : Reading Form) → FormStands (Plain k v) ts r → line depths k ts ≡ r
+  line_reads : (k : Kind) (v : Value (grammar k)) → IsWell (grammar k) v → (ts : List Lexeme) (r : Reading StatementForm) → FormStands (Plain k v) ts r → line depths k ts ≡ r
   line_reads k v w ts r s =
       mapped (deep_front depths (grammar k) v) (printed (grammar k) v) (value_kept (grammar k) v) (as_kept k) Ends ts r s (whole depths k ts)
       (whole_reads k v w ts)
 
-  if_then_reads : (cond : Expression) → IsFormed cond → (ts : List Lexeme) (r : Reading Form)
+  if_then_reads : (cond : Expression) → IsFormed cond → (ts : List Lexeme) (r : Reading StatementForm)
       → StandsAs (deep_front depths if_head cond) (printed if_head cond ++ key (codes "THEN")) (Plain kind.IfThen (kept cond)) Ends ts r
       → if_line depths ts ≡ r
   if_then_reads cond w ts r s =
       let o = deep_front depths if_head cond in
       let text = printed if_head cond in
-      let z : Form = Plain kind.IfThen (kept cond) in
+      let z : StatementForm = Plain kind.IfThen (kept cond) in
       then_reads o text (kept cond) (Begins (Exactly (key (codes "THEN")) ∷ [])) None (key (codes "THEN")) z Ends ts r
       (subst (λ o. StandsAs o (text ++ key (codes "THEN")) z Ends ts r) (sym (or_none o text)) s)
       (read depths if_head ts) (complete depths if_head (Exactly (key (codes "THEN")) ∷ []) refl cond w ts) (λ c. if_rest depths c.0 c.1)
       (λ us q. subst (Begins (Exactly (key (codes "THEN")) ∷ [])) (sym q.2) refl)
       (λ us _ q. ap (if_rest depths (kept cond)) q.2 ∙ ended_at z q.0 q.1 ∙ sym q.3)
 
-  at_kind : (k : Kind) (v : Value (grammar k)) → IsWell (grammar k) v → (ts : List Lexeme) (r : Reading Form) → FormStands (Plain k v) ts r → line_of depths k ts ≡ r
+  at_kind : (k : Kind) (v : Value (grammar k)) → IsWell (grammar k) v → (ts : List Lexeme) (r : Reading StatementForm) → FormStands (Plain k v) ts r → line_of depths k ts ≡ r
   at_kind kind.IfThen v w ts r s = if_then_reads v w ts r s
   at_kind k v w ts r s = line_reads k v w ts r s
 
@@ -100,12 +100,12 @@ module _ (depths : Depths) where
       (λ us e. ap (λ b. if b then Found (z, us) else Stopped read_error.Malformed) (action_kept k v ∙ a))
 
   if_one_reads : (cond : Expression) (k : Kind) (v : Value (grammar k)) → IsFormed cond → is_action k v ≡ true → IsWell (grammar k) v
-      → (ts : List Lexeme) (r : Reading Form) → FormStands (IfOne cond k v) ts r → if_line depths ts ≡ r
+      → (ts : List Lexeme) (r : Reading StatementForm) → FormStands (IfOne cond k v) ts r → if_line depths ts ≡ r
   if_one_reads cond k v c a w ts r s =
       let p = deep_front depths (grammar k) v in
       let text = printed (grammar k) v in
       let x = value_kept (grammar k) v in
-      let z : Form = IfOne (kept cond) k x in
+      let z : StatementForm = IfOne (kept cond) k x in
       let one = λ (a : IsOfKind × List Lexeme). Found (IfOne (kept cond) a.0.0 a.0.1, a.1) in
       then_reads (deep_front depths if_head cond) (printed if_head cond) (kept cond) (Begins (Operand ∷ [])) p text z Ends ts r s
       (read depths if_head ts) (complete depths if_head (Operand ∷ []) refl cond c ts) (λ c. if_rest depths c.0 c.1)
@@ -117,20 +117,20 @@ module _ (depths : Depths) where
       ∙ mapped p text (k, x) (λ a. IfOne (kept cond) a.0 a.1) Ends us r q (acting depths k us) (acting_reads k v a w us))
 
   -- what stands in front of a line as a statement is read as it, or stops the reading
-  form_reads : (w : Form) → IsForm w → (ts : List Lexeme) (r : Reading Form) → FormStands w ts r → reading depths ts ≡ r
+  form_reads : (w : StatementForm) → IsForm w → (ts : List Lexeme) (r : Reading StatementForm) → FormStands w ts r → reading depths ts ≡ r
   form_reads (Plain k v) w ts r s = ap (λ j. line_of depths j ts) (kind_stands depths (form_kept (Plain k v)) k v w ts r s) ∙ at_kind k v w ts r s
   form_reads (IfOne cond k v) w ts r s =
-      let z : Form = form_kept (IfOne cond k v) in
+      let z : StatementForm = form_kept (IfOne cond k v) in
       let is_if : statement_kind ts ≡ kind.IfThen =
       then_begins {Q = statement_kind ts ≡ kind.IfThen} (deep_front depths if_head cond) (printed if_head cond) z (λ us. Unit {0})
       (deep_front depths (grammar k) v) (printed (grammar k) v) z Ends ts r s
       (λ r' q.
-      let p = behind_prefix (key (codes "IF")) (deep_front depths condition cond) (printed condition cond) z (λ us. Unit {0}) ts r' q in
+      let p = after_prefix (key (codes "IF")) (deep_front depths condition cond) (printed condition cond) z (λ us. Unit {0}) ts r' q in
       ap statement_kind p.1) (λ us q. tt)
       in
       ap (λ j. line_of depths j ts) is_if ∙ if_one_reads cond k v w.0 w.1 w.2 ts r s
 
-  pub form_found : (w : Form) → IsForm w → form_front depths w ≡ None → reading depths (form_printed w) ≡ Found (form_kept w, [])
+  pub form_found : (w : StatementForm) → IsForm w → form_front depths w ≡ None → reading depths (form_printed w) ≡ Found (form_kept w, [])
   form_found w f h =
       form_reads w f (form_printed w) (Found (form_kept w, []))
       (subst (λ o. StandsAs o (form_printed w) (form_kept w) Ends (form_printed w) (Found (form_kept w, []))) (sym h) ([], refl, sym (append-nil (form_printed w)), refl))
@@ -140,12 +140,12 @@ deep_found ts d =
     form_reads Limited d.written d.formed ts (Stopped read_error.TooDeep)
     (subst (λ o. StandsAs o (form_printed d.written) (form_kept d.written) Ends ts (Stopped read_error.TooDeep)) (sym d.deep) (d.rest, d.parts, refl))
 
-any_form : (w : Form) → form_front Any w ≡ None
+any_form : (w : StatementForm) → form_front Any w ≡ None
 any_form (Plain k v) = any_shallow (grammar k) v
 any_form (IfOne cond k v) = λ i. front_or (any_shallow if_head cond i) (printed if_head cond) (any_shallow (grammar k) v i)
 
 -- a tree keeps the same of two well-formed statements that have one spelling
-pub one_form : (a b : Form) → IsForm a → IsForm b → form_printed a ≡ form_printed b → form_kept a ≡ form_kept b
+pub one_form : (a b : StatementForm) → IsForm a → IsForm b → form_printed a ≡ form_printed b → form_kept a ≡ form_kept b
 one_form a b wa wb is =
     ap (λ x. x.0) (found_is (form_kept a, []) (form_kept b, []) (sym (form_found Any a wa (any_form a)) ∙ ap (reading Any) is ∙ form_found Any b wb (any_form b)))
 
@@ -199,15 +199,15 @@ whole_deep : (k : Kind) (ts : List Lexeme) → whole Limited k ts ≡ Stopped re
 whole_deep k ts h = ⊎_elim (λ d. d) (λ s. absurd (ended_shallow s.0 s.2)) (stops (read Limited (grammar k) ts) ended read_error.TooDeep h)
 
 -- a line that is read is spelled by a statement
-pub record IsReadAs (ts : List Lexeme) (y : Form × List Lexeme) : Type 0 where
-  pub written : Form
+pub record IsReadAs (ts : List Lexeme) (y : StatementForm × List Lexeme) : Type 0 where
+  pub written : StatementForm
   pub same : form_kept written ≡ y.0
   pub formed : IsForm written
   pub shallow : form_front Limited written ≡ None
   pub parts : form_printed written ≡ ts
   pub end : y.1 ≡ []
 
-line_read : (k : Kind) (ts : List Lexeme) (y : Form × List Lexeme) → line Limited k ts ≡ Found y → IsReadAs ts y
+line_read : (k : Kind) (ts : List Lexeme) (y : StatementForm × List Lexeme) → line Limited k ts ≡ Found y → IsReadAs ts y
 line_read k ts y h =
     let s = steps (whole Limited k ts) (λ v. Found (as_kept k v.0, v.1)) y h in
     let w = whole_read Limited (grammar k) ts s.x s.was in
@@ -266,7 +266,7 @@ acting_read k ts y h = by_kind (is_action_kind k) h
         by_action s.x (whole_read Limited (grammar k) ts s.x s.was) (is_action k s.x.0) refl s.next
     by_kind false h = absurd cc
 
--- an action that is too deep; where a WHERE or FORALL has no assignment, one may stand behind the front
+-- an action that is too deep; where a WHERE or FORALL has no assignment, one may stand after the front
 record ActsDeep (k : Kind) (front : List Lexeme) : Type 0 where
   written : Value (grammar k)
   action : is_action k written ≡ true
@@ -329,7 +329,7 @@ acting_deep k ts h = by_kind (is_action_kind k) refl h
         (d.front, d.rest, completed k d.written a d.well d.front d.deep, d.parts)
     by_kind false a h = absurd cc
 
-if_read : (ts : List Lexeme) (y : Form × List Lexeme) → if_line Limited ts ≡ Found y → IsReadAs ts y
+if_read : (ts : List Lexeme) (y : StatementForm × List Lexeme) → if_line Limited ts ≡ Found y → IsReadAs ts y
 if_read ts y h =
     let s = steps (read Limited if_head ts) (λ c. if_rest Limited c.0 c.1) y h in
     let w : IsInFront Limited if_head ts s.x = subst (λ r. On r (IsInFront Limited if_head ts)) s.was (sound Limited if_head ts) in
@@ -396,7 +396,7 @@ if_deep ts h =
           parts = w.parts ∙ ap (λ l. head ++ l) a.3 ∙ sym (append_assoc head a.0 a.1);
         }
 
-kind_read : (k : Kind) (ts : List Lexeme) (y : Form × List Lexeme) → line_of Limited k ts ≡ Found y → IsReadAs ts y
+kind_read : (k : Kind) (ts : List Lexeme) (y : StatementForm × List Lexeme) → line_of Limited k ts ≡ Found y → IsReadAs ts y
 kind_read kind.IfThen ts y h = if_read ts y h
 kind_read k ts y h = line_read k ts y h
 
@@ -404,7 +404,7 @@ kind_deep : (k : Kind) (ts : List Lexeme) → line_of Limited k ts ≡ Stopped r
 kind_deep kind.IfThen ts h = if_deep ts h
 kind_deep k ts h = line_deep k ts h
 
-pub form_read : (ts : List Lexeme) (y : Form × List Lexeme) → statement ts ≡ Found y → IsReadAs ts y
+pub form_read : (ts : List Lexeme) (y : StatementForm × List Lexeme) → statement ts ≡ Found y → IsReadAs ts y
 form_read ts y h = kind_read (statement_kind ts) ts y h
 
 pub deep_read : (ts : List Lexeme) → statement ts ≡ Stopped read_error.TooDeep → IsTooDeep ts

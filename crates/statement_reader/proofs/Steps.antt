@@ -1,4 +1,4 @@
--- One step of a reading behind another, and lists.
+-- One step of a reading after another, and lists.
 use Rattle.line_forms.specs.declared.read_error.ReadError.{ReadError}
 use Rattle.std.proofs.Common.{◌⊎◌, inl, inr, ◌≡◌, ℕ, zero, suc, Bool, true, false, List, [], ◌∷◌, refl, drop, ap}
 use Rattle.std.specs.Prelude.{if◌then◌else◌}

@@ -19,7 +19,7 @@ use Rattle.line_forms.specs.DeepFront.{deep_front}
 use Rattle.line_forms.proofs.Shallow.{any_shallow}
 use Rattle.line_forms.proofs.Fronts.{front_printed, front_parted}
 use Rattle.line_forms.proofs.Complete.{whole as read_whole}
-use Rattle.statement_reader.specs.Forms.{entity, constants, dimension_key, loose_constants, grammar, if_head, Form, Plain, IfOne, form_printed, form_front}
+use Rattle.statement_reader.specs.Forms.{entity, constants, dimension_key, loose_constants, grammar, if_head, StatementForm, Plain, IfOne, form_printed, form_front}
 use Rattle.statement_reader.specs.Breaches.{IsSpelled, IsTooDeep, IsStatementBreach, IsBreachOn, IsStatement}
 use Rattle.statement_reader.specs.Gives.{Tells}
 use Rattle.statement_reader.specs.LeftOut.{IsConstantArray, IsLeftOut}
@@ -63,14 +63,14 @@ array_tells ts true h =
 pub no_array : (ts : List Lexeme) (why : ReadError) → constant_array ts ≡ Stopped why → IsConstantArray ts → ⊥
 no_array ts why h a = not_stopped why (sym h ∙ array_found ts a)
 
-found_deep : (ts : List Lexeme) (f : Form) → statement ts ≡ Found (f, []) → IsTooDeep ts → ⊥
+found_deep : (ts : List Lexeme) (f : StatementForm) → statement ts ≡ Found (f, []) → IsTooDeep ts → ⊥
 found_deep ts f h d = let e = sym h ∙ deep_found ts d in cc
 
 form_deep : (ts : List Lexeme) → statement ts ≡ Stopped read_error.Malformed → IsTooDeep ts → ⊥
 form_deep ts h d = let e = sym h ∙ deep_found ts d in cc
 
 -- the front of a statement is a front of its lexemes
-form_parts : (w : Form) (front : List Lexeme) → form_front Limited w ≡ Some front → (rest : List Lexeme) × (form_printed w ≡ front ++ rest)
+form_parts : (w : StatementForm) (front : List Lexeme) → form_front Limited w ≡ Some front → (rest : List Lexeme) × (form_printed w ≡ front ++ rest)
 form_parts (Plain k v) front h = front_printed Limited (grammar k) v front h
 form_parts (IfOne cond k v) front h =
     front_parted (deep_front Limited if_head cond) (printed if_head cond) (deep_front Limited (grammar k) v) (printed (grammar k) v) front
@@ -87,13 +87,13 @@ unspelled ts h s = at (form_front Limited s.written) refl
         form_deep ts h (record { written = s.written; formed = s.formed; front = front; deep = f; rest = p.0; parts = sym s.parts ∙ p.1 })
 
 -- the line is a statement
-pub is_statement : (ts : List Lexeme) (f : Form) → statement ts ≡ Found (f, []) → (IsLeftOut ts → ⊥) → IsStatement ts f
+pub is_statement : (ts : List Lexeme) (f : StatementForm) → statement ts ≡ Found (f, []) → (IsLeftOut ts → ⊥) → IsStatement ts f
 is_statement ts f h l =
     let w = form_read ts (f, []) h in
     record { written = w.written; same = w.same; formed = w.formed; shallow = w.shallow; parts = w.parts; within = l }
 
 -- nothing is wrong with a statement
-pub no_breach : (ts : List Lexeme) (f : Form) → statement ts ≡ Found (f, []) → (IsLeftOut ts → ⊥) → (reason : Reason) → IsStatementBreach ts reason → ⊥
+pub no_breach : (ts : List Lexeme) (f : StatementForm) → statement ts ≡ Found (f, []) → (IsLeftOut ts → ⊥) → (reason : Reason) → IsStatementBreach ts reason → ⊥
 no_breach ts f h l NotAStatement n = let w = form_read ts (f, []) h in n.0 (record { written = w.written; formed = w.formed; parts = w.parts })
 no_breach ts f h l Limit d = found_deep ts f h d
 no_breach ts f h l LeftOut x = l x
@@ -129,7 +129,7 @@ left_out_first line ts h l = first_is line ts LeftOut l least
     least LeftOut l = omega arith
     least other x = absurd x
 
-pub found_left_out : (line : ℕ) (ts : List Lexeme) (f : Form) → statement ts ≡ Found (f, []) → IsLeftOut ts → IsFirstBreach (IsBreachOn line ts) (first_of line LeftOut)
+pub found_left_out : (line : ℕ) (ts : List Lexeme) (f : StatementForm) → statement ts ≡ Found (f, []) → IsLeftOut ts → IsFirstBreach (IsBreachOn line ts) (first_of line LeftOut)
 found_left_out line ts f h l = left_out_first line ts (found_deep ts f h) l
 
 pub unread_left_out : (line : ℕ) (ts : List Lexeme) → statement ts ≡ Stopped read_error.Malformed → IsLeftOut ts → IsFirstBreach (IsBreachOn line ts) (first_of line LeftOut)

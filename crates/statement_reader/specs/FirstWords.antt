@@ -10,7 +10,7 @@ abbrev pub kind_in : List (List ℕ × Kind) → Kind → List Lexeme → Kind
 kind_in [] k ts = k
 kind_in (row ∷ table) k ts = if starts (key row.0) ts then row.1 else kind_in table k ts
 
--- behind END, and behind ELSE
+-- after END, and after ELSE
 abbrev pub end_words : List (List ℕ × Kind)
 end_words =
     (codes "IF", kind.EndIf false) ∷ (codes "DO", kind.EndDo false) ∷ (codes "WHERE", kind.EndWhere false) ∷

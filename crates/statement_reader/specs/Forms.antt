@@ -108,12 +108,12 @@ grammar kind.End = Prefixed (key (codes "END")) (Optional (key (codes "PROGRAM")
 abbrev pub if_head : Grammar
 if_head = Prefixed (key (codes "IF")) condition
 
--- a statement of a kind; or an IF with a statement behind its condition
-pub data Form : Type 0 where
-  Plain : (k : Kind) → Value (grammar k) → Form
-  IfOne : Expression → (k : Kind) → Value (grammar k) → Form
+-- a statement of a kind; or an IF with a statement after its condition
+pub data StatementForm : Type 0 where
+  Plain : (k : Kind) → Value (grammar k) → StatementForm
+  IfOne : Expression → (k : Kind) → Value (grammar k) → StatementForm
 
-abbrev pub form_printed : Form → List Lexeme
+abbrev pub form_printed : StatementForm → List Lexeme
 form_printed (Plain k v) = printed (grammar k) v
 form_printed (IfOne cond k v) = printed if_head cond ++ printed (grammar k) v
 
@@ -130,21 +130,21 @@ is_action kind.Continue v = true
 is_action k v = false
 
 -- a well-formed statement, however deep its expressions are
-abbrev pub IsForm : Form → Type 0
+abbrev pub IsForm : StatementForm → Type 0
 IsForm (Plain k v) = IsWell (grammar k) v
 IsForm (IfOne cond k v) = IsFormed cond × (is_action k v ≡ true) × IsWell (grammar k) v
 
 -- the lexemes of a statement up to and with its first expression that is too deep
-abbrev pub form_front : Depths → Form → Option (List Lexeme)
+abbrev pub form_front : Depths → StatementForm → Option (List Lexeme)
 form_front depths (Plain k v) = deep_front depths (grammar k) v
 form_front depths (IfOne cond k v) = front_or (deep_front depths if_head cond) (printed if_head cond) (deep_front depths (grammar k) v)
 
 -- what a tree keeps of a statement: it doesn't tell ELSE WHERE from ELSEWHERE
-abbrev pub as_kept : (k : Kind) → Value (grammar k) → Form
+abbrev pub as_kept : (k : Kind) → Value (grammar k) → StatementForm
 as_kept (kind.ElseWhere true) v = Plain (kind.ElseWhere true) v
 as_kept (kind.ElseWhere false) v = Plain (kind.ElseWhere true) v
 as_kept k v = Plain k v
 
-abbrev pub form_kept : Form → Form
+abbrev pub form_kept : StatementForm → StatementForm
 form_kept (Plain k v) = as_kept k (value_kept (grammar k) v)
 form_kept (IfOne cond k v) = IfOne (kept cond) k (value_kept (grammar k) v)

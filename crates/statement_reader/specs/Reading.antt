@@ -13,7 +13,7 @@ use Rattle.line_forms.specs.Read.{read}
 use Rattle.statement_reader.specs.declared.kind.Kind.{Kind}
 use Rattle.statement_reader.specs.declared.kind.Kind.TheVariants as kind
 use Rattle.statement_reader.specs.FirstWords.{statement_kind}
-use Rattle.statement_reader.specs.Forms.{grammar, entity, constants, loose_constants, if_head, Form, Plain, IfOne, as_kept, is_action}
+use Rattle.statement_reader.specs.Forms.{grammar, entity, constants, loose_constants, if_head, StatementForm, Plain, IfOne, as_kept, is_action}
 use Rattle.statement_reader.specs.Views.{IsOfKind}
 
 -- the kinds of which a statement may be the action of an IF
@@ -32,7 +32,7 @@ abbrev pub is_nothing : List Lexeme → Bool
 is_nothing [] = true
 is_nothing (t ∷ ts) = false
 
--- nothing stands behind it
+-- nothing stands after it
 abbrev pub ended : {A : Type 0} → A × List Lexeme → Reading A
 ended x = if is_nothing x.1 then Found (x.0, []) else Stopped read_error.Malformed
 
@@ -44,14 +44,14 @@ abbrev pub whole : Depths → (k : Kind) → List Lexeme → Reading (Value (gra
 whole depths k ts = whole_of depths (grammar k) ts
 
 -- a whole line that says nothing more than what it is
-abbrev pub said : Grammar → Form → List Lexeme → Reading Form
+abbrev pub said : Grammar → StatementForm → List Lexeme → Reading StatementForm
 said g form ts = whole_of Limited g ts >>= λ v. Found (form, v.1)
 
--- what may stand behind END PROGRAM
+-- what may stand after END PROGRAM
 abbrev pub end_program : List Lexeme → Reading (Option (Option (List ℕ)))
 end_program ts = whole_of Limited (OptionalToEnd Identifier) ts >>= λ v. Found (Some v.0, v.1)
 
-abbrev pub line : Depths → Kind → List Lexeme → Reading Form
+abbrev pub line : Depths → Kind → List Lexeme → Reading StatementForm
 line depths k ts = whole depths k ts >>= λ v. Found (as_kept k v.0, v.1)
 
 -- the action of an IF; a WHERE or FORALL has its assignment there
@@ -64,24 +64,24 @@ acting depths k ts =
 abbrev pub acted : Grammar → IsOfKind → List Lexeme → Reading IsOfKind
 acted g a ts = whole_of Limited g ts >>= λ v. Found (a, v.1)
 
--- an IF behind its condition
-abbrev pub if_rest : Depths → Expression → List Lexeme → Reading Form
+-- an IF after its condition
+abbrev pub if_rest : Depths → Expression → List Lexeme → Reading StatementForm
 if_rest depths cond ts =
     if starts (key (codes "THEN")) ts then ended (Plain kind.IfThen cond, drop 1 ts)
     else (acting depths (statement_kind ts) ts >>= λ a. Found (IfOne cond a.0.0 a.0.1, a.1))
 
-abbrev pub if_line : Depths → List Lexeme → Reading Form
+abbrev pub if_line : Depths → List Lexeme → Reading StatementForm
 if_line depths ts = read depths if_head ts >>= λ c. if_rest depths c.0 c.1
 
-abbrev pub line_of : Depths → Kind → List Lexeme → Reading Form
+abbrev pub line_of : Depths → Kind → List Lexeme → Reading StatementForm
 line_of depths kind.IfThen ts = if_line depths ts
 line_of depths k ts = line depths k ts
 
 -- the statement that a line is
-abbrev pub reading : Depths → List Lexeme → Reading Form
+abbrev pub reading : Depths → List Lexeme → Reading StatementForm
 reading depths ts = line_of depths (statement_kind ts) ts
 
-abbrev pub statement : List Lexeme → Reading Form
+abbrev pub statement : List Lexeme → Reading StatementForm
 statement ts = reading Limited ts
 
 -- whether an INTEGER with PARAMETER, its values aside, declares arrays: it has DIMENSION, or an entity has bounds

@@ -18,12 +18,12 @@ use Rattle.statement_reader.specs.declared.statement.Action.TheVariants as actio
 use Rattle.statement_reader.specs.declared.statement.Assignment.{Assignment}
 use Rattle.statement_reader.specs.declared.statement.DoHead.{DoHead}
 use Rattle.statement_reader.specs.declared.statement.ForallHead.{ForallHead}
-use Rattle.statement_reader.specs.Forms.{grammar, plain_entity, entity, constant_entity, constant, assignment, axis, do_head, forall_head, declaration, Form, Plain, IfOne}
+use Rattle.statement_reader.specs.Forms.{grammar, plain_entity, entity, constant_entity, constant, assignment, axis, do_head, forall_head, declaration, StatementForm, Plain, IfOne}
 
 abbrev pub entity_of : Entity → Value entity
 entity_of e = (e.name, (option_map (λ v. map bound_of v.items) e.dims, option_map expression e.start))
 
--- the value of a constant, which it always has: without one it is the view of no line, as no name has an empty list behind it
+-- the value of a constant, which it always has: without one it is the view of no line, as no name has an empty list after it
 abbrev value_in : Option Expression → Expression
 value_in None = Element [] End
 value_in (Some value) = value
@@ -92,7 +92,7 @@ action_of action.Exit = (kind.Exit, tt)
 action_of action.Cycle = (kind.Cycle, tt)
 action_of action.Continue = (kind.Continue, tt)
 
-abbrev pub form_of : Statement → Form
+abbrev pub form_of : Statement → StatementForm
 form_of (statement.Program name) = Plain kind.Program name
 form_of statement.ImplicitNone = Plain kind.ImplicitNone tt
 form_of (statement.Integer d) = Plain kind.Integer (declaration_of d)

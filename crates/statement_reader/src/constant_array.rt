@@ -14,7 +14,7 @@ ghost use Rattle.syntax_tree.specs.Lexeme.{lexemes};
 use crate::declaration::constants;
 use crate::lists::Entities;
 use crate::word_lines::finish;
-use line_forms::{Depths, ReadError, after_word, attribute, behind};
+use line_forms::{Depths, ReadError, after_word, attribute, skip};
 use source_lines::Token;
 use std::alloc::Global;
 use syntax_tree::{Bound, Entity};
@@ -30,17 +30,17 @@ pub(crate) fn constant_array(alloc: Global, tokens: &[Token]) -> Result<bool, Re
     Ok(has_bounds(&dims, &entities))
 }
 
-/// The tokens behind the attribute PARAMETER.
+/// The tokens after the attribute PARAMETER.
 fn after_parameter(tokens: &[Token]) -> Result<&[Token], ReadError>
     ensures { Gives (λ x. (tt, lexemes x.now)) result (after_marks parameter_key (lexemes tokens.now)) }
 {
     if !attribute(tokens, b"PARAMETER") {
         return Err(ReadError::Malformed);
     }
-    Ok(behind(tokens, 2))
+    Ok(skip(tokens, 2))
 }
 
-/// Whether bounds stand behind DIMENSION or behind an entity.
+/// Whether bounds stand after DIMENSION or after an entity.
 fn has_bounds(dims: &Option<Vec<Bound>>, entities: &[Entity]) -> bool
     ensures { result ≡ has_bounds (option_map (λ v. map bound_of v.items) dims.now, map entity_of entities.now) }
 {

@@ -1,4 +1,4 @@
-//! What stands behind INTEGER (Fortran 95, 5.1).
+//! What stands after INTEGER (Fortran 95, 5.1).
 
 ghost use Rattle.std.specs.Prelude.{◌≡◌, false, map, option_map};
 ghost use Rattle.syntax_tree.specs.Lexeme.{lexemes};
@@ -13,8 +13,7 @@ ghost use Rattle.statement_reader.specs.Views.{declaration_of};
 
 use crate::lists::{ConstantEntities, Entities, PlainEntities};
 use line_forms::{
-    Bounds, Depths, Element, ReadError, after_sign, attribute, behind, comma_list, enclosed,
-    is_sign,
+    Bounds, Depths, Element, ReadError, after_sign, attribute, comma_list, enclosed, is_sign, skip,
 };
 use source_lines::Token;
 use std::alloc::Global;
@@ -33,7 +32,7 @@ pub(crate) fn declaration(
     let ((dims, entities), rest) = constants::<ConstantEntities>(
         alloc,
         Depths::Limited,
-        behind(tokens, 2),
+        skip(tokens, 2),
     )?;
     Ok((
         IntegerDecl {
@@ -52,13 +51,13 @@ fn variables(alloc: Global, tokens: &[Token]) -> Result<(IntegerDecl, &[Token]),
     ensures { Gives (λ x. (declaration_of x.0, lexemes x.1.now)) result (read Limited declaration (lexemes tokens.now)) }
 {
     if attribute(tokens, b"DIMENSION") {
-        let (bounds, rest) = enclosed::<Bounds>(alloc, Depths::Limited, behind(tokens, 2))?;
+        let (bounds, rest) = enclosed::<Bounds>(alloc, Depths::Limited, skip(tokens, 2))?;
         let rest = after_sign(rest, Sign::Colons)?;
         let (entities, rest) = comma_list::<Entities>(alloc, Depths::Limited, rest)?;
         return Ok((typed(Some(bounds), true, entities), rest));
     }
     if is_sign(tokens, Sign::Colons) {
-        let (entities, rest) = comma_list::<Entities>(alloc, Depths::Limited, behind(tokens, 1))?;
+        let (entities, rest) = comma_list::<Entities>(alloc, Depths::Limited, skip(tokens, 1))?;
         return Ok((typed(None, true, entities), rest));
     }
     let (entities, rest) = comma_list::<PlainEntities>(alloc, Depths::Limited, tokens)?;
@@ -77,7 +76,7 @@ fn typed(dims: Option<Vec<Bound>>, colons: bool, entities: Vec<Entity>) -> Integ
     }
 }
 
-/// What stands behind PARAMETER: the bounds of DIMENSION, if it is there, and the entities behind `::`.
+/// What stands after PARAMETER: the bounds of DIMENSION, if it is there, and the entities after `::`.
 pub(crate) fn constants<T: Element>(
     alloc: Global,
     depths: Depths,
@@ -103,6 +102,6 @@ fn dimension(
     if !attribute(tokens, b"DIMENSION") {
         return Ok((None, tokens));
     }
-    let (bounds, rest) = enclosed::<Bounds>(alloc, depths, behind(tokens, 2))?;
+    let (bounds, rest) = enclosed::<Bounds>(alloc, depths, skip(tokens, 2))?;
     Ok((Some(bounds), rest))
 }

@@ -6,7 +6,7 @@ ghost use Rattle.statement_reader.specs.FirstWords.{kind_in, statement_kind, end
 ghost use Rattle.statement_reader.specs.declared.kind.Kind.TheVariants.{Assign, Else, End};
 
 use crate::kind::Kind;
-use line_forms::{behind, is_word};
+use line_forms::{is_word, skip};
 use source_lines::Token;
 
 /// What kind of statement a line is, if it is one; it is IfThen for every IF.
@@ -14,15 +14,15 @@ pub(crate) fn statement_kind(tokens: &[Token]) -> Kind
     ensures { result ≡ statement_kind (lexemes tokens.now) }
 {
     if is_word(tokens, b"END") {
-        return end_kind(behind(tokens, 1));
+        return end_kind(skip(tokens, 1));
     }
     if is_word(tokens, b"ELSE") {
-        return else_kind(behind(tokens, 1));
+        return else_kind(skip(tokens, 1));
     }
     unit_kind(tokens)
 }
 
-/// The kind of a line that begins with END, by what stands behind that.
+/// The kind of a line that begins with END, by what stands after that.
 fn end_kind(tokens: &[Token]) -> Kind
     ensures { result ≡ kind_in end_words End (lexemes tokens.now) }
 {
@@ -41,7 +41,7 @@ fn end_kind(tokens: &[Token]) -> Kind
     Kind::End
 }
 
-/// The kind of a line that begins with ELSE, by what stands behind that.
+/// The kind of a line that begins with ELSE, by what stands after that.
 fn else_kind(tokens: &[Token]) -> Kind
     ensures { result ≡ kind_in else_words Else (lexemes tokens.now) }
 {
@@ -110,7 +110,7 @@ fn construct_kind(tokens: &[Token]) -> Kind
     action_kind(tokens)
 }
 
-/// The kind of a line that is a whole statement without a part behind it.
+/// The kind of a line that is a whole statement without a part after it.
 fn action_kind(tokens: &[Token]) -> Kind
     ensures { result ≡ kind_in action_words Assign (lexemes tokens.now) }
 {

@@ -1,4 +1,4 @@
-//! What stands behind DO, WHERE and FORALL.
+//! What stands after DO, WHERE and FORALL.
 
 ghost use Rattle.std.specs.Prelude.{option_map};
 ghost use Rattle.syntax_tree.specs.Lexeme.{lexemes};
@@ -51,7 +51,7 @@ pub(crate) fn forall_head(
     Ok((ForallHead { axes, mask }, rest))
 }
 
-/// A WHERE behind its keyword, with its assignment if it has one.
+/// A WHERE after its keyword, with its assignment if it has one.
 pub(crate) fn where_parts(
     alloc: Global,
     tokens: &[Token],
@@ -64,7 +64,7 @@ pub(crate) fn where_parts(
     Ok(((mask, one), rest))
 }
 
-/// A FORALL behind its keyword, with its assignment if it has one.
+/// A FORALL after its keyword, with its assignment if it has one.
 pub(crate) fn forall_parts(
     alloc: Global,
     tokens: &[Token],

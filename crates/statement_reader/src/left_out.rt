@@ -34,7 +34,7 @@ fn is_do(word: &[u8]) -> bool
     b"DO".as_slice() == word
 }
 
-/// Whether a DO with these tokens behind it is left out.
+/// Whether a DO with these tokens after it is left out.
 fn is_left_out_do(tokens: &[Token]) -> bool
     ensures { result ≡ is_left_out_do (lexemes tokens.now) }
 {

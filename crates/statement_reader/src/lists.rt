@@ -10,10 +10,10 @@ ghost use Rattle.line_forms.specs.Marks.{comma, equals};
 ghost use Rattle.line_forms.specs.Read.{read};
 ghost use Rattle.line_forms.specs.Gives.{Gives};
 
-use crate::parts::{optional_behind, values};
+use crate::parts::{optional_after, values};
 use line_forms::{
-    Bounds, Depths, Element, ListedItems, ReadError, after_sign, behind, comma_list, expr, is_sign,
-    name, optional_enclosed,
+    Bounds, Depths, Element, ListedItems, ReadError, after_sign, comma_list, expr, is_sign, name,
+    optional_enclosed, skip,
 };
 use source_lines::Token;
 use std::alloc::Global;
@@ -37,7 +37,7 @@ impl Element for Entities {
         match name(tokens) {
             Ok((name, rest)) => {
                 let (dims, rest) = optional_enclosed::<Bounds>(alloc, depths, rest)?;
-                let (start, rest) = optional_behind(alloc, depths, rest, Sign::Equals)?;
+                let (start, rest) = optional_after(alloc, depths, rest, Sign::Equals)?;
                 Ok((Entity { name, dims, start }, rest))
             }
             Err(error) => Err(error),
@@ -72,7 +72,7 @@ impl Element for ConstantEntities {
     }
 }
 
-/// A value behind `=`.
+/// A value after `=`.
 fn value(alloc: Global, depths: Depths, tokens: &[Token]) -> Result<(Expr, &[Token]), ReadError>
     ensures { Gives (λ x. (expression x.0, lexemes x.1.now)) result (read depths (Prefixed equals OneExpr) (lexemes tokens.now)) }
 {
@@ -164,7 +164,7 @@ impl Element for Axes {
     }
 }
 
-/// The items behind a comma, if one is there; none where it isn't.
+/// The items after a comma, if one is there; none where it isn't.
 pub(crate) fn optional_items(
     alloc: Global,
     tokens: &[Token],
@@ -174,6 +174,6 @@ pub(crate) fn optional_items(
     if !is_sign(tokens, Sign::Comma) {
         return Ok((Vec::new(alloc), tokens));
     }
-    let (items, rest) = comma_list::<ListedItems>(alloc, Depths::Limited, behind(tokens, 1))?;
+    let (items, rest) = comma_list::<ListedItems>(alloc, Depths::Limited, skip(tokens, 1))?;
     Ok((items, rest))
 }

@@ -11,13 +11,13 @@ ghost use Rattle.statement_reader.specs.Forms.{assignment, condition, values};
 ghost use Rattle.statement_reader.specs.Views.{assignment_of};
 
 use crate::statement::Assignment;
-use line_forms::{Depths, ReadError, after_sign, behind, expr, is_sign, variable};
+use line_forms::{Depths, ReadError, after_sign, expr, is_sign, skip, variable};
 use source_lines::Token;
 use std::alloc::Global;
 use syntax_tree::{Expr, Sign};
 
-/// An expression that may be there behind a sign.
-pub(crate) fn optional_behind(
+/// An expression that may be there after a sign.
+pub(crate) fn optional_after(
     alloc: Global,
     depths: Depths,
     tokens: &[Token],
@@ -28,11 +28,11 @@ pub(crate) fn optional_behind(
     if !is_sign(tokens, sign) {
         return Ok((None, tokens));
     }
-    let (tree, rest) = expr(alloc, depths, behind(tokens, 1))?;
+    let (tree, rest) = expr(alloc, depths, skip(tokens, 1))?;
     Ok((Some(tree), rest))
 }
 
-/// Two expressions with a sign between, and a third one that may be there behind the sign.
+/// Two expressions with a sign between, and a third one that may be there after the sign.
 pub(crate) fn values(
     alloc: Global,
     depths: Depths,
@@ -45,7 +45,7 @@ pub(crate) fn values(
     let (first, rest) = expr(alloc, depths, tokens)?;
     let rest = after_sign(rest, sign)?;
     let (last, rest) = expr(alloc, depths, rest)?;
-    let (step, rest) = optional_behind(alloc, depths, rest, sign)?;
+    let (step, rest) = optional_after(alloc, depths, rest, sign)?;
     Ok(((first, last, step), rest))
 }
 

@@ -20,7 +20,7 @@ use crate::whole_lines::{
     where_line,
 };
 use crate::word_lines::{alone, finish, pair};
-use line_forms::{ReadError, after_word, behind, is_word};
+use line_forms::{ReadError, after_word, is_word, skip};
 use source_lines::Token;
 use std::alloc::Global;
 
@@ -113,14 +113,14 @@ fn end_statement(tokens: &[Token]) -> Result<Statement, ReadError>
     Ok(Statement::End { word, name })
 }
 
-/// An IF, with THEN or an action behind its condition.
+/// An IF, with THEN or an action after its condition.
 fn if_line(alloc: Global, tokens: &[Token]) -> Result<Statement, ReadError>
     ensures { GivesWhole form_of result (if_line Limited (lexemes tokens.now)) }
 {
     let rest = after_word(tokens, b"IF")?;
     let (cond, rest) = condition(alloc, rest)?;
     if is_word(rest, b"THEN") {
-        finish(behind(rest, 1))?;
+        finish(skip(rest, 1))?;
         return Ok(Statement::IfThen(cond));
     }
     let action = action(alloc, rest)?;

@@ -30,7 +30,7 @@ pub enum Statement {
     /// FORALL that opens a construct.
     Forall(ForallHead),
     EndForall { glued: bool },
-    /// END alone, or with PROGRAM and a name behind that.
+    /// END alone, or with PROGRAM and a name after that.
     End { word: bool, name: Option<Name> },
 }
 

@@ -19,7 +19,7 @@ use crate::parts::{assignment, condition};
 use crate::statement::{Assignment, DoHead, ForallHead};
 use crate::word_lines::finish;
 use hpf_base::Name;
-use line_forms::{Depths, ReadError, after_sign, after_word, behind, enclosed, is_word, name};
+use line_forms::{Depths, ReadError, after_sign, after_word, enclosed, is_word, name, skip};
 use source_lines::Token;
 use std::alloc::Global;
 use syntax_tree::{ConstDef, Expr, IntegerDecl, Item, Sign};
@@ -141,7 +141,7 @@ pub(crate) fn print(alloc: Global, tokens: &[Token]) -> Result<Vec<Item>, ReadEr
     Ok(items)
 }
 
-/// END, whether PROGRAM stands behind it, and the name behind that.
+/// END, whether PROGRAM stands after it, and the name after that.
 pub(crate) fn end(tokens: &[Token]) -> Result<(bool, Option<Name>), ReadError>
     ensures { GivesWhole (λ x. end_of x.0 x.1) result (whole Limited End (lexemes tokens.now)) }
 {
@@ -150,10 +150,10 @@ pub(crate) fn end(tokens: &[Token]) -> Result<(bool, Option<Name>), ReadError>
         finish(rest)?;
         return Ok((false, None));
     }
-    end_name(behind(rest, 1))
+    end_name(skip(rest, 1))
 }
 
-/// The name behind END PROGRAM, if one stands there.
+/// The name after END PROGRAM, if one stands there.
 fn end_name(tokens: &[Token]) -> Result<(bool, Option<Name>), ReadError>
     ensures { GivesWhole (λ x. end_of x.0 x.1) result (end_program (lexemes tokens.now)) }
 {

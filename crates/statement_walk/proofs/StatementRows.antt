@@ -1,7 +1,7 @@
 -- An arm of an IF, by its fields.
 use Rattle.std.proofs.Common.{◌≡◌, List, ◌∷◌, ap, ◌∙◌}
 use Rattle.syntax_tree.specs.declared.stmt.Arm.{Arm, out-Arm}
-use Rattle.syntax_tree.specs.declared.stmt.Kind.TheViews.{is-struct-Arm}
+use Rattle.syntax_tree.specs.declared.stmt.StatementKind.TheViews.{is-struct-Arm}
 use Rattle.syntax_tree.specs.Expression.{expression}
 use Rattle.syntax_tree.specs.Statement.{block_of}
 use Rattle.syntax_tree.proofs.Rows.{block_vec}

@@ -9,8 +9,8 @@ use Rattle.syntax_tree.specs.declared.stmt.Stmt.{Stmt}
 use Rattle.syntax_tree.specs.declared.stmt.Arm.{Arm as HeldArm, out-Arm}
 use Rattle.syntax_tree.specs.declared.stmt.DoLoop.{DoLoop, out-DoLoop}
 use Rattle.syntax_tree.specs.declared.stmt.Header.{Header}
-use Rattle.syntax_tree.specs.declared.stmt.Kind as Kind
-use Rattle.syntax_tree.specs.declared.stmt.Kind.TheBlock.{struct-Arm, hidden-the_row-Arm-0, back-Kind-If-1}
+use Rattle.syntax_tree.specs.declared.stmt.StatementKind as StatementKind
+use Rattle.syntax_tree.specs.declared.stmt.StatementKind.TheBlock.{struct-Arm, hidden-the_row-Arm-0, back-StatementKind-If-1}
 use Rattle.syntax_tree.specs.Expression.{Expression, expression}
 use Rattle.syntax_tree.specs.Statement.{Axis, arms, axis, block_of, do_construct, independent, rest_assignments, statement}
 use Rattle.expression_rules.specs.Symbols.{Name}
@@ -29,7 +29,7 @@ pub more_first : (f : PlacedHead → List Refusal) (p : PlacedHead) (xs ys : Lis
 more_first f p xs ys own inside result a b is same =
     is ∙ (λ i. earlier (a i) (b i)) ∙ sym (least_more f p xs) ∙ ap (λ l. least (flat_map f l)) same
 
--- two lists, one behind the other
+-- two lists, one after the other
 pub both_first : (f : PlacedHead → List Refusal) (xs ys zs : List PlacedHead) (first last result : Option Refusal) →
     first ≡ least (flat_map f xs) → last ≡ least (flat_map f ys) → result ≡ earlier first last → xs ++ ys ≡ zs → result ≡ least (flat_map f zs)
 both_first f xs ys zs first last result a b is same =
@@ -71,46 +71,46 @@ do_first f do_variables pushed line d marked looped inside more result a b push 
     (ap (statement_heads do_variables line) (sym (do_parts d)))
 
 -- the heads of each kind of statement
-nothing_behind : (xs : List PlacedHead) → ((xs ++ []) ++ []) ++ [] ≡ xs
-nothing_behind xs = append-nil ((xs ++ []) ++ []) ∙ append-nil (xs ++ []) ∙ append-nil xs
+nothing_after : (xs : List PlacedHead) → ((xs ++ []) ++ []) ++ [] ≡ xs
+nothing_after xs = append-nil ((xs ++ []) ++ []) ∙ append-nil (xs ++ []) ∙ append-nil xs
 
-pub if_one_heads : (do_variables : List Name) (line : ℕ) (k : Kind.Kind) (cond : Expr) (b : Box Stmt Global) (s : Stmt) → k ≡ Kind.IfOne cond b → s ≡ b.value →
+pub if_one_heads : (do_variables : List Name) (line : ℕ) (k : StatementKind.StatementKind) (cond : Expr) (b : Box Stmt Global) (s : Stmt) → k ≡ StatementKind.IfOne cond b → s ≡ b.value →
     placed do_variables line (head.Condition (expression cond)) ∷ statement_heads do_variables s.line (statement s.line s.what)
     ≡ statement_heads do_variables line (statement line k)
 if_one_heads do_variables line k cond b s is same =
     ap (λ s. placed do_variables line (head.Condition (expression cond)) ∷ statement_heads do_variables s.line (statement s.line s.what)) same
     ∙ sym (ap (λ k. statement_heads do_variables line (statement line k)) is
-    ∙ ap (λ l. placed do_variables line (head.Condition (expression cond)) ∷ l) (nothing_behind (statement_heads do_variables b.value.line (statement b.value.line b.value.what))))
+    ∙ ap (λ l. placed do_variables line (head.Condition (expression cond)) ∷ l) (nothing_after (statement_heads do_variables b.value.line (statement b.value.line b.value.what))))
 
-pub if_heads : (do_variables : List Name) (line : ℕ) (k : Kind.Kind) (as' : Vec HeldArm Global) (rest : Option (Vec Stmt Global)) (v : Vec Stmt Global) (glued : Bool) →
-    k ≡ Kind.If as' rest glued → rest ≡ Some v →
+pub if_heads : (do_variables : List Name) (line : ℕ) (k : StatementKind.StatementKind) (as' : Vec HeldArm Global) (rest : Option (Vec Stmt Global)) (v : Vec Stmt Global) (glued : Bool) →
+    k ≡ StatementKind.If as' rest glued → rest ≡ Some v →
     arm_heads do_variables (arms_of as'.items) ++ heads do_variables (block_of v.items) ≡ statement_heads do_variables line (statement line k)
 if_heads do_variables line k as' rest v glued is some =
-    sym (ap (λ k. statement_heads do_variables line (statement line k)) (is ∙ ap (λ r. Kind.If as' r glued) some)
+    sym (ap (λ k. statement_heads do_variables line (statement line k)) (is ∙ ap (λ r. StatementKind.If as' r glued) some)
     ∙ (λ i. arm_heads do_variables (arms_vec as' i) ++ heads do_variables (block_vec v i)))
 
-pub if_alone_heads : (do_variables : List Name) (line : ℕ) (k : Kind.Kind) (as' : Vec HeldArm Global) (rest : Option (Vec Stmt Global)) (glued : Bool) →
-    k ≡ Kind.If as' rest glued → rest ≡ None →
+pub if_alone_heads : (do_variables : List Name) (line : ℕ) (k : StatementKind.StatementKind) (as' : Vec HeldArm Global) (rest : Option (Vec Stmt Global)) (glued : Bool) →
+    k ≡ StatementKind.If as' rest glued → rest ≡ None →
     arm_heads do_variables (arms_of as'.items) ≡ statement_heads do_variables line (statement line k)
 if_alone_heads do_variables line k as' rest glued is none =
-    sym (ap (λ k. statement_heads do_variables line (statement line k)) (is ∙ ap (λ r. Kind.If as' r glued) none)
+    sym (ap (λ k. statement_heads do_variables line (statement line k)) (is ∙ ap (λ r. StatementKind.If as' r glued) none)
     ∙ append-nil (arm_heads do_variables (arms (hidden-the_row-Arm-0 as')))
     ∙ ap (arm_heads do_variables) (arms_vec as'))
 
-pub forall_heads : (do_variables : List Name) (line : ℕ) (k : Kind.Kind) (axes : Vec Header Global) (mask : Option Expr) (v : Vec Stmt Global) (one glued marked : Bool) →
-    k ≡ Kind.Forall axes mask v one glued marked →
+pub forall_heads : (do_variables : List Name) (line : ℕ) (k : StatementKind.StatementKind) (axes : Vec Header Global) (mask : Option Expr) (v : Vec Stmt Global) (one glued marked : Bool) →
+    k ≡ StatementKind.Forall axes mask v one glued marked →
     placed do_variables line (head.Forall (map axis axes.items) (option_map expression mask)) ∷ indexed do_variables (map axis axes.items) (assignments_of v.items)
     ≡ statement_heads do_variables line (statement line k)
 forall_heads do_variables line k axes mask v one glued marked is =
     sym (ap (λ k. statement_heads do_variables line (statement line k)) is
     ∙ ap (λ l. placed do_variables line (head.Forall (map axis axes.items) (option_map expression mask)) ∷ indexed do_variables (map axis axes.items) l) (assignments_vec v))
 
-elsewhere : (rest : Option (Vec Stmt Global)) → rest_assignments (back-Kind-If-1 rest) ≡ elsewhere_of rest
+elsewhere : (rest : Option (Vec Stmt Global)) → rest_assignments (back-StatementKind-If-1 rest) ≡ elsewhere_of rest
 elsewhere None = refl
 elsewhere (Some v) = assignments_vec v
 
-pub where_heads : (do_variables : List Name) (line : ℕ) (k : Kind.Kind) (mask : Expr) (v : Vec Stmt Global) (rest : Option (Vec Stmt Global)) (one glued : Bool) →
-    k ≡ Kind.Where mask v rest one glued →
+pub where_heads : (do_variables : List Name) (line : ℕ) (k : StatementKind.StatementKind) (mask : Expr) (v : Vec Stmt Global) (rest : Option (Vec Stmt Global)) (one glued : Bool) →
+    k ≡ StatementKind.Where mask v rest one glued →
     placed do_variables line (head.Where (expression mask)) ∷ (masked do_variables (expression mask) (assignments_of v.items)
     ++ masked do_variables (expression mask) (elsewhere_of rest)) ≡ statement_heads do_variables line (statement line k)
 where_heads do_variables line k mask v rest one glued is =

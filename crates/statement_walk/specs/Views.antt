@@ -4,7 +4,7 @@ use Rattle.std.specs.Prelude.{List, [], ◌∷◌, map, Option, Some, None, opti
 use Rattle.std.specs.declared.alloc.Global.{Global}
 use Rattle.syntax_tree.specs.declared.stmt.Stmt.{Stmt}
 use Rattle.syntax_tree.specs.declared.stmt.Arm.{Arm}
-use Rattle.syntax_tree.specs.declared.stmt.Kind.TheBlock.{struct-Arm}
+use Rattle.syntax_tree.specs.declared.stmt.StatementKind.TheBlock.{struct-Arm}
 use Rattle.syntax_tree.specs.Expression.{expression}
 use Rattle.syntax_tree.specs.Directive.{distribution}
 use Rattle.syntax_tree.specs.Statement.{Assignment, assignments_of, axis, block, independent, item_of, variable}
@@ -33,7 +33,7 @@ head_of (held.Redistribute d) = head.Redistribute (distribution d.now)
 abbrev pub arm_alone : List Name → Arm → List PlacedHead
 arm_alone xs (struct-Arm n cond shape row glued) = placed xs n (head.Condition (expression cond)) ∷ heads xs (block row)
 
--- the assignments behind an ELSEWHERE that may be there
+-- the assignments after an ELSEWHERE that may be there
 abbrev pub elsewhere_of : Option (Vec Stmt Global) → List Assignment
 elsewhere_of None = []
 elsewhere_of (Some v) = assignments_of v.items

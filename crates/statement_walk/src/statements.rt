@@ -12,7 +12,7 @@ ghost use Rattle.syntax_tree.specs.Statement.{arms_of, assignments_in, assignmen
 
 use hpf_base::{Name, Refusal, earlier};
 use std::alloc::{AllocError, Global};
-use syntax_tree::{Arm, DistSpec, DoLoop, Expr, Header, Item, Kind, Mark, Ref, Stmt};
+use syntax_tree::{Arm, DistSpec, DoLoop, Expr, Header, Item, Mark, Ref, StatementKind, Stmt};
 
 /// What a statement says by itself, without the statements inside it.
 #[derive(Clone, Copy)]
@@ -85,7 +85,7 @@ fn walk_one<J: Judge>(
     ensures first { IfOk result (λ r. r ≡ least (flat_map (J.breaches judge.now) (statement_heads do_variables.old.items stmt.now.line (statement stmt.now.line stmt.now.what)))) }
 {
     match &stmt.what {
-        Kind::Assign { left, right } => {
+        StatementKind::Assign { left, right } => {
             one(
                 alloc,
                 judge,
@@ -94,12 +94,12 @@ fn walk_one<J: Judge>(
                 Head::Assignment(left, right),
             )
         }
-        Kind::IfOne { cond, body } => {
+        StatementKind::IfOne { cond, body } => {
             let tested = judge.judge(alloc, stmt.line, do_variables, Head::Condition(cond))?;
             let inside = walk_one(alloc, judge, do_variables, body)?;
             Ok(earlier(tested, inside))
         }
-        Kind::If { arms, rest, .. } => {
+        StatementKind::If { arms, rest, .. } => {
             let first = walk_arms(alloc, judge, do_variables, arms)?;
             match rest {
                 None => Ok(first),
@@ -109,11 +109,11 @@ fn walk_one<J: Judge>(
                 }
             }
         }
-        Kind::Do(inner) => {
+        StatementKind::Do(inner) => {
             let first = walk_do(alloc, judge, do_variables, stmt.line, inner)?;
             Ok(first)
         }
-        Kind::Where {
+        StatementKind::Where {
             mask,
             body,
             rest,
@@ -124,7 +124,7 @@ fn walk_one<J: Judge>(
             let last = walk_elsewhere(alloc, judge, do_variables, mask, rest)?;
             Ok(earlier(masked, earlier(first, last)))
         }
-        Kind::Forall {
+        StatementKind::Forall {
             axes,
             mask,
             body,
@@ -134,12 +134,18 @@ fn walk_one<J: Judge>(
             let inside = walk_indexed(alloc, judge, do_variables, axes, body)?;
             Ok(earlier(indexed, inside))
         }
-        Kind::Print(items) => one(alloc, judge, stmt.line, do_variables, Head::Print(items)),
-        Kind::Stop | Kind::Exit | Kind::Cycle => {
+        StatementKind::Print(items) => one(
+            alloc,
+            judge,
+            stmt.line,
+            do_variables,
+            Head::Print(items),
+        ),
+        StatementKind::Stop | StatementKind::Exit | StatementKind::Cycle => {
             one(alloc, judge, stmt.line, do_variables, Head::Transfer)
         }
-        Kind::Continue => Ok(None),
-        Kind::Redistribute(spec) => {
+        StatementKind::Continue => Ok(None),
+        StatementKind::Redistribute(spec) => {
             one(
                 alloc,
                 judge,
@@ -215,7 +221,7 @@ fn masked_one<J: Judge>(
     ensures { IfOk result (λ r. r ≡ least (flat_map (J.breaches judge.now) (masked do_variables.now (expression mask.now) (assignments_in stmt.now.line stmt.now.what)))) }
 {
     match &stmt.what {
-        Kind::Assign { left, right } => {
+        StatementKind::Assign { left, right } => {
             let head = Head::MaskedAssignment(mask, left, right);
             one(alloc, judge, stmt.line, do_variables, head)
         }
@@ -223,7 +229,7 @@ fn masked_one<J: Judge>(
     }
 }
 
-/// The same of the assignments behind an ELSEWHERE that may be there.
+/// The same of the assignments after an ELSEWHERE that may be there.
 fn walk_elsewhere<J: Judge>(
     alloc: Global,
     judge: &J,
@@ -268,7 +274,7 @@ fn indexed_one<J: Judge>(
     ensures { IfOk result (λ r. r ≡ least (flat_map (J.breaches judge.now) (indexed do_variables.now (map axis axes.now) (assignments_in stmt.now.line stmt.now.what)))) }
 {
     match &stmt.what {
-        Kind::Assign { left, right } => {
+        StatementKind::Assign { left, right } => {
             let head = Head::ForallAssignment(axes, left, right);
             one(alloc, judge, stmt.line, do_variables, head)
         }

@@ -7,8 +7,8 @@ use Rattle.syntax_tree.specs.declared.expr.Expr.TheBlock.{Row_of-Subscript, end_
 use Rattle.syntax_tree.specs.declared.stmt.Stmt.{Stmt}
 use Rattle.syntax_tree.specs.declared.stmt.Arm.{Arm as HeldArm}
 use Rattle.syntax_tree.specs.declared.stmt.DoLoop.{DoLoop, out-DoLoop}
-use Rattle.syntax_tree.specs.declared.stmt.Kind.TheViews.{is-struct-DoLoop}
-use Rattle.syntax_tree.specs.declared.stmt.Kind.TheBlock.{Assign as Assign', struct-Arm, Row_of-Stmt, end_of-Stmt, more_of-Stmt, Row_of-Arm, end_of-Arm, more_of-Arm, items-the_row-Stmt, hidden-the_row-Stmt-1, items_hidden-the_row-Stmt-1, items-the_row-Arm, hidden-the_row-Arm-0, items_hidden-the_row-Arm-0}
+use Rattle.syntax_tree.specs.declared.stmt.StatementKind.TheViews.{is-struct-DoLoop}
+use Rattle.syntax_tree.specs.declared.stmt.StatementKind.TheBlock.{Assign as Assign', struct-Arm, Row_of-Stmt, end_of-Stmt, more_of-Stmt, Row_of-Arm, end_of-Arm, more_of-Arm, items-the_row-Stmt, hidden-the_row-Stmt-1, items_hidden-the_row-Stmt-1, items-the_row-Arm, hidden-the_row-Arm-0, items_hidden-the_row-Arm-0}
 use Rattle.syntax_tree.specs.Expression.{Element, More, One, expression, subscripts, arguments, reference, subscript, arguments_of, parts_of}
 use Rattle.syntax_tree.specs.Statement.{Do, Then, Arm, arms, arms_of, assignments, assignments_of, block, block_of, do_construct, independent, statement, subscripts_of, variable}
 
@@ -16,7 +16,7 @@ subscript_items : {m : _} (row : Row_of-Subscript m) → subscripts row ≡ part
 subscript_items end_of-Subscript = refl
 subscript_items (more_of-Subscript s row) = ap (More (subscript s)) (subscript_items row)
 
--- a name with subscripts behind it
+-- a name with subscripts after it
 pub reference_vec : (x : List ℕ) (v : Vec Subscript Global) → reference x (back-Ref-subs (Some v)) ≡ Element x (parts_of v.items)
 reference_vec x v = ap (Element x) (subscript_items (hidden-the_row-Subscript-0 v) ∙ ap parts_of (items_hidden-the_row-Subscript-0 v))
 

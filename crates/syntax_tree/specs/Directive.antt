@@ -27,14 +27,14 @@ pub record Entity : Type 0 where
   pub bounds : Option (List Bound)
   pub start : Option Expression
 
--- how a dimension is distributed (HPF 2.0, 3.3): `*`, BLOCK or CYCLIC, with the expression in parentheses behind it
+-- how a dimension is distributed (HPF 2.0, 3.3): `*`, BLOCK or CYCLIC, with the expression in parentheses after it
 pub data Format : Type 0 where
   Undistributed : Format
   Block : Option Expression → Format
   Cyclic : Option Expression → Format
 
 -- DISTRIBUTE and REDISTRIBUTE: the names of the distributees, a format for each of their dimensions, and the processor
--- arrangement behind ONTO
+-- arrangement after ONTO
 pub record Distribution : Type 0 where
   pub names : List (List ℕ)
   pub formats : List Format
@@ -90,7 +90,7 @@ abbrev pub first_of : List (List ℕ) → List ℕ
 first_of (x ∷ []) = x
 first_of xs = []
 
--- the names behind `::`, or the one name before the list
+-- the names after `::`, or the one name before the list
 abbrev pub names_of : Bool → List (List ℕ) → List (List ℕ)
 names_of true xs = xs
 names_of false xs = first_of xs ∷ []

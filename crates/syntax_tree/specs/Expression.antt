@@ -9,7 +9,7 @@ mutual
   pub data Expression : Type 0 where
     Number : ℤ → Expression
     Truth : Bool → Expression
-    -- a name alone, and a name with subscripts behind it
+    -- a name alone, and a name with subscripts after it
     Name : List ℕ → Expression
     Element : List ℕ → Parts → Expression
     -- an intrinsic procedure with its arguments

@@ -11,7 +11,7 @@ use Rattle.syntax_tree.specs.Expression.{Expression, expression}
 use Rattle.syntax_tree.specs.Directive.{Bound, Entity, Directive, bound, entity, directive_of}
 use Rattle.syntax_tree.specs.Statement.{Block, block_of}
 
--- INTEGER (Fortran 95, 5.1): whether PARAMETER stands among its attributes, the bounds behind DIMENSION, and the entities
+-- INTEGER (Fortran 95, 5.1): whether PARAMETER stands among its attributes, the bounds after DIMENSION, and the entities
 pub record TypeDeclaration : Type 0 where
   pub constant : Bool
   pub bounds : Option (List Bound)
@@ -34,7 +34,7 @@ pub record Declaration : Type 0 where
   pub line : ℕ
   pub what : Declared
 
--- a main program (11.1): the name behind PROGRAM, the declarations in order, the statements, the name behind END PROGRAM,
+-- a main program (11.1): the name after PROGRAM, the declarations in order, the statements, the name after END PROGRAM,
 -- and the number of the line of END
 pub record MainProgram : Type 0 where
   pub name : Option (List ℕ)
@@ -64,7 +64,7 @@ declared_of (declared.Directive d) = Directed (directive_of d)
 abbrev pub declaration : Decl → Declaration
 declaration d = record { line = d.line; what = declared_of d.what }
 
--- no name stands behind END alone; where a tree has one nevertheless, it is a name that nothing spells
+-- no name stands after END alone; where a tree has one nevertheless, it is a name that nothing spells
 abbrev pub end_name_of : Bool → Option (List ℕ) → Option (List ℕ)
 end_name_of true name = name
 end_name_of false None = None

@@ -32,12 +32,12 @@ abbrev mutual
   step_spelling Absent = []
   step_spelling (Present e) = Fixed sign.Colon ∷ spelling e
 
-  -- a list and the parenthesis behind it
+  -- a list and the parenthesis after it
   pub parts_spelling : Parts → List Lexeme
   parts_spelling End = Fixed sign.Close ∷ []
   parts_spelling (More p ps) = part_spelling p ++ rest_spelling ps
 
-  -- what stands behind a part of a list
+  -- what stands after a part of a list
   pub rest_spelling : Parts → List Lexeme
   rest_spelling End = Fixed sign.Close ∷ []
   rest_spelling (More p ps) = Fixed sign.Comma ∷ (part_spelling p ++ rest_spelling ps)

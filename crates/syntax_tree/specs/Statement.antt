@@ -1,6 +1,6 @@
 -- The abstract syntax of statements (Fortran 95, 7.5, 8.1 and 9.4; HPF 2.0, 5.1), and what it is of a tree: what they say,
 -- apart from where they lie in memory and from spellings that change nothing. IF, WHERE or FORALL in one line, with an action
--- or an assignment behind it, is the construct with that alone.
+-- or an assignment after it, is the construct with that alone.
 use Rattle.std.specs.Prelude.{ℕ, List, [], ◌∷◌, ◌++◌, map, Option, Some, None, option_map}
 use Rattle.syntax_tree.specs.declared.expr.Ref.{Ref}
 use Rattle.syntax_tree.specs.declared.expr.Expr.TheBlock.{Held-Ref-subs, Ref-subs-None', Ref-subs-Some', back-Ref-subs}
@@ -11,12 +11,12 @@ use Rattle.syntax_tree.specs.declared.stmt.Item.{Item as HeldItem}
 use Rattle.syntax_tree.specs.declared.stmt.Item.TheVariants as item
 use Rattle.syntax_tree.specs.declared.stmt.Mark.{Mark}
 use Rattle.syntax_tree.specs.declared.stmt.Stmt.{Stmt}
-use Rattle.syntax_tree.specs.declared.stmt.Kind.{Kind}
-use Rattle.syntax_tree.specs.declared.stmt.Kind.TheBlock.{Assign as Assign', IfOne', If', Do as Do', Where', Forall', Print as Print', Stop as Stop', Exit as Exit', Cycle as Cycle', Continue as Continue', Redistribute as Redistribute', struct-Arm, struct-DoLoop, Row_of-Stmt, end_of-Stmt, more_of-Stmt, Row_of-Arm, end_of-Arm, more_of-Arm, Held-Kind-If-1, None', Some'}
+use Rattle.syntax_tree.specs.declared.stmt.StatementKind.{StatementKind}
+use Rattle.syntax_tree.specs.declared.stmt.StatementKind.TheBlock.{Assign as Assign', IfOne', If', Do as Do', Where', Forall', Print as Print', Stop as Stop', Exit as Exit', Cycle as Cycle', Continue as Continue', Redistribute as Redistribute', struct-Arm, struct-DoLoop, Row_of-Stmt, end_of-Stmt, more_of-Stmt, Row_of-Arm, end_of-Arm, more_of-Arm, Held-StatementKind-If-1, None', Some'}
 use Rattle.syntax_tree.specs.Expression.{Expression, Name, Element, Parts, expression, subscripts}
 use Rattle.syntax_tree.specs.Directive.{Distribution, distribution}
 
--- a variable: a name, and the subscripts behind it, the first dimension first (Fortran 95, 6)
+-- a variable: a name, and the subscripts after it, the first dimension first (Fortran 95, 6)
 pub record Variable : Type 0 where
   pub name : List ℕ
   pub subscripts : Option Parts
@@ -46,7 +46,7 @@ pub data Item : Type 0 where
   Text : List ℕ → Item
 
 mutual
-  -- statements one behind the other, each with the number of its line
+  -- statements one after the other, each with the number of its line
   pub data Block : Type 0 where
     Done : Block
     Then : ℕ → Statement → Block → Block
@@ -57,7 +57,7 @@ mutual
     If : Arms → Otherwise → Statement
     -- the DO construct (8.1.4), with the INDEPENDENT before it
     Do : Option Independent → Axis → Block → Statement
-    -- the mask, the assignments, and those behind ELSEWHERE (7.5.3)
+    -- the mask, the assignments, and those after ELSEWHERE (7.5.3)
     Where : Expression → List Assignment → List Assignment → Statement
     -- the indices, the mask, and the assignments (7.5.4)
     Forall : List Axis → Option Expression → List Assignment → Statement
@@ -110,13 +110,13 @@ assignments end_of-Stmt = []
 assignments (more_of-Stmt n (Assign' left right) row) = record { line = n; left = variable left; right = expression right } ∷ assignments row
 assignments (more_of-Stmt n kind row) = assignments row
 
-abbrev pub rest_assignments : Held-Kind-If-1 → List Assignment
+abbrev pub rest_assignments : Held-StatementKind-If-1 → List Assignment
 rest_assignments None' = []
 rest_assignments (Some' shape row) = assignments row
 
 -- the statement of a line
 abbrev mutual
-  pub statement : ℕ → Kind → Statement
+  pub statement : ℕ → StatementKind → Statement
   statement n (Assign' left right) = Assign (variable left) (expression right)
   statement n (IfOne' cond box m kind) = If (Arm n (expression cond) (Then m (statement m kind) Done) NoArm) Without
   statement n (If' shape arms' rest glued) = If (arms arms') (otherwise rest)
@@ -138,7 +138,7 @@ abbrev mutual
   block end_of-Stmt = Done
   block (more_of-Stmt n kind row) = Then n (statement n kind) (block row)
 
-  pub otherwise : Held-Kind-If-1 → Otherwise
+  pub otherwise : Held-StatementKind-If-1 → Otherwise
   otherwise None' = Without
   otherwise (Some' shape row) = With (block row)
 
@@ -155,7 +155,7 @@ abbrev pub arms_of : List HeldArm → Arms
 arms_of [] = NoArm
 arms_of (struct-Arm n cond shape row glued ∷ rest) = Arm n (expression cond) (block row) (arms_of rest)
 
-abbrev pub assignments_in : ℕ → Kind → List Assignment
+abbrev pub assignments_in : ℕ → StatementKind → List Assignment
 assignments_in n (Assign' left right) = record { line = n; left = variable left; right = expression right } ∷ []
 assignments_in n kind = []
 

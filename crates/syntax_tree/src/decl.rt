@@ -8,14 +8,14 @@ use hpf_base::Name;
 /// A program.
 #[derive(Debug, Drop)]
 pub struct Tree {
-    /// The name behind PROGRAM, where there is that statement.
+    /// The name after PROGRAM, where there is that statement.
     pub name: Option<Name>,
     pub decls: Vec<Decl>,
     pub body: Vec<Stmt>,
     pub end: EndForm,
 }
 
-/// The END of a program: whether PROGRAM stands behind it, the name behind that, and the number of its line.
+/// The END of a program: whether PROGRAM stands after it, the name after that, and the number of its line.
 #[derive(Debug, Drop)]
 pub struct EndForm {
     pub word: bool,
@@ -44,9 +44,9 @@ pub enum DeclKind {
 pub struct IntegerDecl {
     /// PARAMETER stands among the attributes.
     pub constant: bool,
-    /// The bounds behind DIMENSION.
+    /// The bounds after DIMENSION.
     pub dims: Option<Vec<Bound>>,
-    /// The entities stand behind `::`.
+    /// The entities stand after `::`.
     pub colons: bool,
     pub entities: Vec<Entity>,
 }

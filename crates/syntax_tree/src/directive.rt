@@ -2,7 +2,7 @@
 
 use crate::decl::Entity;
 use crate::expr::{Expr, Subscript};
-use crate::names::Names;
+use crate::names::NameList;
 use hpf_base::Name;
 
 /// A directive among the declarations.
@@ -12,7 +12,7 @@ pub enum Directive {
     Processors(Vec<Entity>),
     /// Templates, each with its bounds.
     Template(Vec<Entity>),
-    Dynamic(Names),
+    Dynamic(NameList),
     Distribute(DistSpec),
     Align(AlignSpec),
     /// A directive that is passed over.
@@ -22,12 +22,12 @@ pub enum Directive {
 /// DISTRIBUTE or REDISTRIBUTE: how the named arrays or templates are dealt out.
 #[derive(Debug, Drop)]
 pub struct DistSpec {
-    pub names: Names,
+    pub names: NameList,
     /// One a dimension, the first dimension first.
     pub formats: Vec<Format>,
-    /// The arrangement behind ONTO.
+    /// The arrangement after ONTO.
     pub onto: Option<Name>,
-    /// The names stand behind `::`.
+    /// The names stand after `::`.
     pub colons: bool,
 }
 
@@ -43,13 +43,13 @@ pub enum Format {
 /// ALIGN: how the named arrays lie on a target.
 #[derive(Debug, Drop)]
 pub struct AlignSpec {
-    pub names: Names,
+    pub names: NameList,
     /// One a dimension of the alignees.
     pub source: Option<Vec<Source>>,
     pub target: Name,
     /// One a dimension of the target.
     pub subs: Option<Vec<Target>>,
-    /// The names stand behind `::`.
+    /// The names stand after `::`.
     pub colons: bool,
 }
 

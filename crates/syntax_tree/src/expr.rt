@@ -22,7 +22,7 @@ pub enum Expr {
     Paren(Box<Expr>),
 }
 
-/// A name, and the subscripts that stand behind it, the first dimension first (Fortran 95, 6.2.2).
+/// A name, and the subscripts that stand after it, the first dimension first (Fortran 95, 6.2.2).
 #[derive(Debug, Drop)]
 #[cycle(expression)]
 pub struct Ref {

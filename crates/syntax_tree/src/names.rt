@@ -7,11 +7,11 @@ use std::marker::Model;
 
 /// Names, as they stand. Contracts see their list.
 #[derive(Debug, Drop)]
-pub struct Names {
+pub struct NameList {
     names: Vec<Name>,
 }
 
-impl Model for Names {
+impl Model for NameList {
     ghost use Rattle.std.specs.Prelude.{List, ℕ};
 
     ghost Value = { List (List ℕ) };
@@ -19,12 +19,12 @@ impl Model for Names {
     ghost view = { λ n. n.names.items };
 }
 
-impl Names {
+impl NameList {
     /// These names. It takes no memory.
-    pub fn new(names: Vec<Name>) -> Names
+    pub fn new(names: Vec<Name>) -> NameList
         ensures { result ≡ names.items }
     {
-        Names { names }
+        NameList { names }
     }
 
     /// The names, in order. It takes no memory.

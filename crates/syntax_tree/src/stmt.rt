@@ -2,7 +2,7 @@
 
 use crate::directive::DistSpec;
 use crate::expr::{Expr, Ref};
-use crate::names::Names;
+use crate::names::NameList;
 use hpf_base::Name;
 use source_lines::Bytes;
 
@@ -11,13 +11,13 @@ use source_lines::Bytes;
 #[cycle(statement)]
 pub struct Stmt {
     pub line: u32,
-    pub what: Kind,
+    pub what: StatementKind,
 }
 
 /// What a statement is.
 #[derive(Debug, Drop)]
 #[cycle(statement)]
-pub enum Kind {
+pub enum StatementKind {
     Assign {
         left: Ref,
         right: Expr,
@@ -94,8 +94,8 @@ pub struct DoLoop {
 #[derive(Debug, Drop)]
 pub struct Mark {
     pub line: u32,
-    pub new: Names,
-    pub reduction: Names,
+    pub new: NameList,
+    pub reduction: NameList,
 }
 
 /// An index of a FORALL with its triplet.

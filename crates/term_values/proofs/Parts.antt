@@ -29,7 +29,7 @@ module _ (indices : List ℤ) (s : State) where
   pub operation_is : (t : HeldTerm) (o : Op) (ts : Vec HeldTerm Global) → t ≡ held.Apply o ts → operation indices s o (terms_of ts.items) ≡ elemental indices s (term t)
   operation_is t o ts is = ap (elemental indices s) (sym (apply_vec o ts) ∙ ap term (sym is))
 
-  -- one subscript of a section, and those behind it
+  -- one subscript of a section, and those after it
   pub one_selection : (d : HeldSubscript) (ds : List HeldSubscript) → selections indices s (subscripts_of (d ∷ ds)) ≡ with_more (selection indices s d) (selections indices s (subscripts_of ds))
   one_selection (Subscript' t) ds = refl
   one_selection (Triplet' a b c) ds = refl

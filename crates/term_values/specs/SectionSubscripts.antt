@@ -11,7 +11,7 @@ subscript_at (At i) tuple = i
 subscript_at (Along p) [] = p.first
 subscript_at (Along p) (x ∷ tuple) = wrapped (nth p x)
 
-abbrev pub positions_behind : Selection → List ℤ → List ℤ
-positions_behind (At i) tuple = tuple
-positions_behind (Along p) [] = []
-positions_behind (Along p) (x ∷ tuple) = tuple
+abbrev pub positions_after : Selection → List ℤ → List ℤ
+positions_after (At i) tuple = tuple
+positions_after (Along p) [] = []
+positions_after (Along p) (x ∷ tuple) = tuple

@@ -19,7 +19,7 @@ fn offset(d: &Dim, i: &i64) -> Option<u64>
     }
 }
 
-/// The place of an element as 64 bits have it. Behind an empty dimension a product of extents may wrap, and then no place is.
+/// The place of an element as 64 bits have it. After an empty dimension a product of extents may wrap, and then no place is.
 fn wrapped_place(dims: &[Dim], subscripts: &[i64]) -> Option<u64>
     requires { AreDims dims.now }
     ensures { result ≡ in_64_bits (element_place dims.now subscripts.now) }

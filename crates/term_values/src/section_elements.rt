@@ -3,7 +3,7 @@
 ghost use Rattle.std.specs.Prelude.{◌≡◌, ◌∷◌, [], IfErr, IfOk, Ok};
 ghost use Rattle.array_meaning.specs.Sections.{subscripts_at};
 ghost use Rattle.array_meaning.specs.State.{element};
-ghost use Rattle.term_values.specs.SectionSubscripts.{positions_behind, subscript_at};
+ghost use Rattle.term_values.specs.SectionSubscripts.{positions_after, subscript_at};
 ghost use Rattle.term_values.specs.States.{state_of};
 ghost use Rattle.term_values.specs.Stops.{IsStop};
 
@@ -57,7 +57,7 @@ fn element_by_two(
     ensures stopped { IfErr result (IsStop (element (state_of s.now) a (subscripts_at (d.now ∷ e.now ∷ []) tuple.now))) }
 {
     let i = subscript_at(d, tuple);
-    let j = subscript_at(e, positions_behind(d, tuple));
+    let j = subscript_at(e, positions_after(d, tuple));
     element_of_two(s, a, &i.value, &j.value)
 }
 
@@ -77,9 +77,9 @@ fn subscript_at(d: &Selection, tuple: &[i64]) -> Number
     }
 }
 
-/// The positions of the dimensions behind one.
-fn positions_behind<'a>(d: &Selection, tuple: &'a [i64]) -> &'a [i64]
-    ensures { result.now ≡ positions_behind d.now tuple.now }
+/// The positions of the dimensions after one.
+fn positions_after<'a>(d: &Selection, tuple: &'a [i64]) -> &'a [i64]
+    ensures { result.now ≡ positions_after d.now tuple.now }
 {
     match d {
         Selection::At(_) => tuple,

@@ -8,22 +8,22 @@ use Rattle.token_scan.specs.Pieces.{IsPiece}
 use Rattle.token_scan.specs.declared.piece.Piece.{Piece}
 use Rattle.token_scan.specs.declared.piece.Piece.TheVariants as piece
 
--- a piece behind a place passes the test
-abbrev any_behind : (List ℕ → Bool) → List ℕ → ℕ → Bool
-any_behind test bytes place = list_any test (pieces (drop place bytes))
+-- a piece after a place passes the test
+abbrev any_after : (List ℕ → Bool) → List ℕ → ℕ → Bool
+any_after test bytes place = list_any test (pieces (drop place bytes))
 
 -- a place up to which a line is read, where each piece before it is a token or blank, and the tokens that were found if
 -- none of them is past its limit
 pub record IsScanned (bytes : List ℕ) (place : ℕ) (found : List Token) (past_limit : Bool) : Type 0 where
   pub within : place ≤ length bytes
-  pub bad : any_behind is_no_token bytes 0 ≡ any_behind is_no_token bytes place
-  pub limit : any_behind is_past_limit bytes 0 ≡ (past_limit || any_behind is_past_limit bytes place)
+  pub bad : any_after is_no_token bytes 0 ≡ any_after is_no_token bytes place
+  pub limit : any_after is_past_limit bytes 0 ≡ (past_limit || any_after is_past_limit bytes place)
   pub given : past_limit ≡ false → tokens bytes ≡ found ++ tokens_from place (pieces (drop place bytes))
 
 pub scanned_none : (bytes : List ℕ) → IsScanned bytes 0 [] false
 scanned_none bytes = record { within = omega arith; bad = refl; limit = refl; given = λ h. refl }
 
--- a blank more, as it is read of the bytes behind the place
+-- a blank more, as it is read of the bytes after the place
 pub scanned_blank : (bytes all : List ℕ) (place : ℕ) (found : List Token) (past_limit : Bool) (read : Piece) → IsScanned all place found past_limit
     → bytes ≡ all → read ≡ piece.Blank
     → IsPiece (take (length bytes - place) (drop place bytes)) read → IsScanned all (place + 1) found past_limit

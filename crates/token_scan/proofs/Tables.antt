@@ -13,8 +13,8 @@ outside-from test (w ∷ words) word at all fails = step (bytes_eq w word) refl 
   where
     step : (t : Bool) → bytes_eq w word ≡ t → (test w ≡ true) × (list_all test words ≡ true)
         → (list_all test words ≡ true → test word ≡ false → position_from (λ w. bytes_eq w word) (at + 1) words ≡ None) → position_from (λ w. bytes_eq w word) at (w ∷ words) ≡ None
-    step true e p behind = absurd (let s : w ≡ word = same_text w word (sym e) in let t : test w ≡ test word = ap test s in cc)
-    step false e p behind = rw e (behind p.1 fails)
+    step true e p after = absurd (let s : w ≡ word = same_text w word (sym e) in let t : test w ≡ test word = ap test s in cc)
+    step false e p after = rw e (after p.1 fails)
 
 -- each word of the table passes a test that this one doesn't
 pub code_in-outside : (test : List ℕ → Bool) (words : List (List ℕ)) (word : List ℕ) → list_all test words ≡ true → test word ≡ false → code_in words word ≡ None

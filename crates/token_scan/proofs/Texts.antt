@@ -30,10 +30,10 @@ characters-closed delimiter (b ∷ bytes) lt = step (b == delimiter) refl lt (ch
         → characters delimiter (take (suc (prefix_len (is_other delimiter) bytes)) bytes)
         ≡ Some (take (prefix_len (is_other delimiter) bytes) bytes))
         → characters delimiter (take (suc (prefix_len (is_other delimiter) (b ∷ bytes))) (b ∷ bytes)) ≡ Some (take (prefix_len (is_other delimiter) (b ∷ bytes)) (b ∷ bytes))
-    step true e lt behind = rw e (rw e refl)
-    step false e lt behind =
+    step true e lt after = rw e (rw e refl)
+    step false e lt after =
         let lt' = rw (e, one-add) at lt in
-        rw (e, one-add) (characters-other delimiter b (take (suc (prefix_len (is_other delimiter) bytes)) bytes) e ∙ ap (longer b) (behind (omega arith)))
+        rw (e, one-add) (characters-other delimiter b (take (suc (prefix_len (is_other delimiter) bytes)) bytes) e ∙ ap (longer b) (after (omega arith)))
 
 -- before the first delimiter no characters end
 pub characters-open : (delimiter : ℕ) (bytes : List ℕ) (n : ℕ) → n ≤ prefix_len (is_other delimiter) bytes → characters delimiter (take n bytes) ≡ None
@@ -44,8 +44,8 @@ characters-open delimiter (b ∷ bytes) (suc n) within = step (b == delimiter) r
     step : (t : Bool) → (b == delimiter) ≡ t → suc n ≤ prefix_len (is_other delimiter) (b ∷ bytes)
         → (n ≤ prefix_len (is_other delimiter) bytes → characters delimiter (take n bytes) ≡ None)
         → characters delimiter (b ∷ take n bytes) ≡ None
-    step true e within behind = let within' = rw e at within in absurd (omega arith)
-    step false e within behind = let within' = rw e at within in characters-other delimiter b (take n bytes) e ∙ ap (longer b) (behind (omega arith))
+    step true e within after = let within' = rw e at within in absurd (omega arith)
+    step false e within after = let within' = rw e at within in characters-other delimiter b (take n bytes) e ∙ ap (longer b) (after (omega arith))
 
 -- characters in front of those of a text, which is put in one with them
 abbrev pub doubled : ℕ → List ℕ → Option (List ℕ) → Option (List ℕ)
@@ -94,7 +94,7 @@ text-join [] more read e some = absurd cc
 text-join (b ∷ bytes) [] read e some = absurd (omega arith)
 text-join (b ∷ bytes) (x ∷ more) read e some = characters-join b bytes x more read e
 
--- more bytes behind a text
+-- more bytes after a text
 pub text-more : (bytes read : List ℕ) (len k : ℕ) → 1 ≤ len → 1 ≤ k → len + k ≤ length bytes → text_of (take len bytes) ≡ Some read
     → text_of (take (len + k) bytes) ≡ doubled (first_byte bytes) read (quoted (first_byte bytes) (take k (drop len bytes)))
 text-more bytes read len k some more within e =

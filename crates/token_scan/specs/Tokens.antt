@@ -42,7 +42,7 @@ is_word_byte b = is_ascii_alphanumeric b || b == 95
 abbrev pub longer : ℕ → Option (List ℕ) → Option (List ℕ)
 longer b text = option_map (λ bytes. b ∷ bytes) text
 
--- the characters of a text constant, from behind its first delimiter to its end, where a delimiter stands; a doubled
+-- the characters of a text constant, from the end its first delimiter to its end, where a delimiter stands; a doubled
 -- delimiter between stands for one
 abbrev pub characters : ℕ → List ℕ → Option (List ℕ)
 characters delimiter [] = None
@@ -86,7 +86,7 @@ pieces bytes = cut longest bytes
 abbrev pub token_at : ℕ → List ℕ → Option Token
 token_at from piece = option_map (λ kind. record { from = from; to = from + length piece; kind = kind }) (token_kind piece)
 
--- the tokens of pieces that stand one behind the other from a place on
+-- the tokens of pieces that stand one after the other from a place on
 abbrev pub tokens_from : ℕ → List (List ℕ) → List Token
 tokens_from from [] = []
 tokens_from from (piece ∷ pieces) = option_to_list (token_at from piece) ++ tokens_from (from + length piece) pieces

@@ -22,7 +22,7 @@ pub(crate) enum Piece {
     Token(usize, TokenKind),
     /// A token of so many bytes that is past its limit.
     PastLimit(usize),
-    /// Bytes with a piece, here or behind, that is no token.
+    /// Bytes with a piece, here or after, that is no token.
     NoToken,
 }
 
@@ -51,7 +51,7 @@ fn integer(bytes: &[u8]) -> Piece
     }
 }
 
-/// A character constant: what stands between delimiters, and so on behind each that is doubled.
+/// A character constant: what stands between delimiters, and so on after each that is doubled.
 fn text(alloc: Global, bytes: &[u8]) -> Result<Piece, AllocError>
     requires { first_class bytes.now ≡ ByteClass.Delimiter }
     ensures { IfOk result (IsPiece bytes.now) }

@@ -1,4 +1,4 @@
--- What a node has behind a round of a tree.
+-- What a node has after a round of a tree.
 use Rattle.std.specs.Prelude.{ℕ, ◌+◌, ◌-◌, ◌*◌, ◌%◌, ◌^◌, ◌==◌, ℤ, List, [], slice_index_or, nat_lt, if◌then◌else◌}
 use Rattle.machine_steps.specs.Machine.{earlier}
 use Rattle.machine_steps.specs.Node.{kept_values, values_kept, join_options, option_values, values_option, later, positioned_values, values_positioned}

@@ -12,7 +12,7 @@ ghost use Rattle.tree_steps.specs.Absorbed.{absorbed_values, joined_values};
 use crate::joining::Joining;
 use op_tables::Join;
 
-/// What a node has behind a round is what the steps of nodes say, in a verdict, in the tree of a reduction or of a copy that is folded, and in
+/// What a node has after a round is what the steps of nodes say, in a verdict, in the tree of a reduction or of a copy that is folded, and in
 /// that of the last value of a copy.
 pub fn law_of_absorbed<C>()
     ensures kept { (count : ℕ) (a : Node C Fault) → (tree_absorbed count earlier (kept_values fault_values) (values_kept fault_values) a).folded

@@ -1,7 +1,7 @@
 //! What a node does in the rounds of a tree.
 //!
 //! Comes in: the number of nodes, a round and a node's number; what the node has, and what it received from each node. Goes out: to whom
-//! the node sends in the round and from whom it takes, and what it has behind the round; kept faults, values that may be missing, and values
+//! the node sends in the round and from whom it takes, and what it has after the round; kept faults, values that may be missing, and values
 //! with their positions, as the numbers that go round; and at the end the value of a reduction, or the last value.
 //!
 //! What holds in between: a node sends to one node at most in a round, and takes from one at most; what goes round is a list of numbers,

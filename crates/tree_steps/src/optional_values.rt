@@ -1,7 +1,7 @@
 //! Values that may be missing as the numbers that go round.
 
 ghost use Rattle.std.specs.Prelude.{◌≡◌, IfOk};
-ghost use Rattle.machine_steps.specs.Node.{join_behind, join_options, option_values, values_option};
+ghost use Rattle.machine_steps.specs.Node.{join_after, join_options, option_values, values_option};
 ghost use Rattle.node_code.specs.Parallel.{fold_of};
 ghost use Rattle.op_tables.specs.Joins.{join};
 
@@ -43,7 +43,7 @@ pub fn options_joined(op: Join, a: Option<i64>, b: Option<i64>) -> Option<i64>
 /// The value of a reduction, from what its tree has joined: its unit with the values of all nodes, where any node had one (Fortran 95,
 /// 13.14). It takes no memory.
 pub fn reduced(op: Join, folded: &[i64]) -> i64
-    ensures { result ≡ join_behind (fold_of op).join (fold_of op).unit (values_option folded.now) }
+    ensures { result ≡ join_after (fold_of op).join (fold_of op).unit (values_option folded.now) }
 {
     let unit = op.unit();
     match option_of_numbers(folded) {

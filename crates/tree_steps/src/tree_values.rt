@@ -1,4 +1,4 @@
-//! What a node has behind a round of a tree.
+//! What a node has after a round of a tree.
 
 ghost use Rattle.std.specs.Prelude.{◌≡◌, ◌≤◌, [], slice_index_or, IfOk};
 ghost use Rattle.hpf_base.specs.declared.limits.TheConstants.{MAX_NODES};
@@ -11,7 +11,7 @@ use hpf_base::OutOfMemory;
 use letters::Body;
 use std::alloc::Global;
 
-/// What the node with this number has behind a round, counted from 0, where it had `own`, and `received` is what it received from each
+/// What the node with this number has after a round, counted from 0, where it had `own`, and `received` is what it received from each
 /// node, by number: going up what it had joined with what came, if something came; going down what came, where it takes, else what it
 /// had.
 pub fn absorbed(
@@ -36,7 +36,7 @@ pub fn absorbed(
     }
 }
 
-/// What a node has behind the round down that undoes a round up.
+/// What a node has after the round down that undoes a round up.
 fn taken<'a>(up: u32, id: u32, own: &'a [i64], received: &'a [Body]) -> &'a [i64]
     requires { up ≤ 5 }
     ensures { result.now ≡ passed_down up id own.now received.now }

@@ -34,7 +34,7 @@ pub fn write_directive(out: &mut String, directive: &Directive) -> Result<(), Al
     }
 }
 
-/// Writes what stands behind DISTRIBUTE or REDISTRIBUTE.
+/// Writes what stands after DISTRIBUTE or REDISTRIBUTE.
 pub fn write_distribution(out: &mut String, spec: &DistSpec) -> Result<(), AllocError> {
     if !spec.colons {
         write_names(out, spec.names.as_slice())?;
@@ -49,7 +49,7 @@ pub fn write_distribution(out: &mut String, spec: &DistSpec) -> Result<(), Alloc
         out.push_str(" ONTO ")?;
         write_name(out, name)?;
     }
-    write_named_behind(out, spec.colons, spec.names.as_slice())
+    write_named_after(out, spec.colons, spec.names.as_slice())
 }
 
 fn write_format(out: &mut String, format: &Format) -> Result<(), AllocError> {
@@ -75,7 +75,7 @@ fn write_size(out: &mut String, size: &Option<Expr>) -> Result<(), AllocError> {
     out.push_str(")")
 }
 
-/// Writes what stands behind ALIGN.
+/// Writes what stands after ALIGN.
 fn write_alignment(out: &mut String, spec: &AlignSpec) -> Result<(), AllocError> {
     if !spec.colons {
         write_names(out, spec.names.as_slice())?;
@@ -88,7 +88,7 @@ fn write_alignment(out: &mut String, spec: &AlignSpec) -> Result<(), AllocError>
     if let Some(targets) = &spec.subs {
         write_targets(out, targets)?;
     }
-    write_named_behind(out, spec.colons, spec.names.as_slice())
+    write_named_after(out, spec.colons, spec.names.as_slice())
 }
 
 fn write_sources(out: &mut String, sources: &[Source]) -> Result<(), AllocError> {
@@ -116,8 +116,8 @@ fn write_targets(out: &mut String, targets: &[Target]) -> Result<(), AllocError>
     out.push_str(")")
 }
 
-/// Writes the names that stand behind two colons, where they do.
-fn write_named_behind(out: &mut String, colons: bool, names: &[Name]) -> Result<(), AllocError> {
+/// Writes the names that stand after two colons, where they do.
+fn write_named_after(out: &mut String, colons: bool, names: &[Name]) -> Result<(), AllocError> {
     if colons {
         out.push_str(" :: ")?;
         write_names(out, names)?;

@@ -71,7 +71,7 @@ pub fn write_subscript(out: &mut String, sub: &Subscript) -> Result<(), AllocErr
     }
 }
 
-/// Writes a sign, and the expression behind it where there is one.
+/// Writes a sign, and the expression after it where there is one.
 #[cycle(expression)]
 pub fn write_optional(out: &mut String, sign: &str, expr: &Option<Expr>) -> Result<(), AllocError> {
     out.push_str(sign)?;

@@ -7,9 +7,9 @@ use crate::list::{write_comma, write_name, write_names};
 use case_texts::write_text;
 use std::alloc::AllocError;
 use std::fmt::Write;
-use syntax_tree::{Arm, DoLoop, Expr, Header, Item, Kind, Mark, Stmt};
+use syntax_tree::{Arm, DoLoop, Expr, Header, Item, Mark, StatementKind, Stmt};
 
-/// Writes statements, one behind the other, `depth` deep.
+/// Writes statements, one after the other, `depth` deep.
 #[cycle(statement)]
 pub fn write_block(out: &mut String, depth: usize, block: &[Stmt]) -> Result<(), AllocError> {
     for stmt in block {
@@ -21,18 +21,18 @@ pub fn write_block(out: &mut String, depth: usize, block: &[Stmt]) -> Result<(),
 #[cycle(statement)]
 fn write_stmt(out: &mut String, depth: usize, stmt: &Stmt) -> Result<(), AllocError> {
     match &stmt.what {
-        Kind::IfOne { cond, body } => {
+        StatementKind::IfOne { cond, body } => {
             write_condition(out, depth, stmt.line, "IF ", cond, "\n")?;
             write_stmt(out, depth.saturating_add(1), body)
         }
-        Kind::If { arms, rest, glued } => {
+        StatementKind::If { arms, rest, glued } => {
             write_arms(out, depth, stmt.line, arms)?;
             if let Some(block) = rest {
                 write_rest(out, depth, "ELSE\n", block)?;
             }
             write_end(out, depth, "IF", *glued)
         }
-        Kind::Do(head) => write_loop(out, depth, stmt.line, head),
+        StatementKind::Do(head) => write_loop(out, depth, stmt.line, head),
         what => write_array_stmt(out, depth, stmt.line, what),
     }
 }
@@ -43,10 +43,10 @@ fn write_array_stmt(
     out: &mut String,
     depth: usize,
     line: u32,
-    what: &Kind,
+    what: &StatementKind,
 ) -> Result<(), AllocError> {
     match what {
-        Kind::Where {
+        StatementKind::Where {
             mask,
             body,
             rest,
@@ -60,7 +60,7 @@ fn write_array_stmt(
             }
             write_end_unless(out, *one, depth, "WHERE", *glued)
         }
-        Kind::Forall {
+        StatementKind::Forall {
             axes,
             mask,
             body,
@@ -77,7 +77,7 @@ fn write_array_stmt(
     }
 }
 
-/// Writes a word without a number, as ELSE, and the block behind it.
+/// Writes a word without a number, as ELSE, and the block after it.
 #[cycle(statement)]
 fn write_rest(
     out: &mut String,
@@ -185,20 +185,25 @@ fn write_forall(
 }
 
 /// Writes a statement that has no others inside it.
-fn write_action(out: &mut String, depth: usize, line: u32, what: &Kind) -> Result<(), AllocError> {
+fn write_action(
+    out: &mut String,
+    depth: usize,
+    line: u32,
+    what: &StatementKind,
+) -> Result<(), AllocError> {
     write_number(out, depth, line)?;
     match what {
-        Kind::Assign { left, right } => {
+        StatementKind::Assign { left, right } => {
             write_ref(out, left)?;
             out.push_str(" = ")?;
             write_expr(out, right)?;
         }
-        Kind::Print(items) => write_print(out, items)?,
-        Kind::Stop => out.push_str("STOP")?,
-        Kind::Exit => out.push_str("EXIT")?,
-        Kind::Cycle => out.push_str("CYCLE")?,
-        Kind::Continue => out.push_str("CONTINUE")?,
-        Kind::Redistribute(spec) => {
+        StatementKind::Print(items) => write_print(out, items)?,
+        StatementKind::Stop => out.push_str("STOP")?,
+        StatementKind::Exit => out.push_str("EXIT")?,
+        StatementKind::Cycle => out.push_str("CYCLE")?,
+        StatementKind::Continue => out.push_str("CONTINUE")?,
+        StatementKind::Redistribute(spec) => {
             out.push_str("REDISTRIBUTE ")?;
             write_distribution(out, spec)?;
         }
@@ -224,19 +229,19 @@ fn write_print(out: &mut String, items: &[Item]) -> Result<(), AllocError> {
     Ok(())
 }
 
-/// Writes the number of a line, a word, a condition or mask, and what stands behind it.
+/// Writes the number of a line, a word, a condition or mask, and what stands after it.
 fn write_condition(
     out: &mut String,
     depth: usize,
     line: u32,
     word: &str,
     cond: &Expr,
-    behind: &str,
+    after: &str,
 ) -> Result<(), AllocError> {
     write_number(out, depth, line)?;
     out.push_str(word)?;
     write_expr(out, cond)?;
-    out.push_str(behind)
+    out.push_str(after)
 }
 
 /// Writes the last line of a construct.

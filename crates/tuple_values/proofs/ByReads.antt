@@ -39,7 +39,7 @@ module _ (shapes : List (List Dim)) (get : Spot → ℤ) (x : List ℤ) where
   element-here a (Some k) pre post = ap Ok (value-here pre (get (record { row = a; at = k })) post)
 
   mutual
-    -- whatever stands before and behind what the expression reads
+    -- whatever stands before and after what the expression reads
     by-reads : (e : Elemental) (pre post : List ℤ)
         → value_by_reads shapes x (pre ++ (values_of get (reads_at shapes x e) ++ post)) (length pre) e ≡ value_by_elements shapes get x e
     by-reads (Same v) pre post = refl
@@ -63,10 +63,10 @@ module _ (shapes : List (List Dim)) (get : Spot → ℤ) (x : List ℤ) where
         ∙ ap (λ k. values_by_reads shapes x ((pre ++ xs) ++ (ys ++ post)) k es) from ∙ all-by-reads es (pre ++ xs) post)
 
   -- what a mask reads stands before
-  behind-mask : (mask : Option When) (t : ℕ) (e : Elemental)
+  after-mask : (mask : Option When) (t : ℕ) (e : Elemental)
       → value_by_reads shapes x (values_of get (mask_reads mask t ++ reads_at shapes x e)) (length (mask_reads mask t)) e ≡ value_by_elements shapes get x e
-  behind-mask None t e = ap (λ vs. value_by_reads shapes x vs 0 e) (sym (append-nil (values_of get (reads_at shapes x e)))) ∙ by-reads e [] []
-  behind-mask (Some w) t e =
+  after-mask None t e = ap (λ vs. value_by_reads shapes x vs 0 e) (sym (append-nil (values_of get (reads_at shapes x e)))) ∙ by-reads e [] []
+  after-mask (Some w) t e =
       let v : ℤ = get (spot_in_row w.copy t) in
       ap (λ vs. value_by_reads shapes x (v ∷ vs) 1 e) (sym (append-nil (values_of get (reads_at shapes x e)))) ∙ by-reads e (v ∷ []) []
 
@@ -99,7 +99,7 @@ module _ (w : Statement) (get : Spot → ℤ) (t : ℕ) where
       >>= (λ k. value_by_reads w.shapes (entries w t) values (length (mask_reads w.mask t)) (form_at w (entries w t)))))
       (asked-by-reads get w.mask t (reads_at w.shapes (entries w t) (form_at w (entries w t))))
       ∙ ap (λ r. outcome_by (asked_by get w.mask t) (if_in_bounds (tuple_place w t) >>= (λ k. r)))
-      (behind-mask w.shapes get (entries w t) w.mask t (form_at w (entries w t))))
+      (after-mask w.shapes get (entries w t) w.mask t (form_at w (entries w t))))
 
   pub where_not_asked : asked_by get w.mask t ≡ false → Nothing ≡ tuple_outcome w t values
   where_not_asked h = made-nothing w.made ∙ ap (λ b. outcome_by b (bounded_value w get t)) (sym h) ∙ by-elements

@@ -2,8 +2,8 @@
 use Rattle.std.proofs.Common.{◌≡◌, Global, ap, sym, ◌∙◌}
 use Rattle.std.specs.Prelude.{Vec}
 use Rattle.op_tables.specs.declared.op.Op.{Op}
-use Rattle.node_code.specs.declared.form.Form.{Form as HeldForm}
-use Rattle.node_code.specs.declared.form.Form.TheVariants as held
+use Rattle.node_code.specs.declared.form.ArrayForm.{ArrayForm as HeldForm}
+use Rattle.node_code.specs.declared.form.ArrayForm.TheVariants as held
 use Rattle.node_code.specs.Forms.{OperationForm}
 use Rattle.node_code.specs.Texts.{form, forms_of}
 use Rattle.node_code.proofs.Rows.{operation_vec}

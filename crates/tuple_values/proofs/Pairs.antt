@@ -3,7 +3,7 @@ use Rattle.std.proofs.Common.{◌≡◌, ◌∙◌, List, [], ◌∷◌, length,
 use Rattle.std.specs.Prelude.{slice_index_or}
 use Rattle.storage.specs.Storage.{Spot}
 use Rattle.array_meaning.specs.Faults.{with_more}
-use Rattle.node_code.specs.declared.form.Form.{Form as HeldForm}
+use Rattle.node_code.specs.declared.form.ArrayForm.{ArrayForm as HeldForm}
 use Rattle.node_code.specs.Texts.{form, forms_of}
 use Rattle.term_values.specs.declared.stops.Stop.{Stop}
 use Rattle.term_values.specs.declared.stops.Stop.TheVariants.{Fault, Memory}

@@ -5,11 +5,11 @@ use Rattle.node_code.specs.Forms.{Sub, SubAt, SubAlong, selections_at}
 use Rattle.array_meaning.specs.declared.sections.Selection.{Selection}
 use Rattle.slot_values.specs.Sections.{selection_at}
 use Rattle.term_values.proofs.SectionSubscripts.{two_is}
-use Rattle.term_values.specs.SectionSubscripts.{positions_behind, subscript_at}
+use Rattle.term_values.specs.SectionSubscripts.{positions_after, subscript_at}
 
 module _ (slots axes : List ℤ) where
   next : (d : Sub) (ds : List Sub) (x : List ℤ)
-      → subscript_at (selection_at slots axes d) x ∷ subscripts_at (selections_at slots axes ds) (positions_behind (selection_at slots axes d) x)
+      → subscript_at (selection_at slots axes d) x ∷ subscripts_at (selections_at slots axes ds) (positions_after (selection_at slots axes d) x)
       ≡ subscripts_at (selections_at slots axes (d ∷ ds)) x
   next (SubAt f) ds x = refl
   next (SubAlong v) ds [] = refl
@@ -18,23 +18,23 @@ module _ (slots axes : List ℤ) where
   pub one_is : (d : Sub) (x : List ℤ) (i : ℤ) → i ≡ subscript_at (selection_at slots axes d) x → i ∷ [] ≡ subscripts_at (selections_at slots axes (d ∷ [])) x
   one_is d x i is = ap (λ i. i ∷ []) is ∙ next d [] x
 
-  pub two_are : (d e : Sub) (x y : List ℤ) (i j : ℤ) → i ≡ subscript_at (selection_at slots axes d) x → y ≡ positions_behind (selection_at slots axes d) x
+  pub two_are : (d e : Sub) (x y : List ℤ) (i j : ℤ) → i ≡ subscript_at (selection_at slots axes d) x → y ≡ positions_after (selection_at slots axes d) x
       → j ≡ subscript_at (selection_at slots axes e) y → i ∷ j ∷ [] ≡ subscripts_at (selections_at slots axes (d ∷ e ∷ [])) x
-  two_are d e x y i j is behind js =
+  two_are d e x y i j is after js =
       ap (λ i. i ∷ j ∷ []) is ∙ ap (λ js. subscript_at (selection_at slots axes d) x ∷ js) (one_is e y j js)
-      ∙ ap (λ y. subscript_at (selection_at slots axes d) x ∷ subscripts_at (selections_at slots axes (e ∷ [])) y) behind ∙ next d (e ∷ []) x
+      ∙ ap (λ y. subscript_at (selection_at slots axes d) x ∷ subscripts_at (selections_at slots axes (e ∷ [])) y) after ∙ next d (e ∷ []) x
 
   -- one subscript more
   pub one_more : (is : List ℤ) (d : Sub) (ds : List Sub) (x y : List ℤ) (i : ℤ) → i ≡ subscript_at (selection_at slots axes d) x
-      → y ≡ positions_behind (selection_at slots axes d) x
+      → y ≡ positions_after (selection_at slots axes d) x
       → is ++ subscripts_at (selections_at slots axes (d ∷ ds)) x ≡ (is ++ i ∷ []) ++ subscripts_at (selections_at slots axes ds) y
-  one_more is d ds x y i here behind =
+  one_more is d ds x y i here after =
       ap (λ js. is ++ js) (sym (next d ds x))
-      ∙ ap (λ i. is ++ i ∷ subscripts_at (selections_at slots axes ds) (positions_behind (selection_at slots axes d) x)) (sym here)
-      ∙ ap (λ y. is ++ i ∷ subscripts_at (selections_at slots axes ds) y) (sym behind)
+      ∙ ap (λ i. is ++ i ∷ subscripts_at (selections_at slots axes ds) (positions_after (selection_at slots axes d) x)) (sym here)
+      ∙ ap (λ y. is ++ i ∷ subscripts_at (selections_at slots axes ds) y) (sym after)
       ∙ sym (append_assoc is (i ∷ []) (subscripts_at (selections_at slots axes ds) y))
 
 -- two subscripts by the numbers of tuples
-pub numbered_two : (d e : Selection) (x y : List ℤ) (i j : ℤ) → i ≡ subscript_at d x → y ≡ positions_behind d x → j ≡ subscript_at e y
+pub numbered_two : (d e : Selection) (x y : List ℤ) (i j : ℤ) → i ≡ subscript_at d x → y ≡ positions_after d x → j ≡ subscript_at e y
     → i ∷ j ∷ [] ≡ subscripts_at (d ∷ e ∷ []) x
-numbered_two d e x y i j is behind js = two_is d e x i j is (js ∙ ap (subscript_at e) behind)
+numbered_two d e x y i j is after js = two_is d e x i j is (js ∙ ap (subscript_at e) after)

@@ -6,7 +6,7 @@ use Rattle.array_meaning.specs.Elementals.{operated}
 use Rattle.array_meaning.specs.Faults.{Cause, ◌>>=◌}
 use Rattle.array_meaning.specs.State.{element_place}
 use Rattle.array_meaning.specs.Sections.{subscripts_at}
-use Rattle.node_code.specs.Forms.{Sub, Form, Forms, selections_at, elemental_at, elementals_at}
+use Rattle.node_code.specs.Forms.{Sub, ArrayForm, Forms, selections_at, elemental_at, elementals_at}
 use Rattle.node_code.specs.Parallel.{shape_of, reads_at, all_reads_at}
 use Rattle.tuple_values.specs.declared.here.Here.{Here}
 use Rattle.tuple_values.specs.ByElements.{value_by_elements, values_by_elements}
@@ -19,13 +19,13 @@ abbrev pub place_here : Here → ℕ → List Sub → Option ℕ
 place_here h a ds = element_place (shape_of h.shapes.now a) (subscripts_here h ds)
 
 -- what an array expression reads, and its value
-abbrev pub reads_here : Here → Form → List (Option Spot)
+abbrev pub reads_here : Here → ArrayForm → List (Option Spot)
 reads_here h f = reads_at h.shapes.now h.tuple.now (elemental_at h.slots.now h.axes.now f)
 
 abbrev pub all_reads_here : Here → Forms → List (Option Spot)
 all_reads_here h fs = all_reads_at h.shapes.now h.tuple.now (elementals_at h.slots.now h.axes.now fs)
 
-abbrev pub value_here : Here → (Spot → ℤ) → Form → Result ℤ Cause
+abbrev pub value_here : Here → (Spot → ℤ) → ArrayForm → Result ℤ Cause
 value_here h get f = value_by_elements h.shapes.now get h.tuple.now (elemental_at h.slots.now h.axes.now f)
 
 abbrev pub values_here : Here → (Spot → ℤ) → Forms → Result (List ℤ) Cause

@@ -12,7 +12,7 @@ use Rattle.array_meaning.specs.declared.sections.Selection.{Selection}
 use Rattle.array_meaning.specs.Sections.{subscripts_at, positions}
 use Rattle.array_meaning.specs.Elementals.{Elemental}
 use Rattle.machine_steps.specs.Instr.{Outcome, Tuples}
-use Rattle.node_code.specs.Forms.{Sub, Form, selections_at, elemental_at}
+use Rattle.node_code.specs.Forms.{Sub, ArrayForm, selections_at, elemental_at}
 use Rattle.node_code.specs.Parallel.{When, at_line, as_asked, outcome_of, outcome_if, is_asked, mask_reads, shape_of, reads_at, value_by_reads, made_outcome}
 use Rattle.tuple_values.specs.ByElements.{value_by_elements}
 
@@ -34,7 +34,7 @@ pub record Statement : Type 0 where
   pub indices : Option (List Selection)
   pub mask : Option When
   pub target : Target
-  pub form : Form
+  pub form : ArrayForm
   pub made : Option Made
 
 -- ---- entries

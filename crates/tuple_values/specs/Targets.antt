@@ -1,5 +1,5 @@
 -- What targets in code stand for.
-use Rattle.node_code.specs.Forms.{Form, SectionForm}
+use Rattle.node_code.specs.Forms.{ArrayForm, SectionForm}
 use Rattle.node_code.specs.Texts.{form, subs}
 use Rattle.tuple_values.specs.declared.right.Right.{Right}
 use Rattle.tuple_values.specs.declared.right.Right.TheVariants as right
@@ -13,6 +13,6 @@ target (held.Copy row) = InCopy row
 target (held.Section a ds) = InSection a ds.items
 target (held.Indexed a ds) = ByIndices a (subs ds.now)
 
-abbrev pub form_of : Right → Form
+abbrev pub form_of : Right → ArrayForm
 form_of (right.Form f) = form f.now
 form_of (right.Section a ds) = SectionForm a (subs ds.now)

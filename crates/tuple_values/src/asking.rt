@@ -96,7 +96,7 @@ impl<'a> ParallelStatement<'a> {
         section_place(&here, array, section)
     }
 
-    /// Puts the elements that are read at a tuple behind the others, in order: first that of the mask, then those of the expression as
+    /// Puts the elements that are read at a tuple after the others, in order: first that of the mask, then those of the expression as
     /// they stand in the text. None stands for what is no element.
     pub fn read(&self, tuple: usize, reads: &mut Vec<Option<Spot>>) -> Result<(), OutOfMemory>
         requires { tuple < tuple_count (statement self.now) }
@@ -198,7 +198,7 @@ impl<'a> ParallelStatement<'a> {
         }
     }
 
-    /// Puts the elements that the expression reads at these entries behind the others.
+    /// Puts the elements that the expression reads at these entries after the others.
     fn read_form(&self, x: &[i64], reads: &mut Vec<Option<Spot>>) -> Result<(), OutOfMemory>
         ensures { OnOk result (reads_of reads.new.items ≡ reads_of reads.old.items ++ reads_at (statement self.now).shapes x.now (form_at (statement self.now) x.now)) }
     {
@@ -225,7 +225,7 @@ impl<'a> ParallelStatement<'a> {
         }
     }
 
-    /// Puts the element that the mask reads behind the others, where there is a mask.
+    /// Puts the element that the mask reads after the others, where there is a mask.
     fn read_mask(&self, tuple: usize, reads: &mut Vec<Option<Spot>>) -> Result<(), OutOfMemory>
         ensures { OnOk result (reads_of reads.new.items ≡ reads_of reads.old.items ++ mask_reads (statement self.now).mask tuple) }
     {

@@ -5,7 +5,7 @@ ghost use Rattle.hpf_base.specs.declared.limits.TheConstants.{MAX_TUPLES};
 ghost use Rattle.array_meaning.specs.State.{element_place};
 ghost use Rattle.array_meaning.specs.Sections.{positions, subscripts_at};
 ghost use Rattle.node_code.specs.Parallel.{shape_of};
-ghost use Rattle.term_values.specs.SectionSubscripts.{positions_behind, subscript_at};
+ghost use Rattle.term_values.specs.SectionSubscripts.{positions_after, subscript_at};
 
 use crate::tuple::{positions, subscripts_at};
 use array_meaning::Selection;
@@ -67,8 +67,8 @@ fn assigned_by_two(
     ensures { result ≡ element_place (shape_of shapes.now array) (subscripts_at (d.now ∷ e.now ∷ []) (positions extents.now tuple)) }
 {
     let i = subscript(d, extents, tuple);
-    let behind = behind(d, extents, tuple);
-    let j = subscript(e, behind.extents, behind.tuple);
+    let after = after(d, extents, tuple);
+    let j = subscript(e, after.extents, after.tuple);
     element_place_of_two(shapes, array, &i.value, &j.value)
 }
 
@@ -107,9 +107,9 @@ struct Numbered<'a> {
     tuple: usize,
 }
 
-/// The tuple that the positions of the dimensions behind one are.
-fn behind<'a>(d: &Selection, extents: &'a [u128], tuple: usize) -> Numbered<'a>
-    ensures positions { positions result.extents.now result.tuple ≡ positions_behind d.now (positions extents.now tuple) }
+/// The tuple that the positions of the dimensions after one are.
+fn after<'a>(d: &Selection, extents: &'a [u128], tuple: usize) -> Numbered<'a>
+    ensures positions { positions result.extents.now result.tuple ≡ positions_after d.now (positions extents.now tuple) }
     ensures few { result.tuple ≤ tuple }
 {
     match d {

@@ -10,22 +10,22 @@ ghost use Rattle.tuple_values.specs.Statements.{spot_in_row};
 use crate::here::Here;
 use crate::sections::section_place;
 use hpf_base::OutOfMemory;
-use node_code::{Form, Sub};
+use node_code::{ArrayForm, Sub};
 use storage::Spot;
 
-/// Puts the elements that an array expression reads behind the others, in order.
+/// Puts the elements that an array expression reads after the others, in order.
 #[cycle(form_reads)]
 pub(crate) fn form_reads(
     here: &Here<'_>,
-    f: &Form,
+    f: &ArrayForm,
     reads: &mut Vec<Option<Spot>>,
 ) -> Result<(), OutOfMemory>
     ensures { OnOk result (reads_of reads.new.items ≡ reads_of reads.old.items ++ reads_here here.now (form f.now)) }
 {
     match f {
-        Form::Flat(_) => Ok(()),
-        Form::Section(a, ds) => section_read(here, *a, ds, reads),
-        Form::Operation(_, fs) => all_form_reads(here, fs, reads),
+        ArrayForm::Flat(_) => Ok(()),
+        ArrayForm::Section(a, ds) => section_read(here, *a, ds, reads),
+        ArrayForm::Operation(_, fs) => all_form_reads(here, fs, reads),
     }
 }
 
@@ -33,7 +33,7 @@ pub(crate) fn form_reads(
 #[cycle(form_reads)]
 fn all_form_reads(
     here: &Here<'_>,
-    fs: &Vec<Form>,
+    fs: &Vec<ArrayForm>,
     reads: &mut Vec<Option<Spot>>,
 ) -> Result<(), OutOfMemory>
     ensures { OnOk result (reads_of reads.new.items ≡ reads_of reads.old.items ++ all_reads_here here.now (forms_of fs.now.items)) }
@@ -44,7 +44,7 @@ fn all_form_reads(
     Ok(())
 }
 
-/// Puts the element of a section behind the others.
+/// Puts the element of a section after the others.
 pub(crate) fn section_read(
     here: &Here<'_>,
     array: usize,

@@ -6,7 +6,7 @@ ghost use Rattle.node_code.specs.Flat.{slot};
 ghost use Rattle.node_code.specs.Forms.{sequence_in};
 ghost use Rattle.node_code.specs.Texts.{sub, subs};
 ghost use Rattle.slot_values.specs.Sections.{selection_at};
-ghost use Rattle.term_values.specs.SectionSubscripts.{positions_behind, subscript_at};
+ghost use Rattle.term_values.specs.SectionSubscripts.{positions_after, subscript_at};
 ghost use Rattle.tuple_values.specs.Here.{place_here, subscripts_here};
 
 use crate::here::Here;
@@ -55,7 +55,7 @@ fn place_by_two(
     ensures { IfOk result (λ p. p ≡ place_here here.now array (sub d.now ∷ sub e.now ∷ [])) }
 {
     let i = subscript(here, d, here.tuple)?;
-    let j = subscript(here, e, positions_behind(d, here.tuple))?;
+    let j = subscript(here, e, positions_after(d, here.tuple))?;
     Ok(element_place_of_two(here.shapes, array, &i.value, &j.value))
 }
 
@@ -79,7 +79,7 @@ fn subscripts_of(here: &Here<'_>, section: &[Sub]) -> Result<Tuple, OutOfMemory>
     for d in section {
         let i = subscript(here, d, positions)?;
         is.push(i.value);
-        positions = positions_behind(d, positions);
+        positions = positions_after(d, positions);
     }
     Ok(is)
 }
@@ -124,9 +124,9 @@ fn stride(slots: &[i64], triplet: usize) -> i64
     }
 }
 
-/// The positions of the dimensions behind one.
-fn positions_behind<'a>(d: &Sub, positions: &'a [i64]) -> &'a [i64]
-    ensures { (slots axes : List ℤ) → result.now ≡ positions_behind (selection_at slots axes (sub d.now)) positions.now }
+/// The positions of the dimensions after one.
+fn positions_after<'a>(d: &Sub, positions: &'a [i64]) -> &'a [i64]
+    ensures { (slots axes : List ℤ) → result.now ≡ positions_after (selection_at slots axes (sub d.now)) positions.now }
 {
     match d {
         Sub::At(_) => positions,

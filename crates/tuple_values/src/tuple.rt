@@ -37,7 +37,7 @@ impl Tuple {
         }
     }
 
-    /// Puts a number behind the others.
+    /// Puts a number after the others.
     pub(crate) fn push(&mut self, number: i64)
         requires { length self.old < 7 }
         ensures { self.new ≡ self.old ++ number ∷ [] }

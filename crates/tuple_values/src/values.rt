@@ -13,7 +13,7 @@ use crate::elements::Elements;
 use crate::here::Here;
 use crate::sections::section_place;
 use array_meaning::FaultKind;
-use node_code::{Flat, Form, Sub};
+use node_code::{ArrayForm, Flat, Sub};
 use op_tables::Op;
 use slot_values::flat_or_zero;
 use smallvec::SmallVec;
@@ -29,14 +29,18 @@ struct Pair {
 
 /// Its value, or its first fault.
 #[cycle(form_value)]
-pub(crate) fn form_value<E: Elements>(here: &Here<'_>, f: &Form, elements: &E) -> Result<i64, Stop>
+pub(crate) fn form_value<E: Elements>(
+    here: &Here<'_>,
+    f: &ArrayForm,
+    elements: &E,
+) -> Result<i64, Stop>
     ensures value { IfOk result (λ v. value_here here.now (E.get elements.now) (form f.now) ≡ Ok v) }
     ensures stopped { IfErr result (IsStop (value_here here.now (E.get elements.now) (form f.now))) }
 {
     match f {
-        Form::Flat(f) => same_value(here, f),
-        Form::Section(a, ds) => section_value(here, *a, ds, elements),
-        Form::Operation(op, fs) => operation_value(here, *op, fs, elements),
+        ArrayForm::Flat(f) => same_value(here, f),
+        ArrayForm::Section(a, ds) => section_value(here, *a, ds, elements),
+        ArrayForm::Operation(op, fs) => operation_value(here, *op, fs, elements),
     }
 }
 
@@ -46,7 +50,7 @@ pub(crate) fn form_value<E: Elements>(here: &Here<'_>, f: &Form, elements: &E) -
 fn operation_value<E: Elements>(
     here: &Here<'_>,
     op: Op,
-    fs: &Vec<Form>,
+    fs: &Vec<ArrayForm>,
     elements: &E,
 ) -> Result<i64, Stop>
     ensures value { IfOk result (λ v. operation_here here.now (E.get elements.now) op (forms_of fs.now.items) ≡ Ok v) }
@@ -63,7 +67,7 @@ fn operation_value<E: Elements>(
 fn operation_of_two<E: Elements>(
     here: &Here<'_>,
     op: Op,
-    fs: &Vec<Form>,
+    fs: &Vec<ArrayForm>,
     elements: &E,
 ) -> Result<i64, Stop>
     requires two { length fs.now.items ≡ 2 }
@@ -78,7 +82,7 @@ fn operation_of_two<E: Elements>(
 #[inline(always)]
 #[tactic(auto, using(crate::proofs::Pairs::pair_values, crate::proofs::Pairs::first_stops, crate::proofs::Pairs::second_stops))]
 #[cycle(form_value)]
-fn two_values<E: Elements>(here: &Here<'_>, fs: &Vec<Form>, elements: &E) -> Result<Pair, Stop>
+fn two_values<E: Elements>(here: &Here<'_>, fs: &Vec<ArrayForm>, elements: &E) -> Result<Pair, Stop>
     requires two { length fs.now.items ≡ 2 }
     ensures value { IfOk result (λ p. values_here here.now (E.get elements.now) (forms_of fs.now.items) ≡ Ok (p.first ∷ p.second ∷ [])) }
     ensures stopped { IfErr result (IsStop (values_here here.now (E.get elements.now) (forms_of fs.now.items))) }
@@ -94,7 +98,7 @@ fn two_values<E: Elements>(here: &Here<'_>, fs: &Vec<Form>, elements: &E) -> Res
 fn many_operands<E: Elements>(
     here: &Here<'_>,
     op: Op,
-    fs: &Vec<Form>,
+    fs: &Vec<ArrayForm>,
     elements: &E,
 ) -> Result<i64, Stop>
     ensures value { IfOk result (λ v. operation_here here.now (E.get elements.now) op (forms_of fs.now.items) ≡ Ok v) }
@@ -108,7 +112,7 @@ fn many_operands<E: Elements>(
 #[cycle(form_value)]
 fn form_values<E: Elements>(
     here: &Here<'_>,
-    fs: &Vec<Form>,
+    fs: &Vec<ArrayForm>,
     elements: &E,
 ) -> Result<SmallVec<i64, 7>, Stop>
     ensures value { IfOk result (λ vs. values_here here.now (E.get elements.now) (forms_of fs.now.items) ≡ Ok vs.items) }

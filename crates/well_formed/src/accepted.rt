@@ -26,7 +26,7 @@ pub fn programs_are_well_formed()
 {}
 
 /// The machine with whole arrays ends over the code of a program that breaks no rule of names, ranks and bodies as the program does:
-/// with the first fault, its line, kind and tuple, and the bytes that were printed before it, or finished with its bytes and arrays. Behind
+/// with the first fault, its line, kind and tuple, and the bytes that were printed before it, or finished with its bytes and arrays. After
 /// the declared names there is room for as many copies as the code names, or more.
 pub fn accepted_programs_lowered()
     ensures { (p : MainProgram) (room : ℕ) (table : ArrayTable) (layouts : List Layout) → IsTable (initial_state (entries p)) table

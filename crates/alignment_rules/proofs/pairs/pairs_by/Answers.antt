@@ -12,7 +12,7 @@ loop-value-preserved c =
       subst (λ n. n ≤ c.loop-value.value-index + 1) (sym c.next_unless-done.ensures)
           (at_most_next (not c.is_triplet.result) c.loop-value.done c.loop-value.value-index c.loop-value.invariant.1),
       pairs_next (map source_of c.args.sources.now) c.args.dims.now c.args.colons.now c.args.values.now c.args.bounds.now c.loop-value.value-index c.loop-value.done
-          c.next_unless-done.result c.value-item.result c.loop-value.pairs.items c.push_pair.new.pairs.items _ c.behind-left.result.now c.dim_from-dim.result
-          c.loop-value-test.true c.value-item.is c.behind-left.ensures (c.dim_from-dim.ensures ∙ ap (λ n. first_dim (drop n c.args.bounds.now)) c.loop-value.invariant.0)
+          c.next_unless-done.result c.value-item.result c.loop-value.pairs.items c.push_pair.new.pairs.items _ c.after-left.result.now c.dim_from-dim.result
+          c.loop-value-test.true c.value-item.is c.after-left.ensures (c.dim_from-dim.ensures ∙ ap (λ n. first_dim (drop n c.args.bounds.now)) c.loop-value.invariant.0)
           c.in_ok-push_pair.ensures next c.loop-value.invariant.2,
     )

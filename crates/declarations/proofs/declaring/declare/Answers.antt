@@ -1,6 +1,6 @@
 use Rattle.std.proofs.Common.{[], ap, sym, ◌∙◌}
 use Rattle.hpf_base.specs.FirstBreach.{least}
-use Rattle.declarations.specs.Declarations.{behind_all}
+use Rattle.declarations.specs.Declarations.{after_all}
 use Rattle.declarations.specs.DeclarationRules.{item_breaches}
 use Rattle.declarations.proofs.ItemTurns.{declaration_next, declarations_end, items_flat}
 use Rattle.declarations.proofs.declaring.declare.Goals as goal
@@ -15,7 +15,7 @@ pub returns-clause-table : goal.returns-clause-table
 returns-clause-table c =
     c.into_table.ensures
     ∙ (declarations_end c.args.decls.now c.loop-decl.decl-index c.loop-decl.names _ c.loop-decl.first _ c.loop-decl-test.false c.loop-decl.invariant).0
-    ∙ ap (behind_all []) (sym (items_flat c.args.decls.now))
+    ∙ ap (after_all []) (sym (items_flat c.args.decls.now))
 
 pub returns-clause-first : goal.returns-clause-first
 returns-clause-first c =

@@ -22,7 +22,7 @@ returns c =
     earliest_of_five (declared_breaches s ds) (mapped_twice [] ms) (chain_breaches s ms) (dynamic_breaches s [] (dynamic_names ds))
     (flat_map (redistribute_breaches_at s ms (dynamic_objects ds)) hs)
     c.in_ok-declared.declared c.in_ok-twice.twice c.in_ok-chained.chained c.in_ok-named.named c.in_ok-moved.moved
-    c.earlier.result c.earlier-behind.result c.earlier-2.result c.earlier-3.result
+    c.earlier.result c.earlier-after.result c.earlier-2.result c.earlier-3.result
     (c.in_ok-declared.ensures ∙ ap (λ l. least (declared_breaches s (map declaration l))) c.deref-3.ensures.value)
     (c.in_ok-twice.ensures ∙ ap (λ l. least (mapped_twice [] l)) c.requires.objects)
     (chained s ms (mapped c.args.firsts.now) (mapped c.args.objects.now) c.in_ok-chained.chained c.requires.objects c.requires.firsts c.in_ok-chained.ensures)
@@ -33,4 +33,4 @@ returns c =
     (λ x. c.requires.firsts x ∙ ap (λ l. how_mapped l x) c.requires.objects)
     (λ x. ap (is_among x) c.deref-5.ensures.value ∙ c.in_ok-dynamic.ensures x ∙ ap (λ l. is_among x (map (λ d. d.name) (dynamic l))) c.deref-2.ensures.value
     ∙ ap (λ l. is_among x (map (λ d. d.name) l)) names) hs))
-    c.earlier.ensures c.earlier-behind.ensures c.earlier-2.ensures c.earlier-3.ensures
+    c.earlier.ensures c.earlier-after.ensures c.earlier-2.ensures c.earlier-3.ensures

@@ -1,6 +1,6 @@
 use Rattle.std.proofs.Common.{◌≡◌, take, None}
 use Rattle.hpf_base.specs.FirstBreach.{IsFirstOrNone}
-use Rattle.nest_rules.specs.ProgramLine.{lines_of}
+use Rattle.construct_rules.specs.ProgramLine.{lines_of}
 use Rattle.hpf_reader.specs.ProgramText.{AreLinesOf, FormsBreak}
 use Rattle.hpf_reader.proofs.forms.forms.Given as goal
 

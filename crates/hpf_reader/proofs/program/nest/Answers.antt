@@ -1,7 +1,7 @@
 use Rattle.std.proofs.Common.{ap, subst}
 use Rattle.hpf_base.specs.FirstBreach.{IsFirstOrNone}
-use Rattle.nest_rules.specs.Breaches.{IsNestBreach}
-use Rattle.nest_rules.specs.ProgramLine.{lines_of}
+use Rattle.construct_rules.specs.Breaches.{IsNestBreach}
+use Rattle.construct_rules.specs.ProgramLine.{lines_of}
 use Rattle.hpf_reader.proofs.program.nest.Goals as goal
 
 pub read_nest-requires : goal.read_nest-requires

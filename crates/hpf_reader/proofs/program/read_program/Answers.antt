@@ -1,7 +1,7 @@
 -- Each stage's answer is one of the text.
 use Rattle.std.proofs.Common.{◌∙◌, ap, map, subst}
 use Rattle.hpf_base.specs.Refusal.{NoBreach}
-use Rattle.nest_rules.specs.ProgramLine.{lines_of}
+use Rattle.construct_rules.specs.ProgramLine.{lines_of}
 use Rattle.hpf_reader.specs.ProgramText.{AreLinesOf, FormsBreak, TokensBreak, lexeme_line}
 use Rattle.hpf_reader.proofs.Programs.{nest_free, nest_refused, refused_by_nest, tree_meant}
 use Rattle.hpf_reader.proofs.program.read_program.Goals as goal

@@ -18,10 +18,10 @@ returns c =
     earliest_of_five (item_breaches [] (items ds)) (flat_map (directive_breaches_at (symbol_table ds)) ds) (flat_map (name_breaches_at (symbol_table ds)) (all_heads body))
     (flat_map nest_breaches (nests body)) (end_breaches (main_program c.args.tree.now))
     c.args.first c.in_ok-directed.directed c.in_ok-named.named c.first_deep_nest.result c.bad_end_name.result
-    c.earlier-behind.result c.earlier.result c.earlier-2.result c.earlier-3.result
+    c.earlier-after.result c.earlier.result c.earlier-2.result c.earlier-3.result
     c.requires.first
     (c.in_ok-directed.ensures ∙ (λ i. least (flat_map (directive_breaches_at (c.requires.table i)) (map declaration (c.deref.ensures.value i)))))
     (c.in_ok-named.ensures ∙ (λ i. least (flat_map (name_breaches_at (c.requires.table i)) (all_heads (block_of (c.deref-2.ensures.value i))))))
     (c.first_deep_nest.ensures ∙ ap (λ l. least (flat_map nest_breaches (nests (block_of l)))) c.deref-3.ensures.value)
     c.bad_end_name.ensures
-    c.earlier-behind.ensures c.earlier.ensures c.earlier-2.ensures c.earlier-3.ensures
+    c.earlier-after.ensures c.earlier.ensures c.earlier-2.ensures c.earlier-3.ensures

@@ -8,9 +8,9 @@ use Rattle.statement_walk.specs.Head as head
 use Rattle.hpf_base.specs.FirstBreach.{least}
 use Rattle.expression_rules.proofs.Turns.{first_next}
 use Rattle.nest_check.specs.NestRules.{path_breaches_at}
-use Rattle.nest_check.specs.Paths.{assigned_after, assigned_behind, assigned_by_arms, common, reached, reached_heads, reached_in, reached_in_arms}
+use Rattle.nest_check.specs.Paths.{assigned_after, assigned_by, assigned_by_arms, common, reached, reached_heads, reached_in, reached_in_arms}
 use Rattle.nest_check.specs.Gathering.{reached_arm}
-use Rattle.nest_check.proofs.PathSteps.{arm_keeps, arm_parts, arm_reached, assigned_next, both_first, common_next, do_reached, first_of, more_first, nothing_behind, walk_next}
+use Rattle.nest_check.proofs.PathSteps.{arm_keeps, arm_parts, arm_reached, assigned_next, both_first, common_next, do_reached, first_of, more_first, nothing_after, walk_next}
 use Rattle.nest_check.proofs.StatementForms.{if_one, if_with, if_without}
 use Rattle.nest_check.proofs.paths.+paths.Goals as goal
 
@@ -87,7 +87,7 @@ walk_statement-returns-in-IfOne-clause-first t c =
     (c.in_ok-inside-in-IfOne.ensures.first ∙ ap (λ xs. first_of n (reached_in true xs s.line (statement s.line s.what))) before)
     c.earlier.ensures
     (sym (ap (reached_in c.args.conditional xs line) (if_one line c.args.stmt.now.what c.in-IfOne.cond c.in-IfOne.body s c.in-IfOne.is c.deref-in-IfOne-3.ensures)
-    ∙ ap (λ l. own ∷ l) (nothing_behind inside)))
+    ∙ ap (λ l. own ∷ l) (nothing_after inside)))
 
 pub walk_statement-returns-in-None-clause-after : goal.walk_statement-returns-in-None-clause-after
 walk_statement-returns-in-None-clause-after t c =
@@ -95,7 +95,7 @@ walk_statement-returns-in-None-clause-after t c =
     let before = c.deref-in-None.ensures.value ∙ c.in_ok-before-in-If.ensures ∙ c.deref-in-If.ensures.value in
     c.in_ok-first-in-None.ensures.after
     ∙ (λ i. assigned_by_arms (before i) xs (arms_of (c.deref-in-None-2.ensures.value i)))
-    ∙ sym (ap (assigned_behind xs) (if_without c.args.stmt.now.line c.args.stmt.now.what c.in-If.arms c.in-If.rest c.in-If.glued c.in-If.is c.in-None.is))
+    ∙ sym (ap (assigned_by xs) (if_without c.args.stmt.now.line c.args.stmt.now.what c.in-If.arms c.in-If.rest c.in-If.glued c.in-If.is c.in-None.is))
 
 pub walk_statement-returns-in-None-clause-first : goal.walk_statement-returns-in-None-clause-first
 walk_statement-returns-in-None-clause-first t c =
@@ -113,10 +113,10 @@ pub walk_statement-returns-in-If-clause-after : goal.walk_statement-returns-in-I
 walk_statement-returns-in-If-clause-after t c =
     let xs = c.args.assigned.now.items in
     let before = c.deref-in-Some-2.ensures.value ∙ c.in_ok-before-in-If.ensures ∙ c.deref-in-If.ensures.value in
-    let behind = c.in_ok-last-in-Some.ensures.after ∙ ap (λ ss. assigned_after xs (block_of ss)) c.deref-in-Some.ensures.value in
+    let later = c.in_ok-last-in-Some.ensures.after ∙ ap (λ ss. assigned_after xs (block_of ss)) c.deref-in-Some.ensures.value in
     c.in_ok-first-in-Some.ensures.after
-    ∙ (λ i. assigned_by_arms (before i) (behind i) (arms_of (c.deref-in-Some-3.ensures.value i)))
-    ∙ sym (ap (assigned_behind xs)
+    ∙ (λ i. assigned_by_arms (before i) (later i) (arms_of (c.deref-in-Some-3.ensures.value i)))
+    ∙ sym (ap (assigned_by xs)
     (if_with c.args.stmt.now.line c.args.stmt.now.what c.in-If.arms c.in-If.rest c.in-Some.stmts c.in-If.glued c.in-If.is c.in-Some.is))
 
 pub walk_statement-returns-in-If-clause-first : goal.walk_statement-returns-in-If-clause-first

@@ -6,7 +6,7 @@ use Rattle.nest_check.specs.NestRules.{path_breaches_at}
 use Rattle.nest_check.specs.Paths.{assigned_after, assigned_by_arms, reached_heads, reached_in_arms}
 use Rattle.nest_check.proofs.paths.+paths.Given as goal
 
--- what is assigned behind the rest is what is assigned behind all; the first breach so far, or else in the rest, is the first of all
+-- what is assigned after the rest is what is assigned after all; the first breach so far, or else in the rest, is the first of all
 abbrev pub invariant-walk_paths-loop-stmt : goal.invariant-walk_paths-loop-stmt
 invariant-walk_paths-loop-stmt l =
     (assigned_after l.assigned.items (block_of (drop l.stmt-index l.stmts)) ≡ assigned_after l.fn.assigned.items (block_of l.stmts))

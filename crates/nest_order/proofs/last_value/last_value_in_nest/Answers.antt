@@ -12,7 +12,7 @@ returns g c interpretation names written start conditions n parts items row entr
     let act = nest_act interpretation conditions items in
     let h =
     stores_noted interpretation names written start conditions n items free parts enough (note_scalar row)
-    (λ i spot value old behind. not_noted row conditions i spot value old before behind) entry none in
+    (λ i spot value old after. not_noted row conditions i spot value old before after) entry none in
     let last =
     last_copy act start n parts (touches_of interpretation names written start conditions n items)
     (parts_apart interpretation names written start conditions n items free parts) row within entry in

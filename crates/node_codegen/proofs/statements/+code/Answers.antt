@@ -17,10 +17,10 @@ pub statement_code-returns-in_ok-rest-in-If : goal.statement_code-returns-in_ok-
 statement_code-returns-in_ok-rest-in-If t c =
     let made = c.in_ok-made-in-If.made in
     subst (λ w. IfOk c.if_code.result (λ v. instructions v.items ≡ w))
-    (ap (λ l. jumping_to (made.behind + length l) (codes made.codes.items) ++ l)
-    (c.in_ok-rest-in-If.ensures ∙ ap (λ l. block_code c.args.copy (block_of l) c.args.b made.behind c.args.leave c.args.again) c.deref-in-If-2.ensures.value)
-    ∙ sym (if_is c.args.copy c.args.line c.args.b c.args.pc c.args.leave c.args.again c.args.s.now c.in-If.arms c.in-If.other (codes made.codes.items) made.behind c.in-If.is
-    (subst (λ l. AreArms c.args.copy (arms_of l) c.args.b c.args.pc c.args.leave c.args.again (codes made.codes.items) made.behind) c.deref-in-If.ensures.value c.in_ok-made-in-If.ensures)))
+    (ap (λ l. jumping_to (made.after + length l) (codes made.codes.items) ++ l)
+    (c.in_ok-rest-in-If.ensures ∙ ap (λ l. block_code c.args.copy (block_of l) c.args.b made.after c.args.leave c.args.again) c.deref-in-If-2.ensures.value)
+    ∙ sym (if_is c.args.copy c.args.line c.args.b c.args.pc c.args.leave c.args.again c.args.s.now c.in-If.arms c.in-If.other (codes made.codes.items) made.after c.in-If.is
+    (subst (λ l. AreArms c.args.copy (arms_of l) c.args.b c.args.pc c.args.leave c.args.again (codes made.codes.items) made.after) c.deref-in-If.ensures.value c.in_ok-made-in-If.ensures)))
     c.if_code.ensures
 
 pub code_of_arm-returns : goal.code_of_arm-returns
@@ -34,7 +34,7 @@ code_of_arm-returns t c = λ tail other.
     ∙ arm_is a.line c.args.pc b (term a.condition) (λ pc. block_code copy (block_of a.body.items) b pc c.args.leave c.args.again) (λ pc. arms_code copy tail other b pc c.args.leave c.args.again)
     condition.items body.items c.in_ok-code.code.items c.in_ok-condition.ensures
     (c.in_ok-body.ensures
-    ∙ (λ i. block_code copy (block_of (c.deref.ensures.value i)) b ((c.in_ok-inside.ensures ∙ ap (λ n. n + 1) c.in_ok-place_behind.ensures) i) c.args.leave c.args.again))
+    ∙ (λ i. block_code copy (block_of (c.deref.ensures.value i)) b ((c.in_ok-inside.ensures ∙ ap (λ n. n + 1) c.in_ok-place_after.ensures) i) c.args.leave c.args.again))
     (c.in_ok-code.ensures
     ∙ ap (λ x. instructions condition.items ++ JumpIfZero (c.args.pc + length condition.items + 1 + length body.items + 1) x ∷ instructions body.items)
     (c.in_ok-slot.ensures ∙ ap (λ n. b + n) c.in_ok-slots_of.ensures))
@@ -54,21 +54,21 @@ statement_code-returns-in_ok-turns-in-Do t c =
 pub arm_codes-loop-arm-preserved : goal.arm_codes-loop-arm-preserved
 arm_codes-loop-arm-preserved t c = λ other.
     let n = c.loop-arm.arm-index in
-    let behind = c.loop-arm.behind in
+    let after = c.loop-arm.after in
     let one = c.in_ok-one.one in
     let tail = arms_of (drop (n + 1) c.args.arms.now) in
     let rest = λ (pc : ℕ). arms_code c.args.copy tail other c.args.b pc c.args.leave c.args.again in
     c.loop-arm.invariant other
-    ∙ ap (λ l. arms_before behind (codes c.loop-arm.codes.items) (λ pc. arms_code c.args.copy (arms_of l) other c.args.b pc c.args.leave c.args.again))
+    ∙ ap (λ l. arms_before after (codes c.loop-arm.codes.items) (λ pc. arms_code c.args.copy (arms_of l) other c.args.b pc c.args.leave c.args.again))
     (drop_item c.args.arms.now n c.arm-item.result c.loop-arm-test.true c.arm-item.is)
-    ∙ arms_next behind c.in_ok-behind.behind (codes c.loop-arm.codes.items) (instructions one.items)
+    ∙ arms_next after c.in_ok-after.after (codes c.loop-arm.codes.items) (instructions one.items)
     (λ pc. arms_code c.args.copy (arms_of (c.arm-item.result ∷ drop (n + 1) c.args.arms.now)) other c.args.b pc c.args.leave c.args.again) rest
-    (c.in_ok-behind.ensures ∙ ap (λ k. k + 1) (c.in_ok-place_behind.ensures ∙ ap (λ k. behind + k) (sym (length-map one.items instruction))))
+    (c.in_ok-after.ensures ∙ ap (λ k. k + 1) (c.in_ok-place_after.ensures ∙ ap (λ k. after + k) (sym (length-map one.items instruction))))
     (c.in_ok-one.ensures tail other)
-    ∙ ap (λ cs. arms_before c.in_ok-behind.behind cs rest) (sym (codes_next c.loop-arm.codes.items c.push.new.self.items one c.in_ok-push.ensures.items))
+    ∙ ap (λ cs. arms_before c.in_ok-after.after cs rest) (sym (codes_next c.loop-arm.codes.items c.push.new.self.items one c.in_ok-push.ensures.items))
 
 pub arm_codes-returns : goal.arm_codes-returns
 arm_codes-returns t c = λ other.
     c.loop-arm.invariant other
-    ∙ ap (λ l. arms_before c.loop-arm.behind (codes c.loop-arm.codes.items) (λ pc. arms_code c.args.copy (arms_of l) other c.args.b pc c.args.leave c.args.again))
+    ∙ ap (λ l. arms_before c.loop-arm.after (codes c.loop-arm.codes.items) (λ pc. arms_code c.args.copy (arms_of l) other c.args.b pc c.args.leave c.args.again))
     (drop_of_length-le c.args.arms.now (omega arith))

@@ -15,4 +15,4 @@ invariant-block_code-loop-s l =
 abbrev pub invariant-arm_codes-loop-arm : goal.invariant-arm_codes-loop-arm
 invariant-arm_codes-loop-arm l = (other : ℕ → List Instruction) →
     arms_code l.copy (arms_of l.arms) other l.b l.pc l.leave l.again
-    ≡ arms_before l.behind (codes l.codes.items) (λ pc. arms_code l.copy (arms_of (drop l.arm-index l.arms)) other l.b pc l.leave l.again)
+    ≡ arms_before l.after (codes l.codes.items) (λ pc. arms_code l.copy (arms_of (drop l.arm-index l.arms)) other l.b pc l.leave l.again)

@@ -6,7 +6,7 @@ use Rattle.source_lines.proofs.blanks.end_of.Given as goal
 abbrev pub invariant-loop-end : goal.invariant-loop-end
 invariant-loop-end l = record {
   within : l.end ≤ length l.bytes;
-  behind : l.end + suffix_len is_blank l.bytes ≡ length l.bytes + suffix_len is_blank (take l.end l.bytes);
+  after : l.end + suffix_len is_blank l.bytes ≡ length l.bytes + suffix_len is_blank (take l.end l.bytes);
 }
 
 abbrev pub decreases-loop-end : goal.decreases-loop-end

@@ -10,9 +10,9 @@ loop-part-preserved c =
     let i = c.loop-part.invariant in
     let parts = c.in-Some.ensures.whole in
     let part = c.in-Some.part.now in
-    let behind = c.in-Some.behind.now in record {
+    let after = c.in-Some.after.now in record {
       code = i.code ++ part;
-      whole = i.whole ∙ ap (λ l. i.code ++ l) c.in-Some.ensures.shorter.0 ∙ sym (append_assoc i.code part behind);
-      stands = i.stands ∙ ap (λ l. i.code ++ concat l) parts ∙ sym (append_assoc i.code part (code_of behind));
+      whole = i.whole ∙ ap (λ l. i.code ++ l) c.in-Some.ensures.shorter.0 ∙ sym (append_assoc i.code part after);
+      stands = i.stands ∙ ap (λ l. i.code ++ concat l) parts ∙ sym (append_assoc i.code part (code_of after));
       seen = i.seen ∙ ap (λ l. c.loop-part.bad || list_any (is_bad_part c.args.kind) l) parts ∙ rw c.is_bad_part-bad.ensures (sym (or_assoc c.loop-part.bad _ _));
     }

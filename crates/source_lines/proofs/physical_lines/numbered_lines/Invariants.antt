@@ -3,7 +3,7 @@ use Rattle.std.specs.List.{enumerate_from}
 use Rattle.source_lines.specs.PhysicalLines.{physical_lines, physical_line, numbered_lines}
 use Rattle.source_lines.proofs.physical_lines.numbered_lines.Given as goal
 
--- the lines so far, and those of the rest behind them
+-- the lines so far, and those of the rest after them
 abbrev pub invariant-loop-line : goal.invariant-loop-line
 invariant-loop-line l = record {
   short : vec_len l.lines + length l.rest ≤ length l.text;

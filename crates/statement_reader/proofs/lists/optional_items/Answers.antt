@@ -23,4 +23,4 @@ some_items ts (i ∷ is) us h e =
 pub returns : goal.returns
 returns c =
     some_items (lexemes c.args.tokens.now) c.in_ok-items.items.items (lexemes c.in_ok-items.rest.now) (cc)
-    (ap (read Limited (CommaList OneItem)) (sym c.behind.ensures) ∙ c.in_ok-items.ensures)
+    (ap (read Limited (CommaList OneItem)) (sym c.skip.ensures) ∙ c.in_ok-items.ensures)

@@ -3,7 +3,7 @@ use Rattle.std.specs.Arc.{arc_value}
 use Rattle.machine_steps.specs.Machine.{earlier}
 use Rattle.machine_steps.specs.Message.{par_part}
 use Rattle.tuple_values.specs.Views.{statement as statement_of}
-use Rattle.part_steps.specs.Behind.{Behind, behind, fault_below, stored_below, tuples as tuples_of}
+use Rattle.part_steps.specs.After.{After, after, fault_below, stored_below, tuples as tuples_of}
 use Rattle.part_steps.specs.Parts.{PartView}
 use Rattle.part_steps.specs.Views.{part_view}
 use Rattle.part_steps.specs.declared.who.Who.TheVariants.{Left}
@@ -23,9 +23,9 @@ returns c =
     let V : PartView = record { who = Left; nodes = a.nodes; layouts = a.layouts; statement = w } in
     let same : part_view c.new-part.result ≡ V = c.new-part.ensures
     ∙ (λ i. record { who = Left; nodes = (c.self.invariant.owners ∙ (λ j. (is j).nodes)) i; layouts = (is i).layouts; statement = w }) in
-    let B : Behind = behind V a.id a.pieces a.received in
-    let here : behind (part_view c.new-part.result) c.self.inside.id c.deref.result.now c.all_received-received.result.now ≡ B =
-    (λ i. behind (same i) (is i).id ((c.deref.ensures.value ∙ (λ j. (is j).pieces)) i) ((c.all_received-received.ensures ∙ (λ j. (is j).received)) i)) in
+    let B : After = after V a.id a.pieces a.received in
+    let here : after (part_view c.new-part.result) c.self.inside.id c.deref.result.now c.all_received-received.result.now ≡ B =
+    (λ i. after (same i) (is i).id ((c.deref.ensures.value ∙ (λ j. (is j).pieces)) i) ((c.all_received-received.ensures ∙ (λ j. (is j).received)) i)) in
     record {
       tuples = p.tuples;
       left = p.left;

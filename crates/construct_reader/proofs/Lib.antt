@@ -1,0 +1,11 @@
+pub mod Rows
+pub mod Lists
+pub mod Arms
+pub mod After
+pub mod Taken
+pub mod Kept
+pub mod Further
+pub mod Starts
+pub mod Same
+pub mod Meanings
+pub mod Said

@@ -1,6 +1,0 @@
-use Rattle.nest_reader.proofs.Behind.{appended_is}
-use Rattle.nest_reader.proofs.draft_step.appended.Goals as goal
-
-pub returns : goal.returns
-returns c =
-    appended_is c.args.opens c.args.block.items c.args.stmt c.push.new.self c.in_ok-push.ensures.items c.requires.0 c.requires.1 c.requires.2
