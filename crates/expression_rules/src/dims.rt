@@ -1,11 +1,12 @@
 //! The dimensions of an array.
 
-ghost use Rattle.std.specs.Prelude.{◌≡◌, ◌+◌, ◌*◌, ◌≤◌, ◌≤ℤ◌, pos, IfSome};
+ghost use Rattle.std.specs.Prelude.{◌≡◌, ◌+◌, ◌*◌, ◌≤◌, ◌≤ℤ◌, pos, IfOk, IfSome};
 ghost use Rattle.std.specs.List.{list_any};
 ghost use Rattle.hpf_base.specs.declared.limits.TheConstants.{MAX_BOUND};
 ghost use Rattle.expression_rules.specs.Constants.{numbered};
 ghost use Rattle.expression_rules.specs.Dims.{elements, extent, is_empty, AreDims, IsDim};
 
+use std::alloc::{AllocError, Global};
 use std::marker::Model;
 
 /// The lower and the upper bound of a dimension, as they are declared (Fortran 95, 5.1.2.4.1). Where the upper one is below the
@@ -49,6 +50,15 @@ impl Dims {
         ensures valid { AreDims self.now }
     {
         &self.dims
+    }
+
+    /// The same dimensions once more. An `Err` is want of memory.
+    pub fn copy(&self, alloc: Global) -> Result<Dims, AllocError>
+        ensures { IfOk result (λ copy. copy ≡ self.now) }
+    {
+        let mut copy = Vec::new(alloc);
+        copy.extend_from_slice(self.as_slice())?;
+        Ok(Dims::new(copy))
     }
 }
 

@@ -61,6 +61,16 @@ impl Grid {
             None => unreachable!(),
         }
     }
+
+    /// The same extents once more. It takes no memory.
+    pub fn copy(&self, alloc: Global) -> Grid
+        ensures { result ≡ self.now }
+    {
+        match Grid::new(alloc, self.dims()) {
+            Some(copy) => copy,
+            None => unreachable!(),
+        }
+    }
 }
 
 /// The product of the extents; None exactly where it exceeds 64 or one of them is 0.

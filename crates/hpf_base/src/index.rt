@@ -46,6 +46,16 @@ impl Index {
     {
         self.numbers.as_slice()
     }
+
+    /// The same numbers once more. It takes no memory.
+    pub fn copy(&self, alloc: Global) -> Index
+        ensures { result ≡ self.now }
+    {
+        match Index::new(alloc, self.numbers()) {
+            Some(copy) => copy,
+            None => unreachable!(),
+        }
+    }
 }
 
 /// The bounds of an array: in each dimension its lower bound and its extent, the first dimension first.
@@ -53,4 +63,16 @@ impl Index {
 pub struct Shape {
     pub lower: Index,
     pub extent: Index,
+}
+
+impl Shape {
+    /// The same bounds once more. It takes no memory.
+    pub fn copy(&self, alloc: Global) -> Shape
+        ensures { result ≡ self.now }
+    {
+        Shape {
+            lower: self.lower.copy(alloc),
+            extent: self.extent.copy(alloc),
+        }
+    }
 }
