@@ -6,7 +6,7 @@ ghost use Rattle.mappings.specs.Alignment.{align_through, composed, composed_ali
 ghost use Rattle.mappings.specs.Mapping.{FitsAlign, IsAlign, IsMapping, MoveApart};
 
 use crate::subscripts::{linear, product};
-use hpf_base::{Grid, OutOfMemory};
+use hpf_base::OutOfMemory;
 use mappings::{AlignDim, MapDim, MapDims, Mapping};
 use std::alloc::Global;
 
@@ -26,28 +26,26 @@ pub fn compose(alloc: Global, target: &Mapping, align: &[AlignDim]) -> Result<Ma
 {
     let mut dims = Vec::new(alloc);
     for entry in target.dims.as_slice() {
-        dims.push(composed_with(entry, align))?;
+        dims.push(composed_with(alloc, entry, align)?)?;
     }
-    match Grid::new(alloc, target.grid.dims()) {
-        Some(grid) => Ok(Mapping {
-            grid,
-            dims: MapDims::new(dims),
-        }),
-        None => unreachable!(),
-    }
+    Ok(Mapping {
+        grid: target.grid.copy(alloc),
+        dims: MapDims::new(dims),
+    })
 }
 
 /// The entry with the alignee's subscripts put in.
-fn composed_with(entry: &MapDim, align: &[AlignDim]) -> MapDim
+fn composed_with(alloc: Global, entry: &MapDim, align: &[AlignDim]) -> Result<MapDim, OutOfMemory>
     requires align { IsAlign (length align.now) entry.now.align }
     requires fits { FitsAlign (composed_align align.now entry.now.align) }
-    ensures { result ≡ composed_entry align.now entry.now }
+    ensures { IfOk result (λ composed. composed ≡ composed_entry align.now entry.now) }
 {
-    MapDim {
-        line: entry.line,
+    let line = entry.line.copy(alloc)?;
+    Ok(MapDim {
+        line,
         grid_dim: entry.grid_dim,
         align: put_in(&entry.align, align),
-    }
+    })
 }
 
 /// The alignment with the alignee's subscripts put in.

@@ -14,7 +14,7 @@ use crate::mapped_objects::find_mapped;
 use crate::root_alignments::root_alignment;
 use alignment_rules::Alignment;
 use distribution_rules::{Setting, dims_of, distributed, distribution_values};
-use hpf_base::{Grid, Name};
+use hpf_base::Name;
 use mappings::{AlignDim, MapDim, MapDims, Mapping};
 use std::alloc::{AllocError, Global};
 use syntax_tree::{Directive, DistSpec, NameList};
@@ -23,12 +23,9 @@ use syntax_tree::{Directive, DistSpec, NameList};
 pub(crate) fn replicated(alloc: Global, setting: &Setting) -> Mapping
     ensures { result ≡ replicated setting.now.grid }
 {
-    match Grid::new(alloc, setting.grid().dims()) {
-        Some(grid) => Mapping {
-            grid,
-            dims: MapDims::new(Vec::new(alloc)),
-        },
-        None => unreachable!(),
+    Mapping {
+        grid: setting.grid().copy(alloc),
+        dims: MapDims::new(Vec::new(alloc)),
     }
 }
 
@@ -139,19 +136,17 @@ fn composed(alloc: Global, target: &Mapping, align: &[AlignDim]) -> Result<Mappi
 {
     let mut dims = Vec::new(alloc);
     for entry in target.dims.as_slice() {
+        let line = entry.line.copy(alloc)?;
         dims.push(MapDim {
-            line: entry.line,
+            line,
             grid_dim: entry.grid_dim,
             align: put_in(&entry.align, align),
         })?;
     }
-    match Grid::new(alloc, target.grid.dims()) {
-        Some(grid) => Ok(Mapping {
-            grid,
-            dims: MapDims::new(dims),
-        }),
-        None => unreachable!(),
-    }
+    Ok(Mapping {
+        grid: target.grid.copy(alloc),
+        dims: MapDims::new(dims),
+    })
 }
 
 /// What an entry of its mapping gives for subscripts of the alignee.

@@ -7,8 +7,7 @@ ghost use Rattle.nodes_lowered.specs.ProgramLayouts.{empty_layout, layout_by, ma
 ghost use Rattle.distributed_run.specs.Starts.{first_layout};
 
 use array_maps::ArrayMap;
-use hpf_base::{Grid, Index, OutOfMemory, Shape};
-use mappings::{MapDims, Mapping};
+use hpf_base::OutOfMemory;
 use name_table::{Entry, Names, What};
 use owner_tables::{OwnerTable, Owners};
 use std::alloc::Global;
@@ -105,9 +104,8 @@ fn array_table(alloc: Global, map: &ArrayMap, nodes: u32) -> Result<OwnerTable, 
     requires valid { IsArrayMap nodes map.now }
     ensures { IfOk result (λ table. table ≡ record { layout = record { shape = map.now.shape; mapping = map.now.start }; nodes = nodes }) }
 {
-    let shape = same_shape(alloc, &map.shape);
-    let mapping = same_mapping(alloc, &map.start)?;
-    OwnerTable::new(alloc, nodes, shape, mapping)
+    let mapping = map.start.copy(alloc)?;
+    OwnerTable::new(alloc, nodes, map.shape.copy(alloc), mapping)
 }
 
 /// The table of what has no elements.
@@ -134,46 +132,4 @@ fn after_first(maps: &[ArrayMap]) -> &[ArrayMap]
     ensures { result.now ≡ drop 1 maps.now }
 {
     if maps.is_empty() { maps } else { &maps[1..] }
-}
-
-/// The same shape once more.
-fn same_shape(alloc: Global, shape: &Shape) -> Shape
-    ensures { result ≡ shape.now }
-{
-    Shape {
-        lower: same_index(alloc, &shape.lower),
-        extent: same_index(alloc, &shape.extent),
-    }
-}
-
-/// The same numbers once more.
-fn same_index(alloc: Global, index: &Index) -> Index
-    ensures { result ≡ index.now }
-{
-    match Index::new(alloc, index.numbers()) {
-        Some(same) => same,
-        None => unreachable!(),
-    }
-}
-
-/// The same mapping once more.
-fn same_mapping(alloc: Global, mapping: &Mapping) -> Result<Mapping, OutOfMemory>
-    ensures { IfOk result (λ same. same ≡ mapping.now) }
-{
-    let mut dims = Vec::new(alloc);
-    dims.extend_from_slice(mapping.dims.as_slice())?;
-    Ok(Mapping {
-        grid: same_grid(alloc, &mapping.grid),
-        dims: MapDims::new(dims),
-    })
-}
-
-/// The same grid once more.
-fn same_grid(alloc: Global, grid: &Grid) -> Grid
-    ensures { result ≡ grid.now }
-{
-    match Grid::new(alloc, grid.dims()) {
-        Some(same) => same,
-        None => unreachable!(),
-    }
 }

@@ -69,16 +69,7 @@ fn dims_of(alloc: Global, what: &What) -> Result<Dims, OutOfMemory>
     ensures { IfOk result (λ dims. dims ≡ (initial_array what.now).dims) }
 {
     match what {
-        What::Array(dims, _) => same_dims(alloc, dims),
+        What::Array(dims, _) => Ok(dims.copy(alloc)?),
         _ => Ok(Dims::new(Vec::new(alloc))),
     }
-}
-
-/// The same dimensions once more.
-fn same_dims(alloc: Global, dims: &Dims) -> Result<Dims, OutOfMemory>
-    ensures { IfOk result (λ same. same ≡ dims.now) }
-{
-    let mut same = Vec::new(alloc);
-    same.extend_from_slice(dims.as_slice())?;
-    Ok(Dims::new(same))
 }

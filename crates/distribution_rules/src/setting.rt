@@ -42,14 +42,11 @@ impl Setting {
     {
         let declared = declare(alloc, &program.tree.decls)?;
         let objects = objects_of(alloc, grid, &declared.table, program)?;
-        match Grid::new(alloc, grid.dims()) {
-            Some(grid) => Ok(Setting {
-                grid,
-                table: declared.table,
-                objects,
-            }),
-            None => unreachable!(),
-        }
+        Ok(Setting {
+            grid: grid.copy(alloc),
+            table: declared.table,
+            objects,
+        })
     }
 
     /// The processor grid. It takes no memory.

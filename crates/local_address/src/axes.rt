@@ -1,6 +1,6 @@
 //! Along which dimension of an array an entry of its mapping moves, and what it gives all elements alike.
 
-ghost use Rattle.std.specs.Prelude.{◌≡◌, ℕ, ◌<◌, All, Some, slice_get};
+ghost use Rattle.std.specs.Prelude.{◌≡◌, ℕ, ◌<◌, All, IfOk, Some, slice_get};
 ghost use Rattle.std.specs.List.{list_all};
 ghost use Rattle.hpf_base.specs.ElementOrder.{product};
 ghost use Rattle.hpf_base.specs.Grid.{node_coordinates};
@@ -10,9 +10,10 @@ ghost use Rattle.local_address.specs.Runs.{HasLine, InAxis, IsOfGrid, axis_along
 use align_map::{coordinate_of, linear, node_coordinate};
 use hpf_base::{Grid, NodeId};
 use mappings::{AlignDim, Line, MapDim, Mapping};
+use std::alloc::{AllocError, Global};
 
 /// An entry of a mapping that moves along a dimension of the array: what has the subscript i there has `factor * i + offset` in the line.
-#[derive(Clone, Copy, Debug)]
+#[derive(Debug, Drop)]
 pub struct Axis {
     pub line: Line,
     pub grid_dim: u32,
@@ -20,37 +21,40 @@ pub struct Axis {
     pub offset: i64,
 }
 
-/// The entry that moves along a dimension, counted from 0, where there is one.
-pub fn axis_along(map: &Mapping, dim: u32) -> Option<Axis>
-    ensures { result ≡ axis_along dim map.now.dims }
+/// The entry that moves along a dimension, counted from 0, where there is one. An `Err` is want of memory.
+pub fn axis_along(alloc: Global, map: &Mapping, dim: u32) -> Result<Option<Axis>, AllocError>
+    ensures { IfOk result (λ axis. axis ≡ axis_along dim map.now.dims) }
 {
     for entry in map.dims.as_slice() {
-        let axis = axis_by(entry, dim);
+        let axis = axis_by(alloc, entry, dim)?;
         if axis.is_some() {
-            return axis;
+            return Ok(axis);
         }
     }
-    None
+    Ok(None)
 }
 
 /// The entry, where it moves along the dimension.
-fn axis_by(entry: &MapDim, dim: u32) -> Option<Axis>
-    ensures { result ≡ axis_by dim entry.now entry.now.align }
+fn axis_by(alloc: Global, entry: &MapDim, dim: u32) -> Result<Option<Axis>, AllocError>
+    ensures { IfOk result (λ axis. axis ≡ axis_by dim entry.now entry.now.align) }
 {
     match entry.align {
-        AlignDim::Linear { dim: d, a, b } if a != 0 && d == dim => Some(Axis {
-            line: entry.line,
-            grid_dim: entry.grid_dim,
-            factor: a,
-            offset: b,
-        }),
-        _ => None,
+        AlignDim::Linear { dim: d, a, b } if a != 0 && d == dim => {
+            let line = entry.line.copy(alloc)?;
+            Ok(Some(Axis {
+                line,
+                grid_dim: entry.grid_dim,
+                factor: a,
+                offset: b,
+            }))
+        }
+        _ => Ok(None),
     }
 }
 
 /// How many coordinates there are on an axis; 1 without one.
-pub fn procs_on(axis: Option<Axis>) -> u32
-    ensures { result ≡ procs_on axis }
+pub fn procs_on(axis: &Option<Axis>) -> u32
+    ensures { result ≡ procs_on axis.now }
 {
     match axis {
         None => 1,
@@ -59,11 +63,11 @@ pub fn procs_on(axis: Option<Axis>) -> u32
 }
 
 /// The coordinate on an axis of what has the subscript i; 0 without one.
-pub fn coordinate_on(axis: Option<Axis>, i: i64) -> u32
-    requires line { HasLine axis }
-    requires inside { InAxis axis i }
-    ensures value { result ≡ coordinate_on axis i }
-    ensures below { result < procs_on axis }
+pub fn coordinate_on(axis: &Option<Axis>, i: i64) -> u32
+    requires line { HasLine axis.now }
+    requires inside { InAxis axis.now i }
+    ensures value { result ≡ coordinate_on axis.now i }
+    ensures below { result < procs_on axis.now }
 {
     match axis {
         None => 0,
@@ -72,11 +76,11 @@ pub fn coordinate_on(axis: Option<Axis>, i: i64) -> u32
 }
 
 /// The coordinate on an axis of a node of the grid; 0 without one.
-pub fn own_on(grid: &Grid, axis: Option<Axis>, node: NodeId) -> u32
-    requires axis { IsOfGrid grid.now axis }
+pub fn own_on(grid: &Grid, axis: &Option<Axis>, node: NodeId) -> u32
+    requires axis { IsOfGrid grid.now axis.now }
     requires node { node.0 < product grid.now }
-    ensures value { result ≡ own_on (node_coordinates grid.now node.0) axis }
-    ensures below { result < procs_on axis }
+    ensures value { result ≡ own_on (node_coordinates grid.now node.0) axis.now }
+    ensures below { result < procs_on axis.now }
 {
     match axis {
         None => 0,

@@ -20,15 +20,15 @@ pub struct Run {
 /// For each coordinate on an axis, from 0, which subscripts of a dimension have it. The dimension begins at `lower`.
 pub fn runs_on(
     alloc: Global,
-    axis: Option<Axis>,
+    axis: &Option<Axis>,
     lower: i64,
     extent: u64,
 ) -> Result<Vec<Run>, OutOfMemory>
-    requires line { HasLine axis }
+    requires line { HasLine axis.now }
     requires lower { unsigned_abs lower ≤ 2 ^ 41 }
     requires extent { extent ≤ 2 ^ 20 }
-    requires inside { (place : ℕ) → place < extent → InAxis axis (lower +ℤ pos place) }
-    ensures { IfOk result (λ runs. IsTable axis lower extent runs.items) }
+    requires inside { (place : ℕ) → place < extent → InAxis axis.now (lower +ℤ pos place) }
+    ensures { IfOk result (λ runs. IsTable axis.now lower extent runs.items) }
 {
     let mut runs = empty_runs(alloc, procs_on(axis))?;
     for place in 0..extent {

@@ -1,12 +1,13 @@
 //! Mappings: how the dimensions of an array lie on the dimensions of a grid of processors.
 
-ghost use Rattle.std.specs.Prelude.{◌≡◌};
+ghost use Rattle.std.specs.Prelude.{◌≡◌, IfOk};
 
 use hpf_base::Grid;
+use std::alloc::{AllocError, Global};
 use std::marker::Model;
 
 /// The distribution format of a dimension (HPF 2.0, DISTRIBUTE).
-#[derive(Clone, Copy, Debug, PartialEq, Eq)]
+#[derive(Debug, Drop, PartialEq, Eq)]
 pub enum Form {
     /// The dimension isn't distributed.
     Whole,
@@ -16,13 +17,41 @@ pub enum Form {
     Cyclic(u64),
 }
 
+impl Form {
+    /// The same format once more. An `Err` is want of memory, here and below.
+    pub fn copy(&self, _alloc: Global) -> Result<Form, AllocError>
+        ensures { IfOk result (λ copy. copy ≡ self.now) }
+    {
+        match self {
+            Form::Whole => Ok(Form::Whole),
+            Form::Block(size) => Ok(Form::Block(*size)),
+            Form::Cyclic(size) => Ok(Form::Cyclic(*size)),
+        }
+    }
+}
+
 /// A dimension with its distribution. Its positions are 1 to `extent`; position 1 is index `lower`.
-#[derive(Clone, Copy, Debug, PartialEq, Eq)]
+#[derive(Debug, Drop, PartialEq, Eq)]
 pub struct Line {
     pub lower: i64,
     pub extent: u64,
     pub form: Form,
     pub procs: u32,
+}
+
+impl Line {
+    /// The same line once more.
+    pub fn copy(&self, alloc: Global) -> Result<Line, AllocError>
+        ensures { IfOk result (λ copy. copy ≡ self.now) }
+    {
+        let form = self.form.copy(alloc)?;
+        Ok(Line {
+            lower: self.lower,
+            extent: self.extent,
+            form,
+            procs: self.procs,
+        })
+    }
 }
 
 /// What a dimension of the template is given for an element with subscripts `i` (HPF 2.0, ALIGN).
@@ -38,11 +67,25 @@ pub enum AlignDim {
 
 /// One distributed dimension of the template: its line, the dimension of the grid on which it lies, counted from
 /// 0, and what it is given for an element.
-#[derive(Clone, Copy, Debug, PartialEq, Eq)]
+#[derive(Debug, Drop, PartialEq, Eq)]
 pub struct MapDim {
     pub line: Line,
     pub grid_dim: u32,
     pub align: AlignDim,
+}
+
+impl MapDim {
+    /// The same dimension once more.
+    pub fn copy(&self, alloc: Global) -> Result<MapDim, AllocError>
+        ensures { IfOk result (λ copy. copy ≡ self.now) }
+    {
+        let line = self.line.copy(alloc)?;
+        Ok(MapDim {
+            line,
+            grid_dim: self.grid_dim,
+            align: self.align,
+        })
+    }
 }
 
 /// The distributed dimensions of a mapping. Contracts see the list.
@@ -81,6 +124,17 @@ impl MapDims {
     {
         self.entries
     }
+
+    /// The same dimensions once more.
+    pub fn copy(&self, alloc: Global) -> Result<MapDims, AllocError>
+        ensures { IfOk result (λ copy. copy ≡ self.now) }
+    {
+        let mut entries = Vec::new(alloc);
+        for entry in self.entries.as_slice() {
+            entries.push(entry.copy(alloc)?)?;
+        }
+        Ok(MapDims { entries })
+    }
 }
 
 /// Where the elements of an array lie: a node owns an element where, in every entry that is given a subscript for
@@ -90,4 +144,17 @@ impl MapDims {
 pub struct Mapping {
     pub grid: Grid,
     pub dims: MapDims,
+}
+
+impl Mapping {
+    /// The same mapping once more.
+    pub fn copy(&self, alloc: Global) -> Result<Mapping, AllocError>
+        ensures { IfOk result (λ copy. copy ≡ self.now) }
+    {
+        let dims = self.dims.copy(alloc)?;
+        Ok(Mapping {
+            grid: self.grid.copy(alloc),
+            dims,
+        })
+    }
 }

@@ -4,7 +4,7 @@ ghost use Rattle.std.specs.Prelude.{◌≡◌, slice_get, IfOk, OnOk};
 ghost use Rattle.expression_rules.specs.Inner.{present};
 ghost use Rattle.nest_check.specs.NestNames.{constant_symbols, with_constant, with_constants};
 
-use expression_rules::{Dims, Symbol, SymbolTable};
+use expression_rules::{Symbol, SymbolTable};
 use hpf_base::Name;
 use name_table::{Names, What};
 use std::alloc::{AllocError, Global};
@@ -48,21 +48,9 @@ fn add_constant(
         What::Constant(n) => table.change(name, Symbol::Constant(Some(*n))),
         What::Array(dims, n) => {
             let rank = dims.as_slice().len();
-            let dims = copied(alloc, dims)?;
-            table.change(name, Symbol::Array(rank, Some(dims), Some(*n)))
+            let copy = dims.copy(alloc)?;
+            table.change(name, Symbol::Array(rank, Some(copy), Some(*n)))
         }
         _ => Ok(()),
     }
-}
-
-/// The same dimensions.
-fn copied(alloc: Global, dims: &Dims) -> Result<Dims, AllocError>
-    ensures { IfOk result (λ d. d ≡ dims.now) }
-{
-    let mut copy = Vec::new(alloc);
-    let dims = dims.as_slice();
-    for dim in dims {
-        copy.push(*dim)?;
-    }
-    Ok(Dims::new(copy))
 }

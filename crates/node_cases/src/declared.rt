@@ -8,7 +8,7 @@ use crate::trouble::Trouble;
 use array_maps::Maps;
 use case_texts::text_of;
 use directive_check::check_mapping;
-use expression_rules::{Dim, Dims};
+use expression_rules::Dims;
 use hpf_base::Grid;
 use hpf_reader::read_program;
 use name_table::{Program, What, resolve};
@@ -68,17 +68,11 @@ pub fn shapes_of(alloc: Global, program: &Program) -> Result<Vec<Dims>, AllocErr
     for place in 0..program.names.len() {
         if let Some(entry) = program.names.get(place) {
             if let What::Array(dims, _) = &entry.what {
-                shapes.push(same_dims(alloc, dims)?)?;
+                shapes.push(dims.copy(alloc)?)?;
             }
         }
     }
     Ok(shapes)
-}
-
-/// The same dimensions once more.
-pub fn same_dims(alloc: Global, dims: &Dims) -> Result<Dims, AllocError> {
-    let same: Vec<Dim> = Vec::from_slice(alloc, dims.as_slice())?;
-    Ok(Dims::new(same))
 }
 
 /// The values of the elements of each array at the start, and 0 for each of so many copies.

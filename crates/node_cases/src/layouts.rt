@@ -6,8 +6,8 @@ ghost use Rattle.hpf_base.specs.Shape.{IsShape};
 ghost use Rattle.array_maps.specs.Maps.{AreMaps, AreNewMaps, IsArrayMap, IsMapOf, IsNewMap};
 
 use array_maps::{ArrayMap, Maps, NewMap, NewMaps};
-use hpf_base::{Grid, Index, OutOfMemory, Shape};
-use mappings::{MapDims, Mapping};
+use hpf_base::{OutOfMemory, Shape};
+use mappings::Mapping;
 use node_code::NewMapping;
 use owner_tables::{OwnerTable, Owners};
 use std::alloc::Global;
@@ -118,47 +118,6 @@ fn table(
     requires mapping { IsMapOf nodes shape.now mapping.now }
     ensures { IfOk result (λ t. t.nodes ≡ nodes) }
 {
-    let shape = same_shape(alloc, shape);
-    let mapping = same_mapping(alloc, mapping)?;
-    OwnerTable::new(alloc, nodes, shape, mapping)
-}
-
-/// The same shape once more.
-fn same_shape(alloc: Global, shape: &Shape) -> Shape
-    ensures { result ≡ shape.now }
-{
-    Shape {
-        lower: same_index(alloc, &shape.lower),
-        extent: same_index(alloc, &shape.extent),
-    }
-}
-
-fn same_index(alloc: Global, index: &Index) -> Index
-    ensures { result ≡ index.now }
-{
-    match Index::new(alloc, index.numbers()) {
-        Some(same) => same,
-        None => unreachable!(),
-    }
-}
-
-/// The same mapping once more.
-fn same_mapping(alloc: Global, mapping: &Mapping) -> Result<Mapping, OutOfMemory>
-    ensures { IfOk result (λ same. same ≡ mapping.now) }
-{
-    let mut dims = Vec::new(alloc);
-    dims.extend_from_slice(mapping.dims.as_slice())?;
-    Ok(Mapping {
-        grid: same_grid(alloc, &mapping.grid),
-        dims: MapDims::new(dims),
-    })
-}
-
-fn same_grid(alloc: Global, grid: &Grid) -> Grid
-    ensures { result ≡ grid.now }
-{
-    match Grid::new(alloc, grid.dims()) {
-        Some(same) => same,
-        None => unreachable!(),
-    }
+    let mapping = mapping.copy(alloc)?;
+    OwnerTable::new(alloc, nodes, shape.copy(alloc), mapping)
 }

@@ -1,6 +1,5 @@
 //! The machine with whole arrays: one state, in which rows are whole.
 
-use crate::declared::same_dims;
 use crate::evaluation::{Stop, number_at};
 use crate::local::step_local;
 use crate::parallel::{fold_copy, last_value, make_copy, par, par_copy, reduce, verdict};
@@ -181,7 +180,7 @@ fn step(m: &mut Machine, i: &Instruction) -> Result<(), Trouble> {
 fn shapes(alloc: Global, shapes: &[Dims]) -> Result<Vec<Dims>, AllocError> {
     let mut same = Vec::new(alloc);
     for dims in shapes {
-        same.push(same_dims(alloc, dims)?)?;
+        same.push(dims.copy(alloc)?)?;
     }
     Ok(same)
 }

@@ -107,16 +107,7 @@ fn no_array(alloc: Global) -> Array
 fn filled(alloc: Global, dims: &Dims, v: &i64) -> Result<Array, AllocError>
     ensures { IfOk result (λ a. a ≡ record { dims = dims.now; elements = replicate (elements dims.now) v.now }) }
 {
-    let copy = copied(alloc, dims)?;
+    let copy = dims.copy(alloc)?;
     let elements = vec![in alloc; *v; size(dims.as_slice()) as usize]?;
     Ok(Array::new(copy, elements))
-}
-
-/// The same dimensions.
-fn copied(alloc: Global, dims: &Dims) -> Result<Dims, AllocError>
-    ensures { IfOk result (λ ds. ds ≡ dims.now) }
-{
-    let mut copy = Vec::new(alloc);
-    copy.extend_from_slice(dims.as_slice())?;
-    Ok(Dims::new(copy))
 }

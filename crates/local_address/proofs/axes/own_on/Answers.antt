@@ -6,6 +6,6 @@ use Rattle.local_address.proofs.axes.own_on.Goals as goal
 
 pub returns-in-Some-clause-below : goal.returns-in-Some-clause-below
 returns-in-Some-clause-below c =
-    subst (λ n. n < procs_on c.args.axis)
+    subst (λ n. n < procs_on c.args.axis.now)
     (sym (c.node_coordinate.ensures ∙ ap (own_on (node_coordinates c.args.grid.now c.args.node.0)) (sym c.in-Some.is)))
-    (own-below c.args.grid.now c.args.node.0 c.args.axis c.requires.axis c.requires.node)
+    (own-below c.args.grid.now c.args.node.0 c.args.axis.now c.requires.axis c.requires.node)
