@@ -97,7 +97,7 @@ fn entries_reason(
 /// the dimensions of the target. An `Err` is want of memory.
 pub fn bad_alignee(
     alloc: Global,
-    setting: &Setting,
+    setting: &Setting<'_>,
     spec: &AlignSpec,
     values: &TargetValues,
     alignee: &Name,
@@ -177,7 +177,7 @@ fn alignment_with(alloc: Global, pairs: &[Pair]) -> Result<Alignment, AllocError
 /// dimensions of the target. An `Err` is want of memory.
 pub fn alignment_of(
     alloc: Global,
-    setting: &Setting,
+    setting: &Setting<'_>,
     spec: &AlignSpec,
     values: &TargetValues,
     alignee: &Name,

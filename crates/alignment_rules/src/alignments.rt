@@ -45,7 +45,7 @@ fn is_known_zero(value: &Evaluated<i64>) -> bool
 }
 
 /// Whether a part of a triplet is there, and is 0. An `Err` is want of memory, here and below.
-fn is_zero_part(alloc: Global, setting: &Setting, e: &Option<Expr>) -> Result<bool, AllocError>
+fn is_zero_part(alloc: Global, setting: &Setting<'_>, e: &Option<Expr>) -> Result<bool, AllocError>
     ensures { IfOk result (λ b. b ≡ is_zero_part setting.now (maybe_of e.now)) }
 {
     match e {
@@ -73,7 +73,11 @@ fn is_free_if_any(alloc: Global, dummies: &[Name], e: &Option<Expr>) -> Result<b
 
 /// Whether a part of a triplet is there, and isn't constant or divides by zero.
 #[tactic(auto, using(crate::proofs::PairReasons::any_of_one))]
-fn is_invalid_if_any(alloc: Global, setting: &Setting, e: &Option<Expr>) -> Result<bool, AllocError>
+fn is_invalid_if_any(
+    alloc: Global,
+    setting: &Setting<'_>,
+    e: &Option<Expr>,
+) -> Result<bool, AllocError>
     ensures { IfOk result (λ b. b ≡ list_any (λ x. is_invalid (value_in setting.now x)) (maybe_expressions (maybe_of e.now))) }
 {
     match e {
@@ -89,7 +93,7 @@ fn is_invalid_if_any(alloc: Global, setting: &Setting, e: &Option<Expr>) -> Resu
 #[tactic(auto, using(crate::proofs::PairReasons::any_append_three, expression_rules::proofs::Folds::all_append_three))]
 fn triplet_reason(
     alloc: Global,
-    setting: &Setting,
+    setting: &Setting<'_>,
     dummies: &[Name],
     first: &Option<Expr>,
     last: &Option<Expr>,
@@ -116,7 +120,7 @@ fn triplet_reason(
 /// The same of a subscript.
 fn subscript_reason(
     alloc: Global,
-    setting: &Setting,
+    setting: &Setting<'_>,
     dummies: &[Name],
     e: &Expr,
 ) -> Result<Option<Reason>, AllocError>
@@ -136,7 +140,7 @@ fn subscript_reason(
 /// The same of a subscript or a triplet.
 fn part_reason(
     alloc: Global,
-    setting: &Setting,
+    setting: &Setting<'_>,
     dummies: &[Name],
     part: &Subscript,
 ) -> Result<Option<Reason>, AllocError>
@@ -153,7 +157,7 @@ fn part_reason(
 /// The same of an entry of the target's list.
 fn target_reason(
     alloc: Global,
-    setting: &Setting,
+    setting: &Setting<'_>,
     dummies: &[Name],
     target: &Target,
 ) -> Result<Option<Reason>, AllocError>
@@ -168,7 +172,7 @@ fn target_reason(
 /// The same of all entries, each by itself.
 fn targets_reason(
     alloc: Global,
-    setting: &Setting,
+    setting: &Setting<'_>,
     dummies: &[Name],
     targets: &[Target],
 ) -> Result<Option<Reason>, AllocError>
@@ -196,7 +200,7 @@ fn is_mapped(object: Option<&Object>) -> bool
 #[tactic(auto, using(crate::proofs::PairReasons::least_with_test))]
 fn list_reason(
     alloc: Global,
-    setting: &Setting,
+    setting: &Setting<'_>,
     dummies: &[Name],
     targets: &[Target],
     good: bool,
@@ -210,7 +214,7 @@ fn list_reason(
 }
 
 /// No dummy stands twice in a list, and the target is an array or a template.
-fn is_good(setting: &Setting, dummies: &[Name], target: &Name) -> bool
+fn is_good(setting: &Setting<'_>, dummies: &[Name], target: &Name) -> bool
     ensures { result ≡ (not (repeats dummies.now) && has_kind is_mapped_kind (object setting.now target.now)) }
 {
     !repeats(dummies) && is_mapped(setting.object(target))
@@ -220,7 +224,7 @@ fn is_good(setting: &Setting, dummies: &[Name], target: &Name) -> bool
 #[tactic(auto, using(crate::proofs::PairReasons::tests_regrouped))]
 pub fn bad_alignment(
     alloc: Global,
-    setting: &Setting,
+    setting: &Setting<'_>,
     spec: &AlignSpec,
 ) -> Result<Option<Reason>, AllocError>
     ensures { IfOk result (λ r. r ≡ least_reason (alignment_reasons setting.now (alignment spec.now))) }

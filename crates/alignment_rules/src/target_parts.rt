@@ -59,7 +59,7 @@ fn if_known(value: Evaluated<i64>) -> Option<i64>
 /// A part of a triplet, where it is known; where it is left out, another number stands for it. An `Err` is want of memory, here and below.
 fn part_or(
     alloc: Global,
-    setting: &Setting,
+    setting: &Setting<'_>,
     other: Option<i64>,
     e: &Option<Expr>,
 ) -> Result<Option<i64>, AllocError>
@@ -77,7 +77,7 @@ fn part_or(
 /// What a subscript stands for.
 fn subscript_value(
     alloc: Global,
-    setting: &Setting,
+    setting: &Setting<'_>,
     dummies: &[Name],
     e: &Expr,
 ) -> Result<TargetValue, AllocError>
@@ -91,7 +91,7 @@ fn subscript_value(
 /// What stands for a dimension of the target of these bounds.
 fn part_value(
     alloc: Global,
-    setting: &Setting,
+    setting: &Setting<'_>,
     dummies: &[Name],
     bounds: Option<Dim>,
     part: &Subscript,
@@ -112,7 +112,7 @@ fn part_value(
 /// The same of an entry of the target's list.
 fn target_value(
     alloc: Global,
-    setting: &Setting,
+    setting: &Setting<'_>,
     dummies: &[Name],
     bounds: Option<Dim>,
     target: &Target,
@@ -140,7 +140,7 @@ pub(crate) fn dim_from(bounds: &[Option<Dim>], place: usize) -> Option<Dim>
 fn push_value(
     values: &mut Vec<TargetValue>,
     alloc: Global,
-    setting: &Setting,
+    setting: &Setting<'_>,
     dummies: &[Name],
     bounds: Option<Dim>,
     target: &Target,
@@ -155,7 +155,7 @@ fn push_value(
 /// What stands for the dimensions of these bounds, by the entries of the target's list.
 fn listed_values(
     alloc: Global,
-    setting: &Setting,
+    setting: &Setting<'_>,
     dummies: &[Name],
     bounds: &[Option<Dim>],
     targets: &[Target],
@@ -175,7 +175,7 @@ fn listed_values(
 /// The same where the list is left out.
 fn full_values(
     alloc: Global,
-    setting: &Setting,
+    setting: &Setting<'_>,
     target: &Name,
 ) -> Result<Vec<TargetValue>, AllocError>
     ensures { IfOk result (λ vs. vs.items ≡ map full_value (dims_of setting.now target.now)) }
@@ -199,7 +199,7 @@ fn full_value(dim: Option<Dim>) -> TargetValue
 #[tactic(auto, using(crate::proofs::TargetLists::full_list))]
 pub fn target_values(
     alloc: Global,
-    setting: &Setting,
+    setting: &Setting<'_>,
     spec: &AlignSpec,
 ) -> Result<TargetValues, AllocError>
     ensures { IfOk result (λ vs. vs ≡ target_values setting.now (alignment spec.now)) }

@@ -14,7 +14,7 @@ use crate::forall_tests::{Standing, StandingInHeader};
 use body_forms::{BodyNames, headers_pass, option_passes, sides_pass};
 use hpf_base::{Name, Reason, Refusal};
 use name_table::Names;
-use statement_walk::{Head, Judge, walk};
+use statement_walk::{Head, Judge, first_bad};
 use std::alloc::{AllocError, Global};
 use syntax_tree::{Expr, Header, Stmt};
 
@@ -56,10 +56,8 @@ pub(crate) fn first_bad_forall(
 ) -> Result<Option<Refusal>, AllocError>
     ensures { IfOk result (λ r. r ≡ least (flat_map (forall_breaches_at declared.now) (all_heads (block_of stmts.now)))) }
 {
-    let mut do_variables = Vec::new(alloc);
     let judge = Foralls { declared };
-    let first = walk(alloc, &judge, &mut do_variables, stmts)?;
-    Ok(first)
+    first_bad(alloc, &judge, stmts)
 }
 
 /// Whether a statement keeps the rules of FORALL.

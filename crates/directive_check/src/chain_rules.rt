@@ -22,7 +22,7 @@ use std::alloc::{AllocError, Global};
 /// of memory, here and below.
 pub(crate) fn first_bad_chain(
     alloc: Global,
-    setting: &Setting,
+    setting: &Setting<'_>,
     firsts: &[MappedObject<'_>],
     objects: &[MappedObject<'_>],
 ) -> Result<Option<Refusal>, AllocError>
@@ -40,7 +40,7 @@ pub(crate) fn first_bad_chain(
 #[tactic(auto, using(distribution_rules::proofs::LeastReasons::least_reason_append, distribution_rules::proofs::LeastReasons::least_reason_when))]
 fn chain_reason(
     alloc: Global,
-    setting: &Setting,
+    setting: &Setting<'_>,
     objects: &[MappedObject<'_>],
     name: &Name,
 ) -> Result<Option<Reason>, AllocError>
@@ -55,7 +55,7 @@ fn chain_reason(
 /// The same of its alignment with what its alignments end at.
 #[tactic(auto, using(distribution_rules::proofs::LeastReasons::least_reason_when))]
 fn root_reason(
-    setting: &Setting,
+    setting: &Setting<'_>,
     objects: &[MappedObject<'_>],
     name: &Name,
     alignment: &Alignment,

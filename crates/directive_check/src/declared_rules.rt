@@ -25,7 +25,7 @@ use syntax_tree::{AlignSpec, Decl, DeclKind, Directive, DistSpec};
 /// The first of what is wrong with the directives among the declarations, each by itself. An `Err` is want of memory, here and below.
 pub(crate) fn first_bad_directive(
     alloc: Global,
-    setting: &Setting,
+    setting: &Setting<'_>,
     decls: &[Decl],
 ) -> Result<Option<Refusal>, AllocError>
     ensures { IfOk result (λ r. r ≡ least (declared_breaches setting.now (map declaration decls.now))) }
@@ -41,7 +41,7 @@ pub(crate) fn first_bad_directive(
 /// The least reason for which a declaration breaks a rule of mapping directives.
 fn declared_reason(
     alloc: Global,
-    setting: &Setting,
+    setting: &Setting<'_>,
     decl: &Decl,
 ) -> Result<Option<Reason>, AllocError>
     ensures { IfOk result (λ r. r ≡ least_reason (declared_reasons setting.now (declared_of decl.now.what))) }
@@ -55,7 +55,7 @@ fn declared_reason(
 /// The same of a directive.
 fn directive_reason(
     alloc: Global,
-    setting: &Setting,
+    setting: &Setting<'_>,
     directive: &Directive,
 ) -> Result<Option<Reason>, AllocError>
     ensures { IfOk result (λ r. r ≡ least_reason (declared_reasons setting.now (Directed (directive_of directive.now)))) }
@@ -74,7 +74,7 @@ fn directive_reason(
 #[tactic(auto, using(distribution_rules::proofs::LeastReasons::least_reason_append))]
 pub(crate) fn distribute_reason(
     alloc: Global,
-    setting: &Setting,
+    setting: &Setting<'_>,
     spec: &DistSpec,
 ) -> Result<Option<Reason>, AllocError>
     ensures { IfOk result (λ r. r ≡ least_reason (distribute_reasons setting.now (distribution spec.now))) }
@@ -86,7 +86,7 @@ pub(crate) fn distribute_reason(
 
 /// The same of its distributees: the names after `::`, or the one name before the formats.
 fn distributees_reason(
-    setting: &Setting,
+    setting: &Setting<'_>,
     values: &DistributionValues,
     colons: bool,
     names: &[Name],
@@ -102,7 +102,7 @@ fn distributees_reason(
 
 /// The same of the one of these names; where there isn't exactly one, as in no text, of a name without bytes.
 fn one_distributee_reason(
-    setting: &Setting,
+    setting: &Setting<'_>,
     values: &DistributionValues,
     names: &[Name],
 ) -> Option<Reason>
@@ -119,7 +119,7 @@ fn one_distributee_reason(
 
 /// The same of these names.
 fn listed_distributees_reason(
-    setting: &Setting,
+    setting: &Setting<'_>,
     values: &DistributionValues,
     names: &[Name],
 ) -> Option<Reason>
@@ -154,7 +154,7 @@ pub(crate) fn unnamed(names: &[Name])
 #[tactic(auto, using(distribution_rules::proofs::LeastReasons::least_reason_append))]
 fn align_reason(
     alloc: Global,
-    setting: &Setting,
+    setting: &Setting<'_>,
     spec: &AlignSpec,
 ) -> Result<Option<Reason>, AllocError>
     ensures { IfOk result (λ r. r ≡ least_reason (align_reasons setting.now (alignment spec.now))) }
@@ -168,7 +168,7 @@ fn align_reason(
 /// The same of its alignees: the names after `::`, or the one name before the entries.
 fn alignees_reason(
     alloc: Global,
-    setting: &Setting,
+    setting: &Setting<'_>,
     spec: &AlignSpec,
     values: &TargetValues,
 ) -> Result<Option<Reason>, AllocError>
@@ -188,7 +188,7 @@ fn alignees_reason(
 /// The same of the one of these names; where there isn't exactly one, as in no text, of a name without bytes.
 fn one_alignee_reason(
     alloc: Global,
-    setting: &Setting,
+    setting: &Setting<'_>,
     spec: &AlignSpec,
     values: &TargetValues,
     names: &[Name],
@@ -211,7 +211,7 @@ fn one_alignee_reason(
 /// The same of these names.
 fn listed_alignees_reason(
     alloc: Global,
-    setting: &Setting,
+    setting: &Setting<'_>,
     spec: &AlignSpec,
     values: &TargetValues,
     names: &[Name],

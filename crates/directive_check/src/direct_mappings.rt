@@ -20,7 +20,7 @@ use std::alloc::{AllocError, Global};
 use syntax_tree::{Directive, DistSpec, NameList};
 
 /// Every node owns all elements.
-pub(crate) fn replicated(alloc: Global, setting: &Setting) -> Mapping
+pub(crate) fn replicated(alloc: Global, setting: &Setting<'_>) -> Mapping
     ensures { result ≡ replicated setting.now.grid }
 {
     Mapping {
@@ -32,7 +32,7 @@ pub(crate) fn replicated(alloc: Global, setting: &Setting) -> Mapping
 /// The mapping that a DISTRIBUTE or a REDISTRIBUTE gives an object, where it is known. An `Err` is want of memory, here and below.
 pub(crate) fn distributed_as(
     alloc: Global,
-    setting: &Setting,
+    setting: &Setting<'_>,
     spec: &DistSpec,
     name: &Name,
 ) -> Result<Option<Mapping>, AllocError>
@@ -46,7 +46,7 @@ pub(crate) fn distributed_as(
 /// That of an object that isn't aligned, at the start.
 pub(crate) fn start_of(
     alloc: Global,
-    setting: &Setting,
+    setting: &Setting<'_>,
     objects: &[MappedObject<'_>],
     name: &Name,
 ) -> Result<Option<Mapping>, AllocError>
@@ -64,7 +64,7 @@ pub(crate) fn start_of(
 /// The same of an object that this directive maps.
 fn mapped_as(
     alloc: Global,
-    setting: &Setting,
+    setting: &Setting<'_>,
     name: &Name,
     directive: &Directive,
 ) -> Result<Option<Mapping>, AllocError>
@@ -92,7 +92,7 @@ fn mapped_as(
 /// The mapping of an object, where this is that of what its alignments end at.
 pub(crate) fn with_root(
     alloc: Global,
-    setting: &Setting,
+    setting: &Setting<'_>,
     objects: &[MappedObject<'_>],
     name: &Name,
     root: Option<Mapping>,

@@ -97,7 +97,7 @@ pub(crate) fn distinct_names(alloc: Global, names: &[DynamicName]) -> Result<Vec
 /// The first of the names that is neither an array nor a template, or that stands there before.
 pub(crate) fn first_bad_dynamic(
     alloc: Global,
-    setting: &Setting,
+    setting: &Setting<'_>,
     names: &[DynamicName],
 ) -> Result<Option<Refusal>, AllocError>
     ensures { IfOk result (λ r. r ≡ least (dynamic_breaches setting.now [] (dynamic names.now))) }
@@ -129,7 +129,7 @@ pub(crate) fn first_mapped_twice(
 }
 
 /// The name is neither that of an array nor that of a template, or it stands there before.
-fn is_bad_name(setting: &Setting, name: &Name, again: bool) -> bool
+fn is_bad_name(setting: &Setting<'_>, name: &Name, again: bool) -> bool
     ensures { result ≡ (not (has_kind is_mapped_kind (object setting.now name.now)) || again) }
 {
     !is_mapped_object(setting, name) || again
@@ -150,7 +150,7 @@ fn refused_if(bad: bool, line: u32) -> Option<Refusal>
 }
 
 /// The name is that of an array or a template.
-fn is_mapped_object(setting: &Setting, name: &Name) -> bool
+fn is_mapped_object(setting: &Setting<'_>, name: &Name) -> bool
     ensures { result ≡ has_kind is_mapped_kind (object setting.now name.now) }
 {
     match setting.object(name) {

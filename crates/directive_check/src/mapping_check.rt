@@ -39,6 +39,7 @@ use syntax_tree::Tree;
 /// `Err` is the first breach of the rules, for one of the reasons `BadDirective`, `BadArrangement`, `Limit` and `BadConstant`, or want of
 /// memory.
 pub fn check_mapping(alloc: Global, program: &Program, grid: &Grid) -> Result<Maps, StaticError>
+    requires table { program.now.table ≡ symbol_table (main_program program.now.tree).declarations }
     requires names { program.now.names ≡ entries (main_program program.now.tree) }
     requires resolved { HasNoBreach (main_program program.now.tree) }
     ensures fine { OnOk result (NoBreach (Among (mapping_breaches grid.now (main_program program.now.tree)))) }
@@ -63,7 +64,7 @@ pub fn check_mapping(alloc: Global, program: &Program, grid: &Grid) -> Result<Ma
 /// The mappings of its arrays, where these objects are mapped.
 fn maps_of(
     alloc: Global,
-    setting: &Setting,
+    setting: &Setting<'_>,
     objects: &[MappedObject<'_>],
     program: &Program,
 ) -> Result<Maps, AllocError>
@@ -79,7 +80,7 @@ fn maps_of(
 /// The objects that a program maps. An `Err` is want of memory, here and below.
 fn mapped_in<'a>(
     alloc: Global,
-    setting: &Setting,
+    setting: &Setting<'_>,
     tree: &'a Tree,
 ) -> Result<Vec<MappedObject<'a>>, AllocError>
     requires names { setting.now.names ≡ symbol_table (map declaration tree.now.decls.items) }
@@ -93,7 +94,7 @@ fn mapped_in<'a>(
 /// The first of what a program breaks of the rules of mapping directives, where these objects are mapped, and first as these.
 fn first_breach(
     alloc: Global,
-    setting: &Setting,
+    setting: &Setting<'_>,
     objects: &[MappedObject<'_>],
     firsts: &[MappedObject<'_>],
     tree: &Tree,

@@ -27,7 +27,7 @@ use syntax_tree::{DistSpec, Stmt};
 /// Each declared array, in order, with its name, its shape and its mapping at the start. An `Err` is want of memory, here and below.
 pub(crate) fn start_maps(
     alloc: Global,
-    setting: &Setting,
+    setting: &Setting<'_>,
     objects: &[MappedObject<'_>],
     names: &Names,
 ) -> Result<ArrayMaps, AllocError>
@@ -46,7 +46,7 @@ pub(crate) fn start_maps(
 /// That of a declared name, after the others.
 fn push_start(
     alloc: Global,
-    setting: &Setting,
+    setting: &Setting<'_>,
     objects: &[MappedObject<'_>],
     entry: &Entry,
     maps: &mut Vec<ArrayMap>,
@@ -95,7 +95,7 @@ fn index_of(alloc: Global, numbers: &[i64]) -> Result<Index, AllocError>
 /// The mapping of an array at the start.
 fn start_mapping(
     alloc: Global,
-    setting: &Setting,
+    setting: &Setting<'_>,
     objects: &[MappedObject<'_>],
     name: &Name,
 ) -> Result<Mapping, AllocError>
@@ -106,7 +106,7 @@ fn start_mapping(
     Ok(or_replicated(alloc, setting, mapping))
 }
 
-fn or_replicated(alloc: Global, setting: &Setting, mapping: Option<Mapping>) -> Mapping
+fn or_replicated(alloc: Global, setting: &Setting<'_>, mapping: Option<Mapping>) -> Mapping
     ensures { result ≡ unwrap_or mapping (replicated setting.now.grid) }
 {
     match mapping {
@@ -118,7 +118,7 @@ fn or_replicated(alloc: Global, setting: &Setting, mapping: Option<Mapping>) -> 
 /// What each REDISTRIBUTE does, in the order of the text.
 pub(crate) fn redistributions(
     alloc: Global,
-    setting: &Setting,
+    setting: &Setting<'_>,
     objects: &[MappedObject<'_>],
     names: &Names,
     stmts: &[Stmt],
@@ -133,7 +133,7 @@ pub(crate) fn redistributions(
 /// What each of these does.
 fn moved_by_each(
     alloc: Global,
-    setting: &Setting,
+    setting: &Setting<'_>,
     objects: &[MappedObject<'_>],
     names: &Names,
     found: &[Redistribute<'_>],
@@ -151,7 +151,7 @@ fn moved_by_each(
 /// The arrays that a REDISTRIBUTE moves, in the order of their declarations, each with its new mapping.
 fn new_maps(
     alloc: Global,
-    setting: &Setting,
+    setting: &Setting<'_>,
     objects: &[MappedObject<'_>],
     names: &Names,
     spec: &DistSpec,
@@ -186,7 +186,7 @@ fn after(number: u32, entry: &Entry) -> Result<u32, AllocError>
 /// The array of a declared name with its new mapping, after the others, if it moves.
 fn push_moved(
     alloc: Global,
-    setting: &Setting,
+    setting: &Setting<'_>,
     objects: &[MappedObject<'_>],
     spec: &DistSpec,
     number: u32,
@@ -205,7 +205,7 @@ fn push_moved(
 /// The same of an array.
 fn push_array(
     alloc: Global,
-    setting: &Setting,
+    setting: &Setting<'_>,
     objects: &[MappedObject<'_>],
     spec: &DistSpec,
     number: u32,
@@ -228,7 +228,7 @@ fn push_array(
 /// The new mapping of an array whose alignments end at this object.
 fn moved_mapping(
     alloc: Global,
-    setting: &Setting,
+    setting: &Setting<'_>,
     objects: &[MappedObject<'_>],
     spec: &DistSpec,
     name: &Name,

@@ -17,14 +17,14 @@ use crate::mapped_object::MappedObject;
 use distribution_rules::{Setting, lesser, reason_if};
 use expression_rules::is_among;
 use hpf_base::{Name, Reason, Refusal, at_line};
-use statement_walk::{Head, Judge, walk};
+use statement_walk::{Head, Judge, first_bad};
 use std::alloc::{AllocError, Global};
 use syntax_tree::{DistSpec, Stmt};
 
 /// Judges the REDISTRIBUTEs among the statements.
 #[derive(Clone, Copy)]
 struct Redistributes<'a> {
-    setting: &'a Setting,
+    setting: &'a Setting<'a>,
     objects: &'a [MappedObject<'a>],
     dynamic: &'a [Name],
 }
@@ -51,27 +51,25 @@ impl<'a> Judge for Redistributes<'a> {
 /// here and below.
 pub(crate) fn first_bad_redistribute(
     alloc: Global,
-    setting: &Setting,
+    setting: &Setting<'_>,
     objects: &[MappedObject<'_>],
     dynamic: &[Name],
     stmts: &[Stmt],
 ) -> Result<Option<Refusal>, AllocError>
     ensures { IfOk result (λ r. r ≡ least (flat_map (redistribute_breaches_at setting.now (mapped objects.now) dynamic.now) (all_heads (block_of stmts.now)))) }
 {
-    let mut do_variables = Vec::new(alloc);
     let judge = Redistributes {
         setting,
         objects,
         dynamic,
     };
-    let first = walk(alloc, &judge, &mut do_variables, stmts)?;
-    Ok(first)
+    first_bad(alloc, &judge, stmts)
 }
 
 /// The least reason for which a statement breaks a rule.
 fn head_reason(
     alloc: Global,
-    setting: &Setting,
+    setting: &Setting<'_>,
     objects: &[MappedObject<'_>],
     dynamic: &[Name],
     head: Head<'_>,
@@ -88,7 +86,7 @@ fn head_reason(
 #[tactic(auto, using(distribution_rules::proofs::LeastReasons::least_reason_append))]
 fn redistribute_reason(
     alloc: Global,
-    setting: &Setting,
+    setting: &Setting<'_>,
     objects: &[MappedObject<'_>],
     dynamic: &[Name],
     spec: &DistSpec,

@@ -18,7 +18,7 @@ use std::alloc::{AllocError, Global};
 use syntax_tree::{AlignSpec, Directive};
 
 /// The object is aligned with itself, through others or not.
-pub(crate) fn is_on_cycle(setting: &Setting, objects: &[MappedObject<'_>], name: &Name) -> bool
+pub(crate) fn is_on_cycle(setting: &Setting<'_>, objects: &[MappedObject<'_>], name: &Name) -> bool
     ensures { result ≡ is_on_cycle setting.now (mapped objects.now) name.now }
 {
     meets(
@@ -30,7 +30,7 @@ pub(crate) fn is_on_cycle(setting: &Setting, objects: &[MappedObject<'_>], name:
 }
 
 /// The object at which its alignments end.
-pub(crate) fn root_of(setting: &Setting, objects: &[MappedObject<'_>], name: &Name) -> Name
+pub(crate) fn root_of(setting: &Setting<'_>, objects: &[MappedObject<'_>], name: &Name) -> Name
     ensures { result ≡ root_of setting.now (mapped objects.now) name.now }
 {
     root_from(setting.table().len(), objects, name)
@@ -39,7 +39,7 @@ pub(crate) fn root_of(setting: &Setting, objects: &[MappedObject<'_>], name: &Na
 /// Its alignment with that object. An `Err` is want of memory, here and below.
 pub(crate) fn root_alignment(
     alloc: Global,
-    setting: &Setting,
+    setting: &Setting<'_>,
     objects: &[MappedObject<'_>],
     name: &Name,
 ) -> Result<Alignment, AllocError>
@@ -54,7 +54,7 @@ pub(crate) fn root_alignment(
 fn root_alignment_from(
     steps: usize,
     alloc: Global,
-    setting: &Setting,
+    setting: &Setting<'_>,
     objects: &[MappedObject<'_>],
     name: &Name,
 ) -> Result<Alignment, AllocError>
@@ -84,7 +84,7 @@ fn root_alignment_from(
 fn alignment_through(
     steps: usize,
     alloc: Global,
-    setting: &Setting,
+    setting: &Setting<'_>,
     objects: &[MappedObject<'_>],
     name: &Name,
     directive: &Directive,
@@ -108,7 +108,7 @@ fn alignment_through(
 /// Its alignment with its target.
 fn own_alignment(
     alloc: Global,
-    setting: &Setting,
+    setting: &Setting<'_>,
     spec: &AlignSpec,
     name: &Name,
 ) -> Result<Alignment, AllocError>

@@ -22,7 +22,7 @@ use syntax_tree::{DistSpec, Format};
 /// The formats of a DISTRIBUTE or REDISTRIBUTE, with the values of their expressions, and the processors. An `Err` is want of memory.
 pub fn distribution_values(
     alloc: Global,
-    setting: &Setting,
+    setting: &Setting<'_>,
     spec: &DistSpec,
 ) -> Result<DistributionValues, AllocError>
     ensures { IfOk result (λ v. v ≡ distribution_values setting.now (distribution spec.now)) }
@@ -39,7 +39,7 @@ pub fn distribution_values(
 /// Formats, with the values of their expressions.
 fn format_values(
     alloc: Global,
-    setting: &Setting,
+    setting: &Setting<'_>,
     formats: &[Format],
 ) -> Result<FormatValues, AllocError>
     ensures { IfOk result (λ vs. vs ≡ map (format_value setting.now) (map format_of formats.now)) }
@@ -55,7 +55,7 @@ fn format_values(
 /// A format, with the value of the expression after it.
 fn format_value(
     alloc: Global,
-    setting: &Setting,
+    setting: &Setting<'_>,
     format: &Format,
 ) -> Result<FormatValue, AllocError>
     ensures { IfOk result (λ v. v ≡ format_value setting.now (format_of format.now)) }
@@ -100,7 +100,7 @@ fn one_if_distributed(format: &Format) -> usize
 /// The processors over which so many dimensions are distributed.
 fn processors_of(
     alloc: Global,
-    setting: &Setting,
+    setting: &Setting<'_>,
     onto: &Option<Name>,
     count: usize,
 ) -> Result<Processors, AllocError>

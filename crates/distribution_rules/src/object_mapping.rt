@@ -21,7 +21,7 @@ use std::alloc::{AllocError, Global};
 /// breaks a rule of arrangements. An `Err` is want of memory.
 pub fn distributed(
     alloc: Global,
-    setting: &Setting,
+    setting: &Setting<'_>,
     values: &DistributionValues,
     dims: &[Option<Dim>],
 ) -> Result<Option<Mapping>, AllocError>

@@ -20,13 +20,18 @@ use syntax_tree::{Bound, Decl, DeclKind, Directive, Entity};
 pub(crate) fn objects_of(
     alloc: Global,
     grid: &Grid,
-    table: &SymbolTable,
     program: &Program,
 ) -> Result<Vec<Object>, AllocError>
-    ensures { IfOk result (λ os. os.items ≡ program_objects grid.now table.now program.now.names (map declaration program.now.tree.decls.items)) }
+    ensures { IfOk result (λ os. os.items ≡ program_objects grid.now program.now.table program.now.names (map declaration program.now.tree.decls.items)) }
 {
     let mut objects = arrays(alloc, &program.names)?;
-    push_spaces(alloc, grid, table, &program.tree.decls, &mut objects)?;
+    push_spaces(
+        alloc,
+        grid,
+        &program.table,
+        &program.tree.decls,
+        &mut objects,
+    )?;
     Ok(objects)
 }
 

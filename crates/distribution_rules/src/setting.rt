@@ -3,13 +3,13 @@
 ghost use Rattle.std.specs.Prelude.{◌≡◌, option_copied, IfOk};
 ghost use Rattle.syntax_tree.specs.Expression.{expression};
 ghost use Rattle.syntax_tree.specs.MainProgram.{main_program};
+ghost use Rattle.declarations.specs.Declarations.{symbol_table};
 ghost use Rattle.name_table.specs.Entries.{entries};
 ghost use Rattle.distribution_rules.specs.Setting.{dims_of, object, setting, value_in};
 
 use crate::dimensions::directive_value;
 use crate::objects::Object;
 use crate::program_objects::objects_of;
-use declarations::declare;
 use expression_rules::{Dim, Evaluated, SymbolTable};
 use hpf_base::{Grid, Name};
 use name_table::Program;
@@ -20,31 +20,31 @@ use syntax_tree::Expr;
 /// The processor grid, the declared names, and the arrays, templates and processor arrangements with their dimensions: the arrays first, in
 /// the order of their declarations. Contracts see these three.
 #[derive(Drop)]
-pub struct Setting {
+pub struct Setting<'a> {
     grid: Grid,
-    table: SymbolTable,
+    table: &'a SymbolTable,
     objects: Vec<Object>,
 }
 
-impl Model for Setting {
+impl<'a> Model for Setting<'a> {
     ghost use Rattle.distribution_rules.specs.Setting.{Setting as DirectiveSetting};
 
     ghost Value = { DirectiveSetting };
 
-    ghost view = { λ s. record { grid = s.grid; names = s.table; objects = s.objects.items } };
+    ghost view = { λ s. record { grid = s.grid; names = s.table.now; objects = s.objects.items } };
 }
 
-impl Setting {
+impl<'a> Setting<'a> {
     /// The setting of a program whose names are resolved, on a grid. An `Err` is want of memory.
-    pub fn new(alloc: Global, grid: &Grid, program: &Program) -> Result<Setting, AllocError>
-        requires { program.now.names ≡ entries (main_program program.now.tree) }
+    pub fn new(alloc: Global, grid: &Grid, program: &'a Program) -> Result<Setting<'a>, AllocError>
+        requires table { program.now.table ≡ symbol_table (main_program program.now.tree).declarations }
+        requires names { program.now.names ≡ entries (main_program program.now.tree) }
         ensures { IfOk result (λ s. s ≡ setting grid.now (main_program program.now.tree)) }
     {
-        let declared = declare(alloc, &program.tree.decls)?;
-        let objects = objects_of(alloc, grid, &declared.table, program)?;
+        let objects = objects_of(alloc, grid, program)?;
         Ok(Setting {
             grid: grid.copy(alloc),
-            table: declared.table,
+            table: &program.table,
             objects,
         })
     }
@@ -60,7 +60,7 @@ impl Setting {
     pub fn table(&self) -> &SymbolTable
         ensures { result.now ≡ self.now.names }
     {
-        &self.table
+        self.table
     }
 
     /// The arrays, templates and arrangements. It takes no memory.
@@ -79,7 +79,7 @@ impl Setting {
 }
 
 /// The dimensions of an array, a template or an arrangement; none of anything else. It takes no memory.
-pub fn dims_of<'a>(setting: &'a Setting, name: &Name) -> &'a [Option<Dim>]
+pub fn dims_of<'a>(setting: &'a Setting<'a>, name: &Name) -> &'a [Option<Dim>]
     ensures { result.now ≡ dims_of setting.now name.now }
 {
     match setting.object(name) {
@@ -89,7 +89,11 @@ pub fn dims_of<'a>(setting: &'a Setting, name: &Name) -> &'a [Option<Dim>]
 }
 
 /// The value of an expression of a directive, which must be constant. An `Err` is want of memory.
-pub fn value_in(alloc: Global, setting: &Setting, e: &Expr) -> Result<Evaluated<i64>, AllocError>
+pub fn value_in(
+    alloc: Global,
+    setting: &Setting<'_>,
+    e: &Expr,
+) -> Result<Evaluated<i64>, AllocError>
     ensures { IfOk result (λ v. v ≡ value_in setting.now (expression e.now)) }
 {
     directive_value(alloc, setting.grid(), setting.table(), e)

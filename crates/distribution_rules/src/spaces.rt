@@ -24,7 +24,7 @@ use syntax_tree::{Bound, Directive, Entity};
 /// and for any other directive. An `Err` is want of memory.
 pub fn bad_space(
     alloc: Global,
-    setting: &Setting,
+    setting: &Setting<'_>,
     directive: &Directive,
 ) -> Result<Option<Reason>, AllocError>
     ensures { IfOk result (λ r. r ≡ least_reason (space_reasons setting.now (Directed (directive_of directive.now)))) }
@@ -45,7 +45,7 @@ pub fn bad_space(
 /// The same of templates.
 fn bad_templates(
     alloc: Global,
-    setting: &Setting,
+    setting: &Setting<'_>,
     entities: &[Entity],
 ) -> Result<Option<Reason>, AllocError>
     ensures { IfOk result (λ r. r ≡ least_reason (flat_map (λ e. template_reasons setting.now.grid setting.now.names (bounds_of e.bounds)) (map arrangement entities.now))) }
@@ -61,7 +61,7 @@ fn bad_templates(
 /// The same of processor arrangements.
 fn bad_arrangements(
     alloc: Global,
-    setting: &Setting,
+    setting: &Setting<'_>,
     entities: &[Entity],
 ) -> Result<Option<Reason>, AllocError>
     ensures { IfOk result (λ r. r ≡ least_reason (flat_map (λ e. arrangement_reasons setting.now.grid setting.now.names (bounds_of e.bounds)) (map arrangement entities.now))) }

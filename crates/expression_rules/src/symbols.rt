@@ -2,13 +2,13 @@
 
 ghost use Rattle.std.specs.Prelude.{◌≡◌, [], None, bytes_eq, length, map, option_copied, OnErr, OnOk};
 ghost use Rattle.std.specs.List.{IsDistinct};
-ghost use Rattle.std.specs.Map.Iter.{GivesInOrder};
+ghost use Rattle.std.specs.Map.Iter.{ShowsInOrder, deref_pair};
 ghost use Rattle.expression_rules.specs.Symbols.{Name as NameBytes, changed, find};
 
 use crate::dims::Dims;
 use hpf_base::Name;
 use indexmap::IndexMap;
-use indexmap::map::IntoIter;
+use indexmap::map::Iter;
 use std::alloc::{AllocError, Global};
 use std::marker::Model;
 
@@ -83,12 +83,12 @@ impl SymbolTable {
     }
 
     /// The names in order, no two of them the same, each with what it stands for. It takes no memory.
-    pub fn into_entries(self) -> IntoIter<Name, Symbol>
-        ensures entries { result ≡ self }
-        ensures distinct { IsDistinct bytes_eq (map (λ e. e.0) self) }
-        ensures runs { GivesInOrder (NameBytes × Symbol) }
+    pub fn entries(&self) -> Iter<'_, Name, Symbol>
+        ensures entries { result ≡ self.now }
+        ensures distinct { IsDistinct bytes_eq (map (λ e. e.0) self.now) }
+        ensures runs { ShowsInOrder (deref_pair {K = NameBytes} {X = Symbol}) }
     {
-        self.symbols.into_iter()
+        self.symbols.iter()
     }
 
     /// A name without bytes, which no text spells, isn't declared. It does nothing.

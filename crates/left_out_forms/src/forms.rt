@@ -8,7 +8,7 @@ ghost use Rattle.statement_walk.specs.Heads.{all_heads};
 ghost use Rattle.left_out_forms.specs.Forms.{left_out};
 
 use hpf_base::{Name, OutOfMemory, Reason, Refusal};
-use statement_walk::{Head, Judge, walk};
+use statement_walk::{Head, Judge, first_bad};
 use std::alloc::{AllocError, Global};
 use syntax_tree::Stmt;
 
@@ -45,7 +45,5 @@ impl Judge for LeftOutForms {
 pub fn first_left_out(alloc: Global, stmts: &[Stmt]) -> Result<Option<Refusal>, OutOfMemory>
     ensures { IfOk result (λ r. r ≡ least (flat_map left_out (all_heads (block_of stmts.now)))) }
 {
-    let mut do_variables = Vec::new(alloc);
-    let first = walk(alloc, &LeftOutForms, &mut do_variables, stmts)?;
-    Ok(first)
+    Ok(first_bad(alloc, &LeftOutForms, stmts)?)
 }

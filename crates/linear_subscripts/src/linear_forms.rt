@@ -105,7 +105,7 @@ fn is_invalid(value: &Evaluated<i64>) -> bool
 }
 
 /// Whether an expression isn't constant, or divides by zero. An `Err` is want of memory.
-pub fn has_invalid_value(alloc: Global, setting: &Setting, e: &Expr) -> Result<bool, AllocError>
+pub fn has_invalid_value(alloc: Global, setting: &Setting<'_>, e: &Expr) -> Result<bool, AllocError>
     ensures { IfOk result (λ b. b ≡ is_invalid (value_in setting.now (expression e.now))) }
 {
     let value = value_in(alloc, setting, e)?;
@@ -115,7 +115,7 @@ pub fn has_invalid_value(alloc: Global, setting: &Setting, e: &Expr) -> Result<b
 /// Whether an expression names no dummy, and isn't constant or divides by zero.
 fn is_invalid_part(
     alloc: Global,
-    setting: &Setting,
+    setting: &Setting<'_>,
     dummies: &[Name],
     e: &Expr,
 ) -> Result<bool, AllocError>
@@ -130,7 +130,7 @@ fn is_invalid_part(
 #[tactic(auto, using(crate::proofs::References::invalid_reference))]
 pub fn has_invalid_part(
     alloc: Global,
-    setting: &Setting,
+    setting: &Setting<'_>,
     dummies: &[Name],
     e: &Expr,
 ) -> Result<bool, AllocError>
@@ -253,7 +253,7 @@ fn combined_if_known(
 /// The linear form of an expression that must be constant, where its value is known.
 fn constant_form_of(
     alloc: Global,
-    setting: &Setting,
+    setting: &Setting<'_>,
     e: &Expr,
 ) -> Result<Option<LinearForm>, AllocError>
     ensures { IfOk result (λ l. l ≡ constant_form (value_in setting.now (expression e.now))) }
@@ -265,7 +265,7 @@ fn constant_form_of(
 /// The linear form of a name.
 fn form_of_name(
     alloc: Global,
-    setting: &Setting,
+    setting: &Setting<'_>,
     dummies: &[Name],
     name: &Name,
     e: &Expr,
@@ -284,7 +284,7 @@ fn form_of_name(
 /// a and b of a linear expression, where they are known, in arithmetic that wraps. An `Err` is want of memory.
 pub fn linear_form(
     alloc: Global,
-    setting: &Setting,
+    setting: &Setting<'_>,
     dummies: &[Name],
     e: &Expr,
 ) -> Result<Option<LinearForm>, AllocError>

@@ -17,7 +17,7 @@ use crate::listed_names::{are_declared, is_distribution_declared};
 use expression_rules::{Scope, Symbol, SymbolTable, is_among};
 use hpf_base::{MAX_INDICES, Name, Reason, Refusal};
 use indexmap::IndexSet;
-use statement_walk::{Head, Judge, walk};
+use statement_walk::{Head, Judge, first_bad};
 use std::alloc::{AllocError, Global};
 use syntax_tree::{Header, Stmt};
 
@@ -55,10 +55,8 @@ pub(crate) fn first_bad_name(
 ) -> Result<Option<Refusal>, AllocError>
     ensures { IfOk result (λ r. r ≡ least (flat_map (name_breaches_at table.now) (all_heads (block_of stmts.now)))) }
 {
-    let mut do_variables = Vec::new(alloc);
     let judge = NameJudge { table };
-    let first = walk(alloc, &judge, &mut do_variables, stmts)?;
-    Ok(first)
+    first_bad(alloc, &judge, stmts)
 }
 
 /// The least reason for which the names of a statement break a rule. An `Err` is want of memory.

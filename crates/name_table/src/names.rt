@@ -102,30 +102,31 @@ impl Names {
 }
 
 /// The names of a symbol table. An `Err` is want of memory.
-pub(crate) fn entries_of(alloc: Global, table: SymbolTable) -> Result<Names, AllocError>
-    ensures { IfOk result (λ ns. ns ≡ map entry table) }
+pub(crate) fn entries_of(alloc: Global, table: &SymbolTable) -> Result<Names, AllocError>
+    ensures { IfOk result (λ ns. ns ≡ map entry table.now) }
 {
     let mut names = Names::new(alloc);
-    for (name, symbol) in table.into_entries() {
-        names.add(Entry {
-            name,
-            what: what_is(alloc, symbol),
-        })?;
+    for (name, symbol) in table.entries() {
+        let what = what_is(alloc, symbol)?;
+        names.add(Entry { name: *name, what })?;
     }
     Ok(names)
 }
 
 /// What a symbol says of a program that keeps the rules.
-fn what_is(alloc: Global, symbol: Symbol) -> What
-    ensures { result ≡ what_is symbol }
+fn what_is(alloc: Global, symbol: &Symbol) -> Result<What, AllocError>
+    ensures { IfOk result (λ what. what ≡ what_is symbol.now) }
 {
     match symbol {
-        Symbol::Uninitialized => What::Scalar(0),
-        Symbol::Initialized(n) => What::Scalar(or_zero(n)),
-        Symbol::Constant(n) => What::Constant(or_zero(n)),
-        Symbol::Array(_, dims, n) => What::Array(or_none(alloc, dims), or_zero(n)),
-        Symbol::Template(_) => What::Template,
-        Symbol::Arrangement(_) => What::Arrangement,
+        Symbol::Uninitialized => Ok(What::Scalar(0)),
+        Symbol::Initialized(n) => Ok(What::Scalar(or_zero(*n))),
+        Symbol::Constant(n) => Ok(What::Constant(or_zero(*n))),
+        Symbol::Array(_, dims, n) => {
+            let dims = or_none(alloc, dims)?;
+            Ok(What::Array(dims, or_zero(*n)))
+        }
+        Symbol::Template(_) => Ok(What::Template),
+        Symbol::Arrangement(_) => Ok(What::Arrangement),
     }
 }
 
@@ -140,11 +141,11 @@ fn or_zero(n: Option<i64>) -> i64
 }
 
 /// Dimensions, or none where they aren't known.
-fn or_none(alloc: Global, dims: Option<Dims>) -> Dims
-    ensures { result ≡ or_none dims }
+fn or_none(alloc: Global, dims: &Option<Dims>) -> Result<Dims, AllocError>
+    ensures { IfOk result (λ ds. ds ≡ or_none dims.now) }
 {
     match dims {
-        Some(dims) => dims,
-        None => Dims::new(Vec::new(alloc)),
+        Some(dims) => dims.copy(alloc),
+        None => Ok(Dims::new(Vec::new(alloc))),
     }
 }

@@ -20,7 +20,7 @@ use expression_rules::{
     reference_type, type_and_rank,
 };
 use hpf_base::{Name, Reason, Refusal};
-use statement_walk::{Head, Judge, walk};
+use statement_walk::{Head, Judge, first_bad};
 use std::alloc::{AllocError, Global};
 use syntax_tree::{Expr, Ref, Stmt};
 
@@ -55,11 +55,9 @@ pub(crate) fn first_bad_rank(
 ) -> Result<Option<Refusal>, AllocError>
     ensures { IfOk result (λ r. r ≡ least (flat_map (rank_breaches_at table.now) (all_heads (block_of stmts.now)))) }
 {
-    let mut do_variables = Vec::new(alloc);
     let scope = Scope::new(table);
     let judge = Ranks { scope: &scope };
-    let first = walk(alloc, &judge, &mut do_variables, stmts)?;
-    Ok(first)
+    first_bad(alloc, &judge, stmts)
 }
 
 /// Whether expressions are logical scalars.

@@ -24,10 +24,11 @@ use hpf_base::{Refusal, StaticError, earlier};
 use std::alloc::{AllocError, Global};
 use syntax_tree::Tree;
 
-/// A program that keeps the rules of names, constants, types and ranks: its tree, and what it declares.
+/// A program that keeps the rules of names, constants, types and ranks: its tree, its symbol table, and what it declares.
 #[derive(Drop)]
 pub struct Program {
     pub tree: Tree,
+    pub table: SymbolTable,
     pub names: Names,
 }
 
@@ -36,26 +37,25 @@ pub struct Program {
 pub fn resolve(alloc: Global, tree: Tree) -> Result<Program, StaticError>
     ensures fine { OnOk result (HasNoBreach (main_program tree)) }
     ensures tree { IfOk result (λ p. p.tree ≡ tree) }
+    ensures table { IfOk result (λ p. p.table ≡ symbol_table (main_program tree).declarations) }
     ensures names { IfOk result (λ p. p.names ≡ entries (main_program tree)) }
     ensures refused { IfErr result (IsProgramRefusal (main_program tree)) }
 {
-    let names = names_of(alloc, &tree)?;
-    Ok(Program { tree, names })
+    let table = table_of(alloc, &tree)?;
+    let names = entries_of(alloc, &table)?;
+    Ok(Program { tree, table, names })
 }
 
-/// What the program of a tree declares, where it breaks no rule.
-fn names_of(alloc: Global, tree: &Tree) -> Result<Names, StaticError>
+/// The symbol table of the program of a tree, where it breaks no rule.
+fn table_of(alloc: Global, tree: &Tree) -> Result<SymbolTable, StaticError>
     ensures fine { OnOk result (HasNoBreach (main_program tree.now)) }
-    ensures names { IfOk result (λ ns. ns ≡ entries (main_program tree.now)) }
+    ensures table { IfOk result (λ t. t ≡ symbol_table (main_program tree.now).declarations) }
     ensures refused { IfErr result (IsProgramRefusal (main_program tree.now)) }
 {
     let Declarations { table, first } = declare(alloc, &tree.decls)?;
     match first_breach(alloc, &table, first, tree)? {
         Some(refusal) => Err(StaticError::Refused(refusal)),
-        None => {
-            let names = entries_of(alloc, table)?;
-            Ok(names)
-        }
+        None => Ok(table),
     }
 }
 

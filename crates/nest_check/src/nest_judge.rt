@@ -25,7 +25,7 @@ use body_forms::{
 };
 use hpf_base::{Name, Reason, Refusal};
 use op_tables::Join;
-use statement_walk::{Head, Judge, walk};
+use statement_walk::{Head, Judge, first_bad};
 use std::alloc::{AllocError, Global};
 use syntax_tree::{Expr, Mark, Ref, Stmt, Subscript};
 
@@ -61,10 +61,8 @@ pub(crate) fn first_bad_statement(
 ) -> Result<Option<Refusal>, AllocError>
     ensures { IfOk result (λ r. r ≡ least (flat_map (nest_breaches_at names.now) (all_heads (block_of stmts.now)))) }
 {
-    let mut do_variables = Vec::new(alloc);
     let judge = InNest { names };
-    let first = walk(alloc, &judge, &mut do_variables, stmts)?;
-    Ok(first)
+    first_bad(alloc, &judge, stmts)
 }
 
 /// The breach at a line where subscripts aren't linear, or else another rule isn't kept.

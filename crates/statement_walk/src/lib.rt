@@ -7,4 +7,4 @@
 
 mod statements;
 
-pub use statements::{Head, Judge, walk};
+pub use statements::{Head, Judge, first_bad};

@@ -5,7 +5,7 @@ ghost use Rattle.std.specs.List.{flat_map};
 ghost use Rattle.hpf_base.specs.declared.refusal.Refusal.{Refusal};
 ghost use Rattle.syntax_tree.specs.Expression.{expression};
 ghost use Rattle.syntax_tree.specs.Statement.{axis, block_of, do_construct, independent, statement};
-ghost use Rattle.statement_walk.specs.Heads.{PlacedHead, arm_heads, heads, indexed, independent_heads, masked, placed, statement_heads};
+ghost use Rattle.statement_walk.specs.Heads.{PlacedHead, all_heads, arm_heads, heads, indexed, independent_heads, masked, placed, statement_heads};
 ghost use Rattle.hpf_base.specs.FirstBreach.{least};
 ghost use Rattle.statement_walk.specs.Views.{arm_alone, elsewhere_of, head_of};
 ghost use Rattle.syntax_tree.specs.Statement.{arms_of, assignments_in, assignments_of};
@@ -54,9 +54,22 @@ pub trait Judge {
         ensures { IfOk result (λ r. r ≡ least (breaches self.now (placed do_variables.now line (head_of head.entry)))) };
 }
 
-/// The first of what is wrong with statements.
+/// The first of what is wrong with statements that stand in no loop, and with those inside them; None exactly where nothing is. An `Err` is
+/// want of memory.
+pub fn first_bad<J: Judge>(
+    alloc: Global,
+    judge: &J,
+    stmts: &[Stmt],
+) -> Result<Option<Refusal>, AllocError>
+    ensures { IfOk result (λ r. r ≡ least (flat_map (J.breaches judge.now) (all_heads (block_of stmts.now)))) }
+{
+    let mut do_variables = Vec::new(alloc);
+    walk(alloc, judge, &mut do_variables, stmts)
+}
+
+/// The first of what is wrong with statements inside loops with these indices.
 #[cycle(walk)]
-pub fn walk<J: Judge>(
+fn walk<J: Judge>(
     alloc: Global,
     judge: &J,
     do_variables: &mut Vec<Name>,

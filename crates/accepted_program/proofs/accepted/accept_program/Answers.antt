@@ -3,6 +3,7 @@ use Rattle.std.proofs.lemmas.Result.{err_from_is_err_and}
 use Rattle.hpf_base.specs.FirstBreach.{Among}
 use Rattle.hpf_base.specs.Refusal.{IsRefusalBy, NoBreach}
 use Rattle.syntax_tree.specs.MainProgram.{main_program}
+use Rattle.declarations.specs.Declarations.{symbol_table}
 use Rattle.name_table.specs.Entries.{entries}
 use Rattle.name_table.specs.Resolved.{HasNoBreach}
 use Rattle.body_check.specs.BodyRules.{body_breaches}
@@ -15,6 +16,10 @@ returns-in_err-program-clause-refused c =
     let error = err_from_is_err_and c.from_residual.result c.from_residual.ensures.1 in
     rw (error.1, error.2)
     (misnamed c.args.grid.now (main_program c.args.tree) c.in_err-program.field-0.0 c.in_err-program.ensures.refused)
+
+pub check_mapping-requires-clause-table : goal.check_mapping-requires-clause-table
+check_mapping-requires-clause-table c =
+    c.in_ok-program.ensures.table ∙ ap (λ t. symbol_table (main_program t).declarations) (sym c.in_ok-program.ensures.tree)
 
 pub check_mapping-requires-clause-names : goal.check_mapping-requires-clause-names
 check_mapping-requires-clause-names c = c.in_ok-program.ensures.names ∙ ap (λ t. entries (main_program t)) (sym c.in_ok-program.ensures.tree)
