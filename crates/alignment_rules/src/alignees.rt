@@ -51,7 +51,7 @@ fn pair_reason(dims: &[Option<Dim>], pair: &Pair) -> Option<Reason>
     )
 }
 
-/// The same in all dimensions.
+/// The least reason for which the alignment of an array breaks a rule in one of these dimensions of the target.
 fn pairs_reason(dims: &[Option<Dim>], pairs: &[Pair]) -> Option<Reason>
     ensures { result ≡ least_reason (flat_map (pair_reasons dims.now) pairs.now) }
 {
@@ -141,7 +141,7 @@ fn with_entry(so_far: Alignment, entry: Option<WideAlign>) -> Result<Alignment, 
     }
 }
 
-/// The same of known ones.
+/// A known alignment with one known dimension of the target more.
 fn with_wide(dims: AlignDims, entry: WideAlign) -> Result<Alignment, AllocError>
     ensures { IfOk result (λ a. a ≡ joined (Known dims) (single (Some (align_dim entry)))) }
 {

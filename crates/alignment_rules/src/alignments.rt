@@ -117,7 +117,7 @@ fn triplet_reason(
     ))
 }
 
-/// The same of a subscript.
+/// The least reason for which a subscript of the target breaks a rule.
 fn subscript_reason(
     alloc: Global,
     setting: &Setting<'_>,
@@ -137,7 +137,7 @@ fn subscript_reason(
     ))
 }
 
-/// The same of a subscript or a triplet.
+/// The least reason for which a subscript or a triplet of the target breaks a rule.
 fn part_reason(
     alloc: Global,
     setting: &Setting<'_>,
@@ -154,7 +154,7 @@ fn part_reason(
     }
 }
 
-/// The same of an entry of the target's list.
+/// The least reason for which an entry of the target's list breaks a rule.
 fn target_reason(
     alloc: Global,
     setting: &Setting<'_>,
@@ -169,7 +169,7 @@ fn target_reason(
     }
 }
 
-/// The same of all entries, each by itself.
+/// The least reason for which one of the entries of the target's list breaks a rule by itself.
 fn targets_reason(
     alloc: Global,
     setting: &Setting<'_>,
@@ -196,7 +196,8 @@ fn is_mapped(object: Option<&Object>) -> bool
     }
 }
 
-/// The same of the target's list: also where a dummy stands in two of its entries, or where another test fails.
+/// The least reason for which the target's list breaks a rule: also where a dummy stands in two of its entries, or where another
+/// test fails.
 #[tactic(auto, using(crate::proofs::PairReasons::least_with_test))]
 fn list_reason(
     alloc: Global,

@@ -28,7 +28,7 @@ pub(crate) fn product(a: i64, b: i64) -> i128
     a as i128 * b as i128
 }
 
-/// The same number.
+/// The number in 128 bits.
 pub(crate) fn wide(number: i64) -> i128
     ensures value { result ≡ number }
     ensures least { neg_ℤ (pos (2 ^ 63)) ≤ℤ result }
@@ -79,7 +79,7 @@ fn form_entry(name: Option<Name>, dim: u32, form: LinearForm) -> WideAlign
     }
 }
 
-/// The same where its form is known.
+/// What a subscript is given, where its form is known.
 fn subscript_entry(name: Option<Name>, dim: u32, form: Option<LinearForm>) -> Option<WideAlign>
     ensures value { option_map align_dim result ≡ option_map (subscript_entry name dim) form }
     ensures near { IfSome result IsNear }

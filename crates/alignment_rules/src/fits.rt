@@ -21,7 +21,7 @@ fn entry_fits(entry: &AlignDim)
     }
 }
 
-/// The same of all entries.
+/// The numbers of all entries fit 64 bits.
 fn entries_fit(entries: &[AlignDim])
     ensures { All FitsAlign entries.now }
 {

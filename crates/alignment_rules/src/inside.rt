@@ -102,7 +102,8 @@ fn is_entry_inside(dims: &[Option<Dim>], entry: WideAlign, bounds: Dim) -> bool
     }
 }
 
-/// The same where both are known.
+/// Every element of an alignee of these dimensions, and every constant subscript, lies inside the bounds, as far as these and the entry
+/// are known.
 pub(crate) fn is_wide_inside(
     dims: &[Option<Dim>],
     entry: Option<WideAlign>,
@@ -117,7 +118,7 @@ pub(crate) fn is_wide_inside(
     }
 }
 
-/// The same numbers.
+/// The entry with its offset in 128 bits.
 fn widened(entry: &AlignDim) -> WideAlign
     ensures value { align_dim result ≡ entry.now }
     ensures near { IsNear result }

@@ -79,7 +79,7 @@ fn all_colons(alloc: Global, rank: usize) -> Result<Vec<Source>, AllocError>
     Ok(entries)
 }
 
-/// The same entries.
+/// A copy of the entries.
 fn copied(alloc: Global, sources: &[Source]) -> Result<Vec<Source>, AllocError>
     ensures { IfOk result (λ ss. map source_of ss.items ≡ map source_of sources.now) }
 {
@@ -90,7 +90,7 @@ fn copied(alloc: Global, sources: &[Source]) -> Result<Vec<Source>, AllocError>
     Ok(entries)
 }
 
-/// The same entry.
+/// A copy of the entry.
 fn copy_of(source: &Source) -> Source
     ensures { source_of result ≡ source_of source.now }
 {

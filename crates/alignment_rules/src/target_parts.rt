@@ -109,7 +109,7 @@ fn part_value(
     }
 }
 
-/// The same of an entry of the target's list.
+/// What an entry of the target's list stands for, in a dimension of these bounds.
 fn target_value(
     alloc: Global,
     setting: &Setting<'_>,
@@ -172,7 +172,7 @@ fn listed_values(
     Ok(values)
 }
 
-/// The same where the list is left out.
+/// What stands for the dimensions of the target where its list is left out: `:` in each.
 fn full_values(
     alloc: Global,
     setting: &Setting<'_>,

@@ -16,7 +16,7 @@ pub trait ExpressionTest {
     fn test(&self, e: &Expr) -> bool
         ensures { result ≡ passes self.now (expression e.now) };
 
-    /// The same of a name with the subscripts after it.
+    /// A name with the subscripts after it passes the test.
     fn test_reference(&self, reference: &Ref) -> bool
         ensures { result ≡ passes self.now (expression (Expr.Ref reference.now)) };
 }
@@ -37,7 +37,7 @@ pub fn all_pass<T: ExpressionTest>(test: &T, e: &Expr) -> bool
     }
 }
 
-/// The same of a name with the subscripts after it.
+/// A name with the subscripts after it, and all expressions inside these, pass.
 #[cycle(subexpressions)]
 pub fn all_pass_reference<T: ExpressionTest>(test: &T, reference: &Ref) -> bool
     ensures { result ≡ list_all (T.passes test.now) (subexpressions (expression (Expr.Ref reference.now))) }
@@ -51,7 +51,7 @@ pub fn all_pass_reference<T: ExpressionTest>(test: &T, reference: &Ref) -> bool
     }
 }
 
-/// The same of arguments.
+/// Arguments, and all expressions inside them, pass.
 #[cycle(subexpressions)]
 #[tactic(auto, using(expression_rules::proofs::Folds::all_append))]
 fn all_pass_arguments<T: ExpressionTest>(test: &T, arguments: &[Expr]) -> bool
@@ -64,7 +64,7 @@ fn all_pass_arguments<T: ExpressionTest>(test: &T, arguments: &[Expr]) -> bool
     all
 }
 
-/// The same of subscripts.
+/// The expressions in subscripts, and all inside them, pass.
 #[cycle(subexpressions)]
 #[tactic(auto, using(expression_rules::proofs::Folds::all_append))]
 pub fn all_pass_subscripts<T: ExpressionTest>(test: &T, parts: &[Subscript]) -> bool
@@ -77,7 +77,7 @@ pub fn all_pass_subscripts<T: ExpressionTest>(test: &T, parts: &[Subscript]) -> 
     all
 }
 
-/// The same of a subscript or of a triplet.
+/// The expressions in a subscript or in a triplet, and all inside them, pass.
 #[cycle(subexpressions)]
 #[tactic(auto, using(expression_rules::proofs::Folds::all_append, expression_rules::proofs::Folds::all_append_three))]
 fn all_pass_subscript<T: ExpressionTest>(test: &T, part: &Subscript) -> bool
@@ -93,7 +93,7 @@ fn all_pass_subscript<T: ExpressionTest>(test: &T, part: &Subscript) -> bool
     }
 }
 
-/// The same of an expression that may be there.
+/// An expression that may be there, and all expressions inside it, pass.
 #[cycle(subexpressions)]
 fn all_pass_if_any<T: ExpressionTest>(test: &T, e: &Option<Expr>) -> bool
     ensures { result ≡ list_all (T.passes test.now) (subexpressions_in_maybe (maybe_of e.now)) }

@@ -37,7 +37,7 @@ pub(crate) fn expression_reason(
     Ok(lesser(named, valued))
 }
 
-/// The same of an expression that may be there.
+/// The least reason for which a constant expression that may be there breaks a rule.
 pub(crate) fn option_reason(
     alloc: Global,
     scope: &Scope<'_>,
@@ -51,7 +51,7 @@ pub(crate) fn option_reason(
     }
 }
 
-/// The same of the bounds of a dimension.
+/// The least reason for which the bounds of a dimension, which must be constant, break a rule.
 #[tactic(auto, using(crate::proofs::ConstantLists::constant_append))]
 fn dimension_reason(
     alloc: Global,
@@ -65,7 +65,7 @@ fn dimension_reason(
     Ok(lesser(lower, upper))
 }
 
-/// The same of the bounds of all dimensions.
+/// The least reason for which the bounds of dimensions, which must be constant, break a rule.
 pub(crate) fn bounds_reason(
     alloc: Global,
     scope: &Scope<'_>,
@@ -81,7 +81,7 @@ pub(crate) fn bounds_reason(
     Ok(least)
 }
 
-/// The same of bounds that may be there.
+/// The least reason for which bounds that may be there, and must be constant, break a rule.
 pub(crate) fn dims_reason(
     alloc: Global,
     scope: &Scope<'_>,

@@ -33,7 +33,7 @@ pub(crate) fn number(alloc: Global, scope: &Scope<'_>, e: &Expr) -> Result<Optio
     Ok(if_known(found))
 }
 
-/// The same of an expression that may be left out, and stands for another number then.
+/// The value, where it is known, of a constant expression that may be left out, and stands for another number then.
 pub(crate) fn number_or(
     alloc: Global,
     other: i64,
@@ -58,7 +58,7 @@ fn is_too_far(bound: Option<i64>) -> bool
     }
 }
 
-/// The same of one of the bounds of a dimension.
+/// The magnitude of one of the bounds of a dimension is past the limit.
 fn is_dimension_too_far(
     alloc: Global,
     scope: &Scope<'_>,
@@ -71,7 +71,7 @@ fn is_dimension_too_far(
     Ok(is_too_far(lower) || is_too_far(upper))
 }
 
-/// The same of one of the bounds of all dimensions.
+/// The magnitude of one of the bounds of these dimensions is past the limit.
 fn is_any_too_far(alloc: Global, scope: &Scope<'_>, bounds: &[Bound]) -> Result<bool, AllocError>
     ensures { IfOk result (λ b. b ≡ list_any (is_bound_too_far scope.now) (map bound bounds.now)) }
 {

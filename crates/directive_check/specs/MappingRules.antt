@@ -58,7 +58,7 @@ head_reasons s ms dynamic h = []
 abbrev pub redistribute_breaches_at : Setting → List MappedObject → List Name → PlacedHead → List Refusal
 redistribute_breaches_at s ms dynamic p = at p.line (head_reasons s ms dynamic p.what)
 
--- the same in the setting of a program
+-- all that a program breaks of the rules of mapping directives, in a setting
 abbrev pub breaches_in : Setting → MainProgram → List Refusal
 breaches_in s p =
     declared_breaches s p.declarations

@@ -52,7 +52,7 @@ fn chain_reason(
     Ok(lesser(reason_if(cycle, Reason::BadDirective), ended))
 }
 
-/// The same of its alignment with what its alignments end at.
+/// The least reason for which an object's alignment with what its alignments end at breaks a rule.
 #[tactic(auto, using(distribution_rules::proofs::LeastReasons::least_reason_when))]
 fn root_reason(
     setting: &Setting<'_>,

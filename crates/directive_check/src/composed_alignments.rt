@@ -31,7 +31,7 @@ pub(crate) fn composed_alignment(
     }
 }
 
-/// The same of entries that are known.
+/// The alignment of an alignee by its own entries and those of its target, all of which are known.
 fn through(
     alloc: Global,
     entries: &[AlignDim],

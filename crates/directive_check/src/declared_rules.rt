@@ -52,7 +52,7 @@ fn declared_reason(
     }
 }
 
-/// The same of a directive.
+/// The least reason for which a directive breaks a rule of mapping directives.
 fn directive_reason(
     alloc: Global,
     setting: &Setting<'_>,
@@ -84,7 +84,7 @@ pub(crate) fn distribute_reason(
     Ok(lesser(bad_distribution(&values), named))
 }
 
-/// The same of its distributees: the names after `::`, or the one name before the formats.
+/// The least reason for which a distributee breaks a rule: one of the names after `::`, or the one name before the formats.
 fn distributees_reason(
     setting: &Setting<'_>,
     values: &DistributionValues,
@@ -100,7 +100,8 @@ fn distributees_reason(
     }
 }
 
-/// The same of the one of these names; where there isn't exactly one, as in no text, of a name without bytes.
+/// The least reason for which the one distributee of these names breaks a rule; where there isn't exactly one, as in no text,
+/// that of a name without bytes.
 fn one_distributee_reason(
     setting: &Setting<'_>,
     values: &DistributionValues,
@@ -117,7 +118,7 @@ fn one_distributee_reason(
     }
 }
 
-/// The same of these names.
+/// The least reason for which one of these names breaks a rule as a distributee.
 fn listed_distributees_reason(
     setting: &Setting<'_>,
     values: &DistributionValues,
@@ -141,7 +142,7 @@ fn unnamed_object(objects: &[Object])
     }
 }
 
-/// The same of a list of names.
+/// A name without bytes is none of these names.
 pub(crate) fn unnamed(names: &[Name])
     ensures { is_among [] names.now ≡ false }
 {
@@ -165,7 +166,7 @@ fn align_reason(
     Ok(lesser(own, named))
 }
 
-/// The same of its alignees: the names after `::`, or the one name before the entries.
+/// The least reason for which an alignee breaks a rule: one of the names after `::`, or the one name before the entries.
 fn alignees_reason(
     alloc: Global,
     setting: &Setting<'_>,
@@ -185,7 +186,8 @@ fn alignees_reason(
     }
 }
 
-/// The same of the one of these names; where there isn't exactly one, as in no text, of a name without bytes.
+/// The least reason for which the one alignee of these names breaks a rule; where there isn't exactly one, as in no text,
+/// that of a name without bytes.
 fn one_alignee_reason(
     alloc: Global,
     setting: &Setting<'_>,
@@ -208,7 +210,7 @@ fn one_alignee_reason(
     }
 }
 
-/// The same of these names.
+/// The least reason for which one of these names breaks a rule as an alignee.
 fn listed_alignees_reason(
     alloc: Global,
     setting: &Setting<'_>,

@@ -61,7 +61,7 @@ pub(crate) fn start_of(
     }
 }
 
-/// The same of an object that this directive maps.
+/// The mapping at the start of an object that this directive maps.
 fn mapped_as(
     alloc: Global,
     setting: &Setting<'_>,

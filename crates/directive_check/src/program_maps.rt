@@ -202,7 +202,7 @@ fn push_moved(
     }
 }
 
-/// The same of an array.
+/// An array with its new mapping, after the others, if it moves.
 fn push_array(
     alloc: Global,
     setting: &Setting<'_>,

@@ -82,7 +82,7 @@ fn head_reason(
     }
 }
 
-/// The same of a REDISTRIBUTE.
+/// The least reason for which a REDISTRIBUTE breaks a rule.
 #[tactic(auto, using(distribution_rules::proofs::LeastReasons::least_reason_append))]
 fn redistribute_reason(
     alloc: Global,
@@ -98,7 +98,8 @@ fn redistribute_reason(
     Ok(lesser(own, named))
 }
 
-/// The same of its objects: the names after `::`, or the one name before the formats.
+/// The reason for which one of the objects of a REDISTRIBUTE isn't redistributed: of the names after `::`, or of the one name
+/// before the formats.
 fn redistributees_reason(
     objects: &[MappedObject<'_>],
     dynamic: &[Name],
@@ -119,7 +120,7 @@ fn redistributees_reason(
     }
 }
 
-/// The same of these names.
+/// The reason for which one of the objects with these names isn't redistributed.
 fn listed_redistributees_reason(
     objects: &[MappedObject<'_>],
     dynamic: &[Name],

@@ -49,7 +49,7 @@ pub(crate) fn root_alignment(
     Ok(found)
 }
 
-/// The same within so many alignments.
+/// Its alignment with the object at which its alignments end, within so many of them.
 #[cycle(root_alignment)]
 fn root_alignment_from(
     steps: usize,
@@ -79,7 +79,7 @@ fn root_alignment_from(
     }
 }
 
-/// The same of an object that this directive maps.
+/// The alignment of an object that this directive maps with the one at which its alignments end, within one more than so many of them.
 #[cycle(root_alignment)]
 fn alignment_through(
     steps: usize,

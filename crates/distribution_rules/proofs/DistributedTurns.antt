@@ -92,7 +92,7 @@ any_append : {X : Type 0} (test : X → Bool) (xs ys : List X) → list_any test
 any_append test [] ys = refl
 any_append test (x ∷ xs) ys = ap (λ b. test x || b) (any_append test xs ys) ∙ sym (or_assoc (test x) (list_any test xs) (list_any test ys))
 
--- the same of a loop that looks for a block that is too small
+-- a turn of a loop that looks for a block that is too small
 pub any_next : (fs : List FormatValue) (bs : List (Option Dim)) (ps : List ℕ) (i g : ℕ) (y : FormatValue) (z : Option Dim) (taken : Option ℕ) (so_far found all : Bool) (h : ℕ) →
     i < length fs → i < length bs → taken ≡ procs_for (get_or fs i y) (drop g ps) → found ≡ too_small_at (get_or fs i y) (get_or bs i z) taken → h ≡ g + used taken →
     (so_far || list_any is_block_too_small (from fs bs ps i g)) ≡ all → ((so_far || found) || list_any is_block_too_small (from fs bs ps (i + 1) h)) ≡ all

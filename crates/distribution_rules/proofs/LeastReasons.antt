@@ -78,7 +78,7 @@ lesser_next F f step xs n x so_far found after within is of_one more all =
     ∙ ap (lesser so_far) (sym (step x (drop (n + 1) xs)) ∙ ap F (sym (drop_item xs n x within is)))
     ∙ all
 
--- the same of items that have no name
+-- a turn of a loop that keeps the least of what items give, which have no name
 pub lesser_turn : {X : Type 0} (F : List X → Option Reason) (f : X → Option Reason) → ((x : X) (xs : List X) → F (x ∷ xs) ≡ lesser (f x) (F xs)) →
     (xs : List X) (n : ℕ) (z : X) (so_far found after : Option Reason) → n < length xs → found ≡ f (get_or xs n z) → after ≡ lesser so_far found →
     lesser so_far (F (drop n xs)) ≡ F xs → lesser after (F (drop (n + 1) xs)) ≡ F xs

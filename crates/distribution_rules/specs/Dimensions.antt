@@ -14,7 +14,7 @@ use Rattle.expression_rules.specs.declared.evaluated.Evaluated.TheVariants.{Know
 abbrev pub directive_value : List ℕ → SymbolTable → Expression → Evaluated ℤ
 directive_value grid t e = value (Some grid) t e
 
--- the same of one that may be left out, and stands for a number then
+-- the value of an expression of a directive that may be left out, and stands for a number then
 abbrev pub directive_value_or : ℤ → List ℕ → SymbolTable → Option Expression → Evaluated ℤ
 directive_value_or n grid t None = Known n
 directive_value_or n grid t (Some e) = directive_value grid t e

@@ -23,7 +23,7 @@ pub(crate) fn has_small_block(values: &DistributionValues, dims: &[Option<Dim>])
     }
 }
 
-/// The same on an arrangement of these extents.
+/// A block is too small for a dimension of an object of these dimensions, on an arrangement of these extents.
 fn is_any_too_small(formats: &[FormatValue], dims: &[Option<Dim>], extents: &[u128]) -> bool
     requires rank { length formats.now ≡ length dims.now }
     requires few { All (λ n. n ≤ 2 ^ 64) extents.now }

@@ -25,7 +25,7 @@ pub(crate) fn directive_value(
     Ok(found)
 }
 
-/// The same of one that may be left out, and stands for a number then.
+/// The value of an expression of a directive that may be left out, and stands for a number then.
 fn directive_value_or(
     alloc: Global,
     other: i64,

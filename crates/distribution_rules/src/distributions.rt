@@ -135,7 +135,7 @@ fn formats_reason(formats: &[FormatValue]) -> Option<Reason>
     least
 }
 
-/// The same of one format.
+/// The least reason for which one format breaks a rule.
 fn format_reason(format: &FormatValue) -> Option<Reason>
     ensures { result ≡ least_reason (format_reasons format.now) }
 {
@@ -146,7 +146,7 @@ fn format_reason(format: &FormatValue) -> Option<Reason>
     }
 }
 
-/// The same of m of BLOCK(m) or k of CYCLIC(k), which is at least 1 and at most so much.
+/// The least reason for which m of BLOCK(m) or k of CYCLIC(k) breaks a rule: it must be at least 1 and at most so much.
 fn size_reason(most: u64, size: &Evaluated<i64>) -> Option<Reason>
     ensures { result ≡ least_reason (size_reasons most size.now) }
 {
@@ -181,7 +181,7 @@ pub fn bad_distributee(values: &DistributionValues, object: Option<&Object>) -> 
     }
 }
 
-/// The same of an array, a template or an arrangement.
+/// The least reason for which the distribution of an array, a template or an arrangement breaks a rule.
 fn distributee_reason(values: &DistributionValues, object: &Object) -> Option<Reason>
     ensures { result ≡ least_reason (distributee_reasons values.now (Some object.now)) }
 {

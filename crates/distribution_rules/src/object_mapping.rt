@@ -39,7 +39,7 @@ pub fn distributed(
     }
 }
 
-/// The same onto an arrangement of these extents.
+/// The mapping that these formats give an object of these dimensions, onto an arrangement of these extents.
 fn mapping_onto(
     alloc: Global,
     grid: &Grid,

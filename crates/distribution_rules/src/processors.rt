@@ -116,7 +116,7 @@ pub(crate) fn onto_object(
     }
 }
 
-/// The same of an object.
+/// The arrangement after ONTO, where its name is that of this object and so many dimensions are distributed.
 fn arrangement_of(alloc: Global, object: &Object, count: usize) -> Result<Processors, AllocError>
     ensures { IfOk result (λ p. p ≡ onto_object (Some object.now) count) }
 {

@@ -122,7 +122,7 @@ fn push_spaces(
     Ok(())
 }
 
-/// The same of one declaration.
+/// The templates and the arrangements of one declaration, after other objects.
 fn push_declared(
     alloc: Global,
     grid: &Grid,
@@ -141,7 +141,7 @@ fn push_declared(
     }
 }
 
-/// The same of a directive.
+/// The templates and the arrangements of a directive, after other objects.
 fn push_directed(
     alloc: Global,
     grid: &Grid,

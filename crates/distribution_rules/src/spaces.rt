@@ -42,7 +42,7 @@ pub fn bad_space(
     }
 }
 
-/// The same of templates.
+/// The least reason for which the templates of a directive break a rule.
 fn bad_templates(
     alloc: Global,
     setting: &Setting<'_>,
@@ -58,7 +58,7 @@ fn bad_templates(
     Ok(least)
 }
 
-/// The same of processor arrangements.
+/// The least reason for which the processor arrangements of a directive break a rule.
 fn bad_arrangements(
     alloc: Global,
     setting: &Setting<'_>,
@@ -79,7 +79,7 @@ fn bad_arrangements(
     Ok(least)
 }
 
-/// The same of a template with these bounds.
+/// The least reason for which a template with these bounds breaks a rule.
 #[tactic(auto, using(crate::proofs::LeastReasons::reason_more))]
 fn template_reason(
     alloc: Global,
@@ -94,7 +94,7 @@ fn template_reason(
     Ok(lesser(own, reason_if(has_wide(&dims), Reason::Limit)))
 }
 
-/// The same of an arrangement with these bounds.
+/// The least reason for which an arrangement with these bounds breaks a rule.
 #[tactic(auto, using(crate::proofs::LeastReasons::reason_more))]
 fn arrangement_reason(
     alloc: Global,
@@ -127,7 +127,7 @@ fn bounds_reason(
     Ok(least)
 }
 
-/// The same of the bounds of one dimension.
+/// The least reason for which the bounds of one dimension break a rule.
 #[tactic(auto, using(crate::proofs::LeastReasons::two_reasons))]
 fn dimension_reason(
     alloc: Global,

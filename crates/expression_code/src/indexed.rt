@@ -48,7 +48,7 @@ pub fn index_flats(alloc: Global, terms: &[Term]) -> Result<Vec<Flat>, OutOfMemo
     Ok(flats)
 }
 
-/// The same, as a list.
+/// Subscripts in order, each by itself in a list.
 pub fn all_index_flats(alloc: Global, terms: &[Term]) -> Result<Vec<Flat>, OutOfMemory>
     ensures { IfOk result (λ fs. map flat fs.items ≡ map index_flat (list_of (terms_of terms.now))) }
 {

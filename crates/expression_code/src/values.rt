@@ -32,7 +32,7 @@ pub fn flat_of(alloc: Global, b: usize, t: &Term) -> Result<Flat, OutOfMemory>
     }
 }
 
-/// The same of an operator: what may divide by zero has its value in a slot.
+/// The expression that has the value of an operator after its code: what may divide by zero has its value in a slot.
 #[cycle(flat)]
 fn operated_flat(alloc: Global, b: usize, op: Op, operands: &[Term]) -> Result<Flat, OutOfMemory>
     ensures { IfOk result (λ f. flat f ≡ operated_flat (can_divide op) op (flats_of b (terms_of operands.now)) (b + all_slots_of (terms_of operands.now))) }
@@ -100,7 +100,7 @@ pub fn form_of(alloc: Global, b: usize, t: &Term) -> Result<ArrayForm, OutOfMemo
     }
 }
 
-/// The same of a section.
+/// What is left of a section after its code.
 fn section_form(
     alloc: Global,
     b: usize,
@@ -112,7 +112,7 @@ fn section_form(
     Ok(ArrayForm::Section(a, subs_of(alloc, b, subscripts)?))
 }
 
-/// The same of an operator.
+/// What is left of an operator with its operands after their code.
 #[cycle(form)]
 fn operation_form(
     alloc: Global,

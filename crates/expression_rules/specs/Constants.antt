@@ -91,7 +91,7 @@ of_dimensions p o ds Unknown = Unknown
 of_dimensions p o None (Known ns) = Unknown
 of_dimensions p o (Some ds) (Known ns) = inquired p o ds ns
 
--- the same of what a name stands for: only an array has dimensions
+-- SIZE, LBOUND and UBOUND of what a name stands for: only an array has dimensions
 abbrev pub of_array : Site → Op → Option Symbol → Evaluated (List ℤ) → Evaluated ℤ
 of_array p o (Some (Array r ds n)) ns = of_dimensions p o ds ns
 of_array p o s ns = Invalid

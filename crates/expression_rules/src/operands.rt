@@ -39,7 +39,7 @@ pub fn are_operands(scope: &Scope<'_>, e: &Expr) -> bool
     }
 }
 
-/// The same of a name and the subscripts after it.
+/// A name, and each name in the subscripts after it, stands for a number or for numbers.
 #[cycle(operands)]
 pub fn is_operand_reference(scope: &Scope<'_>, reference: &Ref) -> bool
     ensures { result ≡ are_operands scope.now (expression (Expr.Ref reference.now)) }
@@ -53,7 +53,7 @@ pub fn is_operand_reference(scope: &Scope<'_>, reference: &Ref) -> bool
     }
 }
 
-/// The same of arguments.
+/// Each name in the arguments of a function stands for a number or for numbers.
 #[cycle(operands)]
 fn are_operands_in(scope: &Scope<'_>, arguments: &[Expr]) -> bool
     ensures { result ≡ list_all (λ x. satisfies is_operand (find x scope.now)) (names_in_parts (arguments_of arguments.now)) }
@@ -65,7 +65,7 @@ fn are_operands_in(scope: &Scope<'_>, arguments: &[Expr]) -> bool
     all
 }
 
-/// The same of subscripts.
+/// Each name in a list of subscripts stands for a number or for numbers.
 #[cycle(operands)]
 fn are_operands_among(scope: &Scope<'_>, parts: &[Subscript]) -> bool
     ensures { result ≡ list_all (λ x. satisfies is_operand (find x scope.now)) (names_in_parts (parts_of parts.now)) }
@@ -77,7 +77,7 @@ fn are_operands_among(scope: &Scope<'_>, parts: &[Subscript]) -> bool
     all
 }
 
-/// The same of a subscript.
+/// Each name in a subscript or a triplet stands for a number or for numbers.
 #[cycle(operands)]
 #[tactic(auto, using(crate::proofs::Folds::all_append, crate::proofs::Folds::all_append_three))]
 fn are_operands_of(scope: &Scope<'_>, part: &Subscript) -> bool
@@ -93,7 +93,7 @@ fn are_operands_of(scope: &Scope<'_>, part: &Subscript) -> bool
     }
 }
 
-/// The same of an expression that may be there.
+/// Each name in an expression that may be there stands for a number or for numbers.
 #[cycle(operands)]
 fn is_operand_if_any(scope: &Scope<'_>, e: &Option<Expr>) -> bool
     ensures { result ≡ list_all (λ x. satisfies is_operand (find x scope.now)) (names_in_maybe (maybe_of e.now)) }

@@ -177,7 +177,7 @@ fn are_subscripts(
     Ok(all)
 }
 
-/// The same of one.
+/// The subscript is an integer scalar or a triplet of such.
 #[cycle(typing)]
 fn is_subscript(
     alloc: Global,
@@ -325,7 +325,7 @@ fn are_dimensions(rank: usize, found: &Evaluated<Numbers>) -> bool
     }
 }
 
-/// The same of numbers.
+/// Each of these numbers is that of one of so many dimensions.
 fn all_dimensions(rank: usize, numbers: &[i64]) -> bool
     ensures { result ≡ list_all (is_dimension rank) numbers.now }
 {

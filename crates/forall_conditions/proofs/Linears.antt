@@ -37,7 +37,7 @@ apply_linear t o v s xs ys r is forms same by =
     ∙ ap (λ u. linear_by o (linears s (terms_of v.items)) (index_free s u)) e
     ∙ sym (ap (linear s) e)
 
--- the same where it is the form without indices
+-- an operator over its operands, by their forms, where its own is the form without indices
 pub apply_index_free : (t : HeldTerm) (o : Op) (v : Vec HeldTerm Global) (s : State) (xs ys : List LinearForm) → t ≡ held.Apply o v →
     map linear_of xs ≡ linears s (terms_of v.items) → ys ≡ xs → ((other : Linear) → other ≡ linear_by o (map linear_of ys) other) →
     index_free s (term t) ≡ linear s (term t)

@@ -150,7 +150,7 @@ fn is_term_in_limits(s: &State, t: &Term) -> Result<bool, AllocError>
     }
 }
 
-/// The same of several expressions.
+/// Whether the subscripts of all elements in several expressions are in the limits.
 #[cycle(limits)]
 #[tactic(auto, using(expression_rules::proofs::Folds::all_append))]
 fn are_terms_in_limits(s: &State, terms: &Vec<Term>) -> Result<bool, AllocError>

@@ -88,7 +88,7 @@ fn linear_by(op: Op, xs: &[LinearForm]) -> Option<LinearForm>
     }
 }
 
-/// The same of one operand.
+/// The linear form of an operator over one operand; None where it is another one than a sign.
 fn of_one(op: Op, x: &LinearForm) -> Option<LinearForm>
     ensures { (other : Linear) → linear_or result other ≡ linear_by op (linear_of x.now ∷ []) other }
 {
@@ -99,7 +99,7 @@ fn of_one(op: Op, x: &LinearForm) -> Option<LinearForm>
     }
 }
 
-/// The same of two.
+/// The linear form of an operator over two operands; None where it is another one than a sum, a difference or a product.
 fn of_two(op: Op, x: &LinearForm, y: &LinearForm) -> Option<LinearForm>
     ensures { (other : Linear) → linear_or result other ≡ linear_by op (linear_of x.now ∷ linear_of y.now ∷ []) other }
 {

@@ -63,7 +63,7 @@ pub fn push_dummies(found: &mut Vec<Name>, dummies: &[Name], e: &Expr) -> Result
     }
 }
 
-/// The same of a name and the subscripts after it.
+/// The dummies of a name and the subscripts after it, after those that were found before.
 #[cycle(dummies)]
 fn push_reference(
     found: &mut Vec<Name>,
@@ -82,7 +82,7 @@ fn push_reference(
     }
 }
 
-/// The same of arguments.
+/// The dummies of arguments after those that were found before.
 #[cycle(dummies)]
 fn push_arguments(
     found: &mut Vec<Name>,
@@ -97,7 +97,7 @@ fn push_arguments(
     Ok(())
 }
 
-/// The same of subscripts.
+/// The dummies of subscripts after those that were found before.
 #[cycle(dummies)]
 fn push_subscripts(
     found: &mut Vec<Name>,
@@ -112,7 +112,7 @@ fn push_subscripts(
     Ok(())
 }
 
-/// The same of a subscript or of a triplet.
+/// The dummies of a subscript or of a triplet after those that were found before.
 #[cycle(dummies)]
 fn push_part(found: &mut Vec<Name>, dummies: &[Name], part: &Subscript) -> Result<(), AllocError>
     ensures { OnOk result (found.new.items ≡ found.old.items ++ filter (λ x. is_among x dummies.now) (names_in_part (subscript part.now))) }
@@ -128,7 +128,7 @@ fn push_part(found: &mut Vec<Name>, dummies: &[Name], part: &Subscript) -> Resul
     }
 }
 
-/// The same of an expression that may be there.
+/// The dummies of an expression that may be there, after those that were found before.
 #[cycle(dummies)]
 fn push_if_any(found: &mut Vec<Name>, dummies: &[Name], e: &Option<Expr>) -> Result<(), AllocError>
     ensures { OnOk result (found.new.items ≡ found.old.items ++ filter (λ x. is_among x dummies.now) (names_in_maybe (maybe_of e.now))) }

@@ -189,7 +189,7 @@ fn signed_form(op: Op, l: LinearForm) -> LinearForm
     }
 }
 
-/// The same of one that may be known.
+/// The linear form after a sign, where that before it is known.
 fn signed_if_known(op: Op, l: Option<LinearForm>) -> Option<LinearForm>
     ensures { result ≡ option_map (signed_form op) l }
 {
@@ -236,7 +236,7 @@ fn combined_form(op: Op, l: LinearForm, m: LinearForm) -> LinearForm
     }
 }
 
-/// The same of two that may be known.
+/// The linear form of a sum, of a difference or of a product, where those of both operands are known.
 fn combined_if_known(
     op: Op,
     left: Option<LinearForm>,

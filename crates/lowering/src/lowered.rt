@@ -25,7 +25,7 @@ pub fn programs_lowered()
         → MachineEnds n table (opening n room body s layouts) (run_block body s) }
 {}
 
-/// The same of the serial outcome of a program, where these names are declared.
+/// The machine with whole arrays ends over a program's code with the serial outcome of the program, where these names are declared.
 pub fn outcomes_lowered()
     ensures { (names : List Entry) (room : ℕ) (body : syntax.Block) (table : ArrayTable) (layouts : List Layout)
         → IsTable (initial_state names) table → block_copies (resolved_block names body) ≤ room → length layouts ≡ length names + room

@@ -76,7 +76,7 @@ fn in_types<T: ExpressionTest>(test: &T, types: &IntegerDecl) -> Result<bool, Al
     Ok(shared && own)
 }
 
-/// The same of an entity of INTEGER: its bounds, and its initial value.
+/// Whether the expressions in an entity of INTEGER pass a test: its bounds, and its initial value.
 #[tactic(auto, using(expression_rules::proofs::Folds::all_append))]
 fn in_entity<T: ExpressionTest>(test: &T, one: &Entity) -> Result<bool, AllocError>
     ensures { IfOk result (λ b. b ≡ list_all (T.passes test.now) (typed_expressions (entity one.now))) }
@@ -86,7 +86,7 @@ fn in_entity<T: ExpressionTest>(test: &T, one: &Entity) -> Result<bool, AllocErr
     Ok(bounds && start)
 }
 
-/// The same of all of them.
+/// Whether the expressions in all entities of INTEGER pass a test.
 #[tactic(auto, using(expression_rules::proofs::Folds::all_append))]
 fn in_entities<T: ExpressionTest>(test: &T, entities: &[Entity]) -> Result<bool, AllocError>
     ensures { IfOk result (λ b. b ≡ list_all (T.passes test.now) (flat_map typed_expressions (map entity entities.now))) }
@@ -99,7 +99,7 @@ fn in_entities<T: ExpressionTest>(test: &T, entities: &[Entity]) -> Result<bool,
     Ok(all)
 }
 
-/// The same of the values of PARAMETER.
+/// Whether the values of PARAMETER pass a test.
 fn in_constants<T: ExpressionTest>(test: &T, constants: &[ConstDef]) -> Result<bool, AllocError>
     ensures { IfOk result (λ b. b ≡ list_all (T.passes test.now) (map (λ c. c.value) (map named_constant constants.now))) }
 {

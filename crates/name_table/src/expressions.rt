@@ -47,14 +47,14 @@ pub(crate) fn in_axis<T: ExpressionTest>(
     Ok(first && last && step)
 }
 
-/// The same of an index of a FORALL.
+/// Whether the first and the last value of an index of a FORALL pass, and its step where there is one.
 fn in_header<T: ExpressionTest>(test: &T, header: &Header) -> Result<bool, AllocError>
     ensures { IfOk result (λ b. b ≡ list_all (T.passes test.now) (axis_expressions (axis header.now))) }
 {
     in_axis(test, &header.first, &header.last, &header.step)
 }
 
-/// The same of all of them.
+/// Whether the expressions of all indices of a FORALL pass.
 #[tactic(auto, using(expression_rules::proofs::Folds::all_append))]
 pub(crate) fn in_headers<T: ExpressionTest>(
     test: &T,
@@ -80,7 +80,7 @@ fn in_item<T: ExpressionTest>(test: &T, item: &Item) -> Result<bool, AllocError>
     }
 }
 
-/// The same of all of them.
+/// Whether the expressions in all items of a PRINT pass.
 #[tactic(auto, using(expression_rules::proofs::Folds::all_append))]
 pub(crate) fn in_items<T: ExpressionTest>(test: &T, items: &[Item]) -> Result<bool, AllocError>
     ensures { IfOk result (λ b. b ≡ list_all (T.passes test.now) (flat_map item_expressions (map item_of items.now))) }
@@ -103,7 +103,7 @@ fn in_format<T: ExpressionTest>(test: &T, format: &Format) -> Result<bool, Alloc
     }
 }
 
-/// The same of all of them.
+/// Whether the expressions in the formats of all dimensions pass.
 #[tactic(auto, using(expression_rules::proofs::Folds::all_append))]
 pub(crate) fn in_formats<T: ExpressionTest>(
     test: &T,
@@ -129,7 +129,7 @@ fn in_bound<T: ExpressionTest>(test: &T, dimension: &Bound) -> Result<bool, Allo
     Ok(lower && upper)
 }
 
-/// The same of all dimensions.
+/// Whether the bounds of all dimensions pass.
 #[tactic(auto, using(expression_rules::proofs::Folds::all_append))]
 fn in_bounds<T: ExpressionTest>(test: &T, bounds: &[Bound]) -> Result<bool, AllocError>
     ensures { IfOk result (λ b. b ≡ list_all (T.passes test.now) (flat_map bound_expressions (map bound bounds.now))) }
@@ -142,7 +142,7 @@ fn in_bounds<T: ExpressionTest>(test: &T, bounds: &[Bound]) -> Result<bool, Allo
     Ok(all)
 }
 
-/// The same of bounds that may be there.
+/// Whether the bounds of all dimensions pass, where there are bounds.
 pub(crate) fn in_bounds_if_any<T: ExpressionTest>(
     test: &T,
     bounds: &Option<Vec<Bound>>,
@@ -175,7 +175,8 @@ pub(crate) fn in_directive<T: ExpressionTest>(
     }
 }
 
-/// The same of an arrangement or a template. It has bounds alone: where a tree has an initial value beside them, there is none.
+/// Whether the bounds of an arrangement or a template pass. It has bounds alone: where a tree has an initial value beside them,
+/// there are none.
 fn in_arrangement<T: ExpressionTest>(test: &T, entity: &Entity) -> Result<bool, AllocError>
     ensures { IfOk result (λ b. b ≡ list_all (T.passes test.now) (entity_expressions (arrangement entity.now))) }
 {
@@ -185,7 +186,7 @@ fn in_arrangement<T: ExpressionTest>(test: &T, entity: &Entity) -> Result<bool, 
     }
 }
 
-/// The same of all of them.
+/// Whether the bounds of all arrangements or templates of a directive pass.
 #[tactic(auto, using(expression_rules::proofs::Folds::all_append))]
 fn in_arrangements<T: ExpressionTest>(test: &T, entities: &[Entity]) -> Result<bool, AllocError>
     ensures { IfOk result (λ b. b ≡ list_all (T.passes test.now) (flat_map entity_expressions (map arrangement entities.now))) }
@@ -198,7 +199,7 @@ fn in_arrangements<T: ExpressionTest>(test: &T, entities: &[Entity]) -> Result<b
     Ok(all)
 }
 
-/// The same of what stands for a dimension of the target of ALIGN.
+/// Whether the expressions in what stands for a dimension of the target of ALIGN pass.
 fn in_target<T: ExpressionTest>(test: &T, target: &Target) -> Result<bool, AllocError>
     ensures { IfOk result (λ b. b ≡ list_all (T.passes test.now) (target_expressions (target_of target.now))) }
 {
@@ -208,7 +209,7 @@ fn in_target<T: ExpressionTest>(test: &T, target: &Target) -> Result<bool, Alloc
     }
 }
 
-/// The same of all of them.
+/// Whether the expressions in what stands for the dimensions of the target of ALIGN pass.
 #[tactic(auto, using(expression_rules::proofs::Folds::all_append))]
 fn in_targets<T: ExpressionTest>(test: &T, targets: &[Target]) -> Result<bool, AllocError>
     ensures { IfOk result (λ b. b ≡ list_all (T.passes test.now) (flat_map target_expressions (map target_of targets.now))) }
@@ -221,7 +222,7 @@ fn in_targets<T: ExpressionTest>(test: &T, targets: &[Target]) -> Result<bool, A
     Ok(all)
 }
 
-/// The same of a subscript or a triplet.
+/// Whether the expressions in a subscript or a triplet pass.
 #[tactic(auto, using(expression_rules::proofs::Folds::all_append_three))]
 fn in_part<T: ExpressionTest>(test: &T, part: &Subscript) -> Result<bool, AllocError>
     ensures { IfOk result (λ b. b ≡ list_all (T.passes test.now) (part_expressions (subscript part.now))) }

@@ -18,7 +18,7 @@ pub(crate) fn are_declared(table: &SymbolTable, names: &[Name]) -> bool
     names.iter().all(|name| table.find(name).is_some())
 }
 
-/// The same of a name that may be there.
+/// Whether a name that may be there is declared.
 pub(crate) fn is_declared_if_any(table: &SymbolTable, name: &Option<Name>) -> bool
     ensures { result ≡ list_all (λ x. is_declared x table.now) (present name.now) }
 {
@@ -28,7 +28,7 @@ pub(crate) fn is_declared_if_any(table: &SymbolTable, name: &Option<Name>) -> bo
     }
 }
 
-/// The same of what DISTRIBUTE, REDISTRIBUTE or ALIGN maps: the names after `::`, or the one name before its list. Where there
+/// Whether what DISTRIBUTE, REDISTRIBUTE or ALIGN maps is declared: the names after `::`, or the one name before its list. Where there
 /// isn't exactly one, as in no text, the answer is no.
 pub(crate) fn are_mapped_declared(table: &SymbolTable, colons: bool, names: &[Name]) -> bool
     ensures { result ≡ list_all (λ x. is_declared x table.now) (names_of colons names.now) }
@@ -43,7 +43,7 @@ pub(crate) fn are_mapped_declared(table: &SymbolTable, colons: bool, names: &[Na
     }
 }
 
-/// The same of the names of DISTRIBUTE or REDISTRIBUTE.
+/// Whether the names of DISTRIBUTE or REDISTRIBUTE are declared: what it maps, and the name after ONTO where there is one.
 #[tactic(auto, using(expression_rules::proofs::Folds::all_append))]
 pub(crate) fn is_distribution_declared(table: &SymbolTable, spec: &DistSpec) -> bool
     ensures { result ≡ list_all (λ x. is_declared x table.now) (distribution_names (distribution spec.now)) }

@@ -23,7 +23,7 @@ pub(crate) fn first_deep_nest(stmts: &[Stmt]) -> Option<Refusal>
     first
 }
 
-/// The same of one statement and those inside it.
+/// The first nest with a loop too many in one statement and those inside it.
 #[cycle(nests)]
 fn deep_nest_of(stmt: &Stmt) -> Option<Refusal>
     ensures { result ≡ least (flat_map nest_breaches (statement_nests stmt.now.line (statement stmt.now.line stmt.now.what))) }
@@ -42,7 +42,7 @@ fn deep_nest_of(stmt: &Stmt) -> Option<Refusal>
     }
 }
 
-/// The same of the arms of an IF.
+/// The first nest with a loop too many in the arms of an IF.
 #[cycle(nests)]
 fn deep_nest_of_arms(arms: &[Arm]) -> Option<Refusal>
     ensures { result ≡ least (flat_map nest_breaches (arm_nests (arms_of arms.now))) }
@@ -54,7 +54,7 @@ fn deep_nest_of_arms(arms: &[Arm]) -> Option<Refusal>
     first
 }
 
-/// The same of a DO, which begins a nest where it is INDEPENDENT.
+/// The first nest with a loop too many in a DO, which begins a nest where it is INDEPENDENT.
 #[cycle(nests)]
 fn deep_nest_of_do(line: u32, inner: &DoLoop) -> Option<Refusal>
     ensures { result ≡ least (flat_map nest_breaches (statement_nests line (do_construct inner.now))) }
@@ -91,7 +91,7 @@ fn loop_of(stmts: &[Stmt], place: usize) -> Option<u32>
     }
 }
 
-/// The same of one statement.
+/// The line of the loop at a place of the nest that this statement is the whole body of, where there is one.
 #[cycle(loops)]
 fn loop_of_one(stmt: &Stmt, place: usize) -> Option<u32>
     ensures { result ≡ option_map (λ l. l.line) (slice_get (nest_in (Then stmt.now.line (statement stmt.now.line stmt.now.what) Done)).loops place) }
@@ -102,7 +102,7 @@ fn loop_of_one(stmt: &Stmt, place: usize) -> Option<u32>
     }
 }
 
-/// The same of a DO.
+/// The line of the loop at a place of the nest that begins with this DO, where it is INDEPENDENT and there is such a loop.
 #[cycle(loops)]
 fn loop_of_do(line: u32, inner: &DoLoop, place: usize) -> Option<u32>
     ensures { result ≡ option_map (λ l. l.line) (slice_get (nest_in (Then line (do_construct inner.now) Done)).loops place) }

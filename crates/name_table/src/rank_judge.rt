@@ -57,7 +57,8 @@ pub(crate) fn first_bad_rank(
 {
     let scope = Scope::new(table);
     let judge = Ranks { scope: &scope };
-    first_bad(alloc, &judge, stmts)
+    let first = first_bad(alloc, &judge, stmts)?;
+    Ok(first)
 }
 
 /// Whether expressions are logical scalars.
@@ -205,7 +206,7 @@ fn is_assignment(
     Ok(is_right_of(left, right))
 }
 
-/// The same of one under a mask.
+/// Whether the sides of an assignment under a mask are what they must be, the left one an array of the mask's rank.
 fn is_masked_assignment(
     alloc: Global,
     scope: &Scope<'_>,
@@ -222,7 +223,7 @@ fn is_masked_assignment(
     Ok(is_masked_by(mask, left) && is_right_of(left, right))
 }
 
-/// The same of one of a FORALL.
+/// Whether the sides of an assignment of a FORALL are an integer element of an array and an integer scalar.
 fn is_forall_assignment(
     alloc: Global,
     scope: &Scope<'_>,

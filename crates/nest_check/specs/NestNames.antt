@@ -27,7 +27,7 @@ all_added xs (y ∷ ys) = all_added (added xs y) ys
 abbrev pub distinct : List Name → List Name
 distinct xs = all_added [] xs
 
--- the same of operators, of which the first one of each variable stands there
+-- lists of operators, in which the first one of each variable stands
 abbrev pub operator_added : List Operator → Operator → List Operator
 operator_added os o = if list_any (λ p. bytes_eq o.variable p.variable) os then os else os ++ o ∷ []
 

@@ -24,7 +24,7 @@ pub(crate) fn add_nest(names: &mut NestNames<'_>, stmts: &[Stmt]) -> Result<(), 
     }
 }
 
-/// The same of one loop.
+/// With the loops of the nest that begins with one INDEPENDENT loop, and those in its body.
 #[cycle(loops)]
 fn add_loops(names: &mut NestNames<'_>, stmt: &Stmt) -> Result<(), AllocError>
     requires { is_independent (statement stmt.now.line stmt.now.what) ≡ true }

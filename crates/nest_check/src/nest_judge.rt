@@ -165,7 +165,7 @@ fn is_assignment_allowed(
     is_allowed_with(names, do_variables, left, right, operator)
 }
 
-/// The same, with the operator that it has as a reduction statement.
+/// An assignment may stand there, with the operator that it has as a reduction statement.
 fn is_allowed_with(
     names: &NestNames<'_>,
     do_variables: &[Name],

@@ -40,7 +40,7 @@ fn all_well_listed(names: &NestNames<'_>, new: &[Name], reduction: &[Name], list
     all
 }
 
-/// The same of one.
+/// The name is that of a scalar variable and doesn't stand in both lists.
 fn is_well_listed(names: &NestNames<'_>, new: &[Name], reduction: &[Name], name: &Name) -> bool
     ensures { result ≡ is_well_listed names.now new.now reduction.now name.now }
 {

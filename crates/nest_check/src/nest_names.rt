@@ -205,7 +205,7 @@ impl<'a> NestNames<'a> {
         both_lists(alloc, &self.new_names, mark.new.as_slice())
     }
 
-    /// The same of the REDUCTION variables.
+    /// The REDUCTION variables with those of one directive more.
     pub(crate) fn reduction_with(&self, alloc: Global, mark: &Mark) -> Result<Vec<Name>, AllocError>
         ensures { IfOk result (λ xs. xs.items ≡ all_added self.now.reduction_names (independent mark.now).reduction) }
     {

@@ -40,7 +40,7 @@ pub fn first_bad_nest(
     Ok(first)
 }
 
-/// The same, where the constants and arrays among the declared names are given.
+/// The first breach of the rules of nests in statements, where the constants and arrays among the declared names are given.
 #[cycle(nests)]
 fn first_in_nests(
     alloc: Global,
@@ -59,7 +59,7 @@ fn first_in_nests(
     Ok(first)
 }
 
-/// The same of one statement and those inside it.
+/// The first breach of the rules of nests in one statement and those inside it.
 #[cycle(nests)]
 fn bad_nest_of(
     alloc: Global,
@@ -87,7 +87,7 @@ fn bad_nest_of(
     }
 }
 
-/// The same of the arms of an IF.
+/// The first breach of the rules of nests in the arms of an IF.
 #[cycle(nests)]
 fn bad_nest_of_arms(
     alloc: Global,
@@ -106,7 +106,7 @@ fn bad_nest_of_arms(
     Ok(first)
 }
 
-/// The same of a DO, which begins a nest where it is INDEPENDENT.
+/// The first breach of the rules of nests in a DO, which begins a nest where it is INDEPENDENT.
 #[cycle(nests)]
 fn bad_nest_of_do(
     alloc: Global,
@@ -180,7 +180,7 @@ fn first_inside(
     }
 }
 
-/// The same of one further loop.
+/// The first breach in one further loop of a nest: of that loop alone, or in what stands in it.
 #[cycle(inside)]
 fn first_in_loops(
     alloc: Global,

@@ -54,7 +54,8 @@ fn walk_paths(
     Ok(first)
 }
 
-/// The same of one statement and those inside it.
+/// The first breach in one statement and those inside it, after an assignment of these scalars; those that are assigned after it
+/// are added.
 #[cycle(paths)]
 fn walk_statement(
     alloc: Global,
@@ -99,7 +100,7 @@ fn walk_statement(
     }
 }
 
-/// The same of the arms of an IF. What they have in common with what is given stays.
+/// The first breach in the arms of an IF. Of what is kept, that stays which is also assigned after each arm.
 #[cycle(paths)]
 fn walk_arms(
     alloc: Global,
@@ -119,7 +120,7 @@ fn walk_arms(
     Ok(first)
 }
 
-/// The same of one arm.
+/// The first breach in one arm of an IF. Of what is kept, that stays which is also assigned after the arm.
 #[cycle(paths)]
 fn walk_arm(
     alloc: Global,
@@ -138,7 +139,7 @@ fn walk_arm(
     Ok(earlier(tested, inside))
 }
 
-/// The same of a loop, after which no more is assigned than before it.
+/// The first breach in a loop, after which no more is assigned than before it.
 #[cycle(paths)]
 fn walk_do(
     alloc: Global,

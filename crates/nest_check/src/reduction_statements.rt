@@ -37,7 +37,7 @@ fn operator_in(name: &Name, e: &Expr) -> Option<Join>
     }
 }
 
-/// The same of an intrinsic procedure with its arguments.
+/// What an intrinsic procedure with its arguments joins a variable with a number by.
 fn operator_of_call(name: &Name, op: Op, arguments: &[Expr]) -> Option<Join>
     ensures { result ≡ operator_in name.now (Call op (arguments_of arguments.now)) }
 {
@@ -48,7 +48,7 @@ fn operator_of_call(name: &Name, op: Op, arguments: &[Expr]) -> Option<Join>
     }
 }
 
-/// The same of two operands or arguments.
+/// What two operands or arguments join a variable with a number by.
 fn operator_between(name: &Name, op: Op, a: &Expr, b: &Expr) -> Option<Join>
     ensures { result ≡ operator_between name.now op (expression a.now) (expression b.now) }
 {

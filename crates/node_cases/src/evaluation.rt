@@ -66,7 +66,7 @@ pub fn flat(alloc: Global, slots: &[i64], axes: &[i64], f: &Flat) -> Result<i64,
     }
 }
 
-/// The same, and 0 where it has a fault.
+/// The value of an expression over the slots and the values of the indices of a FORALL; 0 where it has a fault.
 pub fn flat_or_zero(
     alloc: Global,
     slots: &[i64],

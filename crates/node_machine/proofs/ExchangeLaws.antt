@@ -18,8 +18,8 @@ use Rattle.part_steps.specs.Parts.{PartView, part_of}
 use Rattle.part_steps.specs.declared.who.Who.{Who}
 use Rattle.part_steps.specs.declared.who.Who.TheVariants.{Left, First}
 use Rattle.part_steps.proofs.Instructions.{par-is, reduce-is}
-use Rattle.exchange_plans.specs.Exchanged.{HasLists, IsExchangeOf}
-use Rattle.exchange_plans.specs.Planned.{planned}
+use Rattle.part_steps.specs.InstructionExchange.{HasLists, IsExchangeOf}
+use Rattle.part_steps.specs.InstructionParts.{instruction_part}
 use Rattle.node_machine.specs.Exchanges.{IsExchangeBy, owners_of, part_on}
 use Rattle.node_machine.specs.Parts.{IsParallel, OpensPart}
 use Rattle.node_machine.specs.Reductions.{IsReduced}
@@ -31,15 +31,15 @@ exchange-at v w x y e parts ids is = rw (parts, ids) is
 module _ (a : Node Text Fault) (i : Instr Fault) (w : Statement) where
   -- ---- the part that the instruction is
 
-  pub parallel-planned : IsParallel i a.control.slots w → planned a.nodes a.layouts a.control.slots i ≡ Some (part_of (part_on a Left w))
-  parallel-planned p = ap (planned a.nodes a.layouts a.control.slots) p.is ∙ ap Some (sym (par-is a.nodes a.layouts w a.control.slots p.tuples p.left p.statement))
+  pub parallel-instruction_part : IsParallel i a.control.slots w → instruction_part a.nodes a.layouts a.control.slots i ≡ Some (part_of (part_on a Left w))
+  parallel-instruction_part p = ap (instruction_part a.nodes a.layouts a.control.slots) p.is ∙ ap Some (sym (par-is a.nodes a.layouts w a.control.slots p.tuples p.left p.statement))
 
-  pub reduction-planned : (o : Join) → IsReduced i a.control.slots o w → planned a.nodes a.layouts a.control.slots i ≡ Some (part_of (part_on a First w))
-  reduction-planned o p = ap (planned a.nodes a.layouts a.control.slots) p.is ∙ ap Some (sym (reduce-is a.nodes a.layouts w a.control.slots p.tuples no_left p.statement))
+  pub reduction-instruction_part : (o : Join) → IsReduced i a.control.slots o w → instruction_part a.nodes a.layouts a.control.slots i ≡ Some (part_of (part_on a First w))
+  reduction-instruction_part o p = ap (instruction_part a.nodes a.layouts a.control.slots) p.is ∙ ap Some (sym (reduce-is a.nodes a.layouts w a.control.slots p.tuples no_left p.statement))
 
   -- ---- both ways
 
-  module _ (who : Who) (e : Exchange) (is : planned a.nodes a.layouts a.control.slots i ≡ Some (part_of (part_on a who w))) where
+  module _ (who : Who) (e : Exchange) (is : instruction_part a.nodes a.layouts a.control.slots i ≡ Some (part_of (part_on a who w))) where
     pub exchange-by : IsExchangeOf i a.control.slots (owners_of a) a.id e → IsExchangeBy a who w e
     exchange-by h = h.exchanged (part_of (part_on a who w)) is
 
@@ -53,13 +53,13 @@ module _ (a : Node Text Fault) (i : Instr Fault) (w : Statement) where
 module _ (a : Node Text Fault) (w : Statement) where
   pub par-opens : IsParallel (instr_at text_meaning a.code a.control.at) a.control.slots w → OpensPart a (part_of (part_on a Left w))
   par-opens p = record {
-    is = parallel-planned a _ w p;
+    is = parallel-instruction_part a _ w p;
     opened = ap (λ x. part_opened a.nodes x a) (par-is a.nodes a.layouts w a.control.slots p.tuples p.left p.statement) ∙ ap (λ x. begun_by fault_values a.nodes x a) (sym p.is);
   }
 
   pub reduction-opens : (o : Join) → a.substep ≡ 0 → IsReduced (instr_at text_meaning a.code a.control.at) a.control.slots o w → OpensPart a (part_of (part_on a First w))
   reduction-opens o first p = record {
-    is = reduction-planned a _ w o p;
+    is = reduction-instruction_part a _ w o p;
     opened = ap (λ x. part_opened a.nodes x a) (reduce-is a.nodes a.layouts w a.control.slots p.tuples no_left p.statement)
         ∙ ap (λ k. reduce_begun fault_values a.nodes k p.tuples (fold_of o) p.slot a) (sym first) ∙ ap (λ x. begun_by fault_values a.nodes x a) (sym p.is);
   }

@@ -9,7 +9,7 @@ use Rattle.tuple_values.specs.Statements.{Statement}
 use Rattle.part_steps.specs.Exchanged.{IsExchange}
 use Rattle.part_steps.specs.Parts.{PartView}
 use Rattle.part_steps.specs.declared.who.Who.{Who}
-use Rattle.exchange_plans.specs.Exchanged.{IsExchangeOf}
+use Rattle.part_steps.specs.InstructionExchange.{IsExchangeOf}
 
 abbrev pub owners_of : Node Text Fault → OwnersView
 owners_of a = record { layouts = a.layouts; nodes = a.nodes }

@@ -17,8 +17,8 @@ use Rattle.tuple_values.specs.Statements.{IsStatement, Statement}
 use Rattle.slot_values.specs.KeptFaults.{kepts}
 use Rattle.part_steps.specs.Stores.{stored}
 use Rattle.part_steps.specs.declared.parallel.ParValues.{ParValues}
-use Rattle.exchange_plans.specs.Exchanged.{HasLists}
-use Rattle.exchange_plans.specs.Planned.{planned}
+use Rattle.part_steps.specs.InstructionExchange.{HasLists}
+use Rattle.part_steps.specs.InstructionParts.{instruction_part}
 use Rattle.node_machine.specs.Exchanges.{IsExchangeHere}
 use Rattle.node_machine.specs.declared.parts.Opening.{Opening}
 use Rattle.node_machine.specs.declared.parts.ParStep.{ParStep}
@@ -56,7 +56,7 @@ IsOpening part a o = settled (record a { received = no_values a.nodes }) o.outbo
 
 -- the instruction is this part, and its phase is opened next
 pub record OpensPart (a : Node Text Fault) (part : Part) : Type 0 where
-  pub is : planned a.nodes a.layouts a.control.slots (instr_at text_meaning a.code a.control.at) ≡ Some part
+  pub is : instruction_part a.nodes a.layouts a.control.slots (instr_at text_meaning a.code a.control.at) ≡ Some part
   pub opened : part_opened a.nodes part a ≡ begun_by fault_values a.nodes (instr_at text_meaning a.code a.control.at) a
 
 -- what a node needs to open the phase of the part at its place

@@ -66,7 +66,7 @@ IsItemStep item (step.PrintText t) = item ≡ machine.Text (text_of t)
 IsItemStep item (step.PrintSection s) = item ≡ item_of s.shapes.now.items (PrintSection s.array (subs s.section.now.items))
 IsItemStep item s = ⊥
 
--- the same of the text of an instruction
+-- the instruction with this text has this done on so many nodes after so many of its steps
 abbrev pub TextDoes : Instr Fault → Instruction → (nodes substep : ℕ) → Step → Type 0
 TextDoes i text nodes k step.End = ⊥
 TextDoes i text nodes k step.Local = is_local text ≡ true

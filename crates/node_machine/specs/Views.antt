@@ -8,7 +8,7 @@ use Rattle.letters.specs.Parcel.{Parcel}
 use Rattle.node_code.specs.ProgramText.{Text}
 use Rattle.slot_values.specs.Controls.{control_of}
 use Rattle.slot_values.specs.KeptFaults.{kepts}
-use Rattle.exchange_plans.specs.Plans.{ArePlans}
+use Rattle.part_steps.specs.KeptExchanges.{AreKeptExchanges}
 use Rattle.node_machine.specs.declared.node.Node.TheInside.{Inside}
 use Rattle.node_machine.specs.Programs.{code_of}
 use Rattle.node_machine.specs.declared.stage.Stage.{Stage as HeldStage}
@@ -55,4 +55,4 @@ pub record IsNode (n : Inside) : Type 0 where
   pub pieces : length n.pieces.items ≡ length n.owners.layouts
   pub next_to : length n.post.next_to ≡ (arc_value n.program).nodes
   pub next_from : length n.post.next_from ≡ (arc_value n.program).nodes
-  pub plans : ArePlans (code_of (arc_value n.program)) n.id n.plans
+  pub exchanges : AreKeptExchanges (code_of (arc_value n.program)) n.id n.exchanges

@@ -2,8 +2,8 @@
 
 ghost use Rattle.std.specs.Prelude.{◌≡◌, Some, IfOk, IfSome};
 ghost use Rattle.std.specs.Arc.{arc_value};
-ghost use Rattle.exchange_plans.specs.Exchanged.{HasLists};
-ghost use Rattle.exchange_plans.specs.Planned.{planned};
+ghost use Rattle.part_steps.specs.InstructionExchange.{HasLists};
+ghost use Rattle.part_steps.specs.InstructionParts.{instruction_part};
 ghost use Rattle.node_code.specs.Texts.{instruction};
 ghost use Rattle.part_steps.specs.Parts.{part_of};
 ghost use Rattle.tuple_values.specs.Views.{statement as statement_of};
@@ -42,7 +42,7 @@ impl Node {
         who: Who,
     ) -> Result<FoundExchange, OutOfMemory>
         requires code { IsCode (instr_here self.now) (instruction i.now) }
-        requires part { planned self.now.nodes self.now.layouts self.now.control.slots (instr_here self.now) ≡ Some (part_of (part_on self.now who (statement_of statement.now))) }
+        requires part { instruction_part self.now.nodes self.now.layouts self.now.control.slots (instr_here self.now) ≡ Some (part_of (part_on self.now who (statement_of statement.now))) }
         ensures { IfOk result (λ f. IsExchangeHere self.now (arc_value f.exchange)) }
     {
         if let Some(kept) = self.kept_exchange(i) {
@@ -60,13 +60,13 @@ impl Node {
         })
     }
 
-    /// The same, made anew.
+    /// What the node exchanges for the part at its place, whose statement this is, made anew.
     fn made_exchange(
         &self,
         statement: &ParallelStatement<'_>,
         who: Who,
     ) -> Result<Exchange, OutOfMemory>
-        requires { planned self.now.nodes self.now.layouts self.now.control.slots (instr_here self.now) ≡ Some (part_of (part_on self.now who (statement_of statement.now))) }
+        requires { instruction_part self.now.nodes self.now.layouts self.now.control.slots (instr_here self.now) ≡ Some (part_of (part_on self.now who (statement_of statement.now))) }
         ensures { IfOk result (IsExchangeHere self.now) }
     {
         let exchange = self.exchange_by(statement, who)?;
@@ -79,7 +79,7 @@ impl Node {
         ensures { IfSome result (λ e. IsExchangeHere self.now (arc_value e.now)) }
     {
         match self
-            .plans
+            .exchanges
             .find(self.control.at, i, &self.control.slots, &self.owners)
         {
             Some(exchange) => Some(exchange),
@@ -110,7 +110,7 @@ impl Node {
             return;
         }
         let room = room_beside(&self.pieces);
-        self.plans.keep(
+        self.exchanges.keep(
             self.alloc,
             self.control.at,
             &self.control.slots,

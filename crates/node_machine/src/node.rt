@@ -11,11 +11,11 @@ ghost use Rattle.node_machine.specs.Views.{closed};
 use crate::post::Post;
 use crate::program::NodeProgram;
 use crate::stage::Stage;
-use exchange_plans::Plans;
 use hpf_base::OutOfMemory;
 use letters::{Body, Letter, Parcel};
 use node_law::{Act, NodeId, PhasedNode};
 use owner_tables::{Owners, Row};
+use part_steps::KeptExchanges;
 use remap_steps::Redistribution;
 use slot_values::{Control, Kept, Status};
 use std::alloc::Global;
@@ -45,7 +45,7 @@ pub struct Node {
     pub(crate) folded: Vec<i64>,
     /// The redistribution under way, kept from round to round so that it is computed once. No contract sees it.
     pub(crate) moving: Option<Redistribution>,
-    pub(crate) plans: Plans,
+    pub(crate) exchanges: KeptExchanges,
 }
 
 impl Model for Node {

@@ -12,9 +12,9 @@ use crate::node::Node;
 use crate::post::Post;
 use crate::program::NodeProgram;
 use crate::stage::Stage;
-use exchange_plans::Plans;
 use hpf_base::OutOfMemory;
 use owner_tables::{Owners, Row};
+use part_steps::KeptExchanges;
 use slot_values::{Control, Status};
 use std::alloc::Global;
 use std::sync::Arc;
@@ -59,7 +59,7 @@ impl Node {
             round: 0,
             folded: Vec::new(alloc),
             moving: None,
-            plans: Plans::new(alloc),
+            exchanges: KeptExchanges::new(alloc),
         })
     }
 

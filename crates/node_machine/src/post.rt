@@ -65,7 +65,8 @@ impl Post {
         self.received = received;
     }
 
-    /// The same, where what was taken so far stays. It takes no memory.
+    /// A phase is opened where what was taken so far stays: this is to be sent, and letters of these nodes are to be taken. It takes no
+    /// memory.
     pub fn reopen(&mut self, outbox: VecDeque<Parcel>, inbox: VecDeque<u32>)
         requires targets { All (λ parcel. parcel.to < length self.old.next_to) outbox.items }
         requires sources { All (λ source. source < length self.old.next_from) inbox.items }

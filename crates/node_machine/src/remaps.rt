@@ -113,7 +113,7 @@ impl Node {
         self.begin_moving(moving)
     }
 
-    /// The same by the redistribution.
+    /// The redistribution at the node's place, which is given, begins. For want of memory nothing changes.
     fn begin_moving(&mut self, moving: Redistribution) -> Result<(), OutOfMemory>
         requires is { IsRemap (instr_here self.old) self.old moving }
         requires in_code { self.old.control.at < 2 ^ 63 }
@@ -141,7 +141,7 @@ impl Node {
         self.finish_moving(moving)
     }
 
-    /// The same by the redistribution.
+    /// The redistribution at the node's place, which is given, goes on after a round. For want of memory nothing changes.
     fn finish_moving(&mut self, moving: Redistribution) -> Result<(), OutOfMemory>
         requires is { IsRemap (instr_here self.old) self.old moving }
         requires in_code { self.old.control.at < 2 ^ 63 }

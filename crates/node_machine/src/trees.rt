@@ -34,6 +34,7 @@ pub(crate) struct Reduction {
 impl Node {
     /// Opens a round of a tree, in which the node has these numbers. For want of memory nothing changes.
     pub(crate) fn open_round(&mut self, round: u32, folded: Vec<i64>) -> Result<(), OutOfMemory>
+        requires going { round < 2 * levels_of self.old.nodes }
         ensures ok { OnOk result (self.new ≡ opened self.old.nodes (tree_sends (levels_of self.old.nodes) round) (λ q. folded.items) (record self.old { round = round; folded = folded.items })) }
         ensures err { OnErr result (self.new ≡ self.old) }
     {
@@ -69,6 +70,7 @@ impl Node {
 
     /// What the node sends in a round of a tree.
     fn round_outbox(&self, round: u32, folded: &[i64]) -> Result<VecDeque<Parcel>, OutOfMemory>
+        requires going { round < 2 * levels_of self.now.nodes }
         ensures items { IfOk result (λ o. o.items ≡ map (parcel (λ q. folded.now)) (filter (tree_sends (levels_of self.now.nodes) round self.now.id) (range_with_len 0 self.now.nodes))) }
         ensures below { IfOk result (λ o. All (λ parcel. parcel.to < self.now.nodes) o.items) }
     {
@@ -77,6 +79,7 @@ impl Node {
 
     /// From whom it takes.
     fn round_inbox(&self, round: u32) -> Result<VecDeque<u32>, OutOfMemory>
+        requires going { round < 2 * levels_of self.now.nodes }
         ensures items { IfOk result (λ i. i.items ≡ filter (λ p. tree_sends (levels_of self.now.nodes) round p self.now.id) (range_with_len 0 self.now.nodes)) }
         ensures below { IfOk result (λ i. All (λ source. source < self.now.nodes) i.items) }
     {

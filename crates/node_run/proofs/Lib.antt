@@ -22,6 +22,6 @@ mod Stepping
 mod TreeFold
 mod TreeLevels
 mod TreeRun
-mod TreeActs
+pub mod TreeActs
 mod TreeSteps
 pub mod Wholes

@@ -6,11 +6,17 @@
 //!
 //! What holds in between: one pass over all tuples asks who computes each and what it reads (`exchange_of`), and all else goes by what the
 //! pass gave; values are asked of the tuples alone that the node computes; all values are taken before any is stored, so that want of
-//! memory leaves a node as it was; what is stored at last takes no memory.
+//! memory leaves a node as it was; what is stored at last takes no memory. What a node exchanges for an instruction is kept from one run of
+//! it to the next (`KeptExchanges`): it depends on the slots that the instruction mentions and on no others, so where these are the same and
+//! the rows lie alike, it is the same.
 #![tactic(auto)]
 
+mod agreement;
 mod computing;
 mod gathered;
+mod kept_exchange;
+mod kept_exchanges;
+mod laws;
 mod making;
 mod opening;
 mod parallel;
@@ -21,6 +27,9 @@ mod stores;
 mod values;
 mod who;
 
+pub use agreement::agrees;
+pub use kept_exchanges::KeptExchanges;
+pub use laws::same_parts;
 pub use opening::{exchange_of, inbox, outbox};
 pub use parallel::{ParValues, par_values};
 pub use part::Part;

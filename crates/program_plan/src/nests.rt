@@ -45,7 +45,7 @@ fn nest_in(alloc: Global, names: &Names, stmts: &[Stmt]) -> Result<Option<Nest>,
     }
 }
 
-/// The same of one statement.
+/// The nest of the loop that this statement is, if it is one.
 #[cycle(nest)]
 fn nest_of_one(alloc: Global, names: &Names, stmt: &Stmt) -> Result<Option<Nest>, OutOfMemory>
     ensures { IfOk result (λ n. IsNestOf n (Then stmt.now.line (resolved names.now (syntax.statement stmt.now.line stmt.now.what)) Done)) }

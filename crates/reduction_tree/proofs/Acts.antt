@@ -7,7 +7,7 @@ use Rattle.hpf_base.specs.declared.node.NodeId.{NodeId}
 use Rattle.reduction_tree.specs.declared.tree.TreeAct.{TreeAct}
 use Rattle.reduction_tree.specs.declared.tree.TreeAct.TheVariants.{Idle, Send, Take}
 use Rattle.reduction_tree.specs.Tree.{levels, node_id, up_act, exchanged, act_of}
-use Rattle.reduction_tree.proofs.Levels.{power-some}
+use Rattle.reduction_tree.proofs.RoundsUp.{power-some}
 
 pub whole : (m p : ℕ) → p % m ≡ 0 → p ≡ p / m * m
 whole m p h = let e = mod-add-div' p m in omega (arith, e, h)

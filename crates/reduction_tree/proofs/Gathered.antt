@@ -11,7 +11,7 @@ use Rattle.reduction_tree.specs.declared.tree.TreeAct.{TreeAct}
 use Rattle.reduction_tree.specs.declared.tree.TreeAct.TheVariants.{Idle, Send, Take}
 use Rattle.reduction_tree.specs.Tree.{levels, up_act, exchanged, act_of, after_act, after_rounds}
 use Rattle.reduction_tree.proofs.Acts.{whole, times-mod, twice-divides, half-or-none, half-below, sends-up, takes-up, idle-up, Within, act-within}
-use Rattle.reduction_tree.proofs.Levels.{power-some, levels_enough}
+use Rattle.reduction_tree.proofs.RoundsUp.{power-some, levels_enough}
 
 below-none : (m p : ℕ) → p < m → p % m ≡ 0 → p ≡ 0
 below-none m p lt h = let e = whole m p h in by_times (p / m) e

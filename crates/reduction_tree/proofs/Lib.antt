@@ -1,4 +1,4 @@
 pub mod Acts
 pub mod Gathered
-pub mod Levels
 pub mod Owners
+pub mod RoundsUp

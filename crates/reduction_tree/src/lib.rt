@@ -20,4 +20,4 @@ pub use kept_fault::{KeptFault, LeastFault};
 pub use laws::{law_of_acts, law_of_owners, law_of_trees};
 pub use numbers::{BitAnd, BitOr, BitXor, Greatest, Least, Product, Sum};
 pub use placed::{LastValue, Placed};
-pub use tree::{TreeAct, tree_act};
+pub use tree::{TreeAct, levels, tree_act};

@@ -33,8 +33,8 @@ pub fn tree_act(nodes: u32, round: u32, node: NodeId) -> TreeAct
     }
 }
 
-/// The number of rounds up.
-fn levels(nodes: u32) -> u32
+/// The number of rounds up of a tree over so many nodes: the least r for which 2^r is at least that number. As many rounds go down.
+pub fn levels(nodes: u32) -> u32
     ensures value { result ≡ levels nodes }
     ensures few { result ≤ 32 }
 {

@@ -41,7 +41,7 @@ abbrev mutual
   with_subscript (Subscript' t) rest = Subscript (term t) rest
   with_subscript (Triplet' first last step) rest = Triplet (term first) (term last) (term step) rest
 
--- the same of lists
+-- lists of terms and of section subscripts
 abbrev pub terms_of : List HeldTerm → Terms
 terms_of [] = NoTerm
 terms_of (t ∷ ts) = More (term t) (terms_of ts)
@@ -115,7 +115,7 @@ abbrev mutual
   arms end_of-Arm = NoArm
   arms (more_of-Arm (struct-Arm n condition shape row) rest) = Arm n (term condition) (block row) (arms rest)
 
--- the same of lists
+-- lists of statements and of arms
 abbrev pub block_of : List HeldStatement → Block
 block_of [] = Done
 block_of (s ∷ ss) = Then s.line (statement s.what) (block_of ss)

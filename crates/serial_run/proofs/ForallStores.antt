@@ -38,7 +38,7 @@ forall_stop axes mask b s t n x old e at lt before here =
     keep_stop (indices_at axes) (λ t. masked_forall_store s mask b t (indices_at axes t)) t n old e lt before
     (subst (λ x. IsStop (at_tuple x (masked_forall_store s mask b t x)) e) at here)
 
--- the same of a mask
+-- a stop of the mask at the next tuple stops the mask at all tuples
 pub mask_stop : (axes : List Sequence) (s : State) (mask : Term) (t n : ℕ) (x vs : List ℤ) (e : Stop) →
     x ≡ indices_at axes t → t < n → each (indices_at axes) (λ t. value (indices_at axes t) s mask) t ≡ Ok vs → IsStop (at_tuple x (value x s mask)) e →
     IsStop (each (indices_at axes) (λ t. value (indices_at axes t) s mask) n) e

@@ -42,7 +42,7 @@ next_values p ps t h =
     ap (λ v. v ∷ indices_at ps (t / p.count)) (next_value p (t % p.count) ∙ ap (λ k. wrapped (nth p (pos (suc k)))) (next_place t p.count h))
     ∙ ap (λ q. wrapped (nth p (pos (suc ((t + 1) % p.count)))) ∷ indices_at ps q) (next_quotient t p.count h)
 
--- the same of a tuple in code, with the value of the first index and the one after it
+-- a tuple in code after a step of the first index, with the value of that index and the one after it
 pub step_is : (axes : List Sequence) (t : ℕ) (x y : IndexTuple) (v w : ℤ) (d : Sequence) → IsTrue (has_next axes x.place) → IsTuple axes t x →
     v ≡ get_or x.values.items 0 v → w ≡ wrapped (v +ℤ (get_or axes 0 d).step) → y.place ≡ x.place + 1 → y.values.items ≡ set x.values.items 0 w →
     IsTuple axes (t + 1) y

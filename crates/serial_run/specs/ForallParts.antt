@@ -41,7 +41,7 @@ element_store s a subscripts right x = values x s subscripts >>= (λ is. store_a
 abbrev pub forall_store : State → ElementAssignment → List ℤ → Result (Option Store) Cause
 forall_store s b x = element_store s b.array b.subscripts b.right x
 
--- the same where the mask is true
+-- what an assignment to an element stores at a tuple with a number, where the mask is true
 abbrev pub masked_forall_store : State → Mask → ElementAssignment → ℕ → List ℤ → Result (Option Store) Cause
 masked_forall_store s mask b t x = if_true (mask t) (forall_store s b x)
 

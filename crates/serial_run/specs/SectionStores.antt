@@ -39,7 +39,7 @@ Keeps r old new = (o : Option Store) × (r ≡ Ok o) × (new ≡ with_kept old o
 abbrev pub tuple_store : State → ℕ → List Selection → Elemental → List ℤ → Result (Option Store) Cause
 tuple_store s a ds x tuple = store_at s a (subscripts_at ds tuple) (value_at s tuple x)
 
--- the same at the tuple with a number, where the mask is true
+-- what is stored at the tuple with a number, where the mask is true
 abbrev pub masked_store : State → List ℕ → Mask → ℕ → List Selection → Elemental → ℕ → Result (Option Store) Cause
 masked_store s ns mask a ds x t = if_true (mask t) (tuple_store s a ds x (positions ns t))
 

@@ -96,7 +96,7 @@ fn extents(alloc: Global, axes: &[Sequence]) -> Result<Vec<u128>, AllocError>
     axes.iter().map(|p| p.count).collect(alloc)
 }
 
-/// The same where there are so many tuples. Where there is none, nothing more is evaluated.
+/// Runs it after its header, where there are so many tuples. Where there is none, nothing more is evaluated.
 fn run_counted(
     s: &mut State,
     f: Forall<'_>,

@@ -120,7 +120,7 @@ fn forall_store(s: &State, b: &ElementAssignment, x: &[i64]) -> Result<Store, St
     Ok(Store { place, value })
 }
 
-/// The same where the left side has one subscript.
+/// What is stored at a tuple where the left side has one subscript: this and its bounds come before the right side.
 fn store_of_one(
     s: &State,
     array: usize,

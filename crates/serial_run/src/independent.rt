@@ -22,7 +22,7 @@ pub fn first_independent(stmts: &[Stmt]) -> Option<Refusal>
     first
 }
 
-/// The same of one statement and those inside it.
+/// `LeftOut` at the least line of an INDEPENDENT that stands before a DO, in one statement and those inside it.
 #[cycle(independent)]
 fn first_in_statement(stmt: &Stmt) -> Option<Refusal>
     ensures { result ≡ least (flat_map left_out (statement_marks (statement stmt.now.line stmt.now.what))) }
@@ -41,7 +41,7 @@ fn first_in_statement(stmt: &Stmt) -> Option<Refusal>
     }
 }
 
-/// The same of the arms of an IF.
+/// `LeftOut` at the least line of an INDEPENDENT that stands before a DO, in the arms of an IF.
 #[cycle(independent)]
 fn first_in_arms(arms: &[Arm]) -> Option<Refusal>
     ensures { result ≡ least (flat_map left_out (arm_marks (arms_of arms.now))) }
@@ -53,7 +53,7 @@ fn first_in_arms(arms: &[Arm]) -> Option<Refusal>
     first
 }
 
-/// The same of a DO.
+/// `LeftOut` at the least line of an INDEPENDENT that stands before this DO, or before one in its body.
 #[cycle(independent)]
 fn first_in_do(inner: &DoLoop) -> Option<Refusal>
     ensures { result ≡ least (flat_map left_out (statement_marks (do_construct inner.now))) }

@@ -54,7 +54,7 @@ fn scalar_at(names: &Names, place: usize) -> i64
     }
 }
 
-/// The same of what a name is.
+/// The initial value of a scalar, by what its name is; 0 for anything else.
 fn scalar_of(what: &What) -> i64
     ensures { result ≡ initial_scalar what.now }
 {
@@ -86,7 +86,7 @@ fn array_at(alloc: Global, names: &Names, place: usize) -> Result<Array, AllocEr
     }
 }
 
-/// The same of what a name is.
+/// An array with its initial values, by what its name is; one without elements for anything else.
 fn array_of(alloc: Global, what: &What) -> Result<Array, AllocError>
     ensures { IfOk result (λ a. a ≡ initial_array what.now) }
 {

@@ -38,7 +38,7 @@ pub fn element_spot(
     spot_at(array, element_place(shapes, array, subscripts.as_slice()))
 }
 
-/// The same of one subscript.
+/// The element of an array that one subscript names, which is evaluated; its fault, or one where it is out of bounds.
 fn spot_by_one(shapes: &[Dims], array: usize, subscript: &Flat, slots: &[i64]) -> Result<Spot, Stop>
     ensures value { IfOk result (λ s. element_spot shapes.now array (AndFlat (flat subscript.now) NoFlat) slots.now ≡ Ok (spot_of s)) }
     ensures stopped { IfErr result (IsStop (element_spot shapes.now array (AndFlat (flat subscript.now) NoFlat) slots.now)) }
@@ -48,7 +48,8 @@ fn spot_by_one(shapes: &[Dims], array: usize, subscript: &Flat, slots: &[i64]) -
     Ok(spot)
 }
 
-/// The same of two.
+/// The element of an array that two subscripts name, which are evaluated from left to right; the first fault of a subscript, or one
+/// where a subscript is out of bounds.
 fn spot_by_two(
     shapes: &[Dims],
     array: usize,
@@ -91,7 +92,7 @@ pub fn element_place(shapes: &[Dims], array: usize, subscripts: &[i64]) -> Optio
     }
 }
 
-/// The same of one subscript.
+/// The place of the element with one subscript, from 0; None where the subscript is out of bounds. It takes no memory.
 pub fn element_place_of_one(shapes: &[Dims], array: usize, subscript: &i64) -> Option<usize>
     ensures { result ≡ element_place (shape_of shapes.now array) (subscript.now ∷ []) }
 {
@@ -102,7 +103,8 @@ pub fn element_place_of_one(shapes: &[Dims], array: usize, subscript: &i64) -> O
     }
 }
 
-/// The same of two subscripts.
+/// The place of the element with two subscripts in array element order, from 0; None where a subscript is out of bounds. It takes no
+/// memory.
 pub fn element_place_of_two(
     shapes: &[Dims],
     array: usize,

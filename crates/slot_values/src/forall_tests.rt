@@ -68,7 +68,7 @@ fn is_in_limits(
     }
 }
 
-/// The same where the space isn't empty and has few tuples.
+/// Whether the space of these indices and all subscripts are in the limits, where the space isn't empty and has few tuples.
 fn is_full_space_in_limits(
     alloc: Global,
     ds: &[Selection],

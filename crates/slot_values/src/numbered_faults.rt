@@ -236,7 +236,7 @@ fn after(numbers: &[i64], count: u64) -> &[i64]
     }
 }
 
-/// The same numbers.
+/// A copy of the numbers.
 fn copied(alloc: Global, numbers: &[i64]) -> Result<Vec<i64>, AllocError>
     ensures { IfOk result (λ v. v.items ≡ numbers.now) }
 {
@@ -245,7 +245,7 @@ fn copied(alloc: Global, numbers: &[i64]) -> Result<Vec<i64>, AllocError>
     Ok(v)
 }
 
-/// The same numbers in a place of their own.
+/// A copy of the numbers in a box.
 fn boxed(alloc: Global, numbers: &[i64]) -> Result<Box<Vec<i64>>, AllocError>
     ensures { IfOk result (λ b. (box_value b).items ≡ numbers.now) }
 {

@@ -49,7 +49,8 @@ fn assignment_size(alloc: Global, p: &Assignment, slots: &[i64]) -> Result<usize
     space_size(alloc, &ns, &left, &right)
 }
 
-/// The same of an array expression by itself.
+/// The run ends with a fault where a section of an array expression by itself has other extents than its space, or the space is beyond
+/// the limits, and else goes on. After want of memory nothing has changed.
 #[tactic(auto, using(crate::proofs::Tested::tested_as))]
 pub fn own_limits(alloc: Global, p: &Evaluation, c: &mut Control) -> Result<(), OutOfMemory>
     requires in_code { c.old.at < 2 ^ 63 }

@@ -223,7 +223,7 @@ fn walk_masked<J: Judge>(
     Ok(first)
 }
 
-/// The same of one.
+/// The first of what is wrong with a statement under a mask, which is something only where it is an assignment.
 fn masked_one<J: Judge>(
     alloc: Global,
     judge: &J,
@@ -242,7 +242,7 @@ fn masked_one<J: Judge>(
     }
 }
 
-/// The same of the assignments after an ELSEWHERE that may be there.
+/// The first of what is wrong with the assignments after an ELSEWHERE that may be there.
 fn walk_elsewhere<J: Judge>(
     alloc: Global,
     judge: &J,
@@ -276,7 +276,7 @@ fn walk_indexed<J: Judge>(
     Ok(first)
 }
 
-/// The same of one.
+/// The first of what is wrong with a statement of a FORALL, which is something only where it is an assignment.
 fn indexed_one<J: Judge>(
     alloc: Global,
     judge: &J,

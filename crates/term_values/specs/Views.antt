@@ -15,7 +15,7 @@ abbrev mutual
   elementals end_of-Elemental = NoOperand
   elementals (more_of-Elemental x row) = Operand (elemental x) (elementals row)
 
--- the same of lists
+-- a list of array expressions
 abbrev pub elementals_of : List HeldElemental → Elementals
 elementals_of [] = NoOperand
 elementals_of (x ∷ xs) = Operand (elemental x) (elementals_of xs)

@@ -151,7 +151,7 @@ pub fn values_over(s: &State, ns: &[u128], x: &Elemental, n: usize) -> Result<Ve
     }
 }
 
-/// The same, tuple by tuple.
+/// Its values at the first tuples of a space of these extents, tuple by tuple; or the first fault, with its tuple.
 #[tactic(auto, using(crate::proofs::ValuesOver::one_value_more, crate::proofs::ValuesOver::value_stop))]
 fn values_by_tuples(s: &State, ns: &[u128], x: &Elemental, n: usize) -> Result<Vec<i64>, Stop>
     ensures value { IfOk result (λ vs. values_over (state_of s.now) ns.now (elemental x.now) n ≡ Ok vs.items) }

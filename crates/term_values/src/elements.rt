@@ -23,7 +23,7 @@ pub fn element_place(s: &State, array: usize, subscripts: &[i64]) -> Result<usiz
     }
 }
 
-/// The same of one subscript.
+/// The place of the element with one subscript, from 0; a fault where the subscript is out of bounds.
 pub(crate) fn place_of_one(s: &State, array: usize, subscript: &i64) -> Result<usize, Stop>
     ensures value { IfOk result (λ k. place_in (state_of s.now) array (subscript.now ∷ []) ≡ Ok k) }
     ensures stopped { IfErr result (IsStop (place_in (state_of s.now) array (subscript.now ∷ []))) }
@@ -34,7 +34,7 @@ pub(crate) fn place_of_one(s: &State, array: usize, subscript: &i64) -> Result<u
     }
 }
 
-/// The same of two subscripts.
+/// The place of the element with two subscripts in array element order, from 0; a fault where a subscript is out of bounds.
 pub(crate) fn place_of_two(
     s: &State,
     array: usize,
@@ -61,7 +61,7 @@ pub(crate) fn element(s: &State, array: usize, subscripts: &[i64]) -> Result<i64
     }
 }
 
-/// The same of one subscript.
+/// The value of the element with one subscript; a fault where the subscript is out of bounds.
 pub(crate) fn element_of_one(s: &State, array: usize, subscript: &i64) -> Result<i64, Stop>
     ensures value { IfOk result (λ v. element (state_of s.now) array (subscript.now ∷ []) ≡ Ok v) }
     ensures stopped { IfErr result (IsStop (element (state_of s.now) array (subscript.now ∷ []))) }
@@ -72,7 +72,7 @@ pub(crate) fn element_of_one(s: &State, array: usize, subscript: &i64) -> Result
     }
 }
 
-/// The same of two subscripts.
+/// The value of the element with two subscripts; a fault where a subscript is out of bounds.
 pub(crate) fn element_of_two(
     s: &State,
     array: usize,
@@ -100,7 +100,7 @@ pub fn operated(op: Op, operands: &[i64]) -> Result<i64, Stop>
     }
 }
 
-/// The same of two operands.
+/// The value of an operator or elemental procedure of two operands; a fault where it divides by zero. It takes no memory.
 pub fn operated_of_two(op: Op, a: &i64, b: &i64) -> Result<i64, Stop>
     ensures value { IfOk result (λ v. operated op (a.now ∷ b.now ∷ []) ≡ Ok v) }
     ensures stopped { IfErr result (IsStop (operated op (a.now ∷ b.now ∷ []))) }

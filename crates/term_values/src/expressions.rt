@@ -64,7 +64,7 @@ pub fn variable_place(
     element_place(s, a, subscripts.as_slice())
 }
 
-/// The same of one subscript.
+/// The place of the element with one subscript, from 0; the fault of the subscript, or one where it is out of bounds.
 fn place_by_one(s: &State, indices: &[i64], a: usize, subscript: &Term) -> Result<usize, Stop>
     ensures value { IfOk result (λ k. variable_place indices.now (state_of s.now) a (More (term subscript.now) NoTerm) ≡ Ok k) }
     ensures stopped { IfErr result (IsStop (variable_place indices.now (state_of s.now) a (More (term subscript.now) NoTerm))) }
@@ -74,7 +74,8 @@ fn place_by_one(s: &State, indices: &[i64], a: usize, subscript: &Term) -> Resul
     Ok(k)
 }
 
-/// The same of two.
+/// The place, in array element order from 0, of the element with two subscripts, which are evaluated from left to right; the first
+/// fault of a subscript, or one where a subscript is out of bounds.
 fn place_by_two(s: &State, indices: &[i64], a: usize, subscripts: &Vec<Term>) -> Result<usize, Stop>
     requires two { length subscripts.now.items ≡ 2 }
     ensures value { IfOk result (λ k. variable_place indices.now (state_of s.now) a (terms_of subscripts.now.items) ≡ Ok k) }

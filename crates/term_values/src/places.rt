@@ -45,7 +45,7 @@ pub fn place(dims: &[Dim], subscripts: &[i64]) -> Option<usize>
     Some(place as usize)
 }
 
-/// The same of one subscript.
+/// The place of the element with one subscript; None where the subscript is out of bounds.
 pub fn place_of_one(dims: &[Dim], subscript: &i64) -> Option<usize>
     requires { AreDims dims.now }
     ensures { result ≡ element_place dims.now (subscript.now ∷ []) }
@@ -57,7 +57,7 @@ pub fn place_of_one(dims: &[Dim], subscript: &i64) -> Option<usize>
     Some(k as usize)
 }
 
-/// The same of two subscripts.
+/// The place of the element with two subscripts; None where a subscript is out of bounds.
 #[tactic(auto, using(crate::proofs::ElementPlaces::place_is))]
 pub fn place_of_two(dims: &[Dim], first: &i64, second: &i64) -> Option<usize>
     requires { AreDims dims.now }

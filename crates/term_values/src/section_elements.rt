@@ -34,7 +34,7 @@ pub(crate) fn section_element(
     element(s, a, subscripts.as_slice())
 }
 
-/// The same of an array with one dimension.
+/// The value of a section's element at a tuple of positions, in an array with one dimension; a fault where the subscript is out of bounds.
 #[tactic(auto, using(crate::proofs::SectionSubscripts::one_is))]
 fn element_by_one(s: &State, tuple: &[i64], a: usize, d: &Selection) -> Result<i64, Stop>
     ensures value { IfOk result (λ v. element (state_of s.now) a (subscripts_at (d.now ∷ []) tuple.now) ≡ Ok v) }
@@ -44,7 +44,8 @@ fn element_by_one(s: &State, tuple: &[i64], a: usize, d: &Selection) -> Result<i
     element_of_one(s, a, &i.value)
 }
 
-/// The same of an array with two.
+/// The value of a section's element at a tuple of positions, in an array with two dimensions; a fault where a subscript is out of
+/// bounds.
 #[tactic(auto, using(crate::proofs::SectionSubscripts::two_is))]
 fn element_by_two(
     s: &State,

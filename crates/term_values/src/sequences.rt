@@ -57,7 +57,7 @@ fn reach(first: i64, last: i64, step: i64) -> i128
     last as i128 - first as i128 + step as i128
 }
 
-/// The same number in 128 bits.
+/// The number in 128 bits.
 fn wide(z: i64) -> i128
     ensures { result ≡ z }
 {

@@ -82,7 +82,7 @@ fn first_shape(alloc: Global, x: &Elemental) -> Result<Option<Vec<u128>>, AllocE
     }
 }
 
-/// The same of operands.
+/// The extents of the first section of operands, if there is one.
 #[cycle(first_shape)]
 fn first_shape_of_all(alloc: Global, xs: &Vec<Elemental>) -> Result<Option<Vec<u128>>, AllocError>
     ensures { IfOk result (λ p. option_map (λ ns. ns.items) p ≡ first_shape (all_sections (elementals_of xs.now.items))) }
@@ -118,7 +118,7 @@ fn are_conformable(alloc: Global, ns: &[u128], x: &Elemental) -> Result<bool, Al
     }
 }
 
-/// The same of operands.
+/// Whether all sections of operands have these extents.
 #[cycle(conformable)]
 fn all_conformable(alloc: Global, ns: &[u128], xs: &Vec<Elemental>) -> Result<bool, AllocError>
     ensures { IfOk result (λ b. b ≡ list_all (is_conformable ns.now) (all_sections (elementals_of xs.now.items))) }
@@ -145,7 +145,7 @@ fn are_in_limits(x: &Elemental) -> bool
     }
 }
 
-/// The same of operands.
+/// Whether all sections of operands are in the limits.
 #[cycle(in_limits)]
 fn all_are_in_limits(xs: &Vec<Elemental>) -> bool
     ensures { result ≡ list_all (list_all is_selection_in_limits) (all_sections (elementals_of xs.now.items)) }

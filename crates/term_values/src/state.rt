@@ -77,7 +77,7 @@ impl State {
         }
     }
 
-    /// The same of one subscript.
+    /// The place of the element with one subscript, from 0; None where the subscript is out of bounds. It takes no memory.
     pub(crate) fn place_of_one(&self, a: usize, subscript: &i64) -> Option<usize>
         ensures { result ≡ element_place (array (state_of self.now) a).dims (subscript.now ∷ []) }
     {
@@ -88,7 +88,7 @@ impl State {
         }
     }
 
-    /// The same of two subscripts.
+    /// The place of the element with two subscripts, from 0; None where a subscript is out of bounds. It takes no memory.
     pub(crate) fn place_of_two(&self, a: usize, first: &i64, second: &i64) -> Option<usize>
         ensures { result ≡ element_place (array (state_of self.now) a).dims (first.now ∷ second.now ∷ []) }
     {
@@ -128,14 +128,14 @@ impl Array {
         place(self.dims.as_slice(), subscripts)
     }
 
-    /// The same of one subscript.
+    /// The place of the element with one subscript; None where the subscript is out of bounds.
     fn place_of_one(&self, subscript: &i64) -> Option<usize>
         ensures { result ≡ element_place self.now.dims (subscript.now ∷ []) }
     {
         place_of_one(self.dims.as_slice(), subscript)
     }
 
-    /// The same of two subscripts.
+    /// The place of the element with two subscripts; None where a subscript is out of bounds.
     fn place_of_two(&self, first: &i64, second: &i64) -> Option<usize>
         ensures { result ≡ element_place self.now.dims (first.now ∷ second.now ∷ []) }
     {

@@ -56,7 +56,7 @@ pub fn fault(kind: FaultKind) -> Stop
     })
 }
 
-/// The same stop at a tuple, which it has from now on; want of memory where there is none to keep the tuple.
+/// A stop as one at a tuple, which it has from now on; want of memory where there is none to keep the tuple.
 pub fn at_tuple(alloc: Global, tuple: &[i64], stop: Stop) -> Stop
     ensures { IsAtTuple tuple.now stop result }
 {
@@ -72,7 +72,7 @@ pub fn at_tuple(alloc: Global, tuple: &[i64], stop: Stop) -> Stop
     }
 }
 
-/// The same numbers in a place of their own.
+/// A copy of the numbers in a box.
 fn copied(alloc: Global, numbers: &[i64]) -> Result<Box<Vec<i64>>, AllocError>
     ensures { IfOk result (λ b. (box_value b).items ≡ numbers.now) }
 {

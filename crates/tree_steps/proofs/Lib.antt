@@ -1,2 +1,2 @@
-mod Levels
+mod Acting
 mod Passing

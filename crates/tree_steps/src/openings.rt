@@ -1,8 +1,7 @@
 //! The letters of a node in a round of a tree.
 
-ghost use Rattle.std.specs.Prelude.{◌≡◌, ◌≤◌, ◌<◌, All, filter, map, IfOk};
+ghost use Rattle.std.specs.Prelude.{◌≡◌, ◌<◌, ◌*◌, All, filter, map, IfOk};
 ghost use Rattle.std.specs.List.{range_with_len};
-ghost use Rattle.hpf_base.specs.declared.limits.TheConstants.{MAX_NODES};
 ghost use Rattle.machine_steps.specs.Node.{parcel};
 ghost use Rattle.machine_steps.specs.Tree.{levels_of, tree_sends};
 
@@ -21,8 +20,7 @@ pub fn outbox(
     id: u32,
     own: &[i64],
 ) -> Result<VecDeque<Parcel>, OutOfMemory>
-    requires some { 1 ≤ nodes }
-    requires few { nodes ≤ MAX_NODES }
+    requires going { round < 2 * levels_of nodes }
     requires inside { id < nodes }
     ensures parcels { IfOk result (λ o. o.items ≡ map (parcel (λ q. own.now)) (filter (tree_sends (levels_of nodes) round id) (range_with_len 0 nodes))) }
     ensures targets { IfOk result (λ o. All (λ parcel. parcel.to < nodes) o.items) }
@@ -37,8 +35,7 @@ pub fn outbox(
 
 /// The nodes from which a node takes in a round, at most one.
 pub fn inbox(alloc: Global, nodes: u32, round: u32, id: u32) -> Result<VecDeque<u32>, OutOfMemory>
-    requires some { 1 ≤ nodes }
-    requires few { nodes ≤ MAX_NODES }
+    requires going { round < 2 * levels_of nodes }
     requires inside { id < nodes }
     ensures sources { IfOk result (λ i. i.items ≡ filter (λ p. tree_sends (levels_of nodes) round p id) (range_with_len 0 nodes)) }
     ensures below { IfOk result (λ i. All (λ source. source < nodes) i.items) }

@@ -23,7 +23,6 @@ pub fn absorbed(
     own: &[i64],
     received: &[Body],
 ) -> Result<Vec<i64>, OutOfMemory>
-    requires some { 1 ≤ nodes }
     requires few { nodes ≤ MAX_NODES }
     ensures { IfOk result (λ v. v.items ≡ absorbed_values (joined_values joining) (levels_of nodes) round id own.now received.now) }
 {
@@ -60,7 +59,7 @@ fn values_from(received: &[Body], node: usize) -> &[i64]
     }
 }
 
-/// The same numbers in a place of their own.
+/// A copy of the numbers.
 pub(crate) fn copied(alloc: Global, numbers: &[i64]) -> Result<Vec<i64>, OutOfMemory>
     ensures { IfOk result (λ v. v.items ≡ numbers.now) }
 {

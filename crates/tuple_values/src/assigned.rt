@@ -37,7 +37,7 @@ pub(crate) fn assigned_place(
     element_place(shapes, array, is.as_slice())
 }
 
-/// The same of an array with one dimension.
+/// The place of a section's element at the tuple with a number, in an array with one dimension.
 #[tactic(auto, using(term_values::proofs::SectionSubscripts::one_is))]
 fn assigned_by_one(
     shapes: &[Dims],
@@ -53,7 +53,7 @@ fn assigned_by_one(
     element_place_of_one(shapes, array, &i.value)
 }
 
-/// The same of an array with two.
+/// The place of a section's element at the tuple with a number, in an array with two dimensions.
 #[tactic(auto, using(crate::proofs::SectionSubscripts::numbered_two))]
 fn assigned_by_two(
     shapes: &[Dims],

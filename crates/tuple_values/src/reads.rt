@@ -29,7 +29,7 @@ pub(crate) fn form_reads(
     }
 }
 
-/// The same of operands.
+/// Puts the elements that operands read after the others, in order.
 #[cycle(form_reads)]
 fn all_form_reads(
     here: &Here<'_>,

@@ -5,6 +5,6 @@ use node_code::{ArrayForm, Sub};
 /// An array expression, or a section of an array by the place of its name.
 #[derive(Drop)]
 pub(crate) enum Right<'a> {
-    ArrayForm(&'a ArrayForm),
+    Form(&'a ArrayForm),
     Section(usize, &'a [Sub]),
 }

@@ -35,7 +35,7 @@ pub(crate) fn section_place(
     Ok(element_place(here.shapes, array, is.as_slice()))
 }
 
-/// The same of an array with one dimension.
+/// The place of a section's element in an array with one dimension.
 #[tactic(auto, using(crate::proofs::SectionSubscripts::one_is))]
 fn place_by_one(here: &Here<'_>, array: usize, d: &Sub) -> Result<Option<usize>, OutOfMemory>
     ensures { IfOk result (λ p. p ≡ place_here here.now array (sub d.now ∷ [])) }
@@ -44,7 +44,7 @@ fn place_by_one(here: &Here<'_>, array: usize, d: &Sub) -> Result<Option<usize>,
     Ok(element_place_of_one(here.shapes, array, &i.value))
 }
 
-/// The same of an array with two.
+/// The place of a section's element in an array with two dimensions.
 #[tactic(auto, using(crate::proofs::SectionSubscripts::two_are))]
 fn place_by_two(
     here: &Here<'_>,

@@ -1,5 +1,5 @@
 use Rattle.std.proofs.Common.{◌≡◌, ◌≤◌, ◌^◌, sym, arith}
-use Rattle.reduction_tree.proofs.Levels.{levels_is}
+use Rattle.reduction_tree.proofs.RoundsUp.{levels_is}
 use Rattle.reduction_tree.proofs.tree.levels.Goals as goal
 
 pub returns-then-nodes-pow-clause-value : goal.returns-then-nodes-pow-clause-value

@@ -14,5 +14,5 @@ invariant_of-result c =
       pieces = search rules;
       next_to = ap (λ p. length p.next_to) c.in_ok-first.ensures ∙ length-replicate c.nodes-nodes.result 1 ∙ c.nodes-nodes.ensures.value ∙ nodes;
       next_from = ap (λ p. length p.next_from) c.in_ok-first.ensures ∙ length-replicate c.nodes-nodes.result 1 ∙ c.nodes-nodes.ensures.value ∙ nodes;
-      plans = c.new-4.ensures (code_of (arc_value c.in_ok-try_clone.field-0)) c.args.id;
+      exchanges = c.new-4.ensures (code_of (arc_value c.in_ok-try_clone.field-0)) c.args.id;
     }

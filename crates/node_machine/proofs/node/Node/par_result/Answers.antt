@@ -9,7 +9,7 @@ use Rattle.part_steps.specs.Views.{part_view}
 use Rattle.part_steps.specs.declared.who.Who.TheVariants.{Left}
 use Rattle.part_steps.proofs.Instructions.{kept-is, par-is, pieces-are}
 use Rattle.node_machine.specs.Exchanges.{IsExchangeBy, part_on}
-use Rattle.node_machine.proofs.ExchangeLaws.{exchange-at, exchange-by, parallel-planned}
+use Rattle.node_machine.proofs.ExchangeLaws.{exchange-at, exchange-by, parallel-instruction_part}
 use Rattle.node_machine.proofs.node.Node.par_result.Goals as goal
 
 pub returns : goal.returns
@@ -35,7 +35,7 @@ returns c =
     }
 
 pub exchange_here-requires-clause-part : goal.exchange_here-requires-clause-part
-exchange_here-requires-clause-part c = parallel-planned c.args.self.now _ (statement_of c.in_ok-statement.statement) c.in_ok-statement.ensures
+exchange_here-requires-clause-part c = parallel-instruction_part c.args.self.now _ (statement_of c.in_ok-statement.statement) c.in_ok-statement.ensures
 
 pub par_values-requires-clause-exchange : goal.par_values-requires-clause-exchange
 par_values-requires-clause-exchange c =
@@ -46,4 +46,4 @@ par_values-requires-clause-exchange c =
     let same : part_view c.new-part.result ≡ part_on a Left w = c.new-part.ensures
     ∙ (λ i. record { who = Left; nodes = (c.self.invariant.owners ∙ (λ j. (is j).nodes)) i; layouts = (is i).layouts; statement = w }) in
     exchange-at (part_view c.new-part.result) (part_on a Left w) c.self.inside.id a.id c.deref-exchange.result.now same (λ i. (is i).id)
-    (subst (IsExchangeBy a Left w) e (exchange-by a _ w Left (arc_value c.in_ok-found.found.exchange) (parallel-planned a _ w c.in_ok-statement.ensures) c.in_ok-found.ensures))
+    (subst (IsExchangeBy a Left w) e (exchange-by a _ w Left (arc_value c.in_ok-found.found.exchange) (parallel-instruction_part a _ w c.in_ok-statement.ensures) c.in_ok-found.ensures))

@@ -10,7 +10,7 @@ use Rattle.part_steps.specs.Views.{part_view}
 use Rattle.part_steps.specs.declared.who.Who.TheVariants.{First}
 use Rattle.part_steps.proofs.Instructions.{joined-is, kept-is, reduce-is}
 use Rattle.node_machine.specs.Exchanges.{IsExchangeBy, part_on}
-use Rattle.node_machine.proofs.ExchangeLaws.{exchange-at, exchange-by, reduction-planned}
+use Rattle.node_machine.proofs.ExchangeLaws.{exchange-at, exchange-by, reduction-instruction_part}
 use Rattle.node_machine.proofs.node.Node.reduce_result.Goals as goal
 
 pub returns : goal.returns
@@ -39,7 +39,7 @@ returns c =
     }
 
 pub exchange_here-requires-clause-part : goal.exchange_here-requires-clause-part
-exchange_here-requires-clause-part c = reduction-planned c.args.self.now _ (statement_of c.in_ok-statement.statement) c.args.r.reduction.join c.in_ok-statement.ensures
+exchange_here-requires-clause-part c = reduction-instruction_part c.args.self.now _ (statement_of c.in_ok-statement.statement) c.args.r.reduction.join c.in_ok-statement.ensures
 
 pub reduce_values-requires-clause-exchange : goal.reduce_values-requires-clause-exchange
 reduce_values-requires-clause-exchange c =
@@ -50,4 +50,4 @@ reduce_values-requires-clause-exchange c =
     let same : part_view c.new-part.result ≡ part_on a First w = c.new-part.ensures
     ∙ (λ i. record { who = First; nodes = (c.self.invariant.owners ∙ (λ j. (is j).nodes)) i; layouts = (is i).layouts; statement = w }) in
     exchange-at (part_view c.new-part.result) (part_on a First w) c.self.inside.id a.id c.deref-exchange.result.now same (λ i. (is i).id)
-    (subst (IsExchangeBy a First w) e (exchange-by a _ w First (arc_value c.in_ok-found.found.exchange) (reduction-planned a _ w c.args.r.reduction.join c.in_ok-statement.ensures) c.in_ok-found.ensures))
+    (subst (IsExchangeBy a First w) e (exchange-by a _ w First (arc_value c.in_ok-found.found.exchange) (reduction-instruction_part a _ w c.args.r.reduction.join c.in_ok-statement.ensures) c.in_ok-found.ensures))

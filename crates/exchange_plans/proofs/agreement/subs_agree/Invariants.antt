@@ -1,8 +1,0 @@
-use Rattle.std.proofs.Common.{◌≡◌, drop}
-use Rattle.node_code.specs.Texts.{subs}
-use Rattle.exchange_plans.specs.Agreement.{agree_on_subs}
-use Rattle.exchange_plans.proofs.agreement.subs_agree.Given as goal
-
--- those that are left decide
-abbrev pub invariant-loop-d : goal.invariant-loop-d
-invariant-loop-d l = agree_on_subs l.kept l.slots (subs l.ds) ≡ agree_on_subs l.kept l.slots (subs (drop l.d-index l.ds))

@@ -1,5 +1,0 @@
-use Rattle.exchange_plans.proofs.SameParts.{parts_same}
-use Rattle.exchange_plans.proofs.laws.same_parts.Goals as goal
-
-pub returns : goal.returns
-returns c = λ nodes layouts table i old new is. parts_same old new nodes layouts table i is

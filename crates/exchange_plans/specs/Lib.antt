@@ -1,4 +1,0 @@
-pub mod Agreement
-pub mod Exchanged
-pub mod Planned
-pub mod Plans
