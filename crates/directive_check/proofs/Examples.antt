@@ -44,7 +44,7 @@ program ws = record { name = None; declarations = placed_from 1 ws; body = Done;
 abbrev first_of : List Declared → Option Refusal
 first_of ws = least (mapping_breaches (4 ∷ []) (program ws))
 
--- what is composed of an alignment past the limits is past them itself, also where a factor is 0
+-- what rests on an alignment that is refused by itself isn't judged
 abbrev past : List Declared
 past =
     integers (array (codes "A") (upto 1 ∷ []) ∷ array (codes "B") (upto 1 ∷ []) ∷ [])
@@ -54,9 +54,24 @@ past =
     (Placed (One (Binary op.Sub (Binary op.Mul (number 2199023255552) (Alone (codes "I"))) (number 2199023255551))) ∷ [])
     ∷ []
 
-past_stays : first_of past ≡ Some (record { line = 2; reason = reason.Limit })
+past_alone : first_of past ≡ Some (record { line = 4; reason = reason.Limit })
 unfolding int_wrap
-past_stays = refl
+past_alone = refl
+
+-- what is composed is judged by its own numbers: the factor of B is past its limit, and that of A is 0
+abbrev three : List Declared
+three =
+    integers (array (codes "A") (upto 1 ∷ []) ∷ array (codes "B") (upto 1 ∷ []) ∷ array (codes "C") (upto 1 ∷ []) ∷ [])
+    ∷ align_one (codes "A") (Dummy (codes "I") ∷ []) (codes "B") (Placed (One (Binary op.Add (Binary op.Mul (number 0) (Alone (codes "I"))) (number 1))) ∷ [])
+    ∷ align_one (codes "B") (Dummy (codes "I") ∷ []) (codes "C") (Placed (One (Binary op.Sub (Binary op.Mul (number 3) (Alone (codes "I"))) (number 2))) ∷ [])
+    ∷ Directed (Template (array (codes "T") (upto 1 ∷ []) ∷ []))
+    ∷ align_one (codes "C") (Dummy (codes "I") ∷ []) (codes "T")
+    (Placed (One (Binary op.Sub (Binary op.Mul (number 1099511627776) (Alone (codes "I"))) (number 1099511627775))) ∷ [])
+    ∷ []
+
+three_apart : first_of three ≡ Some (record { line = 3; reason = reason.Limit })
+unfolding int_wrap
+three_apart = refl
 
 -- an array without elements between: the elements of B lie in A, which has none, and outside T
 abbrev between : List Declared

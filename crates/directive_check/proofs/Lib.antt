@@ -3,6 +3,8 @@ mod MappedTurns
 mod ListedNames
 mod SameMapped
 mod ChainLaws
+mod WideNumbers
+mod WideChains
 mod Unnamed
 mod RedistributeSteps
 mod DirectLaws

@@ -1,7 +1,9 @@
 -- Turns of loops over lists.
-use Rattle.std.proofs.Common.{◌≡◌, ℕ, ◌+◌, ◌<◌, Bool, false, cond, List, [], ◌∷◌, ◌++◌, append_assoc}
-use Rattle.std.proofs.Common.{drop, length, get_or, drop-cons, add-one, Option, Some, None, refl, sym, ap, ◌∙◌}
+use Rattle.std.proofs.Common.{◌≡◌, ℕ, ◌+◌, ◌<◌, Bool, true, false, cond, All, List, [], ◌∷◌, ◌++◌, append_assoc}
+use Rattle.std.proofs.Common.{drop, length, get_or, drop-cons, add-one, Option, Some, None, refl, sym, ap, subst, ◌∙◌}
 use Rattle.std.specs.Prelude.{find, option_map}
+use Rattle.std.proofs.lemmas.List.Elements.{All-head, All-tail}
+use Rattle.std.proofs.lemmas.Option.{same_Some}
 use Rattle.distribution_rules.specs.Distributed.{all_or_none, and_more}
 
 -- what is left of a list from an item on
@@ -31,6 +33,15 @@ pub find_next : {X : Type 0} (test : X → Bool) (xs : List X) (n : ℕ) (z : X)
 find_next test xs n z within fails so_far =
     let rest = drop (n + 1) xs in
     sym (ap (find test) (drop_at xs n z within) ∙ ap (λ b. cond b (Some (get_or xs n z)) (find test rest)) fails) ∙ so_far
+
+-- the item that is found
+pub found_item : {X : Type 0} (P : X → Type 0) (test : X → Bool) (xs : List X) (x : X) → All P xs → Some x ≡ find test xs → P x
+found_item P test [] x all is = absurd cc
+found_item P test (y ∷ ys) x all is = by (test y) (found_item P test ys x (All-tail P y ys all)) is
+  where
+    by : (b : Bool) → (Some x ≡ find test ys → P x) → Some x ≡ cond b (Some y) (find test ys) → P x
+    by true later found = subst P (sym (same_Some x y found)) (All-head P y ys all)
+    by false later found = later found
 
 -- ---- what is made of each, where it is made of all
 

@@ -1,7 +1,9 @@
 -- The first of what a program breaks of the rules of mapping directives, from the firsts of its parts.
-use Rattle.std.proofs.Common.{◌≡◌, ℕ, List, [], ◌++◌, Option, sym, ap, subst, ◌∙◌}
+use Rattle.std.proofs.Common.{◌≡◌, ℕ, Bool, true, false, List, [], ◌∷◌, ◌++◌, Option, Some, None, refl, sym, ap, subst, ◌∙◌}
+use Rattle.std.specs.Prelude.{is_some, nat_lt, if◌then◌else◌}
 use Rattle.std.specs.List.{flat_map}
 use Rattle.std.proofs.lemmas.List.{append-nil}
+use Rattle.hpf_base.specs.Refusal.{number_of}
 use Rattle.hpf_base.specs.declared.refusal.Reason.{Reason}
 use Rattle.hpf_base.specs.declared.refusal.Refusal.{Refusal}
 use Rattle.hpf_base.specs.FirstBreach.{Among, IsFirstOrNone, at_line, earlier, least}
@@ -14,6 +16,7 @@ use Rattle.distribution_rules.specs.declared.evaluated_formats.DistributionValue
 use Rattle.distribution_rules.specs.DistributionRules.{distribute_reasons, distributee_reasons, distribution_reasons, distribution_values}
 use Rattle.distribution_rules.specs.Setting.{Setting, object}
 use Rattle.directive_check.specs.MappedObjects.{MappedObject}
+use Rattle.directive_check.specs.Chains.{has_some}
 use Rattle.directive_check.specs.ChainSteps.{chain_breaches_in}
 use Rattle.directive_check.specs.MappingRules.{chain_breaches}
 use Rattle.directive_check.proofs.SameMapped.{MapSame, chain_breaches_same}
@@ -31,6 +34,19 @@ pub earliest_of_five : (a b c d e : List Refusal) (x y z v w last after more all
     x ≡ least a → y ≡ least b → z ≡ least c → v ≡ least d → w ≡ least e →
     last ≡ earlier v w → after ≡ earlier z last → more ≡ earlier y after → all ≡ earlier x more → all ≡ least (a ++ b ++ c ++ d ++ e)
 earliest_of_five a b c d e x y z v w last after more all xa yb zc vd we h1 h2 h3 h4 = let five = first_of_five a b c d e in cc
+
+-- there is a least reason where there is some
+some_lesser : (why : Reason) (other : Option Reason) → is_some (lesser (Some why) other) ≡ true
+some_lesser why None = refl
+some_lesser why (Some other) = by (nat_lt (number_of other) (number_of why))
+  where
+    by : (t : Bool) → is_some (if t then Some other else Some why) ≡ true
+    by true = refl
+    by false = refl
+
+pub some_least : (whys : List Reason) → is_some (least_reason whys) ≡ has_some whys
+some_least [] = refl
+some_least (why ∷ whys) = some_lesser why (least_reason whys)
 
 -- where the first object with each name is known, and each name of DYNAMIC
 pub chained : (s : Setting) (ms firsts objects : List MappedObject) (o : Option Refusal) → objects ≡ ms → MapSame firsts objects →

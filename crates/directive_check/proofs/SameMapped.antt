@@ -2,19 +2,18 @@
 use Rattle.std.proofs.Common.{◌≡◌, ℕ, zero, suc, List, [], ◌∷◌, ◌++◌, length, Option, Some, None, bytes_eq, refl, ap, ◌∙◌}
 use Rattle.std.specs.Prelude.{◌&&◌, ◌||◌, not, is_some, unwrap_or, if◌then◌else◌}
 use Rattle.std.specs.List.{flat_map}
+use Rattle.mappings.specs.declared.mapping.AlignDim.{AlignDim}
 use Rattle.mappings.specs.declared.mapping.Mapping.{Mapping}
-use Rattle.hpf_base.specs.declared.refusal.Reason.TheVariants.{BadDirective}
+use Rattle.hpf_base.specs.declared.refusal.Reason.TheVariants.{BadDirective, Limit}
 use Rattle.syntax_tree.specs.Directive.{Distribution}
 use Rattle.expression_rules.specs.Symbols.{Name, is_among}
 use Rattle.statement_walk.specs.Head.{Head}
 use Rattle.statement_walk.specs.Head as head
 use Rattle.statement_walk.specs.Heads.{PlacedHead}
 use Rattle.declarations.specs.Reasons.{at, when}
+use Rattle.distribution_rules.specs.Dimensions.{passes}
 use Rattle.distribution_rules.specs.DistributionRules.{distribute_reasons}
 use Rattle.distribution_rules.specs.Setting.{Setting, dims_of}
-use Rattle.alignment_rules.specs.declared.alignment_values.Alignment.{Alignment}
-use Rattle.alignment_rules.specs.declared.alignment_values.Alignment.TheVariants.{Known, PastLimits, Unknown}
-use Rattle.alignment_rules.specs.AlignmentEntries.{alignment_of}
 use Rattle.alignment_rules.specs.AlignmentRules.{has_elements}
 use Rattle.name_table.specs.declared.names.Entry.{Entry}
 use Rattle.name_table.specs.declared.names.What.{What}
@@ -22,10 +21,10 @@ use Rattle.name_table.specs.declared.names.What.TheVariants as what
 use Rattle.distribution_rules.specs.declared.objects.Object.{Object}
 use Rattle.directive_check.specs.ProgramMaps.{distributed_as, mapped_as, new_map, new_maps_from, replicated, shape_of}
 use Rattle.directive_check.specs.ProgramMaps.{start_map, start_mapping, start_maps_in, start_of, through, with_root}
-use Rattle.directive_check.specs.MappedObjects.{How, Distributed, Aligned, MappedObject, how_mapped}
-use Rattle.directive_check.specs.Chains.{are_inside, is_aligned, meets, root_alignment, root_alignment_from, root_from, root_of, target_in, target_of, through_target}
+use Rattle.directive_check.specs.MappedObjects.{MappedObject, how_mapped}
+use Rattle.directive_check.specs.Chains.{are_inside, chain_entries, chain_entries_from, entries_in, is_aligned, is_composed, limited, meets, root_alignment, root_from, root_of, target_in, target_of, through_target}
 use Rattle.directive_check.specs.ChainSteps.{chain_breaches_in}
-use Rattle.directive_check.specs.MappingRules.{chain_reasons, head_reasons, redistribute_breaches_at, redistributee_reasons, root_reasons}
+use Rattle.directive_check.specs.MappingRules.{chain_reasons, head_reasons, is_past, outside_reasons, redistribute_breaches_at, redistributee_reasons}
 
 -- each name is mapped first as it is in the other list
 abbrev pub MapSame : List MappedObject → List MappedObject → Type 0
@@ -55,30 +54,37 @@ root_same : (s : Setting) (a b : List MappedObject) → MapSame a b → (x : Nam
 root_same s a b same x =
     root_from_same (length s.names) a b same x (target_of a x) ∙ ap (root_from (length s.names) b x) (target_same a b same x)
 
-alignment_from_same : (n : ℕ) (s : Setting) (a b : List MappedObject) → MapSame a b → (x : Name) (h : Option How) →
-    root_alignment_from n s a x h ≡ root_alignment_from n s b x h
-alignment_from_same zero s a b same x h = refl
-alignment_from_same (suc n) s a b same x None = refl
-alignment_from_same (suc n) s a b same x (Some (Distributed d)) = refl
-alignment_from_same (suc n) s a b same x (Some (Aligned l)) =
-    let outer = alignment_from_same n s a b same l.target (how_mapped a l.target) ∙ ap (root_alignment_from n s b l.target) (same l.target) in
-    (λ i. through_target (alignment_of s l x) (target_same a b same l.target i) (outer i))
+entries_from_same : (n : ℕ) (s : Setting) (a b : List MappedObject) → MapSame a b → (x : Name) (y : Option Name) → chain_entries_from n s a x y ≡ chain_entries_from n s b x y
+entries_from_same zero s a b same x y = refl
+entries_from_same (suc n) s a b same x None = refl
+entries_from_same (suc n) s a b same x (Some y) =
+    let outer = entries_from_same n s a b same y (target_of a y) ∙ ap (chain_entries_from n s b y) (target_same a b same y) in
+    (λ i. through_target (entries_in s x (same x i)) (target_same a b same y i) (outer i))
+
+entries_same : (s : Setting) (a b : List MappedObject) → MapSame a b → (x : Name) → chain_entries s a x ≡ chain_entries s b x
+entries_same s a b same x =
+    entries_from_same (length s.names) s a b same x (target_of a x) ∙ ap (chain_entries_from (length s.names) s b x) (target_same a b same x)
+
+composed_same : (a b : List MappedObject) → MapSame a b → (x : Name) → is_composed a x ≡ is_composed b x
+composed_same a b same x = of_target (target_of a x) ∙ ap (passes (is_aligned b)) (target_same a b same x)
+  where
+    of_target : (y : Option Name) → passes (is_aligned a) y ≡ passes (is_aligned b) y
+    of_target None = refl
+    of_target (Some y) = aligned_same a b same y
 
 root_alignment_same : (s : Setting) (a b : List MappedObject) → MapSame a b → (x : Name) → root_alignment s a x ≡ root_alignment s b x
-root_alignment_same s a b same x =
-    alignment_from_same (length s.names) s a b same x (how_mapped a x) ∙ ap (root_alignment_from (length s.names) s b x) (same x)
+root_alignment_same s a b same x = ap limited (entries_same s a b same x)
 
-root_reasons_same : (s : Setting) (a b : List MappedObject) → MapSame a b → (x : Name) (l : Alignment) → root_reasons s a x l ≡ root_reasons s b x l
-root_reasons_same s a b same x Unknown = refl
-root_reasons_same s a b same x PastLimits = refl
-root_reasons_same s a b same x (Known es) =
+outside_same : (s : Setting) (a b : List MappedObject) → MapSame a b → (x : Name) (o : Option (List AlignDim)) → outside_reasons s a x o ≡ outside_reasons s b x o
+outside_same s a b same x None = refl
+outside_same s a b same x (Some es) =
     ap (λ r. when (has_elements (dims_of s x) && not (are_inside (dims_of s x) es (dims_of s r))) BadDirective) (root_same s a b same x)
 
 chain_reasons_same : (s : Setting) (a b : List MappedObject) → MapSame a b → (x : Name) → chain_reasons s a x ≡ chain_reasons s b x
 chain_reasons_same s a b same x =
     let cycles = meets_same (length s.names) a b same x (target_of a x) ∙ ap (meets (length s.names) b x) (target_same a b same x) in
-    let ends = root_reasons_same s a b same x (root_alignment s a x) ∙ ap (root_reasons s b x) (root_alignment_same s a b same x) in
-    (λ i. when (cycles i) BadDirective ++ ends i)
+    let outside = outside_same s a b same x (chain_entries s a x) ∙ ap (outside_reasons s b x) (entries_same s a b same x) in
+    (λ i. when (cycles i) BadDirective ++ when (composed_same a b same x i && is_past (root_alignment_same s a b same x i)) Limit ++ outside i)
 
 pub chain_breaches_same : (s : Setting) (a b : List MappedObject) → MapSame a b → (ms : List MappedObject) → chain_breaches_in s a ms ≡ chain_breaches_in s b ms
 chain_breaches_same s a b same ms = λ i. flat_map (λ m. at m.line (chain_reasons_same s a b same m.name i)) ms

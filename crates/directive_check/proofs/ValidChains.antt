@@ -17,40 +17,26 @@ use Rattle.alignment_rules.specs.declared.alignment_values.Alignment.{Alignment}
 use Rattle.alignment_rules.specs.declared.alignment_values.Alignment.TheVariants.{Known, PastLimits, Unknown}
 use Rattle.alignment_rules.specs.AlignmentEntries.{alignment_of, is_past_limits}
 use Rattle.directive_check.specs.MappedObjects.{How, Aligned, Distributed, MappedObject, how_mapped}
-use Rattle.directive_check.specs.Chains.{composed_alignment, entry_through, known_or_past, root_alignment_from, root_from, target_in, through_target, within_limits}
+use Rattle.directive_check.specs.Chains.{chain_entries_from, composed_entries, entries_in, is_refused, known_entries, known_or_past, limited, own_entries, root_from, target_in, target_of, through_target, within_limits}
 use Rattle.std.specs.Prelude.{if◌then◌else◌, Bool, true, false, nat_lt, unsigned_abs}
 use Rattle.hpf_base.specs.declared.limits.TheConstants.{MAX_ALIGN_OFFSET}
 
 -- ---- alignments of alignments
 
-known_of : (xs ys : List AlignDim) → Known xs ≡ Known ys → xs ≡ ys
-known_of xs ys is = ap entries is
-  where
-    entries : Alignment → List AlignDim
-    entries (Known es) = es
-    entries a = []
-
 -- what two alignments give that are composed
-record Both (a w : Alignment) (zs : List AlignDim) : Type 0 where
+record Both (a w : Option (List AlignDim)) (zs : List AlignDim) : Type 0 where
   es : List AlignDim
   ws : List AlignDim
-  first : a ≡ Known es
-  second : w ≡ Known ws
-  through : all_or_none (entry_through es) ws ≡ Some zs
+  first : a ≡ Some es
+  second : w ≡ Some ws
+  all : map (composed_align es) ws ≡ zs
 
-known_made : (o : Option (List AlignDim)) (zs : List AlignDim) → known_or_past o ≡ Known zs → o ≡ Some zs
-known_made None zs is = absurd cc
-known_made (Some es) zs is = ap Some (known_of es zs is)
+both : (a w : Option (List AlignDim)) (zs : List AlignDim) → composed_entries a w ≡ Some zs → Both a w zs
+both None w zs is = absurd cc
+both (Some es) None zs is = absurd cc
+both (Some es) (Some ws) zs is = record { es = es; ws = ws; first = refl; second = refl; all = same_Some (map (composed_align es) ws) zs is }
 
-both : (a w : Alignment) (zs : List AlignDim) → composed_alignment a w ≡ Known zs → Both a w zs
-both Unknown w zs is = absurd cc
-both PastLimits Unknown zs is = absurd cc
-both PastLimits PastLimits zs is = absurd cc
-both PastLimits (Known ws) zs is = absurd cc
-both (Known es) Unknown zs is = absurd cc
-both (Known es) PastLimits zs is = absurd cc
-both (Known es) (Known ws) zs is = record { es = es; ws = ws; first = refl; second = refl; through = known_made (all_or_none (entry_through es) ws) zs is }
-
+-- what is within the limits stays as it is
 unless_past : {A : Type 0} (past : Bool) (x z : A) → (if past then None else Some x) ≡ Some z → x ≡ z
 unless_past true x z is = absurd cc
 unless_past false x z is = same_Some x z is
@@ -59,11 +45,6 @@ within_same : (e z : AlignDim) → within_limits e ≡ Some z → e ≡ z
 within_same (Linear dim a b) z is = unless_past (is_past_limits (Linear dim a b)) (Linear dim a b) z is
 within_same (At v) z is = unless_past (nat_lt MAX_ALIGN_OFFSET (unsigned_abs v)) (At v) z is
 within_same Every z is = same_Some Every z is
-
-through_same : (es : List AlignDim) (w z : AlignDim) → entry_through es w ≡ Some z → composed_align es w ≡ z
-through_same es (Linear dim a b) z is = within_same (composed_align es (Linear dim a b)) z is
-through_same es (At v) z is = same_Some (At v) z is
-through_same es Every z is = same_Some Every z is
 
 record More {B : Type 0} (b : Option B) (bs : Option (List B)) (zs : List B) : Type 0 where
   head : B
@@ -77,12 +58,26 @@ more_of None bs zs is = absurd cc
 more_of (Some b) None zs is = absurd cc
 more_of (Some b) (Some bs) zs is = record { head = b; tail = bs; first = refl; rest = refl; all = same_Some (b ∷ bs) zs is }
 
--- the entries are those of the target, with the alignee's put in
-all_through : (es ws zs : List AlignDim) → all_or_none (entry_through es) ws ≡ Some zs → map (composed_align es) ws ≡ zs
-all_through es [] zs is = same_Some [] zs is
-all_through es (w ∷ ws) zs is =
-    let m = more_of (entry_through es w) (all_or_none (entry_through es) ws) zs is in
-    (λ i. through_same es w m.head m.first i ∷ all_through es ws m.tail m.rest i) ∙ m.all
+all_within : (es zs : List AlignDim) → all_or_none within_limits es ≡ Some zs → es ≡ zs
+all_within [] zs is = same_Some [] zs is
+all_within (e ∷ es) zs is =
+    let m = more_of (within_limits e) (all_or_none within_limits es) zs is in
+    (λ i. within_same e m.head m.first i ∷ all_within es m.tail m.rest i) ∙ m.all
+
+known_of : (xs ys : List AlignDim) → Known xs ≡ Known ys → xs ≡ ys
+known_of xs ys is = ap entries is
+  where
+    entries : Alignment → List AlignDim
+    entries (Known es) = es
+    entries a = []
+
+known_made : (o : Option (List AlignDim)) (zs : List AlignDim) → known_or_past o ≡ Known zs → o ≡ Some zs
+known_made None zs is = absurd cc
+known_made (Some es) zs is = ap Some (known_of es zs is)
+
+pub limited_known : (o : Option (List AlignDim)) (zs : List AlignDim) → limited o ≡ Known zs → o ≡ Some zs
+limited_known None zs is = absurd cc
+limited_known (Some es) zs is = ap Some (all_within es zs (known_made (all_or_none within_limits es) zs is))
 
 get_map : {X Y : Type 0} (f : X → Y) (xs : List X) (k : ℕ) (d : X) → get_or (map f xs) k (f d) ≡ f (get_or xs k d)
 get_map f [] k d = refl
@@ -101,7 +96,7 @@ align_again es a b (Linear dim c d) = through_again a b c d (get_or es dim Every
 align_again es a b (At v) = refl
 align_again es a b Every = refl
 
-align_twice : (es ws : List AlignDim) (e : AlignDim) → composed_align es (composed_align ws e) ≡ composed_align (map (composed_align es) ws) e
+pub align_twice : (es ws : List AlignDim) (e : AlignDim) → composed_align es (composed_align ws e) ≡ composed_align (map (composed_align es) ws) e
 align_twice es ws (Linear dim a b) = sym (ap (align_through a b) (get_map (composed_align es) ws dim Every) ∙ align_again es a b (get_or ws dim Every))
 align_twice es ws (At v) = refl
 align_twice es ws Every = refl
@@ -127,6 +122,26 @@ abbrev pub AreSound : Setting → List MappedObject → Type 0
 AreSound s ms = (y : Name) (a : directive.Alignment) → how_mapped ms y ≡ Some (Aligned a) → (es : List AlignDim) → alignment_of s a y ≡ Known es →
     IsSound (length (dims_of s y)) (length (dims_of s a.target)) es
 
+entries_known : (a : Alignment) (es : List AlignDim) → known_entries a ≡ Some es → a ≡ Known es
+entries_known (Known ws) es is = ap Known (same_Some ws es is)
+entries_known PastLimits es is = absurd cc
+entries_known Unknown es is = absurd cc
+
+own_sound : (s : Setting) (ms : List MappedObject) → AreSound s ms → (x y : Name) (es : List AlignDim) → target_of ms x ≡ Some y → own_entries s ms x ≡ Some es →
+    IsSound (length (dims_of s x)) (length (dims_of s y)) es
+own_sound s ms sound x y es target own = by (how_mapped ms x) refl target own
+  where
+    unless : (refused : Bool) (o : Option (List AlignDim)) → (if refused then None else o) ≡ Some es → o ≡ Some es
+    unless true o is = absurd cc
+    unless false o is = is
+
+    by : (h : Option How) → how_mapped ms x ≡ h → target_in h ≡ Some y → entries_in s x h ≡ Some es → IsSound (length (dims_of s x)) (length (dims_of s y)) es
+    by None how target own = absurd cc
+    by (Some (Distributed d)) how target own = absurd cc
+    by (Some (Aligned a)) how target own =
+        subst (λ z. IsSound (length (dims_of s x)) (length (dims_of s z)) es) (same_Some a.target y target)
+        (sound x a how es (entries_known (alignment_of s a x) es (unless (is_refused s a) (known_entries (alignment_of s a x)) own)))
+
 pub root_here : (n : ℕ) (ms : List MappedObject) (x : Name) → root_from n ms x None ≡ x
 root_here zero ms x = refl
 root_here (suc n) ms x = refl
@@ -135,30 +150,24 @@ through_one : (s : Setting) (x y : Name) (es : List AlignDim) (r : Mapping) → 
     IsMapping (length (dims_of s x)) (composed r es)
 through_one s x y es r sound is = IsMapping-composed r es (length (dims_of s x)) (subst (λ n. IsMapping n r) (sym sound.count) is) sound.apart sound.dims
 
-abbrev Valid : ℕ → Setting → List MappedObject → Name → Option How → List AlignDim → Mapping → Type 0
-Valid n s ms x h zs r =
-    root_alignment_from n s ms x h ≡ Known zs → IsMapping (length (dims_of s (root_from n ms x (target_in h)))) r → IsMapping (length (dims_of s x)) (composed r zs)
+abbrev Valid : ℕ → Setting → List MappedObject → Name → Option Name → List AlignDim → Mapping → Type 0
+Valid n s ms x y zs r = chain_entries_from n s ms x y ≡ Some zs → IsMapping (length (dims_of s (root_from n ms x y))) r → IsMapping (length (dims_of s x)) (composed r zs)
 
--- an alignee whose target is how it is
-step : (n : ℕ) (s : Setting) (ms : List MappedObject) (x : Name) (a : directive.Alignment) (h : Option How) (zs : List AlignDim) (r : Mapping) →
-    ((es : List AlignDim) → alignment_of s a x ≡ Known es → IsSound (length (dims_of s x)) (length (dims_of s a.target)) es) →
-    ((ws : List AlignDim) → Valid n s ms a.target h ws r) →
-    through_target (alignment_of s a x) (target_in h) (root_alignment_from n s ms a.target h) ≡ Known zs →
-    IsMapping (length (dims_of s (root_from n ms a.target (target_in h)))) r → IsMapping (length (dims_of s x)) (composed r zs)
-step n s ms x a None zs r sound rest is root =
-    through_one s x a.target zs r (sound zs is) (subst (λ y. IsMapping (length (dims_of s y)) r) (root_here n ms a.target) root)
-step n s ms x a (Some (Distributed d)) zs r sound rest is root =
-    through_one s x a.target zs r (sound zs is) (subst (λ y. IsMapping (length (dims_of s y)) r) (root_here n ms a.target) root)
-step n s ms x a (Some (Aligned b)) zs r sound rest is root =
-    let two = both (alignment_of s a x) (root_alignment_from n s ms a.target (Some (Aligned b))) zs is in
-    subst (IsMapping (length (dims_of s x))) (composed_twice r two.es two.ws ∙ ap (composed r) (all_through two.es two.ws zs two.through))
-    (through_one s x a.target two.es (composed r two.ws) (sound two.es two.first) (rest two.ws two.second root))
+-- an alignee whose target has this target
+step : (n : ℕ) (s : Setting) (ms : List MappedObject) (x y : Name) (t : Option Name) (zs : List AlignDim) (r : Mapping) →
+    ((es : List AlignDim) → own_entries s ms x ≡ Some es → IsSound (length (dims_of s x)) (length (dims_of s y)) es) → ((ws : List AlignDim) → Valid n s ms y t ws r) →
+    through_target (own_entries s ms x) t (chain_entries_from n s ms y t) ≡ Some zs → IsMapping (length (dims_of s (root_from n ms y t))) r →
+    IsMapping (length (dims_of s x)) (composed r zs)
+step n s ms x y None zs r sound rest is root = through_one s x y zs r (sound zs is) (subst (λ z. IsMapping (length (dims_of s z)) r) (root_here n ms y) root)
+step n s ms x y (Some z) zs r sound rest is root =
+    let two = both (own_entries s ms x) (chain_entries_from n s ms y (Some z)) zs is in
+    subst (IsMapping (length (dims_of s x))) (composed_twice r two.es two.ws ∙ ap (composed r) two.all)
+    (through_one s x y two.es (composed r two.ws) (sound two.es two.first) (rest two.ws two.second root))
 
 -- the mapping of what the chain ends at, through the chain
-pub chain_valid : (n : ℕ) (s : Setting) (ms : List MappedObject) → AreSound s ms → (x : Name) (h : Option How) → h ≡ how_mapped ms x → (zs : List AlignDim) (r : Mapping) →
-    Valid n s ms x h zs r
-chain_valid zero s ms sound x h how zs r is root = absurd cc
-chain_valid (suc n) s ms sound x None how zs r is root = absurd cc
-chain_valid (suc n) s ms sound x (Some (Distributed d)) how zs r is root = absurd cc
-chain_valid (suc n) s ms sound x (Some (Aligned a)) how zs r is root =
-    step n s ms x a (how_mapped ms a.target) zs r (sound x a (sym how)) (λ ws. chain_valid n s ms sound a.target (how_mapped ms a.target) refl ws r) is root
+pub chain_valid : (n : ℕ) (s : Setting) (ms : List MappedObject) → AreSound s ms → (x : Name) (y : Option Name) → target_of ms x ≡ y → (zs : List AlignDim) (r : Mapping) →
+    Valid n s ms x y zs r
+chain_valid zero s ms sound x y target zs r is root = absurd cc
+chain_valid (suc n) s ms sound x None target zs r is root = absurd cc
+chain_valid (suc n) s ms sound x (Some y) target zs r is root =
+    step n s ms x y (target_of ms y) zs r (λ es own. own_sound s ms sound x y es target own) (λ ws. chain_valid n s ms sound y (target_of ms y) refl ws r) is root

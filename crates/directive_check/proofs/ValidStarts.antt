@@ -1,5 +1,5 @@
 -- The mappings with which arrays start are valid, where no rule is broken.
-use Rattle.std.proofs.Common.{◌≡◌, ℕ, Bool, true, false, List, [], ◌∷◌, get_or, length, get_or, map, All, Option, Some, None, refl, sym, ap, subst, ◌∙◌, arith}
+use Rattle.std.proofs.Common.{◌≡◌, ℕ, Bool, true, false, List, [], ◌∷◌, ◌++◌, get_or, length, map, All, Option, Some, None, refl, sym, ap, subst, ◌∙◌, arith}
 use Rattle.std.specs.Prelude.{⊤, IfSome, is_some, unwrap_or, ◌&&◌, not, if◌then◌else◌}
 use Rattle.std.proofs.lemmas.List.{length-map}
 use Rattle.std.proofs.lemmas.List.Elements.{All-append, All-cons, All-nil}
@@ -32,10 +32,10 @@ use Rattle.alignment_rules.specs.AlignedEntries.{AreSubscripts}
 use Rattle.alignment_rules.specs.AlignmentRules.{has_elements}
 use Rattle.alignment_rules.proofs.InsideTargets.{none_empty}
 use Rattle.directive_check.specs.MappedObjects.{How, Aligned, Distributed, MappedObject, how_mapped}
-use Rattle.directive_check.specs.Chains.{are_inside, is_on_cycle, root_alignment, root_from, root_of, target_in}
-use Rattle.directive_check.specs.MappingRules.{chain_breaches, chain_reasons, root_reasons}
+use Rattle.directive_check.specs.Chains.{are_inside, chain_entries, is_composed, is_on_cycle, root_alignment, root_from, root_of, target_in, target_of}
+use Rattle.directive_check.specs.MappingRules.{chain_breaches, chain_reasons, is_past, outside_reasons}
 use Rattle.directive_check.specs.ProgramMaps.{distributed_as, mapped_as, replicated, shape_of, start_map, start_maps_in, start_mapping, start_of, through, with_root}
-use Rattle.directive_check.proofs.ValidChains.{AreSound, chain_valid, root_here}
+use Rattle.directive_check.proofs.ValidChains.{AreSound, chain_valid, limited_known, root_here}
 use Rattle.directive_check.proofs.ValidInside.{alone_inside, composed_inside}
 use Rattle.directive_check.proofs.ValidMapped.{AllGood, GoodHow, all_sound, chain_found, good_found, none_of}
 use Rattle.directive_check.proofs.ValidShapes.{all_elements, shape_is}
@@ -97,16 +97,20 @@ inside_true false inside none is = absurd cc
 chain_of : (s : Setting) (ms : List MappedObject) (x : Name) (ds : List Dim) (r : Mapping) (zs : List AlignDim) → dims_of s x ≡ map Some ds → AreSound s ms →
     chain_reasons s ms x ≡ [] → IsMappingOf s.grid (dims_of s (root_of s ms x)) r → root_alignment s ms x ≡ Known zs → IsMapOf (product s.grid) (shape_of ds) (composed r zs)
 chain_of s ms x ds r zs own sound none is known = record {
-  valid = subst (λ n. IsMapping n (composed r zs)) (ap length own ∙ same_rank ds) (chain_valid (length s.names) s ms sound x (how_mapped ms x) refl zs r known is.valid);
+  valid = subst (λ n. IsMapping n (composed r zs)) (ap length own ∙ same_rank ds) (chain_valid (length s.names) s ms sound x (target_of ms x) refl zs r entries is.valid);
   onto = is.onto;
   inside = λ k z within.
       let index = get_or (elements (shape_of ds)) k z in
       let element = subst (λ bs. AreSubscripts bs index) (sym own) (all_elements ds k z within) in
       composed_inside (dims_of s (root_of s ms x)) (dims_of s x) zs r index is.lines element
       (inside_true (has_elements (dims_of s x)) (are_inside (dims_of s x) zs (dims_of s (root_of s ms x)))
-      (subst (λ a. root_reasons s ms x a ≡ []) known (none_of (when (is_on_cycle s ms x) reason.BadDirective) (root_reasons s ms x (root_alignment s ms x)) none).1)
+      (subst (λ o. outside_reasons s ms x o ≡ []) entries
+      (none_of (when (is_on_cycle s ms x) reason.BadDirective ++ when (is_composed ms x && is_past (root_alignment s ms x)) reason.Limit) (outside_reasons s ms x (chain_entries s ms x)) none).1)
       (ap not (none_empty (dims_of s x) index element)));
 }
+  where
+    entries : chain_entries s ms x ≡ Some zs
+    entries = limited_known (chain_entries s ms x) zs known
 
 -- what is put through an alignment
 record Through (root : Option Mapping) (a : Alignment) (m : Mapping) : Type 0 where

@@ -6,3 +6,4 @@ pub mod MappingRules
 pub mod ProgramMaps
 pub mod Redistributes
 pub mod DirectMappings
+pub mod WideAlignments

@@ -1,10 +1,11 @@
 -- The rules of mapping directives over a whole program (HPF 2.0, 3 and 8): what each part of it breaks of them, with its line and
 -- the reason.
-use Rattle.std.specs.Prelude.{ℕ, ◌&&◌, ◌||◌, not, List, [], ◌∷◌, ◌++◌}
+use Rattle.std.specs.Prelude.{ℕ, Bool, true, false, ◌&&◌, ◌||◌, not, List, [], ◌++◌, Option, Some, None}
 use Rattle.std.specs.List.{flat_map}
 use Rattle.hpf_base.specs.declared.refusal.Reason.{Reason}
 use Rattle.hpf_base.specs.declared.refusal.Reason.TheVariants as reason
 use Rattle.hpf_base.specs.declared.refusal.Refusal.{Refusal}
+use Rattle.mappings.specs.declared.mapping.AlignDim.{AlignDim}
 use Rattle.syntax_tree.specs.Directive.{Distribute, Align, Distribution}
 use Rattle.syntax_tree.specs.MainProgram.{Declared, Directed, Declaration, MainProgram}
 use Rattle.expression_rules.specs.Symbols.{Name, is_among}
@@ -16,10 +17,10 @@ use Rattle.distribution_rules.specs.Setting.{Setting, setting, dims_of}
 use Rattle.distribution_rules.specs.SpaceRules.{space_reasons}
 use Rattle.distribution_rules.specs.DistributionRules.{distribute_reasons}
 use Rattle.alignment_rules.specs.declared.alignment_values.Alignment.{Alignment}
-use Rattle.alignment_rules.specs.declared.alignment_values.Alignment.TheVariants.{Known, PastLimits, Unknown}
+use Rattle.alignment_rules.specs.declared.alignment_values.Alignment.TheVariants.{PastLimits}
 use Rattle.alignment_rules.specs.AlignmentRules.{align_reasons, has_elements}
 use Rattle.directive_check.specs.MappedObjects.{MappedObject, mapped_objects, mapped_twice, dynamic_names, dynamic_objects, dynamic_breaches}
-use Rattle.directive_check.specs.Chains.{is_aligned, is_on_cycle, root_of, root_alignment, are_inside}
+use Rattle.directive_check.specs.Chains.{is_aligned, is_composed, is_on_cycle, root_of, chain_entries, root_alignment, are_inside}
 
 -- what is wrong with a declaration by itself
 abbrev pub declared_reasons : Setting → Declared → List Reason
@@ -30,16 +31,23 @@ declared_reasons s d = space_reasons s d
 abbrev pub declared_breaches : Setting → List Declaration → List Refusal
 declared_breaches s ds = flat_map (λ d. at d.line (declared_reasons s d.what)) ds
 
--- the alignment of an object with what its alignments end at is past the limits, or an element lies outside that. Where each element of the
--- objects between lies inside their targets, this is so only if one of these objects has no elements
-abbrev pub root_reasons : Setting → List MappedObject → Name → Alignment → List Reason
-root_reasons s ms x Unknown = []
-root_reasons s ms x PastLimits = reason.Limit ∷ []
-root_reasons s ms x (Known es) = when (has_elements (dims_of s x) && not (are_inside (dims_of s x) es (dims_of s (root_of s ms x)))) reason.BadDirective
+abbrev pub is_past : Alignment → Bool
+is_past PastLimits = true
+is_past a = false
 
--- what is wrong with an object among the others: a cycle of alignments, or the alignment with its end
+-- an element lies outside what its alignments end at. Where each element of the objects between lies inside their targets, this is so only
+-- if one of these objects has no elements
+abbrev pub outside_reasons : Setting → List MappedObject → Name → Option (List AlignDim) → List Reason
+outside_reasons s ms x None = []
+outside_reasons s ms x (Some es) = when (has_elements (dims_of s x) && not (are_inside (dims_of s x) es (dims_of s (root_of s ms x)))) reason.BadDirective
+
+-- what is wrong with an object among the others: a cycle of alignments; or, where no ALIGN of its chain breaks a rule by itself, the limits
+-- of an alignment that is composed, and where it leads
 abbrev pub chain_reasons : Setting → List MappedObject → Name → List Reason
-chain_reasons s ms x = when (is_on_cycle s ms x) reason.BadDirective ++ root_reasons s ms x (root_alignment s ms x)
+chain_reasons s ms x =
+    when (is_on_cycle s ms x) reason.BadDirective
+    ++ when (is_composed ms x && is_past (root_alignment s ms x)) reason.Limit
+    ++ outside_reasons s ms x (chain_entries s ms x)
 
 abbrev pub chain_breaches : Setting → List MappedObject → List Refusal
 chain_breaches s ms = flat_map (λ m. at m.line (chain_reasons s ms m.name)) ms

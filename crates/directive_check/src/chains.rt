@@ -1,7 +1,7 @@
 //! Alignments one after the other (HPF 2.0, 3.4).
 
 ghost use Rattle.std.specs.Prelude.{◌≡◌, Some};
-ghost use Rattle.directive_check.specs.Chains.{is_aligned, meets, root_from, target_in, target_of};
+ghost use Rattle.directive_check.specs.Chains.{is_aligned, is_composed, meets, root_from, target_in, target_of};
 ghost use Rattle.directive_check.specs.MappedSteps.{how_of, mapped};
 
 use crate::mapped_object::MappedObject;
@@ -37,6 +37,16 @@ pub(crate) fn is_aligned(objects: &[MappedObject<'_>], name: &Name) -> bool
     ensures { result ≡ is_aligned (mapped objects.now) name.now }
 {
     target_of(objects, name).is_some()
+}
+
+/// The object is aligned with one that is aligned itself.
+pub(crate) fn is_composed(objects: &[MappedObject<'_>], name: &Name) -> bool
+    ensures { result ≡ is_composed (mapped objects.now) name.now }
+{
+    match target_of(objects, name) {
+        None => false,
+        Some(target) => is_aligned(objects, &target),
+    }
 }
 
 /// Within so many alignments, the first of which leads to `reached`, the object is met.

@@ -153,7 +153,7 @@ pub(crate) fn unnamed(names: &[Name])
 
 /// The least reason for which an ALIGN breaks a rule.
 #[tactic(auto, using(distribution_rules::proofs::LeastReasons::least_reason_append))]
-fn align_reason(
+pub(crate) fn align_reason(
     alloc: Global,
     setting: &Setting<'_>,
     spec: &AlignSpec,

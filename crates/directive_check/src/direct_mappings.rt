@@ -3,6 +3,7 @@
 ghost use Rattle.std.specs.Prelude.{◌≡◌, All, IfOk, IfSome, Some};
 ghost use Rattle.mappings.specs.Alignment.{composed, composed_align};
 ghost use Rattle.syntax_tree.specs.Directive.{distribution};
+ghost use Rattle.directive_check.specs.ChainSteps.{IsJudged};
 ghost use Rattle.directive_check.specs.DirectMappings.{IsDirect, IsDirectAlign};
 ghost use Rattle.directive_check.specs.MappedSteps.{how_of, mapped};
 ghost use Rattle.directive_check.specs.ProgramMaps.{distributed_as, mapped_as, replicated, start_of, through, with_root};
@@ -97,7 +98,8 @@ pub(crate) fn with_root(
     name: &Name,
     root: Option<Mapping>,
 ) -> Result<Option<Mapping>, AllocError>
-    requires { IfSome root IsDirect }
+    requires judged { All (IsJudged setting.now) objects.now }
+    requires direct { IfSome root IsDirect }
     ensures { IfOk result (λ m. m ≡ with_root setting.now (mapped objects.now) name.now root) }
 {
     if is_aligned(objects, name) {

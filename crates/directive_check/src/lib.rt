@@ -2,13 +2,14 @@
 //!
 //! Comes in: a program whose names are resolved, and a processor grid. Goes out: each array's mapping at the start and the new mappings of
 //! each REDISTRIBUTE, or the first breach of the rules of mapping directives. What holds in between: alignments are composed along their
-//! chain, and what is past the limits stays past them.
+//! chain, in numbers that are exact or far past all limits; and a chain of which an ALIGN is refused by itself says nothing.
 #![tactic(auto)]
 
 mod chain_rules;
 mod chains;
 mod composed_alignments;
 mod declared_rules;
+mod dims;
 mod direct_mappings;
 mod dynamic_names;
 mod mapped_object;
@@ -19,5 +20,6 @@ mod redistribute_judge;
 mod redistributes;
 mod root_alignments;
 mod subscripts;
+mod wide_numbers;
 
 pub use mapping_check::check_mapping;

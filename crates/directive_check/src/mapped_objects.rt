@@ -6,8 +6,11 @@ ghost use Rattle.syntax_tree.specs.MainProgram.{Directed, declaration, declared_
 ghost use Rattle.expression_rules.specs.Symbols.{Name};
 ghost use Rattle.directive_check.specs.MappedObjects.{how_mapped, mapped_by, mapped_object, mapped_objects};
 ghost use Rattle.directive_check.specs.MappedSteps.{IsListed, IsListedDirective, how_of, mapped};
+ghost use Rattle.directive_check.specs.ChainSteps.{IsJudged, is_refused_how};
 
+use crate::declared_rules::align_reason;
 use crate::mapped_object::MappedObject;
+use distribution_rules::Setting;
 use hpf_base::Name;
 use std::alloc::{AllocError, Global};
 use syntax_tree::{Decl, DeclKind, Directive};
@@ -73,13 +76,72 @@ fn push_names<'a>(
             line,
             name,
             directive,
+            refused: false,
         })?;
     }
     Ok(())
 }
 
-/// The objects that are mapped, each as it is mapped first.
+/// The objects that are mapped, each as it is mapped first, and with a note of whether its ALIGN breaks a rule by itself.
 pub(crate) fn first_mapped<'a>(
+    alloc: Global,
+    setting: &Setting<'_>,
+    objects: &[MappedObject<'a>],
+) -> Result<Vec<MappedObject<'a>>, AllocError>
+    ensures same { IfOk result (λ ms. (x : Name) → how_mapped (mapped ms.items) x ≡ how_mapped (mapped objects.now) x) }
+    ensures judged { IfOk result (λ ms. All (IsJudged setting.now) ms.items) }
+{
+    let firsts = firsts_of(alloc, objects)?;
+    let judged = judged(alloc, setting, &firsts)?;
+    Ok(judged)
+}
+
+/// These objects, with the note.
+fn judged<'a>(
+    alloc: Global,
+    setting: &Setting<'_>,
+    objects: &[MappedObject<'a>],
+) -> Result<Vec<MappedObject<'a>>, AllocError>
+    ensures same { IfOk result (λ ms. mapped ms.items ≡ mapped objects.now) }
+    ensures judged { IfOk result (λ ms. All (IsJudged setting.now) ms.items) }
+{
+    let mut noted = Vec::new(alloc);
+    for object in objects {
+        let refused = is_refused(alloc, setting, object.directive)?;
+        noted.push(MappedObject {
+            line: object.line,
+            name: object.name,
+            directive: object.directive,
+            refused,
+        })?;
+    }
+    Ok(noted)
+}
+
+/// The directive is an ALIGN that breaks a rule by itself.
+#[tactic(auto, using(crate::proofs::MappingBreaches::some_least))]
+fn is_refused(
+    alloc: Global,
+    setting: &Setting<'_>,
+    directive: &Directive,
+) -> Result<bool, AllocError>
+    ensures { IfOk result (λ b. b ≡ is_refused_how setting.now (how_of directive.now)) }
+{
+    match directive {
+        Directive::Align(spec) => {
+            let reason = align_reason(alloc, setting, spec)?;
+            Ok(reason.is_some())
+        }
+        Directive::Distribute(_)
+        | Directive::Processors(_)
+        | Directive::Template(_)
+        | Directive::Dynamic(_)
+        | Directive::Passed => Ok(false),
+    }
+}
+
+/// The objects that are mapped, each as it is mapped first.
+fn firsts_of<'a>(
     alloc: Global,
     objects: &[MappedObject<'a>],
 ) -> Result<Vec<MappedObject<'a>>, AllocError>
@@ -106,6 +168,7 @@ fn add_first<'a>(
                 line: object.line,
                 name: object.name,
                 directive: object.directive,
+                refused: object.refused,
             })?;
             Ok(())
         }

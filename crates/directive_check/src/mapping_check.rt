@@ -1,6 +1,6 @@
 //! The rules of mapping directives over a whole program.
 
-ghost use Rattle.std.specs.Prelude.{◌≡◌, map, IfErr, IfOk, OnOk};
+ghost use Rattle.std.specs.Prelude.{◌≡◌, map, All, IfErr, IfOk, OnOk};
 ghost use Rattle.hpf_base.specs.ElementOrder.{product};
 ghost use Rattle.hpf_base.specs.FirstBreach.{Among, least};
 ghost use Rattle.hpf_base.specs.Refusal.{IsRefusalBy, NoBreach};
@@ -14,6 +14,7 @@ ghost use Rattle.statement_walk.specs.Heads.{all_heads};
 ghost use Rattle.distribution_rules.specs.Setting.{arrays};
 ghost use Rattle.array_maps.specs.Maps.{AreMaps};
 ghost use Rattle.directive_check.specs.MappedObjects.{how_mapped, mapped_objects};
+ghost use Rattle.directive_check.specs.ChainSteps.{IsJudged};
 ghost use Rattle.directive_check.specs.MappedSteps.{mapped};
 ghost use Rattle.directive_check.specs.MappingRules.{breaches_in, mapping_breaches};
 ghost use Rattle.directive_check.specs.ProgramMaps.{new_maps_from, program_moves, start_maps, start_maps_in};
@@ -51,7 +52,7 @@ pub fn check_mapping(alloc: Global, program: &Program, grid: &Grid) -> Result<Ma
     let _ = grid.dims();
     let setting = Setting::new(alloc, grid, program)?;
     let objects = mapped_in(alloc, &setting, &program.tree)?;
-    let firsts = first_mapped(alloc, &objects)?;
+    let firsts = first_mapped(alloc, &setting, &objects)?;
     match first_breach(alloc, &setting, &objects, &firsts, &program.tree)? {
         Some(refusal) => Err(StaticError::Refused(refusal)),
         None => {
@@ -68,6 +69,7 @@ fn maps_of(
     objects: &[MappedObject<'_>],
     program: &Program,
 ) -> Result<Maps, AllocError>
+    requires judged { All (IsJudged setting.now) objects.now }
     ensures arrays { IfOk result (λ m. m.arrays ≡ start_maps_in setting.now (mapped objects.now) program.now.names) }
     ensures moves { IfOk result (λ m. m.moves ≡ map (λ d. new_maps_from setting.now (mapped objects.now) d 0 (arrays program.now.names))
         (redistributes (all_heads (block_of program.now.tree.body.items)))) }
@@ -101,6 +103,7 @@ fn first_breach(
 ) -> Result<Option<Refusal>, AllocError>
     requires objects { mapped objects.now ≡ mapped_objects (map declaration tree.now.decls.items) }
     requires firsts { (x : Name) → how_mapped (mapped firsts.now) x ≡ how_mapped (mapped objects.now) x }
+    requires judged { All (IsJudged setting.now) firsts.now }
     ensures { IfOk result (λ r. r ≡ least (breaches_in setting.now (main_program tree.now))) }
 {
     let names = dynamic_names(alloc, &tree.decls)?;

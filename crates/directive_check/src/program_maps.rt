@@ -1,11 +1,12 @@
 //! The arrays of a program at the start, and those that each REDISTRIBUTE moves (HPF 2.0, 3 and 8.3).
 
-ghost use Rattle.std.specs.Prelude.{◌≡◌, ◌++◌, ◌+◌, length, map, unwrap_or, IfOk, OnOk};
+ghost use Rattle.std.specs.Prelude.{◌≡◌, ◌++◌, ◌+◌, length, map, unwrap_or, All, IfOk, OnOk};
 ghost use Rattle.expression_rules.specs.Symbols.{is_among};
 ghost use Rattle.syntax_tree.specs.Directive.{distribution};
 ghost use Rattle.syntax_tree.specs.Statement.{block_of};
 ghost use Rattle.statement_walk.specs.Heads.{all_heads};
 ghost use Rattle.distribution_rules.specs.Setting.{array_of, arrays};
+ghost use Rattle.directive_check.specs.ChainSteps.{IsJudged};
 ghost use Rattle.directive_check.specs.MappedSteps.{mapped};
 ghost use Rattle.directive_check.specs.ProgramMaps.{new_map, new_maps_from, replicated, shape_of, start_map, start_maps_in};
 ghost use Rattle.directive_check.specs.Redistributes.{redistributes, said};
@@ -31,6 +32,7 @@ pub(crate) fn start_maps(
     objects: &[MappedObject<'_>],
     names: &Names,
 ) -> Result<ArrayMaps, AllocError>
+    requires judged { All (IsJudged setting.now) objects.now }
     ensures { IfOk result (λ ms. ms ≡ start_maps_in setting.now (mapped objects.now) names.now) }
 {
     let mut maps = Vec::new(alloc);
@@ -51,6 +53,7 @@ fn push_start(
     entry: &Entry,
     maps: &mut Vec<ArrayMap>,
 ) -> Result<(), AllocError>
+    requires judged { All (IsJudged setting.now) objects.now }
     ensures { OnOk result (maps.new.items ≡ maps.old.items ++ start_map setting.now (mapped objects.now) entry.now.name entry.now.what) }
 {
     match &entry.what {
@@ -99,6 +102,7 @@ fn start_mapping(
     objects: &[MappedObject<'_>],
     name: &Name,
 ) -> Result<Mapping, AllocError>
+    requires judged { All (IsJudged setting.now) objects.now }
     ensures { IfOk result (λ m. m ≡ started setting.now (mapped objects.now) name.now) }
 {
     let root = start_of(alloc, setting, objects, &root_of(setting, objects, name))?;
@@ -123,6 +127,7 @@ pub(crate) fn redistributions(
     names: &Names,
     stmts: &[Stmt],
 ) -> Result<Redistributions, AllocError>
+    requires judged { All (IsJudged setting.now) objects.now }
     ensures { IfOk result (λ rs. rs ≡ map (λ d. new_maps_from setting.now (mapped objects.now) d 0 (arrays names.now)) (redistributes (all_heads (block_of stmts.now)))) }
 {
     let found = redistributes(alloc, stmts)?;
@@ -138,6 +143,7 @@ fn moved_by_each(
     names: &Names,
     found: &[Redistribute<'_>],
 ) -> Result<Vec<NewMaps>, AllocError>
+    requires judged { All (IsJudged setting.now) objects.now }
     ensures { IfOk result (λ rs. rs.items ≡ map (λ d. new_maps_from setting.now (mapped objects.now) d 0 (arrays names.now)) (said found.now)) }
 {
     let mut entries = Vec::new(alloc);
@@ -156,6 +162,7 @@ fn new_maps(
     names: &Names,
     spec: &DistSpec,
 ) -> Result<NewMaps, AllocError>
+    requires judged { All (IsJudged setting.now) objects.now }
     ensures { IfOk result (λ ms. ms ≡ new_maps_from setting.now (mapped objects.now) (distribution spec.now) 0 (arrays names.now)) }
 {
     let mut maps = Vec::new(alloc);
@@ -193,6 +200,7 @@ fn push_moved(
     entry: &Entry,
     maps: &mut Vec<NewMap>,
 ) -> Result<(), AllocError>
+    requires judged { All (IsJudged setting.now) objects.now }
     ensures { OnOk result (maps.new.items ≡ maps.old.items
         ++ new_maps_from setting.now (mapped objects.now) (distribution spec.now) number (array_of entry.now.name entry.now.what)) }
 {
@@ -212,6 +220,7 @@ fn push_array(
     name: &Name,
     maps: &mut Vec<NewMap>,
 ) -> Result<(), AllocError>
+    requires judged { All (IsJudged setting.now) objects.now }
     ensures { OnOk result (maps.new.items ≡ maps.old.items ++ new_map setting.now (mapped objects.now) (distribution spec.now) number name.now) }
 {
     let root = root_of(setting, objects, name);
@@ -234,6 +243,7 @@ fn moved_mapping(
     name: &Name,
     root: &Name,
 ) -> Result<Mapping, AllocError>
+    requires judged { All (IsJudged setting.now) objects.now }
     ensures { IfOk result (λ m. m ≡ moved setting.now (mapped objects.now) (distribution spec.now) name.now root.now) }
 {
     let found = distributed_as(alloc, setting, spec, root)?;

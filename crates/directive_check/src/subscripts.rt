@@ -10,7 +10,7 @@ pub(crate) fn linear(a: i64, i: i64, b: i64) -> i128
 }
 
 /// `a * b`, which is at most 2^126 in magnitude.
-pub(crate) fn product(a: i64, b: i64) -> i128
+fn product(a: i64, b: i64) -> i128
     ensures value { result ≡ a *ℤ b }
     ensures least { neg_ℤ (pos (2 ^ 126)) ≤ℤ result }
     ensures most { result ≤ℤ pos (2 ^ 126) }

@@ -32,7 +32,7 @@ pub returns-clause-arrays : goal.returns-clause-arrays
 returns-clause-arrays c =
     let p = main_program c.args.program.now.tree in
     let same : MapSame (mapped c.deref-in-None.result.now) (mapped c.in_ok-objects.objects.items) = λ x.
-    ap (λ l. how_mapped (mapped l) x) c.deref-in-None.ensures.value ∙ c.in_ok-firsts.ensures x ∙ ap (λ l. how_mapped (mapped l) x) c.deref.ensures.value in
+    ap (λ l. how_mapped (mapped l) x) c.deref-in-None.ensures.value ∙ c.in_ok-firsts.ensures.same x ∙ ap (λ l. how_mapped (mapped l) x) c.deref.ensures.value in
     arrays_as c.in_ok-setting.setting (setting c.args.grid.now p) (mapped c.deref-in-None.result.now) (mapped c.in_ok-objects.objects.items) (mapped_objects p.declarations)
     c.args.program.now.names (entries p) c.in_ok-maps-in-None.maps.arrays
     c.in_ok-setting.ensures same c.in_ok-objects.ensures c.requires.names c.in_ok-maps-in-None.ensures.arrays
@@ -41,7 +41,7 @@ pub returns-clause-moves : goal.returns-clause-moves
 returns-clause-moves c =
     let p = main_program c.args.program.now.tree in
     let same : MapSame (mapped c.deref-in-None.result.now) (mapped c.in_ok-objects.objects.items) = λ x.
-    ap (λ l. how_mapped (mapped l) x) c.deref-in-None.ensures.value ∙ c.in_ok-firsts.ensures x ∙ ap (λ l. how_mapped (mapped l) x) c.deref.ensures.value in
+    ap (λ l. how_mapped (mapped l) x) c.deref-in-None.ensures.value ∙ c.in_ok-firsts.ensures.same x ∙ ap (λ l. how_mapped (mapped l) x) c.deref.ensures.value in
     moves_as c.in_ok-setting.setting (setting c.args.grid.now p) (mapped c.deref-in-None.result.now) (mapped c.in_ok-objects.objects.items) (mapped_objects p.declarations)
     c.args.program.now.names (entries p) (all_heads p.body) c.in_ok-maps-in-None.maps.moves
     c.in_ok-setting.ensures same c.in_ok-objects.ensures c.requires.names c.in_ok-maps-in-None.ensures.moves

@@ -7,7 +7,7 @@ use Rattle.directive_check.specs.DirectMappings.{IsDirect}
 use Rattle.directive_check.proofs.DirectLaws.{direct}
 use Rattle.directive_check.proofs.program_maps.moved_mapping.Goals as goal
 
-pub with_root-requires : goal.with_root-requires
-with_root-requires c =
+pub with_root-requires-clause-direct : goal.with_root-requires-clause-direct
+with_root-requires-clause-direct c =
     subst (λ m. IfSome m IsDirect) (sym c.in_ok-found.ensures)
     (direct c.args.setting.now (distribution_values c.args.setting.now (distribution c.args.spec.now)) (dims_of c.args.setting.now c.args.root.now))

@@ -2,7 +2,7 @@ use Rattle.std.proofs.Common.{◌≡◌, ◌++◌, drop}
 use Rattle.expression_rules.specs.Symbols.{Name}
 use Rattle.directive_check.specs.MappedObjects.{how_mapped}
 use Rattle.directive_check.specs.MappedSteps.{mapped}
-use Rattle.directive_check.proofs.mapped_objects.first_mapped.Given as goal
+use Rattle.directive_check.proofs.mapped_objects.firsts_of.Given as goal
 
 abbrev pub invariant-loop-object : goal.invariant-loop-object
 invariant-loop-object l =

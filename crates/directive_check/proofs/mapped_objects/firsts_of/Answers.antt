@@ -1,5 +1,5 @@
 use Rattle.directive_check.proofs.MappedTurns.{firsts_next}
-use Rattle.directive_check.proofs.mapped_objects.first_mapped.Goals as goal
+use Rattle.directive_check.proofs.mapped_objects.firsts_of.Goals as goal
 
 pub loop-object-preserved : goal.loop-object-preserved
 loop-object-preserved c =
