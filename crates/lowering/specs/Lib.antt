@@ -1,4 +1,5 @@
 pub mod ExpressionCode
 pub mod StatementCode
 pub mod WellFormed
+pub mod Ranks
 pub mod Lowered

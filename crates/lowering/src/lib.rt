@@ -1,7 +1,7 @@
 //! The compiler as a function of the definitions: the node code of resolved programs, and that it does what they mean.
 //!
 //! Comes in: programs whose names are resolved, in `array_meaning`'s definitions, and what instructions do on the machine with whole
-//! arrays, in `node_code`'s. Goes out, in `specs/`: the code of expressions, statements and programs, and three laws, the contracts
+//! arrays, in `node_code`'s. Goes out, in `specs/`: the code of expressions, statements and programs, and four laws, the contracts
 //! of functions with empty bodies. There is no function here that runs, and no node.
 //!
 //! What holds in between, from the bottom up:
@@ -18,4 +18,4 @@
 
 mod lowered;
 
-pub use lowered::{code_is_valid, outcomes_lowered, programs_lowered};
+pub use lowered::{code_is_valid, outcomes_lowered, programs_have_valid_code, programs_lowered};

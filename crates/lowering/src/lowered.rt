@@ -5,7 +5,7 @@ ghost use Rattle.syntax_tree.specs.Statement as syntax;
 ghost use Rattle.name_table.specs.declared.names.Entry.{Entry};
 ghost use Rattle.hpf_base.specs.declared.index.Shape.{Shape};
 ghost use Rattle.machine_steps.specs.Agrees.{IsValidCode};
-ghost use Rattle.lowering.specs.StatementCode.{block_copies, program_code};
+ghost use Rattle.lowering.specs.StatementCode.{block_copies, block_slots, program_code};
 ghost use Rattle.array_meaning.specs.Resolution.{resolved_block, initial_state};
 ghost use Rattle.array_meaning.specs.Serial.{outcome};
 ghost use Rattle.array_meaning.specs.Execution.{run_block};
@@ -13,8 +13,10 @@ ghost use Rattle.array_meaning.specs.State.{State};
 ghost use Rattle.array_meaning.specs.Statements.{Block};
 ghost use Rattle.lowering.specs.Lowered.{IsState, IsTable, opening, MachineEnds, MachineHas};
 ghost use Rattle.lowering.specs.WellFormed.{IsWellFormedBlock};
+ghost use Rattle.lowering.specs.Ranks.{AreFewDims, BlockKeepsRanks};
 ghost use Rattle.machine_steps.specs.Layout.{AreOwned, IsDealt, Layout};
 ghost use Rattle.node_code.specs.Instructions.{ArrayTable, meaning_of};
+ghost use Rattle.node_code.specs.ValidCode.{CodeTable, IsValidNodeCode};
 
 /// The machine with whole arrays ends over a program's code as the program does: with the first fault, its line, kind and tuple, and
 /// the bytes that were printed before it, or finished with the program's bytes, scalars and arrays. After the declared names there is
@@ -40,4 +42,14 @@ pub fn code_is_valid()
     ensures { (count n : ℕ) (shapes : List Shape) (table : ArrayTable) (body : Block)
         → length shapes ≤ n → ((layouts : List Layout) → AreOwned count layouts → (extents : List ℕ) → IsDealt count (table.copies layouts extents))
         → IsWellFormedBlock n body → IsValidCode (meaning_of table) count shapes (program_code n body) }
+{}
+
+/// The code of a program that keeps the ranks of its arrays names only what there is, with a subscript for each dimension of each array
+/// and 7 at most, and ends with an instruction that doesn't go on to the next. There are slots for the declared names and the hidden
+/// ones, and as many copies as the code names, or more.
+pub fn programs_have_valid_code()
+    ensures { (table : CodeTable) (n : ℕ) (body : Block)
+        → length table.shapes ≡ n → AreFewDims table.shapes → n + block_slots body ≤ table.slots → block_copies body ≤ table.copies
+        → length (program_code n body) ≡ table.places → IsWellFormedBlock n body → BlockKeepsRanks table.shapes body
+        → IsValidNodeCode table (program_code n body) }
 {}
