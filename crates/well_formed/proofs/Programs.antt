@@ -1,5 +1,6 @@
 -- Programs that break no rule.
-use Rattle.std.proofs.Common.{◌≡◌, ◌≤◌, ◌+◌, ℕ, List, [], length}
+use Rattle.std.proofs.Common.{◌≡◌, ◌≤◌, ◌+◌, ℕ, List, [], length, sym, ap, subst, ◌∙◌}
+use Rattle.std.proofs.lemmas.List.{length-map}
 use Rattle.std.specs.List.{flat_map}
 use Rattle.hpf_base.specs.FirstBreach.{Among}
 use Rattle.hpf_base.specs.Refusal.{NoBreach}
@@ -11,6 +12,8 @@ use Rattle.statement_walk.specs.Heads.{all_heads}
 use Rattle.declarations.specs.Declarations.{symbol_table}
 use Rattle.name_table.specs.Entries.{entries}
 use Rattle.name_table.specs.NameRules.{name_breaches, name_breaches_at}
+use Rattle.name_table.specs.KnownSymbols.{AllAreKnown}
+use Rattle.name_table.specs.RankRules.{declaration_breaches_at, rank_breaches, rank_breaches_at}
 use Rattle.name_table.specs.Resolved.{HasNoBreach}
 use Rattle.name_table.specs.declared.names.Entry.{Entry}
 use Rattle.body_check.specs.BodyRules.{body_breaches}
@@ -21,12 +24,17 @@ use Rattle.machine_steps.specs.Agrees.{IsValidCode}
 use Rattle.machine_steps.specs.Layout.{AreOwned, IsDealt, Layout}
 use Rattle.node_code.specs.Instructions.{ArrayTable, meaning_of}
 use Rattle.lowering.specs.Lowered.{IsTable, MachineHas, opening}
-use Rattle.lowering.specs.StatementCode.{block_copies, program_code}
+use Rattle.node_code.specs.ValidCode.{CodeTable, IsValidNodeCode}
+use Rattle.lowering.specs.Ranks.{AreFewDims, BlockKeepsRanks, declared_shapes}
+use Rattle.lowering.specs.StatementCode.{block_copies, block_slots, program_code}
 use Rattle.lowering.specs.WellFormed.{IsWellFormedBlock}
 use Rattle.lowering.proofs.Outcomes.{outcome-is}
 use Rattle.lowering.proofs.Validity.{code-valid}
+use Rattle.lowering.proofs.ValidPrograms.{program-valid}
 use Rattle.well_formed.proofs.Lists.{all_empty, empties, front_empty, no_breach}
+use Rattle.well_formed.proofs.Dimensions.{few_dims, found_full, table_full}
 use Rattle.well_formed.proofs.Heads.{all_good}
+use Rattle.well_formed.proofs.RankedStatements.{all_typed_heads, block_ranked}
 use Rattle.well_formed.proofs.Statements.{block_good}
 
 -- the breaches of FORALL are among those of bodies
@@ -54,3 +62,27 @@ pub valid : (count : ℕ) (p : MainProgram) (shapes : List Shape) (table : Array
     IsValidCode (meaning_of table) count shapes (program_code (length (entries p)) (resolved_block (entries p) p.body))
 valid count p shapes table few dealt rules bodies =
     code-valid count (length (entries p)) shapes table few dealt (resolved_block (entries p) p.body) (well_formed p rules.names bodies)
+
+abbrev KeepsAllRanks : MainProgram → Type 0
+KeepsAllRanks p = AreFewDims (declared_shapes (initial_state (entries p))) × BlockKeepsRanks (declared_shapes (initial_state (entries p))) (resolved_block (entries p) p.body)
+
+-- where all that is declared is known
+pub ranked : (p : MainProgram) → AllAreKnown p → HasNoBreach p → KeepsAllRanks p
+ranked p known rules =
+    let t : SymbolTable = symbol_table p.declarations in
+    let full = table_full p.declarations (known rules.names rules.ranks) in
+    let names = (empties _ _ (empties _ _ (empties _ _ (no_breach (name_breaches p) rules.names)).0).0).1 in
+    let ranks = (empties (flat_map (declaration_breaches_at t) p.declarations) _ (no_breach (rank_breaches p) rules.ranks)).1 in (
+      few_dims t full,
+      block_ranked t (λ x s is. found_full x t s full is) [] p.body
+          (all_typed_heads t (all_heads p.body) (all_empty (name_breaches_at t) (all_heads p.body) names) (all_empty (rank_breaches_at t) (all_heads p.body) ranks)),
+    )
+
+pub code_valid : (p : MainProgram) (table : CodeTable) → KeepsAllRanks p → table.shapes ≡ declared_shapes (initial_state (entries p)) →
+    length (entries p) + block_slots (resolved_block (entries p) p.body) ≤ table.slots → block_copies (resolved_block (entries p) p.body) ≤ table.copies →
+    length (program_code (length (entries p)) (resolved_block (entries p) p.body)) ≡ table.places → HasNoBreach p → NoBreach (Among (body_breaches (entries p) p.body)) →
+    IsValidNodeCode table (program_code (length (entries p)) (resolved_block (entries p) p.body))
+code_valid p table keeps same slots copies places rules bodies =
+    program-valid table (length (entries p)) (resolved_block (entries p) p.body) (ap length same ∙ length-map (initial_state (entries p)).arrays _ ∙ length-map (entries p) _)
+    (subst AreFewDims (sym same) keeps.0) slots copies places (well_formed p rules.names bodies)
+    (subst (λ shapes. BlockKeepsRanks shapes (resolved_block (entries p) p.body)) (sym same) keeps.1)

@@ -14,9 +14,13 @@ ghost use Rattle.array_meaning.specs.Serial.{outcome};
 ghost use Rattle.machine_steps.specs.Agrees.{IsValidCode};
 ghost use Rattle.machine_steps.specs.Layout.{AreOwned, IsDealt, Layout};
 ghost use Rattle.node_code.specs.Instructions.{ArrayTable, meaning_of};
+ghost use Rattle.node_code.specs.ValidCode.{CodeTable, IsValidNodeCode};
 ghost use Rattle.lowering.specs.Lowered.{IsTable, MachineHas, opening};
-ghost use Rattle.lowering.specs.StatementCode.{block_copies, program_code};
+ghost use Rattle.lowering.specs.Ranks.{AreFewDims, BlockKeepsRanks, declared_shapes};
+ghost use Rattle.lowering.specs.StatementCode.{block_copies, block_slots, program_code};
 ghost use Rattle.lowering.specs.WellFormed.{IsWellFormedBlock};
+
+use name_table::all_are_known;
 
 /// The resolved statements of a program that breaks no rule of names and no rule of bodies are well-formed, whatever the types and
 /// ranks of its expressions.
@@ -44,3 +48,26 @@ pub fn accepted_code_is_valid()
         → HasNoBreach p → NoBreach (Among (body_breaches (entries p) p.body))
         → IsValidCode (meaning_of table) count shapes (program_code (length (entries p)) (resolved_block (entries p) p.body)) }
 {}
+
+/// The statements of a program that breaks no rule of names, types and ranks have a subscript for each dimension of each array, and none
+/// of its arrays has more than 7 dimensions.
+pub fn programs_keep_ranks()
+    ensures { (p : MainProgram) → HasNoBreach p
+        → AreFewDims (declared_shapes (initial_state (entries p)))
+        × BlockKeepsRanks (declared_shapes (initial_state (entries p))) (resolved_block (entries p) p.body) }
+{
+    all_are_known();
+}
+
+/// The code of a program that breaks no rule is valid: all that it names is there, with a subscript for each dimension of each array and 7
+/// at most. There are slots for the declared names and the hidden ones, and as many copies as the code names, or more.
+pub fn accepted_programs_have_valid_code()
+    ensures { (p : MainProgram) (table : CodeTable) → table.shapes ≡ declared_shapes (initial_state (entries p))
+        → length (entries p) + block_slots (resolved_block (entries p) p.body) ≤ table.slots
+        → block_copies (resolved_block (entries p) p.body) ≤ table.copies
+        → length (program_code (length (entries p)) (resolved_block (entries p) p.body)) ≡ table.places
+        → HasNoBreach p → NoBreach (Among (body_breaches (entries p) p.body))
+        → IsValidNodeCode table (program_code (length (entries p)) (resolved_block (entries p) p.body)) }
+{
+    programs_keep_ranks();
+}

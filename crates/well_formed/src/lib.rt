@@ -1,9 +1,9 @@
 //! Programs that break no rule are well-formed for lowering, so what is proved of the code of well-formed programs holds of each of
 //! them.
 //!
-//! Comes in: programs as abstract syntax, the rules of names of `name_table` and those of bodies of `body_check`, the resolved program of
-//! `array_meaning`, and the laws of `lowering`. Goes out: three laws, the contracts of functions with empty bodies. There is no
-//! function here that runs.
+//! Comes in: programs as abstract syntax, the rules of names, types and ranks of `name_table` and those of bodies of `body_check`, the
+//! resolved program of `array_meaning`, and the laws of `lowering`. Goes out: five laws, the contracts of functions whose bodies are
+//! empty or call the law that they rest on. There is no function here that runs.
 //!
 //! What holds in between:
 //!
@@ -11,8 +11,13 @@
 //! - Each expression over such names is well-formed both as a scalar and as an array expression, whatever its type and rank.
 //! - What stands in a FORALL that breaks no rule has no reduction, and its subscripts are literals, constants, scalars and indices under
 //!   signs, `+`, `-` and `*`.
+//! - An array whose dimensions are known has as many as its rank, and 7 at most; in a program that breaks no rule all are known. An
+//!   expression that has a type and a rank has a subscript for each of them in every reference.
 #![tactic(auto)]
 
 mod accepted;
 
-pub use accepted::{accepted_code_is_valid, accepted_programs_lowered, programs_are_well_formed};
+pub use accepted::{
+    accepted_code_is_valid, accepted_programs_have_valid_code, accepted_programs_lowered,
+    programs_are_well_formed, programs_keep_ranks,
+};

@@ -1,0 +1,174 @@
+-- The arrays that a program declares: their dimensions, by their names and by their places.
+use Rattle.std.proofs.Common.{◌≡◌, ℕ, zero, suc, ◌+◌, ◌≤◌, Bool, true, false, true≢false, cond, bytes_eq, List, [], ◌∷◌, length, map, position, nat_lt, Option, Some, None, refl, sym, ap, subst, ◌∙◌, arith}
+use Rattle.std.specs.Bool.{⊤}
+use Rattle.std.specs.Prelude.{ℤ, ◌||◌, is_some, option_map, option_and_then, slice_get, unwrap_or, if◌then◌else◌}
+use Rattle.std.specs.List.{AllByRecursion, list_all, list_any, position_from}
+use Rattle.std.proofs.lemmas.Bool.Decides.{nat_tests}
+use Rattle.std.proofs.lemmas.Iterator.Adapters.{position_from-zero}
+use Rattle.hpf_base.specs.declared.limits.TheConstants.{MAX_RANK}
+use Rattle.syntax_tree.specs.Directive.{Bound}
+use Rattle.syntax_tree.specs.Expression.{Expression}
+use Rattle.syntax_tree.specs.MainProgram.{Declaration}
+use Rattle.expression_rules.specs.declared.dims.Dim.{Dim}
+use Rattle.expression_rules.specs.declared.symbols.Symbol.{Symbol}
+use Rattle.expression_rules.specs.declared.symbols.Symbol.TheVariants.{Constant, Array, Template, Arrangement}
+use Rattle.expression_rules.specs.Symbols.{Name, SymbolTable, all_elements, find, added, changed, is_declared, is_uninitialized, satisfies}
+use Rattle.declarations.specs.Declarations.{Item, DimensionAttribute, TypedEntity, Definition, TemplateEntity, ArrangementEntity, PlacedItem, after, after_all, dims, is_bound_too_far, is_past_limits, is_too_large, items, known_dims, lower_of, number, rank_in_text, symbol_of, symbol_table, with_dim}
+use Rattle.name_table.specs.Entries.{entry, declared_as, what_is}
+use Rattle.name_table.specs.KnownSymbols.{is_known}
+use Rattle.name_table.specs.declared.names.Entry.{Entry}
+use Rattle.name_table.specs.declared.names.What.{What}
+use Rattle.node_code.specs.Parallel.{shape_of}
+use Rattle.array_meaning.specs.Resolution.{place_of, initial_array, initial_state}
+use Rattle.lowering.specs.Ranks.{declared_shapes}
+use Rattle.well_formed.proofs.Lists.{both, neither}
+
+pub some_same : {A : Type 0} (a b : A) → Some a ≡ Some b → a ≡ b
+some_same a b h = cc
+
+pub none_some : {A : Type 0} (a : A) → None ≡ Some a → ⊥
+none_some a h = true≢false (sym (ap is_some h))
+
+-- ---- known dimensions: as many as the rank, and 7 at most
+
+dim_more : (l u : Option ℤ) (o : Option (List Dim)) (n : ℕ) (ds : List Dim) → ((es : List Dim) → o ≡ Some es → n ≡ length es) → with_dim l u o ≡ Some ds → suc n ≡ length ds
+dim_more None u o n ds rest is = absurd cc
+dim_more (Some l) None o n ds rest is = absurd cc
+dim_more (Some l) (Some u) None n ds rest is = absurd cc
+dim_more (Some l) (Some u) (Some es) n ds rest is =
+    let same : record { lower = l; upper = u } ∷ es ≡ ds = some_same _ _ is in ap suc (rest es refl) ∙ ap length same
+
+dims_counted : (t : SymbolTable) (bs : List Bound) (ds : List Dim) → dims t bs ≡ Some ds → length bs ≡ length ds
+dims_counted t [] ds is = ap length (some_same [] ds is)
+dims_counted t (b ∷ bs) ds is = dim_more (lower_of t b) (number t b.upper) (dims t bs) (length bs) ds (λ es e. dims_counted t bs es e) is
+
+abbrev pub IsSized : Symbol → Type 0
+IsSized (Array r (Some ds) n) = (r ≡ length ds) × (length ds ≤ MAX_RANK)
+IsSized s = ⊤
+
+array_sized : (t : SymbolTable) (bs : List Bound) (n : Option ℤ) → IsSized (Array (length bs) (known_dims t bs) n)
+array_sized t bs n = by (is_past_limits t bs) refl (dims t bs) refl
+  where
+    at_most : (k : ℕ) → nat_lt MAX_RANK k ≡ false → k ≤ MAX_RANK
+    at_most k h = grind (arith, nat_tests)
+
+    by : (past : Bool) → is_past_limits t bs ≡ past → (o : Option (List Dim)) → dims t bs ≡ o → IsSized (Array (length bs) (if past then None else o) n)
+    by true past o is = tt
+    by false past None is = tt
+    by false past (Some ds) is =
+        let same = dims_counted t bs ds is in
+        let ranks = neither (nat_lt MAX_RANK (length bs)) (list_any (is_bound_too_far t) bs)
+        (neither (nat_lt MAX_RANK (length bs) || list_any (is_bound_too_far t) bs) (is_too_large (all_elements t) (dims t bs)) past).0 in
+        (same, subst (λ k. k ≤ MAX_RANK) same (at_most (length bs) ranks.0))
+
+symbol_sized : (t : SymbolTable) (constant : Bool) (bs : Option (List Bound)) (e : Option Expression) → IsSized (symbol_of t constant bs e)
+symbol_sized t true bs e = tt
+symbol_sized t false None None = tt
+symbol_sized t false None (Some e) = tt
+symbol_sized t false (Some bs) e = array_sized t bs _
+
+abbrev AllSized : SymbolTable → Type 0
+AllSized t = AllByRecursion (λ e. IsSized e.1) t
+
+changed_sized : (x : Name) (s : Symbol) (t : SymbolTable) → IsSized s → AllSized t → AllSized (changed x s t)
+changed_sized x s [] own all = (own, tt)
+changed_sized x s (e ∷ es) own all = by (bytes_eq x e.0) (changed_sized x s es own all.1)
+  where
+    by : (b : Bool) → AllSized (changed x s es) → AllSized (if b then (e.0, s) ∷ es else e ∷ changed x s es)
+    by true more = (own, all.1)
+    by false more = (all.0, more)
+
+if_sized : (b : Bool) (t u : SymbolTable) → AllSized t → AllSized u → AllSized (if b then t else u)
+if_sized true t u f g = f
+if_sized false t u f g = g
+
+added_sized : (t : SymbolTable) (x : Name) (s : Symbol) → IsSized s → AllSized t → AllSized (added t x s)
+added_sized t x s own all = if_sized (is_declared x t) t (changed x s t) all (changed_sized x s t own all)
+
+after_sized : (t : SymbolTable) (i : Item) → AllSized t → AllSized (after t i)
+after_sized t (DimensionAttribute bs) all = all
+after_sized t (TypedEntity constant bs e) all = added_sized t e.name (symbol_of t constant bs e.start) (symbol_sized t constant bs e.start) all
+after_sized t (Definition c) all =
+    if_sized (satisfies is_uninitialized (find c.name t)) (changed c.name (Constant (number t c.value)) t) t (changed_sized c.name (Constant (number t c.value)) t tt all) all
+after_sized t (TemplateEntity e) all = added_sized t e.name (Template (rank_in_text e)) tt all
+after_sized t (ArrangementEntity e) all = added_sized t e.name (Arrangement (rank_in_text e)) tt all
+
+all_sized : (t : SymbolTable) (is : List PlacedItem) → AllSized t → AllSized (after_all t is)
+all_sized t [] all = all
+all_sized t (i ∷ is) all = all_sized (after t i.what) is (after_sized t i.what all)
+
+-- where all is known, each array has its dimensions
+abbrev pub IsFull : Symbol → Type 0
+IsFull (Array r None n) = ⊥
+IsFull (Array r (Some ds) n) = (r ≡ length ds) × (length ds ≤ MAX_RANK)
+IsFull s = ⊤
+
+abbrev pub AllFull : SymbolTable → Type 0
+AllFull t = AllByRecursion (λ e. IsFull e.1) t
+
+symbol_full : (s : Symbol) → IsSized s → is_known s ≡ true → IsFull s
+symbol_full (Array r None n) sized known = absurd (true≢false (sym known))
+symbol_full (Array r (Some ds) n) sized known = sized
+symbol_full s sized known = tt
+
+known_full : (t : SymbolTable) → AllSized t → list_all (λ e. is_known e.1) t ≡ true → AllFull t
+known_full [] sized known = tt
+known_full (e ∷ es) sized known =
+    let s = both (is_known e.1) (list_all (λ e. is_known e.1) es) known in (symbol_full e.1 sized.0 s.0, known_full es sized.1 s.1)
+
+pub table_full : (ds : List Declaration) → list_all (λ e. is_known e.1) (symbol_table ds) ≡ true → AllFull (symbol_table ds)
+table_full ds known = known_full (symbol_table ds) (all_sized [] (items ds) tt) known
+
+pub found_full : (x : Name) (t : SymbolTable) (s : Symbol) → AllFull t → find x t ≡ Some s → IsFull s
+found_full x [] s all is = absurd (none_some s is)
+found_full x (e ∷ es) s all is = by (bytes_eq x e.0) is (found_full x es s all.1)
+  where
+    by : (b : Bool) → cond b (Some e.1) (find x es) ≡ Some s → (find x es ≡ Some s → IsFull s) → IsFull s
+    by true is more = subst IsFull (some_same e.1 s is) all.0
+    by false is more = more is
+
+-- ---- dimensions by places
+
+abbrev pub shapes_in : List Entry → List (List Dim)
+shapes_in names = declared_shapes (initial_state names)
+
+few_in : (s : Symbol) → IsFull s → length (initial_array (what_is s)).dims ≤ MAX_RANK
+few_in (Array r None n) full = absurd full
+few_in (Array r (Some ds) n) full = full.1
+few_in s full = omega arith
+
+pub few_dims : (t : SymbolTable) → AllFull t → (a : ℕ) → length (shape_of (shapes_in (map entry t)) a) ≤ MAX_RANK
+few_dims [] all a = omega arith
+few_dims (e ∷ es) all zero = few_in e.1 all.0
+few_dims (e ∷ es) all (suc a) = few_dims es all.1 a
+
+at_place : (names : List Entry) (k : ℕ) (w : What) → option_map (λ e. e.what) (slice_get names k) ≡ Some w → shape_of (shapes_in names) k ≡ (initial_array w).dims
+at_place [] k w is = absurd (none_some w is)
+at_place (e ∷ es) zero w is = ap (λ v. (initial_array v).dims) (some_same e.what w is)
+at_place (e ∷ es) (suc k) w is = at_place es k w is
+
+pub shape_is : (names : List Entry) (x : Name) (w : What) → declared_as names x ≡ Some w → shape_of (shapes_in names) (place_of names x) ≡ (initial_array w).dims
+shape_is names x w is = by (position (λ e. bytes_eq x e.name) names) is
+  where
+    by : (o : Option ℕ) → option_map (λ e. e.what) (option_and_then (slice_get names) o) ≡ Some w → shape_of (shapes_in names) (unwrap_or o 0) ≡ (initial_array w).dims
+    by None is = absurd (none_some w is)
+    by (Some k) is = at_place names k w is
+
+found_from : (x : Name) (t : SymbolTable) (i : ℕ) (s : Symbol) → find x t ≡ Some s →
+    (k : ℕ) × ((position_from (λ (e : Entry). bytes_eq x e.name) i (map entry t) ≡ Some (k + i)) × (option_map (λ e. e.what) (slice_get (map entry t) k) ≡ Some (what_is s)))
+found_from x [] i s is = absurd (none_some s is)
+found_from x (e ∷ es) i s is = by (bytes_eq x e.0) is (found_from x es (i + 1) s)
+  where
+    by : (b : Bool) → cond b (Some e.1) (find x es) ≡ Some s →
+        (find x es ≡ Some s → (k : ℕ) × ((position_from (λ (e : Entry). bytes_eq x e.name) (i + 1) (map entry es) ≡ Some (k + (i + 1)))
+        × (option_map (λ e. e.what) (slice_get (map entry es) k) ≡ Some (what_is s)))) →
+        (k : ℕ) × ((cond b (Some i) (position_from (λ (e : Entry). bytes_eq x e.name) (i + 1) (map entry es)) ≡ Some (k + i))
+        × (option_map (λ e. e.what) (slice_get (entry e ∷ map entry es) k) ≡ Some (what_is s)))
+    by true is more = (0, (ap Some (omega arith), ap (λ v. Some (what_is v)) (some_same e.1 s is)))
+    by false is more = let m = more is in (suc m.0, (m.1.0 ∙ ap Some (omega arith), m.1.1))
+
+pub declared_found : (x : Name) (t : SymbolTable) (s : Symbol) → find x t ≡ Some s → declared_as (map entry t) x ≡ Some (what_is s)
+declared_found x t s is =
+    let m = found_from x t 0 s is in
+    let at : position (λ (e : Entry). bytes_eq x e.name) (map entry t) ≡ Some m.0 = position_from-zero (λ (e : Entry). bytes_eq x e.name) (map entry t) ∙ m.1.0 ∙ ap Some (omega arith) in
+    ap (λ o. option_map (λ e. e.what) (option_and_then (slice_get (map entry t)) o)) at ∙ m.1.1
