@@ -1,11 +1,13 @@
 -- The values that the least owners have last are those of the outcome's arrays.
-use Rattle.std.proofs.Common.{◌≡◌, ◌⊎◌, inl, inr, ℕ, ◌<◌, ◌≤◌, true, pos, List, [], ◌∷◌, map, length, get_or, replicate, Some, None, slice_get, refl, sym, ap, ◌∙◌, arith}
+use Rattle.std.proofs.Common.{◌≡◌, ◌⊎◌, inl, inr, ℕ, ◌<◌, ◌≤◌, true, pos, List, [], ◌∷◌, map, length, get_or, replicate, Some, None, slice_get, refl, sym, ap, subst, ◌∙◌, arith}
 use Rattle.std.specs.List.{range_with_len}
 use Rattle.std.proofs.lemmas.List.{length-replicate}
 use Rattle.std.proofs.lemmas.List.{ext_get_or}
 use Rattle.std.proofs.lemmas.List.FromFn.{get_or-map-range_with_len, length-map-range_with_len}
 use Rattle.std.proofs.lemmas.Option.{same_Some, slice_get_cases, slice_get_read}
 use Rattle.hpf_base.proofs.Ranges.{map-range_agree}
+use Rattle.syntax_tree.specs.MainProgram.{MainProgram}
+use Rattle.name_table.specs.Entries.{entries}
 use Rattle.storage.specs.Storage.{Spot, read}
 use Rattle.array_meaning.specs.Faults.{Fault}
 use Rattle.array_meaning.specs.Serial as serial
@@ -53,7 +55,24 @@ listed d xs n count =
     ext_get_or d (map (λ k. get_or xs k d) (range_with_len 0 n)) xs (made ∙ count)
     (λ i lt. get_or-map-range_with_len (λ k. get_or xs k d) 0 n i i d (omega (arith, lt, made)) (omega arith))
 
-module _ (n : ℕ) (o : Outcome) (last : List (Node Text Fault)) (are : AreLastNodes (length last) n o last) (end : o.end ≡ serial.Finished) where
+module _ (nodes : ℕ) (p : MainProgram) (first : List Layout) (last : List (Node Text Fault)) (are : AreLastNodes nodes p first last)
+    (end : (serial.serial p).end ≡ serial.Finished) where
+  abbrev n : ℕ
+  n = length (entries p)
+
+  abbrev o : Outcome
+  o = serial.serial p
+
+  owned : AreOwned (length last) are.layouts
+  owned = subst (λ k. AreOwned k are.layouts) (sym are.many) are.owned
+
+  elements : (spot : Spot) (node : Node Text Fault) → spot.row < n → spot.at < get_or (sizes are.layouts) spot.row 0
+      → slice_get last (least_owner_of (length last) are.layouts spot) ≡ Some node
+      → local_read are.layouts (least_owner_of (length last) are.layouts spot) node.pieces spot ≡ read o.arrays spot
+  elements spot node row at =
+      subst (λ k. slice_get last (least_owner_of k are.layouts spot) ≡ Some node → local_read are.layouts (least_owner_of k are.layouts spot) node.pieces spot ≡ read o.arrays spot)
+      (sym are.many) (are.elements end spot node row at)
+
   -- an element
   value-is : (spot : Spot) → spot.row < n → spot.at < get_or (sizes are.layouts) spot.row 0 → value_of are.layouts last spot ≡ read o.arrays spot
   value-is spot row at = by (slice_get_cases last owner).1
@@ -62,11 +81,11 @@ module _ (n : ℕ) (o : Outcome) (last : List (Node Text Fault)) (are : AreLastN
       owner = least_owner_of (length last) are.layouts spot
 
       below : owner < length last
-      below = (least-has (length last) are.layouts spot are.owned at).1
+      below = (least-has (length last) are.layouts spot owned at).1
 
       by : ((node : Node Text Fault) × (owner < length last) × (slice_get last owner ≡ Some node) × (get_or last owner node ≡ node))
           ⊎ ((length last ≤ owner) × (slice_get last owner ≡ None)) → value_of are.layouts last spot ≡ read o.arrays spot
-      by (inl k) = ap (λ found. value_on are.layouts owner found spot) k.2 ∙ are.elements end spot k.0 row at k.2
+      by (inl k) = ap (λ found. value_on are.layouts owner found spot) k.2 ∙ elements spot k.0 row at k.2
       by (inr k) = absurd (omega (arith, k.0, below))
 
   row-is : (row : ℕ) → row < n → row_values are.layouts last row ≡ get_or o.arrays row []

@@ -9,10 +9,8 @@ use Rattle.name_table.specs.Entries.{entries}
 use Rattle.name_table.specs.declared.names.Entry.{Entry}
 use Rattle.array_maps.specs.declared.maps.ArrayMap.{ArrayMap}
 use Rattle.array_maps.specs.Maps.{IsArrayMap}
-use Rattle.directive_check.specs.ProgramMaps.{start_maps}
 use Rattle.accepted_program.specs.declared.accepted.AcceptedProgram.{AcceptedProgram}
 use Rattle.array_meaning.specs.Faults.{Fault}
-use Rattle.array_meaning.specs.Serial.{serial}
 use Rattle.node_law.specs.Cores.{start}
 use Rattle.node_law.specs.Phases.{Lockstep}
 use Rattle.node_law.specs.Reached.{EndsInLockstep}
@@ -20,7 +18,7 @@ use Rattle.machine_steps.specs.Layout.{Layout}
 use Rattle.machine_steps.specs.Node.{Node}
 use Rattle.node_code.specs.ProgramText.{Text}
 use Rattle.nodes_lowered.specs.OnNodes.{LieAsDeclared, program_copies}
-use Rattle.nodes_lowered.specs.ProgramLayouts.{program_layouts}
+use Rattle.nodes_lowered.specs.ProgramLayouts.{program_layouts, start_layouts}
 use Rattle.nodes_lowered.specs.ProgramRuns.{AreLastNodes, RunOnNodes, program_nodes, program_steps}
 use Rattle.nodes_lowered.proofs.StartLaid.{program-laid}
 use Rattle.nodes_lowered.proofs.Runs.{run-on-nodes}
@@ -51,27 +49,30 @@ module _ (a : AcceptedProgram) (maps : List ArrayMap) (nodes : ℕ) (is : IsGrid
   pub some-nodes : 1 ≤ nodes
   some-nodes = subst (λ (n : ℕ). 1 ≤ n) (sym count) (product-some grid is.extents)
 
-  module _ (first : List (Node Text Fault)) (begin : first ≡ program_nodes nodes p layouts) where
-    run : RunOnNodes nodes p layouts
-    run =
-        run-on-nodes nodes p layouts (let n : 1 ≤ nodes = some-nodes in omega (arith, n)) a.keeps.anywhere
-        (subst (λ es. LieAsDeclared nodes (program_copies p) es layouts) a.names laid)
+  -- they lie as their mappings say
+  starts : layouts ≡ start_layouts grid p
+  starts =
+      ap (λ k. program_layouts k (program_copies p) names maps) count ∙ ap (λ es. program_layouts (product grid) (program_copies p) es maps) a.names
+      ∙ ap (program_layouts (product grid) (program_copies p) (entries p)) (same ∙ a.starts)
 
-    pub first-count : length first ≡ nodes
-    first-count = ap length begin ∙ run.count
+  run : RunOnNodes (product grid) p (start_layouts grid p)
+  run =
+      run-on-nodes (product grid) p (start_layouts grid p) (let some : 1 ≤ product grid = product-some grid is.extents in omega (arith, some)) a.keeps.anywhere
+      (program-laid grid (program_copies p) p is (subst (All (IsArrayMap (product grid))) a.starts a.valid.arrays))
+
+  module _ (first : List (Node Text Fault)) (begin : first ≡ program_nodes nodes p layouts) where
+    began : first ≡ program_nodes (product grid) p (start_layouts grid p)
+    began = begin ∙ ap (λ k. program_nodes k p layouts) count ∙ ap (program_nodes (product grid) p) starts
 
     pub few : length first < 2 ^ 32
-    few = omega (arith, first-count, count, is.nodes)
+    few = let as_many : length first ≡ product grid = ap length began ∙ run.count in omega (arith, as_many, is.nodes)
 
     pub phased : Lockstep program_steps (slice_get first)
-    phased = subst (λ ns. Lockstep program_steps (slice_get ns)) (sym begin) run.phased
+    phased = subst (λ ns. Lockstep program_steps (slice_get ns)) (sym began) run.phased
 
-    pub some-last : (last : List (Node Text Fault)) → length last ≡ length first → 1 ≤ length last
-    some-last last as_many = subst (λ (n : ℕ). 1 ≤ n) (sym (as_many ∙ first-count)) some-nodes
+    pub last-ends : (last : List (Node Text Fault)) → EndsInLockstep program_steps (start first) last
+        → EndsInLockstep program_steps (start (program_nodes (product grid) p (start_layouts grid p))) last
+    last-ends last ends = subst (λ ns. EndsInLockstep program_steps (start ns) last) began ends
 
-    pub last-nodes : (last : List (Node Text Fault)) → length last ≡ length first → EndsInLockstep program_steps (start first) last
-        → AreLastNodes (length last) (length names) (serial p) last
-    last-nodes last as_many ends =
-        subst (λ k. AreLastNodes k (length names) (serial p) last) (sym (as_many ∙ first-count))
-        (subst (λ es. AreLastNodes nodes (length es) (serial p) last) (sym a.names)
-        (run.ends last (subst (λ ns. EndsInLockstep program_steps (start ns) last) begin ends)))
+    pub last-nodes : (last : List (Node Text Fault)) → EndsInLockstep program_steps (start first) last → AreLastNodes (product grid) p (start_layouts grid p) last
+    last-nodes last ends = run.ends last (last-ends last ends)

@@ -2,42 +2,49 @@
 
 ghost use Rattle.std.specs.Prelude.{◌≡◌, ◌<◌, ◌≤◌, IfOk, IsSome, Some, length, map, pos, slice_get, slice_index_or};
 ghost use Rattle.std.specs.List.{range_with_len};
+ghost use Rattle.hpf_base.specs.ElementOrder.{product};
 ghost use Rattle.syntax_tree.specs.MainProgram.{main_program};
 ghost use Rattle.array_meaning.specs.Serial.{serial};
 ghost use Rattle.serial_run.specs.Outcomes.{end_seen};
+ghost use Rattle.term_values.specs.Faults.{fault};
 ghost use Rattle.machine_steps.specs.Instr.{Finished};
 ghost use Rattle.machine_steps.specs.Layout.{AreOwned, sizes};
 ghost use Rattle.storage.specs.Spots.{spot_of};
 ghost use Rattle.slot_values.specs.Controls.{status_of};
+ghost use Rattle.nodes_lowered.specs.ProgramLayouts.{start_layouts};
 ghost use Rattle.nodes_lowered.specs.ProgramRuns.{AreLastNodes, end_by_status};
 ghost use Rattle.distributed_run.specs.Outcomes.{IsOutcome};
 ghost use Rattle.distributed_run.specs.Values.{row_values, value_of};
 
 use crate::run::NodesOutcome;
+use accepted_program::AcceptedProgram;
 use hpf_base::OutOfMemory;
-use name_table::Program;
 use node_machine::Node;
 use owner_tables::{Owners, Spot};
 use serial_run::End;
-use slot_values::Status;
+use slot_values::{Fault, Status, fault_numbers, fault_of_numbers};
 use std::alloc::Global;
 
-/// What the program has come to whose last nodes these are.
+/// What the program has come to whose last nodes these are, with the nodes.
 pub(crate) fn outcome_of(
     alloc: Global,
-    program: &Program,
+    accepted: &AcceptedProgram<'_>,
     last: Vec<Node>,
 ) -> Result<NodesOutcome, OutOfMemory>
-    requires some { 1 ≤ length last.items }
-    requires last { AreLastNodes (length last.items) (length program.now.names) (serial (main_program program.now.tree)) last.items }
-    ensures { IfOk result (λ o. IsOutcome o (serial (main_program program.now.tree))) }
+    requires { AreLastNodes (product accepted.now.grid.now) (main_program accepted.now.program.tree)
+        (start_layouts accepted.now.grid.now (main_program accepted.now.program.tree)) last.items }
+    ensures outcome { IfOk result (λ o. IsOutcome o (serial (main_program accepted.now.program.tree))) }
+    ensures nodes { IfOk result (λ o. o.nodes.items ≡ last.items) }
 {
-    let arrays = last_arrays(alloc, first(&last), &last, program.names.len())?;
-    let (status, printed) = into_first(last).into_end();
+    let root = first(&last);
+    let printed = Vec::from_slice(alloc, root.printed())?;
+    let end = end_of(alloc, root.status())?;
+    let arrays = last_arrays(alloc, root, &last, accepted.program.names.len())?;
     Ok(NodesOutcome {
         printed,
-        end: end_of(status),
+        end,
         arrays,
+        nodes: last,
     })
 }
 
@@ -49,27 +56,25 @@ fn first(nodes: &[Node]) -> &Node
     &nodes[0]
 }
 
-/// Node 0, by itself.
-fn into_first(nodes: Vec<Node>) -> Node
-    requires { 1 ≤ length nodes.items }
-    ensures { slice_get nodes.items 0 ≡ Some result }
-{
-    match nodes.into_iter().next() {
-        Some(node) => node,
-        None => unreachable!(),
-    }
-}
-
 /// How a run has ended that is over.
-fn end_of(status: Status) -> End
-    requires { IsSome (end_by_status (status_of status)) }
-    ensures { end_by_status (status_of status) ≡ Some (end_seen result) }
+fn end_of(alloc: Global, status: &Status) -> Result<End, OutOfMemory>
+    requires { IsSome (end_by_status (status_of status.now)) }
+    ensures { IfOk result (λ end. end_by_status (status_of status.now) ≡ Some (end_seen end)) }
 {
     match status {
         Status::Running => unreachable!(),
-        Status::Finished => End::Finished,
-        Status::Faulted(fault) => End::Faulted(fault),
+        Status::Finished => Ok(End::Finished),
+        Status::Faulted(fault) => Ok(End::Faulted(same_fault(alloc, fault)?)),
     }
+}
+
+/// The fault once more, by its numbers.
+fn same_fault(alloc: Global, f: &Fault) -> Result<Fault, OutOfMemory>
+    ensures { IfOk result (λ same. fault same ≡ fault f.now) }
+{
+    let numbers = fault_numbers(alloc, f)?;
+    let same = fault_of_numbers(alloc, &numbers)?;
+    Ok(same)
 }
 
 /// So many arrays, where the run is finished.

@@ -1,12 +1,14 @@
 //! The run.
 
 ghost use Rattle.std.specs.Prelude.{◌≡◌, ◌<◌, ◌^◌, IfOk, length, slice_get};
+ghost use Rattle.hpf_base.specs.ElementOrder.{product};
 ghost use Rattle.syntax_tree.specs.MainProgram.{main_program};
 ghost use Rattle.array_meaning.specs.Serial.{serial};
 ghost use Rattle.node_law.specs.Cores.{start};
 ghost use Rattle.node_law.specs.Phases.{Lockstep};
 ghost use Rattle.node_law.specs.Reached.{EndsInLockstep};
-ghost use Rattle.nodes_lowered.specs.ProgramRuns.{program_steps};
+ghost use Rattle.nodes_lowered.specs.ProgramLayouts.{start_layouts};
+ghost use Rattle.nodes_lowered.specs.ProgramRuns.{AreLastNodes, program_nodes, program_steps};
 ghost use Rattle.distributed_run.specs.Outcomes.{IsOutcome};
 
 use crate::openings::first_nodes;
@@ -27,15 +29,21 @@ pub struct NodesOutcome {
     /// Where it is finished, the arrays, each at the place of its name among the declared names, in array-element order (Fortran 95,
     /// 6.2.2.2). What is no array has no elements there.
     pub arrays: Vec<Vec<i64>>,
+    /// The nodes after their last steps, node 0 first, with their pieces and the numbers of their letters.
+    pub nodes: Vec<Node>,
 }
 
 /// Runs a program on the nodes of the grid that it is accepted on, where its arrays lie as they are mapped at the start (HPF 2.0, 3), and
-/// gives what it means in one order. An `Err` is want of memory.
+/// gives what it means in one order, with the nodes on which their run ends. An `Err` is want of memory.
 pub fn run_on_nodes(
     alloc: Global,
     accepted: &AcceptedProgram<'_>,
 ) -> Result<NodesOutcome, OutOfMemory>
-    ensures { IfOk result (λ o. IsOutcome o (serial (main_program accepted.now.program.tree))) }
+    ensures outcome { IfOk result (λ o. IsOutcome o (serial (main_program accepted.now.program.tree))) }
+    ensures ends { IfOk result (λ o. EndsInLockstep program_steps (start (program_nodes (product accepted.now.grid.now) (main_program accepted.now.program.tree)
+        (start_layouts accepted.now.grid.now (main_program accepted.now.program.tree)))) o.nodes.items) }
+    ensures nodes { IfOk result (λ o. AreLastNodes (product accepted.now.grid.now) (main_program accepted.now.program.tree)
+        (start_layouts accepted.now.grid.now (main_program accepted.now.program.tree)) o.nodes.items) }
 {
     let first = first_nodes(
         alloc,
@@ -44,15 +52,15 @@ pub fn run_on_nodes(
         accepted.grid.node_count(),
     )?;
     let last = last_nodes(alloc, first)?;
-    outcome_of(alloc, &accepted.program, last)
+    let outcome = outcome_of(alloc, accepted, last)?;
+    Ok(outcome)
 }
 
 /// The nodes after their run.
 fn last_nodes(alloc: Global, first: Vec<Node>) -> Result<Vec<Node>, OutOfMemory>
     requires phased { Lockstep program_steps (slice_get first.items) }
     requires few { length first.items < 2 ^ 32 }
-    ensures ends { IfOk result (λ last. EndsInLockstep program_steps (start first.items) last.items) }
-    ensures count { IfOk result (λ last. length last.items ≡ length first.items) }
+    ensures { IfOk result (λ last. EndsInLockstep program_steps (start first.items) last.items) }
 {
     let mut core = Core::new(alloc, first)?;
     core.run_rotation()?;

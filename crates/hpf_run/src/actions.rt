@@ -120,7 +120,9 @@ fn report_nodes(alloc: Global, names: &Names, arrays: bool, outcome: NodesOutcom
         printed,
         end,
         arrays: last,
+        nodes,
     } = outcome;
+    drop(nodes);
     match end {
         End::Finished => match with_arrays(alloc, names, arrays, printed, &last) {
             Ok(printed) => Reply::Done(printed),

@@ -1,37 +1,56 @@
--- Nodes that agree with a machine that has ended as an outcome are the last nodes of it.
-use Rattle.std.proofs.Common.{◌≡◌, ℕ, zero, suc, ◌<◌, ◌≤◌, ◌⊎◌, inl, inr, ℤ, pos, List, [], ◌∷◌, length, get_or, Some, None, refl, sym, ap, subst, ◌∙◌}
+-- Nodes that agree with a machine that has ended as a program's run are the last nodes of it.
+use Rattle.std.proofs.Common.{◌≡◌, ℕ, zero, suc, ◌<◌, ◌≤◌, ◌⊎◌, inl, inr, pos, List, [], ◌∷◌, length, take, get_or, Some, None, refl, sym, ap, subst, ◌∙◌, arith}
 use Rattle.std.specs.List.{slice_get}
+use Rattle.std.proofs.Math.ListN.{get_or-map}
 use Rattle.std.proofs.lemmas.Bool.{cases_lt, le-ltb, lt-ltb}
+use Rattle.std.proofs.lemmas.List.{length-map}
 use Rattle.std.proofs.lemmas.Option.{same_Some}
+use Rattle.syntax_tree.specs.MainProgram.{MainProgram}
+use Rattle.name_table.specs.Entries.{entries}
 use Rattle.storage.specs.Storage.{Storage, read, row_of}
 use Rattle.array_meaning.specs.Faults.{Fault}
+use Rattle.array_meaning.specs.Resolution.{resolved_block}
+use Rattle.array_meaning.specs.Runs as runs
+use Rattle.array_meaning.specs.Runs.{Completion, Normal, Exited, Cycled, Stopped, Run}
 use Rattle.array_meaning.specs.Serial as serial
-use Rattle.array_meaning.specs.Serial.{End, Outcome}
+use Rattle.array_meaning.specs.Serial.{Outcome, end_of}
+use Rattle.array_meaning.specs.State.{Array, State, no_array}
 use Rattle.machine_steps.specs.Layout.{Layout, least_owner_of, owned_in, piece, pieces}
 use Rattle.machine_steps.specs.Machine.{Machine}
 use Rattle.machine_steps.specs.Node.{Node, at_root, local_read}
 use Rattle.machine_steps.specs.Agrees.{IsWhole, Own, by_number, standing}
 use Rattle.node_code.specs.Instructions.{Instruction}
-use Rattle.node_code.specs.ProgramText.{Text}
-use Rattle.lowering.specs.Lowered.{IsEnd}
+use Rattle.node_code.specs.ProgramText.{Text, text, texts}
+use Rattle.lowering.specs.Lowered.{EndsAs, IsLeft}
+use Rattle.lowering.specs.StatementCode.{program_code}
+use Rattle.node_run.specs.Coded.{with_code}
 use Rattle.node_run.proofs.PieceLaws.{read-local}
 use Rattle.node_run.proofs.Reading.{least-owns, size-row}
-use Rattle.nodes_lowered.specs.ProgramRuns.{AreLastNodes, IsLastNode, end_by_status}
+use Rattle.nodes_lowered.specs.OnNodes.{program_run}
+use Rattle.nodes_lowered.specs.ProgramRuns.{AreLastNodes, IsLastNode, end_by_status, program_shapes}
 
 -- ---- the machine's end
 
-pub ended-so : (n : ℕ) (m : Machine Instruction Fault) (e : End) (arrays : List (List ℤ)) → IsEnd n m e arrays → end_by_status m.control.status ≡ Some e
-ended-so n m serial.Finished arrays h = ap end_by_status h.0
-ended-so n m (serial.Faulted f) arrays h = ap end_by_status h
+pub ended-so : (n : ℕ) (m : Machine Instruction Fault) (s : State) (c : Completion) → EndsAs n m s c → end_by_status m.control.status ≡ Some (end_of c)
+ended-so n m s Normal h = ap end_by_status h.0
+ended-so n m s Exited h = ap end_by_status h.0
+ended-so n m s Cycled h = ap end_by_status h.0
+ended-so n m s Stopped h = ap end_by_status h.0
+ended-so n m s (runs.Faulted f) h = ap end_by_status h.0
 
-pub arrays-so : (n : ℕ) (m : Machine Instruction Fault) (e : End) (arrays : List (List ℤ)) → IsEnd n m e arrays → e ≡ serial.Finished → (a : ℕ) → a < n
-    → row_of m.rows a ≡ row_of arrays a
-arrays-so n m serial.Finished arrays h finished a lt = h.1 a lt
-arrays-so n m (serial.Faulted f) arrays h finished a lt = absurd cc
+printed-so : (n : ℕ) (m : Machine Instruction Fault) (s : State) (c : Completion) → EndsAs n m s c → m.printed ≡ s.printed
+printed-so n m s Normal h = h.1
+printed-so n m s Exited h = h.1
+printed-so n m s Cycled h = h.1
+printed-so n m s Stopped h = h.1
+printed-so n m s (runs.Faulted f) h = h.1
 
-pub arrays-count : (n : ℕ) (m : Machine Instruction Fault) (e : End) (arrays : List (List ℤ)) → IsEnd n m e arrays → e ≡ serial.Finished → length arrays ≡ n
-arrays-count n m serial.Finished arrays h finished = h.2
-arrays-count n m (serial.Faulted f) arrays h finished = absurd cc
+left-so : (n : ℕ) (m : Machine Instruction Fault) (s : State) (c : Completion) → EndsAs n m s c → end_of c ≡ serial.Finished → IsLeft n m s
+left-so n m s Normal h finished = h.2
+left-so n m s Exited h finished = h.2
+left-so n m s Cycled h finished = h.2
+left-so n m s Stopped h finished = h.2
+left-so n m s (runs.Faulted f) h finished = absurd cc
 
 -- ---- the nodes
 
@@ -52,24 +71,71 @@ numbered count p nodes node h = by (cases_lt p count)
     by (inl lt) = (lt, same_Some (nodes p) node (rw (lt-ltb p count lt) at h))
     by (inr ge) = absurd (let none : None ≡ Some node = rw (le-ltb p count ge) at h in cc)
 
-module _ (nodes n number : ℕ) (m : Machine Text Fault) (own : Own Fault) (o : Outcome) (whole : IsWhole nodes [] m) (ended : end_by_status m.control.status ≡ Some o.end)
-    (arrays : o.end ≡ serial.Finished → (a : ℕ) → a < n → row_of m.rows a ≡ row_of o.arrays a) (count : o.end ≡ serial.Finished → length o.arrays ≡ n)
-    (printed : m.printed ≡ o.printed) where
-  standing-last : (p : ℕ) → IsLastNode nodes n o m.layouts p (standing nodes m number own p)
-  standing-last p = record {
+-- the nodes after the first, by number
+after-first : {A : Type 0} (count p : ℕ) (nodes : ℕ → A) → by_number (suc count) nodes (suc p) ≡ by_number count (λ q. nodes (suc q)) p
+after-first count p nodes = by (cases_lt p count)
+  where
+    by : (p < count) ⊎ (count ≤ p) → by_number (suc count) nodes (suc p) ≡ by_number count (λ q. nodes (suc q)) p
+    by (inl lt) = let more : suc p < suc count = omega (arith, lt) in rw (lt-ltb p count lt, lt-ltb (suc p) (suc count) more) refl
+    by (inr ge) = let more : suc count ≤ suc p = omega (arith, ge) in rw (le-ltb p count ge, le-ltb (suc p) (suc count) more) refl
+
+-- a list of all nodes, by number, has as many
+as-many : {A : Type 0} (count : ℕ) (nodes : ℕ → A) (xs : List A) → ((p : ℕ) → slice_get xs p ≡ by_number count nodes p) → length xs ≡ count
+as-many zero nodes [] are = refl
+as-many zero nodes (x ∷ xs) are = absurd (let none : Some x ≡ None = are 0 in cc)
+as-many (suc count) nodes [] are =
+    let some : 0 < suc count = omega arith in
+    let first = are 0 in
+    absurd (let none : None ≡ Some (nodes 0) = rw (lt-ltb 0 (suc count) some) at first in cc)
+as-many (suc count) nodes (x ∷ xs) are = ap suc (as-many count (λ p. nodes (suc p)) xs (λ p. are (suc p) ∙ after-first count p nodes))
+
+module _ (nodes : ℕ) (p : MainProgram) (first : List Layout) (some : 0 < nodes) (number : ℕ) (m : Machine Instruction Fault) (own : Own Fault)
+    (whole : IsWhole nodes [] (with_code (text nodes [] (program_shapes p)) m))
+    (code : m.code ≡ program_code (length (entries p)) (resolved_block (entries p) p.body))
+    (stay : take (length (entries p)) m.layouts ≡ take (length (entries p)) first)
+    (ends : EndsAs (length (entries p)) m (program_run p).state (program_run p).completion) where
+  abbrev n : ℕ
+  n = length (entries p)
+
+  abbrev r : Run
+  r = program_run p
+
+  abbrev o : Outcome
+  o = serial.serial p
+
+  abbrev on_texts : Machine Text Fault
+  on_texts = with_code (text nodes [] (program_shapes p)) m
+
+  left : o.end ≡ serial.Finished → IsLeft n m r.state
+  left finished = left-so n m r.state r.completion ends finished
+
+  arrays : o.end ≡ serial.Finished → (a : ℕ) → a < n → row_of m.rows a ≡ row_of o.arrays a
+  arrays finished a lt = (left finished).1 a lt ∙ sym (get_or-map (λ (x : Array). x.elements) r.state.arrays a no_array)
+
+  standing-last : (q : ℕ) → IsLastNode nodes p m.control m.layouts q (standing nodes on_texts number own q)
+  standing-last q = record {
+    number = refl;
     among = refl;
-    ended = ended;
+    coded = ap (texts nodes [] (program_shapes p)) code;
+    stands = refl;
     laid = refl;
-    pieces = λ finished a lt. piece-row m.layouts p m.rows a ∙ ap (λ row. piece (owned_in m.layouts a) p row) (arrays finished a lt);
-    printed = λ first. ap (λ q. at_root q m.printed) first ∙ printed;
+    printed = ap (at_root q) (printed-so n m r.state r.completion ends);
+    pieces = λ finished a lt. piece-row m.layouts q m.rows a ∙ ap (λ row. piece (owned_in m.layouts a) q row) (arrays finished a lt);
   }
 
-  pub last-nodes : (last : List (Node Text Fault)) → ((p : ℕ) → slice_get last p ≡ by_number nodes (standing nodes m number own) p) → AreLastNodes nodes n o last
+  pub last-nodes : (last : List (Node Text Fault)) → ((q : ℕ) → slice_get last q ≡ by_number nodes (standing nodes on_texts number own) q)
+      → AreLastNodes nodes p first last
   last-nodes last are = record {
+    control = m.control;
     layouts = m.layouts;
-    each = λ p node at. subst (IsLastNode nodes n o m.layouts p) (is p node at) (standing-last p);
+    some = some;
+    many = as-many nodes (standing nodes on_texts number own) last are;
+    each = λ q node at. subst (IsLastNode nodes p m.control m.layouts q) (is q node at) (standing-last q);
+    ended = ended-so n m r.state r.completion ends;
+    stay = stay;
     owned = whole.owned;
-    count = count;
+    scalars = λ finished. (left finished).0;
+    count = λ finished. length-map r.state.arrays (λ (x : Array). x.elements) ∙ (left finished).2;
     sized = λ finished a lt. size-row nodes m.layouts m.rows whole.shaped whole.owned a ∙ ap length (arrays finished a lt);
     elements = λ finished spot node lt inside at.
         let owner : ℕ = least_owner_of nodes m.layouts spot in
@@ -78,5 +144,5 @@ module _ (nodes n number : ℕ) (m : Machine Text Fault) (own : Own Fault) (o : 
         ∙ ap (λ row. get_or row spot.at (pos 0)) (arrays finished spot.row lt));
   }
     where
-      is : (p : ℕ) (node : Node Text Fault) → slice_get last p ≡ Some node → standing nodes m number own p ≡ node
-      is p node at = (numbered nodes p (standing nodes m number own) node (sym (are p) ∙ at)).1
+      is : (q : ℕ) (node : Node Text Fault) → slice_get last q ≡ Some node → standing nodes on_texts number own q ≡ node
+      is q node at = (numbered nodes q (standing nodes on_texts number own) node (sym (are q) ∙ at)).1

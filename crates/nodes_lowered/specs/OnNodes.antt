@@ -6,8 +6,10 @@ use Rattle.name_table.specs.declared.names.Entry.{Entry}
 use Rattle.name_table.specs.declared.names.What.{What}
 use Rattle.name_table.specs.declared.names.What.TheVariants as what
 use Rattle.directive_check.specs.ProgramMaps.{shape_of}
+use Rattle.array_meaning.specs.Execution.{run_block}
 use Rattle.array_meaning.specs.Faults.{Fault}
 use Rattle.array_meaning.specs.Resolution.{resolved_block, initial_state}
+use Rattle.array_meaning.specs.Runs.{Run}
 use Rattle.machine_steps.specs.Layout.{IsDealt, Layout, size_of}
 use Rattle.machine_steps.specs.Machine.{Machine}
 use Rattle.node_code.specs.Instructions.{Instruction}
@@ -36,6 +38,10 @@ LieAsDeclared count room (e ∷ es) (layout ∷ layouts) = LiesAsDeclared count 
 -- how many copies the code of a program names
 abbrev pub program_copies : MainProgram → ℕ
 program_copies p = block_copies (resolved_block (entries p) p.body)
+
+-- the run of a program in one order, whose outcome is its serial one
+abbrev pub program_run : MainProgram → Run
+program_run p = run_block (resolved_block (entries p) p.body) (initial_state (entries p))
 
 -- the machine with whole arrays before the first instruction of a program
 abbrev pub program_opening : MainProgram → List Layout → Machine Instruction Fault

@@ -1,5 +1,5 @@
 -- What it is for nodes to run a program: how they begin, and how their run ends.
-use Rattle.std.specs.Prelude.{◌≡◌, ℕ, ◌<◌, List, length, map, slice_index_or, Option, Some, None, []}
+use Rattle.std.specs.Prelude.{◌≡◌, ℕ, ◌<◌, List, length, map, take, slice_index_or, Option, Some, None, []}
 use Rattle.std.specs.List.{slice_get}
 use Rattle.syntax_tree.specs.MainProgram.{MainProgram}
 use Rattle.expression_rules.specs.declared.dims.Dim.{Dim}
@@ -10,25 +10,32 @@ use Rattle.node_law.specs.Phases.{Lockstep}
 use Rattle.node_law.specs.Reached.{EndsInLockstep}
 use Rattle.storage.specs.Storage.{Spot, read, row_of}
 use Rattle.array_meaning.specs.Faults.{Fault}
-use Rattle.array_meaning.specs.Resolution.{initial_state}
+use Rattle.array_meaning.specs.Resolution.{initial_state, resolved_block}
 use Rattle.array_meaning.specs.Serial as serial
-use Rattle.array_meaning.specs.Serial.{End, Outcome}
+use Rattle.array_meaning.specs.Serial.{End}
+use Rattle.array_meaning.specs.State.{scalar}
 use Rattle.machine_steps.specs.Layout.{AreOwned, Layout, least_owner_of, owned_in, piece, sizes}
-use Rattle.machine_steps.specs.Instr.{Status, Running, Finished, Faulted}
+use Rattle.machine_steps.specs.Instr.{Control, Status, Running, Finished, Faulted}
 use Rattle.machine_steps.specs.Machine.{Machine}
-use Rattle.machine_steps.specs.Node.{Node, local_read, node_steps}
+use Rattle.machine_steps.specs.Node.{Node, at_root, local_read, node_steps}
 use Rattle.letters.specs.declared.letter.Letter.{Letter}
 use Rattle.machine_steps.specs.Agrees.{openings}
 use Rattle.node_code.specs.FaultValues.{fault_values}
-use Rattle.node_code.specs.ProgramText.{Text, text, text_meaning}
+use Rattle.node_code.specs.Flat.{slot}
+use Rattle.node_code.specs.ProgramText.{Text, text, text_meaning, texts}
+use Rattle.lowering.specs.StatementCode.{program_code}
 use Rattle.node_run.specs.Coded.{with_code}
-use Rattle.nodes_lowered.specs.OnNodes.{program_opening}
+use Rattle.nodes_lowered.specs.OnNodes.{program_opening, program_run}
 
 -- the dimensions of the declared names, by their places; what is no array has none
 abbrev pub program_shapes : MainProgram → List (List Dim)
 program_shapes p = map (λ a. a.dims) (initial_state (entries p)).arrays
 
--- the machine before the first instruction, over the texts for so many nodes. No instruction of a program names a mapping
+-- the code of a program as texts for so many nodes. No instruction of a program names a mapping
+abbrev pub program_texts : ℕ → MainProgram → List Text
+program_texts nodes p = texts nodes [] (program_shapes p) (program_code (length (entries p)) (resolved_block (entries p) p.body))
+
+-- the machine before the first of them
 abbrev pub text_opening : ℕ → MainProgram → List Layout → Machine Text Fault
 text_opening nodes p layouts = with_code (text nodes [] (program_shapes p)) (program_opening p layouts)
 
@@ -46,29 +53,40 @@ end_by_status Running = None
 end_by_status Finished = Some serial.Finished
 end_by_status (Faulted f) = Some (serial.Faulted f)
 
--- the node p of so many whose run of n names had this outcome: it has ended so, where the run is finished with its pieces of the
--- outcome's arrays, which lie so; and node 0 has printed the outcome's bytes
-pub record IsLastNode (nodes n : ℕ) (o : Outcome) (layouts : List Layout) (p : ℕ) (node : Node Text Fault) : Type 0 where
+-- the node q of so many at the end of a program's run: it has the program's code, stands at this place with these slots, and its rows lie
+-- so. Node 0 has printed what the program prints, and no other anything; where the run is finished, it has its pieces of the last arrays
+pub record IsLastNode (nodes : ℕ) (p : MainProgram) (control : Control Fault) (layouts : List Layout) (q : ℕ) (node : Node Text Fault) : Type 0 where
+  pub number : node.id ≡ q
   pub among : node.nodes ≡ nodes
-  pub ended : end_by_status node.control.status ≡ Some o.end
+  pub coded : node.code ≡ program_texts nodes p
+  pub stands : node.control ≡ control
   pub laid : node.layouts ≡ layouts
-  pub pieces : o.end ≡ serial.Finished → (a : ℕ) → a < n → row_of node.pieces a ≡ piece (owned_in layouts a) p (slice_index_or o.arrays a [])
-  pub printed : p ≡ 0 → node.printed ≡ o.printed
+  pub printed : node.printed ≡ at_root q (serial.serial p).printed
+  pub pieces : (serial.serial p).end ≡ serial.Finished → (a : ℕ) → a < length (entries p)
+      → row_of node.pieces a ≡ piece (owned_in layouts a) q (slice_index_or (serial.serial p).arrays a [])
 
--- the last nodes of such a run. Where it is finished, each element of the arrays is at its address in the piece of its least owner
-pub record AreLastNodes (nodes n : ℕ) (o : Outcome) (last : List (Node Text Fault)) : Type 0 where
+-- so many nodes at the end of a program's run, which have one code, one place, the same slots and the same layouts. It has ended as the
+-- program does, and the declared names lie as they did at first. Where it is finished, their slots are the program's last scalars, and
+-- each element of its last arrays is at its address in the piece of its least owner
+pub record AreLastNodes (nodes : ℕ) (p : MainProgram) (first : List Layout) (last : List (Node Text Fault)) : Type 0 where
+  pub control : Control Fault
   pub layouts : List Layout
-  pub each : (p : ℕ) (node : Node Text Fault) → slice_get last p ≡ Some node → IsLastNode nodes n o layouts p node
+  pub some : 0 < nodes
+  pub many : length last ≡ nodes
+  pub each : (q : ℕ) (node : Node Text Fault) → slice_get last q ≡ Some node → IsLastNode nodes p control layouts q node
+  pub ended : end_by_status control.status ≡ Some (serial.serial p).end
+  pub stay : take (length (entries p)) layouts ≡ take (length (entries p)) first
   pub owned : AreOwned nodes layouts
-  pub count : o.end ≡ serial.Finished → length o.arrays ≡ n
-  pub sized : o.end ≡ serial.Finished → (a : ℕ) → a < n → slice_index_or (sizes layouts) a 0 ≡ length (slice_index_or o.arrays a [])
-  pub elements : o.end ≡ serial.Finished → (spot : Spot) (node : Node Text Fault) → spot.row < n → spot.at < slice_index_or (sizes layouts) spot.row 0
-      → slice_get last (least_owner_of nodes layouts spot) ≡ Some node
-      → local_read layouts (least_owner_of nodes layouts spot) node.pieces spot ≡ read o.arrays spot
+  pub scalars : (serial.serial p).end ≡ serial.Finished → (k : ℕ) → k < length (entries p) → slot control.slots k ≡ scalar (program_run p).state k
+  pub count : (serial.serial p).end ≡ serial.Finished → length (serial.serial p).arrays ≡ length (entries p)
+  pub sized : (serial.serial p).end ≡ serial.Finished → (a : ℕ) → a < length (entries p)
+      → slice_index_or (sizes layouts) a 0 ≡ length (slice_index_or (serial.serial p).arrays a [])
+  pub elements : (serial.serial p).end ≡ serial.Finished → (spot : Spot) (node : Node Text Fault) → spot.row < length (entries p)
+      → spot.at < slice_index_or (sizes layouts) spot.row 0 → slice_get last (least_owner_of nodes layouts spot) ≡ Some node
+      → local_read layouts (least_owner_of nodes layouts spot) node.pieces spot ≡ read (serial.serial p).arrays spot
 
--- so many nodes run a program whose arrays lie so: they are phased, and in every order of their steps they end as its serial outcome
-pub record RunOnNodes (nodes : ℕ) (p : MainProgram) (layouts : List Layout) : Type 0 where
-  pub count : length (program_nodes nodes p layouts) ≡ nodes
-  pub phased : Lockstep program_steps (slice_get (program_nodes nodes p layouts))
-  pub ends : (last : List (Node Text Fault)) → EndsInLockstep program_steps (start (program_nodes nodes p layouts)) last
-      → AreLastNodes nodes (length (entries p)) (serial.serial p) last
+-- so many nodes run a program whose arrays lie so at first: they are phased, and in every order of their steps they end as its last nodes
+pub record RunOnNodes (nodes : ℕ) (p : MainProgram) (first : List Layout) : Type 0 where
+  pub count : length (program_nodes nodes p first) ≡ nodes
+  pub phased : Lockstep program_steps (slice_get (program_nodes nodes p first))
+  pub ends : (last : List (Node Text Fault)) → EndsInLockstep program_steps (start (program_nodes nodes p first)) last → AreLastNodes nodes p first last

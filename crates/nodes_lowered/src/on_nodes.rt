@@ -21,8 +21,9 @@ pub fn arrays_lie_as_mapped()
 {}
 
 /// For every program that keeps the rules of names, ranks and bodies, every number of nodes, and layouts of its arrays by which each element has an owner, the nodes
-/// that begin with its code are phased, and their last nodes have the program's serial outcome: each has the outcome's first fault with its
-/// line, kind and tuple, or is finished with its pieces of the outcome's arrays, and node 0 has printed the outcome's bytes.
+/// that begin with its code are phased, and end as its last nodes in every order of their steps: all have its code, one place, the same slots
+/// and the same layouts, by which its arrays lie as at first; each has the program's first fault with its line, kind and tuple, or is
+/// finished with the program's last scalars and its pieces of the last arrays; and node 0 has printed the program's bytes, no other any.
 pub fn programs_run_on_nodes()
     ensures { (nodes : ℕ) (p : MainProgram) (layouts : List Layout) → 0 < nodes → KeepsRules p → LieAsDeclared nodes (program_copies p) (entries p) layouts → RunOnNodes nodes p layouts }
 {}

@@ -18,17 +18,17 @@ use Rattle.name_table.specs.Resolved.{HasNoBreach}
 use Rattle.name_table.specs.declared.names.Entry.{Entry}
 use Rattle.body_check.specs.BodyRules.{body_breaches}
 use Rattle.body_check.specs.ForallRules.{forall_breaches_at}
-use Rattle.array_meaning.specs.Resolution.{resolved_block, initial_state}
-use Rattle.array_meaning.specs.Serial.{outcome}
+use Rattle.array_meaning.specs.Execution.{run_block}
+use Rattle.array_meaning.specs.Resolution.{resolved_block, initial_array, initial_scalar, initial_state}
 use Rattle.machine_steps.specs.Agrees.{IsValidCode}
 use Rattle.machine_steps.specs.Layout.{AreOwned, IsDealt, Layout}
 use Rattle.node_code.specs.Instructions.{ArrayTable, meaning_of}
-use Rattle.lowering.specs.Lowered.{IsTable, MachineHas, opening}
+use Rattle.lowering.specs.Lowered.{IsState, IsTable, MachineEnds, opening}
 use Rattle.node_code.specs.ValidCode.{CodeTable, IsValidNodeCode}
 use Rattle.lowering.specs.Ranks.{AreFewDims, BlockKeepsRanks, declared_shapes}
 use Rattle.lowering.specs.StatementCode.{block_copies, block_slots, program_code}
 use Rattle.lowering.specs.WellFormed.{IsWellFormedBlock}
-use Rattle.lowering.proofs.Outcomes.{outcome-is}
+use Rattle.lowering.proofs.Programs.{program-ends}
 use Rattle.lowering.proofs.Validity.{code-valid}
 use Rattle.lowering.proofs.ValidPrograms.{program-valid}
 use Rattle.well_formed.proofs.Lists.{all_empty, empties, front_empty, no_breach}
@@ -50,12 +50,21 @@ well_formed p names bodies =
     block_good t [] p.body
     (all_good t (all_heads p.body) (all_empty (name_breaches_at t) (all_heads p.body) own) (all_empty (forall_breaches_at (entries p)) (all_heads p.body) body))
 
+-- at the start there is a scalar and an array for each name
+starts : (names : List Entry) → IsState (length names) (initial_state names)
+starts names = record {
+  scalars = length-map names (λ (e : Entry). initial_scalar e.what);
+  arrays = length-map names (λ (e : Entry). initial_array e.what);
+}
+
 pub lowered : (p : MainProgram) (room : ℕ) (table : ArrayTable) (layouts : List Layout) → IsTable (initial_state (entries p)) table →
     block_copies (resolved_block (entries p) p.body) ≤ room → length layouts ≡ length (entries p) + room →
     HasNoBreach p → NoBreach (Among (body_breaches (entries p) p.body)) →
-    MachineHas (length (entries p)) table (opening (length (entries p)) room (resolved_block (entries p) p.body) (initial_state (entries p)) layouts)
-    (outcome (entries p) p.body)
-lowered p room table layouts is-table roomy laid rules bodies = outcome-is (entries p) room p.body table layouts is-table roomy laid (well_formed p rules.names bodies)
+    MachineEnds (length (entries p)) table (opening (length (entries p)) room (resolved_block (entries p) p.body) (initial_state (entries p)) layouts)
+    (run_block (resolved_block (entries p) p.body) (initial_state (entries p)))
+lowered p room table layouts is-table roomy laid rules bodies =
+    program-ends table (length (entries p)) room (resolved_block (entries p) p.body) (initial_state (entries p)) (starts (entries p)) is-table roomy layouts laid
+    (well_formed p rules.names bodies)
 
 pub valid : (count : ℕ) (p : MainProgram) (shapes : List Shape) (table : ArrayTable) → length shapes ≤ length (entries p) →
     ((layouts : List Layout) → AreOwned count layouts → (extents : List ℕ) → IsDealt count (table.copies layouts extents)) → HasNoBreach p → NoBreach (Among (body_breaches (entries p) p.body)) →

@@ -9,13 +9,13 @@ ghost use Rattle.name_table.specs.Entries.{entries};
 ghost use Rattle.name_table.specs.NameRules.{name_breaches};
 ghost use Rattle.name_table.specs.Resolved.{HasNoBreach};
 ghost use Rattle.body_check.specs.BodyRules.{body_breaches};
+ghost use Rattle.array_meaning.specs.Execution.{run_block};
 ghost use Rattle.array_meaning.specs.Resolution.{resolved_block, initial_state};
-ghost use Rattle.array_meaning.specs.Serial.{outcome};
 ghost use Rattle.machine_steps.specs.Agrees.{IsValidCode};
 ghost use Rattle.machine_steps.specs.Layout.{AreOwned, IsDealt, Layout};
 ghost use Rattle.node_code.specs.Instructions.{ArrayTable, meaning_of};
 ghost use Rattle.node_code.specs.ValidCode.{CodeTable, IsValidNodeCode};
-ghost use Rattle.lowering.specs.Lowered.{IsTable, MachineHas, opening};
+ghost use Rattle.lowering.specs.Lowered.{IsTable, MachineEnds, opening};
 ghost use Rattle.lowering.specs.Ranks.{AreFewDims, BlockKeepsRanks, declared_shapes};
 ghost use Rattle.lowering.specs.StatementCode.{block_copies, block_slots, program_code};
 ghost use Rattle.lowering.specs.WellFormed.{IsWellFormedBlock};
@@ -30,15 +30,15 @@ pub fn programs_are_well_formed()
 {}
 
 /// The machine with whole arrays ends over the code of a program that breaks no rule of names, ranks and bodies as the program does:
-/// with the first fault, its line, kind and tuple, and the bytes that were printed before it, or finished with its bytes and arrays. After
-/// the declared names there is room for as many copies as the code names, or more.
+/// with the first fault, its line, kind and tuple, and the bytes that were printed before it, or finished with its bytes, scalars and arrays.
+/// After the declared names there is room for as many copies as the code names, or more.
 pub fn accepted_programs_lowered()
     ensures { (p : MainProgram) (room : ℕ) (table : ArrayTable) (layouts : List Layout) → IsTable (initial_state (entries p)) table
         → block_copies (resolved_block (entries p) p.body) ≤ room → length layouts ≡ length (entries p) + room
         → HasNoBreach p → NoBreach (Among (body_breaches (entries p) p.body))
-        → MachineHas (length (entries p)) table
+        → MachineEnds (length (entries p)) table
         (opening (length (entries p)) room (resolved_block (entries p) p.body) (initial_state (entries p)) layouts)
-        (outcome (entries p) p.body) }
+        (run_block (resolved_block (entries p) p.body) (initial_state (entries p))) }
 {}
 
 /// Every instruction of its code is one that so many nodes can run.
