@@ -52,6 +52,13 @@ def wrong_form(statement):
     colons = [at for at, token in outside(tokens) if token == "::"]
     if colons and any(token == "," for at, token in outside(tokens) if at < colons[-1]):
         yield ONE_ATTRIBUTE
+    if "ONTO" in tokens and tokens[tokens.index("ONTO") + 2:tokens.index("ONTO") + 3] == ["("]:
+        yield "ONTO has the name of an arrangement alone: an object is distributed over the whole of it"
+    if first in ("DISTRIBUTE", "REDISTRIBUTE", "ALIGN") and not colons and any(token == "," for _, token in outside(tokens)):
+        form = "ALIGN WITH T" if first == "ALIGN" else f"{first} (BLOCK)"
+        yield f"several objects stand after two colons: !HPF$ {form} :: A, B"
+    if first in ("DISTRIBUTE", "REDISTRIBUTE") and not colons and tokens[1:2] == ["("]:
+        yield f"two colons stand before the names: !HPF$ {first} (BLOCK) :: A"
     if first in ("DISTRIBUTE", "REDISTRIBUTE") and formats(statement) is None:
         yield f"{first} has formats in parentheses: !HPF$ {first} A(BLOCK)"
     if first == "ALIGN" and "WITH" not in tokens[:-1]:
@@ -175,6 +182,8 @@ def wrong_entries(source, entity, own, target, targets):
         for mine, other in zip(source.values_of(entity), source.values_of(target)):
             if None not in mine + other and mine[1] - mine[0] != other[1] - other[0]:
                 yield f"{both} have other extents: say where each element lies, as in ALIGN A(I) WITH T(I)"
+    if own is not None and targets is not None and own.count([":"]) != sum(":" in item or "::" in item for item in targets):
+        yield f"each : of {name} belongs to a triplet of {target.name}, as in ALIGN {name}(:) WITH {target.name}(:)"
     if own is not None and targets is None and any(item != [":"] for item in own):
         yield f"say where in {target.name} each {own[0][0]} lies: WITH {target.name}({own[0][0]})"
     if own is not None and targets is not None and len(own) == len(targets) == 1:

@@ -52,6 +52,8 @@ def declare_hint(trouble, statement, names):
             hints.append(f"an arrangement is declared by !HPF$ PROCESSORS {name}(..)")
         elif statement.directive and statement.tokens[at - 1] == "WITH":
             hints.append(f"declare {name} as an array, or by !HPF$ TEMPLATE {name}(..)")
+        elif statement.first == "PARAMETER":
+            hints.append(f"write INTEGER, PARAMETER :: {name} = .. in its place")
         else:
             subscripts = next((subscripts for found, subscripts in references(statement.tokens) if found == name and subscripts), None)
             shape = f"({','.join('..' for _ in subscripts)})" if subscripts else ""
@@ -94,6 +96,31 @@ def bad_name(trouble, statement):
     return hints + declare_hint(trouble, statement, names) if names or hints else []
 
 
+def wrong_inquiry(source, word, arguments):
+    """What is wrong with the arguments of SIZE, LBOUND or UBOUND, or None."""
+    if len(arguments[0]) != 1 or arguments[0][0] not in source.names or source.names[arguments[0][0]].kind != "array":
+        return f"{word} takes the name of an array, which {spelled(arguments[0])} isn't"
+    number = value_or_none(arguments[1], source.constants) if len(arguments) > 1 else 1
+    if number is None:
+        return f"the dimension of {word} is a constant, which {spelled(arguments[1])} isn't"
+    entity = source.names[arguments[0][0]]
+    return None if 1 <= number <= len(entity.bounds) else f"{source.declared(entity)} has {count(len(entity.bounds), 'dimension')}"
+
+
+def number_among_conditions(source, tokens):
+    """An operand of logical operators that is a variable's number, or None."""
+    operands = [[]]
+    for token in tokens:
+        if token in (".AND.", ".OR.", ".EQV.", ".NEQV.", ".NOT."):
+            operands.append([])
+        else:
+            operands[-1].append(token)
+    if len(operands) == 1:
+        return None
+    return next((spelled(some) for some in operands if some and some[0] in source.names and not is_logical(some)
+                 and some.count("(") == some.count(")")), None)
+
+
 def bad_rank(trouble, statement):
     source, tokens = trouble.source, statement.tokens
     if "NUMBER_OF_PROCESSORS" in tokens and not statement.directive:
@@ -120,14 +147,25 @@ def bad_rank(trouble, statement):
             return [f"{token} takes integers: COUNT({spelled(arguments[0])}) is the number of elements for which the condition holds"]
         if token in ("LBOUND", "UBOUND") and len(arguments) == 1:
             return [f"{token} has a dimension: {token}({spelled(arguments[0])},1)"]
+        if token in ("SIZE", "LBOUND", "UBOUND") and arguments and arguments[0] and not statement.directive:
+            found = wrong_inquiry(source, token, arguments)
+            if found:
+                return [found]
         if token in ARGUMENTS and len(arguments) != ARGUMENTS[token]:
             return [f"{token} has {count(ARGUMENTS[token], 'argument')}"]
     if "IF" in tokens[:2] or statement.first == "ELSEIF":
         inside = condition(["IF"] + tokens[1 + (statement.first == "ELSE"):])
+        number = number_among_conditions(source, inside or [])
+        if number:
+            return [f"both sides of .AND. and .OR., and what follows .NOT., are logical: compare {number}, as in {number} /= 0"]
         if inside and not is_logical(inside) and not any(word in inside for word in ("ANY", "ALL")):
             return [f"a condition is logical, and {spelled(inside)} is an integer: compare it, as in {spelled(inside)} /= 0"]
         if inside and array_names(source, inside):
             return ["a condition is one value: join the elements by ANY(..) or ALL(..)"]
+    if statement.first == "DO":
+        arrays = [name for item in parts(tokens[3:]) for name in array_names(source, item)]
+        if arrays:
+            return [f"the bounds and the step of a DO are single values, and {arrays[0]} is an array"]
     sides = statement.assignment()
     where = next((s for s in [statement, *reversed(source.open_before(trouble.line))] if s.first == "WHERE"), None)
     if statement.first == "WHERE" and not array_names(source, tokens[2:closing(tokens, 1)]):
@@ -141,6 +179,8 @@ def bad_rank(trouble, statement):
         if left and (statement.first == "FORALL" or any(s.construct() == "FORALL" for s in source.open_before(trouble.line))):
             what = "a section" if "(" in sides[0] else "a whole array"
             return [f"in a FORALL elements are assigned, with a subscript for each dimension: {left[0]} is {what}"]
+        if not left and sides[0] == sides[0][:1] and statement.first == "FORALL":
+            return [f"in a FORALL elements are assigned, and {sides[0][0]} is a scalar: write a DO, or SUM(..) for a sum"]
         if is_logical(sides[1]) or sides[1][0:1] and sides[1][0] in ("ANY", "ALL"):
             return ["there are no logical variables: assign 1 and 0 by IF or WHERE"]
         if not left and array_names(source, sides[1]) and not where:

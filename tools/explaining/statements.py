@@ -4,6 +4,7 @@ import re
 from explaining.words import KEYWORDS, LEFT_OUT, RESERVED
 from explaining.text import LOGICAL, NAME, RELATIONS, closing, entities, is_hpf, parts, without_comment
 from explaining.common import listed, nearest
+from explaining.forms import further
 
 FIXED = "this looks like fixed form, and free form is read: a comment begins with !, and & at the end of a line continues it"
 NO_REALS = "there are integers alone: a fraction is an integer that counts parts, as in examples/heat.f90"
@@ -57,6 +58,8 @@ def bad_line(trouble):
         return ["a directive has its line for itself, without ;"]
     if re.match(r"     [&+$.>]", line):
         return [FIXED]
+    if re.match(r"[Cc*]HPF\$", line):
+        return ["in free form a directive line begins with !HPF$, and a comment with !"]
     if line.startswith("#"):
         return ["no preprocessor is run: a line that begins with # is none of this language"]
     if content.strip() == "&":
@@ -71,8 +74,16 @@ def bad_line(trouble):
         return [NO_REALS]
     if re.search(r"\d_[A-Za-z0-9]", rest):
         return ["there is one kind of INTEGER: a number has no kind after _"]
+    if re.search(r"\)\s*\[", rest):
+        return ["co-arrays are left out: directives say which nodes own each element"]
+    if re.search(r"\w\[", rest):
+        return ["subscripts stand in parentheses: A(I)"]
     if re.search(r"\[", rest):
         return [CONSTRUCTOR]
+    if "&&" in rest or "||" in rest:
+        return ["logical operators are .AND., .OR. and .NOT."]
+    if re.search(r"[\w)] *\^", rest):
+        return ["a power is written A**B"]
     if "%" in rest:
         return ["derived types are left out: hold each component in an array of its own"]
     if "?" in rest or "{" in rest or "\\" in rest:
@@ -119,6 +130,10 @@ def not_a_statement(trouble, statement):
     after = trouble.source.lines[trouble.line:trouble.line + 1]
     if re.match(r"[Cc*]( |$|\W)", trouble.raw) and not statement.assignment() or after and re.match(r"     [1-9&+$]", after[0]):
         return [FIXED]
+    if "!=" in trouble.raw or "FUNCTION" in tokens:
+        better = further(trouble, statement)
+        if better:
+            return [better]
     if first == "INTEGER":
         if re.match(r"INTEGER (\*|\()", bare):
             return [ONE_KIND]
@@ -195,6 +210,9 @@ def not_a_statement(trouble, statement):
         return [".NOT. stands once before its operand"]
     if chains(tokens):
         return ["relations don't chain: write A < B .AND. B < C"]
+    better = further(trouble, statement)
+    if better:
+        return [better]
     depth = tokens.count("(") - tokens.count(")")
     if depth:
         return ["a parenthesis isn't closed" if depth > 0 else "a parenthesis too many is closed"]
@@ -291,6 +309,10 @@ def left_out(trouble, statement):
         return ["DO WHILE is left out: write DO I = 1, N with IF (..) EXIT" if tokens[1:2] == ["WHILE"] else
                 "a loop ends with END DO and has no label" if tokens[1:2] and tokens[1].isdigit() else
                 "a DO has an index and bounds: write DO I = 1, N with IF (..) EXIT"]
+    if first in LEFT_OUT and (tokens[1:2] == ["="] or tokens[1:2] == ["("] and tokens[closing(tokens, 1) + 1:][:1] == ["="]):
+        return [f"{first} can't be a name in this language: choose another"]
+    if tokens[1:3] == [":", "="]:
+        return ["an assignment is written with = alone"]
     if tokens[1:2] == [":"]:
         return [NO_NAMES]
     if first == "INTEGER":
