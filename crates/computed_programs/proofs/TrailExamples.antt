@@ -1,0 +1,141 @@
+-- Which parts a run reaches. In the comments a bar stands for the end of a line. All programs declare INTEGER :: A(3) = 2, B(3), K = 1, I.
+use Rattle.std.specs.Prelude.{◌≡◌, refl, ℕ, List, [], ◌∷◌, pos, true, false}
+use Rattle.std.specs.Int.{int_wrap}
+use Rattle.op_tables.specs.declared.op.Op.TheVariants as op
+use Rattle.syntax_tree.specs.Expression as e
+use Rattle.syntax_tree.specs.Statement as s
+use Rattle.name_table.specs.declared.names.Entry.{Entry}
+use Rattle.array_meaning.specs.Terms.{Number, Index, Apply, NoTerm, More}
+use Rattle.array_meaning.specs.declared.sections.Sequence.{Sequence}
+use Rattle.array_meaning.specs.declared.sections.Selection.TheVariants.{Along}
+use Rattle.array_meaning.specs.Elementals.{Elemental, Same, Selected, Operation, NoOperand, Operand}
+use Rattle.array_meaning.specs.Trail.{Event, TrailEntry, SectionAssigned, WhereMask, Reduced, trail_of, ForallMask}
+use Rattle.computed_programs.proofs.Shorthands.{A, B, I, K, scalar, vector, n, v, mul, div, gt, call, range, variable, variable_at, element_at, assign, axis, at, set, print, block, loop, where_mask, forall_over, forall_masked, sub}
+
+abbrev names : List Entry
+names = vector A 3 2 ∷ vector B 3 0 ∷ scalar K (pos 1) ∷ scalar I (pos 0) ∷ []
+
+-- the positions 1 to 3, and all elements of the array at a place
+abbrev from_one : Sequence
+from_one = record { first = pos 1; step = pos 1; count = 3 }
+
+abbrev all_of : ℕ → Elemental
+all_of a = Selected a (Along from_one ∷ [])
+
+-- what is reached at a line; K is 1, and I has this value
+abbrev reached : ℕ → ℕ → Event → TrailEntry
+reached line i event = record { line = line; scalars = pos 0 ∷ pos 0 ∷ pos 1 ∷ pos i ∷ []; event = event }
+
+-- A FORALL of an empty space has no part, and not even its mask.
+-- FORALL (I=1:0, I > 1) A(I) = 1|END
+empty_forall : trail_of names (block (forall_masked 2 (axis I (n 1) (n 0) ∷ []) (gt (v I) (n 1)) (assign 2 (element_at A (v I)) (n 1) ∷ []) ∷ [])) ≡ []
+unfolding int_wrap
+empty_forall = refl
+
+-- Nor has one that ends with NotOneToOne.
+-- FORALL (I=1:3) A(1) = I|END
+refused_forall : trail_of names (block (forall_over 2 (axis I (n 1) (n 3) ∷ []) (assign 2 (element_at A (n 1)) (v I) ∷ []) ∷ [])) ≡ []
+unfolding int_wrap
+refused_forall = refl
+
+-- A mask that ends with a fault is reached, and no assignment after it.
+-- FORALL (I=1:3, 1/(I-1) > 0) A(I) = 1|END
+fault_of_forall_mask : trail_of names (block (
+    forall_masked 2 (axis I (n 1) (n 3) ∷ []) (gt (div (n 1) (e.Closed (sub (v I) (n 1)))) (n 0)) (assign 2 (element_at A (v I)) (n 1) ∷ []) ∷ []))
+    ≡ reached 2 0 (ForallMask (from_one ∷ []) (Apply op.Gt (More
+    (Apply op.Div (More (Number (pos 1)) (More (Apply op.Sub (More (Index 0) (More (Number (pos 1)) NoTerm))) NoTerm)))
+    (More (Number (pos 0)) NoTerm)))) ∷ []
+unfolding int_wrap
+fault_of_forall_mask = refl
+
+-- A space past the limit isn't reached.
+-- A(1:1048577) = 1|END
+space_past_limit : trail_of names (block (set 2 (variable_at A (range (n 1) (n 1048577) ∷ [])) (n 1) ∷ [])) ≡ []
+unfolding int_wrap
+space_past_limit = refl
+
+-- Of conditions those up to the first that is true are reached.
+-- IF (SUM(A) > 0) THEN|ELSE IF (SUM(B) > 0) THEN|END IF|END
+conditions : trail_of names (block (
+    at 2 (s.If (s.Arm 2 (gt (call op.Sum (v A ∷ [])) (n 0)) s.Done (s.Arm 3 (gt (call op.Sum (v B ∷ [])) (n 0)) s.Done s.NoArm)) s.Without) ∷ []))
+    ≡ reached 2 0 (Reduced op.Sum (3 ∷ []) (all_of 0)) ∷ []
+unfolding int_wrap
+conditions = refl
+
+-- Of items those up to the first fault.
+-- PRINT *, SUM(A), 1/I, SUM(B)|END
+items_to_fault : trail_of names (block (print 2 (call op.Sum (v A ∷ []) ∷ div (n 1) (v I) ∷ call op.Sum (v B ∷ []) ∷ []) ∷ []))
+    ≡ reached 2 0 (Reduced op.Sum (3 ∷ []) (all_of 0)) ∷ []
+unfolding int_wrap
+items_to_fault = refl
+
+-- The left side's reductions come before the right side's, and the assignment, which ends with Bounds for A(0), after both.
+-- A(SUM(B):2) = SUM(A)|END
+left_reductions_first : trail_of names (block (set 2 (variable_at A (range (call op.Sum (v B ∷ [])) (n 2) ∷ [])) (call op.Sum (v A ∷ [])) ∷ []))
+    ≡ reached 2 0 (Reduced op.Sum (3 ∷ []) (all_of 1))
+    ∷ reached 2 0 (Reduced op.Sum (3 ∷ []) (all_of 0))
+    ∷ reached 2 0 (SectionAssigned false (3 ∷ []) 0 (Along record { first = pos 0; step = pos 1; count = 3 } ∷ []) (Same (pos 6)))
+    ∷ []
+unfolding int_wrap
+left_reductions_first = refl
+
+-- An inner reduction comes first, and is a value in the outer one.
+-- I = SUM(SUM(A) * B)|END
+inner_reduction : trail_of names (block (set 2 (variable I) (call op.Sum (mul (call op.Sum (v A ∷ [])) (v B) ∷ [])) ∷ []))
+    ≡ reached 2 0 (Reduced op.Sum (3 ∷ []) (all_of 0))
+    ∷ reached 2 0 (Reduced op.Sum (3 ∷ []) (Operation op.Mul (Operand (Same (pos 6)) (Operand (all_of 1) NoOperand))))
+    ∷ []
+unfolding int_wrap
+inner_reduction = refl
+
+-- The bounds of an element come before the reductions of the right side: A(0) is none.
+-- A(SUM(B)) = SUM(A)|END
+bounds_before_reduction : trail_of names (block (set 2 (element_at A (call op.Sum (v B ∷ []))) (call op.Sum (v A ∷ [])) ∷ []))
+    ≡ reached 2 0 (Reduced op.Sum (3 ∷ []) (all_of 1)) ∷ []
+unfolding int_wrap
+bounds_before_reduction = refl
+
+-- The controls of a loop come once, before its iterations, of which this has none.
+-- DO I = SUM(A), SUM(B)|A = 1|END DO|END
+controls_once : trail_of names (block (loop 2 (axis I (call op.Sum (v A ∷ [])) (call op.Sum (v B ∷ []))) (set 3 (variable A) (n 1) ∷ []) ∷ []))
+    ≡ reached 2 0 (Reduced op.Sum (3 ∷ []) (all_of 0))
+    ∷ reached 2 0 (Reduced op.Sum (3 ∷ []) (all_of 1))
+    ∷ []
+unfolding int_wrap
+controls_once = refl
+
+-- A mask is one part, and each assignment one at its own line, those after ELSEWHERE too.
+-- WHERE (A > 2)|A = 1|ELSEWHERE|B = A|END WHERE|END
+where_parts : trail_of names (block (where_mask 2 (gt (v A) (n 2)) (assign 3 (variable A) (n 1) ∷ []) (assign 5 (variable B) (v A) ∷ []) ∷ []))
+    ≡ reached 2 0 (WhereMask (3 ∷ []) (Operation op.Gt (Operand (all_of 0) (Operand (Same (pos 2)) NoOperand))))
+    ∷ reached 3 0 (SectionAssigned true (3 ∷ []) 0 (Along from_one ∷ []) (Same (pos 1)))
+    ∷ reached 5 0 (SectionAssigned true (3 ∷ []) 1 (Along from_one ∷ []) (all_of 0))
+    ∷ []
+unfolding int_wrap
+where_parts = refl
+
+-- An assignment that ends with a fault is reached, and what stands after ELSEWHERE then isn't.
+-- WHERE (A > 1)|A = 1 / B|ELSEWHERE|B = A|END WHERE|END
+where_to_fault : trail_of names (block (where_mask 2 (gt (v A) (n 1)) (assign 3 (variable A) (div (n 1) (v B)) ∷ []) (assign 5 (variable B) (v A) ∷ []) ∷ []))
+    ≡ reached 2 0 (WhereMask (3 ∷ []) (Operation op.Gt (Operand (all_of 0) (Operand (Same (pos 1)) NoOperand))))
+    ∷ reached 3 0 (SectionAssigned true (3 ∷ []) 0 (Along from_one ∷ []) (Operation op.Div (Operand (Same (pos 1)) (Operand (all_of 1) NoOperand))))
+    ∷ []
+unfolding int_wrap
+where_to_fault = refl
+
+-- After EXIT no iteration is reached, and what stands after the loop is.
+-- DO I = 2, 3|A = I|EXIT|END DO|A = 1|END
+parts_to_exit : trail_of names (block (
+    loop 2 (axis I (n 2) (n 3)) (set 3 (variable A) (v I) ∷ at 4 s.Exit ∷ []) ∷
+    set 6 (variable A) (n 1) ∷ []))
+    ≡ reached 3 2 (SectionAssigned false (3 ∷ []) 0 (Along from_one ∷ []) (Same (pos 2)))
+    ∷ reached 6 2 (SectionAssigned false (3 ∷ []) 0 (Along from_one ∷ []) (Same (pos 1)))
+    ∷ []
+unfolding int_wrap
+parts_to_exit = refl
+
+-- After STOP nothing is reached.
+-- DO I = 1, 3|STOP|END DO|A = 1|END
+nothing_after_stop : trail_of names (block (loop 2 (axis I (n 1) (n 3)) (at 3 s.Stop ∷ []) ∷ set 5 (variable A) (n 1) ∷ [])) ≡ []
+unfolding int_wrap
+nothing_after_stop = refl

@@ -1,0 +1,15 @@
+//! Programs whose outcome by the definitions of `array_meaning` is computed by the check: what each prints, how it ends and its last arrays.
+//!
+//! Comes in: the definitions of `array_meaning` alone. Goes out: nothing that another crate cites. There is no function here: each program
+//! is an equation in `proofs/`, between what the definitions give and what the rules of Fortran give, worked out by hand.
+//!
+//! What holds in between: each program is there for one sentence of the definitions, which its comment says, and is as small as it can be.
+//! The programs of `array_meaning` itself stand beside its definitions.
+//!
+//! - `SpaceExamples`: how many tuples a section has, conformable sections, and limits.
+//! - `OrderExamples`: what is evaluated before what, and which fault is the first.
+//! - `OperatorExamples`: values of operators at the ends of 64 bits and of negative numbers.
+//! - `AssignmentExamples`, `ForallExamples`: array assignment and WHERE; FORALL.
+//! - `StatementExamples`: IF, DO, STOP, PRINT, and what names stand for.
+//! - `TrailExamples`: which parts are reached.
+#![tactic(auto)]
