@@ -3,8 +3,8 @@
 use crate::case::Case;
 use crate::compare::write_comparison;
 use crate::driver::Nodes;
-use crate::machine::Machine;
-use crate::show::{write_left, write_shown, write_stand};
+use crate::outcome::Outcome;
+use crate::show::{write_left, write_shown};
 use crate::trouble::Trouble;
 use crate::world::World;
 use case_texts::write_text;
@@ -27,48 +27,52 @@ fn write_answer(alloc: Global, out: &mut String, case: &Case) -> Result<(), Trou
     } else {
         case.grids.as_str()
     };
-    for (place, grid) in grids.split(' ').enumerate() {
-        write_on(alloc, out, case, grid, place == 0)?;
-    }
-    Ok(())
-}
-
-/// Writes what the case comes to on a grid; on the first one what the machine comes to, too.
-fn write_on(
-    alloc: Global,
-    out: &mut String,
-    case: &Case,
-    grid: &str,
-    is_first: bool,
-) -> Result<(), Trouble> {
-    let world = World::new(alloc, case, grid)?;
-    let m = Machine::run(alloc, &world)?;
-    if is_first {
-        write_outcome(out, &m)?;
-    }
-    let mut nodes = Nodes::opening(alloc, &world)?;
-    let left = nodes.run(alloc)?;
-    write!(out, "  {grid}: ")?;
-    write_left(out, left)?;
-    write_comparison(alloc, out, &nodes.nodes, &m)?;
-    nodes.sort()?;
-    for show in &case.shows {
-        let (shown, words) = show.as_str().split_once(' ').unwrap_or((show.as_str(), ""));
-        if shown == grid {
-            write_shown(out, grid, words, &nodes)?;
+    let mut first = None;
+    for grid in grids.split(' ') {
+        let nodes = write_on(alloc, out, case, grid, &mut first)?;
+        for show in &case.shows {
+            let (shown, words) = show.as_str().split_once(' ').unwrap_or((show.as_str(), ""));
+            if shown == grid {
+                write_shown(out, grid, words, &nodes)?;
+            }
         }
     }
     Ok(())
 }
 
-/// Writes what the machine printed, and how its run ends.
-fn write_outcome(out: &mut String, m: &Machine) -> Result<(), AllocError> {
-    if !m.printed.is_empty() {
-        out.push_str("  printed ")?;
-        write_text(out, &m.printed)?;
-        out.push_str("\n")?;
+/// Runs the case on a grid, and writes whether the nodes come to the outcome on the first grid; on that one, this outcome, too.
+fn write_on(
+    alloc: Global,
+    out: &mut String,
+    case: &Case,
+    grid: &str,
+    first: &mut Option<Outcome>,
+) -> Result<Nodes, Trouble> {
+    let world = World::new(alloc, case, grid)?;
+    let mut nodes = Nodes::opening(alloc, &world)?;
+    let left = nodes.run(alloc)?;
+    nodes.sort()?;
+    if first.is_none() {
+        *first = Outcome::of(alloc, &nodes.nodes)?;
+        write_outcome(out, first)?;
     }
-    out.push_str("  ")?;
-    write_stand(out, &m.stand)?;
-    out.push_str("\n")
+    write!(out, "  {grid}: ")?;
+    write_left(out, left)?;
+    if let Some(outcome) = first {
+        write_comparison(alloc, out, &nodes.nodes, outcome)?;
+    }
+    Ok(nodes)
+}
+
+/// Writes what was printed, and how the run ends.
+fn write_outcome(out: &mut String, outcome: &Option<Outcome>) -> Result<(), AllocError> {
+    if let Some(outcome) = outcome {
+        if !outcome.printed.is_empty() {
+            out.push_str("  printed ")?;
+            write_text(out, &outcome.printed)?;
+            out.push_str("\n")?;
+        }
+        writeln!(out, "  {}", outcome.end)?;
+    }
+    Ok(())
 }

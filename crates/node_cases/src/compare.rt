@@ -1,25 +1,24 @@
-//! The nodes beside the machine with whole arrays.
+//! The nodes of one grid beside the outcome on another.
 
-use crate::evaluation::number_at;
-use crate::machine::Machine;
-use crate::show::{write_row_name, write_stand, write_status};
+use crate::outcome::{Outcome, number_at};
+use crate::show::{write_row_name, write_status};
 use node_machine::Node;
 use owner_tables::Spot;
 use std::alloc::{AllocError, Global};
 use std::fmt::Write;
 
-/// Writes that each node comes to what the machine does, or where the first that doesn't begins to differ: how its run ends, what node 0
-/// printed, the slots, and the node's piece of each row, which has the elements that it owns of the whole row.
+/// Writes that each node comes to this outcome, or where the first that doesn't begins to differ: how its run ends, what node 0 printed, the
+/// slots, and the node's piece of each row, which has the elements that it owns of the whole row.
 pub fn write_comparison(
     alloc: Global,
     out: &mut String,
     nodes: &[Node],
-    m: &Machine,
+    outcome: &Outcome,
 ) -> Result<(), AllocError> {
     let mut difference = String::new(alloc);
     for id in 0..nodes.len() {
         if difference.is_empty() {
-            compare(alloc, &mut difference, id, &nodes[id], m)?;
+            compare(alloc, &mut difference, id, &nodes[id], outcome)?;
         }
     }
     if difference.is_empty() {
@@ -35,23 +34,21 @@ fn compare(
     out: &mut String,
     id: usize,
     node: &Node,
-    m: &Machine,
+    outcome: &Outcome,
 ) -> Result<(), AllocError> {
-    let mut own = String::new(alloc);
-    let mut whole = String::new(alloc);
-    write_status(&mut own, node.status())?;
-    write_stand(&mut whole, &m.stand)?;
-    if own.as_str() != whole.as_str() {
-        return write!(out, "node {id} {own}, not {whole}");
+    let mut end = String::new(alloc);
+    write_status(&mut end, node.status())?;
+    if end.as_str() != outcome.end.as_str() {
+        return write!(out, "node {id} {end}, not {}", outcome.end);
     }
-    if id == 0 && node.printed() != m.printed.as_slice() {
+    if id == 0 && node.printed() != outcome.printed.as_slice() {
         return out.push_str("node 0 printed something else");
     }
-    if node.slots() != m.slots.as_slice() {
+    if node.slots() != outcome.slots.as_slice() {
         return write!(out, "node {id} has other slots");
     }
-    for row in 0..m.rows.len() {
-        compare_row(out, id, node, row, &m.rows[row])?;
+    for row in 0..outcome.rows.len() {
+        compare_row(out, id, node, row, &outcome.rows[row])?;
         if !out.is_empty() {
             return Ok(());
         }

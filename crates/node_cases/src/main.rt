@@ -1,8 +1,7 @@
 //! Tries node code on nodes: code that is written by hand, whose outcome is known.
 //!
-//! Comes in: cases on standard input. Goes out: the same lines, and after each case what its code comes to on the machine with whole arrays
-//! of this crate, and whether the nodes come to the same. What holds in between: `case` begins a case and `run` ends it; these lines say what
-//! it is.
+//! Comes in: cases on standard input. Goes out: the same lines, and after each case what its code comes to on the first of its grids, and
+//! whether each node of each grid comes to the same. What holds in between: `case` begins a case and `run` ends it; these lines say what it is.
 //!
 //! - `text`: an HPF program, written as `case_texts` says. Its arrays, with their values and their mappings, are those of the code: the rows A,
 //!   B and so on in the order of their declaration.
@@ -21,17 +20,11 @@ mod case;
 mod compare;
 mod declared;
 mod driver;
-mod evaluation;
 mod expressions;
 mod instructions;
 mod layouts;
-mod limits;
 mod line;
-mod local;
-mod machine;
-mod parallel;
-mod prints;
-mod sections;
+mod outcome;
 mod show;
 mod trouble;
 mod world;

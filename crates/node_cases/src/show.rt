@@ -2,7 +2,6 @@
 
 use crate::driver::{Left, Nodes, Sent};
 use crate::expressions::row;
-use crate::machine::{Broken, Stand};
 use node_machine::Node;
 use slot_values::{Fault, Status};
 use std::alloc::AllocError;
@@ -22,21 +21,6 @@ pub fn write_row_name(out: &mut String, row: usize) -> Result<(), AllocError> {
     match u8::try_from(row) {
         Ok(row) if row < 26 => out.push(char::from(b'A' + row)),
         _ => out.push('?'),
-    }
-}
-
-/// Writes how the machine's run ends.
-pub fn write_stand(out: &mut String, stand: &Stand) -> Result<(), AllocError> {
-    match stand {
-        Stand::Running => out.push_str("goes on"),
-        Stand::Finished => out.push_str("finished"),
-        Stand::Faulted(Broken { line, kind, tuple }) => {
-            write!(out, "line {line}: {kind:?}")?;
-            match tuple {
-                Some(tuple) => write_tuple(out, tuple),
-                None => Ok(()),
-            }
-        }
     }
 }
 
