@@ -1,9 +1,9 @@
 //! Which nodes have a message for which at a redistribution.
 
-ghost use Rattle.std.specs.Prelude.{◌≡◌, ◌<◌, ◌≤◌, ◌*◌, ◌+◌, ◌&&◌, All, IfOk, IsTrue, false, length, map, nat_eq, not, replicate, slice_index_or, slice_set, true};
-ghost use Rattle.std.specs.List.{list_any, range_with_len};
+ghost use Rattle.std.specs.Prelude.{◌≡◌, ◌<◌, ◌≤◌, ◌*◌, ◌+◌, ◌&&◌, All, IfOk, IsTrue, Some, false, length, map, nat_eq, not, replicate, slice_index_or, slice_set, true};
+ghost use Rattle.std.specs.List.{list_any, range_with_len, slice_get};
 ghost use Rattle.storage.specs.Storage.{Spot};
-ghost use Rattle.machine_steps.specs.Layout.{owned_in, owns_spot, sizes};
+ghost use Rattle.machine_steps.specs.Layout.{Layout, owned_in, owns_spot, sizes};
 ghost use Rattle.machine_steps.specs.Message.{all_spots};
 ghost use Rattle.storage.specs.Spots.{spot_of};
 ghost use Rattle.comm_sets.specs.Marks.{Marked, any_moved};
@@ -49,9 +49,10 @@ fn mark_row(marks: &mut Vec<bool>, before: &Owners, after: &Owners, row: usize)
     }
 }
 
-/// Whether a row lies as before, by its shape and its mapping: true only where each node owns the same of its elements. It takes no memory.
+/// Whether there is a row that lies as before, by its shape and its mapping: then each node owns the same of its elements. It takes no memory.
 pub fn is_unchanged(before: &Owners, after: &Owners, row: usize) -> bool
-    ensures { IsTrue result → owned_in before.now.layouts row ≡ owned_in after.now.layouts row }
+    ensures same { IsTrue result → owned_in before.now.layouts row ≡ owned_in after.now.layouts row }
+    ensures all { (layout : Layout) → slice_get before.now.layouts row ≡ Some layout → slice_get after.now.layouts row ≡ Some layout → IsTrue result }
 {
     if let Some(one) = before.table(row)
         && let Some(other) = after.table(row)

@@ -9,6 +9,7 @@ use Rattle.array_meaning.specs.State.{State}
 use Rattle.array_meaning.specs.Runs.{Run, with_value}
 use Rattle.array_meaning.specs.Elementals.{each}
 use Rattle.machine_steps.specs.Layout.{Layout, size_of}
+use Rattle.machine_steps.specs.Space.{space_count}
 use Rattle.machine_steps.specs.Instr as instr
 use Rattle.machine_steps.specs.Instr.{Outcome, Tuples}
 use Rattle.machine_steps.specs.Machine as machine
@@ -24,13 +25,13 @@ use Rattle.lowering.proofs.Masks.{holds-copy, holds-some, value_effect, Filled, 
 use Rattle.lowering.proofs.Evaluating.{result-outcome}
 use Rattle.lowering.proofs.Pars.{par-reaches, par-stops}
 
-module _ (table : ArrayTable) (row_count : ℕ) (code : List Instruction) (n many leave again : ℕ) (sized : (layouts : List Layout) (ns : List ℕ) → size_of (table.copies layouts ns) ≡ product ns) (line b pc to : ℕ)
+module _ (table : ArrayTable) (row_count : ℕ) (code : List Instruction) (n many leave again : ℕ) (sized : (layouts : List Layout) (ns : List ℕ) → size_of (table.copies layouts ns) ≡ space_count ns) (line b pc to : ℕ)
     (form : ArrayForm) (over : List Sub) (par : Instruction) (tuples : Tuples Fault) (is : meaning_of table par ≡ instr.Par tuples (copy_spot n)) where
   abbrev p : Evaluation
   p = record { line = line; form = form; over = over }
 
   module _ (has : HasAt code pc (MakeCopy n p ∷ par ∷ Verdict ∷ [])) (slots : List ℤ) (rows : Storage) (s : State) (holds : Holds table row_count code n many None s slots rows)
-      (ns : List ℕ) (shape : evaluation_extents p slots ≡ ns) (counted : tuples.count slots ≡ product ns)
+      (ns : List ℕ) (shape : evaluation_extents p slots ≡ ns) (counted : tuples.count slots ≡ product ns) (all : space_count ns ≡ product ns)
       (tuple : ℕ → List ℤ) (f : ℕ → Result ℤ Cause)
       (does : (rows1 : Storage) → HoldsArrays n table.shapes s rows1 → (u : ℕ) → machine.outcome_of tuples slots (read rows1) u
       ≡ outcome_of (at_line line (at_tuple (tuple u) (f u))))
@@ -40,7 +41,7 @@ module _ (table : ArrayTable) (row_count : ℕ) (code : List Instruction) (n man
     count = product ns
 
     abbrev zeros : List ℤ
-    zeros = replicate (product (evaluation_extents p slots)) (pos 0)
+    zeros = replicate (space_count (evaluation_extents p slots)) (pos 0)
 
     abbrev rows1 : Storage
     rows1 = slice_set rows n zeros
@@ -49,7 +50,7 @@ module _ (table : ArrayTable) (row_count : ℕ) (code : List Instruction) (n man
     holds2 = holds-copy table row_count code n many s slots rows zeros holds
 
     empty : length (row_of rows1 n) ≡ count
-    empty = ap length (get_or-set_same rows n zeros [] holds.wide) ∙ length-replicate (product (evaluation_extents p slots)) (pos 0) ∙ ap product shape
+    empty = ap length (get_or-set_same rows n zeros [] holds.wide) ∙ length-replicate (space_count (evaluation_extents p slots)) (pos 0) ∙ ap space_count shape ∙ all
 
     abbrev outcome : ℕ → Outcome Fault
     outcome = machine.outcome_of tuples slots (read rows1)

@@ -13,6 +13,7 @@ use Rattle.array_meaning.specs.State.{State}
 use Rattle.array_meaning.specs.Sections.{positions, space_size}
 use Rattle.array_meaning.specs.Elementals.{Elemental, sections, first_extents, value_at, each, values_over, ArrayValue, reduction}
 use Rattle.machine_steps.specs.Instr.{Running, Faulted, Control, Outcome}
+use Rattle.machine_steps.specs.Space.{space_count}
 use Rattle.machine_steps.specs.Machine as machine
 use Rattle.machine_steps.specs.Machine.{Machine, Kept, keep, folded, verdict_control, stay, step, step_by, steps, instr_of}
 use Rattle.node_code.specs.Flat.{slot}
@@ -23,7 +24,7 @@ use Rattle.lowering.specs.ExpressionCode.{own_evaluation, reduce_code}
 use Rattle.lowering.proofs.Reach.{Idle, HasAt, same-refl, same-set, slot-set, stands, one, Comes, comes-on}
 use Rattle.lowering.proofs.Terms.{HoldsArrays}
 use Rattle.lowering.proofs.Keeping.{IsOutcome, Keeps, keeps}
-use Rattle.lowering.proofs.Scatter.{NamesBelow, values_of, value-of-reads, space-size}
+use Rattle.lowering.proofs.Scatter.{NamesBelow, values_of, value-of-reads, space-size, space-counted}
 use Rattle.lowering.proofs.Masks.{shape-first}
 
 pub result-outcome : (line : ℕ) (q : Result ℤ Cause) → IsOutcome line (outcome_of (at_line line q)) q
@@ -123,33 +124,33 @@ module _ (table : ArrayTable) (row_count : ℕ) (code : List Instruction) (line 
       judged : Option (Kept Fault) → ℤ → Idle row_count → Machine Instruction Fault
       judged kept v i = record (stands table row_count code (pc + 1) slots rows out i) { control = verdict_control kept stay control; substep = 2; joined = v }
 
-      two : (i : Idle row_count) → steps (meaning_of table) 2 (stands table row_count code (pc + 1) slots rows out i) ≡ judged (keep outcome 0 count None) (folded (fold_of (reduction_of o).join) outcome count) i
-      two i =
+      two : space_count ns ≡ count → (i : Idle row_count) → steps (meaning_of table) 2 (stands table row_count code (pc + 1) slots rows out i) ≡ judged (keep outcome 0 count None) (folded (fold_of (reduction_of o).join) outcome count) i
+      two all i =
           ap (λ m. step (meaning_of table) m) (ap (λ z. step_by (instr_of (meaning_of table) z) (stands table row_count code (pc + 1) slots rows out i)) has.1.0
-          ∙ ap (λ k. values 1 (keep outcome 0 k None) (folded (fold_of (reduction_of o).join) outcome k) i) (ap product (own-shape n table.shapes s rows arrays line form slots r right named)))
+          ∙ ap (λ k. values 1 (keep outcome 0 k None) (folded (fold_of (reduction_of o).join) outcome k) i) (ap space_count (own-shape n table.shapes s rows arrays line form slots r right named) ∙ all))
           ∙ ap (λ z. step_by (instr_of (meaning_of table) z) (values 1 (keep outcome 0 count None) (folded (fold_of (reduction_of o).join) outcome count) i)) has.1.0
 
       three : (v : ℤ) (i : Idle row_count) → steps (meaning_of table) 1 (judged None v i) ≡ stands table row_count code (pc + 1 + 1) (slice_set slots x v) rows out
           (record { layouts = i.layouts; joined = v; laid = i.laid })
       three v i = ap (λ z. step_by (instr_of (meaning_of table) z) (judged None v i)) has.1.0
 
-      by_each : (q : Result (List ℤ) Cause) → Keeps line outcome q count → Folds line o outcome q count → Comes table row_count code line rows out (pc + 1) (pc + 2) b slots P
+      by_each : space_count ns ≡ count → (q : Result (List ℤ) Cause) → Keeps line outcome q count → Folds line o outcome q count → Comes table row_count code line rows out (pc + 1) (pc + 2) b slots P
           (q >>= pair >>= second)
-      by_each (Ok vs) kept joins =
+      by_each all (Ok vs) kept joins =
           let v : ℤ = reduced o vs in
           let e : pc + 1 + 1 ≡ pc + 2 = omega arith in (
             slice_set slots x v,
             (λ i. (
               3,
               record { layouts = i.layouts; joined = v; laid = i.laid },
-              ap (step (meaning_of table)) (two i ∙ ap (λ k. judged k (folded (fold_of (reduction_of o).join) outcome count) i) kept ∙ ap (λ z. judged None z i) joins) ∙ three v i
+              ap (step (meaning_of table)) (two all i ∙ ap (λ k. judged k (folded (fold_of (reduction_of o).join) outcome count) i) kept ∙ ap (λ z. judged None z i) joins) ∙ three v i
                   ∙ ap (λ at. stands table row_count code at (slice_set slots x v) rows out (record { layouts = i.layouts; joined = v; laid = i.laid })) e,
             )),
             same-set b x slots v le,
             slot-set x slots v lt,
           )
-      by_each (Err c) kept joins = λ i.
-          (judged (Some kept.0) (folded (fold_of (reduction_of o).join) outcome count) i, (2, two i ∙ ap (λ k. judged k (folded (fold_of (reduction_of o).join) outcome count) i) kept.1), ap Faulted kept.2, refl)
+      by_each all (Err c) kept joins = λ i.
+          (judged (Some kept.0) (folded (fold_of (reduction_of o).join) outcome count) i, (2, two all i ∙ ap (λ k. judged k (folded (fold_of (reduction_of o).join) outcome count) i) kept.1), ap Faulted kept.2, refl)
 
       limits : (q : Result ℕ Cause) → space_size ns (sections r) ≡ q → (i : Idle row_count)
           → steps (meaning_of table) 1 (stands table row_count code pc slots rows out i)
@@ -165,5 +166,5 @@ module _ (table : ArrayTable) (row_count : ℕ) (code : List Instruction) (line 
           comes-on table row_count code line rows out pc (pc + 1) (pc + 2) b b slots slots P (values_over s ns r k >>= pair >>= second) (omega arith) (λ i. (1, i, limits (Ok k) e i))
           (same-refl b slots)
           (subst (λ k. Comes table row_count code line rows out (pc + 1) (pc + 2) b slots P (values_over s ns r k >>= pair >>= second)) (sym many)
-          (by_each (values_over s ns r count) kept-is (folds-all line o outcome (positions ns) (λ t. value_at s (positions ns t) r) count tuple-is)))
+          (by_each (space-counted ns (sections r) k e) (values_over s ns r count) kept-is (folds-all line o outcome (positions ns) (λ t. value_at s (positions ns t) r) count tuple-is)))
       by_limits (Err c) e = λ i. (_, (1, limits (Err c) e i), refl, refl)

@@ -4,6 +4,7 @@ use Rattle.std.proofs.lemmas.Bool.Decides.{Decides-eqb}
 use Rattle.std.specs.List.{list_all}
 use Rattle.hpf_base.specs.declared.limits.TheConstants.{MAX_TUPLES}
 use Rattle.hpf_base.specs.ElementOrder.{product}
+use Rattle.machine_steps.specs.Space.{space_count}
 use Rattle.op_tables.specs.Operators.{is_true}
 use Rattle.storage.specs.Storage.{Storage, read}
 use Rattle.array_meaning.specs.declared.faults.FaultKind.{FaultKind}
@@ -36,7 +37,7 @@ use Rattle.lowering.specs.WellFormed.{AreScalarSubscripts, AreControls, IsIndexe
 use Rattle.lowering.proofs.Reach.{Idle, HasAt, has-front, has-back, same-refl, stands, one, Comes}
 use Rattle.lowering.proofs.Terms.{HoldsArrays}
 use Rattle.lowering.proofs.Goes.{Holds, Kept, kept-refl, Goes, goes-at, goes-then-kept, goes-value, value-bind, lands-done}
-use Rattle.lowering.proofs.Scatter.{Does, values_of, value-of-reads}
+use Rattle.lowering.proofs.Scatter.{Does, values_of, value-of-reads, counted-if}
 use Rattle.lowering.proofs.Parts.{SubsGive, subscripts-come}
 use Rattle.lowering.proofs.Storing.{masked-does, stores-go}
 use Rattle.lowering.proofs.Copies.{copy-goes}
@@ -206,25 +207,25 @@ module _ (table : ArrayTable) (row_count : ℕ) (code : List Instruction) (n man
 
     -- ---- assignments
 
-    assigns-all : (copy : Option (List ℤ)) (when : Option When) (m : Mask)
+    assigns-all : space_count ns ≡ product ns → (copy : Option (List ℤ)) (when : Option When) (m : Mask)
         → ((s : State) (slots : List ℤ) (rows : Storage) → Holds table row_count code n many copy s slots rows → (t : ℕ) (values : List ℤ)
         → is_asked when (values_of rows (mask_reads when t) ++ values) ≡ m t)
         → (xs : List ElementAssignment) (pc : ℕ) (slots : List ℤ) (rows : Storage) (s : State) → AreIndexedAssignments n xs
         → HasAt code pc (forall_assignments_code over when xs) → Holds table row_count code n many copy s slots rows → Gives slots
         → Goes table row_count code n many copy leave again (pc + length (forall_assignments_code over when xs)) b1 slots (stands table row_count code pc slots rows s.printed)
         (assign_all_forall axes (product ns) m xs s)
-    assigns-all copy when m asked [] pc slots rows s ok has holds gives =
+    assigns-all all copy when m asked [] pc slots rows s ok has holds gives =
         let e : pc ≡ pc + 0 = omega arith in
         goes-at table row_count code n many copy leave again pc (pc + 0) b1 slots (stands table row_count code pc slots rows s.printed) (normal s) e
         (lands-done table row_count code n many copy leave again pc b1 slots rows s holds)
-    assigns-all copy when m asked (x ∷ xs) pc slots rows s ok has holds gives =
+    assigns-all all copy when m asked (x ∷ xs) pc slots rows s ok has holds gives =
         goes-at table row_count code n many copy leave again (pc + 2 + length cs) (pc + length (forall_assignments_code over when (x ∷ xs))) b1 slots
         (stands table row_count code pc slots rows s.printed) (assign_all_forall axes (product ns) m (x ∷ xs) s) long
         (goes-then-kept table row_count code n many copy leave again (pc + 2) (pc + 2 + length cs) b1 slots (stands table row_count code pc slots rows s.printed)
         (one_step x.line s (assign_forall axes (product ns) m x s)) (assign_all_forall axes (product ns) m xs)
         (stores-go table row_count code n many copy leave again (ParForall p) (forall_tuples table.shapes p) (forall_spot table.shapes p) refl x.line x.array b1 pc ok.0
-        (has.0, (has.1.0, tt)) slots rows s holds (product ns) (ap product (extents-are slots gives)) (indices_at axes) at_a_tuple (λ u lt. does u))
-        (λ slots1 rows1 s1 kept holds1. assigns-all copy when m asked xs (pc + 2) slots1 rows1 s1 ok.3 at_rest holds1 (gives-kept copy slots slots1 gives kept)))
+        (has.0, (has.1.0, tt)) slots rows s holds (product ns) (ap space_count (extents-are slots gives) ∙ all) (indices_at axes) at_a_tuple (λ u lt. does u))
+        (λ slots1 rows1 s1 kept holds1. assigns-all all copy when m asked xs (pc + 2) slots1 rows1 s1 ok.3 at_rest holds1 (gives-kept copy slots slots1 gives kept)))
       where
         cs : List Instruction
         cs = forall_assignments_code over when xs
@@ -269,14 +270,15 @@ module _ (table : ArrayTable) (row_count : ℕ) (code : List Instruction) (n man
 
     -- ---- the mask
 
-    module _ (sized : (layouts : List Layout) (ms : List ℕ) → size_of (table.copies layouts ms) ≡ product ms) (body : List ElementAssignment) (ok_body : AreIndexedAssignments n body) where
+    module _ (sized : (layouts : List Layout) (ms : List ℕ) → size_of (table.copies layouts ms) ≡ space_count ms) (body : List ElementAssignment) (ok_body : AreIndexedAssignments n body)
+        (all : space_count ns ≡ product ns) where
       after-goes : (mask : Option Term) (pc : ℕ) (slots : List ℤ) (rows : Storage) (s : State) → IsIndexedMask n mask
           → HasAt code pc (forall_mask_code n line over mask ++ forall_assignments_code over (option_map (λ t. where_true n true) mask) body)
           → Holds table row_count code n many None s slots rows → Gives slots
           → Goes table row_count code n many None leave again
           (pc + length (forall_mask_code n line over mask ++ forall_assignments_code over (option_map (λ t. where_true n true) mask) body)) b1 slots
           (stands table row_count code pc slots rows s.printed) (after line mask body axes (product ns) s)
-      after-goes None pc slots rows s ok has holds gives = assigns-all None None (λ t. true) (λ s slots rows h t values. refl) body pc slots rows s ok_body has holds gives
+      after-goes None pc slots rows s ok has holds gives = assigns-all all None None (λ t. true) (λ s slots rows h t values. refl) body pc slots rows s ok_body has holds gives
       after-goes (Some t) pc slots rows s ok has holds gives =
           goes-at table row_count code n many None leave again to (pc + length (forall_mask_code n line over (Some t) ++ cs)) b1 slots (stands table row_count code pc slots rows s.printed)
           (after line (Some t) body axes (product ns) s) long
@@ -284,7 +286,7 @@ module _ (table : ArrayTable) (row_count : ℕ) (code : List Instruction) (n man
           (sym (value-bind line s (each (indices_at axes) (λ u. value (indices_at axes u) s t) (product ns)) (λ vs. Ok (mask_of vs))
           (λ m. assign_all_forall axes (product ns) m body s)))
           (copy-goes table row_count code n many leave again sized line b1 pc to (index_form t) over (ParForallCopy n p) (forall_mask_tuples table.shapes p) refl
-          (has.0, (has.1.0, (has.1.1.0, tt))) slots rows s holds ns (extents-are slots gives) (ap product (extents-are slots gives)) (indices_at axes)
+          (has.0, (has.1.0, (has.1.1.0, tt))) slots rows s holds ns (extents-are slots gives) (ap space_count (extents-are slots gives) ∙ all) all (indices_at axes)
           (λ u. value (indices_at axes u) s t)
           does (λ vs. assign_all_forall axes (product ns) (mask_of vs) body s) goes))
         where
@@ -325,12 +327,12 @@ module _ (table : ArrayTable) (row_count : ℕ) (code : List Instruction) (n man
               let e : pc + 1 + 1 + 1 ≡ pc + 3 = omega arith in
               forget table row_count code n many leave again sized (Some vs) to b1 slots (stands table row_count code (pc + 3) slots rows3 s.printed)
               (assign_all_forall axes (product ns) (mask_of vs) body s)
-              (assigns-all (Some vs) (Some (where_true n true)) (mask_of vs) (asked vs) body (pc + 3) slots rows3 s ok_body (subst (λ at. HasAt code at cs) e has.1.1.1) holds3
+              (assigns-all all (Some vs) (Some (where_true n true)) (mask_of vs) (asked vs) body (pc + 3) slots rows3 s ok_body (subst (λ at. HasAt code at cs) e has.1.1.1) holds3
               gives)
 
   -- ---- the statement
 
-  pub forall-goes : (sized : (layouts : List Layout) (ms : List ℕ) → size_of (table.copies layouts ms) ≡ product ms) (line b pc : ℕ) (controls : List Control) (mask : Option Term)
+  pub forall-goes : (sized : (layouts : List Layout) (ms : List ℕ) → size_of (table.copies layouts ms) ≡ space_count ms) (line b pc : ℕ) (controls : List Control) (mask : Option Term)
       (body : List ElementAssignment) (slots : List ℤ) (rows : Storage) (s : State) → AreControls n controls → IsIndexedMask n mask → AreIndexedAssignments n body
       → HasAt code pc (forall_code n line b controls mask body) → n ≤ b → b + subscripts_slots (triplets controls) ≤ many → Holds table row_count code n many None s slots rows
       → Goes table row_count code n many None leave again (pc + length (forall_code n line b controls mask body)) b slots (stands table row_count code pc slots rows s.printed)
@@ -391,17 +393,7 @@ module _ (table : ArrayTable) (row_count : ℕ) (code : List Instruction) (n man
           → Goes table row_count code n many None leave again to b1 slots1 (stands table row_count code pc1 slots1 rows s.printed) (does axes)
       after_header slots1 axes gives holds1 =
           subst (Goes table row_count code n many None leave again to b1 slots1 (stands table row_count code pc1 slots1 rows s.printed)) (sym (forall-is line mask body axes count s))
-          (goes-then-kept table row_count code n many None leave again (pc1 + 1) to b1 slots1 (stands table row_count code pc1 slots1 rows s.printed) (one_step line s (check test SpaceLimit s)) rest
-          (test-goes None line pc1 b1 (ForallLimits line over' (map index_flat (all_subscripts mask body))) (forall_limits over' (map index_flat (all_subscripts mask body)))
-          test SpaceLimit slots1 rows s at_tail.0 refl limits holds1)
-          (λ slots2 rows2 s2 kept2 holds2.
-          goes-then-kept table row_count code n many None leave again (pc1 + 1 + length c2) to b1 slots2 (stands table row_count code (pc1 + 1) slots2 rows2 s2.printed)
-          (all_one_to_one (count == 0) (index_extents axes) body s2) (after line mask body axes count)
-          (all-one-to-one line b b1 controls axes le refl None body (pc1 + 1) slots2 rows2 s2 ok_body (has-front code (pc1 + 1) c2 c3 at_tail.1) holds2
-          (gives-kept line b b1 controls axes le refl None slots1 slots2 gives kept2))
-          (λ slots3 rows3 s3 kept3 holds3.
-          after-goes line b b1 controls axes le refl sized body ok_body mask (pc1 + 1 + length c2) slots3 rows3 s3 ok_mask (has-back code (pc1 + 1) c2 c3 at_tail.1) holds3
-          (gives-kept line b b1 controls axes le refl None slots2 slots3 (gives-kept line b b1 controls axes le refl None slots1 slots2 gives kept2) kept3))))
+          (by_test test refl)
         where
           count : ℕ
           count = product (index_extents axes)
@@ -422,3 +414,35 @@ module _ (table : ArrayTable) (row_count : ℕ) (code : List Instruction) (n man
               ∙ ap (λ ps. unless_empty (index_extents axes) (is_forall_in_limits (slots_state slots1) ps flats) SpaceLimit) (header-sequences axes)
               ∙ ap (λ b. unless_empty (index_extents axes) (nat_le (product (index_extents axes)) MAX_TUPLES && list_all is_index_in_limits axes && b) SpaceLimit)
               (limits-are n s slots1 holds1.scalars (all_subscripts mask body) (all-in-forall n mask body ok_mask ok_body))
+
+          counted : test ≡ true → space_count (index_extents axes) ≡ count
+          counted is = counted-if count (nat_le count MAX_TUPLES) (by_tests (count == 0) (nat_le count MAX_TUPLES) (list_all is_index_in_limits axes) _ is)
+            where
+              by_tests : (u v w x : Bool) → (u || (v && w && x)) ≡ true → v ≡ false → u ≡ true
+              by_tests true v w x e f = refl
+              by_tests false true w x e f = cc
+              by_tests false false w x e f = cc
+
+          tests : Goes table row_count code n many None leave again (pc1 + 1) b1 slots1 (stands table row_count code pc1 slots1 rows s.printed) (one_step line s (check test SpaceLimit s))
+          tests =
+              test-goes None line pc1 b1 (ForallLimits line over' (map index_flat (all_subscripts mask body))) (forall_limits over' (map index_flat (all_subscripts mask body)))
+              test SpaceLimit slots1 rows s at_tail.0 refl limits holds1
+
+          by_test : (t : Bool) → test ≡ t
+              → Goes table row_count code n many None leave again to b1 slots1 (stands table row_count code pc1 slots1 rows s.printed) (then_do (one_step line s (check test SpaceLimit s)) rest)
+          by_test true is =
+              goes-then-kept table row_count code n many None leave again (pc1 + 1) to b1 slots1 (stands table row_count code pc1 slots1 rows s.printed) (one_step line s (check test SpaceLimit s)) rest
+              tests
+              (λ slots2 rows2 s2 kept2 holds2.
+              goes-then-kept table row_count code n many None leave again (pc1 + 1 + length c2) to b1 slots2 (stands table row_count code (pc1 + 1) slots2 rows2 s2.printed)
+              (all_one_to_one (count == 0) (index_extents axes) body s2) (after line mask body axes count)
+              (all-one-to-one line b b1 controls axes le refl None body (pc1 + 1) slots2 rows2 s2 ok_body (has-front code (pc1 + 1) c2 c3 at_tail.1) holds2
+              (gives-kept line b b1 controls axes le refl None slots1 slots2 gives kept2))
+              (λ slots3 rows3 s3 kept3 holds3.
+              after-goes line b b1 controls axes le refl sized body ok_body (counted is) mask (pc1 + 1 + length c2) slots3 rows3 s3 ok_mask (has-back code (pc1 + 1) c2 c3 at_tail.1)
+              holds3 (gives-kept line b b1 controls axes le refl None slots2 slots3 (gives-kept line b b1 controls axes le refl None slots1 slots2 gives kept2) kept3)))
+          by_test false is =
+              subst (λ t. Goes table row_count code n many None leave again to b1 slots1 (stands table row_count code pc1 slots1 rows s.printed) (then_do (one_step line s (check t SpaceLimit s)) rest))
+              (sym is)
+              (subst (λ t. Goes table row_count code n many None leave again (pc1 + 1) b1 slots1 (stands table row_count code pc1 slots1 rows s.printed) (one_step line s (check t SpaceLimit s)))
+              is tests)

@@ -12,12 +12,13 @@ use Rattle.array_meaning.specs.declared.sections.Selection.{Selection}
 use Rattle.hpf_base.specs.ElementOrder.{product}
 use Rattle.lowering.proofs.Parts.{SubsGive, subscripts-come}
 use Rattle.lowering.proofs.Reach.{HasAt, has-front, has-back, SameBelow, same-refl, Reaches, stands, one, Comes, comes-on, comes-then, comes-at}
-use Rattle.lowering.proofs.Scatter.{space-size}
+use Rattle.lowering.proofs.Scatter.{space-size, space-counted}
 use Rattle.lowering.proofs.Terms.{HoldsScalars, HoldsArrays}
 use Rattle.lowering.specs.ExpressionCode.{own_evaluation, subscripts_slots, subs_of, subscripts_code}
 use Rattle.lowering.specs.WellFormed.{AreScalarSubscripts}
 use Rattle.lowering.specs.StatementCode.{item_code}
 use Rattle.machine_steps.specs.Instr.{Running}
+use Rattle.machine_steps.specs.Space.{space_count}
 use Rattle.machine_steps.specs.Machine.{element_values, value_or_none}
 use Rattle.storage.specs.Storage.{Storage, read}
 use Rattle.node_code.specs.Forms.{SectionForm, Sub, selections_in}
@@ -51,7 +52,7 @@ module _ (table : ArrayTable) (row_count : ℕ) (code : List Instruction) (line 
 
   -- the bytes of a section's elements
   abbrev pub spread : ℕ → List Selection → List ℕ
-  spread a ds = decimals (element_values (read rows) (λ t. spot_of table.shapes a (subscripts_at ds (positions (extents ds) t))) (product (extents ds)))
+  spread a ds = decimals (element_values (read rows) (λ t. spot_of table.shapes a (subscripts_at ds (positions (extents ds) t))) (space_count (extents ds)))
 
   abbrev pub SpreadGives : ℕ → ℕ → List Sub → List ℤ → List ℕ → Type 0
   SpreadGives b a subs slots bytes = (later : List ℤ) → SameBelow b slots later → spread a (selections_in later subs) ≡ bytes
@@ -79,9 +80,15 @@ module _ (table : ArrayTable) (row_count : ℕ) (code : List Instruction) (line 
       limits : evaluation_size p slots ≡ space_size ns (ds ∷ [])
       limits = ap (λ x. space_size (extents x) (x ∷ [])) here
 
-      by_inside : (q : Result (List ℕ) Cause) → all_inside table.shapes a ds ≡ q → Comes table row_count code line rows out (pc + 1) (pc + 2) b slots (SpreadGives b a subs)
+      in_bounds : ℕ → Result (List ℕ) Cause
+      in_bounds count = each (positions ns) (λ t. if_in_bounds (element_place (shape_of table.shapes a) (subscripts_at ds (positions ns t)))) count
+
+      listed : ℕ → List ℕ
+      listed count = decimals (element_values (read rows) (λ t. spot_of table.shapes a (subscripts_at ds (positions ns t))) count)
+
+      by_inside : space_count ns ≡ product ns → (q : Result (List ℕ) Cause) → in_bounds (product ns) ≡ q → Comes table row_count code line rows out (pc + 1) (pc + 2) b slots (SpreadGives b a subs)
           (q >>= (λ ks. Ok (element_values (read rows) (λ t. spot_of table.shapes a (subscripts_at ds (positions ns t))) (product ns))) >>= pair >>= second)
-      by_inside (Ok ks) e =
+      by_inside all (Ok ks) e =
           let at : pc + 1 + 1 ≡ pc + 2 = omega arith in (
             slots,
             subst (λ to. Reaches table row_count code (stands table row_count code (pc + 1) slots rows out) (stands table row_count code to slots rows out)) at
@@ -90,19 +97,19 @@ module _ (table : ArrayTable) (row_count : ℕ) (code : List Instruction) (line 
                   i,
                   one table row_count code (pc + 1) slots rows out (Inside line a subs) has.1.0 i
                       ∙ ap (λ q. record (stands table row_count code (pc + 1) slots rows out i)
-                      { control = go_on_if {A = List ℕ} (at_line line q) (record { at = pc + 1; slots = slots; status = Running }) }) (ap (all_inside table.shapes a) here ∙ e),
+                      { control = go_on_if {A = List ℕ} (at_line line q) (record { at = pc + 1; slots = slots; status = Running }) }) (ap (all_inside table.shapes a) here ∙ ap in_bounds all ∙ e),
                 )),
             same-refl b slots,
-            (λ later same. ap (spread a) (gives later same)),
+            (λ later same. ap (spread a) (gives later same) ∙ ap listed all),
           )
-      by_inside (Err c) e =
+      by_inside all (Err c) e =
           λ i. (
             _,
             (
               1,
               one table row_count code (pc + 1) slots rows out (Inside line a subs) has.1.0 i
                   ∙ ap (λ q. record (stands table row_count code (pc + 1) slots rows out i)
-                  { control = go_on_if {A = List ℕ} (at_line line q) (record { at = pc + 1; slots = slots; status = Running }) }) (ap (all_inside table.shapes a) here ∙ e),
+                  { control = go_on_if {A = List ℕ} (at_line line q) (record { at = pc + 1; slots = slots; status = Running }) }) (ap (all_inside table.shapes a) here ∙ ap in_bounds all ∙ e),
             ),
             refl,
             refl,
@@ -124,7 +131,7 @@ module _ (table : ArrayTable) (row_count : ℕ) (code : List Instruction) (line 
           (sym (space-size ns (ds ∷ []) k e))
           (subst (λ r. Comes table row_count code line rows out (pc + 1) (pc + 2) b slots (SpreadGives b a subs) (r >>= pair >>= second))
           (sym (elements-are a (positions ns) (λ t. subscripts_at ds (positions ns t)) (product ns) la))
-          (by_inside (all_inside table.shapes a ds) refl)))
+          (by_inside (space-counted ns (ds ∷ []) k e) (in_bounds (product ns)) refl)))
       by_limits (Err c) e =
           λ i. (
             _,

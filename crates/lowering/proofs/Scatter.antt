@@ -1,21 +1,24 @@
 -- A parallel statement and its Verdict: the values first and then the stores, or the first fault in the order of tuples.
-use Rattle.std.proofs.Common.{◌≡◌, ℕ, zero, suc, ◌+◌, ◌<◌, List, [], ◌∷◌, ◌++◌, map, length, ℤ, pos, Bool, true, false, if◌then◌else◌, Option, Some, None, Result, Ok, Err, refl, sym, ap, ◌∙◌, arith, length-append, append_assoc, append-nil, slice_index_or, option_map}
+use Rattle.std.proofs.Common.{◌≡◌, ℕ, zero, suc, ◌+◌, ◌<◌, List, [], ◌∷◌, ◌++◌, map, length, ℤ, pos, nat_le, ◌==◌, ◌||◌, ◌&&◌, Bool, true, false, if◌then◌else◌, Option, Some, None, Result, Ok, Err, refl, sym, ap, ◌∙◌, arith, length-append, append_assoc, append-nil, slice_index_or, option_map}
 use Rattle.std.specs.Bool.{⊤}
+use Rattle.std.proofs.lemmas.Bool.{eqb-true}
 use Rattle.std.proofs.lemmas.List.{length-map}
 use Rattle.std.specs.List.{list_all}
 use Rattle.array_meaning.specs.ArrayAssignments.{store_at}
 use Rattle.array_meaning.specs.Elementals.{Elemental, Same, Selected, Operation, Elementals, NoOperand, Operand, value_at, values_at, operated, each}
 use Rattle.array_meaning.specs.Faults.{Cause, Fault, ◌>>=◌, fails, at_tuple, with_more}
-use Rattle.array_meaning.specs.Sections.{subscripts_at, space_size, is_space_in_limits, is_conformable}
+use Rattle.array_meaning.specs.Sections.{subscripts_at, space_size, is_space_in_limits, is_selection_in_limits, is_conformable}
 use Rattle.array_meaning.specs.State.{State, array, element, element_place, if_in_bounds, stored, store_all}
 use Rattle.array_meaning.specs.declared.faults.FaultKind.TheVariants.{Shape, SpaceLimit}
 use Rattle.array_meaning.specs.declared.sections.Selection.{Selection}
 use Rattle.array_meaning.specs.declared.sections.Store.{Store}
 use Rattle.expression_rules.specs.declared.dims.Dim.{Dim}
+use Rattle.hpf_base.specs.declared.limits.TheConstants.{MAX_TUPLES}
 use Rattle.hpf_base.specs.ElementOrder.{product}
 use Rattle.lowering.proofs.Goes.{Holds, holds-store}
 use Rattle.lowering.proofs.Terms.{HoldsArrays}
 use Rattle.machine_steps.specs.Instr.{Outcome}
+use Rattle.machine_steps.specs.Space.{space_count}
 use Rattle.machine_steps.specs.Machine.{effect_by, value_by}
 use Rattle.lowering.proofs.Keeping.{IsOutcome}
 use Rattle.storage.specs.Effect.{Effect, Skip, Put, Fail, scatter}
@@ -31,6 +34,21 @@ space-size ns parts k e = by_tests (list_all (is_conformable ns) parts) (is_spac
     by_tests true true e = cc
     by_tests true false e = cc
     by_tests false u e = cc
+
+-- and all of them are done
+pub counted-if : (count : ℕ) (within : Bool) → (within ≡ false → (count == 0) ≡ true) → (if within then count else 0) ≡ count
+counted-if count true h = refl
+counted-if count false h = sym (eqb-true count 0 (h refl))
+
+pub space-counted : (ns : List ℕ) (parts : List (List Selection)) (k : ℕ) → space_size ns parts ≡ Ok k → space_count ns ≡ product ns
+space-counted ns parts k e = counted-if (product ns) (nat_le (product ns) MAX_TUPLES)
+    (by_tests (list_all (is_conformable ns) parts) (product ns == 0) (nat_le (product ns) MAX_TUPLES) (list_all (list_all is_selection_in_limits) parts) e)
+  where
+    by_tests : (t u v w : Bool) → (if t then (if u || (v && w) then Ok (product ns) else fails SpaceLimit) else fails Shape) ≡ Ok k → v ≡ false → u ≡ true
+    by_tests true true v w e f = refl
+    by_tests true false true w e f = cc
+    by_tests true false false w e f = cc
+    by_tests false u v w e f = cc
 
 -- what is stored at a tuple, as an effect
 abbrev pub effect_for : ℕ → ℕ → Result (Option Store) Cause → Effect Fault

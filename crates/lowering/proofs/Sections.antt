@@ -15,11 +15,12 @@ use Rattle.lowering.proofs.Goes.{Holds, kept-refl, Goes, goes-on, goes-at, goes-
 use Rattle.lowering.proofs.Parts.{SubsGive, FormGives, subscripts-come, parts-come}
 use Rattle.lowering.proofs.Reach.{HasAt, has-front, has-back, SameBelow, same-refl, same-on, stands, one, Place}
 use Rattle.lowering.proofs.Storing.{masked-does, stores-go}
-use Rattle.lowering.proofs.Scatter.{space-size, Does, values_of, NamesBelow}
+use Rattle.lowering.proofs.Scatter.{space-size, space-counted, Does, values_of, NamesBelow}
 use Rattle.lowering.specs.ExpressionCode.{subscripts_slots, subs_of, subscripts_code, parts_slots, parts_code, form_of}
 use Rattle.lowering.specs.WellFormed.{AreScalarSubscripts, IsArray}
 use Rattle.lowering.specs.StatementCode.{assignment, assignment_code}
 use Rattle.machine_steps.specs.Instr.{Running}
+use Rattle.machine_steps.specs.Space.{space_count}
 use Rattle.machine_steps.specs.Instr.{Outcome}
 use Rattle.machine_steps.specs.Machine as machine
 use Rattle.machine_steps.specs.Machine.{effect_of, value_by}
@@ -55,14 +56,14 @@ module _ (table : ArrayTable) (row_count : ℕ) (code : List Instruction) (n man
     end at rows = stands table row_count code at slots rows s.printed
 
     -- after the limits: the parallel statement and its Verdict
-    par-goes : Goes table row_count code n many copy leave again (pc + 3) b slots (end (pc + 1) rows)
+    par-goes : space_count ns ≡ product ns → Goes table row_count code n many copy leave again (pc + 3) b slots (end (pc + 1) rows)
         (one_step p.line s (each (positions ns) at_a_tuple (product ns) >>= (λ stores. Ok (store_all s p.array stores))))
-    par-goes =
+    par-goes all =
         let e : pc + 1 + 2 ≡ pc + 3 = omega arith in
         goes-at table row_count code n many copy leave again (pc + 1 + 2) (pc + 3) b slots (end (pc + 1) rows)
         (one_step p.line s (each (positions ns) at_a_tuple (product ns) >>= (λ stores. Ok (store_all s p.array stores)))) e
         (stores-go table row_count code n many copy leave again (Par p) (assignment_tuples table.shapes p) (assigned_spot table.shapes p) refl p.line p.array b
-        (pc + 1) la has.1 slots rows s holds (product ns) (ap product over) (positions ns) at_a_tuple tuple-is)
+        (pc + 1) la has.1 slots rows s holds (product ns) (ap space_count over ∙ all) (positions ns) at_a_tuple tuple-is)
 
     -- the shapes and limits first
     pub assigned-goes : Goes table row_count code n many copy leave again (pc + 3) b slots (end pc rows) (one_step p.line s (assign_elemental ns chosen p.array ds r s))
@@ -91,7 +92,7 @@ module _ (table : ArrayTable) (row_count : ℕ) (code : List Instruction) (n man
             ))
             (kept-refl table row_count code n many copy b slots)
             (subst (λ k. Goes table row_count code n many copy leave again (pc + 3) b slots (end (pc + 1) rows)
-            (one_step p.line s (each (positions ns) at_a_tuple k >>= (λ stores. Ok (store_all s p.array stores))))) (sym many') par-goes)
+            (one_step p.line s (each (positions ns) at_a_tuple k >>= (λ stores. Ok (store_all s p.array stores))))) (sym many') (par-goes (space-counted ns (ds ∷ sections r) k e)))
         by_limits (Err c) e =
             λ i. (
               _,

@@ -1,8 +1,8 @@
 -- The code of a block does what the block means.
 use Rattle.std.proofs.Common.{◌≡◌, ℕ, ◌+◌, ◌<◌, ◌≤◌, List, [], ◌∷◌, ◌++◌, drop, length, ℤ, None, Ok, refl, sym, ap, ◌∙◌, subst, arith, length-append, slice_set, length-set}
 use Rattle.std.specs.Fmt.{signed_decimal}
-use Rattle.hpf_base.specs.ElementOrder.{product}
 use Rattle.machine_steps.specs.Layout.{Layout, size_of}
+use Rattle.machine_steps.specs.Space.{space_count}
 use Rattle.lowering.proofs.Printing.{all_bytes, prints-line}
 use Rattle.lowering.specs.WellFormed.{AreItems, IsWellFormed, AreWellFormedArms, IsWellFormedBlock}
 use Rattle.lowering.proofs.Foralls.{forall-goes}
@@ -32,7 +32,7 @@ use Rattle.node_code.specs.Flat.{slot, Flat}
 use Rattle.node_code.specs.Instructions.{items_of, Instruction, Set, Jump, Halt, Print, PrintItem, PrintBytes, ArrayTable}
 use Rattle.array_meaning.specs.Statements as statements
 
-module _ (table : ArrayTable) (row_count : ℕ) (code : List Instruction) (n many : ℕ) (sized : (layouts : List Layout) (ns : List ℕ) → size_of (table.copies layouts ns) ≡ product ns) where
+module _ (table : ArrayTable) (row_count : ℕ) (code : List Instruction) (n many : ℕ) (sized : (layouts : List Layout) (ns : List ℕ) → size_of (table.copies layouts ns) ≡ space_count ns) where
   -- ---- PRINT
 
   abbrev ShowsAll : Storage → ℕ → List PrintItem → List ℤ → List ℕ → Type 0

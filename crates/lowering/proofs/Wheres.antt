@@ -1,6 +1,7 @@
 -- The code of a WHERE does what it means.
 use Rattle.std.proofs.Common.{max, ◌≡◌, ℕ, ◌+◌, ◌≤◌, List, [], ◌∷◌, ◌++◌, length, ℤ, pos, Bool, true, false, Option, Some, None, Result, Ok, Err, refl, sym, ap, ◌∙◌, subst, arith, length-append, slice_index_or}
 use Rattle.machine_steps.specs.Layout.{Layout, size_of}
+use Rattle.machine_steps.specs.Space.{space_count}
 use Rattle.machine_steps.specs.Instr.{Running}
 use Rattle.lowering.proofs.Evaluating.{own-shape, own-limits, own-outcome}
 use Rattle.lowering.proofs.Copies.{copy-goes}
@@ -19,7 +20,7 @@ use Rattle.lowering.proofs.Goes.{Holds, kept-refl, Goes, Flows, goes-on, goes-at
 use Rattle.lowering.proofs.Masks.{FirstWithin, first-within, first-kept}
 use Rattle.lowering.proofs.Parts.{FormGives, parts-come}
 use Rattle.lowering.proofs.Reach.{HasAt, has-front, has-back, has-drop, same-refl, stands, one, Place}
-use Rattle.lowering.proofs.Scatter.{NamesBelow, space-size}
+use Rattle.lowering.proofs.Scatter.{NamesBelow, space-size, space-counted}
 use Rattle.lowering.proofs.Sections.{assignment-goes}
 use Rattle.lowering.specs.ExpressionCode.{own_evaluation, first_subs, or_no_sub, parts_slots, parts_code, form_of}
 use Rattle.lowering.specs.WellFormed.{AreMasked, IsArray}
@@ -31,7 +32,7 @@ use Rattle.node_code.specs.Parallel.{When, evaluation_tuples, at_line, Evaluatio
 use Rattle.op_tables.specs.Operators.{is_true}
 use Rattle.array_meaning.specs.Runs as runs
 
-module _ (table : ArrayTable) (row_count : ℕ) (code : List Instruction) (n many leave again : ℕ) (sized : (layouts : List Layout) (ns : List ℕ) → size_of (table.copies layouts ns) ≡ product ns) where
+module _ (table : ArrayTable) (row_count : ℕ) (code : List Instruction) (n many leave again : ℕ) (sized : (layouts : List Layout) (ns : List ℕ) → size_of (table.copies layouts ns) ≡ space_count ns) where
   -- the copy isn't kept any longer
   pub forget : (copy : Option (List ℤ)) (to b : ℕ) (slots : List ℤ) (m : Place row_count) (r : Run) → Goes table row_count code n many copy leave again to b slots m r
       → Goes table row_count code n many None leave again to b slots m r
@@ -167,12 +168,12 @@ module _ (table : ArrayTable) (row_count : ℕ) (code : List Instruction) (n man
               (λ slots4 rows4 s4 kept holds4. masked-go others b1 mid first false vs ns slots4 rows4 s4 ok2 (has-back code (pc1 + 4) cb co at_bodies) (omega (arith, le))
               (omega (arith, few)) holds4 within (sym (first-kept n b1 first slots1 slots4 within kept) ∙ shape)))
 
-          by_values : (k : ℕ) → k ≡ count → Goes table row_count code n many None leave again to b1 slots1 m0 (with_value line s (values_over s ns r k >>= (λ vs. Ok (valued vs))) does)
-          by_values k e =
+          by_values : (k : ℕ) → k ≡ count → space_count ns ≡ count → Goes table row_count code n many None leave again to b1 slots1 m0 (with_value line s (values_over s ns r k >>= (λ vs. Ok (valued vs))) does)
+          by_values k e all =
               subst (λ k. Goes table row_count code n many None leave again to b1 slots1 m0 (with_value line s (values_over s ns r k >>= (λ vs. Ok (valued vs))) does)) (sym e)
               (subst (Goes table row_count code n many None leave again to b1 slots1 m0) (sym (value-bind line s (values_over s ns r count) (λ vs. Ok (valued vs)) does))
               (copy-goes table row_count code n many leave again sized line b1 (pc1 + 1) to (form_of b mask) p.over (ParCopy n p) (evaluation_tuples table.shapes p) refl at_copy slots1 rows
-              s holds1 ns shape (ap product shape) (positions ns) (λ t. value_at s (positions ns t) r)
+              s holds1 ns shape (ap space_count shape ∙ all) all (positions ns) (λ t. value_at s (positions ns t) r)
               (λ rows1 arrays u. own-outcome n table.shapes s rows1 arrays line (form_of b mask) slots1 r right named u) (λ vs. does (valued vs))
               (λ vs rows3 holds3. let e : pc1 + 1 + 3 ≡ pc1 + 4 = omega arith in subst
               (λ at. Goes table row_count code n many None leave again to b1 slots1 (stands table row_count code at slots1 rows3 s.printed) (does (valued vs))) (sym e)
@@ -191,7 +192,7 @@ module _ (table : ArrayTable) (row_count : ℕ) (code : List Instruction) (n man
                     { control = go_on_if {A = ℕ} (at_line line q) (record { at = pc1; slots = slots1; status = Running }) })
                     (own-limits n table.shapes s rows holds1.arrays line (form_of b mask) slots1 r right named ∙ e),
               ))
-              (kept-refl table row_count code n many None b1 slots1) (by_values k (space-size ns (sections r) k e))
+              (kept-refl table row_count code n many None b1 slots1) (by_values k (space-size ns (sections r) k e) (space-counted ns (sections r) k e))
           by_limits (Err c) e =
               λ i. (
                 _,

@@ -1,6 +1,5 @@
 -- What it is for a program to be lowered: the machine over its code ends as it does.
 use Rattle.std.specs.Prelude.{◌≡◌, ℕ, ◌<◌, List, [], ◌++◌, length, map, replicate, slice_index_or, ℤ, pos, None}
-use Rattle.hpf_base.specs.ElementOrder.{product}
 use Rattle.storage.specs.Storage.{row_of}
 use Rattle.array_meaning.specs.Faults.{Fault}
 use Rattle.array_meaning.specs.State.{State, scalar, array}
@@ -10,6 +9,7 @@ use Rattle.array_meaning.specs.Runs.{Completion, Run}
 use Rattle.array_meaning.specs.Serial as serial
 use Rattle.array_meaning.specs.Serial.{Outcome}
 use Rattle.machine_steps.specs.Layout.{Layout, size_of}
+use Rattle.machine_steps.specs.Space.{space_count}
 use Rattle.machine_steps.specs.Instr.{Running, Finished, Faulted}
 use Rattle.machine_steps.specs.Machine.{Machine, steps}
 use Rattle.node_code.specs.Flat.{slot}
@@ -37,10 +37,10 @@ opening n room body s layouts = record {
   printed = s.printed;
 }
 
--- the arrays as declared, and copies with a layout that has room for their elements
+-- the arrays as declared, and copies with a layout that has an element for each tuple of their space
 pub record IsTable (s : State) (table : ArrayTable) : Type 0 where
   pub shapes : table.shapes ≡ map (λ a. a.dims) s.arrays
-  pub copies : (layouts : List Layout) (extents : List ℕ) → size_of (table.copies layouts extents) ≡ product extents
+  pub copies : (layouts : List Layout) (extents : List ℕ) → size_of (table.copies layouts extents) ≡ space_count extents
 
 -- the slots of the declared names are the scalars, and the rows the arrays, of which there are as many as names
 abbrev pub IsLeft : ℕ → Machine Instruction Fault → State → Type 0

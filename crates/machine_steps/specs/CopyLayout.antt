@@ -4,13 +4,13 @@ use Rattle.hpf_base.specs.declared.index.Shape.{Shape}
 use Rattle.mappings.specs.declared.mapping.AlignDim.TheVariants.{Linear}
 use Rattle.mappings.specs.declared.mapping.MapDim.{MapDim}
 use Rattle.mappings.specs.declared.mapping.Mapping.{Mapping}
-use Rattle.hpf_base.specs.ElementOrder.{product}
 use Rattle.mappings.specs.Owner.{block_line}
 use Rattle.machine_steps.specs.Layout.{Layout}
+use Rattle.machine_steps.specs.Space.{space_count}
 
--- the extents that a copy has: all are 0 where it has no elements
+-- the extents that a copy has: all are 0 where its space is empty
 abbrev pub copy_extents : List ℕ → List ℕ
-copy_extents extents = if product extents == 0 then map (λ extent. 0) extents else extents
+copy_extents extents = if space_count extents == 0 then map (λ extent. 0) extents else extents
 
 -- its lower bounds are 1
 abbrev pub copy_shape : List ℕ → Shape
@@ -28,6 +28,10 @@ copy_dims nodes (extent ∷ extents) = record {
 abbrev pub copy_mapping : ℕ → List ℕ → Mapping
 copy_mapping nodes extents = record { grid = nodes ∷ []; dims = copy_dims nodes extents }
 
--- a copy of these extents on so many nodes, each of which has one block of its last index, of max 1 (ceil(extent / nodes)) positions
+-- with these extents on so many nodes, each of which has one block of its last index, of max 1 (ceil(extent / nodes)) positions
+abbrev pub layout_of : (nodes : ℕ) → (extents : List ℕ) → Layout
+layout_of nodes extents = record { shape = copy_shape extents; mapping = copy_mapping nodes extents }
+
+-- a copy with a value for each tuple of a space of these extents
 abbrev pub copy_layout : (nodes : ℕ) → (extents : List ℕ) → Layout
-copy_layout nodes extents = record { shape = copy_shape (copy_extents extents); mapping = copy_mapping nodes (copy_extents extents) }
+copy_layout nodes extents = layout_of nodes (copy_extents extents)

@@ -1,5 +1,5 @@
 -- How the elements of an array or of a copy lie on the nodes, and what a node holds of them.
-use Rattle.std.specs.Prelude.{ℕ, zero, suc, ◌+◌, ◌<◌, ◌≡◌, Bool, true, List, [], ◌∷◌, map, if◌then◌else◌, ℤ, Option, Some, None, nat_lt, slice_index_or}
+use Rattle.std.specs.Prelude.{ℕ, zero, suc, ◌+◌, ◌<◌, ◌≡◌, Bool, true, false, ◌&&◌, List, [], ◌∷◌, map, if◌then◌else◌, ℤ, Option, Some, None, nat_lt, slice_index_or}
 use Rattle.hpf_base.specs.declared.index.Shape.{Shape}
 use Rattle.mappings.specs.declared.mapping.Mapping.{Mapping}
 use Rattle.mappings.specs.Alignment.{owns}
@@ -19,17 +19,18 @@ size_of layout = product (extents_of layout.shape)
 abbrev pub element_index : Shape → ℕ → List ℤ
 element_index shape at = slice_index_or (elements shape) at []
 
--- whether a node owns a position. No law on runs looks in here: they hold whoever owns what, and where an element has several owners
+-- whether a node owns a position: one of an element that the mapping gives it. No law on runs looks in here: they hold whoever owns what,
+-- and where an element has several owners
 unfoldable pub owned_by : Layout → ℕ → ℕ → Bool
-owned_by layout node at = owns layout.mapping (element_index layout.shape at) node
+owned_by layout node at = nat_lt at (size_of layout) && owns layout.mapping (element_index layout.shape at) node
 
--- where a row has no layout, every node owns every position
-abbrev pub by_all : ℕ → ℕ → Bool
-by_all node at = true
+-- where a row has no layout, it has no elements, and none is owned
+abbrev pub by_none : ℕ → ℕ → Bool
+by_none node at = false
 
 -- who owns the positions of a row
 abbrev pub owned_in : List Layout → ℕ → ℕ → ℕ → Bool
-owned_in [] row = by_all
+owned_in [] row = by_none
 owned_in (layout ∷ layouts) zero = owned_by layout
 owned_in (layout ∷ layouts) (suc row) = owned_in layouts row
 
@@ -77,7 +78,7 @@ address layouts node spot = count_passing (owned_in layouts spot.row node) 0 spo
 -- a node's pieces of all rows
 abbrev pub pieces : List Layout → ℕ → Storage → Storage
 pieces layouts node [] = []
-pieces [] node (row ∷ rows) = piece by_all node row ∷ pieces [] node rows
+pieces [] node (row ∷ rows) = piece by_none node row ∷ pieces [] node rows
 pieces (layout ∷ layouts) node (row ∷ rows) = piece (owned_by layout) node row ∷ pieces layouts node rows
 
 -- every position has an owner among so many nodes

@@ -8,4 +8,5 @@ pub mod Node
 pub mod Parted
 pub mod Rounds
 pub mod SameLayouts
+pub mod Space
 pub mod Tree

@@ -1,10 +1,10 @@
 -- The machine with whole arrays: one state, no nodes and no letters. A step is one instruction, or one step of a Reduce or a Print.
 use Rattle.std.specs.Prelude.{ℕ, zero, suc, ◌+◌, ◌==◌, ◌&&◌, ◌||◌, Bool, false, ℤ, pos, List, [], ◌∷◌, ◌++◌, map, length, replicate, Option, Some, None, Result, Ok, Err, slice_index_or, slice_set, nat_lt, if◌then◌else◌}
 use Rattle.std.specs.List.{slice_get, fold}
+use Rattle.std.specs.Ordering.{int_eq}
 use Rattle.mappings.specs.declared.mapping.Mapping.{Mapping}
 use Rattle.storage.specs.Storage.{Storage, Spot, row_of, read, write}
 use Rattle.storage.specs.Effect.{Effect, Skip, Put, Fail, scatter}
-use Rattle.storage.specs.Truth.{is_set}
 use Rattle.machine_steps.specs.Layout.{Layout, size_of}
 use Rattle.machine_steps.specs.Instr.{Status, Running, Finished, Faulted, Control, Outcome, Nothing, Value, Breaks, Tuples, Fold, Remapping, Item, Text, Elements, Instr, Local, Fetch, Store, Par, Verdict, Reduce, MakeCopy, FoldCopy, LastCopy, Remap, Print}
 
@@ -147,11 +147,14 @@ lie_alike alike (Some one) (Some other) = alike one other
 lie_alike alike (Some one) None = false
 lie_alike alike None other = false
 
--- an element of the copy at the last position where the other copy isn't 0
+abbrev pub is_one : ℤ → Bool
+is_one v = int_eq v (pos 1)
+
+-- an element of the copy at the last position where the other copy is 1
 abbrev pub last_of : (Layout → Layout → Bool) → List Layout → Storage → (copy set : ℕ) → Option ℤ
 last_of alike layouts rows copy set =
     if lie_alike alike (slice_get layouts copy) (slice_get layouts set)
-    then last_passing (λ at. is_set (read rows (record { row = set; at = at }))) (λ at. read rows (record { row = copy; at = at })) (length (row_of rows copy))
+    then last_passing (λ at. is_one (read rows (record { row = set; at = at }))) (λ at. read rows (record { row = copy; at = at })) (length (row_of rows copy))
     else None
 
 -- ---- layouts

@@ -9,10 +9,9 @@ use Rattle.letters.specs.declared.letter.Letter.{Letter}
 use Rattle.letters.specs.Parcel.{Parcel}
 use Rattle.storage.specs.Storage.{Storage, Spot, read, write}
 use Rattle.storage.specs.Effect.{Effect, Skip, Put, Fail}
-use Rattle.storage.specs.Truth.{is_set}
 use Rattle.machine_steps.specs.Layout.{Layout, size_of, sizes, owned_by, owned_in, owns_spot, least_owner_of, piece, address}
 use Rattle.machine_steps.specs.Instr.{Status, Running, Finished, Faulted, Control, Outcome, Nothing, Value, Breaks, Tuples, Fold, Rounds, Remapping, Item, Text, Elements, Instr, Local, Fetch, Store, Par, Verdict, Reduce, MakeCopy, FoldCopy, LastCopy, Remap, Print}
-use Rattle.machine_steps.specs.Machine.{Kept, on, stay, faulted, slot_of, set_slot, store_control, verdict_control, last_control, picked, store_in, outcome_of, effect_by, earlier, keep, lie_alike, last_passing, remapped, item_bytes, instr_at}
+use Rattle.machine_steps.specs.Machine.{Kept, on, stay, faulted, slot_of, set_slot, store_control, verdict_control, last_control, picked, store_in, outcome_of, effect_by, earlier, keep, lie_alike, is_one, last_passing, remapped, item_bytes, instr_at}
 use Rattle.machine_steps.specs.Message.{Part, par_part, reduce_part, gather_part, fetch_part, message, remap_message, has_any, lookup}
 use Rattle.machine_steps.specs.Tree.{levels_of, tree_sends}
 
@@ -325,7 +324,7 @@ module _ {C F : Type 0} (count : ℕ) where
   own_last copy set alike a =
       if lie_alike alike (slice_get a.layouts copy) (slice_get a.layouts set)
       then last_passing
-      (λ at. owns_spot a.layouts a.id (record { row = copy; at = at }) && is_set (local_read a.layouts a.id a.pieces (record { row = set; at = at })))
+      (λ at. owns_spot a.layouts a.id (record { row = copy; at = at }) && is_one (local_read a.layouts a.id a.pieces (record { row = set; at = at })))
       (λ at. record { at = at; value = local_read a.layouts a.id a.pieces (record { row = copy; at = at }) })
       (slice_index_or (sizes a.layouts) copy 0)
       else None

@@ -1,7 +1,6 @@
 -- The instructions of node code, and what each does on the machine with whole arrays.
 use Rattle.std.specs.Prelude.{ℕ, zero, suc, ◌+◌, List, [], ◌∷◌, ◌++◌, drop, slice_get, slice_set, ℤ, pos, Bool, true, false, Option, Some, None, Result, Ok, Err, if◌then◌else◌}
 use Rattle.std.specs.Fmt.{signed_decimal}
-use Rattle.hpf_base.specs.ElementOrder.{product}
 use Rattle.op_tables.specs.declared.join.Join.{Join}
 use Rattle.op_tables.specs.declared.reductions.Reduction.{Reduction}
 use Rattle.op_tables.specs.Operators.{wrapped, is_zero, is_true}
@@ -21,6 +20,7 @@ use Rattle.machine_steps.specs.Instr as machine
 use Rattle.machine_steps.specs.Instr.{Instr, Local, Control, Remapping, Rounds}
 use Rattle.machine_steps.specs.Machine.{on, faulted, set_slot}
 use Rattle.machine_steps.specs.SameLayouts.{is_same_layout}
+use Rattle.machine_steps.specs.Space.{space_count}
 use Rattle.node_code.specs.Flat.{Flat, Flats, slot, flat_value, flat_values, slots_value}
 use Rattle.node_code.specs.Forms.{Sub, selections_in}
 use Rattle.node_code.specs.Parallel.{at_line, shape_of, spot_of, Assignment, assignment_size, assignment_tuples, assigned_spot, Evaluation, evaluation_extents, evaluation_size, evaluation_tuples, reduction_tuples, fold_of, copy_spot, forall_tuples, forall_spot, forall_mask_tuples}
@@ -80,7 +80,7 @@ pub data Instruction : Type 0 where
   Print : List PrintItem → Instruction
   -- a slot is joined with the elements of a copy, joined
   FoldCopy : (copy : ℕ) → Join → (slot : ℕ) → Instruction
-  -- a slot gets the element of a copy at the last position where the copy `set` isn't 0, if there is one and the two lie alike
+  -- a slot gets the element of a copy at the last position where the copy `set` is 1, if there is one and the two lie alike
   LastCopy : (copy set slot : ℕ) → Instruction
   -- arrays get new mappings, one after another (HPF 2.0, 8.3)
   Remap : (line : ℕ) → List NewMapping → Instruction
@@ -123,7 +123,7 @@ module _ (shapes : List (List Dim)) where
   abbrev pub all_inside : ℕ → List Selection → Result (List ℕ) Cause
   all_inside a ds =
       each (positions (extents ds)) (λ t. if_in_bounds (element_place (shape_of shapes a) (subscripts_at ds (positions (extents ds) t))))
-      (product (extents ds))
+      (space_count (extents ds))
 
   -- its elements, in array element order
   abbrev pub section_spot : ℕ → List Sub → List ℤ → ℕ → Option Spot
@@ -133,7 +133,7 @@ module _ (shapes : List (List Dim)) where
   abbrev pub item_of : PrintItem → machine.Item
   item_of (PrintBytes bytes) = machine.Text (λ slots. 32 ∷ bytes)
   item_of (PrintNumber f) = machine.Text (λ slots. 32 ∷ signed_decimal (slots_value slots f))
-  item_of (PrintSection a subs) = machine.Elements (λ slots. product (extents (selections_in slots subs))) (section_spot a subs) decimals
+  item_of (PrintSection a subs) = machine.Elements (λ slots. space_count (extents (selections_in slots subs))) (section_spot a subs) decimals
 
   abbrev pub items_of : List PrintItem → List machine.Item
   items_of [] = []

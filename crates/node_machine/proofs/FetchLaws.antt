@@ -1,5 +1,5 @@
 -- The messages of the phase in which all nodes fetch one element.
-use Rattle.std.proofs.Common.{nat_eq, ◌≡◌, ℕ, zero, suc, ◌+◌, ◌<◌, ◌≤◌, ◌==◌, ◌&&◌, not, Bool, true, false, if◌then◌else◌, ℤ, pos, List, [], ◌∷◌, ◌++◌, map, get_or, slice_index_or, refl, sym, ◌∙◌, ap, arith, ⊎_elim, eq-eqb, ne_eqb}
+use Rattle.std.proofs.Common.{nat_eq, ◌≡◌, ℕ, zero, suc, ◌+◌, ◌<◌, ◌≤◌, ◌==◌, ◌&&◌, not, Bool, true, false, if◌then◌else◌, ℤ, pos, List, [], ◌∷◌, ◌++◌, map, get_or, slice_index_or, refl, sym, ◌∙◌, ap, subst, arith, ⊎_elim, eq-eqb, ne_eqb}
 use Rattle.std.specs.List.{range_with_len, filter}
 use Rattle.std.proofs.lemmas.Bool.{eqb-true, cases_eq}
 use Rattle.std.proofs.lemmas.List.Elements.{filter-append}
@@ -8,6 +8,7 @@ use Rattle.storage.specs.Storage.{is_same_spot}
 use Rattle.machine_steps.specs.Layout.{Layout, least_owner_of, owns_spot, sizes}
 use Rattle.machine_steps.specs.Message.{fetch_part, has_any, lookup, message, needs, spots_from}
 use Rattle.machine_steps.specs.Node.{held_or_received, local_read, parcel, part_sends}
+use Rattle.machine_steps.proofs.Owners.{spot-below}
 use Rattle.node_machine.specs.Fetches.{fetch_sends}
 
 same-spot : (x s : Spot) → is_same_spot x s ≡ true → x ≡ s
@@ -57,6 +58,21 @@ module _ (P : Spot → Bool) (spot : Spot) (is : (s : Spot) → P s ≡ is_same_
       (λ (ne : spot.at ≡ lo → ⊥). rw (is (in_row row lo), other-place spot row lo ne) (row-one row n (lo + 1) e (omega (arith, ne, le)) (omega arith)))
       (cases_eq spot.at lo)
 
+  row-before : (row n lo : ℕ) → lo + n ≤ spot.at → filter P (map (in_row row) (range_with_len lo n)) ≡ []
+  row-before row zero lo le = refl
+  row-before row (suc n) lo le = rw (is (in_row row lo), other-place spot row lo (λ e. omega (arith, e, le))) (row-before row n (lo + 1) (omega arith))
+
+  -- nothing passes, where the element isn't there
+  none-there : (sizes : List ℕ) (lo : ℕ) → ((k : ℕ) → spot.row ≡ lo + k → get_or sizes k 0 ≤ spot.at) → filter P (spots_from lo sizes) ≡ []
+  none-there [] lo h = refl
+  none-there (size ∷ sizes) lo h =
+      let here : filter P (map (in_row lo) (range_with_len 0 size)) ≡ [] = ⊎_elim
+      (λ (e : spot.row ≡ lo). let few = h 0 (omega (arith, e)) in row-before lo size 0 (omega (arith, few)))
+      (λ (ne : spot.row ≡ lo → ⊥). row-none lo size 0 ne)
+      (cases_eq spot.row lo) in
+      filter-append P (map (in_row lo) (range_with_len 0 size)) (spots_from (lo + 1) sizes)
+      ∙ (λ i. here i ++ none-there sizes (lo + 1) (λ k e. h (suc k) (omega (arith, e))) i)
+
   rows-past : (sizes : List ℕ) (lo : ℕ) → spot.row < lo → filter P (spots_from lo sizes) ≡ []
   rows-past [] lo lt = refl
   rows-past (size ∷ sizes) lo lt =
@@ -72,32 +88,36 @@ module _ (P : Spot → Bool) (spot : Spot) (is : (s : Spot) → P s ≡ is_same_
       filter-append P (map (in_row lo) (range_with_len 0 size)) (spots_from (lo + 1) sizes)
       ∙ (λ i. row-none lo size 0 (λ f. omega (arith, e, f)) i ++ one-passes sizes (lo + 1) k (omega arith) lt i)
 
+and_true : (b : Bool) → (b && true) ≡ b
+and_true true = refl
+and_true false = refl
+
+and_false : (b : Bool) → (b && false) ≡ false
+and_false true = refl
+and_false false = refl
+
+-- the element alone is sent, where it is
+module _ (count : ℕ) (layouts : List Layout) (spot : Spot) (p q : ℕ) where
+  abbrev passes : Spot → Bool
+  passes s = needs (fetch_part spot) q s && (not (owns_spot layouts q s) && (least_owner_of count layouts s == p))
+
+  sent-alone : (s : Spot) → passes s ≡ (is_same_spot spot s && fetch_sends count layouts spot p q)
+  sent-alone s = by_case (is_same_spot spot s) refl
+    where
+      by_case : (x : Bool) → is_same_spot spot s ≡ x → passes s ≡ (x && fetch_sends count layouts spot p q)
+      by_case true e = rw e (ap (λ (t : Spot). not (owns_spot layouts q t) && (least_owner_of count layouts t == p)) (sym (same-spot spot s e)))
+      by_case false e = rw e refl
+
 module _ (count : ℕ) (layouts : List Layout) (spot : Spot) (inside : spot.at < slice_index_or (sizes layouts) spot.row 0) where
   module _ (p q : ℕ) where
-    abbrev passes : Spot → Bool
-    passes s = needs (fetch_part spot) q s && (not (owns_spot layouts q s) && (least_owner_of count layouts s == p))
-
-    sent-alone : (s : Spot) → passes s ≡ (is_same_spot spot s && fetch_sends count layouts spot p q)
-    sent-alone s = by_case (is_same_spot spot s) refl
-      where
-        by_case : (x : Bool) → is_same_spot spot s ≡ x → passes s ≡ (x && fetch_sends count layouts spot p q)
-        by_case true e = rw e (ap (λ (t : Spot). not (owns_spot layouts q t) && (least_owner_of count layouts t == p)) (sym (same-spot spot s e)))
-        by_case false e = rw e refl
-
     pub fetch-message : message count layouts (fetch_part spot) p q ≡ (if fetch_sends count layouts spot p q then spot ∷ [] else [])
-    fetch-message = by_case (fetch_sends count layouts spot p q) sent-alone
+    fetch-message = by_case (fetch_sends count layouts spot p q) (sent-alone count layouts spot p q)
       where
-        and_true : (b : Bool) → (b && true) ≡ b
-        and_true true = refl
-        and_true false = refl
-
-        and_false : (b : Bool) → (b && false) ≡ false
-        and_false true = refl
-        and_false false = refl
-
-        by_case : (b : Bool) → ((s : Spot) → passes s ≡ (is_same_spot spot s && b)) → filter passes (spots_from 0 (sizes layouts)) ≡ (if b then spot ∷ [] else [])
-        by_case true is = one-passes passes spot (λ s. is s ∙ and_true (is_same_spot spot s)) (sizes layouts) 0 spot.row (omega arith) inside
-        by_case false is = none-pass passes (spots_from 0 (sizes layouts)) (λ s. is s ∙ and_false (is_same_spot spot s))
+        by_case : (b : Bool) → ((s : Spot) → passes count layouts spot p q s ≡ (is_same_spot spot s && b))
+            → filter (passes count layouts spot p q) (spots_from 0 (sizes layouts)) ≡ (if b then spot ∷ [] else [])
+        by_case true is =
+            one-passes (passes count layouts spot p q) spot (λ s. is s ∙ and_true (is_same_spot spot s)) (sizes layouts) 0 spot.row (omega arith) inside
+        by_case false is = none-pass (passes count layouts spot p q) (spots_from 0 (sizes layouts)) (λ s. is s ∙ and_false (is_same_spot spot s))
 
   fetch-sends : (p q : ℕ) → part_sends count layouts (fetch_part spot) p q ≡ fetch_sends count layouts spot p q
   fetch-sends p q = ap has_any (fetch-message p q) ∙ by_case (fetch_sends count layouts spot p q)
@@ -139,6 +159,43 @@ module _ (count : ℕ) (layouts : List Layout) (spot : Spot) (inside : spot.at <
       let source = least_owner_of count layouts spot in
       let sends : fetch_sends count layouts spot source id ≡ true = rw (other, eq-eqb source source refl) refl in
       rw other (sym (fetch-taken source id (slice_index_or received source []) sends))
+
+-- nobody sends an element that isn't there
+module _ (count : ℕ) (layouts : List Layout) (spot : Spot) (outside : spot.at < slice_index_or (sizes layouts) spot.row 0 → ⊥) where
+  nowhere-message : (p q : ℕ) → message count layouts (fetch_part spot) p q ≡ []
+  nowhere-message p q = by_case (fetch_sends count layouts spot p q) (sent-alone count layouts spot p q)
+    where
+      few : (k : ℕ) → spot.row ≡ 0 + k → slice_index_or (sizes layouts) k 0 ≤ spot.at
+      few k e =
+          let here : spot.row ≡ k = omega (arith, e) in
+          let past : slice_index_or (sizes layouts) spot.row 0 ≤ spot.at = omega (arith, outside) in
+          subst (λ row. slice_index_or (sizes layouts) row 0 ≤ spot.at) here past
+
+      by_case : (b : Bool) → ((s : Spot) → passes count layouts spot p q s ≡ (is_same_spot spot s && b))
+          → filter (passes count layouts spot p q) (spots_from 0 (sizes layouts)) ≡ []
+      by_case true is = none-there (passes count layouts spot p q) spot (λ s. is s ∙ and_true (is_same_spot spot s)) (sizes layouts) 0 few
+      by_case false is = none-pass (passes count layouts spot p q) (spots_from 0 (sizes layouts)) (λ s. is s ∙ and_false (is_same_spot spot s))
+
+  nowhere-sends : (p q : ℕ) → part_sends count layouts (fetch_part spot) p q ≡ false
+  nowhere-sends p q = ap has_any (nowhere-message p q)
+
+  pub nowhere-parcels : {A : Type 0} (f : ℕ → A) (id : ℕ) (qs : List ℕ) → [] ≡ map f (filter (part_sends count layouts (fetch_part spot) id) qs)
+  nowhere-parcels f id qs = sym (ap (map f) (none-pass (part_sends count layouts (fetch_part spot) id) qs (nowhere-sends id)))
+
+  pub nowhere-sources : (id : ℕ) (ps : List ℕ) → [] ≡ filter (λ p. part_sends count layouts (fetch_part spot) p id) ps
+  nowhere-sources id ps = sym (none-pass (λ p. part_sends count layouts (fetch_part spot) p id) ps (λ p. nowhere-sends p id))
+
+  pub nowhere-received : (id : ℕ) (pieces : Storage) (received : List (List ℤ))
+      → pos 0 ≡ held_or_received count layouts (λ p. message count layouts (fetch_part spot) p id) id pieces received spot
+  nowhere-received id pieces received = by_owner (owns_spot layouts id spot) refl
+    where
+      source : ℕ
+      source = least_owner_of count layouts spot
+
+      by_owner : (b : Bool) → owns_spot layouts id spot ≡ b
+          → pos 0 ≡ (if b then local_read layouts id pieces spot else lookup (message count layouts (fetch_part spot) source id) (slice_index_or received source []) spot)
+      by_owner true e = absurd (outside (spot-below layouts id spot e))
+      by_owner false e = sym (ap (λ spots. lookup spots (slice_index_or received source []) spot) (nowhere-message source id))
 
 -- numbers of nodes
 one-number : (P : ℕ → Bool) (q n lo : ℕ) → ((p : ℕ) → P p ≡ (q == p)) → lo ≤ q → q < lo + n → filter P (range_with_len lo n) ≡ q ∷ []

@@ -2,6 +2,7 @@ mod ExchangeLaws
 mod FetchLaws
 mod FirstPieces
 mod Instructions
+mod LastLaws
 mod Picks
 mod PostLaws
 mod PrintLaws

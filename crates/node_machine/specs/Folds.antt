@@ -1,9 +1,8 @@
 -- No public clause cites this file. Copies that are folded, and last values of copies.
 use Rattle.std.specs.Prelude.{ℕ, ◌==◌, ◌&&◌, Bool, ℤ, List, Option, Some, None, if◌then◌else◌}
-use Rattle.storage.specs.Truth.{is_set}
 use Rattle.storage.specs.Storage.{Spot, Storage}
 use Rattle.machine_steps.specs.Layout.{Layout, least_owner_of, owns_spot}
-use Rattle.machine_steps.specs.Machine.{last_passing}
+use Rattle.machine_steps.specs.Machine.{is_one, last_passing}
 use Rattle.machine_steps.specs.Node.{Positioned, join_below, local_read}
 
 abbrev pub element_of : (row at : ℕ) → Spot
@@ -23,9 +22,9 @@ module _ (layouts : List Layout) (id : ℕ) (pieces : Storage) where
   abbrev pub own_elements : ℕ → (ℤ → ℤ → ℤ) → (copy : ℕ) → ℕ → Option ℤ
   own_elements count join copy = join_below join (λ at. own_element count (element_of copy at))
 
-  -- the node owns an element of the copy, and the copy `set` isn't 0 at its position
+  -- the node owns an element of the copy, and the copy `set` is 1 at its position
   abbrev pub is_set_at : (copy set at : ℕ) → Bool
-  is_set_at copy set at = owns_spot layouts id (element_of copy at) && is_set (local_read layouts id pieces (element_of set at))
+  is_set_at copy set at = owns_spot layouts id (element_of copy at) && is_one (local_read layouts id pieces (element_of set at))
 
   abbrev pub element_at : (copy at : ℕ) → Positioned
   element_at copy at = record { at = at; value = local_read layouts id pieces (element_of copy at) }

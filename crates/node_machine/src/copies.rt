@@ -1,20 +1,22 @@
 //! Instructions that make a copy.
 
-ghost use Rattle.std.specs.Prelude.{◌≡◌, ◌<◌, ◌^◌, IfOk, OnOk, OnErr, length, pos, replicate, slice_set};
+ghost use Rattle.std.specs.Prelude.{◌≡◌, ◌<◌, ◌≤◌, ◌^◌, All, IfOk, OnOk, OnErr, length, pos, replicate, slice_set};
 ghost use Rattle.machine_steps.specs.Instr.{MakeCopy};
 ghost use Rattle.machine_steps.specs.Layout.{owned_by, piece, size_of};
 ghost use Rattle.machine_steps.specs.Machine.{on};
 ghost use Rattle.node_code.specs.Parallel.{evaluation_extents};
 ghost use Rattle.node_code.specs.Texts.{evaluation};
-ghost use Rattle.machine_steps.specs.CopyLayout.{copy_layout};
+ghost use Rattle.hpf_base.specs.declared.limits.TheConstants.{MAX_ELEMENTS, MAX_RANK};
+ghost use Rattle.hpf_base.specs.ElementOrder.{product};
+ghost use Rattle.machine_steps.specs.CopyLayout.{copy_extents, copy_layout, layout_of};
 ghost use Rattle.node_machine.specs.Copies.{IsMade};
 ghost use Rattle.node_machine.specs.Steps.{instr_here};
 
 use crate::node::Node;
-use hpf_base::OutOfMemory;
+use hpf_base::{MAX_RANK, OutOfMemory};
 use node_code::Evaluation;
 use owner_tables::{OwnerTable, Row};
-use slot_values::selections_at;
+use slot_values::{copy_extents, selections_at};
 use std::alloc::Global;
 use term_values::extents;
 
@@ -29,7 +31,7 @@ pub(crate) struct Copying<'a> {
 #[derive(Drop)]
 pub(crate) struct MadeCopy {
     pub(crate) copy: usize,
-    pub(crate) extents: Vec<u128>,
+    pub(crate) extents: Vec<u32>,
 }
 
 impl Node {
@@ -38,17 +40,35 @@ impl Node {
         requires { instr_here self.now ≡ MakeCopy p.copy (λ layouts slots. copy_layout self.now.nodes (evaluation_extents (evaluation p.evaluation.now) slots)) (λ slots. pos 0) }
         ensures { IfOk result (λ m. IsMade (instr_here self.now) self.now.nodes self.now.control.slots m) }
     {
-        let over = selections_at(self.alloc, &self.control.slots, &[], &p.evaluation.over)?;
+        let extents = self.made_extents(p.evaluation)?;
         Ok(MadeCopy {
             copy: p.copy,
-            extents: extents(self.alloc, &over)?,
+            extents,
         })
     }
 
-    /// Puts a copy of these extents, with 0 everywhere, into a row. For want of memory nothing changes.
-    pub(crate) fn put_copy(&mut self, copy: usize, extents: &[u128]) -> Result<(), OutOfMemory>
+    /// The extents of a copy of the values of an array expression. One of more than seven dimensions is answered as want of memory.
+    fn made_extents(&self, p: &Evaluation) -> Result<Vec<u32>, OutOfMemory>
+        ensures value { IfOk result (λ v. v.items ≡ copy_extents (evaluation_extents (evaluation p.now) self.now.control.slots)) }
+        ensures rank { IfOk result (λ v. length v.items ≤ MAX_RANK) }
+        ensures each { IfOk result (λ v. All (λ extent. extent ≤ MAX_ELEMENTS) v.items) }
+        ensures size { IfOk result (λ v. product v.items ≤ MAX_ELEMENTS) }
+    {
+        let over = selections_at(self.alloc, &self.control.slots, &[], &p.over)?;
+        let space = extents(self.alloc, &over)?;
+        if space.len() > MAX_RANK {
+            return Err(OutOfMemory);
+        }
+        copy_extents(self.alloc, &space)
+    }
+
+    /// Puts a copy that has these extents, with 0 everywhere, into a row. For want of memory nothing changes.
+    pub(crate) fn put_copy(&mut self, copy: usize, extents: &[u32]) -> Result<(), OutOfMemory>
         requires in_code { self.old.control.at < 2 ^ 63 }
-        ensures ok { OnOk result (let layout = copy_layout self.old.nodes extents.now in self.new ≡ record self.old {
+        requires rank { length extents.now ≤ MAX_RANK }
+        requires each { All (λ extent. extent ≤ MAX_ELEMENTS) extents.now }
+        requires size { product extents.now ≤ MAX_ELEMENTS }
+        ensures ok { OnOk result (let layout = layout_of self.old.nodes extents.now in self.new ≡ record self.old {
           control = on self.old.control;
           substep = 0;
           pieces = slice_set self.old.pieces copy (piece (owned_by layout) self.old.id (replicate (size_of layout) (pos 0)));

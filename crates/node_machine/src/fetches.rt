@@ -5,7 +5,7 @@ ghost use Rattle.std.specs.List.{range_with_len};
 ghost use Rattle.machine_steps.specs.Layout.{least_owner_of, owns_spot, sizes};
 ghost use Rattle.machine_steps.specs.Machine.{set_slot};
 ghost use Rattle.machine_steps.specs.Message.{fetch_part, message};
-ghost use Rattle.machine_steps.specs.Node.{fetch_begun, fetch_done, gathered, held_or_received, local_read, no_values, parcel, part_opened};
+ghost use Rattle.machine_steps.specs.Node.{fetch_begun, fetch_done, gathered, held_or_received, local_read, no_values, parcel, part_opened, part_sends};
 ghost use Rattle.storage.specs.Spots.{spot_of};
 ghost use Rattle.node_machine.specs.Fetches.{fetch_sends};
 ghost use Rattle.node_machine.specs.Results.{spot_result};
@@ -39,10 +39,6 @@ impl Node {
         ensures ok { OnOk result (self.new ≡ part_opened self.old.nodes (fetch_part (spot_of spot)) self.old) }
         ensures err { OnErr result (self.new ≡ self.old) }
     {
-        // node code of a program that is in order names no other element
-        if !self.owners.is_in_bounds(spot) {
-            return Err(OutOfMemory);
-        }
         let outbox = self.fetch_outbox(spot)?;
         let inbox = self.fetch_inbox(spot)?;
         let received = self.room()?;
@@ -50,8 +46,22 @@ impl Node {
         Ok(())
     }
 
-    /// What the node sends.
+    /// What the node sends: nothing of an element that isn't there.
     fn fetch_outbox(&self, spot: Spot) -> Result<VecDeque<Parcel>, OutOfMemory>
+        ensures items { IfOk result (λ outbox. outbox.items ≡ map (parcel (λ q. map (local_read self.now.layouts self.now.id self.now.pieces)
+            (message self.now.nodes self.now.layouts (fetch_part (spot_of spot)) self.now.id q)))
+            (filter (part_sends self.now.nodes self.now.layouts (fetch_part (spot_of spot)) self.now.id) (range_with_len 0 self.now.nodes))) }
+        ensures below { IfOk result (λ outbox. All (λ parcel. parcel.to < self.now.nodes) outbox.items) }
+    {
+        if !self.owners.is_in_bounds(spot) {
+            return Ok(VecDeque::new(self.alloc));
+        }
+        let outbox = self.outbox_inside(spot)?;
+        Ok(outbox)
+    }
+
+    /// What it sends of an element that is there.
+    fn outbox_inside(&self, spot: Spot) -> Result<VecDeque<Parcel>, OutOfMemory>
         requires at { spot.at < slice_index_or (sizes self.now.layouts) spot.row 0 }
         ensures items { IfOk result (λ outbox. outbox.items ≡ map (parcel (λ q. local_read self.now.layouts self.now.id self.now.pieces (spot_of spot) ∷ []))
             (filter (fetch_sends self.now.nodes self.now.layouts (spot_of spot) self.now.id) (range_with_len 0 self.now.nodes))) }
@@ -62,6 +72,18 @@ impl Node {
 
     /// From whom the node takes.
     fn fetch_inbox(&self, spot: Spot) -> Result<VecDeque<u32>, OutOfMemory>
+        ensures items { IfOk result (λ inbox. inbox.items ≡ filter (λ p. part_sends self.now.nodes self.now.layouts (fetch_part (spot_of spot)) p self.now.id) (range_with_len 0 self.now.nodes)) }
+        ensures below { IfOk result (λ inbox. All (λ source. source < self.now.nodes) inbox.items) }
+    {
+        if !self.owners.is_in_bounds(spot) {
+            return Ok(VecDeque::new(self.alloc));
+        }
+        let inbox = self.inbox_inside(spot)?;
+        Ok(inbox)
+    }
+
+    /// From whom it takes an element that is there.
+    fn inbox_inside(&self, spot: Spot) -> Result<VecDeque<u32>, OutOfMemory>
         requires at { spot.at < slice_index_or (sizes self.now.layouts) spot.row 0 }
         ensures items { IfOk result (λ inbox. inbox.items ≡ filter (λ p. fetch_sends self.now.nodes self.now.layouts (spot_of spot) p self.now.id) (range_with_len 0 self.now.nodes)) }
         ensures below { IfOk result (λ inbox. All (λ source. source < self.now.nodes) inbox.items) }
@@ -77,38 +99,27 @@ impl Node {
         no_values(self.alloc, self.owners.nodes())
     }
 
-    /// After the phase of a fetch the slot gets the value of the element; with a fault the node is never there. For want of memory nothing
-    /// changes.
-    pub(crate) fn end_fetch(
-        &mut self,
-        element: Result<Spot, Fault>,
-        slot: usize,
-    ) -> Result<(), OutOfMemory>
+    /// After the phase of a fetch the slot gets the value of the element; with a fault the node is never there. It takes no memory.
+    pub(crate) fn end_fetch(&mut self, element: Result<Spot, Fault>, slot: usize)
         requires in_code { self.old.control.at < 2 ^ 63 }
-        ensures ok { OnOk result (self.new ≡ fetch_done self.old.nodes (spot_result element) slot self.old) }
-        ensures err { OnErr result (self.new ≡ self.old) }
+        ensures { self.new ≡ fetch_done self.old.nodes (spot_result element) slot self.old }
     {
-        match element {
-            Ok(spot) => {
-                // node code of a program that is in order names no other element
-                if !self.owners.is_in_bounds(spot) {
-                    return Err(OutOfMemory);
-                }
-                let value = self.fetched_value(spot)?;
-                self.set_slot(slot, &value[0]);
-                self.reset();
-                Ok(())
-            }
-            Err(_) => Ok(()),
+        if let Ok(spot) = element {
+            let value = self.fetched_value(spot);
+            self.set_slot(slot, &value[0]);
+            self.reset();
         }
     }
 
-    /// The value of a fetched element.
-    fn fetched_value(&self, spot: Spot) -> Result<[i64; 1], OutOfMemory>
-        requires at { spot.at < slice_index_or (sizes self.now.layouts) spot.row 0 }
-        ensures { IfOk result (λ v. v ≡ gathered self.now.nodes (fetch_part (spot_of spot)) self.now (spot_of spot) ∷ []) }
+    /// The value of a fetched element: 0 of one that isn't there.
+    fn fetched_value(&self, spot: Spot) -> [i64; 1]
+        ensures { result ≡ gathered self.now.nodes (fetch_part (spot_of spot)) self.now (spot_of spot) ∷ [] }
     {
-        fetched_value(&self.owners, self.id, &self.pieces, &self.post, spot)
+        if self.owners.is_in_bounds(spot) {
+            fetched_value(&self.owners, self.id, &self.pieces, &self.post, spot)
+        } else {
+            [0]
+        }
     }
 
     /// A slot gets a value, and the run goes on with the next instruction. It takes no memory.
@@ -141,7 +152,7 @@ fn fetch_outbox(
     if owners.least_owner(spot) != id {
         return Ok(VecDeque::new(alloc));
     }
-    let values = one_value(alloc, local_value(owners, id, pieces, spot)?)?;
+    let values = one_value(alloc, local_value(owners, id, pieces, spot))?;
     fetched_parcels(alloc, owners, spot, id, &values)
 }
 
@@ -173,22 +184,16 @@ fn fetch_inbox(
 }
 
 /// The value of a fetched element: a node's own, or what it took.
-fn fetched_value(
-    owners: &Owners,
-    id: u32,
-    pieces: &[Row],
-    post: &Post,
-    spot: Spot,
-) -> Result<[i64; 1], OutOfMemory>
+fn fetched_value(owners: &Owners, id: u32, pieces: &[Row], post: &Post, spot: Spot) -> [i64; 1]
     requires one { id < owners.now.nodes }
     requires at { spot.at < slice_index_or (sizes owners.now.layouts) spot.row 0 }
-    ensures { IfOk result (λ v. v ≡ held_or_received owners.now.nodes owners.now.layouts
-        (λ p. message owners.now.nodes owners.now.layouts (fetch_part (spot_of spot)) p id) id pieces.now post.now.received (spot_of spot) ∷ []) }
+    ensures { result ≡ held_or_received owners.now.nodes owners.now.layouts
+        (λ p. message owners.now.nodes owners.now.layouts (fetch_part (spot_of spot)) p id) id pieces.now post.now.received (spot_of spot) ∷ [] }
 {
     if owners.owns(id, spot) {
-        return Ok([local_value(owners, id, pieces, spot)?]);
+        return [local_value(owners, id, pieces, spot)];
     }
-    Ok(first_of(post.received(owners.least_owner(spot))))
+    first_of(post.received(owners.least_owner(spot)))
 }
 
 /// The first number; 0 where there is none.

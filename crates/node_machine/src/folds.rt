@@ -60,7 +60,7 @@ impl Node {
             &self.pieces,
             folding.op,
             folding.copy,
-        )?;
+        );
         option_numbers(self.alloc, value)
     }
 
@@ -118,41 +118,28 @@ impl OwnFold {
     }
 }
 
-/// The elements of a copy whose least owner the node is, joined in order, if there are any. An element without owners is answered as want of
-/// memory.
-fn own_elements(
-    owners: &Owners,
-    id: u32,
-    pieces: &[Row],
-    op: Join,
-    copy: usize,
-) -> Result<Option<i64>, OutOfMemory>
+/// The elements of a copy whose least owner the node is, joined in order, if there are any.
+fn own_elements(owners: &Owners, id: u32, pieces: &[Row], op: Join, copy: usize) -> Option<i64>
     requires { id < owners.now.nodes }
-    ensures { IfOk result (λ v. v ≡ own_elements owners.now.layouts id pieces.now owners.now.nodes (join op) copy (slice_index_or (sizes owners.now.layouts) copy 0)) }
+    ensures { result ≡ own_elements owners.now.layouts id pieces.now owners.now.nodes (join op) copy (slice_index_or (sizes owners.now.layouts) copy 0) }
 {
     let mut fold = OwnFold { value: None };
     for at in 0..owners.size(copy) {
-        let element = own_element(owners, id, pieces, Spot { row: copy, at })?;
+        let element = own_element(owners, id, pieces, Spot { row: copy, at });
         fold.add(op, element);
     }
-    Ok(fold.value)
+    fold.value
 }
 
 /// The value of an element, if the node is its least owner.
-fn own_element(
-    owners: &Owners,
-    id: u32,
-    pieces: &[Row],
-    spot: Spot,
-) -> Result<Option<i64>, OutOfMemory>
+fn own_element(owners: &Owners, id: u32, pieces: &[Row], spot: Spot) -> Option<i64>
     requires one { id < owners.now.nodes }
     requires at { spot.at < slice_index_or (sizes owners.now.layouts) spot.row 0 }
-    ensures { IfOk result (λ v. v ≡ own_element owners.now.layouts id pieces.now owners.now.nodes (spot_of spot)) }
+    ensures { result ≡ own_element owners.now.layouts id pieces.now owners.now.nodes (spot_of spot) }
 {
     if owners.least_owner(spot) == id {
-        let value = local_value(owners, id, pieces, spot)?;
-        Ok(Some(value))
+        Some(local_value(owners, id, pieces, spot))
     } else {
-        Ok(None)
+        None
     }
 }

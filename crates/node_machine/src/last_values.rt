@@ -1,6 +1,6 @@
 //! Instructions that take the last value of a copy.
 
-ghost use Rattle.std.specs.Prelude.{◌≡◌, ◌<◌, ◌^◌, None, Some, IfOk, OnOk, OnErr, if◌then◌else◌, slice_index_or};
+ghost use Rattle.std.specs.Prelude.{◌≡◌, ◌<◌, ◌^◌, None, Some, IfOk, OnOk, OnErr, if◌then◌else◌, slice_index_or, true};
 ghost use Rattle.std.specs.List.{slice_get};
 ghost use Rattle.machine_steps.specs.Instr.{LastCopy};
 ghost use Rattle.machine_steps.specs.Layout.{sizes};
@@ -52,7 +52,7 @@ impl Node {
     fn own_last(&self, last: LastValue) -> Result<Vec<i64>, OutOfMemory>
         ensures { IfOk result (λ v. v.items ≡ positioned_values (own_last self.now.nodes last.copy last.set is_same_layout self.now)) }
     {
-        let value = own_last(&self.owners, self.id, &self.pieces, last.copy, last.set)?;
+        let value = own_last(&self.owners, self.id, &self.pieces, last.copy, last.set);
         positioned_numbers(self.alloc, value)
     }
 
@@ -109,23 +109,17 @@ impl OwnLast {
     }
 }
 
-/// The value of a copy at the last position where the copy `set` isn't 0, with the position, of those that the node owns, if there is one and
+/// The value of a copy at the last position where the copy `set` is 1, with the position, of those that the node owns, if there is one and
 /// the copies lie alike.
-fn own_last(
-    owners: &Owners,
-    id: u32,
-    pieces: &[Row],
-    copy: usize,
-    set: usize,
-) -> Result<Option<Positioned>, OutOfMemory>
+fn own_last(owners: &Owners, id: u32, pieces: &[Row], copy: usize, set: usize) -> Option<Positioned>
     requires { id < owners.now.nodes }
-    ensures { IfOk result (λ p. positions p ≡ (if lie_alike is_same_layout (slice_get owners.now.layouts copy) (slice_get owners.now.layouts set)
-        then last_set owners.now.layouts id pieces.now copy set (slice_index_or (sizes owners.now.layouts) copy 0) else None)) }
+    ensures { positions result ≡ (if lie_alike is_same_layout (slice_get owners.now.layouts copy) (slice_get owners.now.layouts set)
+        then last_set owners.now.layouts id pieces.now copy set (slice_index_or (sizes owners.now.layouts) copy 0) else None) }
 {
     if lie_alike(owners, copy, set) {
         last_set(owners, id, pieces, copy, set)
     } else {
-        Ok(None)
+        None
     }
 }
 
@@ -142,27 +136,21 @@ fn lie_alike(owners: &Owners, copy: usize, set: usize) -> bool
     }
 }
 
-/// The value of a copy at the last position where the copy `set` isn't 0, with the position, of those that the node owns. A position that
-/// `set` doesn't have on the node is answered as want of memory.
-fn last_set(
-    owners: &Owners,
-    id: u32,
-    pieces: &[Row],
-    copy: usize,
-    set: usize,
-) -> Result<Option<Positioned>, OutOfMemory>
-    requires { id < owners.now.nodes }
-    ensures { IfOk result (λ p. positions p ≡ last_set owners.now.layouts id pieces.now copy set (slice_index_or (sizes owners.now.layouts) copy 0)) }
+/// The value of a copy at the last position where the copy `set`, which lies alike, is 1, with the position, of those that the node owns.
+fn last_set(owners: &Owners, id: u32, pieces: &[Row], copy: usize, set: usize) -> Option<Positioned>
+    requires one { id < owners.now.nodes }
+    requires alike { lie_alike is_same_layout (slice_get owners.now.layouts copy) (slice_get owners.now.layouts set) ≡ true }
+    ensures { positions result ≡ last_set owners.now.layouts id pieces.now copy set (slice_index_or (sizes owners.now.layouts) copy 0) }
 {
     let mut last = OwnLast { value: None };
     for at in 0..owners.size(copy) {
-        let found = set_element(owners, id, pieces, copy, set, at)?;
+        let found = set_element(owners, id, pieces, copy, set, at);
         last.add(found);
     }
-    Ok(last.value)
+    last.value
 }
 
-/// The value of a copy at a position, if the node owns it and the copy `set` isn't 0 there.
+/// The value of a copy at a position, if the node owns it and the copy `set` is 1 there.
 fn set_element(
     owners: &Owners,
     id: u32,
@@ -170,20 +158,20 @@ fn set_element(
     copy: usize,
     set: usize,
     at: usize,
-) -> Result<Option<Positioned>, OutOfMemory>
+) -> Option<Positioned>
     requires one { id < owners.now.nodes }
+    requires alike { lie_alike is_same_layout (slice_get owners.now.layouts copy) (slice_get owners.now.layouts set) ≡ true }
     requires at { at < slice_index_or (sizes owners.now.layouts) copy 0 }
-    ensures { IfOk result (λ p. positions p ≡ (if is_set_at owners.now.layouts id pieces.now copy set at then Some (element_at owners.now.layouts id pieces.now copy at) else None)) }
+    ensures { positions result ≡ (if is_set_at owners.now.layouts id pieces.now copy set at then Some (element_at owners.now.layouts id pieces.now copy at) else None) }
 {
     if !owners.owns(id, Spot { row: copy, at }) {
-        return Ok(None);
+        return None;
     }
-    if local_value(owners, id, pieces, Spot { row: set, at })? == 0 {
-        return Ok(None);
+    if local_value(owners, id, pieces, Spot { row: set, at }) != 1 {
+        return None;
     }
-    let value = local_value(owners, id, pieces, Spot { row: copy, at })?;
-    Ok(Some(Positioned {
+    Some(Positioned {
         at: at as u64,
-        value,
-    }))
+        value: local_value(owners, id, pieces, Spot { row: copy, at }),
+    })
 }

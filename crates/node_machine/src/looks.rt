@@ -15,6 +15,13 @@ impl Node {
         &self.control.slots
     }
 
+    /// The number of the next letter to a node, counted from 1; 0 where there is no such node.
+    pub fn next_number(&self, to: u32) -> u64
+        ensures { result ≡ slice_index_or self.now.next_to to 0 }
+    {
+        self.post.next_number(to)
+    }
+
     /// Whether a letter is the one that the node takes next: the letter of this run and pair with the pair's next number.
     pub fn is_awaited(&self, mail: &Letter) -> bool
         ensures { result ≡ awaits_by self.now.stage self.now mail.now }

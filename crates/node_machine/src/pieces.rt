@@ -32,11 +32,9 @@ impl Node {
 
     /// Stores a value in an element, if the node owns it. It takes no memory.
     pub(crate) fn write_local(&mut self, spot: Spot, value: &i64)
-        requires at { spot.at < slice_index_or (sizes self.old.layouts) spot.row 0 }
         ensures { self.new ≡ record self.old { pieces = local_write self.old.layouts self.old.id (spot_of spot) value.now self.old.pieces } }
     {
-        if self.owners.owns(self.id, spot) {
-            let address = self.owners.address(self.id, spot);
+        if let Some(address) = self.owners.held(self.id, spot) {
             write(&mut self.pieces, spot.row, address, value);
         }
     }

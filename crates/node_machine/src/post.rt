@@ -162,6 +162,16 @@ impl Post {
         self.received[source] = body;
     }
 
+    /// The number of the next letter to a node; 0 where there is no such node.
+    pub fn next_number(&self, to: u32) -> u64
+        ensures { result ≡ slice_index_or self.now.next_to to 0 }
+    {
+        match self.next_to.get(to as usize) {
+            Some(number) => *number,
+            None => 0,
+        }
+    }
+
     /// Whether nothing of the phase is left.
     pub fn is_over(&self) -> bool
         ensures { result ≡ nothing_left self.now.outbox self.now.inbox }

@@ -33,7 +33,8 @@ impl Node {
             }
             Step::Store(s) => {
                 let stored = self.stored(s)?;
-                self.store(stored.element, stored.value)
+                self.store(stored.element, stored.value);
+                Ok(())
             }
             Step::Par(p) => {
                 let phase = self.par_phase(p)?;
@@ -80,7 +81,8 @@ impl Node {
             Step::Local => Ok(()),
             Step::Fetch(f) => {
                 let fetched = self.fetched(f)?;
-                self.end_fetch(fetched.element, fetched.slot)
+                self.end_fetch(fetched.element, fetched.slot);
+                Ok(())
             }
             Step::Store(_) => Ok(()),
             Step::Par(p) => {

@@ -1,13 +1,12 @@
 //! Instructions that store an element.
 
-ghost use Rattle.std.specs.Prelude.{◌≡◌, ◌<◌, ◌^◌, OnOk, OnErr};
+ghost use Rattle.std.specs.Prelude.{◌≡◌, ◌<◌, ◌^◌};
 ghost use Rattle.machine_steps.specs.Machine.{faulted, on, store_control, store_in};
 ghost use Rattle.machine_steps.specs.Node.{local_write};
 ghost use Rattle.term_values.specs.Faults.{fault};
 ghost use Rattle.node_machine.specs.Results.{spot_result, value_result};
 
 use crate::node::Node;
-use hpf_base::OutOfMemory;
 use slot_values::{Fault, Spot, Status};
 
 impl Node {
@@ -28,27 +27,18 @@ impl Node {
         self.substep = 0;
     }
 
-    /// Stores a value in an element, or ends the run with the fault of the element or of the value. For want of memory nothing changes.
-    pub(crate) fn store(
-        &mut self,
-        element: Result<Spot, Fault>,
-        value: Result<i64, Fault>,
-    ) -> Result<(), OutOfMemory>
+    /// Stores a value in an element, or ends the run with the fault of the element or of the value. It takes no memory.
+    pub(crate) fn store(&mut self, element: Result<Spot, Fault>, value: Result<i64, Fault>)
         requires { self.old.control.at < 2 ^ 63 }
-        ensures ok { OnOk result (self.new ≡ record self.old {
+        ensures { self.new ≡ record self.old {
           control = store_control (spot_result element) (value_result value) self.old.control;
           substep = 0;
           pieces = store_in (local_write self.old.layouts self.old.id) (spot_result element) (value_result value) self.old.pieces;
-        }) }
-        ensures err { OnErr result (self.new ≡ self.old) }
+        } }
     {
         match element {
             Ok(spot) => match value {
                 Ok(value) => {
-                    // node code of a program that is in order names no other element
-                    if !self.owners.is_in_bounds(spot) {
-                        return Err(OutOfMemory);
-                    }
                     self.write_local(spot, &value);
                     self.go_on();
                 }
@@ -56,6 +46,5 @@ impl Node {
             },
             Err(last) => self.fail(last),
         }
-        Ok(())
     }
 }

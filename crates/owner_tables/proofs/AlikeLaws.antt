@@ -21,6 +21,7 @@ use Rattle.hpf_base.proofs.Elements.{elements-get}
 use Rattle.hpf_base.proofs.Places.{length-place_at, place_at}
 use Rattle.mappings.proofs.Sections.{same_test}
 use Rattle.local_address.proofs.ElementLaws.{length-index_at}
+use Rattle.machine_steps.proofs.Owners.{owned-inside}
 use Rattle.machine_steps.specs.Layout.{Layout, count_passing, element_index, first, owned_by, size_of}
 use Rattle.owner_tables.specs.Alike.{alike_nodes, is_alike, is_alike_at, is_alike_in, leader}
 use Rattle.owner_tables.specs.Layouts.{IsLaid}
@@ -108,12 +109,14 @@ module _ (mapping : Mapping) (index : List ℤ) (valid : IsMapping (length index
       (is, omega (arith, is, found.1), ap (owns mapping index) is ∙ found.0)
 
 module _ (nodes : ℕ) (layout : Layout) (laid : IsLaid nodes layout) where
-  valid-at : (at : ℕ) → at < product (extents_of layout.shape) → IsMapping (length (element_index layout.shape at)) layout.mapping
+  valid-at : (at : ℕ) → at < size_of layout → IsMapping (length (element_index layout.shape at)) layout.mapping
+  unfolding size_of
   valid-at at below = subst (λ n. IsMapping n layout.mapping) (sym (element_index-rank layout.shape at laid.shape below)) laid.mapping
 
   alike-owned : (at one other : ℕ) → at < size_of layout → owned_by layout one at ≡ true → owned_by layout other at ≡ is_alike layout.mapping one other
-  unfolding owned_by size_of
-  alike-owned at one other below h = alike-owns layout.mapping (element_index layout.shape at) (valid-at at below) one other h
+  alike-owned at one other below h =
+      owned-inside layout other at below
+      ∙ alike-owns layout.mapping (element_index layout.shape at) (valid-at at below) one other (sym (owned-inside layout one at below) ∙ h)
 
   leader-of-owner : (node at : ℕ) → at < size_of layout → owned_by layout node at ≡ true → least_at nodes layout at ≡ leader layout.mapping nodes node
   leader-of-owner node at below h = first-agree _ _ 0 nodes (λ k from upto. alike-owned at node k below h)

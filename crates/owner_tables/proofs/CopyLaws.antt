@@ -1,16 +1,14 @@
 -- Copies: their shapes and mappings are valid, they have as many elements as their extents, and each element has an owner.
-use Rattle.std.proofs.Common.{◌≡◌, ◌≢◌, inl, inr, ℕ, zero, suc, ◌+◌, ◌*◌, ◌/◌, ◌<◌, ◌≤◌, Bool, true, false, ◌==◌, if◌then◌else◌, pos, ◌+ℤ◌, ◌*ℤ◌, ◌≤ℤ◌, List, [], ◌∷◌, Some, None, get_or, length, map, refl, sym, ◌∙◌, ap, subst, arith, eq-eqb, replicate, All, AllPairs, unsigned_abs}
-use Rattle.std.proofs.Math.Nat.{lt_of_mul-lt-mul_right, mul_comm, mul-one, mul-zero, zero-mul}
-use Rattle.std.proofs.lemmas.Bool.{and_from, both_ways, eqb-true, ne_eqb, or_cases, or_parts}
+use Rattle.std.proofs.Common.{◌≡◌, ◌≢◌, ℕ, zero, suc, ◌+◌, ◌*◌, ◌/◌, ◌<◌, ◌≤◌, Bool, true, false, ◌==◌, if◌then◌else◌, pos, ◌+ℤ◌, ◌*ℤ◌, ◌≤ℤ◌, List, [], ◌∷◌, Some, None, get_or, length, map, refl, sym, ◌∙◌, ap, subst, arith, eq-eqb, nat_le, All, AllPairs, unsigned_abs}
+use Rattle.std.proofs.Math.Nat.{lt_of_mul-lt-mul_right, mul_comm, mul-one, zero-mul}
+use Rattle.std.proofs.lemmas.Bool.{and_from, eqb-true}
 use Rattle.std.proofs.lemmas.Grind.{div_ceil_times}
 use Rattle.std.proofs.lemmas.Int.{ints}
 use Rattle.std.proofs.lemmas.List.{get_or_default, length-map}
 use Rattle.std.proofs.lemmas.List.Elements.{All-cons, All-head, All-map, All-nil, All-tail}
 use Rattle.std.proofs.lemmas.Nat.{mod_below}
-use Rattle.std.proofs.lemmas.Simd.{splat_is_map}
-use Rattle.std.specs.List.{list_any}
 use Rattle.std.specs.Option.{option_map}
-use Rattle.hpf_base.specs.declared.limits.TheConstants.{MAX_BOUND, MAX_ELEMENTS, MAX_NODES}
+use Rattle.hpf_base.specs.declared.limits.TheConstants.{MAX_BOUND, MAX_ELEMENTS, MAX_NODES, MAX_TUPLES}
 use Rattle.mappings.specs.declared.mapping.AlignDim.TheVariants.{Linear}
 use Rattle.mappings.specs.declared.mapping.Line.{Line}
 use Rattle.mappings.specs.declared.mapping.MapDim.{MapDim}
@@ -20,12 +18,13 @@ use Rattle.hpf_base.specs.Grid.{node_coordinates}
 use Rattle.mappings.specs.Mapping.{InLine, IsLine, IsMapDim, MapsInside, MoveApart}
 use Rattle.mappings.specs.Owner.{block_line, coordinate, default_block}
 use Rattle.mappings.proofs.Blocks.{coordinate-within, default_block-all, default_block-some}
-use Rattle.hpf_base.proofs.ElementOrder.{product-some}
 use Rattle.hpf_base.proofs.Elements.{elements-get, length-elements}
 use Rattle.hpf_base.proofs.Places.{length-place_at, number_of, place_at, place_at-number_of, places-get}
 use Rattle.local_address.proofs.ElementLaws.{factors_some}
 use Rattle.machine_steps.specs.Layout.{IsDealt, element_index, owned_by, size_of}
+use Rattle.machine_steps.proofs.Owners.{owned-inside}
 use Rattle.machine_steps.specs.CopyLayout.{copy_dims, copy_extents, copy_layout, copy_mapping, copy_shape}
+use Rattle.machine_steps.specs.Space.{space_count}
 use Rattle.owner_tables.specs.Layouts.{IsLaid}
 
 -- ---- the extents
@@ -34,20 +33,28 @@ pub extents-back : (extents : List ℕ) → extents_of (copy_shape extents) ≡ 
 extents-back [] = refl
 extents-back (n ∷ ns) = ap (λ es. n ∷ es) (extents-back ns)
 
-zeros-product : (extents : List ℕ) → product extents ≡ 0 → product (map (λ n. 0) extents) ≡ 0
-zeros-product [] none = absurd (omega arith)
-zeros-product (n ∷ ns) none = zero-mul (product (map (λ n. 0) ns))
+zeros-product : (extents : List ℕ) → (product extents ≡ 1 → ⊥) → product (map (λ n. 0) extents) ≡ 0
+zeros-product [] other = absurd (other refl)
+zeros-product (n ∷ ns) other = zero-mul (product (map (λ n. 0) ns))
 
-pub copy_extents-product : (extents : List ℕ) → product (copy_extents extents) ≡ product extents
-copy_extents-product extents = by_test (product extents == 0) refl
+copy_extents-product : (extents : List ℕ) → product (copy_extents extents) ≡ space_count extents
+copy_extents-product extents = by_limit (nat_le (product extents) MAX_TUPLES) refl
   where
     by_test : (b : Bool) → (product extents == 0) ≡ b → product (if b then map (λ n. 0) extents else extents) ≡ product extents
-    by_test true is = let none : product extents ≡ 0 = eqb-true _ _ is in zeros-product extents none ∙ sym none
+    by_test true is = let none : product extents ≡ 0 = eqb-true _ _ is in zeros-product extents (λ e. omega (arith, none, e)) ∙ sym none
     by_test false is = refl
 
-pub copy-size : (nodes : ℕ) (extents : List ℕ) → size_of (copy_layout nodes extents) ≡ product extents
+    by_limit : (b : Bool) → nat_le (product extents) MAX_TUPLES ≡ b
+        → product (if (if b then product extents else 0) == 0 then map (λ n. 0) extents else extents) ≡ (if b then product extents else 0)
+    by_limit true is = by_test (product extents == 0) refl
+    by_limit false is = zeros-product extents (λ one. cc)
+
+copy-elements : (nodes : ℕ) (extents : List ℕ) → size_of (copy_layout nodes extents) ≡ product (copy_extents extents)
 unfolding size_of
-copy-size nodes extents = ap product (extents-back (copy_extents extents)) ∙ copy_extents-product extents
+copy-elements nodes extents = ap product (extents-back (copy_extents extents))
+
+pub copy-size : (nodes : ℕ) (extents : List ℕ) → size_of (copy_layout nodes extents) ≡ space_count extents
+copy-size nodes extents = copy-elements nodes extents ∙ copy_extents-product extents
 
 -- ---- the subscripts
 
@@ -132,36 +139,9 @@ copy-owner nodes at (n ∷ ns) some below =
     )
 
 pub copy-dealt : (nodes : ℕ) (extents : List ℕ) → 1 ≤ nodes → IsDealt nodes (copy_layout nodes extents)
-unfolding owned_by size_of
 copy-dealt nodes extents some at below =
-    copy-owner nodes at (copy_extents extents) some (omega (arith, below, ap product (extents-back (copy_extents extents))))
-
--- ---- the code's cases
-
-none-product : (extents : List ℕ) → list_any (λ e. e == 0) extents ≡ true → product extents ≡ 0
-none-product [] found = cc
-none-product (n ∷ ns) found =
-    elim (or_cases (n == 0) (list_any (λ e. e == 0) ns) found) [
-      | inl here ↦ ap (λ e. e * product ns) (eqb-true n 0 here) ∙ zero-mul (product ns)
-      | inr later ↦ ap (λ e. n * e) (none-product ns later) ∙ mul-zero n
-    ]
-
-some-extents : (extents : List ℕ) → list_any (λ e. e == 0) extents ≡ false → All (λ e. 1 ≤ e) extents
-some-extents [] none = λ k d within. absurd (omega arith)
-some-extents (n ∷ ns) none =
-    let parts = or_parts (n == 0) (list_any (λ e. e == 0) ns) none in
-    let ne : n ≡ 0 → ⊥ = λ e. both_ways (n == 0) parts.0 (eq-eqb n 0 e) in
-    All-cons (λ e. 1 ≤ e) n ns (omega (arith, ne)) (some-extents ns parts.1)
-
-pub copy_extents-none : (extents : List ℕ) → list_any (λ e. e == 0) extents ≡ true → replicate (length extents) 0 ≡ copy_extents extents
-copy_extents-none extents found =
-    splat_is_map extents (length extents) 0 refl
-    ∙ sym (ap (λ b. if b then map (λ e. 0) extents else extents) (eq-eqb (product extents) 0 (none-product extents found)))
-
-pub copy_extents-some : (extents : List ℕ) → list_any (λ e. e == 0) extents ≡ false → extents ≡ copy_extents extents
-copy_extents-some extents none =
-    let some = product-some extents (some-extents extents none) in
-    sym (ap (λ b. if b then map (λ e. 0) extents else extents) (ne_eqb (product extents) 0 (λ e. omega (arith, some, e))))
+    let owner = copy-owner nodes at (copy_extents extents) some (omega (arith, below, copy-elements nodes extents)) in
+    (owner.0, owner.1, owned-inside (copy_layout nodes extents) owner.0 at below ∙ owner.2)
 
 -- ---- valid
 

@@ -6,4 +6,5 @@ pub mod Listed
 pub mod Ranges
 mod Rows
 pub mod SameLayouts
+pub mod Senders
 mod TableLaws

@@ -41,6 +41,7 @@ pub record AreLooked (t : Inside) (layout : Layout) (nodes : ℕ) : Type 0 where
   pub alike : vec_len t.alike ≡ nodes
   pub least : (at d : ℕ) → at < size_of layout → get_or t.least.items at d ≡ least_at nodes layout at
   pub below : (at : ℕ) → at < size_of layout → least_at nodes layout at < nodes
+  pub owner : (at : ℕ) → at < size_of layout → owned_by layout (least_at nodes layout at) at ≡ true
   pub led : (node d : ℕ) → node < nodes → get_or t.leaders.items node d ≡ leader layout.mapping nodes node
   pub leads : (node : ℕ) → node < nodes → leader layout.mapping nodes node < nodes
   pub owns : (node at : ℕ) → node < nodes → at < size_of layout
@@ -78,6 +79,7 @@ module _ (t : Inside) (is : AreTables t) where
         omega (arith, len, entries (count_of (least_owners t.nodes layout) (size_of layout)) t.numbers.counts.items t.nodes counted);
     alike = let len = t.alike.ok.0 in omega (arith, len, rows (λ v. v.items) (alike_nodes t.mapping t.nodes) t.alike.items t.nodes is.alike);
     least = λ at d below. entry (least_at t.nodes layout) t.least.items (size_of layout) at d is.least below;
+    owner = λ at within. (is.owned at within).1;
     below = λ at below. (is.owned at below).0;
     led = λ node d within. entry (leader t.mapping t.nodes) t.leaders.items t.nodes node d is.leaders within;
     leads = λ node within. leader-below t.nodes layout is.laid node within;

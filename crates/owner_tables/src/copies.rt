@@ -1,10 +1,10 @@
 //! How the elements of a copy lie.
 
-ghost use Rattle.std.specs.Prelude.{◌≡◌, ◌<◌, ◌≤◌, ◌^◌, [], ◌∷◌, All, IfOk, IsTrue, length, map, pos, replicate};
+ghost use Rattle.std.specs.Prelude.{◌≡◌, ◌<◌, ◌≤◌, ◌^◌, [], ◌∷◌, All, IfOk, length, map, pos, replicate};
 ghost use Rattle.hpf_base.specs.declared.limits.TheConstants.{MAX_ELEMENTS, MAX_NODES, MAX_RANK};
 ghost use Rattle.hpf_base.specs.ElementOrder.{product};
 ghost use Rattle.mappings.specs.Owner.{block_line};
-ghost use Rattle.machine_steps.specs.CopyLayout.{copy_dims, copy_extents, copy_layout, copy_mapping, copy_shape};
+ghost use Rattle.machine_steps.specs.CopyLayout.{copy_dims, copy_mapping, copy_shape, layout_of};
 ghost use Rattle.owner_tables.specs.Layouts.{IsLaid};
 
 use hpf_base::{Grid, Index, MAX_ELEMENTS, MAX_RANK, OutOfMemory, Shape};
@@ -18,89 +18,23 @@ pub(crate) struct CopyLayout {
     pub(crate) mapping: Mapping,
 }
 
-/// How a copy of these extents lies on so many nodes. Want of memory is the answer, too, where it has more than 7 dimensions or more than
-/// 1,048,576 elements.
+/// How a copy that has these extents lies on so many nodes.
 pub(crate) fn copy_layout(
     alloc: Global,
     nodes: u32,
-    extents: &[u128],
+    extents: &[u32],
 ) -> Result<CopyLayout, OutOfMemory>
     requires some { 1 ≤ nodes }
     requires few { nodes ≤ MAX_NODES }
-    ensures value { IfOk result (λ copy. record { shape = copy.shape; mapping = copy.mapping } ≡ copy_layout nodes extents.now) }
+    requires rank { length extents.now ≤ MAX_RANK }
+    requires each { All (λ extent. extent ≤ MAX_ELEMENTS) extents.now }
+    requires size { product extents.now ≤ MAX_ELEMENTS }
+    ensures value { IfOk result (λ copy. record { shape = copy.shape; mapping = copy.mapping } ≡ layout_of nodes extents.now) }
     ensures laid { IfOk result (λ copy. IsLaid nodes (record { shape = copy.shape; mapping = copy.mapping })) }
 {
-    let extents = copy_extents(alloc, extents)?;
-    let shape = copy_shape(alloc, &extents)?;
-    let mapping = copy_mapping(alloc, nodes, &extents)?;
+    let shape = copy_shape(alloc, extents)?;
+    let mapping = copy_mapping(alloc, nodes, extents)?;
     Ok(CopyLayout { shape, mapping })
-}
-
-/// The extents that the copy has: all are 0 where one is.
-fn copy_extents(alloc: Global, extents: &[u128]) -> Result<Vec<u32>, OutOfMemory>
-    ensures value { IfOk result (λ copy. copy.items ≡ copy_extents extents.now) }
-    ensures rank { IfOk result (λ copy. length copy.items ≤ MAX_RANK) }
-    ensures each { IfOk result (λ copy. All (λ extent. extent ≤ MAX_ELEMENTS) copy.items) }
-    ensures size { IfOk result (λ copy. product copy.items ≤ MAX_ELEMENTS) }
-{
-    if extents.len() > MAX_RANK {
-        return Err(OutOfMemory);
-    }
-    if extents.contains(&0) {
-        return zeros(alloc, extents.len());
-    }
-    let narrow = narrowed(alloc, extents)?;
-    if is_within(&narrow) {
-        Ok(narrow)
-    } else {
-        Err(OutOfMemory)
-    }
-}
-
-/// So many zeros.
-fn zeros(alloc: Global, count: usize) -> Result<Vec<u32>, OutOfMemory>
-    ensures { IfOk result (λ zeros. zeros.items ≡ replicate count 0) }
-{
-    Ok(vec![in alloc; 0; count]?)
-}
-
-/// The same extents, if each is at most 1,048,576.
-fn narrowed(alloc: Global, extents: &[u128]) -> Result<Vec<u32>, OutOfMemory>
-    ensures value { IfOk result (λ narrow. narrow.items ≡ extents.now) }
-    ensures each { IfOk result (λ narrow. All (λ extent. extent ≤ MAX_ELEMENTS) narrow.items) }
-{
-    let mut narrow = Vec::new(alloc);
-    for extent in extents {
-        narrow.push(narrow_extent(*extent)?)?;
-    }
-    Ok(narrow)
-}
-
-/// The extent, if it is at most 1,048,576.
-fn narrow_extent(extent: u128) -> Result<u32, OutOfMemory>
-    ensures value { IfOk result (λ narrow. narrow ≡ extent) }
-    ensures small { IfOk result (λ narrow. narrow ≤ MAX_ELEMENTS) }
-{
-    if extent <= MAX_ELEMENTS as u128 {
-        Ok(extent as u32)
-    } else {
-        Err(OutOfMemory)
-    }
-}
-
-/// Whether the product of the extents, and of the first ones, is at most 1,048,576.
-fn is_within(extents: &[u32]) -> bool
-    ensures { IsTrue result → product extents.now ≤ MAX_ELEMENTS }
-{
-    let mut size = 1u32;
-    for extent in extents {
-        let more = size as u64 * *extent as u64;
-        if more > MAX_ELEMENTS {
-            return false;
-        }
-        size = more as u32;
-    }
-    true
 }
 
 /// The shape of the copy: its lower bounds are 1.

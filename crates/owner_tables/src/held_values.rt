@@ -1,7 +1,7 @@
 //! The values of elements that lie on a node.
 
-ghost use Rattle.std.specs.Prelude.{◌≡◌, ◌<◌, ◌++◌, ◌∷◌, ◌&&◌, [], IfOk, OnOk, None, Some, if◌then◌else◌, map, nat_lt, slice_index_or};
-ghost use Rattle.machine_steps.specs.Layout.{owns_spot, sizes};
+ghost use Rattle.std.specs.Prelude.{◌≡◌, ◌<◌, ◌++◌, ◌∷◌, [], All, IfOk, OnOk, None, Some, if◌then◌else◌, map, true};
+ghost use Rattle.machine_steps.specs.Layout.{owns_spot};
 ghost use Rattle.machine_steps.specs.Node.{local_read};
 ghost use Rattle.storage.specs.Storage.{read};
 ghost use Rattle.storage.specs.Spots.{spot_of};
@@ -13,23 +13,20 @@ use letters::Body;
 use std::alloc::Global;
 use storage::Spot;
 
-/// The value of an element that the node owns, by the node's number and its pieces of all rows. One that the node doesn't own, or that is
-/// out of bounds, is answered as want of memory.
-pub fn local_value(owners: &Owners, id: u32, pieces: &[Row], spot: Spot) -> Result<i64, OutOfMemory>
-    requires { id < owners.now.nodes }
-    ensures { IfOk result (λ v. v ≡ local_read owners.now.layouts id pieces.now (spot_of spot)) }
+/// The value of an element that the node owns, by the node's number and its pieces of all rows.
+pub fn local_value(owners: &Owners, id: u32, pieces: &[Row], spot: Spot) -> i64
+    requires id { id < owners.now.nodes }
+    requires owner { owns_spot owners.now.layouts id (spot_of spot) ≡ true }
+    ensures { result ≡ local_read owners.now.layouts id pieces.now (spot_of spot) }
 {
-    match held_value(owners, id, pieces, spot) {
-        Some(value) => Ok(value),
-        None => Err(OutOfMemory),
-    }
+    let at = owners.address(id, spot);
+    value_at(pieces, Spot { row: spot.row, at })
 }
 
 /// The value of an element, if there is such an element and the node owns it.
 pub fn held_value(owners: &Owners, id: u32, pieces: &[Row], spot: Spot) -> Option<i64>
     requires { id < owners.now.nodes }
-    ensures { result ≡ (if nat_lt spot.at (slice_index_or (sizes owners.now.layouts) spot.row 0) && owns_spot owners.now.layouts id (spot_of spot)
-        then Some (local_read owners.now.layouts id pieces.now (spot_of spot)) else None) }
+    ensures { result ≡ (if owns_spot owners.now.layouts id (spot_of spot) then Some (local_read owners.now.layouts id pieces.now (spot_of spot)) else None) }
 {
     match owners.held(id, spot) {
         Some(at) => Some(value_at(pieces, Spot { row: spot.row, at })),
@@ -48,8 +45,7 @@ fn value_at(pieces: &[Row], place: Spot) -> i64
     }
 }
 
-/// The values of elements that the node owns, in order. One that the node doesn't own, or that is out of bounds, is answered as want of
-/// memory.
+/// The values of elements that the node owns, in order.
 pub fn local_values(
     alloc: Global,
     owners: &Owners,
@@ -57,7 +53,8 @@ pub fn local_values(
     pieces: &[Row],
     spots: &[Spot],
 ) -> Result<Body, OutOfMemory>
-    requires { id < owners.now.nodes }
+    requires id { id < owners.now.nodes }
+    requires owner { All (λ spot. owns_spot owners.now.layouts id (spot_of spot) ≡ true) spots.now }
     ensures { IfOk result (λ body. body ≡ map (local_read owners.now.layouts id pieces.now) (map spot_of spots.now)) }
 {
     let mut values = Vec::with_capacity(alloc, spots.len())?;
@@ -75,9 +72,10 @@ fn push_value(
     spot: Spot,
     values: &mut Vec<i64>,
 ) -> Result<(), OutOfMemory>
-    requires { id < owners.now.nodes }
+    requires id { id < owners.now.nodes }
+    requires owner { owns_spot owners.now.layouts id (spot_of spot) ≡ true }
     ensures { OnOk result (values.new.items ≡ values.old.items ++ local_read owners.now.layouts id pieces.now (spot_of spot) ∷ []) }
 {
-    values.push(local_value(owners, id, pieces, spot)?)?;
+    values.push(local_value(owners, id, pieces, spot))?;
     Ok(())
 }

@@ -1,13 +1,13 @@
 //! Laws of copies and of pieces.
 
 ghost use Rattle.std.specs.Prelude.{◌≡◌, ℕ, ◌≤◌, ℤ, List, replicate};
-ghost use Rattle.hpf_base.specs.ElementOrder.{product};
 ghost use Rattle.machine_steps.specs.Layout.{Layout, IsDealt, count_passing, owned_by, piece, size_of};
 ghost use Rattle.machine_steps.specs.CopyLayout.{copy_layout};
+ghost use Rattle.machine_steps.specs.Space.{space_count};
 
-/// A copy has an element for each tuple of its extents.
+/// A copy has an element for each tuple of its space.
 pub fn copies_have_sizes()
-    ensures { (nodes : ℕ) (extents : List ℕ) → size_of (copy_layout nodes extents) ≡ product extents }
+    ensures { (nodes : ℕ) (extents : List ℕ) → size_of (copy_layout nodes extents) ≡ space_count extents }
 {}
 
 /// Each element of a copy has an owner.

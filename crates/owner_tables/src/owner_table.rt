@@ -1,9 +1,10 @@
 //! The table of one row: who owns its elements, and where they lie.
 
-ghost use Rattle.std.specs.Prelude.{◌≡◌, ◌<◌, ◌≤◌, IfOk};
-ghost use Rattle.hpf_base.specs.declared.limits.TheConstants.{MAX_NODES};
+ghost use Rattle.std.specs.Prelude.{◌≡◌, ◌<◌, ◌≤◌, All, IfOk, length};
+ghost use Rattle.hpf_base.specs.declared.limits.TheConstants.{MAX_ELEMENTS, MAX_NODES, MAX_RANK};
+ghost use Rattle.hpf_base.specs.ElementOrder.{product};
 ghost use Rattle.machine_steps.specs.Layout.{count_passing, owned_by, size_of};
-ghost use Rattle.machine_steps.specs.CopyLayout.{copy_layout};
+ghost use Rattle.machine_steps.specs.CopyLayout.{layout_of};
 ghost use Rattle.owner_tables.specs.Layouts.{IsLaid};
 ghost use Rattle.machine_steps.specs.SameLayouts.{is_same_layout, is_same_shape};
 
@@ -51,12 +52,14 @@ impl OwnerTable {
         })
     }
 
-    /// The table of a copy of these extents on so many nodes: it lies in blocks of its last index, one a node. Want of memory is the answer,
-    /// too, where there are more than 7 extents or more than 1,048,576 elements.
-    pub fn of_copy(alloc: Global, nodes: u32, extents: &[u128]) -> Result<OwnerTable, OutOfMemory>
+    /// The table of a copy that has these extents on so many nodes: it lies in blocks of its last index, one a node.
+    pub fn of_copy(alloc: Global, nodes: u32, extents: &[u32]) -> Result<OwnerTable, OutOfMemory>
         requires some { 1 ≤ nodes }
         requires few { nodes ≤ MAX_NODES }
-        ensures { IfOk result (λ t. t ≡ record { layout = copy_layout nodes extents.now; nodes = nodes }) }
+        requires rank { length extents.now ≤ MAX_RANK }
+        requires each { All (λ extent. extent ≤ MAX_ELEMENTS) extents.now }
+        requires size { product extents.now ≤ MAX_ELEMENTS }
+        ensures { IfOk result (λ t. t ≡ record { layout = layout_of nodes extents.now; nodes = nodes }) }
     {
         let CopyLayout { shape, mapping } = copy_layout(alloc, nodes, extents)?;
         OwnerTable::new(alloc, nodes, shape, mapping)

@@ -133,10 +133,11 @@ impl Owners {
         self.tables.get(row)
     }
 
-    /// Whether all rows are those of another, for as many nodes: true only where they are the same. It compares shapes and mappings, and
+    /// Whether all rows are those of another, for as many nodes: true exactly where they are the same. It compares shapes and mappings, and
     /// takes no memory.
     pub fn lies_as(&self, other: &Owners) -> bool
-        ensures { IsTrue result → self.now ≡ other.now }
+        ensures same { IsTrue result → self.now ≡ other.now }
+        ensures all { self.now ≡ other.now → IsTrue result }
     {
         if self.nodes != other.nodes || self.tables.len() != other.tables.len() {
             return false;
@@ -189,8 +190,22 @@ impl Owners {
         requires { spot.at < slice_index_or (sizes self.now.layouts) spot.row 0 }
         ensures value { result ≡ least_owner_of self.now.nodes self.now.layouts (spot_of spot) }
         ensures below { result < self.now.nodes }
+        ensures owner { owns_spot self.now.layouts result (spot_of spot) ≡ true }
     {
         self.row(spot.row).least_owner(spot.at)
+    }
+
+    /// The node that sends the element: its least owner, and node 0 where there is no such element.
+    pub fn sender(&self, spot: Spot) -> u32
+        ensures value { result ≡ least_owner_of self.now.nodes self.now.layouts (spot_of spot) }
+        ensures below { result < self.now.nodes }
+    {
+        let _ = &self.tables;
+        if self.is_in_bounds(spot) {
+            self.least_owner(spot)
+        } else {
+            0
+        }
     }
 
     /// The local address, from 0, of the element on a node that owns it: its number among the elements of the row that the node owns.
@@ -203,8 +218,16 @@ impl Owners {
         self.row(spot.row).address(node, spot.at)
     }
 
-    /// The local address, from 0, of the element on the node, if there is such an element and the node owns it: by one look-up of the row.
+    /// The local address, from 0, of the element on the node, if there is such an element and the node owns it.
     pub fn held(&self, node: u32, spot: Spot) -> Option<usize>
+        requires { node < self.now.nodes }
+        ensures { result ≡ (if owns_spot self.now.layouts node (spot_of spot) then Some (address self.now.layouts node (spot_of spot)) else None) }
+    {
+        self.found(node, spot)
+    }
+
+    /// By one look-up of the row, which tests bounds first.
+    fn found(&self, node: u32, spot: Spot) -> Option<usize>
         requires { node < self.now.nodes }
         ensures { result ≡ (if nat_lt spot.at (slice_index_or (sizes self.now.layouts) spot.row 0) && owns_spot self.now.layouts node (spot_of spot)
             then Some (address self.now.layouts node (spot_of spot)) else None) }

@@ -109,6 +109,7 @@ impl Tables {
         requires { at < size_of self.now.layout }
         ensures value { result ≡ least_at self.now.nodes self.now.layout at }
         ensures below { result < self.now.nodes }
+        ensures owner { owned_by self.now.layout result at ≡ true }
     {
         self.least[at]
     }

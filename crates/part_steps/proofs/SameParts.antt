@@ -2,7 +2,7 @@
 use Rattle.std.proofs.Common.{◌≡◌, ℕ, ◌+◌, List, [], ◌∷◌, ◌++◌, ℤ, Bool, true, false, true≢false, Some, Ok, refl, ap, sym}
 use Rattle.std.specs.Prelude.{◌==◌, ◌&&◌}
 use Rattle.std.proofs.lemmas.Bool.Decides.{Decides-int_eq}
-use Rattle.hpf_base.specs.ElementOrder.{product}
+use Rattle.machine_steps.specs.Space.{space_count}
 use Rattle.op_tables.specs.Operators.{wrapped}
 use Rattle.array_meaning.specs.declared.sections.Selection.TheVariants.{At, Along}
 use Rattle.array_meaning.specs.Elementals.{operated, Same, Selected, Operation, Operand}
@@ -78,7 +78,7 @@ module _ (old new : List ℤ) where
         let left : selections_at old [] p.left ≡ selections_at new [] p.left = selections_same [] p.left (both _ _ (both _ _ is).1).0 in
         let right : elemental_at old [] p.right ≡ elemental_at new [] p.right = elemental_same [] p.right (both _ _ (both _ _ is).1).1 in
         λ i. Some (record {
-          tuples = product (extents (over i));
+          tuples = space_count (extents (over i));
           reads = λ t. mask_reads p.mask t ++ reads_at table.shapes (positions (extents (over i)) t) (right i);
           computes = λ node t. computes_left layouts node (in_bounds layouts (spot_of table.shapes p.array (subscripts_at (left i) (positions (extents (over i)) t))));
         })
@@ -91,7 +91,7 @@ module _ (old new : List ℤ) where
         let left : (axes : List ℤ) → selections_at old axes p.left ≡ selections_at new axes p.left = λ axes. selections_same axes p.left (both _ _ (both _ _ is).1).0 in
         let right : (axes : List ℤ) → elemental_at old axes p.right ≡ elemental_at new axes p.right = λ axes. elemental_same axes p.right (both _ _ (both _ _ is).1).1 in
         λ i. Some (record {
-          tuples = product (extents (over i));
+          tuples = space_count (extents (over i));
           reads = λ t. mask_reads p.mask t ++ reads_at table.shapes (indices t i) (right (indices t i) i);
           computes = λ node t. computes_left layouts node (in_bounds layouts (spot_of table.shapes p.array (subscripts_at (left (indices t i) i) (indices t i))));
         })
@@ -102,7 +102,7 @@ module _ (old new : List ℤ) where
         let over : selections_at old [] p.over ≡ selections_at new [] p.over = selections_same [] p.over (both _ _ is).0 in
         let form : elemental_at old [] p.form ≡ elemental_at new [] p.form = elemental_same [] p.form (both _ _ is).1 in
         λ i. Some (record {
-          tuples = product (extents (over i));
+          tuples = space_count (extents (over i));
           reads = λ t. reads_at table.shapes (positions (extents (over i)) t) (form i);
           computes = λ node t. computes_left layouts node (in_bounds layouts (Some (record { row = copy; at = t })));
         })
@@ -114,7 +114,7 @@ module _ (old new : List ℤ) where
         let indices : (t : ℕ) → indices_in p.over old t ≡ indices_in p.over new t = indices_same p.over (both _ _ is).0 in
         let form : (axes : List ℤ) → elemental_at old axes p.form ≡ elemental_at new axes p.form = λ axes. elemental_same axes p.form (both _ _ is).1 in
         λ i. Some (record {
-          tuples = product (extents (over i));
+          tuples = space_count (extents (over i));
           reads = λ t. reads_at table.shapes (indices t i) (form (indices t i) i);
           computes = λ node t. computes_left layouts node (in_bounds layouts (Some (record { row = copy; at = t })));
         })
@@ -125,7 +125,7 @@ module _ (old new : List ℤ) where
         let over : selections_at old [] p.over ≡ selections_at new [] p.over = selections_same [] p.over (both _ _ is).0 in
         let form : elemental_at old [] p.form ≡ elemental_at new [] p.form = elemental_same [] p.form (both _ _ is).1 in
         λ i. Some (record {
-          tuples = product (extents (over i));
+          tuples = space_count (extents (over i));
           reads = λ t. reads_at table.shapes (positions (extents (over i)) t) (form i);
           computes = λ node t. least_or_zero nodes layouts (in_bounds layouts (first_read (reads_at table.shapes (positions (extents (over i)) t) (form i)))) == node;
         })

@@ -1,6 +1,7 @@
 //! The letters of a node in the phase of a part.
 
-ghost use Rattle.std.specs.Prelude.{◌≡◌, ◌<◌, ◌++◌, ◌∷◌, [], All, IfOk, OnOk, if◌then◌else◌, map};
+ghost use Rattle.std.specs.Prelude.{◌≡◌, ◌<◌, ◌++◌, ◌∷◌, [], All, IfOk, OnOk, if◌then◌else◌, map, true};
+ghost use Rattle.machine_steps.specs.Layout.{owns_spot};
 ghost use Rattle.machine_steps.specs.Message.{has_any, message};
 ghost use Rattle.machine_steps.specs.Node.{local_read, parcel, part_sends};
 ghost use Rattle.storage.specs.Spots.{spot_of};
@@ -39,6 +40,7 @@ pub fn outbox(
     ensures parcels { IfOk result (λ o. o.items ≡ outbox_on part.now.owners.now.nodes part.now.owners.now.layouts (part_of (part_view part.now)) id pieces.now) }
     ensures targets { IfOk result (λ o. All (λ parcel. parcel.to < part.now.owners.now.nodes) o.items) }
 {
+    part.owners.are_dealt();
     let mut outbox = VecDeque::new(alloc);
     for target in 0..part.owners.nodes() {
         let spots = exchange.outgoing.with(target);
@@ -67,7 +69,7 @@ pub fn inbox(
     Ok(inbox)
 }
 
-/// Puts the values of a message after the others, if there are any.
+/// Puts the values of a message, whose elements the node owns, after the others, if there are any.
 fn push_parcel(
     alloc: Global,
     part: &Part<'_>,
@@ -77,7 +79,8 @@ fn push_parcel(
     spots: &[Spot],
     outbox: &mut VecDeque<Parcel>,
 ) -> Result<(), OutOfMemory>
-    requires { id < part.now.owners.now.nodes }
+    requires id { id < part.now.owners.now.nodes }
+    requires owner { All (λ spot. owns_spot part.now.owners.now.layouts id (spot_of spot) ≡ true) spots.now }
     ensures { OnOk result (outbox.new.items ≡ outbox.old.items
         ++ (if has_any (map spot_of spots.now)
         then record { to = target; body = map (local_read part.now.owners.now.layouts id pieces.now) (map spot_of spots.now) } ∷ []

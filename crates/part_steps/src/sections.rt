@@ -54,7 +54,7 @@ fn push_first(
 {
     match reads {
         [Some(spot), ..] => {
-            values.push(gathered.get(*spot)?)?;
+            values.push(gathered.get(*spot))?;
             Ok(())
         }
         _ => Ok(()),

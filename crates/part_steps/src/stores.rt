@@ -34,7 +34,7 @@ impl Stores {
         }
     }
 
-    /// Adds a value for an element, if the node owns it. An element out of bounds is answered as want of memory.
+    /// Adds a value for an element, if there is such an element and the node owns it.
     pub(crate) fn add(
         &mut self,
         owners: &Owners,
@@ -53,13 +53,7 @@ impl Stores {
                 })?;
                 Ok(())
             }
-            None => {
-                if owners.is_in_bounds(spot) {
-                    Ok(())
-                } else {
-                    Err(OutOfMemory)
-                }
-            }
+            None => Ok(()),
         }
     }
 

@@ -1,7 +1,6 @@
 //! The values of elements and of tuples on a node after the phase of a part.
 
 ghost use Rattle.std.specs.Prelude.{◌≡◌, ◌<◌, [], IfOk, slice_index_or};
-ghost use Rattle.machine_steps.specs.Layout.{sizes};
 ghost use Rattle.storage.specs.Spots.{spot_of};
 ghost use Rattle.tuple_values.specs.Outcomes.{outcome_view};
 ghost use Rattle.tuple_values.specs.Statements.{tuple_place};
@@ -48,26 +47,21 @@ impl<'a> Gathered<'a> {
         self.exchange.computed.as_slice()
     }
 
-    /// The value of an element. One out of bounds is answered as want of memory.
-    pub(crate) fn get(&self, spot: Spot) -> Result<i64, OutOfMemory>
-        ensures { IfOk result (λ v. v ≡ value_of (after_of self.now) (spot_of spot)) }
+    /// The value of an element: the node's own, or received; 0 where there is no such element.
+    pub(crate) fn get(&self, spot: Spot) -> i64
+        ensures { result ≡ value_of (after_of self.now) (spot_of spot) }
     {
-        let owners = self.part.owners;
-        if let Some(value) = held_value(owners, self.id, self.pieces, spot) {
-            return Ok(value);
+        match held_value(self.part.owners, self.id, self.pieces, spot) {
+            Some(value) => value,
+            None => self.received_value(spot),
         }
-        if !owners.is_in_bounds(spot) {
-            return Err(OutOfMemory);
-        }
-        Ok(self.received_value(spot))
     }
 
     /// The value that the node received of an element.
     fn received_value(&self, spot: Spot) -> i64
-        requires { spot.at < slice_index_or (sizes self.now.part.now.owners.now.layouts) spot.row 0 }
         ensures { result ≡ received_value (after_of self.now) (spot_of spot) }
     {
-        let source = self.part.owners.least_owner(spot);
+        let source = self.part.owners.sender(spot);
         value_in(
             self.exchange.incoming.with(source),
             values_from(self.received, source),
@@ -91,7 +85,7 @@ impl<'a> Elements for Gathered<'a> {
 
     ghost get = { λ g. value_of (after_of g) };
 
-    fn value(&self, spot: Spot) -> Result<i64, OutOfMemory> {
+    fn value(&self, spot: Spot) -> i64 {
         self.get(spot)
     }
 }

@@ -119,7 +119,7 @@ impl Redistribution {
         ensures { IfOk result (λ value. value ≡ value_after self.now pieces.now received.now (spot_of spot)) }
     {
         if self.before.owns(self.id, spot) {
-            return local_value(&self.before, self.id, pieces, spot);
+            return Ok(local_value(&self.before, self.id, pieces, spot));
         }
         let source = self.before.least_owner(spot);
         Ok(value_in(incoming.with(source), values_from(received, source), spot))

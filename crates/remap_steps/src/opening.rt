@@ -1,7 +1,8 @@
 //! The letters of a node in a round of a redistribution.
 
-ghost use Rattle.std.specs.Prelude.{◌≡◌, ◌<◌, ◌++◌, ◌∷◌, [], All, IfOk, OnOk, filter, map, slice_index_or};
+ghost use Rattle.std.specs.Prelude.{◌≡◌, ◌<◌, ◌++◌, ◌∷◌, [], All, IfOk, OnOk, filter, map, slice_index_or, true};
 ghost use Rattle.std.specs.List.{list_any};
+ghost use Rattle.machine_steps.specs.Layout.{owns_spot};
 ghost use Rattle.machine_steps.specs.Node.{local_read, parcel};
 ghost use Rattle.storage.specs.Spots.{spot_of};
 ghost use Rattle.machine_steps.specs.Rounds.{is_pair};
@@ -49,14 +50,16 @@ impl Redistribution {
             (filter (sends_in self.now round self.now.id) (target ∷ []))) }
     {
         if self.is_in_round(round, self.id, target) {
+            self.before.are_dealt();
             let body = self.body(alloc, pieces, self.outgoing.with(target))?;
             outbox.push_back(Parcel { to: target, body })?;
         }
         Ok(())
     }
 
-    /// The values of elements on the node, in order.
+    /// The values of elements that the node owns before, in order.
     fn body(&self, alloc: Global, pieces: &[Row], spots: &[Spot]) -> Result<Body, OutOfMemory>
+        requires { All (λ spot. owns_spot self.now.old self.now.id (spot_of spot) ≡ true) spots.now }
         ensures { IfOk result (λ body. body ≡ map (local_read self.now.old self.now.id pieces.now) (map spot_of spots.now)) }
     {
         let mut values = Vec::with_capacity(alloc, spots.len())?;
@@ -66,16 +69,17 @@ impl Redistribution {
         Ok(Body::from(values))
     }
 
-    /// Puts the value of an element on the node after the others.
+    /// Puts the value of an element that the node owns before after the others.
     fn push_value(
         &self,
         pieces: &[Row],
         spot: Spot,
         values: &mut Vec<i64>,
     ) -> Result<(), OutOfMemory>
+        requires { owns_spot self.now.old self.now.id (spot_of spot) ≡ true }
         ensures { OnOk result (values.new.items ≡ values.old.items ++ local_read self.now.old self.now.id pieces.now (spot_of spot) ∷ []) }
     {
-        values.push(local_value(&self.before, self.id, pieces, spot)?)?;
+        values.push(local_value(&self.before, self.id, pieces, spot))?;
         Ok(())
     }
 

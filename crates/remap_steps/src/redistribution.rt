@@ -77,10 +77,11 @@ impl Redistribution {
         Redistribution::new(alloc, before, after, id)
     }
 
-    /// Whether it is the one between these owners on the node with this number: true only where it is. It compares shapes and
-    /// mappings, and takes no memory.
+    /// Whether it is the one between these owners, which are for as many nodes, on the node with this number: true exactly where it is. It
+    /// compares shapes and mappings, and takes no memory.
     pub fn is_of(&self, before: &Owners, after: &Owners, id: u32) -> bool
-        ensures { IsTrue result → self.now ≡ record { nodes = before.now.nodes; old = before.now.layouts; new = after.now.layouts; id = id } }
+        ensures same { IsTrue result → self.now ≡ record { nodes = before.now.nodes; old = before.now.layouts; new = after.now.layouts; id = id } }
+        ensures all { self.now ≡ record { nodes = before.now.nodes; old = before.now.layouts; new = after.now.layouts; id = id } → before.now.nodes ≡ after.now.nodes → IsTrue result }
     {
         self.id == id && self.before.lies_as(before) && self.after.lies_as(after)
     }

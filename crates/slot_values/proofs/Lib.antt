@@ -1,4 +1,5 @@
 pub mod Begun
+pub mod CopyExtents
 pub mod ForallTests
 pub mod InBounds
 pub mod LocalInstructions

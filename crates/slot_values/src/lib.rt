@@ -21,6 +21,7 @@ mod section_bounds;
 mod sections;
 mod slot_terms;
 mod space_tests;
+mod spaces;
 
 pub use control::{Control, Status, halt, jump, jump_if_zero};
 pub use element_spots::{element_place, element_place_of_one, element_place_of_two, element_spot};
@@ -34,5 +35,6 @@ pub use scalar_instructions::{set, test_bounds, test_stride, trips};
 pub use section_bounds::inside;
 pub use sections::{elemental_at, selections_at};
 pub use space_tests::{limits, own_limits};
+pub use spaces::{copy_extents, space_count};
 pub use storage::Spot;
 pub use term_values::Fault;

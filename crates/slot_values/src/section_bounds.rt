@@ -14,15 +14,16 @@ ghost use Rattle.slot_values.specs.Tested.{IsTest};
 use crate::control::{Control, go_on_if};
 use crate::element_spots::element_place;
 use crate::sections::selections_at;
+use crate::spaces::space_count;
 use array_meaning::{FaultKind, Selection};
 use expression_rules::Dims;
 use hpf_base::OutOfMemory;
 use node_code::Sub;
 use std::alloc::Global;
-use term_values::{Stop, at_tuple, extents, fault, positions, size, subscripts_at};
+use term_values::{Stop, at_tuple, extents, fault, positions, subscripts_at};
 
 /// The run ends with a fault at the first tuple of positions at which an element of a section is out of bounds, and goes on where there is
-/// none. A section past the limit of tuples is answered as want of memory. After want of memory nothing has changed.
+/// none. After want of memory nothing has changed.
 #[tactic(auto, using(crate::proofs::Tested::tested_as))]
 pub fn inside(
     alloc: Global,
@@ -46,10 +47,7 @@ fn all_inside(alloc: Global, shapes: &[Dims], array: usize, ds: &[Selection]) ->
     ensures { IsTest (all_inside shapes.now array ds.now) result }
 {
     let ns = extents(alloc, ds)?;
-    match size(&ns) {
-        Some(n) => first_inside(alloc, shapes, array, ds, &ns, n),
-        None => Err(Stop::Memory),
-    }
+    first_inside(alloc, shapes, array, ds, &ns, space_count(&ns))
 }
 
 /// Whether those at the first tuples are.

@@ -11,7 +11,7 @@ use crate::expressions::{flat_or_zero, slot};
 use array_meaning::{Selection, Sequence};
 use node_code::{ArrayForm, Sub};
 use std::alloc::{AllocError, Global};
-use term_values::{Elemental, sequence};
+use term_values::{Elemental, Stop, sequence};
 
 /// What section subscripts select, the first dimension first, by the slots and the values of the indices of a FORALL.
 pub fn selections_at(
@@ -62,7 +62,8 @@ fn sequence_in(slots: &[i64], v: usize) -> Result<Sequence, AllocError>
     }
     match sequence(first, last, step) {
         Ok(p) => Ok(p),
-        Err(_) => Err(AllocError),
+        Err(Stop::Memory) => Err(AllocError),
+        Err(Stop::Fault(_)) => unreachable!(),
     }
 }
 

@@ -1,6 +1,5 @@
 -- What parallel statements are, once the slots are known.
 use Rattle.std.specs.Prelude.{◌≡◌, ℕ, List, [], ◌++◌, length, ℤ, Bool, true, Option, Some, None, option_map, Result}
-use Rattle.hpf_base.specs.ElementOrder.{product}
 use Rattle.op_tables.specs.declared.reductions.Made.{Made}
 use Rattle.op_tables.specs.Operators.{is_true}
 use Rattle.op_tables.specs.Reductions.{made}
@@ -12,6 +11,7 @@ use Rattle.array_meaning.specs.declared.sections.Selection.{Selection}
 use Rattle.array_meaning.specs.Sections.{subscripts_at, positions}
 use Rattle.array_meaning.specs.Elementals.{Elemental}
 use Rattle.machine_steps.specs.Instr.{Outcome, Tuples}
+use Rattle.machine_steps.specs.Space.{space_count}
 use Rattle.node_code.specs.Forms.{Sub, ArrayForm, selections_at, elemental_at}
 use Rattle.node_code.specs.Parallel.{When, at_line, as_asked, outcome_of, outcome_if, is_asked, mask_reads, shape_of, reads_at, value_by_reads, made_outcome}
 use Rattle.tuple_values.specs.ByElements.{value_by_elements}
@@ -113,7 +113,7 @@ module _ (w : Statement) where
 
   -- how many tuples there are
   abbrev pub tuple_count : ℕ
-  tuple_count = product w.extents
+  tuple_count = space_count w.extents
 
   -- the elements that are read at a tuple
   abbrev pub tuple_reads : ℕ → List (Option Spot)

@@ -120,7 +120,7 @@ impl<'a> ParallelStatement<'a> {
         requires place { place ≡ tuple_place (statement self.now) tuple }
         ensures { IfOk result (λ o. outcome_view o ≡ tuple_outcome (statement self.now) tuple (map (value_by (E.get elements.now)) (tuple_reads (statement self.now) tuple))) }
     {
-        if self.is_asked(tuple, elements)? {
+        if self.is_asked(tuple, elements) {
             self.asked_outcome(tuple, place, elements)
         } else {
             Ok(Outcome::Nothing)
@@ -152,17 +152,17 @@ impl<'a> ParallelStatement<'a> {
     }
 
     /// Whether the mask asks for a tuple.
-    fn is_asked<E: Elements>(&self, tuple: usize, elements: &E) -> Result<bool, OutOfMemory>
-        ensures { IfOk result (λ b. b ≡ asked_by (E.get elements.now) (statement self.now).mask tuple) }
+    fn is_asked<E: Elements>(&self, tuple: usize, elements: &E) -> bool
+        ensures { result ≡ asked_by (E.get elements.now) (statement self.now).mask tuple }
     {
         match self.mask {
-            None => Ok(true),
+            None => true,
             Some(w) => {
                 let v = elements.value(Spot {
                     row: w.copy,
                     at: tuple,
-                })?;
-                Ok(as_asked(w.value, v))
+                });
+                as_asked(w.value, v)
             }
         }
     }

@@ -1,8 +1,8 @@
 //! The parallel statements of instructions.
 
 ghost use Rattle.std.specs.Prelude.{◌≡◌, ◌≤◌, ◌∷◌, [], ℕ, length, option_map, IfOk, None};
-ghost use Rattle.hpf_base.specs.ElementOrder.{product};
 ghost use Rattle.array_meaning.specs.Sections.{extents};
+ghost use Rattle.machine_steps.specs.Space.{space_count};
 ghost use Rattle.node_code.specs.Forms.{selections_in};
 ghost use Rattle.node_code.specs.Instructions.{section_spot};
 ghost use Rattle.node_code.specs.Parallel.{assigned_spot, assignment_tuples, copy_spot, evaluation_tuples, forall_mask_tuples, forall_spot, forall_tuples, reduction_tuples};
@@ -24,7 +24,7 @@ use slot_values::selections_at;
 use std::alloc::Global;
 
 impl<'a> ParallelStatement<'a> {
-    /// An assignment to a section. A space or a section past the limits is answered as want of memory, here and below.
+    /// An assignment to a section. A space or a section of more than seven dimensions is answered as want of memory, here and below.
     pub fn of_assignment(
         alloc: Global,
         shapes: &'a [Dims],
@@ -103,7 +103,7 @@ impl<'a> ParallelStatement<'a> {
         array: usize,
         section: &'a [Sub],
     ) -> Result<ParallelStatement<'a>, OutOfMemory>
-        ensures count { IfOk result (λ w. tuple_count (statement w) ≡ product (extents (selections_in slots.now (subs section.now)))) }
+        ensures count { IfOk result (λ w. tuple_count (statement w) ≡ space_count (extents (selections_in slots.now (subs section.now)))) }
         ensures reads { IfOk result (λ w. (t : ℕ) → tuple_reads (statement w) t ≡ section_spot shapes.now array (subs section.now) slots.now t ∷ []) }
     {
         let space = section_space(alloc, slots, section)?;

@@ -2,8 +2,8 @@
 
 ghost use Rattle.std.specs.Prelude.{◌≡◌, ◌<◌, ◌≤◌, length, option_map, IfOk, None, Some};
 ghost use Rattle.hpf_base.specs.declared.limits.TheConstants.{MAX_TUPLES};
-ghost use Rattle.hpf_base.specs.ElementOrder.{product};
 ghost use Rattle.array_meaning.specs.Sections.{extents, subscripts_at};
+ghost use Rattle.machine_steps.specs.Space.{space_count};
 ghost use Rattle.node_code.specs.Forms.{selections_in};
 ghost use Rattle.node_code.specs.Texts.{subs};
 ghost use Rattle.tuple_values.specs.Statements.{axes_in, entries_in};
@@ -12,24 +12,24 @@ use crate::tuple::{Tuple, positions, subscripts_at};
 use array_meaning::Selection;
 use hpf_base::{MAX_RANK, OutOfMemory};
 use node_code::Sub;
-use slot_values::selections_at;
+use slot_values::{selections_at, space_count};
 use std::alloc::Global;
-use term_values::{extents, size};
+use term_values::extents;
 
-/// A space of at most seven dimensions, within the limit of tuples.
+/// A space of at most seven dimensions.
 #[derive(Drop)]
 pub(crate) struct Space {
     pub(crate) extents: Vec<u128>,
-    /// The number of tuples.
+    /// The number of tuples; none past the limit.
     pub(crate) count: usize,
     /// The values of the indices of a FORALL.
     pub(crate) indices: Option<Vec<Selection>>,
-    ghost sized: { product extents.items ≡ count },
+    ghost sized: { space_count extents.items ≡ count },
     ghost few: { count ≤ MAX_TUPLES },
     ghost rank: { length extents.items ≤ 7 },
 }
 
-/// The space of a section, whose tuples are positions. A space past the limits is answered as want of memory.
+/// The space of a section, whose tuples are positions. One of more than seven dimensions is answered as want of memory.
 pub(crate) fn section_space(
     alloc: Global,
     slots: &[i64],
@@ -61,20 +61,18 @@ fn sized(extents: Vec<u128>, indices: Option<Vec<Selection>>) -> Result<Space, O
     if extents.len() > MAX_RANK {
         return Err(OutOfMemory);
     }
-    match size(&extents) {
-        Some(count) => Ok(Space {
-            extents,
-            count,
-            indices,
-        }),
-        None => Err(OutOfMemory),
-    }
+    let count = space_count(&extents);
+    Ok(Space {
+        extents,
+        count,
+        indices,
+    })
 }
 
 impl Space {
     /// The entries of a tuple.
     pub(crate) fn entries(&self, tuple: usize) -> Result<Tuple, OutOfMemory>
-        requires { tuple < product self.now.extents.items }
+        requires { tuple < space_count self.now.extents.items }
         ensures { IfOk result (λ x. x ≡ entries_in (option_map (λ ds. ds.items) self.now.indices) self.now.extents.items tuple) }
     {
         let x = positions(&self.extents, tuple);

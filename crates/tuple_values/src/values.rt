@@ -148,19 +148,8 @@ pub(crate) fn section_value<E: Elements>(
     ensures stopped { IfErr result (IsStop (value_here here.now (E.get elements.now) (SectionForm array (subs section.now)))) }
 {
     match section_place(here, array, section) {
-        Ok(Some(at)) => element_value(elements, Spot { row: array, at }),
+        Ok(Some(at)) => Ok(elements.value(Spot { row: array, at })),
         Ok(None) => Err(fault(FaultKind::Bounds)),
-        Err(_) => Err(Stop::Memory),
-    }
-}
-
-/// The value of an element.
-fn element_value<E: Elements>(elements: &E, spot: Spot) -> Result<i64, Stop>
-    ensures value { IfOk result (λ v. v ≡ E.get elements.now (spot_of spot)) }
-    ensures stopped { IfErr result (λ e. e ≡ Memory) }
-{
-    match elements.value(spot) {
-        Ok(v) => Ok(v),
         Err(_) => Err(Stop::Memory),
     }
 }

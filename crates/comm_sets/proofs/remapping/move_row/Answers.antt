@@ -11,5 +11,5 @@ returns-then-is_unchanged c =
     let new = c.args.after.now in
     let row = c.args.row in
     noted-same (λ other s. (nat_eq row s.row && nat_lt s.at (get_or (sizes old.layouts) row 0)) && moves old.nodes old.layouts new.layouts c.args.end other s)
-    (λ other lt s. none-moves old.nodes old.layouts new.layouts c.args.end row (c.if-is_unchanged.ensures refl) other s (nat_lt s.at (get_or (sizes old.layouts) row 0)))
+    (λ other lt s. none-moves old.nodes old.layouts new.layouts c.args.end row (c.if-is_unchanged.ensures.same refl) other s (nat_lt s.at (get_or (sizes old.layouts) row 0)))
     (noted-none c.args.messages.now)

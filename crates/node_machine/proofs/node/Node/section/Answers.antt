@@ -1,5 +1,5 @@
 use Rattle.std.proofs.Common.{[], ◌∷◌, ◌∙◌}
-use Rattle.hpf_base.specs.ElementOrder.{product}
+use Rattle.machine_steps.specs.Space.{space_count}
 use Rattle.array_meaning.specs.Sections.{extents}
 use Rattle.node_code.specs.Forms.{selections_in}
 use Rattle.node_code.specs.Instructions.{section_spot}
@@ -15,11 +15,11 @@ returns c =
     record {
       prints = record {
         items = c.requires.items;
-        count = λ slots. product (extents (selections_in slots (subs section)));
+        count = λ slots. space_count (extents (selections_in slots (subs section)));
         element = section_spot shapes s.array (subs section);
         is = c.requires.is;
         item = c.requires.there;
       };
-      tuples = c.in_ok-statement.ensures.count ∙ (λ i. product (extents (selections_in (slots i) (subs (c.deref-3.ensures.value i)))));
+      tuples = c.in_ok-statement.ensures.count ∙ (λ i. space_count (extents (selections_in (slots i) (subs (c.deref-3.ensures.value i)))));
       reads = λ t. c.in_ok-statement.ensures.reads t ∙ (λ i. section_spot (c.deref.ensures.value i) s.array (subs (c.deref-3.ensures.value i)) (slots i) t ∷ []);
     }

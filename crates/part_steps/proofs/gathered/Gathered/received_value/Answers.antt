@@ -13,13 +13,13 @@ with-requires c =
     let self = c.args.self.now in
     let owners = self.part.now.owners.now in
     is-listed self.exchange.now.incoming (λ p. message owners.nodes owners.layouts (part_of (part_view self.part.now)) p self.id) owners.nodes self.exchanged.incoming
-    c.least_owner-source.result c.least_owner-source.ensures.below
+    c.sender-source.result c.sender-source.ensures.below
 
 pub value_in-requires : goal.value_in-requires
 value_in-requires c =
     let self = c.args.self.now in
     let owners = self.part.now.owners.now in
-    ascends owners.nodes owners.layouts (part_of (part_view self.part.now)) self.id self.exchange.now.incoming self.exchanged.incoming c.least_owner-source.result (map spot_of c.with.result.now) c.with.ensures
+    ascends owners.nodes owners.layouts (part_of (part_view self.part.now)) self.id self.exchange.now.incoming self.exchanged.incoming c.sender-source.result (map spot_of c.with.result.now) c.with.ensures
 
 pub returns : goal.returns
 returns c =
@@ -28,4 +28,4 @@ returns c =
     let fits : SFits w64 c.value_in.result = search rules in
     to_z-of_z w64 c.value_in.result fits ∙ c.value_in.ensures
     ∙ received-is owners.nodes owners.layouts (part_of (part_view self.part.now)) self.id self.exchange.now.incoming self.exchanged.incoming self.received.now (spot_of c.args.spot)
-    c.least_owner-source.result (map spot_of c.with.result.now) c.values_from.result.now c.least_owner-source.ensures.value c.least_owner-source.ensures.below c.with.ensures c.values_from.ensures
+    c.sender-source.result (map spot_of c.with.result.now) c.values_from.result.now c.sender-source.ensures.value c.sender-source.ensures.below c.with.ensures c.values_from.ensures

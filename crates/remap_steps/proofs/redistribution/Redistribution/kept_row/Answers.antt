@@ -10,6 +10,6 @@ returns-then-is_unchanged c =
     let s = seen c.self.inside v c.self.view_is c.self.invariant in
     let row = c.args.row in
     row-kept v c.args.pieces.now c.args.received.now row c.values_of-piece.result.now
-    (sym (ap (λ layouts. owned_in layouts row) s.old) ∙ c.if-is_unchanged.ensures refl ∙ ap (λ layouts. owned_in layouts row) s.new)
+    (sym (ap (λ layouts. owned_in layouts row) s.old) ∙ c.if-is_unchanged.ensures.same refl ∙ ap (λ layouts. owned_in layouts row) s.new)
     c.values_of-piece.ensures
     (c.if-piece-owned.true ∙ c.owned.ensures ∙ (λ i. count_passing (owned_in (s.old i) row (s.id i)) 0 (get_or (sizes (s.old i)) row 0)))

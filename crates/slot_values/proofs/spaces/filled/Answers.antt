@@ -1,0 +1,12 @@
+use Rattle.std.proofs.Common.{◌∙◌}
+use Rattle.slot_values.proofs.CopyExtents.{copy-each, copy-size, extents-some}
+use Rattle.slot_values.proofs.spaces.filled.Goals as goal
+
+pub returns-clause-value : goal.returns-clause-value
+returns-clause-value c = c.in_ok-narrow.ensures ∙ extents-some c.args.ns.now c.requires
+
+pub returns-clause-each : goal.returns-clause-each
+returns-clause-each c = copy-each c.args.ns.now c.in_ok-narrow.narrow.items (c.in_ok-narrow.ensures ∙ extents-some c.args.ns.now c.requires)
+
+pub returns-clause-size : goal.returns-clause-size
+returns-clause-size c = copy-size c.args.ns.now c.in_ok-narrow.narrow.items (c.in_ok-narrow.ensures ∙ extents-some c.args.ns.now c.requires)
