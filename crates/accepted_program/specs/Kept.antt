@@ -11,10 +11,10 @@ use Rattle.mappings.specs.Mapping.{IsAlign, IsForm, InLine}
 use Rattle.name_table.specs.contracts.names.Entry as entry
 use Rattle.name_table.specs.declared.names.Entry.{Entry}
 use Rattle.array_maps.specs.contracts.maps.ArrayMap as array_map
-use Rattle.array_maps.specs.contracts.maps.NewMap as new_map
+use Rattle.array_maps.specs.contracts.maps.Redistribution as redistribution
 use Rattle.array_maps.specs.declared.maps.ArrayMap.{ArrayMap}
 use Rattle.array_maps.specs.declared.maps.Maps.{Maps}
-use Rattle.array_maps.specs.declared.maps.NewMap.{NewMap}
+use Rattle.array_maps.specs.declared.maps.Redistribution.{Redistribution}
 use Rattle.array_maps.specs.Maps.{AreMaps}
 
 pub names-prop : (es fs : List Entry) → IsProp (es ≡ fs)
@@ -23,8 +23,8 @@ names-prop = Coded-set (coded_list entry.the_row.coded)
 pub starts-prop : (ms ns : List ArrayMap) → IsProp (ms ≡ ns)
 starts-prop = Coded-set (coded_list array_map.the_row.coded)
 
-pub moves-prop : (ms ns : List (List NewMap)) → IsProp (ms ≡ ns)
-moves-prop = Coded-set (coded_list (coded_list new_map.the_row.coded))
+pub moves-prop : (ms ns : List Redistribution) → IsProp (ms ≡ ns)
+moves-prop = Coded-set (coded_list redistribution.the_row.coded)
 
 -- ---- valid mappings
 

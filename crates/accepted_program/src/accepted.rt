@@ -23,7 +23,7 @@ pub struct AcceptedProgram<'a> {
     /// Its tree and its declared names, each once, in the order of their declarations.
     pub program: Program,
     /// The mapping with which each declared array starts, in the order of the declarations, and for each REDISTRIBUTE, in the order of the
-    /// text, the arrays that move with their new mappings (HPF 2.0, 3 and 8.3).
+    /// text, its line and the arrays that move with their new mappings (HPF 2.0, 3 and 8.3).
     pub maps: Maps,
     /// The grid that it is accepted on: the extents, the first dimension first (HPF 2.0, PROCESSORS).
     pub grid: &'a Grid,

@@ -33,4 +33,4 @@ pub record AreNewMaps (nodes : ℕ) (arrays : List ArrayMap) (news : List NewMap
 -- the mappings of a program on so many nodes
 pub record AreMaps (nodes : ℕ) (maps : Maps) : Type 0 where
   pub arrays : All (IsArrayMap nodes) maps.arrays
-  pub moves : All (AreNewMaps nodes maps.arrays) maps.moves
+  pub moves : All (λ r. AreNewMaps nodes maps.arrays r.maps) maps.moves

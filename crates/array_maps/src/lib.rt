@@ -1,10 +1,12 @@
 //! The mappings of a program's arrays: with which each array starts, and which of them each redistribution changes.
 //!
 //! Comes in: names, shapes and mappings. Goes out: lists of them, an entry for each array in the order of the declarations and an
-//! entry for each REDISTRIBUTE in the order of the text. What holds in between: the lists are what they were made from, in the same order;
-//! `specs/Maps.antt` says which mappings serve a program that runs on so many nodes.
+//! entry for each REDISTRIBUTE in the order of the text, with its line. What holds in between: the lists are what they were made from, in the
+//! same order; `specs/Maps.antt` says which mappings serve a program that runs on so many nodes, and `specs/Lines.antt` what a line moves.
 #![tactic(auto)]
 
+mod laws;
 mod maps;
 
-pub use maps::{ArrayMap, ArrayMaps, Maps, NewMap, NewMaps, Redistributions};
+pub use laws::line_moves_are_valid;
+pub use maps::{ArrayMap, ArrayMaps, Maps, NewMap, NewMaps, Redistribution, Redistributions};

@@ -1,9 +1,11 @@
 //! The mappings of a program's arrays.
 
-ghost use Rattle.std.specs.Prelude.{◌≡◌};
+ghost use Rattle.std.specs.Prelude.{◌≡◌, ◌++◌, map, IfOk, OnOk};
+ghost use Rattle.array_maps.specs.Lines.{moves_at, moves_of_line};
 
 use hpf_base::{ArrayId, Name, Shape};
 use mappings::Mapping;
+use std::alloc::{AllocError, Global};
 use std::marker::Model;
 
 /// An array with the mapping that it has when the program starts.
@@ -84,35 +86,78 @@ impl NewMaps {
     }
 }
 
-/// What each REDISTRIBUTE of a program does, in the order of the text. Contracts see the list of lists.
+/// A REDISTRIBUTE with the number of its line, from 1, by which it is known: a directive line holds one directive.
+#[derive(Debug, Drop)]
+pub struct Redistribution {
+    pub line: u32,
+    pub maps: NewMaps,
+}
+
+/// What each REDISTRIBUTE of a program does, in the order of the text. Contracts see the list.
 #[derive(Debug, Drop)]
 pub struct Redistributions {
-    entries: Vec<NewMaps>,
+    entries: Vec<Redistribution>,
 }
 
 impl Model for Redistributions {
     ghost use Rattle.std.specs.Prelude.{List};
-    ghost use Rattle.array_maps.specs.declared.maps.NewMap.{NewMap};
+    ghost use Rattle.array_maps.specs.declared.maps.Redistribution.{Redistribution};
 
-    ghost Value = { List (List NewMap) };
+    ghost Value = { List Redistribution };
 
     ghost view = { λ r. r.entries.items };
 }
 
 impl Redistributions {
     /// These redistributions, in their order. It takes no memory.
-    pub fn new(entries: Vec<NewMaps>) -> Redistributions
+    pub fn new(entries: Vec<Redistribution>) -> Redistributions
         ensures { result ≡ entries.items }
     {
         Redistributions { entries }
     }
 
     /// The redistributions in order.
-    pub fn as_slice(&self) -> &[NewMaps]
+    pub fn as_slice(&self) -> &[Redistribution]
         ensures { result.now ≡ self.now }
     {
         &self.entries
     }
+
+    /// The new mappings that the redistributions of a line give, in order; none where there is no redistribution. An `Err` is want of memory.
+    pub fn moves_at(&self, alloc: Global, line: u32) -> Result<Vec<&NewMap>, AllocError>
+        ensures { IfOk result (λ found. map (λ new. new.now) found.items ≡ moves_at self.now line) }
+    {
+        let mut found = Vec::new(alloc);
+        for one in self.as_slice() {
+            push_at(one, line, &mut found)?;
+        }
+        Ok(found)
+    }
+}
+
+/// Those of a redistribution, if it stands in that line, after the others. An `Err` is want of memory, here and below.
+fn push_at<'a>(
+    one: &'a Redistribution,
+    line: u32,
+    found: &mut Vec<&'a NewMap>,
+) -> Result<(), AllocError>
+    ensures { OnOk result (map (λ new. new.now) found.new.items ≡ map (λ new. new.now) found.old.items ++ moves_of_line one.now line) }
+{
+    if one.line == line {
+        push_all(one.maps.as_slice(), found)
+    } else {
+        Ok(())
+    }
+}
+
+/// These after the others.
+fn push_all<'a>(maps: &'a [NewMap], found: &mut Vec<&'a NewMap>) -> Result<(), AllocError>
+    ensures { OnOk result (map (λ new. new.now) found.new.items ≡ map (λ new. new.now) found.old.items ++ maps.now) }
+{
+    for new in maps {
+        found.push(new)?;
+    }
+    Ok(())
 }
 
 /// The mappings of a program: those with which its arrays start, and those that its redistributions give.

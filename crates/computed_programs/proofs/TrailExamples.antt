@@ -1,23 +1,27 @@
 -- Which parts a run reaches. In the comments a bar stands for the end of a line. All programs declare INTEGER :: A(3) = 2, B(3), K = 1, I.
-use Rattle.std.specs.Prelude.{◌≡◌, refl, ℕ, List, [], ◌∷◌, pos, true, false}
+use Rattle.std.specs.Prelude.{◌≡◌, refl, ℕ, List, [], ◌∷◌, pos, true, false, None}
 use Rattle.std.specs.Int.{int_wrap}
 use Rattle.op_tables.specs.declared.op.Op.TheVariants as op
+use Rattle.syntax_tree.specs.Directive.{Cyclic}
 use Rattle.syntax_tree.specs.Expression as e
 use Rattle.syntax_tree.specs.Statement as s
 use Rattle.name_table.specs.declared.names.Entry.{Entry}
-use Rattle.array_meaning.specs.Terms.{Number, Index, Apply, NoTerm, More}
+use Rattle.array_meaning.specs.Terms.{Number, Index, Element, Apply, NoTerm, More}
 use Rattle.array_meaning.specs.declared.sections.Sequence.{Sequence}
 use Rattle.array_meaning.specs.declared.sections.Selection.TheVariants.{Along}
 use Rattle.array_meaning.specs.Elementals.{Elemental, Same, Selected, Operation, NoOperand, Operand}
-use Rattle.array_meaning.specs.Trail.{Event, TrailEntry, SectionAssigned, WhereMask, Reduced, trail_of, ForallMask}
-use Rattle.computed_programs.proofs.Shorthands.{A, B, I, K, scalar, vector, n, v, mul, div, gt, call, range, variable, variable_at, element_at, assign, axis, at, set, print, block, loop, where_mask, forall_over, forall_masked, sub}
+use Rattle.statement_trail.specs.Trail.{Event, TrailEntry, SectionAssigned, WhereMask, Reduced, ForallMask, ElementsAssigned, Redistributed, trail_of}
+use Rattle.computed_programs.proofs.Shorthands.{A, B, I, K, scalar, vector, n, v, add, mul, div, gt, call, range, variable, variable_at, element_at, assign, axis, at, set, print, block, loop, where_mask, forall_over, forall_masked, sub, element, parts}
 
 abbrev names : List Entry
 names = vector A 3 2 ∷ vector B 3 0 ∷ scalar K (pos 1) ∷ scalar I (pos 0) ∷ []
 
--- the positions 1 to 3, and all elements of the array at a place
+-- the positions from 1 up to so many, those up to 3, and all elements of the array at a place
+abbrev up_to : ℕ → Sequence
+up_to count = record { first = pos 1; step = pos 1; count = count }
+
 abbrev from_one : Sequence
-from_one = record { first = pos 1; step = pos 1; count = 3 }
+from_one = up_to 3
 
 abbrev all_of : ℕ → Elemental
 all_of a = Selected a (Along from_one ∷ [])
@@ -26,13 +30,48 @@ all_of a = Selected a (Along from_one ∷ [])
 abbrev reached : ℕ → ℕ → Event → TrailEntry
 reached line i event = record { line = line; scalars = pos 0 ∷ pos 0 ∷ pos 1 ∷ pos i ∷ []; event = event }
 
--- A FORALL of an empty space has no part, and not even its mask.
+-- Each kind of part, and a REDISTRIBUTE. The last statement ends with Shape, and isn't reached as a part.
+-- A = A + SUM(B)|WHERE (A > K) B = 1 / A|FORALL (I=1:3, I>1) B(I) = A(I)|!HPF$ REDISTRIBUTE A(CYCLIC)|B(1:2) = A|END
+each_part : trail_of names (block (
+    set 2 (variable A) (add (v A) (call op.Sum (v B ∷ []))) ∷
+    where_mask 3 (gt (v A) (v K)) (assign 3 (variable B) (div (n 1) (v A)) ∷ []) [] ∷
+    forall_masked 4 (axis I (n 1) (n 3) ∷ []) (gt (v I) (n 1)) (assign 4 (element_at B (v I)) (element A (v I)) ∷ []) ∷
+    at 5 (s.Redistribute record { names = A ∷ []; formats = Cyclic None ∷ []; onto = None }) ∷
+    set 6 (variable_at B (range (n 1) (n 2) ∷ [])) (v A) ∷ []))
+    ≡ reached 2 0 (Reduced op.Sum (3 ∷ []) (all_of 1))
+    ∷ reached 2 0 (SectionAssigned false (3 ∷ []) 0 (Along from_one ∷ []) (Operation op.Add (Operand (all_of 0) (Operand (Same (pos 0)) NoOperand))))
+    ∷ reached 3 0 (WhereMask (3 ∷ []) (Operation op.Gt (Operand (all_of 0) (Operand (Same (pos 1)) NoOperand))))
+    ∷ reached 3 0 (SectionAssigned true (3 ∷ []) 1 (Along from_one ∷ []) (Operation op.Div (Operand (Same (pos 1)) (Operand (all_of 0) NoOperand))))
+    ∷ reached 4 0 (ForallMask (from_one ∷ []) (Apply op.Gt (More (Index 0) (More (Number (pos 1)) NoTerm))))
+    ∷ reached 4 0 (ElementsAssigned true (from_one ∷ []) 1 (More (Index 0) NoTerm) (Element 0 (More (Index 0) NoTerm)))
+    ∷ reached 5 0 Redistributed
+    ∷ []
+unfolding int_wrap
+each_part = refl
+
+-- Each iteration reaches its parts anew, with the scalars of its moment. The assignment that ends with DivZero is reached, and nothing after it.
+-- DO I = 1, 2|K = SUM(B(1:I))|END DO|A = 1 / B|B = A|END
+up_to_fault : trail_of names (block (
+    loop 2 (axis I (n 1) (n 2)) (set 3 (variable K) (call op.Sum (e.Element B (parts (range (n 1) (v I) ∷ [])) ∷ [])) ∷ []) ∷
+    set 5 (variable A) (div (n 1) (v B)) ∷
+    set 6 (variable B) (v A) ∷ []))
+    ≡ record { line = 3; scalars = pos 0 ∷ pos 0 ∷ pos 1 ∷ pos 1 ∷ []; event = Reduced op.Sum (1 ∷ []) (Selected 1 (Along (up_to 1) ∷ [])) }
+    ∷ record { line = 3; scalars = pos 0 ∷ pos 0 ∷ pos 0 ∷ pos 2 ∷ []; event = Reduced op.Sum (2 ∷ []) (Selected 1 (Along (up_to 2) ∷ [])) }
+    ∷ record { line = 5; scalars = pos 0 ∷ pos 0 ∷ pos 0 ∷ pos 3 ∷ []; event = SectionAssigned false (3 ∷ []) 0 (Along from_one ∷ []) (Operation op.Div (Operand (Same (pos 1)) (Operand (all_of 1) NoOperand))) }
+    ∷ []
+unfolding int_wrap
+up_to_fault = refl
+
+-- A FORALL of an empty space reaches its parts, which have no tuples.
 -- FORALL (I=1:0, I > 1) A(I) = 1|END
-empty_forall : trail_of names (block (forall_masked 2 (axis I (n 1) (n 0) ∷ []) (gt (v I) (n 1)) (assign 2 (element_at A (v I)) (n 1) ∷ []) ∷ [])) ≡ []
+empty_forall : trail_of names (block (forall_masked 2 (axis I (n 1) (n 0) ∷ []) (gt (v I) (n 1)) (assign 2 (element_at A (v I)) (n 1) ∷ []) ∷ []))
+    ≡ reached 2 0 (ForallMask (up_to 0 ∷ []) (Apply op.Gt (More (Index 0) (More (Number (pos 1)) NoTerm))))
+    ∷ reached 2 0 (ElementsAssigned true (up_to 0 ∷ []) 0 (More (Index 0) NoTerm) (Number (pos 1)))
+    ∷ []
 unfolding int_wrap
 empty_forall = refl
 
--- Nor has one that ends with NotOneToOne.
+-- One that ends with NotOneToOne reaches none.
 -- FORALL (I=1:3) A(1) = I|END
 refused_forall : trail_of names (block (forall_over 2 (axis I (n 1) (n 3) ∷ []) (assign 2 (element_at A (n 1)) (v I) ∷ []) ∷ [])) ≡ []
 unfolding int_wrap

@@ -1,6 +1,7 @@
-//! Programs whose outcome by the definitions of `array_meaning` is computed by the check: what each prints, how it ends and its last arrays.
+//! Programs whose outcome by the definitions of `array_meaning` is computed by the check: what each prints, how it ends and its last arrays; and
+//! trails of programs by those of `statement_trail`.
 //!
-//! Comes in: the definitions of `array_meaning` alone. Goes out: nothing that another crate cites. There is no function here: each program
+//! Comes in: these definitions alone. Goes out: nothing that another crate cites. There is no function here: each program
 //! is an equation in `proofs/`, between what the definitions give and what the rules of Fortran give, worked out by hand.
 //!
 //! What holds in between: each program is there for one sentence of the definitions, which its comment says, and is as small as it can be.

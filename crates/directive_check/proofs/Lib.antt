@@ -20,4 +20,5 @@ mod ValidMoves
 mod SizedArrays
 mod OwnObjects
 mod ValidMaps
+mod FewNames
 mod Examples

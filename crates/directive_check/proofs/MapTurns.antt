@@ -2,19 +2,22 @@
 use Rattle.std.proofs.Common.{◌≡◌, ℕ, suc, ◌+◌, List, [], ◌∷◌, ◌++◌, append_assoc, drop, get_or, length, map, Some, refl, sym, ap, ◌∙◌, arith}
 use Rattle.std.specs.Prelude.{slice_get}
 use Rattle.std.specs.List.{flat_map}
-use Rattle.std.proofs.lemmas.List.{map-append}
+use Rattle.std.proofs.lemmas.List.{length-map, map-append}
 use Rattle.std.proofs.lemmas.Option.{same_Some, slice_get-get_or, slice_get_within}
 use Rattle.array_maps.specs.declared.maps.ArrayMap.{ArrayMap}
 use Rattle.array_maps.specs.declared.maps.NewMap.{NewMap}
 use Rattle.syntax_tree.specs.Directive.{Distribution}
+use Rattle.expression_rules.specs.Symbols.{Name}
 use Rattle.name_table.specs.declared.names.Entry.{Entry}
+use Rattle.name_table.specs.declared.names.What.{What}
+use Rattle.name_table.specs.declared.names.What.TheVariants as what
 use Rattle.statement_walk.specs.Head.{Head}
 use Rattle.statement_walk.specs.Head as head
 use Rattle.statement_walk.specs.Heads.{PlacedHead}
 use Rattle.distribution_rules.specs.declared.objects.Object.{Object}
 use Rattle.distribution_rules.specs.Setting.{Setting, array_of, arrays}
 use Rattle.directive_check.specs.MappedObjects.{MappedObject}
-use Rattle.directive_check.specs.ProgramMaps.{moves_of, new_map, new_maps_from, start_map, start_maps_in}
+use Rattle.directive_check.specs.ProgramMaps.{moves_of, new_map, new_maps_from, redistribution, start_map, start_maps_in}
 use Rattle.directive_check.specs.Redistributes.{redistribute_of, redistributes}
 use Rattle.directive_check.proofs.ListTurns.{drop_at}
 
@@ -56,22 +59,43 @@ moved_next s ms d es n number next e before after all is more number_is so_far =
     ∙ so_far
 
 -- what a statement moves
-moves_head : (s : Setting) (ms : List MappedObject) (os : List Object) (h : Head) → map (λ d. new_maps_from s ms d 0 os) (redistribute_of h) ≡ moves_of s ms os h
-moves_head s ms os (head.Redistribute d) = refl
-moves_head s ms os (head.Assignment left right) = refl
-moves_head s ms os (head.MaskedAssignment mask left right) = refl
-moves_head s ms os (head.ForallAssignment axes left right) = refl
-moves_head s ms os (head.Condition cond) = refl
-moves_head s ms os (head.Independent m) = refl
-moves_head s ms os (head.Do mark axis) = refl
-moves_head s ms os (head.Where mask) = refl
-moves_head s ms os (head.Forall axes mask) = refl
-moves_head s ms os (head.Print items) = refl
-moves_head s ms os head.Transfer = refl
+moves_head : (s : Setting) (ms : List MappedObject) (os : List Object) (line : ℕ) (h : Head) →
+    map (λ d. redistribution s ms os d.0 d.1) (redistribute_of line h) ≡ moves_of s ms os line h
+moves_head s ms os line (head.Redistribute d) = refl
+moves_head s ms os line (head.Assignment left right) = refl
+moves_head s ms os line (head.MaskedAssignment mask left right) = refl
+moves_head s ms os line (head.ForallAssignment axes left right) = refl
+moves_head s ms os line (head.Condition cond) = refl
+moves_head s ms os line (head.Independent m) = refl
+moves_head s ms os line (head.Do mark axis) = refl
+moves_head s ms os line (head.Where mask) = refl
+moves_head s ms os line (head.Forall axes mask) = refl
+moves_head s ms os line (head.Print items) = refl
+moves_head s ms os line head.Transfer = refl
 
 pub all_moves : (s : Setting) (ms : List MappedObject) (os : List Object) (hs : List PlacedHead) →
-    map (λ d. new_maps_from s ms d 0 os) (redistributes hs) ≡ flat_map (λ h. moves_of s ms os h.what) hs
+    map (λ d. redistribution s ms os d.0 d.1) (redistributes hs) ≡ flat_map (λ h. moves_of s ms os h.line h.what) hs
 all_moves s ms os [] = refl
 all_moves s ms os (h ∷ hs) =
-    map-append (λ d. new_maps_from s ms d 0 os) (redistribute_of h.what) (redistributes hs)
-    ∙ (λ i. moves_head s ms os h.what i ++ all_moves s ms os hs i)
+    map-append (λ d. redistribution s ms os d.0 d.1) (redistribute_of h.line h.what) (redistributes hs)
+    ∙ (λ i. moves_head s ms os h.line h.what i ++ all_moves s ms os hs i)
+
+-- ---- as many mappings as arrays
+
+start_named : (s : Setting) (ms : List MappedObject) (x : Name) (w : What) → map (λ m. m.name) (start_map s ms x w) ≡ map (λ o. o.name) (array_of x w)
+start_named s ms x (what.Array ds n) = refl
+start_named s ms x (what.Scalar n) = refl
+start_named s ms x (what.Constant n) = refl
+start_named s ms x what.Template = refl
+start_named s ms x what.Arrangement = refl
+
+pub starts_named : (s : Setting) (ms : List MappedObject) (es : List Entry) → map (λ m. m.name) (start_maps_in s ms es) ≡ map (λ o. o.name) (arrays es)
+starts_named s ms [] = refl
+starts_named s ms (e ∷ es) =
+    map-append (λ m. m.name) (start_map s ms e.name e.what) (start_maps_in s ms es)
+    ∙ (λ i. start_named s ms e.name e.what i ++ starts_named s ms es i)
+    ∙ sym (map-append (λ o. o.name) (array_of e.name e.what) (arrays es))
+
+pub starts_many : (s : Setting) (ms : List MappedObject) (es : List Entry) → length (start_maps_in s ms es) ≡ length (arrays es)
+starts_many s ms es =
+    sym (length-map (start_maps_in s ms es) (λ m. m.name)) ∙ ap length (starts_named s ms es) ∙ length-map (arrays es) (λ o. o.name)

@@ -58,7 +58,7 @@ none_sized = record { each = All-nil IsDim; size = omega arith }
 
 sized_dims : (ds : Option (List Dim)) → SizedDims ds → AreDims (no_dims ds)
 sized_dims None sized = none_sized
-sized_dims (Some ds) sized = sized
+sized_dims (Some ds) sized = sized.0
 
 array_bounded : (x : Name) (s : Symbol) (es : SymbolTable) → IsKept ((x, s) ∷ es) → AllBounded (array_of x (what_is s))
 array_bounded x (symbol.Array r ds n) es kept = (All-map (λ d. IfSome d IsDim) Some (no_dims ds) (sized_dims ds kept.0).each, tt)

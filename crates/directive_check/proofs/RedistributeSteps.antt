@@ -22,7 +22,7 @@ use Rattle.statement_walk.proofs.WalkSteps.{arm_step, axis_in, forall_heads, if_
 use Rattle.directive_check.specs.Redistributes.{redistribute_of, redistributes}
 
 both : (a b : List PlacedHead) → redistributes (a ++ b) ≡ redistributes a ++ redistributes b
-both a b = flat_map-append (λ h. redistribute_of h.what) a b
+both a b = flat_map-append (λ h. redistribute_of h.line h.what) a b
 
 -- of a statement and those after it
 pub statement_more : (xs : List Name) (s : Stmt) (ss : List Stmt) →
@@ -64,7 +64,7 @@ pub in_if_alone : (xs : List Name) (line : ℕ) (k : StatementKind.StatementKind
 in_if_alone xs line k as' rest glued is none = ap redistributes (if_alone_heads xs line k as' rest glued is none)
 
 pub in_if : (xs : List Name) (line : ℕ) (k : StatementKind.StatementKind) (as' : Vec Arm Global) (rest : Option (Vec Stmt Global)) (v : Vec Stmt Global) (glued : Bool)
-    (before middle after : List Distribution) → k ≡ StatementKind.If as' rest glued → rest ≡ Some v →
+    (before middle after : List (ℕ × Distribution)) → k ≡ StatementKind.If as' rest glued → rest ≡ Some v →
     middle ≡ before ++ redistributes (arm_heads xs (arms_of as'.items)) → after ≡ middle ++ redistributes (heads xs (block_of v.items)) →
     after ≡ before ++ redistributes (statement_heads xs line (statement line k))
 in_if xs line k as' rest v glued before middle after is some arms more =
@@ -84,11 +84,11 @@ none_indexed : (xs : List Name) (axes : List Axis) (as' : List Assignment) → r
 none_indexed xs axes [] = refl
 none_indexed xs axes (a ∷ as') = none_indexed xs axes as'
 
-after_none : (before more : List Distribution) → more ≡ [] → before ≡ before ++ more
+after_none : (before more : List (ℕ × Distribution)) → more ≡ [] → before ≡ before ++ more
 after_none before more none = sym (ap (λ l. before ++ l) none ∙ append-nil before)
 
 pub none_in_where : (xs : List Name) (line : ℕ) (k : StatementKind.StatementKind) (mask : Expr) (v : Vec Stmt Global) (rest : Option (Vec Stmt Global)) (one glued : Bool)
-    (before : List Distribution) → k ≡ StatementKind.Where mask v rest one glued → before ≡ before ++ redistributes (statement_heads xs line (statement line k))
+    (before : List (ℕ × Distribution)) → k ≡ StatementKind.Where mask v rest one glued → before ≡ before ++ redistributes (statement_heads xs line (statement line k))
 none_in_where xs line k mask v rest one glued before is =
     let first = masked xs (expression mask) (assignments_of v.items) in
     let last = masked xs (expression mask) (elsewhere_of rest) in
@@ -97,7 +97,7 @@ none_in_where xs line k mask v rest one glued before is =
     ∙ (λ i. none_masked xs (expression mask) (assignments_of v.items) i ++ none_masked xs (expression mask) (elsewhere_of rest) i))
 
 pub none_in_forall : (xs : List Name) (line : ℕ) (k : StatementKind.StatementKind) (axes : Vec Header Global) (mask : Option Expr) (v : Vec Stmt Global) (one glued marked : Bool)
-    (before : List Distribution) → k ≡ StatementKind.Forall axes mask v one glued marked → before ≡ before ++ redistributes (statement_heads xs line (statement line k))
+    (before : List (ℕ × Distribution)) → k ≡ StatementKind.Forall axes mask v one glued marked → before ≡ before ++ redistributes (statement_heads xs line (statement line k))
 none_in_forall xs line k axes mask v one glued marked before is =
     after_none before (redistributes (statement_heads xs line (statement line k)))
     (ap redistributes (sym (forall_heads xs line k axes mask v one glued marked is)) ∙ none_indexed xs (map axis axes.items) (assignments_of v.items))

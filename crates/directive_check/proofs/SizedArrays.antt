@@ -1,5 +1,5 @@
 -- The arrays of a symbol table are within the limits, and no name stands in it twice.
-use Rattle.std.proofs.Common.{◌≡◌, ℕ, ◌+◌, ◌≤◌, Bool, true, false, true≢false, bytes_eq, List, [], ◌∷◌, length, nat_lt, All, Option, Some, None, unsigned_abs, refl, sym, ap, subst, ◌∙◌, ℤ, arith}
+use Rattle.std.proofs.Common.{◌≡◌, ℕ, suc, ◌+◌, ◌≤◌, Bool, true, false, true≢false, bytes_eq, List, [], ◌∷◌, length, nat_lt, All, Option, Some, None, unsigned_abs, refl, sym, ap, subst, ◌∙◌, ℤ, arith}
 use Rattle.std.specs.List.{list_any}
 use Rattle.std.specs.Prelude.{⊤, ◌||◌, if◌then◌else◌}
 use Rattle.std.proofs.lemmas.Bool.Decides.{nat_tests}
@@ -54,11 +54,28 @@ are_dims t bs ds within is =
       size = at_most MAX_ELEMENTS (elements ds) few.0;
     }
 
+with_dim_more : (l u : Option ℤ) (r : Option (List Dim)) (ds : List Dim) (n : ℕ) → ((es : List Dim) → r ≡ Some es → length es ≡ n) → with_dim l u r ≡ Some ds → length ds ≡ suc n
+with_dim_more None u r ds n rest is = absurd cc
+with_dim_more (Some l) None r ds n rest is = absurd cc
+with_dim_more (Some l) (Some u) None ds n rest is = absurd cc
+with_dim_more (Some l) (Some u) (Some es) ds n rest is =
+    let same : record { lower = l; upper = u } ∷ es ≡ ds = cc in
+    ap length (sym same) ∙ ap suc (rest es refl)
+
+as_many_dims : (t : SymbolTable) (bs : List Bound) (ds : List Dim) → dims t bs ≡ Some ds → length ds ≡ length bs
+as_many_dims t [] ds is = let same : [] ≡ ds = cc in ap length (sym same)
+as_many_dims t (b ∷ bs) ds is = with_dim_more (lower_of t b) (number t b.upper) (dims t bs) ds (length bs) (λ es e. as_many_dims t bs es e) is
+
+few_dims : (t : SymbolTable) (bs : List Bound) (ds : List Dim) → is_past_limits t bs ≡ false → dims t bs ≡ Some ds → length ds ≤ MAX_RANK
+few_dims t bs ds within is =
+    let both = or_none (nat_lt MAX_RANK (length bs) || list_any (is_bound_too_far t) bs) (is_too_large (all_elements t) (dims t bs)) within in
+    subst (λ n. n ≤ MAX_RANK) (sym (as_many_dims t bs ds is)) (at_most MAX_RANK (length bs) (or_none (nat_lt MAX_RANK (length bs)) (list_any (is_bound_too_far t) bs) both.0).0)
+
 -- ---- symbols
 
 abbrev pub SizedDims : Option (List Dim) → Type 0
 SizedDims None = ⊤
-SizedDims (Some ds) = AreDims ds
+SizedDims (Some ds) = AreDims ds × (length ds ≤ MAX_RANK)
 
 abbrev pub SizedSymbol : Symbol → Type 0
 SizedSymbol (Array r ds n) = SizedDims ds
@@ -70,7 +87,7 @@ known_sized t bs = by (is_past_limits t bs) refl (dims t bs) refl
     by : (past : Bool) → is_past_limits t bs ≡ past → (o : Option (List Dim)) → dims t bs ≡ o → SizedDims (if past then None else o)
     by true past o is = tt
     by false past None is = tt
-    by false past (Some ds) is = are_dims t bs ds past is
+    by false past (Some ds) is = (are_dims t bs ds past is, few_dims t bs ds past is)
 
 symbol_sized : (t : SymbolTable) (constant : Bool) (bs : Option (List Bound)) (e : Option Expression) → SizedSymbol (symbol_of t constant bs e)
 symbol_sized t true bs e = tt

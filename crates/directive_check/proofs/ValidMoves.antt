@@ -21,6 +21,7 @@ use Rattle.name_table.specs.declared.names.What.TheVariants as what
 use Rattle.array_maps.specs.Maps.{AreNewMaps, IsMapOf, IsNewMap}
 use Rattle.array_maps.specs.declared.maps.ArrayMap.{ArrayMap}
 use Rattle.array_maps.specs.declared.maps.NewMap.{NewMap}
+use Rattle.array_maps.specs.declared.maps.Redistribution.{Redistribution}
 use Rattle.distribution_rules.specs.DistributionRules.{distribution_reasons, distribution_values, distributee_reasons}
 use Rattle.distribution_rules.specs.Setting.{Setting, array_of, arrays, object}
 use Rattle.directive_check.specs.MappedObjects.{MappedObject}
@@ -126,32 +127,35 @@ new_all s ms d starts n (e ∷ es) grid sized good none move own on = by e.what 
 from_start : {X : Type 0} (xs : List X) → GoesOn xs 0 xs
 from_start xs j = let same_place : 0 + j ≡ j = omega arith in ap (slice_get xs) same_place
 
-move_valid : (s : Setting) (ms : List MappedObject) (dynamic : List Name) (es : List Entry) (h : Head) → IsGrid s.grid → Sized s → AllGood s ms →
-    chain_breaches s ms ≡ [] → AllOwn s es → head_reasons s ms dynamic h ≡ [] → All (AreNewMaps (product s.grid) (start_maps_in s ms es)) (moves_of s ms (arrays es) h)
-move_valid s ms dynamic es (head.Redistribute d) grid sized good none own kept =
+abbrev IsValid : Setting → List MappedObject → List Entry → Redistribution → Type 0
+IsValid s ms es r = AreNewMaps (product s.grid) (start_maps_in s ms es) r.maps
+
+move_valid : (s : Setting) (ms : List MappedObject) (dynamic : List Name) (es : List Entry) (line : ℕ) (h : Head) → IsGrid s.grid → Sized s → AllGood s ms →
+    chain_breaches s ms ≡ [] → AllOwn s es → head_reasons s ms dynamic h ≡ [] → All (IsValid s ms es) (moves_of s ms (arrays es) line h)
+move_valid s ms dynamic es line (head.Redistribute d) grid sized good none own kept =
     let two = none_of (distribution_reasons (distribution_values s d) ++ flat_map (λ x. distributee_reasons (distribution_values s d) (object s x)) d.names) _ kept in
     let move = none_of (distribution_reasons (distribution_values s d)) _ two.0 in
     let news = new_all s ms d (start_maps_in s ms es) 0 es grid sized good none move own (from_start (start_maps_in s ms es)) in
-    All-cons (AreNewMaps (product s.grid) (start_maps_in s ms es)) _ [] (record { each = news.0; ascending = news.2 })
-    (All-nil (AreNewMaps (product s.grid) (start_maps_in s ms es)))
-move_valid s ms dynamic es (head.Assignment left right) grid sized good none own kept = All-nil (AreNewMaps (product s.grid) (start_maps_in s ms es))
-move_valid s ms dynamic es (head.MaskedAssignment mask left right) grid sized good none own kept = All-nil (AreNewMaps (product s.grid) (start_maps_in s ms es))
-move_valid s ms dynamic es (head.ForallAssignment axes left right) grid sized good none own kept = All-nil (AreNewMaps (product s.grid) (start_maps_in s ms es))
-move_valid s ms dynamic es (head.Condition c) grid sized good none own kept = All-nil (AreNewMaps (product s.grid) (start_maps_in s ms es))
-move_valid s ms dynamic es (head.Independent m) grid sized good none own kept = All-nil (AreNewMaps (product s.grid) (start_maps_in s ms es))
-move_valid s ms dynamic es (head.Do m axis) grid sized good none own kept = All-nil (AreNewMaps (product s.grid) (start_maps_in s ms es))
-move_valid s ms dynamic es (head.Where mask) grid sized good none own kept = All-nil (AreNewMaps (product s.grid) (start_maps_in s ms es))
-move_valid s ms dynamic es (head.Forall axes mask) grid sized good none own kept = All-nil (AreNewMaps (product s.grid) (start_maps_in s ms es))
-move_valid s ms dynamic es (head.Print items) grid sized good none own kept = All-nil (AreNewMaps (product s.grid) (start_maps_in s ms es))
-move_valid s ms dynamic es head.Transfer grid sized good none own kept = All-nil (AreNewMaps (product s.grid) (start_maps_in s ms es))
+    All-cons (IsValid s ms es) _ [] (record { each = news.0; ascending = news.2 })
+    (All-nil (IsValid s ms es))
+move_valid s ms dynamic es line (head.Assignment left right) grid sized good none own kept = All-nil (IsValid s ms es)
+move_valid s ms dynamic es line (head.MaskedAssignment mask left right) grid sized good none own kept = All-nil (IsValid s ms es)
+move_valid s ms dynamic es line (head.ForallAssignment axes left right) grid sized good none own kept = All-nil (IsValid s ms es)
+move_valid s ms dynamic es line (head.Condition c) grid sized good none own kept = All-nil (IsValid s ms es)
+move_valid s ms dynamic es line (head.Independent m) grid sized good none own kept = All-nil (IsValid s ms es)
+move_valid s ms dynamic es line (head.Do m axis) grid sized good none own kept = All-nil (IsValid s ms es)
+move_valid s ms dynamic es line (head.Where mask) grid sized good none own kept = All-nil (IsValid s ms es)
+move_valid s ms dynamic es line (head.Forall axes mask) grid sized good none own kept = All-nil (IsValid s ms es)
+move_valid s ms dynamic es line (head.Print items) grid sized good none own kept = All-nil (IsValid s ms es)
+move_valid s ms dynamic es line head.Transfer grid sized good none own kept = All-nil (IsValid s ms es)
 
 -- the new mappings of all REDISTRIBUTEs are valid
 pub moves_valid : (s : Setting) (ms : List MappedObject) (dynamic : List Name) (es : List Entry) (hs : List PlacedHead) → IsGrid s.grid → Sized s →
     AllGood s ms → chain_breaches s ms ≡ [] → AllOwn s es → flat_map (redistribute_breaches_at s ms dynamic) hs ≡ [] →
-    All (AreNewMaps (product s.grid) (start_maps_in s ms es)) (flat_map (λ h. moves_of s ms (arrays es) h.what) hs)
-moves_valid s ms dynamic es [] grid sized good none own kept = All-nil (AreNewMaps (product s.grid) (start_maps_in s ms es))
+    All (λ r. AreNewMaps (product s.grid) (start_maps_in s ms es) r.maps) (flat_map (λ h. moves_of s ms (arrays es) h.line h.what) hs)
+moves_valid s ms dynamic es [] grid sized good none own kept = All-nil (IsValid s ms es)
 moves_valid s ms dynamic es (h ∷ hs) grid sized good none own kept =
     let both = none_of (redistribute_breaches_at s ms dynamic h) (flat_map (redistribute_breaches_at s ms dynamic) hs) kept in
-    All-append (AreNewMaps (product s.grid) (start_maps_in s ms es)) (moves_of s ms (arrays es) h.what) _
-    (move_valid s ms dynamic es h.what grid sized good none own (none_at h.line _ both.0))
+    All-append (IsValid s ms es) (moves_of s ms (arrays es) h.line h.what) _
+    (move_valid s ms dynamic es h.line h.what grid sized good none own (none_at h.line _ both.0))
     (moves_valid s ms dynamic es hs grid sized good none own both.1)

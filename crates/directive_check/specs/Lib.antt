@@ -6,4 +6,5 @@ pub mod MappingRules
 pub mod ProgramMaps
 pub mod Redistributes
 pub mod DirectMappings
+pub mod Limits
 pub mod WideAlignments

@@ -19,6 +19,7 @@ use Rattle.name_table.specs.declared.names.What.{What}
 use Rattle.name_table.specs.declared.names.What.TheVariants as what
 use Rattle.array_maps.specs.declared.maps.ArrayMap.{ArrayMap}
 use Rattle.array_maps.specs.declared.maps.NewMap.{NewMap}
+use Rattle.array_maps.specs.declared.maps.Redistribution.{Redistribution}
 use Rattle.distribution_rules.specs.declared.objects.Object.{Object}
 use Rattle.distribution_rules.specs.Distributed.{distributed}
 use Rattle.distribution_rules.specs.DistributionRules.{distribution_values}
@@ -85,10 +86,15 @@ abbrev pub new_maps_from : Setting → List MappedObject → directive.Distribut
 new_maps_from s ms d n [] = []
 new_maps_from s ms d n (o ∷ os) = new_map s ms d n o.name ++ new_maps_from s ms d (suc n) os
 
-abbrev pub moves_of : Setting → List MappedObject → List Object → Head → List (List NewMap)
-moves_of s ms os (head.Redistribute d) = new_maps_from s ms d 0 os ∷ []
-moves_of s ms os h = []
+-- what a REDISTRIBUTE in a line does: the arrays that move, in the order of their declarations, each with its new mapping
+abbrev pub redistribution : Setting → List MappedObject → List Object → ℕ → directive.Distribution → Redistribution
+redistribution s ms os line d = record { line = line; maps = new_maps_from s ms d 0 os }
 
--- for each REDISTRIBUTE, in the order of the text, the arrays that move, in the order of their declarations, each with its new mapping
-abbrev pub program_moves : List ℕ → MainProgram → List (List NewMap)
-program_moves grid p = flat_map (λ h. moves_of (setting grid p) (mapped_objects p.declarations) (arrays (entries p)) h.what) (all_heads p.body)
+abbrev pub moves_of : Setting → List MappedObject → List Object → ℕ → Head → List Redistribution
+moves_of s ms os line (head.Redistribute d) = redistribution s ms os line d ∷ []
+moves_of s ms os line h = []
+
+-- each REDISTRIBUTE, in the order of the text, with its line and what it does
+abbrev pub program_moves : List ℕ → MainProgram → List Redistribution
+program_moves grid p =
+    flat_map (λ h. moves_of (setting grid p) (mapped_objects p.declarations) (arrays (entries p)) h.line h.what) (all_heads p.body)

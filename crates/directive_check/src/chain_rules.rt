@@ -1,7 +1,8 @@
 //! The rules of alignments one after the other (HPF 2.0, 3.4).
 
-ghost use Rattle.std.specs.Prelude.{◌≡◌, ◌++◌, All, IfOk};
+ghost use Rattle.std.specs.Prelude.{◌≡◌, ◌≤◌, ◌++◌, length, All, IfOk};
 ghost use Rattle.hpf_base.specs.FirstBreach.{least};
+ghost use Rattle.hpf_base.specs.declared.limits.TheConstants.{MAX_NAMES};
 ghost use Rattle.hpf_base.specs.declared.refusal.Reason.TheVariants as reason;
 ghost use Rattle.declarations.specs.Declaring.{least_reason};
 ghost use Rattle.declarations.specs.Reasons.{when};
@@ -30,6 +31,7 @@ pub(crate) fn first_bad_chain(
     objects: &[MappedObject<'_>],
 ) -> Result<Option<Refusal>, AllocError>
     requires judged { All (IsJudged setting.now) firsts.now }
+    requires few { length setting.now.names ≤ MAX_NAMES }
     ensures { IfOk result (λ r. r ≡ least (chain_breaches_in setting.now (mapped firsts.now) (mapped objects.now))) }
 {
     let mut first = None;
@@ -48,6 +50,7 @@ fn chain_reason(
     name: &Name,
 ) -> Result<Option<Reason>, AllocError>
     requires judged { All (IsJudged setting.now) objects.now }
+    requires few { length setting.now.names ≤ MAX_NAMES }
     ensures { IfOk result (λ r. r ≡ least_reason (chain_reasons setting.now (mapped objects.now) name.now)) }
 {
     let found = wide_alignment(alloc, setting, objects, name)?;

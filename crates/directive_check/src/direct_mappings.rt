@@ -1,6 +1,7 @@
 //! The mappings that DISTRIBUTE and REDISTRIBUTE give, and those of what is aligned with their objects (HPF 2.0, 3.3 and 3.4).
 
-ghost use Rattle.std.specs.Prelude.{◌≡◌, All, IfOk, IfSome, Some};
+ghost use Rattle.std.specs.Prelude.{◌≡◌, ◌≤◌, length, All, IfOk, IfSome, Some};
+ghost use Rattle.hpf_base.specs.declared.limits.TheConstants.{MAX_NAMES};
 ghost use Rattle.mappings.specs.Alignment.{composed, composed_align};
 ghost use Rattle.syntax_tree.specs.Directive.{distribution};
 ghost use Rattle.directive_check.specs.ChainSteps.{IsJudged};
@@ -99,6 +100,7 @@ pub(crate) fn with_root(
     root: Option<Mapping>,
 ) -> Result<Option<Mapping>, AllocError>
     requires judged { All (IsJudged setting.now) objects.now }
+    requires few { length setting.now.names ≤ MAX_NAMES }
     requires direct { IfSome root IsDirect }
     ensures { IfOk result (λ m. m ≡ with_root setting.now (mapped objects.now) name.now root) }
 {

@@ -1,8 +1,8 @@
 //! The rules of mapping directives over a whole program, and the mappings of its arrays (HPF 2.0, 3 and 8).
 //!
 //! Comes in: a program whose names are resolved, and a processor grid. Goes out: each array's mapping at the start and the new mappings of
-//! each REDISTRIBUTE, or the first breach of the rules of mapping directives. What holds in between: alignments are composed along their
-//! chain, in numbers that are exact or far past all limits; and a chain of which an ALIGN is refused by itself says nothing.
+//! each REDISTRIBUTE, with its line, or the first breach of the rules of mapping directives. What holds in between: alignments are composed
+//! along their chain, in numbers that are exact or far past all limits; and a chain of which an ALIGN is refused by itself says nothing.
 #![tactic(auto)]
 
 mod chain_rules;
@@ -12,6 +12,7 @@ mod declared_rules;
 mod dims;
 mod direct_mappings;
 mod dynamic_names;
+mod laws;
 mod mapped_object;
 mod mapped_objects;
 mod mapping_check;
@@ -22,4 +23,5 @@ mod root_alignments;
 mod subscripts;
 mod wide_numbers;
 
+pub use laws::starts_of_arrays;
 pub use mapping_check::check_mapping;

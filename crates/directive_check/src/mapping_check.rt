@@ -1,9 +1,10 @@
 //! The rules of mapping directives over a whole program.
 
-ghost use Rattle.std.specs.Prelude.{◌≡◌, map, All, IfErr, IfOk, OnOk};
+ghost use Rattle.std.specs.Prelude.{◌≡◌, ◌≤◌, length, map, All, IfErr, IfOk, OnOk};
 ghost use Rattle.hpf_base.specs.ElementOrder.{product};
 ghost use Rattle.hpf_base.specs.FirstBreach.{Among, least};
 ghost use Rattle.hpf_base.specs.Refusal.{IsRefusalBy, NoBreach};
+ghost use Rattle.hpf_base.specs.declared.limits.TheConstants.{MAX_NAMES};
 ghost use Rattle.syntax_tree.specs.MainProgram.{declaration, main_program};
 ghost use Rattle.expression_rules.specs.Symbols.{Name};
 ghost use Rattle.declarations.specs.Declarations.{symbol_table};
@@ -15,9 +16,10 @@ ghost use Rattle.distribution_rules.specs.Setting.{arrays};
 ghost use Rattle.array_maps.specs.Maps.{AreMaps};
 ghost use Rattle.directive_check.specs.MappedObjects.{how_mapped, mapped_objects};
 ghost use Rattle.directive_check.specs.ChainSteps.{IsJudged};
+ghost use Rattle.directive_check.specs.Limits.{HasFewDims};
 ghost use Rattle.directive_check.specs.MappedSteps.{mapped};
 ghost use Rattle.directive_check.specs.MappingRules.{breaches_in, mapping_breaches};
-ghost use Rattle.directive_check.specs.ProgramMaps.{new_maps_from, program_moves, start_maps, start_maps_in};
+ghost use Rattle.directive_check.specs.ProgramMaps.{program_moves, redistribution, start_maps, start_maps_in};
 ghost use Rattle.directive_check.specs.Redistributes.{redistributes};
 
 use crate::chain_rules::first_bad_chain;
@@ -35,8 +37,8 @@ use std::alloc::{AllocError, Global};
 use syntax_tree::Tree;
 
 /// Checks the mapping directives of a program, and gives the mappings of its arrays on a grid of nodes: for each declared array, in order,
-/// its name, its shape and its mapping at the start, and for each REDISTRIBUTE, in the order of the text, the arrays that move with their
-/// new mappings. Each mapping is onto as many nodes as the grid has, and gives every element of its array a place inside the template. An
+/// its name, its shape and its mapping at the start, and for each REDISTRIBUTE, in the order of the text, its line and the arrays that move
+/// with their new mappings. Each mapping is onto as many nodes as the grid has, and gives every element of its array a place inside the template. An
 /// `Err` is the first breach of the rules, for one of the reasons `BadDirective`, `BadArrangement`, `Limit` and `BadConstant`, or want of
 /// memory.
 pub fn check_mapping(alloc: Global, program: &Program, grid: &Grid) -> Result<Maps, StaticError>
@@ -70,8 +72,10 @@ fn maps_of(
     program: &Program,
 ) -> Result<Maps, AllocError>
     requires judged { All (IsJudged setting.now) objects.now }
+    requires few { length setting.now.names ≤ MAX_NAMES }
+    requires dims { All (λ e. HasFewDims e.what) program.now.names }
     ensures arrays { IfOk result (λ m. m.arrays ≡ start_maps_in setting.now (mapped objects.now) program.now.names) }
-    ensures moves { IfOk result (λ m. m.moves ≡ map (λ d. new_maps_from setting.now (mapped objects.now) d 0 (arrays program.now.names))
+    ensures moves { IfOk result (λ m. m.moves ≡ map (λ d. redistribution setting.now (mapped objects.now) (arrays program.now.names) d.0 d.1)
         (redistributes (all_heads (block_of program.now.tree.body.items)))) }
 {
     let arrays = start_maps(alloc, setting, objects, &program.names)?;
@@ -104,6 +108,7 @@ fn first_breach(
     requires objects { mapped objects.now ≡ mapped_objects (map declaration tree.now.decls.items) }
     requires firsts { (x : Name) → how_mapped (mapped firsts.now) x ≡ how_mapped (mapped objects.now) x }
     requires judged { All (IsJudged setting.now) firsts.now }
+    requires few { length setting.now.names ≤ MAX_NAMES }
     ensures { IfOk result (λ r. r ≡ least (breaches_in setting.now (main_program tree.now))) }
 {
     let names = dynamic_names(alloc, &tree.decls)?;

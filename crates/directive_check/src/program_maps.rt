@@ -1,14 +1,16 @@
 //! The arrays of a program at the start, and those that each REDISTRIBUTE moves (HPF 2.0, 3 and 8.3).
 
-ghost use Rattle.std.specs.Prelude.{◌≡◌, ◌++◌, ◌+◌, length, map, unwrap_or, All, IfOk, OnOk};
+ghost use Rattle.std.specs.Prelude.{◌≡◌, ◌≤◌, ◌++◌, ◌+◌, length, map, unwrap_or, All, IfOk, OnOk};
+ghost use Rattle.hpf_base.specs.declared.limits.TheConstants.{MAX_NAMES, MAX_RANK};
 ghost use Rattle.expression_rules.specs.Symbols.{is_among};
 ghost use Rattle.syntax_tree.specs.Directive.{distribution};
 ghost use Rattle.syntax_tree.specs.Statement.{block_of};
 ghost use Rattle.statement_walk.specs.Heads.{all_heads};
 ghost use Rattle.distribution_rules.specs.Setting.{array_of, arrays};
 ghost use Rattle.directive_check.specs.ChainSteps.{IsJudged};
+ghost use Rattle.directive_check.specs.Limits.{HasFewDims};
 ghost use Rattle.directive_check.specs.MappedSteps.{mapped};
-ghost use Rattle.directive_check.specs.ProgramMaps.{new_map, new_maps_from, replicated, shape_of, start_map, start_maps_in};
+ghost use Rattle.directive_check.specs.ProgramMaps.{new_map, new_maps_from, redistribution, replicated, shape_of, start_map, start_maps_in};
 ghost use Rattle.directive_check.specs.Redistributes.{redistributes, said};
 ghost use Rattle.directive_check.specs.DirectMappings.{moved, started};
 
@@ -16,7 +18,7 @@ use crate::direct_mappings::{distributed_as, replicated, start_of, with_root};
 use crate::mapped_object::MappedObject;
 use crate::redistributes::{Redistribute, redistributes};
 use crate::root_alignments::root_of;
-use array_maps::{ArrayMap, ArrayMaps, NewMap, NewMaps, Redistributions};
+use array_maps::{ArrayMap, ArrayMaps, NewMap, NewMaps, Redistribution, Redistributions};
 use distribution_rules::Setting;
 use expression_rules::{Dims, extent, is_among};
 use hpf_base::{ArrayId, Index, Name, Shape};
@@ -33,6 +35,8 @@ pub(crate) fn start_maps(
     names: &Names,
 ) -> Result<ArrayMaps, AllocError>
     requires judged { All (IsJudged setting.now) objects.now }
+    requires few { length setting.now.names ≤ MAX_NAMES }
+    requires dims { All (λ e. HasFewDims e.what) names.now }
     ensures { IfOk result (λ ms. ms ≡ start_maps_in setting.now (mapped objects.now) names.now) }
 {
     let mut maps = Vec::new(alloc);
@@ -54,6 +58,8 @@ fn push_start(
     maps: &mut Vec<ArrayMap>,
 ) -> Result<(), AllocError>
     requires judged { All (IsJudged setting.now) objects.now }
+    requires few { length setting.now.names ≤ MAX_NAMES }
+    requires dims { HasFewDims entry.now.what }
     ensures { OnOk result (maps.new.items ≡ maps.old.items ++ start_map setting.now (mapped objects.now) entry.now.name entry.now.what) }
 {
     match &entry.what {
@@ -71,8 +77,9 @@ fn push_start(
     }
 }
 
-/// The shape of an array. More than seven dimensions, which no array has, find no room in it.
+/// The shape of an array.
 fn shape_of(alloc: Global, dims: &Dims) -> Result<Shape, AllocError>
+    requires { length dims.now ≤ MAX_RANK }
     ensures { IfOk result (λ s. s ≡ shape_of dims.now) }
 {
     let mut lower = Vec::new(alloc);
@@ -81,17 +88,20 @@ fn shape_of(alloc: Global, dims: &Dims) -> Result<Shape, AllocError>
         lower.push(dim.lower)?;
         extents.push(extent(*dim) as i64)?;
     }
-    let lower = index_of(alloc, &lower)?;
-    let extent = index_of(alloc, &extents)?;
-    Ok(Shape { lower, extent })
+    Ok(Shape {
+        lower: index_of(alloc, &lower),
+        extent: index_of(alloc, &extents),
+    })
 }
 
-fn index_of(alloc: Global, numbers: &[i64]) -> Result<Index, AllocError>
-    ensures { IfOk result (λ i. i ≡ numbers.now) }
+/// The tuple of these numbers. It takes no memory.
+fn index_of(alloc: Global, numbers: &[i64]) -> Index
+    requires { length numbers.now ≤ MAX_RANK }
+    ensures { result ≡ numbers.now }
 {
     match Index::new(alloc, numbers) {
-        Some(index) => Ok(index),
-        None => Err(AllocError),
+        Some(index) => index,
+        None => unreachable!(),
     }
 }
 
@@ -103,6 +113,7 @@ fn start_mapping(
     name: &Name,
 ) -> Result<Mapping, AllocError>
     requires judged { All (IsJudged setting.now) objects.now }
+    requires few { length setting.now.names ≤ MAX_NAMES }
     ensures { IfOk result (λ m. m ≡ started setting.now (mapped objects.now) name.now) }
 {
     let root = start_of(alloc, setting, objects, &root_of(setting, objects, name))?;
@@ -119,7 +130,7 @@ fn or_replicated(alloc: Global, setting: &Setting<'_>, mapping: Option<Mapping>)
     }
 }
 
-/// What each REDISTRIBUTE does, in the order of the text.
+/// What each REDISTRIBUTE does, in the order of the text, with its line.
 pub(crate) fn redistributions(
     alloc: Global,
     setting: &Setting<'_>,
@@ -128,7 +139,8 @@ pub(crate) fn redistributions(
     stmts: &[Stmt],
 ) -> Result<Redistributions, AllocError>
     requires judged { All (IsJudged setting.now) objects.now }
-    ensures { IfOk result (λ rs. rs ≡ map (λ d. new_maps_from setting.now (mapped objects.now) d 0 (arrays names.now)) (redistributes (all_heads (block_of stmts.now)))) }
+    requires few { length setting.now.names ≤ MAX_NAMES }
+    ensures { IfOk result (λ rs. rs ≡ map (λ d. redistribution setting.now (mapped objects.now) (arrays names.now) d.0 d.1) (redistributes (all_heads (block_of stmts.now)))) }
 {
     let found = redistributes(alloc, stmts)?;
     let entries = moved_by_each(alloc, setting, objects, names, &found)?;
@@ -142,14 +154,18 @@ fn moved_by_each(
     objects: &[MappedObject<'_>],
     names: &Names,
     found: &[Redistribute<'_>],
-) -> Result<Vec<NewMaps>, AllocError>
+) -> Result<Vec<Redistribution>, AllocError>
     requires judged { All (IsJudged setting.now) objects.now }
-    ensures { IfOk result (λ rs. rs.items ≡ map (λ d. new_maps_from setting.now (mapped objects.now) d 0 (arrays names.now)) (said found.now)) }
+    requires few { length setting.now.names ≤ MAX_NAMES }
+    ensures { IfOk result (λ rs. rs.items ≡ map (λ d. redistribution setting.now (mapped objects.now) (arrays names.now) d.0 d.1) (said found.now)) }
 {
     let mut entries = Vec::new(alloc);
     for one in found {
-        let new = new_maps(alloc, setting, objects, names, one.spec)?;
-        entries.push(new)?;
+        let maps = new_maps(alloc, setting, objects, names, one.spec)?;
+        entries.push(Redistribution {
+            line: one.line,
+            maps,
+        })?;
     }
     Ok(entries)
 }
@@ -163,6 +179,7 @@ fn new_maps(
     spec: &DistSpec,
 ) -> Result<NewMaps, AllocError>
     requires judged { All (IsJudged setting.now) objects.now }
+    requires few { length setting.now.names ≤ MAX_NAMES }
     ensures { IfOk result (λ ms. ms ≡ new_maps_from setting.now (mapped objects.now) (distribution spec.now) 0 (arrays names.now)) }
 {
     let mut maps = Vec::new(alloc);
@@ -201,6 +218,7 @@ fn push_moved(
     maps: &mut Vec<NewMap>,
 ) -> Result<(), AllocError>
     requires judged { All (IsJudged setting.now) objects.now }
+    requires few { length setting.now.names ≤ MAX_NAMES }
     ensures { OnOk result (maps.new.items ≡ maps.old.items
         ++ new_maps_from setting.now (mapped objects.now) (distribution spec.now) number (array_of entry.now.name entry.now.what)) }
 {
@@ -221,6 +239,7 @@ fn push_array(
     maps: &mut Vec<NewMap>,
 ) -> Result<(), AllocError>
     requires judged { All (IsJudged setting.now) objects.now }
+    requires few { length setting.now.names ≤ MAX_NAMES }
     ensures { OnOk result (maps.new.items ≡ maps.old.items ++ new_map setting.now (mapped objects.now) (distribution spec.now) number name.now) }
 {
     let root = root_of(setting, objects, name);
@@ -244,6 +263,7 @@ fn moved_mapping(
     root: &Name,
 ) -> Result<Mapping, AllocError>
     requires judged { All (IsJudged setting.now) objects.now }
+    requires few { length setting.now.names ≤ MAX_NAMES }
     ensures { IfOk result (λ m. m ≡ moved setting.now (mapped objects.now) (distribution spec.now) name.now root.now) }
 {
     let found = distributed_as(alloc, setting, spec, root)?;

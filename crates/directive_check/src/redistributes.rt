@@ -9,9 +9,10 @@ ghost use Rattle.directive_check.specs.Redistributes.{redistributes, said};
 use std::alloc::{AllocError, Global};
 use syntax_tree::{Arm, DistSpec, StatementKind, Stmt};
 
-/// A REDISTRIBUTE.
+/// A REDISTRIBUTE with the number of its line.
 #[derive(Clone, Copy)]
 pub(crate) struct Redistribute<'a> {
+    pub(crate) line: u32,
     pub(crate) spec: &'a DistSpec,
 }
 
@@ -46,7 +47,10 @@ fn push_one<'a>(stmt: &'a Stmt, found: &mut Vec<Redistribute<'a>>) -> Result<(),
 {
     match &stmt.what {
         StatementKind::Redistribute(spec) => {
-            found.push(Redistribute { spec })?;
+            found.push(Redistribute {
+                line: stmt.line,
+                spec,
+            })?;
             Ok(())
         }
         StatementKind::IfOne { body, .. } => {

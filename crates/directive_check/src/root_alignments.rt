@@ -1,6 +1,7 @@
 //! The alignment of an object with what its alignments end at (HPF 2.0, 3.4).
 
-ghost use Rattle.std.specs.Prelude.{◌≡◌, ◌≤◌, length, map, All, OnOk, None, Some, IfOk, if◌then◌else◌};
+ghost use Rattle.std.specs.Prelude.{◌≡◌, ◌≤◌, length, map, All, None, Some, IfOk, if◌then◌else◌};
+ghost use Rattle.hpf_base.specs.declared.limits.TheConstants.{MAX_NAMES};
 ghost use Rattle.directive_check.specs.Chains.{entries_in, is_on_cycle, known_entries, own_entries, root_alignment, root_of, target_of};
 ghost use Rattle.distribution_rules.specs.Setting.{dims_of};
 ghost use Rattle.syntax_tree.specs.Directive.{alignment as directive_alignment};
@@ -46,6 +47,7 @@ pub(crate) fn root_alignment(
     name: &Name,
 ) -> Result<Alignment, AllocError>
     requires judged { All (IsJudged setting.now) objects.now }
+    requires few { length setting.now.names ≤ MAX_NAMES }
     ensures { IfOk result (λ a. a ≡ root_alignment setting.now (mapped objects.now) name.now) }
 {
     let found = wide_alignment(alloc, setting, objects, name)?;
@@ -53,7 +55,7 @@ pub(crate) fn root_alignment(
     Ok(alignment)
 }
 
-/// What each dimension of that object is given. More than 1,048,576 names, which no program has, find no room.
+/// What each dimension of that object is given.
 pub(crate) fn wide_alignment(
     alloc: Global,
     setting: &Setting<'_>,
@@ -61,13 +63,10 @@ pub(crate) fn wide_alignment(
     name: &Name,
 ) -> Result<Option<WideDims>, AllocError>
     requires judged { All (IsJudged setting.now) objects.now }
-    ensures few { OnOk result (length setting.now.names ≤ 1048576) }
-    ensures found { IfOk result (λ w. w ≡ wide_from (length setting.now.names) setting.now (mapped objects.now) name.now (target_of (mapped objects.now) name.now)) }
+    requires few { length setting.now.names ≤ MAX_NAMES }
+    ensures { IfOk result (λ w. w ≡ wide_from (length setting.now.names) setting.now (mapped objects.now) name.now (target_of (mapped objects.now) name.now)) }
 {
     let steps = setting.table().len();
-    if steps > 1_048_576 {
-        return Err(AllocError);
-    }
     let found = wide_from(steps, alloc, setting, objects, name)?;
     Ok(found)
 }

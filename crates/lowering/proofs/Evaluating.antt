@@ -1,6 +1,9 @@
 -- Array expressions by themselves: what the machine comes to at a tuple, and reductions.
+use Rattle.node_code.specs.Instructions.{NewMapping, Reduce, Instruction, OwnLimits, ArrayTable, meaning_of, go_on_if}
 use Rattle.std.proofs.Common.{◌≡◌, ℕ, zero, suc, ◌+◌, ◌<◌, ◌≤◌, List, [], ◌∷◌, ◌++◌, length, ℤ, Option, Some, None, Result, Ok, Err, refl, sym, ap, ◌∙◌, subst, arith, append-nil, fold, slice_set}
 use Rattle.std.specs.Bool.{⊤}
+use Rattle.statement_trail.specs.Trail.{Trail, Reduced, after_value, over_own_space, reached}
+use Rattle.lowering.specs.Passed.{Passed, note_at, passed, passed_now, IsTrail}
 use Rattle.hpf_base.specs.ElementOrder.{product}
 use Rattle.op_tables.specs.declared.op.Op.{Op}
 use Rattle.op_tables.specs.declared.reductions.Made.{Made}
@@ -19,10 +22,9 @@ use Rattle.machine_steps.specs.Machine.{Machine, Kept, keep, folded, verdict_con
 use Rattle.node_code.specs.Flat.{slot}
 use Rattle.node_code.specs.Forms.{ArrayForm, elemental_in}
 use Rattle.node_code.specs.Parallel.{at_line, outcome_of, reads_at, value_by_reads, Evaluation, evaluation_extents, evaluation_size, evaluation_tuples, reduction_tuples, made_outcome, fold_of}
-use Rattle.node_code.specs.Instructions.{Instruction, OwnLimits, ArrayTable, meaning_of, go_on_if}
 use Rattle.lowering.specs.ExpressionCode.{own_evaluation, reduce_code}
-use Rattle.lowering.proofs.Reach.{Idle, HasAt, same-refl, same-set, slot-set, stands, one, Comes, comes-on}
-use Rattle.lowering.proofs.Terms.{HoldsArrays}
+use Rattle.lowering.proofs.Reach.{still, entries-more, Idle, HasAt, same-refl, same-set, slot-set, stands, one, Comes, comes-on}
+use Rattle.lowering.proofs.Terms.{HoldsScalars, HoldsArrays}
 use Rattle.lowering.proofs.Keeping.{IsOutcome, Keeps, keeps}
 use Rattle.lowering.proofs.Scatter.{NamesBelow, values_of, value-of-reads, space-size, space-counted}
 use Rattle.lowering.proofs.Masks.{shape-first}
@@ -80,11 +82,11 @@ module _ (line : ℕ) (o : Op) (outcome : ℕ → Outcome Fault) where
 
 -- ---- a reduction of what is left of its operand
 
-module _ (table : ArrayTable) (row_count : ℕ) (code : List Instruction) (line n : ℕ) (s : State) (rows : Storage) (out : List ℕ) (arrays : HoldsArrays n table.shapes s rows) where
+module _ (table : ArrayTable) (row_count : ℕ) (moves : ℕ → List NewMapping) (code : List Instruction) (line n : ℕ) (s : State) (rows : Storage) (out : List ℕ) (arrays : HoldsArrays n table.shapes s rows) where
   pub reduce-comes : (pc b x : ℕ) (o : Op) (form : ArrayForm) (slots : List ℤ) (r : Elemental) → HasAt code pc (reduce_code line o form x) → elemental_in slots form ≡ r
-      → NamesBelow n r → b ≤ x → x < length slots
-      → Comes table row_count code line rows out pc (pc + 2) b slots (λ slots' v. slot slots' x ≡ v) (reduction s o r)
-  reduce-comes pc b x o form slots r has right named le lt = by_limits (space_size ns (sections r)) refl
+      → NamesBelow n r → b ≤ x → x < length slots → HoldsScalars n s slots
+      → Comes table row_count moves code line rows out (over_own_space line s r (Reduced o)) pc (pc + 2) b slots (λ slots' v. slot slots' x ≡ v) (reduction s o r)
+  reduce-comes pc b x o form slots r has right named le lt scalars = by_limits (space_size ns (sections r)) refl
     where
       p : Evaluation
       p = own_evaluation line form
@@ -119,22 +121,49 @@ module _ (table : ArrayTable) (row_count : ℕ) (code : List Instruction) (line 
       control = record { at = pc + 1; slots = slots; status = Running }
 
       values : ℕ → Option (Kept Fault) → ℤ → Idle row_count → Machine Instruction Fault
-      values k kept v i = record (stands table row_count code (pc + 1) slots rows out i) { substep = k; kept = kept; parts = k; joined = v }
+      values k kept v i = record (stands table row_count moves code (pc + 1) slots rows out i) { substep = k; kept = kept; parts = k; joined = v }
 
       judged : Option (Kept Fault) → ℤ → Idle row_count → Machine Instruction Fault
-      judged kept v i = record (stands table row_count code (pc + 1) slots rows out i) { control = verdict_control kept stay control; substep = 2; joined = v }
+      judged kept v i = record (stands table row_count moves code (pc + 1) slots rows out i) { control = verdict_control kept stay control; substep = 2; joined = v }
 
-      two : space_count ns ≡ count → (i : Idle row_count) → steps (meaning_of table) 2 (stands table row_count code (pc + 1) slots rows out i) ≡ judged (keep outcome 0 count None) (folded (fold_of (reduction_of o).join) outcome count) i
+      entry : Trail
+      entry = reached line s (Reduced o ns r)
+
+      noted : Passed
+      noted = record { instruction = Reduce p (reduction_of o) x; slots = slots }
+
+      that : IsTrail moves (noted ∷ []) entry
+      that = (
+        record {
+          scalars = λ k lk. scalars k (omega (arith, lk, arrays.places));
+          event = (refl, (o, rw (own-shape n table.shapes s rows arrays line form slots r right named, right) refl, refl));
+        },
+        tt,
+      )
+
+      first-step : space_count ns ≡ count → (i : Idle row_count) → step (meaning_of table) (stands table row_count moves code (pc + 1) slots rows out i) ≡ values 1 (keep outcome 0 count None) (folded (fold_of (reduction_of o).join) outcome count) i
+      first-step all i = ap (λ z. step_by (instr_of (meaning_of table) z) (stands table row_count moves code (pc + 1) slots rows out i)) has.1.0
+          ∙ ap (λ k. values 1 (keep outcome 0 k None) (folded (fold_of (reduction_of o).join) outcome k) i) (ap space_count (own-shape n table.shapes s rows arrays line form slots r right named) ∙ all)
+
+      two : space_count ns ≡ count → (i : Idle row_count) → steps (meaning_of table) 2 (stands table row_count moves code (pc + 1) slots rows out i)
+          ≡ judged (keep outcome 0 count None) (folded (fold_of (reduction_of o).join) outcome count) i
       two all i =
-          ap (λ m. step (meaning_of table) m) (ap (λ z. step_by (instr_of (meaning_of table) z) (stands table row_count code (pc + 1) slots rows out i)) has.1.0
-          ∙ ap (λ k. values 1 (keep outcome 0 k None) (folded (fold_of (reduction_of o).join) outcome k) i) (ap space_count (own-shape n table.shapes s rows arrays line form slots r right named) ∙ all))
+          ap (λ m. step (meaning_of table) m) (first-step all i)
           ∙ ap (λ z. step_by (instr_of (meaning_of table) z) (values 1 (keep outcome 0 count None) (folded (fold_of (reduction_of o).join) outcome count) i)) has.1.0
 
-      three : (v : ℤ) (i : Idle row_count) → steps (meaning_of table) 1 (judged None v i) ≡ stands table row_count code (pc + 1 + 1) (slice_set slots x v) rows out
+      two-noted : space_count ns ≡ count → (i : Idle row_count) → passed table 2 (stands table row_count moves code (pc + 1) slots rows out i) ≡ noted ∷ []
+      two-noted all i =
+          ap (λ z. note_at 0 z slots ++ (passed_now (step (meaning_of table) (stands table row_count moves code (pc + 1) slots rows out i)) ++ [])) has.1.0
+          ∙ ap (λ m. noted ∷ (passed_now m ++ [])) (first-step all i)
+
+      two-those : space_count ns ≡ count → (i : Idle row_count) → IsTrail moves (passed table 2 (stands table row_count moves code (pc + 1) slots rows out i)) entry
+      two-those all i = subst (λ l. IsTrail moves l entry) (sym (two-noted all i)) that
+
+      three : (v : ℤ) (i : Idle row_count) → steps (meaning_of table) 1 (judged None v i) ≡ stands table row_count moves code (pc + 1 + 1) (slice_set slots x v) rows out
           (record { layouts = i.layouts; joined = v; laid = i.laid })
       three v i = ap (λ z. step_by (instr_of (meaning_of table) z) (judged None v i)) has.1.0
 
-      by_each : space_count ns ≡ count → (q : Result (List ℤ) Cause) → Keeps line outcome q count → Folds line o outcome q count → Comes table row_count code line rows out (pc + 1) (pc + 2) b slots P
+      by_each : space_count ns ≡ count → (q : Result (List ℤ) Cause) → Keeps line outcome q count → Folds line o outcome q count → Comes table row_count moves code line rows out entry (pc + 1) (pc + 2) b slots P
           (q >>= pair >>= second)
       by_each all (Ok vs) kept joins =
           let v : ℤ = reduced o vs in
@@ -144,27 +173,29 @@ module _ (table : ArrayTable) (row_count : ℕ) (code : List Instruction) (line 
               3,
               record { layouts = i.layouts; joined = v; laid = i.laid },
               ap (step (meaning_of table)) (two all i ∙ ap (λ k. judged k (folded (fold_of (reduction_of o).join) outcome count) i) kept ∙ ap (λ z. judged None z i) joins) ∙ three v i
-                  ∙ ap (λ at. stands table row_count code at (slice_set slots x v) rows out (record { layouts = i.layouts; joined = v; laid = i.laid })) e,
+                  ∙ ap (λ at. stands table row_count moves code at (slice_set slots x v) rows out (record { layouts = i.layouts; joined = v; laid = i.laid })) e,
+              entries-more table row_count moves code 2 1 (stands table row_count moves code (pc + 1) slots rows out i) (judged None v i) entry []
+                  (two all i ∙ ap (λ k. judged k (folded (fold_of (reduction_of o).join) outcome count) i) kept ∙ ap (λ z. judged None z i) joins) (two-those all i) tt,
             )),
             same-set b x slots v le,
             slot-set x slots v lt,
           )
       by_each all (Err c) kept joins = λ i.
-          (judged (Some kept.0) (folded (fold_of (reduction_of o).join) outcome count) i, (2, two all i ∙ ap (λ k. judged k (folded (fold_of (reduction_of o).join) outcome count) i) kept.1), ap Faulted kept.2, refl)
+          (judged (Some kept.0) (folded (fold_of (reduction_of o).join) outcome count) i, (2, two all i ∙ ap (λ k. judged k (folded (fold_of (reduction_of o).join) outcome count) i) kept.1, two-those all i), ap Faulted kept.2, refl)
 
       limits : (q : Result ℕ Cause) → space_size ns (sections r) ≡ q → (i : Idle row_count)
-          → steps (meaning_of table) 1 (stands table row_count code pc slots rows out i)
-          ≡ record (stands table row_count code pc slots rows out i) { control = go_on_if {A = ℕ} (at_line line q) (record { at = pc; slots = slots; status = Running }) }
-      limits q e i = one table row_count code pc slots rows out (OwnLimits p) has.0 i
-          ∙ ap (λ q. record (stands table row_count code pc slots rows out i) { control = go_on_if {A = ℕ} (at_line line q) (record { at = pc; slots = slots; status = Running }) })
+          → steps (meaning_of table) 1 (stands table row_count moves code pc slots rows out i)
+          ≡ record (stands table row_count moves code pc slots rows out i) { control = go_on_if {A = ℕ} (at_line line q) (record { at = pc; slots = slots; status = Running }) }
+      limits q e i = one table row_count moves code pc slots rows out (OwnLimits p) has.0 i
+          ∙ ap (λ q. record (stands table row_count moves code pc slots rows out i) { control = go_on_if {A = ℕ} (at_line line q) (record { at = pc; slots = slots; status = Running }) })
           (own-limits n table.shapes s rows arrays line form slots r right named ∙ e)
 
-      by_limits : (q : Result ℕ Cause) → space_size ns (sections r) ≡ q → Comes table row_count code line rows out pc (pc + 2) b slots P
+      by_limits : (q : Result ℕ Cause) → space_size ns (sections r) ≡ q → Comes table row_count moves code line rows out (after_value q (λ k. entry)) pc (pc + 2) b slots P
           (q >>= (λ k. values_over s ns r k >>= pair) >>= second)
       by_limits (Ok k) e =
           let many : k ≡ count = space-size ns (sections r) k e in
-          comes-on table row_count code line rows out pc (pc + 1) (pc + 2) b b slots slots P (values_over s ns r k >>= pair >>= second) (omega arith) (λ i. (1, i, limits (Ok k) e i))
+          comes-on table row_count moves code line rows out [] entry pc (pc + 1) (pc + 2) b b slots slots P (values_over s ns r k >>= pair >>= second) (omega arith) (λ i. (1, i, limits (Ok k) e i, still table row_count moves code pc slots rows out (OwnLimits p) has.0 refl i))
           (same-refl b slots)
-          (subst (λ k. Comes table row_count code line rows out (pc + 1) (pc + 2) b slots P (values_over s ns r k >>= pair >>= second)) (sym many)
+          (subst (λ k. Comes table row_count moves code line rows out entry (pc + 1) (pc + 2) b slots P (values_over s ns r k >>= pair >>= second)) (sym many)
           (by_each (space-counted ns (sections r) k e) (values_over s ns r count) kept-is (folds-all line o outcome (positions ns) (λ t. value_at s (positions ns t) r) count tuple-is)))
-      by_limits (Err c) e = λ i. (_, (1, limits (Err c) e i), refl, refl)
+      by_limits (Err c) e = λ i. (_, (1, limits (Err c) e i, still table row_count moves code pc slots rows out (OwnLimits p) has.0 refl i), refl, refl)

@@ -1,4 +1,5 @@
 -- The code of a FORALL does what it means.
+use Rattle.node_code.specs.Instructions.{NewMapping, Instruction, ForallLimits, OneToOne, ParForall, ParForallCopy, ArrayTable, meaning_of, go_on_if}
 use Rattle.std.proofs.Common.{◌≡◌, ℕ, ◌+◌, ◌<◌, ◌≤◌, ◌==◌, ◌||◌, ◌&&◌, nat_le, List, [], ◌∷◌, ◌++◌, map, length, ℤ, pos, Bool, true, false, if◌then◌else◌, Option, Some, None, option_map, Result, Ok, Err, refl, sym, ap, ◌∙◌, subst, arith, length-append, append-nil, slice_get, slice_index_or}
 use Rattle.std.proofs.lemmas.Bool.Decides.{Decides-eqb}
 use Rattle.std.specs.List.{list_all}
@@ -13,10 +14,10 @@ use Rattle.array_meaning.specs.declared.sections.Sequence.{Sequence}
 use Rattle.array_meaning.specs.declared.sections.Selection.TheVariants.{Along}
 use Rattle.array_meaning.specs.declared.sections.Store.{Store}
 use Rattle.array_meaning.specs.Terms.{Term, Control, list_of}
-use Rattle.array_meaning.specs.Statements.{ElementAssignment}
+use Rattle.array_meaning.specs.Statements.{ElementAssignment, Forall}
 use Rattle.array_meaning.specs.Faults.{Cause, Fault, ◌>>=◌, fails, with_more, at_tuple}
 use Rattle.array_meaning.specs.State.{State}
-use Rattle.array_meaning.specs.Runs.{Run, normal, then_do, one_step, with_value}
+use Rattle.array_meaning.specs.Runs.{Run, normal, then_do, one_step, with_value, Completion, Normal, Exited, Cycled, Stopped}
 use Rattle.array_meaning.specs.Sections.{extents, positions, subscripts_at}
 use Rattle.array_meaning.specs.Elementals.{value_at, each}
 use Rattle.array_meaning.specs.Expressions.{value, values, selections, index_values, all_index_values}
@@ -30,18 +31,22 @@ use Rattle.node_code.specs.Flat.{slot}
 use Rattle.node_code.specs.Forms.{Sub, selections_at, selections_in, elemental_at}
 use Rattle.node_code.specs.Parallel.{When, at_line, outcome_if, outcome_of, mask_reads, is_asked, spot_of, reads_at, value_by_reads, assigned_value, Assignment, Evaluation, indices_in, forall_tuples, forall_spot, forall_mask_tuples}
 use Rattle.node_code.specs.ForallLimits.{term_of, slots_state, sequences_of, unless_empty, forall_limits, one_to_one}
-use Rattle.node_code.specs.Instructions.{Instruction, ForallLimits, OneToOne, ParForall, ParForallCopy, ArrayTable, meaning_of, go_on_if}
 use Rattle.lowering.specs.ExpressionCode.{subscripts_slots, subs_of, subscripts_code, control_slots, index_flat, index_form}
 use Rattle.lowering.specs.StatementCode.{triplets, one_to_one_code, forall_mask_code, forall_assignment, forall_assignments_code, forall_code, where_true}
-use Rattle.lowering.specs.WellFormed.{AreScalarSubscripts, AreControls, IsIndexedMask, AreIndexedAssignments}
-use Rattle.lowering.proofs.Reach.{Idle, HasAt, has-front, has-back, same-refl, stands, one, Comes}
+use Rattle.lowering.specs.WellFormed.{AreSubscripts, IsIndexed, AreScalarSubscripts, AreControls, IsIndexedMask, AreIndexedAssignments}
+use Rattle.std.specs.Prelude.{is_some}
+use Rattle.statement_trail.specs.Trail.{Trail, ForallMask, ElementsAssigned, after_value, after_run, reached, value_trail, selections_trail, control_trail, all_controls_trail, forall_trail, forall_parts_trail, if_not_empty, trail}
+use Rattle.lowering.specs.Passed.{IsMaskCopy, note, IsTrail}
+use Rattle.lowering.proofs.Goes.{goes-as, Holds, Kept, kept-refl, Goes, goes-at, goes-then-kept, goes-value, value-bind, lands-done}
+use Rattle.lowering.proofs.Wheres.{after-made, forget}
+use Rattle.lowering.proofs.Parts.{after-ok, triplet-trail, SubsGive, subscripts-come}
+use Rattle.array_meaning.specs.Runs as runs
+use Rattle.std.proofs.lemmas.Option.{same_Some}
+use Rattle.lowering.proofs.Reach.{still, comes-as, Idle, HasAt, has-front, has-back, same-refl, stands, one, Comes}
 use Rattle.lowering.proofs.Terms.{HoldsArrays}
-use Rattle.lowering.proofs.Goes.{Holds, Kept, kept-refl, Goes, goes-at, goes-then-kept, goes-value, value-bind, lands-done}
 use Rattle.lowering.proofs.Scatter.{Does, values_of, value-of-reads, counted-if}
-use Rattle.lowering.proofs.Parts.{SubsGive, subscripts-come}
 use Rattle.lowering.proofs.Storing.{masked-does, stores-go}
 use Rattle.lowering.proofs.Copies.{copy-goes}
-use Rattle.lowering.proofs.Wheres.{forget}
 use Rattle.lowering.proofs.Indexed.{all-listed, all-in-forall, subs-are, indexed-value, indexed-names, limits-are, one-to-one-are}
 
 -- ---- the header
@@ -90,6 +95,26 @@ one_is_to_one e ns b s = one_step b.line s (check (e || is_one_to_one s (list_of
 abbrev all_one_to_one : Bool → List ℕ → List ElementAssignment → State → Run
 all_one_to_one e ns [] s = normal s
 all_one_to_one e ns (b ∷ bs) s = then_do (one_is_to_one e ns b s) (all_one_to_one e ns bs)
+
+-- a run that passes nothing, and nothing after it
+after-none : (r : Run) → after_run r (λ s. []) ≡ []
+after-none r = by_completion r.completion
+  where
+    by_completion : (c : Completion) → after_run (record { state = r.state; completion = c }) (λ s. []) ≡ []
+    by_completion Normal = refl
+    by_completion Exited = refl
+    by_completion Cycled = refl
+    by_completion Stopped = refl
+    by_completion (runs.Faulted f) = refl
+
+-- what the header passes
+header-trail : (line : ℕ) (s : State) (cs : List Control) → selections_trail line s (triplets cs) ≡ all_controls_trail line s cs
+header-trail line s [] = refl
+header-trail line s (c ∷ cs) =
+    triplet-trail (value_trail line s c.first) (value_trail line s c.last) (value_trail line s c.step) (value [] s c.first) (value [] s c.last) (value [] s c.step)
+    (selections_trail line s (triplets cs))
+    ∙ ap (λ T. control_trail line s c ++ T) (after-ok (index_values s c) Along (selections_trail line s (triplets cs)))
+    ∙ ap (λ X. control_trail line s c ++ after_value (index_values s c) (λ p. X)) (header-trail line s cs)
 
 module _ (line : ℕ) (mask : Option Term) (body : List ElementAssignment) (axes : List Sequence) where
   abbrev after : ℕ → State → Run
@@ -140,27 +165,60 @@ module _ (line : ℕ) (mask : Option Term) (body : List ElementAssignment) (axes
           let none : n ≡ 0 = (Decides-eqb n 0).0 is in
           sym (ap (λ r. then_do r (after n)) (all-pass (index_extents axes) body s) ∙ ap (λ k. after k s) none ∙ by_mask mask)
 
-module _ (table : ArrayTable) (row_count : ℕ) (code : List Instruction) (n many leave again : ℕ) where
+  -- the same of what is passed
+  one-to-one-passed : (ns : List ℕ) (bs : List ElementAssignment) (s : State) (F : State → Trail) → after_run (all_one_to_one false ns bs s) F
+      ≡ after_run (check_one_to_one ns bs s) F
+  one-to-one-passed ns [] s F = refl
+  one-to-one-passed ns (b ∷ bs) s F = by_test (is_one_to_one s (list_of b.subscripts) 0 ns) (one-to-one-passed ns bs s F)
+    where
+      by_test : (t : Bool) → after_run (all_one_to_one false ns bs s) F ≡ after_run (check_one_to_one ns bs s) F
+          → after_run (then_do (one_step b.line s (check t NotOneToOne s)) (all_one_to_one false ns bs)) F
+          ≡ after_run (then_do (one_step b.line s (check t NotOneToOne s)) (check_one_to_one ns bs)) F
+      by_test true e = e
+      by_test false e = refl
+
+  abbrev limits_trail : Bool → (State → Trail) → State → Trail
+  limits_trail e F s = after_run (one_step line s (check (e || is_forall_in_limits s axes (all_subscripts mask body)) SpaceLimit s))
+      (λ s. after_run (all_one_to_one e (index_extents axes) body s) F)
+
+  tested-trail : (n : ℕ) (s : State) (F : State → Trail)
+      → limits_trail (n == 0) F s
+      ≡ after_run (if_not_empty n s (one_step line s (check_limits axes (all_subscripts mask body) s))) (λ s.
+      after_run (if_not_empty n s (check_one_to_one (index_extents axes) body s)) F)
+  tested-trail n s F = by_empty (n == 0)
+    where
+      by_limits : (t : Bool) → after_run (one_step line s (check t SpaceLimit s)) (λ s. after_run (all_one_to_one false (index_extents axes) body s) F)
+          ≡ after_run (one_step line s (check t SpaceLimit s)) (λ s. after_run (check_one_to_one (index_extents axes) body s) F)
+      by_limits true = one-to-one-passed (index_extents axes) body s F
+      by_limits false = refl
+
+      by_empty : (e : Bool) → limits_trail e F s
+          ≡ after_run (if e then normal s else one_step line s (check_limits axes (all_subscripts mask body) s)) (λ s.
+          after_run (if e then normal s else check_one_to_one (index_extents axes) body s) F)
+      by_empty false = by_limits (is_forall_in_limits s axes (all_subscripts mask body))
+      by_empty true = ap (λ r. after_run r F) (all-pass (index_extents axes) body s)
+
+module _ (table : ArrayTable) (row_count : ℕ) (moves : ℕ → List NewMapping) (code : List Instruction) (n many leave again : ℕ) where
   -- ---- tests
 
   test-goes : (copy : Option (List ℤ)) (line pc b : ℕ) (x : Instruction) (test : List ℤ → Result ℕ Cause) (t : Bool) (kind : FaultKind) (slots : List ℤ) (rows : Storage)
       (s : State) → slice_get code pc ≡ Some x → meaning_of table x ≡ Local (λ c. go_on_if (at_line line (test c.slots)) c)
-      → test slots ≡ (if t then Ok 0 else fails kind) → Holds table row_count code n many copy s slots rows → Goes table row_count code n many copy leave again (pc + 1) b slots
-      (stands table row_count code pc slots rows s.printed) (one_step line s (check t kind s))
-  test-goes copy line pc b x test t kind slots rows s h is e holds =
-      by_test t (λ i. one table row_count code pc slots rows s.printed x h i ∙ ap (λ z. step_by z (stands table row_count code pc slots rows s.printed i)) is
-      ∙ ap (λ q. record (stands table row_count code pc slots rows s.printed i) { control = go_on_if {A = ℕ} (at_line line q) (record { at = pc; slots = slots; status = Running }) })
+      → test slots ≡ (if t then Ok 0 else fails kind) → note x slots ≡ [] → Holds table row_count moves code n many copy s slots rows → Goes table row_count moves code n many copy leave again [] (pc + 1) b slots
+      (stands table row_count moves code pc slots rows s.printed) (one_step line s (check t kind s))
+  test-goes copy line pc b x test t kind slots rows s h is e quiet holds =
+      by_test t (λ i. one table row_count moves code pc slots rows s.printed x h i ∙ ap (λ z. step_by z (stands table row_count moves code pc slots rows s.printed i)) is
+      ∙ ap (λ q. record (stands table row_count moves code pc slots rows s.printed i) { control = go_on_if {A = ℕ} (at_line line q) (record { at = pc; slots = slots; status = Running }) })
       e)
     where
       by_test : (t : Bool)
-          → ((i : Idle row_count) → steps (meaning_of table) 1 (stands table row_count code pc slots rows s.printed i)
-          ≡ record (stands table row_count code pc slots rows s.printed i) {
+          → ((i : Idle row_count) → steps (meaning_of table) 1 (stands table row_count moves code pc slots rows s.printed i)
+          ≡ record (stands table row_count moves code pc slots rows s.printed i) {
             control = go_on_if {A = ℕ} (at_line line (if t then Ok 0 else fails kind))
                 (record { at = pc; slots = slots; status = Running });
           })
-          → Goes table row_count code n many copy leave again (pc + 1) b slots (stands table row_count code pc slots rows s.printed) (one_step line s (check t kind s))
-      by_test true g = (slots, rows, (λ i. (1, i, g i)), kept-refl table row_count code n many copy b slots, holds)
-      by_test false g = λ i. (_, (1, g i), refl, refl)
+          → Goes table row_count moves code n many copy leave again [] (pc + 1) b slots (stands table row_count moves code pc slots rows s.printed) (one_step line s (check t kind s))
+      by_test true g = (slots, rows, (λ i. (1, i, g i, still table row_count moves code pc slots rows s.printed x h quiet i)), kept-refl table row_count moves code n many copy b slots, holds)
+      by_test false g = λ i. (_, (1, g i, still table row_count moves code pc slots rows s.printed x h quiet i), refl, refl)
 
   -- what the slots say of the header
   module _ (line b b1 : ℕ) (controls : List Control) (axes : List Sequence) (le : n ≤ b) (room : b + subscripts_slots (triplets controls) ≡ b1) where
@@ -173,7 +231,7 @@ module _ (table : ArrayTable) (row_count : ℕ) (code : List Instruction) (n man
     abbrev Gives : List ℤ → Type 0
     Gives slots = selections_in slots over ≡ map Along axes
 
-    gives-kept : (copy : Option (List ℤ)) (slots slots1 : List ℤ) → Gives slots → Kept table row_count code n many copy b1 slots slots1 → Gives slots1
+    gives-kept : (copy : Option (List ℤ)) (slots slots1 : List ℤ) → Gives slots → Kept table row_count moves code n many copy b1 slots slots1 → Gives slots1
     gives-kept copy slots slots1 gives kept = sym (header-kept n b b1 controls slots slots1 le (omega (arith, room)) kept) ∙ gives
 
     extents-are : (slots : List ℤ) → Gives slots → extents (selections_in slots over) ≡ ns
@@ -185,47 +243,49 @@ module _ (table : ArrayTable) (row_count : ℕ) (code : List Instruction) (n man
     -- ---- limits
 
     all-one-to-one : (copy : Option (List ℤ)) (xs : List ElementAssignment) (pc : ℕ) (slots : List ℤ) (rows : Storage) (s : State) → AreIndexedAssignments n xs
-        → HasAt code pc (one_to_one_code over xs) → Holds table row_count code n many copy s slots rows → Gives slots
-        → Goes table row_count code n many copy leave again (pc + length (one_to_one_code over xs)) b1 slots (stands table row_count code pc slots rows s.printed)
+        → HasAt code pc (one_to_one_code over xs) → Holds table row_count moves code n many copy s slots rows → Gives slots
+        → Goes table row_count moves code n many copy leave again [] (pc + length (one_to_one_code over xs)) b1 slots (stands table row_count moves code pc slots rows s.printed)
         (all_one_to_one (product ns == 0) ns xs s)
     all-one-to-one copy [] pc slots rows s ok has holds gives =
         let e : pc ≡ pc + 0 = omega arith in
-        goes-at table row_count code n many copy leave again pc (pc + 0) b1 slots (stands table row_count code pc slots rows s.printed) (normal s) e
-        (lands-done table row_count code n many copy leave again pc b1 slots rows s holds)
+        goes-at table row_count moves code n many copy leave again [] pc (pc + 0) b1 slots (stands table row_count moves code pc slots rows s.printed) (normal s) e
+        (lands-done table row_count moves code n many copy leave again pc b1 slots rows s holds)
     all-one-to-one copy (x ∷ xs) pc slots rows s ok has holds gives =
         let cs = one_to_one_code over xs in
         let e : pc + 1 + length cs ≡ pc + length (one_to_one_code over (x ∷ xs)) = omega arith in
-        goes-at table row_count code n many copy leave again (pc + 1 + length cs) (pc + length (one_to_one_code over (x ∷ xs))) b1 slots (stands table row_count code pc slots rows s.printed)
+        goes-at table row_count moves code n many copy leave again [] (pc + 1 + length cs) (pc + length (one_to_one_code over (x ∷ xs))) b1 slots (stands table row_count moves code pc slots rows s.printed)
         (all_one_to_one (product ns == 0) ns (x ∷ xs) s) e
-        (goes-then-kept table row_count code n many copy leave again (pc + 1) (pc + 1 + length cs) b1 slots (stands table row_count code pc slots rows s.printed)
+        (goes-as table row_count moves code n many copy leave again ([] ++ after_run (one_is_to_one (product ns == 0) ns x s) (λ s. [])) [] (pc + 1 + length cs) b1 slots
+        (stands table row_count moves code pc slots rows s.printed) (all_one_to_one (product ns == 0) ns (x ∷ xs) s) (after-none (one_is_to_one (product ns == 0) ns x s))
+        (goes-then-kept table row_count moves code n many copy leave again [] (λ s. []) (pc + 1) (pc + 1 + length cs) b1 slots (stands table row_count moves code pc slots rows s.printed)
         (one_is_to_one (product ns == 0) ns x s) (all_one_to_one (product ns == 0) ns xs)
         (test-goes copy x.line pc b1 (OneToOne x.line over (map index_flat (list_of x.subscripts))) (one_to_one over (map index_flat (list_of x.subscripts)))
         ((product ns == 0) || is_one_to_one s (list_of x.subscripts) 0 ns) NotOneToOne slots rows s has.0 refl
         (ap (λ ms. unless_empty ms (is_one_to_one (slots_state slots) (map term_of (map index_flat (list_of x.subscripts))) 0 ms) NotOneToOne) (extents-are slots gives)
-        ∙ ap (λ t. unless_empty ns t NotOneToOne) (one-to-one-are n s slots holds.scalars 0 (list_of x.subscripts) ns (all-listed n x.subscripts ok.1))) holds)
-        (λ slots1 rows1 s1 kept holds1. all-one-to-one copy xs (pc + 1) slots1 rows1 s1 ok.3 has.1 holds1 (gives-kept copy slots slots1 gives kept)))
+        ∙ ap (λ t. unless_empty ns t NotOneToOne) (one-to-one-are n s slots holds.scalars 0 (list_of x.subscripts) ns (all-listed n x.subscripts ok.1))) refl holds)
+        (λ slots1 rows1 s1 kept holds1. all-one-to-one copy xs (pc + 1) slots1 rows1 s1 ok.3 has.1 holds1 (gives-kept copy slots slots1 gives kept))))
 
     -- ---- assignments
 
-    assigns-all : space_count ns ≡ product ns → (copy : Option (List ℤ)) (when : Option When) (m : Mask)
-        → ((s : State) (slots : List ℤ) (rows : Storage) → Holds table row_count code n many copy s slots rows → (t : ℕ) (values : List ℤ)
+    assigns-all : space_count ns ≡ product ns → (copy : Option (List ℤ)) (when : Option When) (m : Mask) → IsMaskCopy n when
+        → ((s : State) (slots : List ℤ) (rows : Storage) → Holds table row_count moves code n many copy s slots rows → (t : ℕ) (values : List ℤ)
         → is_asked when (values_of rows (mask_reads when t) ++ values) ≡ m t)
         → (xs : List ElementAssignment) (pc : ℕ) (slots : List ℤ) (rows : Storage) (s : State) → AreIndexedAssignments n xs
-        → HasAt code pc (forall_assignments_code over when xs) → Holds table row_count code n many copy s slots rows → Gives slots
-        → Goes table row_count code n many copy leave again (pc + length (forall_assignments_code over when xs)) b1 slots (stands table row_count code pc slots rows s.printed)
+        → HasAt code pc (forall_assignments_code over when xs) → Holds table row_count moves code n many copy s slots rows → Gives slots
+        → Goes table row_count moves code n many copy leave again (forall_trail (is_some when) axes (product ns) m xs s) (pc + length (forall_assignments_code over when xs)) b1 slots (stands table row_count moves code pc slots rows s.printed)
         (assign_all_forall axes (product ns) m xs s)
-    assigns-all all copy when m asked [] pc slots rows s ok has holds gives =
+    assigns-all all copy when m masks asked [] pc slots rows s ok has holds gives =
         let e : pc ≡ pc + 0 = omega arith in
-        goes-at table row_count code n many copy leave again pc (pc + 0) b1 slots (stands table row_count code pc slots rows s.printed) (normal s) e
-        (lands-done table row_count code n many copy leave again pc b1 slots rows s holds)
-    assigns-all all copy when m asked (x ∷ xs) pc slots rows s ok has holds gives =
-        goes-at table row_count code n many copy leave again (pc + 2 + length cs) (pc + length (forall_assignments_code over when (x ∷ xs))) b1 slots
-        (stands table row_count code pc slots rows s.printed) (assign_all_forall axes (product ns) m (x ∷ xs) s) long
-        (goes-then-kept table row_count code n many copy leave again (pc + 2) (pc + 2 + length cs) b1 slots (stands table row_count code pc slots rows s.printed)
+        goes-at table row_count moves code n many copy leave again [] pc (pc + 0) b1 slots (stands table row_count moves code pc slots rows s.printed) (normal s) e
+        (lands-done table row_count moves code n many copy leave again pc b1 slots rows s holds)
+    assigns-all all copy when m masks asked (x ∷ xs) pc slots rows s ok has holds gives =
+        goes-at table row_count moves code n many copy leave again (forall_trail (is_some when) axes (product ns) m (x ∷ xs) s) (pc + 2 + length cs) (pc + length (forall_assignments_code over when (x ∷ xs))) b1 slots
+        (stands table row_count moves code pc slots rows s.printed) (assign_all_forall axes (product ns) m (x ∷ xs) s) long
+        (goes-then-kept table row_count moves code n many copy leave again entry (forall_trail (is_some when) axes (product ns) m xs) (pc + 2) (pc + 2 + length cs) b1 slots (stands table row_count moves code pc slots rows s.printed)
         (one_step x.line s (assign_forall axes (product ns) m x s)) (assign_all_forall axes (product ns) m xs)
-        (stores-go table row_count code n many copy leave again (ParForall p) (forall_tuples table.shapes p) (forall_spot table.shapes p) refl x.line x.array b1 pc ok.0
-        (has.0, (has.1.0, tt)) slots rows s holds (product ns) (ap space_count (extents-are slots gives) ∙ all) (indices_at axes) at_a_tuple (λ u lt. does u))
-        (λ slots1 rows1 s1 kept holds1. assigns-all all copy when m asked xs (pc + 2) slots1 rows1 s1 ok.3 at_rest holds1 (gives-kept copy slots slots1 gives kept)))
+        (stores-go table row_count moves code n many copy leave again (ParForall p) (forall_tuples table.shapes p) (forall_spot table.shapes p) refl x.line x.array b1 pc ok.0
+        (has.0, (has.1.0, tt)) slots rows s holds (product ns) (ap space_count (extents-are slots gives) ∙ all) (indices_at axes) at_a_tuple (λ u lt. does u) entry those)
+        (λ slots1 rows1 s1 kept holds1. assigns-all all copy when m masks asked xs (pc + 2) slots1 rows1 s1 ok.3 at_rest holds1 (gives-kept copy slots slots1 gives kept)))
       where
         cs : List Instruction
         cs = forall_assignments_code over when xs
@@ -238,6 +298,18 @@ module _ (table : ArrayTable) (row_count : ℕ) (code : List Instruction) (n man
 
         p : Assignment
         p = forall_assignment over when x
+
+        entry : Trail
+        entry = reached x.line s (ElementsAssigned (is_some when) axes x.array x.subscripts x.right)
+
+        those : IsTrail moves (note (ParForall p) slots) entry
+        those = (
+          record {
+            scalars = λ k lk. holds.scalars k (omega (arith, lk, holds.places));
+            event = (refl, (axes, x.subscripts, x.right, refl, gives, refl, refl, (λ w e. masks w e ∙ sym holds.places), subst (λ k. AreSubscripts k x.subscripts) (sym holds.places) ok.1, subst (λ k. IsIndexed k x.right) (sym holds.places) ok.2));
+          },
+          tt,
+        )
 
         at_a_tuple : ℕ → Result (Option Store) Cause
         at_a_tuple u = if_true (m u) (values (indices_at axes u) s x.subscripts >>= (λ is. store_at s x.array is (value (indices_at axes u) s x.right)))
@@ -274,24 +346,40 @@ module _ (table : ArrayTable) (row_count : ℕ) (code : List Instruction) (n man
         (all : space_count ns ≡ product ns) where
       after-goes : (mask : Option Term) (pc : ℕ) (slots : List ℤ) (rows : Storage) (s : State) → IsIndexedMask n mask
           → HasAt code pc (forall_mask_code n line over mask ++ forall_assignments_code over (option_map (λ t. where_true n true) mask) body)
-          → Holds table row_count code n many None s slots rows → Gives slots
-          → Goes table row_count code n many None leave again
+          → Holds table row_count moves code n many None s slots rows → Gives slots
+          → Goes table row_count moves code n many None leave again (forall_parts_trail line axes mask body s)
           (pc + length (forall_mask_code n line over mask ++ forall_assignments_code over (option_map (λ t. where_true n true) mask) body)) b1 slots
-          (stands table row_count code pc slots rows s.printed) (after line mask body axes (product ns) s)
-      after-goes None pc slots rows s ok has holds gives = assigns-all all None None (λ t. true) (λ s slots rows h t values. refl) body pc slots rows s ok_body has holds gives
+          (stands table row_count moves code pc slots rows s.printed) (after line mask body axes (product ns) s)
+      after-goes None pc slots rows s ok has holds gives = assigns-all all None None (λ t. true) (λ w e. cc) (λ s slots rows h t values. refl) body pc slots rows s ok_body has holds gives
       after-goes (Some t) pc slots rows s ok has holds gives =
-          goes-at table row_count code n many None leave again to (pc + length (forall_mask_code n line over (Some t) ++ cs)) b1 slots (stands table row_count code pc slots rows s.printed)
+          goes-at table row_count moves code n many None leave again (forall_parts_trail line axes (Some t) body s) to (pc + length (forall_mask_code n line over (Some t) ++ cs)) b1 slots (stands table row_count moves code pc slots rows s.printed)
           (after line (Some t) body axes (product ns) s) long
-          (subst (Goes table row_count code n many None leave again to b1 slots (stands table row_count code pc slots rows s.printed))
+          (subst (Goes table row_count moves code n many None leave again (forall_parts_trail line axes (Some t) body s) to b1 slots (stands table row_count moves code pc slots rows s.printed))
           (sym (value-bind line s (each (indices_at axes) (λ u. value (indices_at axes u) s t) (product ns)) (λ vs. Ok (mask_of vs))
           (λ m. assign_all_forall axes (product ns) m body s)))
-          (copy-goes table row_count code n many leave again sized line b1 pc to (index_form t) over (ParForallCopy n p) (forall_mask_tuples table.shapes p) refl
+          (goes-as table row_count moves code n many None leave again (entry ++ after_value (each (indices_at axes) (λ u. value (indices_at axes u) s t) (product ns)) made) (forall_parts_trail line axes (Some t) body s) to b1 slots
+          (stands table row_count moves code pc slots rows s.printed)
+          (with_value line s (each (indices_at axes) (λ u. value (indices_at axes u) s t) (product ns)) (λ vs. assign_all_forall axes (product ns) (mask_of vs) body s))
+          (ap (λ T. entry ++ T) (sym (after-made (each (indices_at axes) (λ u. value (indices_at axes u) s t) (product ns)) mask_of (λ m. forall_trail true axes (product ns) m body s))))
+          (copy-goes table row_count moves code n many leave again sized line b1 pc to (index_form t) over (ParForallCopy n p) (forall_mask_tuples table.shapes p) refl
           (has.0, (has.1.0, (has.1.1.0, tt))) slots rows s holds ns (extents-are slots gives) (ap space_count (extents-are slots gives) ∙ all) all (indices_at axes)
           (λ u. value (indices_at axes u) s t)
-          does (λ vs. assign_all_forall axes (product ns) (mask_of vs) body s) goes))
+          does entry those made (λ vs. assign_all_forall axes (product ns) (mask_of vs) body s) goes)))
         where
           p : Evaluation
           p = record { line = line; form = index_form t; over = over }
+
+          entry : Trail
+          entry = reached line s (ForallMask axes t)
+
+          those : IsTrail moves (note (ParForallCopy n p) slots) entry
+          those = (
+            record { scalars = λ k lk. holds.scalars k (omega (arith, lk, holds.places)); event = (refl, (axes, t, refl, gives, refl, sym holds.places, subst (λ k. IsIndexed k t) (sym holds.places) ok)) },
+            tt,
+          )
+
+          made : List ℤ → Trail
+          made vs = forall_trail true axes (product ns) (mask_of vs) body s
 
           cs : List Instruction
           cs = forall_assignments_code over (Some (where_true n true)) body
@@ -317,32 +405,33 @@ module _ (table : ArrayTable) (row_count : ℕ) (code : List Instruction) (n man
               ≡ outcome_of (at_line line (at_tuple (indices_at axes u) (value (indices_at axes u) s t)))
           does rows1 arrays u = does-at rows1 arrays (indices_in over slots u) ∙ ap (λ y. outcome_of (at_line line (at_tuple y (value y s t)))) (indices-are slots gives u)
 
-          asked : (vs : List ℤ) (s1 : State) (slots1 : List ℤ) (rows1 : Storage) → Holds table row_count code n many (Some vs) s1 slots1 rows1 → (u : ℕ) (values : List ℤ)
+          asked : (vs : List ℤ) (s1 : State) (slots1 : List ℤ) (rows1 : Storage) → Holds table row_count moves code n many (Some vs) s1 slots1 rows1 → (u : ℕ) (values : List ℤ)
               → is_asked (Some (where_true n true)) (values_of rows1 (mask_reads (Some (where_true n true)) u) ++ values) ≡ mask_of vs u
           asked vs s1 slots1 rows1 h u values = ap (λ r. is_true (slice_index_or r u (pos 0))) (h.copied vs refl)
 
-          goes : (vs : List ℤ) (rows3 : Storage) → Holds table row_count code n many (Some vs) s slots rows3 → Goes table row_count code n many None leave again to b1 slots
-              (stands table row_count code (pc + 3) slots rows3 s.printed) (assign_all_forall axes (product ns) (mask_of vs) body s)
+          goes : (vs : List ℤ) (rows3 : Storage) → Holds table row_count moves code n many (Some vs) s slots rows3 → Goes table row_count moves code n many None leave again (made vs) to b1 slots
+              (stands table row_count moves code (pc + 3) slots rows3 s.printed) (assign_all_forall axes (product ns) (mask_of vs) body s)
           goes vs rows3 holds3 =
               let e : pc + 1 + 1 + 1 ≡ pc + 3 = omega arith in
-              forget table row_count code n many leave again sized (Some vs) to b1 slots (stands table row_count code (pc + 3) slots rows3 s.printed)
+              forget table row_count moves code n many leave again sized (made vs) (Some vs) to b1 slots (stands table row_count moves code (pc + 3) slots rows3 s.printed)
               (assign_all_forall axes (product ns) (mask_of vs) body s)
-              (assigns-all all (Some vs) (Some (where_true n true)) (mask_of vs) (asked vs) body (pc + 3) slots rows3 s ok_body (subst (λ at. HasAt code at cs) e has.1.1.1) holds3
+              (assigns-all all (Some vs) (Some (where_true n true)) (mask_of vs) (λ w' e. sym (ap (λ (x : When). x.copy) (same_Some (where_true n true) w' e))) (asked vs) body (pc + 3) slots rows3 s ok_body (subst (λ at. HasAt code at cs) e has.1.1.1) holds3
               gives)
 
   -- ---- the statement
 
   pub forall-goes : (sized : (layouts : List Layout) (ms : List ℕ) → size_of (table.copies layouts ms) ≡ space_count ms) (line b pc : ℕ) (controls : List Control) (mask : Option Term)
       (body : List ElementAssignment) (slots : List ℤ) (rows : Storage) (s : State) → AreControls n controls → IsIndexedMask n mask → AreIndexedAssignments n body
-      → HasAt code pc (forall_code n line b controls mask body) → n ≤ b → b + subscripts_slots (triplets controls) ≤ many → Holds table row_count code n many None s slots rows
-      → Goes table row_count code n many None leave again (pc + length (forall_code n line b controls mask body)) b slots (stands table row_count code pc slots rows s.printed)
+      → HasAt code pc (forall_code n line b controls mask body) → n ≤ b → b + subscripts_slots (triplets controls) ≤ many → Holds table row_count moves code n many None s slots rows
+      → Goes table row_count moves code n many None leave again (trail (Forall controls mask body) line s) (pc + length (forall_code n line b controls mask body)) b slots (stands table row_count moves code pc slots rows s.printed)
       (run_forall line controls mask body s)
   forall-goes sized line b pc controls mask body slots rows s ok ok_mask ok_body has le few holds =
-      goes-at table row_count code n many None leave again to (pc + length (c1 ++ tail)) b slots (stands table row_count code pc slots rows s.printed) (run_forall line controls mask body s) long
-      (goes-value table row_count code n many None leave again line pc pc1 to b b1 slots rows s P (all_index_values s controls) does (omega arith) le holds
-      (by_header (all_index_values s controls) (subst (Comes table row_count code line rows s.printed pc pc1 b slots (SubsGive b1 over')) (header-is s controls)
-      (subscripts-come table row_count code line n s rows s.printed holds.arrays (triplets controls) pc b slots (header-scalar n controls ok)
-      (has-front code pc c1 tail has) holds.scalars le (omega (arith, few, holds.size)))))
+      goes-at table row_count moves code n many None leave again (trail (Forall controls mask body) line s) to (pc + length (c1 ++ tail)) b slots (stands table row_count moves code pc slots rows s.printed) (run_forall line controls mask body s) long
+      (goes-value table row_count moves code n many None leave again (all_controls_trail line s controls) does_trail line pc pc1 to b b1 slots rows s P (all_index_values s controls) does (omega arith) le holds
+      (by_header (all_index_values s controls) (subst (Comes table row_count moves code line rows s.printed (all_controls_trail line s controls) pc pc1 b slots (SubsGive b1 over')) (header-is s controls)
+      (comes-as table row_count moves code line rows s.printed (selections_trail line s (triplets controls)) (all_controls_trail line s controls) pc pc1 b slots (SubsGive b1 over')
+      (selections [] s (triplets controls)) (header-trail line s controls) (subscripts-come table row_count moves code line n s rows s.printed holds.arrays (triplets controls) pc b slots (header-scalar n controls ok)
+      (has-front code pc c1 tail has) holds.scalars le (omega (arith, few, holds.size))))))
       (λ slots1 axes e same gives holds1. after_header slots1 axes (gives slots1 (same-refl b1 slots1)) holds1))
     where
       over' : List Sub
@@ -378,22 +467,31 @@ module _ (table : ArrayTable) (row_count : ℕ) (code : List Instruction) (n man
       P : List ℤ → List Sequence → Type 0
       P slots' axes = SubsGive b1 over' slots' (map Along axes)
 
+      does_trail : List Sequence → Trail
+      does_trail axes =
+          after_run (if_not_empty (product (index_extents axes)) s (one_step line s (check_limits axes (all_subscripts mask body) s))) (λ s.
+          after_run (if_not_empty (product (index_extents axes)) s (check_one_to_one (index_extents axes) body s)) (forall_parts_trail line axes mask body))
+
       does : List Sequence → Run
       does axes =
           if product (index_extents axes) == 0 then normal s
           else then_do (one_step line s (check_limits axes (all_subscripts mask body) s))
           (λ s. then_do (check_one_to_one (index_extents axes) body s) (after line mask body axes (product (index_extents axes))))
 
-      by_header : (r : Result (List Sequence) Cause) → Comes table row_count code line rows s.printed pc pc1 b slots (SubsGive b1 over') (r >>= (λ axes. Ok (map Along axes)))
-          → Comes table row_count code line rows s.printed pc pc1 b slots P r
+      by_header : (r : Result (List Sequence) Cause) → Comes table row_count moves code line rows s.printed (all_controls_trail line s controls) pc pc1 b slots (SubsGive b1 over') (r >>= (λ axes. Ok (map Along axes)))
+          → Comes table row_count moves code line rows s.printed (all_controls_trail line s controls) pc pc1 b slots P r
       by_header (Ok axes) h = h
       by_header (Err c) h = h
 
-      after_header : (slots1 : List ℤ) (axes : List Sequence) → selections_in slots1 over' ≡ map Along axes → Holds table row_count code n many None s slots1 rows
-          → Goes table row_count code n many None leave again to b1 slots1 (stands table row_count code pc1 slots1 rows s.printed) (does axes)
+      after_header : (slots1 : List ℤ) (axes : List Sequence) → selections_in slots1 over' ≡ map Along axes → Holds table row_count moves code n many None s slots1 rows
+          → Goes table row_count moves code n many None leave again (does_trail axes) to b1 slots1 (stands table row_count moves code pc1 slots1 rows s.printed) (does axes)
       after_header slots1 axes gives holds1 =
-          subst (Goes table row_count code n many None leave again to b1 slots1 (stands table row_count code pc1 slots1 rows s.printed)) (sym (forall-is line mask body axes count s))
-          (by_test test refl)
+          subst (Goes table row_count moves code n many None leave again (does_trail axes) to b1 slots1 (stands table row_count moves code pc1 slots1 rows s.printed))
+          (sym (forall-is line mask body axes count s))
+          (goes-as table row_count moves code n many None leave again (limits_trail line mask body axes (count == 0) (forall_parts_trail line axes mask body) s) (does_trail axes) to b1 slots1
+          (stands table row_count moves code pc1 slots1 rows s.printed) (then_do (one_step line s (check test SpaceLimit s)) rest)
+          (tested-trail line mask body axes count s (forall_parts_trail line axes mask body))
+          (by_test test refl))
         where
           count : ℕ
           count = product (index_extents axes)
@@ -423,18 +521,27 @@ module _ (table : ArrayTable) (row_count : ℕ) (code : List Instruction) (n man
               by_tests false true w x e f = cc
               by_tests false false w x e f = cc
 
-          tests : Goes table row_count code n many None leave again (pc1 + 1) b1 slots1 (stands table row_count code pc1 slots1 rows s.printed) (one_step line s (check test SpaceLimit s))
+          behind_limits : State → Trail
+          behind_limits s = after_run (all_one_to_one (count == 0) (index_extents axes) body s) (forall_parts_trail line axes mask body)
+
+          tested : Bool → Trail
+          tested t = after_run (one_step line s (check t SpaceLimit s)) behind_limits
+
+          tests : Goes table row_count moves code n many None leave again [] (pc1 + 1) b1 slots1 (stands table row_count moves code pc1 slots1 rows s.printed) (one_step line s (check test SpaceLimit s))
           tests =
               test-goes None line pc1 b1 (ForallLimits line over' (map index_flat (all_subscripts mask body))) (forall_limits over' (map index_flat (all_subscripts mask body)))
-              test SpaceLimit slots1 rows s at_tail.0 refl limits holds1
+              test SpaceLimit slots1 rows s at_tail.0 refl limits refl holds1
 
           by_test : (t : Bool) → test ≡ t
-              → Goes table row_count code n many None leave again to b1 slots1 (stands table row_count code pc1 slots1 rows s.printed) (then_do (one_step line s (check test SpaceLimit s)) rest)
+              → Goes table row_count moves code n many None leave again (tested test) to b1 slots1 (stands table row_count moves code pc1 slots1 rows s.printed)
+              (then_do (one_step line s (check test SpaceLimit s)) rest)
           by_test true is =
-              goes-then-kept table row_count code n many None leave again (pc1 + 1) to b1 slots1 (stands table row_count code pc1 slots1 rows s.printed) (one_step line s (check test SpaceLimit s)) rest
+              goes-then-kept table row_count moves code n many None leave again [] behind_limits (pc1 + 1) to b1 slots1 (stands table row_count moves code pc1 slots1 rows s.printed)
+              (one_step line s (check test SpaceLimit s)) rest
               tests
               (λ slots2 rows2 s2 kept2 holds2.
-              goes-then-kept table row_count code n many None leave again (pc1 + 1 + length c2) to b1 slots2 (stands table row_count code (pc1 + 1) slots2 rows2 s2.printed)
+              goes-then-kept table row_count moves code n many None leave again [] (forall_parts_trail line axes mask body) (pc1 + 1 + length c2) to b1 slots2
+              (stands table row_count moves code (pc1 + 1) slots2 rows2 s2.printed)
               (all_one_to_one (count == 0) (index_extents axes) body s2) (after line mask body axes count)
               (all-one-to-one line b b1 controls axes le refl None body (pc1 + 1) slots2 rows2 s2 ok_body (has-front code (pc1 + 1) c2 c3 at_tail.1) holds2
               (gives-kept line b b1 controls axes le refl None slots1 slots2 gives kept2))
@@ -442,7 +549,9 @@ module _ (table : ArrayTable) (row_count : ℕ) (code : List Instruction) (n man
               after-goes line b b1 controls axes le refl sized body ok_body (counted is) mask (pc1 + 1 + length c2) slots3 rows3 s3 ok_mask (has-back code (pc1 + 1) c2 c3 at_tail.1)
               holds3 (gives-kept line b b1 controls axes le refl None slots2 slots3 (gives-kept line b b1 controls axes le refl None slots1 slots2 gives kept2) kept3)))
           by_test false is =
-              subst (λ t. Goes table row_count code n many None leave again to b1 slots1 (stands table row_count code pc1 slots1 rows s.printed) (then_do (one_step line s (check t SpaceLimit s)) rest))
+              subst (λ t. Goes table row_count moves code n many None leave again (tested t) to b1 slots1 (stands table row_count moves code pc1 slots1 rows s.printed)
+              (then_do (one_step line s (check t SpaceLimit s)) rest))
               (sym is)
-              (subst (λ t. Goes table row_count code n many None leave again (pc1 + 1) b1 slots1 (stands table row_count code pc1 slots1 rows s.printed) (one_step line s (check t SpaceLimit s)))
+              (subst (λ t. Goes table row_count moves code n many None leave again [] (pc1 + 1) b1 slots1 (stands table row_count moves code pc1 slots1 rows s.printed)
+              (one_step line s (check t SpaceLimit s)))
               is tests)

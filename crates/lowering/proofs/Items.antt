@@ -1,4 +1,5 @@
 -- An array item of a PRINT.
+use Rattle.node_code.specs.Instructions.{NewMapping, Instruction, OwnLimits, Inside, go_on_if, all_inside, ArrayTable}
 use Rattle.std.proofs.Common.{◌≡◌, ℕ, zero, suc, ◌+◌, ◌<◌, ◌≤◌, List, [], ◌∷◌, ◌++◌, length, ℤ, pos, Option, Some, None, Result, Ok, Err, refl, sym, ap, ◌∙◌, subst, arith, length-append, slice_index_or, option_map}
 use Rattle.array_meaning.specs.Elementals.{ArrayValue, Selected, each, values_over, array_value}
 use Rattle.array_meaning.specs.Execution.{decimals, item_bytes}
@@ -11,7 +12,8 @@ use Rattle.array_meaning.specs.Terms.{SectionSubscripts}
 use Rattle.array_meaning.specs.declared.sections.Selection.{Selection}
 use Rattle.hpf_base.specs.ElementOrder.{product}
 use Rattle.lowering.proofs.Parts.{SubsGive, subscripts-come}
-use Rattle.lowering.proofs.Reach.{HasAt, has-front, has-back, SameBelow, same-refl, Reaches, stands, one, Comes, comes-on, comes-then, comes-at}
+use Rattle.statement_trail.specs.Trail.{selections_trail}
+use Rattle.lowering.proofs.Reach.{still, comes-last, HasAt, has-front, has-back, SameBelow, same-refl, Reaches, stands, one, Comes, comes-on, comes-then, comes-at}
 use Rattle.lowering.proofs.Scatter.{space-size, space-counted}
 use Rattle.lowering.proofs.Terms.{HoldsScalars, HoldsArrays}
 use Rattle.lowering.specs.ExpressionCode.{own_evaluation, subscripts_slots, subs_of, subscripts_code}
@@ -22,10 +24,9 @@ use Rattle.machine_steps.specs.Space.{space_count}
 use Rattle.machine_steps.specs.Machine.{element_values, value_or_none}
 use Rattle.storage.specs.Storage.{Storage, read}
 use Rattle.node_code.specs.Forms.{SectionForm, Sub, selections_in}
-use Rattle.node_code.specs.Instructions.{Instruction, OwnLimits, Inside, go_on_if, all_inside, ArrayTable}
 use Rattle.node_code.specs.Parallel.{at_line, shape_of, Evaluation, spot_of, evaluation_size}
 
-module _ (table : ArrayTable) (row_count : ℕ) (code : List Instruction) (line n : ℕ) (s : State) (rows : Storage) (out : List ℕ) (arrays : HoldsArrays n table.shapes s rows) where
+module _ (table : ArrayTable) (row_count : ℕ) (moves : ℕ → List NewMapping) (code : List Instruction) (line n : ℕ) (s : State) (rows : Storage) (out : List ℕ) (arrays : HoldsArrays n table.shapes s rows) where
   -- elements are in bounds, or the first that isn't is the fault
   elements-are : (a : ℕ) (tuple : ℕ → List ℤ) (subscripts : ℕ → List ℤ) (t : ℕ) → a < n
       → each tuple (λ t. element s a (subscripts t)) t
@@ -59,7 +60,7 @@ module _ (table : ArrayTable) (row_count : ℕ) (code : List Instruction) (line 
 
   spread-comes : (pc b a : ℕ) (subs : List Sub) (slots : List ℤ) (ds : List Selection) → a < n
       → HasAt code pc (OwnLimits (own_evaluation line (SectionForm a subs)) ∷ Inside line a subs ∷ []) → SubsGive b subs slots ds
-      → Comes table row_count code line rows out pc (pc + 2) b slots (SpreadGives b a subs) (array_value s (Selected a ds) >>= (λ v. Ok (decimals v.elements)))
+      → Comes table row_count moves code line rows out [] pc (pc + 2) b slots (SpreadGives b a subs) (array_value s (Selected a ds) >>= (λ v. Ok (decimals v.elements)))
   spread-comes pc b a subs slots ds la has gives = by_limits (space_size ns (ds ∷ [])) refl
     where
       p : Evaluation
@@ -86,18 +87,19 @@ module _ (table : ArrayTable) (row_count : ℕ) (code : List Instruction) (line 
       listed : ℕ → List ℕ
       listed count = decimals (element_values (read rows) (λ t. spot_of table.shapes a (subscripts_at ds (positions ns t))) count)
 
-      by_inside : space_count ns ≡ product ns → (q : Result (List ℕ) Cause) → in_bounds (product ns) ≡ q → Comes table row_count code line rows out (pc + 1) (pc + 2) b slots (SpreadGives b a subs)
+      by_inside : space_count ns ≡ product ns → (q : Result (List ℕ) Cause) → in_bounds (product ns) ≡ q → Comes table row_count moves code line rows out [] (pc + 1) (pc + 2) b slots (SpreadGives b a subs)
           (q >>= (λ ks. Ok (element_values (read rows) (λ t. spot_of table.shapes a (subscripts_at ds (positions ns t))) (product ns))) >>= pair >>= second)
       by_inside all (Ok ks) e =
           let at : pc + 1 + 1 ≡ pc + 2 = omega arith in (
             slots,
-            subst (λ to. Reaches table row_count code (stands table row_count code (pc + 1) slots rows out) (stands table row_count code to slots rows out)) at
+            subst (λ to. Reaches table row_count moves code [] (stands table row_count moves code (pc + 1) slots rows out) (stands table row_count moves code to slots rows out)) at
                 (λ i. (
                   1,
                   i,
-                  one table row_count code (pc + 1) slots rows out (Inside line a subs) has.1.0 i
-                      ∙ ap (λ q. record (stands table row_count code (pc + 1) slots rows out i)
+                  one table row_count moves code (pc + 1) slots rows out (Inside line a subs) has.1.0 i
+                      ∙ ap (λ q. record (stands table row_count moves code (pc + 1) slots rows out i)
                       { control = go_on_if {A = List ℕ} (at_line line q) (record { at = pc + 1; slots = slots; status = Running }) }) (ap (all_inside table.shapes a) here ∙ ap in_bounds all ∙ e),
+                  still table row_count moves code (pc + 1) slots rows out (Inside line a subs) has.1.0 refl i,
                 )),
             same-refl b slots,
             (λ later same. ap (spread a) (gives later same) ∙ ap listed all),
@@ -107,29 +109,31 @@ module _ (table : ArrayTable) (row_count : ℕ) (code : List Instruction) (line 
             _,
             (
               1,
-              one table row_count code (pc + 1) slots rows out (Inside line a subs) has.1.0 i
-                  ∙ ap (λ q. record (stands table row_count code (pc + 1) slots rows out i)
+              one table row_count moves code (pc + 1) slots rows out (Inside line a subs) has.1.0 i
+                  ∙ ap (λ q. record (stands table row_count moves code (pc + 1) slots rows out i)
                   { control = go_on_if {A = List ℕ} (at_line line q) (record { at = pc + 1; slots = slots; status = Running }) }) (ap (all_inside table.shapes a) here ∙ ap in_bounds all ∙ e),
+              still table row_count moves code (pc + 1) slots rows out (Inside line a subs) has.1.0 refl i,
             ),
             refl,
             refl,
           )
 
-      by_limits : (q : Result ℕ Cause) → space_size ns (ds ∷ []) ≡ q → Comes table row_count code line rows out pc (pc + 2) b slots (SpreadGives b a subs)
+      by_limits : (q : Result ℕ Cause) → space_size ns (ds ∷ []) ≡ q → Comes table row_count moves code line rows out [] pc (pc + 2) b slots (SpreadGives b a subs)
           (q >>= (λ k. values_over s ns (Selected a ds) k >>= pair) >>= second)
       by_limits (Ok k) e =
-          comes-on table row_count code line rows out pc (pc + 1) (pc + 2) b b slots slots (SpreadGives b a subs) (values_over s ns (Selected a ds) k >>= pair >>= second) (omega arith)
+          comes-on table row_count moves code line rows out [] [] pc (pc + 1) (pc + 2) b b slots slots (SpreadGives b a subs) (values_over s ns (Selected a ds) k >>= pair >>= second) (omega arith)
           (λ i. (
             1,
             i,
-            one table row_count code pc slots rows out (OwnLimits p) has.0 i
-                ∙ ap (λ q. record (stands table row_count code pc slots rows out i) { control = go_on_if {A = ℕ} (at_line line q) (record { at = pc; slots = slots; status = Running }) })
+            one table row_count moves code pc slots rows out (OwnLimits p) has.0 i
+                ∙ ap (λ q. record (stands table row_count moves code pc slots rows out i) { control = go_on_if {A = ℕ} (at_line line q) (record { at = pc; slots = slots; status = Running }) })
                 (limits ∙ e),
+            still table row_count moves code pc slots rows out (OwnLimits p) has.0 refl i,
           ))
           (same-refl b slots)
-          (subst (λ k. Comes table row_count code line rows out (pc + 1) (pc + 2) b slots (SpreadGives b a subs) (values_over s ns (Selected a ds) k >>= pair >>= second))
+          (subst (λ k. Comes table row_count moves code line rows out [] (pc + 1) (pc + 2) b slots (SpreadGives b a subs) (values_over s ns (Selected a ds) k >>= pair >>= second))
           (sym (space-size ns (ds ∷ []) k e))
-          (subst (λ r. Comes table row_count code line rows out (pc + 1) (pc + 2) b slots (SpreadGives b a subs) (r >>= pair >>= second))
+          (subst (λ r. Comes table row_count moves code line rows out [] (pc + 1) (pc + 2) b slots (SpreadGives b a subs) (r >>= pair >>= second))
           (sym (elements-are a (positions ns) (λ t. subscripts_at ds (positions ns t)) (product ns) la))
           (by_inside (space-counted ns (ds ∷ []) k e) (in_bounds (product ns)) refl)))
       by_limits (Err c) e =
@@ -137,9 +141,10 @@ module _ (table : ArrayTable) (row_count : ℕ) (code : List Instruction) (line 
             _,
             (
               1,
-              one table row_count code pc slots rows out (OwnLimits p) has.0 i
-                  ∙ ap (λ q. record (stands table row_count code pc slots rows out i) { control = go_on_if {A = ℕ} (at_line line q) (record { at = pc; slots = slots; status = Running }) })
+              one table row_count moves code pc slots rows out (OwnLimits p) has.0 i
+                  ∙ ap (λ q. record (stands table row_count moves code pc slots rows out i) { control = go_on_if {A = ℕ} (at_line line q) (record { at = pc; slots = slots; status = Running }) })
                   (limits ∙ e),
+              still table row_count moves code pc slots rows out (OwnLimits p) has.0 refl i,
             ),
             refl,
             refl,
@@ -147,7 +152,7 @@ module _ (table : ArrayTable) (row_count : ℕ) (code : List Instruction) (line 
 
   pub elements-come : (a : ℕ) (rs : SectionSubscripts) (pc b : ℕ) (slots : List ℤ) → a < n → AreScalarSubscripts n rs → HasAt code pc (item_code line b (Elements a rs))
       → HoldsScalars n s slots → n ≤ b → b + subscripts_slots rs ≤ length slots
-      → Comes table row_count code line rows out pc (pc + length (item_code line b (Elements a rs))) b slots (SpreadGives (b + subscripts_slots rs) a (subs_of b rs))
+      → Comes table row_count moves code line rows out (selections_trail line s rs) pc (pc + length (item_code line b (Elements a rs))) b slots (SpreadGives (b + subscripts_slots rs) a (subs_of b rs))
       (item_bytes s (Elements a rs))
   elements-come a rs pc b slots la ok has holds le few =
       let c = subscripts_code line b rs in
@@ -157,8 +162,8 @@ module _ (table : ArrayTable) (row_count : ℕ) (code : List Instruction) (line 
       let last = OwnLimits p ∷ Inside line a subs ∷ [] in
       let pc1 : ℕ = pc + length c in
       let long : pc1 + 2 ≡ pc + length (c ++ last) = omega (arith, length-append c last) in
-      comes-at table row_count code line rows out pc (pc1 + 2) (pc + length (c ++ last)) b slots (SpreadGives b1 a subs) (item_bytes s (Elements a rs)) long
-      (comes-then table row_count code line rows out pc pc1 (pc1 + 2) b b1 slots (SubsGive b1 subs) (SpreadGives b1 a subs) (selections [] s rs)
+      comes-at table row_count moves code line rows out (selections_trail line s rs) pc (pc1 + 2) (pc + length (c ++ last)) b slots (SpreadGives b1 a subs) (item_bytes s (Elements a rs)) long
+      (comes-last table row_count moves code line rows out (selections_trail line s rs) pc pc1 (pc1 + 2) b b1 slots (SubsGive b1 subs) (SpreadGives b1 a subs) (selections [] s rs)
       (λ ds. array_value s (Selected a ds) >>= (λ v. Ok (decimals v.elements))) (omega arith)
-      (subscripts-come table row_count code line n s rows out arrays rs pc b slots ok (has-front code pc c last has) holds le few)
+      (subscripts-come table row_count moves code line n s rows out arrays rs pc b slots ok (has-front code pc c last has) holds le few)
       (λ slots1 ds e same gives. spread-comes pc1 b1 a subs slots1 ds la (has-back code pc c last has) gives))

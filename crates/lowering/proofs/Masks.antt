@@ -1,4 +1,5 @@
 -- The values of a mask in a copy.
+use Rattle.node_code.specs.Instructions.{NewMapping, Instruction, ArrayTable}
 use Rattle.std.proofs.Common.{◌≡◌, ℕ, zero, suc, ◌+◌, ◌<◌, ◌≤◌, List, [], ◌∷◌, ◌++◌, length, ℤ, Option, Some, None, Result, Ok, Err, refl, sym, ap, ◌∙◌, arith, length-append, slice_set, length-set, get_or-set_same, get_or-set_other, option_map}
 use Rattle.std.specs.Bool.{⊤}
 use Rattle.array_meaning.specs.Elementals.{sections, all_sections, first_extents, each}
@@ -13,7 +14,6 @@ use Rattle.storage.specs.Effect.{Effect, Put, Fail, scatter}
 use Rattle.storage.specs.Storage.{Storage, row_of, write}
 use Rattle.node_code.specs.Flat.{slot}
 use Rattle.node_code.specs.Forms.{Sub, SubAt, SubAlong, ArrayForm, FlatForm, SectionForm, OperationForm, Forms, NoForm, AndForm, selections_in, elemental_in, elementals_in}
-use Rattle.node_code.specs.Instructions.{Instruction, ArrayTable}
 use Rattle.node_code.specs.Parallel.{fault_at}
 use Rattle.std.specs.Option.{option_or}
 
@@ -118,12 +118,12 @@ set-seam : (vs : List ℤ) (z v : ℤ) (rest : List ℤ) → slice_set (vs ++ z 
 set-seam [] z v rest = refl
 set-seam (w ∷ vs) z v rest = ap (λ l. w ∷ l) (set-seam vs z v rest)
 
-module _ (table : ArrayTable) (row_count : ℕ) (code : List Instruction) (n many : ℕ) where
-  pub holds-copy : (s : State) (slots : List ℤ) (rows : Storage) (x : List ℤ) → Holds table row_count code n many None s slots rows → Holds table row_count code n many None s slots
+module _ (table : ArrayTable) (row_count : ℕ) (moves : ℕ → List NewMapping) (code : List Instruction) (n many : ℕ) where
+  pub holds-copy : (s : State) (slots : List ℤ) (rows : Storage) (x : List ℤ) → Holds table row_count moves code n many None s slots rows → Holds table row_count moves code n many None s slots
       (slice_set rows n x)
   holds-copy s slots rows x h = record {
     scalars = h.scalars;
-    arrays = record { elements = λ a lt. get_or-set_other rows n a x [] (λ e. absurd (omega (arith, e, lt))) ∙ h.arrays.elements a lt; shape = h.arrays.shape };
+    arrays = record { elements = λ a lt. get_or-set_other rows n a x [] (λ e. absurd (omega (arith, e, lt))) ∙ h.arrays.elements a lt; shape = h.arrays.shape; places = h.places };
     places = h.places;
     more_places = h.more_places;
     wide = omega (arith, h.wide, length-set rows n x);
@@ -132,7 +132,7 @@ module _ (table : ArrayTable) (row_count : ℕ) (code : List Instruction) (n man
     copied = λ m e. cc;
   }
 
-  pub holds-some : (s : State) (slots : List ℤ) (rows : Storage) (m : List ℤ) → row_of rows n ≡ m → Holds table row_count code n many None s slots rows → Holds table row_count code n many
+  pub holds-some : (s : State) (slots : List ℤ) (rows : Storage) (m : List ℤ) → row_of rows n ≡ m → Holds table row_count moves code n many None s slots rows → Holds table row_count moves code n many
       (Some m) s slots rows
   holds-some s slots rows m e h = record {
     scalars = h.scalars;
@@ -153,10 +153,10 @@ module _ (table : ArrayTable) (row_count : ℕ) (code : List Instruction) (n man
   value_effect line t (Ok v) = Put (record { row = n; at = t }) v
   value_effect line t (Err c) = Fail (fault_at line c)
 
-  module _ (line count : ℕ) (s : State) (slots : List ℤ) (rows : Storage) (holds : Holds table row_count code n many None s slots rows) (empty : length (row_of rows n) ≡ count)
+  module _ (line count : ℕ) (s : State) (slots : List ℤ) (rows : Storage) (holds : Holds table row_count moves code n many None s slots rows) (empty : length (row_of rows n) ≡ count)
       (effect : ℕ → Effect Fault) where
     abbrev pub Filled : Result (List ℤ) Cause → ℕ → Type 0
-    Filled (Ok vs) t = (rest : List ℤ) × (row_of (scatter effect t rows) n ≡ vs ++ rest) × (length vs ≡ t) × (t + length rest ≡ count) × Holds table row_count code n many None s slots
+    Filled (Ok vs) t = (rest : List ℤ) × (row_of (scatter effect t rows) n ≡ vs ++ rest) × (length vs ≡ t) × (t + length rest ≡ count) × Holds table row_count moves code n many None s slots
         (scatter effect t rows)
     Filled (Err c) t = ⊤
 

@@ -16,7 +16,7 @@ use Rattle.array_meaning.specs.Serial.{end_of, outcome}
 use Rattle.machine_steps.specs.Instr.{Finished}
 use Rattle.machine_steps.specs.Layout.{Layout}
 use Rattle.machine_steps.specs.Machine.{Machine, steps}
-use Rattle.node_code.specs.Instructions.{Instruction, ArrayTable, meaning_of}
+use Rattle.node_code.specs.Instructions.{Instruction, NewMapping, ArrayTable, meaning_of}
 use Rattle.lowering.specs.StatementCode.{block_copies}
 use Rattle.lowering.specs.WellFormed.{IsWellFormedBlock}
 use Rattle.lowering.specs.Lowered.{opening, EndsAs, IsEnd, IsLeft, IsTable, MachineHas}
@@ -39,16 +39,16 @@ end-is n m s Cycled h = (h.1, left-is n m s h.0 h.2)
 end-is n m s Stopped h = (h.1, left-is n m s h.0 h.2)
 end-is n m s (runs.Faulted f) h = (h.1, h.0)
 
-pub outcome-is : (names : List Entry) (room : ℕ) (body : syntax.Block) (table : ArrayTable) (layouts : List Layout)
+pub outcome-is : (names : List Entry) (room : ℕ) (moves : ℕ → List NewMapping) (body : syntax.Block) (table : ArrayTable) (layouts : List Layout)
     → IsTable (initial_state names) table → block_copies (resolved_block names body) ≤ room → length layouts ≡ length names + room
     → IsWellFormedBlock (length names) (resolved_block names body)
-    → MachineHas (length names) table (opening (length names) room (resolved_block names body) (initial_state names) layouts) (outcome names body)
-outcome-is names room body table layouts is-table roomy laid ok =
+    → MachineHas (length names) table (opening (length names) room moves (resolved_block names body) (initial_state names) layouts) (outcome names body)
+outcome-is names room moves body table layouts is-table roomy laid ok =
     let n : ℕ = length names in
     let block : Block = resolved_block names body in
     let s : State = initial_state names in
     let scalars : length s.scalars ≡ n = length-map names (λ (e : Entry). initial_scalar e.what) in
     let arrays : length s.arrays ≡ n = length-map names (λ (e : Entry). initial_array e.what) in
-    let ends = program-ends table n room block s (record { scalars = scalars; arrays = arrays }) is-table roomy layouts laid ok in
-    let is = end-is n (steps (meaning_of table) ends.0 (opening n room block s layouts)) (run_block block s).state (run_block block s).completion ends.1 in
+    let ends = program-ends table n room moves block s (record { scalars = scalars; arrays = arrays }) is-table roomy layouts laid ok in
+    let is = end-is n (steps (meaning_of table) ends.0 (opening n room moves block s layouts)) (run_block block s).state (run_block block s).completion ends.1 in
     (ends.0, is.0, is.1)

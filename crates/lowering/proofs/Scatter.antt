@@ -1,4 +1,5 @@
 -- A parallel statement and its Verdict: the values first and then the stores, or the first fault in the order of tuples.
+use Rattle.node_code.specs.Instructions.{NewMapping, Instruction, ArrayTable}
 use Rattle.std.proofs.Common.{◌≡◌, ℕ, zero, suc, ◌+◌, ◌<◌, List, [], ◌∷◌, ◌++◌, map, length, ℤ, pos, nat_le, ◌==◌, ◌||◌, ◌&&◌, Bool, true, false, if◌then◌else◌, Option, Some, None, Result, Ok, Err, refl, sym, ap, ◌∙◌, arith, length-append, append_assoc, append-nil, slice_index_or, option_map}
 use Rattle.std.specs.Bool.{⊤}
 use Rattle.std.proofs.lemmas.Bool.{eqb-true}
@@ -23,7 +24,6 @@ use Rattle.machine_steps.specs.Machine.{effect_by, value_by}
 use Rattle.lowering.proofs.Keeping.{IsOutcome}
 use Rattle.storage.specs.Effect.{Effect, Skip, Put, Fail, scatter}
 use Rattle.storage.specs.Storage.{Storage, Spot, read, row_of}
-use Rattle.node_code.specs.Instructions.{Instruction, ArrayTable}
 use Rattle.node_code.specs.Parallel.{fault_at, at_line, shape_of, outcome_of, reads_at, all_reads_at, value_by_reads, values_by_reads, spot_of, assigned_value}
 
 -- a space_size has as many tuples as its shape says
@@ -64,18 +64,18 @@ store-last : (s : State) (a : ℕ) (stores : List (Option Store)) (v : Option St
 store-last s a [] v = refl
 store-last s a (w ∷ stores) v = store-last (stored a s w) a stores v
 
-module _ (table : ArrayTable) (row_count : ℕ) (code : List Instruction) (n many : ℕ) (copy : Option (List ℤ)) (line a : ℕ) (la : a < n) (s : State) (slots : List ℤ) (rows : Storage)
-    (holds : Holds table row_count code n many copy s slots rows) (effect : ℕ → Effect Fault) where
+module _ (table : ArrayTable) (row_count : ℕ) (moves : ℕ → List NewMapping) (code : List Instruction) (n many : ℕ) (copy : Option (List ℤ)) (line a : ℕ) (la : a < n) (s : State) (slots : List ℤ) (rows : Storage)
+    (holds : Holds table row_count moves code n many copy s slots rows) (effect : ℕ → Effect Fault) where
   -- the rows after the first tuples, by the meaning's results
   abbrev pub Scattered : Result (List (Option Store)) Cause → ℕ → Type 0
-  Scattered (Ok stores) t = Holds table row_count code n many copy (store_all s a stores) slots (scatter effect t rows)
+  Scattered (Ok stores) t = Holds table row_count moves code n many copy (store_all s a stores) slots (scatter effect t rows)
   Scattered (Err c) t = ⊤
 
   one-more : (t : ℕ) (r : Result (List (Option Store)) Cause) (q : Result (Option Store) Cause) → effect t ≡ effect_for line a q → Scattered r t
       → Scattered (r >>= (λ vs. q >>= (λ v. Ok (vs ++ v ∷ [])))) (suc t)
   one-more t (Ok vs) (Ok None) e h = rw (e, store-last s a vs None) h
   one-more t (Ok vs) (Ok (Some st)) e h = rw (e, store-last s a vs (Some st))
-      (holds-store table row_count code n many copy (store_all s a vs) slots (scatter effect t rows) a st.place st.value la h)
+      (holds-store table row_count moves code n many copy (store_all s a vs) slots (scatter effect t rows) a st.place st.value la h)
   one-more t (Ok vs) (Err c) e h = tt
   one-more t (Err c) q e h = tt
 

@@ -1,4 +1,5 @@
 -- A parallel statement that stores in an array, at the tuples at which a mask is true, and its Verdict.
+use Rattle.node_code.specs.Instructions.{NewMapping, Instruction, Verdict, ArrayTable, meaning_of}
 use Rattle.std.proofs.Common.{◌≡◌, ℕ, ◌+◌, ◌<◌, List, [], ◌∷◌, ◌++◌, length, ℤ, Bool, true, false, Option, Some, None, Result, Ok, Err, refl, sym, ap, ◌∙◌, subst}
 use Rattle.std.proofs.lemmas.List.{length-map}
 use Rattle.expression_rules.specs.declared.dims.Dim.{Dim}
@@ -17,7 +18,8 @@ use Rattle.machine_steps.specs.Instr.{Outcome, Tuples}
 use Rattle.machine_steps.specs.Machine as machine
 use Rattle.machine_steps.specs.Machine.{effect_of, value_by}
 use Rattle.node_code.specs.Parallel.{When, fault_at, at_line, outcome_if, mask_reads, is_asked, spot_of, reads_at, assigned_value}
-use Rattle.node_code.specs.Instructions.{Instruction, Verdict, ArrayTable, meaning_of}
+use Rattle.statement_trail.specs.Trail.{Trail}
+use Rattle.lowering.specs.Passed.{note, IsTrail}
 use Rattle.lowering.proofs.Reach.{HasAt, Reaches, stands}
 use Rattle.lowering.proofs.Terms.{HoldsArrays}
 use Rattle.lowering.proofs.Goes.{Holds, kept-refl, Goes}
@@ -58,12 +60,13 @@ module _ (n : ℕ) (shapes : List (List Dim)) (s : State) (rows : Storage) (arra
       by_chosen true = tuple-does n shapes s rows arrays x line a ds r (values_of rows (mask_reads when t)) la named
       by_chosen false = (refl, λ t. refl)
 
-module _ (table : ArrayTable) (row_count : ℕ) (code : List Instruction) (n many : ℕ) (copy : Option (List ℤ)) (leave again : ℕ) (par : Instruction) (tuples : Tuples Fault)
+module _ (table : ArrayTable) (row_count : ℕ) (moves : ℕ → List NewMapping) (code : List Instruction) (n many : ℕ) (copy : Option (List ℤ)) (leave again : ℕ) (par : Instruction) (tuples : Tuples Fault)
     (left : List ℤ → ℕ → Option Spot) (is : meaning_of table par ≡ instr.Par tuples left)
-    (line a b pc : ℕ) (la : a < n) (has : HasAt code pc (par ∷ Verdict ∷ [])) (slots : List ℤ) (rows : Storage) (s : State) (holds : Holds table row_count code n many copy s slots rows)
+    (line a b pc : ℕ) (la : a < n) (has : HasAt code pc (par ∷ Verdict ∷ [])) (slots : List ℤ) (rows : Storage) (s : State) (holds : Holds table row_count moves code n many copy s slots rows)
     (count : ℕ) (sized : tuples.count slots ≡ count)
     (tuple : ℕ → List ℤ) (f : ℕ → Result (Option Store) Cause)
-    (does : (t : ℕ) → t < count → Does line a (left slots t) (machine.outcome_of tuples slots (read rows) t) (at_tuple (tuple t) (f t))) where
+    (does : (t : ℕ) → t < count → Does line a (left slots t) (machine.outcome_of tuples slots (read rows) t) (at_tuple (tuple t) (f t)))
+    (T : Trail) (those : IsTrail moves (note par slots) T) where
   abbrev outcome : ℕ → Outcome Fault
   outcome = machine.outcome_of tuples slots (read rows)
 
@@ -71,24 +74,24 @@ module _ (table : ArrayTable) (row_count : ℕ) (code : List Instruction) (n man
   effect = effect_of tuples left slots (read rows)
 
   -- all values are taken, and then stored; or the first fault ends the run
-  pub stores-go : Goes table row_count code n many copy leave again (pc + 2) b slots (stands table row_count code pc slots rows s.printed)
+  pub stores-go : Goes table row_count moves code n many copy leave again T (pc + 2) b slots (stands table row_count moves code pc slots rows s.printed)
       (one_step line s (each tuple f count >>= (λ stores. Ok (store_all s a stores))))
-  stores-go = by_each (each tuple f count) (scattered table row_count code n many copy line a la s slots rows holds effect tuple f count (λ u lt. (does u lt).0))
+  stores-go = by_each (each tuple f count) (scattered table row_count moves code n many copy line a la s slots rows holds effect tuple f count (λ u lt. (does u lt).0))
       (keeps line outcome tuple f count (λ u lt. (does u lt).1))
     where
-      by_each : (q : Result (List (Option Store)) Cause) → Scattered table row_count code n many copy line a la s slots rows holds effect q count → Keeps line outcome q count
-          → Goes table row_count code n many copy leave again (pc + 2) b slots (stands table row_count code pc slots rows s.printed) (one_step line s (q >>= (λ stores. Ok (store_all s a stores))))
+      by_each : (q : Result (List (Option Store)) Cause) → Scattered table row_count moves code n many copy line a la s slots rows holds effect q count → Keeps line outcome q count
+          → Goes table row_count moves code n many copy leave again T (pc + 2) b slots (stands table row_count moves code pc slots rows s.printed) (one_step line s (q >>= (λ stores. Ok (store_all s a stores))))
       by_each (Ok stores) h kept = (
         slots,
         scatter effect count rows,
-        out (par-reaches table row_count code n par tuples left pc slots rows s.printed is has count sized kept),
-        kept-refl table row_count code n many copy b
+        out (par-reaches table row_count moves code n par tuples left pc slots rows s.printed is has count sized T those kept),
+        kept-refl table row_count moves code n many copy b
             slots,
         h,
       )
         where
-          out : Reaches table row_count code (stands table row_count code pc slots rows s.printed) (stands table row_count code (pc + 2) slots (scatter effect count rows) s.printed)
-              → Reaches table row_count code (stands table row_count code pc slots rows s.printed) (stands table row_count code (pc + 2) slots (scatter effect count rows) (store_all s a stores).printed)
-          out reach = subst (λ o. Reaches table row_count code (stands table row_count code pc slots rows s.printed) (stands table row_count code (pc + 2) slots (scatter effect count rows) o))
+          out : Reaches table row_count moves code T (stands table row_count moves code pc slots rows s.printed) (stands table row_count moves code (pc + 2) slots (scatter effect count rows) s.printed)
+              → Reaches table row_count moves code T (stands table row_count moves code pc slots rows s.printed) (stands table row_count moves code (pc + 2) slots (scatter effect count rows) (store_all s a stores).printed)
+          out reach = subst (λ o. Reaches table row_count moves code T (stands table row_count moves code pc slots rows s.printed) (stands table row_count moves code (pc + 2) slots (scatter effect count rows) o))
               (sym (stores-print s a stores)) reach
-      by_each (Err c) h kept = par-stops table row_count code n par tuples left pc slots rows s.printed is has count sized (fault_at line c) kept
+      by_each (Err c) h kept = par-stops table row_count moves code n par tuples left pc slots rows s.printed is has count sized T those (fault_at line c) kept

@@ -15,7 +15,7 @@ use Rattle.array_meaning.specs.Forall.{subscripts_in, subscripts_in_all, mask_su
 use Rattle.node_code.specs.Flat.{Flat, Int, Slot, Axis, Read, Operated, Flats, NoFlat, AndFlat}
 use Rattle.node_code.specs.Forms.{Sub, ArrayForm, FlatForm, SectionForm, OperationForm, Forms, NoForm, AndForm}
 use Rattle.node_code.specs.Parallel.{When, Evaluation, shape_of}
-use Rattle.node_code.specs.Instructions.{Instruction, Jump, JumpIfZero, Halt, MakeCopy, Set, Trips}
+use Rattle.node_code.specs.Instructions.{NewMapping, Instruction, Jump, JumpIfZero, Halt, MakeCopy, Remap, Set, Trips}
 use Rattle.node_code.specs.ValidCode.{CodeTable, flat_count, IsCopy, IsFlat, AreFlats, IsValue, IsReference, IsElement, IsSub, IsSection, IsSpace, IsForm, AreForms, IsMask, IsAssignment, IsEvaluation, IsItem, IsValid, IsValidNodeCode, is_closed}
 use Rattle.lowering.specs.ExpressionCode.{one_if, slots_of, all_slots_of, parts_slots, all_parts_slots, subscripts_slots, control_slots, operated_flat, flat_of, flats_of, subs_of, form_of, forms_of, set_if, three_code, first_subs, first_subs_of, or_no_sub, own_evaluation, reduce_code, code_of, codes_of, subscripts_code, parts_code, all_parts_code, control_code, index_flat, index_flats, index_subs, index_form, index_forms}
 use Rattle.lowering.specs.StatementCode.{item_slots, items_slots, item_code, items_code, print_item, print_items, loop_code, arm_code, assignment, assignment_code, masked_slots, masked_code, where_true, where_code, triplets, one_to_one_code, forall_mask_code, forall_assignments_code, forall_code, statement_slots, arms_slots, block_slots, block_copies, statement_code, arms_code, block_code, program_code}
@@ -481,14 +481,14 @@ module _ (table : CodeTable) (n : ℕ) (declared : length table.shapes ≡ n) (f
             (forall-assignments-good over (option_map (λ t. where_true copy true) mask) body space (masked-by copy mask is-copy) ok.2 all)),
       )
 
-  module _ (copied : 1 ≤ table.copies) where
+  module _ (copied : 1 ≤ table.copies) (moves : ℕ → List NewMapping) (moving : (line : ℕ) → IsValid table (Remap line (moves line))) where
     is-copy : IsCopy table n
     is-copy = (omega (arith, declared), omega (arith, declared, copied))
 
     mutual
       statement-good : (st : Statement) (line b pc leave again : ℕ) → IsWellFormed n st → KeepsRanks table.shapes st → b + statement_slots st ≤ table.slots →
-          pc + length (statement_code n line st b pc leave again) < table.places → leave < table.places → again < table.places →
-          AllValid (statement_code n line st b pc leave again)
+          pc + length (statement_code n moves line st b pc leave again) < table.places → leave < table.places → again < table.places →
+          AllValid (statement_code n moves line st b pc leave again)
       statement-good (AssignScalar k t) line b pc leave again ok ranked le within away round =
           join (code_of line b t) _ (term-good line b t ok.1 ranked le) ((scalar-slot k ok.0, value-good (flat_of b t) (flat-good 0 b t ok.1 le)), tt)
       statement-good (AssignElement a ts t) line b pc leave again ok ranked le within away round =
@@ -503,16 +503,16 @@ module _ (table : CodeTable) (n : ℕ) (declared : length table.shapes ≡ n) (f
           assignment-good line b a subs t None tt ok.0 ok.1 ok.2 ranked.0 ranked.1 le
       statement-good (If arms other) line b pc leave again ok ranked le within away round =
           let more : b + max (arms_slots arms) (block_slots other) ≤ table.slots = le in
-          arms-good arms (λ pc. block_code n other b pc leave again) b pc leave again ok.0 ranked.0 (omega (arith, more)) within away round
+          arms-good arms (λ pc. block_code n moves other b pc leave again) b pc leave again ok.0 ranked.0 (omega (arith, more)) within away round
           (λ at here. block-good other b at leave again ok.1 ranked.1 (omega (arith, more)) here away round)
       statement-good (Do mark loop body) line b pc leave again ok ranked le within away round =
           let more : b + (control_slots loop.control + 4 + block_slots body) ≤ table.slots = le in
           let c : List Instruction = control_code line b loop.control in
           let v : ℕ = b + control_slots loop.control in
-          let rest : List Instruction = loop_code line (pc + length c) v loop.index (block_code n body (v + 4)) in
+          let rest : List Instruction = loop_code line (pc + length c) v loop.index (block_code n moves body (v + 4)) in
           let whole : pc + length (c ++ rest) < table.places = within in
           join c rest (control-good line b loop.control ok.1 ranked.0 (omega (arith, more)))
-          (loop-good line (pc + length c) v loop.index (block_code n body (v + 4)) (scalar-slot loop.index ok.0) (omega (arith, more))
+          (loop-good line (pc + length c) v loop.index (block_code n moves body (v + 4)) (scalar-slot loop.index ok.0) (omega (arith, more))
           (omega (arith, whole, length-append c rest))
           (λ leave again out back here. block-good body (v + 4) (pc + length c + 8) leave again ok.2 ranked.1 (omega (arith, more)) here out back))
       statement-good (Where mask body others) line b pc leave again ok ranked le within away round = where-good n line b mask body others is-copy ok ranked le
@@ -523,25 +523,25 @@ module _ (table : CodeTable) (n : ℕ) (declared : length table.shapes ≡ n) (f
       statement-good Exit line b pc leave again ok ranked le within away round = (away, tt)
       statement-good Cycle line b pc leave again ok ranked le within away round = (round, tt)
       statement-good Continue line b pc leave again ok ranked le within away round = tt
-      statement-good Redistribute line b pc leave again ok ranked le within away round = tt
+      statement-good Redistribute line b pc leave again ok ranked le within away round = (moving line, tt)
 
       arms-good : (arms : Arms) (rest : ℕ → List Instruction) (b pc leave again : ℕ) → AreWellFormedArms n arms → ArmsKeepRanks table.shapes arms →
-          b + arms_slots arms ≤ table.slots → pc + length (arms_code n arms rest b pc leave again) < table.places → leave < table.places → again < table.places →
-          ((at : ℕ) → at + length (rest at) < table.places → AllValid (rest at)) → AllValid (arms_code n arms rest b pc leave again)
+          b + arms_slots arms ≤ table.slots → pc + length (arms_code n moves arms rest b pc leave again) < table.places → leave < table.places → again < table.places →
+          ((at : ℕ) → at + length (rest at) < table.places → AllValid (rest at)) → AllValid (arms_code n moves arms rest b pc leave again)
       arms-good NoArm rest b pc leave again ok ranked le within away round more = more pc within
       arms-good (Arm line cond body arms) rest b pc leave again ok ranked le within away round more =
           let room : b + max (slots_of cond + 1) (max (block_slots body) (arms_slots arms)) ≤ table.slots = le in
-          arm-good line pc b cond (λ pc. block_code n body b pc leave again) (λ pc. arms_code n arms rest b pc leave again) ok.0 ranked.0 (omega (arith, room)) within
+          arm-good line pc b cond (λ pc. block_code n moves body b pc leave again) (λ pc. arms_code n moves arms rest b pc leave again) ok.0 ranked.0 (omega (arith, room)) within
           (λ at here. block-good body b at leave again ok.1 ranked.1 (omega (arith, room)) here away round)
           (λ at here. arms-good arms rest b at leave again ok.2 ranked.2 (omega (arith, room)) here away round more)
 
       block-good : (bl : Block) (b pc leave again : ℕ) → IsWellFormedBlock n bl → BlockKeepsRanks table.shapes bl → b + block_slots bl ≤ table.slots →
-          pc + length (block_code n bl b pc leave again) < table.places → leave < table.places → again < table.places → AllValid (block_code n bl b pc leave again)
+          pc + length (block_code n moves bl b pc leave again) < table.places → leave < table.places → again < table.places → AllValid (block_code n moves bl b pc leave again)
       block-good Done b pc leave again ok ranked le within away round = tt
       block-good (Then line st rest) b pc leave again ok ranked le within away round =
           let more : b + max (statement_slots st) (block_slots rest) ≤ table.slots = le in
-          let first : List Instruction = statement_code n line st b pc leave again in
-          let others : List Instruction = block_code n rest b (pc + length first) leave again in
+          let first : List Instruction = statement_code n moves line st b pc leave again in
+          let others : List Instruction = block_code n moves rest b (pc + length first) leave again in
           let whole : pc + length (first ++ others) < table.places = within in
           join first others (statement-good st line b pc leave again ok.0 ranked.0 (omega (arith, more)) (omega (arith, whole, length-append first others)) away round)
           (block-good rest b (pc + length first) leave again ok.1 ranked.1 (omega (arith, more)) (omega (arith, whole, length-append first others)) away round)
@@ -558,21 +558,21 @@ closed-by [] target = refl
 closed-by (x ∷ []) target = refl
 closed-by (x ∷ y ∷ ys) target = closed-by (y ∷ ys) target
 
-pub program-valid : (table : CodeTable) (n : ℕ) (body : Block) → length table.shapes ≡ n → AreFewDims table.shapes → n + block_slots body ≤ table.slots →
-    block_copies body ≤ table.copies → length (program_code n body) ≡ table.places → IsWellFormedBlock n body → BlockKeepsRanks table.shapes body →
-    IsValidNodeCode table (program_code n body)
-program-valid table n body declared few slots copies places ok ranked =
-    let own : List Instruction = block_code n body n 2 1 1 in
+pub program-valid : (table : CodeTable) (n : ℕ) (moves : ℕ → List NewMapping) (body : Block) → length table.shapes ≡ n → AreFewDims table.shapes → n + block_slots body ≤ table.slots →
+    block_copies body ≤ table.copies → length (program_code n moves body) ≡ table.places → ((line : ℕ) → IsValid table (Remap line (moves line))) →
+    IsWellFormedBlock n body → BlockKeepsRanks table.shapes body → IsValidNodeCode table (program_code n moves body)
+program-valid table n moves body declared few slots copies places moving ok ranked =
+    let own : List Instruction = block_code n moves body n 2 1 1 in
     let all : List Instruction = own ++ Jump 1 ∷ [] in
     let long : length (Jump 2 ∷ Halt ∷ all) ≡ table.places = places in
     let count : length all ≡ length own + 1 = length-append own (Jump 1 ∷ []) in
     let roomy : n ≤ table.slots = omega (arith, slots) in
     let within : 2 + length own < table.places = omega (arith, long, count) in
-    let block = block-good table n declared few roomy copies body n 2 1 1 ok ranked slots within (omega (arith, within)) (omega (arith, within)) in
-    let code : AllByRecursion (IsValid table) (program_code n body) =
+    let block = block-good table n declared few roomy copies moves moving body n 2 1 1 ok ranked slots within (omega (arith, within)) (omega (arith, within)) in
+    let code : AllByRecursion (IsValid table) (program_code n moves body) =
     (omega (arith, within), (tt, join table n declared few roomy own (Jump 1 ∷ []) block (omega (arith, within), tt))) in
     record {
-      each = λ at i is. at-place table (program_code n body) at i code is;
+      each = λ at i is. at-place table (program_code n moves body) at i code is;
       whole = places;
       closed = closed-by (Jump 2 ∷ Halt ∷ own) 1;
     }

@@ -7,20 +7,21 @@ use Rattle.op_tables.specs.Reductions.{reduction_of}
 use Rattle.array_meaning.specs.Terms.{Term, Number, Scalar, Index, Element, Section, Apply, Reduce, Terms, NoTerm, More, SectionSubscripts, NoSubscript, Subscript, Triplet, Control}
 use Rattle.array_meaning.specs.Statements as statements
 use Rattle.array_meaning.specs.Statements.{Item, Text, Value, Elements, SectionAssignment, ElementAssignment, Block, Done, Then, Statement, AssignScalar, AssignElement, AssignSection, If, Do, Where, Forall, Stop, Exit, Cycle, Continue, Redistribute, Arms, NoArm, Arm}
+use Rattle.node_code.specs.Instructions.{NewMapping, Instruction, Remap, ArrayTable, meaning_of}
 use Rattle.machine_steps.specs.Layout.{AreOwned, IsDealt, Layout}
 use Rattle.machine_steps.specs.Machine.{instr_of}
 use Rattle.machine_steps.specs.Agrees.{IsValidInstr, IsValidCode}
 use Rattle.node_code.specs.Flat.{Flat}
 use Rattle.node_code.specs.Forms.{Sub}
 use Rattle.node_code.specs.Parallel.{When}
-use Rattle.node_code.specs.Instructions.{Instruction, ArrayTable, meaning_of}
 use Rattle.lowering.specs.ExpressionCode.{slots_of, parts_slots, subscripts_slots, control_slots, set_if, three_code, code_of, codes_of, subscripts_code, parts_code, all_parts_code, control_code}
 use Rattle.lowering.specs.StatementCode.{item_slots, item_code, items_code, assignment_code, masked_code, triplets, one_to_one_code, forall_mask_code, forall_assignments_code, statement_code, arms_code, block_code, program_code}
 use Rattle.lowering.specs.WellFormed.{IsScalar, AreScalar, AreScalarSubscripts, IsArray, AreArrays, IsControl, AreControls, AreMasked, AreItems, IsWellFormed, AreWellFormedArms, IsWellFormedBlock}
 use Rattle.lowering.proofs.Folding.{fold-is}
 
-module _ (count n : ℕ) (shapes : List Shape) (table : ArrayTable) (few : length shapes ≤ n)
-    (dealt : (layouts : List Layout) → AreOwned count layouts → (ns : List ℕ) → IsDealt count (table.copies layouts ns)) where
+module _ (count n : ℕ) (shapes : List Shape) (table : ArrayTable) (moves : ℕ → List NewMapping) (few : length shapes ≤ n)
+    (dealt : (layouts : List Layout) → AreOwned count layouts → (ns : List ℕ) → IsDealt count (table.copies layouts ns))
+    (moving : (line : ℕ) → IsValidInstr count shapes (meaning_of table (Remap line (moves line)))) where
   abbrev AllValid : List Instruction → Type 0
   AllValid [] = ⊤
   AllValid (x ∷ xs) = IsValidInstr count shapes (meaning_of table x) × AllValid xs
@@ -114,7 +115,7 @@ module _ (count n : ℕ) (shapes : List Shape) (table : ArrayTable) (few : lengt
   forall-assignments-valid over mask (x ∷ xs) = (tt, (tt, forall-assignments-valid over mask xs))
 
   mutual
-    statement-valid : (st : Statement) (line b pc leave again : ℕ) → IsWellFormed n st → AllValid (statement_code n line st b pc leave again)
+    statement-valid : (st : Statement) (line b pc leave again : ℕ) → IsWellFormed n st → AllValid (statement_code n moves line st b pc leave again)
     statement-valid (AssignScalar k t) line b pc leave again ok = both (code_of line b t) _ (term-valid line b t ok.1) (tt, tt)
     statement-valid (AssignElement a ts t) line b pc leave again ok = both (codes_of line b ts) _ (terms-valid line b ts ok.1)
         (tt, both (code_of line _ t) _ (term-valid line _ t ok.2) (tt, tt))
@@ -137,7 +138,7 @@ module _ (count n : ℕ) (shapes : List Shape) (table : ArrayTable) (few : lengt
                       tt,
                       (
                         tt,
-                        both (block_code n body (b + control_slots loop.control + 4) _ _ _) _ (block-valid body (b + control_slots loop.control + 4) _ _ _ ok.2)
+                        both (block_code n moves body (b + control_slots loop.control + 4) _ _ _) _ (block-valid body (b + control_slots loop.control + 4) _ _ _ ok.2)
                             (tt, tt),
                       ),
                     ),
@@ -166,18 +167,18 @@ module _ (count n : ℕ) (shapes : List Shape) (table : ArrayTable) (few : lengt
     statement-valid Exit line b pc leave again ok = (tt, tt)
     statement-valid Cycle line b pc leave again ok = (tt, tt)
     statement-valid Continue line b pc leave again ok = tt
-    statement-valid Redistribute line b pc leave again ok = tt
+    statement-valid Redistribute line b pc leave again ok = (moving line, tt)
 
     arms-valid : (arms : Arms) (rest : ℕ → List Instruction) (b pc leave again : ℕ) → AreWellFormedArms n arms → ((pc : ℕ) → AllValid (rest pc))
-        → AllValid (arms_code n arms rest b pc leave again)
+        → AllValid (arms_code n moves arms rest b pc leave again)
     arms-valid NoArm rest b pc leave again ok h = h pc
     arms-valid (Arm line cond body arms) rest b pc leave again ok h =
         both (code_of line b cond) _ (term-valid line b cond ok.0)
-        (tt, (tt, both (block_code n body b _ leave again) _ (block-valid body b _ leave again ok.1) (tt, arms-valid arms rest b _ leave again ok.2 h)))
+        (tt, (tt, both (block_code n moves body b _ leave again) _ (block-valid body b _ leave again ok.1) (tt, arms-valid arms rest b _ leave again ok.2 h)))
 
-    block-valid : (bl : Block) (b pc leave again : ℕ) → IsWellFormedBlock n bl → AllValid (block_code n bl b pc leave again)
+    block-valid : (bl : Block) (b pc leave again : ℕ) → IsWellFormedBlock n bl → AllValid (block_code n moves bl b pc leave again)
     block-valid Done b pc leave again ok = tt
-    block-valid (Then line st rest) b pc leave again ok = both (statement_code n line st b pc leave again) _ (statement-valid st line b pc leave again ok.0)
+    block-valid (Then line st rest) b pc leave again ok = both (statement_code n moves line st b pc leave again) _ (statement-valid st line b pc leave again ok.0)
         (block-valid rest b _ leave again ok.1)
 
   at-valid : (xs : List Instruction) (at : ℕ) → AllValid xs → IsValidInstr count shapes (instr_of (meaning_of table) (slice_get xs at))
@@ -185,5 +186,5 @@ module _ (count n : ℕ) (shapes : List Shape) (table : ArrayTable) (few : lengt
   at-valid (x ∷ xs) zero h = h.0
   at-valid (x ∷ xs) (suc k) h = at-valid xs k h.1
 
-  pub code-valid : (body : Block) → IsWellFormedBlock n body → IsValidCode (meaning_of table) count shapes (program_code n body)
-  code-valid body ok at = at-valid (program_code n body) at (tt, (tt, both (block_code n body n 2 1 1) _ (block-valid body n 2 1 1 ok) (tt, tt)))
+  pub code-valid : (body : Block) → IsWellFormedBlock n body → IsValidCode (meaning_of table) count shapes (program_code n moves body)
+  code-valid body ok at = at-valid (program_code n moves body) at (tt, (tt, both (block_code n moves body n 2 1 1) _ (block-valid body n 2 1 1 ok) (tt, tt)))

@@ -3,3 +3,4 @@ pub mod StatementCode
 pub mod WellFormed
 pub mod Ranks
 pub mod Lowered
+pub mod Passed

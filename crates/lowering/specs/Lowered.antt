@@ -12,8 +12,10 @@ use Rattle.machine_steps.specs.Layout.{Layout, size_of}
 use Rattle.machine_steps.specs.Space.{space_count}
 use Rattle.machine_steps.specs.Instr.{Running, Finished, Faulted}
 use Rattle.machine_steps.specs.Machine.{Machine, steps}
+use Rattle.statement_trail.specs.Trail.{Trail}
+use Rattle.lowering.specs.Passed.{passed, IsTrail}
 use Rattle.node_code.specs.Flat.{slot}
-use Rattle.node_code.specs.Instructions.{Instruction, ArrayTable, meaning_of}
+use Rattle.node_code.specs.Instructions.{NewMapping, Instruction, ArrayTable, meaning_of}
 use Rattle.lowering.specs.StatementCode.{block_slots, program_code}
 
 -- scalars and arrays have one numbering, by the places of n declared names
@@ -23,9 +25,9 @@ pub record IsState (n : ℕ) (s : State) : Type 0 where
 
 -- the machine before the first instruction: the slots are the scalars and then the hidden slots, and the rows are the arrays and then so
 -- many copies, which aren't made yet. How the rows lie plays no part
-abbrev pub opening : (n room : ℕ) → Block → State → List Layout → Machine Instruction Fault
-opening n room body s layouts = record {
-  code = program_code n body;
+abbrev pub opening : (n room : ℕ) → (ℕ → List NewMapping) → Block → State → List Layout → Machine Instruction Fault
+opening n room moves body s layouts = record {
+  code = program_code n moves body;
   control = record { at = 0; slots = s.scalars ++ replicate (block_slots body) (pos 0); status = Running };
   substep = 0;
   rows = map (λ a. a.elements) s.arrays ++ replicate room [];
@@ -55,6 +57,11 @@ EndsAs n m s completion = (m.control.status ≡ Finished) × (m.printed ≡ s.pr
 -- the machine ends as a run did
 abbrev pub MachineEnds : ℕ → ArrayTable → Machine Instruction Fault → Run → Type 0
 MachineEnds n table m r = (k : ℕ) × EndsAs n (steps (meaning_of table) k m) r.state r.completion
+
+-- and it passes just these entries, one after another
+abbrev pub MachinePasses : ℕ → ArrayTable → (ℕ → List NewMapping) → Machine Instruction Fault → Run → Trail → Type 0
+MachinePasses n table moves m r entries =
+    (k : ℕ) × EndsAs n (steps (meaning_of table) k m) r.state r.completion × IsTrail moves (passed table k m) entries
 
 -- ---- against the serial outcome
 

@@ -8,7 +8,7 @@ use Rattle.array_meaning.specs.Forall.{all_subscripts}
 use Rattle.node_code.specs.Flat.{Int, Slot, Operated, NoFlat, AndFlat}
 use Rattle.node_code.specs.Forms.{Sub, SectionForm}
 use Rattle.node_code.specs.Parallel.{When, Assignment, Evaluation}
-use Rattle.node_code.specs.Instructions.{PrintItem, PrintBytes, PrintNumber, PrintSection, Instruction, Set, Store, TestBounds, Trips, Jump, JumpIfZero, Halt, Limits, OwnLimits, ForallLimits, OneToOne, Par, ParForall, MakeCopy, ParCopy, ParForallCopy, Verdict, Inside, Print}
+use Rattle.node_code.specs.Instructions.{NewMapping, PrintItem, PrintBytes, PrintNumber, PrintSection, Instruction, Set, Store, TestBounds, Trips, Jump, JumpIfZero, Halt, Limits, OwnLimits, ForallLimits, OneToOne, Par, ParForall, MakeCopy, ParCopy, ParForallCopy, Verdict, Inside, Print, Remap}
 use Rattle.lowering.specs.ExpressionCode.{slots_of, all_slots_of, subscripts_slots, parts_slots, flat_of, flats_of, subs_of, form_of, code_of, codes_of, subscripts_code, parts_code, control_slots, control_code, own_evaluation, index_flat, index_subs, index_form}
 
 -- ---- PRINT
@@ -179,8 +179,9 @@ abbrev mutual
 abbrev pub block_copies : Block → ℕ
 block_copies body = 1
 
--- `copy` is the row of the first of the copies
-module _ (copy : ℕ) where
+-- `copy` is the row of the first of the copies. `moves` says of a line which arrays its REDISTRIBUTE moves, and to which mappings: a REDISTRIBUTE is known by
+-- its line, since a directive line holds one directive
+module _ (copy : ℕ) (moves : ℕ → List NewMapping) where
   abbrev mutual
     -- the statement of a line at a place `pc`, with the places where EXIT and CYCLE go. A DO keeps its four slots from its body
     pub statement_code : ℕ → Statement → ℕ → ℕ → ℕ → ℕ → List Instruction
@@ -200,7 +201,8 @@ module _ (copy : ℕ) where
     statement_code line Stop b pc leave again = Halt ∷ []
     statement_code line Exit b pc leave again = Jump leave ∷ []
     statement_code line Cycle b pc leave again = Jump again ∷ []
-    statement_code line s b pc leave again = []
+    statement_code line Continue b pc leave again = []
+    statement_code line Redistribute b pc leave again = Remap line (moves line) ∷ []
 
     pub arms_code : Arms → (ℕ → List Instruction) → ℕ → ℕ → ℕ → ℕ → List Instruction
     arms_code NoArm other b pc leave again = other pc
@@ -216,5 +218,5 @@ module _ (copy : ℕ) where
 -- ---- programs
 
 -- with n declared names. An EXIT or CYCLE outside of loops goes to the Halt at place 1
-abbrev pub program_code : ℕ → Block → List Instruction
-program_code n body = Jump 2 ∷ Halt ∷ (block_code n body n 2 1 1 ++ Jump 1 ∷ [])
+abbrev pub program_code : ℕ → (ℕ → List NewMapping) → Block → List Instruction
+program_code n moves body = Jump 2 ∷ Halt ∷ (block_code n moves body n 2 1 1 ++ Jump 1 ∷ [])

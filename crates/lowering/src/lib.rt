@@ -18,4 +18,6 @@
 
 mod lowered;
 
-pub use lowered::{code_is_valid, outcomes_lowered, programs_have_valid_code, programs_lowered};
+pub use lowered::{
+    code_is_valid, outcomes_lowered, programs_have_valid_code, programs_lowered, trails_lowered,
+};

@@ -2,7 +2,7 @@
 use Rattle.std.proofs.Common.{◌≡◌, ℕ, ◌+◌, List, ◌++◌, Global, Option, Vec, length, sym, ap, ◌∙◌}
 use Rattle.std.proofs.lemmas.List.{length-map}
 use Rattle.node_code.specs.declared.instruction.Instruction.{Instruction as HeldInstruction}
-use Rattle.node_code.specs.Instructions.{Instruction}
+use Rattle.node_code.specs.Instructions.{Instruction, NewMapping}
 use Rattle.node_code.specs.Texts.{instruction, instructions}
 use Rattle.resolved_program.specs.declared.statements.Action.{Action}
 use Rattle.resolved_program.specs.declared.statements.Action.TheVariants as action
@@ -17,21 +17,21 @@ use Rattle.lowering.specs.StatementCode.{block_code, loop_code, statement_code}
 use Rattle.node_codegen.specs.Arms.{AreArms, arms_before}
 
 -- an IF, by the codes of its arms
-pub if_is : (copy line b pc leave again : ℕ) (a : Action) (as' : Vec Arm Global) (other : Vec Statement Global) (cs : List (List Instruction)) (after : ℕ) →
-    a ≡ action.If as' other → AreArms copy (arms_of as'.items) b pc leave again cs after →
-    statement_code copy line (statement a) b pc leave again ≡ arms_before after cs (λ pc. block_code copy (block_of other.items) b pc leave again)
-if_is copy line b pc leave again a as' other cs after is arms =
-    ap (λ a. statement_code copy line (statement a) b pc leave again) is
-    ∙ ap (λ s. statement_code copy line s b pc leave again) (if_vec as' other)
-    ∙ arms (λ pc. block_code copy (block_of other.items) b pc leave again)
+pub if_is : (copy : ℕ) (moves : ℕ → List NewMapping) (line b pc leave again : ℕ) (a : Action) (as' : Vec Arm Global) (other : Vec Statement Global) (cs : List (List Instruction)) (after : ℕ) →
+    a ≡ action.If as' other → AreArms copy moves (arms_of as'.items) b pc leave again cs after →
+    statement_code copy moves line (statement a) b pc leave again ≡ arms_before after cs (λ pc. block_code copy moves (block_of other.items) b pc leave again)
+if_is copy moves line b pc leave again a as' other cs after is arms =
+    ap (λ a. statement_code copy moves line (statement a) b pc leave again) is
+    ∙ ap (λ s. statement_code copy moves line s b pc leave again) (if_vec as' other)
+    ∙ arms (λ pc. block_code copy moves (block_of other.items) b pc leave again)
 
 -- a DO, by the code of its control and that of its body
-pub do_is : (copy line b pc leave again first at : ℕ) (a : Action) (nest : Option Nest) (l : Loop) (body : Vec Statement Global) (head inner : List HeldInstruction) →
+pub do_is : (copy : ℕ) (moves : ℕ → List NewMapping) (line b pc leave again first at : ℕ) (a : Action) (nest : Option Nest) (l : Loop) (body : Vec Statement Global) (head inner : List HeldInstruction) →
     a ≡ action.Do nest l body → instructions head ≡ control_code line b (loop_of l).control → first ≡ b + control_slots (loop_of l).control → at ≡ pc + length head →
-    instructions inner ≡ block_code copy (block_of body.items) (first + 4) (at + 8) (at + 3) (at + 4) →
-    instructions head ++ loop_code line at first l.index (λ inside leave again. instructions inner) ≡ statement_code copy line (statement a) b pc leave again
-do_is copy line b pc leave again first at a nest l body head inner is control slots place code =
-    let turns = λ (place first : ℕ). loop_code line place first l.index (block_code copy (block_of body.items) (first + 4)) in
+    instructions inner ≡ block_code copy moves (block_of body.items) (first + 4) (at + 8) (at + 3) (at + 4) →
+    instructions head ++ loop_code line at first l.index (λ inside leave again. instructions inner) ≡ statement_code copy moves line (statement a) b pc leave again
+do_is copy moves line b pc leave again first at a nest l body head inner is control slots place code =
+    let turns = λ (place first : ℕ). loop_code line place first l.index (block_code copy moves (block_of body.items) (first + 4)) in
     ap (λ i. instructions head ++ loop_code line at first l.index (λ inside leave again. i)) code
     ∙ (λ i. control i ++ turns ((place ∙ ap (λ n. pc + n) (sym (length-map head instruction) ∙ ap length control)) i) (slots i))
-    ∙ sym (ap (λ a. statement_code copy line (statement a) b pc leave again) is ∙ ap (λ s. statement_code copy line s b pc leave again) (do_vec nest l body))
+    ∙ sym (ap (λ a. statement_code copy moves line (statement a) b pc leave again) is ∙ ap (λ s. statement_code copy moves line s b pc leave again) (do_vec nest l body))

@@ -4,7 +4,7 @@ use Rattle.std.specs.Global.{Global}
 use Rattle.std.specs.List.{flat_map}
 use Rattle.array_meaning.specs.Statements.{Arms}
 use Rattle.node_code.specs.declared.instruction.Instruction.{Instruction as HeldInstruction}
-use Rattle.node_code.specs.Instructions.{Instruction, Jump}
+use Rattle.node_code.specs.Instructions.{Instruction, Jump, NewMapping}
 use Rattle.node_code.specs.Texts.{instructions}
 use Rattle.resolved_program.specs.declared.statements.Arm.{Arm as HeldArm}
 use Rattle.resolved_program.specs.Resolved.{with_arm}
@@ -26,10 +26,10 @@ abbrev pub arms_before : ℕ → List (List Instruction) → (ℕ → List Instr
 arms_before after cs rest = jumping_to (after + length (rest after)) cs ++ rest after
 
 -- an arm has this code before its jump, whatever stands after it
-abbrev pub IsArm : ℕ → HeldArm → ℕ → ℕ → ℕ → ℕ → List Instruction → Type 0
-IsArm copy a b pc leave again c = (tail : Arms) (other : ℕ → List Instruction) →
-    arms_code copy (with_arm a tail) other b pc leave again ≡ c ++ jump_over (pc + length c + 1) (λ pc. arms_code copy tail other b pc leave again)
+abbrev pub IsArm : ℕ → (ℕ → List NewMapping) → HeldArm → ℕ → ℕ → ℕ → ℕ → List Instruction → Type 0
+IsArm copy moves a b pc leave again c = (tail : Arms) (other : ℕ → List Instruction) →
+    arms_code copy moves (with_arm a tail) other b pc leave again ≡ c ++ jump_over (pc + length c + 1) (λ pc. arms_code copy moves tail other b pc leave again)
 
 -- arms have these codes before their jumps, up to a place, whatever stands there
-abbrev pub AreArms : ℕ → Arms → ℕ → ℕ → ℕ → ℕ → List (List Instruction) → ℕ → Type 0
-AreArms copy arms b pc leave again cs after = (other : ℕ → List Instruction) → arms_code copy arms other b pc leave again ≡ arms_before after cs other
+abbrev pub AreArms : ℕ → (ℕ → List NewMapping) → Arms → ℕ → ℕ → ℕ → ℕ → List (List Instruction) → ℕ → Type 0
+AreArms copy moves arms b pc leave again cs after = (other : ℕ → List Instruction) → arms_code copy moves arms other b pc leave again ≡ arms_before after cs other

@@ -4,7 +4,9 @@ ghost use Rattle.std.specs.Prelude.{◌≡◌, IfOk};
 ghost use Rattle.node_code.specs.Texts.{instructions};
 ghost use Rattle.resolved_program.specs.Resolved.{block_of};
 ghost use Rattle.lowering.specs.StatementCode.{block_copies, block_slots, program_code};
+ghost use Rattle.node_codegen.specs.Moves.{moves_by};
 
+use crate::moves::LineMoves;
 use crate::sequences::with_last;
 use crate::slots::block_slots;
 use crate::statements::block_code;
@@ -25,15 +27,20 @@ pub struct Code {
     pub copies: usize,
 }
 
-/// The node code of a plan with so many declared names: what `lowering` gives for the block that the plan stands for. It takes memory; an
-/// `Err` is want of it, also where a place or a slot has no number of 64 bits.
-pub fn compile(alloc: Global, names: usize, plan: &ResolvedProgram) -> Result<Code, OutOfMemory>
-    ensures code { IfOk result (λ c. instructions c.instructions.items ≡ program_code names (block_of plan.now.body.items)) }
+/// The node code of a plan with so many declared names, where the REDISTRIBUTE of each line moves these arrays: what `lowering` gives for the
+/// block that the plan stands for. It takes memory; an `Err` is want of it, also where a place or a slot has no number of 64 bits.
+pub fn compile(
+    alloc: Global,
+    names: usize,
+    plan: &ResolvedProgram,
+    moves: &[LineMoves],
+) -> Result<Code, OutOfMemory>
+    ensures code { IfOk result (λ c. instructions c.instructions.items ≡ program_code names (moves_by moves.now) (block_of plan.now.body.items)) }
     ensures hidden { IfOk result (λ c. c.hidden ≡ block_slots (block_of plan.now.body.items)) }
     ensures copies { IfOk result (λ c. c.copies ≡ block_copies (block_of plan.now.body.items)) }
 {
     let hidden = block_slots(&plan.body)?;
-    let instructions = program_code(alloc, names, plan)?;
+    let instructions = program_code(alloc, names, plan, moves)?;
     Ok(Code {
         instructions,
         hidden,
@@ -46,13 +53,14 @@ fn program_code(
     alloc: Global,
     names: usize,
     plan: &ResolvedProgram,
+    moves: &[LineMoves],
 ) -> Result<Vec<Instruction>, OutOfMemory>
-    ensures { IfOk result (λ v. instructions v.items ≡ program_code names (block_of plan.now.body.items)) }
+    ensures { IfOk result (λ v. instructions v.items ≡ program_code names (moves_by moves.now) (block_of plan.now.body.items)) }
 {
     let mut code = Vec::new(alloc);
     code.push(Instruction::Jump { target: 2 })?;
     code.push(Instruction::Halt)?;
-    let body = block_code(alloc, names, &plan.body, names, 2, 1, 1)?;
+    let body = block_code(alloc, names, moves, &plan.body, names, 2, 1, 1)?;
     joined(&mut code, body)?;
     with_last(code, Instruction::Jump { target: 1 })
 }

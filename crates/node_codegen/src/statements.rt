@@ -5,12 +5,14 @@ ghost use Rattle.node_code.specs.Texts.{instructions};
 ghost use Rattle.resolved_program.specs.Resolved.{arms_of, block_of, statement};
 ghost use Rattle.lowering.specs.StatementCode.{block_code, statement_code};
 ghost use Rattle.node_codegen.specs.Arms.{AreArms, IsArm, codes};
+ghost use Rattle.node_codegen.specs.Moves.{moves_by};
 
 use crate::array_assignments::assignment_code;
 use crate::element_assignments::{element_code, scalar_code};
 use crate::forall::forall_code;
 use crate::if_construct::{ArmCodes, arm_code, condition_code, if_code};
 use crate::loops::loop_code;
+use crate::moves::{LineMoves, remap_code};
 use crate::print::print_code;
 use crate::sequences::{only, place_after, with_more};
 use crate::where_construct::where_code;
@@ -26,18 +28,19 @@ use std::alloc::Global;
 pub(crate) fn block_code(
     alloc: Global,
     copy: usize,
+    moves: &[LineMoves],
     statements: &[Statement],
     b: usize,
     pc: usize,
     leave: usize,
     again: usize,
 ) -> Result<Vec<Instruction>, OutOfMemory>
-    ensures { IfOk result (λ v. instructions v.items ≡ block_code copy (block_of statements.now) b pc leave again) }
+    ensures { IfOk result (λ v. instructions v.items ≡ block_code copy (moves_by moves.now) (block_of statements.now) b pc leave again) }
 {
     let mut code = Vec::new(alloc);
     let mut at = pc;
     for s in statements {
-        let one = statement_code(alloc, copy, s.line, &s.what, b, at, leave, again)?;
+        let one = statement_code(alloc, copy, moves, s.line, &s.what, b, at, leave, again)?;
         at = place_after(at, &one)?;
         joined(&mut code, one)?;
     }
@@ -49,6 +52,7 @@ pub(crate) fn block_code(
 fn statement_code(
     alloc: Global,
     copy: usize,
+    moves: &[LineMoves],
     line: u32,
     s: &Action,
     b: usize,
@@ -56,7 +60,7 @@ fn statement_code(
     leave: usize,
     again: usize,
 ) -> Result<Vec<Instruction>, OutOfMemory>
-    ensures { IfOk result (λ v. instructions v.items ≡ statement_code copy line (statement s.now) b pc leave again) }
+    ensures { IfOk result (λ v. instructions v.items ≡ statement_code copy (moves_by moves.now) line (statement s.now) b pc leave again) }
 {
     match s {
         Action::AssignScalar(slot, right) => scalar_code(alloc, line, b, *slot, right),
@@ -67,15 +71,15 @@ fn statement_code(
             alloc, line, b, *array, subscripts, right,
         ),
         Action::If(arms, other) => {
-            let made = arm_codes(alloc, copy, arms, b, pc, leave, again)?;
-            let rest = block_code(alloc, copy, other, b, made.after, leave, again)?;
+            let made = arm_codes(alloc, copy, moves, arms, b, pc, leave, again)?;
+            let rest = block_code(alloc, copy, moves, other, b, made.after, leave, again)?;
             if_code(alloc, made, rest)
         }
         Action::Do(_, l, body) => {
             let head = control_code(alloc, line, b, &l.control)?;
             let first = plus(b, control_slots(&l.control)?)?;
             let at = place_after(pc, &head)?;
-            let inner = body_code(alloc, copy, body, first, at)?;
+            let inner = body_code(alloc, copy, moves, body, first, at)?;
             let turns = loop_code(alloc, line, at, first, l.index, inner)?;
             with_more(head, turns)
         }
@@ -88,7 +92,7 @@ fn statement_code(
         Action::Exit => only(alloc, Instruction::Jump { target: leave }),
         Action::Cycle => only(alloc, Instruction::Jump { target: again }),
         Action::Continue => Ok(Vec::new(alloc)),
-        Action::Redistribute => Ok(Vec::new(alloc)),
+        Action::Redistribute => remap_code(alloc, line, moves),
     }
 }
 
@@ -97,17 +101,18 @@ fn statement_code(
 fn body_code(
     alloc: Global,
     copy: usize,
+    moves: &[LineMoves],
     body: &[Statement],
     first: usize,
     pc: usize,
 ) -> Result<Vec<Instruction>, OutOfMemory>
-    ensures { IfOk result (λ v. instructions v.items ≡ block_code copy (block_of body.now) (first + 4) (pc + 8) (pc + 3) (pc + 4)) }
+    ensures { IfOk result (λ v. instructions v.items ≡ block_code copy (moves_by moves.now) (block_of body.now) (first + 4) (pc + 8) (pc + 3) (pc + 4)) }
 {
     let b = plus(first, 4)?;
     let inside = plus(pc, 8)?;
     let leave = plus(pc, 3)?;
     let again = plus(pc, 4)?;
-    block_code(alloc, copy, body, b, inside, leave, again)
+    block_code(alloc, copy, moves, body, b, inside, leave, again)
 }
 
 /// The codes of IF and its ELSE IFs, in order.
@@ -115,18 +120,19 @@ fn body_code(
 fn arm_codes(
     alloc: Global,
     copy: usize,
+    moves: &[LineMoves],
     arms: &[Arm],
     b: usize,
     pc: usize,
     leave: usize,
     again: usize,
 ) -> Result<ArmCodes, OutOfMemory>
-    ensures { IfOk result (λ r. AreArms copy (arms_of arms.now) b pc leave again (codes r.codes.items) r.after) }
+    ensures { IfOk result (λ r. AreArms copy (moves_by moves.now) (arms_of arms.now) b pc leave again (codes r.codes.items) r.after) }
 {
     let mut codes = Vec::new(alloc);
     let mut after = pc;
     for arm in arms {
-        let one = code_of_arm(alloc, copy, arm, b, after, leave, again)?;
+        let one = code_of_arm(alloc, copy, moves, arm, b, after, leave, again)?;
         after = plus(place_after(after, &one)?, 1)?;
         codes.push(one)?;
     }
@@ -138,18 +144,19 @@ fn arm_codes(
 fn code_of_arm(
     alloc: Global,
     copy: usize,
+    moves: &[LineMoves],
     a: &Arm,
     b: usize,
     pc: usize,
     leave: usize,
     again: usize,
 ) -> Result<Vec<Instruction>, OutOfMemory>
-    ensures { IfOk result (λ v. IsArm copy a.now b pc leave again (instructions v.items)) }
+    ensures { IfOk result (λ v. IsArm copy (moves_by moves.now) a.now b pc leave again (instructions v.items)) }
 {
     let condition = condition_code(alloc, a.line, b, &a.condition)?;
     let slot = plus(b, slots_of(&a.condition)?)?;
     let inside = plus(place_after(pc, &condition)?, 1)?;
-    let body = block_code(alloc, copy, &a.body, b, inside, leave, again)?;
+    let body = block_code(alloc, copy, moves, &a.body, b, inside, leave, again)?;
     let code = arm_code(pc, slot, condition, body)?;
     Ok(code)
 }

@@ -16,7 +16,7 @@ mod Ranges
 pub mod Reading
 mod Reduces
 mod Remaps
-mod WholeRuns
+pub mod WholeRuns
 mod Spots
 mod Stepping
 mod TreeFold

@@ -36,8 +36,8 @@ listed f count p = by_cases (cases_lt p count)
     by_cases (inl lt) = rw (lt-ltb p count lt) ((at-number f count 0 p).0 lt ∙ ap (λ x. Some (f x)) (omega arith))
     by_cases (inr ge) = rw (le-ltb p count ge) ((at-number f count 0 p).1 ge)
 
-module _ {C F : Type 0} (faults : FaultValues F) (meaning : C → Instr F) (count k : ℕ) (shapes : List Shape) (m : Machine C F) where
-  opening-agree : m.kept ≡ None → m.substep ≡ 0 → Agree faults meaning count m (first_own count)
+module _ {C F : Type 0} (faults : FaultValues F) (meaning : C → Instr F) (count : ℕ) (m : Machine C F) where
+  pub opening-agree : m.kept ≡ None → m.substep ≡ 0 → Agree faults meaning count m (first_own count)
   opening-agree none first = record {
     numbers = record {
       sent = λ p lt. length-replicate count 1;
@@ -49,10 +49,11 @@ module _ {C F : Type 0} (faults : FaultValues F) (meaning : C → Instr F) (coun
         (at-start count (instr_at meaning m.code m.control.at) (λ p. None) m.joined);
   }
 
+module _ {C F : Type 0} (faults : FaultValues F) (meaning : C → Instr F) (count k : ℕ) (shapes : List Shape) (m : Machine C F) where
   pub openings-run : 0 < count → m.kept ≡ None → m.substep ≡ 0 → IsValidCode meaning count shapes m.code → IsWhole count shapes m → IsOver (steps meaning k m).control.status
       → OpeningsRun faults meaning count m (steps meaning k m)
   openings-run some none first valid whole over =
-      let run = nodes-run faults meaning count shapes some k 1 m (first_own count) (opening-agree none first) valid whole over in
+      let run = nodes-run faults meaning count shapes some k 1 m (first_own count) (opening-agree faults meaning count m none first) valid whole over in
       let same : by_number count (standing count m 1 (first_own count)) ≡ slice_get (openings count m) = fun_ext
       (λ p. sym (listed (standing count m 1 (first_own count)) count p)) in
       record {

@@ -4,7 +4,7 @@
 //! function that does nothing.
 //!
 //! - `runs`: nodes that agree with the machine run each instruction as it does; so they are phased where its run ends, and their last
-//!   nodes agree with its last state. They begin as one list of openings.
+//!   nodes agree with its last state. They begin as one list of openings, which agree with the machine.
 //! - `coded`: the machine over other texts that mean the same does the same.
 //! - `letters`: the letters of a message phase and of the rounds of a redistribution are exactly those of the whole arrays, and what a
 //!   node receives gives it each value that it needs.
@@ -31,5 +31,5 @@ pub use joining::{folded_from_unit, values_regrouped};
 pub use letter_laws::{message_read, part_letters, remap_letters};
 pub use parted::{least_of_parts, parts_in_a_row};
 pub use pieces::{elements_have_owners, owners_by_mapping, pieces_by_elements};
-pub use runs::{nodes_run, nodes_step, openings_run};
+pub use runs::{nodes_pass, nodes_run, nodes_step, openings_agree, openings_run};
 pub use trees::{fold_letters, trees_by_acts, verdict_letters};

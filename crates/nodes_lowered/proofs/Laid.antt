@@ -1,6 +1,6 @@
 -- Rows that lie so are whole: they have the sizes of their layouts, and each element has an owner.
-use Rattle.std.proofs.Common.{◌≡◌, ℕ, zero, suc, ◌+◌, ◌*◌, ◌<◌, true, List, [], ◌∷◌, ◌++◌, length, map, replicate, get_or, refl, sym, ap, ◌∙◌, arith}
-use Rattle.std.proofs.lemmas.List.{length-replicate}
+use Rattle.std.proofs.Common.{◌≡◌, ℕ, zero, suc, ◌+◌, ◌*◌, ◌<◌, true, List, [], ◌∷◌, ◌++◌, length, map, replicate, take, get_or, refl, sym, ap, ◌∙◌, arith}
+use Rattle.std.proofs.lemmas.List.{length-map, length-replicate, length-take-le}
 use Rattle.hpf_base.specs.ElementOrder.{extents_of, product}
 use Rattle.syntax_tree.specs.MainProgram.{MainProgram}
 use Rattle.expression_rules.specs.declared.dims.Dim.{Dim}
@@ -14,8 +14,9 @@ use Rattle.directive_check.specs.ProgramMaps.{shape_of}
 use Rattle.array_meaning.specs.Resolution.{initial_array}
 use Rattle.array_meaning.specs.State.{Array}
 use Rattle.machine_steps.specs.Layout.{IsDealt, Layout, owned_in, size_of, sizes}
-use Rattle.machine_steps.specs.Agrees.{IsWhole}
-use Rattle.nodes_lowered.specs.OnNodes.{AreUnmade, LieAsDeclared, LiesAsDeclared, program_copies, program_opening}
+use Rattle.machine_steps.specs.Agrees.{AreDeclared, IsWhole}
+use Rattle.node_code.specs.Instructions.{NewMapping}
+use Rattle.nodes_lowered.specs.OnNodes.{AreUnmade, LieAsDeclared, LiesAsDeclared, names_shapes, program_copies, program_opening}
 
 -- ---- sizes
 
@@ -96,11 +97,24 @@ rows-owned count room (e ∷ es) [] h row at lt = absurd h
 rows-owned count room (e ∷ es) (layout ∷ layouts) h zero at lt = laid-owned count e.what layout h.0 at lt
 rows-owned count room (e ∷ es) (layout ∷ layouts) h (suc row) at lt = rows-owned count room es layouts h.1 row at lt
 
-pub opening-whole : (count : ℕ) (p : MainProgram) (layouts : List Layout) → LieAsDeclared count (program_copies p) (entries p) layouts
-    → IsWhole count [] (program_opening p layouts)
-opening-whole count p layouts h = record {
+front-declared : (n : ℕ) (layouts : List Layout) → AreDeclared (map (λ (l : Layout). l.shape) (take n layouts)) layouts
+front-declared zero layouts = tt
+front-declared (suc n) [] = tt
+front-declared (suc n) (layout ∷ layouts) = (refl, front-declared n layouts)
+
+-- as many shapes as names
+pub names-many : (count : ℕ) (p : MainProgram) (layouts : List Layout) → LieAsDeclared count (program_copies p) (entries p) layouts
+    → length (names_shapes p layouts) ≡ length (entries p)
+names-many count p layouts h =
+    let n : ℕ = length (entries p) in
+    let many : length layouts ≡ n + program_copies p = laid-many count (program_copies p) (entries p) layouts h in
+    length-map (take n layouts) (λ (l : Layout). l.shape) ∙ length-take-le n layouts (omega (arith, many))
+
+pub opening-whole : (count : ℕ) (p : MainProgram) (moves : ℕ → List NewMapping) (layouts : List Layout) → LieAsDeclared count (program_copies p) (entries p) layouts
+    → IsWhole count (names_shapes p layouts) (program_opening p moves layouts)
+opening-whole count p moves layouts h = record {
   shaped = rows-sized count (program_copies p) (entries p) layouts h;
-  declared = tt;
+  declared = front-declared (length (entries p)) layouts;
   owned = λ spot lt. rows-owned count (program_copies p) (entries p) layouts h spot.row spot.at lt;
   kept = λ k e. cc;
 }

@@ -5,6 +5,8 @@ use Rattle.std.proofs.Math.ListN.{get_or-map}
 use Rattle.std.proofs.lemmas.Bool.{cases_lt, le-ltb, lt-ltb}
 use Rattle.std.proofs.lemmas.List.{length-map}
 use Rattle.std.proofs.lemmas.Option.{same_Some}
+use Rattle.hpf_base.specs.declared.index.Shape.{Shape}
+use Rattle.mappings.specs.declared.mapping.Mapping.{Mapping}
 use Rattle.syntax_tree.specs.MainProgram.{MainProgram}
 use Rattle.name_table.specs.Entries.{entries}
 use Rattle.storage.specs.Storage.{Storage, read, row_of}
@@ -15,11 +17,13 @@ use Rattle.array_meaning.specs.Runs.{Completion, Normal, Exited, Cycled, Stopped
 use Rattle.array_meaning.specs.Serial as serial
 use Rattle.array_meaning.specs.Serial.{Outcome, end_of}
 use Rattle.array_meaning.specs.State.{Array, State, no_array}
+use Rattle.statement_trail.specs.Trail.{serial_trail}
+use Rattle.passed_states.specs.TrailLayouts.{trail_layouts}
 use Rattle.machine_steps.specs.Layout.{Layout, least_owner_of, owned_in, piece, pieces}
 use Rattle.machine_steps.specs.Machine.{Machine}
 use Rattle.machine_steps.specs.Node.{Node, at_root, local_read}
 use Rattle.machine_steps.specs.Agrees.{IsWhole, Own, by_number, standing}
-use Rattle.node_code.specs.Instructions.{Instruction}
+use Rattle.node_code.specs.Instructions.{Instruction, NewMapping, remappings}
 use Rattle.node_code.specs.ProgramText.{Text, text, texts}
 use Rattle.lowering.specs.Lowered.{EndsAs, IsLeft}
 use Rattle.lowering.specs.StatementCode.{program_code}
@@ -89,10 +93,11 @@ as-many (suc count) nodes [] are =
     absurd (let none : None ≡ Some (nodes 0) = rw (lt-ltb 0 (suc count) some) at first in cc)
 as-many (suc count) nodes (x ∷ xs) are = ap suc (as-many count (λ p. nodes (suc p)) xs (λ p. are (suc p) ∙ after-first count p nodes))
 
-module _ (nodes : ℕ) (p : MainProgram) (first : List Layout) (some : 0 < nodes) (number : ℕ) (m : Machine Instruction Fault) (own : Own Fault)
-    (whole : IsWhole nodes [] (with_code (text nodes [] (program_shapes p)) m))
-    (code : m.code ≡ program_code (length (entries p)) (resolved_block (entries p) p.body))
-    (stay : take (length (entries p)) m.layouts ≡ take (length (entries p)) first)
+module _ (nodes : ℕ) (p : MainProgram) (maps : List Mapping) (moves : ℕ → List NewMapping) (first : List Layout) (some : 0 < nodes) (number : ℕ)
+    (m : Machine Instruction Fault) (own : Own Fault) (shapes : List Shape)
+    (whole : IsWhole nodes shapes (with_code (text nodes maps (program_shapes p)) m))
+    (code : m.code ≡ program_code (length (entries p)) moves (resolved_block (entries p) p.body))
+    (moved : take (length (entries p)) m.layouts ≡ trail_layouts (λ line. remappings maps (moves line)) (serial_trail p) (take (length (entries p)) first))
     (ends : EndsAs (length (entries p)) m (program_run p).state (program_run p).completion) where
   abbrev n : ℕ
   n = length (entries p)
@@ -104,7 +109,7 @@ module _ (nodes : ℕ) (p : MainProgram) (first : List Layout) (some : 0 < nodes
   o = serial.serial p
 
   abbrev on_texts : Machine Text Fault
-  on_texts = with_code (text nodes [] (program_shapes p)) m
+  on_texts = with_code (text nodes maps (program_shapes p)) m
 
   left : o.end ≡ serial.Finished → IsLeft n m r.state
   left finished = left-so n m r.state r.completion ends finished
@@ -112,11 +117,11 @@ module _ (nodes : ℕ) (p : MainProgram) (first : List Layout) (some : 0 < nodes
   arrays : o.end ≡ serial.Finished → (a : ℕ) → a < n → row_of m.rows a ≡ row_of o.arrays a
   arrays finished a lt = (left finished).1 a lt ∙ sym (get_or-map (λ (x : Array). x.elements) r.state.arrays a no_array)
 
-  standing-last : (q : ℕ) → IsLastNode nodes p m.control m.layouts q (standing nodes on_texts number own q)
+  standing-last : (q : ℕ) → IsLastNode nodes p maps moves m.control m.layouts q (standing nodes on_texts number own q)
   standing-last q = record {
     number = refl;
     among = refl;
-    coded = ap (texts nodes [] (program_shapes p)) code;
+    coded = ap (texts nodes maps (program_shapes p)) code;
     stands = refl;
     laid = refl;
     printed = ap (at_root q) (printed-so n m r.state r.completion ends);
@@ -124,15 +129,15 @@ module _ (nodes : ℕ) (p : MainProgram) (first : List Layout) (some : 0 < nodes
   }
 
   pub last-nodes : (last : List (Node Text Fault)) → ((q : ℕ) → slice_get last q ≡ by_number nodes (standing nodes on_texts number own) q)
-      → AreLastNodes nodes p first last
+      → AreLastNodes nodes p maps moves first last
   last-nodes last are = record {
     control = m.control;
     layouts = m.layouts;
     some = some;
     many = as-many nodes (standing nodes on_texts number own) last are;
-    each = λ q node at. subst (IsLastNode nodes p m.control m.layouts q) (is q node at) (standing-last q);
+    each = λ q node at. subst (IsLastNode nodes p maps moves m.control m.layouts q) (is q node at) (standing-last q);
     ended = ended-so n m r.state r.completion ends;
-    stay = stay;
+    moved = moved;
     owned = whole.owned;
     scalars = λ finished. (left finished).0;
     count = λ finished. length-map r.state.arrays (λ (x : Array). x.elements) ∙ (left finished).2;

@@ -1,7 +1,7 @@
 -- Nodes run a program that keeps the rules as it runs in one order.
-use Rattle.std.proofs.Common.{◌≡◌, ℕ, ◌<◌, ◌≤◌, List, [], length, replicate, take, Some, refl, sym, ap, subst, ◌∙◌, arith}
-use Rattle.std.specs.List.{range_with_len, slice_get}
-use Rattle.std.proofs.lemmas.List.{length-map, length-replicate}
+use Rattle.std.proofs.Common.{◌≡◌, ℕ, ◌<◌, ◌≤◌, List, [], length, take, Some, inl, refl, sym, ap, subst, ◌∙◌, arith}
+use Rattle.std.specs.List.{range_with_len}
+use Rattle.std.proofs.lemmas.List.{length-map}
 use Rattle.std.proofs.lemmas.List.FromFn.{length-range_with_len}
 use Rattle.hpf_base.specs.declared.index.Shape.{Shape}
 use Rattle.syntax_tree.specs.MainProgram.{MainProgram}
@@ -10,23 +10,33 @@ use Rattle.accepted_program.specs.Accepted.{KeepsRules}
 use Rattle.array_meaning.specs.Faults.{Fault}
 use Rattle.array_meaning.specs.Runs.{Run}
 use Rattle.array_meaning.specs.Serial.{End}
+use Rattle.mappings.specs.declared.mapping.Mapping.{Mapping}
+use Rattle.statement_trail.specs.Trail.{Trail, serial_trail}
+use Rattle.passed_states.specs.TrailLayouts.{trail_layouts}
+use Rattle.lowering.specs.Passed.{IsTrail, passed}
+use Rattle.passed_states.proofs.PassedLayouts.{maps-now}
+use Rattle.passed_states.proofs.Places.{entry-passed}
+use Rattle.passed_states.proofs.TrailMoves.{trail-moves}
 use Rattle.machine_steps.specs.Layout.{Layout}
 use Rattle.machine_steps.specs.Instr.{Status, Running, Finished, Faulted}
 use Rattle.machine_steps.specs.Machine.{Machine, steps}
-use Rattle.machine_steps.specs.Agrees.{IsOver, IsValidCode, by_number, first_own, standing}
+use Rattle.machine_steps.specs.Agrees.{IsOver, IsValidCode, NodesSegment, by_number, first_own, standing}
 use Rattle.owner_tables.proofs.CopyLaws.{copy-dealt, copy-size}
-use Rattle.node_code.specs.Instructions.{ArrayTable, Instruction, meaning_of}
+use Rattle.comm_sets.proofs.Covering.{rounds-cover}
+use Rattle.node_code.specs.Instructions.{ArrayTable, Instruction, NewMapping, meaning_of, remappings}
 use Rattle.node_code.specs.FaultValues.{fault_values}
 use Rattle.node_code.specs.ProgramText.{Text, table_on, text, text_meaning}
-use Rattle.well_formed.proofs.Programs.{lowered, valid}
+use Rattle.well_formed.proofs.Programs.{trail_lowered, valid}
 use Rattle.node_run.proofs.CodedSteps.{steps-coded, valid-coded, whole-coded}
-use Rattle.node_run.proofs.Openings.{openings-run}
+use Rattle.node_run.proofs.Openings.{opening-agree, openings-run}
+use Rattle.node_run.proofs.WholeRuns.{steps-pass}
 use Rattle.node_run.proofs.Wholes.{steps-whole}
-use Rattle.nodes_lowered.specs.OnNodes.{LieAsDeclared, program_copies, program_opening, program_run}
+use Rattle.nodes_lowered.specs.OnNodes.{LieAsDeclared, MovesDealt, names_shapes, program_copies, program_opening, program_run}
 use Rattle.nodes_lowered.specs.ProgramRuns.{RunOnNodes, end_by_status, program_nodes, program_shapes, text_opening}
-use Rattle.nodes_lowered.proofs.Laid.{laid-many, opening-whole}
+use Rattle.nodes_lowered.specs.TrailOnNodes.{TrailOnNodes}
+use Rattle.nodes_lowered.proofs.Laid.{laid-many, names-many, opening-whole}
 use Rattle.nodes_lowered.proofs.LastNodes.{ended-so, last-nodes}
-use Rattle.nodes_lowered.proofs.Stays.{at-keeps, steps-code, steps-stay}
+use Rattle.nodes_lowered.proofs.SameCode.{steps-code}
 
 -- a run that has ended is over
 end-over : (s : Status Fault) (e : End) → end_by_status s ≡ Some e → IsOver s
@@ -34,48 +44,71 @@ end-over Running e h = cc
 end-over Finished e h = tt
 end-over (Faulted f) e h = tt
 
-module _ (nodes : ℕ) (p : MainProgram) (layouts : List Layout) (some : 0 < nodes) (rules : KeepsRules p) where
+module _ (nodes : ℕ) (p : MainProgram) (maps : List Mapping) (moves : ℕ → List NewMapping) (layouts : List Layout) (some : 0 < nodes) (rules : KeepsRules p)
+    (laid : LieAsDeclared nodes (program_copies p) (entries p) layouts) (dealt : MovesDealt nodes p maps moves layouts) where
   abbrev n : ℕ
   n = length (entries p)
 
+  abbrev shapes : List Shape
+  shapes = names_shapes p layouts
+
   abbrev table : ArrayTable
-  table = table_on nodes [] (program_shapes p)
+  table = table_on nodes maps (program_shapes p)
 
   abbrev m : Machine Instruction Fault
-  m = program_opening p layouts
+  m = program_opening p moves layouts
 
-  valid-code : (shapes : List Shape) → length shapes ≤ n → IsValidCode (meaning_of table) nodes shapes m.code
-  valid-code shapes few = valid nodes p shapes table few (λ layouts owned extents. copy-dealt nodes extents some) rules.resolved rules.bodies_fine
+  as_many : length shapes ≡ n
+  as_many = names-many nodes p layouts laid
 
-  -- the declared names lie after any steps as before them
-  stays : (k : ℕ) → take n (steps (meaning_of table) k m).layouts ≡ take n layouts
-  stays k =
-      let shapes : List Shape = replicate n (record { lower = []; extent = [] }) in
-      let as_many : length shapes ≡ n = length-replicate n (record { lower = []; extent = [] }) in
-      subst (λ (l : ℕ). take l (steps (meaning_of table) k m).layouts ≡ take l layouts) as_many
-      (steps-stay (meaning_of table) (length shapes) k m
-      (λ at. at-keeps nodes (program_shapes p) shapes (slice_get m.code at) (valid-code shapes (omega (arith, as_many)) at)))
+  valid-code : IsValidCode (meaning_of table) nodes shapes m.code
+  valid-code = valid nodes p shapes table moves (omega (arith, as_many)) (λ layouts owned extents. copy-dealt nodes extents some)
+      (λ line. (dealt line, λ ls declared owned. rounds-cover nodes (remappings maps (moves line)) ls owned)) rules.resolved rules.bodies_fine
 
-  pub run-on-nodes : LieAsDeclared nodes (program_copies p) (entries p) layouts → RunOnNodes nodes p layouts
-  run-on-nodes laid =
-      let as_text = text nodes [] (program_shapes p) in
-      let coded : Machine Text Fault = text_opening nodes p layouts in
+  -- the declared names lie after steps as the trail says that is passed
+  moved-so : (k : ℕ) (entries : Trail) → IsTrail moves (passed table k m) entries
+      → take n (steps (meaning_of table) k m).layouts ≡ trail_layouts (λ line. remappings maps (moves line)) entries (take n layouts)
+  moved-so k entries those =
+      subst (λ (l : ℕ). take l (steps (meaning_of table) k m).layouts ≡ trail_layouts (λ line. remappings maps (moves line)) entries (take l layouts)) as_many
+      (maps-now table nodes shapes k m (inl refl) valid-code ∙ trail-moves maps moves (passed table k m) entries (take (length shapes) layouts) those)
+
+  pub run-on-nodes : RunOnNodes nodes p maps moves layouts
+  run-on-nodes =
+      let as_text = text nodes maps (program_shapes p) in
+      let coded : Machine Text Fault = text_opening nodes p maps moves layouts in
       let r : Run = program_run p in
       let enough : 1 ≤ 1 = omega arith in
-      let has = lowered p (program_copies p) table layouts (record { shapes = refl; copies = λ layouts extents. copy-size nodes extents }) enough
+      let has = trail_lowered p (program_copies p) moves table layouts (record { shapes = refl; copies = λ layouts extents. copy-size nodes extents }) enough
       (laid-many nodes (program_copies p) (entries p) layouts laid) rules.resolved rules.bodies_fine in
       let end : Machine Instruction Fault = steps (meaning_of table) has.0 m in
       let same = steps-coded as_text (meaning_of table) text_meaning (λ i. refl) has.0 m in
-      let code = valid-code [] (omega arith) in
-      let whole = opening-whole nodes p layouts laid in
+      let whole = opening-whole nodes p moves layouts laid in
       let over = subst (λ (x : Machine Text Fault). IsOver x.control.status) (sym same) (end-over end.control.status _ (ended-so n end r.state r.completion has.1)) in
-      let run = openings-run fault_values text_meaning nodes has.0 [] coded some refl refl
-      (valid-coded as_text (meaning_of table) text_meaning (λ i. refl) nodes [] m.code code) (whole-coded as_text nodes [] m whole) over in
+      let run = openings-run fault_values text_meaning nodes has.0 shapes coded some refl refl
+      (valid-coded as_text (meaning_of table) text_meaning (λ i. refl) nodes shapes m.code valid-code) (whole-coded as_text nodes shapes m whole) over in
       record {
         count = length-map (range_with_len 0 nodes) (standing nodes coded 1 (first_own nodes)) ∙ length-range_with_len 0 nodes;
         phased = run.lockstep;
-        ends = λ last ends. last-nodes nodes p layouts some run.number end run.new
-            (whole-coded as_text nodes [] end (steps-whole (meaning_of table) nodes [] has.0 m code whole)) (steps-code (meaning_of table) n has.0 m) (stays has.0) has.1 last
-            (λ q. ends (program_nodes nodes p layouts) run.lockstep [] refl q ∙ run.ends q
+        ends = λ last ends. last-nodes nodes p maps moves layouts some run.number end run.new shapes
+            (whole-coded as_text nodes shapes end (steps-whole (meaning_of table) nodes shapes has.0 m valid-code whole)) (steps-code (meaning_of table) has.0 m)
+            (moved-so has.0 (serial_trail p) has.2) has.1 last
+            (λ q. ends (program_nodes nodes p maps moves layouts) run.lockstep [] refl q ∙ run.ends q
             ∙ ap (λ (x : Machine Text Fault). by_number nodes (standing nodes x run.number run.new) q) same);
       }
+
+  pub trail-on-nodes : TrailOnNodes nodes p maps moves layouts
+  trail-on-nodes i e at =
+      let as_text = text nodes maps (program_shapes p) in
+      let coded : Machine Text Fault = text_opening nodes p maps moves layouts in
+      let enough : 1 ≤ 1 = omega arith in
+      let has = trail_lowered p (program_copies p) moves table layouts (record { shapes = refl; copies = λ layouts extents. copy-size nodes extents }) enough
+      (laid-many nodes (program_copies p) (entries p) layouts laid) rules.resolved rules.bodies_fine in
+      let here = entry-passed table moves has.0 m (serial_trail p) has.2 i e at in
+      let same = steps-coded as_text (meaning_of table) text_meaning (λ i. refl) here.0 m in
+      let code = valid-coded as_text (meaning_of table) text_meaning (λ i. refl) nodes shapes m.code valid-code in (
+        steps (meaning_of table) here.0 m,
+        record { passed = here.3.0; next = here.3.1; is = here.3.2; moved = moved-so here.0 (take i (serial_trail p)) here.2 },
+        subst (λ (x : Machine Text Fault). NodesSegment fault_values text_meaning nodes 1 coded (first_own nodes) x) same
+            (steps-pass fault_values text_meaning nodes shapes some here.0 1 coded (first_own nodes) (opening-agree fault_values text_meaning nodes coded refl refl) code
+            (whole-coded as_text nodes shapes m (opening-whole nodes p moves layouts laid))),
+      )

@@ -1,5 +1,6 @@
 -- What it is for the arrays of a program to lie on nodes.
-use Rattle.std.specs.Prelude.{◌≡◌, ℕ, zero, suc, List, [], ◌∷◌, length, ⊤}
+use Rattle.std.specs.Prelude.{◌≡◌, ℕ, zero, suc, List, [], ◌∷◌, length, map, take, ⊤}
+use Rattle.hpf_base.specs.declared.index.Shape.{Shape}
 use Rattle.syntax_tree.specs.MainProgram.{MainProgram}
 use Rattle.name_table.specs.Entries.{entries}
 use Rattle.name_table.specs.declared.names.Entry.{Entry}
@@ -10,9 +11,11 @@ use Rattle.array_meaning.specs.Execution.{run_block}
 use Rattle.array_meaning.specs.Faults.{Fault}
 use Rattle.array_meaning.specs.Resolution.{resolved_block, initial_state}
 use Rattle.array_meaning.specs.Runs.{Run}
+use Rattle.mappings.specs.declared.mapping.Mapping.{Mapping}
+use Rattle.machine_steps.specs.Agrees.{AreDealt}
 use Rattle.machine_steps.specs.Layout.{IsDealt, Layout, size_of}
 use Rattle.machine_steps.specs.Machine.{Machine}
-use Rattle.node_code.specs.Instructions.{Instruction}
+use Rattle.node_code.specs.Instructions.{Instruction, NewMapping, remappings}
 use Rattle.lowering.specs.Lowered.{opening}
 use Rattle.lowering.specs.StatementCode.{block_copies}
 
@@ -43,6 +46,16 @@ program_copies p = block_copies (resolved_block (entries p) p.body)
 abbrev pub program_run : MainProgram → Run
 program_run p = run_block (resolved_block (entries p) p.body) (initial_state (entries p))
 
--- the machine with whole arrays before the first instruction of a program
-abbrev pub program_opening : MainProgram → List Layout → Machine Instruction Fault
-program_opening p layouts = opening (length (entries p)) (program_copies p) (resolved_block (entries p) p.body) (initial_state (entries p)) layouts
+-- the shapes of the declared names that lie so, before their copies
+abbrev pub names_shapes : MainProgram → List Layout → List Shape
+names_shapes p layouts = map (λ layout. layout.shape) (take (length (entries p)) layouts)
+
+-- each mapping that the REDISTRIBUTE of a line gives, of these of the program by their numbers, is one of a declared array, and gives each of
+-- its elements an owner
+abbrev pub MovesDealt : ℕ → MainProgram → List Mapping → (ℕ → List NewMapping) → List Layout → Type 0
+MovesDealt count p maps moves layouts = (line : ℕ) → AreDealt count (names_shapes p layouts) (remappings maps (moves line))
+
+-- the machine with whole arrays before the first instruction of a program, where `moves` says of a line which arrays its REDISTRIBUTE moves
+abbrev pub program_opening : MainProgram → (ℕ → List NewMapping) → List Layout → Machine Instruction Fault
+program_opening p moves layouts =
+    opening (length (entries p)) (program_copies p) moves (resolved_block (entries p) p.body) (initial_state (entries p)) layouts

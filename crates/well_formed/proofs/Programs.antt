@@ -20,15 +20,16 @@ use Rattle.body_check.specs.BodyRules.{body_breaches}
 use Rattle.body_check.specs.ForallRules.{forall_breaches_at}
 use Rattle.array_meaning.specs.Execution.{run_block}
 use Rattle.array_meaning.specs.Resolution.{resolved_block, initial_array, initial_scalar, initial_state}
-use Rattle.machine_steps.specs.Agrees.{IsValidCode}
+use Rattle.statement_trail.specs.Trail.{serial_trail}
+use Rattle.machine_steps.specs.Agrees.{IsValidCode, IsValidInstr}
 use Rattle.machine_steps.specs.Layout.{AreOwned, IsDealt, Layout}
-use Rattle.node_code.specs.Instructions.{ArrayTable, meaning_of}
-use Rattle.lowering.specs.Lowered.{IsState, IsTable, MachineEnds, opening}
-use Rattle.node_code.specs.ValidCode.{CodeTable, IsValidNodeCode}
+use Rattle.node_code.specs.Instructions.{ArrayTable, NewMapping, Remap, meaning_of}
+use Rattle.lowering.specs.Lowered.{IsState, IsTable, MachineEnds, MachinePasses, opening}
+use Rattle.node_code.specs.ValidCode.{CodeTable, IsValid, IsValidNodeCode}
 use Rattle.lowering.specs.Ranks.{AreFewDims, BlockKeepsRanks, declared_shapes}
 use Rattle.lowering.specs.StatementCode.{block_copies, block_slots, program_code}
 use Rattle.lowering.specs.WellFormed.{IsWellFormedBlock}
-use Rattle.lowering.proofs.Programs.{program-ends}
+use Rattle.lowering.proofs.Programs.{program-ends, program-passes}
 use Rattle.lowering.proofs.Validity.{code-valid}
 use Rattle.lowering.proofs.ValidPrograms.{program-valid}
 use Rattle.well_formed.proofs.Lists.{all_empty, empties, front_empty, no_breach}
@@ -57,20 +58,29 @@ starts names = record {
   arrays = length-map names (λ (e : Entry). initial_array e.what);
 }
 
-pub lowered : (p : MainProgram) (room : ℕ) (table : ArrayTable) (layouts : List Layout) → IsTable (initial_state (entries p)) table →
-    block_copies (resolved_block (entries p) p.body) ≤ room → length layouts ≡ length (entries p) + room →
-    HasNoBreach p → NoBreach (Among (body_breaches (entries p) p.body)) →
-    MachineEnds (length (entries p)) table (opening (length (entries p)) room (resolved_block (entries p) p.body) (initial_state (entries p)) layouts)
-    (run_block (resolved_block (entries p) p.body) (initial_state (entries p)))
-lowered p room table layouts is-table roomy laid rules bodies =
-    program-ends table (length (entries p)) room (resolved_block (entries p) p.body) (initial_state (entries p)) (starts (entries p)) is-table roomy layouts laid
-    (well_formed p rules.names bodies)
+module _ (p : MainProgram) (room : ℕ) (moves : ℕ → List NewMapping) (table : ArrayTable) (layouts : List Layout) where
+  pub lowered : IsTable (initial_state (entries p)) table → block_copies (resolved_block (entries p) p.body) ≤ room → length layouts ≡ length (entries p) + room →
+      HasNoBreach p → NoBreach (Among (body_breaches (entries p) p.body)) →
+      MachineEnds (length (entries p)) table (opening (length (entries p)) room moves (resolved_block (entries p) p.body) (initial_state (entries p)) layouts)
+      (run_block (resolved_block (entries p) p.body) (initial_state (entries p)))
+  lowered is-table roomy laid rules bodies =
+      program-ends table (length (entries p)) room moves (resolved_block (entries p) p.body) (initial_state (entries p)) (starts (entries p)) is-table roomy layouts laid
+      (well_formed p rules.names bodies)
 
-pub valid : (count : ℕ) (p : MainProgram) (shapes : List Shape) (table : ArrayTable) → length shapes ≤ length (entries p) →
-    ((layouts : List Layout) → AreOwned count layouts → (extents : List ℕ) → IsDealt count (table.copies layouts extents)) → HasNoBreach p → NoBreach (Among (body_breaches (entries p) p.body)) →
-    IsValidCode (meaning_of table) count shapes (program_code (length (entries p)) (resolved_block (entries p) p.body))
-valid count p shapes table few dealt rules bodies =
-    code-valid count (length (entries p)) shapes table few dealt (resolved_block (entries p) p.body) (well_formed p rules.names bodies)
+  pub trail_lowered : IsTable (initial_state (entries p)) table → block_copies (resolved_block (entries p) p.body) ≤ room → length layouts ≡ length (entries p) + room →
+      HasNoBreach p → NoBreach (Among (body_breaches (entries p) p.body)) →
+      MachinePasses (length (entries p)) table moves (opening (length (entries p)) room moves (resolved_block (entries p) p.body) (initial_state (entries p)) layouts)
+      (run_block (resolved_block (entries p) p.body) (initial_state (entries p))) (serial_trail p)
+  trail_lowered is-table roomy laid rules bodies =
+      program-passes table (length (entries p)) room moves (resolved_block (entries p) p.body) (initial_state (entries p)) (starts (entries p)) is-table roomy layouts laid
+      (well_formed p rules.names bodies)
+
+pub valid : (count : ℕ) (p : MainProgram) (shapes : List Shape) (table : ArrayTable) (moves : ℕ → List NewMapping) → length shapes ≤ length (entries p) →
+    ((layouts : List Layout) → AreOwned count layouts → (extents : List ℕ) → IsDealt count (table.copies layouts extents)) →
+    ((line : ℕ) → IsValidInstr count shapes (meaning_of table (Remap line (moves line)))) → HasNoBreach p → NoBreach (Among (body_breaches (entries p) p.body)) →
+    IsValidCode (meaning_of table) count shapes (program_code (length (entries p)) moves (resolved_block (entries p) p.body))
+valid count p shapes table moves few dealt moving rules bodies =
+    code-valid count (length (entries p)) shapes table moves few dealt moving (resolved_block (entries p) p.body) (well_formed p rules.names bodies)
 
 abbrev KeepsAllRanks : MainProgram → Type 0
 KeepsAllRanks p = AreFewDims (declared_shapes (initial_state (entries p))) × BlockKeepsRanks (declared_shapes (initial_state (entries p))) (resolved_block (entries p) p.body)
@@ -87,11 +97,12 @@ ranked p known rules =
           (all_typed_heads t (all_heads p.body) (all_empty (name_breaches_at t) (all_heads p.body) names) (all_empty (rank_breaches_at t) (all_heads p.body) ranks)),
     )
 
-pub code_valid : (p : MainProgram) (table : CodeTable) → KeepsAllRanks p → table.shapes ≡ declared_shapes (initial_state (entries p)) →
+pub code_valid : (p : MainProgram) (moves : ℕ → List NewMapping) (table : CodeTable) → KeepsAllRanks p → table.shapes ≡ declared_shapes (initial_state (entries p)) →
     length (entries p) + block_slots (resolved_block (entries p) p.body) ≤ table.slots → block_copies (resolved_block (entries p) p.body) ≤ table.copies →
-    length (program_code (length (entries p)) (resolved_block (entries p) p.body)) ≡ table.places → HasNoBreach p → NoBreach (Among (body_breaches (entries p) p.body)) →
-    IsValidNodeCode table (program_code (length (entries p)) (resolved_block (entries p) p.body))
-code_valid p table keeps same slots copies places rules bodies =
-    program-valid table (length (entries p)) (resolved_block (entries p) p.body) (ap length same ∙ length-map (initial_state (entries p)).arrays _ ∙ length-map (entries p) _)
-    (subst AreFewDims (sym same) keeps.0) slots copies places (well_formed p rules.names bodies)
+    length (program_code (length (entries p)) moves (resolved_block (entries p) p.body)) ≡ table.places → ((line : ℕ) → IsValid table (Remap line (moves line))) →
+    HasNoBreach p → NoBreach (Among (body_breaches (entries p) p.body)) →
+    IsValidNodeCode table (program_code (length (entries p)) moves (resolved_block (entries p) p.body))
+code_valid p moves table keeps same slots copies places moving rules bodies =
+    program-valid table (length (entries p)) moves (resolved_block (entries p) p.body) (ap length same ∙ length-map (initial_state (entries p)).arrays _ ∙ length-map (entries p) _)
+    (subst AreFewDims (sym same) keeps.0) slots copies places moving (well_formed p rules.names bodies)
     (subst (λ shapes. BlockKeepsRanks shapes (resolved_block (entries p) p.body)) (sym same) keeps.1)

@@ -11,11 +11,12 @@ ghost use Rattle.name_table.specs.Resolved.{HasNoBreach};
 ghost use Rattle.body_check.specs.BodyRules.{body_breaches};
 ghost use Rattle.array_meaning.specs.Execution.{run_block};
 ghost use Rattle.array_meaning.specs.Resolution.{resolved_block, initial_state};
-ghost use Rattle.machine_steps.specs.Agrees.{IsValidCode};
+ghost use Rattle.statement_trail.specs.Trail.{serial_trail};
+ghost use Rattle.machine_steps.specs.Agrees.{IsValidCode, IsValidInstr};
 ghost use Rattle.machine_steps.specs.Layout.{AreOwned, IsDealt, Layout};
-ghost use Rattle.node_code.specs.Instructions.{ArrayTable, meaning_of};
-ghost use Rattle.node_code.specs.ValidCode.{CodeTable, IsValidNodeCode};
-ghost use Rattle.lowering.specs.Lowered.{IsTable, MachineEnds, opening};
+ghost use Rattle.node_code.specs.Instructions.{ArrayTable, NewMapping, Remap, meaning_of};
+ghost use Rattle.node_code.specs.ValidCode.{CodeTable, IsValid, IsValidNodeCode};
+ghost use Rattle.lowering.specs.Lowered.{IsTable, MachineEnds, MachinePasses, opening};
 ghost use Rattle.lowering.specs.Ranks.{AreFewDims, BlockKeepsRanks, declared_shapes};
 ghost use Rattle.lowering.specs.StatementCode.{block_copies, block_slots, program_code};
 ghost use Rattle.lowering.specs.WellFormed.{IsWellFormedBlock};
@@ -33,20 +34,33 @@ pub fn programs_are_well_formed()
 /// with the first fault, its line, kind and tuple, and the bytes that were printed before it, or finished with its bytes, scalars and arrays.
 /// After the declared names there is room for as many copies as the code names, or more.
 pub fn accepted_programs_lowered()
-    ensures { (p : MainProgram) (room : ℕ) (table : ArrayTable) (layouts : List Layout) → IsTable (initial_state (entries p)) table
+    ensures { (p : MainProgram) (room : ℕ) (moves : ℕ → List NewMapping) (table : ArrayTable) (layouts : List Layout)
+        → IsTable (initial_state (entries p)) table
         → block_copies (resolved_block (entries p) p.body) ≤ room → length layouts ≡ length (entries p) + room
         → HasNoBreach p → NoBreach (Among (body_breaches (entries p) p.body))
         → MachineEnds (length (entries p)) table
-        (opening (length (entries p)) room (resolved_block (entries p) p.body) (initial_state (entries p)) layouts)
+        (opening (length (entries p)) room moves (resolved_block (entries p) p.body) (initial_state (entries p)) layouts)
         (run_block (resolved_block (entries p) p.body) (initial_state (entries p))) }
 {}
 
-/// Every instruction of its code is one that so many nodes can run.
-pub fn accepted_code_is_valid()
-    ensures { (count : ℕ) (p : MainProgram) (shapes : List Shape) (table : ArrayTable)
-        → length shapes ≤ length (entries p) → ((layouts : List Layout) → AreOwned count layouts → (extents : List ℕ) → IsDealt count (table.copies layouts extents))
+/// It passes, on its way to that end, the trail of the program, entry by entry, and nothing else.
+pub fn accepted_trails_lowered()
+    ensures { (p : MainProgram) (room : ℕ) (moves : ℕ → List NewMapping) (table : ArrayTable) (layouts : List Layout)
+        → IsTable (initial_state (entries p)) table
+        → block_copies (resolved_block (entries p) p.body) ≤ room → length layouts ≡ length (entries p) + room
         → HasNoBreach p → NoBreach (Among (body_breaches (entries p) p.body))
-        → IsValidCode (meaning_of table) count shapes (program_code (length (entries p)) (resolved_block (entries p) p.body)) }
+        → MachinePasses (length (entries p)) table moves
+        (opening (length (entries p)) room moves (resolved_block (entries p) p.body) (initial_state (entries p)) layouts)
+        (run_block (resolved_block (entries p) p.body) (initial_state (entries p))) (serial_trail p) }
+{}
+
+/// Every instruction of its code is one that so many nodes can run, where the redistribution of each line is.
+pub fn accepted_code_is_valid()
+    ensures { (count : ℕ) (p : MainProgram) (shapes : List Shape) (table : ArrayTable) (moves : ℕ → List NewMapping)
+        → length shapes ≤ length (entries p) → ((layouts : List Layout) → AreOwned count layouts → (extents : List ℕ) → IsDealt count (table.copies layouts extents))
+        → ((line : ℕ) → IsValidInstr count shapes (meaning_of table (Remap line (moves line))))
+        → HasNoBreach p → NoBreach (Among (body_breaches (entries p) p.body))
+        → IsValidCode (meaning_of table) count shapes (program_code (length (entries p)) moves (resolved_block (entries p) p.body)) }
 {}
 
 /// The statements of a program that breaks no rule of names, types and ranks have a subscript for each dimension of each array, and none
@@ -59,15 +73,16 @@ pub fn programs_keep_ranks()
     all_are_known();
 }
 
-/// The code of a program that breaks no rule is valid: all that it names is there, with a subscript for each dimension of each array and 7
-/// at most. There are slots for the declared names and the hidden ones, and as many copies as the code names, or more.
+/// The code of a program that breaks no rule is valid, where the redistribution of each line is: all that it names is there, with a subscript
+/// for each dimension of each array and 7 at most. There are slots for the declared names and the hidden ones, and as many copies as the code names, or more.
 pub fn accepted_programs_have_valid_code()
-    ensures { (p : MainProgram) (table : CodeTable) → table.shapes ≡ declared_shapes (initial_state (entries p))
+    ensures { (p : MainProgram) (moves : ℕ → List NewMapping) (table : CodeTable) → table.shapes ≡ declared_shapes (initial_state (entries p))
         → length (entries p) + block_slots (resolved_block (entries p) p.body) ≤ table.slots
         → block_copies (resolved_block (entries p) p.body) ≤ table.copies
-        → length (program_code (length (entries p)) (resolved_block (entries p) p.body)) ≡ table.places
+        → length (program_code (length (entries p)) moves (resolved_block (entries p) p.body)) ≡ table.places
+        → ((line : ℕ) → IsValid table (Remap line (moves line)))
         → HasNoBreach p → NoBreach (Among (body_breaches (entries p) p.body))
-        → IsValidNodeCode table (program_code (length (entries p)) (resolved_block (entries p) p.body)) }
+        → IsValidNodeCode table (program_code (length (entries p)) moves (resolved_block (entries p) p.body)) }
 {
     programs_keep_ranks();
 }

@@ -2,7 +2,7 @@
 //! them.
 //!
 //! Comes in: programs as abstract syntax, the rules of names, types and ranks of `name_table` and those of bodies of `body_check`, the
-//! resolved program of `array_meaning`, and the laws of `lowering`. Goes out: five laws, the contracts of functions whose bodies are
+//! resolved program of `array_meaning`, and the laws of `lowering`. Goes out: six laws, the contracts of functions whose bodies are
 //! empty or call the law that they rest on. There is no function here that runs.
 //!
 //! What holds in between:
@@ -19,5 +19,5 @@ mod accepted;
 
 pub use accepted::{
     accepted_code_is_valid, accepted_programs_have_valid_code, accepted_programs_lowered,
-    programs_are_well_formed, programs_keep_ranks,
+    accepted_trails_lowered, programs_are_well_formed, programs_keep_ranks,
 };

@@ -1,20 +1,34 @@
-use Rattle.std.proofs.Common.{None, Some, ap, subst, ◌∙◌}
+use Rattle.std.proofs.Common.{◌≤◌, All, length, None, Some, sym, ap, subst, ◌∙◌}
 use Rattle.hpf_base.specs.ElementOrder.{product}
 use Rattle.hpf_base.specs.FirstBreach.{least}
+use Rattle.hpf_base.specs.declared.limits.TheConstants.{MAX_NAMES}
 use Rattle.syntax_tree.specs.MainProgram.{main_program}
 use Rattle.array_maps.specs.Maps.{AreMaps}
 use Rattle.name_table.specs.Entries.{entries}
 use Rattle.statement_walk.specs.Heads.{all_heads}
 use Rattle.distribution_rules.specs.Setting.{setting}
+use Rattle.directive_check.specs.Limits.{HasFewDims}
 use Rattle.directive_check.specs.MappedObjects.{how_mapped, mapped_objects}
 use Rattle.directive_check.specs.MappedSteps.{mapped}
 use Rattle.directive_check.specs.ProgramMaps.{program_moves, start_maps}
 use Rattle.directive_check.proofs.ValidMaps.{valid_maps}
 use Rattle.directive_check.specs.MappingRules.{breaches_in, mapping_breaches}
 use Rattle.directive_check.proofs.AllMaps.{arrays_as, moves_as, same_maps}
+use Rattle.directive_check.proofs.FewNames.{few_dims, few_names}
 use Rattle.directive_check.proofs.MappingBreaches.{is_first}
 use Rattle.directive_check.proofs.SameMapped.{MapSame}
 use Rattle.directive_check.proofs.mapping_check.check_mapping.Goals as goal
+
+pub first_breach-requires-clause-few : goal.first_breach-requires-clause-few
+first_breach-requires-clause-few c =
+    subst (λ s. length s.names ≤ MAX_NAMES) (sym c.in_ok-setting.ensures) (few_names (main_program c.args.program.now.tree) c.requires.resolved.names)
+
+pub maps_of-requires-clause-few : goal.maps_of-requires-clause-few
+maps_of-requires-clause-few c =
+    subst (λ s. length s.names ≤ MAX_NAMES) (sym c.in_ok-setting.ensures) (few_names (main_program c.args.program.now.tree) c.requires.resolved.names)
+
+pub maps_of-requires-clause-dims : goal.maps_of-requires-clause-dims
+maps_of-requires-clause-dims c = subst (All (λ e. HasFewDims e.what)) (sym c.requires.names) (few_dims (main_program c.args.program.now.tree))
 
 pub returns-in-Some-clause-refused : goal.returns-in-Some-clause-refused
 returns-in-Some-clause-refused c =

@@ -9,6 +9,7 @@ use Rattle.resolved_program.specs.Resolved.{arms_of, block_of, term}
 use Rattle.resolved_program.proofs.Rows.{arm_parts}
 use Rattle.lowering.specs.StatementCode.{arms_code, block_code}
 use Rattle.node_codegen.specs.Arms.{AreArms, arms_before, codes, jumping_to}
+use Rattle.node_codegen.specs.Moves.{moves_by}
 use Rattle.node_codegen.proofs.Arms.{arm_is, arms_next, codes_next}
 use Rattle.node_codegen.proofs.Parts.{do_is, if_is}
 use Rattle.node_codegen.proofs.statements.+code.Goals as goal
@@ -18,23 +19,24 @@ statement_code-returns-in_ok-rest-in-If t c =
     let made = c.in_ok-made-in-If.made in
     subst (λ w. IfOk c.if_code.result (λ v. instructions v.items ≡ w))
     (ap (λ l. jumping_to (made.after + length l) (codes made.codes.items) ++ l)
-    (c.in_ok-rest-in-If.ensures ∙ ap (λ l. block_code c.args.copy (block_of l) c.args.b made.after c.args.leave c.args.again) c.deref-in-If-2.ensures.value)
-    ∙ sym (if_is c.args.copy c.args.line c.args.b c.args.pc c.args.leave c.args.again c.args.s.now c.in-If.arms c.in-If.other (codes made.codes.items) made.after c.in-If.is
-    (subst (λ l. AreArms c.args.copy (arms_of l) c.args.b c.args.pc c.args.leave c.args.again (codes made.codes.items) made.after) c.deref-in-If.ensures.value c.in_ok-made-in-If.ensures)))
+    (c.in_ok-rest-in-If.ensures ∙ ap (λ l. block_code c.args.copy (moves_by c.args.moves.now) (block_of l) c.args.b made.after c.args.leave c.args.again) c.deref-in-If-2.ensures.value)
+    ∙ sym (if_is c.args.copy (moves_by c.args.moves.now) c.args.line c.args.b c.args.pc c.args.leave c.args.again c.args.s.now c.in-If.arms c.in-If.other (codes made.codes.items) made.after c.in-If.is
+    (subst (λ l. AreArms c.args.copy (moves_by c.args.moves.now) (arms_of l) c.args.b c.args.pc c.args.leave c.args.again (codes made.codes.items) made.after) c.deref-in-If.ensures.value c.in_ok-made-in-If.ensures)))
     c.if_code.ensures
 
 pub code_of_arm-returns : goal.code_of_arm-returns
 code_of_arm-returns t c = λ tail other.
     let copy = c.args.copy in
+    let moves = moves_by c.args.moves.now in
     let b = c.args.b in
     let a = out-Arm c.args.a.now in
     let condition = c.in_ok-condition.condition in
     let body = c.in_ok-body.body in
-    ap (λ x. arms_code copy x other b c.args.pc c.args.leave c.args.again) (arm_parts c.args.a.now tail)
-    ∙ arm_is a.line c.args.pc b (term a.condition) (λ pc. block_code copy (block_of a.body.items) b pc c.args.leave c.args.again) (λ pc. arms_code copy tail other b pc c.args.leave c.args.again)
+    ap (λ x. arms_code copy moves x other b c.args.pc c.args.leave c.args.again) (arm_parts c.args.a.now tail)
+    ∙ arm_is a.line c.args.pc b (term a.condition) (λ pc. block_code copy moves (block_of a.body.items) b pc c.args.leave c.args.again) (λ pc. arms_code copy moves tail other b pc c.args.leave c.args.again)
     condition.items body.items c.in_ok-code.code.items c.in_ok-condition.ensures
     (c.in_ok-body.ensures
-    ∙ (λ i. block_code copy (block_of (c.deref.ensures.value i)) b ((c.in_ok-inside.ensures ∙ ap (λ n. n + 1) c.in_ok-place_after.ensures) i) c.args.leave c.args.again))
+    ∙ (λ i. block_code copy moves (block_of (c.deref.ensures.value i)) b ((c.in_ok-inside.ensures ∙ ap (λ n. n + 1) c.in_ok-place_after.ensures) i) c.args.leave c.args.again))
     (c.in_ok-code.ensures
     ∙ ap (λ x. instructions condition.items ++ JumpIfZero (c.args.pc + length condition.items + 1 + length body.items + 1) x ∷ instructions body.items)
     (c.in_ok-slot.ensures ∙ ap (λ n. b + n) c.in_ok-slots_of.ensures))
@@ -44,11 +46,11 @@ statement_code-returns-in_ok-turns-in-Do t c =
     let l = c.in-Do.l in
     subst (λ w. IfOk c.with_more.result (λ v. instructions v.items ≡ w))
     (ap (λ i. instructions c.in_ok-head-in-Do.head.items ++ i) c.in_ok-turns-in-Do.ensures
-    ∙ do_is c.args.copy c.args.line c.args.b c.args.pc c.args.leave c.args.again c.in_ok-first-in-Do.first c.in_ok-at-in-Do.at c.args.s.now c.in-Do.field-0 l c.in-Do.body
+    ∙ do_is c.args.copy (moves_by c.args.moves.now) c.args.line c.args.b c.args.pc c.args.leave c.args.again c.in_ok-first-in-Do.first c.in_ok-at-in-Do.at c.args.s.now c.in-Do.field-0 l c.in-Do.body
     c.in_ok-head-in-Do.head.items c.in_ok-inner-in-Do.inner.items c.in-Do.is c.in_ok-head-in-Do.ensures
     (c.in_ok-first-in-Do.ensures ∙ ap (λ n. c.args.b + n) c.in_ok-control_slots-in-Do.ensures) c.in_ok-at-in-Do.ensures
     (c.in_ok-inner-in-Do.ensures
-    ∙ ap (λ x. block_code c.args.copy (block_of x) (c.in_ok-first-in-Do.first + 4) (c.in_ok-at-in-Do.at + 8) (c.in_ok-at-in-Do.at + 3) (c.in_ok-at-in-Do.at + 4)) c.deref-in-Do.ensures.value))
+    ∙ ap (λ x. block_code c.args.copy (moves_by c.args.moves.now) (block_of x) (c.in_ok-first-in-Do.first + 4) (c.in_ok-at-in-Do.at + 8) (c.in_ok-at-in-Do.at + 3) (c.in_ok-at-in-Do.at + 4)) c.deref-in-Do.ensures.value))
     c.with_more.ensures
 
 pub arm_codes-loop-arm-preserved : goal.arm_codes-loop-arm-preserved
@@ -57,12 +59,12 @@ arm_codes-loop-arm-preserved t c = λ other.
     let after = c.loop-arm.after in
     let one = c.in_ok-one.one in
     let tail = arms_of (drop (n + 1) c.args.arms.now) in
-    let rest = λ (pc : ℕ). arms_code c.args.copy tail other c.args.b pc c.args.leave c.args.again in
+    let rest = λ (pc : ℕ). arms_code c.args.copy (moves_by c.args.moves.now) tail other c.args.b pc c.args.leave c.args.again in
     c.loop-arm.invariant other
-    ∙ ap (λ l. arms_before after (codes c.loop-arm.codes.items) (λ pc. arms_code c.args.copy (arms_of l) other c.args.b pc c.args.leave c.args.again))
+    ∙ ap (λ l. arms_before after (codes c.loop-arm.codes.items) (λ pc. arms_code c.args.copy (moves_by c.args.moves.now) (arms_of l) other c.args.b pc c.args.leave c.args.again))
     (drop_item c.args.arms.now n c.arm-item.result c.loop-arm-test.true c.arm-item.is)
     ∙ arms_next after c.in_ok-after.after (codes c.loop-arm.codes.items) (instructions one.items)
-    (λ pc. arms_code c.args.copy (arms_of (c.arm-item.result ∷ drop (n + 1) c.args.arms.now)) other c.args.b pc c.args.leave c.args.again) rest
+    (λ pc. arms_code c.args.copy (moves_by c.args.moves.now) (arms_of (c.arm-item.result ∷ drop (n + 1) c.args.arms.now)) other c.args.b pc c.args.leave c.args.again) rest
     (c.in_ok-after.ensures ∙ ap (λ k. k + 1) (c.in_ok-place_after.ensures ∙ ap (λ k. after + k) (sym (length-map one.items instruction))))
     (c.in_ok-one.ensures tail other)
     ∙ ap (λ cs. arms_before c.in_ok-after.after cs rest) (sym (codes_next c.loop-arm.codes.items c.push.new.self.items one c.in_ok-push.ensures.items))
@@ -70,5 +72,5 @@ arm_codes-loop-arm-preserved t c = λ other.
 pub arm_codes-returns : goal.arm_codes-returns
 arm_codes-returns t c = λ other.
     c.loop-arm.invariant other
-    ∙ ap (λ l. arms_before c.loop-arm.after (codes c.loop-arm.codes.items) (λ pc. arms_code c.args.copy (arms_of l) other c.args.b pc c.args.leave c.args.again))
+    ∙ ap (λ l. arms_before c.loop-arm.after (codes c.loop-arm.codes.items) (λ pc. arms_code c.args.copy (moves_by c.args.moves.now) (arms_of l) other c.args.b pc c.args.leave c.args.again))
     (drop_of_length-le c.args.arms.now (omega arith))

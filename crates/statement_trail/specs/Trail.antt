@@ -12,7 +12,7 @@ use Rattle.array_meaning.specs.Terms.{Term, Element, Section, Apply, Reduce, Ter
 use Rattle.array_meaning.specs.Statements.{SectionAssignment, ElementAssignment, Item, Text, Value, Elements, Block, Done, Then, Statement, AssignScalar, AssignElement, AssignSection, If, Do, Where, Forall, Print, Redistribute, Arms, NoArm, Arm}
 use Rattle.array_meaning.specs.Faults.{Cause, ◌>>=◌}
 use Rattle.array_meaning.specs.State.{State, set_scalar, place_in}
-use Rattle.array_meaning.specs.Runs.{Completion, Normal, Cycled, Run, one_step}
+use Rattle.array_meaning.specs.Runs.{Completion, Normal, Cycled, Run, normal, one_step}
 use Rattle.array_meaning.specs.declared.sections.Sequence.{Sequence}
 use Rattle.array_meaning.specs.declared.sections.Selection.{Selection}
 use Rattle.array_meaning.specs.Sections.{sequence_of, extents, space_size}
@@ -129,6 +129,16 @@ abbrev pub forall_mask_trail : ℕ → State → List Sequence → Option Term �
 forall_mask_trail line s axes None = []
 forall_mask_trail line s axes (Some t) = reached line s (ForallMask axes t)
 
+-- the parts of a FORALL whose conditions hold
+abbrev pub forall_parts_trail : ℕ → List Sequence → Option Term → List ElementAssignment → State → Trail
+forall_parts_trail line axes mask body s =
+    let n = product (index_extents axes) in
+    forall_mask_trail line s axes mask ++ after_value (mask_over s axes n mask) (λ m. forall_trail (is_some mask) axes n m body s)
+
+-- a condition of a FORALL, which one over an empty space doesn't have; its parts have no tuples, and are reached as others
+abbrev pub if_not_empty : ℕ → State → Run → Run
+if_not_empty n s r = if n == 0 then normal s else r
+
 abbrev pub item_trail : ℕ → State → Item → Trail
 item_trail line s (Text bytes) = []
 item_trail line s (Value t) = value_trail line s t
@@ -173,10 +183,8 @@ abbrev mutual
   trail (Forall controls mask body) line s =
       all_controls_trail line s controls ++ after_value (all_index_values s controls) (λ axes.
       let n = product (index_extents axes) in
-      if n == 0 then [] else
-      after_value (check_limits axes (all_subscripts mask body) s) (λ u.
-      after_run (check_one_to_one (index_extents axes) body s) (λ u.
-      forall_mask_trail line s axes mask ++ after_value (mask_over s axes n mask) (λ m. forall_trail (is_some mask) axes n m body s))))
+      after_run (if_not_empty n s (one_step line s (check_limits axes (all_subscripts mask body) s))) (λ s.
+      after_run (if_not_empty n s (check_one_to_one (index_extents axes) body s)) (forall_parts_trail line axes mask body)))
   trail (Print items) line s = all_items_trail line s items
   trail Redistribute line s = reached line s Redistributed
   trail statement line s = []

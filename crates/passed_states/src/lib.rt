@@ -1,0 +1,14 @@
+//! The states in which the machine with whole arrays passes what it passes.
+//!
+//! Comes in: what the machine passes over code (`lowering`), and trails (`statement_trail`). Goes out: how arrays lie after a trail, as a
+//! definition; and laws, each the contract of a function that does nothing. They hold over any code, whatever program it is of.
+//!
+//! - `entries_passed`: each entry of a trail that is passed is passed at one state, which comes after the entries before it and is before an
+//!   instruction that is this entry.
+//! - `maps_now`: at each state the declared names lie as at the first, with the redistributions that were passed so far.
+//! - `trails_move`: what is passed moves arrays as the trail that it is.
+#![tactic(auto)]
+
+mod states;
+
+pub use states::{entries_passed, maps_now, trails_move};

@@ -1,0 +1,9 @@
+//! The trail of a run: the parts of array statements and the REDISTRIBUTEs that it reaches, in order.
+//!
+//! Comes in: the sequential meaning of `array_meaning`, which doesn't know of parts. Goes out, in `specs/`: the trail of statements and of a
+//! program, each part with its line, the scalars of that moment and what was evaluated once for it. There is no function here.
+//!
+//! What holds in between: a part is one computation over a space, as an assignment to a section, the values of a mask, a reduction. It is
+//! reached where all that comes before it has no fault, whether or not it has one itself. A nest of INDEPENDENT loops runs as its plain loops
+//! do, and is no part.
+#![tactic(auto)]
