@@ -1,0 +1,3 @@
+pub mod FoundNames
+pub mod Scalars
+pub mod Inquiries

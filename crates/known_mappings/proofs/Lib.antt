@@ -1,0 +1,12 @@
+mod Tests
+mod DirectiveValues
+mod Objects
+mod Distributions
+mod LinearForms
+mod Alignments
+mod Chains
+mod WholeAlignments
+mod Programs
+mod Starts
+mod Moves
+mod Known

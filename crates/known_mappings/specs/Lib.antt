@@ -1,0 +1,2 @@
+pub mod StartMappings
+pub mod NewMappings

@@ -1,0 +1,18 @@
+//! The mappings of programs that break no rule are known: no array is replicated because a mapping directive says nothing.
+//!
+//! Comes in: programs as abstract syntax, the rules of names, types and ranks of `name_table`, those of mapping directives of
+//! `directive_check`, and the mappings that it defines. Goes out: two laws, the contracts of functions whose bodies call the law that they
+//! rest on. There is no function here that runs.
+//!
+//! What holds in between:
+//!
+//! - An expression of a directive that has a type and a rank has a value, or isn't constant, where all that is declared is known.
+//! - The dimensions of every array, template and processor arrangement are known and within the limits.
+//! - A distribution that breaks no rule gives its objects a mapping, and an ALIGN that breaks none gives each alignee an alignment.
+//! - Where no object is aligned with itself, alignments end within as many as there are names.
+//! - No entry is left out: a mapping has one for each distributed dimension, an alignment one for each dimension of its target.
+#![tactic(auto)]
+
+mod mappings_known;
+
+pub use mappings_known::{new_mappings_are_known, start_mappings_are_known};
