@@ -1,78 +1,79 @@
 //! The answers to cases.
 
-use crate::case::Case;
-use crate::compare::write_comparison;
-use crate::driver::Nodes;
-use crate::outcome::Outcome;
-use crate::show::{write_left, write_shown};
-use crate::trouble::Trouble;
-use crate::world::World;
-use case_texts::write_text;
+use crate::driver::{Progress, Run};
+use crate::opening::nodes_on;
+use crate::outcome::outcome_of;
+use crate::show::{write_end, write_shown};
+use crate::words::line_of;
 use std::alloc::{AllocError, Global};
 use std::fmt::Write;
 
 /// The answer to a case, in lines.
-pub fn answer_to(alloc: Global, case: &Case) -> Result<String, AllocError> {
+pub fn answer_to(alloc: Global, case: &[String]) -> Result<String, AllocError> {
     let mut out = String::new(alloc);
-    match write_answer(alloc, &mut out, case) {
-        Ok(()) => {}
-        Err(trouble) => writeln!(out, "  {trouble:?}")?,
+    if write_answer(alloc, &mut out, case).is_none() {
+        out.push_str("  no answer\n")?;
     }
     Ok(out)
 }
 
-fn write_answer(alloc: Global, out: &mut String, case: &Case) -> Result<(), Trouble> {
-    let grids = if case.grids.is_empty() {
-        "1 2 3 4 64"
-    } else {
-        case.grids.as_str()
+fn write_answer(alloc: Global, out: &mut String, case: &[String]) -> Option<()> {
+    let grids = match line_of(case, "grids") {
+        "" => "1 2 3 4 64",
+        grids => grids,
     };
-    let mut first = None;
+    let mut first = String::new(alloc);
     for grid in grids.split(' ') {
-        let nodes = write_on(alloc, out, case, grid, &mut first)?;
-        for show in &case.shows {
-            let (shown, words) = show.as_str().split_once(' ').unwrap_or((show.as_str(), ""));
-            if shown == grid {
-                write_shown(out, grid, words, &nodes)?;
-            }
-        }
+        let mut run = Run::new(alloc, nodes_on(alloc, case, grid)?)?;
+        let left = run.to_end(alloc)?;
+        write_run(alloc, out, grid, left, &run, &mut first).ok()?;
+        write_shows(out, case, grid, &run).ok()?;
     }
-    Ok(())
+    Some(())
 }
 
-/// Runs the case on a grid, and writes whether the nodes come to the outcome on the first grid; on that one, this outcome, too.
-fn write_on(
+/// Writes whether the nodes of a grid come to the outcome on the first grid, and on that one this outcome too.
+fn write_run(
     alloc: Global,
     out: &mut String,
-    case: &Case,
     grid: &str,
-    first: &mut Option<Outcome>,
-) -> Result<Nodes, Trouble> {
-    let world = World::new(alloc, case, grid)?;
-    let mut nodes = Nodes::opening(alloc, &world)?;
-    let left = nodes.run(alloc)?;
-    nodes.sort()?;
-    if first.is_none() {
-        *first = Outcome::of(alloc, &nodes.nodes)?;
-        write_outcome(out, first)?;
+    left: Progress,
+    run: &Run,
+    first: &mut String,
+) -> Result<(), AllocError> {
+    let outcome = outcome_of(alloc, &run.nodes)?;
+    if first.is_empty() {
+        write_end(out, &run.nodes)?;
+        first.push_str(outcome.as_str())?;
     }
     write!(out, "  {grid}: ")?;
     write_left(out, left)?;
-    if let Some(outcome) = first {
-        write_comparison(alloc, out, &nodes.nodes, outcome)?;
+    if outcome.as_str() == first.as_str() {
+        out.push_str("alike\n")
+    } else {
+        writeln!(out, "other than on the first grid:\n{outcome}")
     }
-    Ok(nodes)
 }
 
-/// Writes what was printed, and how the run ends.
-fn write_outcome(out: &mut String, outcome: &Option<Outcome>) -> Result<(), AllocError> {
-    if let Some(outcome) = outcome {
-        if !outcome.printed.is_empty() {
-            out.push_str("  printed ")?;
-            write_text(out, &outcome.printed)?;
-            out.push_str("\n")?;
+/// Writes how a run was left, if not all nodes have ended.
+fn write_left(out: &mut String, left: Progress) -> Result<(), AllocError> {
+    match left {
+        Progress::Ended => Ok(()),
+        Progress::Waits => out.push_str("stuck, "),
+        Progress::Astray => out.push_str("a letter went astray, "),
+        Progress::Moved => out.push_str("too long, "),
+    }
+}
+
+/// Writes what the case asks to see on this grid.
+fn write_shows(out: &mut String, case: &[String], grid: &str, run: &Run) -> Result<(), AllocError> {
+    for line in case {
+        if let Some(("show", rest)) = line.as_str().split_once(' ') {
+            let (shown, words) = rest.split_once(' ').unwrap_or((rest, ""));
+            if shown == grid {
+                write_shown(out, grid, words, run)?;
+            }
         }
-        writeln!(out, "  {}", outcome.end)?;
     }
     Ok(())
 }

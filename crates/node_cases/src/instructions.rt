@@ -10,314 +10,312 @@
 //! - `foldcopy s1 sum R`, also with `max`, `min`, `iand`, `ior` or `ieor`, and `lastcopy s1 R set R`
 //! - `remap`: what the next REDISTRIBUTE of the text says
 
-use crate::expressions::{
-    joining, numbered, read_flat, read_flats, read_form, read_row, read_subs, read_word, reduction,
-};
-use crate::line::Line;
-use crate::trouble::Trouble;
+use crate::expressions::{read_flat, read_flats, read_form, read_subs};
+use crate::words::Words;
 use node_code::{Assignment, Evaluation, Instruction, NewMapping, PrintItem, When};
+use op_tables::{Join, Made, Reduction};
 use std::alloc::Global;
 use std::collections::VecDeque;
 
-/// The instructions of these lines, where the text's redistributions are these.
+/// The code of a case: the instructions of the lines that begin with a number. REDISTRIBUTE comes to these moves, one after the other.
 pub fn read_code(
     alloc: Global,
-    lines: &[String],
+    case: &[String],
     moves: &mut VecDeque<Vec<NewMapping>>,
-) -> Result<Vec<Instruction>, Trouble> {
+) -> Option<Vec<Instruction>> {
     let mut code = Vec::new(alloc);
-    for line in lines {
-        code.push(read_instruction(alloc, line.as_str(), moves)?)?;
-    }
-    Ok(code)
-}
-
-fn read_instruction(
-    alloc: Global,
-    text: &str,
-    moves: &mut VecDeque<Vec<NewMapping>>,
-) -> Result<Instruction, Trouble> {
-    let mut line = Line::new(text);
-    let line = &mut line;
-    let word = line.word();
-    match word {
-        "remap" => read_remap(moves),
-        "print" => Ok(Instruction::Print(read_items(alloc, line)?)),
-        "halt" => Ok(Instruction::Halt),
-        "verdict" => Ok(Instruction::Verdict),
-        "jump" => Ok(Instruction::Jump {
-            target: read_number(line)?,
-        }),
-        "unless" => read_unless(line),
-        "foldcopy" => read_fold(line),
-        "lastcopy" => read_last(line),
-        _ => read_with_line(alloc, word, line),
-    }
-}
-
-fn read_remap(moves: &mut VecDeque<Vec<NewMapping>>) -> Result<Instruction, Trouble> {
-    match moves.pop_front() {
-        Some(new) => Ok(Instruction::Remap { line: 0, new }),
-        None => Err(Trouble::Malformed),
-    }
-}
-
-fn read_number(line: &mut Line<'_>) -> Result<usize, Trouble> {
-    match line.word().parse::<usize>() {
-        Ok(number) => Ok(number),
-        Err(_) => Err(Trouble::Malformed),
-    }
-}
-
-fn read_slot(line: &mut Line<'_>) -> Result<usize, Trouble> {
-    numbered(line.word(), 's').ok_or(Trouble::Malformed)
-}
-
-fn read_unless(line: &mut Line<'_>) -> Result<Instruction, Trouble> {
-    let slot = read_slot(line)?;
-    read_word(line, "jump")?;
-    let target = read_number(line)?;
-    Ok(Instruction::JumpIfZero { target, slot })
-}
-
-fn read_fold(line: &mut Line<'_>) -> Result<Instruction, Trouble> {
-    let slot = read_slot(line)?;
-    let join = joining(line.word())?;
-    let copy = read_row(line)?;
-    Ok(Instruction::FoldCopy { copy, join, slot })
-}
-
-fn read_last(line: &mut Line<'_>) -> Result<Instruction, Trouble> {
-    let slot = read_slot(line)?;
-    let copy = read_row(line)?;
-    read_word(line, "set")?;
-    let set = read_row(line)?;
-    Ok(Instruction::LastCopy { copy, set, slot })
-}
-
-fn read_items(alloc: Global, line: &mut Line<'_>) -> Result<Vec<PrintItem>, Trouble> {
-    let mut items = Vec::new(alloc);
-    for _ in 0..16 {
-        match line.word() {
-            "" => return Ok(items),
-            "text" => {
-                let word = line.word();
-                items.push(PrintItem::Bytes(Vec::from_slice(alloc, word.as_bytes())?))?;
+    for line in case {
+        let mut words = Words::new(line.as_str());
+        if words.word().parse::<usize>().is_ok() {
+            code.push(read_instruction(alloc, &mut words, moves)).ok()?;
+            if !words.are_well {
+                return None;
             }
-            "number" => items.push(PrintItem::Number(read_flat(alloc, line)?))?,
-            "section" => {
-                let row = read_row(line)?;
-                items.push(PrintItem::Section(row, read_subs(alloc, line)?))?;
-            }
-            _ => return Err(Trouble::Malformed),
         }
     }
-    Err(Trouble::Malformed)
+    Some(code)
+}
+
+/// The instruction of a line. `remap` has the first of these moves.
+fn read_instruction(
+    alloc: Global,
+    words: &mut Words<'_>,
+    moves: &mut VecDeque<Vec<NewMapping>>,
+) -> Instruction {
+    match words.word() {
+        "remap" => read_remap(alloc, words, moves),
+        "print" => Instruction::Print(read_items(alloc, words)),
+        "halt" => Instruction::Halt,
+        "verdict" => Instruction::Verdict,
+        "jump" => Instruction::Jump {
+            target: words.number(),
+        },
+        "unless" => read_unless(words),
+        "foldcopy" => Instruction::FoldCopy {
+            slot: words.slot(),
+            join: read_join(words).0,
+            copy: words.row(),
+        },
+        "lastcopy" => read_last(words),
+        word => read_with_line(alloc, word, words),
+    }
+}
+
+fn read_remap(
+    alloc: Global,
+    words: &mut Words<'_>,
+    moves: &mut VecDeque<Vec<NewMapping>>,
+) -> Instruction {
+    let new = match moves.pop_front() {
+        Some(new) => new,
+        None => {
+            words.are_well = false;
+            Vec::new(alloc)
+        }
+    };
+    Instruction::Remap { line: 0, new }
+}
+
+fn read_unless(words: &mut Words<'_>) -> Instruction {
+    let slot = words.slot();
+    words.skip("jump");
+    Instruction::JumpIfZero {
+        target: words.number(),
+        slot,
+    }
+}
+
+fn read_last(words: &mut Words<'_>) -> Instruction {
+    let slot = words.slot();
+    let copy = words.row();
+    words.skip("set");
+    Instruction::LastCopy {
+        copy,
+        set: words.row(),
+        slot,
+    }
+}
+
+/// Takes what joins numbers, by the name of a reduction or of an operator of REDUCTION, and what is made of each element.
+fn read_join(words: &mut Words<'_>) -> (Join, Made) {
+    match words.word() {
+        "sum" => (Join::Sum, Made::Value),
+        "count" => (Join::Sum, Made::Truth),
+        "product" => (Join::Product, Made::Value),
+        "maxval" | "max" => (Join::Greatest, Made::Value),
+        "minval" | "min" => (Join::Least, Made::Value),
+        "iand" => (Join::And, Made::Value),
+        "ior" => (Join::Or, Made::Value),
+        "ieor" => (Join::ExclusiveOr, Made::Value),
+        "any" => (Join::Any, Made::Truth),
+        "all" => (Join::All, Made::Truth),
+        _ => {
+            words.are_well = false;
+            (Join::Sum, Made::Value)
+        }
+    }
+}
+
+fn read_items(alloc: Global, words: &mut Words<'_>) -> Vec<PrintItem> {
+    let mut items = Vec::new(alloc);
+    for _ in 0..16 {
+        if words.front().is_empty() {
+            break;
+        }
+        if items.push(read_item(alloc, words)).is_err() {
+            words.are_well = false;
+        }
+    }
+    words.skip("");
+    items
+}
+
+fn read_item(alloc: Global, words: &mut Words<'_>) -> PrintItem {
+    match words.word() {
+        "text" => PrintItem::Bytes(read_bytes(alloc, words)),
+        "number" => PrintItem::Number(read_flat(alloc, words)),
+        word => {
+            words.are_well = words.are_well && word == "section";
+            PrintItem::Section(words.row(), read_subs(alloc, words))
+        }
+    }
+}
+
+fn read_bytes(alloc: Global, words: &mut Words<'_>) -> Vec<u8> {
+    match Vec::from_slice(alloc, words.word().as_bytes()) {
+        Ok(bytes) => bytes,
+        Err(_) => {
+            words.are_well = false;
+            Vec::new(alloc)
+        }
+    }
 }
 
 /// The instruction of a word after which a line of the text stands.
-fn read_with_line(alloc: Global, word: &str, line: &mut Line<'_>) -> Result<Instruction, Trouble> {
-    let number = match line.word().parse::<u32>() {
-        Ok(number) => number,
-        Err(_) => return Err(Trouble::Malformed),
-    };
+fn read_with_line(alloc: Global, word: &str, words: &mut Words<'_>) -> Instruction {
+    let line = words.line();
     match word {
-        "set" => read_set(alloc, number, line),
-        "fetch" => read_fetch(alloc, number, line),
-        "store" => read_store(alloc, number, line),
-        "bounds" => Ok(Instruction::TestBounds {
-            line: number,
-            array: read_row(line)?,
-            subscripts: read_flats(alloc, line)?,
-        }),
-        "stride" => Ok(Instruction::TestStride {
-            line: number,
-            slot: read_slot(line)?,
-        }),
-        "trips" => read_trips(number, line),
-        "inside" => Ok(Instruction::Inside {
-            line: number,
-            array: read_row(line)?,
-            subscripts: read_subs(alloc, line)?,
-        }),
-        _ => read_parallel(alloc, word, number, line),
+        "set" => read_set(alloc, line, words),
+        "fetch" => read_fetch(alloc, line, words),
+        "store" => read_store(alloc, line, words),
+        "bounds" => Instruction::TestBounds {
+            line,
+            array: words.row(),
+            subscripts: read_flats(alloc, words),
+        },
+        "stride" => Instruction::TestStride {
+            line,
+            slot: words.slot(),
+        },
+        "trips" => read_trips(line, words),
+        "inside" => Instruction::Inside {
+            line,
+            array: words.row(),
+            subscripts: read_subs(alloc, words),
+        },
+        _ => read_parallel(alloc, word, line, words),
     }
 }
 
-fn read_set(alloc: Global, number: u32, line: &mut Line<'_>) -> Result<Instruction, Trouble> {
-    let slot = read_slot(line)?;
-    read_word(line, "=")?;
-    Ok(Instruction::Set {
-        line: number,
+fn read_set(alloc: Global, line: u32, words: &mut Words<'_>) -> Instruction {
+    let slot = words.slot();
+    words.skip("=");
+    Instruction::Set {
+        line,
         slot,
-        value: read_flat(alloc, line)?,
-    })
+        value: read_flat(alloc, words),
+    }
 }
 
-fn read_fetch(alloc: Global, number: u32, line: &mut Line<'_>) -> Result<Instruction, Trouble> {
-    let slot = read_slot(line)?;
-    read_word(line, "=")?;
-    let array = read_row(line)?;
-    Ok(Instruction::Fetch {
-        line: number,
-        array,
-        subscripts: read_flats(alloc, line)?,
+fn read_fetch(alloc: Global, line: u32, words: &mut Words<'_>) -> Instruction {
+    let slot = words.slot();
+    words.skip("=");
+    Instruction::Fetch {
+        line,
+        array: words.row(),
+        subscripts: read_flats(alloc, words),
         slot,
-    })
+    }
 }
 
-fn read_store(alloc: Global, number: u32, line: &mut Line<'_>) -> Result<Instruction, Trouble> {
-    let array = read_row(line)?;
-    let subscripts = read_flats(alloc, line)?;
-    read_word(line, "=")?;
-    Ok(Instruction::Store {
-        line: number,
+fn read_store(alloc: Global, line: u32, words: &mut Words<'_>) -> Instruction {
+    let array = words.row();
+    let subscripts = read_flats(alloc, words);
+    words.skip("=");
+    Instruction::Store {
+        line,
         array,
         subscripts,
-        value: read_flat(alloc, line)?,
-    })
+        value: read_flat(alloc, words),
+    }
 }
 
-fn read_trips(number: u32, line: &mut Line<'_>) -> Result<Instruction, Trouble> {
-    let first = read_slot(line)?;
-    let last = read_slot(line)?;
-    let step = read_slot(line)?;
-    read_word(line, "left")?;
-    let left = read_slot(line)?;
-    read_word(line, "else")?;
-    Ok(Instruction::Trips {
-        line: number,
+fn read_trips(line: u32, words: &mut Words<'_>) -> Instruction {
+    let first = words.slot();
+    let last = words.slot();
+    let step = words.slot();
+    words.skip("left");
+    let left = words.slot();
+    words.skip("else");
+    Instruction::Trips {
+        line,
         first,
         last,
         step,
         left,
-        target: read_number(line)?,
-    })
+        target: words.number(),
+    }
 }
 
 /// The instruction of a word that speaks of a space.
-fn read_parallel(
-    alloc: Global,
-    word: &str,
-    number: u32,
-    line: &mut Line<'_>,
-) -> Result<Instruction, Trouble> {
+fn read_parallel(alloc: Global, word: &str, line: u32, words: &mut Words<'_>) -> Instruction {
     match word {
-        "limits" => Ok(Instruction::Limits(read_assignment(alloc, number, line)?)),
-        "par" => Ok(Instruction::Par(read_assignment(alloc, number, line)?)),
-        "forall" => Ok(Instruction::ParForall(read_assignment(alloc, number, line)?)),
-        "ownlimits" => {
-            let (_copy, evaluation) = read_copy(alloc, number, line)?;
-            Ok(Instruction::OwnLimits(evaluation))
-        }
-        "makecopy" => {
-            let (copy, evaluation) = read_copy(alloc, number, line)?;
-            Ok(Instruction::MakeCopy { copy, evaluation })
-        }
-        "parcopy" => {
-            let (copy, evaluation) = read_copy(alloc, number, line)?;
-            Ok(Instruction::ParCopy { copy, evaluation })
-        }
-        "forallcopy" => {
-            let (copy, evaluation) = read_copy(alloc, number, line)?;
-            Ok(Instruction::ParForallCopy { copy, evaluation })
-        }
-        "reduce" => read_reduce(alloc, number, line),
-        "foralllimits" => read_forall_limits(alloc, number, line),
-        "onetoone" => read_one_to_one(alloc, number, line),
-        _ => Err(Trouble::Malformed),
+        "limits" => Instruction::Limits(read_assignment(alloc, line, words)),
+        "par" => Instruction::Par(read_assignment(alloc, line, words)),
+        "forall" => Instruction::ParForall(read_assignment(alloc, line, words)),
+        "reduce" => read_reduce(alloc, line, words),
+        "foralllimits" => Instruction::ForallLimits {
+            line,
+            over: read_over(alloc, words),
+            subscripts: read_of(alloc, words),
+        },
+        "onetoone" => Instruction::OneToOne {
+            line,
+            over: read_over(alloc, words),
+            left: read_of(alloc, words),
+        },
+        _ => read_of_copy(alloc, word, line, words),
     }
 }
 
-fn read_assignment(alloc: Global, number: u32, line: &mut Line<'_>) -> Result<Assignment, Trouble> {
-    let array = read_row(line)?;
-    let left = read_subs(alloc, line)?;
-    read_word(line, "=")?;
-    let right = read_form(alloc, line)?;
-    read_word(line, "over")?;
-    let over = read_subs(alloc, line)?;
-    Ok(Assignment {
-        line: number,
+/// The instruction of a word after whose line a copy and an array expression stand.
+fn read_of_copy(alloc: Global, word: &str, line: u32, words: &mut Words<'_>) -> Instruction {
+    let copy = words.row();
+    words.skip("=");
+    let evaluation = read_evaluation(alloc, line, words);
+    match word {
+        "ownlimits" => Instruction::OwnLimits(evaluation),
+        "makecopy" => Instruction::MakeCopy { copy, evaluation },
+        "parcopy" => Instruction::ParCopy { copy, evaluation },
+        _ => {
+            words.are_well = words.are_well && word == "forallcopy";
+            Instruction::ParForallCopy { copy, evaluation }
+        }
+    }
+}
+
+fn read_over(alloc: Global, words: &mut Words<'_>) -> Vec<node_code::Sub> {
+    words.skip("over");
+    read_subs(alloc, words)
+}
+
+fn read_of(alloc: Global, words: &mut Words<'_>) -> Vec<node_code::Flat> {
+    words.skip("of");
+    read_flats(alloc, words)
+}
+
+fn read_assignment(alloc: Global, line: u32, words: &mut Words<'_>) -> Assignment {
+    let array = words.row();
+    let left = read_subs(alloc, words);
+    words.skip("=");
+    Assignment {
+        line,
         array,
         left,
-        right,
-        over,
-        mask: read_mask(line)?,
-    })
-}
-
-fn read_mask(line: &mut Line<'_>) -> Result<Option<When>, Trouble> {
-    match line.word() {
-        "" => Ok(None),
-        "where" => read_when(line, true),
-        "unless" => read_when(line, false),
-        _ => Err(Trouble::Malformed),
+        right: read_form(alloc, words),
+        over: read_over(alloc, words),
+        mask: read_mask(words),
     }
 }
 
-fn read_when(line: &mut Line<'_>, value: bool) -> Result<Option<When>, Trouble> {
-    let copy = read_row(line)?;
-    Ok(Some(When { copy, value }))
-}
-
-fn read_evaluation(alloc: Global, number: u32, line: &mut Line<'_>) -> Result<Evaluation, Trouble> {
-    let form = read_form(alloc, line)?;
-    read_word(line, "over")?;
-    Ok(Evaluation {
-        line: number,
-        form,
-        over: read_subs(alloc, line)?,
+fn read_mask(words: &mut Words<'_>) -> Option<When> {
+    let word = words.word();
+    if word.is_empty() {
+        return None;
+    }
+    let value = word == "where";
+    words.are_well = words.are_well && (value || word == "unless");
+    Some(When {
+        copy: words.row(),
+        value,
     })
 }
 
-/// A copy and the array expression for it.
-fn read_copy(
-    alloc: Global,
-    number: u32,
-    line: &mut Line<'_>,
-) -> Result<(usize, Evaluation), Trouble> {
-    let copy = read_row(line)?;
-    read_word(line, "=")?;
-    Ok((copy, read_evaluation(alloc, number, line)?))
+fn read_evaluation(alloc: Global, line: u32, words: &mut Words<'_>) -> Evaluation {
+    Evaluation {
+        line,
+        form: read_form(alloc, words),
+        over: read_over(alloc, words),
+    }
 }
 
-fn read_reduce(alloc: Global, number: u32, line: &mut Line<'_>) -> Result<Instruction, Trouble> {
-    let slot = read_slot(line)?;
-    read_word(line, "=")?;
-    let reduction = reduction(line.word())?;
-    Ok(Instruction::Reduce {
-        evaluation: read_evaluation(alloc, number, line)?,
-        reduction,
+fn read_reduce(alloc: Global, line: u32, words: &mut Words<'_>) -> Instruction {
+    let slot = words.slot();
+    words.skip("=");
+    let (join, made) = read_join(words);
+    Instruction::Reduce {
+        evaluation: read_evaluation(alloc, line, words),
+        reduction: Reduction { join, made },
         slot,
-    })
-}
-
-fn read_forall_limits(
-    alloc: Global,
-    number: u32,
-    line: &mut Line<'_>,
-) -> Result<Instruction, Trouble> {
-    read_word(line, "over")?;
-    let over = read_subs(alloc, line)?;
-    read_word(line, "of")?;
-    Ok(Instruction::ForallLimits {
-        line: number,
-        over,
-        subscripts: read_flats(alloc, line)?,
-    })
-}
-
-fn read_one_to_one(
-    alloc: Global,
-    number: u32,
-    line: &mut Line<'_>,
-) -> Result<Instruction, Trouble> {
-    read_word(line, "over")?;
-    let over = read_subs(alloc, line)?;
-    read_word(line, "of")?;
-    Ok(Instruction::OneToOne {
-        line: number,
-        over,
-        left: read_flats(alloc, line)?,
-    })
+    }
 }

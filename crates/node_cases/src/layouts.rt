@@ -5,7 +5,7 @@ ghost use Rattle.hpf_base.specs.declared.limits.TheConstants.{MAX_NODES};
 ghost use Rattle.hpf_base.specs.Shape.{IsShape};
 ghost use Rattle.array_maps.specs.Maps.{AreMaps, AreNewMaps, IsArrayMap, IsMapOf, IsNewMap};
 
-use array_maps::{ArrayMap, Maps, NewMap, NewMaps};
+use array_maps::{ArrayMap, Maps, NewMap, NewMaps, Redistribution};
 use hpf_base::{OutOfMemory, Shape};
 use mappings::Mapping;
 use node_code::NewMapping;
@@ -51,16 +51,21 @@ pub fn moves_of(alloc: Global, maps: &Maps, nodes: u32) -> Result<Moves, OutOfMe
 }
 
 /// Those of these redistributions.
-fn all_moves(alloc: Global, maps: &Maps, all: &[NewMaps], nodes: u32) -> Result<Moves, OutOfMemory>
+fn all_moves(
+    alloc: Global,
+    maps: &Maps,
+    all: &[Redistribution],
+    nodes: u32,
+) -> Result<Moves, OutOfMemory>
     requires some { 1 ≤ nodes }
     requires few { nodes ≤ MAX_NODES }
     requires maps { AreMaps nodes maps.now }
-    requires all { All (AreNewMaps nodes maps.now.arrays) all.now }
+    requires all { All (λ r. AreNewMaps nodes maps.now.arrays r.maps) all.now }
 {
     let mut moves = VecDeque::new(alloc);
     let mut tables = Vec::new(alloc);
-    for new in all {
-        moves.push_back(new_mappings(alloc, maps, new, nodes, &mut tables)?)?;
+    for one in all {
+        moves.push_back(new_mappings(alloc, maps, &one.maps, nodes, &mut tables)?)?;
     }
     Ok(Moves { moves, tables })
 }

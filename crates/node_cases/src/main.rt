@@ -1,49 +1,50 @@
 //! Tries node code on nodes: code that is written by hand, whose outcome is known.
 //!
 //! Comes in: cases on standard input. Goes out: the same lines, and after each case what its code comes to on the first of its grids, and
-//! whether each node of each grid comes to the same. What holds in between: `case` begins a case and `run` ends it; these lines say what it is.
+//! whether the nodes of each grid come to the same. What holds in between: `case` begins a case and `run` ends it; these lines say what it is.
 //!
 //! - `text`: an HPF program, written as `case_texts` says. Its arrays, with their values and their mappings, are those of the code: the rows A,
 //!   B and so on in the order of their declaration.
 //! - `copies`: how many further rows there are, for copies; they have the next letters.
 //! - `slots`: the values of the slots at the start.
 //! - `grids`: the grids of nodes on which the code runs, as `4` or `2x2`; without such a line 1, 2, 3, 4 and 64 nodes.
-//! - A line that begins with a number is the instruction with that place, written as `instructions` says.
-//! - `show`, a grid, and words: `rows` and letters for what each node holds of these rows, `slots` for the last slots of node 0, `letters` for
+//! - A line that begins with a number is the instruction with that place, written as `instructions` says. Places ascend.
+//! - `show`, a grid, and words: letters for what each node holds of these rows, `slots` for the last slots of node 0, `letters` for
 //!   each letter, with its phase, source, target, number and values.
 //!
-//! Other lines are remarks.
+//! Other lines are remarks. A case has no answer where it isn't written so, its program is refused, its code doesn't fit the rows, or memory
+//! is wanting.
 #![tactic(auto)]
 
 mod answer;
-mod case;
-mod compare;
-mod declared;
+mod arrays;
 mod driver;
 mod expressions;
+mod fitting;
 mod instructions;
 mod layouts;
-mod line;
+mod opening;
 mod outcome;
 mod show;
-mod trouble;
-mod world;
+mod words;
 
 use crate::answer::answer_to;
-use crate::case::Case;
 use std::io;
 use std::io::{BufRead, BufReader};
 
 fn main(rt: HostRuntime) -> io::Result<()> {
     let alloc = rt.alloc();
-    let mut open = Case::new(alloc);
+    let mut case = Vec::new(alloc);
     for line in BufReader::new(alloc, rt.reader())?.lines(alloc) {
         let line = line?;
         println!(rt; "{line}")?;
         if line.as_str() == "run" {
-            print!(rt; "{}", answer_to(alloc, &open)?)?;
+            print!(rt; "{}", answer_to(alloc, &case)?)?;
         } else {
-            open.go_on(alloc, line.as_str())?;
+            if let Some(("case", _)) = line.as_str().split_once(' ') {
+                case = Vec::new(alloc);
+            }
+            case.push(line)?;
         }
     }
     Ok(())

@@ -1,91 +1,122 @@
 //! What the nodes of a run come to together.
 
-use crate::show::write_status;
+use crate::show::{write_end, write_numbers, write_status};
 use node_machine::Node;
-use owner_tables::{Owners, Spot};
+use owner_tables::Spot;
 use std::alloc::{AllocError, Global};
+use std::fmt::Write;
 
-/// How the run ends and the slots, as node 0 has them, what it printed, and whole rows, in which each element is its least owner's.
-#[derive(Drop)]
-pub struct Outcome {
-    pub end: String,
-    pub printed: Vec<u8>,
-    pub slots: Vec<i64>,
-    pub rows: Vec<Vec<i64>>,
-}
-
-impl Outcome {
-    /// That of these nodes; of none, where there are no nodes.
-    pub fn of(alloc: Global, nodes: &[Node]) -> Result<Option<Outcome>, AllocError> {
-        let Some(first) = nodes.first() else {
-            return Ok(None);
-        };
-        let mut end = String::new(alloc);
-        write_status(&mut end, first.status())?;
-        let mut rows = Vec::new(alloc);
+/// What the nodes come to, in lines, which are the same on each grid: what node 0 printed and how its run ends, the slots, and each row whole.
+/// Where nodes differ in what they have in common, or a node's piece isn't what it owns of the whole row, the lines say so.
+pub fn outcome_of(alloc: Global, nodes: &[Node]) -> Result<String, AllocError> {
+    let mut out = String::new(alloc);
+    write_end(&mut out, nodes)?;
+    if let Some(first) = nodes.first() {
+        write_ends(alloc, &mut out, nodes, first)?;
         for row in 0..first.owners().rows() {
-            rows.push(whole_row(alloc, nodes, first.owners(), row)?)?;
+            write_row(alloc, &mut out, nodes, row, first.owners().size(row))?;
         }
-        Ok(Some(Outcome {
-            end,
-            printed: Vec::from_slice(alloc, first.printed())?,
-            slots: Vec::from_slice(alloc, first.slots())?,
-            rows,
-        }))
     }
+    Ok(out)
 }
 
-/// A row, whose elements lie on the nodes as this table says. A node has its elements in their order.
-fn whole_row(
+/// Writes how a node's run ends and its slots, and those of each node that differs in them.
+fn write_ends(
     alloc: Global,
+    out: &mut String,
     nodes: &[Node],
-    owners: &Owners,
+    first: &Node,
+) -> Result<(), AllocError> {
+    let end = end_of(alloc, first)?;
+    writeln!(out, "  {end}")?;
+    for (id, node) in nodes.iter().enumerate() {
+        let other = end_of(alloc, node)?;
+        if other.as_str() != end.as_str() {
+            writeln!(out, "  but node {id} {other}")?;
+        }
+    }
+    Ok(())
+}
+
+fn end_of(alloc: Global, node: &Node) -> Result<String, AllocError> {
+    let mut end = String::new(alloc);
+    write_status(&mut end, node.status())?;
+    end.push_str(", slots")?;
+    write_numbers(&mut end, node.slots())?;
+    Ok(end)
+}
+
+/// Writes a row of so many elements, a comma before each.
+fn write_row(
+    alloc: Global,
+    out: &mut String,
+    nodes: &[Node],
     row: usize,
-) -> Result<Vec<i64>, AllocError> {
-    let mut before = zeros(alloc, nodes.len())?;
-    let mut whole = Vec::new(alloc);
-    for at in 0..owners.size(row) {
-        let those = owners.owners(Spot { row, at });
-        whole.push(least_owners(nodes, those, row, &before))?;
-        count(&mut before, those);
+    size: usize,
+) -> Result<(), AllocError> {
+    let mut before = Vec::new(alloc);
+    for _ in 0..nodes.len() {
+        before.push(0)?;
     }
-    Ok(whole)
+    write!(out, "  row {row}")?;
+    for at in 0..size {
+        write_element(out, nodes, Spot { row, at }, &mut before)?;
+    }
+    write_lengths(out, nodes, row, size, &before)?;
+    out.push_str("\n")
 }
 
-/// The element that the least of these owners has after so many.
-fn least_owners(nodes: &[Node], owners: &[u32], row: usize, before: &[usize]) -> i64 {
-    match owners.first() {
-        Some(owner) => {
-            let id = *owner as usize;
-            match (nodes.get(id), before.get(id)) {
-                (Some(node), Some(before)) => number_at(node.piece(row), *before),
-                _ => 0,
-            }
-        }
-        None => 0,
-    }
-}
-
-/// Each of these nodes has one more.
-fn count(before: &mut [usize], owners: &[u32]) {
-    for owner in owners {
-        let id = *owner as usize;
-        if id < before.len() {
+/// Writes the value that the owners of an element have, once if it is the same. Each has its elements in their order, and before this one so many.
+fn write_element(
+    out: &mut String,
+    nodes: &[Node],
+    spot: Spot,
+    before: &mut [usize],
+) -> Result<(), AllocError> {
+    out.push_str(",")?;
+    let mut last = None;
+    for (id, node) in nodes.iter().enumerate() {
+        if id < before.len() && owns(node, id, spot) {
+            let value = number_at(node.piece(spot.row), before[id]);
             before[id] = before[id].wrapping_add(1);
+            if last != Some(value) {
+                write!(out, " {value}")?;
+            }
+            last = Some(value);
         }
     }
+    Ok(())
 }
 
-fn zeros(alloc: Global, count: usize) -> Result<Vec<usize>, AllocError> {
-    let mut all = Vec::new(alloc);
-    for _ in 0..count {
-        all.push(0)?;
+/// Whether the node of this number owns an element, by its own table.
+fn owns(node: &Node, id: usize, spot: Spot) -> bool {
+    let owners = node.owners();
+    spot.at < owners.size(spot.row) && is_among(owners.owners(spot), id)
+}
+
+fn is_among(owners: &[u32], id: usize) -> bool {
+    owners.iter().any(|owner| *owner as usize == id)
+}
+
+/// Writes which nodes have another size of a row, or a piece of another length than so many elements.
+fn write_lengths(
+    out: &mut String,
+    nodes: &[Node],
+    row: usize,
+    size: usize,
+    counts: &[usize],
+) -> Result<(), AllocError> {
+    for (id, node) in nodes.iter().enumerate() {
+        let length = node.piece(row).len();
+        if counts.get(id) != Some(&length) || node.owners().size(row) != size {
+            write!(out, ", but node {id} has {length} elements")?;
+        }
     }
-    Ok(all)
+    Ok(())
 }
 
 /// The number at a place, and 0 where there is none.
-pub fn number_at(numbers: &[i64], at: usize) -> i64 {
+fn number_at(numbers: &[i64], at: usize) -> i64 {
     match numbers.get(at) {
         Some(number) => *number,
         None => 0,

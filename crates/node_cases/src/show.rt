@@ -1,12 +1,13 @@
 //! What cases ask to see, in lines.
 
-use crate::driver::{Left, Nodes, Sent};
-use crate::expressions::row;
+use crate::driver::{Run, Sent};
+use crate::words::row_of;
+use case_texts::write_text;
 use node_machine::Node;
 use slot_values::{Fault, Status};
 use std::alloc::AllocError;
 use std::fmt::Write;
-use term_values::{Interference, Place};
+use term_values::Place;
 
 /// Writes numbers, a blank before each.
 pub fn write_numbers(out: &mut String, numbers: &[i64]) -> Result<(), AllocError> {
@@ -16,12 +17,19 @@ pub fn write_numbers(out: &mut String, numbers: &[i64]) -> Result<(), AllocError
     Ok(())
 }
 
-/// Writes the letter of a row.
-pub fn write_row_name(out: &mut String, row: usize) -> Result<(), AllocError> {
-    match u8::try_from(row) {
-        Ok(row) if row < 26 => out.push(char::from(b'A' + row)),
-        _ => out.push('?'),
+/// Writes what node 0 printed, and how its run ends.
+pub fn write_end(out: &mut String, nodes: &[Node]) -> Result<(), AllocError> {
+    if let Some(first) = nodes.first() {
+        if !first.printed().is_empty() {
+            out.push_str("  printed ")?;
+            write_text(out, first.printed())?;
+            out.push_str("\n")?;
+        }
+        out.push_str("  ")?;
+        write_status(out, first.status())?;
+        out.push_str("\n")?;
     }
+    Ok(())
 }
 
 /// Writes how a node's run ends.
@@ -37,55 +45,21 @@ fn write_fault(out: &mut String, fault: &Fault) -> Result<(), AllocError> {
     write!(out, "line {}: {:?}", fault.line, fault.cause.kind)?;
     match &fault.cause.at {
         Place::Nowhere => Ok(()),
-        Place::AtTuple(tuple) => write_tuple(out, tuple.as_slice()),
-        Place::Between(pair) => write_interference(out, pair),
-    }
-}
-
-fn write_tuple(out: &mut String, tuple: &[i64]) -> Result<(), AllocError> {
-    out.push_str(" at")?;
-    write_numbers(out, tuple)
-}
-
-/// Writes the tuples of two iterations, and the object by the place of its name and its subscripts.
-fn write_interference(out: &mut String, pair: &Interference) -> Result<(), AllocError> {
-    out.push_str(" between")?;
-    write_numbers(out, pair.earlier.as_slice())?;
-    out.push_str(" and")?;
-    write_numbers(out, pair.later.as_slice())?;
-    write!(out, " on {}", pair.object.name)?;
-    match &pair.object.subscripts {
-        Some(subscripts) => write_numbers(out, subscripts.as_slice()),
-        None => Ok(()),
-    }
-}
-
-/// Writes how a run on nodes was left, if not all of them ended.
-pub fn write_left(out: &mut String, left: Left) -> Result<(), AllocError> {
-    match left {
-        Left::Ended => Ok(()),
-        Left::Stuck => out.push_str("stuck, "),
-        Left::Astray => out.push_str("a letter went astray, "),
-        Left::Long => out.push_str("too long, "),
+        Place::AtTuple(tuple) => {
+            out.push_str(" at")?;
+            write_numbers(out, tuple.as_slice())
+        }
+        Place::Between(_) => out.push_str(" between iterations"),
     }
 }
 
 /// Writes what is asked for by the words of a line.
-pub fn write_shown(
-    out: &mut String,
-    grid: &str,
-    words: &str,
-    nodes: &Nodes,
-) -> Result<(), AllocError> {
+pub fn write_shown(out: &mut String, grid: &str, words: &str, run: &Run) -> Result<(), AllocError> {
     for word in words.split(' ') {
         match word {
-            "slots" => write_slots(out, grid, &nodes.nodes)?,
-            "letters" => write_letters(out, grid, &nodes.letters)?,
-            _ => {
-                if let Some(row) = row(word) {
-                    write_pieces(out, grid, row, &nodes.nodes)?;
-                }
-            }
+            "slots" => write_slots(out, grid, &run.nodes)?,
+            "letters" => write_letters(out, grid, &run.letters)?,
+            _ => write_pieces(out, grid, word, &run.nodes)?,
         }
     }
     Ok(())
@@ -101,18 +75,19 @@ fn write_slots(out: &mut String, grid: &str, nodes: &[Node]) -> Result<(), Alloc
     Ok(())
 }
 
-/// Writes what each node holds of a row.
+/// Writes what each node holds of a row, by its letter.
 fn write_pieces(
     out: &mut String,
     grid: &str,
-    row: usize,
+    letter: &str,
     nodes: &[Node],
 ) -> Result<(), AllocError> {
-    for (id, node) in nodes.iter().enumerate() {
-        write!(out, "  {grid}: node {id} ")?;
-        write_row_name(out, row)?;
-        write_numbers(out, node.piece(row))?;
-        out.push_str("\n")?;
+    if let Some(row) = row_of(letter) {
+        for (id, node) in nodes.iter().enumerate() {
+            write!(out, "  {grid}: node {id} {letter}")?;
+            write_numbers(out, node.piece(row))?;
+            out.push_str("\n")?;
+        }
     }
     Ok(())
 }

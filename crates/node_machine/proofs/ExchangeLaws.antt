@@ -21,7 +21,8 @@ use Rattle.part_steps.proofs.Instructions.{par-is, reduce-is}
 use Rattle.part_steps.specs.InstructionExchange.{HasLists, IsExchangeOf}
 use Rattle.part_steps.specs.InstructionParts.{instruction_part}
 use Rattle.node_machine.specs.Exchanges.{IsExchangeBy, owners_of, part_on}
-use Rattle.node_machine.specs.Parts.{IsParallel, OpensPart}
+use Rattle.node_machine.specs.Parts.{OpensPart}
+use Rattle.part_steps.specs.InstructionParts.{IsParallel}
 use Rattle.node_machine.specs.Reductions.{IsReduced}
 
 -- of parts that are one

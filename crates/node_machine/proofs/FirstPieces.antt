@@ -4,7 +4,7 @@ use Rattle.std.proofs.lemmas.List.{take_all, take_more}
 use Rattle.storage.specs.Storage.{Storage}
 use Rattle.machine_steps.specs.Layout.{Layout, count_passing, owned_by, owned_in, pieces, size_of, sizes}
 use Rattle.owner_tables.proofs.Ranges.{values-replicate}
-use Rattle.node_machine.specs.Openings.{start_rows}
+use Rattle.node_program.specs.Openings.{start_rows}
 
 module _ (id : ℕ) where
   abbrev pub first_pieces : List Layout → List ℤ → Storage

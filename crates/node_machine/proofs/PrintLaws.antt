@@ -1,12 +1,12 @@
 -- Items of a PRINT by their places, and their bytes on node 0.
-use Rattle.std.proofs.Common.{◌≡◌, ℕ, ℤ, zero, suc, ◌<◌, ◌≤◌, ◌==◌, Bool, true, false, if◌then◌else◌, eqb-true, List, [], ◌∷◌, ◌++◌, map, length, get_or, Some, None, refl, sym, ◌∙◌, ap, arith}
+use Rattle.std.proofs.Common.{◌≡◌, ℕ, zero, suc, ◌<◌, ◌≤◌, ◌==◌, Bool, true, false, if◌then◌else◌, eqb-true, List, [], ◌∷◌, ◌++◌, map, length, get_or, Some, None, refl, sym, ◌∙◌, ap, arith}
 use Rattle.std.specs.List.{slice_get}
 use Rattle.expression_rules.specs.declared.dims.Dim.{Dim}
 use Rattle.machine_steps.specs.Node.{at_root}
 use Rattle.node_code.specs.Instructions.{Instruction, item_of, items_of}
 use Rattle.node_code.specs.Texts.{print_item}
 use Rattle.node_code.specs.declared.instruction.PrintItem.{PrintItem}
-use Rattle.node_machine.specs.Prints.{printed}
+use Rattle.node_program.specs.PrintedLines.{printed}
 use Rattle.node_machine.specs.Steps.{IsItemStep, TextDoes}
 use Rattle.node_machine.specs.declared.step.Step.{Step}
 use Rattle.node_machine.specs.declared.step.Step.TheVariants as step

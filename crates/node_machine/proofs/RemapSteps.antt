@@ -16,7 +16,7 @@ use Rattle.node_code.specs.ProgramText.{Text}
 use Rattle.node_code.specs.Texts.{new_mapping}
 use Rattle.node_code.specs.declared.instruction.NewMapping.{NewMapping as HeldMapping}
 use Rattle.remap_steps.specs.Redistributions.{Redistribution, all_rounds, moved_pieces, value_after}
-use Rattle.node_machine.specs.Programs.{mappings_of}
+use Rattle.node_program.specs.Programs.{mappings_of}
 use Rattle.node_machine.specs.Remaps.{IsRemap, remap_ended, round_next, round_opened}
 
 module _ (r : Redistribution) (a : Node Text Fault) where
@@ -32,26 +32,6 @@ module _ (i : Instr Fault) (a : Node Text Fault) (r : Redistribution) (m : IsRem
 
   pub remap-done : round_next r (record a { round = suc a.round }) ≡ done_by fault_values a.nodes i a
   remap-done = ap (λ x. round_next x (record a { round = suc a.round })) m.moving ∙ ap (λ x. done_by fault_values a.nodes x a) (sym m.is)
-
--- ---- new mappings by their numbers
-
--- the first of them, and then the others
-pub remapped-first : (row : ℕ) (mapping : Option Mapping) (rest : List Remapping) (layouts : List Layout)
-    → remapped rest (remapped (remapping_by row mapping []) layouts) ≡ remapped (remapping_by row mapping rest) layouts
-remapped-first row None rest layouts = refl
-remapped-first row (Some mapping) rest layouts = refl
-
--- those that are left, without the first of them
-pub remapped-next : (tables : List TableView) (new : List HeldMapping) (k : ℕ) (z : HeldMapping) (before after : List Layout) → k < length new
-    → after ≡ remapped (remappings (mappings_of tables) (new_mapping (get_or new k z) ∷ [])) before
-    → remapped (remappings (mappings_of tables) (map new_mapping (drop (k + 1) new))) after ≡ remapped (remappings (mappings_of tables) (map new_mapping (drop k new))) before
-remapped-next tables new k z before after lt set =
-    let maps = mappings_of tables in
-    let m = get_or new k z in
-    let rest = remappings maps (map new_mapping (drop (k + 1) new)) in
-    ap (remapped rest) set
-    ∙ remapped-first m.array (slice_get maps m.map) rest before
-    ∙ ap (λ xs. remapped (remappings maps (map new_mapping xs)) before) (sym (drop_more new k z lt))
 
 -- ---- how many rows there are
 

@@ -1,4 +1,3 @@
-pub mod Codes
 pub mod Copies
 pub mod Exchanges
 pub mod Fetches
@@ -7,7 +6,6 @@ pub mod Openings
 pub mod Parts
 pub mod Post
 pub mod Prints
-pub mod Programs
 pub mod Reductions
 pub mod Remaps
 pub mod Results

@@ -1,5 +1,5 @@
 -- No public clause cites this file. Parallel statements on a node.
-use Rattle.std.specs.Prelude.{◌≡◌, ◌<◌, ℕ, ℤ, All, List, Option, Some, length}
+use Rattle.std.specs.Prelude.{◌≡◌, ◌<◌, ℕ, ℤ, All, List, Option, Some}
 use Rattle.std.specs.Arc.{arc_value}
 use Rattle.storage.specs.Storage.{Spot}
 use Rattle.array_meaning.specs.Faults.{Fault}
@@ -13,7 +13,6 @@ use Rattle.node_code.specs.Instructions.{ArrayTable, Instruction, meaning_of}
 use Rattle.node_code.specs.Parallel.{assigned_spot, assignment_tuples, copy_spot, evaluation_tuples, forall_mask_tuples, forall_spot, forall_tuples}
 use Rattle.node_code.specs.ProgramText.{Text, text_meaning}
 use Rattle.node_code.specs.Texts.{assignment, evaluation, instruction}
-use Rattle.tuple_values.specs.Statements.{IsStatement, Statement}
 use Rattle.slot_values.specs.KeptFaults.{kepts}
 use Rattle.part_steps.specs.Stores.{stored}
 use Rattle.part_steps.specs.declared.parallel.ParValues.{ParValues}
@@ -43,13 +42,6 @@ pub record IsPar (i : Instr Fault) (p : ParStep) : Type 0 where
   pub is : i ≡ par_instr p.shapes.now.items p.statement
   pub code : IsCode i (instruction p.i.now)
 
--- it is this parallel statement, by these slots
-pub record IsParallel (i : Instr Fault) (slots : List ℤ) (w : Statement) : Type 0 where
-  pub tuples : Tuples Fault
-  pub left : List ℤ → ℕ → Option Spot
-  pub is : i ≡ Par tuples left
-  pub statement : IsStatement w slots tuples left
-
 -- what opens the phase of a part on a node
 abbrev pub IsOpening : Part → Node Text Fault → Opening → Type 0
 IsOpening part a o = settled (record a { received = no_values a.nodes }) o.outbox.items o.inbox.items ≡ part_opened a.nodes part a
@@ -65,7 +57,6 @@ pub record IsPhase (a : Node Text Fault) (x : PartPhase) : Type 0 where
       ≡ begun_by fault_values a.nodes (instr_at text_meaning a.code a.control.at) a
   pub targets : All (λ parcel. parcel.to < a.nodes) x.opening.outbox.items
   pub sources : All (λ source. source < a.nodes) x.opening.inbox.items
-  pub room : length x.received.items ≡ a.nodes
   pub exchange : IsExchangeHere a (arc_value x.found.exchange)
   pub lists : HasLists a.nodes (arc_value x.found.exchange)
 

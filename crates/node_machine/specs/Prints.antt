@@ -1,28 +1,19 @@
 -- No public clause cites this file. Steps of a PRINT.
-use Rattle.std.specs.Prelude.{◌≡◌, ℕ, ℤ, List, [], ◌∷◌, ◌++◌, drop, map, Option, Some, None}
+use Rattle.std.specs.Prelude.{◌≡◌, ℕ, ℤ, List, ◌∷◌, Option, Some, None}
 use Rattle.std.specs.List.{slice_get}
 use Rattle.std.specs.Fmt.{signed_decimal}
 use Rattle.storage.specs.Storage.{Spot}
-use Rattle.expression_rules.specs.declared.dims.Dim.{Dim}
 use Rattle.array_meaning.specs.Execution.{decimals}
 use Rattle.array_meaning.specs.Faults.{Fault}
 use Rattle.machine_steps.specs.Instr.{Instr, Item, Elements, Print}
 use Rattle.machine_steps.specs.Instr as machine
 use Rattle.node_code.specs.Flat.{slots_value}
-use Rattle.node_code.specs.Instructions.{PrintSection, item_of, items_of}
-use Rattle.node_code.specs.Texts.{flat, print_item, subs}
-use Rattle.node_code.specs.declared.instruction.PrintItem.{PrintItem}
+use Rattle.node_code.specs.Instructions.{PrintSection, item_of}
+use Rattle.node_code.specs.Texts.{flat, subs}
+use Rattle.node_program.specs.PrintedLines.{line_of}
 use Rattle.node_machine.specs.declared.prints.PrintedText.{PrintedText}
 use Rattle.node_machine.specs.declared.prints.PrintedText.TheVariants.{Bytes, Number}
 use Rattle.node_machine.specs.declared.sections.PrintedSection.{PrintedSection}
-
--- the line of these bytes
-abbrev pub line_of : List ℕ → List ℕ
-line_of bytes = drop 1 bytes ++ 10 ∷ []
-
--- a line of these items is printed
-abbrev pub printed : List (List Dim) → List PrintItem → Instr Fault
-printed shapes items = Print (items_of shapes (map print_item items)) line_of
 
 -- after so many steps the instruction prints this item
 pub record PrintsItem (i : Instr Fault) (k : ℕ) (item : Item) : Type 0 where

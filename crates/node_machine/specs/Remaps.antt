@@ -1,5 +1,7 @@
 -- No public clause cites this file. New mappings on a node.
-use Rattle.std.specs.Prelude.{◌≡◌, List, length, map, nat_lt, if◌then◌else◌}
+use Rattle.std.specs.Prelude.{◌≡◌, ◌==◌, ℕ, true, List, length, map, nat_lt, if◌then◌else◌}
+use Rattle.std.specs.List.{list_all}
+use Rattle.hpf_base.specs.declared.index.Shape.{Shape}
 use Rattle.array_meaning.specs.Faults.{Fault}
 use Rattle.machine_steps.specs.Instr.{Instr, Remap, Remapping}
 use Rattle.machine_steps.specs.Machine.{on, remapped}
@@ -10,18 +12,25 @@ use Rattle.node_code.specs.ProgramText.{Text}
 use Rattle.node_code.specs.Texts.{new_mapping}
 use Rattle.owner_tables.specs.Views.{OwnersView}
 use Rattle.remap_steps.specs.Redistributions.{Redistribution, all_rounds, moved_pieces, round_inbox, round_outbox}
-use Rattle.node_machine.specs.Programs.{mappings_of}
+use Rattle.node_program.specs.Fits.{fits_row}
+use Rattle.node_program.specs.Programs.{mappings_of}
 use Rattle.node_machine.specs.declared.remaps.NewMappings.{NewMappings}
 
 -- the new mappings by the tables of their numbers
 abbrev pub remappings_of : NewMappings → List Remapping
 remappings_of m = remappings (mappings_of m.tables.now.items) (map new_mapping m.new.now.items)
 
+-- rows of these shapes on so many nodes fit the tables
+pub record MappingsFit (count : ℕ) (rows : List Shape) (m : NewMappings) : Type 0 where
+  pub nodes : list_all (λ t. t.nodes == count) m.tables.now.items ≡ true
+  pub shapes : list_all (fits_row m.tables.now.items rows) (map new_mapping m.new.now.items) ≡ true
+
 -- the instruction gives new mappings, by which the rows lie so
 pub record IsAfter (i : Instr Fault) (a : Node Text Fault) (after : OwnersView) : Type 0 where
   pub new : List Remapping
   pub is : i ≡ Remap new (rounds_on a.nodes new)
   pub layouts : after.layouts ≡ remapped new a.layouts
+  pub nodes : after.nodes ≡ a.nodes
 
 -- it gives new mappings, and this is the redistribution that they need
 pub record IsRemap (i : Instr Fault) (a : Node Text Fault) (r : Redistribution) : Type 0 where

@@ -1,5 +1,5 @@
--- No public clause cites this file. Elements that are fetched and stored, and results of evaluations.
-use Rattle.std.specs.Prelude.{◌≡◌, ℤ, List, [], Result, Ok, Err}
+-- No public clause cites this file. Elements that are fetched and stored.
+use Rattle.std.specs.Prelude.{◌≡◌, ℤ, List, [], Result}
 use Rattle.storage.specs.Storage.{Spot}
 use Rattle.array_meaning.specs.Faults.{Fault}
 use Rattle.machine_steps.specs.Instr.{Instr, Fetch, Store}
@@ -7,22 +7,11 @@ use Rattle.node_code.specs.Flat.{flat_value}
 use Rattle.node_code.specs.Instructions.{element_in}
 use Rattle.node_code.specs.Parallel.{at_line}
 use Rattle.node_code.specs.Texts.{flat, flats_of}
-use Rattle.storage.specs.declared.spot.Spot.{Spot as HeldSpot}
-use Rattle.storage.specs.Spots.{spot_of}
-use Rattle.term_values.specs.declared.faults.Fault.{Fault as HeldFault}
-use Rattle.term_values.specs.Faults.{fault}
+use Rattle.node_program.specs.Results.{spot_result, value_result}
 use Rattle.node_machine.specs.declared.elements.Fetching.{Fetching}
 use Rattle.node_machine.specs.declared.elements.FetchedElement.{FetchedElement}
 use Rattle.node_machine.specs.declared.elements.Storing.{Storing}
 use Rattle.node_machine.specs.declared.elements.StoredElement.{StoredElement}
-
-abbrev pub spot_result : Result HeldSpot HeldFault → Result Spot Fault
-spot_result (Ok spot) = Ok (spot_of spot)
-spot_result (Err f) = Err (fault f)
-
-abbrev pub value_result : Result ℤ HeldFault → Result ℤ Fault
-value_result (Ok v) = Ok v
-value_result (Err f) = Err (fault f)
 
 -- the instruction is this fetch
 abbrev pub IsFetching : Instr Fault → Fetching → Type 0

@@ -1,6 +1,8 @@
 -- No public clause cites this file. What the instruction at a node's place has it do.
-use Rattle.std.specs.Prelude.{◌≡◌, ◌<◌, ◌≤◌, ◌^◌, ℕ, pos, List, Some, true, ⊤}
+use Rattle.std.specs.Prelude.{◌≡◌, ◌<◌, ◌≤◌, ◌^◌, ℕ, pos, List, Some, length, true, ⊤}
 use Rattle.std.specs.List.{slice_get}
+use Rattle.hpf_base.specs.declared.index.Shape.{Shape}
+use Rattle.hpf_base.specs.declared.limits.TheConstants.{MAX_RANK}
 use Rattle.array_meaning.specs.Faults.{Fault}
 use Rattle.machine_steps.specs.Instr.{Instr, Local}
 use Rattle.machine_steps.specs.Instr as machine
@@ -18,7 +20,7 @@ use Rattle.slot_values.specs.LocalInstructions.{is_local}
 use Rattle.node_machine.specs.Parts.{IsPar}
 use Rattle.node_machine.specs.Prints.{IsPrintedSection, IsPrintedText, PrintsLine, text_of}
 use Rattle.node_machine.specs.Reductions.{IsReducing}
-use Rattle.node_machine.specs.Remaps.{remappings_of}
+use Rattle.node_machine.specs.Remaps.{MappingsFit, remappings_of}
 use Rattle.node_machine.specs.Results.{IsFetching, IsStoring}
 use Rattle.node_machine.specs.Trees.{IsReduceTree, IsReduceVerdict}
 use Rattle.node_machine.specs.declared.step.Step.{Step}
@@ -77,6 +79,13 @@ abbrev pub IsStepAt : List Text → (at nodes substep : ℕ) → Step → Type 0
 IsStepAt code at nodes k step.End = instr_at text_meaning code at ≡ Local (finish text_meaning)
 IsStepAt code at nodes k step.Local = IsLocalAt code at
 IsStepAt code at nodes k s = Does (instr_at text_meaning code at) nodes k s
+
+-- what is done fits rows of these shapes on so many nodes: a space has 7 dimensions at most, tables are for as many nodes, and rows have
+-- the shapes of those by which they are mapped anew
+abbrev pub StepFits : ℕ → List Shape → Step → Type 0
+StepFits nodes rows (step.MakeCopy p) = length (evaluation p.evaluation.now).over ≤ MAX_RANK
+StepFits nodes rows (step.Remap new) = MappingsFit nodes rows new
+StepFits nodes rows s = ⊤
 
 -- a place with an instruction
 abbrev pub IsInCode : ℕ → Step → Type 0

@@ -10,7 +10,8 @@ use Rattle.slot_values.specs.Controls.{control_of}
 use Rattle.slot_values.specs.KeptFaults.{kepts}
 use Rattle.part_steps.specs.KeptExchanges.{AreKeptExchanges}
 use Rattle.node_machine.specs.declared.node.Node.TheInside.{Inside}
-use Rattle.node_machine.specs.Programs.{code_of}
+use Rattle.node_program.specs.Fits.{FitsRows}
+use Rattle.node_program.specs.Programs.{code_of}
 use Rattle.node_machine.specs.declared.stage.Stage.{Stage as HeldStage}
 use Rattle.node_machine.specs.declared.stage.Stage.TheVariants as held
 
@@ -55,4 +56,5 @@ pub record IsNode (n : Inside) : Type 0 where
   pub pieces : length n.pieces.items ≡ length n.owners.layouts
   pub next_to : length n.post.next_to ≡ (arc_value n.program).nodes
   pub next_from : length n.post.next_from ≡ (arc_value n.program).nodes
+  pub fits : FitsRows (arc_value n.program) n.owners.layouts
   pub exchanges : AreKeptExchanges (code_of (arc_value n.program)) n.id n.exchanges

@@ -13,7 +13,7 @@ ghost use Rattle.node_machine.specs.Copies.{IsMade};
 ghost use Rattle.node_machine.specs.Steps.{instr_here};
 
 use crate::node::Node;
-use hpf_base::{MAX_RANK, OutOfMemory};
+use hpf_base::OutOfMemory;
 use node_code::Evaluation;
 use owner_tables::{OwnerTable, Row};
 use slot_values::{copy_extents, selections_at};
@@ -37,7 +37,8 @@ pub(crate) struct MadeCopy {
 impl Node {
     /// The copy that the instruction at the node's place makes.
     pub(crate) fn made(&self, p: Copying<'_>) -> Result<MadeCopy, OutOfMemory>
-        requires { instr_here self.now ≡ MakeCopy p.copy (λ layouts slots. copy_layout self.now.nodes (evaluation_extents (evaluation p.evaluation.now) slots)) (λ slots. pos 0) }
+        requires is { instr_here self.now ≡ MakeCopy p.copy (λ layouts slots. copy_layout self.now.nodes (evaluation_extents (evaluation p.evaluation.now) slots)) (λ slots. pos 0) }
+        requires rank { length (evaluation p.evaluation.now).over ≤ MAX_RANK }
         ensures { IfOk result (λ m. IsMade (instr_here self.now) self.now.nodes self.now.control.slots m) }
     {
         let extents = self.made_extents(p.evaluation)?;
@@ -47,8 +48,9 @@ impl Node {
         })
     }
 
-    /// The extents of a copy of the values of an array expression. One of more than seven dimensions is answered as want of memory.
+    /// The extents of a copy of the values of an array expression.
     fn made_extents(&self, p: &Evaluation) -> Result<Vec<u32>, OutOfMemory>
+        requires { length (evaluation p.now).over ≤ MAX_RANK }
         ensures value { IfOk result (λ v. v.items ≡ copy_extents (evaluation_extents (evaluation p.now) self.now.control.slots)) }
         ensures rank { IfOk result (λ v. length v.items ≤ MAX_RANK) }
         ensures each { IfOk result (λ v. All (λ extent. extent ≤ MAX_ELEMENTS) v.items) }
@@ -56,30 +58,26 @@ impl Node {
     {
         let over = selections_at(self.alloc, &self.control.slots, &[], &p.over)?;
         let space = extents(self.alloc, &over)?;
-        if space.len() > MAX_RANK {
-            return Err(OutOfMemory);
-        }
-        copy_extents(self.alloc, &space)
+        let made = copy_extents(self.alloc, &space)?;
+        Ok(made)
     }
 
-    /// Puts a copy that has these extents, with 0 everywhere, into a row. For want of memory nothing changes.
-    pub(crate) fn put_copy(&mut self, copy: usize, extents: &[u32]) -> Result<(), OutOfMemory>
+    /// Puts the copy that the instruction at the node's place makes, with 0 everywhere, into its row. For want of memory nothing changes.
+    pub(crate) fn put_copy(&mut self, made: MadeCopy) -> Result<(), OutOfMemory>
         requires in_code { self.old.control.at < 2 ^ 63 }
-        requires rank { length extents.now ≤ MAX_RANK }
-        requires each { All (λ extent. extent ≤ MAX_ELEMENTS) extents.now }
-        requires size { product extents.now ≤ MAX_ELEMENTS }
-        ensures ok { OnOk result (let layout = layout_of self.old.nodes extents.now in self.new ≡ record self.old {
+        requires made { IsMade (instr_here self.old) self.old.nodes self.old.control.slots made }
+        ensures ok { OnOk result (let layout = layout_of self.old.nodes made.extents.items in self.new ≡ record self.old {
           control = on self.old.control;
           substep = 0;
-          pieces = slice_set self.old.pieces copy (piece (owned_by layout) self.old.id (replicate (size_of layout) (pos 0)));
-          layouts = slice_set self.old.layouts copy layout;
+          pieces = slice_set self.old.pieces made.copy (piece (owned_by layout) self.old.id (replicate (size_of layout) (pos 0)));
+          layouts = slice_set self.old.layouts made.copy layout;
         }) }
         ensures err { OnErr result (self.new ≡ self.old) }
     {
-        let table = OwnerTable::of_copy(self.alloc, self.owners.nodes(), extents)?;
+        let table = OwnerTable::of_copy(self.alloc, self.owners.nodes(), &made.extents)?;
         let zeros = zeros(self.alloc, &table, self.id)?;
-        self.owners.set(copy, table);
-        set_piece(&mut self.pieces, copy, zeros);
+        self.owners.set(made.copy, table);
+        set_piece(&mut self.pieces, made.copy, zeros);
         self.go_on();
         Ok(())
     }

@@ -5,7 +5,8 @@ ghost use Rattle.node_code.specs.Flat.{flat_value};
 ghost use Rattle.node_code.specs.Instructions.{element_in};
 ghost use Rattle.node_code.specs.Parallel.{at_line};
 ghost use Rattle.node_code.specs.Texts.{flat, flats_of};
-ghost use Rattle.node_machine.specs.Results.{IsFetched, IsFetching, IsStored, IsStoring, spot_result, value_result};
+ghost use Rattle.node_machine.specs.Results.{IsFetched, IsFetching, IsStored, IsStoring};
+ghost use Rattle.node_program.specs.Results.{spot_result, value_result};
 ghost use Rattle.node_machine.specs.Steps.{instr_here};
 
 use crate::node::Node;

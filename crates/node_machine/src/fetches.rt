@@ -8,7 +8,7 @@ ghost use Rattle.machine_steps.specs.Message.{fetch_part, message};
 ghost use Rattle.machine_steps.specs.Node.{fetch_begun, fetch_done, gathered, held_or_received, local_read, no_values, parcel, part_opened, part_sends};
 ghost use Rattle.storage.specs.Spots.{spot_of};
 ghost use Rattle.node_machine.specs.Fetches.{fetch_sends};
-ghost use Rattle.node_machine.specs.Results.{spot_result};
+ghost use Rattle.node_program.specs.Results.{spot_result};
 
 use crate::node::Node;
 use crate::post::Post;

@@ -22,7 +22,6 @@ mod phases;
 mod pieces;
 mod post;
 mod prints;
-mod program;
 mod reductions;
 mod remaps;
 mod sections;
@@ -33,4 +32,3 @@ mod stores;
 mod trees;
 
 pub use node::Node;
-pub use program::NodeProgram;

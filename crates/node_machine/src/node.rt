@@ -9,11 +9,11 @@ ghost use Rattle.node_code.specs.ProgramText.{text_meaning};
 ghost use Rattle.node_machine.specs.Views.{closed};
 
 use crate::post::Post;
-use crate::program::NodeProgram;
 use crate::stage::Stage;
 use hpf_base::OutOfMemory;
 use letters::{Body, Letter, Parcel};
 use node_law::{Act, NodeId, PhasedNode};
+use node_program::NodeProgram;
 use owner_tables::{Owners, Row};
 use part_steps::KeptExchanges;
 use remap_steps::Redistribution;
@@ -54,7 +54,7 @@ impl Model for Node {
     ghost use Rattle.node_code.specs.ProgramText.{Text};
     ghost use Rattle.node_machine.specs.Views.{node_of, IsNode};
     ghost use Rattle.std.specs.Coded.{codes};
-    ghost use Rattle.node_machine.specs.Codes.{flat_code, flats_code, form_code};
+    ghost use Rattle.node_program.specs.Codes.{flat_code, flats_code, form_code};
 
     ghost Value = { NodeState Text Fault };
 
@@ -154,7 +154,6 @@ impl Node {
     )
         requires targets { All (λ parcel. parcel.to < self.old.nodes) outbox.items }
         requires sources { All (λ source. source < self.old.nodes) inbox.items }
-        requires room { length received.items ≡ self.old.nodes }
         ensures { self.new ≡ settled (record self.old { received = received.items }) outbox.items inbox.items }
     {
         self.post.open(outbox, inbox, received);
@@ -166,7 +165,6 @@ impl Node {
     pub(crate) fn reopen(&mut self, outbox: VecDeque<Parcel>, inbox: VecDeque<u32>)
         requires targets { All (λ parcel. parcel.to < self.old.nodes) outbox.items }
         requires sources { All (λ source. source < self.old.nodes) inbox.items }
-        requires room { length self.old.received ≡ self.old.nodes }
         ensures { self.new ≡ settled self.old outbox.items inbox.items }
     {
         self.post.reopen(outbox, inbox);

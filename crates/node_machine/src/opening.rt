@@ -5,14 +5,16 @@ ghost use Rattle.std.specs.Arc.{arc_value};
 ghost use Rattle.hpf_base.specs.declared.limits.TheConstants.{MAX_NODES};
 ghost use Rattle.machine_steps.specs.Layout.{pieces};
 ghost use Rattle.slot_values.specs.Controls.{status_of};
-ghost use Rattle.node_machine.specs.Openings.{opening_node, start_rows};
-ghost use Rattle.node_machine.specs.Programs.{code_of};
+ghost use Rattle.node_program.specs.Fits.{FitsRows};
+ghost use Rattle.node_machine.specs.Openings.{opening_node};
+ghost use Rattle.node_program.specs.Openings.{start_rows};
+ghost use Rattle.node_program.specs.Programs.{code_of};
 
 use crate::node::Node;
 use crate::post::Post;
-use crate::program::NodeProgram;
 use crate::stage::Stage;
 use hpf_base::OutOfMemory;
+use node_program::NodeProgram;
 use owner_tables::{Owners, Row};
 use part_steps::KeptExchanges;
 use slot_values::{Control, Status};
@@ -21,7 +23,7 @@ use std::sync::Arc;
 
 impl Node {
     /// The node with this number, from 0, before the first instruction of the program: with these slots, and of each row of the owners' tables
-    /// its elements, all of which have the row's value of `starts`. The program and the tables are shared.
+    /// its elements, all of which have the row's value of `starts`. The program and the tables are shared. The program fits the rows.
     pub fn opening(
         alloc: Global,
         program: &Arc<NodeProgram>,
@@ -33,6 +35,7 @@ impl Node {
         requires one { id < owners.now.nodes }
         requires nodes { (arc_value program.now).nodes ≡ owners.now.nodes }
         requires rows { length starts.now ≡ length owners.now.layouts }
+        requires fits { FitsRows (arc_value program.now) owners.now.layouts }
         ensures { IfOk result (λ n. n ≡ opening_node owners.now.nodes (code_of (arc_value program.now)) slots.now owners.now.layouts starts.now id) }
     {
         let nodes = owners.nodes();

@@ -1,6 +1,6 @@
 //! The letters of a phase.
 
-ghost use Rattle.std.specs.Prelude.{◌≡◌, ◌≢◌, ◌<◌, ◌≤◌, ℕ, List, [], ◌∷◌, All, IfOk, length, replicate, slice_index_or};
+ghost use Rattle.std.specs.Prelude.{◌≡◌, ◌≢◌, ◌<◌, ◌≤◌, ℕ, List, [], ◌∷◌, All, IfOk, length, replicate, slice_index_or, slice_set};
 ghost use Rattle.letters.specs.Parcel.{Parcel as ParcelView};
 ghost use Rattle.node_machine.specs.Post.{Post as PostView, after_send, after_take, target_of, source_of, nothing_left};
 
@@ -35,8 +35,7 @@ impl Model for Post {
     } };
 
     ghost invariant = { λ p. All (λ parcel. parcel.to < length p.next_to.items) p.outbox.items
-        × All (λ source. source < length p.next_from.items) p.inbox.items
-        × All (λ source. source < length p.received.items) p.inbox.items };
+        × All (λ source. source < length p.next_from.items) p.inbox.items };
 }
 
 impl Post {
@@ -53,11 +52,10 @@ impl Post {
         })
     }
 
-    /// A phase is opened: this is to be sent, letters of these nodes are to be taken, and there is room for them. It takes no memory.
+    /// A phase is opened: this is to be sent, letters of these nodes are to be taken, and there is this room for them. It takes no memory.
     pub fn open(&mut self, outbox: VecDeque<Parcel>, inbox: VecDeque<u32>, received: Vec<Body>)
         requires targets { All (λ parcel. parcel.to < length self.old.next_to) outbox.items }
         requires sources { All (λ source. source < length self.old.next_from) inbox.items }
-        requires room { All (λ source. source < length received.items) inbox.items }
         ensures { self.new ≡ record self.old { outbox = outbox.items; inbox = inbox.items; received = received.items } }
     {
         self.outbox = outbox;
@@ -70,7 +68,6 @@ impl Post {
     pub fn reopen(&mut self, outbox: VecDeque<Parcel>, inbox: VecDeque<u32>)
         requires targets { All (λ parcel. parcel.to < length self.old.next_to) outbox.items }
         requires sources { All (λ source. source < length self.old.next_from) inbox.items }
-        requires room { All (λ source. source < length self.old.received) inbox.items }
         ensures { self.new ≡ record self.old { outbox = outbox.items; inbox = inbox.items } }
     {
         self.outbox = outbox;
@@ -149,7 +146,7 @@ impl Post {
         (parcel, number)
     }
 
-    /// Puts away the values of the next letter. It takes no memory.
+    /// Puts away the values of the next letter, where there is room for them. It takes no memory.
     pub fn take(&mut self, body: Body)
         requires { self.old.inbox ≢ [] }
         ensures { (source : ℕ) × (rest : List ℕ) × (self.old.inbox ≡ source ∷ rest) × (self.new ≡ after_take source rest body self.old) }
@@ -159,7 +156,7 @@ impl Post {
             None => unreachable!(),
         };
         self.next_from[source] = self.next_from[source].wrapping_add(1);
-        self.received[source] = body;
+        set_body(&mut self.received, source, body);
     }
 
     /// The number of the next letter to a node; 0 where there is no such node.
@@ -177,6 +174,15 @@ impl Post {
         ensures { result ≡ nothing_left self.now.outbox self.now.inbox }
     {
         self.outbox.is_empty() && self.inbox.is_empty()
+    }
+}
+
+/// Puts a node's values in the place of others, if there is such a node.
+fn set_body(bodies: &mut Vec<Body>, node: usize, body: Body)
+    ensures { bodies.new.items ≡ slice_set bodies.old.items node body }
+{
+    if node < bodies.len() {
+        bodies[node] = body;
     }
 }
 

@@ -6,16 +6,17 @@ ghost use Rattle.machine_steps.specs.Machine.{on};
 ghost use Rattle.machine_steps.specs.Node.{at_root};
 ghost use Rattle.node_code.specs.Instructions.{Print, item_of};
 ghost use Rattle.node_code.specs.Texts.{print_item};
-ghost use Rattle.node_machine.specs.Prints.{printed, text_of};
+ghost use Rattle.node_machine.specs.Prints.{text_of};
+ghost use Rattle.node_program.specs.PrintedLines.{printed};
 ghost use Rattle.node_machine.specs.Steps.{IsItemStep, TextDoes};
 
 use crate::node::Node;
-use crate::program::NodeProgram;
 use crate::sections::PrintedSection;
 use crate::step::Step;
 use hpf_base::OutOfMemory;
 use itoa::Buffer;
 use node_code::{Flat, PrintItem};
+use node_program::NodeProgram;
 use slot_values::flat_or_zero;
 use std::alloc::Global;
 
@@ -26,31 +27,33 @@ pub(crate) enum PrintedText<'a> {
     Number(&'a Flat),
 }
 
-impl NodeProgram {
-    /// What a PRINT of these items has done after so many steps.
-    pub(crate) fn print_step<'a>(&'a self, items: &'a Vec<PrintItem>, substep: usize) -> Step<'a>
-        ensures { TextDoes (printed self.now.shapes.items items.now.items) (Print (map print_item items.now.items)) self.now.nodes substep result }
-    {
-        if substep < items.len() {
-            self.item_step(&items[substep])
-        } else {
-            Step::PrintLine
-        }
+/// What a PRINT of these items has done after so many steps.
+pub(crate) fn print_step<'a>(
+    program: &'a NodeProgram,
+    items: &'a Vec<PrintItem>,
+    substep: usize,
+) -> Step<'a>
+    ensures { TextDoes (printed program.now.shapes.items items.now.items) (Print (map print_item items.now.items)) program.now.nodes substep result }
+{
+    if substep < items.len() {
+        item_step(program, &items[substep])
+    } else {
+        Step::PrintLine
     }
+}
 
-    /// What an item has done.
-    fn item_step<'a>(&'a self, item: &'a PrintItem) -> Step<'a>
-        ensures { IsItemStep (item_of self.now.shapes.items (print_item item.now)) result }
-    {
-        match item {
-            PrintItem::Bytes(bytes) => Step::PrintText(PrintedText::Bytes(bytes)),
-            PrintItem::Number(f) => Step::PrintText(PrintedText::Number(f)),
-            PrintItem::Section(array, section) => Step::PrintSection(PrintedSection {
-                shapes: &self.shapes,
-                array: *array,
-                section,
-            }),
-        }
+/// What an item has done.
+fn item_step<'a>(program: &'a NodeProgram, item: &'a PrintItem) -> Step<'a>
+    ensures { IsItemStep (item_of program.now.shapes.items (print_item item.now)) result }
+{
+    match item {
+        PrintItem::Bytes(bytes) => Step::PrintText(PrintedText::Bytes(bytes)),
+        PrintItem::Number(f) => Step::PrintText(PrintedText::Number(f)),
+        PrintItem::Section(array, section) => Step::PrintSection(PrintedSection {
+            shapes: &program.shapes,
+            array: *array,
+            section,
+        }),
     }
 }
 

@@ -1,6 +1,7 @@
 //! Instructions that give arrays new mappings.
 
-ghost use Rattle.std.specs.Prelude.{◌≡◌, ◌<◌, ◌^◌, ◌∷◌, [], IfOk, OnOk, OnErr, length, map};
+ghost use Rattle.std.specs.Prelude.{◌≡◌, ◌==◌, ◌<◌, ◌^◌, ◌∷◌, [], IfOk, OnOk, OnErr, length, map, true};
+ghost use Rattle.std.specs.List.{list_all};
 ghost use Rattle.machine_steps.specs.Instr.{Remap};
 ghost use Rattle.machine_steps.specs.Machine.{on, remapped};
 ghost use Rattle.machine_steps.specs.Node.{no_values, ready};
@@ -8,14 +9,16 @@ ghost use Rattle.machine_steps.specs.Rounds.{rounds_on};
 ghost use Rattle.node_code.specs.Instructions.{remappings};
 ghost use Rattle.node_code.specs.Texts.{new_mapping};
 ghost use Rattle.remap_steps.specs.Redistributions.{moved_pieces};
-ghost use Rattle.node_machine.specs.Programs.{mappings_of};
-ghost use Rattle.node_machine.specs.Remaps.{IsAfter, IsRemap, remappings_of, round_opened};
+ghost use Rattle.node_program.specs.Fits.{fits_row, shapes_of};
+ghost use Rattle.node_program.specs.Programs.{mappings_of};
+ghost use Rattle.node_machine.specs.Remaps.{IsAfter, IsRemap, MappingsFit, remappings_of, round_opened};
 ghost use Rattle.node_machine.specs.Steps.{begun, done, instr_here};
 
 use crate::node::Node;
 use hpf_base::OutOfMemory;
 use letters::Body;
 use node_code::NewMapping;
+use node_program::owners_after;
 use owner_tables::{OwnerTable, Owners, Row};
 use remap_steps::Redistribution;
 
@@ -33,44 +36,11 @@ struct NewRows {
     pieces: Vec<Row>,
 }
 
-/// How rows lie after new mappings, by the tables of a program. A mapping of another shape or on another number of nodes, which node code
-/// of a program that is in order doesn't have, is answered as want of memory.
-fn owners_after(
-    owners: &Owners,
-    tables: &[OwnerTable],
-    new: &[NewMapping],
-) -> Result<Owners, OutOfMemory>
-    ensures layouts { IfOk result (λ after. after.layouts ≡ remapped (remappings (mappings_of tables.now) (map new_mapping new.now)) owners.now.layouts) }
-    ensures nodes { IfOk result (λ after. after.nodes ≡ owners.now.nodes) }
-{
-    let mut after = owners.shared()?;
-    for mapping in new {
-        set_mapping(&mut after, tables, mapping)?;
-    }
-    Ok(after)
-}
-
-/// An array gets a mapping, where its number has one. A mapping of another shape or on another number of nodes is answered as want of
-/// memory.
-fn set_mapping(
-    owners: &mut Owners,
-    tables: &[OwnerTable],
-    new: &NewMapping,
-) -> Result<(), OutOfMemory>
-    ensures layouts { OnOk result (owners.new.layouts ≡ remapped (remappings (mappings_of tables.now) (new_mapping new.now ∷ [])) owners.old.layouts) }
-    ensures nodes { OnOk result (owners.new.nodes ≡ owners.old.nodes) }
-{
-    if new.map >= tables.len() {
-        return Ok(());
-    }
-    owners.set_mapping(new.array, &tables[new.map])?;
-    Ok(())
-}
-
 impl Node {
     /// How rows lie after the new mappings at the node's place.
     pub(crate) fn owners_after(&self, new: NewMappings<'_>) -> Result<Owners, OutOfMemory>
-        requires { instr_here self.now ≡ Remap (remappings_of new) (rounds_on self.now.nodes (remappings_of new)) }
+        requires is { instr_here self.now ≡ Remap (remappings_of new) (rounds_on self.now.nodes (remappings_of new)) }
+        requires fit { MappingsFit self.now.nodes (shapes_of self.now.layouts) new }
         ensures { IfOk result (IsAfter (instr_here self.now) self.now) }
     {
         let after = owners_after(&self.owners, new.tables, new.new)?;
@@ -166,7 +136,6 @@ impl Node {
     ) -> Result<(), OutOfMemory>
         requires nodes { moving.nodes ≡ self.old.nodes }
         requires room { received.items ≡ no_values self.old.nodes }
-        requires len { length received.items ≡ self.old.nodes }
         ensures ok { OnOk result (self.new ≡ round_opened moving (record self.old { received = no_values self.old.nodes; round = 0 })) }
         ensures err { OnErr result (self.new ≡ self.old) }
     {
@@ -186,10 +155,6 @@ impl Node {
     {
         let outbox = moving.outbox(self.alloc, round as usize, &self.pieces)?;
         let inbox = moving.inbox(self.alloc, round as usize)?;
-        // the first round made room for all nodes
-        if self.post.all_received().len() != self.owners.nodes() as usize {
-            return Err(OutOfMemory);
-        }
         self.to_round(round);
         self.reopen(outbox, inbox);
         self.hold(moving);
@@ -210,6 +175,7 @@ impl Node {
         ensures nodes { IfOk result (λ rows. rows.owners.nodes ≡ self.now.nodes) }
         ensures pieces { IfOk result (λ rows. rows.pieces.items ≡ moved_pieces moving.now self.now.pieces received.now) }
         ensures many { IfOk result (λ rows. length rows.pieces.items ≡ length rows.owners.layouts) }
+        ensures shapes { IfOk result (λ rows. shapes_of rows.owners.layouts ≡ shapes_of self.now.layouts) }
     {
         let pieces = moving.moved_pieces(self.alloc, &self.pieces, received)?;
         let owners = moving.after().shared()?;
@@ -221,6 +187,7 @@ impl Node {
         requires in_code { self.old.control.at < 2 ^ 63 }
         requires nodes { rows.owners.nodes ≡ self.old.nodes }
         requires many { length rows.pieces.items ≡ length rows.owners.layouts }
+        requires shapes { shapes_of rows.owners.layouts ≡ shapes_of self.old.layouts }
         ensures { self.new ≡ ready self.old.nodes (record self.old {
           control = on self.old.control;
           substep = 0;

@@ -1,10 +1,11 @@
 //! The local steps of a node.
 
 ghost use Rattle.std.specs.Prelude.{◌≡◌, OnOk, OnErr};
-ghost use Rattle.node_machine.specs.Steps.{IsInCode, IsStepAt, begun, done};
+ghost use Rattle.node_program.specs.Fits.{shapes_of};
+ghost use Rattle.node_machine.specs.Steps.{IsInCode, IsStepAt, StepFits, begun, done};
 
 use crate::node::Node;
-use crate::step::Step;
+use crate::step::{Step, step_at};
 use hpf_base::OutOfMemory;
 
 impl Node {
@@ -12,8 +13,9 @@ impl Node {
     fn step(&self) -> Step<'_>
         ensures is { IsStepAt self.now.code self.now.control.at self.now.nodes self.now.substep result }
         ensures few { IsInCode self.now.control.at result }
+        ensures fits { StepFits self.now.nodes (shapes_of self.now.layouts) result }
     {
-        self.program.step(self.control.at, self.substep)
+        step_at(&self.program, self.control.at, self.substep)
     }
 
     /// The local step before an instruction or a step of it. For want of memory nothing changes.
@@ -51,7 +53,7 @@ impl Node {
             Step::ReduceTree(r) => self.begin_reduce_tree(r),
             Step::MakeCopy(p) => {
                 let made = self.made(p)?;
-                self.put_copy(made.copy, &made.extents)
+                self.put_copy(made)
             }
             Step::PrintText(t) => {
                 let bytes = self.text(t)?;

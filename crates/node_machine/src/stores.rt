@@ -4,7 +4,7 @@ ghost use Rattle.std.specs.Prelude.{◌≡◌, ◌<◌, ◌^◌};
 ghost use Rattle.machine_steps.specs.Machine.{faulted, on, store_control, store_in};
 ghost use Rattle.machine_steps.specs.Node.{local_write};
 ghost use Rattle.term_values.specs.Faults.{fault};
-ghost use Rattle.node_machine.specs.Results.{spot_result, value_result};
+ghost use Rattle.node_program.specs.Results.{spot_result, value_result};
 
 use crate::node::Node;
 use slot_values::{Fault, Spot, Status};

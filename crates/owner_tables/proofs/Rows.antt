@@ -1,7 +1,7 @@
 -- The layouts of the rows.
-use Rattle.std.proofs.Common.{◌≡◌, ℕ, zero, suc, ◌<◌, ◌≤◌, List, [], ◌∷◌, get_or, set, length, map, refl, sym, ◌∙◌, ap, arith}
+use Rattle.std.proofs.Common.{◌≡◌, ℕ, zero, suc, ◌<◌, List, [], ◌∷◌, get_or, set, length, map, refl, sym, ◌∙◌, ap, arith, IfSome}
 use Rattle.std.proofs.lemmas.List.{get_or-map, length-map, map-set}
-use Rattle.mappings.specs.declared.mapping.Mapping.{Mapping}
+use Rattle.std.specs.List.{slice_get}
 use Rattle.machine_steps.specs.Machine.{with_mapping}
 use Rattle.machine_steps.specs.Layout.{Layout, owned_by, owned_in, size_of, sizes}
 use Rattle.owner_tables.specs.Views.{OwnersView, TableView}
@@ -39,15 +39,9 @@ row-layout tables nodes row table v d is within at =
     ap (λ t. t.layout) at ∙ sym (get_or-map (λ t. t.layout) tables row table d (omega (arith, within, many)))
     ∙ ap (λ w. get_or w.layouts row d) is
 
--- a row that isn't there gets no mapping
-pub mapping-past : (layouts : List Layout) (row : ℕ) (mapping : Mapping) → length layouts ≤ row → with_mapping layouts row mapping ≡ layouts
-mapping-past [] row mapping past = refl
-mapping-past (l ∷ ls) zero mapping past = absurd (omega (arith, past))
-mapping-past (l ∷ ls) (suc row) mapping past = ap (λ rest. l ∷ rest) (mapping-past ls row mapping (omega (arith, past)))
-
--- a layout of the same shape gives its mapping
-pub mapping-set : (layouts : List Layout) (row : ℕ) (layout d : Layout) → row < length layouts → (get_or layouts row d).shape ≡ layout.shape
+-- a layout of the row's shape gives its mapping; a row that isn't there gets none
+pub mapping-set : (layouts : List Layout) (row : ℕ) (layout : Layout) → IfSome (slice_get layouts row) (λ l. l.shape ≡ layout.shape)
     → set layouts row layout ≡ with_mapping layouts row layout.mapping
-mapping-set [] row layout d within same = absurd (omega (arith, within))
-mapping-set (l ∷ ls) zero layout d within same = ap (λ shape. record { shape = shape; mapping = layout.mapping } ∷ ls) (sym same)
-mapping-set (l ∷ ls) (suc row) layout d within same = ap (λ rest. l ∷ rest) (mapping-set ls row layout d (omega (arith, within)) same)
+mapping-set [] row layout same = refl
+mapping-set (l ∷ ls) zero layout same = ap (λ shape. record { shape = shape; mapping = layout.mapping } ∷ ls) (sym same)
+mapping-set (l ∷ ls) (suc row) layout same = ap (λ rest. l ∷ rest) (mapping-set ls row layout same)

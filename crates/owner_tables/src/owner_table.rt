@@ -3,6 +3,7 @@
 ghost use Rattle.std.specs.Prelude.{◌≡◌, ◌<◌, ◌≤◌, All, IfOk, length};
 ghost use Rattle.hpf_base.specs.declared.limits.TheConstants.{MAX_ELEMENTS, MAX_NODES, MAX_RANK};
 ghost use Rattle.hpf_base.specs.ElementOrder.{product};
+ghost use Rattle.hpf_base.specs.Shape.{IsShape};
 ghost use Rattle.machine_steps.specs.Layout.{count_passing, owned_by, size_of};
 ghost use Rattle.machine_steps.specs.CopyLayout.{layout_of};
 ghost use Rattle.owner_tables.specs.Layouts.{IsLaid};
@@ -90,6 +91,14 @@ impl OwnerTable {
         self.tables.nodes()
     }
 
+    /// The shape of the row: of each dimension the lower bound and the extent, the first dimension first.
+    pub fn shape(&self) -> &Shape
+        ensures value { result.now ≡ self.now.layout.shape }
+        ensures valid { IsShape self.now.layout.shape }
+    {
+        self.tables.shape()
+    }
+
     /// The number of elements.
     pub fn size(&self) -> usize
         ensures { result ≡ size_of self.now.layout }
@@ -105,8 +114,8 @@ impl OwnerTable {
         self.tables.owned(node)
     }
 
-    /// Whether the row has the shape of another.
-    pub(crate) fn is_shaped_as(&self, other: &OwnerTable) -> bool
+    /// Whether the row has the shape of another. It takes no memory.
+    pub fn is_shaped_as(&self, other: &OwnerTable) -> bool
         ensures { result ≡ is_same_shape self.now.layout.shape other.now.layout.shape }
     {
         self.tables.is_shaped_as(&other.tables)

@@ -68,18 +68,13 @@ impl Owners {
         }
     }
 
-    /// Gives a row the mapping of a table, whose shape the row has, if there is such a row. Want of memory is the answer, too, where the
-    /// row has another shape or the table is one for another number of nodes; then nothing changes.
+    /// Gives a row the mapping of a table, whose shape the row has, if there is such a row. For want of memory nothing changes.
     pub fn set_mapping(&mut self, row: usize, table: &OwnerTable) -> Result<(), OutOfMemory>
+        requires nodes { table.now.nodes ≡ self.old.nodes }
+        requires shape { IfSome (slice_get self.old.layouts row) (λ layout. layout.shape ≡ table.now.layout.shape) }
         ensures row { OnOk result (self.new ≡ record { layouts = with_mapping self.old.layouts row table.now.layout.mapping; nodes = self.old.nodes }) }
         ensures same { OnErr result (self.new ≡ self.old) }
     {
-        if row >= self.tables.len() {
-            return Ok(());
-        }
-        if table.nodes() != self.nodes || !self.tables[row].is_shaped_as(table) {
-            return Err(OutOfMemory);
-        }
         let table = table.shared()?;
         self.set(row, table);
         Ok(())

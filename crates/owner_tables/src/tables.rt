@@ -3,6 +3,7 @@
 ghost use Rattle.std.specs.Prelude.{◌≡◌, ◌<◌, ◌≤◌, ◌&&◌, IfOk, None, Some, filter, if◌then◌else◌, nat_lt, true};
 ghost use Rattle.std.specs.List.{range_with_len};
 ghost use Rattle.hpf_base.specs.declared.limits.TheConstants.{MAX_NODES};
+ghost use Rattle.hpf_base.specs.Shape.{IsShape};
 ghost use Rattle.machine_steps.specs.Layout.{IsDealt, count_passing, owned_by, size_of};
 ghost use Rattle.owner_tables.specs.Layouts.{IsLaid};
 ghost use Rattle.owner_tables.specs.Numbers.{least_at};
@@ -70,6 +71,14 @@ impl Tables {
             least,
             numbers,
         })
+    }
+
+    /// The shape of the row.
+    pub(crate) fn shape(&self) -> &Shape
+        ensures value { result.now ≡ self.now.layout.shape }
+        ensures valid { IsShape self.now.layout.shape }
+    {
+        &self.shape
     }
 
     /// The number of elements.

@@ -47,7 +47,7 @@ module _ (old new : List ℤ) where
       let step : slot old (v + 2) ≡ slot new (v + 2) = slot_same (v + 2) (both _ _ (both _ _ is).1).1 in
       λ i. record { first = first i; step = step i; count = value_count (wrapped (first i)) (wrapped (last i)) (wrapped (step i)) }
 
-  selections_same : (axes : List ℤ) (ds : List Sub) → agree_on_subs old new ds ≡ true → selections_at old axes ds ≡ selections_at new axes ds
+  pub selections_same : (axes : List ℤ) (ds : List Sub) → agree_on_subs old new ds ≡ true → selections_at old axes ds ≡ selections_at new axes ds
   selections_same axes [] is = refl
   selections_same axes (SubAt f ∷ ds) is = λ i. At (or_zero (flat_same axes f (both _ _ is).0 i)) ∷ selections_same axes ds (both _ _ is).1 i
   selections_same axes (SubAlong v ∷ ds) is = λ i. Along (sequence_same v (both _ _ is).0 i) ∷ selections_same axes ds (both _ _ is).1 i

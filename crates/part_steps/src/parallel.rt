@@ -33,8 +33,8 @@ pub struct ParValues {
 }
 
 /// What a parallel statement comes to on the node with this number, by its pieces of all rows, the values that it received from each
-/// node, and what it exchanged. Nothing is stored yet. `number` is the part's, which the fault's key has. An element out of bounds is
-/// answered as want of memory.
+/// node, and what it exchanged. Nothing is stored yet. `number` is the part's, which the fault's key has. An element out of bounds
+/// has the value 0.
 pub fn par_values(
     alloc: Global,
     part: &Part<'_>,

@@ -29,7 +29,7 @@ pub struct ReduceValues {
 }
 
 /// What a reduction comes to on the node with this number, by its pieces of all rows, the values that it received from each node, and what
-/// it exchanged. `number` is the part's, which the fault's key has. An element out of bounds is answered as want of memory.
+/// it exchanged. `number` is the part's, which the fault's key has. An element out of bounds has the value 0.
 pub fn reduce_values(
     part: &Part<'_>,
     id: u32,

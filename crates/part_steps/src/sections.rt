@@ -19,8 +19,8 @@ use owner_tables::Row;
 use std::alloc::Global;
 
 /// The values of the elements that the tuples of a part read, of each tuple the first, in order, on the node with this number, by its
-/// pieces of all rows, the values that it received from each node, and what it exchanged. What is no element is left out. An element out of bounds is answered as
-/// want of memory.
+/// pieces of all rows, the values that it received from each node, and what it exchanged. What is no element is left out. An
+/// element out of bounds has the value 0.
 pub fn section_values(
     alloc: Global,
     part: &Part<'_>,

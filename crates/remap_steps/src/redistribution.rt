@@ -1,6 +1,6 @@
 //! Redistributions on a node.
 
-ghost use Rattle.std.specs.Prelude.{◌≡◌, IfOk, IsTrue, length};
+ghost use Rattle.std.specs.Prelude.{◌≡◌, ◌<◌, IfOk, IsTrue, length};
 ghost use Rattle.machine_steps.specs.Layout.{sizes};
 ghost use Rattle.remap_steps.specs.Redistributions.{all_rounds};
 
@@ -33,19 +33,18 @@ impl Model for Redistribution {
 }
 
 impl Redistribution {
-    /// The redistribution between these owners, on the node with this number. Want of memory is the answer, too, where the two are for
-    /// different numbers of nodes or rows of different sizes, or there is no such node.
+    /// The redistribution between these owners, on the node with this number.
     pub fn new(
         alloc: Global,
         before: &Owners,
         after: &Owners,
         id: u32,
     ) -> Result<Redistribution, OutOfMemory>
+        requires nodes { before.now.nodes ≡ after.now.nodes }
+        requires sizes { sizes before.now.layouts ≡ sizes after.now.layouts }
+        requires node { id < before.now.nodes }
         ensures { IfOk result (λ r. r ≡ record { nodes = before.now.nodes; old = before.now.layouts; new = after.now.layouts; id = id }) }
     {
-        if id >= before.nodes() || !are_sized_alike(before, after) {
-            return Err(OutOfMemory);
-        }
         let rounds = remap_rounds(alloc, before, after)?;
         let outgoing = remap_outgoing(alloc, before, after, id)?;
         let before = before.shared()?;
@@ -67,6 +66,9 @@ impl Redistribution {
         after: &Owners,
         id: u32,
     ) -> Result<Redistribution, OutOfMemory>
+        requires nodes { before.now.nodes ≡ after.now.nodes }
+        requires sizes { sizes before.now.layouts ≡ sizes after.now.layouts }
+        requires node { id < before.now.nodes }
         ensures { IfOk result (λ r. r ≡ record { nodes = before.now.nodes; old = before.now.layouts; new = after.now.layouts; id = id }) }
     {
         if let Some(redistribution) = held {
@@ -99,20 +101,4 @@ impl Redistribution {
     {
         self.rounds.len()
     }
-}
-
-/// Whether the two are for as many nodes, and their rows of the same sizes.
-fn are_sized_alike(before: &Owners, after: &Owners) -> bool
-    ensures nodes { IsTrue result → before.now.nodes ≡ after.now.nodes }
-    ensures sizes { IsTrue result → sizes before.now.layouts ≡ sizes after.now.layouts }
-{
-    if before.nodes() != after.nodes() || before.rows() != after.rows() {
-        return false;
-    }
-    for row in 0..before.rows() {
-        if before.size(row) != after.size(row) {
-            return false;
-        }
-    }
-    true
 }

@@ -71,11 +71,6 @@ left_in (InCopy row) p = option_map (spot_in_row row) p
 left_in (InSection a ds) p = option_map (spot_in_row a) p
 left_in (ByIndices a ds) p = option_map (spot_in_row a) p
 
--- how many selections are kept
-abbrev pub kept_rank : Target → ℕ
-kept_rank (InSection a ds) = length ds
-kept_rank other = 0
-
 -- ---- masks and reductions
 
 -- whether the tuple is asked for, by the elements

@@ -57,13 +57,10 @@ impl<'a> ParallelStatement<'a> {
         match &self.target {
             Target::Nothing => Ok(Some(tuple)),
             Target::Copy(_) => Ok(Some(tuple)),
-            Target::Section(a, ds) => Ok(assigned_place(
-                self.shapes,
-                *a,
-                ds,
-                &self.space.extents,
-                tuple,
-            )),
+            Target::Section(a, ds) => {
+                let extents = &self.space.extents;
+                assigned_place(*extents.allocator(), self.shapes, *a, ds, extents, tuple)
+            }
             Target::Indexed(a, ds) => self.indexed_place(*a, ds, tuple),
         }
     }

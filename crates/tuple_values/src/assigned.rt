@@ -1,43 +1,43 @@
-//! The places of what is assigned, by the number of a tuple. Nothing here takes memory.
+//! The places of what is assigned, by the number of a tuple.
 
-ghost use Rattle.std.specs.Prelude.{◌≡◌, ◌≤◌, ◌∷◌, [], length, pos, suc};
+ghost use Rattle.std.specs.Prelude.{◌≡◌, ◌≤◌, ◌∷◌, [], pos, suc, IfOk};
 ghost use Rattle.hpf_base.specs.declared.limits.TheConstants.{MAX_TUPLES};
 ghost use Rattle.array_meaning.specs.State.{element_place};
 ghost use Rattle.array_meaning.specs.Sections.{positions, subscripts_at};
 ghost use Rattle.node_code.specs.Parallel.{shape_of};
 ghost use Rattle.term_values.specs.SectionSubscripts.{positions_after, subscript_at};
 
-use crate::tuple::{positions, subscripts_at};
 use array_meaning::Selection;
 use expression_rules::Dims;
+use hpf_base::OutOfMemory;
 use slot_values::{element_place, element_place_of_one, element_place_of_two};
-use term_values::{Number, divided, nth};
+use std::alloc::Global;
+use term_values::{Number, divided, nth, positions, subscripts_at};
 
 /// The place of a section's element at the tuple with a number.
 pub(crate) fn assigned_place(
+    alloc: Global,
     shapes: &[Dims],
     array: usize,
     ds: &[Selection],
     extents: &[u128],
     tuple: usize,
-) -> Option<usize>
-    requires rank { length ds.now ≤ 7 }
-    requires space_rank { length extents.now ≤ 7 }
-    requires tuple { tuple ≤ MAX_TUPLES }
-    ensures { result ≡ element_place (shape_of shapes.now array) (subscripts_at ds.now (positions extents.now tuple)) }
+) -> Result<Option<usize>, OutOfMemory>
+    requires { tuple ≤ MAX_TUPLES }
+    ensures { IfOk result (λ place. place ≡ element_place (shape_of shapes.now array) (subscripts_at ds.now (positions extents.now tuple))) }
 {
     if ds.len() == 1 {
-        return assigned_by_one(shapes, array, &ds[0], extents, tuple);
+        return Ok(assigned_by_one(shapes, array, &ds[0], extents, tuple));
     }
     if ds.len() == 2 {
-        return assigned_by_two(shapes, array, &ds[0], &ds[1], extents, tuple);
+        return Ok(assigned_by_two(shapes, array, &ds[0], &ds[1], extents, tuple));
     }
-    let x = positions(extents, tuple);
-    let is = subscripts_at(ds, x.as_slice());
-    element_place(shapes, array, is.as_slice())
+    let x = positions(alloc, extents, tuple)?;
+    let is = subscripts_at(alloc, ds, x.as_slice())?;
+    Ok(element_place(shapes, array, is.as_slice()))
 }
 
-/// The place of a section's element at the tuple with a number, in an array with one dimension.
+/// The place of a section's element at the tuple with a number, in an array with one dimension. It takes no memory.
 #[tactic(auto, using(term_values::proofs::SectionSubscripts::one_is))]
 fn assigned_by_one(
     shapes: &[Dims],
@@ -53,7 +53,7 @@ fn assigned_by_one(
     element_place_of_one(shapes, array, &i.value)
 }
 
-/// The place of a section's element at the tuple with a number, in an array with two dimensions.
+/// The place of a section's element at the tuple with a number, in an array with two dimensions. It takes no memory.
 #[tactic(auto, using(crate::proofs::SectionSubscripts::numbered_two))]
 fn assigned_by_two(
     shapes: &[Dims],

@@ -5,8 +5,8 @@
 //! is read.
 //!
 //! What holds in between: all of it is what node_code's definitions say of the instruction, whatever the elements are: they are asked for
-//! one by one (`Elements`), and only where the definitions' evaluation comes to them. A tuple has at most seven entries, so none of it needs
-//! memory of its own, and nothing is kept of the tuples.
+//! one by one (`Elements`), and only where the definitions' evaluation comes to them. A tuple of at most seven entries needs no memory of its
+//! own, and nothing is kept of the tuples.
 #![tactic(auto)]
 
 mod asking;
@@ -21,7 +21,6 @@ mod sections;
 mod space;
 mod statement;
 mod target;
-mod tuple;
 mod values;
 
 pub use elements::Elements;

@@ -1,13 +1,13 @@
 //! The parallel statements of instructions.
 
-ghost use Rattle.std.specs.Prelude.{◌≡◌, ◌≤◌, ◌∷◌, [], ℕ, length, option_map, IfOk, None};
+ghost use Rattle.std.specs.Prelude.{◌≡◌, ◌∷◌, [], ℕ, option_map, IfOk, None};
 ghost use Rattle.array_meaning.specs.Sections.{extents};
 ghost use Rattle.machine_steps.specs.Space.{space_count};
 ghost use Rattle.node_code.specs.Forms.{selections_in};
 ghost use Rattle.node_code.specs.Instructions.{section_spot};
 ghost use Rattle.node_code.specs.Parallel.{assigned_spot, assignment_tuples, copy_spot, evaluation_tuples, forall_mask_tuples, forall_spot, forall_tuples, reduction_tuples};
 ghost use Rattle.node_code.specs.Texts.{assignment, evaluation, form, subs, when};
-ghost use Rattle.tuple_values.specs.Statements.{kept_rank, no_left, tuple_count, tuple_reads, IsStatement};
+ghost use Rattle.tuple_values.specs.Statements.{no_left, tuple_count, tuple_reads, IsStatement};
 ghost use Rattle.tuple_values.specs.Targets.{target as target_of};
 ghost use Rattle.tuple_values.specs.Views.{statement};
 
@@ -15,16 +15,15 @@ use crate::right::Right;
 use crate::space::{Space, index_space, section_space};
 use crate::statement::ParallelStatement;
 use crate::target::Target;
-use array_meaning::Selection;
 use expression_rules::Dims;
-use hpf_base::{MAX_RANK, OutOfMemory};
+use hpf_base::OutOfMemory;
 use node_code::{Assignment, Evaluation, Sub};
 use op_tables::Made;
 use slot_values::selections_at;
 use std::alloc::Global;
 
 impl<'a> ParallelStatement<'a> {
-    /// An assignment to a section. A space or a section of more than seven dimensions is answered as want of memory, here and below.
+    /// An assignment to a section.
     pub fn of_assignment(
         alloc: Global,
         shapes: &'a [Dims],
@@ -34,7 +33,7 @@ impl<'a> ParallelStatement<'a> {
         ensures { IfOk result (λ w. IsStatement (statement w) slots.now (assignment_tuples shapes.now (assignment p.now)) (assigned_spot shapes.now (assignment p.now))) }
     {
         let space = section_space(alloc, slots, &p.over)?;
-        let left = narrow_selections(alloc, slots, &p.left)?;
+        let left = selections_at(alloc, slots, &[], &p.left)?;
         let target = Target::Section(p.array, left);
         Ok(assigning(shapes, slots, p, space, target))
     }
@@ -120,7 +119,7 @@ impl<'a> ParallelStatement<'a> {
     }
 }
 
-/// An assignment at the tuples of a space, to a target of at most seven dimensions.
+/// An assignment at the tuples of a space.
 fn assigning<'a>(
     shapes: &'a [Dims],
     slots: &'a [i64],
@@ -128,7 +127,6 @@ fn assigning<'a>(
     space: Space,
     target: Target<'a>,
 ) -> ParallelStatement<'a>
-    requires { kept_rank (target_of target) ≤ 7 }
     ensures { statement result ≡ record {
       shapes = shapes.now;
       slots = slots.now;
@@ -153,7 +151,7 @@ fn assigning<'a>(
     }
 }
 
-/// An array expression at the tuples of a space, whose values go to a target of at most seven dimensions, or are joined.
+/// An array expression at the tuples of a space, whose values go to a target, or are joined.
 fn evaluating<'a>(
     shapes: &'a [Dims],
     slots: &'a [i64],
@@ -162,7 +160,6 @@ fn evaluating<'a>(
     target: Target<'a>,
     made: Option<Made>,
 ) -> ParallelStatement<'a>
-    requires { kept_rank (target_of target) ≤ 7 }
     ensures { statement result ≡ record {
       shapes = shapes.now;
       slots = slots.now;
@@ -185,20 +182,4 @@ fn evaluating<'a>(
         right: Right::Form(&p.form),
         made,
     }
-}
-
-/// What a section of at most seven dimensions selects of each.
-fn narrow_selections(
-    alloc: Global,
-    slots: &[i64],
-    section: &[Sub],
-) -> Result<Vec<Selection>, OutOfMemory>
-    ensures value { IfOk result (λ ds. ds.items ≡ selections_in slots.now (subs section.now)) }
-    ensures rank { IfOk result (λ ds. length ds.items ≤ 7) }
-{
-    let ds = selections_at(alloc, slots, &[], section)?;
-    if ds.len() > MAX_RANK {
-        return Err(OutOfMemory);
-    }
-    Ok(ds)
 }

@@ -1,6 +1,6 @@
 //! The places of sections' elements at a tuple (Fortran 95, 6.2.2.3).
 
-ghost use Rattle.std.specs.Prelude.{◌≡◌, ◌+◌, ◌≤◌, ◌∷◌, [], ℤ, List, length, IfOk};
+ghost use Rattle.std.specs.Prelude.{◌≡◌, ◌+◌, ◌∷◌, [], ℤ, List, IfOk};
 ghost use Rattle.array_meaning.specs.declared.sections.Selection.TheVariants.{Along};
 ghost use Rattle.node_code.specs.Flat.{slot};
 ghost use Rattle.node_code.specs.Forms.{sequence_in};
@@ -10,11 +10,11 @@ ghost use Rattle.term_values.specs.SectionSubscripts.{positions_after, subscript
 ghost use Rattle.tuple_values.specs.Here.{place_here, subscripts_here};
 
 use crate::here::Here;
-use crate::tuple::Tuple;
 use array_meaning::Sequence;
-use hpf_base::{MAX_RANK, OutOfMemory};
+use hpf_base::OutOfMemory;
 use node_code::Sub;
 use slot_values::{element_place, element_place_of_one, element_place_of_two, flat_or_zero, slot};
+use smallvec::SmallVec;
 use term_values::{Number, nth};
 
 /// The place of a section's element.
@@ -59,26 +59,15 @@ fn place_by_two(
     Ok(element_place_of_two(here.shapes, array, &i.value, &j.value))
 }
 
-/// The subscripts of a section's element. More than seven are answered as want of memory.
-fn subscripts(here: &Here<'_>, section: &[Sub]) -> Result<Tuple, OutOfMemory>
-    ensures { IfOk result (λ is. is ≡ subscripts_here here.now (subs section.now)) }
+/// The subscripts of a section's element.
+fn subscripts(here: &Here<'_>, section: &[Sub]) -> Result<SmallVec<i64, 7>, OutOfMemory>
+    ensures { IfOk result (λ is. is.items ≡ subscripts_here here.now (subs section.now)) }
 {
-    if section.len() > MAX_RANK {
-        return Err(OutOfMemory);
-    }
-    subscripts_of(here, section)
-}
-
-/// The subscripts of at most seven dimensions.
-fn subscripts_of(here: &Here<'_>, section: &[Sub]) -> Result<Tuple, OutOfMemory>
-    requires { length section.now ≤ 7 }
-    ensures { IfOk result (λ is. is ≡ subscripts_here here.now (subs section.now)) }
-{
-    let mut is = Tuple::new();
+    let mut is = SmallVec::new(here.alloc);
     let mut positions = here.tuple;
     for d in section {
         let i = subscript(here, d, positions)?;
-        is.push(i.value);
+        is.push(i.value)?;
         positions = positions_after(d, positions);
     }
     Ok(is)

@@ -1,22 +1,22 @@
 //! The spaces of parallel statements.
 
-ghost use Rattle.std.specs.Prelude.{◌≡◌, ◌<◌, ◌≤◌, length, option_map, IfOk, None, Some};
+ghost use Rattle.std.specs.Prelude.{◌≡◌, ◌<◌, ◌≤◌, option_map, IfOk, None, Some};
 ghost use Rattle.hpf_base.specs.declared.limits.TheConstants.{MAX_TUPLES};
-ghost use Rattle.array_meaning.specs.Sections.{extents, subscripts_at};
+ghost use Rattle.array_meaning.specs.Sections.{extents};
 ghost use Rattle.machine_steps.specs.Space.{space_count};
 ghost use Rattle.node_code.specs.Forms.{selections_in};
 ghost use Rattle.node_code.specs.Texts.{subs};
 ghost use Rattle.tuple_values.specs.Statements.{axes_in, entries_in};
 
-use crate::tuple::{Tuple, positions, subscripts_at};
 use array_meaning::Selection;
-use hpf_base::{MAX_RANK, OutOfMemory};
+use hpf_base::OutOfMemory;
 use node_code::Sub;
 use slot_values::{selections_at, space_count};
+use smallvec::SmallVec;
 use std::alloc::Global;
-use term_values::extents;
+use term_values::{extents, positions, subscripts_at};
 
-/// A space of at most seven dimensions.
+/// The tuples at which a statement works.
 #[derive(Drop)]
 pub(crate) struct Space {
     pub(crate) extents: Vec<u128>,
@@ -26,10 +26,9 @@ pub(crate) struct Space {
     pub(crate) indices: Option<Vec<Selection>>,
     ghost sized: { space_count extents.items ≡ count },
     ghost few: { count ≤ MAX_TUPLES },
-    ghost rank: { length extents.items ≤ 7 },
 }
 
-/// The space of a section, whose tuples are positions. One of more than seven dimensions is answered as want of memory.
+/// The space of a section, whose tuples are positions.
 pub(crate) fn section_space(
     alloc: Global,
     slots: &[i64],
@@ -40,7 +39,7 @@ pub(crate) fn section_space(
 {
     let ds = selections_at(alloc, slots, &[], over)?;
     let extents = extents(alloc, &ds)?;
-    sized(extents, None)
+    Ok(sized(extents, None))
 }
 
 /// The space of the indices of a FORALL, whose tuples are their values.
@@ -50,35 +49,32 @@ pub(crate) fn index_space(alloc: Global, slots: &[i64], over: &[Sub]) -> Result<
 {
     let ds = selections_at(alloc, slots, &[], over)?;
     let extents = extents(alloc, &ds)?;
-    sized(extents, Some(ds))
+    Ok(sized(extents, Some(ds)))
 }
 
 /// The space with these extents, and these values of indices.
-fn sized(extents: Vec<u128>, indices: Option<Vec<Selection>>) -> Result<Space, OutOfMemory>
-    ensures extents { IfOk result (λ s. s.extents ≡ extents) }
-    ensures indices { IfOk result (λ s. s.indices ≡ indices) }
+fn sized(extents: Vec<u128>, indices: Option<Vec<Selection>>) -> Space
+    ensures extents { result.extents ≡ extents }
+    ensures indices { result.indices ≡ indices }
 {
-    if extents.len() > MAX_RANK {
-        return Err(OutOfMemory);
-    }
     let count = space_count(&extents);
-    Ok(Space {
+    Space {
         extents,
         count,
         indices,
-    })
+    }
 }
 
 impl Space {
     /// The entries of a tuple.
-    pub(crate) fn entries(&self, tuple: usize) -> Result<Tuple, OutOfMemory>
-        requires { tuple < space_count self.now.extents.items }
-        ensures { IfOk result (λ x. x ≡ entries_in (option_map (λ ds. ds.items) self.now.indices) self.now.extents.items tuple) }
+    pub(crate) fn entries(&self, tuple: usize) -> Result<SmallVec<i64, 7>, OutOfMemory>
+        ensures { IfOk result (λ x. x.items ≡ entries_in (option_map (λ ds. ds.items) self.now.indices) self.now.extents.items tuple) }
     {
-        let x = positions(&self.extents, tuple);
+        let alloc = *self.extents.allocator();
+        let x = positions(alloc, &self.extents, tuple)?;
         match &self.indices {
             None => Ok(x),
-            Some(ds) => index_values(ds, &x),
+            Some(ds) => Ok(subscripts_at(alloc, ds, x.as_slice())?),
         }
     }
 
@@ -91,14 +87,4 @@ impl Space {
             Some(_) => x,
         }
     }
-}
-
-/// The values of indices at a tuple of positions.
-fn index_values(ds: &[Selection], x: &Tuple) -> Result<Tuple, OutOfMemory>
-    ensures { IfOk result (λ y. y ≡ subscripts_at ds.now x.now) }
-{
-    if ds.len() > MAX_RANK {
-        return Err(OutOfMemory);
-    }
-    Ok(subscripts_at(ds, x.as_slice()))
 }

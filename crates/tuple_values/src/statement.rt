@@ -1,9 +1,5 @@
 //! Parallel statements, once the slots are known.
 
-ghost use Rattle.std.specs.Prelude.{◌≤◌};
-ghost use Rattle.tuple_values.specs.Statements.{kept_rank};
-ghost use Rattle.tuple_values.specs.Targets.{target as target_of};
-
 use crate::right::Right;
 use crate::space::Space;
 use crate::target::Target;
@@ -24,5 +20,4 @@ pub struct ParallelStatement<'a> {
     pub(crate) right: Right<'a>,
     /// What a reduction makes of the values, where it is one.
     pub(crate) made: Option<Made>,
-    ghost target_rank: { kept_rank (target_of target) ≤ 7 },
 }

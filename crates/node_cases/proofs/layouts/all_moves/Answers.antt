@@ -4,5 +4,5 @@ use Rattle.array_maps.specs.Maps.{AreNewMaps}
 use Rattle.node_cases.proofs.layouts.all_moves.Goals as goal
 
 pub new_mappings-requires-clause-new : goal.new_mappings-requires-clause-new
-new_mappings-requires-clause-new c = subst (AreNewMaps c.args.nodes c.args.maps.now.arrays) (sym c.new-item.is)
-    (All-get_or (AreNewMaps c.args.nodes c.args.maps.now.arrays) c.args.all.now c.loop-new.new-index c.new-item.result c.loop-new-test.true c.requires.all)
+new_mappings-requires-clause-new c = subst (λ r. AreNewMaps c.args.nodes c.args.maps.now.arrays r.maps) (sym c.one-item.is)
+    (All-get_or (λ r. AreNewMaps c.args.nodes c.args.maps.now.arrays r.maps) c.args.all.now c.loop-one.one-index c.one-item.result c.loop-one-test.true c.requires.all)

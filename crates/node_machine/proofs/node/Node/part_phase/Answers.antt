@@ -25,7 +25,6 @@ returns c =
           ∙ c.in_ok-opening.ensures.is (part_of (part_on a c.args.who w)) refl ∙ c.requires.opens.opened;
       targets = c.in_ok-opening.ensures.targets;
       sources = c.in_ok-opening.ensures.sources;
-      room = c.in_ok-received.ensures.len;
       exchange = c.in_ok-found.ensures;
       lists = exchange-lists (part_on a c.args.who w) a.id e (exchange-by a _ w c.args.who e c.requires.opens.is c.in_ok-found.ensures);
     }

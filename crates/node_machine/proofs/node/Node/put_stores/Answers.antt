@@ -10,5 +10,6 @@ invariant_of-self c = record {
   pieces = ap length c.apply.ensures ∙ stored-length c.args.stores.now.list.items c.self.inside.pieces.items ∙ c.self.invariant.pieces;
   next_to = c.self.invariant.next_to;
   next_from = c.self.invariant.next_from;
+  fits = c.self.invariant.fits;
   exchanges = c.self.invariant.exchanges;
 }

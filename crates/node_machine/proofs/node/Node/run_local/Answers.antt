@@ -5,7 +5,7 @@ use Rattle.node_code.specs.ProgramText.{text_meaning}
 use Rattle.node_code.specs.Texts.{instruction}
 use Rattle.slot_values.specs.Controls.{control_of}
 use Rattle.slot_values.specs.LocalInstructions.{local_control}
-use Rattle.node_machine.specs.Programs.{code_of, mappings_of}
+use Rattle.node_program.specs.Programs.{code_of, mappings_of}
 use Rattle.node_machine.specs.Steps.{IsLocalAt}
 use Rattle.node_machine.specs.Views.{node_of}
 use Rattle.node_machine.proofs.Instructions.{instr_at-is, local-inside, local-step, local-text}

@@ -6,5 +6,4 @@ pub invariant_of-self : goal.invariant_of-self
 invariant_of-self c = (
   c.self.invariant.0,
   rest-below (λ s. s) c.self.inside.inbox.items c.pop_front.new.self.items c.in-Some.source c.self.inside.next_from.items c.in-Some.source ((c.index.result.now + 1) % 18446744073709551616) c.in-Some.ensures.items c.self.invariant.1,
-  rest-below (λ s. s) c.self.inside.inbox.items c.pop_front.new.self.items c.in-Some.source c.self.inside.received.items c.in-Some.source c.args.body c.in-Some.ensures.items c.self.invariant.2,
 )

@@ -1,4 +1,4 @@
-use Rattle.std.proofs.Common.{map, refl, sym, ◌∙◌, ap, arith}
+use Rattle.std.proofs.Common.{map, sym, ◌∙◌, ap, arith}
 use Rattle.std.specs.List.{range_with_len}
 use Rattle.machine_steps.specs.Layout.{sizes}
 use Rattle.machine_steps.specs.Message.{remap_message}
@@ -11,9 +11,9 @@ invariant_of-result c =
     let after = c.in_ok-after.ensures in
     let many = ap (λ o. o.nodes) before in
     record {
-      nodes = many ∙ c.if-not-are_sized_alike.ensures.nodes refl ∙ sym (ap (λ o. o.nodes) after);
-      sizes = ap (λ o. sizes o.layouts) before ∙ c.if-not-are_sized_alike.ensures.sizes refl ∙ sym (ap (λ o. sizes o.layouts) after);
-      node = omega (arith, c.if-id-nodes.false, c.nodes.ensures.value, many);
+      nodes = many ∙ c.requires.nodes ∙ sym (ap (λ o. o.nodes) after);
+      sizes = ap (λ o. sizes o.layouts) before ∙ c.requires.sizes ∙ sym (ap (λ o. sizes o.layouts) after);
+      node = omega (arith, c.requires.node, many);
       rounds = c.in_ok-rounds.ensures ∙ sym (λ i. remap_rounds (before i).nodes (before i).layouts (after i).layouts);
       outgoing = c.in_ok-outgoing.ensures
           ∙ sym (λ i. map (remap_message (before i).nodes (before i).layouts (after i).layouts c.args.id) (range_with_len 0 (before i).nodes));

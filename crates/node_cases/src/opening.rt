@@ -1,0 +1,119 @@
+//! The nodes of a case before the first instruction.
+
+ghost use Rattle.std.specs.Prelude.{◌≤◌};
+ghost use Rattle.hpf_base.specs.declared.limits.TheConstants.{MAX_NODES};
+ghost use Rattle.array_maps.specs.Maps.{AreMaps};
+
+use crate::arrays::{grid_of, shapes_of, starts_of};
+use crate::fitting::fits;
+use crate::instructions::read_code;
+use crate::layouts::{Moves, moves_of, owners_of};
+use crate::words::line_of;
+use array_maps::Maps;
+use case_texts::text_of;
+use directive_check::check_mapping;
+use hpf_reader::read_program;
+use name_table::{Program, resolve};
+use node_machine::Node;
+use node_program::NodeProgram;
+use owner_tables::Owners;
+use std::alloc::Global;
+use std::sync::Arc;
+
+/// The nodes of a grid that run a case.
+pub fn nodes_on(alloc: Global, case: &[String], grid: &str) -> Option<Vec<Node>> {
+    let grid = grid_of(alloc, grid)?;
+    let nodes = grid.node_count();
+    if nodes == 0 {
+        return None;
+    }
+    let text = text_of(alloc, line_of(case, "text")).ok()?;
+    match read_program(alloc, &text) {
+        Ok(tree) => match resolve(alloc, tree) {
+            Ok(program) => match check_mapping(alloc, &program, &grid) {
+                Ok(maps) => nodes_over(alloc, case, &program, &maps, nodes),
+                Err(_) => None,
+            },
+            Err(_) => None,
+        },
+        Err(_) => None,
+    }
+}
+
+/// The nodes, so many, over which the arrays lie as these mappings say.
+fn nodes_over(
+    alloc: Global,
+    case: &[String],
+    program: &Program,
+    maps: &Maps,
+    nodes: u32,
+) -> Option<Vec<Node>>
+    requires some { 1 ≤ nodes }
+    requires few { nodes ≤ MAX_NODES }
+    requires valid { AreMaps nodes maps.now }
+{
+    let code = node_program(alloc, case, program, maps, nodes)?;
+    let copies = line_of(case, "copies").parse::<usize>().unwrap_or(0);
+    let owners = owners_of(alloc, maps.arrays.as_slice(), copies, nodes).ok()?;
+    let starts = starts_of(alloc, program, copies)?;
+    openings(alloc, case, &code, &owners, &starts)
+}
+
+/// What the nodes run: the case's code, over the arrays and redistributions of its text.
+fn node_program(
+    alloc: Global,
+    case: &[String],
+    program: &Program,
+    maps: &Maps,
+    nodes: u32,
+) -> Option<Arc<NodeProgram>>
+    requires some { 1 ≤ nodes }
+    requires few { nodes ≤ MAX_NODES }
+    requires valid { AreMaps nodes maps.now }
+{
+    let Moves { moves, tables } = moves_of(alloc, maps, nodes).ok()?;
+    let mut moves = moves;
+    let code = read_code(alloc, case, &mut moves)?;
+    let shapes = shapes_of(alloc, program)?;
+    let program = NodeProgram {
+        nodes,
+        shapes,
+        tables,
+        code,
+    };
+    Arc::new(alloc, program).ok()
+}
+
+/// The nodes of these tables, with these values of the rows at the start and the case's slots.
+fn openings(
+    alloc: Global,
+    case: &[String],
+    program: &Arc<NodeProgram>,
+    owners: &Owners,
+    starts: &[i64],
+) -> Option<Vec<Node>> {
+    if program.nodes != owners.nodes() || starts.len() != owners.rows() {
+        return None;
+    }
+    if !fits(program, owners) {
+        return None;
+    }
+    let slots = numbers_of(alloc, line_of(case, "slots"))?;
+    let mut nodes = Vec::new(alloc);
+    for id in 0..owners.nodes() {
+        let node = Node::opening(alloc, program, id, owners, &slots, starts).ok()?;
+        nodes.push(node).ok()?;
+    }
+    Some(nodes)
+}
+
+/// The numbers in a line.
+fn numbers_of(alloc: Global, line: &str) -> Option<Vec<i64>> {
+    let mut numbers = Vec::new(alloc);
+    if !line.is_empty() {
+        for word in line.split(' ') {
+            numbers.push(word.parse::<i64>().ok()?).ok()?;
+        }
+    }
+    Some(numbers)
+}

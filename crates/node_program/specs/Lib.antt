@@ -1,0 +1,6 @@
+pub mod Codes
+pub mod Fits
+pub mod Openings
+pub mod PrintedLines
+pub mod Programs
+pub mod Results
