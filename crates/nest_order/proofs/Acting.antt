@@ -86,9 +86,9 @@ module _ {A C F : Type 0} (S : Interpretation A C F) (N : Names A C Spot) (W : A
         good_append (flat_branches branches g [] k) (flat rest g k') (all_branches_good branches g [] k each.0 below tt (omega arith))
         (all_good rest g k' each.1 (below-more g k k' (omega arith) below) (omega arith))
     all_good (Repeat t body rest) g k each below le =
-        let k' = k + most t (λ x. count_items (body x)) in
+        let k' = k + most (suc t) (λ x. count_items (body x)) in
         good_append (joined_up_to t (λ x. flat (body x) g k)) (flat rest g k')
-        (good_turns (λ x. flat (body x) g k) t (λ x lt. all_good (body x) g k (each.0 x lt) below (let z = below_most t (λ y. count_items (body y)) x lt in omega arith)))
+        (good_turns (λ x. flat (body x) g k) t (λ x lt. all_good (body x) g k (each.0 x lt) below (let z = below_most (suc t) (λ y. count_items (body y)) x (omega (arith, lt)) in omega arith)))
         (all_good rest g k' each.1 (below-more g k k' (omega arith) below) (omega arith))
 
     all_branches_good : (branches : Branches A C) (g : Option ℕ) (es : List ℕ) (k : ℕ)

@@ -288,12 +288,12 @@ module _ {A C F M : Type 0} (one : Interpretation A C F) (kinds : ℕ → Kind) 
             (sym
             (acts a y
             ∙ ap (λ f. does i (own_effect kinds i f) y)
-            (red.is seen
+            (red.is seen (subst (FitsSigned w64) (sym copy) (h.fits by.row red.op red.kind)) (λ st e'. (red.good s st h.fit (red.near s seen h.alike_s like same_reads ∙ e')).1)
             ∙ ap (λ st. reduced_effect by.row red.op st (read seen (scalar_at by.row))) (sym (red.near s seen h.alike_s like same_reads))
             ∙ ap (reduced_effect by.row red.op (by.statement s)) copy)))
             (subst
             (λ f. Follows (assigned_too before a) (then_apply f s)
-            (does i (own_effect kinds i (reduced_effect by.row red.op (by.statement s) (read (store y) (copy_at by.row i)))) y)) (sym (red.is s))
+            (does i (own_effect kinds i (reduced_effect by.row red.op (by.statement s) (read (store y) (copy_at by.row i)))) y)) (sym (red.is s (h.fit (scalar_at by.row)) (λ st e'. (red.good s st h.fit e').1)))
             (go (by.statement s) refl))
           where
             go : (st : Result Statement F) → by.statement s ≡ st →

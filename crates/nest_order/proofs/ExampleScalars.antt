@@ -88,7 +88,7 @@ add_is from may_from = (
     op = Sum;
     kind = refl;
     near = λ m m' h g agree. ap (λ v. Ok (OnRight v)) (agree from (0, omega arith, refl));
-    is = λ m. refl;
+    is = λ m fits value_fits. refl;
     good = λ m statement fit e. let same : OnRight (read m from) ≡ statement = cc in subst (λ s. IsOf Sum s × FitsSigned w64 (value_in s)) same (tt, fit from);
     stores = (0, omega arith, refl);
   },

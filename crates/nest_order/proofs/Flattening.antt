@@ -122,10 +122,10 @@ module _ {A C M F : Type 0} (E : Evaluation A C M F) where
         (λ d kept. skipped_below k (k + count_branches branches) (flat rest g (k + count_branches branches)) m d (omega arith)
         (skip rest g (k + count_branches branches) (below-more g k (k + count_branches branches) (omega arith) below) m d (holds_kept g k c d below kept ∙ off)))
     skip (Repeat t body rest) g k below m c off =
-        skipped_append k (joined_up_to t (λ x. flat (body x) g k)) (flat rest g (k + most t (λ x. count_items (body x)))) m c
+        skipped_append k (joined_up_to t (λ x. flat (body x) g k)) (flat rest g (k + most (suc t) (λ x. count_items (body x)))) m c
         (skipped_turns k g (λ x. flat (body x) g k) m below (λ x d h. skip (body x) g k below m d h) t c off)
-        (λ d kept. skipped_below k (k + most t (λ x. count_items (body x))) (flat rest g (k + most t (λ x. count_items (body x)))) m d (omega arith)
-        (skip rest g (k + most t (λ x. count_items (body x))) (below-more g k (k + most t (λ x. count_items (body x))) (omega arith) below) m d
+        (λ d kept. skipped_below k (k + most (suc t) (λ x. count_items (body x))) (flat rest g (k + most (suc t) (λ x. count_items (body x)))) m d (omega arith)
+        (skip rest g (k + most (suc t) (λ x. count_items (body x))) (below-more g k (k + most (suc t) (λ x. count_items (body x))) (omega arith) below) m d
         (holds_kept g k c d below kept ∙ off)))
 
     skip_branches : (branches : Branches A C) (g : Option ℕ) (es : List ℕ) (k : ℕ) → IsBelow g k → AllBelow es k → (m : M) (c : Conditions)
@@ -190,7 +190,7 @@ module _ {A C M F : Type 0} (E : Evaluation A C M F) where
         (λ m' d kept. Matches-below k k' c d (do_parts E (flat rest g k') (at m' d)) (exec E rest m') (omega arith) kept
         (items_done rest g k' (below-more g k k' (omega arith) below) m' d (holds_kept g k c d below kept ∙ on)))
     items_done (Repeat t body rest) g k below m c on =
-        let k' = k + most t (λ x. count_items (body x)) in
+        let k' = k + most (suc t) (λ x. count_items (body x)) in
         then_matches k k c c (at m c) (joined_up_to t (λ x. flat (body x) g k)) (flat rest g k') (in_turn t (λ x. exec E (body x)) m) (exec E rest)
         (matches_turns k g (λ x. flat (body x) g k) (λ x. exec E (body x)) below (λ x m d h. items_done (body x) g k below m d h) t m c on)
         (λ m' d kept. Matches-below k k' c d (do_parts E (flat rest g k') (at m' d)) (exec E rest m') (omega arith) kept

@@ -1,14 +1,14 @@
 mod Parting
 mod Flattening
-mod Touching
-mod LastCopy
-mod Copying
+pub mod Touching
+pub mod LastCopy
+pub mod Copying
 mod Beside
 mod ScalarLaws
-mod WholeNest
-mod Numbering
+pub mod WholeNest
+pub mod Numbering
 mod Reducing
-mod Acting
+pub mod Acting
 mod ActNumbers
 mod Outcomes
 mod Observing

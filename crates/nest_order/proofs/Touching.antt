@@ -121,7 +121,7 @@ module _ {A C L M F : Type 0} (E : Evaluation A C M F) (N : Names A C L) where
         (stays_more (flat rest g k') after k k' allowed allowed (omega arith) (λ x h. h)
         (untouched rest g k' (below-more g k k' (omega arith) below) after (holds_kept g k s.conditions after.conditions below first.kept ∙ off) allowed))
     untouched (Repeat t body rest) g k below s off allowed =
-        let k' = k + most t (λ x. count_items (body x)) in
+        let k' = k + most (suc t) (λ x. count_items (body x)) in
         let ps = joined_up_to t (λ x. flat (body x) g k) in
         let first = stays_turns (λ x. flat (body x) g k) k allowed false g below t (λ x lt s' h. untouched (body x) g k below s' h allowed) s off in
         let after = go_on_all E ps s in
@@ -175,7 +175,7 @@ module _ {A C L M F : Type 0} (E : Evaluation A C M F) (N : Names A C L) where
         (stays_more (flat rest g k') after k k' (listed N rest) (one ++ listed N rest) (omega arith) (in_right one (listed N rest))
         (items_listed rest known.1 g k' (below-more g k k' (omega arith) below) after (holds_kept g k s.conditions after.conditions below first.kept ∙ on)))
     items_listed (Repeat t body rest) known g k below s on =
-        let k' = k + most t (λ x. count_items (body x)) in
+        let k' = k + most (suc t) (λ x. count_items (body x)) in
         let ps = joined_up_to t (λ x. flat (body x) g k) in
         let one = joined_up_to t (λ x. listed N (body x)) in
         let first = stays_turns (λ x. flat (body x) g k) k one true g below t

@@ -1,5 +1,5 @@
 -- A nest of statements as acts of parts on one storage, with the stored conditions in rows of their own.
-use Rattle.std.specs.Prelude.{◌≡◌, ℕ, zero, suc, ◌+◌, ◌<◌, List, [], ◌∷◌, ◌++◌, length, slice_get, ℤ, pos, negsuc, Option, Some, None, Result, Ok, Err, Bool, true, false, if◌then◌else◌}
+use Rattle.std.specs.Prelude.{◌≡◌, ℕ, zero, suc, ◌+◌, ◌<◌, List, [], ◌∷◌, ◌++◌, length, slice_get, ℤ, pos, Option, Some, None, Result, Ok, Err, Bool, if◌then◌else◌}
 use Rattle.std.specs.List.{Contains}
 use Rattle.nest_order.specs.Turns.{in_turn, joined_up_to}
 use Rattle.storage.specs.Storage.{Storage, Spot, row_of, read, Alike}

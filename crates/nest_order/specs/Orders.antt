@@ -1,9 +1,9 @@
 -- The orders of the parts of a nest: iteration by iteration, part by part, and each iteration alone.
-use Rattle.std.specs.Prelude.{◌≡◌, ℕ, zero, suc, ◌<◌, ◌⊎◌, List, ℤ, Result}
+use Rattle.std.specs.Prelude.{◌≡◌, ℕ, zero, suc, ◌<◌, List, ℤ, Result}
 use Rattle.std.specs.List.{Contains}
 use Rattle.nest_order.specs.Turns.{in_turn}
 use Rattle.storage.specs.Storage.{Storage, Spot, read, Alike}
-use Rattle.storage.specs.Effect.{Effect, Put, Fail, apply, then_apply, scatter}
+use Rattle.storage.specs.Effect.{Effect, Put, apply, then_apply}
 
 -- `act i j m` is what part j does at iteration i from the storage m, and `start` is the storage at the nest's entry
 module _ {F : Type 0} (act : ℕ → ℕ → Storage → Effect F) (start : Storage) where

@@ -48,12 +48,14 @@ most (suc count) numbers = max (most count numbers) (numbers count)
 
 module _ {A C : Type 0} where
   abbrev mutual
-    -- how many stored conditions the statements have: one for each branch, and not one for each trip of an inner loop
+    -- how many stored conditions the statements have: one for each branch, and not one for each trip of an inner loop. The body
+    -- of an inner loop without a trip has its numbers too: what a trip more would have is among them, so the numbers after the loop
+    -- are those of the text
     pub count_items : Items A C → ℕ
     count_items Done = 0
     count_items (Then action rest) = count_items rest
     count_items (If branches rest) = count_branches branches + count_items rest
-    count_items (Repeat trips body rest) = most trips (λ x. count_items (body x)) + count_items rest
+    count_items (Repeat trips body rest) = most (suc trips) (λ x. count_items (body x)) + count_items rest
 
     pub count_branches : Branches A C → ℕ
     count_branches EndIf = 0
@@ -66,7 +68,7 @@ module _ {A C : Type 0} where
     flat Done guard k = []
     flat (Then action rest) guard k = Acts guard action ∷ flat rest guard k
     flat (If branches rest) guard k = flat_branches branches guard [] k ++ flat rest guard (k + count_branches branches)
-    flat (Repeat trips body rest) guard k = joined_up_to trips (λ x. flat (body x) guard k) ++ flat rest guard (k + most trips (λ x. count_items (body x)))
+    flat (Repeat trips body rest) guard k = joined_up_to trips (λ x. flat (body x) guard k) ++ flat rest guard (k + most (suc trips) (λ x. count_items (body x)))
 
     pub flat_branches : Branches A C → Option ℕ → List ℕ → ℕ → List (NestPart A C)
     flat_branches EndIf guard earlier k = []

@@ -89,12 +89,15 @@ module _ {A C F : Type 0} (one : Interpretation A C F) (kinds : ℕ → Kind) (r
     pub writable : MayNameAll kinds (written action)
     pub fits : (m : Storage) (spot : Spot) (value : ℤ) → AllFit m → one.effect action m ≡ Put spot value → FitsSigned w64 value
 
-  -- a reduction statement is one of its variable's operator, over 64 bits. Its expression depends on what it reads alone
+  -- a reduction statement is one of its variable's operator, over 64 bits: what it stores is said where its variable and its expression have
+  -- such values. Its expression depends on what it reads alone
   pub record IsReduction (action : A) (by : Reducing F) : Type 0 where
     pub op : Join
     pub kind : kinds by.row ≡ Reduced op
     pub near : (m m' : Storage) → Alike m start → Alike m' start → AgreeOn (reads.of_action action) m m' → by.statement m ≡ by.statement m'
-    pub is : (m : Storage) → one.effect action m ≡ reduced_effect by.row op (by.statement m) (read m (scalar_at by.row))
+    pub is : (m : Storage) → FitsSigned w64 (read m (scalar_at by.row))
+        → ((statement : Statement) → by.statement m ≡ Ok statement → FitsSigned w64 (value_in statement))
+        → one.effect action m ≡ reduced_effect by.row op (by.statement m) (read m (scalar_at by.row))
     pub good : (m : Storage) (statement : Statement) → AllFit m → by.statement m ≡ Ok statement → IsOf op statement × FitsSigned w64 (value_in statement)
     pub stores : Contains (written action) (scalar_at by.row)
 

@@ -1,0 +1,5 @@
+mod Lists
+pub mod FirstOfAll
+mod Visiting
+mod Scanning
+mod OneClash

@@ -1,0 +1,7 @@
+use Rattle.std.proofs.Common.{refl}
+use Rattle.nest_entry.specs.Clashes.{first_clash}
+use Rattle.nest_clash.proofs.FirstOfAll.{tells_first}
+use Rattle.nest_clash.proofs.laws.first_clashes.Goals as goal
+
+pub returns : goal.returns
+returns c touched n = tells_first touched n (first_clash touched n) refl

@@ -1,0 +1,3 @@
+pub mod FirstClash
+pub mod Visits
+pub mod Scan

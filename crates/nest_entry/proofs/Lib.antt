@@ -1,0 +1,2 @@
+mod Shorthands
+mod NestExamples

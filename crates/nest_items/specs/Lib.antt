@@ -1,0 +1,10 @@
+pub mod StateStorage
+pub mod NestItems
+pub mod NestKinds
+pub mod Naming
+pub mod Settled
+pub mod Standing
+pub mod NestForm
+pub mod NestEnds
+pub mod Paths
+pub mod BlockForms

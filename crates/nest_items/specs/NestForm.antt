@@ -1,0 +1,99 @@
+-- What may stand in a nest by its form alone (HPF 2.0, 5.1): as `Standing`, without a state.
+use Rattle.std.specs.Prelude.{◌≡◌, ℕ, List, [], ◌∷◌, ℤ, Bool, true, false, ◌&&◌, Option, Some, None, option_and_then, FitsSigned}
+use Rattle.std.specs.Int.{w64}
+use Rattle.op_tables.specs.declared.op.Op.{Op}
+use Rattle.op_tables.specs.declared.op.Op.TheVariants as op
+use Rattle.op_tables.specs.Operators.{operator_value, is_zero}
+use Rattle.nest_order.specs.Copies.{Kind, has_copies}
+use Rattle.array_meaning.specs.Terms.{Term, Number, Scalar, Apply, Terms, NoTerm, More}
+use Rattle.array_meaning.specs.Statements.{Loop, Nest, Block, Done, Then, Statement, AssignScalar, AssignElement, If, Do, Continue, Mark, Unmarked, Arms, NoArm, Arm}
+use Rattle.nest_items.specs.Standing.{IsFixedTerm, AreFixedTerms, Stands, RightKind, has_no_loop, have_no_loop}
+use Rattle.nest_items.specs.Settled.{without}
+
+-- the operators of subscripts and bounds, none of which has a fault
+abbrev pub is_linear_operator : Op → Bool
+is_linear_operator op.Neg = true
+is_linear_operator op.Plus = true
+is_linear_operator op.Add = true
+is_linear_operator op.Sub = true
+is_linear_operator op.Mul = true
+is_linear_operator o = false
+
+-- an expression of numbers and scalars by these, so that it has a value of 64 bits in any state whose scalars have such
+abbrev mutual
+  pub IsExact : Term → Type 0
+  IsExact (Number v) = FitsSigned w64 v
+  IsExact (Scalar k) = Unit {0}
+  IsExact (Apply o ts) = (is_linear_operator o ≡ true) × AreExact ts
+  IsExact t = ⊥
+
+  pub AreExact : Terms → Type 0
+  AreExact NoTerm = Unit {0}
+  AreExact (More t ts) = IsExact t × AreExact ts
+
+-- the value of an expression of numbers and operators, where it has one
+abbrev pub with_closed : Option ℤ → Option (List ℤ) → Option (List ℤ)
+with_closed (Some v) (Some vs) = Some (v ∷ vs)
+with_closed a b = None
+
+abbrev mutual
+  pub closed_value : Term → Option ℤ
+  closed_value (Number v) = Some v
+  closed_value (Apply o ts) = option_and_then (operator_value o) (closed_values ts)
+  closed_value t = None
+
+  pub closed_values : Terms → Option (List ℤ)
+  closed_values NoTerm = Some []
+  closed_values (More t ts) = with_closed (closed_value t) (closed_values ts)
+
+-- a constant other than 0
+pub record IsStep (t : Term) : Type 0 where
+  pub number : ℤ
+  pub is : closed_value t ≡ Some number
+  pub nonzero : is_zero number ≡ false
+
+-- `kinds` says what each name is to the nest. `free` are the indices of loops that aren't round a text
+module _ (kinds : ℕ → Kind) where
+  -- a loop: its index is free round it, its bounds are fixed and exact, and its step is a constant other than 0
+  pub record IsKeptLoop (free : ℕ → Bool) (mark : Mark) (loop : Loop) : Type 0 where
+    pub unmarked : mark ≡ Unmarked
+    pub index : has_copies (kinds loop.index) ≡ false
+    pub unseen : free loop.index ≡ true
+    pub first : IsFixedTerm kinds free loop.control.first
+    pub last : IsFixedTerm kinds free loop.control.last
+    pub step : IsFixedTerm kinds free loop.control.step
+    pub first_exact : IsExact loop.control.first
+    pub last_exact : IsExact loop.control.last
+    pub step_exact : IsStep loop.control.step
+
+  abbrev mutual
+    pub BlockKeeps : (ℕ → Bool) → Block → Type 0
+    BlockKeeps free Done = Unit {0}
+    BlockKeeps free (Then line statement rest) = StatementKeeps free statement × BlockKeeps free rest
+
+    pub StatementKeeps : (ℕ → Bool) → Statement → Type 0
+    StatementKeeps free (AssignScalar k t) = (has_copies (kinds k) ≡ true) × Stands kinds free (Some k) t × RightKind kinds free k t (kinds k)
+    StatementKeeps free (AssignElement a ts t) = (has_copies (kinds a) ≡ false) × AreFixedTerms kinds free ts × Stands kinds free None t
+    StatementKeeps free (If arms other) = ArmsKeep free arms × BlockKeeps free other × ((have_no_loop arms && has_no_loop other) ≡ true)
+    StatementKeeps free (Do mark loop body) = IsKeptLoop free mark loop × BlockKeeps (without free loop.index) body
+    StatementKeeps free Continue = Unit {0}
+    StatementKeeps free statement = ⊥
+
+    pub ArmsKeep : (ℕ → Bool) → Arms → Type 0
+    ArmsKeep free NoArm = Unit {0}
+    ArmsKeep free (Arm line t body arms) = Stands kinds free None t × BlockKeeps free body × ArmsKeep free arms
+
+  -- the loops inside the outermost one, each with the next as its whole block; no control names an index
+  abbrev pub LoopsKeep : (all free : ℕ → Bool) → List Loop → Block → Block → Type 0
+  LoopsKeep all free [] block body = (block ≡ body) × BlockKeeps free body
+  LoopsKeep all free (l ∷ ls) block body = (line : ℕ) × (inner : Block) × (block ≡ Then line (Do Unmarked l inner) Done)
+      × IsKeptLoop all Unmarked l × (free l.index ≡ true) × LoopsKeep all (without free l.index) ls inner body
+
+  -- a nest: `all` are its indices and those of the loops in it
+  pub record IsNest (all : ℕ → Bool) (nest : Nest) (loop : Loop) (block body : Block) : Type 0 where
+    pub inner : List Loop
+    pub loops : nest.loops ≡ loop ∷ inner
+    pub index : has_copies (kinds loop.index) ≡ false
+    pub unseen : all loop.index ≡ true
+    pub quiet : (k : ℕ) → has_copies (kinds k) ≡ true → all k ≡ false
+    pub tight : LoopsKeep all (without all loop.index) inner block body

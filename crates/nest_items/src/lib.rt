@@ -1,0 +1,23 @@
+//! The statements of a nest of INDEPENDENT loops as those of the law of nests.
+//!
+//! Comes in: nests whose names are resolved and what `run` does with them (`array_meaning`), their entry (`nest_entry`), and the statements
+//! over storages of `nest_order`. Goes out: what a nest's statements are there and what may stand in a nest, as definitions in `specs/`, and laws,
+//! each the contract of a function that does nothing. No program is here, and no code that runs.
+//!
+//! What holds in between:
+//!
+//! - `StateStorage`, `NestItems`: a state over a storage of rows. What a text does to a storage is what the meaning does to that state, so
+//!   expressions have no second meaning.
+//! - `NestKinds`, `Naming`, `Standing`, `Paths`: what each name is to a nest, and what may stand in one, by rules over resolved statements.
+//! - `Settled`, `NestEnds`: which state is left: the indices of loops are as the loops leave them, and all else as the storage has it.
+//! - `NestForm`, `BlockForms` and `keeping_nests_stand`: the same rules without a state, of a nest and of all nests in a block. What keeps them stands in each
+//!   state whose scalars are numbers of 64 bits.
+//! - `nests_end`: a nest that keeps the rules and that is entered ends as plain loops over its iterations do. Today `run` doesn't ask whether a nest is
+//!   entered, and the law has it as a premise that its proof doesn't need; once `run` asks, the law holds as it is.
+#![tactic(auto)]
+
+mod ends;
+mod forms;
+
+pub use ends::nests_end;
+pub use forms::keeping_nests_stand;

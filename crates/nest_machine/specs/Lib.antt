@@ -1,0 +1,14 @@
+pub mod Counting
+pub mod Body
+pub mod Asked
+pub mod BodyCode
+pub mod Slots
+pub mod Trace
+pub mod Stands
+pub mod ItemsAt
+pub mod Finals
+pub mod Entries
+pub mod Placed
+pub mod PlacedEntry
+pub mod PlacedEnds
+pub mod Example

@@ -1,0 +1,14 @@
+mod Nearness
+mod Listings
+mod Clashes
+mod EachItem
+mod Rows
+mod Parallel
+mod OperatorRanges
+mod Fitting
+mod MayCopies
+mod Late
+mod Extents
+pub mod Parts
+pub mod Opening
+mod Example

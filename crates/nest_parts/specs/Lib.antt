@@ -1,0 +1,2 @@
+pub mod NestSpots
+pub mod NestParts

@@ -1,0 +1,17 @@
+mod Ruled
+mod PlacesOf
+mod Exprs
+mod Bodies
+mod Kept
+mod PathsOf
+mod Ties
+mod Loops
+mod Marked
+mod Accepted
+mod Operators
+mod Gathers
+mod Whole
+mod Programs
+mod Ranks
+mod DistinctNames
+mod ConstantSteps

@@ -1,0 +1,22 @@
+//! Nests of INDEPENDENT loops that break no rule may stand, resolved.
+//!
+//! Comes in: nests as abstract syntax, with the rules of names, types and nests (`name_table`, `nest_check`), and what may stand in a resolved nest
+//! (`nest_items`). Goes out: laws, each the contract of a function that does nothing. No code is here that runs.
+//!
+//! What holds in between:
+//!
+//! - What the rules say of names holds of their places (`Tied`): which are assigned, listed, indices or arrays.
+//! - Bounds, subscripts and right sides that keep the rules are such expressions resolved; so are statements, loops and paths.
+//! - The lists of all loops of the nest are those of its resolved mark, and its REDUCTION variables have one operator each.
+//!
+//! - What has subscripts in an expression with a type and a rank is no scalar, so no nest assigns it as one.
+//!
+//! - Each name stands once in a symbol table, so a constant expression has its value in the resolved program too.
+//!
+//! That the numbers in nests are of 64 bits is asked beside the rules: the abstract syntax has integers of any size, and a text that is read has none that
+//! is greater.
+#![tactic(auto)]
+
+mod laws;
+
+pub use laws::{kept_nests, programs_have_forms};

@@ -1,0 +1,5 @@
+use Rattle.nest_texts.proofs.Codes.{nest-means}
+use Rattle.nest_texts.proofs.laws.nests_coded.Goals as goal
+
+pub returns : goal.returns
+returns g c table among line over text_of test_of stored finals body b pc safe = nest-means table among line over text_of test_of stored finals body b pc safe
