@@ -297,7 +297,7 @@ def left_out(trouble, statement):
         return ["in directives NUMBER_OF_PROCESSORS(d) is the extent of the grid in dimension d"]
     if first == "REALIGN":
         return ["align with a template, and redistribute that: what is aligned with it moves with it"]
-    if first in ("REDISTRIBUTE", "INDEPENDENT"):
+    if first == "INDEPENDENT":
         return not_run_yet(trouble)
     if statement.directive or first == "DO" and tokens[2:3] == ["="]:
         return []
@@ -325,8 +325,8 @@ def left_out(trouble, statement):
 
 
 def not_run_yet(trouble):
-    if not trouble.words or not {"run", "serial"} & set(trouble.words):
+    if not trouble.words or not {"run", "serial", "messages"} & set(trouble.words):
         return []
-    action = next(word for word in trouble.words if word in ("run", "serial"))
+    action = next(word for word in trouble.words if word in ("run", "serial", "messages"))
     answer = trouble.questions.check()
     return [f"hpf check accepts the text, and hpf {action} doesn't run this yet"] if answer is not None and answer.status == 0 else []

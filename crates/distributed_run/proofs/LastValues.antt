@@ -12,9 +12,11 @@ use Rattle.storage.specs.Storage.{Spot, read}
 use Rattle.array_meaning.specs.Faults.{Fault}
 use Rattle.array_meaning.specs.Serial as serial
 use Rattle.array_meaning.specs.Serial.{Outcome}
+use Rattle.mappings.specs.declared.mapping.Mapping.{Mapping}
 use Rattle.machine_steps.specs.Instr.{Status, Running, Finished, Faulted}
 use Rattle.machine_steps.specs.Layout.{AreOwned, Layout, least_owner_of, owns_spot, sizes}
 use Rattle.machine_steps.specs.Node.{Node, local_read}
+use Rattle.node_code.specs.Instructions.{NewMapping}
 use Rattle.node_code.specs.ProgramText.{Text}
 use Rattle.node_run.proofs.Reading.{least-owns}
 use Rattle.nodes_lowered.specs.ProgramRuns.{AreLastNodes, end_by_status}
@@ -55,7 +57,8 @@ listed d xs n count =
     ext_get_or d (map (λ k. get_or xs k d) (range_with_len 0 n)) xs (made ∙ count)
     (λ i lt. get_or-map-range_with_len (λ k. get_or xs k d) 0 n i i d (omega (arith, lt, made)) (omega arith))
 
-module _ (nodes : ℕ) (p : MainProgram) (first : List Layout) (last : List (Node Text Fault)) (are : AreLastNodes nodes p first last)
+module _ (nodes : ℕ) (p : MainProgram) (maps : List Mapping) (moves : ℕ → List NewMapping) (first : List Layout) (last : List (Node Text Fault))
+    (are : AreLastNodes nodes p maps moves first last)
     (end : (serial.serial p).end ≡ serial.Finished) where
   abbrev n : ℕ
   n = length (entries p)

@@ -1,5 +1,9 @@
-mod Entries
-mod Layouts
+mod GridLaws
 mod LastValues
-mod ProgramOpenings
 mod NodesRun
+mod OverRuns
+mod StepLines
+mod PassedLines
+mod ProgramLines
+mod AcceptedLines
+mod NextLines

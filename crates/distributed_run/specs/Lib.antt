@@ -1,3 +1,5 @@
 pub mod Outcomes
-pub mod Starts
 pub mod Values
+pub mod ProgramMessages
+pub mod Listed
+pub mod StepLines

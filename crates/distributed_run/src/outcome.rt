@@ -2,7 +2,6 @@
 
 ghost use Rattle.std.specs.Prelude.{◌≡◌, ◌<◌, ◌≤◌, IfOk, IsSome, Some, length, map, pos, slice_get, slice_index_or};
 ghost use Rattle.std.specs.List.{range_with_len};
-ghost use Rattle.hpf_base.specs.ElementOrder.{product};
 ghost use Rattle.syntax_tree.specs.MainProgram.{main_program};
 ghost use Rattle.array_meaning.specs.Serial.{serial};
 ghost use Rattle.serial_run.specs.Outcomes.{end_seen};
@@ -11,8 +10,8 @@ ghost use Rattle.machine_steps.specs.Instr.{Finished};
 ghost use Rattle.machine_steps.specs.Layout.{AreOwned, sizes};
 ghost use Rattle.storage.specs.Spots.{spot_of};
 ghost use Rattle.slot_values.specs.Controls.{status_of};
-ghost use Rattle.nodes_lowered.specs.ProgramLayouts.{start_layouts};
-ghost use Rattle.nodes_lowered.specs.ProgramRuns.{AreLastNodes, end_by_status};
+ghost use Rattle.nodes_lowered.specs.GridRuns.{AreLastOnGrid};
+ghost use Rattle.nodes_lowered.specs.ProgramRuns.{end_by_status};
 ghost use Rattle.distributed_run.specs.Outcomes.{IsOutcome};
 ghost use Rattle.distributed_run.specs.Values.{row_values, value_of};
 
@@ -31,8 +30,7 @@ pub(crate) fn outcome_of(
     accepted: &AcceptedProgram<'_>,
     last: Vec<Node>,
 ) -> Result<NodesOutcome, OutOfMemory>
-    requires { AreLastNodes (product accepted.now.grid.now) (main_program accepted.now.program.tree)
-        (start_layouts accepted.now.grid.now (main_program accepted.now.program.tree)) last.items }
+    requires { AreLastOnGrid accepted.now.grid.now (main_program accepted.now.program.tree) last.items }
     ensures outcome { IfOk result (λ o. IsOutcome o (serial (main_program accepted.now.program.tree))) }
     ensures nodes { IfOk result (λ o. o.nodes.items ≡ last.items) }
 {
@@ -57,7 +55,7 @@ fn first(nodes: &[Node]) -> &Node
 }
 
 /// How a run has ended that is over.
-fn end_of(alloc: Global, status: &Status) -> Result<End, OutOfMemory>
+pub(crate) fn end_of(alloc: Global, status: &Status) -> Result<End, OutOfMemory>
     requires { IsSome (end_by_status (status_of status.now)) }
     ensures { IfOk result (λ end. end_by_status (status_of status.now) ≡ Some (end_seen end)) }
 {

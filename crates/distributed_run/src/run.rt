@@ -1,14 +1,13 @@
 //! The run.
 
 ghost use Rattle.std.specs.Prelude.{◌≡◌, ◌<◌, ◌^◌, IfOk, length, slice_get};
-ghost use Rattle.hpf_base.specs.ElementOrder.{product};
 ghost use Rattle.syntax_tree.specs.MainProgram.{main_program};
 ghost use Rattle.array_meaning.specs.Serial.{serial};
 ghost use Rattle.node_law.specs.Cores.{start};
 ghost use Rattle.node_law.specs.Phases.{Lockstep};
 ghost use Rattle.node_law.specs.Reached.{EndsInLockstep};
-ghost use Rattle.nodes_lowered.specs.ProgramLayouts.{start_layouts};
-ghost use Rattle.nodes_lowered.specs.ProgramRuns.{AreLastNodes, program_nodes, program_steps};
+ghost use Rattle.nodes_lowered.specs.GridRuns.{AreLastOnGrid, grid_nodes};
+ghost use Rattle.nodes_lowered.specs.ProgramRuns.{program_steps};
 ghost use Rattle.distributed_run.specs.Outcomes.{IsOutcome};
 
 use crate::openings::first_nodes;
@@ -17,6 +16,7 @@ use accepted_program::AcceptedProgram;
 use hpf_base::OutOfMemory;
 use node_core::Core;
 use node_machine::Node;
+use nodes_lowered::{accepted_moves_are_dealt, programs_run_on_nodes};
 use serial_run::End;
 use std::alloc::Global;
 
@@ -33,24 +33,20 @@ pub struct NodesOutcome {
     pub nodes: Vec<Node>,
 }
 
-/// Runs a program on the nodes of the grid that it is accepted on, where its arrays lie as they are mapped at the start (HPF 2.0, 3), and
-/// gives what it means in one order, with the nodes on which their run ends. An `Err` is want of memory.
+/// Runs a program on the nodes of the grid that it is accepted on, where its arrays lie as they are mapped at the start (HPF 2.0, 3) and move
+/// with each REDISTRIBUTE that it reaches (HPF 2.0, 8.3), and gives what it means in one order, with the nodes on which their run ends. An
+/// `Err` is want of memory.
 pub fn run_on_nodes(
     alloc: Global,
     accepted: &AcceptedProgram<'_>,
 ) -> Result<NodesOutcome, OutOfMemory>
     ensures outcome { IfOk result (λ o. IsOutcome o (serial (main_program accepted.now.program.tree))) }
-    ensures ends { IfOk result (λ o. EndsInLockstep program_steps (start (program_nodes (product accepted.now.grid.now) (main_program accepted.now.program.tree)
-        (start_layouts accepted.now.grid.now (main_program accepted.now.program.tree)))) o.nodes.items) }
-    ensures nodes { IfOk result (λ o. AreLastNodes (product accepted.now.grid.now) (main_program accepted.now.program.tree)
-        (start_layouts accepted.now.grid.now (main_program accepted.now.program.tree)) o.nodes.items) }
+    ensures ends { IfOk result (λ o. EndsInLockstep program_steps (start (grid_nodes accepted.now.grid.now (main_program accepted.now.program.tree))) o.nodes.items) }
+    ensures nodes { IfOk result (λ o. AreLastOnGrid accepted.now.grid.now (main_program accepted.now.program.tree) o.nodes.items) }
 {
-    let first = first_nodes(
-        alloc,
-        &accepted.program,
-        accepted.maps.arrays.as_slice(),
-        accepted.grid.node_count(),
-    )?;
+    programs_run_on_nodes();
+    accepted_moves_are_dealt();
+    let first = first_nodes(alloc, accepted)?;
     let last = last_nodes(alloc, first)?;
     let outcome = outcome_of(alloc, accepted, last)?;
     Ok(outcome)

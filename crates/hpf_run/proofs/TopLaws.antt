@@ -6,15 +6,12 @@ use Rattle.hpf_base.specs.declared.status.Status.TheVariants.{Done, Fault, Refus
 use Rattle.hpf_base.specs.declared.status.Status.{Status}
 use Rattle.hpf_base.specs.declared.limits.TheConstants.{MAX_SOURCE_BYTES}
 use Rattle.hpf_ports.specs.Ports.{Gave, IsAtEnd, Rose, AreAppended}
-use Rattle.hpf_base.specs.FirstBreach.{least}
-use Rattle.hpf_run.specs.Outcome.{is_of_text, is_too_long, is_usage, text_accepted, text_refused, check_done, map_done, run_left_out, run_report, serial_left_out, serial_report, report_end, report_fault, unbuilt, ActionOutcome, IsReportOf, means_memory, means_outcome, all_written, err_failed, out_failed, Delivered, Had, IsRead, Meant, Outcome, TextOutcome, Port, port, refusal_line, too_long_line, usage_line, with_arrays}
+use Rattle.hpf_run.specs.Outcome.{is_of_text, is_too_long, is_usage, text_accepted, text_refused, check_done, map_done, messages_left_out, messages_report, run_left_out, run_report, serial_left_out, serial_report, report_end, report_fault, ActionOutcome, IsReportOf, means_memory, means_outcome, all_written, err_failed, out_failed, listed, Delivered, Had, IsRead, Meant, Outcome, TextOutcome, Port, port, refusal_line, too_long_line, usage_line, with_arrays}
 use Rattle.hpf_run.specs.Reply.{ActionMeant, IsFaulted, IsReplyOf, IsReported, TextMeant, action_memory, action_outcome, reply_memory, reply_refused, reported, reported_fault, reported_memory, fault_memory, text_memory, text_outcome}
 use Rattle.hpf_run.specs.Accepted.{IsAccepted, IsRefused}
 use Rattle.syntax_tree.specs.MainProgram.{MainProgram}
 use Rattle.hpf_words.specs.declared.job.Action.{Action}
-use Rattle.hpf_words.specs.declared.job.Action.TheVariants.{Run, Serial}
 use Rattle.hpf_words.specs.declared.job.Job.{Job}
-use Rattle.left_out_forms.specs.Forms.{unbuilt_on_nodes}
 use Rattle.name_table.specs.Entries.{entries}
 use Rattle.name_table.specs.declared.names.Entry.{Entry}
 use Rattle.array_meaning.specs.Serial as serial
@@ -51,16 +48,11 @@ pub done-meant : (grid : List ℕ) (arrays : Bool) (p : MainProgram) (act : Acti
 done-meant grid arrays p act bytes printed same is =
     subst (λ b. ActionMeant grid arrays p act record { status = Done; out = b; err = [] }) (sym same) (action_outcome _ is)
 
--- the report of a program is what `serial` makes of it, and `run`
-pub reported-meant : (grid : List ℕ) (arrays : Bool) (p : MainProgram) (o : Outcome) → least (unbuilt p) ≡ None → IsReported (entries p) false (serial p) o
-    → ActionMeant grid arrays p Serial o
-reported-meant grid arrays p o built (reported o' is) = action_outcome o' (serial_report built o' is)
-reported-meant grid arrays p o built reported_memory = action_memory
-
-pub run-meant : (grid : List ℕ) (arrays : Bool) (p : MainProgram) (o : Outcome) → least (unbuilt_on_nodes p) ≡ None → IsReported (entries p) arrays (serial p) o
-    → ActionMeant grid arrays p Run o
-run-meant grid arrays p o built (reported o' is) = action_outcome o' (run_report built o' is)
-run-meant grid arrays p o built reported_memory = action_memory
+-- what a program comes to is what an action makes of it, where its report is
+pub reported-meant : (grid : List ℕ) (arrays : Bool) (p : MainProgram) (act : Action) (with_last : Bool) (s : serial.Outcome) (o : Outcome)
+    → ((o' : Outcome) → IsReportOf (entries p) with_last s o' → ActionOutcome grid arrays p act o') → IsReported (entries p) with_last s o → ActionMeant grid arrays p act o
+reported-meant grid arrays p act with_last s o made (reported o' is) = action_outcome o' (made o' is)
+reported-meant grid arrays p act with_last s o made reported_memory = action_memory
 
 -- a fault that is reported after what was printed is the report of a program that has this fault
 pub faulted-reported : (names : List Entry) (arrays : Bool) (s : serial.Outcome) (printed : List ℕ) (f : HeldFault) (o : Outcome) → printed ≡ s.printed
@@ -69,13 +61,18 @@ faulted-reported names arrays s printed f o same end reported_fault =
     subst (λ b. IsReported names arrays s record { status = Fault; out = b; err = fault_line names (fault f) }) (sym same) (reported _ (report_fault (fault f) end))
 faulted-reported names arrays s printed f o same end fault_memory = reported_memory
 
--- what nodes that are finished have printed, with their last arrays where they are asked for, is the report of the program
-pub finished-reported : (names : List Entry) (arrays : Bool) (s : serial.Outcome) (o : NodesOutcome) (out : List ℕ) → IsOutcome o s → s.end ≡ serial.Finished
-    → out ≡ with_arrays arrays names o.printed.items (map (λ a. a.items) o.arrays.items) → IsReported names arrays s record { status = Done; out = out; err = [] }
-finished-reported names arrays s o out w end is =
-    let same : out ≡ with_arrays arrays names s.printed s.arrays = is ∙ ap (λ b. with_arrays arrays names b (map (λ a. a.items) o.arrays.items)) w.printed
-    ∙ ap (with_arrays arrays names s.printed) (w.arrays end) in
+-- what a program has printed that is finished, with its last arrays where they are asked for, is the report of it
+pub finished-reported : (names : List Entry) (arrays : Bool) (s : serial.Outcome) (out : List ℕ) → out ≡ with_arrays arrays names s.printed s.arrays → s.end ≡ serial.Finished
+    → IsReported names arrays s record { status = Done; out = out; err = [] }
+finished-reported names arrays s out same end =
     subst (λ b. IsReported names arrays s record { status = Done; out = b; err = [] }) (sym same) (reported _ (report_end end))
+
+-- that of nodes
+pub nodes-reported : (names : List Entry) (arrays : Bool) (s : serial.Outcome) (o : NodesOutcome) (out : List ℕ) → IsOutcome o s → s.end ≡ serial.Finished
+    → out ≡ with_arrays arrays names o.printed.items (map (λ a. a.items) o.arrays.items) → IsReported names arrays s record { status = Done; out = out; err = [] }
+nodes-reported names arrays s o out w end is =
+    finished-reported names arrays s out (is ∙ ap (λ b. with_arrays arrays names b (map (λ a. a.items) o.arrays.items)) w.printed
+    ∙ ap (with_arrays arrays names s.printed) (w.arrays end)) end
 
 -- what a source had left, whether it tells it or not
 some_had : (left : Option (List ℕ)) → (bytes : List ℕ) × Had left bytes
@@ -107,6 +104,9 @@ read_action grid text arrays p act o left left' (serial_report built o' report) 
 read_action grid text arrays p act o left left' (serial_left_out r is) gave end = (gave, end)
 read_action grid text arrays p act o left left' (run_report built o' report) gave end = read_reported (entries p) arrays (serial p) o' left left' text report gave end
 read_action grid text arrays p act o left left' (run_left_out r is) gave end = (gave, end)
+read_action grid text arrays p act o left left' (messages_report built o' report) gave end =
+    read_reported (entries p) false (listed grid p) o' left left' text report gave end
+read_action grid text arrays p act o left left' (messages_left_out r is) gave end = (gave, end)
 
 read_whole : (text : List ℕ) (job : Job) (o : Outcome) (left left' : Option (List ℕ)) → TextOutcome text job o → Gave left left' text → IsAtEnd left'
     → IsRead o.status left left' text

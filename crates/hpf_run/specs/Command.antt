@@ -3,7 +3,7 @@ use Rattle.std.specs.Prelude.{◌≡◌, Bool, true, false, List, Some}
 use Rattle.hpf_words.specs.Parts.{Text}
 use Rattle.hpf_words.specs.Jobs.{job_of}
 use Rattle.hpf_words.specs.declared.job.Action.{Action}
-use Rattle.hpf_words.specs.declared.job.Action.TheVariants.{Run, Serial, Check, Map}
+use Rattle.hpf_words.specs.declared.job.Action.TheVariants.{Run, Serial, Check, Map, Messages}
 use Rattle.hpf_words.specs.declared.job.Job.{Job}
 
 -- an action that is built
@@ -12,6 +12,7 @@ is_built_action Run = true
 is_built_action Serial = true
 is_built_action Check = true
 is_built_action Map = true
+is_built_action Messages = true
 is_built_action _ = false
 
 abbrev pub is_built : Job → Bool

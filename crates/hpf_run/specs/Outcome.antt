@@ -16,13 +16,13 @@ use Rattle.array_meaning.specs.Faults as faults
 use Rattle.array_meaning.specs.Serial as serial
 use Rattle.array_meaning.specs.Serial.{Finished, Faulted}
 use Rattle.serial_run.specs.Independent.{left_out, marks}
-use Rattle.left_out_forms.specs.Forms.{unbuilt_on_nodes}
 use Rattle.directive_check.specs.ProgramMaps.{start_maps}
 use Rattle.run_report.specs.ArraysText.{arrays_text}
 use Rattle.run_report.specs.FaultLine.{fault_line}
 use Rattle.run_report.specs.MapText.{map_text}
+use Rattle.distributed_run.specs.ProgramMessages.{messages_text}
 use Rattle.hpf_words.specs.declared.job.Action.{Action}
-use Rattle.hpf_words.specs.declared.job.Action.TheVariants.{Run, Serial, Check, Map}
+use Rattle.hpf_words.specs.declared.job.Action.TheVariants.{Run, Serial, Check, Map, Messages}
 use Rattle.hpf_words.specs.declared.job.Job.{Job}
 use Rattle.hpf_run.specs.Accepted.{IsAccepted, IsRefused}
 use Rattle.hpf_run.specs.Command.{IsCommand, IsNoCommand}
@@ -66,18 +66,25 @@ pub data IsReportOf (names : List Entry) (arrays : Bool) (s : serial.Outcome) : 
   report_end : s.end ≡ Finished → IsReportOf names arrays s record { status = Done; out = with_arrays arrays names s.printed s.arrays; err = [] }
   report_fault : (f : faults.Fault) → s.end ≡ Faulted f → IsReportOf names arrays s record { status = Fault; out = s.printed; err = fault_line names f }
 
--- what isn't built of a program for `serial`: DO loops with INDEPENDENT before them
+-- what isn't built of a program: DO loops with INDEPENDENT before them
 abbrev pub unbuilt : MainProgram → List Refusal
 unbuilt p = flat_map left_out (marks p.body)
 
--- what an action makes of a program that is accepted on a grid. A run on nodes comes to what the program means in one order
+-- the outcome of a program, with the lines of the messages that nodes of a grid send for it in place of what it prints
+abbrev pub listed : List ℕ → MainProgram → serial.Outcome
+listed grid p = record (serial.serial p) { printed = messages_text grid p }
+
+-- what an action makes of a program that is accepted on a grid. A run on nodes comes to what the program means in one order. The messages are
+-- those up to the program's first fault, where it has one, and that is reported after them
 pub data ActionOutcome (grid : List ℕ) (arrays : Bool) (p : MainProgram) : Action → Outcome → Type 0 where
   check_done : ActionOutcome grid arrays p Check record { status = Done; out = accepted_line; err = [] }
   map_done : ActionOutcome grid arrays p Map record { status = Done; out = map_text (product grid) (start_maps grid p); err = [] }
   serial_report : least (unbuilt p) ≡ None → (o : Outcome) → IsReportOf (entries p) false (serial.serial p) o → ActionOutcome grid arrays p Serial o
   serial_left_out : (r : Refusal) → least (unbuilt p) ≡ Some r → ActionOutcome grid arrays p Serial record { status = Refused; out = []; err = refusal_line r }
-  run_report : least (unbuilt_on_nodes p) ≡ None → (o : Outcome) → IsReportOf (entries p) arrays (serial.serial p) o → ActionOutcome grid arrays p Run o
-  run_left_out : (r : Refusal) → least (unbuilt_on_nodes p) ≡ Some r → ActionOutcome grid arrays p Run record { status = Refused; out = []; err = refusal_line r }
+  run_report : least (unbuilt p) ≡ None → (o : Outcome) → IsReportOf (entries p) arrays (serial.serial p) o → ActionOutcome grid arrays p Run o
+  run_left_out : (r : Refusal) → least (unbuilt p) ≡ Some r → ActionOutcome grid arrays p Run record { status = Refused; out = []; err = refusal_line r }
+  messages_report : least (unbuilt p) ≡ None → (o : Outcome) → IsReportOf (entries p) false (listed grid p) o → ActionOutcome grid arrays p Messages o
+  messages_left_out : (r : Refusal) → least (unbuilt p) ≡ Some r → ActionOutcome grid arrays p Messages record { status = Refused; out = []; err = refusal_line r }
 
 -- what a job makes of a text: whatever the action, a text that isn't accepted on the grid is refused
 pub data TextOutcome (text : List ℕ) (job : Job) : Outcome → Type 0 where

@@ -2,20 +2,20 @@
 
 ghost use Rattle.std.specs.Prelude.{◌≡◌, Bool, false, ℕ, List, map, true, IfOk};
 ghost use Rattle.syntax_tree.specs.MainProgram.{MainProgram, main_program};
+ghost use Rattle.hpf_base.specs.FirstBreach.{least};
 ghost use Rattle.array_meaning.specs.Serial.{Outcome as SerialOutcome, outcome, serial};
-ghost use Rattle.serial_run.specs.Outcomes.{outcome_seen};
+ghost use Rattle.serial_run.specs.Outcomes.{end_seen};
 ghost use Rattle.distributed_run.specs.Outcomes.{IsOutcome};
-ghost use Rattle.hpf_words.specs.declared.job.Action.TheVariants.{Check, Map, Run, Serial};
+ghost use Rattle.hpf_words.specs.declared.job.Action.TheVariants.{Check, Map, Messages, Run, Serial};
 ghost use Rattle.hpf_run.specs.Command.{is_built};
-ghost use Rattle.hpf_run.specs.Outcome.{with_arrays};
+ghost use Rattle.hpf_run.specs.Outcome.{listed, unbuilt, with_arrays};
 ghost use Rattle.hpf_run.specs.Reply.{ActionMeant, IsFaulted, IsReported, outcome_of};
 
 use crate::reply::{Reply, reply_refused};
 use accepted_program::AcceptedProgram;
-use distributed_run::{NodesOutcome, run_on_nodes};
-use hpf_base::OutOfMemory;
+use distributed_run::{MessageList, NodesOutcome, list_messages, run_on_nodes};
+use hpf_base::{OutOfMemory, Refusal};
 use hpf_words::{Action, Job};
-use left_out_forms::first_left_out;
 use name_table::{Names, Program};
 use run_report::{arrays_text, fault_line, map_text};
 use serial_run::{End, Outcome, first_independent, run_serial};
@@ -32,7 +32,8 @@ pub fn reply_to_accepted(alloc: Global, job: &Job, accepted: &AcceptedProgram<'_
         Action::Map => map_reply(alloc, accepted),
         Action::Serial => serial_reply(alloc, accepted),
         Action::Run => run_reply(alloc, accepted, job.arrays),
-        Action::Messages | Action::Bulk => unreachable!(),
+        Action::Messages => messages_reply(alloc, accepted),
+        Action::Bulk => unreachable!(),
     }
 }
 
@@ -56,13 +57,20 @@ fn map_reply(alloc: Global, accepted: &AcceptedProgram<'_>) -> Reply
     }
 }
 
+/// The first DO that has INDEPENDENT before it, where there is one: no action runs such a program yet.
+fn first_unbuilt(accepted: &AcceptedProgram<'_>) -> Option<Refusal>
+    ensures { result ≡ least (unbuilt (main_program accepted.now.program.tree)) }
+{
+    first_independent(&accepted.program.tree.body)
+}
+
 /// What `serial` answers.
 fn serial_reply(alloc: Global, accepted: &AcceptedProgram<'_>) -> Reply
     ensures { (grid : List ℕ) (arrays : Bool) → ActionMeant grid arrays (main_program accepted.now.program.tree) Serial (outcome_of result) }
 {
-    match first_independent(&accepted.program.tree.body) {
+    match first_unbuilt(accepted) {
         None => run_program(alloc, &accepted.program),
-        Some(refusal) => reply_refused(alloc, refusal),
+        Some(left_out) => reply_refused(alloc, left_out),
     }
 }
 
@@ -71,20 +79,22 @@ fn run_program(alloc: Global, program: &Program) -> Reply
     ensures { IsReported program.now.names false (outcome program.now.names (main_program program.now.tree).body) (outcome_of result) }
 {
     match run_serial(alloc, program) {
-        Ok(outcome) => report(alloc, &program.names, outcome),
+        Ok(outcome) => {
+            let Outcome {
+                printed,
+                end,
+                arrays: _,
+            } = outcome;
+            report(alloc, &program.names, printed, end)
+        }
         Err(_) => Reply::Memory,
     }
 }
 
-/// The reply to what a program came to in one order.
-fn report(alloc: Global, names: &Names, outcome: Outcome) -> Reply
-    ensures { IsReported names.now false (outcome_seen outcome) (outcome_of result) }
+/// The reply to what is printed and to how a program ends.
+fn report(alloc: Global, names: &Names, printed: Vec<u8>, end: End) -> Reply
+    ensures { (s : SerialOutcome) → printed.items ≡ s.printed → end_seen end ≡ s.end → IsReported names.now false s (outcome_of result) }
 {
-    let Outcome {
-        printed,
-        end,
-        arrays: _,
-    } = outcome;
     match end {
         End::Finished => Reply::Done(printed),
         End::Faulted(fault) => faulted(alloc, names, printed, fault),
@@ -95,10 +105,9 @@ fn report(alloc: Global, names: &Names, outcome: Outcome) -> Reply
 fn run_reply(alloc: Global, accepted: &AcceptedProgram<'_>, arrays: bool) -> Reply
     ensures { (grid : List ℕ) → ActionMeant grid arrays (main_program accepted.now.program.tree) Run (outcome_of result) }
 {
-    match first_left_out(alloc, &accepted.program.tree.body) {
-        Ok(None) => run_nodes(alloc, accepted, arrays),
-        Ok(Some(refusal)) => reply_refused(alloc, refusal),
-        Err(_) => Reply::Memory,
+    match first_unbuilt(accepted) {
+        None => run_nodes(alloc, accepted, arrays),
+        Some(left_out) => reply_refused(alloc, left_out),
     }
 }
 
@@ -129,6 +138,26 @@ fn report_nodes(alloc: Global, names: &Names, arrays: bool, outcome: NodesOutcom
             Err(_) => Reply::Memory,
         },
         End::Faulted(fault) => faulted(alloc, names, printed, fault),
+    }
+}
+
+/// What `messages` answers.
+fn messages_reply(alloc: Global, accepted: &AcceptedProgram<'_>) -> Reply
+    ensures { (arrays : Bool) → ActionMeant accepted.now.grid.now arrays (main_program accepted.now.program.tree) Messages (outcome_of result) }
+{
+    match first_unbuilt(accepted) {
+        None => list_program(alloc, accepted),
+        Some(left_out) => reply_refused(alloc, left_out),
+    }
+}
+
+/// The lines of a program's messages, and its fault where it has one.
+fn list_program(alloc: Global, accepted: &AcceptedProgram<'_>) -> Reply
+    ensures { IsReported accepted.now.program.names false (listed accepted.now.grid.now (main_program accepted.now.program.tree)) (outcome_of result) }
+{
+    match list_messages(alloc, accepted) {
+        Ok(MessageList { text, end }) => report(alloc, &accepted.program.names, text, end),
+        Err(_) => Reply::Memory,
     }
 }
 

@@ -11,8 +11,8 @@ fn is_built(job: &Job) -> bool
     ensures { result ≡ is_built job.now }
 {
     match job.action {
-        Action::Run | Action::Serial | Action::Check | Action::Map => true,
-        Action::Messages | Action::Bulk => false,
+        Action::Run | Action::Serial | Action::Check | Action::Map | Action::Messages => true,
+        Action::Bulk => false,
     }
 }
 

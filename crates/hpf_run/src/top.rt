@@ -74,12 +74,13 @@ fn deliver<O: Sink, E: Sink>(reply: &Reply, out: &mut O, err: &mut E) -> Status
 /// stage that has one: lines, tokens, statements and directives, the nest, names, ranks, mappings onto the grid, bodies. For a text that is
 /// accepted `check` prints so, and `map` prints what each node owns of each array when the program starts; `serial` runs the program in one
 /// order, and `run` on the nodes of the grid, and both answer what the program means in one order: what it prints and, with `--arrays`, its
-/// last arrays, or what it prints before its first fault, and that fault. Programs with INDEPENDENT before a DO are left out by both, and
-/// those with REDISTRIBUTE by `run`, with the line.
+/// last arrays, or what it prints before its first fault, and that fault. `messages` prints a line for each message that the nodes send
+/// for array statements, reductions and REDISTRIBUTEs, up to that fault, and then that fault. Programs with INDEPENDENT before a DO are left out
+/// by these three, with the line.
 ///
 /// The answer is delivered whole, or it is `WriteFault`: then the count of the sink at fault rose in this call, and that sink holds a
-/// proper prefix of its text. Words that are no job, and a job that isn't built yet (`messages` and `bulk`), are
-/// no command: for them the source isn't touched. `rt`, `gate` and `--threads` have no part in any answer.
+/// proper prefix of its text. Words that are no job, and a job that isn't built yet (`bulk`), are no command: for them the source isn't
+/// touched. `rt`, `gate` and `--threads` have no part in any answer.
 pub fn hpf_top<R, S: Source, O: Sink, E: Sink, G: Gate>(
     _rt: &R,
     alloc: Global,

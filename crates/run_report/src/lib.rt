@@ -14,3 +14,4 @@ mod tuple_text;
 pub use array_lines::arrays_text;
 pub use fault_text::fault_line;
 pub use node_lines::map_text;
+pub use tuple_text::add_tuple;

@@ -1,8 +1,8 @@
 use Rattle.std.specs.Arc.{arc_value}
 use Rattle.hpf_base.proofs.Ranges.{map-range_push}
 use Rattle.machine_steps.specs.Agrees.{first_own, standing}
-use Rattle.node_machine.specs.Openings.{opening_machine}
-use Rattle.node_machine.specs.Programs.{code_of}
+use Rattle.node_program.specs.Openings.{opening_machine}
+use Rattle.node_program.specs.Programs.{code_of}
 use Rattle.distributed_run.proofs.openings.openings.Goals as goal
 
 pub loop-id-preserved : goal.loop-id-preserved

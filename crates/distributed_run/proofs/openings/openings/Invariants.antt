@@ -2,8 +2,8 @@ use Rattle.std.proofs.Common.{◌≡◌, map}
 use Rattle.std.specs.Arc.{arc_value}
 use Rattle.std.specs.List.{range_with_len}
 use Rattle.machine_steps.specs.Agrees.{first_own, standing}
-use Rattle.node_machine.specs.Openings.{opening_machine}
-use Rattle.node_machine.specs.Programs.{code_of}
+use Rattle.node_program.specs.Openings.{opening_machine}
+use Rattle.node_program.specs.Programs.{code_of}
 use Rattle.distributed_run.proofs.openings.openings.Given as goal
 
 abbrev pub invariant-loop-id : goal.invariant-loop-id

@@ -7,6 +7,7 @@ use Rattle.array_meaning.specs.Faults.{Fault}
 use Rattle.array_meaning.specs.Serial.{Outcome, serial}
 use Rattle.machine_steps.specs.Instr.{Control}
 use Rattle.machine_steps.specs.Layout.{AreOwned}
+use Rattle.nodes_lowered.specs.NewMappings.{program_mappings, program_remaps}
 use Rattle.nodes_lowered.specs.ProgramLayouts.{start_layouts}
 use Rattle.nodes_lowered.specs.ProgramRuns.{end_by_status}
 use Rattle.serial_run.specs.Outcomes.{end_seen}
@@ -45,5 +46,5 @@ returns-clause-outcome c =
       arrays = λ end. c.in_ok-arrays.ensures (finished c.first-root.result.now.control.status o.end ended end)
           ∙ ap (λ ns. map (row_values c.first-root.result.now.layouts ns) (range_with_len 0 c.len.result)) c.deref-2.ensures.value
           ∙ ap (λ k. map (row_values c.first-root.result.now.layouts c.args.last.items) (range_with_len 0 k)) (c.len.ensures ∙ ap length c.args.accepted.now.names)
-          ∙ arrays-are (product c.args.accepted.now.grid.now) p first c.args.last.items c.requires end c.first-root.result.now.layouts root.laid;
+          ∙ arrays-are (product c.args.accepted.now.grid.now) p (program_mappings c.args.accepted.now.grid.now p) (program_remaps c.args.accepted.now.grid.now p) first c.args.last.items c.requires end c.first-root.result.now.layouts root.laid;
     }

@@ -1,0 +1,5 @@
+use Rattle.compiled_program.proofs.Layouts.{array-laid}
+use Rattle.compiled_program.proofs.rows.array_table.Goals as goal
+
+pub new-requires-clause-laid : goal.new-requires-clause-laid
+new-requires-clause-laid c = rw (c.copy-2.ensures, c.in_ok-mapping.ensures) (array-laid c.args.nodes c.args.map.now c.requires.valid)

@@ -1,0 +1,3 @@
+pub mod NewTables
+pub mod Openings
+pub mod Starts

@@ -1,0 +1,206 @@
+-- The lines of the steps of a program's machine are the text of its messages.
+use Rattle.std.proofs.Common.{◌≡◌, ℕ, zero, suc, ◌+◌, ◌<◌, ◌≤◌, List, [], ◌∷◌, All, length, map, replicate, take, Some, refl, sym, ap, ◌∙◌, subst, arith}
+use Rattle.std.proofs.Math.Path.{fun_ext}
+use Rattle.std.proofs.lemmas.List.{length-replicate}
+use Rattle.hpf_base.specs.ElementOrder.{product}
+use Rattle.hpf_base.specs.FirstBreach.{Among}
+use Rattle.hpf_base.specs.Grid.{IsGrid}
+use Rattle.hpf_base.specs.Refusal.{NoBreach}
+use Rattle.hpf_base.specs.declared.index.Shape.{Shape}
+use Rattle.hpf_base.proofs.ElementOrder.{product-some}
+use Rattle.syntax_tree.specs.MainProgram.{MainProgram}
+use Rattle.mappings.specs.declared.mapping.Mapping.{Mapping}
+use Rattle.expression_rules.specs.declared.dims.Dim.{Dim}
+use Rattle.name_table.specs.Entries.{entries}
+use Rattle.name_table.specs.Resolved.{HasNoBreach}
+use Rattle.name_table.specs.declared.names.Entry.{Entry}
+use Rattle.body_check.specs.BodyRules.{body_breaches}
+use Rattle.array_maps.specs.Lines.{moves_at}
+use Rattle.array_maps.specs.Maps.{AreNewMaps, IsArrayMap}
+use Rattle.array_maps.specs.declared.maps.ArrayMap.{ArrayMap}
+use Rattle.array_maps.specs.declared.maps.Redistribution.{Redistribution}
+use Rattle.directive_check.specs.ProgramMaps.{program_moves, start_maps}
+use Rattle.accepted_program.specs.Accepted.{KeepsRules}
+use Rattle.array_meaning.specs.Execution.{run_block}
+use Rattle.array_meaning.specs.Faults.{Fault}
+use Rattle.array_meaning.specs.Resolution.{initial_state, resolved_block}
+use Rattle.array_meaning.specs.Runs as runs
+use Rattle.array_meaning.specs.Runs.{Completion, Normal, Exited, Cycled, Stopped, Run}
+use Rattle.array_meaning.specs.Serial.{End, end_of, serial}
+use Rattle.array_meaning.specs.State.{State}
+use Rattle.statement_trail.specs.Trail.{serial_trail}
+use Rattle.machine_steps.specs.Agrees.{IsOver, IsValidCode}
+use Rattle.machine_steps.specs.Instr.{Remapping, Status, Running, Finished, Faulted}
+use Rattle.machine_steps.specs.Layout.{Layout}
+use Rattle.machine_steps.specs.Machine.{Machine, steps}
+use Rattle.node_code.specs.Instructions.{ArrayTable, Instruction, NewMapping, meaning_of, remappings}
+use Rattle.node_code.specs.ProgramText.{Text, table_on, text, text_meaning}
+use Rattle.lowering.specs.Lowered.{EndsAs, IsTable, opening}
+use Rattle.lowering.specs.Passed.{passed}
+use Rattle.lowering.specs.StatementCode.{block_copies}
+use Rattle.well_formed.proofs.Programs.{trail_lowered, valid}
+use Rattle.owner_tables.proofs.CopyLaws.{copy-dealt, copy-size}
+use Rattle.comm_sets.proofs.Covering.{rounds-cover}
+use Rattle.node_run.specs.Coded.{with_code}
+use Rattle.node_run.proofs.CodedSteps.{steps-coded}
+use Rattle.nodes_lowered.specs.GridRuns.{grid_opening}
+use Rattle.nodes_lowered.specs.NewMappings.{array_places, new_mappings, numbered_at, program_mappings, program_remaps, remapping}
+use Rattle.nodes_lowered.specs.OnNodes.{MovesDealt, names_shapes, program_copies, program_opening, program_run}
+use Rattle.nodes_lowered.specs.ProgramLayouts.{layout_by, maps_after, program_layouts, start_layouts}
+use Rattle.nodes_lowered.specs.ProgramRuns.{end_by_status, program_shapes}
+use Rattle.nodes_lowered.proofs.Laid.{names-many}
+use Rattle.nodes_lowered.proofs.StartLaid.{program-laid}
+use Rattle.message_text.specs.MessageText.{trail_lines}
+use Rattle.message_text.specs.Parts.{Setting}
+use Rattle.distributed_run.specs.ProgramMessages.{messages_text, names_layouts, program_setting}
+use Rattle.messages_lowered.specs.PassedText.{MachineHasText, passed_text, setting_by}
+use Rattle.distributed_run.specs.StepLines.{lines_of_steps}
+use Rattle.distributed_run.proofs.GridLaws.{AllMovesDealt}
+use Rattle.distributed_run.proofs.OverRuns.{same-end}
+use Rattle.distributed_run.proofs.StepLines.{same-lines}
+use Rattle.distributed_run.proofs.PassedLines.{lines-passed}
+
+-- ---- layouts
+
+layouts-many : (nodes room : ℕ) (es : List Entry) (maps : List ArrayMap) → length (program_layouts nodes room es maps) ≡ length es + room
+layouts-many nodes room [] maps = let many : length (program_layouts nodes room [] maps) ≡ room = length-replicate room _ in omega (arith, many)
+layouts-many nodes room (e ∷ es) maps =
+    let many : length (program_layouts nodes room es (maps_after e.what maps)) ≡ length es + room = layouts-many nodes room es (maps_after e.what maps) in
+    omega (arith, many)
+
+-- the declared names stand before the copies
+names-lie : (nodes room : ℕ) (es : List Entry) (maps : List ArrayMap) → take (length es) (program_layouts nodes room es maps) ≡ program_layouts nodes 0 es maps
+names-lie nodes room [] maps = refl
+names-lie nodes room (e ∷ es) maps = ap (λ ls. layout_by nodes e.what maps ∷ ls) (names-lie nodes room es (maps_after e.what maps))
+
+-- ---- the end
+
+ended : (n : ℕ) (m : Machine Instruction Fault) (s : State) (c : Completion) → EndsAs n m s c → end_by_status m.control.status ≡ Some (end_of c)
+ended n m s Normal h = ap end_by_status h.0
+ended n m s Exited h = ap end_by_status h.0
+ended n m s Cycled h = ap end_by_status h.0
+ended n m s Stopped h = ap end_by_status h.0
+ended n m s (runs.Faulted f) h = ap end_by_status h.0
+
+-- a run that has ended is over
+end-over : (s : Status Fault) (e : End) → end_by_status s ≡ Some e → IsOver s
+end-over Running e h = cc
+end-over Finished e h = tt
+end-over (Faulted f) e h = tt
+
+-- ---- the laws
+
+abbrev pub AllTextsLowered : Type 0
+AllTextsLowered = (p : MainProgram) (room : ℕ) (table : ArrayTable) (moves : ℕ → List NewMapping) (nodes : ℕ) (names : List (List ℕ)) (shapes : List (List Dim))
+    (layouts starts : List Layout)
+    → IsTable (initial_state (entries p)) table → block_copies (resolved_block (entries p) p.body) ≤ room
+    → length layouts ≡ length (entries p) + room → HasNoBreach p → NoBreach (Among (body_breaches (entries p) p.body))
+    → MachineHasText (length (entries p)) table (setting_by nodes names shapes table.maps moves) starts
+    (opening (length (entries p)) room moves (resolved_block (entries p) p.body) (initial_state (entries p)) layouts)
+    (run_block (resolved_block (entries p) p.body) (initial_state (entries p))) (serial_trail p)
+
+abbrev pub AllMovesByNumber : Type 0
+AllMovesByNumber = (places : List ℕ) (moves : List Redistribution) (line : ℕ)
+    → remappings (new_mappings moves) (numbered_at places 0 moves line) ≡ map (remapping places) (moves_at moves line)
+
+-- ---- a program
+
+module _ (grid : List ℕ) (p : MainProgram) where
+  abbrev n : ℕ
+  n = length (entries p)
+
+  abbrev nodes : ℕ
+  nodes = product grid
+
+  abbrev maps : List Mapping
+  maps = program_mappings grid p
+
+  abbrev moves : ℕ → List NewMapping
+  moves = program_remaps grid p
+
+  abbrev layouts : List Layout
+  layouts = start_layouts grid p
+
+  abbrev table : ArrayTable
+  table = table_on nodes maps (program_shapes p)
+
+  abbrev as_text : Instruction → Text
+  as_text = text nodes maps (program_shapes p)
+
+  abbrev m : Machine Instruction Fault
+  m = program_opening p moves layouts
+
+  abbrev names : List (List ℕ)
+  names = map (λ (e : Entry). e.name) (entries p)
+
+  abbrev s : Setting
+  s = setting_by nodes names (program_shapes p) maps moves
+
+  abbrev r : Run
+  r = program_run p
+
+  -- the machine over the texts is over where the machine over the instructions has ended
+  over-at : (k : ℕ) → EndsAs n (steps (meaning_of table) k m) r.state r.completion → IsOver (steps text_meaning k (grid_opening grid p)).control.status
+  over-at k h =
+      let end : Machine Instruction Fault = steps (meaning_of table) k m in
+      subst (λ (x : Machine Text Fault). IsOver x.control.status) (sym (steps-coded as_text (meaning_of table) text_meaning (λ i. refl) k m))
+      (end-over end.control.status (end_of r.completion) (ended n end r.state r.completion h))
+
+  tabled : IsTable (initial_state (entries p)) table
+  tabled = record { shapes = refl; copies = λ ls extents. copy-size nodes extents }
+
+  many : length layouts ≡ n + program_copies p
+  many = layouts-many nodes (program_copies p) (entries p) (start_maps grid p)
+
+  -- after so many steps the run is over
+  pub ends : KeepsRules p → (k : ℕ) × IsOver (steps text_meaning k (grid_opening grid p)).control.status
+  ends rules =
+      let enough : 1 ≤ 1 = omega arith in
+      let has = trail_lowered p (program_copies p) moves table layouts tabled enough many rules.resolved rules.bodies_fine in
+      (has.0, over-at has.0 has.1)
+
+  module _ (texts : AllTextsLowered) (dealt : AllMovesDealt) (numbers : AllMovesByNumber) (rules : KeepsRules p) (is : IsGrid grid)
+      (arrays : All (IsArrayMap nodes) (start_maps grid p)) (new : All (λ (r : Redistribution). AreNewMaps nodes (start_maps grid p) r.maps) (program_moves grid p)) where
+    has : MachineHasText n table s (names_layouts grid p) m r (serial_trail p)
+    has =
+        let enough : 1 ≤ 1 = omega arith in
+        texts p (program_copies p) table moves nodes names (program_shapes p) layouts (names_layouts grid p) tabled enough many rules.resolved rules.bodies_fine
+
+    over : IsOver (steps text_meaning has.0 (grid_opening grid p)).control.status
+    over = over-at has.0 has.1
+
+    -- however it is come to
+    pub end-is : (k : ℕ) → IsOver (steps text_meaning k (grid_opening grid p)).control.status
+        → end_by_status (steps text_meaning k (grid_opening grid p)).control.status ≡ Some (serial p).end
+    end-is k h =
+        ap (λ (x : Machine Text Fault). end_by_status x.control.status)
+        (same-end text_meaning k has.0 (grid_opening grid p) h over ∙ steps-coded as_text (meaning_of table) text_meaning (λ i. refl) has.0 m)
+        ∙ ended n (steps (meaning_of table) has.0 m) r.state r.completion has.1
+
+    few : length (names_shapes p layouts) ≡ n
+    few = names-many nodes p layouts (program-laid grid (program_copies p) p is arrays)
+
+    valid-code : IsValidCode (meaning_of table) nodes (names_shapes p layouts) m.code
+    valid-code =
+        let some : 1 ≤ nodes = product-some grid is.extents in
+        valid nodes p (names_shapes p layouts) table moves (omega (arith, few)) (λ ls owned extents. copy-dealt nodes extents some)
+        (λ line. (dealt grid (program_copies p) p is arrays new line, λ ls declared owned. rounds-cover nodes (remappings maps (moves line)) ls owned))
+        rules.resolved rules.bodies_fine
+
+    -- what a line moves is what its redistributions say
+    settings : s ≡ program_setting grid p
+    settings = λ i. record {
+      nodes = nodes;
+      names = names;
+      shapes = program_shapes p;
+      moves = λ line. numbers (array_places 0 (entries p)) (program_moves grid p) line i;
+    }
+
+    pub text-is : (k : ℕ) → IsOver (steps text_meaning k (grid_opening grid p)).control.status
+        → lines_of_steps (entries p) (λ line. remappings maps (moves line)) k (grid_opening grid p) ≡ messages_text grid p
+    text-is k h =
+        same-lines (entries p) (λ line. remappings maps (moves line)) k has.0 (grid_opening grid p) h over
+        ∙ lines-passed (entries p) nodes maps (program_shapes p) moves nodes (names_shapes p layouts) few has.0 m refl valid-code
+        ∙ ap (λ ls. passed_text maps s ls (passed table has.0 m)) (names-lie nodes (program_copies p) (entries p) (start_maps grid p))
+        ∙ has.2
+        ∙ ap (λ (x : Setting). trail_lines x (names_layouts grid p) (serial_trail p)) settings

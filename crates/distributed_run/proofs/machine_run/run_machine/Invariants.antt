@@ -1,0 +1,20 @@
+use Rattle.std.proofs.Common.{◌≡◌}
+use Rattle.syntax_tree.specs.MainProgram.{main_program}
+use Rattle.machine_steps.specs.Agrees.{IsOver}
+use Rattle.machine_steps.specs.Machine.{steps}
+use Rattle.node_code.specs.ProgramText.{text_meaning}
+use Rattle.message_lines.specs.KeptLines.{AreKeptLines}
+use Rattle.distributed_run.specs.StepLines.{IsListed}
+use Rattle.distributed_run.proofs.OverRuns.{left}
+use Rattle.distributed_run.proofs.ProgramLines.{ends}
+use Rattle.distributed_run.proofs.machine_run.run_machine.Given as goal
+
+abbrev pub invariant-steps : goal.invariant-steps
+invariant-steps l = record {
+  listed : IsListed l.accepted.program.names l.initial.machine l.machine l.initial.text.items l.text.items;
+  kept : AreKeptLines l.machine.code l.accepted.program.names l.kept;
+  ends : IsOver (steps text_meaning (ends l.accepted.grid.now (main_program l.accepted.program.tree) l.accepted.keeps.anywhere).0 l.machine).control.status;
+}
+
+abbrev pub decreases-steps : goal.decreases-steps
+decreases-steps l = left text_meaning (ends l.accepted.grid.now (main_program l.accepted.program.tree) l.accepted.keeps.anywhere).0 l.machine

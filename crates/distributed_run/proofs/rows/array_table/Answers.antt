@@ -1,5 +1,0 @@
-use Rattle.distributed_run.proofs.Layouts.{array-laid}
-use Rattle.distributed_run.proofs.rows.array_table.Goals as goal
-
-pub new-requires-clause-laid : goal.new-requires-clause-laid
-new-requires-clause-laid c = rw (c.copy-2.ensures, c.in_ok-mapping.ensures) (array-laid c.args.nodes c.args.map.now c.requires.valid)

@@ -1,0 +1,7 @@
+mod Inside
+mod Moves
+mod PartLaws
+mod RemapLaws
+mod Rounds
+mod RowLaws
+mod SameLines

@@ -1,0 +1,51 @@
+-- By slots that agree on all that an instruction mentions, it has the same lines.
+use Rattle.std.proofs.Common.{◌≡◌, ℕ, ℤ, List, [], true, true≢false, ap, sym, ◌∙◌}
+use Rattle.std.proofs.lemmas.Bool.{and_parts}
+use Rattle.std.proofs.lemmas.Option.{same_Some}
+use Rattle.mappings.specs.declared.mapping.Mapping.{Mapping}
+use Rattle.array_meaning.specs.Sections.{extents}
+use Rattle.machine_steps.specs.Layout.{Layout}
+use Rattle.machine_steps.specs.Message.{Part, par_part, reduce_part}
+use Rattle.node_code.specs.Forms.{Sub, selections_in}
+use Rattle.node_code.specs.Instructions as code
+use Rattle.node_code.specs.Instructions.{ArrayTable, Instruction}
+use Rattle.node_code.specs.Parallel.{assigned_spot, assignment_tuples, copy_spot, evaluation_tuples, forall_mask_tuples, forall_spot, forall_tuples, reduction_tuples}
+use Rattle.node_code.specs.ProgramText.{table_on}
+use Rattle.part_steps.specs.Agreement.{agree_on, agree_on_form, agree_on_subs}
+use Rattle.part_steps.proofs.SameParts.{parts_same, selections_same}
+use Rattle.message_text.specs.InstructionLines.{instruction_lines}
+use Rattle.message_text.specs.MessageText.{part_lines}
+use Rattle.message_text.specs.Parts.{Setting, with_copy}
+
+module _ (maps : List Mapping) (s : Setting) (layouts : List Layout) (old new : List ℤ) where
+  abbrev table : ArrayTable
+  table = table_on s.nodes maps s.shapes
+
+  abbrev lies : List Sub → List Layout
+  lies over = with_copy s layouts (extents (selections_in new over))
+
+  -- a part over a space of the same extents, which is the same where the rows lie as after them
+  same : (over : List Sub) (line : ℕ) (by_old by_new : List Layout → Part) → agree_on_subs old new over ≡ true → by_old (lies over) ≡ by_new (lies over)
+      → part_lines s (with_copy s layouts (extents (selections_in old over))) line (by_old (with_copy s layouts (extents (selections_in old over))))
+      ≡ part_lines s (lies over) line (by_new (lies over))
+  same over line by_old by_new is parts =
+      ap (λ ns. part_lines s (with_copy s layouts (extents ns)) line (by_old (with_copy s layouts (extents ns)))) (selections_same old new [] over is)
+      ∙ ap (part_lines s (lies over) line) parts
+
+  pub lines_same : (i : Instruction) → agree_on old new i ≡ true → instruction_lines maps s layouts i old ≡ instruction_lines maps s layouts i new
+  lines_same (code.Par p) is =
+      same p.over p.line (λ ls. par_part ls (assignment_tuples s.shapes p) (assigned_spot s.shapes p) old) (λ ls. par_part ls (assignment_tuples s.shapes p) (assigned_spot s.shapes p) new)
+      (and_parts (agree_on_subs old new p.over) _ is).0 (same_Some _ _ (parts_same old new s.nodes (lies p.over) table (code.Par p) is))
+  lines_same (code.ParForall p) is =
+      same p.over p.line (λ ls. par_part ls (forall_tuples s.shapes p) (forall_spot s.shapes p) old) (λ ls. par_part ls (forall_tuples s.shapes p) (forall_spot s.shapes p) new)
+      (and_parts (agree_on_subs old new p.over) _ is).0 (same_Some _ _ (parts_same old new s.nodes (lies p.over) table (code.ParForall p) is))
+  lines_same (code.ParCopy copy p) is =
+      same p.over p.line (λ ls. par_part ls (evaluation_tuples s.shapes p) (copy_spot copy) old) (λ ls. par_part ls (evaluation_tuples s.shapes p) (copy_spot copy) new)
+      (and_parts (agree_on_subs old new p.over) (agree_on_form old new p.form) is).0 (same_Some _ _ (parts_same old new s.nodes (lies p.over) table (code.ParCopy copy p) is))
+  lines_same (code.ParForallCopy copy p) is =
+      same p.over p.line (λ ls. par_part ls (forall_mask_tuples s.shapes p) (copy_spot copy) old) (λ ls. par_part ls (forall_mask_tuples s.shapes p) (copy_spot copy) new)
+      (and_parts (agree_on_subs old new p.over) (agree_on_form old new p.form) is).0 (same_Some _ _ (parts_same old new s.nodes (lies p.over) table (code.ParForallCopy copy p) is))
+  lines_same (code.Reduce p r x) is =
+      same p.over p.line (λ ls. reduce_part s.nodes ls (reduction_tuples s.shapes p r.made) old) (λ ls. reduce_part s.nodes ls (reduction_tuples s.shapes p r.made) new)
+      (and_parts (agree_on_subs old new p.over) (agree_on_form old new p.form) is).0 (same_Some _ _ (parts_same old new s.nodes (lies p.over) table (code.Reduce p r x) is))
+  lines_same i is = absurd (true≢false (sym is))

@@ -1,0 +1,15 @@
+use Rattle.std.proofs.Common.{◌≡◌, ℕ, List, [], ◌∷◌, ◌++◌, IfOk, ◌∙◌, subst}
+use Rattle.array_meaning.specs.Sections.{extents}
+use Rattle.machine_steps.specs.CopyLayout.{copy_extents, layout_of}
+use Rattle.node_code.specs.Forms.{selections_in}
+use Rattle.node_code.specs.Texts.{subs}
+use Rattle.message_lines.specs.Before.{names_layouts}
+use Rattle.message_lines.proofs.before.Before.rows.Goals as goal
+
+pub returns-clause-owners : goal.returns-clause-owners
+returns-clause-owners c =
+    let b = c.args.self.now in
+    let nodes = b.owners.now.nodes in
+    let is : c.deref.result.now ≡ copy_extents (extents (selections_in b.slots.now (subs c.args.over.now))) = c.deref.ensures.value ∙ c.in_ok-extents.ensures.value in
+    subst (λ (ns : List ℕ). IfOk c.rows_with_copy.result (λ r. r.owners ≡ record { layouts = names_layouts b ++ layout_of nodes ns ∷ []; nodes = nodes })) is
+    c.rows_with_copy.ensures.owners

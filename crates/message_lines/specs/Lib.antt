@@ -1,0 +1,7 @@
+pub mod TextLines
+pub mod KeptLines
+pub mod Before
+pub mod Messages
+pub mod RowLines
+pub mod RowParts
+pub mod Settings

@@ -1,0 +1,20 @@
+//! The text of the messages that nodes send for an instruction of node code.
+//!
+//! Comes in: an instruction with the slots before it, the declared names with the shapes of their rows, and who owns which of their elements.
+//! Goes out: a line for each message, after a text. What holds in between: the part that an instruction is, and what each node sends in it,
+//! come from the calls that a node makes, and the messages of a redistribution from those of its rounds; a part is told over the declared
+//! names and one copy after them, which has the extents of the part's own space. A text only grows at its end. What was
+//! listed for an instruction is kept for its next run (`KeptLines`): by slots that agree on all that it mentions, and where the rows lie alike, it is the same.
+#![tactic(auto)]
+
+mod before;
+mod elements;
+mod instructions;
+mod kept_lines;
+mod message_line;
+mod part_lines;
+mod redistributions;
+mod rows;
+
+pub use instructions::push_lines;
+pub use kept_lines::KeptLines;

@@ -1,0 +1,98 @@
+-- Small programs on nodes, and the text of their messages.
+use Rattle.std.specs.Prelude.{ℕ, codes, List, [], ◌∷◌, pos, negsuc, Some, None, if◌then◌else◌, nat_eq}
+use Rattle.hpf_base.specs.declared.index.Shape.{Shape}
+use Rattle.mappings.specs.declared.mapping.Form.{Form}
+use Rattle.mappings.specs.declared.mapping.Form.TheVariants.{Block, Cyclic}
+use Rattle.mappings.specs.declared.mapping.AlignDim.TheVariants.{Linear}
+use Rattle.mappings.specs.declared.mapping.Mapping.{Mapping}
+use Rattle.syntax_tree.specs.Directive as d
+use Rattle.syntax_tree.specs.Expression as e
+use Rattle.syntax_tree.specs.Statement as s
+use Rattle.op_tables.specs.declared.op.Op.TheVariants as op
+use Rattle.expression_rules.specs.declared.dims.Dim.{Dim}
+use Rattle.name_table.specs.declared.names.What.TheVariants as what
+use Rattle.name_table.specs.declared.names.Entry.{Entry}
+use Rattle.statement_trail.specs.Trail.{trail_of}
+use Rattle.machine_steps.specs.Instr.{Remapping}
+use Rattle.machine_steps.specs.Layout.{Layout}
+use Rattle.machine_steps.specs.CopyLayout.{copy_layout}
+use Rattle.message_text.specs.Parts.{Setting}
+use Rattle.message_text.specs.MessageText.{trail_lines}
+
+abbrev A : List ℕ
+A = codes "A"
+
+abbrev I : List ℕ
+I = codes "I"
+
+abbrev n : ℕ → e.Expression
+n k = e.Number (pos k)
+
+abbrev up_to : ℕ → Dim
+up_to k = record { lower = pos 1; upper = pos k }
+
+abbrev names : ℕ → List Entry
+names k = record { name = A; what = what.Array (up_to k ∷ []) (pos 0) } ∷ record { name = I; what = what.Scalar (pos 0) } ∷ []
+
+abbrev mapping : ℕ → Form → Mapping
+mapping k f = record { grid = 4 ∷ []; dims = record { line = record { lower = pos 1; extent = k; form = f; procs = 4 }; grid_dim = 0; align = Linear 0 (pos 1) (pos 0) } ∷ [] }
+
+abbrev start : ℕ → ℕ → List Layout
+start k m = record { shape = record { lower = pos 1 ∷ []; extent = pos k ∷ [] }; mapping = mapping k (Block m) } ∷ copy_layout 4 (0 ∷ []) ∷ []
+
+abbrev moves : ℕ → List Remapping
+moves line = if nat_eq line 5 then record { row = 0; mapping = mapping 8 (Cyclic 1) } ∷ [] else []
+
+abbrev setting : ℕ → Setting
+setting k = record { nodes = 4; names = A ∷ I ∷ []; shapes = (up_to k ∷ []) ∷ [] ∷ []; moves = moves }
+
+abbrev at_i : e.Parts
+at_i = e.More (e.One (e.Name I)) e.End
+
+abbrev numbers : ℕ → s.Block → s.Block
+numbers k rest = s.Then 3 (s.Forall (record { index = I; first = n 1; last = n k; step = None } ∷ []) None
+    (record { line = 3; left = record { name = A; subscripts = Some at_i }; right = e.Name I } ∷ [])) rest
+
+abbrev part : e.Maybe → e.Maybe → e.Maybe → e.Parts
+part a b c = e.More (e.Range a b c) e.End
+
+abbrev assign : ℕ → e.Parts → e.Parts → s.Block
+assign line left right = s.Then line (s.Assign (record { name = A; subscripts = Some left }) (e.Element A right)) s.Done
+
+-- INTEGER :: A(10), I|!HPF$ DISTRIBUTE A(BLOCK)|FORALL (I=1:10) A(I) = I|A(1:9) = A(2:10)|END
+abbrev pub shift_left : List ℕ
+shift_left = trail_lines (setting 10) (start 10 3) (trail_of (names 10) (numbers 10 (assign 4 (part (e.Present (n 1)) (e.Present (n 9)) e.Absent) (part (e.Present (n 2)) (e.Present (n 10)) e.Absent))))
+
+-- the same with A(10:1:-1) = A(1:10)
+abbrev pub reversal : List ℕ
+reversal = trail_lines (setting 10) (start 10 3) (trail_of (names 10) (numbers 10 (assign 4 (part (e.Present (n 10)) (e.Present (n 1)) (e.Present (e.Number (negsuc 0)))) (part (e.Present (n 1)) (e.Present (n 10)) e.Absent))))
+
+-- INTEGER :: A(8), I|!HPF$ DISTRIBUTE A(BLOCK)|!HPF$ DYNAMIC A|FORALL (I=1:8) A(I) = I|!HPF$ REDISTRIBUTE A(CYCLIC)|END
+abbrev pub block_to_cyclic : List ℕ
+block_to_cyclic = trail_lines (setting 8) (start 8 2) (trail_of (names 8) (numbers 8 (s.Then 5 (s.Redistribute record { names = A ∷ []; formats = d.Cyclic None ∷ []; onto = None }) s.Done)))
+
+-- ---- a mask and a reduction: A lies in blocks over two nodes, and B cyclically
+
+abbrev B : List ℕ
+B = codes "B"
+
+abbrev two : Form → Mapping
+two f = record { grid = 2 ∷ []; dims = record { line = record { lower = pos 1; extent = 4; form = f; procs = 2 }; grid_dim = 0; align = Linear 0 (pos 1) (pos 0) } ∷ [] }
+
+abbrev lies : Form → Layout
+lies f = record { shape = record { lower = pos 1 ∷ []; extent = pos 4 ∷ [] }; mapping = two f }
+
+abbrev two_names : List Entry
+two_names = record { name = A; what = what.Array (up_to 4 ∷ []) (pos 1) } ∷ record { name = B; what = what.Array (up_to 4 ∷ []) (pos 0) } ∷ record { name = I; what = what.Scalar (pos 0) } ∷ []
+
+abbrev two_setting : Setting
+two_setting = record { nodes = 2; names = A ∷ B ∷ I ∷ []; shapes = (up_to 4 ∷ []) ∷ (up_to 4 ∷ []) ∷ [] ∷ []; moves = λ line. [] }
+
+abbrev sum : e.Parts
+sum = e.More (e.One (e.Binary op.Add (e.Name B) (e.Name A))) e.End
+
+-- INTEGER :: A(4) = 1, B(4), I|!HPF$ DISTRIBUTE A(BLOCK)|!HPF$ DISTRIBUTE B(CYCLIC)|WHERE (A > 0) B = A|I = SUM(B + A)|END
+abbrev pub masked : List ℕ
+masked = trail_lines two_setting (lies (Block 2) ∷ lies (Cyclic 1) ∷ copy_layout 2 (0 ∷ []) ∷ []) (trail_of two_names
+    (s.Then 4 (s.Where (e.Binary op.Gt (e.Name A) (n 0)) (record { line = 4; left = record { name = B; subscripts = None }; right = e.Name A } ∷ []) [])
+    (s.Then 5 (s.Assign (record { name = I; subscripts = None }) (e.Call op.Sum sum)) s.Done)))

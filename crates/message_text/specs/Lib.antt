@@ -1,0 +1,4 @@
+pub mod Parts
+pub mod MessageText
+pub mod InstructionLines
+pub mod Examples

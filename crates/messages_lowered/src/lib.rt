@@ -1,0 +1,12 @@
+//! The text of `messages` from what the machine with whole arrays passes.
+//!
+//! Comes in: the text of a trail (`message_text`), and what the machine passes over a program's code (`lowering`). Goes out: the law that the
+//! text by the instructions that are passed, with their slots, is the text of the trail, over any well-formed statements and over every program that
+//! breaks no rule. So who runs that machine can list the messages.
+//!
+//! What holds in between: of each instruction that is passed the part, by its slots, is the part of the entry that it is.
+#![tactic(auto)]
+
+mod lines;
+
+pub use lines::{accepted_texts_lowered, texts_lowered};

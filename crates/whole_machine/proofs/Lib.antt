@@ -1,0 +1,5 @@
+mod PartLaws
+mod Places
+mod PrintLaws
+mod StartRows
+mod StoreLaws

@@ -1,0 +1,17 @@
+-- No public clause cites this file. Copies that are made.
+use Rattle.std.specs.Prelude.{◌≡◌, ℕ, ℤ, pos, List}
+use Rattle.array_meaning.specs.Faults.{Fault}
+use Rattle.machine_steps.specs.CopyLayout.{copy_layout}
+use Rattle.machine_steps.specs.Instr.{Instr, MakeCopy}
+use Rattle.machine_steps.specs.Layout.{Layout}
+use Rattle.node_code.specs.Parallel.{Evaluation, evaluation_extents}
+
+-- a copy of the extents of an array expression on so many nodes, with 0 everywhere
+abbrev pub copying : (nodes copy : ℕ) → Evaluation → Instr Fault
+copying nodes copy p = MakeCopy copy (λ layouts slots. copy_layout nodes (evaluation_extents p slots)) (λ slots. pos 0)
+
+-- the instruction makes this copy
+pub record MakesCopy (i : Instr Fault) (copy : ℕ) : Type 0 where
+  pub layout : List Layout → List ℤ → Layout
+  pub start : List ℤ → ℤ
+  pub is : i ≡ MakeCopy copy layout start
