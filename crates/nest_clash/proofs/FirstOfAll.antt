@@ -5,8 +5,8 @@ use Rattle.std.specs.Option.{option_or}
 use Rattle.std.specs.Prelude.{option_map}
 use Rattle.std.proofs.lemmas.Bool.Decides.{nat_tests}
 use Rattle.std.proofs.lemmas.Bool.{cases_eq, cases_lt, and_parts, or_cases}
-use Rattle.nest_entry.specs.Touches.{Touch}
-use Rattle.nest_entry.specs.Clashes.{meets, is_before, first_touch, in_common, Clash, clash_in, clash_of, first_of, first_clash}
+use Rattle.array_meaning.specs.Touches.{Touch}
+use Rattle.array_meaning.specs.Clashes.{meets, is_before, first_touch, in_common, Clash, clash_in, clash_of, first_of, first_clash}
 use Rattle.nest_clash.specs.FirstClash.{InterfereIn, IsFirst, IsFirstClash}
 use Rattle.nest_clash.proofs.Lists.{nothing_in, by_cases, if_so, if_not, some_met, none_of}
 

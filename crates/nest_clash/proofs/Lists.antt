@@ -3,8 +3,8 @@ use Rattle.std.proofs.Common.{◌≡◌, ℕ, zero, suc, ◌<◌, List, [], ◌�
 use Rattle.std.specs.List.{list_any}
 use Rattle.std.specs.Option.{option_or}
 use Rattle.std.proofs.lemmas.Bool.{cases_eq}
-use Rattle.nest_entry.specs.Touches.{Touch}
-use Rattle.nest_entry.specs.Clashes.{meets, first_of}
+use Rattle.array_meaning.specs.Touches.{Touch}
+use Rattle.array_meaning.specs.Clashes.{meets, first_of}
 
 pub if_so : {A : Type 0} (b : Bool) (x y : A) → b ≡ true → (if b then x else y) ≡ x
 if_so b x y e = ap (λ c. if c then x else y) e

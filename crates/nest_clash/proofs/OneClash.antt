@@ -1,7 +1,7 @@
 -- There is one first clash.
 use Rattle.std.proofs.Common.{◌≡◌, ℕ, ⊎_elim, List, Option, Some, None, refl, ap, arith}
-use Rattle.nest_entry.specs.Touches.{Touch}
-use Rattle.nest_entry.specs.Clashes.{Clash}
+use Rattle.array_meaning.specs.Touches.{Touch}
+use Rattle.array_meaning.specs.Clashes.{Clash}
 use Rattle.nest_clash.specs.FirstClash.{NotAfter, IsFirstClash}
 
 module _ (touched : ℕ → List Touch) (n : ℕ) where

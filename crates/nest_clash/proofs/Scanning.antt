@@ -6,8 +6,8 @@ use Rattle.std.proofs.lemmas.Bool.{cases_eq, cases_lt, and_parts, or_cases}
 use Rattle.nest_clash.specs.Visits.{Visit, Untouched, Read, Written, Met, is_touched, is_written, visit, Interfere, IsFirstPair, TellsPair}
 use Rattle.nest_clash.specs.Scan.{is_sooner, better, is_object, acts_on, scan}
 use Rattle.nest_clash.proofs.Visiting.{visited}
-use Rattle.nest_entry.specs.Touches.{Touch}
-use Rattle.nest_entry.specs.Clashes.{Clash}
+use Rattle.array_meaning.specs.Touches.{Touch}
+use Rattle.array_meaning.specs.Clashes.{Clash}
 use Rattle.nest_clash.specs.FirstClash.{InterfereIn, IsFirstClash}
 use Rattle.nest_clash.proofs.Lists.{nothing_in, by_cases}
 

@@ -1,8 +1,8 @@
 -- The first clash of a nest's iterations, by what it is (HPF 2.0, 5.1).
 use Rattle.std.specs.Prelude.{◌≡◌, ℕ, ◌<◌, ◌≤◌, ◌⊎◌, List, true, ◌||◌, Option, Some, None}
 use Rattle.std.specs.List.{Contains}
-use Rattle.nest_entry.specs.Touches.{Touch}
-use Rattle.nest_entry.specs.Clashes.{Clash}
+use Rattle.array_meaning.specs.Touches.{Touch}
+use Rattle.array_meaning.specs.Clashes.{Clash}
 
 -- `touched i` is what iteration i touches
 module _ (touched : ℕ → List Touch) where

@@ -1,8 +1,8 @@
 -- The first clash from how each object was visited: one pass over the objects, in the order of declarations and then of elements.
 use Rattle.std.specs.Prelude.{ℕ, zero, suc, nat_eq, nat_lt, nat_le, List, map, Bool, ◌&&◌, ◌||◌, if◌then◌else◌, Option, Some, None}
 use Rattle.std.specs.List.{filter}
-use Rattle.nest_entry.specs.Touches.{Touch}
-use Rattle.nest_entry.specs.Clashes.{Clash}
+use Rattle.array_meaning.specs.Touches.{Touch}
+use Rattle.array_meaning.specs.Clashes.{Clash}
 use Rattle.nest_clash.specs.Visits.{Visit, Met, visit}
 
 -- a clash whose pair of iterations isn't after this one: at one pair the object that comes first counts

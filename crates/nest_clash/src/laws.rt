@@ -1,8 +1,8 @@
 //! The first two iterations that interfere.
 
 ghost use Rattle.std.specs.Prelude.{◌≡◌, ℕ, ◌<◌, ◌≤◌, ◌⊎◌, List, Bool};
-ghost use Rattle.nest_entry.specs.Touches.{Touch};
-ghost use Rattle.nest_entry.specs.Clashes.{first_clash};
+ghost use Rattle.array_meaning.specs.Touches.{Touch};
+ghost use Rattle.array_meaning.specs.Clashes.{first_clash};
 ghost use Rattle.nest_clash.specs.FirstClash.{InterfereIn, IsFirstClash};
 ghost use Rattle.nest_clash.specs.Visits.{visit, TellsPair};
 ghost use Rattle.nest_clash.specs.Scan.{scan};

@@ -1,7 +1,7 @@
 //! The first clash of the iterations of a nest, and how one pass finds it.
 //!
-//! Comes in: what the iterations of a nest touch (`nest_entry`). Goes out: laws, each the contract of a function that does nothing, over the
-//! definitions in `specs/`. There is no code here that runs: who checks the entry of a nest in code keeps a `Visit` for each object and cites these laws.
+//! Comes in: what the iterations of a nest touch (`array_meaning`). Goes out: laws, each the contract of a function that does nothing, over the
+//! definitions in `specs/`. There is no code here that runs: the check of the entry (`interference`) keeps a `Visit` for each object and cites these laws.
 //!
 //! What holds in between:
 //!

@@ -17,7 +17,7 @@ use Rattle.array_meaning.specs.State.{State, no_array, set_scalar, store, place_
 use Rattle.array_meaning.specs.Runs.{Run, then_do, with_value, one_step}
 use Rattle.array_meaning.specs.Expressions.{value, values, index_values}
 use Rattle.array_meaning.specs.declared.sections.Sequence.{Sequence}
-use Rattle.nest_entry.specs.Iterations.{values_of, turn_value}
+use Rattle.array_meaning.specs.Iterations.{values_of, turn_value}
 use Rattle.array_meaning.specs.Execution.{run, run_block, run_arms, iterate, after_iteration}
 use Rattle.nest_items.specs.StateStorage.{state_of}
 use Rattle.nest_items.specs.NestItems.{one, scalar_effect, element_effect, truth_or_fault, items_of, items_in, branches_of, else_of, Action, Condition}

@@ -17,7 +17,7 @@ use Rattle.array_meaning.specs.declared.sections.Sequence.{Sequence}
 use Rattle.array_meaning.specs.Sections.{sequence, sequence_of, value_count}
 use Rattle.array_meaning.specs.Expressions.{value, values, index_values}
 use Rattle.array_meaning.specs.Elementals.{operated, unless_zero}
-use Rattle.nest_entry.specs.Iterations.{values_of, turn_value, nest_axes, nest_indices, at_iteration}
+use Rattle.array_meaning.specs.Iterations.{values_of, turn_value, nest_axes, nest_indices, at_iteration}
 use Rattle.nest_items.proofs.IndexFits.{zero_fits, set_fits, indices_fit}
 use Rattle.nest_items.specs.Settled.{without}
 use Rattle.nest_items.specs.Standing.{IsInner, EachFixed, BlockStands, StatementStands, ArmsStand, TightStands, NestStands}

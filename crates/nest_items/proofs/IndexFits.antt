@@ -8,7 +8,7 @@ use Rattle.array_meaning.specs.State.{State, scalar, set_scalar}
 use Rattle.array_meaning.specs.declared.sections.Sequence.{Sequence}
 use Rattle.array_meaning.specs.Sections.{nth}
 use Rattle.array_meaning.specs.Forall.{indices_at}
-use Rattle.nest_entry.specs.Iterations.{turn_value, with_indices}
+use Rattle.array_meaning.specs.Iterations.{turn_value, with_indices}
 
 pub zero_fits : FitsSigned w64 (pos 0)
 zero_fits = sfits_lit tt

@@ -8,3 +8,4 @@ pub mod Nests
 pub mod IndexFits
 pub mod FormStands
 pub mod NameKinds
+pub mod EntryAlike

@@ -8,8 +8,8 @@ use Rattle.op_tables.specs.declared.join.Join.{Join}
 use Rattle.op_tables.specs.Joins.{IsOverNumbers}
 use Rattle.nest_order.specs.Copies.{Kind, Shared, New, Assigned, Reduced, has_copies}
 use Rattle.array_meaning.specs.Statements.{Loop, Nest, Block}
-use Rattle.nest_entry.specs.Iterations.{is_in, nest_indices}
-use Rattle.nest_entry.specs.Touches.{assigned_in}
+use Rattle.array_meaning.specs.Iterations.{is_in, nest_indices}
+use Rattle.array_meaning.specs.Touches.{assigned_in}
 use Rattle.nest_items.specs.NestKinds.{kind_of}
 use Rattle.nest_items.specs.Settled.{without}
 use Rattle.nest_items.specs.Standing.{AreKinds}

@@ -11,11 +11,11 @@ use Rattle.array_meaning.specs.Terms.{Term, Control}
 use Rattle.array_meaning.specs.Statements.{Loop, Nest, Block, Do, Unmarked, Outermost}
 use Rattle.array_meaning.specs.Faults.{Fault}
 use Rattle.array_meaning.specs.State.{State, set_scalar}
-use Rattle.array_meaning.specs.Runs.{with_value}
+use Rattle.array_meaning.specs.Runs.{with_value, then_do, one_step}
 use Rattle.array_meaning.specs.Expressions.{index_values}
 use Rattle.array_meaning.specs.Forall.{index_extents, indices_at}
-use Rattle.nest_entry.specs.Iterations.{values_of, turn_value, with_indices, iteration_count}
-use Rattle.nest_entry.specs.NestEntry.{check_nest}
+use Rattle.array_meaning.specs.Iterations.{values_of, turn_value, with_indices, iteration_count}
+use Rattle.array_meaning.specs.NestEntry.{check_nest}
 use Rattle.array_meaning.specs.Execution.{run, run_block, iterate}
 use Rattle.nest_items.specs.NestItems.{one, items_of, iteration_items}
 use Rattle.nest_items.specs.Settled.{SameBut, settled, settled_by, without}
@@ -99,13 +99,14 @@ module _ (kinds : ℕ → Kind) (all : ℕ → Bool) where
       let p = values_of s loop in
       let m = start in
       let z = settled_by s (Do (Outermost nest body) loop block) s in
-      subst (λ q. EndsAs kinds all s z (with_value line s q (λ p. iterate p.count loop.index p.first p.step (run_block block) s)) (numbered m)) (sym h.known)
+      subst (λ q. EndsAs kinds all s z (with_value line s q (λ p. then_do (one_step line s (check_nest nest body s)) (iterate p.count loop.index p.first p.step (run_block block)))) (numbered m)) (sym h.known)
+      (subst (λ e. EndsAs kinds all s z (then_do (one_step line s e) (iterate p.count loop.index p.first p.step (run_block block))) (numbered m)) (sym passed)
       (subst (λ y. EndsAs kinds all s z (iterate p.count loop.index p.first p.step (run_block block) s) y) (whole m)
       (loop_ends kinds all s loop.index p h.unseen h.index (run_block block) (λ x. does kinds (items_of (set_scalar s loop.index (turn_value p x)) block))
       (λ x. settled (set_scalar s loop.index (turn_value p x)) block)
       (λ j lt. block_ends kinds block (without all loop.index) (λ k c. ap (λ b. b && not (nat_eq k loop.index)) (h.quiet k c)) (set_scalar s loop.index (turn_value p j))
       (tight_stands h.inner (without all loop.index) (set_scalar s loop.index (turn_value p j)) block body (more_without all loop.index (λ k f. f)) (h.tight j lt)))
-      h.fits s s m (subst (λ z. SameBut all s z) (sym opening.state) (same_refl all s)) opening.rows (ind_refl all s))) where
+      h.fits s s m (subst (λ z. SameBut all s z) (sym opening.state) (same_refl all s)) opening.rows (ind_refl all s)))) where
         numbered : Storage → Result Storage Fault
         numbered m = plain_loops (one kinds) (iteration_items nest body s) m (iteration_count nest s)
 

@@ -8,7 +8,7 @@ use Rattle.nest_order.proofs.Numbering.{in_turn-same, in_order}
 use Rattle.array_meaning.specs.State.{State, set_scalar}
 use Rattle.array_meaning.specs.declared.sections.Sequence.{Sequence}
 use Rattle.array_meaning.specs.Forall.{index_extents, indices_at}
-use Rattle.nest_entry.specs.Iterations.{turn_value, with_indices}
+use Rattle.array_meaning.specs.Iterations.{turn_value, with_indices}
 
 module _ {M F : Type 0} where
   nested-last : (cs : List ℕ) (c : ℕ) (f : List ℕ → M → Result M F) (m : M)

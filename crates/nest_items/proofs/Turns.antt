@@ -7,7 +7,7 @@ use Rattle.array_meaning.specs.Sections.{nth}
 use Rattle.op_tables.specs.Operators.{wrapped}
 use Rattle.nest_order.specs.Turns.{◌>>=◌, in_turn}
 use Rattle.array_meaning.specs.declared.sections.Sequence.{Sequence}
-use Rattle.nest_entry.specs.Iterations.{turn_value}
+use Rattle.array_meaning.specs.Iterations.{turn_value}
 
 -- what comes next, where there is no fault. Both `>>=`, of the meaning and of the law of nests, are called so in other files
 infixl 10 ◌⊳◌

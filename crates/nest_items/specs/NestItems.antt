@@ -11,7 +11,7 @@ use Rattle.array_meaning.specs.Statements.{Nest, Block, Done, Then, Statement, A
 use Rattle.array_meaning.specs.Faults.{Cause, Fault, ◌>>=◌}
 use Rattle.array_meaning.specs.State.{State, set_scalar, place_in}
 use Rattle.array_meaning.specs.Expressions.{value, values}
-use Rattle.nest_entry.specs.Iterations.{values_of, turn_value, at_iteration}
+use Rattle.array_meaning.specs.Iterations.{values_of, turn_value, at_iteration}
 use Rattle.nest_items.specs.StateStorage.{state_of}
 
 -- ---- texts

@@ -6,8 +6,8 @@ use Rattle.op_tables.specs.declared.op.Op.TheVariants as op
 use Rattle.nest_order.specs.Copies.{Kind, Shared, New, Assigned, Reduced}
 use Rattle.array_meaning.specs.Terms.{Term, Scalar, Apply, NoTerm, More}
 use Rattle.array_meaning.specs.Statements.{Nest, Block}
-use Rattle.nest_entry.specs.Iterations.{is_in}
-use Rattle.nest_entry.specs.Touches.{assigned_in}
+use Rattle.array_meaning.specs.Iterations.{is_in}
+use Rattle.array_meaning.specs.Touches.{assigned_in}
 
 -- what is assigned in the nest, by its lists; `operators` join the REDUCTION variables. An index in a NEW list isn't assigned
 abbrev pub kind_of : (ℕ → Join) → Nest → Block → ℕ → Kind

@@ -3,7 +3,7 @@ use Rattle.std.specs.Prelude.{◌≡◌, ℕ, nat_eq, length, Bool, true, false,
 use Rattle.nest_order.specs.Turns.{after_turns}
 use Rattle.array_meaning.specs.Statements.{Block, Done, Then, Statement, Do}
 use Rattle.array_meaning.specs.State.{State, scalar, set_scalar}
-use Rattle.nest_entry.specs.Iterations.{values_of, turn_value}
+use Rattle.array_meaning.specs.Iterations.{values_of, turn_value}
 
 -- states that differ in free scalars alone
 pub record SameBut (free : ℕ → Bool) (r s : State) : Type 0 where

@@ -11,8 +11,8 @@ use Rattle.array_meaning.specs.Terms.{Term, Number, Scalar, Index, Element, Sect
 use Rattle.array_meaning.specs.Statements.{Loop, Nest, Block, Done, Then, Statement, AssignScalar, AssignElement, If, Do, Continue, Mark, Unmarked, Arms, NoArm, Arm}
 use Rattle.array_meaning.specs.State.{State, set_scalar}
 use Rattle.array_meaning.specs.Expressions.{index_values}
-use Rattle.nest_entry.specs.Iterations.{is_in, values_of, turn_value, iteration_count, at_iteration}
-use Rattle.nest_entry.specs.Touches.{assigned_in, hidden_scalars}
+use Rattle.array_meaning.specs.Iterations.{is_in, values_of, turn_value, iteration_count, at_iteration}
+use Rattle.array_meaning.specs.Touches.{assigned_in, hidden_scalars}
 use Rattle.nest_items.specs.NestKinds.{is_read, is_difference, reduction_term}
 use Rattle.nest_items.specs.Naming.{IsNaming, AreNaming}
 use Rattle.nest_items.specs.Settled.{without}

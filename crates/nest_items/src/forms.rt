@@ -7,7 +7,7 @@ ghost use Rattle.nest_order.specs.Copies.{Kind};
 ghost use Rattle.array_meaning.specs.State.{State, scalar};
 ghost use Rattle.array_meaning.specs.Statements.{Loop, Nest, Block};
 ghost use Rattle.array_meaning.specs.Expressions.{index_values};
-ghost use Rattle.nest_entry.specs.Iterations.{values_of};
+ghost use Rattle.array_meaning.specs.Iterations.{values_of};
 ghost use Rattle.nest_items.specs.NestForm.{IsNest};
 ghost use Rattle.nest_items.specs.Standing.{NestStands};
 

@@ -1,7 +1,7 @@
 //! The statements of a nest of INDEPENDENT loops as those of the law of nests.
 //!
-//! Comes in: nests whose names are resolved and what `run` does with them (`array_meaning`), their entry (`nest_entry`), and the statements
-//! over storages of `nest_order`. Goes out: what a nest's statements are there and what may stand in a nest, as definitions in `specs/`, and laws,
+//! Comes in: nests whose names are resolved, their entry and what `run` does with them (`array_meaning`), and the statements over storages
+//! of `nest_order`. Goes out: what a nest's statements are there and what may stand in a nest, as definitions in `specs/`, and laws,
 //! each the contract of a function that does nothing. No program is here, and no code that runs.
 //!
 //! What holds in between:
@@ -12,8 +12,8 @@
 //! - `Settled`, `NestEnds`: which state is left: the indices of loops are as the loops leave them, and all else as the storage has it.
 //! - `NestForm`, `BlockForms` and `keeping_nests_stand`: the same rules without a state, of a nest and of all nests in a block. What keeps them stands in each
 //!   state whose scalars are numbers of 64 bits.
-//! - `nests_end`: a nest that keeps the rules and that is entered ends as plain loops over its iterations do. Today `run` doesn't ask whether a nest is
-//!   entered, and the law has it as a premise that its proof doesn't need; once `run` asks, the law holds as it is.
+//! - `nests_end`: a nest that keeps the rules and that is entered ends as plain loops over its iterations do.
+//! - `EntryAlike`, among the proofs: whether a nest is entered depends on scalars and on the dimensions of arrays alone.
 #![tactic(auto)]
 
 mod ends;

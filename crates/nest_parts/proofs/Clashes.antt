@@ -7,11 +7,11 @@ use Rattle.array_meaning.specs.Faults.{Cause, fails}
 use Rattle.array_meaning.specs.declared.faults.FaultKind.TheVariants.{SpaceLimit}
 use Rattle.array_meaning.specs.State.{State}
 use Rattle.array_meaning.specs.declared.sections.Sequence.{Sequence}
-use Rattle.nest_entry.specs.Iterations.{nest_axes, iteration_count}
-use Rattle.nest_entry.specs.Touches.{Touch, iteration_touches}
-use Rattle.nest_entry.specs.Clashes.{Clash, first_clash}
-use Rattle.nest_entry.specs.NestLimits.{is_nest_in_limits}
-use Rattle.nest_entry.specs.NestEntry.{check_nest, unless_clash}
+use Rattle.array_meaning.specs.Iterations.{nest_axes, iteration_count}
+use Rattle.array_meaning.specs.Touches.{Touch, iteration_touches}
+use Rattle.array_meaning.specs.Clashes.{Clash, first_clash}
+use Rattle.array_meaning.specs.NestLimits.{is_nest_in_limits}
+use Rattle.array_meaning.specs.NestEntry.{check_nest, unless_clash}
 use Rattle.nest_clash.specs.FirstClash.{InterfereIn}
 use Rattle.nest_clash.proofs.FirstOfAll.{tells_first}
 use Rattle.nest_items.proofs.Storing.{by_cases, if_so, if_not}

@@ -7,7 +7,7 @@ use Rattle.array_meaning.specs.Terms.{Term}
 use Rattle.array_meaning.specs.Statements.{Block, Done, Then, Statement, AssignScalar, AssignElement, AssignSection, If, Do, Where, Forall, Print, Stop, Exit, Cycle, Continue, Redistribute, Arms, NoArm, Arm}
 use Rattle.array_meaning.specs.State.{State, set_scalar}
 use Rattle.array_meaning.specs.declared.sections.Sequence.{Sequence}
-use Rattle.nest_entry.specs.Iterations.{values_of, turn_value}
+use Rattle.array_meaning.specs.Iterations.{values_of, turn_value}
 use Rattle.nest_items.specs.NestItems as made
 use Rattle.nest_items.specs.NestItems.{Action, Condition, Assigning, ToScalar, ToElement, text_at, items_of, branches_of, else_of}
 use Rattle.nest_items.specs.Settled.{without}

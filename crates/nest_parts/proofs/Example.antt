@@ -12,8 +12,8 @@ use Rattle.array_meaning.specs.State.{State, scalar, array, no_array}
 use Rattle.nest_parts.specs.NestParts.{IsGood, IsEntered, opened}
 use Rattle.nest_items.proofs.NameKinds.{kinds_of_nest}
 use Rattle.nest_parts.proofs.Opening.{opening, opened_fits}
-use Rattle.nest_entry.specs.Iterations.{is_in}
-use Rattle.nest_entry.specs.NestEntry.{check_nest}
+use Rattle.array_meaning.specs.Iterations.{is_in}
+use Rattle.array_meaning.specs.NestEntry.{check_nest}
 use Rattle.nest_items.specs.NestKinds.{kind_of}
 use Rattle.nest_items.specs.Settled.{without}
 use Rattle.nest_items.specs.Standing.{BlockStands, NestStands}

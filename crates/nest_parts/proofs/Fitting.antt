@@ -14,7 +14,7 @@ use Rattle.array_meaning.specs.State.{State, no_array, scalar, array, set_scalar
 use Rattle.array_meaning.specs.declared.sections.Sequence.{Sequence}
 use Rattle.array_meaning.specs.Expressions.{value, values}
 use Rattle.array_meaning.specs.Elementals.{operated, unless_zero}
-use Rattle.nest_entry.specs.Iterations.{turn_value, with_indices}
+use Rattle.array_meaning.specs.Iterations.{turn_value, with_indices}
 use Rattle.array_meaning.specs.Forall.{indices_at}
 use Rattle.nest_items.specs.StateStorage.{state_of}
 use Rattle.nest_items.specs.Standing.{Stands, AllStand}

@@ -15,9 +15,9 @@ use Rattle.array_meaning.specs.Statements.{Block, Done, Then, Statement, AssignS
 use Rattle.array_meaning.specs.Faults.{Cause, ◌>>=◌}
 use Rattle.array_meaning.specs.State.{State, set_scalar, place_in}
 use Rattle.array_meaning.specs.Expressions.{values}
-use Rattle.nest_entry.specs.Touches as nest
-use Rattle.nest_entry.specs.Touches.{Touch, reads, all_reads, scalar_touch, element_touch, touches, touches_in, touches_in_arms, known_truth}
-use Rattle.nest_entry.specs.Iterations.{is_in, in_turns, values_of, turn_value}
+use Rattle.array_meaning.specs.Touches as nest
+use Rattle.array_meaning.specs.Touches.{Touch, reads, all_reads, scalar_touch, element_touch, touches, touches_in, touches_in_arms, known_truth}
+use Rattle.array_meaning.specs.Iterations.{is_in, in_turns, values_of, turn_value}
 use Rattle.nest_items.specs.NestItems.{Action, Condition, items_of, branches_of, else_of}
 use Rattle.nest_items.specs.NestItems as made
 use Rattle.nest_items.specs.NestKinds.{is_read}

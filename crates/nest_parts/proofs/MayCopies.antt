@@ -26,9 +26,9 @@ use Rattle.array_meaning.specs.Faults.{Cause, ◌>>=◌, with_more}
 use Rattle.array_meaning.specs.State.{State, scalar, place_in}
 use Rattle.array_meaning.specs.Expressions.{value, values}
 use Rattle.array_meaning.specs.Elementals.{operated}
-use Rattle.nest_entry.specs.Iterations.{iteration_count, at_iteration}
-use Rattle.nest_entry.specs.Touches.{assigned_in}
-use Rattle.nest_entry.specs.NestEntry.{check_nest}
+use Rattle.array_meaning.specs.Iterations.{iteration_count, at_iteration}
+use Rattle.array_meaning.specs.Touches.{assigned_in}
+use Rattle.array_meaning.specs.NestEntry.{check_nest}
 use Rattle.nest_items.specs.NestItems.{Action, Condition, Assigning, ToScalar, ToElement, text_at, one, scalar_effect, element_effect, truth_or_fault, iteration_items}
 use Rattle.nest_items.specs.StateStorage.{state_of}
 use Rattle.nest_items.specs.NestKinds.{is_read, is_difference, reduction_term}

@@ -16,9 +16,9 @@ use Rattle.array_meaning.specs.Statements.{Loop, Nest, Block}
 use Rattle.array_meaning.specs.Faults.{Cause, Fault, ◌>>=◌}
 use Rattle.array_meaning.specs.State.{State, place_in}
 use Rattle.array_meaning.specs.Expressions.{value, values}
-use Rattle.nest_entry.specs.Touches.{is_known, are_known, known_truth, truth_of, assigned_in, iteration_touches, hidden_scalars}
-use Rattle.nest_entry.specs.Iterations.{is_in, iteration_count, at_iteration}
-use Rattle.nest_entry.specs.NestEntry.{check_nest}
+use Rattle.array_meaning.specs.Touches.{is_known, are_known, known_truth, truth_of, assigned_in, iteration_touches, hidden_scalars}
+use Rattle.array_meaning.specs.Iterations.{is_in, iteration_count, at_iteration}
+use Rattle.array_meaning.specs.NestEntry.{check_nest}
 use Rattle.nest_items.specs.NestItems.{Action, Condition, Assigning, ToScalar, ToElement, text_at, one, effect_in, truth_or_fault, items_of, iteration_items}
 use Rattle.nest_items.specs.StateStorage.{state_of}
 use Rattle.nest_items.specs.NestKinds.{is_read}

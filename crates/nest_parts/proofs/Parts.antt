@@ -10,8 +10,8 @@ use Rattle.array_meaning.specs.Faults.{Fault}
 use Rattle.array_meaning.specs.State.{State}
 use Rattle.array_meaning.specs.Runs.{Faulted}
 use Rattle.array_meaning.specs.Execution.{run}
-use Rattle.nest_entry.specs.Touches.{assigned_in}
-use Rattle.nest_entry.specs.Iterations.{nest_axes, nest_indices, iteration_count, at_iteration}
+use Rattle.array_meaning.specs.Touches.{assigned_in}
+use Rattle.array_meaning.specs.Iterations.{nest_axes, nest_indices, iteration_count, at_iteration}
 use Rattle.nest_items.specs.NestItems.{one, iteration_items}
 use Rattle.nest_parts.specs.NestSpots.{reads, written_by, reducing, touched_in, written_in}
 use Rattle.nest_items.specs.Settled.{settled_by}

@@ -11,8 +11,8 @@ use Rattle.array_meaning.specs.Statements.{Block, Done, Then, Statement, AssignS
 use Rattle.array_meaning.specs.Faults.{Cause, ◌>>=◌}
 use Rattle.array_meaning.specs.State.{State, set_scalar, place_in}
 use Rattle.array_meaning.specs.Expressions.{values}
-use Rattle.nest_entry.specs.Iterations.{values_of, turn_value}
-use Rattle.nest_entry.specs.Touches.{known_truth}
+use Rattle.array_meaning.specs.Iterations.{values_of, turn_value}
+use Rattle.array_meaning.specs.Touches.{known_truth}
 use Rattle.nest_items.specs.NestItems as made
 use Rattle.nest_items.specs.NestItems.{Action, Condition, items_of, branches_of}
 use Rattle.nest_items.specs.NestKinds.{is_read}

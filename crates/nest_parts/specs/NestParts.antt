@@ -13,8 +13,8 @@ use Rattle.array_meaning.specs.Faults.{Fault}
 use Rattle.array_meaning.specs.State.{State, scalar}
 use Rattle.array_meaning.specs.Runs.{normal}
 use Rattle.array_meaning.specs.Execution.{run}
-use Rattle.nest_entry.specs.Iterations.{iteration_count}
-use Rattle.nest_entry.specs.NestEntry.{check_nest}
+use Rattle.array_meaning.specs.Iterations.{iteration_count}
+use Rattle.array_meaning.specs.NestEntry.{check_nest}
 use Rattle.nest_items.specs.StateStorage.{state_of, storage_of}
 use Rattle.nest_items.specs.NestItems.{one, iteration_items}
 use Rattle.nest_items.specs.Naming.{BlockBelow}

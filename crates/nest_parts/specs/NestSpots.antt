@@ -12,7 +12,7 @@ use Rattle.array_meaning.specs.Terms.{Term, Number, Scalar, Index, Element, Sect
 use Rattle.array_meaning.specs.Faults.{Cause, Fault, ◌>>=◌}
 use Rattle.array_meaning.specs.State.{State, place_in}
 use Rattle.array_meaning.specs.Expressions.{value, values}
-use Rattle.nest_entry.specs.Touches.{known_truth}
+use Rattle.array_meaning.specs.Touches.{known_truth}
 use Rattle.nest_items.specs.StateStorage.{state_of}
 use Rattle.nest_items.specs.NestItems.{fault_of, Assigning, ToScalar, ToElement, Action, Condition}
 use Rattle.nest_items.specs.NestKinds.{is_read}

@@ -1,6 +1,6 @@
 //! A nest of INDEPENDENT loops against its parts over copies.
 //!
-//! Comes in: the statements of a nest as those of the law of nests (`nest_items`), its entry (`nest_entry`), and that law (`nest_order`). Goes
+//! Comes in: the statements of a nest as those of the law of nests (`nest_items`), its entry (`array_meaning`), and that law (`nest_order`). Goes
 //! out: what the statements read and write and what has to hold at the entry, as definitions in `specs/`, and laws, each the contract of a function
 //! that does nothing. No program is here, and no code that runs.
 //!
@@ -11,7 +11,7 @@
 //!   64 bits. For that each operator gives values of 64 bits.
 //! - `nests_as_parts`: so the nest ends as its parts do, each at all iterations before the next. `Example` has a small nest that meets all premises.
 //!
-//! `run` doesn't ask today whether a nest is entered; that it is stands among the premises, and the laws hold as they are once `run` asks.
+//! That the nest is entered stands among the premises: one that isn't ends with the fault of its entry, before its first iteration.
 #![tactic(auto)]
 
 mod laws;

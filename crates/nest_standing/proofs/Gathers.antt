@@ -32,8 +32,8 @@ use Rattle.array_meaning.specs.Statements.{Nest, Block}
 use Rattle.array_meaning.specs.Resolution.{place_of, dims_of, is_element, alone, assignment, left_of, term_of, terms_of, section_subscripts, resolved, resolved_block, resolved_arms, resolved_otherwise}
 use Rattle.well_formed.proofs.Lists.{all_split, both}
 use Rattle.well_formed.proofs.Expressions.{either}
-use Rattle.nest_entry.specs.Iterations.{is_in}
-use Rattle.nest_entry.specs.Touches.{assigned_in, assigned_by, assigned_in_arms}
+use Rattle.array_meaning.specs.Iterations.{is_in}
+use Rattle.array_meaning.specs.Touches.{assigned_in, assigned_by, assigned_in_arms}
 use Rattle.nest_standing.specs.Named.{Declared, AreDeclared, IsNamed}
 use Rattle.nest_standing.proofs.Ruled.{IsKept, IsGathered}
 use Rattle.nest_standing.proofs.PlacesOf.{among_is}

@@ -11,7 +11,7 @@ mod Accepted
 mod Operators
 mod Gathers
 mod Whole
-mod Programs
+pub mod Programs
 mod Ranks
 mod DistinctNames
 mod ConstantSteps

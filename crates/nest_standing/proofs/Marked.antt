@@ -10,7 +10,7 @@ use Rattle.name_table.specs.declared.names.Entry.{Entry}
 use Rattle.array_meaning.specs.Terms.{Term, Number, Scalar, Index, Element, Section, Apply, Reduce}
 use Rattle.array_meaning.specs.Statements.{Nest, Block, Then, Mark, Unmarked, Outermost}
 use Rattle.array_meaning.specs.Resolution.{place_of, assignment, left_of, term_of, loop_of, nest_of, union, outermost, inner_mark, resolved_block}
-use Rattle.nest_entry.specs.Iterations.{is_in}
+use Rattle.array_meaning.specs.Iterations.{is_in}
 use Rattle.nest_standing.proofs.Ties.{union_in}
 
 or_nothing : (b : Bool) → b ≡ (b || false)

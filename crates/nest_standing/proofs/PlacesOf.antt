@@ -8,7 +8,7 @@ use Rattle.expression_rules.specs.Symbols.{Name, is_among}
 use Rattle.name_table.specs.declared.names.Entry.{Entry}
 use Rattle.name_table.specs.declared.names.What.TheVariants as what
 use Rattle.array_meaning.specs.Resolution.{place_of}
-use Rattle.nest_entry.specs.Iterations.{is_in}
+use Rattle.array_meaning.specs.Iterations.{is_in}
 use Rattle.nest_standing.specs.Named.{Declared, AreDeclared}
 
 no_entry : Entry

@@ -18,8 +18,8 @@ use Rattle.body_forms.specs.Names.{is_scalar}
 use Rattle.nest_check.specs.NestNames.{NestNames, added, all_added}
 use Rattle.nest_order.specs.Copies.{Kind, Shared, New, Assigned, Reduced, has_copies}
 use Rattle.array_meaning.specs.Resolution.{place_of, union}
-use Rattle.nest_entry.specs.Iterations.{is_in}
-use Rattle.nest_entry.specs.Touches.{assigned_in}
+use Rattle.array_meaning.specs.Iterations.{is_in}
+use Rattle.array_meaning.specs.Touches.{assigned_in}
 use Rattle.nest_items.specs.NestKinds.{kind_of, is_read}
 use Rattle.array_meaning.specs.Statements.{Nest, Block}
 use Rattle.nest_standing.specs.Named.{Declared, AreDeclared}

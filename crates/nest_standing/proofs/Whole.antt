@@ -20,7 +20,7 @@ use Rattle.nest_order.specs.Copies.{Kind, has_copies}
 use Rattle.array_meaning.specs.Statements.{Block, Do}
 use Rattle.array_meaning.specs.Resolution.{place_of, term_of, loop_of, with_inner_unmarked, resolved_block}
 use Rattle.well_formed.proofs.Lists.{all_split, both, empties, fails, holds, no_reason}
-use Rattle.nest_entry.specs.Iterations.{is_in}
+use Rattle.array_meaning.specs.Iterations.{is_in}
 use Rattle.nest_items.specs.NestKinds.{kind_of}
 use Rattle.nest_items.specs.Standing.{AreKinds}
 use Rattle.nest_items.specs.Paths.{PathsAssign}

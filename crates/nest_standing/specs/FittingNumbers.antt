@@ -3,6 +3,9 @@
 use Rattle.std.specs.Prelude.{FitsSigned}
 use Rattle.std.specs.Int.{w64}
 use Rattle.std.specs.List.{AllByRecursion}
+use Rattle.syntax_tree.specs.MainProgram.{MainProgram}
+use Rattle.name_table.specs.Entries.{entries}
+use Rattle.array_meaning.specs.Resolution.{resolved_block}
 use Rattle.array_meaning.specs.Terms.{Term, Number, Element, Apply, Terms, NoTerm, More}
 use Rattle.array_meaning.specs.Statements.{Block, Done, Then, Statement, AssignScalar, AssignElement, If, Do, Unmarked, Outermost, Arms, NoArm, Arm}
 
@@ -49,3 +52,7 @@ abbrev mutual
   pub ArmNestsFit : Arms → Type 0
   ArmNestsFit NoArm = Unit {0}
   ArmNestsFit (Arm line t body arms) = BlockNestsFit body × ArmNestsFit arms
+
+-- of a program
+abbrev pub ProgramNestsFit : MainProgram → Type 0
+ProgramNestsFit p = BlockNestsFit (resolved_block (entries p) p.body)

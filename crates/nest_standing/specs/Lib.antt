@@ -1,3 +1,4 @@
 pub mod Named
 pub mod FittingNumbers
+pub mod FitProps
 pub mod KeptNests

@@ -20,6 +20,7 @@ use Rattle.array_meaning.specs.Elementals.{Elemental, sections, own_extents, own
 use Rattle.array_meaning.specs.Expressions.{value, values, elemental, selections, index_values, all_index_values}
 use Rattle.array_meaning.specs.ArrayAssignments.{Mask, assign_where, assign_all_where, mask_of, negated_mask}
 use Rattle.array_meaning.specs.Forall.{index_extents, all_subscripts, check_limits, check_one_to_one, mask_over, assign_forall}
+use Rattle.array_meaning.specs.NestEntry.{entered}
 use Rattle.array_meaning.specs.Execution.{condition, item_bytes, run, run_block}
 use Rattle.array_meaning.specs.Resolution.{resolved_block, initial_state}
 
@@ -174,7 +175,8 @@ abbrev mutual
   trail (If arms other) line s = arms_trail arms (block_trail other) s
   trail (Do mark loop body) line s =
       control_trail line s loop.control
-      ++ after_value (index_values s loop.control) (λ p. iterate_trail p.count loop.index p.first p.step (run_block body) (block_trail body) s)
+      ++ after_value (index_values s loop.control) (λ p.
+      after_value (entered mark s) (iterate_trail p.count loop.index p.first p.step (run_block body) (block_trail body)))
   trail (Where mask body others) line s =
       elemental_trail line s mask ++ after_value (elemental [] s mask) (λ x.
       over_own_space line s x WhereMask ++ after_value (array_value s x) (λ m.

@@ -1,5 +1,5 @@
 use Rattle.std.proofs.Common.{refl}
-use Rattle.nest_entry.specs.Clashes.{first_clash}
+use Rattle.array_meaning.specs.Clashes.{first_clash}
 use Rattle.nest_clash.proofs.FirstOfAll.{tells_first}
 use Rattle.nest_clash.proofs.laws.first_clashes.Goals as goal
 

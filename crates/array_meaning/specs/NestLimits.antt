@@ -10,7 +10,7 @@ use Rattle.array_meaning.specs.State.{State, set_scalar}
 use Rattle.array_meaning.specs.Sections.{is_subscript_in_limits}
 use Rattle.array_meaning.specs.Expressions.{value}
 use Rattle.array_meaning.specs.Forall.{is_index_in_limits, subscripts_in}
-use Rattle.nest_entry.specs.Iterations.{values_of, nest_axes, nest_indices, iteration_count}
+use Rattle.array_meaning.specs.Iterations.{values_of, nest_axes, nest_indices, iteration_count}
 
 -- the state in which all of these indices have this value
 abbrev pub with_all : List ℕ → ℤ → State → State

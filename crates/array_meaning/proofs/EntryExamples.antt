@@ -7,8 +7,8 @@ use Rattle.array_meaning.specs.Statements.{Done, AssignScalar, If, Do, Continue,
 use Rattle.array_meaning.specs.declared.faults.FaultKind.TheVariants.{SpaceLimit}
 use Rattle.array_meaning.specs.Faults.{fails}
 use Rattle.array_meaning.specs.State.{no_array}
-use Rattle.nest_entry.specs.NestEntry.{check_nest}
-use Rattle.nest_entry.proofs.Shorthands.{A, B, I, J, K, L, M, S, T, n, v, apply, plus, minus, times, at, loop, loop_by, nest, block, assign, arm, dim, array, array_of, entry, is_entered, between}
+use Rattle.array_meaning.specs.NestEntry.{check_nest}
+use Rattle.array_meaning.proofs.NestShorthands.{A, B, I, J, K, L, M, S, T, n, v, apply, plus, minus, times, at, loop, loop_by, nest, block, assign, arm, dim, array, array_of, entry, is_entered, between}
 
 -- INTEGER :: A(5) = 1, I|!HPF$ INDEPENDENT|DO I = 2, 5|A(I) = A(I-1) + 1|END DO|END
 reads_the_element_before : check_nest (nest (loop I (n 2) (n 5) ∷ []) [] [])

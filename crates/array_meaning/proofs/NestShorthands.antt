@@ -9,7 +9,7 @@ use Rattle.array_meaning.specs.Statements.{Loop, Nest, Block, Done, Then, Statem
 use Rattle.array_meaning.specs.declared.faults.FaultKind.TheVariants.{Interfere}
 use Rattle.array_meaning.specs.Faults.{Between, Cause}
 use Rattle.array_meaning.specs.State.{State, Array, no_array, set_scalar}
-use Rattle.nest_entry.specs.NestEntry.{check_nest}
+use Rattle.array_meaning.specs.NestEntry.{check_nest}
 
 -- ---- names: two of arrays, or of scalars, and seven of scalars
 

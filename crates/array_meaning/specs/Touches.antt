@@ -7,7 +7,7 @@ use Rattle.array_meaning.specs.Statements.{Nest, Block, Done, Then, Statement, A
 use Rattle.array_meaning.specs.Faults.{Cause, ◌>>=◌}
 use Rattle.array_meaning.specs.State.{State, set_scalar, place_in}
 use Rattle.array_meaning.specs.Expressions.{value, values}
-use Rattle.nest_entry.specs.Iterations.{is_in, values_of, nest_indices, at_iteration, turn_value, in_turns}
+use Rattle.array_meaning.specs.Iterations.{is_in, values_of, nest_indices, at_iteration, turn_value, in_turns}
 
 -- an object that is read or written: a scalar, whose place is 0, or an element of an array by its place
 pub record Touch : Type 0 where

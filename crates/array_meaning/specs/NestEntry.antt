@@ -2,16 +2,16 @@
 use Rattle.std.specs.Prelude.{ℕ, ◌%◌, ◌/◌, List, [], ◌∷◌, ℤ, pos, ◌+ℤ◌, ◌==◌, if◌then◌else◌, Option, Some, None, Result, Ok, Err}
 use Rattle.expression_rules.specs.declared.dims.Dim.{Dim}
 use Rattle.expression_rules.specs.Dims.{extent}
-use Rattle.array_meaning.specs.Statements.{Nest, Block}
+use Rattle.array_meaning.specs.Statements.{Nest, Block, Mark, Unmarked, Outermost}
 use Rattle.array_meaning.specs.declared.faults.FaultKind.TheVariants.{SpaceLimit, Interfere}
 use Rattle.array_meaning.specs.Faults.{Object, Between, Cause, fails}
 use Rattle.array_meaning.specs.State.{State, array}
 use Rattle.array_meaning.specs.declared.sections.Sequence.{Sequence}
 use Rattle.array_meaning.specs.Forall.{indices_at}
-use Rattle.nest_entry.specs.Iterations.{nest_axes, iteration_count}
-use Rattle.nest_entry.specs.Touches.{iteration_touches}
-use Rattle.nest_entry.specs.Clashes.{Clash, first_clash}
-use Rattle.nest_entry.specs.NestLimits.{is_nest_in_limits}
+use Rattle.array_meaning.specs.Iterations.{nest_axes, iteration_count}
+use Rattle.array_meaning.specs.Touches.{iteration_touches}
+use Rattle.array_meaning.specs.Clashes.{Clash, first_clash}
+use Rattle.array_meaning.specs.NestLimits.{is_nest_in_limits}
 
 -- the subscripts of the element at a place
 abbrev pub subscripts_of_place : List Dim → ℕ → List ℤ
@@ -30,9 +30,13 @@ abbrev pub unless_clash : State → List Sequence → Option Clash → Result St
 unless_clash s axes None = Ok s
 unless_clash s axes (Some c) = Err record { kind = Interfere; at = Between (indices_at axes c.earlier) (indices_at axes c.later) (object_of s c) }
 
--- A nest is entered with its limits kept and without interference. One without iterations is, whatever stands in it. `run` of array_meaning
--- doesn't ask this today: there a nest runs as its plain loops, so a law of a nest has this as a premise
+-- A nest is entered with its limits kept and without interference. One without iterations is, whatever stands in it
 abbrev pub check_nest : Nest → Block → State → Result State Cause
 check_nest nest body s =
     if iteration_count nest s == 0 then Ok s else
     if is_nest_in_limits nest body s then unless_clash s (nest_axes s nest) (first_clash (iteration_touches nest body s) (iteration_count nest s)) else fails SpaceLimit
+
+-- whether a loop is entered: one that isn't the outermost of a nest always is
+abbrev pub entered : Mark → State → Result State Cause
+entered Unmarked s = Ok s
+entered (Outermost nest innermost) s = check_nest nest innermost s

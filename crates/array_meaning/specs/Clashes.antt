@@ -2,7 +2,7 @@
 use Rattle.std.specs.Prelude.{ℕ, zero, suc, nat_eq, nat_lt, List, [], ◌∷◌, Bool, ◌&&◌, ◌||◌, if◌then◌else◌, Option, Some, None, option_map}
 use Rattle.std.specs.List.{list_any, filter}
 use Rattle.std.specs.Option.{option_or}
-use Rattle.nest_entry.specs.Touches.{Touch}
+use Rattle.array_meaning.specs.Touches.{Touch}
 
 -- both touch one object, and one of them writes it
 abbrev pub meets : Touch → Touch → Bool

@@ -1,2 +1,0 @@
-mod Shorthands
-mod NestExamples
