@@ -24,23 +24,6 @@ use Rattle.resolved_program.specs.Resolved.{arms_of, block_of, statement, term, 
 use Rattle.resolved_program.proofs.Rows as plan
 use Rattle.program_plan.proofs.NestLaws.{two}
 
--- ---- what is made
-
-pub block_made : (ss : List HeldStatement) → before (λ s. Then s.line (statement s.what)) ss Done ≡ block_of ss
-block_made [] = refl
-block_made (s ∷ ss) = ap (Then s.line (statement s.what)) (block_made ss)
-
-pub arms_made : (as' : List PlannedArm) → before with_arm as' NoArm ≡ arms_of as'
-arms_made [] = refl
-arms_made (a ∷ as') = ap (with_arm a) (arms_made as')
-
--- an arm of these fields
-pub arm_made : (line : ℕ) (t : HeldTerm) (body : Vec HeldStatement Global) (rest : Arms) →
-    with_arm (roll-Arm (record { line = line; condition = t; body = body })) rest ≡ Arm line (term t) (block_of body.items) rest
-arm_made line t body rest =
-    ap (λ a. with_arm a rest) (rolls-struct-Arm (record { line = line; condition = t; body = body }))
-    ∙ ap (λ b. Arm line (term t) b rest) (plan.block_vec body)
-
 -- ---- statements of a tree
 
 pub if_else : (names : List Entry) (line : ℕ) (k : StatementKind.StatementKind) (as' : Vec HeldArm Global) (rest : Option (Vec Stmt Global)) (v : Vec Stmt Global) (glued : Bool) →

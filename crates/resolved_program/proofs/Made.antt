@@ -5,8 +5,11 @@ use Rattle.std.proofs.lemmas.List.{append-nil, map-append}
 use Rattle.array_meaning.specs.Terms.{NoTerm, More, NoSubscript}
 use Rattle.resolved_program.specs.declared.terms.Term.{Term as HeldTerm}
 use Rattle.resolved_program.specs.declared.terms.SectionSubscript.{SectionSubscript as HeldSubscript}
+use Rattle.array_meaning.specs.Statements.{Done, Then, NoArm}
+use Rattle.resolved_program.specs.declared.statements.Statement.{Statement as HeldStatement}
+use Rattle.resolved_program.specs.declared.statements.Arm.{Arm as HeldArm}
 use Rattle.resolved_program.specs.Made.{before, terms_before}
-use Rattle.resolved_program.specs.Resolved.{term, terms_of, subscripts_of, with_subscript}
+use Rattle.resolved_program.specs.Resolved.{term, terms_of, subscripts_of, with_subscript, statement, block_of, arms_of, with_arm}
 
 -- one item more
 pub before_next : {A B : Type 0} (add : A → B → B) (made : List A) (a : A) (rest : B) → before add (made ++ a ∷ []) rest ≡ before add made (add a rest)
@@ -56,3 +59,11 @@ terms_made (t ∷ ts) = ap (More (term t)) (terms_made ts)
 pub subscripts_made : (ds : List HeldSubscript) → before with_subscript ds NoSubscript ≡ subscripts_of ds
 subscripts_made [] = refl
 subscripts_made (d ∷ ds) = ap (with_subscript d) (subscripts_made ds)
+
+pub block_made : (ss : List HeldStatement) → before (λ s. Then s.line (statement s.what)) ss Done ≡ block_of ss
+block_made [] = refl
+block_made (s ∷ ss) = ap (Then s.line (statement s.what)) (block_made ss)
+
+pub arms_made : (as' : List HeldArm) → before with_arm as' NoArm ≡ arms_of as'
+arms_made [] = refl
+arms_made (a ∷ as') = ap (with_arm a) (arms_made as')

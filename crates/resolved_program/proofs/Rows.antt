@@ -11,7 +11,7 @@ use Rattle.resolved_program.specs.declared.statements.Nest.{Nest as HeldNest}
 use Rattle.resolved_program.specs.declared.statements.Arm.{Arm as HeldArm, out-Arm}
 use Rattle.resolved_program.specs.declared.statements.Statement.{Statement as HeldStatement}
 use Rattle.resolved_program.specs.declared.statements.Action.TheVariants as action
-use Rattle.resolved_program.specs.declared.statements.Action.TheViews.{is-struct-Arm}
+use Rattle.resolved_program.specs.declared.statements.Action.TheViews.{is-struct-Arm, roll-Arm, rolls-struct-Arm}
 use Rattle.resolved_program.specs.declared.statements.Action.TheBlock.{struct-Arm, Row_of-Statement, end_of-Statement, more_of-Statement, Row_of-Arm, end_of-Arm, more_of-Arm, items-the_row-Statement, hidden-the_row-Statement-1, items_hidden-the_row-Statement-1, items-the_row-Arm, hidden-the_row-Arm-0, items_hidden-the_row-Arm-0}
 use Rattle.array_meaning.specs.Terms.{Element, Section, Apply, More}
 use Rattle.array_meaning.specs.Statements.{If, Then, Arms, Arm}
@@ -72,3 +72,10 @@ pub arm_parts : (a : HeldArm) (rest : Arms) → with_arm a rest ≡ Arm (out-Arm
 arm_parts a rest =
     ap (λ a. with_arm a rest) (is-struct-Arm a)
     ∙ ap (λ b. Arm (out-Arm a).line (term (out-Arm a).condition) b rest) (block_vec (out-Arm a).body)
+
+-- an arm of these fields
+pub arm_made : (line : ℕ) (t : HeldTerm) (body : Vec HeldStatement Global) (rest : Arms) →
+    with_arm (roll-Arm (record { line = line; condition = t; body = body })) rest ≡ Arm line (term t) (block_of body.items) rest
+arm_made line t body rest =
+    ap (λ a. with_arm a rest) (rolls-struct-Arm (record { line = line; condition = t; body = body }))
+    ∙ ap (λ b. Arm line (term t) b rest) (block_vec body)

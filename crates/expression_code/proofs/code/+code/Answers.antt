@@ -1,7 +1,7 @@
 use Rattle.std.proofs.Common.{◌≡◌, IfOk, subst}
 use Rattle.lowering.specs.ExpressionCode.{code_of, parts_code}
 use Rattle.node_code.specs.Texts.{instructions}
-use Rattle.expression_code.proofs.Forms.{apply_is, element_is, section_is}
+use Rattle.resolved_program.proofs.Forms.{apply_is, element_is, section_is}
 use Rattle.expression_code.proofs.code.+code.Goals as goal
 
 pub code_of-returns-in-Element : goal.code_of-returns-in-Element

@@ -3,7 +3,7 @@ use Rattle.std.proofs.lemmas.List.{at_drop_all}
 use Rattle.lowering.specs.ExpressionCode.{index_flat, index_flats}
 use Rattle.node_code.specs.Flat.{Operated}
 use Rattle.node_code.specs.Texts.{flat}
-use Rattle.expression_code.proofs.Forms.{apply_is}
+use Rattle.resolved_program.proofs.Forms.{apply_is}
 use Rattle.node_code.proofs.Rows.{operated_vec}
 use Rattle.expression_code.proofs.Lists.{flats_made}
 use Rattle.resolved_program.specs.Resolved.{terms_of}

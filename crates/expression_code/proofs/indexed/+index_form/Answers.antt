@@ -3,7 +3,7 @@ use Rattle.std.proofs.lemmas.List.{at_drop_all}
 use Rattle.lowering.specs.ExpressionCode.{index_form, index_forms}
 use Rattle.node_code.specs.Forms.{OperationForm}
 use Rattle.node_code.specs.Texts.{form}
-use Rattle.expression_code.proofs.Forms.{apply_is, element_is}
+use Rattle.resolved_program.proofs.Forms.{apply_is, element_is}
 use Rattle.node_code.proofs.Rows.{operation_vec}
 use Rattle.expression_code.proofs.Lists.{forms_made}
 use Rattle.resolved_program.specs.Resolved.{terms_of}

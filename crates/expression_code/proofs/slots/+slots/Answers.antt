@@ -1,6 +1,6 @@
 use Rattle.std.proofs.Common.{◌≡◌, IfOk, subst}
 use Rattle.lowering.specs.ExpressionCode.{parts_slots, slots_of}
-use Rattle.expression_code.proofs.Forms.{apply_is, element_is, section_is}
+use Rattle.resolved_program.proofs.Forms.{apply_is, element_is, section_is}
 use Rattle.expression_code.proofs.slots.+slots.Goals as goal
 
 pub slots_of-returns-in-Element : goal.slots_of-returns-in-Element

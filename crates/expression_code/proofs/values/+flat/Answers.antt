@@ -3,7 +3,7 @@ use Rattle.std.proofs.lemmas.List.{at_drop_all}
 use Rattle.lowering.specs.ExpressionCode.{all_slots_of, flat_of, flats_of, operated_flat}
 use Rattle.node_code.specs.Flat.{Operated, Slot}
 use Rattle.node_code.specs.Texts.{flat}
-use Rattle.expression_code.proofs.Forms.{apply_is, element_is}
+use Rattle.resolved_program.proofs.Forms.{apply_is, element_is}
 use Rattle.resolved_program.specs.Resolved.{terms_of}
 use Rattle.expression_code.proofs.Lists.{flats_made}
 use Rattle.node_code.proofs.Rows.{operated_vec}

@@ -9,10 +9,10 @@ use Rattle.array_meaning.specs.Statements.{Arm, Done, If, Then, Where}
 use Rattle.array_meaning.specs.Resolution.{resolved, resolved_arms, resolved_block, section_assignments, term_of, with_inner_unmarked}
 use Rattle.resolved_program.specs.Resolved as plan
 use Rattle.resolved_program.specs.Resolved.{block_of, statement, with_arm}
-use Rattle.program_plan.proofs.StatementForms.{arm_made, arms_made, block_made, forall_is, if_alone, if_else, other_count, resolved_arm, where_alone, where_else}
-use Rattle.resolved_program.proofs.Made.{made_all, made_next}
+use Rattle.program_plan.proofs.StatementForms.{forall_is, if_alone, if_else, other_count, resolved_arm, where_alone, where_else}
+use Rattle.resolved_program.proofs.Made.{arms_made, block_made, made_all, made_next}
 use Rattle.program_plan.proofs.NestLaws.{from_parts, marked_body, plain_body, with_own}
-use Rattle.resolved_program.proofs.Rows.{do_vec, if_vec}
+use Rattle.resolved_program.proofs.Rows.{arm_made, do_vec, if_vec}
 use Rattle.program_plan.proofs.blocks.+block.Goals as goal
 
 pub block-loop-stmt-preserved : goal.block-loop-stmt-preserved

@@ -1,8 +1,7 @@
 use Rattle.std.proofs.Common.{ap, ◌∙◌}
 use Rattle.array_meaning.specs.Statements.{Arm, Done, If, NoArm}
 use Rattle.resolved_program.specs.Resolved.{arms_of, block_of, term}
-use Rattle.resolved_program.proofs.Rows.{if_vec}
-use Rattle.program_plan.proofs.StatementForms.{arm_made}
+use Rattle.resolved_program.proofs.Rows.{arm_made, if_vec}
 use Rattle.program_plan.proofs.blocks.if_one.Goals as goal
 
 pub returns : goal.returns
