@@ -6,5 +6,6 @@ pub mod SectionStores
 pub mod WhereConstruct
 pub mod InitialState
 pub mod Independent
+pub mod LoopEntry
 pub mod Outcomes
 pub mod PositionTuples

@@ -13,13 +13,14 @@ ghost use Rattle.serial_run.specs.Completions.{IsRun};
 use crate::assignments::{run_assign_element, run_assign_scalar};
 use crate::completion::{Completion, faulted};
 use crate::forall::run_forall;
+use crate::loop_entry::loop_values;
 use crate::print::run_print;
 use crate::section_assignments::run_assign_section;
 use crate::where_construct::run_where;
 use array_meaning::Sequence;
 use resolved_program::{Action, Arm, Statement, Term};
 use std::alloc::AllocError;
-use term_values::{State, Stop, index_values, value};
+use term_values::{State, Stop, value};
 
 /// Runs statements one after the other, until one completes in another way than normally.
 #[cycle(run)]
@@ -56,7 +57,7 @@ fn run(s: &mut State, stmt: &Statement) -> Result<Completion, AllocError>
             Some(completion) => Ok(completion),
             None => run_block(s, other),
         },
-        Action::Do(_, l, body) => match index_values(s, &l.control) {
+        Action::Do(nest, l, body) => match loop_values(s, nest, l, body) {
             Ok(p) => iterate(s, l.index, p, body),
             Err(stop) => faulted(line, stop),
         },

@@ -13,6 +13,7 @@ mod forall_stores;
 mod independent;
 mod index_tuples;
 mod initial_state;
+mod loop_entry;
 mod one_to_one;
 mod position_tuples;
 mod print;

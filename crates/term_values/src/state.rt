@@ -31,6 +31,13 @@ impl Array {
         Array { dims, elements }
     }
 
+    /// Its dimensions. It takes no memory.
+    pub fn dims(&self) -> &Dims
+        ensures { result.now ≡ self.now.dims }
+    {
+        &self.dims
+    }
+
     /// Its elements in order. It takes no memory.
     pub fn elements(&self) -> &[i64]
         ensures { result.now ≡ self.now.elements }

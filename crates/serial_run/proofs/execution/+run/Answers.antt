@@ -1,13 +1,13 @@
 use Rattle.std.proofs.Common.{◌≡◌, ◌∙◌, sym, ap, subst, Ok, IfOk, ◌∷◌, drop, suc, ◌+◌, arith, if◌then◌else◌}
 use Rattle.std.proofs.Math.Seq.{drop-cons}
 use Rattle.array_meaning.specs.Runs.{with_value}
-use Rattle.array_meaning.specs.Execution.{run_arms, run_block}
+use Rattle.array_meaning.specs.Execution.{iterate, run, run_arms, run_block}
 use Rattle.resolved_program.specs.declared.statements.Arm.{out-Arm}
-use Rattle.resolved_program.specs.Resolved.{arms_of, block_of}
+use Rattle.resolved_program.specs.Resolved.{arms_of, block_of, statement}
 use Rattle.term_values.specs.States.{state_of}
 use Rattle.serial_run.specs.Arms.{IsArms}
 use Rattle.serial_run.specs.Completions.{IsRun, completion}
-use Rattle.serial_run.proofs.Statements.{if_is, arm_is, do_is, iterate_next, goes_on}
+use Rattle.serial_run.proofs.Statements.{if_is, arm_is, do_is, fault_is, iterate_next, goes_on}
 use Rattle.serial_run.proofs.execution.+run.Goals as goal
 
 pub run-returns-in-Some : goal.run-returns-in-Some
@@ -25,8 +25,17 @@ run-returns-in-None t c =
 pub run-returns-in-Ok : goal.run-returns-in-Ok
 run-returns-in-Ok t c =
     subst (λ r. IfOk c.iterate.result (IsRun r (state_of c.iterate.new.s)))
-    (sym (do_is c.args.stmt.now.what _ c.in-Do.l c.in-Do.body c.args.stmt.now.line (state_of c.args.s.now) c.in-Ok.p c.in-Do.is c.in-Ok.ensures.value))
+    (sym (do_is c.args.stmt.now.what c.in-Do.nest c.in-Do.l c.in-Do.body c.args.stmt.now.line (state_of c.args.s.now) c.in-Do.is
+    ∙ ap (λ r. with_value c.args.stmt.now.line (state_of c.args.s.now) r (λ p. iterate p.count c.in-Do.l.index p.first p.step (run_block (block_of c.in-Do.body.items)) (state_of c.args.s.now))) c.in-Ok.ensures.value
+    ∙ ap (iterate c.in-Ok.p.count c.in-Do.l.index c.in-Ok.p.first c.in-Ok.p.step (run_block (block_of c.in-Do.body.items))) (sym c.loop_values.ensures.unchanged)))
     c.iterate.ensures
+
+pub run-returns-in-Err : goal.run-returns-in-Err
+run-returns-in-Err t c =
+    fault_is (run (statement c.args.stmt.now.what) c.args.stmt.now.line (state_of c.args.s.now)) c.args.stmt.now.line (state_of c.args.s.now) (state_of c.loop_values.new.s) _
+    (λ p. iterate p.count c.in-Do.l.index p.first p.step (run_block (block_of c.in-Do.body.items)) (state_of c.args.s.now)) c.in-Err.stop c.faulted.result
+    (do_is c.args.stmt.now.what c.in-Do.nest c.in-Do.l c.in-Do.body c.args.stmt.now.line (state_of c.args.s.now) c.in-Do.is)
+    c.loop_values.ensures.unchanged c.in-Err.ensures.stopped c.faulted.ensures
 
 pub run_arms-returns-in-Ok-true : goal.run_arms-returns-in-Ok-true
 run_arms-returns-in-Ok-true t c = λ other.

@@ -1,0 +1,12 @@
+mod Arms
+mod AtEntry
+mod InnerLoops
+mod Saturated
+mod Turns
+pub mod SetBack
+mod Rows
+mod OwnScalars
+mod AssignedParts
+mod Walked
+mod StateKept
+mod Scanned
