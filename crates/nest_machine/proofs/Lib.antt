@@ -5,8 +5,8 @@ mod Bodies
 pub mod Rows
 mod Asked
 mod Counts
-mod KeptFaults
-mod PlacedActs
+pub mod KeptFaults
+pub mod PlacedActs
 mod PlacedRows
 mod AfterActs
 mod PlacedParts
@@ -18,5 +18,5 @@ mod Finals
 mod Unmade
 mod MadeCopies
 pub mod PlacedCopies
-mod Nests
+pub mod Nests
 mod Examples

@@ -8,7 +8,7 @@ pub mod CodedSteps
 pub mod Openings
 pub mod OwnedPieces
 mod PartPhase
-mod PartsInARow
+pub mod PartsInARow
 pub mod PieceLaws
 pub mod Picked
 mod Plain

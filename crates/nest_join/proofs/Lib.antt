@@ -1,0 +1,17 @@
+pub mod Names
+pub mod Bounds
+pub mod TextNames
+pub mod TextValues
+pub mod HiddenIndices
+pub mod LoopTurns
+pub mod SameItems
+pub mod InnerIndices
+pub mod IndexSettles
+pub mod NestIndices
+pub mod NestsEnd
+pub mod Held
+pub mod HeldIndices
+pub mod RowPlaces
+pub mod MadeRows
+pub mod PairedTexts
+pub mod ListedFinals

@@ -1,0 +1,6 @@
+pub mod NestNames
+pub mod NestTexts
+pub mod CodedBlocks
+pub mod MachineState
+pub mod NestRuns
+pub mod Places

@@ -1,0 +1,74 @@
+//! Laws of nests on the machine.
+
+ghost use Rattle.std.specs.Prelude.{◌≡◌, ℕ, ◌+◌, ◌<◌, ◌≤◌, ◌⊎◌, List, [], length, ℤ, Bool, true, false, None};
+ghost use Rattle.storage.specs.Storage.{Storage, row_of};
+ghost use Rattle.array_meaning.specs.Statements.{Loop, Block, Do, Outermost};
+ghost use Rattle.array_meaning.specs.Faults.{Fault};
+ghost use Rattle.array_meaning.specs.State.{State, array, scalar};
+ghost use Rattle.array_meaning.specs.Runs.{Run};
+ghost use Rattle.array_meaning.specs.Execution.{run};
+ghost use Rattle.array_meaning.specs.Iterations.{iteration_count, at_iteration};
+ghost use Rattle.machine_steps.specs.Instr.{Instr};
+ghost use Rattle.node_code.specs.Flat.{slot};
+ghost use Rattle.node_code.specs.Parallel.{shape_of};
+ghost use Rattle.nest_items.specs.Settled.{settled};
+ghost use Rattle.nest_machine.specs.Body.{count_body, body_slots};
+ghost use Rattle.nest_machine.specs.Slots.{slots_after};
+ghost use Rattle.nest_machine.specs.Trace.{Data};
+ghost use Rattle.nest_texts.specs.NestLoops.{counting_at};
+ghost use Rattle.nest_join.specs.NestNames.{NestNames, index_in, indices_of};
+ghost use Rattle.nest_join.specs.NestTexts.{HoldsEntry};
+ghost use Rattle.nest_join.specs.CodedBlocks.{IsCodedBlock};
+ghost use Rattle.nest_join.specs.NestRuns.{NestCode, machine_body, IsBegun, EndsAsMeant, FaultsAsMeant, HoldsRows, HasFinals};
+
+/// The machine over the code of a nest ends as the run of the nest: both normally, and the machine comes after the code with the arrays and the
+/// scalars of the storage that the run leaves; or both with one fault.
+pub fn nests_end<I>()
+    ensures { (meaning : I → Instr Fault) (code : List I) (joined : ℤ) (line printed : List ℕ) (w : NestNames) (c : NestCode) (all : ℕ → Bool) (s : State)
+        (loop : Loop) (block body : Block) (ok : IsCodedBlock w s [] body) (start : Storage) (entry : List ℤ) (d : Data Fault)
+        → IsBegun meaning code w c all s loop block body ok start entry d
+        → let r = run (Do (Outermost w.nest body) loop block) c.line s in
+        EndsAsMeant meaning code joined line printed w c all s loop block body ok start entry d r
+        ⊎ FaultsAsMeant meaning code joined line printed w c all s loop block body ok start entry d r }
+{}
+
+/// After a nest that ends normally each array of the state that it leaves has its elements in the machine's row of its name, and its shape.
+pub fn arrays_held<I>()
+    ensures { (meaning : I → Instr Fault) (code : List I) (joined : ℤ) (line printed : List ℕ) (w : NestNames) (c : NestCode) (all : ℕ → Bool) (s : State)
+        (loop : Loop) (block body : Block) (ok : IsCodedBlock w s [] body) (start : Storage) (entry : List ℤ) (d : Data Fault) (r : Run)
+        (h : EndsAsMeant meaning code joined line printed w c all s loop block body ok start entry d r)
+        → HoldsEntry w c.slot entry s → HoldsRows w c s (count_body (machine_body w c s body ok)) start d
+        → (a : ℕ) → a < w.count
+        → (row_of h.after.data'.rows a ≡ (array h.state a).elements) × ((array h.state a).dims ≡ shape_of w.table.shapes a) }
+{}
+
+/// After a nest that ends normally each scalar of the state that it leaves, but for indices, has its value in its slot.
+pub fn scalars_held<I>()
+    ensures { (meaning : I → Instr Fault) (code : List I) (joined : ℤ) (line printed : List ℕ) (w : NestNames) (c : NestCode) (all : ℕ → Bool) (s : State)
+        (loop : Loop) (block body : Block) (ok : IsCodedBlock w s [] body) (start : Storage) (entry : List ℤ) (d : Data Fault) (r : Run)
+        (h : EndsAsMeant meaning code joined line printed w c all s loop block body ok start entry d r)
+        → HoldsEntry w c.slot entry s → HasFinals w c s body ok start entry
+        → (k : ℕ) → k < w.count → all k ≡ false → w.is_index k ≡ false → slot h.after.slots k ≡ scalar h.state k }
+{}
+
+/// After the code of a block the index of each loop in it is in its slot as the block leaves it in an iteration, and each other index as it was.
+pub fn inner_indices()
+    ensures { (w : NestNames) (c : NestCode) (entry : List ℤ) (s : State) (body : Block) (ok : IsCodedBlock w s [] body) (i : ℕ) (z : State)
+        → HoldsEntry w c.slot entry s → ((x : ℕ) → c.slot ≤ x → w.is_index x ≡ false)
+        → c.slot + body_slots (machine_body w c s body ok) ≤ length entry
+        → length z.scalars ≡ w.count → ((k : ℕ) → k < w.count → w.is_index k ≡ true → slot entry k ≡ scalar z k)
+        → (k : ℕ) → k < w.count → w.is_index k ≡ true
+        → slot (slots_after (counting_at c.line) (machine_body w c s body ok) c.slot entry) k ≡ scalar (settled (at_iteration w.nest s i) body z) k }
+{}
+
+/// After a nest that has an iteration and ends normally the index of each inner loop that is none of the nest's has its value in its slot.
+pub fn indices_held<I>()
+    ensures { (meaning : I → Instr Fault) (code : List I) (joined : ℤ) (line printed : List ℕ) (w : NestNames) (c : NestCode) (all : ℕ → Bool) (s : State)
+        (loop : Loop) (block body : Block) (ok : IsCodedBlock w s [] body) (start : Storage) (entry : List ℤ) (d : Data Fault) (r : Run)
+        → IsBegun meaning code w c all s loop block body ok start entry d
+        → (h : EndsAsMeant meaning code joined line printed w c all s loop block body ok start entry d r)
+        → HasFinals w c s body ok start entry
+        → (iteration_count w.nest s ≡ 0 → ⊥) → ((j : ℕ) → j < w.count → w.is_index j ≡ true → slot entry j ≡ scalar s j)
+        → (k : ℕ) → k < w.count → all k ≡ true → w.is_index k ≡ true → index_in (indices_of w) 0 k ≡ None
+        → slot h.after.slots k ≡ scalar h.state k }
+{}
