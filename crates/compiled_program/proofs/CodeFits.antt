@@ -10,7 +10,7 @@ use Rattle.array_meaning.specs.Statements.{Block, Done, Then, Statement, AssignS
 use Rattle.node_code.specs.Instructions.{Instruction, Jump, NewMapping, Par, ParForall, ParCopy, ParForallCopy, Reduce, MakeCopy, Remap}
 use Rattle.node_code.specs.ValidCode.{CodeTable, IsValid, IsValidNodeCode}
 use Rattle.lowering.specs.ExpressionCode.{code_of, control_code, control_slots}
-use Rattle.lowering.specs.StatementCode.{statement_code, arms_code, block_code, program_code}
+use Rattle.lowering.specs.StatementCode.{entry_code, statement_code, arms_code, block_code, program_code}
 use Rattle.owner_tables.specs.Views.{TableView}
 use Rattle.node_program.specs.Fits.{fits_row, fits_rows}
 
@@ -72,7 +72,7 @@ module _ (table : CodeTable) (none : table.maps ≡ 0) (tables : List TableView)
         arms-follow arms (λ pc. block_code n nothing other b pc leave again) (λ pc. block_code n moves other b pc leave' again') b pc leave again pc' leave' again'
         (λ pc pc'. block-follows other b pc leave again pc' leave' again')
     statement-follows (Do mark loop body) line b pc leave again pc' leave' again' =
-        after (control_code line b loop.control) _ _ (
+        after (control_code line b loop.control ++ entry_code line mark (b + control_slots loop.control)) _ _ (
           (λ h. refl),
           (
             (λ h. refl),

@@ -10,6 +10,7 @@ ghost use Rattle.name_table.specs.Entries.{entries};
 ghost use Rattle.array_maps.specs.Maps.{AreMaps};
 ghost use Rattle.accepted_program.specs.Accepted.{KeepsRules};
 ghost use Rattle.array_meaning.specs.Resolution.{resolved_block};
+ghost use Rattle.nest_standing.specs.FittingNumbers.{BlockNestsFit, ProgramNestsFit};
 ghost use Rattle.node_code.specs.ProgramText.{texts};
 ghost use Rattle.node_code.specs.Texts.{instructions};
 ghost use Rattle.lowering.specs.StatementCode.{block_copies, block_slots, program_code};
@@ -29,6 +30,7 @@ use crate::starts::{first_slots, first_values, shapes};
 use accepted_program::AcceptedProgram;
 use array_maps::Maps;
 use expression_rules::Dims;
+use fitting_numbers::nests_fit;
 use hpf_base::OutOfMemory;
 use name_table::Program;
 use node_code::Instruction;
@@ -54,7 +56,8 @@ pub struct CompiledProgram {
 }
 
 /// Compiles a program for the nodes of the grid that it is accepted on, where its arrays lie as they are mapped at the start (HPF 2.0, 3) and
-/// move with each REDISTRIBUTE (HPF 2.0, 8.3). The code fits the rows. An `Err` is want of memory.
+/// move with each REDISTRIBUTE (HPF 2.0, 8.3). The code fits the rows, and the numbers in the program's nests of INDEPENDENT loops are of 64 bits.
+/// An `Err` is want of memory.
 pub fn compile_program(
     alloc: Global,
     accepted: &AcceptedProgram<'_>,
@@ -65,6 +68,7 @@ pub fn compile_program(
     ensures nodes { IfOk result (λ c. (arc_value c.text).nodes ≡ c.owners.nodes) }
     ensures values { IfOk result (λ c. length c.values.items ≡ length c.owners.layouts) }
     ensures fits { IfOk result (λ c. FitsRows (arc_value c.text) c.owners.layouts) }
+    ensures numbers { IfOk result (λ c. ProgramNestsFit (main_program accepted.now.program.tree)) }
 {
     let compiled = compile_on(
         alloc,
@@ -97,6 +101,7 @@ fn compile_on(
     ensures nodes { IfOk result (λ c. (arc_value c.text).nodes ≡ c.owners.nodes) }
     ensures values { IfOk result (λ c. length c.values.items ≡ length c.owners.layouts) }
     ensures fits { IfOk result (λ c. FitsRows (arc_value c.text) c.owners.layouts) }
+    ensures numbers { IfOk result (λ c. ProgramNestsFit (main_program program.now.tree)) }
 {
     accepted_programs_have_valid_code();
     let names = &program.names;
@@ -121,8 +126,10 @@ fn compiled(alloc: Global, program: &Program, moves: &[LineMoves]) -> Result<Cod
         (resolved_block program.now.names (main_program program.now.tree).body)) }
     ensures hidden { IfOk result (λ c. c.hidden ≡ block_slots (resolved_block program.now.names (main_program program.now.tree).body)) }
     ensures copies { IfOk result (λ c. c.copies ≡ block_copies (resolved_block program.now.names (main_program program.now.tree).body)) }
+    ensures numbers { IfOk result (λ c. BlockNestsFit (resolved_block program.now.names (main_program program.now.tree).body)) }
 {
     let plan = plan(alloc, program)?;
+    nests_fit(&plan.body);
     compile(alloc, program.names.len(), &plan, moves)
 }
 

@@ -7,6 +7,7 @@ use Rattle.array_maps.specs.Maps.{AreNewMaps, IsArrayMap}
 use Rattle.array_maps.specs.declared.maps.ArrayMap.{ArrayMap}
 use Rattle.array_maps.specs.declared.maps.Redistribution.{Redistribution}
 use Rattle.directive_check.specs.ProgramMaps.{program_moves, start_maps}
+use Rattle.nest_standing.specs.FittingNumbers.{ProgramNestsFit}
 use Rattle.accepted_program.specs.declared.accepted.AcceptedProgram.{AcceptedProgram}
 use Rattle.array_meaning.specs.Faults.{Fault}
 use Rattle.array_meaning.specs.Serial.{serial}
@@ -24,7 +25,7 @@ use Rattle.compiled_program.proofs.Accepted.{arrays-valid, moves-valid}
 use Rattle.distributed_run.proofs.GridLaws.{AllMovesDealt}
 use Rattle.distributed_run.proofs.ProgramLines.{AllMovesByNumber, AllTextsLowered, end-is, text-is}
 
-module _ (a : AcceptedProgram) (is : IsGrid a.grid.now) (texts : AllTextsLowered) (dealt : AllMovesDealt) (numbers : AllMovesByNumber)
+module _ (a : AcceptedProgram) (is : IsGrid a.grid.now) (fit : ProgramNestsFit (main_program a.program.tree)) (texts : AllTextsLowered) (dealt : AllMovesDealt) (numbers : AllMovesByNumber)
     (old new : Machine Text Fault) (before after : List ℕ) (empty : before ≡ []) (begins : old ≡ grid_opening a.grid.now (main_program a.program.tree))
     (listed : IsListed a.program.names old new before after) (over : IsOver new.control.status) where
   abbrev grid : List ℕ
@@ -46,9 +47,9 @@ module _ (a : AcceptedProgram) (is : IsGrid a.grid.now) (texts : AllTextsLowered
   text-so =
       listed.lines moved ∙ ap (λ l. l ++ lines_of_steps a.program.names moved listed.many old) empty
       ∙ (λ i. lines_of_steps (a.names i) moved listed.many (begins i))
-      ∙ text-is grid p texts dealt numbers a.keeps.anywhere is (arrays-valid a) (moves-valid a) listed.many over-there
+      ∙ text-is grid p texts dealt numbers a.keeps.anywhere fit is (arrays-valid a) (moves-valid a) listed.many over-there
 
   pub end-so : end_by_status new.control.status ≡ Some (serial p).end
   end-so =
       ap (λ (x : Machine Text Fault). end_by_status x.control.status) ran
-      ∙ end-is grid p texts dealt numbers a.keeps.anywhere is (arrays-valid a) (moves-valid a) listed.many over-there
+      ∙ end-is grid p texts dealt numbers a.keeps.anywhere fit is (arrays-valid a) (moves-valid a) listed.many over-there

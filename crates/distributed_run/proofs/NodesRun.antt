@@ -13,6 +13,7 @@ use Rattle.array_maps.specs.declared.maps.Redistribution.{Redistribution}
 use Rattle.array_maps.specs.Maps.{AreMaps, AreNewMaps, IsArrayMap}
 use Rattle.directive_check.specs.ProgramMaps.{program_moves, start_maps}
 use Rattle.accepted_program.specs.Accepted.{KeepsRules}
+use Rattle.nest_standing.specs.FittingNumbers.{ProgramNestsFit}
 use Rattle.accepted_program.specs.declared.accepted.AcceptedProgram.{AcceptedProgram}
 use Rattle.array_meaning.specs.Faults.{Fault}
 use Rattle.node_law.specs.Cores.{start}
@@ -31,7 +32,7 @@ use Rattle.nodes_lowered.proofs.StartLaid.{program-laid}
 use Rattle.compiled_program.proofs.Accepted.{arrays-valid, moves-valid}
 use Rattle.distributed_run.proofs.GridLaws.{AllMovesDealt, RunsOnNodes}
 
-module _ (a : AcceptedProgram) (is : IsGrid a.grid.now) where
+module _ (a : AcceptedProgram) (is : IsGrid a.grid.now) (fit : ProgramNestsFit (main_program a.program.tree)) where
   abbrev grid : List ℕ
   grid = a.grid.now
 
@@ -42,7 +43,7 @@ module _ (a : AcceptedProgram) (is : IsGrid a.grid.now) where
     run : RunsOnGrid grid p
     run =
         runs (product grid) p (program_mappings grid p) (program_remaps grid p) (start_layouts grid p)
-        (let some : 1 ≤ product grid = product-some grid is.extents in omega (arith, some)) a.keeps.anywhere
+        (let some : 1 ≤ product grid = product-some grid is.extents in omega (arith, some)) a.keeps.anywhere fit
         (program-laid grid (program_copies p) p is (arrays-valid a)) (dealt grid (program_copies p) p is (arrays-valid a) (moves-valid a))
 
     pub few : length first < 2 ^ 32

@@ -39,6 +39,9 @@ use Rattle.lowering.specs.Lowered.{EndsAs, IsTable, opening}
 use Rattle.lowering.specs.Passed.{passed}
 use Rattle.lowering.specs.StatementCode.{block_copies}
 use Rattle.well_formed.proofs.Programs.{trail_lowered, valid}
+use Rattle.nest_items.specs.BlockForms.{BlockHasForms}
+use Rattle.nest_standing.specs.FittingNumbers.{ProgramNestsFit}
+use Rattle.nest_standing.proofs.Programs.{program_forms}
 use Rattle.owner_tables.proofs.CopyLaws.{copy-dealt, copy-size}
 use Rattle.comm_sets.proofs.Covering.{rounds-cover}
 use Rattle.node_run.specs.Coded.{with_code}
@@ -95,6 +98,7 @@ AllTextsLowered = (p : MainProgram) (room : ℕ) (table : ArrayTable) (moves : �
     (layouts starts : List Layout)
     → IsTable (initial_state (entries p)) table → block_copies (resolved_block (entries p) p.body) ≤ room
     → length layouts ≡ length (entries p) + room → HasNoBreach p → NoBreach (Among (body_breaches (entries p) p.body))
+    → BlockHasForms (resolved_block (entries p) p.body)
     → MachineHasText (length (entries p)) table (setting_by nodes names shapes table.maps moves) starts
     (opening (length (entries p)) room moves (resolved_block (entries p) p.body) (initial_state (entries p)) layouts)
     (run_block (resolved_block (entries p) p.body) (initial_state (entries p))) (serial_trail p)
@@ -153,18 +157,19 @@ module _ (grid : List ℕ) (p : MainProgram) where
   many = layouts-many nodes (program_copies p) (entries p) (start_maps grid p)
 
   -- after so many steps the run is over
-  pub ends : KeepsRules p → (k : ℕ) × IsOver (steps text_meaning k (grid_opening grid p)).control.status
-  ends rules =
+  pub ends : KeepsRules p → ProgramNestsFit p → (k : ℕ) × IsOver (steps text_meaning k (grid_opening grid p)).control.status
+  ends rules fit =
       let enough : 1 ≤ 1 = omega arith in
-      let has = trail_lowered p (program_copies p) moves table layouts tabled enough many rules.resolved rules.bodies_fine in
+      let has = trail_lowered p (program_copies p) moves table layouts tabled enough many rules.resolved rules.bodies_fine (program_forms p rules.resolved rules.bodies_fine fit) in
       (has.0, over-at has.0 has.1)
 
-  module _ (texts : AllTextsLowered) (dealt : AllMovesDealt) (numbers : AllMovesByNumber) (rules : KeepsRules p) (is : IsGrid grid)
+  module _ (texts : AllTextsLowered) (dealt : AllMovesDealt) (numbers : AllMovesByNumber) (rules : KeepsRules p) (fit : ProgramNestsFit p) (is : IsGrid grid)
       (arrays : All (IsArrayMap nodes) (start_maps grid p)) (new : All (λ (r : Redistribution). AreNewMaps nodes (start_maps grid p) r.maps) (program_moves grid p)) where
     has : MachineHasText n table s (names_layouts grid p) m r (serial_trail p)
     has =
         let enough : 1 ≤ 1 = omega arith in
         texts p (program_copies p) table moves nodes names (program_shapes p) layouts (names_layouts grid p) tabled enough many rules.resolved rules.bodies_fine
+        (program_forms p rules.resolved rules.bodies_fine fit)
 
     over : IsOver (steps text_meaning has.0 (grid_opening grid p)).control.status
     over = over-at has.0 has.1

@@ -4,7 +4,7 @@ ghost use Rattle.std.specs.Prelude.{IfOk};
 ghost use Rattle.syntax_tree.specs.MainProgram.{main_program};
 ghost use Rattle.distributed_run.specs.Listed.{IsMessageList};
 
-use crate::machine_run::run_machine;
+use crate::machine_run::{EndingProgram, run_machine};
 use crate::outcome::end_of;
 use accepted_program::AcceptedProgram;
 use compiled_program::compile_program;
@@ -45,7 +45,7 @@ pub fn list_messages(
         &compiled.values,
     )?;
     let mut text = Vec::new(alloc);
-    run_machine(alloc, accepted, &mut machine, &mut text)?;
+    run_machine(alloc, &EndingProgram { accepted }, &mut machine, &mut text)?;
     let end = end_of(alloc, machine.status())?;
     Ok(MessageList { text, end })
 }

@@ -8,6 +8,8 @@ ghost use Rattle.machine_steps.specs.Instr.{Remapping, Running};
 ghost use Rattle.node_code.specs.ProgramText.{Text};
 ghost use Rattle.node_program.specs.Fits.{FitsRows};
 ghost use Rattle.node_program.specs.Programs.{code_of};
+ghost use Rattle.nest_standing.specs.FitProps.{program-prop};
+ghost use Rattle.nest_standing.specs.FittingNumbers.{ProgramNestsFit};
 ghost use Rattle.nodes_lowered.specs.GridRuns.{grid_opening};
 ghost use Rattle.message_lines.specs.KeptLines.{AreKeptLines};
 ghost use Rattle.message_lines.specs.TextLines.{text_lines};
@@ -22,20 +24,33 @@ use slot_values::Status;
 use std::alloc::Global;
 use whole_machine::WholeMachine;
 
+/// A program whose machine comes to an end: the numbers in its nests of INDEPENDENT loops are of 64 bits.
+#[derive(Drop)]
+pub(crate) struct EndingProgram<'a> {
+    pub accepted: &'a AcceptedProgram<'a>,
+    pub ghost numbers: { ProgramNestsFit (main_program accepted.now.program.tree) } by { program-prop (main_program accepted.now.program.tree) },
+}
+
 /// Runs the machine of a program to its end, and puts the lines of the messages of its steps after the others. An `Err` is want of memory.
 pub(crate) fn run_machine(
     alloc: Global,
-    accepted: &AcceptedProgram<'_>,
+    program: &EndingProgram<'_>,
     machine: &mut WholeMachine,
     text: &mut Vec<u8>,
 ) -> Result<(), OutOfMemory>
-    requires { machine.old ≡ grid_opening accepted.now.grid.now (main_program accepted.now.program.tree) }
-    ensures lines { OnOk result (IsListed accepted.now.program.names machine.old machine.new text.old.items text.new.items) }
+    requires { machine.old ≡ grid_opening program.now.accepted.now.grid.now (main_program program.now.accepted.now.program.tree) }
+    ensures lines { OnOk result (IsListed program.now.accepted.now.program.names machine.old machine.new text.old.items text.new.items) }
     ensures over { OnOk result (IsOver machine.new.control.status) }
 {
     let mut kept = KeptLines::new(alloc);
     'steps: while is_running(machine) {
-        push_next(alloc, &accepted.program.names, machine, &mut kept, text)?;
+        push_next(
+            alloc,
+            &program.accepted.program.names,
+            machine,
+            &mut kept,
+            text,
+        )?;
         machine.step()?;
     }
     Ok(())

@@ -6,7 +6,7 @@ use Rattle.hpf_base.specs.declared.status.Status.TheVariants.{Done, Fault, Refus
 use Rattle.hpf_base.specs.declared.status.Status.{Status}
 use Rattle.hpf_base.specs.declared.limits.TheConstants.{MAX_SOURCE_BYTES}
 use Rattle.hpf_ports.specs.Ports.{Gave, IsAtEnd, Rose, AreAppended}
-use Rattle.hpf_run.specs.Outcome.{is_of_text, is_too_long, is_usage, text_accepted, text_refused, check_done, map_done, messages_left_out, messages_report, run_left_out, run_report, serial_left_out, serial_report, report_end, report_fault, ActionOutcome, IsReportOf, means_memory, means_outcome, all_written, err_failed, out_failed, listed, Delivered, Had, IsRead, Meant, Outcome, TextOutcome, Port, port, refusal_line, too_long_line, usage_line, with_arrays}
+use Rattle.hpf_run.specs.Outcome.{is_of_text, is_too_long, is_usage, text_accepted, text_refused, check_done, map_done, messages_left_out, messages_report, run_report, serial_report, report_end, report_fault, ActionOutcome, IsReportOf, means_memory, means_outcome, all_written, err_failed, out_failed, listed, Delivered, Had, IsRead, Meant, Outcome, TextOutcome, Port, port, refusal_line, too_long_line, usage_line, with_arrays}
 use Rattle.hpf_run.specs.Reply.{ActionMeant, IsFaulted, IsReplyOf, IsReported, TextMeant, action_memory, action_outcome, reply_memory, reply_refused, reported, reported_fault, reported_memory, fault_memory, text_memory, text_outcome}
 use Rattle.hpf_run.specs.Accepted.{IsAccepted, IsRefused}
 use Rattle.syntax_tree.specs.MainProgram.{MainProgram}
@@ -100,10 +100,8 @@ read_action : (grid text : List ℕ) (arrays : Bool) (p : MainProgram) (act : Ac
     → Gave left left' text → IsAtEnd left' → IsRead o.status left left' text
 read_action grid text arrays p act o left left' check_done gave end = (gave, end)
 read_action grid text arrays p act o left left' map_done gave end = (gave, end)
-read_action grid text arrays p act o left left' (serial_report built o' report) gave end = read_reported (entries p) false (serial p) o' left left' text report gave end
-read_action grid text arrays p act o left left' (serial_left_out r is) gave end = (gave, end)
-read_action grid text arrays p act o left left' (run_report built o' report) gave end = read_reported (entries p) arrays (serial p) o' left left' text report gave end
-read_action grid text arrays p act o left left' (run_left_out r is) gave end = (gave, end)
+read_action grid text arrays p act o left left' (serial_report o' report) gave end = read_reported (entries p) false (serial p) o' left left' text report gave end
+read_action grid text arrays p act o left left' (run_report o' report) gave end = read_reported (entries p) arrays (serial p) o' left left' text report gave end
 read_action grid text arrays p act o left left' (messages_report built o' report) gave end =
     read_reported (entries p) false (listed grid p) o' left left' text report gave end
 read_action grid text arrays p act o left left' (messages_left_out r is) gave end = (gave, end)

@@ -66,9 +66,9 @@ pub data IsReportOf (names : List Entry) (arrays : Bool) (s : serial.Outcome) : 
   report_end : s.end ≡ Finished → IsReportOf names arrays s record { status = Done; out = with_arrays arrays names s.printed s.arrays; err = [] }
   report_fault : (f : faults.Fault) → s.end ≡ Faulted f → IsReportOf names arrays s record { status = Fault; out = s.printed; err = fault_line names f }
 
--- what isn't built of a program: DO loops with INDEPENDENT before them
-abbrev pub unbuilt : MainProgram → List Refusal
-unbuilt p = flat_map left_out (marks p.body)
+-- of what messages aren't listed yet: of DO loops with INDEPENDENT before them
+abbrev pub unlisted : MainProgram → List Refusal
+unlisted p = flat_map left_out (marks p.body)
 
 -- the outcome of a program, with the lines of the messages that nodes of a grid send for it in place of what it prints
 abbrev pub listed : List ℕ → MainProgram → serial.Outcome
@@ -79,12 +79,10 @@ listed grid p = record (serial.serial p) { printed = messages_text grid p }
 pub data ActionOutcome (grid : List ℕ) (arrays : Bool) (p : MainProgram) : Action → Outcome → Type 0 where
   check_done : ActionOutcome grid arrays p Check record { status = Done; out = accepted_line; err = [] }
   map_done : ActionOutcome grid arrays p Map record { status = Done; out = map_text (product grid) (start_maps grid p); err = [] }
-  serial_report : least (unbuilt p) ≡ None → (o : Outcome) → IsReportOf (entries p) false (serial.serial p) o → ActionOutcome grid arrays p Serial o
-  serial_left_out : (r : Refusal) → least (unbuilt p) ≡ Some r → ActionOutcome grid arrays p Serial record { status = Refused; out = []; err = refusal_line r }
-  run_report : least (unbuilt p) ≡ None → (o : Outcome) → IsReportOf (entries p) arrays (serial.serial p) o → ActionOutcome grid arrays p Run o
-  run_left_out : (r : Refusal) → least (unbuilt p) ≡ Some r → ActionOutcome grid arrays p Run record { status = Refused; out = []; err = refusal_line r }
-  messages_report : least (unbuilt p) ≡ None → (o : Outcome) → IsReportOf (entries p) false (listed grid p) o → ActionOutcome grid arrays p Messages o
-  messages_left_out : (r : Refusal) → least (unbuilt p) ≡ Some r → ActionOutcome grid arrays p Messages record { status = Refused; out = []; err = refusal_line r }
+  serial_report : (o : Outcome) → IsReportOf (entries p) false (serial.serial p) o → ActionOutcome grid arrays p Serial o
+  run_report : (o : Outcome) → IsReportOf (entries p) arrays (serial.serial p) o → ActionOutcome grid arrays p Run o
+  messages_report : least (unlisted p) ≡ None → (o : Outcome) → IsReportOf (entries p) false (listed grid p) o → ActionOutcome grid arrays p Messages o
+  messages_left_out : (r : Refusal) → least (unlisted p) ≡ Some r → ActionOutcome grid arrays p Messages record { status = Refused; out = []; err = refusal_line r }
 
 -- what a job makes of a text: whatever the action, a text that isn't accepted on the grid is refused
 pub data TextOutcome (text : List ℕ) (job : Job) : Outcome → Type 0 where

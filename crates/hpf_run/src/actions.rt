@@ -8,7 +8,7 @@ ghost use Rattle.serial_run.specs.Outcomes.{end_seen};
 ghost use Rattle.distributed_run.specs.Outcomes.{IsOutcome};
 ghost use Rattle.hpf_words.specs.declared.job.Action.TheVariants.{Check, Map, Messages, Run, Serial};
 ghost use Rattle.hpf_run.specs.Command.{is_built};
-ghost use Rattle.hpf_run.specs.Outcome.{listed, unbuilt, with_arrays};
+ghost use Rattle.hpf_run.specs.Outcome.{listed, unlisted, with_arrays};
 ghost use Rattle.hpf_run.specs.Reply.{ActionMeant, IsFaulted, IsReported, outcome_of};
 
 use crate::reply::{Reply, reply_refused};
@@ -57,21 +57,11 @@ fn map_reply(alloc: Global, accepted: &AcceptedProgram<'_>) -> Reply
     }
 }
 
-/// The first DO that has INDEPENDENT before it, where there is one: no action runs such a program yet.
-fn first_unbuilt(accepted: &AcceptedProgram<'_>) -> Option<Refusal>
-    ensures { result ≡ least (unbuilt (main_program accepted.now.program.tree)) }
-{
-    first_independent(&accepted.program.tree.body)
-}
-
 /// What `serial` answers.
 fn serial_reply(alloc: Global, accepted: &AcceptedProgram<'_>) -> Reply
     ensures { (grid : List ℕ) (arrays : Bool) → ActionMeant grid arrays (main_program accepted.now.program.tree) Serial (outcome_of result) }
 {
-    match first_unbuilt(accepted) {
-        None => run_program(alloc, &accepted.program),
-        Some(left_out) => reply_refused(alloc, left_out),
-    }
+    run_program(alloc, &accepted.program)
 }
 
 /// What the run of a program in one order comes to.
@@ -105,10 +95,7 @@ fn report(alloc: Global, names: &Names, printed: Vec<u8>, end: End) -> Reply
 fn run_reply(alloc: Global, accepted: &AcceptedProgram<'_>, arrays: bool) -> Reply
     ensures { (grid : List ℕ) → ActionMeant grid arrays (main_program accepted.now.program.tree) Run (outcome_of result) }
 {
-    match first_unbuilt(accepted) {
-        None => run_nodes(alloc, accepted, arrays),
-        Some(left_out) => reply_refused(alloc, left_out),
-    }
+    run_nodes(alloc, accepted, arrays)
 }
 
 /// What the run of a program on nodes comes to.
@@ -141,11 +128,18 @@ fn report_nodes(alloc: Global, names: &Names, arrays: bool, outcome: NodesOutcom
     }
 }
 
+/// The first DO that has INDEPENDENT before it, where there is one: messages of such a program aren't listed yet.
+fn first_unlisted(accepted: &AcceptedProgram<'_>) -> Option<Refusal>
+    ensures { result ≡ least (unlisted (main_program accepted.now.program.tree)) }
+{
+    first_independent(&accepted.program.tree.body)
+}
+
 /// What `messages` answers.
 fn messages_reply(alloc: Global, accepted: &AcceptedProgram<'_>) -> Reply
     ensures { (arrays : Bool) → ActionMeant accepted.now.grid.now arrays (main_program accepted.now.program.tree) Messages (outcome_of result) }
 {
-    match first_unbuilt(accepted) {
+    match first_unlisted(accepted) {
         None => list_program(alloc, accepted),
         Some(left_out) => reply_refused(alloc, left_out),
     }

@@ -76,7 +76,7 @@ fn deliver<O: Sink, E: Sink>(reply: &Reply, out: &mut O, err: &mut E) -> Status
 /// order, and `run` on the nodes of the grid, and both answer what the program means in one order: what it prints and, with `--arrays`, its
 /// last arrays, or what it prints before its first fault, and that fault. `messages` prints a line for each message that the nodes send
 /// for array statements, reductions and REDISTRIBUTEs, up to that fault, and then that fault. Programs with INDEPENDENT before a DO are left out
-/// by these three, with the line.
+/// by `messages`, with the line. A nest of INDEPENDENT loops with two iterations that interfere is a fault at its entry (HPF 2.0, 5.1).
 ///
 /// The answer is delivered whole, or it is `WriteFault`: then the count of the sink at fault rose in this call, and that sink holds a
 /// proper prefix of its text. Words that are no job, and a job that isn't built yet (`bulk`), are no command: for them the source isn't

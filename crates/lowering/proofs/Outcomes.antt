@@ -19,6 +19,7 @@ use Rattle.machine_steps.specs.Machine.{Machine, steps}
 use Rattle.node_code.specs.Instructions.{Instruction, NewMapping, ArrayTable, meaning_of}
 use Rattle.lowering.specs.StatementCode.{block_copies}
 use Rattle.lowering.specs.WellFormed.{IsWellFormedBlock}
+use Rattle.nest_items.specs.BlockForms.{BlockHasForms}
 use Rattle.lowering.specs.Lowered.{opening, EndsAs, IsEnd, IsLeft, IsTable, MachineHas}
 use Rattle.lowering.proofs.Programs.{program-ends}
 
@@ -41,14 +42,14 @@ end-is n m s (runs.Faulted f) h = (h.1, h.0)
 
 pub outcome-is : (names : List Entry) (room : ℕ) (moves : ℕ → List NewMapping) (body : syntax.Block) (table : ArrayTable) (layouts : List Layout)
     → IsTable (initial_state names) table → block_copies (resolved_block names body) ≤ room → length layouts ≡ length names + room
-    → IsWellFormedBlock (length names) (resolved_block names body)
+    → IsWellFormedBlock (length names) (resolved_block names body) → BlockHasForms (resolved_block names body)
     → MachineHas (length names) table (opening (length names) room moves (resolved_block names body) (initial_state names) layouts) (outcome names body)
-outcome-is names room moves body table layouts is-table roomy laid ok =
+outcome-is names room moves body table layouts is-table roomy laid ok forms =
     let n : ℕ = length names in
     let block : Block = resolved_block names body in
     let s : State = initial_state names in
     let scalars : length s.scalars ≡ n = length-map names (λ (e : Entry). initial_scalar e.what) in
     let arrays : length s.arrays ≡ n = length-map names (λ (e : Entry). initial_array e.what) in
-    let ends = program-ends table n room moves block s (record { scalars = scalars; arrays = arrays }) is-table roomy layouts laid ok in
+    let ends = program-ends table n room moves block s (record { scalars = scalars; arrays = arrays }) is-table roomy layouts laid ok forms in
     let is = end-is n (steps (meaning_of table) ends.0 (opening n room moves block s layouts)) (run_block block s).state (run_block block s).completion ends.1 in
     (ends.0, is.0, is.1)

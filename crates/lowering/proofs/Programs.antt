@@ -17,6 +17,7 @@ use Rattle.machine_steps.specs.Machine.{Machine, steps}
 use Rattle.node_code.specs.Instructions.{Instruction, NewMapping, Jump, Halt, meaning_of, ArrayTable}
 use Rattle.lowering.specs.StatementCode.{block_copies, block_slots, block_code, program_code}
 use Rattle.lowering.specs.WellFormed.{IsWellFormedBlock}
+use Rattle.nest_items.specs.BlockForms.{BlockHasForms}
 use Rattle.lowering.specs.Lowered.{IsState, IsTable, opening, IsLeft, EndsAs, MachineEnds, MachinePasses}
 use Rattle.statement_trail.specs.Trail.{Trail, block_trail}
 use Rattle.lowering.specs.Passed.{passed, IsTrail}
@@ -80,12 +81,15 @@ module _ (table : ArrayTable) (n room : ℕ) (moves : ℕ → List NewMapping) (
     size = length-append s.scalars (replicate (block_slots body) (pos 0)) ∙ omega (arith, is.scalars, length-replicate (block_slots body) (pos 0));
   }
 
+  declared : length table.shapes ≡ n
+  declared = ap length tabled.shapes ∙ length-map s.arrays (λ (a : Array). a.dims) ∙ is.arrays
+
   abbrev entries : Trail
   entries = block_trail body s
 
-  pub program-passes : (layouts : List Layout) → length layouts ≡ row_count → IsWellFormedBlock n body → MachinePasses n table moves (opening n room moves body s layouts) (run_block body s) (block_trail body s)
-  program-passes layouts laid ok = by_completion r.completion
-      (block-goes table row_count moves code n many tabled.copies body n 2 1 1 slots rows s ok (has-front code 2 (block_code n moves body n 2 1 1) (Jump 1 ∷ []) all.1.1) (omega arith)
+  pub program-passes : (layouts : List Layout) → length layouts ≡ row_count → IsWellFormedBlock n body → BlockHasForms body → MachinePasses n table moves (opening n room moves body s layouts) (run_block body s) (block_trail body s)
+  program-passes layouts laid ok forms = by_completion r.completion
+      (block-goes table row_count moves code n many declared tabled.copies body n 2 1 1 slots rows s ok forms (has-front code 2 (block_code n moves body n 2 1 1) (Jump 1 ∷ []) all.1.1) (omega arith)
       (omega arith) holds)
     where
       r : Run
@@ -143,6 +147,6 @@ module _ (table : ArrayTable) (n room : ℕ) (moves : ℕ → List NewMapping) (
           let e : steps (meaning_of table) (b.1.0 + a.0) (m0 i0) ≡ b.0 = steps-more table row_count moves code a.0 b.1.0 (m0 i0) ∙ ap (steps (meaning_of table) b.1.0) a.2 ∙ b.1.1 in
           (b.1.0 + a.0, rw (e) (b.2, b.3), entries-more table row_count moves code a.0 b.1.0 (m0 i0) (begin a.1) [] entries a.2 a.3 b.1.2)
 
-  pub program-ends : (layouts : List Layout) → length layouts ≡ row_count → IsWellFormedBlock n body
+  pub program-ends : (layouts : List Layout) → length layouts ≡ row_count → IsWellFormedBlock n body → BlockHasForms body
       → MachineEnds n table (opening n room moves body s layouts) (run_block body s)
-  program-ends layouts laid ok = let p = program-passes layouts laid ok in (p.0, p.1)
+  program-ends layouts laid ok forms = let p = program-passes layouts laid ok forms in (p.0, p.1)

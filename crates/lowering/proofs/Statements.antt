@@ -8,19 +8,22 @@ use Rattle.machine_steps.specs.Machine.{remapped, with_mapping}
 use Rattle.mappings.specs.declared.mapping.Mapping.{Mapping}
 use Rattle.machine_steps.specs.Space.{space_count}
 use Rattle.lowering.proofs.Printing.{all_bytes, prints-line}
-use Rattle.lowering.specs.WellFormed.{AreItems, IsWellFormed, AreWellFormedArms, IsWellFormedBlock, IsScalar}
+use Rattle.lowering.specs.WellFormed.{AreItems, IsControl, IsWellFormed, AreWellFormedArms, IsWellFormedBlock, IsScalar}
 use Rattle.lowering.proofs.Foralls.{forall-goes}
 use Rattle.array_meaning.specs.Execution.{item_bytes, run, run_arms, run_block, iterate, all_item_bytes, print}
 use Rattle.array_meaning.specs.Expressions.{value, index_values}
 use Rattle.array_meaning.specs.Faults.{Cause, ◌>>=◌}
-use Rattle.array_meaning.specs.Runs.{Run, normal, one_step, with_value}
+use Rattle.array_meaning.specs.Runs.{Run, normal, then_do, one_step, with_value}
+use Rattle.array_meaning.specs.NestEntry.{entered}
 use Rattle.array_meaning.specs.Sections.{sequence, sequence_of}
 use Rattle.array_meaning.specs.State.{State}
-use Rattle.array_meaning.specs.Statements.{Item, Value, Elements, Block, Done, Then, Statement, AssignScalar, AssignElement, AssignSection, If, Do, Where, Forall, Stop, Exit, Cycle, Continue, Redistribute, Arms, NoArm, Arm}
+use Rattle.array_meaning.specs.Statements.{Item, Value, Elements, Loop, Mark, Block, Done, Then, Statement, AssignScalar, AssignElement, AssignSection, If, Do, Where, Forall, Stop, Exit, Cycle, Continue, Redistribute, Arms, NoArm, Arm}
 use Rattle.array_meaning.specs.Terms.{Control}
 use Rattle.array_meaning.specs.declared.sections.Sequence.{Sequence}
 use Rattle.lowering.proofs.Assigns.{assigns, assigns-element, after-bind}
-use Rattle.lowering.proofs.Branches.{Makes, arm-goes, enters}
+use Rattle.lowering.proofs.Branches.{Makes, arm-goes}
+use Rattle.lowering.proofs.NestChecks.{IsFormedMark, formed_mark, entry-goes}
+use Rattle.nest_items.specs.BlockForms.{BlockHasForms, HasForms, ArmsHaveForms}
 use Rattle.lowering.proofs.Goes.{Holds, kept-refl, Goes, goes-on, goes-at, goes-then, goes-value, ends-bind, value-bind, lands-done, set-reaches, jump-reaches, holds-slot, goes-as, goes-value-last}
 use Rattle.lowering.proofs.Items.{SpreadGives, elements-come}
 use Rattle.lowering.proofs.Parts.{term-comes}
@@ -31,7 +34,7 @@ use Rattle.lowering.proofs.Sections.{section-goes}
 use Rattle.lowering.proofs.Terms.{HoldsArrays, HoldsScalars, holds-same, Gives}
 use Rattle.lowering.proofs.Wheres.{where-goes}
 use Rattle.lowering.specs.ExpressionCode.{subscripts_slots, subs_of, slots_of, flat_of, code_of, control_slots, control_code}
-use Rattle.lowering.specs.StatementCode.{loop_code, statement_slots, arms_slots, block_slots, statement_code, arms_code, block_code, items_slots, item_code, items_code, print_items}
+use Rattle.lowering.specs.StatementCode.{entry_code, loop_code, statement_slots, arms_slots, block_slots, statement_code, arms_code, block_code, items_slots, item_code, items_code, print_items}
 use Rattle.storage.specs.Storage.{Storage, read}
 use Rattle.node_code.specs.Flat.{slot, Flat}
 use Rattle.array_meaning.specs.Statements as statements
@@ -57,7 +60,7 @@ loop-trail F L S (Ok a) (Ok b) r3 I =
     ∙ ap (λ T. F ++ T) (sym (append_assoc L S (after_value (r3 >>= sequence a b) I)))
     ∙ sym (append_assoc F (L ++ S) (after_value (r3 >>= sequence a b) I))
 
-module _ (table : ArrayTable) (row_count : ℕ) (moves : ℕ → List NewMapping) (code : List Instruction) (n many : ℕ) (sized : (layouts : List Layout) (ns : List ℕ) → size_of (table.copies layouts ns) ≡ space_count ns) where
+module _ (table : ArrayTable) (row_count : ℕ) (moves : ℕ → List NewMapping) (code : List Instruction) (n many : ℕ) (declared : length table.shapes ≡ n) (sized : (layouts : List Layout) (ns : List ℕ) → size_of (table.copies layouts ns) ≡ space_count ns) where
   -- ---- PRINT
 
   abbrev ShowsAll : Storage → ℕ → List PrintItem → List ℤ → List ℕ → Type 0
@@ -192,19 +195,19 @@ module _ (table : ArrayTable) (row_count : ℕ) (moves : ℕ → List NewMapping
         },
       ))))
 
-  loop-goes : (line b pc leave again x : ℕ) (c : Control) (bcode : ℕ → ℕ → ℕ → List Instruction) (brun : State → Run) (btrail : State → Trail) (slots : List ℤ) (rows : Storage) (s : State) → x < n
-      → (IsScalar n c.first × IsScalar n c.last × IsScalar n c.step)
-      → HasAt code pc (control_code line b c ++ loop_code line (pc + length (control_code line b c)) (b + control_slots c) x bcode) → n ≤ b → b + (control_slots c + 4) ≤ many
+  loop-goes : (line b pc leave again : ℕ) (mark : Mark) (l : Loop) (block : Block) (bcode : ℕ → ℕ → ℕ → List Instruction) (brun : State → Run) (btrail : State → Trail) (slots : List ℤ) (rows : Storage) (s : State) → IsFormedMark n mark l block → l.index < n
+      → IsControl n l.control
+      → HasAt code pc ((control_code line b l.control ++ entry_code line mark (b + control_slots l.control)) ++ loop_code line (pc + length (control_code line b l.control ++ entry_code line mark (b + control_slots l.control))) (b + control_slots l.control) l.index bcode) → n ≤ b → b + (control_slots l.control + 4) ≤ many
       → Holds table row_count moves code n many None s slots rows
       → ((s : State) (slots : List ℤ) (rows : Storage) (pc leave again : ℕ) → HasAt code pc (bcode pc leave again) → Holds table row_count moves code n many None s slots rows
-      → Goes table row_count moves code n many None leave again (btrail s) (pc + length (bcode pc leave again)) (b + control_slots c + 4) slots (stands table row_count moves code pc slots rows s.printed) (brun s))
-      → Goes table row_count moves code n many None leave again (control_trail line s c ++ after_value (index_values s c) (λ p. iterate_trail p.count x p.first p.step brun btrail s)) (pc + length (control_code line b c ++ loop_code line (pc + length (control_code line b c)) (b + control_slots c) x bcode)) b
-      slots (stands table row_count moves code pc slots rows s.printed) (with_value line s (index_values s c) (λ p. iterate p.count x p.first p.step brun s))
-  loop-goes line b pc leave again x c bcode brun btrail slots rows s lx ok has le few holds makes =
-      goes-at table row_count moves code n many None leave again (control_trail line s c ++ after_value (index_values s c) (λ p. iterate_trail p.count x p.first p.step brun btrail s)) to (pc + length (control ++ loop)) b slots (stands table row_count moves code pc slots rows s.printed)
+      → Goes table row_count moves code n many None leave again (btrail s) (pc + length (bcode pc leave again)) (b + control_slots l.control + 4) slots (stands table row_count moves code pc slots rows s.printed) (brun s))
+      → Goes table row_count moves code n many None leave again (control_trail line s l.control ++ after_value (index_values s l.control) (λ p. after_value (entered mark s) (iterate_trail p.count l.index p.first p.step brun btrail))) (pc + length ((control_code line b l.control ++ entry_code line mark (b + control_slots l.control)) ++ loop_code line (pc + length (control_code line b l.control ++ entry_code line mark (b + control_slots l.control))) (b + control_slots l.control) l.index bcode)) b
+      slots (stands table row_count moves code pc slots rows s.printed) (with_value line s (index_values s l.control) (λ p. then_do (one_step line s (entered mark s)) (iterate p.count l.index p.first p.step brun)))
+  loop-goes line b pc leave again mark l block bcode brun btrail slots rows s formed lx ok has le few holds makes =
+      goes-at table row_count moves code n many None leave again (control_trail line s c ++ after_value (index_values s c) (λ p. after_value (entered mark s) (iterate_trail p.count x p.first p.step brun btrail))) to (pc + length (head ++ loop_code line (pc + length head) v x bcode)) b slots (stands table row_count moves code pc slots rows s.printed)
       (with_value line s (index_values s c) does) long
-      (goes-as table row_count moves code n many None leave again (value_trail line s c.first ++ after_value (value [] s c.first) u1) (control_trail line s c ++ after_value (index_values s c) (λ p. iterate_trail p.count x p.first p.step brun btrail s)) to b slots (stands table row_count moves code pc slots rows s.printed) (with_value line s (index_values s c) does)
-      (loop-trail (value_trail line s c.first) (value_trail line s c.last) (value_trail line s c.step) (value [] s c.first) (value [] s c.last) (value [] s c.step) (λ p. iterate_trail p.count x p.first p.step brun btrail s))
+      (goes-as table row_count moves code n many None leave again (value_trail line s c.first ++ after_value (value [] s c.first) u1) (control_trail line s c ++ after_value (index_values s c) (λ p. after_value (entered mark s) (iterate_trail p.count x p.first p.step brun btrail))) to b slots (stands table row_count moves code pc slots rows s.printed) (with_value line s (index_values s c) does)
+      (loop-trail (value_trail line s c.first) (value_trail line s c.last) (value_trail line s c.step) (value [] s c.first) (value [] s c.last) (value [] s c.step) (λ p. after_value (entered mark s) (iterate_trail p.count x p.first p.step brun btrail)))
       (subst (Goes table row_count moves code n many None leave again (value_trail line s c.first ++ after_value (value [] s c.first) u1) to b slots (stands table row_count moves code pc slots rows s.printed))
       (sym (value-bind line s (value [] s c.first) (λ a. value [] s c.last >>= (λ z. value [] s c.step >>= sequence a z)) does))
       (goes-value table row_count moves code n many None leave again (value_trail line s c.first) u1 line pc pc1 to b b1 slots rows s (Gives b1 f1) (value [] s c.first)
@@ -220,43 +223,61 @@ module _ (table : ArrayTable) (row_count : ℕ) (moves : ℕ → List NewMapping
       (omega (arith, few, holds1.size)))
       (λ slots2 z e2 same2 gives2 holds2.
       subst (Goes table row_count moves code n many None leave again (u2 a z) to b2 slots2 (stands table row_count moves code pc2 slots2 rows s.printed)) (sym (value-bind line s (value [] s c.step) (sequence a z) does))
-      (goes-value table row_count moves code n many None leave again (value_trail line s c.step) (λ d. after_value (sequence a z d) (λ p. iterate_trail p.count x p.first p.step brun btrail s)) line pc2 pc3 to b2 v' slots2 rows s (Gives v' f3) (value [] s c.step) (λ d. with_value line s (sequence a z d) does)
+      (goes-value table row_count moves code n many None leave again (value_trail line s c.step) (λ d. after_value (sequence a z d) (λ p. after_value (entered mark s) (iterate_trail p.count x p.first p.step brun btrail))) line pc2 pc3 to b2 v' slots2 rows s (Gives v' f3) (value [] s c.step) (λ d. with_value line s (sequence a z d) does)
       (omega arith) (omega (arith, le)) holds2
       (term-comes table row_count moves code line n s rows s.printed holds2.arrays c.step pc2 b2 slots2 ok.2 (has-front code pc2 c3 sets h2) holds2.scalars (omega (arith, le))
       (omega (arith, few, holds2.size)))
       (λ slots3 d e3 same3 gives3 holds3.
-      goes-on table row_count moves code n many None leave again [] (after_value (sequence a z d) (λ p. iterate_trail p.count x p.first p.step brun btrail s)) to v' v slots3 (filled slots3 a z d) (stands table row_count moves code pc3 slots3 rows s.printed)
-      (stands table row_count moves code lp (filled slots3 a z d) rows s.printed) (with_value line s (sequence a z d) does) (omega arith)
+      goes-on table row_count moves code n many None leave again [] (after_value (sequence a z d) (λ p. after_value (entered mark s) (iterate_trail p.count x p.first p.step brun btrail))) to v' v slots3 (filled slots3 a z d) (stands table row_count moves code pc3 slots3 rows s.printed)
+      (stands table row_count moves code ep (filled slots3 a z d) rows s.printed) (with_value line s (sequence a z d) does) (omega arith)
       (fills slots3 a z d (λ later sl. gives1 later
       (same-on b1 b1 v' slots1 slots3 later (omega arith) (omega arith) (same-on b1 b1 b2 slots1 slots2 slots3 (omega arith) (omega arith) same2 same3) sl))
       (λ later sl. gives2 later (same-on b2 b2 v' slots2 slots3 later (omega arith) (omega arith) same3 sl)) gives3)
       (λ j from lt. (filled-below slots3 a z d).1 j (omega (arith, lt)))
-      (enters table row_count moves code n many None leave again line lp v x bcode brun btrail (filled slots3 a z d) rows s a z d hl lx (omega (arith, le)) (omega (arith, few))
+      (entry-goes table row_count moves code n many None declared leave again line v x bcode brun btrail s mark l block ep (filled slots3 a z d) rows a z d formed lx hl lx (omega (arith, le)) (omega (arith, few))
       (λ s slots rows holds. makes s slots rows (lp + 8) (lp + 3) (lp + 4)
-      (has-front code (lp + 8) (bcode (lp + 8) (lp + 3) (lp + 4)) (Jump (lp + 4) ∷ []) (has-drop code 8 lp loop hl)) holds)
+      (has-front code (lp + 8) (bcode (lp + 8) (lp + 3) (lp + 4)) (Jump (lp + 4) ∷ []) (has-drop code 8 lp loop in_loop)) holds)
       (holds-slot table row_count moves code n many None s (slice_set (slice_set slots3 v a) (v + 1) z) rows (v + 2) d (omega (arith, le))
       (holds-slot table row_count moves code n many None s (slice_set slots3 v a) rows (v + 1) z (omega (arith, le))
       (holds-slot table row_count moves code n many None s slots3 rows v a (omega (arith, le)) holds3)))
       (numbers slots3 a z d (omega (arith, few, holds3.size))).0 (numbers slots3 a z d (omega (arith, few, holds3.size))).1
-      (numbers slots3 a z d (omega (arith, few, holds3.size))).2)))))))))
+      (numbers slots3 a z d (omega (arith, few, holds3.size))).2 (λ j. sequence_of (e1 j) (e2 j) (e3 j)))))))))))
     where
+      c : Control
+      c = l.control
+
+      x : ℕ
+      x = l.index
+
       u2 : ℤ → ℤ → Trail
-      u2 a z = value_trail line s c.step ++ after_value (value [] s c.step) (λ d. after_value (sequence a z d) (λ p. iterate_trail p.count x p.first p.step brun btrail s))
+      u2 a z = value_trail line s c.step ++ after_value (value [] s c.step) (λ d. after_value (sequence a z d) (λ p. after_value (entered mark s) (iterate_trail p.count x p.first p.step brun btrail)))
 
       u1 : ℤ → Trail
       u1 a = value_trail line s c.last ++ after_value (value [] s c.last) (u2 a)
 
       does : Sequence → Run
-      does p = iterate p.count x p.first p.step brun s
+      does p = then_do (one_step line s (entered mark s)) (iterate p.count x p.first p.step brun)
+
+      v : ℕ
+      v = b + control_slots c
 
       control : List Instruction
       control = control_code line b c
 
-      lp : ℕ
-      lp = pc + length control
+      entry : List Instruction
+      entry = entry_code line mark v
 
-      v : ℕ
-      v = b + control_slots c
+      head : List Instruction
+      head = control ++ entry
+
+      ep : ℕ
+      ep = pc + length control
+
+      lp : ℕ
+      lp = ep + length entry
+
+      at_loop : pc + length head ≡ lp
+      at_loop = omega (arith, length-append control entry)
 
       loop : List Instruction
       loop = loop_code line lp v x bcode
@@ -303,14 +324,21 @@ module _ (table : ArrayTable) (row_count : ℕ) (moves : ℕ → List NewMapping
       pc3 : ℕ
       pc3 = pc2 + length c3
 
-      long : to ≡ pc + length (control ++ loop)
-      long = omega (arith, length-append control loop, length-append (bcode (lp + 8) (lp + 3) (lp + 4)) (Jump (lp + 4) ∷ []))
+      long : to ≡ pc + length (head ++ loop_code line (pc + length head) v x bcode)
+      long = omega (arith, length-append control entry, length-append head loop, length-append (bcode (lp + 8) (lp + 3) (lp + 4)) (Jump (lp + 4) ∷ []))
+          ∙ ap (λ k. pc + length (head ++ loop_code line k v x bcode)) (sym at_loop)
+
+      whole : HasAt code pc (control ++ (entry ++ loop))
+      whole = subst (HasAt code pc) (append_assoc control entry loop) (subst (λ k. HasAt code pc (head ++ loop_code line k v x bcode)) at_loop has)
 
       h : HasAt code pc control
-      h = has-front code pc control loop has
+      h = has-front code pc control (entry ++ loop) whole
 
-      hl : HasAt code lp loop
-      hl = has-back code pc control loop has
+      hl : HasAt code ep (entry ++ loop)
+      hl = has-back code pc control (entry ++ loop) whole
+
+      in_loop : HasAt code lp loop
+      in_loop = has-back code ep entry loop hl
 
       h1 : HasAt code pc1 (c2 ++ (c3 ++ sets))
       h1 = has-back code pc c1 (c2 ++ (c3 ++ sets)) h
@@ -341,7 +369,7 @@ module _ (table : ArrayTable) (row_count : ℕ) (moves : ℕ → List NewMapping
           )
 
       fills : (slots : List ℤ) (a z d : ℤ) → Gives v' f1 slots a → Gives v' f2 slots z → Gives v' f3 slots d → Reaches table row_count moves code [] (stands table row_count moves code pc3 slots rows s.printed)
-          (stands table row_count moves code lp (filled slots a z d) rows s.printed)
+          (stands table row_count moves code ep (filled slots a z d) rows s.printed)
       fills slots a z d g1 g2 g3 =
           let s1 = slice_set slots v a in
           let s2 = slice_set s1 (v + 1) z in
@@ -349,43 +377,44 @@ module _ (table : ArrayTable) (row_count : ℕ) (moves : ℕ → List NewMapping
           let r2 = set-reaches table row_count moves code n many None line (pc3 + 1) (v + 1) s1 rows s.printed f2 z h3.1.0 (g2 s1 (same-set v' v slots a (omega arith))) in
           let r3 = set-reaches table row_count moves code n many None line (pc3 + 1 + 1) (v + 2) s2 rows s.printed f3 d h3.1.1.0
           (g3 s2 (same-on v' v' v' slots s1 s2 (omega arith) (omega arith) (same-set v' v slots a (omega arith)) (same-set v' (v + 1) s1 z (omega arith)))) in
-          let e : pc3 + 1 + 1 + 1 ≡ lp = omega (arith, length-append c1 (c2 ++ (c3 ++ sets)), length-append c2 (c3 ++ sets), length-append c3 sets) in
+          let e : pc3 + 1 + 1 + 1 ≡ ep = omega (arith, length-append c1 (c2 ++ (c3 ++ sets)), length-append c2 (c3 ++ sets), length-append c3 sets) in
           reaches-on table row_count moves code (stands table row_count moves code pc3 slots rows s.printed) (stands table row_count moves code (pc3 + 1) s1 rows s.printed)
-          (stands table row_count moves code lp (filled slots a z d) rows s.printed) r1
+          (stands table row_count moves code ep (filled slots a z d) rows s.printed) r1
           (reaches-on table row_count moves code (stands table row_count moves code (pc3 + 1) s1 rows s.printed) (stands table row_count moves code (pc3 + 1 + 1) s2 rows s.printed)
-          (stands table row_count moves code lp (filled slots a z d) rows s.printed) r2
+          (stands table row_count moves code ep (filled slots a z d) rows s.printed) r2
           (subst (λ p. Reaches table row_count moves code [] (stands table row_count moves code (pc3 + 1 + 1) s2 rows s.printed) (stands table row_count moves code p (filled slots a z d) rows s.printed)) e r3))
 
   mutual
-    pub statement-goes : (st : Statement) (line b pc leave again : ℕ) (slots : List ℤ) (rows : Storage) (s : State) → IsWellFormed n st
+    pub statement-goes : (st : Statement) (line b pc leave again : ℕ) (slots : List ℤ) (rows : Storage) (s : State) → IsWellFormed n st → HasForms st
         → HasAt code pc (statement_code n moves line st b pc leave again) → n ≤ b → b + statement_slots st ≤ many → Holds table row_count moves code n many None s slots rows
         → Goes table row_count moves code n many None leave again (trail st line s) (pc + length (statement_code n moves line st b pc leave again)) b slots (stands table row_count moves code pc slots rows s.printed) (run st line s)
-    statement-goes (AssignScalar k t) line b pc leave again slots rows s ok has le few holds = assigns table row_count moves code n many None leave again line b pc k t slots rows s ok.0 ok.1
+    statement-goes (AssignScalar k t) line b pc leave again slots rows s ok forms has le few holds = assigns table row_count moves code n many None leave again line b pc k t slots rows s ok.0 ok.1
         has le few holds
-    statement-goes (AssignElement a ts t) line b pc leave again slots rows s ok has le few holds = assigns-element table row_count moves code n many None leave again line b pc a ts t slots rows
+    statement-goes (AssignElement a ts t) line b pc leave again slots rows s ok forms has le few holds = assigns-element table row_count moves code n many None leave again line b pc a ts t slots rows
         s ok.0 ok.1 ok.2 has le few holds
-    statement-goes (AssignSection a rs t) line b pc leave again slots rows s ok has le few holds = section-goes table row_count moves code n many None leave again line b pc a rs t slots rows s
+    statement-goes (AssignSection a rs t) line b pc leave again slots rows s ok forms has le few holds = section-goes table row_count moves code n many None leave again line b pc a rs t slots rows s
         ok.0 ok.1 ok.2 has le few holds
-    statement-goes (If arms other) line b pc leave again slots rows s ok has le few holds =
-        arms-go arms (λ pc. block_code n moves other b pc leave again) (run_block other) (block_trail other) b pc leave again slots rows s ok.0 has le (omega (arith, few)) holds
-        (λ pc slots rows s has holds. block-goes other b pc leave again slots rows s ok.1 has le (omega (arith, few)) holds)
-    statement-goes (Do mark loop bl) line b pc leave again slots rows s ok has le few holds =
-        loop-goes line b pc leave again loop.index loop.control (block_code n moves bl (b + control_slots loop.control + 4)) (run_block bl) (block_trail bl) slots rows s ok.0 ok.1 has le
+    statement-goes (If arms other) line b pc leave again slots rows s ok forms has le few holds =
+        arms-go arms (λ pc. block_code n moves other b pc leave again) (run_block other) (block_trail other) b pc leave again slots rows s ok.0 forms.0 has le (omega (arith, few)) holds
+        (λ pc slots rows s has holds. block-goes other b pc leave again slots rows s ok.1 forms.1 has le (omega (arith, few)) holds)
+    statement-goes (Do mark loop bl) line b pc leave again slots rows s ok forms has le few holds =
+        let formed = formed_mark n mark loop bl forms ok.2 in
+        loop-goes line b pc leave again mark loop bl (block_code n moves bl (b + control_slots loop.control + 4)) (run_block bl) (block_trail bl) slots rows s formed.0 ok.0 ok.1 has le
         (omega (arith, few)) holds
-        (λ s slots rows pc leave again has holds. block-goes bl (b + control_slots loop.control + 4) pc leave again slots rows s ok.2 has (omega (arith, le))
+        (λ s slots rows pc leave again has holds. block-goes bl (b + control_slots loop.control + 4) pc leave again slots rows s ok.2 formed.1 has (omega (arith, le))
         (omega (arith, few)) holds)
-    statement-goes (Where mask bl others) line b pc leave again slots rows s ok has le few holds = where-goes table row_count moves code n many leave again sized line b pc mask bl others slots
+    statement-goes (Where mask bl others) line b pc leave again slots rows s ok forms has le few holds = where-goes table row_count moves code n many leave again sized line b pc mask bl others slots
         rows s ok.0 ok.1 ok.2 has le few holds
-    statement-goes (Forall cs mask bl) line b pc leave again slots rows s ok has le few holds = forall-goes table row_count moves code n many leave again sized line b pc cs mask bl slots rows s
+    statement-goes (Forall cs mask bl) line b pc leave again slots rows s ok forms has le few holds = forall-goes table row_count moves code n many leave again sized line b pc cs mask bl slots rows s
         ok.0 ok.1 ok.2 has le few holds
-    statement-goes (statements.Print items) line b pc leave again slots rows s ok has le few holds = prints line b pc leave again items slots rows s ok has le few holds
-    statement-goes Stop line b pc leave again slots rows s ok has le few holds = λ i. (_, (1, one table row_count moves code pc slots rows s.printed Halt has.0 i, still table row_count moves code pc slots rows s.printed Halt has.0 refl i), refl, refl, holds)
-    statement-goes Exit line b pc leave again slots rows s ok has le few holds =
+    statement-goes (statements.Print items) line b pc leave again slots rows s ok forms has le few holds = prints line b pc leave again items slots rows s ok has le few holds
+    statement-goes Stop line b pc leave again slots rows s ok forms has le few holds = λ i. (_, (1, one table row_count moves code pc slots rows s.printed Halt has.0 i, still table row_count moves code pc slots rows s.printed Halt has.0 refl i), refl, refl, holds)
+    statement-goes Exit line b pc leave again slots rows s ok forms has le few holds =
         (slots, rows, jump-reaches table row_count moves code n many None pc leave slots rows s.printed has.0, kept-refl table row_count moves code n many None b slots, holds)
-    statement-goes Cycle line b pc leave again slots rows s ok has le few holds =
+    statement-goes Cycle line b pc leave again slots rows s ok forms has le few holds =
         (slots, rows, jump-reaches table row_count moves code n many None pc again slots rows s.printed has.0, kept-refl table row_count moves code n many None b slots, holds)
-    statement-goes Continue line b pc leave again slots rows s ok has le few holds = stays b pc leave again slots rows s holds
-    statement-goes Redistribute line b pc leave again slots rows s ok has le few holds = (
+    statement-goes Continue line b pc leave again slots rows s ok forms has le few holds = stays b pc leave again slots rows s holds
+    statement-goes Redistribute line b pc leave again slots rows s ok forms has le few holds = (
       slots,
       rows,
       (λ i. (
@@ -403,22 +432,22 @@ module _ (table : ArrayTable) (row_count : ℕ) (moves : ℕ → List NewMapping
     )
 
     pub arms-go : (arms : Arms) (rest : ℕ → List Instruction) (others : State → Run) (otrail : State → Trail) (b pc leave again : ℕ) (slots : List ℤ) (rows : Storage) (s : State)
-        → AreWellFormedArms n arms → HasAt code pc (arms_code n moves arms rest b pc leave again) → n ≤ b → b + arms_slots arms ≤ many → Holds table row_count moves code n many None s slots rows
+        → AreWellFormedArms n arms → ArmsHaveForms arms → HasAt code pc (arms_code n moves arms rest b pc leave again) → n ≤ b → b + arms_slots arms ≤ many → Holds table row_count moves code n many None s slots rows
         → ((pc : ℕ) → Makes table row_count moves code n many None leave again rest b pc others otrail)
         → Goes table row_count moves code n many None leave again (arms_trail arms otrail s) (pc + length (arms_code n moves arms rest b pc leave again)) b slots (stands table row_count moves code pc slots rows s.printed)
         (run_arms arms others s)
-    arms-go NoArm rest others otrail b pc leave again slots rows s ok has le few holds makes = makes pc slots rows s has holds
-    arms-go (Arm line cond bl arms) rest others otrail b pc leave again slots rows s ok has le few holds makes =
+    arms-go NoArm rest others otrail b pc leave again slots rows s ok forms has le few holds makes = makes pc slots rows s has holds
+    arms-go (Arm line cond bl arms) rest others otrail b pc leave again slots rows s ok forms has le few holds makes =
         arm-goes table row_count moves code n many None leave again line b pc cond (λ pc. block_code n moves bl b pc leave again) (λ pc. arms_code n moves arms rest b pc leave again) (run_block bl)
         (run_arms arms others) (block_trail bl) (arms_trail arms otrail) slots rows s ok.0 has le (omega (arith, few)) holds
-        (λ pc slots rows s has holds. block-goes bl b pc leave again slots rows s ok.1 has le (omega (arith, few)) holds)
-        (λ pc slots rows s has holds. arms-go arms rest others otrail b pc leave again slots rows s ok.2 has le (omega (arith, few)) holds makes)
+        (λ pc slots rows s has holds. block-goes bl b pc leave again slots rows s ok.1 forms.0 has le (omega (arith, few)) holds)
+        (λ pc slots rows s has holds. arms-go arms rest others otrail b pc leave again slots rows s ok.2 forms.1 has le (omega (arith, few)) holds makes)
 
-    pub block-goes : (bl : Block) (b pc leave again : ℕ) (slots : List ℤ) (rows : Storage) (s : State) → IsWellFormedBlock n bl
+    pub block-goes : (bl : Block) (b pc leave again : ℕ) (slots : List ℤ) (rows : Storage) (s : State) → IsWellFormedBlock n bl → BlockHasForms bl
         → HasAt code pc (block_code n moves bl b pc leave again) → n ≤ b → b + block_slots bl ≤ many → Holds table row_count moves code n many None s slots rows
         → Goes table row_count moves code n many None leave again (block_trail bl s) (pc + length (block_code n moves bl b pc leave again)) b slots (stands table row_count moves code pc slots rows s.printed) (run_block bl s)
-    block-goes Done b pc leave again slots rows s ok has le few holds = stays b pc leave again slots rows s holds
-    block-goes (Then line st rest) b pc leave again slots rows s ok has le few holds =
+    block-goes Done b pc leave again slots rows s ok forms has le few holds = stays b pc leave again slots rows s holds
+    block-goes (Then line st rest) b pc leave again slots rows s ok forms has le few holds =
         let c = statement_code n moves line st b pc leave again in
         let pc1 : ℕ = pc + length c in
         let cs = block_code n moves rest b pc1 leave again in
@@ -426,5 +455,5 @@ module _ (table : ArrayTable) (row_count : ℕ) (moves : ℕ → List NewMapping
         goes-at table row_count moves code n many None leave again (block_trail (Then line st rest) s) (pc1 + length cs) (pc + length (c ++ cs)) b slots (stands table row_count moves code pc slots rows s.printed)
         (run_block (Then line st rest) s) long
         (goes-then table row_count moves code n many None leave again (trail st line s) (block_trail rest) pc1 (pc1 + length cs) b slots (stands table row_count moves code pc slots rows s.printed) (run st line s) (run_block rest)
-        (statement-goes st line b pc leave again slots rows s ok.0 (has-front code pc c cs has) le (omega (arith, few)) holds)
-        (λ slots1 rows1 s1 holds1. block-goes rest b pc1 leave again slots1 rows1 s1 ok.1 (has-back code pc c cs has) le (omega (arith, few)) holds1))
+        (statement-goes st line b pc leave again slots rows s ok.0 forms.0 (has-front code pc c cs has) le (omega (arith, few)) holds)
+        (λ slots1 rows1 s1 holds1. block-goes rest b pc1 leave again slots1 rows1 s1 ok.1 forms.1 (has-back code pc c cs has) le (omega (arith, few)) holds1))

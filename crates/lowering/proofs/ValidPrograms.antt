@@ -10,7 +10,7 @@ use Rattle.op_tables.specs.declared.op.Op.TheVariants as op
 use Rattle.op_tables.specs.Operators.{can_divide}
 use Rattle.array_meaning.specs.Terms.{Term, Number, Scalar, Index, Element, Section, Apply, Reduce, Terms, NoTerm, More, list_of, SectionSubscripts, NoSubscript, Subscript, Triplet, Control}
 use Rattle.array_meaning.specs.Statements as statements
-use Rattle.array_meaning.specs.Statements.{Item, Text, Value, Elements, SectionAssignment, ElementAssignment, Block, Done, Then, Statement, AssignScalar, AssignElement, AssignSection, If, Do, Where, Forall, Stop, Exit, Cycle, Continue, Redistribute, Arms, NoArm, Arm}
+use Rattle.array_meaning.specs.Statements.{Mark, Unmarked, Outermost, Item, Text, Value, Elements, SectionAssignment, ElementAssignment, Block, Done, Then, Statement, AssignScalar, AssignElement, AssignSection, If, Do, Where, Forall, Stop, Exit, Cycle, Continue, Redistribute, Arms, NoArm, Arm}
 use Rattle.array_meaning.specs.Forall.{subscripts_in, subscripts_in_all, mask_subscripts, body_subscripts}
 use Rattle.node_code.specs.Flat.{Flat, Int, Slot, Axis, Read, Operated, Flats, NoFlat, AndFlat}
 use Rattle.node_code.specs.Forms.{Sub, ArrayForm, FlatForm, SectionForm, OperationForm, Forms, NoForm, AndForm}
@@ -18,7 +18,7 @@ use Rattle.node_code.specs.Parallel.{When, Evaluation, shape_of}
 use Rattle.node_code.specs.Instructions.{NewMapping, Instruction, Jump, JumpIfZero, Halt, MakeCopy, Remap, Set, Trips}
 use Rattle.node_code.specs.ValidCode.{CodeTable, flat_count, IsCopy, IsFlat, AreFlats, IsValue, IsReference, IsElement, IsSub, IsSection, IsSpace, IsForm, AreForms, IsMask, IsAssignment, IsEvaluation, IsItem, IsValid, IsValidNodeCode, is_closed}
 use Rattle.lowering.specs.ExpressionCode.{one_if, slots_of, all_slots_of, parts_slots, all_parts_slots, subscripts_slots, control_slots, operated_flat, flat_of, flats_of, subs_of, form_of, forms_of, set_if, three_code, first_subs, first_subs_of, or_no_sub, own_evaluation, reduce_code, code_of, codes_of, subscripts_code, parts_code, all_parts_code, control_code, index_flat, index_flats, index_subs, index_form, index_forms}
-use Rattle.lowering.specs.StatementCode.{item_slots, items_slots, item_code, items_code, print_item, print_items, loop_code, arm_code, assignment, assignment_code, masked_slots, masked_code, where_true, where_code, triplets, one_to_one_code, forall_mask_code, forall_assignments_code, forall_code, statement_slots, arms_slots, block_slots, block_copies, statement_code, arms_code, block_code, program_code}
+use Rattle.lowering.specs.StatementCode.{entry_code, item_slots, items_slots, item_code, items_code, print_item, print_items, loop_code, arm_code, assignment, assignment_code, masked_slots, masked_code, where_true, where_code, triplets, one_to_one_code, forall_mask_code, forall_assignments_code, forall_code, statement_slots, arms_slots, block_slots, block_copies, statement_code, arms_code, block_code, program_code}
 use Rattle.lowering.specs.WellFormed.{IsScalar, AreScalar, AreScalarSubscripts, IsArray, AreArrays, IsControl, AreControls, AreMasked, IsSubscript, AreSubscripts, IsIndexed, AreIndexed, IsIndexedMask, AreIndexedAssignments, AreItems, IsWellFormed, AreWellFormedArms, IsWellFormedBlock}
 use Rattle.lowering.specs.Ranks.{subscript_count, AreFewDims, IsRanked, AreRanked, AreRankedSubscripts, IsRankedControl, IsRankedMasked, IsRankedIndexed, IsRankedMask, IsRankedItem, KeepsRanks, ArmsKeepRanks, BlockKeepsRanks}
 
@@ -391,6 +391,10 @@ module _ (table : CodeTable) (n : ℕ) (declared : length table.shapes ≡ n) (f
   -- ---- targets
 
   -- a whole loop, whose body may leave it or go round again
+  entry-good : (line : ℕ) (mark : Mark) (v : ℕ) → v + 4 ≤ table.slots → AllValid (entry_code line mark v)
+  entry-good line Unmarked v le = tt
+  entry-good line (Outermost nest body) v le = (omega (arith, le), (tt, tt))
+
   loop-good : (line pc v x : ℕ) (body : ℕ → ℕ → ℕ → List Instruction) → x < table.slots → v + 4 ≤ table.slots → pc + length (loop_code line pc v x body) < table.places →
       ((leave again : ℕ) → leave < table.places → again < table.places → pc + 8 + length (body (pc + 8) leave again) < table.places → AllValid (body (pc + 8) leave again)) →
       AllValid (loop_code line pc v x body)
@@ -507,11 +511,12 @@ module _ (table : CodeTable) (n : ℕ) (declared : length table.shapes ≡ n) (f
           (λ at here. block-good other b at leave again ok.1 ranked.1 (omega (arith, more)) here away round)
       statement-good (Do mark loop body) line b pc leave again ok ranked le within away round =
           let more : b + (control_slots loop.control + 4 + block_slots body) ≤ table.slots = le in
-          let c : List Instruction = control_code line b loop.control in
           let v : ℕ = b + control_slots loop.control in
+          let c : List Instruction = control_code line b loop.control ++ entry_code line mark v in
           let rest : List Instruction = loop_code line (pc + length c) v loop.index (block_code n moves body (v + 4)) in
           let whole : pc + length (c ++ rest) < table.places = within in
-          join c rest (control-good line b loop.control ok.1 ranked.0 (omega (arith, more)))
+          join c rest
+          (join (control_code line b loop.control) (entry_code line mark v) (control-good line b loop.control ok.1 ranked.0 (omega (arith, more))) (entry-good line mark v (omega (arith, more))))
           (loop-good line (pc + length c) v loop.index (block_code n moves body (v + 4)) (scalar-slot loop.index ok.0) (omega (arith, more))
           (omega (arith, whole, length-append c rest))
           (λ leave again out back here. block-good body (v + 4) (pc + length c + 8) leave again ok.2 ranked.1 (omega (arith, more)) here out back))

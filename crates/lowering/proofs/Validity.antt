@@ -6,7 +6,7 @@ use Rattle.op_tables.specs.Operators.{can_divide}
 use Rattle.op_tables.specs.Reductions.{reduction_of}
 use Rattle.array_meaning.specs.Terms.{Term, Number, Scalar, Index, Element, Section, Apply, Reduce, Terms, NoTerm, More, SectionSubscripts, NoSubscript, Subscript, Triplet, Control}
 use Rattle.array_meaning.specs.Statements as statements
-use Rattle.array_meaning.specs.Statements.{Item, Text, Value, Elements, SectionAssignment, ElementAssignment, Block, Done, Then, Statement, AssignScalar, AssignElement, AssignSection, If, Do, Where, Forall, Stop, Exit, Cycle, Continue, Redistribute, Arms, NoArm, Arm}
+use Rattle.array_meaning.specs.Statements.{Mark, Unmarked, Outermost, Item, Text, Value, Elements, SectionAssignment, ElementAssignment, Block, Done, Then, Statement, AssignScalar, AssignElement, AssignSection, If, Do, Where, Forall, Stop, Exit, Cycle, Continue, Redistribute, Arms, NoArm, Arm}
 use Rattle.node_code.specs.Instructions.{NewMapping, Instruction, Remap, ArrayTable, meaning_of}
 use Rattle.machine_steps.specs.Layout.{AreOwned, IsDealt, Layout}
 use Rattle.machine_steps.specs.Machine.{instr_of}
@@ -15,7 +15,7 @@ use Rattle.node_code.specs.Flat.{Flat}
 use Rattle.node_code.specs.Forms.{Sub}
 use Rattle.node_code.specs.Parallel.{When}
 use Rattle.lowering.specs.ExpressionCode.{slots_of, parts_slots, subscripts_slots, control_slots, set_if, three_code, code_of, codes_of, subscripts_code, parts_code, all_parts_code, control_code}
-use Rattle.lowering.specs.StatementCode.{item_slots, item_code, items_code, assignment_code, masked_code, triplets, one_to_one_code, forall_mask_code, forall_assignments_code, statement_code, arms_code, block_code, program_code}
+use Rattle.lowering.specs.StatementCode.{entry_code, item_slots, item_code, items_code, assignment_code, masked_code, triplets, one_to_one_code, forall_mask_code, forall_assignments_code, statement_code, arms_code, block_code, program_code}
 use Rattle.lowering.specs.WellFormed.{IsScalar, AreScalar, AreScalarSubscripts, IsArray, AreArrays, IsControl, AreControls, AreMasked, AreItems, IsWellFormed, AreWellFormedArms, IsWellFormedBlock}
 use Rattle.lowering.proofs.Folding.{fold-is}
 
@@ -114,6 +114,10 @@ module _ (count n : ℕ) (shapes : List Shape) (table : ArrayTable) (moves : ℕ
   forall-assignments-valid over mask [] = tt
   forall-assignments-valid over mask (x ∷ xs) = (tt, (tt, forall-assignments-valid over mask xs))
 
+  entry-valid : (line : ℕ) (mark : Mark) (v : ℕ) → AllValid (entry_code line mark v)
+  entry-valid line Unmarked v = tt
+  entry-valid line (Outermost nest body) v = (tt, (tt, tt))
+
   mutual
     statement-valid : (st : Statement) (line b pc leave again : ℕ) → IsWellFormed n st → AllValid (statement_code n moves line st b pc leave again)
     statement-valid (AssignScalar k t) line b pc leave again ok = both (code_of line b t) _ (term-valid line b t ok.1) (tt, tt)
@@ -122,7 +126,8 @@ module _ (count n : ℕ) (shapes : List Shape) (table : ArrayTable) (moves : ℕ
     statement-valid (AssignSection a subs t) line b pc leave again ok = assignment-valid line b a subs t None ok.1 ok.2
     statement-valid (If arms other) line b pc leave again ok = arms-valid arms _ b pc leave again ok.0 (λ pc. block-valid other b pc leave again ok.1)
     statement-valid (Do mark loop body) line b pc leave again ok =
-        both (control_code line b loop.control) _ (control-valid line b loop.control ok.1) (
+        both (control_code line b loop.control ++ entry_code line mark (b + control_slots loop.control)) _
+        (both (control_code line b loop.control) _ (control-valid line b loop.control ok.1) (entry-valid line mark (b + control_slots loop.control))) (
           tt,
           (
             tt,

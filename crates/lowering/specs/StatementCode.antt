@@ -1,14 +1,14 @@
 -- The code of statements and of programs. Each statement takes slots from `b` on anew, and keeps those below.
 use Rattle.std.specs.Prelude.{ℕ, ◌+◌, List, [], ◌∷◌, ◌++◌, length, map, max, pos, Bool, true, false, Option, Some, None, option_map}
 use Rattle.op_tables.specs.declared.op.Op.TheVariants as op
-use Rattle.array_meaning.specs.Terms.{Term, list_of, SectionSubscripts, NoSubscript, Triplet, Control}
+use Rattle.array_meaning.specs.Terms.{Term, Scalar, list_of, SectionSubscripts, NoSubscript, Triplet, Control}
 use Rattle.array_meaning.specs.Statements as statements
-use Rattle.array_meaning.specs.Statements.{Item, Text, Value, Elements, SectionAssignment, ElementAssignment, Block, Done, Then, Statement, AssignScalar, AssignElement, AssignSection, If, Do, Where, Forall, Stop, Exit, Cycle, Continue, Redistribute, Arms, NoArm, Arm}
+use Rattle.array_meaning.specs.Statements.{Item, Text, Value, Elements, SectionAssignment, ElementAssignment, Loop, Mark, Unmarked, Outermost, Block, Done, Then, Statement, AssignScalar, AssignElement, AssignSection, If, Do, Where, Forall, Stop, Exit, Cycle, Continue, Redistribute, Arms, NoArm, Arm}
 use Rattle.array_meaning.specs.Forall.{all_subscripts}
 use Rattle.node_code.specs.Flat.{Int, Slot, Operated, NoFlat, AndFlat}
 use Rattle.node_code.specs.Forms.{Sub, SectionForm}
 use Rattle.node_code.specs.Parallel.{When, Assignment, Evaluation}
-use Rattle.node_code.specs.Instructions.{NewMapping, PrintItem, PrintBytes, PrintNumber, PrintSection, Instruction, Set, Store, TestBounds, Trips, Jump, JumpIfZero, Halt, Limits, OwnLimits, ForallLimits, OneToOne, Par, ParForall, MakeCopy, ParCopy, ParForallCopy, Verdict, Inside, Print, Remap}
+use Rattle.node_code.specs.Instructions.{NewMapping, PrintItem, PrintBytes, PrintNumber, PrintSection, Instruction, Set, Store, TestBounds, TestStride, Trips, Jump, JumpIfZero, Halt, Limits, OwnLimits, ForallLimits, OneToOne, Check, Par, ParForall, MakeCopy, ParCopy, ParForallCopy, Verdict, Inside, Print, Remap}
 use Rattle.lowering.specs.ExpressionCode.{slots_of, all_slots_of, subscripts_slots, parts_slots, flat_of, flats_of, subs_of, form_of, code_of, codes_of, subscripts_code, parts_code, control_slots, control_code, own_evaluation, index_flat, index_subs, index_form}
 
 -- ---- PRINT
@@ -152,6 +152,18 @@ forall_code copy line b controls mask body =
     ∷ (one_to_one_code over body
     ++ (forall_mask_code copy line over mask ++ forall_assignments_code over (option_map (λ t. where_true copy true) mask) body))
 
+-- ---- nests of INDEPENDENT loops
+
+-- the bounds of the outermost loop, which are evaluated once, by their slots
+abbrev pub with_bounds : ℕ → List Loop → List Loop
+with_bounds v [] = []
+with_bounds v (l ∷ ls) = record { index = l.index; control = record { first = Scalar v; last = Scalar (v + 1); step = Scalar (v + 2) } } ∷ ls
+
+-- what is asked at the entry of a nest (HPF 2.0, 5.1), after the bounds are evaluated into the slots from v on
+abbrev pub entry_code : ℕ → Mark → ℕ → List Instruction
+entry_code line Unmarked v = []
+entry_code line (Outermost nest body) v = TestStride line (v + 2) ∷ Check line (Outermost (record nest { loops = with_bounds v nest.loops }) body) ∷ []
+
 -- ---- all statements
 
 abbrev mutual
@@ -192,8 +204,8 @@ module _ (copy : ℕ) (moves : ℕ → List NewMapping) where
     statement_code line (AssignSection a subs t) b pc leave again = assignment_code line b a subs t None
     statement_code line (If arms other) b pc leave again = arms_code arms (λ pc. block_code other b pc leave again) b pc leave again
     statement_code line (Do mark loop body) b pc leave again =
-        let c = control_code line b loop.control in
         let v : ℕ = b + control_slots loop.control in
+        let c = control_code line b loop.control ++ entry_code line mark v in
         c ++ loop_code line (pc + length c) v loop.index (block_code body (v + 4))
     statement_code line (Where mask body others) b pc leave again = where_code copy line b mask body others
     statement_code line (Forall controls mask body) b pc leave again = forall_code copy line b controls mask body

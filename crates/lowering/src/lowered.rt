@@ -13,6 +13,7 @@ ghost use Rattle.array_meaning.specs.State.{State};
 ghost use Rattle.statement_trail.specs.Trail.{block_trail};
 ghost use Rattle.array_meaning.specs.Statements.{Block};
 ghost use Rattle.lowering.specs.Lowered.{IsState, IsTable, opening, MachineEnds, MachineHas, MachinePasses};
+ghost use Rattle.nest_items.specs.BlockForms.{BlockHasForms};
 ghost use Rattle.lowering.specs.WellFormed.{IsWellFormedBlock};
 ghost use Rattle.lowering.specs.Ranks.{AreFewDims, BlockKeepsRanks};
 ghost use Rattle.machine_steps.specs.Layout.{AreOwned, IsDealt, Layout};
@@ -21,10 +22,10 @@ ghost use Rattle.node_code.specs.ValidCode.{CodeTable, IsValid, IsValidNodeCode}
 
 /// The machine with whole arrays ends over a program's code as the program does: with the first fault, its line, kind and tuple, and
 /// the bytes that were printed before it, or finished with the program's bytes, scalars and arrays. After the declared names there is
-/// room for as many copies as the code names, or more.
+/// room for as many copies as the code names, or more. Each nest of INDEPENDENT loops keeps the rules by its form.
 pub fn programs_lowered()
     ensures { (n room : ℕ) (table : ArrayTable) (moves : ℕ → List NewMapping) (body : Block) (s : State) (layouts : List Layout)
-        → IsState n s → IsTable s table → block_copies body ≤ room → length layouts ≡ n + room → IsWellFormedBlock n body
+        → IsState n s → IsTable s table → block_copies body ≤ room → length layouts ≡ n + room → IsWellFormedBlock n body → BlockHasForms body
         → MachineEnds n table (opening n room moves body s layouts) (run_block body s) }
 {}
 
@@ -33,7 +34,7 @@ pub fn programs_lowered()
 /// what was evaluated once; or it gives the arrays the mappings of the REDISTRIBUTE's line.
 pub fn trails_lowered()
     ensures { (n room : ℕ) (table : ArrayTable) (moves : ℕ → List NewMapping) (body : Block) (s : State) (layouts : List Layout)
-        → IsState n s → IsTable s table → block_copies body ≤ room → length layouts ≡ n + room → IsWellFormedBlock n body
+        → IsState n s → IsTable s table → block_copies body ≤ room → length layouts ≡ n + room → IsWellFormedBlock n body → BlockHasForms body
         → MachinePasses n table moves (opening n room moves body s layouts) (run_block body s) (block_trail body s) }
 {}
 
@@ -41,7 +42,7 @@ pub fn trails_lowered()
 pub fn outcomes_lowered()
     ensures { (names : List Entry) (room : ℕ) (moves : ℕ → List NewMapping) (body : syntax.Block) (table : ArrayTable) (layouts : List Layout)
         → IsTable (initial_state names) table → block_copies (resolved_block names body) ≤ room → length layouts ≡ length names + room
-        → IsWellFormedBlock (length names) (resolved_block names body)
+        → IsWellFormedBlock (length names) (resolved_block names body) → BlockHasForms (resolved_block names body)
         → MachineHas (length names) table
         (opening (length names) room moves (resolved_block names body) (initial_state names) layouts) (outcome names body) }
 {}

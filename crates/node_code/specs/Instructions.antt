@@ -13,6 +13,8 @@ use Rattle.array_meaning.specs.declared.sections.Sequence.{Sequence}
 use Rattle.array_meaning.specs.declared.sections.Selection.{Selection}
 use Rattle.array_meaning.specs.Sections.{sequence, extents, subscripts_at, positions}
 use Rattle.array_meaning.specs.Elementals.{each}
+use Rattle.array_meaning.specs.Statements.{Mark}
+use Rattle.array_meaning.specs.NestEntry.{entered}
 use Rattle.array_meaning.specs.Execution.{decimals}
 use Rattle.mappings.specs.declared.mapping.Mapping.{Mapping}
 use Rattle.machine_steps.specs.Layout.{Layout}
@@ -25,6 +27,7 @@ use Rattle.node_code.specs.Flat.{Flat, Flats, slot, flat_value, flat_values, slo
 use Rattle.node_code.specs.Forms.{Sub, selections_in}
 use Rattle.node_code.specs.Parallel.{at_line, shape_of, spot_of, Assignment, assignment_size, assignment_tuples, assigned_spot, Evaluation, evaluation_extents, evaluation_size, evaluation_tuples, reduction_tuples, fold_of, copy_spot, forall_tuples, forall_spot, forall_mask_tuples}
 use Rattle.node_code.specs.ForallLimits.{forall_limits, one_to_one}
+use Rattle.node_code.specs.NestChecks.{entry_state}
 
 -- an item of a PRINT: bytes, a number over the slots, or the elements of a section
 pub data PrintItem : Type 0 where
@@ -62,6 +65,8 @@ pub data Instruction : Type 0 where
   ForallLimits : (line : ℕ) → (over : List Sub) → (subscripts : List Flat) → Instruction
   -- NotOneToOne of an assignment of it, by its left side
   OneToOne : (line : ℕ) → (over : List Sub) → (left : List Flat) → Instruction
+  -- SpaceLimit and Interfere of a nest of INDEPENDENT loops (HPF 2.0, 5.1), by the mark of its outermost loop
+  Check : (line : ℕ) → Mark → Instruction
   -- an assignment at the tuples of its space, and one of a FORALL
   Par : Assignment → Instruction
   ParForall : Assignment → Instruction
@@ -176,6 +181,7 @@ meaning_of table (Limits p) = Local (λ c. go_on_if (at_line p.line (assignment_
 meaning_of table (OwnLimits p) = Local (λ c. go_on_if (at_line p.line (evaluation_size p c.slots)) c)
 meaning_of table (ForallLimits line over subscripts) = Local (λ c. go_on_if (at_line line (forall_limits over subscripts c.slots)) c)
 meaning_of table (OneToOne line over left) = Local (λ c. go_on_if (at_line line (one_to_one over left c.slots)) c)
+meaning_of table (Check line mark) = Local (λ c. go_on_if (at_line line (entered mark (entry_state table.shapes c.slots))) c)
 meaning_of table (Par p) = machine.Par (assignment_tuples table.shapes p) (assigned_spot table.shapes p)
 meaning_of table (ParForall p) = machine.Par (forall_tuples table.shapes p) (forall_spot table.shapes p)
 meaning_of table (MakeCopy copy p) = machine.MakeCopy copy (λ layouts slots. table.copies layouts (evaluation_extents p slots)) (λ slots. pos 0)

@@ -9,7 +9,7 @@ use Rattle.node_code.specs.Flat.{Flat, Int, Slot, Axis, Read, Operated, Flats, N
 use Rattle.node_code.specs.Forms.{Sub, SubAt, SubAlong, ArrayForm, FlatForm, SectionForm, OperationForm, Forms, NoForm, AndForm}
 use Rattle.node_code.specs.Parallel.{When, Assignment, Evaluation, shape_of}
 use Rattle.node_code.specs.Instructions as code
-use Rattle.node_code.specs.Instructions.{PrintItem, PrintBytes, PrintNumber, PrintSection, NewMapping, Instruction, Set, Fetch, Store, TestBounds, TestStride, Trips, Jump, JumpIfZero, Halt, Limits, OwnLimits, ForallLimits, OneToOne, Par, ParForall, MakeCopy, ParCopy, ParForallCopy, Verdict, Inside, Print, FoldCopy, LastCopy, Remap}
+use Rattle.node_code.specs.Instructions.{PrintItem, PrintBytes, PrintNumber, PrintSection, NewMapping, Instruction, Set, Fetch, Store, TestBounds, TestStride, Trips, Jump, JumpIfZero, Halt, Limits, OwnLimits, ForallLimits, OneToOne, Check, Par, ParForall, MakeCopy, ParCopy, ParForallCopy, Verdict, Inside, Print, FoldCopy, LastCopy, Remap}
 
 -- what code names things of: the dimensions of the declared names by their places, how many copies have rows after them, and how many
 -- mappings, slots and places of the code there are
@@ -129,6 +129,7 @@ module _ (table : CodeTable) where
   IsValid (OwnLimits p) = IsEvaluation 0 p
   IsValid (ForallLimits line over subscripts) = IsSpace over × AllByRecursion (IsFlat (length over)) subscripts
   IsValid (OneToOne line over left) = IsSpace over × AllByRecursion (IsFlat (length over)) left
+  IsValid (Check line mark) = ⊤
   IsValid (Par p) = IsAssignment 0 p
   IsValid (ParForall p) = IsAssignment (length p.over) p
   IsValid (MakeCopy copy p) = IsCopy copy × IsEvaluation (length p.over) p

@@ -15,6 +15,7 @@ mod forall_subscripts;
 mod if_construct;
 mod loops;
 mod moves;
+mod nests;
 mod print;
 mod programs;
 mod sequences;

@@ -13,10 +13,11 @@ use crate::forall::forall_code;
 use crate::if_construct::{ArmCodes, arm_code, condition_code, if_code};
 use crate::loops::loop_code;
 use crate::moves::{LineMoves, remap_code};
+use crate::nests::bounds_code;
 use crate::print::print_code;
 use crate::sequences::{only, place_after, with_more};
 use crate::where_construct::where_code;
-use expression_code::{control_code, control_slots, joined, plus, slots_of};
+use expression_code::{control_slots, joined, plus, slots_of};
 use hpf_base::OutOfMemory;
 use node_code::Instruction;
 use resolved_program::{Action, Arm, Statement};
@@ -75,9 +76,9 @@ fn statement_code(
             let rest = block_code(alloc, copy, moves, other, b, made.after, leave, again)?;
             if_code(alloc, made, rest)
         }
-        Action::Do(_, l, body) => {
-            let head = control_code(alloc, line, b, &l.control)?;
+        Action::Do(nest, l, body) => {
             let first = plus(b, control_slots(&l.control)?)?;
+            let head = bounds_code(alloc, line, b, first, nest, l, body)?;
             let at = place_after(pc, &head)?;
             let inner = body_code(alloc, copy, moves, body, first, at)?;
             let turns = loop_code(alloc, line, at, first, l.index, inner)?;

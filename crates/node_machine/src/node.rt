@@ -55,10 +55,11 @@ impl Model for Node {
     ghost use Rattle.node_machine.specs.Views.{node_of, IsNode};
     ghost use Rattle.std.specs.Coded.{codes};
     ghost use Rattle.node_program.specs.Codes.{flat_code, flats_code, form_code};
+    ghost use Rattle.node_program.specs.NestCodes.{mark_code};
 
     ghost Value = { NodeState Text Fault };
 
-    ghost coded = { Prim.hlevel (codes, flat_code, flats_code, form_code) };
+    ghost coded = { Prim.hlevel (codes, flat_code, flats_code, form_code, mark_code) };
 
     ghost view = { node_of };
 

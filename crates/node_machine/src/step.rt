@@ -109,6 +109,7 @@ fn step_of<'a>(program: &'a NodeProgram, i: &'a Instruction, substep: usize) -> 
         Instruction::OwnLimits(_) => Step::Local,
         Instruction::ForallLimits { .. } => Step::Local,
         Instruction::OneToOne { .. } => Step::Local,
+        Instruction::Check { .. } => Step::Local,
         Instruction::Par(p) => Step::Par(ParStep {
             i,
             shapes,

@@ -1,4 +1,5 @@
 pub mod Codes
+pub mod NestCodes
 pub mod Fits
 pub mod Openings
 pub mod PrintedLines

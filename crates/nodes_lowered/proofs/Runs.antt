@@ -27,6 +27,10 @@ use Rattle.node_code.specs.Instructions.{ArrayTable, Instruction, NewMapping, me
 use Rattle.node_code.specs.FaultValues.{fault_values}
 use Rattle.node_code.specs.ProgramText.{Text, table_on, text, text_meaning}
 use Rattle.well_formed.proofs.Programs.{trail_lowered, valid}
+use Rattle.array_meaning.specs.Resolution.{resolved_block}
+use Rattle.nest_items.specs.BlockForms.{BlockHasForms}
+use Rattle.nest_standing.specs.FittingNumbers.{ProgramNestsFit}
+use Rattle.nest_standing.proofs.Programs.{program_forms}
 use Rattle.node_run.proofs.CodedSteps.{steps-coded, valid-coded, whole-coded}
 use Rattle.node_run.proofs.Openings.{opening-agree, openings-run}
 use Rattle.node_run.proofs.WholeRuns.{steps-pass}
@@ -44,7 +48,7 @@ end-over Running e h = cc
 end-over Finished e h = tt
 end-over (Faulted f) e h = tt
 
-module _ (nodes : ℕ) (p : MainProgram) (maps : List Mapping) (moves : ℕ → List NewMapping) (layouts : List Layout) (some : 0 < nodes) (rules : KeepsRules p)
+module _ (nodes : ℕ) (p : MainProgram) (maps : List Mapping) (moves : ℕ → List NewMapping) (layouts : List Layout) (some : 0 < nodes) (rules : KeepsRules p) (fit : ProgramNestsFit p)
     (laid : LieAsDeclared nodes (program_copies p) (entries p) layouts) (dealt : MovesDealt nodes p maps moves layouts) where
   abbrev n : ℕ
   n = length (entries p)
@@ -57,6 +61,9 @@ module _ (nodes : ℕ) (p : MainProgram) (maps : List Mapping) (moves : ℕ → 
 
   abbrev m : Machine Instruction Fault
   m = program_opening p moves layouts
+
+  forms : BlockHasForms (resolved_block (entries p) p.body)
+  forms = program_forms p rules.resolved rules.bodies_fine fit
 
   as_many : length shapes ≡ n
   as_many = names-many nodes p layouts laid
@@ -79,7 +86,7 @@ module _ (nodes : ℕ) (p : MainProgram) (maps : List Mapping) (moves : ℕ → 
       let r : Run = program_run p in
       let enough : 1 ≤ 1 = omega arith in
       let has = trail_lowered p (program_copies p) moves table layouts (record { shapes = refl; copies = λ layouts extents. copy-size nodes extents }) enough
-      (laid-many nodes (program_copies p) (entries p) layouts laid) rules.resolved rules.bodies_fine in
+      (laid-many nodes (program_copies p) (entries p) layouts laid) rules.resolved rules.bodies_fine forms in
       let end : Machine Instruction Fault = steps (meaning_of table) has.0 m in
       let same = steps-coded as_text (meaning_of table) text_meaning (λ i. refl) has.0 m in
       let whole = opening-whole nodes p moves layouts laid in
@@ -102,7 +109,7 @@ module _ (nodes : ℕ) (p : MainProgram) (maps : List Mapping) (moves : ℕ → 
       let coded : Machine Text Fault = text_opening nodes p maps moves layouts in
       let enough : 1 ≤ 1 = omega arith in
       let has = trail_lowered p (program_copies p) moves table layouts (record { shapes = refl; copies = λ layouts extents. copy-size nodes extents }) enough
-      (laid-many nodes (program_copies p) (entries p) layouts laid) rules.resolved rules.bodies_fine in
+      (laid-many nodes (program_copies p) (entries p) layouts laid) rules.resolved rules.bodies_fine forms in
       let here = entry-passed table moves has.0 m (serial_trail p) has.2 i e at in
       let same = steps-coded as_text (meaning_of table) text_meaning (λ i. refl) here.0 m in
       let code = valid-coded as_text (meaning_of table) text_meaning (λ i. refl) nodes shapes m.code valid-code in (

@@ -2,7 +2,7 @@
 use Rattle.std.proofs.Common.{◌≡◌, true, refl}
 use Rattle.std.proofs.lemmas.Bool.{false≢true}
 use Rattle.machine_steps.specs.Instr.{Local}
-use Rattle.node_code.specs.Instructions.{ArrayTable, Instruction, Set, Fetch, Store, TestBounds, TestStride, Trips, Jump, JumpIfZero, Halt, Limits, OwnLimits, ForallLimits, OneToOne, Par, ParForall, MakeCopy, ParCopy, ParForallCopy, Verdict, Reduce, Inside, Print, FoldCopy, LastCopy, Remap, meaning_of}
+use Rattle.node_code.specs.Instructions.{ArrayTable, Instruction, Set, Fetch, Store, TestBounds, TestStride, Trips, Jump, JumpIfZero, Halt, Limits, OwnLimits, ForallLimits, OneToOne, Check, Par, ParForall, MakeCopy, ParCopy, ParForallCopy, Verdict, Reduce, Inside, Print, FoldCopy, LastCopy, Remap, meaning_of}
 use Rattle.slot_values.specs.LocalInstructions.{is_local, local_control}
 
 pub local_meaning : (table : ArrayTable) (i : Instruction) → is_local i ≡ true → meaning_of table i ≡ Local (local_control table.shapes i)
@@ -19,6 +19,7 @@ local_meaning table (Limits p) h = refl
 local_meaning table (OwnLimits p) h = refl
 local_meaning table (ForallLimits line over fs) h = refl
 local_meaning table (OneToOne line over fs) h = refl
+local_meaning table (Check line mark) h = refl
 local_meaning table (Par p) h = absurd (false≢true h)
 local_meaning table (ParForall p) h = absurd (false≢true h)
 local_meaning table (MakeCopy copy p) h = absurd (false≢true h)

@@ -6,7 +6,7 @@
 //!
 //! What holds in between: an evaluation changes nothing; want of memory leaves the control as it was, so the instruction can be run
 //! again; tests either go on to the next instruction or end the run with a fault at their line, and change nothing else. The limits of a
-//! FORALL are those of the sequential run, asked of a state that has the slots as its scalars.
+//! FORALL and the entry of a nest are those of the sequential run, asked of a state that has the slots as its scalars.
 #![tactic(auto)]
 
 mod control;
@@ -15,6 +15,7 @@ mod expressions;
 mod forall_tests;
 mod kept;
 mod local_instructions;
+mod nest_checks;
 mod numbered_faults;
 mod scalar_instructions;
 mod section_bounds;
@@ -30,6 +31,7 @@ pub use forall_tests::{forall_limits, one_to_one};
 pub use hpf_base::OutOfMemory;
 pub use kept::{Kept, earlier};
 pub use local_instructions::{is_local, run_local};
+pub use nest_checks::check;
 pub use numbered_faults::{fault_numbers, fault_of_numbers};
 pub use scalar_instructions::{set, test_bounds, test_stride, trips};
 pub use section_bounds::inside;

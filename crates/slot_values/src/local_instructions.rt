@@ -7,6 +7,7 @@ ghost use Rattle.slot_values.specs.LocalInstructions.{is_local, local_control};
 
 use crate::control::{Control, halt, jump, jump_if_zero};
 use crate::forall_tests::{forall_limits, one_to_one};
+use crate::nest_checks::check;
 use crate::scalar_instructions::{set, test_bounds, test_stride, trips};
 use crate::section_bounds::inside;
 use crate::space_tests::{limits, own_limits};
@@ -33,6 +34,7 @@ pub fn is_local(i: &Instruction) -> bool
         Instruction::OwnLimits(_) => true,
         Instruction::ForallLimits { .. } => true,
         Instruction::OneToOne { .. } => true,
+        Instruction::Check { .. } => true,
         Instruction::Par(_) => false,
         Instruction::ParForall(_) => false,
         Instruction::MakeCopy { .. } => false,
@@ -84,6 +86,12 @@ pub fn run_local(
             subscripts,
         } => forall_limits(alloc, *line, over, subscripts, c),
         Instruction::OneToOne { line, over, left } => one_to_one(alloc, *line, over, left, c),
+        Instruction::Check {
+            line,
+            nest,
+            outermost,
+            body,
+        } => check(alloc, shapes, *line, nest, outermost, body, c),
         Instruction::Inside {
             line,
             array,

@@ -29,6 +29,7 @@ use Rattle.node_code.specs.ValidCode.{CodeTable, IsValid, IsValidNodeCode}
 use Rattle.lowering.specs.Ranks.{AreFewDims, BlockKeepsRanks, declared_shapes}
 use Rattle.lowering.specs.StatementCode.{block_copies, block_slots, program_code}
 use Rattle.lowering.specs.WellFormed.{IsWellFormedBlock}
+use Rattle.nest_items.specs.BlockForms.{BlockHasForms}
 use Rattle.lowering.proofs.Programs.{program-ends, program-passes}
 use Rattle.lowering.proofs.Validity.{code-valid}
 use Rattle.lowering.proofs.ValidPrograms.{program-valid}
@@ -60,20 +61,20 @@ starts names = record {
 
 module _ (p : MainProgram) (room : ℕ) (moves : ℕ → List NewMapping) (table : ArrayTable) (layouts : List Layout) where
   pub lowered : IsTable (initial_state (entries p)) table → block_copies (resolved_block (entries p) p.body) ≤ room → length layouts ≡ length (entries p) + room →
-      HasNoBreach p → NoBreach (Among (body_breaches (entries p) p.body)) →
+      HasNoBreach p → NoBreach (Among (body_breaches (entries p) p.body)) → BlockHasForms (resolved_block (entries p) p.body) →
       MachineEnds (length (entries p)) table (opening (length (entries p)) room moves (resolved_block (entries p) p.body) (initial_state (entries p)) layouts)
       (run_block (resolved_block (entries p) p.body) (initial_state (entries p)))
-  lowered is-table roomy laid rules bodies =
+  lowered is-table roomy laid rules bodies forms =
       program-ends table (length (entries p)) room moves (resolved_block (entries p) p.body) (initial_state (entries p)) (starts (entries p)) is-table roomy layouts laid
-      (well_formed p rules.names bodies)
+      (well_formed p rules.names bodies) forms
 
   pub trail_lowered : IsTable (initial_state (entries p)) table → block_copies (resolved_block (entries p) p.body) ≤ room → length layouts ≡ length (entries p) + room →
-      HasNoBreach p → NoBreach (Among (body_breaches (entries p) p.body)) →
+      HasNoBreach p → NoBreach (Among (body_breaches (entries p) p.body)) → BlockHasForms (resolved_block (entries p) p.body) →
       MachinePasses (length (entries p)) table moves (opening (length (entries p)) room moves (resolved_block (entries p) p.body) (initial_state (entries p)) layouts)
       (run_block (resolved_block (entries p) p.body) (initial_state (entries p))) (serial_trail p)
-  trail_lowered is-table roomy laid rules bodies =
+  trail_lowered is-table roomy laid rules bodies forms =
       program-passes table (length (entries p)) room moves (resolved_block (entries p) p.body) (initial_state (entries p)) (starts (entries p)) is-table roomy layouts laid
-      (well_formed p rules.names bodies)
+      (well_formed p rules.names bodies) forms
 
 pub valid : (count : ℕ) (p : MainProgram) (shapes : List Shape) (table : ArrayTable) (moves : ℕ → List NewMapping) → length shapes ≤ length (entries p) →
     ((layouts : List Layout) → AreOwned count layouts → (extents : List ℕ) → IsDealt count (table.copies layouts extents)) →

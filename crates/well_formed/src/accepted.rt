@@ -20,6 +20,7 @@ ghost use Rattle.lowering.specs.Lowered.{IsTable, MachineEnds, MachinePasses, op
 ghost use Rattle.lowering.specs.Ranks.{AreFewDims, BlockKeepsRanks, declared_shapes};
 ghost use Rattle.lowering.specs.StatementCode.{block_copies, block_slots, program_code};
 ghost use Rattle.lowering.specs.WellFormed.{IsWellFormedBlock};
+ghost use Rattle.nest_items.specs.BlockForms.{BlockHasForms};
 
 use name_table::all_are_known;
 
@@ -32,12 +33,12 @@ pub fn programs_are_well_formed()
 
 /// The machine with whole arrays ends over the code of a program that breaks no rule of names, ranks and bodies as the program does:
 /// with the first fault, its line, kind and tuple, and the bytes that were printed before it, or finished with its bytes, scalars and arrays.
-/// After the declared names there is room for as many copies as the code names, or more.
+/// After the declared names there is room for as many copies as the code names, or more. Each nest of INDEPENDENT loops is one by its form.
 pub fn accepted_programs_lowered()
     ensures { (p : MainProgram) (room : ℕ) (moves : ℕ → List NewMapping) (table : ArrayTable) (layouts : List Layout)
         → IsTable (initial_state (entries p)) table
         → block_copies (resolved_block (entries p) p.body) ≤ room → length layouts ≡ length (entries p) + room
-        → HasNoBreach p → NoBreach (Among (body_breaches (entries p) p.body))
+        → HasNoBreach p → NoBreach (Among (body_breaches (entries p) p.body)) → BlockHasForms (resolved_block (entries p) p.body)
         → MachineEnds (length (entries p)) table
         (opening (length (entries p)) room moves (resolved_block (entries p) p.body) (initial_state (entries p)) layouts)
         (run_block (resolved_block (entries p) p.body) (initial_state (entries p))) }
@@ -48,7 +49,7 @@ pub fn accepted_trails_lowered()
     ensures { (p : MainProgram) (room : ℕ) (moves : ℕ → List NewMapping) (table : ArrayTable) (layouts : List Layout)
         → IsTable (initial_state (entries p)) table
         → block_copies (resolved_block (entries p) p.body) ≤ room → length layouts ≡ length (entries p) + room
-        → HasNoBreach p → NoBreach (Among (body_breaches (entries p) p.body))
+        → HasNoBreach p → NoBreach (Among (body_breaches (entries p) p.body)) → BlockHasForms (resolved_block (entries p) p.body)
         → MachinePasses (length (entries p)) table moves
         (opening (length (entries p)) room moves (resolved_block (entries p) p.body) (initial_state (entries p)) layouts)
         (run_block (resolved_block (entries p) p.body) (initial_state (entries p))) (serial_trail p) }

@@ -33,12 +33,13 @@ impl Model for WholeMachine {
     ghost use Rattle.machine_steps.specs.Machine.{Machine};
     ghost use Rattle.node_code.specs.ProgramText.{Text};
     ghost use Rattle.node_program.specs.Codes.{flat_code, flats_code, form_code};
+    ghost use Rattle.node_program.specs.NestCodes.{mark_code};
     ghost use Rattle.std.specs.Coded.{codes};
     ghost use Rattle.whole_machine.specs.Views.{machine_of, IsMachine};
 
     ghost Value = { Machine Text Fault };
 
-    ghost coded = { Prim.hlevel (codes, flat_code, flats_code, form_code) };
+    ghost coded = { Prim.hlevel (codes, flat_code, flats_code, form_code, mark_code) };
 
     ghost view = { machine_of };
 

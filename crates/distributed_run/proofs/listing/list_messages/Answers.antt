@@ -26,7 +26,7 @@ end_of-requires c =
     c.in_ok-machine.ensures
     ∙ (λ i. opening_machine (code_of (arc_value c.in_ok-compiled.compiled.text)) (c.deref.ensures.value i) c.in_ok-compiled.compiled.owners.layouts (c.deref-2.ensures.value i))
     ∙ c.in_ok-compiled.ensures.opening in
-    let end = end-so c.args.accepted.now c.compile_program.ensures.grid c.accepted_texts_lowered.ensures c.accepted_moves_are_dealt.ensures c.moves_by_number.ensures
+    let end = end-so c.args.accepted.now c.compile_program.ensures.grid c.in_ok-compiled.ensures.numbers c.accepted_texts_lowered.ensures c.accepted_moves_are_dealt.ensures c.moves_by_number.ensures
     c.in_ok-machine.machine c.run_machine.new.machine c.new-text.result.items c.run_machine.new.text.items c.new-text.ensures.items begins
     c.in_ok-run_machine.ensures.lines c.in_ok-run_machine.ensures.over in
     subst IsSome (sym (ap end_by_status c.status.ensures ∙ end)) refl
@@ -38,11 +38,11 @@ returns c =
     c.in_ok-machine.ensures
     ∙ (λ i. opening_machine (code_of (arc_value c.in_ok-compiled.compiled.text)) (c.deref.ensures.value i) c.in_ok-compiled.compiled.owners.layouts (c.deref-2.ensures.value i))
     ∙ c.in_ok-compiled.ensures.opening in
-    let end = end-so c.args.accepted.now c.compile_program.ensures.grid c.accepted_texts_lowered.ensures c.accepted_moves_are_dealt.ensures c.moves_by_number.ensures
+    let end = end-so c.args.accepted.now c.compile_program.ensures.grid c.in_ok-compiled.ensures.numbers c.accepted_texts_lowered.ensures c.accepted_moves_are_dealt.ensures c.moves_by_number.ensures
     c.in_ok-machine.machine c.run_machine.new.machine c.new-text.result.items c.run_machine.new.text.items c.new-text.ensures.items begins
     c.in_ok-run_machine.ensures.lines c.in_ok-run_machine.ensures.over in
     record {
-      text = text-so c.args.accepted.now c.compile_program.ensures.grid c.accepted_texts_lowered.ensures c.accepted_moves_are_dealt.ensures c.moves_by_number.ensures
+      text = text-so c.args.accepted.now c.compile_program.ensures.grid c.in_ok-compiled.ensures.numbers c.accepted_texts_lowered.ensures c.accepted_moves_are_dealt.ensures c.moves_by_number.ensures
           c.in_ok-machine.machine c.run_machine.new.machine c.new-text.result.items c.run_machine.new.text.items c.new-text.ensures.items begins
           c.in_ok-run_machine.ensures.lines c.in_ok-run_machine.ensures.over;
       end = same_Some (end_seen c.in_ok-end.end) (serial p).end (sym c.in_ok-end.ensures ∙ ap end_by_status c.status.ensures ∙ end);

@@ -11,10 +11,10 @@ use Rattle.distributed_run.proofs.machine_run.run_machine.Given as goal
 
 abbrev pub invariant-steps : goal.invariant-steps
 invariant-steps l = record {
-  listed : IsListed l.accepted.program.names l.initial.machine l.machine l.initial.text.items l.text.items;
-  kept : AreKeptLines l.machine.code l.accepted.program.names l.kept;
-  ends : IsOver (steps text_meaning (ends l.accepted.grid.now (main_program l.accepted.program.tree) l.accepted.keeps.anywhere).0 l.machine).control.status;
+  listed : IsListed l.program.accepted.now.program.names l.initial.machine l.machine l.initial.text.items l.text.items;
+  kept : AreKeptLines l.machine.code l.program.accepted.now.program.names l.kept;
+  ends : IsOver (steps text_meaning (ends l.program.accepted.now.grid.now (main_program l.program.accepted.now.program.tree) l.program.accepted.now.keeps.anywhere l.program.numbers).0 l.machine).control.status;
 }
 
 abbrev pub decreases-steps : goal.decreases-steps
-decreases-steps l = left text_meaning (ends l.accepted.grid.now (main_program l.accepted.program.tree) l.accepted.keeps.anywhere).0 l.machine
+decreases-steps l = left text_meaning (ends l.program.accepted.now.grid.now (main_program l.program.accepted.now.program.tree) l.program.accepted.now.keeps.anywhere l.program.numbers).0 l.machine

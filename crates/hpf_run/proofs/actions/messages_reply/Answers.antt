@@ -10,7 +10,7 @@ pub returns-in-None : goal.returns-in-None
 returns-in-None c = λ arrays.
     let grid = c.args.accepted.now.grid.now in
     let p = main_program c.args.accepted.now.program.tree in
-    let built = sym c.first_unbuilt.ensures ∙ c.in-None.is in
+    let built = sym c.first_unlisted.ensures ∙ c.in-None.is in
     reported-meant grid arrays p Messages false (listed grid p) (outcome_of c.list_program.result) (messages_report built)
     (subst (λ es. IsReported es false (listed grid p) (outcome_of c.list_program.result)) c.args.accepted.now.names c.list_program.ensures)
 
@@ -18,4 +18,4 @@ pub returns-in-Some : goal.returns-in-Some
 returns-in-Some c = λ arrays.
     let grid = c.args.accepted.now.grid.now in
     let p = main_program c.args.accepted.now.program.tree in
-    left_out-meant grid arrays p Messages c.in-Some.left_out _ (messages_left_out c.in-Some.left_out (sym c.first_unbuilt.ensures ∙ c.in-Some.is)) c.reply_refused.ensures
+    left_out-meant grid arrays p Messages c.in-Some.left_out _ (messages_left_out c.in-Some.left_out (sym c.first_unlisted.ensures ∙ c.in-Some.is)) c.reply_refused.ensures

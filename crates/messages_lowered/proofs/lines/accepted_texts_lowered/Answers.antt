@@ -9,7 +9,7 @@ use Rattle.messages_lowered.proofs.SameLines.{text-same}
 use Rattle.messages_lowered.proofs.lines.accepted_texts_lowered.Goals as goal
 
 pub returns : goal.returns
-returns c = λ p room table moves nodes names shapes layouts starts is-table roomy laid rules bodies.
-    let t = trail_lowered p room moves table layouts is-table roomy laid rules bodies in
+returns c = λ p room table moves nodes names shapes layouts starts is-table roomy laid rules bodies forms.
+    let t = trail_lowered p room moves table layouts is-table roomy laid rules bodies forms in
     let m = opening (length (entries p)) room moves (resolved_block (entries p) p.body) (initial_state (entries p)) layouts in
     (t.0, t.1, text-same nodes names shapes table.maps moves starts (passed table t.0 m) (serial_trail p) t.2)

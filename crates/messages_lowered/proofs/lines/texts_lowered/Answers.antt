@@ -6,6 +6,6 @@ use Rattle.messages_lowered.proofs.SameLines.{text-same}
 use Rattle.messages_lowered.proofs.lines.texts_lowered.Goals as goal
 
 pub returns : goal.returns
-returns c = λ n room table moves nodes names shapes body s layouts starts is tabled roomy laid ok.
-    let p = program-passes table n room moves body s is tabled roomy layouts laid ok in
+returns c = λ n room table moves nodes names shapes body s layouts starts is tabled roomy laid ok forms.
+    let p = program-passes table n room moves body s is tabled roomy layouts laid ok forms in
     (p.0, p.1, text-same nodes names shapes table.maps moves starts (passed table p.0 (opening n room moves body s layouts)) (block_trail body s) p.2)

@@ -2,7 +2,7 @@ use Rattle.std.proofs.Common.{◌≡◌, IfOk, map, subst}
 use Rattle.array_meaning.specs.Forall.{subscripts_in}
 use Rattle.node_code.specs.Texts.{flat}
 use Rattle.lowering.specs.ExpressionCode.{index_flat}
-use Rattle.expression_code.proofs.Forms.{apply_is, element_is}
+use Rattle.resolved_program.proofs.Forms.{apply_is, element_is}
 use Rattle.node_codegen.proofs.forall_subscripts.+subscripts.Goals as goal
 
 pub subscripts_in-returns-in-Element : goal.subscripts_in-returns-in-Element

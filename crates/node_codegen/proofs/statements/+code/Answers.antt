@@ -46,9 +46,9 @@ statement_code-returns-in_ok-turns-in-Do t c =
     let l = c.in-Do.l in
     subst (λ w. IfOk c.with_more.result (λ v. instructions v.items ≡ w))
     (ap (λ i. instructions c.in_ok-head-in-Do.head.items ++ i) c.in_ok-turns-in-Do.ensures
-    ∙ do_is c.args.copy (moves_by c.args.moves.now) c.args.line c.args.b c.args.pc c.args.leave c.args.again c.in_ok-first-in-Do.first c.in_ok-at-in-Do.at c.args.s.now c.in-Do.field-0 l c.in-Do.body
-    c.in_ok-head-in-Do.head.items c.in_ok-inner-in-Do.inner.items c.in-Do.is c.in_ok-head-in-Do.ensures
-    (c.in_ok-first-in-Do.ensures ∙ ap (λ n. c.args.b + n) c.in_ok-control_slots-in-Do.ensures) c.in_ok-at-in-Do.ensures
+    ∙ do_is c.args.copy (moves_by c.args.moves.now) c.args.line c.args.b c.args.pc c.args.leave c.args.again c.in_ok-first-in-Do.first c.in_ok-at-in-Do.at c.args.s.now c.in-Do.nest l c.in-Do.body
+    c.in_ok-head-in-Do.head.items c.in_ok-inner-in-Do.inner.items c.in-Do.is
+    (c.in_ok-first-in-Do.ensures ∙ ap (λ n. c.args.b + n) c.in_ok-control_slots-in-Do.ensures) c.in_ok-head-in-Do.ensures c.in_ok-at-in-Do.ensures
     (c.in_ok-inner-in-Do.ensures
     ∙ ap (λ x. block_code c.args.copy (moves_by c.args.moves.now) (block_of x) (c.in_ok-first-in-Do.first + 4) (c.in_ok-at-in-Do.at + 8) (c.in_ok-at-in-Do.at + 3) (c.in_ok-at-in-Do.at + 4)) c.deref-in-Do.ensures.value))
     c.with_more.ensures
