@@ -88,6 +88,9 @@ def zero_stride_fault(trouble):
 
 
 def space_limit_fault(trouble):
+    _, loops, _ = nest_of(trouble)
+    if any(loop.line == trouble.line for loop in loops):
+        return ["each statement of a nest has at most 1,048,576 tuples, iterations times the turns of inner loops: take the nest in parts, or leave INDEPENDENT out"]
     return ["an array statement has at most 1,048,576 elements: take it in parts, by a DO"]
 
 
@@ -119,6 +122,15 @@ def uses(statement, name, element, known):
     return list(dict.fromkeys(found))
 
 
+def is_judged_whole(trouble, statement):
+    """Whether a statement of a nest has a condition that names an array."""
+    if statement.first not in ("IF", "ELSE", "ELSEIF") or "(" not in statement.tokens:
+        return False
+    at = statement.tokens.index("(")
+    entities = [trouble.source.names.get(name) for name, _ in references(statement.tokens[at:closing(statement.tokens, at)])]
+    return any(entity and entity.kind == "array" for entity in entities)
+
+
 def interfere_fault(trouble):
     """The two iterations, and what each does with the object."""
     found = re.fullmatch(r" \(([-\d,]+)\) \(([-\d,]+)\) on ([A-Z0-9_]+)(?:\(([-\d,]+)\))?", trouble.answer.place)
@@ -144,6 +156,8 @@ def interfere_fault(trouble):
     elif element is None:
         hints.append(f"NEW({name}) gives each iteration its own {name}, which it assigns before it reads it")
     else:
+        if any(is_judged_whole(trouble, statement) for statement in body):
+            hints.append("under a condition that names an array both branches count: put its value in a variable before the loop")
         hints.append("leave INDEPENDENT out, or " + ("read from an array that the loop doesn't assign" if "reads" in verbs else
                                                      "assign each element in one iteration alone"))
     return hints

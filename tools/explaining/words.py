@@ -21,8 +21,8 @@ FAULTS = {
     "Shape": ("two sections, or a section and a mask, have other extents", ["Faults", "Array expressions"]),
     "ZeroStride": ("a step or a stride is 0", ["Faults"]),
     "NotOneToOne": ("a FORALL assigns one element at two values of its indices", ["Faults"]),
-    "SpaceLimit": ("an array statement has more elements, or a subscript is larger, than the limits allow", ["Faults"]),
-    "Interfere": ("two iterations of a nest of INDEPENDENT loops use one object, and one of them assigns it", ["Nests of INDEPENDENT loops"]),
+    "SpaceLimit": ("an array statement or a nest of INDEPENDENT loops has more tuples, or an index or a subscript is larger, than the limits allow", ["Faults"]),
+    "Interfere": ("two iterations of a nest of INDEPENDENT loops use one object, and one of them assigns it", ["What is checked at the entry of a nest"]),
 }
 KEYWORDS = """CONTINUE CYCLE DO ELSE ELSEIF ELSEWHERE END ENDDO ENDFORALL ENDIF ENDWHERE EXIT FORALL IF IMPLICIT INTEGER NONE PARAMETER PRINT PROGRAM
 STOP THEN WHERE WHILE""".split()
