@@ -7,9 +7,9 @@ use Rattle.hpf_base.specs.declared.index.Shape.{Shape}
 use Rattle.hpf_base.specs.declared.limits.TheConstants.{MAX_RANK}
 use Rattle.array_meaning.specs.Statements as statements
 use Rattle.array_meaning.specs.Statements.{Block, Done, Then, Statement, AssignScalar, AssignElement, AssignSection, If, Do, Where, Forall, Stop, Exit, Cycle, Continue, Redistribute, Arms, NoArm, Arm}
-use Rattle.node_code.specs.Instructions.{Instruction, Jump, NewMapping, Par, ParForall, ParCopy, ParForallCopy, Reduce, MakeCopy, Remap}
+use Rattle.node_code.specs.Instructions.{Instruction, Jump, NewMapping, Par, ParForall, ParNest, MakeCopies, ParCopy, ParForallCopy, Reduce, MakeCopy, Remap}
 use Rattle.node_code.specs.ValidCode.{CodeTable, IsValid, IsValidNodeCode}
-use Rattle.lowering.specs.ExpressionCode.{code_of, control_code, control_slots}
+use Rattle.lowered_expressions.specs.ExpressionCode.{code_of, control_code, control_slots}
 use Rattle.lowering.specs.StatementCode.{entry_code, statement_code, arms_code, block_code, program_code}
 use Rattle.owner_tables.specs.Views.{TableView}
 use Rattle.node_program.specs.Fits.{fits_row, fits_rows}
@@ -34,6 +34,9 @@ module _ (table : CodeTable) (none : table.maps ≡ 0) (tables : List TableView)
       and_from (nat_le (length table.shapes) copy) (nat_le (length p.over) MAX_RANK) (le-leb (length table.shapes) copy h.0.0) (le-leb (length p.over) MAX_RANK h.1.1.0)
   follows (Par p) h = le-leb (length p.over) MAX_RANK h.2.0
   follows (ParForall p) h = le-leb (length p.over) MAX_RANK h.2.0
+  follows (ParNest p) h = le-leb (length p.over) MAX_RANK h.over.0
+  follows (MakeCopies copy over start) h =
+      and_from (nat_le (length table.shapes) copy) (nat_le (length over) MAX_RANK) (le-leb (length table.shapes) copy h.0.0) (le-leb (length over) MAX_RANK h.1.0)
   follows (ParCopy copy p) h = le-leb (length p.over) MAX_RANK h.1.1.0
   follows (ParForallCopy copy p) h = le-leb (length p.over) MAX_RANK h.1.1.0
   follows (Reduce p r x) h = le-leb (length p.over) MAX_RANK h.0.1.0

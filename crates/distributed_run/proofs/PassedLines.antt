@@ -13,7 +13,7 @@ use Rattle.machine_steps.specs.Layout.{Layout}
 use Rattle.machine_steps.specs.Machine.{Machine, step, steps}
 use Rattle.node_code.specs.Instructions.{ArrayTable, Instruction, NewMapping, meaning_of, remappings, Par, ParForall, ParCopy, ParForallCopy, Reduce, Remap}
 use Rattle.node_code.specs.ProgramText.{Text, table_on, text, text_meaning}
-use Rattle.lowering.specs.Passed.{Passed, note, note_at, note_while, passed, passed_now}
+use Rattle.lowered_expressions.specs.Passed.{Passed, note, note_at, note_while, passed, passed_now}
 use Rattle.passed_states.specs.PassedLayouts.{layouts_after, passed_layouts}
 use Rattle.passed_states.proofs.PassedLayouts.{maps-now}
 use Rattle.node_run.specs.Coded.{with_code}

@@ -36,7 +36,7 @@ use Rattle.machine_steps.specs.Machine.{Machine, steps}
 use Rattle.node_code.specs.Instructions.{ArrayTable, Instruction, NewMapping, meaning_of, remappings}
 use Rattle.node_code.specs.ProgramText.{Text, table_on, text, text_meaning}
 use Rattle.lowering.specs.Lowered.{EndsAs, IsTable, opening}
-use Rattle.lowering.specs.Passed.{passed}
+use Rattle.lowered_expressions.specs.Passed.{passed}
 use Rattle.lowering.specs.StatementCode.{block_copies}
 use Rattle.well_formed.proofs.Programs.{trail_lowered, valid}
 use Rattle.nest_items.specs.BlockForms.{BlockHasForms}

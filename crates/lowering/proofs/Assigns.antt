@@ -8,14 +8,14 @@ use Rattle.array_meaning.specs.Faults.{Cause, Fault, ◌>>=◌}
 use Rattle.array_meaning.specs.Runs.{normal, one_step, with_value}
 use Rattle.array_meaning.specs.State.{State, set_scalar, store, place_in, if_in_bounds, element_place}
 use Rattle.array_meaning.specs.Terms.{Term, Terms}
-use Rattle.lowering.proofs.Goes.{Holds, kept-refl, Goes, goes-at, goes-value, ends-bind, value-bind, set-reaches, holds-scalar, holds-store, goes-as, goes-value-last}
+use Rattle.lowered_expressions.proofs.Goes.{Holds, kept-refl, Goes, goes-at, goes-value, ends-bind, value-bind, set-reaches, holds-scalar, holds-store, goes-as, goes-value-last}
 use Rattle.lowering.proofs.Parts.{term-comes, terms-come}
 use Rattle.array_meaning.specs.Statements.{AssignElement}
 use Rattle.statement_trail.specs.Trail.{Trail, after_value, value_trail, values_trail, trail}
-use Rattle.lowering.proofs.Reach.{still, Idle, HasAt, has-front, has-back, same-refl, same-on, stands, one, Comes, Place}
-use Rattle.lowering.proofs.Terms.{HoldsArrays, Gives, GiveAll}
-use Rattle.lowering.specs.ExpressionCode.{slots_of, all_slots_of, flat_of, flats_of, code_of, codes_of}
-use Rattle.lowering.specs.WellFormed.{IsScalar, AreScalar}
+use Rattle.lowered_expressions.proofs.Reach.{still, Idle, HasAt, has-front, has-back, same-refl, same-on, stands, one, Comes, Place}
+use Rattle.lowered_expressions.proofs.Terms.{HoldsArrays, Gives, GiveAll}
+use Rattle.lowered_expressions.specs.ExpressionCode.{slots_of, all_slots_of, flat_of, flats_of, code_of, codes_of}
+use Rattle.lowered_expressions.specs.WellFormed.{IsScalar, AreScalar}
 use Rattle.machine_steps.specs.Instr.{Running, Control}
 use Rattle.machine_steps.specs.Machine.{store_control, store_in, write_to, faulted, steps}
 use Rattle.storage.specs.Storage.{Storage, Spot, write}

@@ -11,16 +11,16 @@ use Rattle.array_meaning.specs.Terms.{Term}
 use Rattle.array_meaning.specs.declared.faults.FaultKind.TheVariants.{ZeroStride}
 use Rattle.array_meaning.specs.declared.sections.Sequence.{Sequence}
 use Rattle.lowering.proofs.Counts.{count-small}
-use Rattle.lowering.proofs.Goes.{Holds, kept-refl, Goes, Flows, goes-on, goes-at, goes-value, value-bind, set-reaches, jump-reaches, test-reaches, holds-slot, holds-scalar, goes-as}
+use Rattle.lowered_expressions.proofs.Goes.{Holds, kept-refl, Goes, Flows, goes-on, goes-at, goes-value, value-bind, set-reaches, jump-reaches, test-reaches, holds-slot, holds-scalar, goes-as}
 use Rattle.lowering.proofs.Loops.{leave_at, inside, after, Body, ends-loop, from-inside, from-again}
 use Rattle.lowering.proofs.Parts.{term-comes}
 use Rattle.statement_trail.specs.Trail.{Trail, after_value, iterate_trail, value_trail}
-use Rattle.lowering.specs.Passed.{passed, IsTrail}
+use Rattle.lowered_expressions.specs.Passed.{passed, IsTrail}
 use Rattle.lowering.proofs.Wheres.{after-made}
-use Rattle.lowering.proofs.Reach.{still, reaches-last, Idle, HasAt, has-front, has-back, has-drop, same-refl, Reaches, reaches-on, stands, one, Place}
-use Rattle.lowering.proofs.Terms.{Gives}
-use Rattle.lowering.specs.ExpressionCode.{slots_of, flat_of, code_of}
-use Rattle.lowering.specs.WellFormed.{IsScalar}
+use Rattle.lowered_expressions.proofs.Reach.{still, reaches-last, Idle, HasAt, has-front, has-back, has-drop, same-refl, Reaches, reaches-on, stands, one, Place}
+use Rattle.lowered_expressions.proofs.Terms.{Gives}
+use Rattle.lowered_expressions.specs.ExpressionCode.{slots_of, flat_of, code_of}
+use Rattle.lowered_expressions.specs.WellFormed.{IsScalar}
 use Rattle.lowering.specs.StatementCode.{arm_code, loop_code}
 use Rattle.machine_steps.specs.Instr.{Running}
 use Rattle.machine_steps.specs.Machine.{steps}

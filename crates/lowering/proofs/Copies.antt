@@ -18,11 +18,11 @@ use Rattle.machine_steps.specs.Machine.{effect_of, effect_by}
 use Rattle.node_code.specs.Forms.{Sub, ArrayForm}
 use Rattle.node_code.specs.Parallel.{fault_at, at_line, outcome_of, Evaluation, evaluation_extents, copy_spot}
 use Rattle.statement_trail.specs.Trail.{Trail, after_value}
-use Rattle.lowering.specs.Passed.{note, IsTrail}
-use Rattle.lowering.proofs.Reach.{Idle, still, Stops, Place, HasAt, Reaches, reaches-on, stops-on, stands, one}
-use Rattle.lowering.proofs.Terms.{HoldsArrays}
-use Rattle.lowering.proofs.Goes.{Holds, kept-refl, Goes, goes-on}
-use Rattle.lowering.proofs.Keeping.{IsOutcome, Keeps, keeps}
+use Rattle.lowered_expressions.specs.Passed.{note, IsTrail}
+use Rattle.lowered_expressions.proofs.Reach.{Idle, still, Stops, Place, HasAt, Reaches, reaches-on, stops-on, stands, one}
+use Rattle.lowered_expressions.proofs.Terms.{HoldsArrays}
+use Rattle.lowered_expressions.proofs.Goes.{Holds, kept-refl, Goes, goes-on}
+use Rattle.lowered_expressions.proofs.Keeping.{IsOutcome, Keeps, keeps}
 use Rattle.lowering.proofs.Masks.{holds-copy, holds-some, value_effect, Filled, filled}
 use Rattle.lowering.proofs.Evaluating.{result-outcome}
 use Rattle.lowering.proofs.Pars.{par-reaches, par-stops}

@@ -3,7 +3,7 @@ use Rattle.node_code.specs.Instructions.{NewMapping, Reduce, Instruction, OwnLim
 use Rattle.std.proofs.Common.{◌≡◌, ℕ, zero, suc, ◌+◌, ◌<◌, ◌≤◌, List, [], ◌∷◌, ◌++◌, length, ℤ, Option, Some, None, Result, Ok, Err, refl, sym, ap, ◌∙◌, subst, arith, append-nil, fold, slice_set}
 use Rattle.std.specs.Bool.{⊤}
 use Rattle.statement_trail.specs.Trail.{Trail, Reduced, after_value, over_own_space, reached}
-use Rattle.lowering.specs.Passed.{Passed, note_at, passed, passed_now, IsTrail}
+use Rattle.lowered_expressions.specs.Passed.{Passed, note_at, passed, passed_now, IsTrail}
 use Rattle.hpf_base.specs.ElementOrder.{product}
 use Rattle.op_tables.specs.declared.op.Op.{Op}
 use Rattle.op_tables.specs.declared.reductions.Made.{Made}
@@ -22,11 +22,11 @@ use Rattle.machine_steps.specs.Machine.{Machine, Kept, keep, folded, verdict_con
 use Rattle.node_code.specs.Flat.{slot}
 use Rattle.node_code.specs.Forms.{ArrayForm, elemental_in}
 use Rattle.node_code.specs.Parallel.{at_line, outcome_of, reads_at, value_by_reads, Evaluation, evaluation_extents, evaluation_size, evaluation_tuples, reduction_tuples, made_outcome, fold_of}
-use Rattle.lowering.specs.ExpressionCode.{own_evaluation, reduce_code}
-use Rattle.lowering.proofs.Reach.{still, entries-more, Idle, HasAt, same-refl, same-set, slot-set, stands, one, Comes, comes-on}
-use Rattle.lowering.proofs.Terms.{HoldsScalars, HoldsArrays}
-use Rattle.lowering.proofs.Keeping.{IsOutcome, Keeps, keeps}
-use Rattle.lowering.proofs.Scatter.{NamesBelow, values_of, value-of-reads, space-size, space-counted}
+use Rattle.lowered_expressions.specs.ExpressionCode.{own_evaluation, reduce_code}
+use Rattle.lowered_expressions.proofs.Reach.{still, entries-more, Idle, HasAt, same-refl, same-set, slot-set, stands, one, Comes, comes-on}
+use Rattle.lowered_expressions.proofs.Terms.{HoldsScalars, HoldsArrays}
+use Rattle.lowered_expressions.proofs.Keeping.{IsOutcome, Keeps, keeps}
+use Rattle.lowered_expressions.proofs.Scatter.{NamesBelow, values_of, value-of-reads, space-size, space-counted}
 use Rattle.lowering.proofs.Masks.{shape-first}
 
 pub result-outcome : (line : ℕ) (q : Result ℤ Cause) → IsOutcome line (outcome_of (at_line line q)) q

@@ -31,23 +31,23 @@ use Rattle.node_code.specs.Flat.{slot}
 use Rattle.node_code.specs.Forms.{Sub, selections_at, selections_in, elemental_at}
 use Rattle.node_code.specs.Parallel.{When, at_line, outcome_if, outcome_of, mask_reads, is_asked, spot_of, reads_at, value_by_reads, assigned_value, Assignment, Evaluation, indices_in, forall_tuples, forall_spot, forall_mask_tuples}
 use Rattle.node_code.specs.ForallLimits.{term_of, slots_state, sequences_of, unless_empty, forall_limits, one_to_one}
-use Rattle.lowering.specs.ExpressionCode.{subscripts_slots, subs_of, subscripts_code, control_slots, index_flat, index_form}
+use Rattle.lowered_expressions.specs.ExpressionCode.{subscripts_slots, subs_of, subscripts_code, control_slots, index_flat, index_form}
 use Rattle.lowering.specs.StatementCode.{triplets, one_to_one_code, forall_mask_code, forall_assignment, forall_assignments_code, forall_code, where_true}
-use Rattle.lowering.specs.WellFormed.{AreSubscripts, IsIndexed, AreScalarSubscripts, AreControls, IsIndexedMask, AreIndexedAssignments}
+use Rattle.lowered_expressions.specs.WellFormed.{AreSubscripts, IsIndexed, AreScalarSubscripts, AreControls, IsIndexedMask, AreIndexedAssignments}
 use Rattle.std.specs.Prelude.{is_some}
 use Rattle.statement_trail.specs.Trail.{Trail, ForallMask, ElementsAssigned, after_value, after_run, reached, value_trail, selections_trail, control_trail, all_controls_trail, forall_trail, forall_parts_trail, if_not_empty, trail}
-use Rattle.lowering.specs.Passed.{IsMaskCopy, note, IsTrail}
-use Rattle.lowering.proofs.Goes.{goes-as, Holds, Kept, kept-refl, Goes, goes-at, goes-then-kept, goes-value, value-bind, lands-done}
+use Rattle.lowered_expressions.specs.Passed.{IsMaskCopy, note, IsTrail}
+use Rattle.lowered_expressions.proofs.Goes.{goes-as, Holds, Kept, kept-refl, Goes, goes-at, goes-then-kept, goes-value, value-bind, lands-done}
 use Rattle.lowering.proofs.Wheres.{after-made, forget}
 use Rattle.lowering.proofs.Parts.{after-ok, triplet-trail, SubsGive, subscripts-come}
 use Rattle.array_meaning.specs.Runs as runs
 use Rattle.std.proofs.lemmas.Option.{same_Some}
-use Rattle.lowering.proofs.Reach.{still, comes-as, Idle, HasAt, has-front, has-back, same-refl, stands, one, Comes}
-use Rattle.lowering.proofs.Terms.{HoldsArrays}
-use Rattle.lowering.proofs.Scatter.{Does, values_of, value-of-reads, counted-if}
+use Rattle.lowered_expressions.proofs.Reach.{still, comes-as, Idle, HasAt, has-front, has-back, same-refl, stands, one, Comes}
+use Rattle.lowered_expressions.proofs.Terms.{HoldsArrays}
+use Rattle.lowered_expressions.proofs.Scatter.{Does, values_of, value-of-reads, counted-if}
 use Rattle.lowering.proofs.Storing.{masked-does, stores-go}
 use Rattle.lowering.proofs.Copies.{copy-goes}
-use Rattle.lowering.proofs.Indexed.{all-listed, all-in-forall, subs-are, indexed-value, indexed-names, limits-are, one-to-one-are}
+use Rattle.lowered_expressions.proofs.Indexed.{all-listed, all-in-forall, subs-are, indexed-value, indexed-names, limits-are, one-to-one-are}
 
 -- ---- the header
 

@@ -4,10 +4,10 @@ use Rattle.std.proofs.Common.{◌≡◌, ℕ, zero, suc, ◌+◌, ◌<◌, ◌�
 use Rattle.array_meaning.specs.Execution.{iterate, after_iteration}
 use Rattle.array_meaning.specs.Runs.{Completion, Normal, Exited, Cycled, Stopped, Run, normal}
 use Rattle.array_meaning.specs.State.{State, set_scalar}
-use Rattle.lowering.proofs.Goes.{Holds, Kept, kept-refl, Goes, goes-on, Flows, set-reaches, jump-reaches, test-reaches, holds-slot, holds-scalar}
+use Rattle.lowered_expressions.proofs.Goes.{Holds, Kept, kept-refl, Goes, goes-on, Flows, set-reaches, jump-reaches, test-reaches, holds-slot, holds-scalar}
 use Rattle.statement_trail.specs.Trail as passed
 use Rattle.statement_trail.specs.Trail.{Trail, iterate_trail}
-use Rattle.lowering.proofs.Reach.{reaches-last, HasAt, has-back, has-drop, Reaches, reaches-on, stands, Place}
+use Rattle.lowered_expressions.proofs.Reach.{reaches-last, HasAt, has-back, has-drop, Reaches, reaches-on, stands, Place}
 use Rattle.lowering.proofs.Trips.{left-true, left-less, none-left}
 use Rattle.lowering.specs.StatementCode.{loop_code}
 use Rattle.storage.specs.Storage.{Storage}

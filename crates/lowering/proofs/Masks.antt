@@ -8,8 +8,8 @@ use Rattle.array_meaning.specs.Sections.{extents}
 use Rattle.array_meaning.specs.State.{State}
 use Rattle.array_meaning.specs.Terms.{Term, Number, Scalar, Index, Element, Section, Apply, Reduce, Terms, NoTerm, More, SectionSubscripts, NoSubscript, Subscript, Triplet}
 use Rattle.array_meaning.specs.declared.sections.Selection.{Selection}
-use Rattle.lowering.proofs.Goes.{Holds}
-use Rattle.lowering.specs.ExpressionCode.{first_subs, first_subs_of, or_no_sub, subscripts_slots, subs_of, parts_slots, all_parts_slots, form_of, forms_of, control_slots, triplet, slots_of}
+use Rattle.lowered_expressions.proofs.Goes.{Holds}
+use Rattle.lowered_expressions.specs.ExpressionCode.{first_subs, first_subs_of, or_no_sub, subscripts_slots, subs_of, parts_slots, all_parts_slots, form_of, forms_of, control_slots, triplet, slots_of}
 use Rattle.storage.specs.Effect.{Effect, Put, Fail, scatter}
 use Rattle.storage.specs.Storage.{Storage, row_of, write}
 use Rattle.node_code.specs.Flat.{slot}

@@ -30,15 +30,15 @@ use Rattle.node_code.specs.Parallel.{at_line, fault_at}
 use Rattle.node_code.specs.NestChecks.{entry_state, without_elements}
 use Rattle.node_code.specs.Instructions.{NewMapping, Instruction, TestStride, Check, ArrayTable, go_on_if, stride_at, meaning_of}
 use Rattle.lowering.specs.StatementCode.{with_bounds, entry_code, loop_code}
-use Rattle.lowering.specs.Passed.{passed, IsTrail}
-use Rattle.lowering.proofs.Reach.{still, Idle, HasAt, has-front, has-back, Reaches, reaches-on, stands, one, Place}
-use Rattle.lowering.proofs.Terms.{HoldsScalars, HoldsArrays}
-use Rattle.lowering.proofs.Goes.{Holds, kept-refl, Goes, goes-on}
+use Rattle.lowered_expressions.specs.Passed.{passed, IsTrail}
+use Rattle.lowered_expressions.proofs.Reach.{still, Idle, HasAt, has-front, has-back, Reaches, reaches-on, stands, one, Place}
+use Rattle.lowered_expressions.proofs.Terms.{HoldsScalars, HoldsArrays}
+use Rattle.lowered_expressions.proofs.Goes.{Holds, kept-refl, Goes, goes-on}
 use Rattle.lowering.proofs.Loops.{after, Body}
 use Rattle.lowering.proofs.Branches.{enters}
 use Rattle.lowering.proofs.NestNames.{IsFormedNest, formed_nest}
 use Rattle.nest_items.specs.BlockForms.{BlockHasForms, HasForms}
-use Rattle.lowering.specs.WellFormed.{IsWellFormedBlock}
+use Rattle.lowered_expressions.specs.WellFormed.{IsWellFormedBlock}
 
 -- what is asked of a mark: the outermost loop of a nest names what may stand in one
 abbrev pub IsFormedMark : ℕ → Mark → Loop → Block → Type 0

@@ -10,7 +10,7 @@ use Rattle.nest_items.specs.Standing.{IsFixed, IsFixedTerm, AreFixedTerms, Stand
 use Rattle.nest_items.specs.NestForm.{IsKeptLoop, BlockKeeps, StatementKeeps, ArmsKeep, LoopsKeep, IsNest}
 use Rattle.nest_items.specs.BlockForms.{HasForm, BlockHasForms, HasForms, ArmsHaveForms}
 use Rattle.nest_items.proofs.EntryAlike.{IsOfScalars, AreOfScalars, IsNestTerm, AreNestTerms, IsNestLoop, IsNestBlock, IsNestStatement, AreNestArms}
-use Rattle.lowering.specs.WellFormed.{IsScalar, AreScalar, IsControl, IsWellFormed, IsWellFormedBlock, AreWellFormedArms}
+use Rattle.lowered_expressions.specs.WellFormed.{IsScalar, AreScalar, IsControl, IsWellFormed, IsWellFormedBlock, AreWellFormedArms}
 
 module _ (n : ℕ) (kinds : ℕ → Kind) where
   mutual

@@ -18,7 +18,7 @@ use Rattle.machine_steps.specs.Layout.{Layout}
 use Rattle.machine_steps.specs.Machine.{Machine, steps}
 use Rattle.node_code.specs.Instructions.{Instruction, NewMapping, ArrayTable, meaning_of}
 use Rattle.lowering.specs.StatementCode.{block_copies}
-use Rattle.lowering.specs.WellFormed.{IsWellFormedBlock}
+use Rattle.lowered_expressions.specs.WellFormed.{IsWellFormedBlock}
 use Rattle.nest_items.specs.BlockForms.{BlockHasForms}
 use Rattle.lowering.specs.Lowered.{opening, EndsAs, IsEnd, IsLeft, IsTable, MachineHas}
 use Rattle.lowering.proofs.Programs.{program-ends}

@@ -9,8 +9,8 @@ use Rattle.machine_steps.specs.Instr.{Running, Faulted, Control, Tuples}
 use Rattle.machine_steps.specs.Machine as machine
 use Rattle.machine_steps.specs.Machine.{Machine, Kept, keep, effect_of, verdict_control, on, step, step_by, steps, instr_of}
 use Rattle.statement_trail.specs.Trail.{Trail}
-use Rattle.lowering.specs.Passed.{note, note_at, passed, passed_now, IsTrail}
-use Rattle.lowering.proofs.Reach.{Idle, HasAt, Reaches, Stops, stands}
+use Rattle.lowered_expressions.specs.Passed.{note, note_at, passed, passed_now, IsTrail}
+use Rattle.lowered_expressions.proofs.Reach.{Idle, HasAt, Reaches, Stops, stands}
 
 module _ (table : ArrayTable) (row_count : ℕ) (moves : ℕ → List NewMapping) (code : List Instruction) (n : ℕ) (par : Instruction) (tuples : Tuples Fault) (left : List ℤ → ℕ → Option Spot) (pc : ℕ) (slots : List ℤ)
     (rows : Storage) (out : List ℕ)

@@ -12,13 +12,13 @@ use Rattle.array_meaning.specs.declared.faults.FaultKind.TheVariants.{ZeroStride
 use Rattle.array_meaning.specs.declared.sections.Selection.{Selection}
 use Rattle.array_meaning.specs.declared.sections.Selection.TheVariants.{At, Along}
 use Rattle.array_meaning.specs.declared.sections.Sequence.{Sequence}
-use Rattle.lowering.proofs.Goes.{set-reaches}
+use Rattle.lowered_expressions.proofs.Goes.{set-reaches}
 use Rattle.statement_trail.specs.Trail.{Trail, Reduced, after_value, over_own_space, value_trail, values_trail, elemental_trail, elementals_trail, selections_trail, control_trail}
-use Rattle.lowering.proofs.Reach.{still, comes-as, comes-last, Idle, HasAt, has-front, has-back, SameBelow, same-refl, same-on, same-set, slot-set, Reaches, reaches-on, stands, one, Comes, comes-on, comes-then, comes-at, comes-but, comes-here}
-use Rattle.lowering.proofs.Scatter.{NamesBelow, AllNameBelow}
-use Rattle.lowering.proofs.Terms.{HoldsScalars, HoldsArrays, holds-same, Gives, GiveAll, nothing, fetch-comes, apply-comes}
-use Rattle.lowering.specs.ExpressionCode.{all_slots_of, flats_of, codes_of, set_if, reduce_code, slots_of, flat_of, code_of, control_slots, control_code, triplet, subscripts_slots, subs_of, subscripts_code, parts_slots, all_parts_slots, form_of, forms_of, parts_code, all_parts_code}
-use Rattle.lowering.specs.WellFormed.{IsArray, AreArrays, AreScalarSubscripts, IsScalar, AreScalar}
+use Rattle.lowered_expressions.proofs.Reach.{still, comes-as, comes-last, Idle, HasAt, has-front, has-back, SameBelow, same-refl, same-on, same-set, slot-set, Reaches, reaches-on, stands, one, Comes, comes-on, comes-then, comes-at, comes-but, comes-here}
+use Rattle.lowered_expressions.proofs.Scatter.{NamesBelow, AllNameBelow}
+use Rattle.lowered_expressions.proofs.Terms.{HoldsScalars, HoldsArrays, holds-same, Gives, GiveAll, nothing, fetch-comes, apply-comes}
+use Rattle.lowered_expressions.specs.ExpressionCode.{all_slots_of, flats_of, codes_of, set_if, reduce_code, slots_of, flat_of, code_of, control_slots, control_code, triplet, subscripts_slots, subs_of, subscripts_code, parts_slots, all_parts_slots, form_of, forms_of, parts_code, all_parts_code}
+use Rattle.lowered_expressions.specs.WellFormed.{IsArray, AreArrays, AreScalarSubscripts, IsScalar, AreScalar}
 use Rattle.machine_steps.specs.Instr.{Running}
 use Rattle.machine_steps.specs.Machine.{steps}
 use Rattle.storage.specs.Storage.{Storage}

@@ -5,8 +5,8 @@ use Rattle.storage.specs.Storage.{Storage, Spot, read}
 use Rattle.array_meaning.specs.Faults.{Fault}
 use Rattle.machine_steps.specs.Instr.{Item}
 use Rattle.machine_steps.specs.Machine.{Machine, item_bytes, print_step, step, step_by, steps, instr_of}
-use Rattle.lowering.specs.Passed.{note_at, passed, passed_now, IsTrail}
-use Rattle.lowering.proofs.Reach.{entries-append, entries-more, Idle, stands, steps-more}
+use Rattle.lowered_expressions.specs.Passed.{note_at, passed, passed_now, IsTrail}
+use Rattle.lowered_expressions.proofs.Reach.{entries-append, entries-more, Idle, stands, steps-more}
 
 -- the bytes of items
 abbrev pub all_bytes : List ℤ → (Spot → ℤ) → List Item → List ℕ

@@ -16,13 +16,13 @@ use Rattle.machine_steps.specs.Instr.{Finished}
 use Rattle.machine_steps.specs.Machine.{Machine, steps}
 use Rattle.node_code.specs.Instructions.{Instruction, NewMapping, Jump, Halt, meaning_of, ArrayTable}
 use Rattle.lowering.specs.StatementCode.{block_copies, block_slots, block_code, program_code}
-use Rattle.lowering.specs.WellFormed.{IsWellFormedBlock}
+use Rattle.lowered_expressions.specs.WellFormed.{IsWellFormedBlock}
 use Rattle.nest_items.specs.BlockForms.{BlockHasForms}
 use Rattle.lowering.specs.Lowered.{IsState, IsTable, opening, IsLeft, EndsAs, MachineEnds, MachinePasses}
 use Rattle.statement_trail.specs.Trail.{Trail, block_trail}
-use Rattle.lowering.specs.Passed.{passed, IsTrail}
-use Rattle.lowering.proofs.Reach.{still, entries-more, reaches-last, Idle, Place, HasAt, has-front, has-back, Reaches, reaches-on, stands, one, steps-more}
-use Rattle.lowering.proofs.Goes.{Holds, Flows, jump-reaches}
+use Rattle.lowered_expressions.specs.Passed.{passed, IsTrail}
+use Rattle.lowered_expressions.proofs.Reach.{still, entries-more, reaches-last, Idle, Place, HasAt, has-front, has-back, Reaches, reaches-on, stands, one, steps-more}
+use Rattle.lowered_expressions.proofs.Goes.{Holds, Flows, jump-reaches}
 use Rattle.lowering.proofs.Statements.{block-goes}
 
 has-all : (is pre : List Instruction) → HasAt (pre ++ is) (length pre) is

@@ -12,16 +12,16 @@ use Rattle.array_meaning.specs.Terms.{Term, SectionSubscripts}
 use Rattle.array_meaning.specs.declared.sections.Selection.{Selection}
 use Rattle.array_meaning.specs.declared.sections.Store.{Store}
 use Rattle.hpf_base.specs.ElementOrder.{product}
-use Rattle.lowering.proofs.Goes.{Holds, kept-refl, Goes, goes-on, goes-at, goes-value, ends-bind}
+use Rattle.lowered_expressions.proofs.Goes.{Holds, kept-refl, Goes, goes-on, goes-at, goes-value, ends-bind}
 use Rattle.lowering.proofs.Parts.{SubsGive, FormGives, subscripts-come, parts-come}
 use Rattle.std.specs.Prelude.{is_some, option_map}
 use Rattle.statement_trail.specs.Trail.{Trail, SectionAssigned, after_value, reached, selections_trail, elemental_trail, section_trail}
-use Rattle.lowering.specs.Passed.{IsMaskCopy, note, IsTrail}
-use Rattle.lowering.proofs.Reach.{still, HasAt, has-front, has-back, SameBelow, same-refl, same-on, stands, one, Place}
+use Rattle.lowered_expressions.specs.Passed.{IsMaskCopy, note, IsTrail}
+use Rattle.lowered_expressions.proofs.Reach.{still, HasAt, has-front, has-back, SameBelow, same-refl, same-on, stands, one, Place}
 use Rattle.lowering.proofs.Storing.{masked-does, stores-go}
-use Rattle.lowering.proofs.Scatter.{space-size, space-counted, Does, values_of, NamesBelow}
-use Rattle.lowering.specs.ExpressionCode.{subscripts_slots, subs_of, subscripts_code, parts_slots, parts_code, form_of}
-use Rattle.lowering.specs.WellFormed.{AreScalarSubscripts, IsArray}
+use Rattle.lowered_expressions.proofs.Scatter.{space-size, space-counted, Does, values_of, NamesBelow}
+use Rattle.lowered_expressions.specs.ExpressionCode.{subscripts_slots, subs_of, subscripts_code, parts_slots, parts_code, form_of}
+use Rattle.lowered_expressions.specs.WellFormed.{AreScalarSubscripts, IsArray}
 use Rattle.lowering.specs.StatementCode.{assignment, assignment_code}
 use Rattle.machine_steps.specs.Instr.{Running, Outcome}
 use Rattle.machine_steps.specs.Space.{space_count}

@@ -8,7 +8,7 @@ use Rattle.machine_steps.specs.Machine.{remapped, with_mapping}
 use Rattle.mappings.specs.declared.mapping.Mapping.{Mapping}
 use Rattle.machine_steps.specs.Space.{space_count}
 use Rattle.lowering.proofs.Printing.{all_bytes, prints-line}
-use Rattle.lowering.specs.WellFormed.{AreItems, IsControl, IsWellFormed, AreWellFormedArms, IsWellFormedBlock, IsScalar}
+use Rattle.lowered_expressions.specs.WellFormed.{AreItems, IsControl, IsWellFormed, AreWellFormedArms, IsWellFormedBlock, IsScalar}
 use Rattle.lowering.proofs.Foralls.{forall-goes}
 use Rattle.array_meaning.specs.Execution.{item_bytes, run, run_arms, run_block, iterate, all_item_bytes, print}
 use Rattle.array_meaning.specs.Expressions.{value, index_values}
@@ -24,16 +24,16 @@ use Rattle.lowering.proofs.Assigns.{assigns, assigns-element, after-bind}
 use Rattle.lowering.proofs.Branches.{Makes, arm-goes}
 use Rattle.lowering.proofs.NestChecks.{IsFormedMark, formed_mark, entry-goes}
 use Rattle.nest_items.specs.BlockForms.{BlockHasForms, HasForms, ArmsHaveForms}
-use Rattle.lowering.proofs.Goes.{Holds, kept-refl, Goes, goes-on, goes-at, goes-then, goes-value, ends-bind, value-bind, lands-done, set-reaches, jump-reaches, holds-slot, goes-as, goes-value-last}
+use Rattle.lowered_expressions.proofs.Goes.{Holds, kept-refl, Goes, goes-on, goes-at, goes-then, goes-value, ends-bind, value-bind, lands-done, set-reaches, jump-reaches, holds-slot, goes-as, goes-value-last}
 use Rattle.lowering.proofs.Items.{SpreadGives, elements-come}
 use Rattle.lowering.proofs.Parts.{term-comes}
 use Rattle.statement_trail.specs.Trail.{Trail, Redistributed, after_value, reached, value_trail, selections_trail, control_trail, all_items_trail, iterate_trail, trail, arms_trail, block_trail}
-use Rattle.lowering.specs.Passed.{note_at, passed, IsTrail}
-use Rattle.lowering.proofs.Reach.{Idle, still, comes-last, HasAt, has-front, has-back, has-drop, SameBelow, same-refl, same-on, same-set, slot-set, Reaches, reaches-on, stands, one, Comes, comes-then, comes-at, comes-here}
+use Rattle.lowered_expressions.specs.Passed.{note_at, passed, IsTrail}
+use Rattle.lowered_expressions.proofs.Reach.{Idle, still, comes-last, HasAt, has-front, has-back, has-drop, SameBelow, same-refl, same-on, same-set, slot-set, Reaches, reaches-on, stands, one, Comes, comes-then, comes-at, comes-here}
 use Rattle.lowering.proofs.Sections.{section-goes}
-use Rattle.lowering.proofs.Terms.{HoldsArrays, HoldsScalars, holds-same, Gives}
+use Rattle.lowered_expressions.proofs.Terms.{HoldsArrays, HoldsScalars, holds-same, Gives}
 use Rattle.lowering.proofs.Wheres.{where-goes}
-use Rattle.lowering.specs.ExpressionCode.{subscripts_slots, subs_of, slots_of, flat_of, code_of, control_slots, control_code}
+use Rattle.lowered_expressions.specs.ExpressionCode.{subscripts_slots, subs_of, slots_of, flat_of, code_of, control_slots, control_code}
 use Rattle.lowering.specs.StatementCode.{entry_code, loop_code, statement_slots, arms_slots, block_slots, statement_code, arms_code, block_code, items_slots, item_code, items_code, print_items}
 use Rattle.storage.specs.Storage.{Storage, read}
 use Rattle.node_code.specs.Flat.{slot, Flat}

@@ -19,12 +19,12 @@ use Rattle.machine_steps.specs.Machine as machine
 use Rattle.machine_steps.specs.Machine.{effect_of, value_by}
 use Rattle.node_code.specs.Parallel.{When, fault_at, at_line, outcome_if, mask_reads, is_asked, spot_of, reads_at, assigned_value}
 use Rattle.statement_trail.specs.Trail.{Trail}
-use Rattle.lowering.specs.Passed.{note, IsTrail}
-use Rattle.lowering.proofs.Reach.{HasAt, Reaches, stands}
-use Rattle.lowering.proofs.Terms.{HoldsArrays}
-use Rattle.lowering.proofs.Goes.{Holds, kept-refl, Goes}
-use Rattle.lowering.proofs.Keeping.{Keeps, keeps}
-use Rattle.lowering.proofs.Scatter.{Does, Scattered, scattered, values_of, values-append, NamesBelow, tuple-does}
+use Rattle.lowered_expressions.specs.Passed.{note, IsTrail}
+use Rattle.lowered_expressions.proofs.Reach.{HasAt, Reaches, stands}
+use Rattle.lowered_expressions.proofs.Terms.{HoldsArrays}
+use Rattle.lowered_expressions.proofs.Goes.{Holds, kept-refl, Goes}
+use Rattle.lowered_expressions.proofs.Keeping.{Keeps, keeps}
+use Rattle.lowered_expressions.proofs.Scatter.{Does, Scattered, scattered, values_of, values-append, NamesBelow, tuple-does}
 use Rattle.lowering.proofs.Pars.{par-reaches, par-stops}
 
 -- stores print nothing

@@ -14,9 +14,9 @@ use Rattle.machine_steps.specs.Agrees.{IsValidInstr, IsValidCode}
 use Rattle.node_code.specs.Flat.{Flat}
 use Rattle.node_code.specs.Forms.{Sub}
 use Rattle.node_code.specs.Parallel.{When}
-use Rattle.lowering.specs.ExpressionCode.{slots_of, parts_slots, subscripts_slots, control_slots, set_if, three_code, code_of, codes_of, subscripts_code, parts_code, all_parts_code, control_code}
+use Rattle.lowered_expressions.specs.ExpressionCode.{slots_of, parts_slots, subscripts_slots, control_slots, set_if, three_code, code_of, codes_of, subscripts_code, parts_code, all_parts_code, control_code}
 use Rattle.lowering.specs.StatementCode.{entry_code, item_slots, item_code, items_code, assignment_code, masked_code, triplets, one_to_one_code, forall_mask_code, forall_assignments_code, statement_code, arms_code, block_code, program_code}
-use Rattle.lowering.specs.WellFormed.{IsScalar, AreScalar, AreScalarSubscripts, IsArray, AreArrays, IsControl, AreControls, AreMasked, AreItems, IsWellFormed, AreWellFormedArms, IsWellFormedBlock}
+use Rattle.lowered_expressions.specs.WellFormed.{IsScalar, AreScalar, AreScalarSubscripts, IsArray, AreArrays, IsControl, AreControls, AreMasked, AreItems, IsWellFormed, AreWellFormedArms, IsWellFormedBlock}
 use Rattle.lowering.proofs.Folding.{fold-is}
 
 module _ (count n : ℕ) (shapes : List Shape) (table : ArrayTable) (moves : ℕ → List NewMapping) (few : length shapes ≤ n)

@@ -17,17 +17,17 @@ use Rattle.array_meaning.specs.State.{State}
 use Rattle.array_meaning.specs.Statements.{SectionAssignment, Where}
 use Rattle.array_meaning.specs.Terms.{Term}
 use Rattle.hpf_base.specs.ElementOrder.{product}
-use Rattle.lowering.proofs.Goes.{Holds, kept-refl, Goes, Flows, goes-on, goes-at, goes-then-kept, goes-value, value-bind, lands-done, goes-as}
+use Rattle.lowered_expressions.proofs.Goes.{Holds, kept-refl, Goes, Flows, goes-on, goes-at, goes-then-kept, goes-value, value-bind, lands-done, goes-as}
 use Rattle.lowering.proofs.Masks.{FirstWithin, first-within, first-kept}
 use Rattle.lowering.proofs.Parts.{FormGives, parts-come}
 use Rattle.statement_trail.specs.Trail.{Trail, WhereMask, after_value, after_run, reached, elemental_trail, over_own_space, section_trail, where_trail, trail}
-use Rattle.lowering.specs.Passed.{note, IsTrail}
+use Rattle.lowered_expressions.specs.Passed.{note, IsTrail}
 use Rattle.std.proofs.lemmas.Option.{same_Some}
-use Rattle.lowering.proofs.Reach.{still, HasAt, has-front, has-back, has-drop, same-refl, stands, one, Place}
-use Rattle.lowering.proofs.Scatter.{NamesBelow, space-size, space-counted}
+use Rattle.lowered_expressions.proofs.Reach.{still, HasAt, has-front, has-back, has-drop, same-refl, stands, one, Place}
+use Rattle.lowered_expressions.proofs.Scatter.{NamesBelow, space-size, space-counted}
 use Rattle.lowering.proofs.Sections.{assignment-goes}
-use Rattle.lowering.specs.ExpressionCode.{own_evaluation, first_subs, or_no_sub, parts_slots, parts_code, form_of}
-use Rattle.lowering.specs.WellFormed.{AreMasked, IsArray}
+use Rattle.lowered_expressions.specs.ExpressionCode.{own_evaluation, first_subs, or_no_sub, parts_slots, parts_code, form_of}
+use Rattle.lowered_expressions.specs.WellFormed.{AreMasked, IsArray}
 use Rattle.storage.specs.Storage.{Storage}
 use Rattle.node_code.specs.Forms.{Sub, selections_in, elemental_in}
 use Rattle.node_code.specs.Parallel.{When, evaluation_tuples, at_line, Evaluation, evaluation_extents, as_asked}

@@ -13,7 +13,7 @@ use Rattle.machine_steps.specs.Space.{space_count}
 use Rattle.machine_steps.specs.Instr.{Running, Finished, Faulted}
 use Rattle.machine_steps.specs.Machine.{Machine, steps}
 use Rattle.statement_trail.specs.Trail.{Trail}
-use Rattle.lowering.specs.Passed.{passed, IsTrail}
+use Rattle.lowered_expressions.specs.Passed.{passed, IsTrail}
 use Rattle.node_code.specs.Flat.{slot}
 use Rattle.node_code.specs.Instructions.{NewMapping, Instruction, ArrayTable, meaning_of}
 use Rattle.lowering.specs.StatementCode.{block_slots, program_code}

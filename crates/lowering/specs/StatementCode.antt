@@ -9,7 +9,7 @@ use Rattle.node_code.specs.Flat.{Int, Slot, Operated, NoFlat, AndFlat}
 use Rattle.node_code.specs.Forms.{Sub, SectionForm}
 use Rattle.node_code.specs.Parallel.{When, Assignment, Evaluation}
 use Rattle.node_code.specs.Instructions.{NewMapping, PrintItem, PrintBytes, PrintNumber, PrintSection, Instruction, Set, Store, TestBounds, TestStride, Trips, Jump, JumpIfZero, Halt, Limits, OwnLimits, ForallLimits, OneToOne, Check, Par, ParForall, MakeCopy, ParCopy, ParForallCopy, Verdict, Inside, Print, Remap}
-use Rattle.lowering.specs.ExpressionCode.{slots_of, all_slots_of, subscripts_slots, parts_slots, flat_of, flats_of, subs_of, form_of, code_of, codes_of, subscripts_code, parts_code, control_slots, control_code, own_evaluation, index_flat, index_subs, index_form}
+use Rattle.lowered_expressions.specs.ExpressionCode.{slots_of, all_slots_of, subscripts_slots, parts_slots, flat_of, flats_of, subs_of, form_of, code_of, codes_of, subscripts_code, parts_code, control_slots, control_code, own_evaluation, index_flat, index_subs, index_form}
 
 -- ---- PRINT
 

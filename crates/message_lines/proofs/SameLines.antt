@@ -1,5 +1,5 @@
 -- By slots that agree on all that an instruction mentions, it has the same lines.
-use Rattle.std.proofs.Common.{◌≡◌, ℕ, ℤ, List, [], true, true≢false, ap, sym, ◌∙◌}
+use Rattle.std.proofs.Common.{◌≡◌, ℕ, ℤ, List, [], true, true≢false, refl, ap, sym, ◌∙◌}
 use Rattle.std.proofs.lemmas.Bool.{and_parts}
 use Rattle.std.proofs.lemmas.Option.{same_Some}
 use Rattle.mappings.specs.declared.mapping.Mapping.{Mapping}
@@ -48,4 +48,6 @@ module _ (maps : List Mapping) (s : Setting) (layouts : List Layout) (old new : 
   lines_same (code.Reduce p r x) is =
       same p.over p.line (λ ls. reduce_part s.nodes ls (reduction_tuples s.shapes p r.made) old) (λ ls. reduce_part s.nodes ls (reduction_tuples s.shapes p r.made) new)
       (and_parts (agree_on_subs old new p.over) (agree_on_form old new p.form) is).0 (same_Some _ _ (parts_same old new s.nodes (lies p.over) table (code.Reduce p r x) is))
+  -- no message of a statement of a nest is listed
+  lines_same (code.ParNest p) is = refl
   lines_same i is = absurd (true≢false (sym is))

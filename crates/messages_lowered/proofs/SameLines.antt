@@ -23,10 +23,10 @@ use Rattle.node_code.specs.Instructions as code
 use Rattle.node_code.specs.Instructions.{Instruction, NewMapping, remappings, Par, ParForall, ParCopy, ParForallCopy, Remap}
 use Rattle.node_code.specs.Parallel as parallel
 use Rattle.node_code.specs.Parallel.{When, Assignment, Evaluation, reads_at, spot_of, indices_in, evaluation_extents, forall_tuples, forall_spot, forall_mask_tuples, copy_spot}
-use Rattle.lowering.specs.ExpressionCode.{index_subs, index_form, index_forms}
-use Rattle.lowering.specs.Passed.{Passed, IsMaskCopy, IsEvent, IsTrailEntry, IsTrail}
-use Rattle.lowering.specs.WellFormed.{AreSubscripts, IsIndexed, AreIndexed}
-use Rattle.lowering.proofs.Indexed.{subs-are}
+use Rattle.lowered_expressions.specs.ExpressionCode.{index_subs, index_form, index_forms}
+use Rattle.lowered_expressions.specs.Passed.{Passed, IsMaskCopy, IsEvent, IsTrailEntry, IsTrail}
+use Rattle.lowered_expressions.specs.WellFormed.{AreSubscripts, IsIndexed, AreIndexed}
+use Rattle.lowered_expressions.proofs.Indexed.{subs-are}
 use Rattle.message_text.specs.Parts.{Setting, subscripts_in, named_in, all_named_in, mask_spot, mask_reads, reads_of, left_of, part_of, with_copy}
 use Rattle.message_text.specs.MessageText.{part_lines, redistribution_lines, event_lines, trail_lines}
 use Rattle.passed_states.specs.TrailLayouts as trail

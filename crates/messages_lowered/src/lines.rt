@@ -17,7 +17,7 @@ ghost use Rattle.machine_steps.specs.Layout.{Layout};
 ghost use Rattle.node_code.specs.Instructions.{ArrayTable, NewMapping};
 ghost use Rattle.lowering.specs.Lowered.{IsState, IsTable, opening};
 ghost use Rattle.lowering.specs.StatementCode.{block_copies};
-ghost use Rattle.lowering.specs.WellFormed.{IsWellFormedBlock};
+ghost use Rattle.lowered_expressions.specs.WellFormed.{IsWellFormedBlock};
 ghost use Rattle.nest_items.specs.BlockForms.{BlockHasForms};
 ghost use Rattle.messages_lowered.specs.PassedText.{MachineHasText, setting_by};
 

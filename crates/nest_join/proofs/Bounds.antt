@@ -11,9 +11,9 @@ use Rattle.array_meaning.specs.Sections.{sequence_of, value_count}
 use Rattle.array_meaning.specs.Elementals.{operated}
 use Rattle.array_meaning.specs.Expressions.{value, values}
 use Rattle.node_code.specs.Flat.{slot, flat_value, flat_values}
-use Rattle.lowering.specs.ExpressionCode.{index_flat, index_flats}
-use Rattle.lowering.specs.WellFormed.{IsSubscript, AreSubscripts}
-use Rattle.lowering.proofs.Terms.{total}
+use Rattle.lowered_expressions.specs.ExpressionCode.{index_flat, index_flats}
+use Rattle.lowered_expressions.specs.WellFormed.{IsSubscript, AreSubscripts}
+use Rattle.lowered_expressions.proofs.Terms.{total}
 use Rattle.nest_items.specs.Naming.{IsNaming, AreNaming}
 
 -- a bound has no fault, and is its value by the names in it

@@ -10,7 +10,7 @@ use Rattle.array_meaning.specs.Runs.{Run}
 use Rattle.machine_steps.specs.Instr.{Instr}
 use Rattle.node_code.specs.Flat.{slot}
 use Rattle.node_code.specs.Parallel.{shape_of}
-use Rattle.lowering.proofs.Terms.{HoldsArrays}
+use Rattle.lowered_expressions.proofs.Terms.{HoldsArrays}
 use Rattle.nest_items.specs.StateStorage.{state_of}
 use Rattle.nest_items.proofs.Storing.{scalar-at, array-at, fixed-scalar, state-scalars, if_so, if_not, by_cases}
 use Rattle.nest_machine.specs.Body.{count_body}
@@ -24,9 +24,9 @@ none-left : (xs : List ℤ) → length xs ≡ 0 → xs ≡ []
 none-left [] e = refl
 none-left (x ∷ xs) e = absurd (omega (arith, e))
 
-module _ {I : Type 0} (meaning : I → Instr Fault) (code : List I) (joined : ℤ) (line printed : List ℕ) (w : NestNames) (c : NestCode) (all : ℕ → Bool) (s : State)
+module _ {I : Type 0} (meaning : I → Instr Fault) (code : List I) (is_quiet : ℕ → Bool) (joined : ℤ) (line printed : List ℕ) (w : NestNames) (c : NestCode) (all : ℕ → Bool) (s : State)
     (loop : Loop) (block body : Block) (ok : IsCodedBlock w s [] body) (start : Storage) (entry : List ℤ) (d : Data Fault) (run : Run)
-    (h : EndsAsMeant meaning code joined line printed w c all s loop block body ok start entry d run) (holds : HoldsEntry w c.slot entry s) where
+    (h : EndsAsMeant meaning code is_quiet joined line printed w c all s loop block body ok start entry d run) (holds : HoldsEntry w c.slot entry s) where
   abbrev left : State
   left = state_of w.kinds s h.storage
 

@@ -19,10 +19,10 @@ use Rattle.nest_join.specs.NestRuns.{NestCode, IsBegun, EndsAsMeant, HasFinals}
 use Rattle.nest_join.proofs.InnerIndices.{after-block}
 use Rattle.nest_join.proofs.NestIndices.{nest-settles}
 
-module _ {I : Type 0} (meaning : I → Instr Fault) (code : List I) (joined : ℤ) (line printed : List ℕ) (w : NestNames) (c : NestCode) (all : ℕ → Bool) (s : State)
+module _ {I : Type 0} (meaning : I → Instr Fault) (code : List I) (is_quiet : ℕ → Bool) (joined : ℤ) (line printed : List ℕ) (w : NestNames) (c : NestCode) (all : ℕ → Bool) (s : State)
     (loop : Loop) (block body : Block) (ok : IsCodedBlock w s [] body) (start : Storage) (entry : List ℤ) (d : Data Fault) (run : Run)
-    (begun : IsBegun meaning code w c all s loop block body ok start entry d)
-    (h : EndsAsMeant meaning code joined line printed w c all s loop block body ok start entry d run) (finals : HasFinals w c s body ok start entry) where
+    (begun : IsBegun meaning code is_quiet w c all s loop block body ok start entry d)
+    (h : EndsAsMeant meaning code is_quiet joined line printed w c all s loop block body ok start entry d run) (finals : HasFinals w c s body ok start entry) where
   not-among : (k : ℕ) → k < w.count → all k ≡ true → NotAmong k c.finals
   not-among k lt free = by_cases (has_copies (w.kinds k))
       (λ has. absurd (true≢false (sym free ∙ begun.enters.stands.quiet k has)))

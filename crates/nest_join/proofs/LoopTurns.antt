@@ -11,7 +11,7 @@ use Rattle.array_meaning.specs.Expressions.{value}
 use Rattle.array_meaning.specs.Forall.{indices_at}
 use Rattle.array_meaning.specs.Iterations.{values_of, turn_value, nest_axes, at_iteration}
 use Rattle.node_code.specs.Flat.{slot, or_zero, slots_value}
-use Rattle.lowering.specs.ExpressionCode.{index_flat}
+use Rattle.lowered_expressions.specs.ExpressionCode.{index_flat}
 use Rattle.nest_items.proofs.Turns.{next_value, first_value}
 use Rattle.nest_machine.specs.Counting.{Counting, trips_at}
 use Rattle.nest_machine.specs.Body.{Bounds}

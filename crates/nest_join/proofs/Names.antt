@@ -6,7 +6,7 @@ use Rattle.storage.specs.Storage.{Storage}
 use Rattle.array_meaning.specs.State.{State, Array, no_array, array, scalar}
 use Rattle.array_meaning.specs.Iterations.{with_indices}
 use Rattle.node_code.specs.Flat.{slot}
-use Rattle.lowering.proofs.Terms.{HoldsScalars, HoldsArrays}
+use Rattle.lowered_expressions.proofs.Terms.{HoldsScalars, HoldsArrays}
 use Rattle.nest_join.specs.NestNames.{index_in}
 use Rattle.nest_join.specs.MachineState.{listed_from, machine_array, machine_state}
 

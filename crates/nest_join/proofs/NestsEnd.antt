@@ -17,6 +17,7 @@ use Rattle.node_run.proofs.PartsInARow as parts
 use Rattle.nest_items.specs.NestItems.{one, iteration_items, Action, Condition}
 use Rattle.nest_parts.specs.NestParts as whole
 use Rattle.nest_parts.proofs.Parts.{nest_finishes, nest_faults}
+use Rattle.nest_machine.specs.Entries.{rows_after}
 use Rattle.nest_machine.specs.Body.{Body, count_body}
 use Rattle.nest_machine.specs.BodyCode.{Texts}
 use Rattle.nest_machine.specs.Counting.{Counting}
@@ -29,7 +30,7 @@ use Rattle.nest_machine.proofs.Slots.{same-refl}
 use Rattle.nest_machine.proofs.KeptFaults.{faults, no_left}
 use Rattle.nest_machine.proofs.PlacedActs.{act_number}
 use Rattle.nest_machine.proofs.Nests.{nest-runs}
-use Rattle.nest_texts.specs.NestTexts.{iterations_at}
+use Rattle.node_code.specs.NestStatements.{iterations_at}
 use Rattle.nest_texts.specs.NestLoops.{counting_at}
 use Rattle.nest_texts.specs.NestInstructions.{nest_layout}
 use Rattle.nest_texts.proofs.Counting.{is-counting}
@@ -40,9 +41,9 @@ use Rattle.nest_join.specs.NestRuns.{NestCode, machine_body, code_of, acts_of, I
 use Rattle.nest_join.proofs.TextValues.{texts-mean}
 use Rattle.nest_join.proofs.SameItems.{takes, items-block}
 
-module _ {I : Type 0} (meaning : I → Instr Fault) (code : List I) (joined : ℤ) (line printed : List ℕ) (w : NestNames) (c : NestCode) (all : ℕ → Bool) (s : State)
+module _ {I : Type 0} (meaning : I → Instr Fault) (code : List I) (is_quiet : ℕ → Bool) (joined : ℤ) (line printed : List ℕ) (w : NestNames) (c : NestCode) (all : ℕ → Bool) (s : State)
     (loop : Loop) (block body : Block) (ok : IsCodedBlock w s [] body) (start : Storage) (entry : List ℤ) (d : Data Fault)
-    (h : IsBegun meaning code w c all s loop block body ok start entry d) where
+    (h : IsBegun meaning code is_quiet w c all s loop block body ok start entry d) where
   abbrev texts : Texts (NestAction w) (NestCondition w) Fault
   texts = texts_of w
 
@@ -81,15 +82,16 @@ module _ {I : Type 0} (meaning : I → Instr Fault) (code : List I) (joined : �
   number = act_number (trace texts counting (iterations_at w.over) c.stored coded None 0 c.slot entry)
 
   abbrev After : Storage → Type 0
-  After = PlacedAfter meaning code joined line printed c.pc (c.pc + length (code_of w c s body ok)) texts c.stored c.row (count_body coded) c.slot w.place w.is_row w.is_index
-      w.kinds start c.finals (slots_after counting coded c.slot entry) entry d
+  After = PlacedAfter meaning code is_quiet joined line printed c.pc (c.pc + length (code_of w c s body ok)) texts c.stored c.row (count_body coded) c.slot w.place w.is_row w.is_index
+      w.kinds start c.finals (slots_after counting coded c.slot entry) entry
+      (rows_after texts counting (iterations_at w.over) (nest_layout w.table w.over) c.stored c.finals coded c.slot entry d) d
 
   abbrev MachineEnds : Type 0
   MachineEnds = (NoneKept act copies n many × ((m : Storage) → PartedAgrees w.kinds c.row (kept act copies n) many n start m (parted act copies n many) → After m))
-      ⊎ ((i : ℕ) × (j : ℕ) × (f : Fault) × IsLeastKept act copies n many i j f × EndsFaulted meaning code joined line printed c.pc entry d f)
+      ⊎ ((i : ℕ) × (j : ℕ) × (f : Fault) × IsLeastKept act copies n many i j f × EndsFaulted meaning code is_quiet joined line printed c.pc entry d f)
 
   machine-ends : MachineEnds
-  machine-ends = nest-runs meaning code joined line printed texts counting (is-counting c.line) (iterations_at w.over) (nest_layout w.table w.over) c.stored c.row
+  machine-ends = nest-runs meaning code is_quiet joined line printed texts counting (is-counting c.line) (iterations_at w.over) (nest_layout w.table w.over) c.stored c.row
       (copied w.kinds (one w.kinds)) (action_at w s) (condition_at w s) coded c.slot c.pc n entry d w.place w.is_row w.is_index c.alike c.finals w.kinds start
       h.has h.room (takes w c.line c.slot entry s h.holds h.outside w.is_index [] body ok (λ k e. e)) h.outside (texts-mean w c.slot entry s h.holds) h.fit h.one_place h.memory
       h.empty h.none_done h.apart h.few h.itself
@@ -97,8 +99,8 @@ module _ {I : Type 0} (meaning : I → Instr Fault) (code : List I) (joined : �
       (λ k l rising e. parts.least-kept (faults act copies n number) (no_left act copies n number) copies n number k rising l e)
 
   abbrev Ends : Type 0
-  Ends = EndsAsMeant meaning code joined line printed w c all s loop block body ok start entry d (run (Do (Outermost w.nest body) loop block) c.line s)
-      ⊎ FaultsAsMeant meaning code joined line printed w c all s loop block body ok start entry d (run (Do (Outermost w.nest body) loop block) c.line s)
+  Ends = EndsAsMeant meaning code is_quiet joined line printed w c all s loop block body ok start entry d (run (Do (Outermost w.nest body) loop block) c.line s)
+      ⊎ FaultsAsMeant meaning code is_quiet joined line printed w c all s loop block body ok start entry d (run (Do (Outermost w.nest body) loop block) c.line s)
 
   pub nests-end : Ends
   nests-end = by_end machine-ends

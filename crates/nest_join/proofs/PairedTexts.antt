@@ -4,13 +4,14 @@ use Rattle.std.proofs.lemmas.Bool.{cases_eq}
 use Rattle.nest_order.specs.Copies.{Kind, Shared, New, Assigned, Reduced, has_copies}
 use Rattle.array_meaning.specs.Terms.{Term}
 use Rattle.array_meaning.specs.Faults.{Fault, ◌>>=◌}
-use Rattle.array_meaning.specs.State.{element_place}
+use Rattle.array_meaning.specs.State.{element_place, if_in_bounds}
 use Rattle.array_meaning.specs.Sections.{subscripts_at}
 use Rattle.machine_steps.specs.Instr.{Nothing}
 use Rattle.node_code.specs.Forms.{selections_at}
 use Rattle.node_code.specs.Parallel.{at_line, outcome_of, shape_of, indices_in}
-use Rattle.lowering.specs.ExpressionCode.{index_subs}
-use Rattle.nest_texts.specs.NestTexts.{left_spot, left_place, form_value, text_outcome}
+use Rattle.lowered_expressions.specs.ExpressionCode.{index_subs}
+use Rattle.node_code.specs.NestStatements.{form_value, nest_place}
+use Rattle.nest_texts.specs.NestTexts.{left_spot, text_outcome}
 use Rattle.nest_values.specs.NestTerms.{all_indexed}
 use Rattle.nest_items.specs.NestItems.{Assigning, ToScalar, ToElement}
 use Rattle.nest_machine.specs.BodyCode.{copy_spot}
@@ -88,7 +89,7 @@ module _ (w : NestNames) (scalars : List ℕ) (conditions : ℕ) (are : AreScala
           (λ s at. let row : w.place other ≡ n + j = place-here other i o ∙ ap (λ x. n + x) same in λ x. Some (record { row = row x; at = at })),
           mark-here other i o ∙ ap (λ x. marks_by n scalars conditions (w.kinds other) (Some x)) same
               ∙ has-marks (w.kinds other) j (subst (λ x. (w.kinds x ≡ New) ⊎ (w.kinds x ≡ Assigned)) name kind),
-          (λ s at values. never-nothing (at_line line (left_place w.table.shapes w.over p.left s at >>= (λ x. form_value w.table.shapes w.over p.copies p.right s at values)))),
+          (λ s at values. never-nothing (at_line line (if_in_bounds (nest_place w.table.shapes w.over p.left s at) >>= (λ x. form_value w.table.shapes w.over p.copies p.right s at values)))),
         ))
         (λ (ne : i ≡ j → ⊥).
         inl (

@@ -22,7 +22,7 @@ use Rattle.nest_machine.specs.Slots.{SameSlots}
 use Rattle.nest_machine.specs.Placed.{Placed}
 use Rattle.nest_machine.proofs.PlacedCopies.{row-each, length-each}
 use Rattle.nest_machine.proofs.Rows.{row-beyond}
-use Rattle.nest_texts.specs.NestTexts.{copy_spots}
+use Rattle.node_code.specs.NestStatements.{row_spots}
 use Rattle.nest_values.specs.NestTerms.{scalar_or_index, IsAlike, AreAlike}
 use Rattle.nest_join.specs.NestNames.{NestNames, index_in, indices_of, index_of, HasNoIndex, HaveNoIndex, IsFixedHere, IsCopyName, IsScalarName, IsArrayName}
 use Rattle.nest_join.specs.MachineState.{machine_state}
@@ -61,7 +61,7 @@ indices-many s nest i =
 -- ---- the rows that an iteration sees
 
 own-values : (rows : Storage) (place : ℕ → ℕ) (i : ℕ) (cs : List ℕ)
-    → map (value_by (read rows)) (copy_spots (map place cs) i) ≡ map (λ c. read rows (record { row = place c; at = i })) cs
+    → map (value_by (read rows)) (row_spots (map place cs) i) ≡ map (λ c. read rows (record { row = place c; at = i })) cs
 own-values rows place i [] = refl
 own-values rows place i (c ∷ cs) = ap (λ vs. read rows (record { row = place c; at = i }) ∷ vs) (own-values rows place i cs)
 
@@ -144,7 +144,7 @@ module _ (w : NestNames) where
 
     -- the values of the copies that the text reads
     abbrev pub own : List ℤ
-    own = map (value_by (read rows)) (copy_spots (map w.place copies) i)
+    own = map (value_by (read rows)) (row_spots (map w.place copies) i)
 
     copy-agrees : (k : ℕ) → IsCopyName w copies k → Agrees own k
     copy-agrees k (lt, has, of_row, off, j, h) =

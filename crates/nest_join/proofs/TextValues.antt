@@ -15,13 +15,14 @@ use Rattle.array_meaning.specs.Iterations.{nest_axes}
 use Rattle.machine_steps.specs.Machine.{effect_by, value_by}
 use Rattle.node_code.specs.Forms.{selections_at}
 use Rattle.node_code.specs.Parallel.{at_line, shape_of, spot_of, outcome_of, indices_in}
-use Rattle.lowering.specs.ExpressionCode.{index_form, index_subs}
+use Rattle.lowered_expressions.specs.ExpressionCode.{index_form, index_subs}
 use Rattle.nest_items.specs.StateStorage.{state_of}
 use Rattle.nest_items.specs.NestItems.{Assigning, ToScalar, ToElement, one, effect_in, scalar_effect, element_effect, truth_or_fault}
 use Rattle.nest_machine.specs.Slots.{SameSlots}
 use Rattle.nest_machine.specs.ItemsAt.{truth_outcome}
 use Rattle.nest_machine.specs.Placed.{Placed, placed_spot, placed_effect, IsOfRow, PlacedMean}
-use Rattle.nest_texts.specs.NestTexts.{form_reads, form_value, left_spot, text_outcome, test_outcome}
+use Rattle.node_code.specs.NestStatements.{form_reads, form_value}
+use Rattle.nest_texts.specs.NestTexts.{left_spot, text_outcome, test_outcome}
 use Rattle.nest_values.specs.NestTerms.{scalar_or_index, indexed, all_indexed, SubscriptsFirst}
 use Rattle.nest_values.proofs.Values.{nest-value, nest-subs}
 use Rattle.nest_join.specs.NestNames.{NestNames, indices_of, index_of, IsFixedHere, IsScalarName, IsArrayName, IsTextTerm, AreTextSubscripts, IsText}

@@ -6,8 +6,8 @@ use Rattle.array_meaning.specs.State.{State}
 use Rattle.array_meaning.specs.Statements.{Loop, Block, Done, Then, Statement, AssignScalar, AssignElement, If, Do, Unmarked, Continue, Arms, NoArm, Arm}
 use Rattle.array_meaning.specs.Iterations.{values_of}
 use Rattle.node_code.specs.Flat.{slots_value}
-use Rattle.lowering.specs.ExpressionCode.{index_flat}
-use Rattle.lowering.specs.WellFormed.{IsSubscript}
+use Rattle.lowered_expressions.specs.ExpressionCode.{index_flat}
+use Rattle.lowered_expressions.specs.WellFormed.{IsSubscript}
 use Rattle.nest_items.specs.NestItems.{ToScalar, ToElement}
 use Rattle.nest_items.specs.Naming.{IsNaming}
 use Rattle.nest_items.specs.Standing.{has_no_loop, have_no_loop}

@@ -6,7 +6,7 @@ use Rattle.array_meaning.specs.Statements.{Nest}
 use Rattle.array_meaning.specs.Iterations.{nest_indices}
 use Rattle.node_code.specs.Forms.{Sub}
 use Rattle.node_code.specs.Instructions.{ArrayTable}
-use Rattle.lowering.specs.WellFormed.{IsIndexed, AreSubscripts}
+use Rattle.lowered_expressions.specs.WellFormed.{IsIndexed, AreSubscripts}
 use Rattle.nest_values.specs.NestTerms.{indexed, all_indexed, SubscriptsFirst}
 use Rattle.nest_items.specs.Naming.{IsNaming, AreNaming}
 use Rattle.nest_items.specs.NestItems.{Assigning, ToScalar, ToElement}

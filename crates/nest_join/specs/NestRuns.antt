@@ -18,11 +18,11 @@ use Rattle.nest_machine.specs.Slots.{slots_after}
 use Rattle.nest_machine.specs.Trace.{Data, acts, trace}
 use Rattle.nest_machine.specs.Stands.{HasAt}
 use Rattle.nest_machine.specs.Finals.{Final, final_slot, NotAmong, AreApart, EndsFaulted}
-use Rattle.nest_machine.specs.Entries.{NotMade, nest_entries, nest_code}
+use Rattle.nest_machine.specs.Entries.{NotMade, nest_entries, nest_code, rows_after}
 use Rattle.nest_machine.specs.Placed.{IsPlace, PlacedTexts}
 use Rattle.nest_machine.specs.PlacedEntry.{IsPlacedMemory}
 use Rattle.nest_machine.specs.PlacedEnds.{IsPlacedFinal, PlacedAfter}
-use Rattle.nest_texts.specs.NestTexts.{iterations_at}
+use Rattle.node_code.specs.NestStatements.{iterations_at}
 use Rattle.nest_texts.specs.NestLoops.{counting_at}
 use Rattle.nest_texts.specs.NestInstructions.{nest_layout, body_of}
 use Rattle.nest_join.specs.NestNames.{NestNames}
@@ -53,11 +53,11 @@ module _ (w : NestNames) (c : NestCode) (s : State) (body : Block) (ok : IsCoded
 
 -- What is asked of a nest and of the machine at its entry. The nest keeps the rules and is entered, and its storage has a place among the
 -- machine's rows
-pub record IsBegun {I : Type 0} (meaning : I → Instr Fault) (code : List I) (w : NestNames) (c : NestCode) (all : ℕ → Bool) (s : State) (loop : Loop) (block body : Block)
+pub record IsBegun {I : Type 0} (meaning : I → Instr Fault) (code : List I) (is_quiet : ℕ → Bool) (w : NestNames) (c : NestCode) (all : ℕ → Bool) (s : State) (loop : Loop) (block body : Block)
     (ok : IsCodedBlock w s [] body) (start : Storage) (entry : List ℤ) (d : Data Fault) : Type 0 where
   pub enters : IsEntered w.kinds all s w.nest loop block body start c.row (acts_of w c s body ok entry)
   pub holds : HoldsEntry w c.slot entry s
-  pub has : HasAt meaning code c.pc (code_of w c s body ok)
+  pub has : HasAt meaning code is_quiet c.pc (code_of w c s body ok)
   pub room : c.slot + body_slots (machine_body w c s body ok) ≤ length entry
   pub outside : (x : ℕ) → c.slot ≤ x → w.is_index x ≡ false
   pub fit : PlacedTexts (texts_of w) (iterations_at w.over) (nest_layout w.table w.over) c.stored c.row (count_body (machine_body w c s body ok)) w.place w.is_row w.is_index
@@ -71,7 +71,7 @@ pub record IsBegun {I : Type 0} (meaning : I → Instr Fault) (code : List I) (w
   pub few : (f : Final) → Contains c.finals f → final_slot f < c.slot
   pub itself : (l : Layout) → c.alike l l ≡ true
 
-module _ {I : Type 0} (meaning : I → Instr Fault) (code : List I) (joined : ℤ) (line printed : List ℕ) (w : NestNames) (c : NestCode) (all : ℕ → Bool) (s : State)
+module _ {I : Type 0} (meaning : I → Instr Fault) (code : List I) (is_quiet : ℕ → Bool) (joined : ℤ) (line printed : List ℕ) (w : NestNames) (c : NestCode) (all : ℕ → Bool) (s : State)
     (loop : Loop) (block body : Block) (ok : IsCodedBlock w s [] body) (start : Storage) (entry : List ℤ) (d : Data Fault) (run : Run) where
   -- The nest ends normally, with the state of a storage but for the indices, which are as its loops leave them. The machine comes after the
   -- nest's code, with the arrays and the scalars of that storage
@@ -82,9 +82,10 @@ module _ {I : Type 0} (meaning : I → Instr Fault) (code : List I) (joined : �
     pub same : SameBut all state (state_of w.kinds s storage)
     pub indices : SameIn all (settled_by s (Do (Outermost w.nest body) loop block) s) state
     pub alike : Alike storage start
-    pub after : PlacedAfter meaning code joined line printed c.pc (c.pc + length (code_of w c s body ok)) (texts_of w) c.stored c.row
+    pub after : PlacedAfter meaning code is_quiet joined line printed c.pc (c.pc + length (code_of w c s body ok)) (texts_of w) c.stored c.row
         (count_body (machine_body w c s body ok)) c.slot w.place w.is_row w.is_index w.kinds start c.finals
-        (slots_after (counting_at c.line) (machine_body w c s body ok) c.slot entry) entry d storage
+        (slots_after (counting_at c.line) (machine_body w c s body ok) c.slot entry) entry
+        (rows_after (texts_of w) (counting_at c.line) (iterations_at w.over) (nest_layout w.table w.over) c.stored c.finals (machine_body w c s body ok) c.slot entry d) d storage
 
   -- both end with one fault, and with what was printed before
   pub record FaultsAsMeant : Type 0 where
@@ -92,7 +93,7 @@ module _ {I : Type 0} (meaning : I → Instr Fault) (code : List I) (joined : �
     pub state : State
     pub ends : run ≡ record { state = state; completion = Faulted fault }
     pub quiet : state.printed ≡ s.printed
-    pub machine : EndsFaulted meaning code joined line printed c.pc entry d fault
+    pub machine : EndsFaulted meaning code is_quiet joined line printed c.pc entry d fault
 
 -- ---- the arrays and the scalars of a state on the machine
 

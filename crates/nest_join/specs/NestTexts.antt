@@ -7,12 +7,13 @@ use Rattle.array_meaning.specs.Forall.{indices_at}
 use Rattle.array_meaning.specs.Iterations.{nest_axes, at_iteration, with_indices}
 use Rattle.node_code.specs.Flat.{slot}
 use Rattle.node_code.specs.Parallel.{shape_of, indices_in}
-use Rattle.lowering.specs.ExpressionCode.{index_form, index_subs}
+use Rattle.lowered_expressions.specs.ExpressionCode.{index_form, index_subs}
 use Rattle.nest_order.specs.Copies.{InIteration, in_iteration}
 use Rattle.nest_items.specs.NestItems.{Assigning, ToScalar, ToElement, Action, Condition, text_at}
 use Rattle.nest_machine.specs.BodyCode.{Texts}
 use Rattle.nest_machine.specs.Slots.{SameSlots}
-use Rattle.nest_texts.specs.NestTexts.{NestText, NestTest, ElementLeft, CopyLeft, nest_texts}
+use Rattle.node_code.specs.NestStatements.{ElementLeft, CopyLeft}
+use Rattle.nest_texts.specs.NestTexts.{NestText, NestTest, nest_texts}
 use Rattle.nest_values.specs.NestTerms.{indexed, all_indexed}
 use Rattle.nest_join.specs.NestNames.{NestNames, index_of, IsTextTerm, IsText}
 

@@ -24,19 +24,19 @@ ghost use Rattle.nest_join.specs.NestRuns.{NestCode, machine_body, IsBegun, Ends
 /// The machine over the code of a nest ends as the run of the nest: both normally, and the machine comes after the code with the arrays and the
 /// scalars of the storage that the run leaves; or both with one fault.
 pub fn nests_end<I>()
-    ensures { (meaning : I → Instr Fault) (code : List I) (joined : ℤ) (line printed : List ℕ) (w : NestNames) (c : NestCode) (all : ℕ → Bool) (s : State)
+    ensures { (meaning : I → Instr Fault) (code : List I) (is_quiet : ℕ → Bool) (joined : ℤ) (line printed : List ℕ) (w : NestNames) (c : NestCode) (all : ℕ → Bool) (s : State)
         (loop : Loop) (block body : Block) (ok : IsCodedBlock w s [] body) (start : Storage) (entry : List ℤ) (d : Data Fault)
-        → IsBegun meaning code w c all s loop block body ok start entry d
+        → IsBegun meaning code is_quiet w c all s loop block body ok start entry d
         → let r = run (Do (Outermost w.nest body) loop block) c.line s in
-        EndsAsMeant meaning code joined line printed w c all s loop block body ok start entry d r
-        ⊎ FaultsAsMeant meaning code joined line printed w c all s loop block body ok start entry d r }
+        EndsAsMeant meaning code is_quiet joined line printed w c all s loop block body ok start entry d r
+        ⊎ FaultsAsMeant meaning code is_quiet joined line printed w c all s loop block body ok start entry d r }
 {}
 
 /// After a nest that ends normally each array of the state that it leaves has its elements in the machine's row of its name, and its shape.
 pub fn arrays_held<I>()
-    ensures { (meaning : I → Instr Fault) (code : List I) (joined : ℤ) (line printed : List ℕ) (w : NestNames) (c : NestCode) (all : ℕ → Bool) (s : State)
+    ensures { (meaning : I → Instr Fault) (code : List I) (is_quiet : ℕ → Bool) (joined : ℤ) (line printed : List ℕ) (w : NestNames) (c : NestCode) (all : ℕ → Bool) (s : State)
         (loop : Loop) (block body : Block) (ok : IsCodedBlock w s [] body) (start : Storage) (entry : List ℤ) (d : Data Fault) (r : Run)
-        (h : EndsAsMeant meaning code joined line printed w c all s loop block body ok start entry d r)
+        (h : EndsAsMeant meaning code is_quiet joined line printed w c all s loop block body ok start entry d r)
         → HoldsEntry w c.slot entry s → HoldsRows w c s (count_body (machine_body w c s body ok)) start d
         → (a : ℕ) → a < w.count
         → (row_of h.after.data'.rows a ≡ (array h.state a).elements) × ((array h.state a).dims ≡ shape_of w.table.shapes a) }
@@ -44,9 +44,9 @@ pub fn arrays_held<I>()
 
 /// After a nest that ends normally each scalar of the state that it leaves, but for indices, has its value in its slot.
 pub fn scalars_held<I>()
-    ensures { (meaning : I → Instr Fault) (code : List I) (joined : ℤ) (line printed : List ℕ) (w : NestNames) (c : NestCode) (all : ℕ → Bool) (s : State)
+    ensures { (meaning : I → Instr Fault) (code : List I) (is_quiet : ℕ → Bool) (joined : ℤ) (line printed : List ℕ) (w : NestNames) (c : NestCode) (all : ℕ → Bool) (s : State)
         (loop : Loop) (block body : Block) (ok : IsCodedBlock w s [] body) (start : Storage) (entry : List ℤ) (d : Data Fault) (r : Run)
-        (h : EndsAsMeant meaning code joined line printed w c all s loop block body ok start entry d r)
+        (h : EndsAsMeant meaning code is_quiet joined line printed w c all s loop block body ok start entry d r)
         → HoldsEntry w c.slot entry s → HasFinals w c s body ok start entry
         → (k : ℕ) → k < w.count → all k ≡ false → w.is_index k ≡ false → slot h.after.slots k ≡ scalar h.state k }
 {}
@@ -63,10 +63,10 @@ pub fn inner_indices()
 
 /// After a nest that has an iteration and ends normally the index of each inner loop that is none of the nest's has its value in its slot.
 pub fn indices_held<I>()
-    ensures { (meaning : I → Instr Fault) (code : List I) (joined : ℤ) (line printed : List ℕ) (w : NestNames) (c : NestCode) (all : ℕ → Bool) (s : State)
+    ensures { (meaning : I → Instr Fault) (code : List I) (is_quiet : ℕ → Bool) (joined : ℤ) (line printed : List ℕ) (w : NestNames) (c : NestCode) (all : ℕ → Bool) (s : State)
         (loop : Loop) (block body : Block) (ok : IsCodedBlock w s [] body) (start : Storage) (entry : List ℤ) (d : Data Fault) (r : Run)
-        → IsBegun meaning code w c all s loop block body ok start entry d
-        → (h : EndsAsMeant meaning code joined line printed w c all s loop block body ok start entry d r)
+        → IsBegun meaning code is_quiet w c all s loop block body ok start entry d
+        → (h : EndsAsMeant meaning code is_quiet joined line printed w c all s loop block body ok start entry d r)
         → HasFinals w c s body ok start entry
         → (iteration_count w.nest s ≡ 0 → ⊥) → ((j : ℕ) → j < w.count → w.is_index j ≡ true → slot entry j ≡ scalar s j)
         → (k : ℕ) → k < w.count → all k ≡ true → w.is_index k ≡ true → index_in (indices_of w) 0 k ≡ None

@@ -24,11 +24,11 @@ use Rattle.nest_machine.specs.Trace.{Data, trace}
 use Rattle.nest_machine.specs.Stands.{stands, HasAt}
 use Rattle.nest_machine.specs.ItemsAt.{items_at}
 use Rattle.nest_machine.specs.Finals.{Final, Lasts, final_slot, EndsFaulted}
-use Rattle.nest_machine.specs.Entries.{Entry, NotMade, nest_entries}
+use Rattle.nest_machine.specs.Entries.{Entry, NotMade, nest_entries, rows_after}
 use Rattle.nest_machine.specs.Placed.{IsPlace, PlacedMean, PlacedTexts}
 use Rattle.nest_machine.specs.PlacedEntry.{IsPlacedMemory}
 use Rattle.nest_machine.specs.PlacedEnds.{IsPlacedFinal, PlacedAfter}
-use Rattle.nest_machine.specs.Example.{example_texts, example_counting, example_body, example_finals, example_size, two_elements, example_layout, always_alike, example_code, as_it_is, example_slots, example_data, example_kinds, example_start, example_place, example_rows, example_indices, example_interpretation, example_action, example_condition}
+use Rattle.nest_machine.specs.Example.{everywhere, example_texts, example_counting, example_body, example_finals, example_size, two_elements, example_layout, always_alike, example_code, as_it_is, example_slots, example_data, example_kinds, example_start, example_place, example_rows, example_indices, example_interpretation, example_action, example_condition}
 use Rattle.nest_machine.proofs.KeptFaults.{faults, no_left, kept_acts}
 use Rattle.nest_machine.proofs.PlacedActs.{act_number}
 use Rattle.nest_machine.proofs.Nests.{nest-runs}
@@ -44,11 +44,11 @@ counting = record {
 }
 
 -- code is at its own place
-has-from : (before after : List (Instr Bool)) (pc : ℕ) → length before ≡ pc → HasAt as_it_is (before ++ after) pc after
+has-from : (before after : List (Instr Bool)) (pc : ℕ) → length before ≡ pc → HasAt as_it_is (before ++ after) everywhere pc after
 has-from before [] pc e = tt
 has-from before (i ∷ after) pc e = (
-  ap (instr_at as_it_is (before ++ i ∷ after)) (sym e) ∙ at-end before,
-  subst (λ code. HasAt as_it_is code (pc + 1) after) (append_assoc before (i ∷ []) after)
+  (ap (instr_at as_it_is (before ++ i ∷ after)) (sym e) ∙ at-end before, refl),
+  subst (λ code. HasAt as_it_is code everywhere (pc + 1) after) (append_assoc before (i ∷ []) after)
       (has-from (before ++ i ∷ []) after (pc + 1) (length-append before (i ∷ []) ∙ ap (λ n. n + 1) e)),
 )
   where
@@ -56,7 +56,7 @@ has-from before (i ∷ after) pc e = (
     at-end [] = refl
     at-end (x ∷ xs) = at-end xs
 
-pub has : HasAt as_it_is example_code 0 example_code
+pub has : HasAt as_it_is example_code everywhere 0 example_code
 has = has-from [] example_code 0 refl
 
 pub takes : TakeSteps example_counting example_indices example_body
@@ -220,15 +220,16 @@ Runs = (k : ℕ) × (slots : List ℤ) × (d : Data Bool)
 
 abbrev Ends : Type 0
 Ends = (NoneKept act copies 2 6 × ((m : Storage) → PartedAgrees example_kinds 1 (kept act copies 2) 6 2 example_start m (parted act copies 2 6)
-    → PlacedAfter as_it_is example_code (pos 0) [] [] 0 (0 + length example_code) example_texts 2 1 1 2 example_place example_rows example_indices example_kinds example_start
-    example_finals (slots_after example_counting example_body 2 example_slots) example_slots example_data m))
-    ⊎ ((i : ℕ) × (j : ℕ) × (f : Bool) × IsLeastKept act copies 2 6 i j f × EndsFaulted as_it_is example_code (pos 0) [] [] 0 example_slots example_data f)
+    → PlacedAfter as_it_is example_code everywhere (pos 0) [] [] 0 (0 + length example_code) example_texts 2 1 1 2 example_place example_rows example_indices example_kinds example_start
+    example_finals (slots_after example_counting example_body 2 example_slots) example_slots
+    (rows_after example_texts example_counting example_size example_layout 2 example_finals example_body 2 example_slots example_data) example_data m))
+    ⊎ ((i : ℕ) × (j : ℕ) × (f : Bool) × IsLeastKept act copies 2 6 i j f × EndsFaulted as_it_is example_code everywhere (pos 0) [] [] 0 example_slots example_data f)
 
 module _ (none_law : (k : ℕ) → kept_acts act copies 2 number k ≡ None → NoneKept (act_by (faults act copies 2 number) (no_left act copies 2 number)) copies 2 k)
     (least_law : (k : ℕ) (l : Kept Bool) → AreRising (faults act copies 2 number) (no_left act copies 2 number) number k → kept_acts act copies 2 number k ≡ Some l
     → (j : ℕ) × IsLeastKept (act_by (faults act copies 2 number) (no_left act copies 2 number)) copies 2 k l.tuple j l.fault × (number j ≡ l.part)) where
   ends : Ends
-  ends = nest-runs as_it_is example_code (pos 0) [] [] example_texts example_counting counting example_size example_layout 2 1 example_interpretation example_action example_condition
+  ends = nest-runs as_it_is example_code everywhere (pos 0) [] [] example_texts example_counting counting example_size example_layout 2 1 example_interpretation example_action example_condition
       example_body 2 0 2 example_slots example_data example_place example_rows example_indices always_alike example_finals example_kinds example_start
       has (let l : 6 ≤ 6 = omega arith in l) takes hidden mean fit place memory refl refl (tt, tt) few (λ l. refl) none_law least_law
     where

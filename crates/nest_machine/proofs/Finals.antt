@@ -12,7 +12,7 @@ use Rattle.nest_machine.specs.Counting.{slot}
 use Rattle.nest_machine.specs.Trace.{Data}
 use Rattle.nest_machine.specs.Stands.{stands, HasAt}
 use Rattle.nest_machine.specs.Finals.{Final, Folds, Lasts, final_slot, final_code, finals_code, set_last, final_slots, finals_slots, NotAmong, AreApart}
-use Rattle.nest_machine.proofs.Runs.{Reaches, reaches-on, one}
+use Rattle.nest_machine.proofs.Runs.{Reaches, reaches-on, one, first-quiet, none-quiet}
 
 -- ---- last values
 
@@ -110,7 +110,7 @@ module _ (alike : Layout → Layout → Bool) (layouts : List Layout) (rows : St
       finals-here fs (After g s) apart.1 (λ x cx. let l = final-length g s in let z = few x (suc cx.0, (let w = cx.1 in omega (arith, w)), cx.2) in omega (arith, l, z)) f c
       ∙ value-same f (After g s) s (final-other g (final_slot f) s (λ z. not-among (final_slot g) fs f apart.0 c (sym z)))
 
-module _ {I F : Type 0} (meaning : I → Instr F) (code : List I) (joined : ℤ) (line printed : List ℕ) (alike : Layout → Layout → Bool) where
+module _ {I F : Type 0} (meaning : I → Instr F) (code : List I) (is_quiet : ℕ → Bool) (joined : ℤ) (line printed : List ℕ) (alike : Layout → Layout → Bool) where
   abbrev Stands : ℕ → List ℤ → Data F → Machine I F
   Stands = stands meaning code joined line printed
 
@@ -123,13 +123,13 @@ module _ {I F : Type 0} (meaning : I → Instr F) (code : List I) (joined : ℤ)
   final-step (Folds op r x) pc s d = refl
   final-step (Lasts r q x) pc s d = last-step (last_of alike d.layouts d.rows r q) pc x s d
 
-  pub finals-run : (fs : List Final) (pc : ℕ) (s : List ℤ) (d : Data F) → HasAt meaning code pc (finals_code alike fs)
-      → Reaches meaning (Stands pc s d) (Stands (pc + length fs) (finals_slots alike d.layouts d.rows fs s) d)
-  finals-run [] pc s d has = let e : pc ≡ pc + 0 = omega arith in (0, ap (λ p. Stands p s d) e)
+  pub finals-run : (fs : List Final) (pc : ℕ) (s : List ℤ) (d : Data F) → HasAt meaning code is_quiet pc (finals_code alike fs)
+      → Reaches meaning is_quiet (Stands pc s d) (Stands (pc + length fs) (finals_slots alike d.layouts d.rows fs s) d)
+  finals-run [] pc s d has = let e : pc ≡ pc + 0 = omega arith in (0, ap (λ p. Stands p s d) e, none-quiet meaning is_quiet (Stands pc s d))
   finals-run (f ∷ fs) pc s d has =
       let s1 : List ℤ = final_slots alike d.layouts d.rows f s in
       let e : pc + 1 + length fs ≡ pc + suc (length fs) = omega arith in
       let r = finals-run fs (pc + 1) s1 d has.1 in
-      reaches-on meaning (Stands pc s d) (Stands (pc + 1) s1 d) (Stands (pc + suc (length fs)) (finals_slots alike d.layouts d.rows fs s1) d)
-      (1, one meaning code joined line printed pc s d (final_code alike f) has.0 ∙ final-step f pc s d)
-      (r.0, r.1 ∙ ap (λ p. Stands p (finals_slots alike d.layouts d.rows fs s1) d) e)
+      reaches-on meaning is_quiet (Stands pc s d) (Stands (pc + 1) s1 d) (Stands (pc + suc (length fs)) (finals_slots alike d.layouts d.rows fs s1) d)
+      (1, one meaning code joined line printed pc s d (final_code alike f) has.0.0 ∙ final-step f pc s d, first-quiet meaning is_quiet (Stands pc s d) has.0.1)
+      (r.0, r.1 ∙ ap (λ p. Stands p (finals_slots alike d.layouts d.rows fs s1) d) e, r.2)

@@ -1,5 +1,5 @@
 -- The copies that are made at the entry of a nest.
-use Rattle.std.proofs.Common.{◌≡◌, ℕ, zero, suc, ◌+◌, ◌<◌, List, [], ◌∷◌, length, replicate, slice_get, slice_set, ℤ, Some, refl, sym, ap, ◌∙◌, subst, arith, length-set, get_or-set_same, get_or-set_other}
+use Rattle.std.proofs.Common.{Bool, ◌≡◌, ℕ, zero, suc, ◌+◌, ◌<◌, List, [], ◌∷◌, length, replicate, slice_get, slice_set, ℤ, Some, refl, sym, ap, ◌∙◌, subst, arith, length-set, get_or-set_same, get_or-set_other}
 use Rattle.std.specs.List.{Contains}
 use Rattle.std.proofs.lemmas.List.Elements.{Contains-append_left, Contains-append_right}
 use Rattle.storage.specs.Storage.{row_of}
@@ -9,7 +9,7 @@ use Rattle.nest_machine.specs.Trace.{Data}
 use Rattle.nest_machine.specs.Stands.{stands, HasAt}
 use Rattle.nest_machine.specs.Finals.{Final}
 use Rattle.nest_machine.specs.Entries.{Entry, final_entries, finals_entries, entries_code, made, all_made, NotMade, AreRows}
-use Rattle.nest_machine.proofs.Runs.{Reaches, reaches-on, one}
+use Rattle.nest_machine.proofs.Runs.{Reaches, reaches-on, one, first-quiet, none-quiet}
 use Rattle.nest_machine.proofs.Unmade.{get-other}
 
 get-same : {T : Type 0} (xs : List T) (i : ℕ) (v : T) → i < length xs → slice_get (slice_set xs i v) i ≡ Some v
@@ -84,15 +84,15 @@ module _ {F : Type 0} (layout : List Layout → List ℤ → Layout) (s : List �
   all-made-here es d apart few many steady = made-here es d.layouts (layout d.layouts s) steady es d apart (λ e c. c) few many (λ r off. refl)
 
 -- the machine makes them
-module _ {I F : Type 0} (meaning : I → Instr F) (code : List I) (joined : ℤ) (line printed : List ℕ) (layout : List Layout → List ℤ → Layout) (s : List ℤ) where
-  pub entries-run : (es : List Entry) (pc : ℕ) (d : Data F) → HasAt meaning code pc (entries_code layout es)
-      → Reaches meaning (stands meaning code joined line printed pc s d) (stands meaning code joined line printed (pc + length (entries_code {F = F} layout es)) s (all_made layout es s d))
-  entries-run [] pc d has = let e : pc ≡ pc + 0 = omega arith in (0, ap (λ p. stands meaning code joined line printed p s d) e)
+module _ {I F : Type 0} (meaning : I → Instr F) (code : List I) (is_quiet : ℕ → Bool) (joined : ℤ) (line printed : List ℕ) (layout : List Layout → List ℤ → Layout) (s : List ℤ) where
+  pub entries-run : (es : List Entry) (pc : ℕ) (d : Data F) → HasAt meaning code is_quiet pc (entries_code layout es)
+      → Reaches meaning is_quiet (stands meaning code joined line printed pc s d) (stands meaning code joined line printed (pc + length (entries_code {F = F} layout es)) s (all_made layout es s d))
+  entries-run [] pc d has = let e : pc ≡ pc + 0 = omega arith in (0, ap (λ p. stands meaning code joined line printed p s d) e, none-quiet meaning is_quiet (stands meaning code joined line printed pc s d))
   entries-run (g ∷ es) pc d has =
       let r = entries-run es (pc + 1) (made layout g s d) has.1 in
       let e : pc + 1 + length (entries_code {F = F} layout es) ≡ pc + suc (length (entries_code {F = F} layout es)) = omega arith in
       let last : Data F = all_made layout es s (made layout g s d) in
-      reaches-on meaning (stands meaning code joined line printed pc s d) (stands meaning code joined line printed (pc + 1) s (made layout g s d))
+      reaches-on meaning is_quiet (stands meaning code joined line printed pc s d) (stands meaning code joined line printed (pc + 1) s (made layout g s d))
       (stands meaning code joined line printed (pc + suc (length (entries_code {F = F} layout es))) s last)
-      (1, one meaning code joined line printed pc s d (MakeCopy g.row layout g.start) has.0)
-      (r.0, r.1 ∙ ap (λ p. stands meaning code joined line printed p s last) e)
+      (1, one meaning code joined line printed pc s d (MakeCopy g.row layout g.start) has.0.0, first-quiet meaning is_quiet (stands meaning code joined line printed pc s d) has.0.1)
+      (r.0, r.1 ∙ ap (λ p. stands meaning code joined line printed p s last) e, r.2)

@@ -26,7 +26,7 @@ use Rattle.nest_machine.specs.Placed.{IsPlace, PlacedMean, PlacedTexts}
 use Rattle.nest_machine.specs.PlacedEntry.{IsPlacedMemory}
 use Rattle.nest_machine.specs.PlacedEnds.{IsPlacedFinal, PlacedAfter}
 use Rattle.nest_machine.proofs.Slots.{same-after, same-refl}
-use Rattle.nest_machine.proofs.Runs.{Reaches, reaches-on, has-front, has-back, one}
+use Rattle.nest_machine.proofs.Runs.{Reaches, reaches-on, has-front, has-back, one, first-quiet}
 use Rattle.nest_machine.proofs.Bodies.{body-runs}
 use Rattle.nest_machine.proofs.KeptFaults.{faults, no_left, kept_acts, none-kept, least-kept}
 use Rattle.nest_machine.proofs.PlacedActs.{act_number, DoAll, FollowActs, follow-all, rise-all}
@@ -39,7 +39,7 @@ use Rattle.nest_machine.proofs.Unmade.{traced-length, unmade-stays, unmade-body}
 use Rattle.nest_machine.proofs.MadeCopies.{made-length, made-kept, made-other, entries-run}
 use Rattle.nest_machine.proofs.PlacedCopies.{entered-placed, unset-marks}
 
-module _ {I A C F P Q : Type 0} (meaning : I → Instr F) (code : List I) (joined : ℤ) (line printed : List ℕ) (texts : Texts A C F) (counting : Counting F) (right : IsCounting counting)
+module _ {I A C F P Q : Type 0} (meaning : I → Instr F) (code : List I) (is_quiet : ℕ → Bool) (joined : ℤ) (line printed : List ℕ) (texts : Texts A C F) (counting : Counting F) (right : IsCounting counting)
     (size : List ℤ → ℕ) (layout : List Layout → List ℤ → Layout) (stored row : ℕ) (interpretation : Interpretation P Q F)
     (action_at : A → List ℤ → ℕ → P) (condition_at : C → List ℤ → ℕ → Q) (body : Body A C) (b pc n : ℕ) (s : List ℤ) (d : Data F)
     (place : ℕ → ℕ) (is_row is_index : ℕ → Bool) (alike : Layout → Layout → Bool) (finals : List Final) (kinds : ℕ → Kind) (start : Storage) where
@@ -91,7 +91,7 @@ module _ {I A C F P Q : Type 0} (meaning : I → Instr F) (code : List I) (joine
   At = stands meaning code joined line printed
 
   abbrev AfterNest : Storage → Type 0
-  AfterNest = PlacedAfter meaning code joined line printed pc end texts stored row (count_body body) b place is_row is_index kinds start finals s1 s d
+  AfterNest = PlacedAfter meaning code is_quiet joined line printed pc end texts stored row (count_body body) b place is_row is_index kinds start finals s1 s d2.rows d
 
   end-is : verdict_at + 1 + length finals ≡ end
   end-is =
@@ -101,7 +101,7 @@ module _ {I A C F P Q : Type 0} (meaning : I → Instr F) (code : List I) (joine
       let l3 : length (finals_code {F = F} alike finals) ≡ length finals = finals-many F alike finals in
       omega (arith, l1, l2, l3)
 
-  module _ (has : HasAt meaning code pc (nest_code texts counting size layout stored alike finals body b pc)) (room : b + body_slots body ≤ length s)
+  module _ (has : HasAt meaning code is_quiet pc (nest_code texts counting size layout stored alike finals body b pc)) (room : b + body_slots body ≤ length s)
       (takes : TakeSteps counting is_index body) (hidden : (x : ℕ) → b ≤ x → is_index x ≡ false)
       (mean : PlacedMean texts interpretation action_at condition_at place is_row is_index b s)
       (fit : PlacedTexts texts size layout stored row (count_body body) place is_row is_index copies n b s) (one_place : IsPlace place is_row)
@@ -140,31 +140,32 @@ module _ {I A C F P Q : Type 0} (meaning : I → Instr F) (code : List I) (joine
     same1 : SameSlots is_index b s s1
     same1 = same-after counting is_index body takes b s
 
-    ending-has : HasAt meaning code pc1 (c ++ Verdict ∷ finals_code alike finals)
-    ending-has = has-back meaning code pc entries (c ++ Verdict ∷ finals_code alike finals) has
+    ending-has : HasAt meaning code is_quiet pc1 (c ++ Verdict ∷ finals_code alike finals)
+    ending-has = has-back meaning code is_quiet pc entries (c ++ Verdict ∷ finals_code alike finals) has
 
-    verdict-has : HasAt meaning code verdict_at (Verdict ∷ finals_code alike finals)
-    verdict-has = has-back meaning code pc1 c (Verdict ∷ finals_code alike finals) ending-has
+    verdict-has : HasAt meaning code is_quiet verdict_at (Verdict ∷ finals_code alike finals)
+    verdict-has = has-back meaning code is_quiet pc1 c (Verdict ∷ finals_code alike finals) ending-has
 
-    runs : Reaches meaning (At pc s d) (At verdict_at s1 d2)
-    runs = reaches-on meaning (At pc s d) (At pc1 s d1) (At verdict_at s1 d2)
-        (entries-run meaning code joined line printed layout s es pc d (has-front meaning code pc entries (c ++ Verdict ∷ finals_code alike finals) has))
-        (body-runs meaning code joined line printed texts counting right is_index b hidden size layout stored body None 0 b pc1 s d1
-        (has-front meaning code pc1 c (Verdict ∷ finals_code alike finals) ending-has) room takes (omega arith))
+    runs : Reaches meaning is_quiet (At pc s d) (At verdict_at s1 d2)
+    runs = reaches-on meaning is_quiet (At pc s d) (At pc1 s d1) (At verdict_at s1 d2)
+        (entries-run meaning code is_quiet joined line printed layout s es pc d (has-front meaning code is_quiet pc entries (c ++ Verdict ∷ finals_code alike finals) has))
+        (body-runs meaning code is_quiet joined line printed texts counting right is_index b hidden size layout stored body None 0 b pc1 s d1
+        (has-front meaning code is_quiet pc1 c (Verdict ∷ finals_code alike finals) ending-has) room takes (omega arith))
 
     -- ---- with a fault
 
-    faulted : (l : Kept F) → d2.kept ≡ Some l → (i : ℕ) × (j : ℕ) × (f : F) × IsLeastKept act copies n many i j f × EndsFaulted meaning code joined line printed pc s d f
+    faulted : (l : Kept F) → d2.kept ≡ Some l → (i : ℕ) × (j : ℕ) × (f : F) × IsLeastKept act copies n many i j f × EndsFaulted meaning code is_quiet joined line printed pc s d f
     faulted l e =
         let k = least-kept act copies n number least_law many (rise-all place is_row layout copies n act done does) l (sym passed.1.kept ∙ e) in
         let m1 = At verdict_at s1 d2 in
         let m2 : Machine I F = record m1 { control = verdict_control (Some l) on (record { at = verdict_at; slots = s1; status = Running }); kept = None; parts = 0 } in
-        let r = reaches-on meaning (At pc s d) m1 m2 runs (
+        let r = reaches-on meaning is_quiet (At pc s d) m1 m2 runs (
           1,
-          one meaning code joined line printed verdict_at s1 d2 Verdict verdict-has.0
+          one meaning code joined line printed verdict_at s1 d2 Verdict verdict-has.0.0
               ∙ ap (λ o. record m1 { control = verdict_control o on (record { at = verdict_at; slots = s1; status = Running }); kept = None; parts = 0 }) e,
+          first-quiet meaning is_quiet m1 verdict-has.0.1,
         ) in
-        (l.tuple, k.0, l.fault, k.1, record { count = r.0; last = m2; reach = r.1; status = refl; bytes = refl })
+        (l.tuple, k.0, l.fault, k.1, record { count = r.0; last = m2; reach = r.1; quiet = r.2; status = refl; bytes = refl })
 
     -- ---- without one
 
@@ -181,18 +182,19 @@ module _ {I A C F P Q : Type 0} (meaning : I → Instr F) (code : List I) (joine
       abbrev s2 : List ℤ
       s2 = finals_slots alike d2.layouts d2.rows finals s1
 
-      reaches : Reaches meaning (At pc s d) (At end s2 d3)
+      reaches : Reaches meaning is_quiet (At pc s d) (At end s2 d3)
       reaches =
           let m1 = At verdict_at s1 d2 in
           let m2 = At (verdict_at + 1) s1 d3 in
-          let r = finals-run meaning code joined line printed alike finals (verdict_at + 1) s1 d3 verdict-has.1 in
-          reaches-on meaning (At pc s d) m1 (At end s2 d3) runs
-          (reaches-on meaning m1 m2 (At end s2 d3) (
+          let r = finals-run meaning code is_quiet joined line printed alike finals (verdict_at + 1) s1 d3 verdict-has.1 in
+          reaches-on meaning is_quiet (At pc s d) m1 (At end s2 d3) runs
+          (reaches-on meaning is_quiet m1 m2 (At end s2 d3) (
             1,
-            one meaning code joined line printed verdict_at s1 d2 Verdict verdict-has.0
+            one meaning code joined line printed verdict_at s1 d2 Verdict verdict-has.0.0
                 ∙ ap (λ o. record m1 { control = verdict_control o on (record { at = verdict_at; slots = s1; status = Running }); kept = None; parts = 0 }) nothing,
+            first-quiet meaning is_quiet m1 verdict-has.0.1,
           )
-          (r.0, r.1 ∙ ap (λ p. At p s2 d3) end-is))
+          (r.0, r.1 ∙ ap (λ p. At p s2 d3) end-is, r.2))
 
       -- rows that the body doesn't make
       stays : (x : ℕ) → ((k : ℕ) → k < count_body body → stored + k ≡ x → ⊥)
@@ -238,9 +240,11 @@ module _ {I A C F P Q : Type 0} (meaning : I → Instr F) (code : List I) (joine
       finished : (m : Storage) → PartedAgrees kinds row (kept act copies n) many n start m last → AfterNest m
       finished m agrees = record {
         count' = reaches.0;
+        quiet = reaches.2;
         slots = s2;
         data' = d3;
         reach = reaches.1;
+        rows_are = refl;
         kept = refl;
         parts = refl;
         size = finals-length alike d2.layouts d2.rows finals s1 ∙ sym same1.0;
@@ -258,7 +262,7 @@ module _ {I A C F P Q : Type 0} (meaning : I → Instr F) (code : List I) (joine
 
     abbrev Ends : Type 0
     Ends = (NoneKept act copies n many × ((m : Storage) → PartedAgrees kinds row (kept act copies n) many n start m (parted act copies n many) → AfterNest m))
-        ⊎ ((i : ℕ) × (j : ℕ) × (f : F) × IsLeastKept act copies n many i j f × EndsFaulted meaning code joined line printed pc s d f)
+        ⊎ ((i : ℕ) × (j : ℕ) × (f : F) × IsLeastKept act copies n many i j f × EndsFaulted meaning code is_quiet joined line printed pc s d f)
 
     pub nest-runs : Ends
     nest-runs = by_kept d2.kept refl

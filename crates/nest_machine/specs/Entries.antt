@@ -1,12 +1,13 @@
 -- The code of a nest: copies are made, then the body runs, and then the Verdict and the scalars.
 use Rattle.std.specs.Prelude.{◌≡◌, ℕ, zero, suc, ◌+◌, List, [], ◌∷◌, ◌++◌, length, replicate, slice_set, ℤ, pos, Bool, None}
 use Rattle.op_tables.specs.Joins.{unit}
+use Rattle.storage.specs.Storage.{Storage}
 use Rattle.machine_steps.specs.Layout.{Layout, size_of}
 use Rattle.machine_steps.specs.Instr.{Instr, MakeCopy, Verdict}
 use Rattle.nest_machine.specs.Counting.{slot, Counting}
 use Rattle.nest_machine.specs.Body.{Body, count_body}
 use Rattle.nest_machine.specs.BodyCode.{Texts, body_code}
-use Rattle.nest_machine.specs.Trace.{Data}
+use Rattle.nest_machine.specs.Trace.{Data, trace, all_traced}
 use Rattle.nest_machine.specs.Finals.{Final, Folds, Lasts, finals_code}
 
 -- a copy that is made at the entry, and its value there
@@ -64,6 +65,12 @@ NotMade r (e ∷ es) = (e.row ≡ r → ⊥) × NotMade r es
 abbrev pub AreRows : List Entry → Type 0
 AreRows [] = Unit {0}
 AreRows (e ∷ es) = NotMade e.row es × AreRows es
+
+-- the rows after the copies are made and the body has run
+abbrev pub rows_after : {A C F : Type 0} → Texts A C F → Counting F → (List ℤ → ℕ) → (List Layout → List ℤ → Layout) → (stored : ℕ) → List Final → Body A C → (b : ℕ) → List ℤ → Data F
+    → Storage
+rows_after texts counting size layout stored finals body b s d =
+    (all_traced layout (trace texts counting size stored body None 0 b s) (all_made layout (nest_entries finals stored (count_body body)) s d)).rows
 
 module _ {A C F : Type 0} (texts : Texts A C F) (counting : Counting F) (size : List ℤ → ℕ) (layout : List Layout → List ℤ → Layout) (stored : ℕ) (alike : Layout → Layout → Bool) where
   -- the code of a body at a place, the Verdict, and the scalars

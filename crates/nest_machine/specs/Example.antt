@@ -80,6 +80,10 @@ example_layout layouts s = two_elements
 abbrev pub always_alike : Layout → Layout → Bool
 always_alike one other = true
 
+-- each place is quiet
+abbrev pub everywhere : ℕ → Bool
+everywhere at = true
+
 abbrev pub example_code : List (Instr Bool)
 example_code = nest_code example_texts example_counting example_size example_layout 2 always_alike example_finals example_body 2 0
 

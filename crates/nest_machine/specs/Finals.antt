@@ -8,7 +8,7 @@ use Rattle.machine_steps.specs.Instr.{Faulted, Instr, FoldCopy, LastCopy}
 use Rattle.machine_steps.specs.Machine.{Machine, steps, last_of}
 use Rattle.nest_machine.specs.Counting.{slot}
 use Rattle.nest_machine.specs.Trace.{Data}
-use Rattle.nest_machine.specs.Stands.{stands}
+use Rattle.nest_machine.specs.Stands.{stands, StaysQuiet}
 
 -- a REDUCTION variable with copies in a row, and another scalar with copies in a row and marks in another one; both with their slot
 pub data Final : Type 0 where
@@ -56,10 +56,11 @@ abbrev pub AreApart : List Final → Type 0
 AreApart [] = Unit {0}
 AreApart (f ∷ fs) = NotAmong (final_slot f) fs × AreApart fs
 
--- the machine ends with a fault, and has printed nothing
-pub record EndsFaulted {C F : Type 0} (meaning : C → Instr F) (code : List C) (joined : ℤ) (line printed : List ℕ) (pc : ℕ) (entry : List ℤ) (d : Data F) (fault : F) : Type 0 where
+-- the machine ends with a fault, has printed nothing, and has come to quiet places alone
+pub record EndsFaulted {C F : Type 0} (meaning : C → Instr F) (code : List C) (is_quiet : ℕ → Bool) (joined : ℤ) (line printed : List ℕ) (pc : ℕ) (entry : List ℤ) (d : Data F) (fault : F) : Type 0 where
   pub count : ℕ
   pub last : Machine C F
   pub reach : steps meaning count (stands meaning code joined line printed pc entry d) ≡ last
+  pub quiet : StaysQuiet meaning is_quiet count (stands meaning code joined line printed pc entry d)
   pub status : last.control.status ≡ Faulted fault
   pub bytes : last.printed ≡ printed

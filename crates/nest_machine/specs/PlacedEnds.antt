@@ -8,7 +8,7 @@ use Rattle.machine_steps.specs.Machine.{steps}
 use Rattle.nest_machine.specs.Counting.{slot}
 use Rattle.nest_machine.specs.BodyCode.{Texts, copy_spot}
 use Rattle.nest_machine.specs.Trace.{Data}
-use Rattle.nest_machine.specs.Stands.{stands}
+use Rattle.nest_machine.specs.Stands.{stands, StaysQuiet}
 use Rattle.nest_machine.specs.Finals.{Final, Folds, Lasts, final_slot, NotAmong}
 use Rattle.nest_machine.specs.Entries.{NotMade, nest_entries}
 use Rattle.nest_machine.specs.Placed.{placed_spot}
@@ -51,16 +51,18 @@ module _ {A C F : Type 0} (texts : Texts A C F) (stored row count b : ℕ) (plac
   IsPlacedFinal (Folds op mr x) r = OfScalar r mr x × (kinds r ≡ Reduced op)
   IsPlacedFinal (Lasts mr q x) r = OfScalar r mr x × ((kinds r ≡ New) ⊎ (kinds r ≡ Assigned)) × OfMarks mr q
 
--- The machine comes after the nest, at `to`, with the arrays and the scalars of a storage m. `after` are the slots after the body: an inner index
--- is what the body leaves, and the other slots before b are as at the entry. Rows before those of conditions keep their extents and lie as they
--- did, but for the copies that are made
-module _ {I A C F : Type 0} (meaning : I → Instr F) (code : List I) (joined : ℤ) (line printed : List ℕ) (pc to : ℕ) (texts : Texts A C F) (stored row count b : ℕ)
-    (place : ℕ → ℕ) (is_row is_index : ℕ → Bool) (kinds : ℕ → Kind) (start : Storage) (finals : List Final) (after entry : List ℤ) (d : Data F) where
+-- The machine comes after the nest, at `to`, with the arrays and the scalars of a storage m. `after` and `rows` are the slots and the rows after the
+-- body: an inner index is what the body leaves, and the other slots before b are as at the entry. Rows before those of conditions keep their extents and lie as they
+-- did, but for the copies that are made. On the way it comes to quiet places alone
+module _ {I A C F : Type 0} (meaning : I → Instr F) (code : List I) (is_quiet : ℕ → Bool) (joined : ℤ) (line printed : List ℕ) (pc to : ℕ) (texts : Texts A C F) (stored row count b : ℕ)
+    (place : ℕ → ℕ) (is_row is_index : ℕ → Bool) (kinds : ℕ → Kind) (start : Storage) (finals : List Final) (after entry : List ℤ) (rows : Storage) (d : Data F) where
   pub record PlacedAfter (m : Storage) : Type 0 where
     pub count' : ℕ
     pub slots : List ℤ
     pub data' : Data F
     pub reach : steps meaning count' (stands meaning code joined line printed pc entry d) ≡ stands meaning code joined line printed to slots data'
+    pub quiet : StaysQuiet meaning is_quiet count' (stands meaning code joined line printed pc entry d)
+    pub rows_are : data'.rows ≡ rows
     pub kept : data'.kept ≡ None
     pub parts : data'.parts ≡ 0
     pub size : length slots ≡ length entry

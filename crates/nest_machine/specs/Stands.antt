@@ -1,7 +1,7 @@
 -- The machine between two instructions of a nest, and code at a place.
-use Rattle.std.specs.Prelude.{◌≡◌, ℕ, ◌+◌, List, [], ◌∷◌, ℤ}
+use Rattle.std.specs.Prelude.{◌≡◌, ℕ, ◌+◌, ◌<◌, List, [], ◌∷◌, ℤ, Bool, true}
 use Rattle.machine_steps.specs.Instr.{Running, Instr}
-use Rattle.machine_steps.specs.Machine.{Machine, instr_at}
+use Rattle.machine_steps.specs.Machine.{Machine, instr_at, steps}
 use Rattle.nest_machine.specs.Trace.{Data}
 
 module _ {C F : Type 0} (meaning : C → Instr F) (code : List C) (joined : ℤ) (line printed : List ℕ) where
@@ -20,8 +20,14 @@ module _ {C F : Type 0} (meaning : C → Instr F) (code : List C) (joined : ℤ)
     printed = printed;
   }
 
-module _ {C F : Type 0} (meaning : C → Instr F) (code : List C) where
-  -- the code has instructions that mean these, from a place on
+-- Some places of the code are quiet, in whatever sense, so that a run can be told that comes to no other place
+module _ {C F : Type 0} (meaning : C → Instr F) (code : List C) (is_quiet : ℕ → Bool) where
+  -- the code has instructions that mean these, from a place on, all at quiet places
   abbrev pub HasAt : ℕ → List (Instr F) → Type 0
   HasAt pc [] = Unit {0}
-  HasAt pc (i ∷ is) = (instr_at meaning code pc ≡ i) × HasAt (pc + 1) is
+  HasAt pc (i ∷ is) = ((instr_at meaning code pc ≡ i) × (is_quiet pc ≡ true)) × HasAt (pc + 1) is
+
+module _ {C F : Type 0} (meaning : C → Instr F) (is_quiet : ℕ → Bool) where
+  -- each of so many steps begins at a quiet place
+  abbrev pub StaysQuiet : ℕ → Machine C F → Type 0
+  StaysQuiet k m = (j : ℕ) → j < k → is_quiet (steps meaning j m).control.at ≡ true

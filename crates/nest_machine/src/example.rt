@@ -12,7 +12,7 @@ ghost use Rattle.nest_machine.specs.Placed.{IsPlace, PlacedMean, PlacedTexts};
 ghost use Rattle.nest_machine.specs.PlacedEntry.{IsPlacedMemory};
 ghost use Rattle.nest_machine.specs.PlacedEnds.{IsPlacedFinal};
 ghost use Rattle.nest_machine.specs.Finals.{Lasts};
-ghost use Rattle.nest_machine.specs.Example.{example_texts, example_counting, example_body, example_finals, example_size, example_layout, example_code, as_it_is};
+ghost use Rattle.nest_machine.specs.Example.{everywhere, example_texts, example_counting, example_body, example_finals, example_size, example_layout, example_code, as_it_is};
 ghost use Rattle.nest_machine.specs.Example.{example_slots, example_data, example_kinds, example_start, example_place, example_rows, example_indices};
 ghost use Rattle.nest_machine.specs.Example.{example_interpretation, example_action, example_condition};
 
@@ -21,7 +21,7 @@ use node_run::least_of_parts;
 /// The nest meets the premises of the law.
 pub fn example_meets()
     ensures counting { IsCounting example_counting }
-    ensures has { HasAt as_it_is example_code 0 example_code }
+    ensures has { HasAt as_it_is example_code everywhere 0 example_code }
     ensures takes { TakeSteps example_counting example_indices example_body }
     ensures mean { PlacedMean example_texts example_interpretation example_action example_condition example_place example_rows example_indices 2 example_slots }
     ensures fit { PlacedTexts example_texts example_size example_layout 2 1 1 example_place example_rows example_indices

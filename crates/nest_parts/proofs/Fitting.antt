@@ -21,7 +21,7 @@ use Rattle.nest_items.specs.Standing.{Stands, AllStand}
 use Rattle.nest_parts.specs.NestParts.{IsGood}
 use Rattle.nest_items.proofs.Storing.{scalar-at, array-at, by_cases, if_so, if_not, state-scalars, state-arrays}
 use Rattle.nest_items.proofs.IndexFits.{zero_fits, set_fits}
-use Rattle.nest_parts.proofs.OperatorRanges.{operators_fit}
+use Rattle.fitting_states.proofs.OperatorRanges.{operators_fit}
 use Rattle.nest_parts.proofs.Nearness.{element_value}
 
 pub good_set : (kinds : ℕ → Kind) (s : State) (x : ℕ) (p : Sequence) (j : ℕ) → IsGood kinds s → IsGood kinds (set_scalar s x (turn_value p j))

@@ -4,7 +4,6 @@ mod Clashes
 mod EachItem
 mod Rows
 mod Parallel
-mod OperatorRanges
 mod Fitting
 mod MayCopies
 mod Late

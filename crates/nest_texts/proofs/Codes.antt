@@ -13,15 +13,17 @@ use Rattle.machine_steps.specs.SameLayouts.{is_same_layout}
 use Rattle.node_code.specs.Flat.{Flat, Int, Slot, Operated, NoFlat, AndFlat, slot, slots_value}
 use Rattle.node_code.specs.Forms.{Sub}
 use Rattle.node_code.specs.Parallel.{at_line}
-use Rattle.node_code.specs.Instructions.{ArrayTable, set_result, go_if, Set, Trips, Jump, JumpIfZero, Verdict, FoldCopy, LastCopy, meaning_of}
+use Rattle.node_code.specs.NestStatements.{iterations_at}
+use Rattle.node_code.specs.Instructions.{ArrayTable, Instruction, MakeCopies, set_result, go_if, Set, Jump, Verdict, FoldCopy, LastCopy, meaning_of}
 use Rattle.nest_machine.specs.Body.{count_body, count_arms}
 use Rattle.nest_machine.specs.Asked.{guard_asked, tested_asked}
 use Rattle.nest_machine.specs.BodyCode.{Texts, copy_spot, mark_code, text_code, test_tuples, loop_code, body_code, arms_code}
 use Rattle.nest_machine.specs.Finals.{Final, Folds, Lasts, finals_code}
 use Rattle.nest_machine.specs.Entries.{Entry, finals_entries, conditions_entries, nest_entries, entries_code, nest_code}
-use Rattle.nest_texts.specs.NestTexts.{NestText, NestTest, iterations_at, nest_texts}
+use Rattle.nest_texts.specs.NestTexts.{NestText, NestTest, nest_texts}
+use Rattle.nest_texts.proofs.Statements.{assigning-means, testing-means, setting-else, setting-mark}
 use Rattle.nest_texts.specs.NestLoops.{counting_at}
-use Rattle.nest_texts.specs.NestInstructions.{Assigns, SetsMark, nest_layout, NestInstructions, FlatBounds, NestBody, NoText, AndText, AndIf, AndLoop, NestArms, NoArm, AndArm, bounds_of, body_of, arms_of, count_nest, count_nest_arms, CantFault, AreSafe, ArmsAreSafe, tail_instructions, loop_instructions, finals_instructions, finals_makes, conditions_makes, mark_instructions, text_instructions, test_part, body_instructions, arms_instructions, nest_instructions}
+use Rattle.nest_texts.specs.NestInstructions.{nest_layout, FlatBounds, NestBody, NoText, AndText, AndIf, AndLoop, NestArms, NoArm, AndArm, bounds_of, body_of, arms_of, count_nest, count_nest_arms, CantFault, AreSafe, ArmsAreSafe, tail_instructions, loop_instructions, finals_instructions, finals_makes, conditions_makes, mark_instructions, text_instructions, test_instruction, body_instructions, arms_instructions, nest_instructions}
 
 set-safe : (line x : ℕ) (f : Flat) → CantFault f → (table : ArrayTable) → meaning_of table (Set line x f) ≡ Local (λ c. set_slot c x (slots_value c.slots f))
 set-safe line x f safe table = λ i. Local (λ (c : Control Fault). set_result (at_line line (safe c.slots i)) x c)
@@ -42,46 +44,43 @@ module _ {A C : Type 0} where
     arms-same NoArm = refl
     arms-same (AndArm test body others) = λ j. 1 + counts-same body j + arms-same others j
 
-module _ {T : Type 0} (table : ArrayTable) (among : NestInstructions table T) (line : ℕ) where
-  abbrev means : List T → List (Instr Fault)
-  means = map among.meaning
+module _ (table : ArrayTable) (line : ℕ) where
+  abbrev means : List Instruction → List (Instr Fault)
+  means = map (meaning_of table)
 
   -- one piece of code after another
-  both-mean : (is js : List T) (cs ds : List (Instr Fault)) → means is ≡ cs → means js ≡ ds → means (is ++ js) ≡ cs ++ ds
-  both-mean is js cs ds h g = map-append among.meaning is js ∙ (λ j. h j ++ g j)
+  both-mean : (is js : List Instruction) (cs ds : List (Instr Fault)) → means is ≡ cs → means js ≡ ds → means (is ++ js) ≡ cs ++ ds
+  both-mean is js cs ds h g = map-append (meaning_of table) is js ∙ (λ j. h j ++ g j)
 
-  same-length : (is : List T) (cs : List (Instr Fault)) → means is ≡ cs → length is ≡ length cs
-  same-length is cs h = sym (length-map is among.meaning) ∙ ap length h
+  same-length : (is : List Instruction) (cs : List (Instr Fault)) → means is ≡ cs → length is ≡ length cs
+  same-length is cs h = sym (length-map is (meaning_of table)) ∙ ap length h
 
   -- ---- inner loops
 
-  loop-means : (bounds : FlatBounds) (b pc : ℕ) (body : List T) (bcode : List (Instr Fault)) → CantFault bounds.first × CantFault bounds.last × CantFault bounds.step
-      → means body ≡ bcode → means (loop_instructions table among line bounds b pc body) ≡ loop_code (counting_at line) (bounds_of bounds) b pc bcode
+  loop-means : (bounds : FlatBounds) (b pc : ℕ) (body : List Instruction) (bcode : List (Instr Fault)) → CantFault bounds.first × CantFault bounds.last × CantFault bounds.step
+      → means body ≡ bcode → means (loop_instructions line bounds b pc body) ≡ loop_code (counting_at line) (bounds_of bounds) b pc bcode
   loop-means bounds b pc body bcode safe h =
       let l : length body ≡ length bcode = same-length body bcode h in
-      let tail : List T = tail_instructions table among line bounds b (pc + 5) (pc + 5 + length body + 5) in
-      let next = Set line b (Operated op.Add (AndFlat (Slot b) (AndFlat (Slot (b + 2)) NoFlat))) in
-      let less = Set line (b + 3) (Operated op.Sub (AndFlat (Slot (b + 3)) (AndFlat (Int (pos 1)) NoFlat))) in
-      λ j. (among.old_means (Set line b bounds.first) ∙ set-safe line b bounds.first safe.0 table) j
-      ∷ (among.old_means (Set line (b + 1) bounds.last) ∙ set-safe line (b + 1) bounds.last safe.1 table) j
-      ∷ (among.old_means (Set line (b + 2) bounds.step) ∙ set-safe line (b + 2) bounds.step safe.2 table) j
-      ∷ among.old_means (Set line bounds.index (Slot b)) j
-      ∷ (among.old_means (Trips line b (b + 1) (b + 2) (b + 3) (pc + 5 + length body + 5)) ∙ (λ k. Local ((counting_at line).trips b (pc + 5 + l k + 5)))) j
-      ∷ (map-append among.meaning body tail
+      let tail : List Instruction = tail_instructions line bounds b (pc + 5) (pc + 5 + length body + 5) in
+      λ j. set-safe line b bounds.first safe.0 table j
+      ∷ set-safe line (b + 1) bounds.last safe.1 table j
+      ∷ set-safe line (b + 2) bounds.step safe.2 table j
+      ∷ meaning_of table (Set line bounds.index (Slot b))
+      ∷ Local ((counting_at line).trips b (pc + 5 + l j + 5))
+      ∷ (map-append (meaning_of table) body tail
       ∙ (λ k. h k
-      ++ among.old_means next k
-      ∷ among.old_means (Set line bounds.index (Slot b)) k
-      ∷ (among.old_means (JumpIfZero (pc + 5 + length body + 5) (b + 3))
-      ∙ (λ i. Local (λ (c : Control Fault). go-if (is_true (slot c.slots (b + 3))) (pc + 5 + l i + 5) c i))) k
-      ∷ among.old_means less k
-      ∷ among.old_means (Jump (pc + 5)) k ∷ [])) j
+      ++ meaning_of table (Set line b (Operated op.Add (AndFlat (Slot b) (AndFlat (Slot (b + 2)) NoFlat))))
+      ∷ meaning_of table (Set line bounds.index (Slot b))
+      ∷ Local (λ (c : Control Fault). go-if (is_true (slot c.slots (b + 3))) (pc + 5 + l k + 5) c k)
+      ∷ meaning_of table (Set line (b + 3) (Operated op.Sub (AndFlat (Slot (b + 3)) (AndFlat (Int (pos 1)) NoFlat))))
+      ∷ meaning_of table (Jump (pc + 5)) ∷ [])) j
 
   -- ---- the end of a nest, and its copies
 
-  finals-mean : (fs : List Final) → means (finals_instructions table among line fs) ≡ finals_code is_same_layout fs
+  finals-mean : (fs : List Final) → means (finals_instructions line fs) ≡ finals_code is_same_layout fs
   finals-mean [] = refl
-  finals-mean (Folds y r x ∷ fs) = λ j. among.old_means (FoldCopy r y x) j ∷ finals-mean fs j
-  finals-mean (Lasts r q x ∷ fs) = λ j. among.old_means (LastCopy r q x) j ∷ finals-mean fs j
+  finals-mean (Folds y r x ∷ fs) = λ j. meaning_of table (FoldCopy r y x) ∷ finals-mean fs j
+  finals-mean (Lasts r q x ∷ fs) = λ j. meaning_of table (LastCopy r q x) ∷ finals-mean fs j
 
   module _ (over : List Sub) where
     abbrev layout : List Layout → List ℤ → Layout
@@ -91,16 +90,16 @@ module _ {T : Type 0} (table : ArrayTable) (among : NestInstructions table T) (l
     entries-append [] ys = refl
     entries-append (e ∷ xs) ys = ap (λ cs. machine.MakeCopy e.row layout e.start ∷ cs) (entries-append xs ys)
 
-    makes-mean : (fs : List Final) → means (finals_makes table among line over fs) ≡ entries_code layout (finals_entries fs)
+    makes-mean : (fs : List Final) → means (finals_makes line over fs) ≡ entries_code layout (finals_entries fs)
     makes-mean [] = refl
-    makes-mean (Folds y r x ∷ fs) = λ j. among.make_means r over (Int (unit y)) j ∷ makes-mean fs j
-    makes-mean (Lasts r q x ∷ fs) = λ j. among.make_means r over (Slot x) j ∷ among.make_means q over (Int (pos 0)) j ∷ makes-mean fs j
+    makes-mean (Folds y r x ∷ fs) = λ j. meaning_of table (MakeCopies r over (Int (unit y))) ∷ makes-mean fs j
+    makes-mean (Lasts r q x ∷ fs) = λ j. meaning_of table (MakeCopies r over (Slot x)) ∷ meaning_of table (MakeCopies q over (Int (pos 0))) ∷ makes-mean fs j
 
-    conditions-mean : (stored count : ℕ) → means (conditions_makes table among line over stored count) ≡ entries_code layout (conditions_entries stored count)
+    conditions-mean : (stored count : ℕ) → means (conditions_makes line over stored count) ≡ entries_code layout (conditions_entries stored count)
     conditions-mean stored zero = refl
     conditions-mean stored (suc count) =
-        map-append among.meaning (conditions_makes table among line over stored count) (among.make (stored + count) over (Int (pos 0)) ∷ [])
-        ∙ (λ j. conditions-mean stored count j ++ among.make_means (stored + count) over (Int (pos 0)) j ∷ [])
+        map-append (meaning_of table) (conditions_makes line over stored count) (MakeCopies (stored + count) over (Int (pos 0)) ∷ [])
+        ∙ (λ j. conditions-mean stored count j ++ meaning_of table (MakeCopies (stored + count) over (Int (pos 0))) ∷ [])
         ∙ sym (entries-append (conditions_entries stored count) (record { row = stored + count; start = λ s. pos 0 } ∷ []))
 
     -- ---- bodies
@@ -109,14 +108,14 @@ module _ {T : Type 0} (table : ArrayTable) (among : NestInstructions table T) (l
       abbrev texts : Texts A C Fault
       texts = nest_texts table.shapes over text_of test_of
 
-      abbrev Is : NestBody A C → Option ℕ → (k b pc : ℕ) → List T
-      Is = body_instructions table among line over text_of test_of stored
+      abbrev Is : NestBody A C → Option ℕ → (k b pc : ℕ) → List Instruction
+      Is = body_instructions line over text_of test_of stored
 
-      abbrev ArmsIs : NestArms A C → Option ℕ → List ℕ → (k b pc : ℕ) → List T
-      ArmsIs = arms_instructions table among line over text_of test_of stored
+      abbrev ArmsIs : NestArms A C → Option ℕ → List ℕ → (k b pc : ℕ) → List Instruction
+      ArmsIs = arms_instructions line over text_of test_of stored
 
-      abbrev TextIs : Option ℕ → A → List T
-      TextIs = text_instructions table among line over text_of test_of stored
+      abbrev TextIs : Option ℕ → A → List Instruction
+      TextIs = text_instructions line over text_of test_of stored
 
       abbrev Code : NestBody A C → Option ℕ → (k b pc : ℕ) → List (Instr Fault)
       Code body = body_code texts (counting_at line) (iterations_at over) layout stored (body_of body)
@@ -124,21 +123,18 @@ module _ {T : Type 0} (table : ArrayTable) (among : NestInstructions table T) (l
       abbrev ArmsCode : NestArms A C → Option ℕ → List ℕ → (k b pc : ℕ) → List (Instr Fault)
       ArmsCode arms = arms_code texts (counting_at line) (iterations_at over) layout stored (arms_of arms)
 
-      marks-mean : (guard o : Option ℕ) → means (mark_instructions table among line over text_of test_of stored guard o) ≡ mark_code texts (iterations_at over) stored guard o
+      marks-mean : (guard o : Option ℕ) → means (mark_instructions line over text_of test_of stored guard o) ≡ mark_code texts (iterations_at over) stored guard o
       marks-mean guard None = refl
-      marks-mean guard (Some r) = λ j. among.par_means (record { over = over; stored = stored; asked = guard_asked guard; part = SetsMark r }) j ∷ []
+      marks-mean guard (Some r) = λ j. setting-mark table.shapes over stored (guard_asked guard) r j ∷ []
 
       text-means : (guard : Option ℕ) (a : A) → means (TextIs guard a) ≡ text_code texts (iterations_at over) stored guard a
-      text-means guard a =
-          λ j. among.par_means (record { over = over; stored = stored; asked = guard_asked guard; part = Assigns (text_of a) }) j ∷ marks-mean guard (text_of a).mark j
+      text-means guard a = λ j. assigning-means table.shapes over stored (guard_asked guard) (text_of a) j ∷ marks-mean guard (text_of a).mark j
 
       test-means : (guard : Option ℕ) (earlier : List ℕ) (test : Option C) (k : ℕ)
-          → among.meaning (among.par (record { over = over; stored = stored; asked = tested_asked guard earlier; part = test_part table among line over text_of test_of stored test (stored + k) }))
+          → meaning_of table (test_instruction line over text_of test_of stored (tested_asked guard earlier) test (stored + k))
           ≡ Par (test_tuples texts (iterations_at over) stored guard earlier test) (copy_spot (stored + k))
-      test-means guard earlier None k =
-          among.par_means (record { over = over; stored = stored; asked = tested_asked guard earlier; part = test_part table among line over text_of test_of stored None (stored + k) })
-      test-means guard earlier (Some c) k =
-          among.par_means (record { over = over; stored = stored; asked = tested_asked guard earlier; part = test_part table among line over text_of test_of stored (Some c) (stored + k) })
+      test-means guard earlier None k = setting-else table.shapes over stored (tested_asked guard earlier) (stored + k)
+      test-means guard earlier (Some c) k = testing-means table.shapes over stored (tested_asked guard earlier) (test_of c) (stored + k)
 
       mutual
         body-means : (body : NestBody A C) → AreSafe body → (guard : Option ℕ) (k b pc : ℕ) → means (Is body guard k b pc) ≡ Code body guard k b pc
@@ -159,7 +155,7 @@ module _ {T : Type 0} (table : ArrayTable) (among : NestInstructions table T) (l
         body-means (AndLoop bounds inner rest) safe guard k b pc =
             let i = Is inner guard k (b + 4) (pc + 5) in
             let e = Code inner guard k (b + 4) (pc + 5) in
-            let c = loop_instructions table among line bounds b pc i in
+            let c = loop_instructions line bounds b pc i in
             let d = loop_code (counting_at line) (bounds_of bounds) b pc e in
             let h : means c ≡ d = loop-means bounds b pc i e safe.0 (body-means inner safe.1 guard k (b + 4) (pc + 5)) in
             let l : length c ≡ length d = same-length c d h in
@@ -180,21 +176,21 @@ module _ {T : Type 0} (table : ArrayTable) (among : NestInstructions table T) (l
             (ArmsCode others guard (k ∷ earlier) (k + 1 + count_body (body_of body)) b (pc + 2 + length d)) h
             (arms-mean others safe.1 guard (k ∷ earlier) (k + 1 + count_nest body) b (pc + 2 + length c)
             ∙ (λ j. ArmsCode others guard (k ∷ earlier) (k + 1 + counts-same body j) b (pc + 2 + l j))) in
-            λ j. among.make_means (stored + k) over (Int (pos 0)) j ∷ test-means guard earlier test k j ∷ rest j
+            λ j. meaning_of table (MakeCopies (stored + k) over (Int (pos 0))) ∷ test-means guard earlier test k j ∷ rest j
 
       pub nest-means : (finals : List Final) (body : NestBody A C) (b pc : ℕ) → AreSafe body
-          → means (nest_instructions table among line over text_of test_of stored finals body b pc)
+          → means (nest_instructions line over text_of test_of stored finals body b pc)
           ≡ nest_code texts (counting_at line) (iterations_at over) layout stored is_same_layout finals (body_of body) b pc
       nest-means finals body b pc safe =
-          let c = finals_makes table among line over finals ++ conditions_makes table among line over stored (count_nest body) in
+          let c = finals_makes line over finals ++ conditions_makes line over stored (count_nest body) in
           let d = entries_code {F = Fault} layout (nest_entries finals stored (count_body (body_of body))) in
           let h : means c ≡ d =
-          map-append among.meaning (finals_makes table among line over finals) (conditions_makes table among line over stored (count_nest body))
+          map-append (meaning_of table) (finals_makes line over finals) (conditions_makes line over stored (count_nest body))
           ∙ (λ j. makes-mean finals j ++ (conditions-mean stored (count_nest body) ∙ (λ k. entries_code layout (conditions_entries stored (counts-same body k)))) j)
           ∙ sym (entries-append (finals_entries finals) (conditions_entries stored (count_body (body_of body)))) in
           let l : length c ≡ length d = same-length c d h in
-          both-mean c (Is body None 0 b (pc + length c) ++ among.old Verdict ∷ finals_instructions table among line finals) d
+          both-mean c (Is body None 0 b (pc + length c) ++ Verdict ∷ finals_instructions line finals) d
           (Code body None 0 b (pc + length d) ++ machine.Verdict ∷ finals_code is_same_layout finals) h
-          (both-mean (Is body None 0 b (pc + length c)) (among.old Verdict ∷ finals_instructions table among line finals) (Code body None 0 b (pc + length d))
+          (both-mean (Is body None 0 b (pc + length c)) (Verdict ∷ finals_instructions line finals) (Code body None 0 b (pc + length d))
           (machine.Verdict ∷ finals_code is_same_layout finals) (body-means body safe None 0 b (pc + length c) ∙ ap (λ n. Code body None 0 b (pc + n)) l)
-          (λ j. among.old_means Verdict j ∷ finals-mean finals j))
+          (λ j. machine.Verdict ∷ finals-mean finals j))

@@ -1,2 +1,3 @@
+pub mod Statements
 pub mod Counting
-mod Codes
+pub mod Codes

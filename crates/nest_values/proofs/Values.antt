@@ -1,5 +1,5 @@
 -- The form of a nest's expression has the value of the expression at the state of its iteration.
-use Rattle.std.proofs.Common.{◌≡◌, ℕ, zero, suc, ◌<◌, List, [], ◌∷◌, ◌++◌, length, map, take, slice_index_or, ℤ, pos, Option, Result, Ok, refl, sym, ap, ◌∙◌, arith, append-nil}
+use Rattle.std.proofs.Common.{◌≡◌, ℕ, zero, suc, ◌+◌, ◌<◌, List, [], ◌∷◌, ◌++◌, length, map, take, slice_index_or, ℤ, pos, Option, Result, Ok, refl, sym, ap, ◌∙◌, arith, append-nil}
 use Rattle.std.proofs.lemmas.List.{map-append}
 use Rattle.std.proofs.Math.Seq.{take-append_seam}
 use Rattle.expression_rules.specs.declared.dims.Dim.{Dim}
@@ -13,13 +13,13 @@ use Rattle.array_meaning.specs.Expressions.{value, values}
 use Rattle.machine_steps.specs.Machine.{value_by}
 use Rattle.node_code.specs.Flat.{flat_value, flat_values, or_zero}
 use Rattle.node_code.specs.Forms.{Sub, ArrayForm, selections_at, elemental_at, elementals_at}
-use Rattle.node_code.specs.Parallel.{spot_of, indices_in, reads_at, all_reads_at, value_by_reads}
-use Rattle.lowering.specs.ExpressionCode.{index_flat, index_flats, index_subs, index_form, index_forms}
-use Rattle.lowering.specs.WellFormed.{IsIndexed, AreSubscripts}
-use Rattle.lowering.proofs.Terms.{HoldsScalars, HoldsArrays}
-use Rattle.lowering.proofs.Scatter.{value-of-reads}
-use Rattle.lowering.proofs.Indexed.{subs-are, indexed-value, indexed-names}
-use Rattle.nest_texts.specs.NestTexts.{copy_spots, form_reads, form_value}
+use Rattle.node_code.specs.Parallel.{spot_of, shape_of, indices_in, reads_at, all_reads_at, value_by_reads, values_by_reads}
+use Rattle.node_code.specs.NestStatements.{row_spots, nest_elemental, nest_elementals, form_reads, form_value}
+use Rattle.lowered_expressions.specs.ExpressionCode.{index_flat, index_flats, index_subs, index_form, index_forms}
+use Rattle.lowered_expressions.specs.WellFormed.{IsIndexed, AreSubscripts}
+use Rattle.lowered_expressions.proofs.Terms.{HoldsScalars, HoldsArrays}
+use Rattle.lowered_expressions.proofs.Scatter.{value-of-reads}
+use Rattle.lowered_expressions.proofs.Indexed.{subs-are, indexed-value, indexed-names}
 use Rattle.nest_values.specs.NestTerms.{indexed, all_indexed, IsAlike, AreAlike, NamesFirst, AllNameFirst, SubscriptsFirst, AllSubscriptsFirst}
 
 -- ---- the state of an iteration
@@ -85,16 +85,56 @@ module _ (shapes : List (List Dim)) (slots xs ys : List ℤ) where
     all-reads-front NoTerm ok = refl
     all-reads-front (More t ts) ok = λ i. reads-front t ok.0 i ++ all-reads-front ts ok.1 i
 
+  -- so an expression has the value that it has where indices and copies are one list
+  mutual
+    nest-reads : (t : Term) → SubscriptsFirst (length xs) t
+        → reads_at shapes xs (nest_elemental slots xs (xs ++ ys) (index_form t)) ≡ reads_at shapes (xs ++ ys) (elemental_at slots (xs ++ ys) (index_form t))
+    nest-reads (Number v) ok = refl
+    nest-reads (Scalar k) ok = refl
+    nest-reads (Index k) ok = refl
+    nest-reads (Element a ts) ok = ap (λ is. spot_of shapes a is ∷ []) (sym (subs-front ts ok))
+    nest-reads (Section a subs) ok = refl
+    nest-reads (Apply o ts) ok = all-nest-reads ts ok
+    nest-reads (Reduce o t) ok = refl
+
+    all-nest-reads : (ts : Terms) → AllSubscriptsFirst (length xs) ts
+        → all_reads_at shapes xs (nest_elementals slots xs (xs ++ ys) (index_forms ts)) ≡ all_reads_at shapes (xs ++ ys) (elementals_at slots (xs ++ ys) (index_forms ts))
+    all-nest-reads NoTerm ok = refl
+    all-nest-reads (More t ts) ok = λ i. nest-reads t ok.0 i ++ all-nest-reads ts ok.1 i
+
+  mutual
+    value-front : (t : Term) (values : List ℤ) (from : ℕ) → SubscriptsFirst (length xs) t
+        → value_by_reads shapes xs values from (nest_elemental slots xs (xs ++ ys) (index_form t))
+        ≡ value_by_reads shapes (xs ++ ys) values from (elemental_at slots (xs ++ ys) (index_form t))
+    value-front (Number v) values from ok = refl
+    value-front (Scalar k) values from ok = refl
+    value-front (Index k) values from ok = refl
+    value-front (Element a ts) values from ok =
+        ap (λ is. if_in_bounds (element_place (shape_of shapes a) is) >>= (λ k. Ok (slice_index_or values from (pos 0)))) (sym (subs-front ts ok))
+    value-front (Section a subs) values from ok = refl
+    value-front (Apply o ts) values from ok = ap (λ r. r >>= operated o) (values-front ts values from ok)
+    value-front (Reduce o t) values from ok = refl
+
+    values-front : (ts : Terms) (values : List ℤ) (from : ℕ) → AllSubscriptsFirst (length xs) ts
+        → values_by_reads shapes xs values from (nest_elementals slots xs (xs ++ ys) (index_forms ts))
+        ≡ values_by_reads shapes (xs ++ ys) values from (elementals_at slots (xs ++ ys) (index_forms ts))
+    values-front NoTerm values from ok = refl
+    values-front (More t ts) values from ok =
+        (λ i. with_more (value-front t values from ok.0 i)
+        (values_by_reads shapes xs values (from + length (nest-reads t ok.0 i)) (nest_elementals slots xs (xs ++ ys) (index_forms ts))))
+        ∙ ap (λ r. with_more (value_by_reads shapes (xs ++ ys) values from (elemental_at slots (xs ++ ys) (index_form t))) r)
+        (values-front ts values (from + length (reads_at shapes (xs ++ ys) (elemental_at slots (xs ++ ys) (index_form t)))) ok.1)
+
 -- ---- the value of a text
 
-copies-many : (rows : Storage) (copies : List ℕ) (i : ℕ) → length (map (value_by (read rows)) (copy_spots copies i)) ≡ length copies
+copies-many : (rows : Storage) (copies : List ℕ) (i : ℕ) → length (map (value_by (read rows)) (row_spots copies i)) ≡ length copies
 copies-many rows [] i = refl
 copies-many rows (r ∷ rs) i = ap suc (copies-many rows rs i)
 
 module _ (n : ℕ) (shapes : List (List Dim)) (over : List Sub) (copies : List ℕ) (entry : State) (slots : List ℤ) (rows : Storage) (i : ℕ)
     (scalars : HoldsScalars n entry slots) (elements : HoldsArrays n shapes entry rows) where
   abbrev own : List ℤ
-  own = map (value_by (read rows)) (copy_spots copies i)
+  own = map (value_by (read rows)) (row_spots copies i)
 
   abbrev x : List ℤ
   x = indices_in over slots i
@@ -109,13 +149,14 @@ module _ (n : ℕ) (shapes : List (List Dim)) (over : List Sub) (copies : List �
       let f : ArrayForm = index_form t in
       let read_values : List ℤ = map (value_by (read rows)) (reads_at shapes x (elemental_at slots x f)) in
       let all : map (value_by (read rows)) (form_reads shapes over copies f slots i) ≡ own ++ read_values =
-      map-append (value_by (read rows)) (copy_spots copies i) (reads_at shapes x (elemental_at slots x f)) in
+      map-append (value_by (read rows)) (row_spots copies i) (reads_at shapes x (elemental_at slots x f)) in
       let many : length own ≡ length copies = copies-many rows copies i in
       let front_is : take (length copies) (own ++ read_values) ≡ own = ap (λ k. take k (own ++ read_values)) (sym many) ∙ take-append_seam own read_values in
       let same_reads : read_values ≡ map (value_by (read rows)) (reads_at shapes axes (elemental_at slots axes f)) =
       ap (map (value_by (read rows))) (sym (reads-front shapes slots x own t below)) in
       ap (λ vs. form_value shapes over copies f slots i vs) all
-      ∙ ap (λ ys. value_by_reads shapes (x ++ ys) (own ++ read_values) (length copies) (elemental_at slots (x ++ ys) f)) front_is
+      ∙ ap (λ ys. value_by_reads shapes x (own ++ read_values) (length copies) (nest_elemental slots x (x ++ ys) f)) front_is
+      ∙ value-front shapes slots x own t (own ++ read_values) (length copies) below
       ∙ (λ k. value_by_reads shapes axes (own ++ same_reads k) (sym many k) (elemental_at slots axes f))
       ∙ ap (λ vs. value_by_reads shapes axes (own ++ vs) (length own) (elemental_at slots axes f)) (sym (append-nil (map (value_by (read rows)) (reads_at shapes axes (elemental_at slots axes f)))))
       ∙ value-of-reads n shapes entry rows elements axes (elemental_at slots axes f) own [] (indexed-names n entry slots scalars axes t ok)

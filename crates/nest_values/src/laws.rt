@@ -10,10 +10,10 @@ ghost use Rattle.array_meaning.specs.Sections.{subscripts_at};
 ghost use Rattle.machine_steps.specs.Machine.{value_by};
 ghost use Rattle.node_code.specs.Flat.{slot};
 ghost use Rattle.node_code.specs.Forms.{Sub, selections_at};
-ghost use Rattle.node_code.specs.Parallel.{shape_of, indices_in};
-ghost use Rattle.lowering.specs.ExpressionCode.{index_form, index_subs};
-ghost use Rattle.lowering.specs.WellFormed.{IsIndexed, AreSubscripts};
-ghost use Rattle.nest_texts.specs.NestTexts.{copy_spots, form_reads, form_value};
+ghost use Rattle.node_code.specs.NestStatements.{form_reads, form_value, row_spots};
+ghost use Rattle.node_code.specs.Parallel.{indices_in, shape_of};
+ghost use Rattle.lowered_expressions.specs.ExpressionCode.{index_form, index_subs};
+ghost use Rattle.lowered_expressions.specs.WellFormed.{IsIndexed, AreSubscripts};
 ghost use Rattle.nest_values.specs.NestTerms.{indexed, all_indexed, IsAlike, AreAlike, SubscriptsFirst};
 
 /// Over slots and rows that hold the state at a nest's entry the form of an expression has the value that the expression has in the state
@@ -24,7 +24,7 @@ pub fn nest_values()
         → ((k : ℕ) → k < n → slot slots k ≡ scalar entry k) → length entry.scalars ≡ n
         → ((a : ℕ) → a < n → row_of rows a ≡ (array entry a).elements) → ((a : ℕ) → a < n → (array entry a).dims ≡ shape_of shapes a)
         → let x = indices_in over slots i in
-        let own = map (value_by (read rows)) (copy_spots copies i) in
+        let own = map (value_by (read rows)) (row_spots copies i) in
         let f = index_form (indexed index_of t) in
         IsIndexed n (indexed index_of t) → SubscriptsFirst (length x) (indexed index_of t) → IsAlike index_of (x ++ own) entry s t
         → form_value shapes over copies f slots i (map (value_by (read rows)) (form_reads shapes over copies f slots i)) ≡ value [] s t }

@@ -1,6 +1,6 @@
 //! What the texts of an INDEPENDENT nest come to on the machine: the values of its expressions.
 //!
-//! Comes in: the texts of a nest as forms at index tuples (`nest_texts`), and FORALL's forms with their laws (`lowering`). Goes out: a nest's
+//! Comes in: statements of a nest as forms at index tuples (`node_code`), and FORALL's forms with their laws (`lowered_expressions`). Goes out: a nest's
 //! expression as one of FORALL, as a definition in `specs/`, and two laws, each the contract of a function that does nothing: over slots and
 //! rows that hold a state the form of an expression has the value that the expression has in the state of its iteration, faults included
 //! (`nest_values`), and so have subscripts on the left (`nest_subscripts`).

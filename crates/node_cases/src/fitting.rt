@@ -42,11 +42,15 @@ fn instruction_fits(
 {
     match i {
         Instruction::Par(p) | Instruction::ParForall(p) => p.over.len() <= MAX_RANK,
+        Instruction::ParNest(p) => p.over.len() <= MAX_RANK,
         Instruction::ParCopy { evaluation, .. }
         | Instruction::ParForallCopy { evaluation, .. }
         | Instruction::Reduce { evaluation, .. } => evaluation.over.len() <= MAX_RANK,
         Instruction::MakeCopy { copy, evaluation } => {
             (declared <= *copy) & (evaluation.over.len() <= MAX_RANK)
+        }
+        Instruction::MakeCopies { copy, over, .. } => {
+            (declared <= *copy) & (over.len() <= MAX_RANK)
         }
         Instruction::Remap { new, .. } => mappings_fit(declared, tables, owners, new),
         _ => true,

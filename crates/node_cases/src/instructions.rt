@@ -4,6 +4,9 @@
 //! - `set L s1 = X`, `fetch L s1 = R (..)`, `store L R (..) = X`, `bounds L R (..)`, `stride L s1`, `jump P`, `unless s1 jump P`, `halt`
 //! - `trips L s1 s2 s3 left s4 else P`: the slots of the first value, the last value and the step
 //! - `limits`, `par` and `forall`: `L R (..) = F over (..)`, and after it `where R` or `unless R` for a mask
+//! - `nest`: `L ROLE LEFT = F over (..)`, where `assigns`, `tests`, `else` or `mark` is the role, and `R (..)` or the copy `R` what is assigned; after
+//!   it `reads ( R .. )` for the copies whose values are the axes after those of the indices, and any number of `where R` and `unless R`
+//! - `makecopies R = X over (..)`: copies of a nest, one for each of its iterations
 //! - `ownlimits`, `parcopy`, `forallcopy` and `makecopy`: `L R = F over (..)`, for the copy R
 //! - `reduce L s1 = sum F over (..)`, `foralllimits L over (..) of (..)`, `onetoone L over (..) of (..)`, `verdict`, `inside L R (..)`
 //! - `print` and items: `text WORD`, `number X`, `section R (..)`
@@ -11,6 +14,7 @@
 //! - `remap`: what the next REDISTRIBUTE of the text says
 
 use crate::expressions::{read_flat, read_flats, read_form, read_subs};
+use crate::nests::{read_copies, read_nest};
 use crate::words::Words;
 use node_code::{Assignment, Evaluation, Instruction, NewMapping, PrintItem, When};
 use op_tables::{Join, Made, Reduction};
@@ -57,6 +61,7 @@ fn read_instruction(
             copy: words.row(),
         },
         "lastcopy" => read_last(words),
+        "makecopies" => read_copies(alloc, words),
         word => read_with_line(alloc, word, words),
     }
 }
@@ -233,6 +238,7 @@ fn read_parallel(alloc: Global, word: &str, line: u32, words: &mut Words<'_>) ->
         "limits" => Instruction::Limits(read_assignment(alloc, line, words)),
         "par" => Instruction::Par(read_assignment(alloc, line, words)),
         "forall" => Instruction::ParForall(read_assignment(alloc, line, words)),
+        "nest" => Instruction::ParNest(read_nest(alloc, line, words)),
         "reduce" => read_reduce(alloc, line, words),
         "foralllimits" => Instruction::ForallLimits {
             line,
@@ -264,7 +270,8 @@ fn read_of_copy(alloc: Global, word: &str, line: u32, words: &mut Words<'_>) -> 
     }
 }
 
-fn read_over(alloc: Global, words: &mut Words<'_>) -> Vec<node_code::Sub> {
+/// Takes the subscripts of a space.
+pub fn read_over(alloc: Global, words: &mut Words<'_>) -> Vec<node_code::Sub> {
     words.skip("over");
     read_subs(alloc, words)
 }
@@ -288,7 +295,8 @@ fn read_assignment(alloc: Global, line: u32, words: &mut Words<'_>) -> Assignmen
     }
 }
 
-fn read_mask(words: &mut Words<'_>) -> Option<When> {
+/// Takes a mask, if one stands there.
+pub fn read_mask(words: &mut Words<'_>) -> Option<When> {
     let word = words.word();
     if word.is_empty() {
         return None;

@@ -23,6 +23,7 @@ mod expressions;
 mod fitting;
 mod instructions;
 mod layouts;
+mod nests;
 mod opening;
 mod outcome;
 mod show;

@@ -27,6 +27,7 @@ use Rattle.node_code.specs.Flat.{Flat, Flats, slot, flat_value, flat_values, slo
 use Rattle.node_code.specs.Forms.{Sub, selections_in}
 use Rattle.node_code.specs.Parallel.{at_line, shape_of, spot_of, Assignment, assignment_size, assignment_tuples, assigned_spot, Evaluation, evaluation_extents, evaluation_size, evaluation_tuples, reduction_tuples, fold_of, copy_spot, forall_tuples, forall_spot, forall_mask_tuples}
 use Rattle.node_code.specs.ForallLimits.{forall_limits, one_to_one}
+use Rattle.node_code.specs.NestStatements.{NestStatement, nest_tuples, nest_spot, copies_extents}
 use Rattle.node_code.specs.NestChecks.{entry_state}
 
 -- an item of a PRINT: bytes, a number over the slots, or the elements of a section
@@ -70,6 +71,9 @@ pub data Instruction : Type 0 where
   -- an assignment at the tuples of its space, and one of a FORALL
   Par : Assignment → Instruction
   ParForall : Assignment → Instruction
+  -- a statement of a nest of INDEPENDENT loops, and copies of a nest, by their row, one for each iteration, with their value at the start
+  ParNest : NestStatement → Instruction
+  MakeCopies : (copy : ℕ) → (over : List Sub) → (start : Flat) → Instruction
   -- a copy, by its row, of the extents of an array expression, with 0 everywhere, and its values into the copy; also those of a FORALL's
   -- mask
   MakeCopy : (copy : ℕ) → Evaluation → Instruction
@@ -184,6 +188,9 @@ meaning_of table (OneToOne line over left) = Local (λ c. go_on_if (at_line line
 meaning_of table (Check line mark) = Local (λ c. go_on_if (at_line line (entered mark (entry_state table.shapes c.slots))) c)
 meaning_of table (Par p) = machine.Par (assignment_tuples table.shapes p) (assigned_spot table.shapes p)
 meaning_of table (ParForall p) = machine.Par (forall_tuples table.shapes p) (forall_spot table.shapes p)
+meaning_of table (ParNest p) = machine.Par (nest_tuples table.shapes p) (nest_spot table.shapes p)
+meaning_of table (MakeCopies copy over start) =
+    machine.MakeCopy copy (λ layouts slots. table.copies layouts (copies_extents over slots)) (λ slots. slots_value slots start)
 meaning_of table (MakeCopy copy p) = machine.MakeCopy copy (λ layouts slots. table.copies layouts (evaluation_extents p slots)) (λ slots. pos 0)
 meaning_of table (ParCopy copy p) = machine.Par (evaluation_tuples table.shapes p) (copy_spot copy)
 meaning_of table (ParForallCopy copy p) = machine.Par (forall_mask_tuples table.shapes p) (copy_spot copy)

@@ -8,8 +8,9 @@ use Rattle.expression_rules.specs.declared.dims.Dim.{Dim}
 use Rattle.node_code.specs.Flat.{Flat, Int, Slot, Axis, Read, Operated, Flats, NoFlat, AndFlat}
 use Rattle.node_code.specs.Forms.{Sub, SubAt, SubAlong, ArrayForm, FlatForm, SectionForm, OperationForm, Forms, NoForm, AndForm}
 use Rattle.node_code.specs.Parallel.{When, Assignment, Evaluation, shape_of}
+use Rattle.node_code.specs.NestStatements.{NestLeft, ElementLeft, CopyLeft, NestStatement}
 use Rattle.node_code.specs.Instructions as code
-use Rattle.node_code.specs.Instructions.{PrintItem, PrintBytes, PrintNumber, PrintSection, NewMapping, Instruction, Set, Fetch, Store, TestBounds, TestStride, Trips, Jump, JumpIfZero, Halt, Limits, OwnLimits, ForallLimits, OneToOne, Check, Par, ParForall, MakeCopy, ParCopy, ParForallCopy, Verdict, Inside, Print, FoldCopy, LastCopy, Remap}
+use Rattle.node_code.specs.Instructions.{PrintItem, PrintBytes, PrintNumber, PrintSection, NewMapping, Instruction, Set, Fetch, Store, TestBounds, TestStride, Trips, Jump, JumpIfZero, Halt, Limits, OwnLimits, ForallLimits, OneToOne, Check, Par, ParForall, ParNest, MakeCopies, MakeCopy, ParCopy, ParForallCopy, Verdict, Inside, Print, FoldCopy, LastCopy, Remap}
 
 -- what code names things of: the dimensions of the declared names by their places, how many copies have rows after them, and how many
 -- mappings, slots and places of the code there are
@@ -102,6 +103,30 @@ module _ (table : CodeTable) where
   abbrev pub IsEvaluation : ℕ → Evaluation → Type 0
   IsEvaluation axes p = IsForm axes p.form × IsSpace p.over
 
+  -- ---- statements of nests
+
+  abbrev mutual
+    -- what is evaluated: subscripts over the indices, and what stands outside of them over these and the copies
+    pub IsNestForm : (axes values : ℕ) → ArrayForm → Type 0
+    IsNestForm axes values (FlatForm f) = IsFlat values f
+    IsNestForm axes values (SectionForm a subs) = IsSection axes a subs
+    IsNestForm axes values (OperationForm o fs) = AreNestForms axes values fs
+
+    pub AreNestForms : (axes values : ℕ) → Forms → Type 0
+    AreNestForms axes values NoForm = ⊤
+    AreNestForms axes values (AndForm f fs) = IsNestForm axes values f × AreNestForms axes values fs
+
+  abbrev pub IsNestLeft : ℕ → NestLeft → Type 0
+  IsNestLeft axes (ElementLeft a subs) = IsSection axes a subs
+  IsNestLeft axes (CopyLeft row) = IsCopy row
+
+  pub record IsNestStatement (p : NestStatement) : Type 0 where
+    pub over : IsSpace p.over
+    pub whens : AllByRecursion (λ w. IsCopy w.copy) p.whens
+    pub copies : AllByRecursion IsCopy p.copies
+    pub left : IsNestLeft (length p.over) p.left
+    pub right : IsNestForm (length p.over) (length p.over + length p.copies) p.right
+
   -- ---- instructions
 
   -- an item of a PRINT
@@ -132,6 +157,8 @@ module _ (table : CodeTable) where
   IsValid (Check line mark) = ⊤
   IsValid (Par p) = IsAssignment 0 p
   IsValid (ParForall p) = IsAssignment (length p.over) p
+  IsValid (ParNest p) = IsNestStatement p
+  IsValid (MakeCopies copy over start) = IsCopy copy × IsSpace over × IsFlat 0 start
   IsValid (MakeCopy copy p) = IsCopy copy × IsEvaluation (length p.over) p
   IsValid (ParCopy copy p) = IsCopy copy × IsEvaluation 0 p
   IsValid (ParForallCopy copy p) = IsCopy copy × IsEvaluation (length p.over) p

@@ -5,7 +5,7 @@ ghost use Rattle.node_code.specs.Instructions.{Print};
 ghost use Rattle.node_code.specs.Texts as text;
 ghost use Rattle.node_code.specs.Texts.{instructions};
 ghost use Rattle.resolved_program.specs.Resolved.{item, subscripts_of};
-ghost use Rattle.lowering.specs.ExpressionCode.{subs_of, subscripts_code, own_evaluation};
+ghost use Rattle.lowered_expressions.specs.ExpressionCode.{subs_of, subscripts_code, own_evaluation};
 ghost use Rattle.node_code.specs.Forms.{SectionForm};
 ghost use Rattle.array_meaning.specs.Statements.{Elements};
 ghost use Rattle.lowering.specs.StatementCode as definition;

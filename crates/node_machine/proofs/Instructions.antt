@@ -9,7 +9,7 @@ use Rattle.machine_steps.specs.Instr.{Control, Instr, Local}
 use Rattle.machine_steps.specs.Machine.{finish, instr_at, instr_of}
 use Rattle.machine_steps.specs.Node.{Node, begun_by, done_by}
 use Rattle.node_code.specs.FaultValues.{fault_values}
-use Rattle.node_code.specs.Instructions.{Instruction, Fetch, Store, Par, ParForall, MakeCopy, ParCopy, ParForallCopy, Verdict, Reduce, Print, FoldCopy, LastCopy, Remap, meaning_of}
+use Rattle.node_code.specs.Instructions.{Instruction, Fetch, Store, Par, ParForall, ParNest, MakeCopies, MakeCopy, ParCopy, ParForallCopy, Verdict, Reduce, Print, FoldCopy, LastCopy, Remap, meaning_of}
 use Rattle.node_code.specs.ProgramText.{Text, table_on, text, text_meaning, texts}
 use Rattle.node_code.specs.Texts.{instruction, instructions}
 use Rattle.node_code.specs.declared.instruction.Instruction.{Instruction as HeldInstruction}
@@ -67,6 +67,8 @@ module _ (nodes : ℕ) (maps : List Mapping) (shapes : List (List Dim)) where
   local-meaning (Store line b fs f) is = cc
   local-meaning (Par p) is = cc
   local-meaning (ParForall p) is = cc
+  local-meaning (ParNest p) is = cc
+  local-meaning (MakeCopies copy over start) is = cc
   local-meaning (MakeCopy copy p) is = cc
   local-meaning (ParCopy copy p) is = cc
   local-meaning (ParForallCopy copy p) is = cc

@@ -1,5 +1,5 @@
 -- No public clause cites this file. Copies that are made.
-use Rattle.std.specs.Prelude.{◌≡◌, ◌≤◌, All, ℕ, ℤ, pos, List, length}
+use Rattle.std.specs.Prelude.{◌≡◌, ◌≤◌, All, ℕ, ℤ, List, length}
 use Rattle.hpf_base.specs.declared.limits.TheConstants.{MAX_ELEMENTS, MAX_RANK}
 use Rattle.hpf_base.specs.ElementOrder.{product}
 use Rattle.array_meaning.specs.Faults.{Fault}
@@ -14,7 +14,7 @@ pub record IsMade (i : Instr Fault) (nodes : ℕ) (slots : List ℤ) (m : MadeCo
   pub start : List ℤ → ℤ
   pub is : i ≡ MakeCopy m.copy layout start
   pub lies : (layouts : List Layout) → layout layouts slots ≡ layout_of nodes m.extents.items
-  pub zero : start slots ≡ pos 0
+  pub starts : start slots ≡ m.start
   pub rank : length m.extents.items ≤ MAX_RANK
   pub each : All (λ extent. extent ≤ MAX_ELEMENTS) m.extents.items
   pub size : product m.extents.items ≤ MAX_ELEMENTS

@@ -10,9 +10,10 @@ use Rattle.machine_steps.specs.Node.{Node, begun_by, local_outcome, local_scatte
 use Rattle.expression_rules.specs.declared.dims.Dim.{Dim}
 use Rattle.node_code.specs.FaultValues.{fault_values}
 use Rattle.node_code.specs.Instructions.{ArrayTable, Instruction, meaning_of}
+use Rattle.node_code.specs.NestStatements.{nest_spot, nest_tuples}
 use Rattle.node_code.specs.Parallel.{assigned_spot, assignment_tuples, copy_spot, evaluation_tuples, forall_mask_tuples, forall_spot, forall_tuples}
 use Rattle.node_code.specs.ProgramText.{Text, text_meaning}
-use Rattle.node_code.specs.Texts.{assignment, evaluation, instruction}
+use Rattle.node_code.specs.Texts.{assignment, evaluation, instruction, nest_statement}
 use Rattle.slot_values.specs.KeptFaults.{kepts}
 use Rattle.part_steps.specs.Stores.{stored}
 use Rattle.part_steps.specs.declared.parallel.ParValues.{ParValues}
@@ -22,7 +23,7 @@ use Rattle.node_machine.specs.Exchanges.{IsExchangeHere}
 use Rattle.node_machine.specs.declared.parts.Opening.{Opening}
 use Rattle.node_machine.specs.declared.parts.ParStep.{ParStep}
 use Rattle.node_machine.specs.declared.parts.Parallel.{Parallel}
-use Rattle.node_machine.specs.declared.parts.Parallel.TheVariants.{Assignment, Forall, Copy, ForallCopy}
+use Rattle.node_machine.specs.declared.parts.Parallel.TheVariants.{Assignment, Forall, Nest, Copy, ForallCopy}
 use Rattle.node_machine.specs.declared.phases.PartPhase.{PartPhase}
 
 -- the instruction is what a text means
@@ -34,6 +35,7 @@ pub record IsCode (i : Instr Fault) (text : Instruction) : Type 0 where
 abbrev pub par_instr : List (List Dim) → Parallel → Instr Fault
 par_instr shapes (Assignment p) = Par (assignment_tuples shapes (assignment p.now)) (assigned_spot shapes (assignment p.now))
 par_instr shapes (Forall p) = Par (forall_tuples shapes (assignment p.now)) (forall_spot shapes (assignment p.now))
+par_instr shapes (Nest p) = Par (nest_tuples shapes (nest_statement p.now)) (nest_spot shapes (nest_statement p.now))
 par_instr shapes (Copy p) = Par (evaluation_tuples shapes (evaluation p.evaluation.now)) (copy_spot p.copy)
 par_instr shapes (ForallCopy p) = Par (forall_mask_tuples shapes (evaluation p.evaluation.now)) (copy_spot p.copy)
 

@@ -11,9 +11,11 @@ use Rattle.machine_steps.specs.Node.{Node, begun_by, done_by}
 use Rattle.machine_steps.specs.Rounds.{rounds_on}
 use Rattle.node_code.specs.FaultValues.{fault_values}
 use Rattle.node_code.specs.Instructions.{Instruction, PrintSection, item_of}
+use Rattle.node_code.specs.Flat.{slots_value}
+use Rattle.node_code.specs.NestStatements.{copies_extents}
 use Rattle.node_code.specs.Parallel.{evaluation_extents, fold_of}
 use Rattle.node_code.specs.ProgramText.{Text, text_meaning}
-use Rattle.node_code.specs.Texts.{evaluation, subs}
+use Rattle.node_code.specs.Texts.{evaluation, flat, subs}
 use Rattle.machine_steps.specs.CopyLayout.{copy_layout}
 use Rattle.machine_steps.specs.SameLayouts.{is_same_layout}
 use Rattle.slot_values.specs.LocalInstructions.{is_local}
@@ -55,6 +57,8 @@ Does i nodes k (step.ReduceValues r) = IsReducing i k r
 Does i nodes k step.ReduceVerdict = IsReduceVerdict i k
 Does i nodes k (step.ReduceTree r) = IsReduceTree i k r
 Does i nodes k (step.MakeCopy p) = i ≡ machine.MakeCopy p.copy (λ layouts slots. copy_layout nodes (evaluation_extents (evaluation p.evaluation.now) slots)) (λ slots. pos 0)
+Does i nodes k (step.MakeCopies p) =
+    i ≡ machine.MakeCopy p.copy (λ layouts slots. copy_layout nodes (copies_extents (subs p.over.now.items) slots)) (λ slots. slots_value slots (flat p.start.now))
 Does i nodes k (step.PrintText t) = IsPrintedText i k t
 Does i nodes k (step.PrintSection s) = IsPrintedSection i k s
 Does i nodes k step.PrintLine = PrintsLine i k
@@ -84,6 +88,7 @@ IsStepAt code at nodes k s = Does (instr_at text_meaning code at) nodes k s
 -- the shapes of those by which they are mapped anew
 abbrev pub StepFits : ℕ → List Shape → Step → Type 0
 StepFits nodes rows (step.MakeCopy p) = length (evaluation p.evaluation.now).over ≤ MAX_RANK
+StepFits nodes rows (step.MakeCopies p) = length (subs p.over.now.items) ≤ MAX_RANK
 StepFits nodes rows (step.Remap new) = MappingsFit nodes rows new
 StepFits nodes rows s = ⊤
 

@@ -4,8 +4,10 @@ ghost use Rattle.std.specs.Prelude.{◌≡◌, ◌<◌, ◌≤◌, ◌^◌, All,
 ghost use Rattle.machine_steps.specs.Instr.{MakeCopy};
 ghost use Rattle.machine_steps.specs.Layout.{owned_by, piece, size_of};
 ghost use Rattle.machine_steps.specs.Machine.{on};
+ghost use Rattle.node_code.specs.Flat.{slots_value};
+ghost use Rattle.node_code.specs.NestStatements.{copies_extents};
 ghost use Rattle.node_code.specs.Parallel.{evaluation_extents};
-ghost use Rattle.node_code.specs.Texts.{evaluation};
+ghost use Rattle.node_code.specs.Texts.{evaluation, flat, subs};
 ghost use Rattle.hpf_base.specs.declared.limits.TheConstants.{MAX_ELEMENTS, MAX_RANK};
 ghost use Rattle.hpf_base.specs.ElementOrder.{product};
 ghost use Rattle.machine_steps.specs.CopyLayout.{copy_extents, copy_layout, layout_of};
@@ -14,9 +16,9 @@ ghost use Rattle.node_machine.specs.Steps.{instr_here};
 
 use crate::node::Node;
 use hpf_base::OutOfMemory;
-use node_code::Evaluation;
+use node_code::{Evaluation, Flat, Sub};
 use owner_tables::{OwnerTable, Row};
-use slot_values::{copy_extents, selections_at};
+use slot_values::{copy_extents, flat_or_zero, selections_at};
 use std::alloc::Global;
 use term_values::extents;
 
@@ -27,11 +29,20 @@ pub(crate) struct Copying<'a> {
     pub(crate) evaluation: &'a Evaluation,
 }
 
-/// A copy that is made: its row and its extents.
+/// Copies of a nest: their row, the indices of the nest, and the value that all have at the start.
+#[derive(Clone, Copy)]
+pub(crate) struct NestCopies<'a> {
+    pub(crate) copy: usize,
+    pub(crate) over: &'a Vec<Sub>,
+    pub(crate) start: &'a Flat,
+}
+
+/// A copy that is made: its row, its extents, and the value that it has everywhere.
 #[derive(Drop)]
 pub(crate) struct MadeCopy {
     pub(crate) copy: usize,
     pub(crate) extents: Vec<u32>,
+    pub(crate) start: i64,
 }
 
 impl Node {
@@ -41,54 +52,71 @@ impl Node {
         requires rank { length (evaluation p.evaluation.now).over ≤ MAX_RANK }
         ensures { IfOk result (λ m. IsMade (instr_here self.now) self.now.nodes self.now.control.slots m) }
     {
-        let extents = self.made_extents(p.evaluation)?;
+        let extents = self.made_extents(&p.evaluation.over)?;
         Ok(MadeCopy {
             copy: p.copy,
             extents,
+            start: 0,
         })
     }
 
-    /// The extents of a copy of the values of an array expression.
-    fn made_extents(&self, p: &Evaluation) -> Result<Vec<u32>, OutOfMemory>
-        requires { length (evaluation p.now).over ≤ MAX_RANK }
-        ensures value { IfOk result (λ v. v.items ≡ copy_extents (evaluation_extents (evaluation p.now) self.now.control.slots)) }
+    /// The copies of a nest that the instruction at the node's place makes.
+    pub(crate) fn made_for_nest(&self, p: NestCopies<'_>) -> Result<MadeCopy, OutOfMemory>
+        requires is { instr_here self.now ≡ MakeCopy p.copy (λ layouts slots. copy_layout self.now.nodes (copies_extents (subs p.over.now.items) slots)) (λ slots. slots_value slots (flat p.start.now)) }
+        requires rank { length (subs p.over.now.items) ≤ MAX_RANK }
+        ensures { IfOk result (λ m. IsMade (instr_here self.now) self.now.nodes self.now.control.slots m) }
+    {
+        let extents = self.made_extents(p.over)?;
+        let start = flat_or_zero(&self.control.slots, &[], p.start)?;
+        Ok(MadeCopy {
+            copy: p.copy,
+            extents,
+            start,
+        })
+    }
+
+    /// The extents of a copy that has an element for each tuple of a space.
+    fn made_extents(&self, over: &[Sub]) -> Result<Vec<u32>, OutOfMemory>
+        requires { length (subs over.now) ≤ MAX_RANK }
+        ensures value { IfOk result (λ v. v.items ≡ copy_extents (copies_extents (subs over.now) self.now.control.slots)) }
         ensures rank { IfOk result (λ v. length v.items ≤ MAX_RANK) }
         ensures each { IfOk result (λ v. All (λ extent. extent ≤ MAX_ELEMENTS) v.items) }
         ensures size { IfOk result (λ v. product v.items ≤ MAX_ELEMENTS) }
     {
-        let over = selections_at(self.alloc, &self.control.slots, &[], &p.over)?;
+        let over = selections_at(self.alloc, &self.control.slots, &[], over)?;
         let space = extents(self.alloc, &over)?;
         let made = copy_extents(self.alloc, &space)?;
         Ok(made)
     }
 
-    /// Puts the copy that the instruction at the node's place makes, with 0 everywhere, into its row. For want of memory nothing changes.
+    /// Puts the copy that the instruction at the node's place makes, with one value everywhere, into its row. For want of memory nothing
+    /// changes.
     pub(crate) fn put_copy(&mut self, made: MadeCopy) -> Result<(), OutOfMemory>
         requires in_code { self.old.control.at < 2 ^ 63 }
         requires made { IsMade (instr_here self.old) self.old.nodes self.old.control.slots made }
         ensures ok { OnOk result (let layout = layout_of self.old.nodes made.extents.items in self.new ≡ record self.old {
           control = on self.old.control;
           substep = 0;
-          pieces = slice_set self.old.pieces made.copy (piece (owned_by layout) self.old.id (replicate (size_of layout) (pos 0)));
+          pieces = slice_set self.old.pieces made.copy (piece (owned_by layout) self.old.id (replicate (size_of layout) made.start));
           layouts = slice_set self.old.layouts made.copy layout;
         }) }
         ensures err { OnErr result (self.new ≡ self.old) }
     {
         let table = OwnerTable::of_copy(self.alloc, self.owners.nodes(), &made.extents)?;
-        let zeros = zeros(self.alloc, &table, self.id)?;
+        let values = piece_of_one(self.alloc, &table, self.id, &made.start)?;
         self.owners.set(made.copy, table);
-        set_piece(&mut self.pieces, made.copy, zeros);
+        set_piece(&mut self.pieces, made.copy, values);
         self.go_on();
         Ok(())
     }
 }
 
-/// The node's piece of a row of zeros.
-fn zeros(alloc: Global, table: &OwnerTable, id: u32) -> Result<Row, OutOfMemory>
+/// The node's piece of a row that has one value everywhere.
+fn piece_of_one(alloc: Global, table: &OwnerTable, id: u32, value: &i64) -> Result<Row, OutOfMemory>
     requires { id < table.now.nodes }
-    ensures { IfOk result (λ row. row ≡ piece (owned_by table.now.layout) id (replicate (size_of table.now.layout) (pos 0))) }
+    ensures { IfOk result (λ row. row ≡ piece (owned_by table.now.layout) id (replicate (size_of table.now.layout) value.now)) }
 {
-    let row = Row::of_one(alloc, 0, table.owned(id))?;
+    let row = Row::of_one(alloc, *value, table.owned(id))?;
     Ok(row)
 }
 

@@ -16,7 +16,7 @@ use crate::phases::PartPhase;
 use expression_rules::Dims;
 use hpf_base::OutOfMemory;
 use letters::Parcel;
-use node_code::{Assignment, Instruction};
+use node_code::{Assignment, Instruction, NestStatement};
 use part_steps::{ParValues, Part, Stores, Who, par_values};
 use std::collections::VecDeque;
 use tuple_values::ParallelStatement;
@@ -33,6 +33,7 @@ pub(crate) struct Opening {
 pub(crate) enum Parallel<'a> {
     Assignment(&'a Assignment),
     Forall(&'a Assignment),
+    Nest(&'a NestStatement),
     Copy(Copying<'a>),
     ForallCopy(Copying<'a>),
 }
@@ -63,6 +64,7 @@ impl Node {
             Parallel::Forall(p) => ParallelStatement::of_forall_assignment(
                 self.alloc, shapes, slots, p,
             ),
+            Parallel::Nest(p) => ParallelStatement::of_nest(self.alloc, shapes, slots, p),
             Parallel::Copy(p) => ParallelStatement::of_evaluation(
                 self.alloc,
                 shapes,

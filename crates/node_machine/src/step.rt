@@ -10,7 +10,7 @@ ghost use Rattle.node_program.specs.Fits.{fits_rows};
 ghost use Rattle.node_program.specs.Programs.{code_of, mappings_of};
 ghost use Rattle.node_machine.specs.Steps.{IsInCode, IsStepAt, StepFits, TextDoes};
 
-use crate::copies::Copying;
+use crate::copies::{Copying, NestCopies};
 use crate::elements::{Fetching, Storing};
 use crate::folds::Folding;
 use crate::last_values::LastValue;
@@ -41,6 +41,8 @@ pub(crate) enum Step<'a> {
     /// The values of all nodes, joined.
     ReduceTree(Reduction),
     MakeCopy(Copying<'a>),
+    /// Copies of a nest.
+    MakeCopies(NestCopies<'a>),
     /// Bytes of a PRINT.
     PrintText(PrintedText<'a>),
     /// The elements of a section of it.
@@ -119,6 +121,16 @@ fn step_of<'a>(program: &'a NodeProgram, i: &'a Instruction, substep: usize) -> 
             i,
             shapes,
             statement: Parallel::Forall(p),
+        }),
+        Instruction::ParNest(p) => Step::Par(ParStep {
+            i,
+            shapes,
+            statement: Parallel::Nest(p),
+        }),
+        Instruction::MakeCopies { copy, over, start } => Step::MakeCopies(NestCopies {
+            copy: *copy,
+            over,
+            start,
         }),
         Instruction::MakeCopy { copy, evaluation } => Step::MakeCopy(Copying {
             copy: *copy,

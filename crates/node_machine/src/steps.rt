@@ -55,6 +55,10 @@ impl Node {
                 let made = self.made(p)?;
                 self.put_copy(made)
             }
+            Step::MakeCopies(p) => {
+                let made = self.made_for_nest(p)?;
+                self.put_copy(made)
+            }
             Step::PrintText(t) => {
                 let bytes = self.text(t)?;
                 self.print_bytes(&bytes)
@@ -99,6 +103,7 @@ impl Node {
             Step::ReduceVerdict => self.finish_reduce_verdict(),
             Step::ReduceTree(r) => self.finish_reduce_tree(r),
             Step::MakeCopy(_) => Ok(()),
+            Step::MakeCopies(_) => Ok(()),
             Step::PrintText(_) => Ok(()),
             Step::PrintSection(s) => {
                 let bytes = self.section_bytes(s)?;

@@ -15,7 +15,7 @@ use Rattle.machine_steps.specs.Instr as machine
 use Rattle.machine_steps.specs.Layout.{Layout, size_of, sizes}
 use Rattle.machine_steps.specs.Machine.{instr_at, remapped, with_mapping}
 use Rattle.node_code.specs.Forms.{Sub, SubAt, SubAlong, selections_at}
-use Rattle.node_code.specs.Instructions.{Instruction, NewMapping, Par, ParForall, ParCopy, ParForallCopy, Reduce, MakeCopy, Remap, meaning_of}
+use Rattle.node_code.specs.Instructions.{Instruction, NewMapping, Par, ParForall, ParNest, MakeCopies, ParCopy, ParForallCopy, Reduce, MakeCopy, Remap, meaning_of}
 use Rattle.node_code.specs.ProgramText.{table_on, text_meaning, texts}
 use Rattle.node_code.specs.Texts.{instructions, new_mapping}
 use Rattle.node_code.specs.declared.instruction.NewMapping.{NewMapping as HeldMapping}
@@ -125,6 +125,9 @@ module _ (nodes : ℕ) (maps : List Mapping) (shapes : List (List Dim)) (tables 
   made-after (MakeCopy copy' p) copy layout start e h =
       let le : length shapes ≤ copy' = leb-true (length shapes) copy' (and_parts (nat_le (length shapes) copy') (nat_le (length p.over) MAX_RANK) h).0 in
       subst (λ k. length shapes ≤ k) (ap copy_row e) le
+  made-after (MakeCopies copy' over first) copy layout start e h =
+      let le : length shapes ≤ copy' = leb-true (length shapes) copy' (and_parts (nat_le (length shapes) copy') (nat_le (length over) MAX_RANK) h).0 in
+      subst (λ k. length shapes ≤ k) (ap copy_row e) le
   made-after i copy layout start e h = cc
 
   made-after-all : (xs : List Instruction) (at copy : ℕ) (layout : List Layout → List ℤ → Layout) (start : List ℤ → ℤ)
@@ -156,8 +159,10 @@ module _ (declared : ℕ) (tables : List TableView) (rows : List Shape) (copy : 
       let both = and_parts (list_all (λ n. nat_lt n.array declared) new) (list_all (fits_row tables rows) new) h in
       and_from _ _ both.0 (mappings-kept new both.0 both.1)
   instruction-kept (MakeCopy k p) h = h
+  instruction-kept (MakeCopies k over start) h = h
   instruction-kept (Par p) h = h
   instruction-kept (ParForall p) h = h
+  instruction-kept (ParNest p) h = h
   instruction-kept (ParCopy k p) h = h
   instruction-kept (ParForallCopy k p) h = h
   instruction-kept (Reduce p r x) h = h

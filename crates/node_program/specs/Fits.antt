@@ -5,7 +5,7 @@ use Rattle.hpf_base.specs.declared.index.Shape.{Shape}
 use Rattle.hpf_base.specs.declared.limits.TheConstants.{MAX_RANK}
 use Rattle.machine_steps.specs.Layout.{Layout}
 use Rattle.machine_steps.specs.SameLayouts.{is_same_shape}
-use Rattle.node_code.specs.Instructions.{Instruction, NewMapping, Par, ParForall, ParCopy, ParForallCopy, Reduce, MakeCopy, Remap}
+use Rattle.node_code.specs.Instructions.{Instruction, NewMapping, Par, ParForall, ParNest, MakeCopies, ParCopy, ParForallCopy, Reduce, MakeCopy, Remap}
 use Rattle.node_code.specs.Texts.{instructions}
 use Rattle.owner_tables.specs.Views.{TableView}
 use Rattle.node_program.specs.declared.program.NodeProgram.{NodeProgram}
@@ -29,6 +29,8 @@ fits_row tables rows new = is_shaped_by (slice_get tables new.map) (slice_get ro
 abbrev pub fits_rows : ℕ → List TableView → List Shape → Instruction → Bool
 fits_rows declared tables rows (Par p) = nat_le (length p.over) MAX_RANK
 fits_rows declared tables rows (ParForall p) = nat_le (length p.over) MAX_RANK
+fits_rows declared tables rows (ParNest p) = nat_le (length p.over) MAX_RANK
+fits_rows declared tables rows (MakeCopies copy over start) = nat_le declared copy && nat_le (length over) MAX_RANK
 fits_rows declared tables rows (ParCopy copy p) = nat_le (length p.over) MAX_RANK
 fits_rows declared tables rows (ParForallCopy copy p) = nat_le (length p.over) MAX_RANK
 fits_rows declared tables rows (Reduce p r x) = nat_le (length p.over) MAX_RANK

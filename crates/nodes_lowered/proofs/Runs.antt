@@ -13,7 +13,7 @@ use Rattle.array_meaning.specs.Serial.{End}
 use Rattle.mappings.specs.declared.mapping.Mapping.{Mapping}
 use Rattle.statement_trail.specs.Trail.{Trail, serial_trail}
 use Rattle.passed_states.specs.TrailLayouts.{trail_layouts}
-use Rattle.lowering.specs.Passed.{IsTrail, passed}
+use Rattle.lowered_expressions.specs.Passed.{IsTrail, passed}
 use Rattle.passed_states.proofs.PassedLayouts.{maps-now}
 use Rattle.passed_states.proofs.Places.{entry-passed}
 use Rattle.passed_states.proofs.TrailMoves.{trail-moves}

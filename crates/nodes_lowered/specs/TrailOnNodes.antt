@@ -13,7 +13,7 @@ use Rattle.machine_steps.specs.Machine.{Machine}
 use Rattle.node_code.specs.FaultValues.{fault_values}
 use Rattle.node_code.specs.Instructions.{Instruction, NewMapping, remappings}
 use Rattle.node_code.specs.ProgramText.{text, text_meaning}
-use Rattle.lowering.specs.Passed.{Passed, IsTrailEntry, passed_now}
+use Rattle.lowered_expressions.specs.Passed.{Passed, IsTrailEntry, passed_now}
 use Rattle.node_run.specs.Coded.{with_code}
 use Rattle.nodes_lowered.specs.ProgramRuns.{program_shapes, text_opening}
 

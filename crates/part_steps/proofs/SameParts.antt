@@ -1,7 +1,8 @@
 -- By slots that agree on all that an instruction mentions, it is the same part.
-use Rattle.std.proofs.Common.{◌≡◌, ℕ, ◌+◌, List, [], ◌∷◌, ◌++◌, ℤ, Bool, true, false, true≢false, Some, Ok, refl, ap, sym}
+use Rattle.std.proofs.Common.{◌≡◌, ℕ, ◌+◌, List, [], ◌∷◌, ◌++◌, ℤ, Bool, true, false, true≢false, Option, Some, Ok, refl, ap, sym, option_map}
 use Rattle.std.specs.Prelude.{◌==◌, ◌&&◌}
 use Rattle.std.proofs.lemmas.Bool.Decides.{Decides-int_eq}
+use Rattle.array_meaning.specs.State.{element_place}
 use Rattle.machine_steps.specs.Space.{space_count}
 use Rattle.op_tables.specs.Operators.{wrapped}
 use Rattle.array_meaning.specs.declared.sections.Selection.TheVariants.{At, Along}
@@ -14,8 +15,9 @@ use Rattle.node_code.specs.Flat.{Flat, Int, Slot, Axis, Read, Operated, Flats, N
 use Rattle.node_code.specs.Forms.{Sub, SubAt, SubAlong, ArrayForm, FlatForm, SectionForm, OperationForm, Forms, NoForm, AndForm, sequence_in, selections_at, elemental_at, elementals_at}
 use Rattle.node_code.specs.Instructions as code
 use Rattle.node_code.specs.Instructions.{ArrayTable, Instruction, meaning_of}
-use Rattle.node_code.specs.Parallel.{Assignment, Evaluation, indices_in, mask_reads, reads_at, spot_of}
-use Rattle.part_steps.specs.Agreement.{agree_at, agree_on_flat, agree_on_flats, agree_on_subs, agree_on_form, agree_on_forms, agree_on_assignment, agree_on_evaluation, agree_on}
+use Rattle.node_code.specs.NestStatements.{NestLeft, ElementLeft, CopyLeft, NestStatement, left_row, nest_place, row_spots, when_spots}
+use Rattle.node_code.specs.Parallel.{Assignment, Evaluation, indices_in, mask_reads, reads_at, shape_of, spot_of}
+use Rattle.part_steps.specs.Agreement.{agree_at, agree_on_flat, agree_on_flats, agree_on_subs, agree_on_form, agree_on_forms, agree_on_assignment, agree_on_evaluation, agree_on_left, agree_on_nest, agree_on}
 use Rattle.part_steps.specs.InstructionParts.{instruction_part}
 
 both : (a b : Bool) → (a && b) ≡ true → (a ≡ true) × (b ≡ true)
@@ -96,6 +98,28 @@ module _ (old new : List ℤ) where
           computes = λ node t. computes_left layouts node (in_bounds layouts (spot_of table.shapes p.array (subscripts_at (left (indices t i) i) (indices t i))));
         })
 
+    -- what is assigned in an iteration of a nest
+    left_same : (over : List Sub) (left : NestLeft) → agree_on_subs old new over ≡ true → agree_on_left old new left ≡ true → (t : ℕ)
+        → nest_place table.shapes over left old t ≡ nest_place table.shapes over left new t
+    left_same over (ElementLeft a ds) overs is t =
+        let indices : indices_in over old t ≡ indices_in over new t = indices_same over overs t in
+        let left : (axes : List ℤ) → selections_at old axes ds ≡ selections_at new axes ds = λ axes. selections_same axes ds is in
+        λ i. element_place (shape_of table.shapes a) (subscripts_at (left (indices i) i) (indices i))
+    left_same over (CopyLeft row) overs is t = refl
+
+    nest_same : (p : NestStatement) → agree_on_nest old new p ≡ true →
+        instruction_part nodes layouts old (meaning_of table (code.ParNest p)) ≡ instruction_part nodes layouts new (meaning_of table (code.ParNest p))
+    nest_same p is =
+        let over : selections_at old [] p.over ≡ selections_at new [] p.over = selections_same [] p.over (both _ _ is).0 in
+        let indices : (t : ℕ) → indices_in p.over old t ≡ indices_in p.over new t = indices_same p.over (both _ _ is).0 in
+        let left : (t : ℕ) → nest_place table.shapes p.over p.left old t ≡ nest_place table.shapes p.over p.left new t = left_same p.over p.left (both _ _ is).0 (both _ _ (both _ _ is).1).0 in
+        let right : (axes : List ℤ) → elemental_at old axes p.right ≡ elemental_at new axes p.right = λ axes. elemental_same axes p.right (both _ _ (both _ _ is).1).1 in
+        λ i. Some (record {
+          tuples = space_count (extents (over i));
+          reads = λ t. when_spots p.whens t ++ (row_spots p.copies t ++ reads_at table.shapes (indices t i) (right (indices t i) i));
+          computes = λ node t. computes_left layouts node (in_bounds layouts (option_map (λ k. record { row = left_row table.shapes p.over p.left; at = k }) (left t i)));
+        })
+
     evaluation_same : (copy : ℕ) (p : Evaluation) → agree_on_evaluation old new p ≡ true →
         instruction_part nodes layouts old (meaning_of table (code.ParCopy copy p)) ≡ instruction_part nodes layouts new (meaning_of table (code.ParCopy copy p))
     evaluation_same copy p is =
@@ -133,6 +157,7 @@ module _ (old new : List ℤ) where
     pub parts_same : (i : Instruction) → agree_on old new i ≡ true → instruction_part nodes layouts old (meaning_of table i) ≡ instruction_part nodes layouts new (meaning_of table i)
     parts_same (code.Par p) is = assignment_same p is
     parts_same (code.ParForall p) is = forall_same p is
+    parts_same (code.ParNest p) is = nest_same p is
     parts_same (code.ParCopy copy p) is = evaluation_same copy p is
     parts_same (code.ParForallCopy copy p) is = mask_same copy p is
     parts_same (code.Reduce p o x) is = reduction_same p o x is

@@ -6,6 +6,7 @@ use Rattle.node_code.specs.Flat.{Flat, Int, Slot, Axis, Read, Operated, Flats, N
 use Rattle.node_code.specs.Forms.{Sub, SubAt, SubAlong, ArrayForm, FlatForm, SectionForm, OperationForm, Forms, NoForm, AndForm}
 use Rattle.node_code.specs.Instructions as code
 use Rattle.node_code.specs.Instructions.{Instruction}
+use Rattle.node_code.specs.NestStatements.{NestLeft, ElementLeft, CopyLeft, NestStatement}
 use Rattle.node_code.specs.Parallel.{Assignment, Evaluation}
 
 abbrev pub agree_at : List ℤ → List ℤ → ℕ → Bool
@@ -47,10 +48,18 @@ agree_on_assignment old new p = agree_on_subs old new p.over && (agree_on_subs o
 abbrev pub agree_on_evaluation : List ℤ → List ℤ → Evaluation → Bool
 agree_on_evaluation old new p = agree_on_subs old new p.over && agree_on_form old new p.form
 
+abbrev pub agree_on_left : List ℤ → List ℤ → NestLeft → Bool
+agree_on_left old new (ElementLeft a ds) = agree_on_subs old new ds
+agree_on_left old new (CopyLeft row) = true
+
+abbrev pub agree_on_nest : List ℤ → List ℤ → NestStatement → Bool
+agree_on_nest old new p = agree_on_subs old new p.over && (agree_on_left old new p.left && agree_on_form old new p.right)
+
 -- a parallel statement or a reduction, and they agree on all that it mentions
 abbrev pub agree_on : List ℤ → List ℤ → Instruction → Bool
 agree_on old new (code.Par p) = agree_on_assignment old new p
 agree_on old new (code.ParForall p) = agree_on_assignment old new p
+agree_on old new (code.ParNest p) = agree_on_nest old new p
 agree_on old new (code.ParCopy copy p) = agree_on_evaluation old new p
 agree_on old new (code.ParForallCopy copy p) = agree_on_evaluation old new p
 agree_on old new (code.Reduce p o x) = agree_on_evaluation old new p

@@ -2,10 +2,12 @@
 
 ghost use Rattle.std.specs.Prelude.{◌≡◌, ◌≤◌, ◌+◌};
 ghost use Rattle.node_code.specs.Flat.{slot};
-ghost use Rattle.node_code.specs.Texts.{assignment, evaluation, flat, flats_of, form, forms_of, instruction, sub, subs};
-ghost use Rattle.part_steps.specs.Agreement.{agree_at, agree_on, agree_on_assignment, agree_on_evaluation, agree_on_flat, agree_on_flats, agree_on_form, agree_on_forms, agree_on_sub, agree_on_subs};
+ghost use Rattle.node_code.specs.Texts.{assignment, evaluation, flat, flats_of, form, forms_of, instruction, nest_left, nest_statement, sub, subs};
+ghost use Rattle.part_steps.specs.Agreement.{agree_at, agree_on, agree_on_assignment, agree_on_evaluation, agree_on_flat, agree_on_flats, agree_on_form, agree_on_forms, agree_on_left, agree_on_nest, agree_on_sub, agree_on_subs};
 
-use node_code::{ArrayForm, Assignment, Evaluation, Flat, Instruction, Sub};
+use node_code::{
+    ArrayForm, Assignment, Evaluation, Flat, Instruction, NestLeft, NestStatement, Sub,
+};
 use slot_values::slot;
 
 /// Whether the instruction is a parallel statement or a reduction, and the slots are the kept ones wherever it mentions them. It takes no memory.
@@ -15,6 +17,7 @@ pub fn agrees(i: &Instruction, kept: &[i64], slots: &[i64]) -> bool
     match i {
         Instruction::Par(p) => assignment_agrees(p, kept, slots),
         Instruction::ParForall(p) => assignment_agrees(p, kept, slots),
+        Instruction::ParNest(p) => nest_agrees(p, kept, slots),
         Instruction::ParCopy { evaluation, .. } => evaluation_agrees(evaluation, kept, slots),
         Instruction::ParForallCopy { evaluation, .. } => evaluation_agrees(evaluation, kept, slots),
         Instruction::Reduce { evaluation, .. } => evaluation_agrees(evaluation, kept, slots),
@@ -29,6 +32,25 @@ fn assignment_agrees(p: &Assignment, kept: &[i64], slots: &[i64]) -> bool
     subs_agree(&p.over, kept, slots)
         & subs_agree(&p.left, kept, slots)
         & form_agrees(&p.right, kept, slots)
+}
+
+/// Those of a statement of a nest.
+fn nest_agrees(p: &NestStatement, kept: &[i64], slots: &[i64]) -> bool
+    ensures { result ≡ agree_on_nest kept.now slots.now (nest_statement p.now) }
+{
+    subs_agree(&p.over, kept, slots)
+        & left_agrees(&p.left, kept, slots)
+        & form_agrees(&p.right, kept, slots)
+}
+
+/// Those of what is assigned in an iteration of a nest.
+fn left_agrees(left: &NestLeft, kept: &[i64], slots: &[i64]) -> bool
+    ensures { result ≡ agree_on_left kept.now slots.now (nest_left left.now) }
+{
+    match left {
+        NestLeft::Element(_, ds) => subs_agree(ds, kept, slots),
+        NestLeft::Copy(_) => true,
+    }
 }
 
 /// Those of an array expression over a space.

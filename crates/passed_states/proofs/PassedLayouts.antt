@@ -12,7 +12,7 @@ use Rattle.machine_steps.specs.Machine.{Machine, Kept, instr_at, instr_of, print
 use Rattle.machine_steps.specs.Agrees.{IsValidCode, IsValidInstr}
 use Rattle.node_code.specs.Instructions as code
 use Rattle.node_code.specs.Instructions.{Instruction, ArrayTable, meaning_of, remappings}
-use Rattle.lowering.specs.Passed.{Passed, note_at, note_while, passed, passed_now}
+use Rattle.lowered_expressions.specs.Passed.{Passed, note_at, note_while, passed, passed_now}
 use Rattle.passed_states.specs.PassedLayouts.{passed_layouts}
 
 take-set : {A : Type 0} (n c : ℕ) (xs : List A) (x : A) → n ≤ c → take n (slice_set xs c x) ≡ take n xs
@@ -109,6 +109,8 @@ module _ (table : ArrayTable) (count : ℕ) (shapes : List Shape) where
   one-layouts (code.Print items) (suc k) m e h v = ap (take n) (print-layouts _ _ m)
   one-layouts (code.MakeCopy copy p) zero m e h v = take-set n copy m.layouts _ v.0
   one-layouts (code.MakeCopy copy p) (suc k) m e h v = take-set n copy m.layouts _ v.0
+  one-layouts (code.MakeCopies copy over start) zero m e h v = take-set n copy m.layouts _ v.0
+  one-layouts (code.MakeCopies copy over start) (suc k) m e h v = take-set n copy m.layouts _ v.0
   one-layouts (code.Remap line new) zero m e h v = take-remapped n (remappings table.maps new) m.layouts
   one-layouts (code.Remap line new) (suc k) m e (inl z) v = absurd (omega (arith, z))
   one-layouts (code.Remap line new) (suc k) m e (inr l) v = absurd l

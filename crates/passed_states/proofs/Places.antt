@@ -8,7 +8,7 @@ use Rattle.machine_steps.specs.Instr.{Status, Running, Finished, Faulted}
 use Rattle.machine_steps.specs.Machine.{Machine, step, steps}
 use Rattle.node_code.specs.Instructions.{Instruction, NewMapping, ArrayTable, meaning_of, Par, ParForall, ParCopy, ParForallCopy, Reduce, Remap}
 use Rattle.passed_states.specs.Places.{IsPassed}
-use Rattle.lowering.specs.Passed.{Passed, IsTrailEntry, IsTrail, note, note_at, note_while, passed, passed_now}
+use Rattle.lowered_expressions.specs.Passed.{Passed, IsTrailEntry, IsTrail, note, note_at, note_while, passed, passed_now}
 
 -- nothing, or one
 abbrev Few : List Passed → Type 0

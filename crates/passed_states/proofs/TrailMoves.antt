@@ -7,7 +7,7 @@ use Rattle.node_code.specs.Instructions.{Instruction, NewMapping, Par, ParForall
 use Rattle.statement_trail.specs.Trail.{Event, Trail}
 use Rattle.passed_states.specs.TrailLayouts as trail
 use Rattle.passed_states.specs.TrailLayouts.{trail_layouts}
-use Rattle.lowering.specs.Passed.{IsTrail, IsEvent, Passed}
+use Rattle.lowered_expressions.specs.Passed.{IsTrail, IsEvent, Passed}
 use Rattle.passed_states.specs.PassedLayouts.{layouts_after, passed_layouts}
 
 module _ (maps : List Mapping) (moves : ℕ → List NewMapping) where

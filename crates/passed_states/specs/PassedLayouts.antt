@@ -4,7 +4,7 @@ use Rattle.mappings.specs.declared.mapping.Mapping.{Mapping}
 use Rattle.machine_steps.specs.Layout.{Layout}
 use Rattle.machine_steps.specs.Machine.{remapped}
 use Rattle.node_code.specs.Instructions.{Instruction, Remap, remappings}
-use Rattle.lowering.specs.Passed.{Passed}
+use Rattle.lowered_expressions.specs.Passed.{Passed}
 
 -- with these mappings of the program
 module _ (maps : List Mapping) where

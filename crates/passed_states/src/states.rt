@@ -11,7 +11,7 @@ ghost use Rattle.machine_steps.specs.Agrees.{IsValidCode};
 ghost use Rattle.machine_steps.specs.Layout.{Layout};
 ghost use Rattle.machine_steps.specs.Machine.{Machine, steps};
 ghost use Rattle.node_code.specs.Instructions.{ArrayTable, Instruction, NewMapping, meaning_of, remappings};
-ghost use Rattle.lowering.specs.Passed.{IsTrail, Passed, passed};
+ghost use Rattle.lowered_expressions.specs.Passed.{IsTrail, Passed, passed};
 ghost use Rattle.passed_states.specs.PassedLayouts.{passed_layouts};
 ghost use Rattle.passed_states.specs.Places.{IsPassed};
 

@@ -2,7 +2,7 @@
 use Rattle.std.proofs.Common.{◌≡◌, true, refl}
 use Rattle.std.proofs.lemmas.Bool.{false≢true}
 use Rattle.machine_steps.specs.Instr.{Local}
-use Rattle.node_code.specs.Instructions.{ArrayTable, Instruction, Set, Fetch, Store, TestBounds, TestStride, Trips, Jump, JumpIfZero, Halt, Limits, OwnLimits, ForallLimits, OneToOne, Check, Par, ParForall, MakeCopy, ParCopy, ParForallCopy, Verdict, Reduce, Inside, Print, FoldCopy, LastCopy, Remap, meaning_of}
+use Rattle.node_code.specs.Instructions.{ArrayTable, Instruction, Set, Fetch, Store, TestBounds, TestStride, Trips, Jump, JumpIfZero, Halt, Limits, OwnLimits, ForallLimits, OneToOne, Check, Par, ParForall, ParNest, MakeCopies, MakeCopy, ParCopy, ParForallCopy, Verdict, Reduce, Inside, Print, FoldCopy, LastCopy, Remap, meaning_of}
 use Rattle.slot_values.specs.LocalInstructions.{is_local, local_control}
 
 pub local_meaning : (table : ArrayTable) (i : Instruction) → is_local i ≡ true → meaning_of table i ≡ Local (local_control table.shapes i)
@@ -22,6 +22,8 @@ local_meaning table (OneToOne line over fs) h = refl
 local_meaning table (Check line mark) h = refl
 local_meaning table (Par p) h = absurd (false≢true h)
 local_meaning table (ParForall p) h = absurd (false≢true h)
+local_meaning table (ParNest p) h = absurd (false≢true h)
+local_meaning table (MakeCopies copy over start) h = absurd (false≢true h)
 local_meaning table (MakeCopy copy p) h = absurd (false≢true h)
 local_meaning table (ParCopy copy p) h = absurd (false≢true h)
 local_meaning table (ParForallCopy copy p) h = absurd (false≢true h)

@@ -37,6 +37,8 @@ pub fn is_local(i: &Instruction) -> bool
         Instruction::Check { .. } => true,
         Instruction::Par(_) => false,
         Instruction::ParForall(_) => false,
+        Instruction::ParNest(_) => false,
+        Instruction::MakeCopies { .. } => false,
         Instruction::MakeCopy { .. } => false,
         Instruction::ParCopy { .. } => false,
         Instruction::ParForallCopy { .. } => false,

@@ -1,4 +1,6 @@
 pub mod ByReads
+pub mod NestForms
+pub mod OfInstructions
 pub mod Operands
 pub mod Pairs
 pub mod SectionSubscripts

@@ -7,6 +7,7 @@ use Rattle.array_meaning.specs.Faults.{Cause, ◌>>=◌}
 use Rattle.array_meaning.specs.State.{element_place}
 use Rattle.array_meaning.specs.Sections.{subscripts_at}
 use Rattle.node_code.specs.Forms.{Sub, ArrayForm, Forms, selections_at, elemental_at, elementals_at}
+use Rattle.node_code.specs.NestStatements.{nest_elemental, nest_elementals}
 use Rattle.node_code.specs.Parallel.{shape_of, reads_at, all_reads_at}
 use Rattle.tuple_values.specs.declared.here.Here.{Here}
 use Rattle.tuple_values.specs.ByElements.{value_by_elements, values_by_elements}
@@ -26,10 +27,10 @@ abbrev pub all_reads_here : Here → Forms → List (Option Spot)
 all_reads_here h fs = all_reads_at h.shapes.now h.tuple.now (elementals_at h.slots.now h.axes.now fs)
 
 abbrev pub value_here : Here → (Spot → ℤ) → ArrayForm → Result ℤ Cause
-value_here h get f = value_by_elements h.shapes.now get h.tuple.now (elemental_at h.slots.now h.axes.now f)
+value_here h get f = value_by_elements h.shapes.now get h.tuple.now (nest_elemental h.slots.now h.axes.now h.seen.now f)
 
 abbrev pub values_here : Here → (Spot → ℤ) → Forms → Result (List ℤ) Cause
-values_here h get fs = values_by_elements h.shapes.now get h.tuple.now (elementals_at h.slots.now h.axes.now fs)
+values_here h get fs = values_by_elements h.shapes.now get h.tuple.now (nest_elementals h.slots.now h.axes.now h.seen.now fs)
 
 -- the value of an operator
 abbrev pub operation_here : Here → (Spot → ℤ) → Op → Forms → Result ℤ Cause

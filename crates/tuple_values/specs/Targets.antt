@@ -1,5 +1,6 @@
 -- What targets in code stand for.
 use Rattle.node_code.specs.Forms.{ArrayForm, SectionForm}
+use Rattle.node_code.specs.NestStatements.{NestLeft, ElementLeft, CopyLeft}
 use Rattle.node_code.specs.Texts.{form, subs}
 use Rattle.tuple_values.specs.declared.right.Right.{Right}
 use Rattle.tuple_values.specs.declared.right.Right.TheVariants as right
@@ -16,3 +17,8 @@ target (held.Indexed a ds) = ByIndices a (subs ds.now)
 abbrev pub form_of : Right → ArrayForm
 form_of (right.Form f) = form f.now
 form_of (right.Section a ds) = SectionForm a (subs ds.now)
+
+-- what is assigned in an iteration of a nest
+abbrev pub nest_target : NestLeft → Target
+nest_target (ElementLeft a ds) = ByIndices a ds
+nest_target (CopyLeft row) = InCopy row

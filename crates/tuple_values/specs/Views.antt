@@ -1,5 +1,5 @@
 -- What parallel statements in code are, apart from where they lie.
-use Rattle.std.specs.Prelude.{option_map}
+use Rattle.std.specs.Prelude.{map, option_map}
 use Rattle.node_code.specs.Texts.{when}
 use Rattle.tuple_values.specs.declared.statement.ParallelStatement.{ParallelStatement}
 use Rattle.tuple_values.specs.Statements.{Statement}
@@ -12,7 +12,9 @@ statement w = record {
   line = w.line;
   extents = w.space.extents.items;
   indices = option_map (λ ds. ds.items) w.space.indices;
-  mask = option_map when w.mask;
+  whens = map when w.whens.now;
+  copies = w.copies.now;
+  located = w.located;
   target = target w.target;
   form = form_of w.right;
   made = w.made;

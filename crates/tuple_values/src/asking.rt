@@ -3,21 +3,21 @@
 ghost use Rattle.std.specs.Prelude.{◌≡◌, ◌<◌, ◌++◌, map, IfErr, IfOk, Ok, OnOk};
 ghost use Rattle.machine_steps.specs.Instr.{Value};
 ghost use Rattle.machine_steps.specs.Machine.{value_by};
-ghost use Rattle.node_code.specs.Parallel.{as_asked, mask_reads, reads_at};
-ghost use Rattle.node_code.specs.Texts.{subs};
+ghost use Rattle.node_code.specs.Parallel.{as_asked, reads_at};
+ghost use Rattle.node_code.specs.Texts.{subs, when};
 ghost use Rattle.op_tables.specs.Operators.{is_true};
 ghost use Rattle.term_values.specs.Stops.{IsStop};
 ghost use Rattle.tuple_values.specs.ByElements.{value_by_elements};
 ghost use Rattle.tuple_values.specs.Outcomes.{outcome_view};
 ghost use Rattle.tuple_values.specs.Spots.{read_of, reads_of};
-ghost use Rattle.tuple_values.specs.Statements.{asked_by, asked_outcome, axes_in, bounded_value, made_by, entries, form_at, indexed_place, left_in, tuple_count, tuple_left, tuple_outcome, tuple_place, tuple_reads};
+ghost use Rattle.tuple_values.specs.Statements.{asked_by, asked_outcome, asks, axes_in, bounded_value, copied_by, made_by, entries, form_seeing, indexed_place, left_in, read_form, tuple_count, tuple_left, tuple_outcome, tuple_place, tuple_reads, value_at};
 ghost use Rattle.tuple_values.specs.Views.{statement};
 
 use crate::assigned::assigned_place;
 use crate::elements::Elements;
 use crate::here::Here;
 use crate::outcome::{Outcome, broken};
-use crate::reads::{form_reads, in_row, section_read};
+use crate::reads::{copy_reads, form_reads, in_row, mask_reads, section_read};
 use crate::right::Right;
 use crate::sections::section_place;
 use crate::statement::ParallelStatement;
@@ -25,8 +25,10 @@ use crate::target::Target;
 use crate::values::{form_value, section_value};
 use array_meaning::FaultKind;
 use hpf_base::OutOfMemory;
-use node_code::Sub;
+use node_code::{Sub, When};
 use op_tables::Made;
+use smallvec::SmallVec;
+use std::alloc::AllocError;
 use storage::Spot;
 use term_values::{Stop, fault};
 
@@ -93,20 +95,20 @@ impl<'a> ParallelStatement<'a> {
         section_place(&here, array, section)
     }
 
-    /// Puts the elements that are read at a tuple after the others, in order: first that of the mask, then those of the expression as
-    /// they stand in the text. None stands for what is no element.
+    /// Puts the elements that are read at a tuple after the others, in order: first those of the masks, then those of the copies, then those of
+    /// the expression as they stand in the text. None stands for what is no element.
     pub fn read(&self, tuple: usize, reads: &mut Vec<Option<Spot>>) -> Result<(), OutOfMemory>
         requires { tuple < tuple_count (statement self.now) }
         ensures { OnOk result (reads_of reads.new.items ≡ reads_of reads.old.items ++ tuple_reads (statement self.now) tuple) }
     {
-        self.read_mask(tuple, reads)?;
+        mask_reads(self.whens, tuple, reads)?;
+        copy_reads(self.copies, tuple, reads)?;
         let x = self.space.entries(tuple)?;
         self.read_form(x.as_slice(), reads)
     }
 
     /// What a tuple comes to at which this is the place of what is assigned. An element is asked for only where the value of the tuple needs
     /// it.
-    #[tactic(auto, using(crate::proofs::ByReads::where_not_asked))]
     pub fn outcome<E: Elements>(
         &self,
         tuple: usize,
@@ -117,14 +119,14 @@ impl<'a> ParallelStatement<'a> {
         requires place { place ≡ tuple_place (statement self.now) tuple }
         ensures { IfOk result (λ o. outcome_view o ≡ tuple_outcome (statement self.now) tuple (map (value_by (E.get elements.now)) (tuple_reads (statement self.now) tuple))) }
     {
-        if self.is_asked(tuple, elements) {
+        if is_asked(self.whens, tuple, elements) {
             self.asked_outcome(tuple, place, elements)
         } else {
             Ok(Outcome::Nothing)
         }
     }
 
-    /// What a tuple comes to that the mask asks for.
+    /// What a tuple comes to that the masks ask for.
     #[tactic(auto, using(crate::proofs::ByReads::has_value, crate::proofs::ByReads::is_broken))]
     fn asked_outcome<E: Elements>(
         &self,
@@ -142,25 +144,10 @@ impl<'a> ParallelStatement<'a> {
             Err(stop) => broken(
                 *self.space.extents.allocator(),
                 self.line,
+                self.located,
                 x.as_slice(),
                 stop,
             ),
-        }
-    }
-
-    /// Whether the mask asks for a tuple.
-    fn is_asked<E: Elements>(&self, tuple: usize, elements: &E) -> bool
-        ensures { result ≡ asked_by (E.get elements.now) (statement self.now).mask tuple }
-    {
-        match self.mask {
-            None => true,
-            Some(w) => {
-                let v = elements.value(Spot {
-                    row: w.copy,
-                    at: tuple,
-                });
-                as_asked(w.value, v)
-            }
         }
     }
 
@@ -179,16 +166,62 @@ impl<'a> ParallelStatement<'a> {
     {
         match place {
             None => Err(fault(FaultKind::Bounds)),
-            Some(_) => self.value_of_form(x, elements),
+            Some(_) => self.value_of_form(tuple, x, elements),
         }
     }
 
-    /// The value of the expression at these entries.
-    fn value_of_form<E: Elements>(&self, x: &[i64], elements: &E) -> Result<i64, Stop>
-        ensures value { IfOk result (λ v. value_by_elements (statement self.now).shapes (E.get elements.now) x.now (form_at (statement self.now) x.now) ≡ Ok v) }
-        ensures stopped { IfErr result (IsStop (value_by_elements (statement self.now).shapes (E.get elements.now) x.now (form_at (statement self.now) x.now))) }
+    /// The value of the expression at a tuple with these entries.
+    fn value_of_form<E: Elements>(&self, tuple: usize, x: &[i64], elements: &E) -> Result<i64, Stop>
+        ensures value { IfOk result (λ v. value_at (statement self.now) (E.get elements.now) tuple x.now ≡ Ok v) }
+        ensures stopped { IfErr result (IsStop (value_at (statement self.now) (E.get elements.now) tuple x.now)) }
     {
-        let here = self.here(x);
+        if self.copies.is_empty() {
+            return self.value_seeing(x, self.space.axes(x), elements);
+        }
+        self.value_with_copies(tuple, x, elements)
+    }
+
+    /// Its value where it reads copies.
+    #[inline(never)]
+    fn value_with_copies<E: Elements>(
+        &self,
+        tuple: usize,
+        x: &[i64],
+        elements: &E,
+    ) -> Result<i64, Stop>
+        ensures value { IfOk result (λ v. value_at (statement self.now) (E.get elements.now) tuple x.now ≡ Ok v) }
+        ensures stopped { IfErr result (IsStop (value_at (statement self.now) (E.get elements.now) tuple x.now)) }
+    {
+        let seen = self.seen(tuple, x, elements)?;
+        self.value_seeing(x, seen.as_slice(), elements)
+    }
+
+    /// The axes at a tuple with these entries, and after them the values of the copies.
+    fn seen<E: Elements>(
+        &self,
+        tuple: usize,
+        x: &[i64],
+        elements: &E,
+    ) -> Result<SmallVec<i64, 16>, AllocError>
+        ensures { IfOk result (λ vs. vs.items ≡ axes_in (statement self.now).indices x.now ++ copied_by (E.get elements.now) (statement self.now).copies tuple) }
+    {
+        let alloc = *self.space.extents.allocator();
+        let mut vs = SmallVec::from_slice(alloc, self.space.axes(x))?;
+        for row in self.copies {
+            vs.push(elements.value(Spot {
+                row: *row,
+                at: tuple,
+            }))?;
+        }
+        Ok(vs)
+    }
+
+    /// Its value at these entries where it sees these values outside of subscripts.
+    fn value_seeing<E: Elements>(&self, x: &[i64], seen: &[i64], elements: &E) -> Result<i64, Stop>
+        ensures value { IfOk result (λ v. value_by_elements (statement self.now).shapes (E.get elements.now) x.now (form_seeing (statement self.now) x.now seen.now) ≡ Ok v) }
+        ensures stopped { IfErr result (IsStop (value_by_elements (statement self.now).shapes (E.get elements.now) x.now (form_seeing (statement self.now) x.now seen.now))) }
+    {
+        let here = self.here_seeing(x, seen);
         match &self.right {
             Right::Form(f) => form_value(&here, f, elements),
             Right::Section(a, ds) => section_value(&here, *a, ds, elements),
@@ -197,7 +230,7 @@ impl<'a> ParallelStatement<'a> {
 
     /// Puts the elements that the expression reads at these entries after the others.
     fn read_form(&self, x: &[i64], reads: &mut Vec<Option<Spot>>) -> Result<(), OutOfMemory>
-        ensures { OnOk result (reads_of reads.new.items ≡ reads_of reads.old.items ++ reads_at (statement self.now).shapes x.now (form_at (statement self.now) x.now)) }
+        ensures { OnOk result (reads_of reads.new.items ≡ reads_of reads.old.items ++ reads_at (statement self.now).shapes x.now (read_form (statement self.now) x.now)) }
     {
         let here = self.here(x);
         match &self.right {
@@ -213,30 +246,49 @@ impl<'a> ParallelStatement<'a> {
         ensures axes { result.axes.now ≡ axes_in (statement self.now).indices x.now }
         ensures tuple { result.tuple.now ≡ x.now }
     {
+        self.here_seeing(x, self.space.axes(x))
+    }
+
+    /// The tuple with these entries, where expressions outside of subscripts see these values.
+    fn here_seeing<'b>(&'b self, x: &'b [i64], seen: &'b [i64]) -> Here<'b>
+        ensures shapes { result.shapes.now ≡ (statement self.now).shapes }
+        ensures slots { result.slots.now ≡ (statement self.now).slots }
+        ensures axes { result.axes.now ≡ axes_in (statement self.now).indices x.now }
+        ensures seen { result.seen.now ≡ seen.now }
+        ensures tuple { result.tuple.now ≡ x.now }
+    {
         Here {
             alloc: *self.space.extents.allocator(),
             shapes: self.shapes,
             slots: self.slots,
             axes: self.space.axes(x),
+            seen,
             tuple: x,
         }
     }
+}
 
-    /// Puts the element that the mask reads after the others, where there is a mask.
-    fn read_mask(&self, tuple: usize, reads: &mut Vec<Option<Spot>>) -> Result<(), OutOfMemory>
-        ensures { OnOk result (reads_of reads.new.items ≡ reads_of reads.old.items ++ mask_reads (statement self.now).mask tuple) }
-    {
-        match self.mask {
-            None => Ok(()),
-            Some(w) => {
-                reads.push(Some(Spot {
-                    row: w.copy,
-                    at: tuple,
-                }))?;
-                Ok(())
-            }
+/// Whether masks ask for a tuple.
+fn is_asked<E: Elements>(whens: &[When], tuple: usize, elements: &E) -> bool
+    ensures { result ≡ asked_by (E.get elements.now) (map when whens.now) tuple }
+{
+    for w in whens {
+        if !asks(w, tuple, elements) {
+            return false;
         }
     }
+    true
+}
+
+/// Whether a mask asks for a tuple.
+fn asks<E: Elements>(w: &When, tuple: usize, elements: &E) -> bool
+    ensures { result ≡ asks (E.get elements.now) tuple (when w.now) }
+{
+    let v = elements.value(Spot {
+        row: w.copy,
+        at: tuple,
+    });
+    as_asked(w.value, v)
 }
 
 /// Whether a value of a mask is as it is asked for.
@@ -246,7 +298,7 @@ fn as_asked(value: bool, v: i64) -> bool
     if value { v != 0 } else { v == 0 }
 }
 
-/// The outcome that a value is, by what a reduction makes of it, where there is one.
+/// The outcome that a value is, by what is made of it, where something is.
 fn value_made(made: Option<Made>, v: i64) -> Outcome
     ensures { outcome_view result ≡ Value (made_by made v) }
 {

@@ -6,7 +6,7 @@
 //!
 //! What holds in between: all of it is what node_code's definitions say of the instruction, whatever the elements are: they are asked for
 //! one by one (`Elements`), and only where the definitions' evaluation comes to them. A tuple of at most seven entries needs no memory of its
-//! own, and nothing is kept of the tuples.
+//! own, nor do these and the copies that it reads where they are sixteen at most, and nothing is kept of the tuples.
 #![tactic(auto)]
 
 mod asking;

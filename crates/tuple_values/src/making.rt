@@ -1,14 +1,15 @@
 //! The parallel statements of instructions.
 
-ghost use Rattle.std.specs.Prelude.{◌≡◌, ◌∷◌, [], ℕ, option_map, IfOk, None};
+ghost use Rattle.std.specs.Prelude.{◌≡◌, ◌∷◌, [], ℕ, map, option_map, option_to_list, IfOk, None, true};
 ghost use Rattle.array_meaning.specs.Sections.{extents};
 ghost use Rattle.machine_steps.specs.Space.{space_count};
 ghost use Rattle.node_code.specs.Forms.{selections_in};
 ghost use Rattle.node_code.specs.Instructions.{section_spot};
+ghost use Rattle.node_code.specs.NestStatements.{nest_spot, nest_tuples, role_made};
 ghost use Rattle.node_code.specs.Parallel.{assigned_spot, assignment_tuples, copy_spot, evaluation_tuples, forall_mask_tuples, forall_spot, forall_tuples, reduction_tuples};
-ghost use Rattle.node_code.specs.Texts.{assignment, evaluation, form, subs, when};
+ghost use Rattle.node_code.specs.Texts.{assignment, evaluation, form, nest_left, nest_statement, subs, when};
 ghost use Rattle.tuple_values.specs.Statements.{no_left, tuple_count, tuple_reads, IsStatement};
-ghost use Rattle.tuple_values.specs.Targets.{target as target_of};
+ghost use Rattle.tuple_values.specs.Targets.{nest_target, target as target_of};
 ghost use Rattle.tuple_values.specs.Views.{statement};
 
 use crate::right::Right;
@@ -17,7 +18,7 @@ use crate::statement::ParallelStatement;
 use crate::target::Target;
 use expression_rules::Dims;
 use hpf_base::OutOfMemory;
-use node_code::{Assignment, Evaluation, Sub};
+use node_code::{Assignment, Evaluation, NestLeft, NestRole, NestStatement, Sub, When};
 use op_tables::Made;
 use slot_values::selections_at;
 use std::alloc::Global;
@@ -111,10 +112,37 @@ impl<'a> ParallelStatement<'a> {
             slots,
             line: 0,
             space,
-            mask: None,
+            whens: &[],
+            copies: &[],
+            located: true,
             target: Target::Nothing,
             right: Right::Section(array, section),
             made: None,
+        })
+    }
+
+    /// A statement of a nest of INDEPENDENT loops.
+    pub fn of_nest(
+        alloc: Global,
+        shapes: &'a [Dims],
+        slots: &'a [i64],
+        p: &'a NestStatement,
+    ) -> Result<ParallelStatement<'a>, OutOfMemory>
+        ensures { IfOk result (λ w. IsStatement (statement w) slots.now (nest_tuples shapes.now (nest_statement p.now)) (nest_spot shapes.now (nest_statement p.now))) }
+    {
+        let space = index_space(alloc, slots, &p.over)?;
+        let target = nest_target(&p.left);
+        Ok(ParallelStatement {
+            shapes,
+            slots,
+            line: p.line,
+            space,
+            whens: &p.whens,
+            copies: &p.copies,
+            located: false,
+            target,
+            right: Right::Form(&p.right),
+            made: Some(role_made(p.role)),
         })
     }
 }
@@ -133,7 +161,9 @@ fn assigning<'a>(
       line = p.now.line;
       extents = space.extents.items;
       indices = option_map (λ ds. ds.items) space.indices;
-      mask = option_map when p.now.mask;
+      whens = option_to_list (option_map when p.now.mask);
+      copies = [];
+      located = true;
       target = target_of target.entry;
       form = form p.now.right;
       made = None;
@@ -144,7 +174,9 @@ fn assigning<'a>(
         slots,
         line: p.line,
         space,
-        mask: p.mask,
+        whens: mask_list(&p.mask),
+        copies: &[],
+        located: true,
         target,
         right: Right::Form(&p.right),
         made: None,
@@ -166,7 +198,9 @@ fn evaluating<'a>(
       line = p.now.line;
       extents = space.extents.items;
       indices = option_map (λ ds. ds.items) space.indices;
-      mask = None;
+      whens = [];
+      copies = [];
+      located = true;
       target = target_of target.entry;
       form = form p.now.form;
       made = made;
@@ -177,9 +211,43 @@ fn evaluating<'a>(
         slots,
         line: p.line,
         space,
-        mask: None,
+        whens: &[],
+        copies: &[],
+        located: true,
         target,
         right: Right::Form(&p.form),
         made,
+    }
+}
+
+/// A mask as a list, which has none where there is no mask.
+fn mask_list(mask: &Option<When>) -> &[When]
+    ensures { map when result.now ≡ option_to_list (option_map when mask.now) }
+{
+    match mask {
+        None => &[],
+        Some(w) => std::slice::from_ref(w),
+    }
+}
+
+/// What is assigned in an iteration of a nest.
+fn nest_target(left: &NestLeft) -> Target<'_>
+    ensures { target_of result ≡ nest_target (nest_left left.now) }
+{
+    match left {
+        NestLeft::Element(array, subscripts) => Target::Indexed(*array, subscripts),
+        NestLeft::Copy(row) => Target::Copy(*row),
+    }
+}
+
+/// What is made of the values of a statement of a nest: a condition is stored as its truth.
+fn role_made(role: NestRole) -> Made
+    ensures { result ≡ role_made role }
+{
+    match role {
+        NestRole::Assigns => Made::Value,
+        NestRole::Tests => Made::Truth,
+        NestRole::SetsElse => Made::Value,
+        NestRole::SetsMark => Made::Value,
     }
 }

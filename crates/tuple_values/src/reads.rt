@@ -1,8 +1,9 @@
 //! The elements that are read at a tuple.
 
-ghost use Rattle.std.specs.Prelude.{◌≡◌, ◌++◌, ◌∷◌, [], OnOk, option_map};
+ghost use Rattle.std.specs.Prelude.{◌≡◌, ◌++◌, ◌∷◌, [], OnOk, map, option_map};
+ghost use Rattle.node_code.specs.NestStatements.{row_spots, when_spots};
 ghost use Rattle.node_code.specs.Parallel.{spot_of};
-ghost use Rattle.node_code.specs.Texts.{form, forms_of, subs};
+ghost use Rattle.node_code.specs.Texts.{form, forms_of, subs, when};
 ghost use Rattle.tuple_values.specs.Here.{all_reads_here, reads_here, subscripts_here};
 ghost use Rattle.tuple_values.specs.Spots.{read_of, reads_of};
 ghost use Rattle.tuple_values.specs.Statements.{spot_in_row};
@@ -10,8 +11,42 @@ ghost use Rattle.tuple_values.specs.Statements.{spot_in_row};
 use crate::here::Here;
 use crate::sections::section_place;
 use hpf_base::OutOfMemory;
-use node_code::{ArrayForm, Sub};
+use node_code::{ArrayForm, Sub, When};
 use storage::Spot;
+
+/// Puts the elements that masks read at a tuple after the others, in order.
+pub(crate) fn mask_reads(
+    whens: &[When],
+    tuple: usize,
+    reads: &mut Vec<Option<Spot>>,
+) -> Result<(), OutOfMemory>
+    ensures { OnOk result (reads_of reads.new.items ≡ reads_of reads.old.items ++ when_spots (map when whens.now) tuple) }
+{
+    for w in whens {
+        reads.push(Some(Spot {
+            row: w.copy,
+            at: tuple,
+        }))?;
+    }
+    Ok(())
+}
+
+/// Puts the elements of copies at a tuple after the others, in order.
+pub(crate) fn copy_reads(
+    rows: &[usize],
+    tuple: usize,
+    reads: &mut Vec<Option<Spot>>,
+) -> Result<(), OutOfMemory>
+    ensures { OnOk result (reads_of reads.new.items ≡ reads_of reads.old.items ++ row_spots rows.now tuple) }
+{
+    for row in rows {
+        reads.push(Some(Spot {
+            row: *row,
+            at: tuple,
+        }))?;
+    }
+    Ok(())
+}
 
 /// Puts the elements that an array expression reads after the others, in order.
 #[cycle(form_reads)]

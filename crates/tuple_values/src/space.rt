@@ -22,7 +22,7 @@ pub(crate) struct Space {
     pub(crate) extents: Vec<u128>,
     /// The number of tuples; none past the limit.
     pub(crate) count: usize,
-    /// The values of the indices of a FORALL.
+    /// The values of the indices of a FORALL or a nest.
     pub(crate) indices: Option<Vec<Selection>>,
     ghost sized: { space_count extents.items ≡ count },
     ghost few: { count ≤ MAX_TUPLES },
@@ -42,7 +42,7 @@ pub(crate) fn section_space(
     Ok(sized(extents, None))
 }
 
-/// The space of the indices of a FORALL, whose tuples are their values.
+/// The space of the indices of a FORALL or a nest, whose tuples are their values.
 pub(crate) fn index_space(alloc: Global, slots: &[i64], over: &[Sub]) -> Result<Space, OutOfMemory>
     ensures extents { IfOk result (λ s. s.extents.items ≡ extents (selections_in slots.now (subs over.now))) }
     ensures indices { IfOk result (λ s. option_map (λ ds. ds.items) s.indices ≡ Some (selections_in slots.now (subs over.now))) }

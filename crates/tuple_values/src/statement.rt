@@ -15,9 +15,14 @@ pub struct ParallelStatement<'a> {
     pub(crate) slots: &'a [i64],
     pub(crate) line: u32,
     pub(crate) space: Space,
-    pub(crate) mask: Option<When>,
+    /// The masks, all of which a tuple has to be as it is asked for.
+    pub(crate) whens: &'a [When],
+    /// The rows of the copies that are read, each at the tuple's number.
+    pub(crate) copies: &'a [usize],
+    /// Whether a fault has its tuple.
+    pub(crate) located: bool,
     pub(crate) target: Target<'a>,
     pub(crate) right: Right<'a>,
-    /// What a reduction makes of the values, where it is one.
+    /// What is made of the values, where something is.
     pub(crate) made: Option<Made>,
 }

@@ -12,6 +12,6 @@ pub(crate) enum Target<'a> {
     Copy(usize),
     /// The element of a section of an array, by the place of its name.
     Section(usize, Vec<Selection>),
-    /// The element of an array whose subscripts are expressions of the indices of a FORALL.
+    /// The element of an array whose subscripts are expressions of the indices of a FORALL or a nest.
     Indexed(usize, &'a [Sub]),
 }

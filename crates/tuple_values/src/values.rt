@@ -128,10 +128,10 @@ fn form_values<E: Elements>(
 
 /// The value of an expression that is the same at each tuple, or at each with these indices.
 fn same_value(here: &Here<'_>, f: &Flat) -> Result<i64, Stop>
-    ensures value { IfOk result (λ v. or_zero (flat_value here.now.slots.now here.now.axes.now [] (flat f.now)) ≡ v) }
+    ensures value { IfOk result (λ v. or_zero (flat_value here.now.slots.now here.now.seen.now [] (flat f.now)) ≡ v) }
     ensures stopped { IfErr result (λ e. e ≡ Memory) }
 {
-    match flat_or_zero(here.slots, here.axes, f) {
+    match flat_or_zero(here.slots, here.seen, f) {
         Ok(v) => Ok(v),
         Err(_) => Err(Stop::Memory),
     }

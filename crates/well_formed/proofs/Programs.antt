@@ -28,7 +28,7 @@ use Rattle.lowering.specs.Lowered.{IsState, IsTable, MachineEnds, MachinePasses,
 use Rattle.node_code.specs.ValidCode.{CodeTable, IsValid, IsValidNodeCode}
 use Rattle.lowering.specs.Ranks.{AreFewDims, BlockKeepsRanks, declared_shapes}
 use Rattle.lowering.specs.StatementCode.{block_copies, block_slots, program_code}
-use Rattle.lowering.specs.WellFormed.{IsWellFormedBlock}
+use Rattle.lowered_expressions.specs.WellFormed.{IsWellFormedBlock}
 use Rattle.nest_items.specs.BlockForms.{BlockHasForms}
 use Rattle.lowering.proofs.Programs.{program-ends, program-passes}
 use Rattle.lowering.proofs.Validity.{code-valid}

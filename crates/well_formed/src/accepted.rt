@@ -19,7 +19,7 @@ ghost use Rattle.node_code.specs.ValidCode.{CodeTable, IsValid, IsValidNodeCode}
 ghost use Rattle.lowering.specs.Lowered.{IsTable, MachineEnds, MachinePasses, opening};
 ghost use Rattle.lowering.specs.Ranks.{AreFewDims, BlockKeepsRanks, declared_shapes};
 ghost use Rattle.lowering.specs.StatementCode.{block_copies, block_slots, program_code};
-ghost use Rattle.lowering.specs.WellFormed.{IsWellFormedBlock};
+ghost use Rattle.lowered_expressions.specs.WellFormed.{IsWellFormedBlock};
 ghost use Rattle.nest_items.specs.BlockForms.{BlockHasForms};
 
 use name_table::all_are_known;

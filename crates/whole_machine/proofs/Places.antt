@@ -6,7 +6,7 @@ use Rattle.mappings.specs.declared.mapping.Mapping.{Mapping}
 use Rattle.expression_rules.specs.declared.dims.Dim.{Dim}
 use Rattle.machine_steps.specs.Instr.{Local}
 use Rattle.machine_steps.specs.Machine.{finish, instr_at, instr_of}
-use Rattle.node_code.specs.Instructions.{Instruction, Fetch, Store, Par, ParForall, MakeCopy, ParCopy, ParForallCopy, Verdict, Reduce, Print, FoldCopy, LastCopy, Remap, meaning_of}
+use Rattle.node_code.specs.Instructions.{Instruction, Fetch, Store, Par, ParForall, ParNest, MakeCopies, MakeCopy, ParCopy, ParForallCopy, Verdict, Reduce, Print, FoldCopy, LastCopy, Remap, meaning_of}
 use Rattle.node_code.specs.ProgramText.{Text, table_on, text, text_meaning, texts}
 use Rattle.node_code.specs.Texts.{instruction, instructions}
 use Rattle.node_code.specs.declared.instruction.Instruction.{Instruction as HeldInstruction}
@@ -56,6 +56,8 @@ module _ (nodes : ℕ) (maps : List Mapping) (shapes : List (List Dim)) where
   local-is (Store line b fs f) is = cc
   local-is (Par p) is = cc
   local-is (ParForall p) is = cc
+  local-is (ParNest p) is = cc
+  local-is (MakeCopies copy over start) is = cc
   local-is (MakeCopy copy p) is = cc
   local-is (ParCopy copy p) is = cc
   local-is (ParForallCopy copy p) is = cc

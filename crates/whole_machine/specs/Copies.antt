@@ -4,11 +4,18 @@ use Rattle.array_meaning.specs.Faults.{Fault}
 use Rattle.machine_steps.specs.CopyLayout.{copy_layout}
 use Rattle.machine_steps.specs.Instr.{Instr, MakeCopy}
 use Rattle.machine_steps.specs.Layout.{Layout}
+use Rattle.node_code.specs.Flat.{Flat, slots_value}
+use Rattle.node_code.specs.Forms.{Sub}
+use Rattle.node_code.specs.NestStatements.{copies_extents}
 use Rattle.node_code.specs.Parallel.{Evaluation, evaluation_extents}
 
 -- a copy of the extents of an array expression on so many nodes, with 0 everywhere
 abbrev pub copying : (nodes copy : ℕ) → Evaluation → Instr Fault
 copying nodes copy p = MakeCopy copy (λ layouts slots. copy_layout nodes (evaluation_extents p slots)) (λ slots. pos 0)
+
+-- copies of a nest with these indices on so many nodes, all with one value
+abbrev pub copying_for_nest : (nodes copy : ℕ) → List Sub → Flat → Instr Fault
+copying_for_nest nodes copy over start = MakeCopy copy (λ layouts slots. copy_layout nodes (copies_extents over slots)) (λ slots. slots_value slots start)
 
 -- the instruction makes this copy
 pub record MakesCopy (i : Instr Fault) (copy : ℕ) : Type 0 where

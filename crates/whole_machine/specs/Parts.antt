@@ -7,16 +7,17 @@ use Rattle.expression_rules.specs.declared.dims.Dim.{Dim}
 use Rattle.array_meaning.specs.Faults.{Fault}
 use Rattle.machine_steps.specs.Instr.{Instr, Outcome, Par, Tuples}
 use Rattle.machine_steps.specs.Machine.{Machine, earlier, effect_by, effect_of, folded, keep, outcome_of, value_by}
+use Rattle.node_code.specs.NestStatements.{nest_spot, nest_tuples}
 use Rattle.node_code.specs.Parallel.{assigned_spot, assignment_tuples, copy_spot, evaluation_tuples, fold_of, forall_mask_tuples, forall_spot, forall_tuples}
 use Rattle.node_code.specs.ProgramText.{Text}
-use Rattle.node_code.specs.Texts.{assignment, evaluation}
+use Rattle.node_code.specs.Texts.{assignment, evaluation, nest_statement}
 use Rattle.slot_values.specs.KeptFaults.{kepts}
 use Rattle.tuple_values.specs.Statements.{Statement, tuple_left, tuple_outcome, tuple_reads}
 use Rattle.whole_machine.specs.Stores.{stored}
 use Rattle.whole_machine.specs.declared.part_values.ParValues.{ParValues}
 use Rattle.whole_machine.specs.declared.reduction_values.ReduceValues.{ReduceValues}
 use Rattle.whole_machine.specs.declared.parts.Parallel.{Parallel}
-use Rattle.whole_machine.specs.declared.parts.Parallel.TheVariants.{Assignment, Forall, Copy, ForallCopy}
+use Rattle.whole_machine.specs.declared.parts.Parallel.TheVariants.{Assignment, Forall, Nest, Copy, ForallCopy}
 
 -- what a statement comes to at a tuple, and what it does to the element that is assigned
 abbrev pub outcome_at : Storage → Statement → ℕ → Outcome Fault
@@ -29,6 +30,7 @@ effect_at rows w t = effect_by (tuple_left w t) (outcome_at rows w t)
 abbrev pub par_instr : List (List Dim) → Parallel → Instr Fault
 par_instr shapes (Assignment p) = Par (assignment_tuples shapes (assignment p.now)) (assigned_spot shapes (assignment p.now))
 par_instr shapes (Forall p) = Par (forall_tuples shapes (assignment p.now)) (forall_spot shapes (assignment p.now))
+par_instr shapes (Nest p) = Par (nest_tuples shapes (nest_statement p.now)) (nest_spot shapes (nest_statement p.now))
 par_instr shapes (Copy copy p) = Par (evaluation_tuples shapes (evaluation p.now)) (copy_spot copy)
 par_instr shapes (ForallCopy copy p) = Par (forall_mask_tuples shapes (evaluation p.now)) (copy_spot copy)
 

@@ -1,22 +1,22 @@
 //! Instructions that make a copy.
 
-ghost use Rattle.std.specs.Prelude.{◌≡◌, ◌<◌, ◌≤◌, ◌^◌, All, IfOk, OnOk, OnErr, length, pos, replicate, slice_set};
+ghost use Rattle.std.specs.Prelude.{◌≡◌, ◌<◌, ◌≤◌, ◌^◌, All, IfOk, OnOk, OnErr, length, replicate, slice_set};
 ghost use Rattle.hpf_base.specs.declared.limits.TheConstants.{MAX_ELEMENTS, MAX_RANK};
 ghost use Rattle.hpf_base.specs.ElementOrder.{product};
 ghost use Rattle.machine_steps.specs.CopyLayout.{copy_extents, layout_of};
 ghost use Rattle.machine_steps.specs.Layout.{size_of};
 ghost use Rattle.machine_steps.specs.Machine.{instr_at, on, step_by};
-ghost use Rattle.node_code.specs.Parallel.{evaluation_extents};
+ghost use Rattle.node_code.specs.NestStatements.{copies_extents};
 ghost use Rattle.node_code.specs.ProgramText.{text_meaning};
-ghost use Rattle.node_code.specs.Texts.{evaluation};
-ghost use Rattle.whole_machine.specs.Copies.{MakesCopy, copying};
+ghost use Rattle.node_code.specs.Texts.{evaluation, flat, subs};
+ghost use Rattle.whole_machine.specs.Copies.{MakesCopy, copying, copying_for_nest};
 ghost use Rattle.whole_machine.specs.Places.{IsFor};
 
 use crate::machine::WholeMachine;
 use hpf_base::OutOfMemory;
-use node_code::Evaluation;
+use node_code::{Evaluation, Flat, Sub};
 use owner_tables::{OwnerTable, Row};
-use slot_values::{copy_extents, selections_at};
+use slot_values::{copy_extents, flat_or_zero, selections_at};
 use term_values::extents;
 
 impl WholeMachine {
@@ -35,27 +35,54 @@ impl WholeMachine {
         ensures ok { OnOk result (self.new ≡ step_by (copying nodes copy (evaluation p.now)) self.old) }
         ensures err { OnErr result (self.new ≡ self.old) }
     {
-        let extents = self.made_extents(p)?;
-        self.put_copy(nodes, copy, &extents)
+        let extents = self.made_extents(&p.over)?;
+        self.put_copy(nodes, copy, &extents, &0)
     }
 
-    /// The extents of a copy of the values of an array expression.
-    fn made_extents(&self, p: &Evaluation) -> Result<Vec<u32>, OutOfMemory>
-        requires { length (evaluation p.now).over ≤ MAX_RANK }
-        ensures value { IfOk result (λ v. v.items ≡ copy_extents (evaluation_extents (evaluation p.now) self.now.control.slots)) }
+    /// Makes copies of a nest, which have the value of an expression over the slots, on the nodes for which the code is. For want of memory
+    /// nothing changes.
+    pub(crate) fn make_copies(
+        &mut self,
+        nodes: u32,
+        copy: usize,
+        over: &[Sub],
+        start: &Flat,
+    ) -> Result<(), OutOfMemory>
+        requires nodes { IsFor self.old.code self.old.control.at nodes }
+        requires makes { MakesCopy (instr_at text_meaning self.old.code self.old.control.at) copy }
+        requires rank { length (subs over.now) ≤ MAX_RANK }
+        requires in_code { self.old.control.at < 2 ^ 63 }
+        ensures ok { OnOk result (self.new ≡ step_by (copying_for_nest nodes copy (subs over.now) (flat start.now)) self.old) }
+        ensures err { OnErr result (self.new ≡ self.old) }
+    {
+        let extents = self.made_extents(over)?;
+        let value = flat_or_zero(&self.control.slots, &[], start)?;
+        self.put_copy(nodes, copy, &extents, &value)
+    }
+
+    /// The extents of a copy that has an element for each tuple of a space.
+    fn made_extents(&self, over: &[Sub]) -> Result<Vec<u32>, OutOfMemory>
+        requires { length (subs over.now) ≤ MAX_RANK }
+        ensures value { IfOk result (λ v. v.items ≡ copy_extents (copies_extents (subs over.now) self.now.control.slots)) }
         ensures rank { IfOk result (λ v. length v.items ≤ MAX_RANK) }
         ensures each { IfOk result (λ v. All (λ extent. extent ≤ MAX_ELEMENTS) v.items) }
         ensures size { IfOk result (λ v. product v.items ≤ MAX_ELEMENTS) }
     {
-        let over = selections_at(self.alloc, &self.control.slots, &[], &p.over)?;
+        let over = selections_at(self.alloc, &self.control.slots, &[], over)?;
         let space = extents(self.alloc, &over)?;
         let made = copy_extents(self.alloc, &space)?;
         Ok(made)
     }
 
-    /// Puts the copy that the instruction at the place makes, which has these extents, with 0 everywhere, into its row. For want of memory
-    /// nothing changes.
-    fn put_copy(&mut self, nodes: u32, copy: usize, extents: &[u32]) -> Result<(), OutOfMemory>
+    /// Puts the copy that the instruction at the place makes, which has these extents, with one value everywhere, into its row. For want of
+    /// memory nothing changes.
+    fn put_copy(
+        &mut self,
+        nodes: u32,
+        copy: usize,
+        extents: &[u32],
+        value: &i64,
+    ) -> Result<(), OutOfMemory>
         requires nodes { IsFor self.old.code self.old.control.at nodes }
         requires makes { MakesCopy (instr_at text_meaning self.old.code self.old.control.at) copy }
         requires in_code { self.old.control.at < 2 ^ 63 }
@@ -65,15 +92,15 @@ impl WholeMachine {
         ensures ok { OnOk result (self.new ≡ record self.old {
           control = on self.old.control;
           substep = 0;
-          rows = slice_set self.old.rows copy (replicate (size_of (layout_of nodes extents.now)) (pos 0));
+          rows = slice_set self.old.rows copy (replicate (size_of (layout_of nodes extents.now)) value.now);
           layouts = slice_set self.old.layouts copy (layout_of nodes extents.now);
         }) }
         ensures err { OnErr result (self.new ≡ self.old) }
     {
         let table = OwnerTable::of_copy(self.alloc, self.owners.nodes(), extents)?;
-        let zeros = Row::of_one(self.alloc, 0, table.size())?;
+        let values = Row::of_one(self.alloc, *value, table.size())?;
         self.owners.set(copy, table);
-        set_row(&mut self.rows, copy, zeros);
+        set_row(&mut self.rows, copy, values);
         self.go_on();
         Ok(())
     }

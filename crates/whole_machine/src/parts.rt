@@ -12,7 +12,7 @@ use crate::machine::WholeMachine;
 use crate::part_values::{ParValues, par_values};
 use expression_rules::Dims;
 use hpf_base::OutOfMemory;
-use node_code::{Assignment, Evaluation};
+use node_code::{Assignment, Evaluation, NestStatement};
 use tuple_values::ParallelStatement;
 
 /// The contents of a parallel statement; of values that go into a copy its row.
@@ -20,6 +20,7 @@ use tuple_values::ParallelStatement;
 pub(crate) enum Parallel<'a> {
     Assignment(&'a Assignment),
     Forall(&'a Assignment),
+    Nest(&'a NestStatement),
     Copy(usize, &'a Evaluation),
     ForallCopy(usize, &'a Evaluation),
 }
@@ -41,6 +42,7 @@ impl WholeMachine {
             Parallel::Forall(p) => ParallelStatement::of_forall_assignment(
                 self.alloc, shapes, slots, p,
             ),
+            Parallel::Nest(p) => ParallelStatement::of_nest(self.alloc, shapes, slots, p),
             Parallel::Copy(copy, p) => ParallelStatement::of_evaluation(
                 self.alloc, shapes, slots, p, copy,
             ),

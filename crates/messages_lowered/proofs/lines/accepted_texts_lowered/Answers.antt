@@ -1,7 +1,7 @@
 use Rattle.name_table.specs.Entries.{entries}
 use Rattle.array_meaning.specs.Resolution.{initial_state, resolved_block}
 use Rattle.lowering.specs.Lowered.{opening}
-use Rattle.lowering.specs.Passed.{passed}
+use Rattle.lowered_expressions.specs.Passed.{passed}
 use Rattle.statement_trail.specs.Trail.{serial_trail}
 use Rattle.std.proofs.Common.{length}
 use Rattle.well_formed.proofs.Programs.{trail_lowered}

@@ -1,6 +1,6 @@
 use Rattle.lowering.proofs.Programs.{program-passes}
 use Rattle.lowering.specs.Lowered.{opening}
-use Rattle.lowering.specs.Passed.{passed}
+use Rattle.lowered_expressions.specs.Passed.{passed}
 use Rattle.statement_trail.specs.Trail.{block_trail}
 use Rattle.messages_lowered.proofs.SameLines.{text-same}
 use Rattle.messages_lowered.proofs.lines.texts_lowered.Goals as goal

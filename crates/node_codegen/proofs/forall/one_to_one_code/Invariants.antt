@@ -1,7 +1,7 @@
 use Rattle.std.proofs.Common.{◌≡◌, ◌++◌, drop, map}
 use Rattle.node_code.specs.Texts.{instructions}
 use Rattle.resolved_program.specs.Resolved.{control, element_assignment}
-use Rattle.lowering.specs.ExpressionCode.{subs_of}
+use Rattle.lowered_expressions.specs.ExpressionCode.{subs_of}
 use Rattle.lowering.specs.StatementCode.{one_to_one_code, triplets}
 use Rattle.node_codegen.proofs.forall.one_to_one_code.Given as goal
 

@@ -1,7 +1,7 @@
 use Rattle.std.proofs.Common.{◌≡◌, ◌++◌, drop, map}
 use Rattle.node_code.specs.Texts.{instructions}
 use Rattle.resolved_program.specs.Resolved.{control}
-use Rattle.lowering.specs.ExpressionCode.{subscripts_code}
+use Rattle.lowered_expressions.specs.ExpressionCode.{subscripts_code}
 use Rattle.lowering.specs.StatementCode.{triplets}
 use Rattle.node_codegen.proofs.forall_header.header_code.Given as goal
 

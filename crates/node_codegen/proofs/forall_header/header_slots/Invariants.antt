@@ -1,6 +1,6 @@
 use Rattle.std.proofs.Common.{◌≡◌, ◌+◌, drop, map}
 use Rattle.resolved_program.specs.Resolved.{control}
-use Rattle.lowering.specs.ExpressionCode.{subscripts_slots}
+use Rattle.lowered_expressions.specs.ExpressionCode.{subscripts_slots}
 use Rattle.lowering.specs.StatementCode.{triplets}
 use Rattle.node_codegen.proofs.forall_header.header_slots.Given as goal
 

@@ -1,7 +1,7 @@
 use Rattle.std.proofs.Common.{◌≡◌, ◌++◌, drop, map}
 use Rattle.node_code.specs.Texts.{subs}
 use Rattle.resolved_program.specs.Resolved.{control}
-use Rattle.lowering.specs.ExpressionCode.{subs_of}
+use Rattle.lowered_expressions.specs.ExpressionCode.{subs_of}
 use Rattle.lowering.specs.StatementCode.{triplets}
 use Rattle.node_codegen.proofs.forall_header.header_subs.Given as goal
 

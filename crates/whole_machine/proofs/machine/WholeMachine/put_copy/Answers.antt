@@ -1,4 +1,5 @@
-use Rattle.std.proofs.Common.{◌≡◌, pos, replicate, slice_set, sym, ◌∙◌, ap, subst}
+use Rattle.std.proofs.Common.{◌≡◌, SFits, w64, replicate, slice_set, sym, ◌∙◌, ap, subst, rules}
+use Rattle.std.proofs.lemmas.Int.{to_z-of_z}
 use Rattle.std.specs.Arc.{arc_value}
 use Rattle.machine_steps.specs.CopyLayout.{layout_of}
 use Rattle.machine_steps.specs.Instr.{MakeCopy}
@@ -24,8 +25,9 @@ returns-clause-ok c =
     let same : c.nodes.result ≡ c.args.nodes =
     c.nodes.ensures.value ∙ c.self.invariant.nodes ∙ nodes-are p.nodes (mappings_of p.tables.items) p.shapes.items p.code.items k.control.at c.args.nodes here in
     let lies : c.in_ok-table.table.layout ≡ layout_of c.args.nodes extents = ap (λ t. t.layout) c.in_ok-table.ensures ∙ ap (λ n. layout_of n extents) same in
-    let zeros = c.in_ok-zeros.ensures ∙ (λ i. replicate ((c.size.ensures ∙ ap size_of lies) i) (pos 0)) in
-    let rows = c.set_row.ensures ∙ (λ i. slice_set ((is i).rows) copy (zeros i)) in
+    let fits : SFits w64 c.args.value.now = search rules in
+    let values = c.in_ok-values.ensures ∙ (λ i. replicate ((c.size.ensures ∙ ap size_of lies) i) (to_z-of_z w64 c.args.value.now fits i)) in
+    let rows = c.set_row.ensures ∙ (λ i. slice_set ((is i).rows) copy (values i)) in
     let layouts = ap (λ o. o.layouts) c.set.ensures ∙ (λ i. slice_set ((is i).layouts) copy (lies i)) in
     c.go_on.ensures ∙ (λ i. record (is i) { control = on ((is i).control); substep = 0; rows = rows i; layouts = layouts i })
 

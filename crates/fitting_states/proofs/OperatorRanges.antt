@@ -16,14 +16,14 @@ use Rattle.op_tables.proofs.Joins.{joins}
 abbrev Fits64 : ℤ → Type 0
 Fits64 z = FitsSigned w64 z
 
-none : Fits64 (pos 0)
-none = sfits_lit tt
+pub zero_fits : Fits64 (pos 0)
+zero_fits = sfits_lit tt
 
-truth_fits : (b : Bool) → Fits64 (truth b)
+pub truth_fits : (b : Bool) → Fits64 (truth b)
 truth_fits true = sfits_lit tt
 truth_fits false = sfits_lit tt
 
-wraps_fit : (z : ℤ) → Fits64 (wrapped z)
+pub wraps_fit : (z : ℤ) → Fits64 (wrapped z)
 wraps_fit z = SFits-int_wrap w64 z
 
 -- ---- a bit that isn't set, remainders and moduli
@@ -68,7 +68,7 @@ moved_fits (pos k) (negsuc n) f g lt =
     let e : pos (k - suc n) ≡ negsuc n +ℤ pos k = omega (arith, ints, lt) in
     let less : k - suc n < 2 ^ hbits w64 = omega (arith, f) in
     either_fits (int_eq (signed_as (negsuc n) (pos k)) (negsuc n)) (negsuc n) (negsuc n +ℤ pos k) g (subst (FitsSigned w64) e (record { sfits = less }))
-moved_fits (negsuc m) (pos zero) f g lt = none
+moved_fits (negsuc m) (pos zero) f g lt = zero_fits
 moved_fits (negsuc m) (pos (suc n)) f g lt =
     let e : negsuc (m - suc n) ≡ pos (suc n) +ℤ negsuc m = omega (arith, ints, lt) in
     let less : m - suc n < 2 ^ hbits w64 = omega (arith, f) in
@@ -90,7 +90,7 @@ one_fits op.Plus a f = f
 one_fits op.LogNot a f = truth_fits (is_zero a)
 one_fits op.Abs a f = wraps_fit (pos (unsigned_abs a))
 one_fits op.BitNot a f = not_fits a
-one_fits o a f = none
+one_fits o a f = zero_fits
 
 two_fits : (o : Op) (a b : ℤ) → Fits64 a → Fits64 b → Fits64 (value_of_two o a b)
 two_fits op.Add a b f g = wraps_fit (a +ℤ b)
@@ -111,13 +111,13 @@ two_fits op.Sign a b f g = wraps_fit (signed_as a b)
 two_fits op.BitAnd a b f g = wrapped_fits (int_bit_and w64) a b f g ((joins And).closed a b f g)
 two_fits op.BitOr a b f g = wrapped_fits (int_bit_or w64) a b f g ((joins Or).closed a b f g)
 two_fits op.BitXor a b f g = wrapped_fits (int_bit_xor w64) a b f g ((joins ExclusiveOr).closed a b f g)
-two_fits o a b f g = none
+two_fits o a b f g = zero_fits
 
 count_fits : (o : Op) (vs : List ℤ) → AllByRecursion (FitsSigned w64) vs → Fits64 (value_by_count o vs)
-count_fits o [] h = none
+count_fits o [] h = zero_fits
 count_fits o (a ∷ []) h = one_fits o a h.0
 count_fits o (a ∷ b ∷ []) h = two_fits o a b h.0 h.1.0
-count_fits o (a ∷ b ∷ c ∷ vs) h = none
+count_fits o (a ∷ b ∷ c ∷ vs) h = zero_fits
 
 max_fits : (a : ℤ) (vs : List ℤ) → Fits64 a → AllByRecursion (FitsSigned w64) vs → Fits64 (fold int_max a vs)
 max_fits a [] f h = f
@@ -129,9 +129,9 @@ min_fits a (b ∷ vs) f h = min_fits (int_min a b) vs ((joins Least).closed a b 
 
 value_fits : (o : Op) (vs : List ℤ) → AllByRecursion (FitsSigned w64) vs → Fits64 (value_of o vs)
 value_fits op.Max (a ∷ vs) h = max_fits a vs h.0 h.1
-value_fits op.Max [] h = none
+value_fits op.Max [] h = zero_fits
 value_fits op.Min (a ∷ vs) h = min_fits a vs h.0 h.1
-value_fits op.Min [] h = none
+value_fits op.Min [] h = zero_fits
 value_fits o vs h = count_fits o vs h
 
 some_fits : (x v : ℤ) → Fits64 x → Some x ≡ Some v → Fits64 v
@@ -146,12 +146,12 @@ divided_fits b x v f e = by (is_zero b) refl where
 inverse_fits : (a : ℤ) (n : ℕ) (v : ℤ) → inverse_power a n ≡ Some v → Fits64 v
 inverse_fits (pos zero) n v e = absurd cc
 inverse_fits (pos (suc zero)) n v e = some_fits (pos 1) v (sfits_lit tt) e
-inverse_fits (pos (suc (suc k))) n v e = some_fits (pos 0) v none e
+inverse_fits (pos (suc (suc k))) n v e = some_fits (pos 0) v zero_fits e
 inverse_fits (negsuc zero) n v e = some_fits (if n % 2 == 0 then pos 1 else negsuc 0) v (parity (n % 2 == 0)) e where
   parity : (b : Bool) → Fits64 (if b then pos 1 else negsuc 0)
   parity true = sfits_lit tt
   parity false = sfits_lit tt
-inverse_fits (negsuc (suc k)) n v e = some_fits (pos 0) v none e
+inverse_fits (negsuc (suc k)) n v e = some_fits (pos 0) v zero_fits e
 
 power_fits : (a b v : ℤ) → power a b ≡ Some v → Fits64 v
 power_fits a (pos n) v e = some_fits (wrapped (int_pow a n)) v (wraps_fit (int_pow a n)) e
@@ -162,13 +162,13 @@ quotient_fits op.Div a b v f g e = divided_fits b (wrapped (int_div a b)) v (λ 
 quotient_fits op.Pow a b v f g e = power_fits a b v e
 quotient_fits op.Mod a b v f g e = divided_fits b (int_rem a b) v (rem_fits a b g) e
 quotient_fits op.Modulo a b v f g e = divided_fits b (modulo a b) v (modulo_fits a b g) e
-quotient_fits o a b v f g e = some_fits (pos 0) v none e
+quotient_fits o a b v f g e = some_fits (pos 0) v zero_fits e
 
 quotients_fit : (o : Op) (vs : List ℤ) (v : ℤ) → AllByRecursion (FitsSigned w64) vs → quotient_of o vs ≡ Some v → Fits64 v
-quotients_fit o [] v h e = some_fits (pos 0) v none e
-quotients_fit o (a ∷ []) v h e = some_fits (pos 0) v none e
+quotients_fit o [] v h e = some_fits (pos 0) v zero_fits e
+quotients_fit o (a ∷ []) v h e = some_fits (pos 0) v zero_fits e
 quotients_fit o (a ∷ b ∷ []) v h e = quotient_fits o a b v h.0 h.1.0 e
-quotients_fit o (a ∷ b ∷ c ∷ vs) v h e = some_fits (pos 0) v none e
+quotients_fit o (a ∷ b ∷ c ∷ vs) v h e = some_fits (pos 0) v zero_fits e
 
 pub operators_fit : (o : Op) (vs : List ℤ) (v : ℤ) → AllByRecursion (FitsSigned w64) vs → operator_value o vs ≡ Some v → FitsSigned w64 v
 operators_fit o vs v h e = by (can_divide o) refl where

@@ -3,7 +3,7 @@ use Rattle.node_code.specs.Instructions.{NewMapping, Instruction, meaning_of, Ar
 use Rattle.std.proofs.Common.{◌≡◌, ℕ, zero, suc, ◌+◌, ◌<◌, ◌≤◌, List, [], ◌∷◌, ◌++◌, length, ℤ, pos, Some, None, Result, Ok, Err, refl, sym, ap, ◌∙◌, subst, arith, drop, slice_get, slice_set, length-set, get_or-set_same, get_or-set_other, append_assoc, append-nil}
 use Rattle.array_meaning.specs.Faults.{Cause, Fault, ◌>>=◌}
 use Rattle.statement_trail.specs.Trail.{Trail, after_value}
-use Rattle.lowering.specs.Passed.{Passed, note, note_at, passed, passed_now, IsTrail}
+use Rattle.lowered_expressions.specs.Passed.{Passed, note, note_at, passed, passed_now, IsTrail}
 use Rattle.machine_steps.specs.Instr.{Running, Faulted}
 use Rattle.machine_steps.specs.Layout.{Layout}
 use Rattle.machine_steps.specs.Machine.{Machine, step, step_by, steps, instr_of}

@@ -15,9 +15,9 @@ use Rattle.machine_steps.specs.Machine.{Machine, step}
 use Rattle.node_code.specs.Flat.{slot}
 use Rattle.node_code.specs.Forms.{selections_in, elemental_in}
 use Rattle.node_code.specs.Parallel.{When, evaluation_extents}
-use Rattle.lowering.specs.WellFormed.{AreSubscripts, IsIndexed}
+use Rattle.lowered_expressions.specs.WellFormed.{AreSubscripts, IsIndexed}
 use Rattle.node_code.specs.Instructions.{NewMapping, Instruction, ArrayTable, meaning_of, Par, ParForall, ParCopy, ParForallCopy, Reduce, Remap}
-use Rattle.lowering.specs.ExpressionCode.{index_subs, index_form}
+use Rattle.lowered_expressions.specs.ExpressionCode.{index_subs, index_form}
 
 -- an instruction that is passed, and the slots before it
 pub record Passed : Type 0 where

@@ -6,9 +6,9 @@ use Rattle.array_meaning.specs.Faults.{Cause, Fault, ◌>>=◌}
 use Rattle.array_meaning.specs.Runs.{Completion, Normal, Exited, Cycled, Stopped, Run, normal, if_normal, then_do, one_step, with_value}
 use Rattle.array_meaning.specs.State.{Array, State, set_scalar, array, no_array, store}
 use Rattle.statement_trail.specs.Trail.{Trail, after_value, after_run}
-use Rattle.lowering.specs.Passed.{passed, IsTrail}
-use Rattle.lowering.proofs.Reach.{still, entries-more, Idle, SameBelow, Reaches, reaches-on, steps-more, stands, one, Stops, stops-on, Comes, Place}
-use Rattle.lowering.proofs.Terms.{HoldsScalars, HoldsArrays}
+use Rattle.lowered_expressions.specs.Passed.{passed, IsTrail}
+use Rattle.lowered_expressions.proofs.Reach.{still, entries-more, Idle, SameBelow, Reaches, reaches-on, steps-more, stands, one, Stops, stops-on, Comes, Place}
+use Rattle.lowered_expressions.proofs.Terms.{HoldsScalars, HoldsArrays}
 use Rattle.machine_steps.specs.Instr.{Running, Control, Finished}
 use Rattle.machine_steps.specs.Machine.{Machine, steps}
 use Rattle.storage.specs.Storage.{Storage, row_of, write}

@@ -16,12 +16,12 @@ use Rattle.array_meaning.specs.declared.sections.Store.{Store}
 use Rattle.expression_rules.specs.declared.dims.Dim.{Dim}
 use Rattle.hpf_base.specs.declared.limits.TheConstants.{MAX_TUPLES}
 use Rattle.hpf_base.specs.ElementOrder.{product}
-use Rattle.lowering.proofs.Goes.{Holds, holds-store}
-use Rattle.lowering.proofs.Terms.{HoldsArrays}
+use Rattle.lowered_expressions.proofs.Goes.{Holds, holds-store}
+use Rattle.lowered_expressions.proofs.Terms.{HoldsArrays}
 use Rattle.machine_steps.specs.Instr.{Outcome}
 use Rattle.machine_steps.specs.Space.{space_count}
 use Rattle.machine_steps.specs.Machine.{effect_by, value_by}
-use Rattle.lowering.proofs.Keeping.{IsOutcome}
+use Rattle.lowered_expressions.proofs.Keeping.{IsOutcome}
 use Rattle.storage.specs.Effect.{Effect, Skip, Put, Fail, scatter}
 use Rattle.storage.specs.Storage.{Storage, Spot, read, row_of}
 use Rattle.node_code.specs.Parallel.{fault_at, at_line, shape_of, outcome_of, reads_at, all_reads_at, value_by_reads, values_by_reads, spot_of, assigned_value}

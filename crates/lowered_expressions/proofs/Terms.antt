@@ -8,8 +8,8 @@ use Rattle.array_meaning.specs.State.{State, scalar, array, element, if_in_bound
 use Rattle.array_meaning.specs.Terms.{Apply, Terms}
 use Rattle.expression_rules.specs.declared.dims.Dim.{Dim}
 use Rattle.statement_trail.specs.Trail.{Trail}
-use Rattle.lowering.proofs.Reach.{still, Idle, HasAt, has-back, SameBelow, same-refl, same-set, slot-set, stands, one, Comes, comes-last, comes-at, comes-but, comes-here}
-use Rattle.lowering.specs.ExpressionCode.{all_slots_of, flats_of, codes_of, operated_flat, set_if, one_if}
+use Rattle.lowered_expressions.proofs.Reach.{still, Idle, HasAt, has-back, SameBelow, same-refl, same-set, slot-set, stands, one, Comes, comes-last, comes-at, comes-but, comes-here}
+use Rattle.lowered_expressions.specs.ExpressionCode.{all_slots_of, flats_of, codes_of, operated_flat, set_if, one_if}
 use Rattle.machine_steps.specs.Instr.{Running, Control}
 use Rattle.machine_steps.specs.Machine.{fetch_control, faulted, steps}
 use Rattle.storage.specs.Storage.{Storage, row_of, read}

@@ -1,0 +1,6 @@
+pub mod Reach
+pub mod Terms
+pub mod Goes
+pub mod Keeping
+pub mod Scatter
+pub mod Indexed

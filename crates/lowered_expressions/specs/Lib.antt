@@ -1,0 +1,3 @@
+pub mod ExpressionCode
+pub mod WellFormed
+pub mod Passed

@@ -1,0 +1,16 @@
+//! Where the machine comes over code, and the code of expressions.
+//!
+//! Comes in: programs whose names are resolved, in `array_meaning`'s definitions, and what instructions do on the machine with whole
+//! arrays, in `node_code`'s. Goes out, in `specs/`: the code of expressions; which programs are well formed; and what the machine passes on its
+//! way. In `proofs/`, for the laws of statements and of nests: that the machine comes from a place to another one with what a state is. There
+//! is no function here that runs, and no node.
+//!
+//! What holds in between, from the bottom up:
+//!
+//! - An expression's code leaves an expression over the slots that has its value until one of these slots is set again. What may fault
+//!   is evaluated by the code, in order, so what is left can't; what is evaluated once in an array expression is, and of the rest a form
+//!   over the slots is left.
+//! - `Reach`, `Goes`: a run over code comes to a place with the slots and rows of the state that a statement leaves; or it ends, finished or
+//!   with the statement's fault.
+//! - `Scatter`, `Indexed`: the value of an array expression by the elements that it reads, and FORALL's expressions at an index tuple.
+#![tactic(auto)]

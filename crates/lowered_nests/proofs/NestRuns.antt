@@ -1,0 +1,112 @@
+-- What is asked of a nest and of the machine where its loops have their bounds, and what is so after its statements.
+use Rattle.std.proofs.Common.{◌≡◌, ℕ, ◌+◌, ◌*◌, ◌<◌, ◌≤◌, ◌⊎◌, List, [], length, map, ℤ, true, false, None, Ok}
+use Rattle.op_tables.specs.Operators.{wrapped}
+use Rattle.storage.specs.Storage.{Storage}
+use Rattle.machine_steps.specs.Layout.{Layout, size_of}
+use Rattle.machine_steps.specs.Space.{space_count}
+use Rattle.array_meaning.specs.declared.sections.Selection.TheVariants.{Along}
+use Rattle.array_meaning.specs.Faults.{Fault}
+use Rattle.array_meaning.specs.State.{State, scalar, array}
+use Rattle.array_meaning.specs.Statements.{Loop, Nest, Block, Done, Do, Outermost}
+use Rattle.array_meaning.specs.Runs.{Run, normal, Faulted}
+use Rattle.array_meaning.specs.Execution.{run}
+use Rattle.array_meaning.specs.Expressions.{index_values}
+use Rattle.array_meaning.specs.Iterations.{is_in, values_of, nest_axes, nest_indices, iteration_count}
+use Rattle.array_meaning.specs.Touches.{assigned_in}
+use Rattle.hpf_base.specs.declared.limits.TheConstants.{MAX_TUPLES}
+use Rattle.array_meaning.specs.NestEntry.{check_nest}
+use Rattle.node_code.specs.Flat.{slot}
+use Rattle.node_code.specs.Forms.{selections_in}
+use Rattle.node_code.specs.Instructions.{Instruction, ArrayTable, NewMapping}
+use Rattle.lowered_expressions.specs.WellFormed.{IsWellFormedBlock}
+use Rattle.lowered_expressions.proofs.Reach.{HasAt, Reaches, Stops, stands}
+use Rattle.lowered_expressions.proofs.Terms.{HoldsArrays}
+use Rattle.lowered_expressions.proofs.Goes.{Holds}
+use Rattle.nest_items.specs.BlockForms.{HasForm}
+use Rattle.nest_items.specs.Settled.{SameIn, settled_by}
+use Rattle.nest_texts.specs.NestInstructions.{nest_instructions, slots_of_nest}
+use Rattle.nest_join.specs.NestNames.{index_in}
+use Rattle.lowered_nests.specs.TextBlocks.{IsTextBlock}
+use Rattle.fitting_states.specs.FittingStates.{StateFits}
+use Rattle.lowered_nests.specs.NestCode.{plain, text_in, test_in, stored, finals, along, nest_rows}
+
+-- what is asked of a nest beside its form, and of the state at its entry
+pub record IsAsked (n : ℕ) (nest : Nest) (loop : Loop) (block body : Block) (form : HasForm nest loop block body) (s : State) : Type 0 where
+  -- what the rules of nests say of its texts
+  pub texts : IsTextBlock n form.all body
+  -- the first value of the outermost loop is of 64 bits
+  pub first : wrapped (values_of s loop).first ≡ (values_of s loop).first
+  -- a scalar that the nest assigns is no array
+  pub bare : (a : ℕ) → is_in a (assigned_in body) ≡ true → (array s a).elements ≡ []
+  -- a nest with statements has so few iterations by its check
+  pub small : body ≡ Done → iteration_count nest s ≤ MAX_TUPLES
+
+-- how copies lie: with an element for each position, whatever lies how
+pub record HasCopies (table : ArrayTable) : Type 0 where
+  pub sized : (layouts : List Layout) (ns : List ℕ) → size_of (table.copies layouts ns) ≡ space_count ns
+  pub steady : (one other : List Layout) (ns : List ℕ) → table.copies one ns ≡ table.copies other ns
+
+module _ (table : ArrayTable) (row_count : ℕ) (moves : ℕ → List NewMapping) (code : List Instruction) (n many : ℕ) where
+  -- the statements of the nest of a line stand at a place, and the bounds of its loops are in the slots from v on; the inner loops of its
+  -- statements take those from b on
+  pub record NestStands (line pc v : ℕ) (nest : Nest) (loop : Loop) (block body : Block) (s : State) (slots : List ℤ) (rows : Storage) : Type 0 where
+    pub form : HasForm nest loop block body
+    pub named : IsWellFormedBlock n block
+    pub index : loop.index < n
+    pub known : index_values s loop.control ≡ Ok (values_of s loop)
+    pub passed : check_nest nest body s ≡ Ok s
+    pub fits : StateFits s
+    pub asked : IsAsked n nest loop block body form s
+    pub holds : Holds table row_count moves code n many None s slots rows
+    pub bounds : selections_in slots (along v nest.loops) ≡ map Along (nest_axes s nest)
+    pub from : n ≤ v
+    pub few : v + 4 * length nest.loops + slots_of_nest (plain body) ≤ many
+    pub room : n + nest_rows n nest body ≤ row_count
+    pub has : HasAt code pc (nest_instructions line (along v nest.loops) (text_in n nest body) (test_in n nest body) (stored n nest body) (finals n nest body) (plain body)
+        (v + 4 * length nest.loops) pc)
+
+  -- after them: the arrays and the scalars but for indices are those of a state, and so are the indices of loops that are none of the nest's
+  pub record NestDone (v : ℕ) (nest : Nest) (loop : Loop) (block body : Block) (form : HasForm nest loop block body) (s state : State) (slots slots' : List ℤ) (rows' : Storage) : Type 0 where
+    pub scalars : (k : ℕ) → k < n → form.all k ≡ false → slot slots' k ≡ scalar state k
+    pub inner : (k : ℕ) → k < n → form.all k ≡ true → index_in (nest_indices nest) 0 k ≡ None → slot slots' k ≡ scalar state k
+    pub settled : SameIn form.all (settled_by s (Do (Outermost nest body) loop block) s) state
+    pub arrays : HoldsArrays n table.shapes state rows'
+    pub places : length state.scalars ≡ n
+    pub more_places : length state.arrays ≡ n
+    pub printed : state.printed ≡ s.printed
+    pub rows : length rows' ≡ row_count
+    pub size : length slots' ≡ many
+    pub kept : (x : ℕ) → n ≤ x → x < v + 4 * length nest.loops → slot slots' x ≡ slot slots x
+
+  module _ (line pc v : ℕ) (nest : Nest) (loop : Loop) (block body : Block) (form : HasForm nest loop block body) (s : State) (slots : List ℤ) (rows : Storage) where
+    abbrev pub nest_run : Run
+    nest_run = run (Do (Outermost nest body) loop block) line s
+
+    abbrev pub to : ℕ
+    to = pc + length (nest_instructions line (along v nest.loops) (text_in n nest body) (test_in n nest body) (stored n nest body) (finals n nest body) (plain body)
+        (v + 4 * length nest.loops) pc)
+
+    -- both end normally
+    pub record StatementsEnd : Type 0 where
+      pub state : State
+      pub slots' : List ℤ
+      pub rows' : Storage
+      pub ends : nest_run ≡ normal state
+      pub reach : Reaches table row_count moves code [] (stands table row_count moves code pc slots rows s.printed) (stands table row_count moves code to slots' rows' s.printed)
+      pub done : NestDone v nest loop block body form s state slots slots' rows'
+
+    -- or both with one fault
+    pub record StatementsFault : Type 0 where
+      pub fault : Fault
+      pub state : State
+      pub ends : nest_run ≡ record { state = state; completion = Faulted fault }
+      pub quiet : state.printed ≡ s.printed
+      pub stops : Stops table row_count moves code [] (stands table row_count moves code pc slots rows s.printed) fault s.printed
+
+-- the statements of a nest that has an iteration end as the meaning says
+abbrev pub StatementsRun : Type 0
+StatementsRun = (table : ArrayTable) (row_count : ℕ) (moves : ℕ → List NewMapping) (code : List Instruction) (n many : ℕ) → HasCopies table → length table.shapes ≡ n
+    → (line pc v : ℕ) (nest : Nest) (loop : Loop) (block body : Block) (s : State) (slots : List ℤ) (rows : Storage)
+    → (h : NestStands table row_count moves code n many line pc v nest loop block body s slots rows) → (iteration_count nest s ≡ 0 → ⊥)
+    → StatementsEnd table row_count moves code n many line pc v nest loop block body h.form s slots rows
+    ⊎ StatementsFault table row_count moves code n many line pc v nest loop block body h.form s slots rows

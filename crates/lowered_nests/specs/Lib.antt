@@ -1,0 +1,2 @@
+pub mod NestCode
+pub mod TextBlocks

@@ -1,0 +1,21 @@
+//! The code of nests of INDEPENDENT loops, and that it does what the nests mean.
+//!
+//! Comes in: a nest in resolved form, with what it keeps by its form (`nest_items`); its code as texts over copies, with the law that the machine
+//! with whole arrays ends over it as the meaning says (`nest_join`); and what it is for that machine to come over code to a place
+//! (`lowered_expressions`). Goes out, in `specs/`: the node code of a nest as a function of it. In `proofs/`, for the laws of statements: over that
+//! code the machine goes on as the run of the nest does. There is no function here that runs, and no node.
+//!
+//! What holds in between, from the bottom up:
+//!
+//! - `NestCode`: which scalars have copies, where these lie, the innermost block as texts, and round it the bounds of the loops and their
+//!   indices.
+//! - `PlainCode`, `CodedTexts`: that code is the one of which the law of nests speaks.
+//! - `CodedBody`, `Begun`, `Entered`, `Starts`: all that the law of nests asks at the entry holds of a nest that keeps its form and is entered.
+//! - `StatementsEnds`, `StatementsRuns`: so its statements end as the run of the nest does. What a nest's code makes of slots and rows doesn't
+//!   depend on how the rows lie (`SteadyRows`), and on the way nothing is noted (`QuietSteps`).
+//! - `LoopBounds`, `LoopTrips`, `IndexCode`: the code round the statements. `EmptyNests`, `SettledNests`: what the meaning leaves in the indices
+//!   of a nest, without an iteration and with one.
+//! - `NestGoes`: all of it together.
+//!
+//! What is asked of a nest beside its form, and of the state at its entry, is `IsAsked` (`NestRuns`): it isn't shown here of any nest.
+#![tactic(auto)]

@@ -1,0 +1,18 @@
+use Rattle.std.proofs.Common.{◌≡◌, None, option_map, rules}
+use Rattle.array_meaning.specs.Sections.{extents}
+use Rattle.node_code.specs.Forms.{selections_in}
+use Rattle.node_code.specs.Texts.{assignment}
+use Rattle.tuple_values.specs.Views.{statement}
+use Rattle.tuple_values.proofs.OfInstructions.{assignment_is}
+use Rattle.tuple_values.proofs.statement.ParallelStatement.of_assignment.Goals as goal
+
+pub returns : goal.returns
+returns c =
+    let slots = c.args.slots.now in
+    let p = assignment c.args.p.now in
+    let space = c.in_ok-space.space in
+    let over : space.extents.items ≡ extents (selections_in slots p.over) = search rules in
+    let indices : option_map (λ ds. ds.items) space.indices ≡ None = search rules in
+    let left : c.in_ok-left.left.items ≡ selections_in slots p.left = search rules in
+    assignment_is c.args.shapes.now slots p (statement c.assigning.result) space.extents.items (option_map (λ ds. ds.items) space.indices) over c.in_ok-left.left.items
+    c.assigning.ensures indices left
