@@ -297,8 +297,6 @@ def left_out(trouble, statement):
         return ["in directives NUMBER_OF_PROCESSORS(d) is the extent of the grid in dimension d"]
     if first == "REALIGN":
         return ["align with a template, and redistribute that: what is aligned with it moves with it"]
-    if first == "INDEPENDENT":
-        return not_run_yet(trouble)
     if statement.directive or first == "DO" and tokens[2:3] == ["="]:
         return []
     if re.match(r"     [1-9]", trouble.raw):
@@ -322,11 +320,3 @@ def left_out(trouble, statement):
         return [f"{first} can't stand inside the {opened[-1].construct()} of line {opened[-1].line}: " +
                 ("write one header with all indices" if first == opened[-1].construct() == "FORALL" else "write them one after the other")]
     return [INSTEAD[first]] if first in INSTEAD else []
-
-
-def not_run_yet(trouble):
-    if not trouble.words or not {"run", "serial", "messages"} & set(trouble.words):
-        return []
-    action = next(word for word in trouble.words if word in ("run", "serial", "messages"))
-    answer = trouble.questions.check()
-    return [f"hpf check accepts the text, and hpf {action} doesn't run this yet"] if answer is not None and answer.status == 0 else []

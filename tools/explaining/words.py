@@ -12,7 +12,7 @@ REASONS = {
     8: ("BadIndependent", "a nest of INDEPENDENT loops has what may not stand in one", ["Nests of INDEPENDENT loops"]),
     9: ("BadArrangement", "an arrangement hasn't as many processors as there are nodes, or none fits the DISTRIBUTE", ["PROCESSORS and TEMPLATE", "DISTRIBUTE"]),
     10: ("Limit", "a limit is passed", ["Limits", "Names and constants", "What is refused"]),
-    11: ("LeftOut", "a part of Fortran or HPF that this language leaves out, or that isn't run yet", ["Statements", "run and serial"]),
+    11: ("LeftOut", "a part of Fortran or HPF that this language leaves out", ["Statements"]),
     12: ("BadConstant", "an expression that must be constant isn't, or divides by zero", ["Names and constants"]),
 }
 FAULTS = {

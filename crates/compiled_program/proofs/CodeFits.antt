@@ -1,16 +1,24 @@
 -- The code of a program fits rows, where what each line moves fits them and the code of the same statements that move nothing is valid.
-use Rattle.std.proofs.Common.{◌≡◌, ℕ, suc, ◌+◌, ◌<◌, true, nat_le, nat_lt, List, [], ◌∷◌, ◌++◌, length, Some, refl, arith}
+use Rattle.std.proofs.Common.{◌≡◌, ℕ, suc, ◌+◌, ◌*◌, ◌<◌, true, nat_le, nat_lt, List, [], ◌∷◌, ◌++◌, length, pos, Option, Some, None, refl, arith}
 use Rattle.std.proofs.lemmas.Bool.{and_from, le-leb}
 use Rattle.std.specs.Bool.{⊤}
 use Rattle.std.specs.List.{list_all, slice_get}
 use Rattle.hpf_base.specs.declared.index.Shape.{Shape}
 use Rattle.hpf_base.specs.declared.limits.TheConstants.{MAX_RANK}
 use Rattle.array_meaning.specs.Statements as statements
-use Rattle.array_meaning.specs.Statements.{Block, Done, Then, Statement, AssignScalar, AssignElement, AssignSection, If, Do, Where, Forall, Stop, Exit, Cycle, Continue, Redistribute, Arms, NoArm, Arm}
-use Rattle.node_code.specs.Instructions.{Instruction, Jump, NewMapping, Par, ParForall, ParNest, MakeCopies, ParCopy, ParForallCopy, Reduce, MakeCopy, Remap}
+use Rattle.array_meaning.specs.Statements.{Loop, Nest, Mark, Unmarked, Outermost, Block, Done, Then, Statement, AssignScalar, AssignElement, AssignSection, If, Do, Where, Forall, Stop, Exit, Cycle, Continue, Redistribute, Arms, NoArm, Arm}
+use Rattle.node_code.specs.Flat.{Int}
+use Rattle.node_code.specs.Forms.{Sub}
+use Rattle.node_code.specs.Instructions.{Instruction, Jump, Verdict, NewMapping, Par, ParForall, ParNest, MakeCopies, ParCopy, ParForallCopy, Reduce, MakeCopy, Remap}
 use Rattle.node_code.specs.ValidCode.{CodeTable, IsValid, IsValidNodeCode}
 use Rattle.lowered_expressions.specs.ExpressionCode.{code_of, control_code, control_slots}
-use Rattle.lowering.specs.StatementCode.{entry_code, statement_code, arms_code, block_code, program_code}
+use Rattle.nest_machine.specs.Asked.{tested_asked}
+use Rattle.nest_machine.specs.Finals.{Final}
+use Rattle.nest_texts.specs.NestTexts.{NestText, NestTest}
+use Rattle.nest_texts.specs.NestInstructions as forms
+use Rattle.nest_texts.specs.NestInstructions.{NestBody, NoText, AndText, AndIf, AndLoop, NestArms, AndArm, count_nest, text_instructions, test_instruction, tail_instructions, loop_instructions, body_instructions, arms_instructions, nest_instructions, finals_makes, conditions_makes, finals_instructions}
+use Rattle.lowered_nests.specs.NestCode.{plain, text_in, test_in, stored, finals, along, trips_code, indices_code, inner_bounds, nest_code}
+use Rattle.lowering.specs.StatementCode.{marked_code, entry_code, statement_code, arms_code, block_code, program_code}
 use Rattle.owner_tables.specs.Views.{TableView}
 use Rattle.node_program.specs.Fits.{fits_row, fits_rows}
 
@@ -63,6 +71,79 @@ module _ (table : CodeTable) (none : table.maps ≡ 0) (tables : List TableView)
   after : (xs ys ys' : List Instruction) → Follow ys ys' → Follow (xs ++ ys) (xs ++ ys')
   after xs ys ys' g = join xs ys xs ys' (same xs) g
 
+  -- ---- nests, wherever they stand
+
+  module _ (line : ℕ) (over : List Sub) {A C : Type 0} (text_of : A → NestText) (test_of : C → NestTest) (stored : ℕ) where
+    mutual
+      body-follows : (body : NestBody A C) (guard : Option ℕ) (k b pc pc' : ℕ)
+          → Follow (body_instructions line over text_of test_of stored body guard k b pc) (body_instructions line over text_of test_of stored body guard k b pc')
+      body-follows NoText guard k b pc pc' = tt
+      body-follows (AndText a rest) guard k b pc pc' = after (text_instructions line over text_of test_of stored guard a) _ _ (body-follows rest guard k b _ _)
+      body-follows (AndIf arms rest) guard k b pc pc' =
+          join (arms_instructions line over text_of test_of stored arms guard [] k b pc) _ (arms_instructions line over text_of test_of stored arms guard [] k b pc') _
+          (nest-arms-follow arms guard [] k b pc pc') (body-follows rest guard _ b _ _)
+      body-follows (AndLoop bounds inner rest) guard k b pc pc' =
+          let own = body_instructions line over text_of test_of stored inner guard k (b + 4) (pc + 5) in
+          let own' = body_instructions line over text_of test_of stored inner guard k (b + 4) (pc' + 5) in
+          join (loop_instructions line bounds b pc own) _ (loop_instructions line bounds b pc' own') _ (
+            (λ h. refl),
+            (
+              (λ h. refl),
+              (
+                (λ h. refl),
+                (
+                  (λ h. refl),
+                  (
+                    (λ h. refl),
+                    join own (tail_instructions line bounds b (pc + 5) _) own' (tail_instructions line bounds b (pc' + 5) _) (body-follows inner guard k (b + 4) (pc + 5) (pc' + 5))
+                        ((λ h. refl), ((λ h. refl), ((λ h. refl), ((λ h. refl), ((λ h. refl), tt))))),
+                  ),
+                ),
+              ),
+            ),
+          ) (body-follows rest guard _ b _ _)
+
+      nest-arms-follow : (arms : NestArms A C) (guard : Option ℕ) (earlier : List ℕ) (k b pc pc' : ℕ)
+          → Follow (arms_instructions line over text_of test_of stored arms guard earlier k b pc) (arms_instructions line over text_of test_of stored arms guard earlier k b pc')
+      nest-arms-follow forms.NoArm guard earlier k b pc pc' = tt
+      nest-arms-follow (AndArm test body others) guard earlier k b pc pc' = (
+        follows (MakeCopies (stored + k) over (Int (pos 0))),
+        (
+          follows (test_instruction line over text_of test_of stored (tested_asked guard earlier) test (stored + k)),
+          join (body_instructions line over text_of test_of stored body (Some k) (k + 1) b (pc + 2)) _ (body_instructions line over text_of test_of stored body (Some k) (k + 1) b (pc' + 2)) _
+              (body-follows body (Some k) (k + 1) b (pc + 2) (pc' + 2)) (nest-arms-follow others guard (k ∷ earlier) _ b _ _),
+        ),
+      )
+
+    statements-follow : (fs : List Final) (body : NestBody A C) (b pc pc' : ℕ)
+        → Follow (nest_instructions line over text_of test_of stored fs body b pc) (nest_instructions line over text_of test_of stored fs body b pc')
+    statements-follow fs body b pc pc' =
+        after (finals_makes line over fs ++ conditions_makes line over stored (count_nest body)) _ _
+        (join (body_instructions line over text_of test_of stored body None 0 b _) _ (body_instructions line over text_of test_of stored body None 0 b _) _ (body-follows body None 0 b _ _)
+        (same (Verdict ∷ finals_instructions line fs)))
+
+  trips-follow : (line v target target' : ℕ) (ls : List Loop) → Follow (trips_code line v target ls) (trips_code line v target' ls)
+  trips-follow line v target target' [] = tt
+  trips-follow line v target target' (l ∷ ls) = ((λ h. refl), trips-follow line (v + 4) target target' ls)
+
+  indices-follow : (line v target target' : ℕ) (ls : List Loop) → Follow (indices_code line v target ls) (indices_code line v target' ls)
+  indices-follow line v target target' [] = tt
+  indices-follow line v target target' (l ∷ ls) = ((λ h. refl), ((λ h. refl), ((λ h. refl), indices-follow line (v + 4) target target' ls)))
+
+  nest-follows : (line : ℕ) (nest : Nest) (body : Block) (v pc pc' : ℕ) → Follow (nest_code n line nest body v pc) (nest_code n line nest body v pc')
+  nest-follows line nest body v pc pc' =
+      after (inner_bounds line v nest.loops) _ _
+      (join (trips_code line v _ nest.loops) _ (trips_code line v _ nest.loops) _ (trips-follow line v _ _ nest.loops)
+      (join (nest_instructions line (along v nest.loops) (text_in n nest body) (test_in n nest body) (stored n nest body) (finals n nest body) (plain body) (v + 4 * length nest.loops) _) _
+      (nest_instructions line (along v nest.loops) (text_in n nest body) (test_in n nest body) (stored n nest body) (finals n nest body) (plain body) (v + 4 * length nest.loops) _) _
+      (statements-follow line (along v nest.loops) (text_in n nest body) (test_in n nest body) (stored n nest body) (finals n nest body) (plain body) (v + 4 * length nest.loops) _ _)
+      (indices-follow line v _ _ nest.loops)))
+
+  marked-follows : (mark : Mark) (line v pc pc' : ℕ) (loops loops' : List Instruction) → Follow loops loops' → Follow (marked_code n line mark v pc loops) (marked_code n line mark v pc' loops')
+  marked-follows Unmarked line v pc pc' loops loops' h = h
+  marked-follows (Outermost nest Done) line v pc pc' loops loops' h = h
+  marked-follows (Outermost nest (Then l st rest)) line v pc pc' loops loops' h = nest-follows line nest (Then l st rest) v pc pc'
+
   -- ---- statements, wherever they stand
 
   mutual
@@ -75,7 +156,7 @@ module _ (table : CodeTable) (none : table.maps ≡ 0) (tables : List TableView)
         arms-follow arms (λ pc. block_code n nothing other b pc leave again) (λ pc. block_code n moves other b pc leave' again') b pc leave again pc' leave' again'
         (λ pc pc'. block-follows other b pc leave again pc' leave' again')
     statement-follows (Do mark loop body) line b pc leave again pc' leave' again' =
-        after (control_code line b loop.control ++ entry_code line mark (b + control_slots loop.control)) _ _ (
+        after (control_code line b loop.control ++ entry_code line mark (b + control_slots loop.control)) _ _ (marked-follows mark line (b + control_slots loop.control) _ _ _ _ (
           (λ h. refl),
           (
             (λ h. refl),
@@ -100,7 +181,7 @@ module _ (table : CodeTable) (none : table.maps ≡ 0) (tables : List TableView)
               ),
             ),
           ),
-        )
+        ))
     statement-follows (Where mask body others) line b pc leave again pc' leave' again' = same (statement_code n nothing line (Where mask body others) b pc leave again)
     statement-follows (Forall controls mask body) line b pc leave again pc' leave' again' = same (statement_code n nothing line (Forall controls mask body) b pc leave again)
     statement-follows (statements.Print items) line b pc leave again pc' leave' again' = same (statement_code n nothing line (statements.Print items) b pc leave again)

@@ -22,7 +22,7 @@ use Rattle.node_codegen.specs.Moves.{moves_by, moves_of_line}
 use Rattle.owner_tables.specs.Layouts.{IsLaid}
 use Rattle.owner_tables.specs.Views.{TableView}
 use Rattle.node_program.specs.Programs.{mappings_of}
-use Rattle.nodes_lowered.specs.NewMappings.{array_place, array_places, new_mappings, numbered, numbered_at, with_place}
+use Rattle.nodes_lowered.specs.NewMappings.{array_place, array_places, numbered, numbered_at, with_place}
 use Rattle.compiled_program.specs.NewTables.{moved_shape, new_table, new_tables, no_shape}
 use Rattle.compiled_program.proofs.Entries.{drop-entry}
 

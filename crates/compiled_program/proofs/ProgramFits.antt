@@ -1,5 +1,5 @@
 -- A compiled program fits its rows.
-use Rattle.std.proofs.Common.{◌≡◌, ◌==◌, ℕ, ◌+◌, ◌≤◌, true, nat_lt, List, [], length, All, refl, sym, ap, ◌∙◌, subst, arith}
+use Rattle.std.proofs.Common.{◌≡◌, ◌==◌, ℕ, ◌+◌, ◌≤◌, true, nat_lt, List, [], length, All, refl, sym, ◌∙◌, subst, arith}
 use Rattle.std.proofs.lemmas.List.{length-map}
 use Rattle.std.specs.List.{IsDistinct, flat_map, list_all}
 use Rattle.std.specs.Prelude.{nat_eq}
@@ -18,11 +18,12 @@ use Rattle.array_meaning.specs.Resolution.{initial_array, initial_state, resolve
 use Rattle.array_meaning.specs.State.{Array}
 use Rattle.array_meaning.specs.Statements.{Block}
 use Rattle.machine_steps.specs.Layout.{Layout}
-use Rattle.node_code.specs.Instructions.{Instruction, NewMapping, Remap}
+use Rattle.node_code.specs.Instructions.{NewMapping, Remap}
 use Rattle.node_code.specs.Texts.{instructions}
 use Rattle.node_code.specs.ValidCode.{CodeTable, IsValid, IsValidNodeCode}
 use Rattle.lowering.specs.Ranks.{declared_shapes}
 use Rattle.lowering.specs.StatementCode.{block_copies, block_slots, program_code}
+use Rattle.nest_items.specs.BlockForms.{BlockHasForms}
 use Rattle.owner_tables.specs.Views.{TableView}
 use Rattle.node_program.specs.Fits.{FitsRows, fits_rows, shapes_of}
 use Rattle.node_program.specs.declared.program.NodeProgram.{NodeProgram}
@@ -37,10 +38,10 @@ abbrev ValidCodeLaw : Type 0
 ValidCodeLaw =
     (p : MainProgram) (moves : ℕ → List NewMapping) (table : CodeTable) → table.shapes ≡ declared_shapes (initial_state (entries p))
     → length (entries p) + block_slots (resolved_block (entries p) p.body) ≤ table.slots
-    → block_copies (resolved_block (entries p) p.body) ≤ table.copies
+    → block_copies (length (entries p)) (resolved_block (entries p) p.body) ≤ table.copies
     → length (program_code (length (entries p)) moves (resolved_block (entries p) p.body)) ≡ table.places
     → ((line : ℕ) → IsValid table (Remap line (moves line)))
-    → HasNoBreach p → NoBreach (Among (bodies p))
+    → HasNoBreach p → NoBreach (Among (bodies p)) → BlockHasForms (resolved_block (entries p) p.body)
     → IsValidNodeCode table (program_code (length (entries p)) moves (resolved_block (entries p) p.body))
 
 none-twice : IsDistinct nat_eq []
@@ -48,7 +49,8 @@ unfolding IsDistinct
 none-twice = tt
 
 module _ (nodes room : ℕ) (p : MainProgram) (arrays : List ArrayMap) (moves : List Redistribution) (many : length arrays ≡ length (array_places 0 (entries p)))
-    (valid : All (λ (r : Redistribution). AreNewMaps nodes arrays r.maps) moves) (law : ValidCodeLaw) (keeps : KeepsRules p) where
+    (valid : All (λ (r : Redistribution). AreNewMaps nodes arrays r.maps) moves) (law : ValidCodeLaw) (keeps : KeepsRules p)
+    (forms : BlockHasForms (resolved_block (entries p) p.body)) where
   abbrev es : List Entry
   es = entries p
 
@@ -68,7 +70,7 @@ module _ (nodes room : ℕ) (p : MainProgram) (arrays : List ArrayMap) (moves : 
   abbrev table : CodeTable
   table = record {
     shapes = declared_shapes (initial_state es);
-    copies = block_copies block;
+    copies = block_copies (length es) block;
     maps = 0;
     slots = length es + block_slots block;
     places = length (program_code (length es) nothing block);
@@ -80,7 +82,7 @@ module _ (nodes room : ℕ) (p : MainProgram) (arrays : List ArrayMap) (moves : 
   code-fits : list_all (fits_rows (length es) tables rows) (program_code (length es) remaps block) ≡ true
   code-fits =
       let good : IsValidNodeCode table (program_code (length es) nothing block) =
-      law p nothing table refl (omega arith) (omega arith) refl (λ line. (tt, none-twice)) keeps.resolved keeps.bodies_fine in
+      law p nothing table refl (omega arith) (omega arith) refl (λ line. (tt, none-twice)) keeps.resolved keeps.bodies_fine forms in
       subst (λ k. list_all (fits_rows k tables rows) (program_code (length es) remaps block) ≡ true) count
       (program-code-fits table refl tables rows (length es) remaps
       (λ line. subst (λ k. list_all (λ (m : NewMapping). nat_lt m.array k) (remaps line) ≡ true) (sym count) (lines-fit nodes room es arrays many moves line valid).0)

@@ -20,9 +20,9 @@ use Rattle.machine_steps.specs.Layout.{Layout, size_of}
 use Rattle.machine_steps.specs.Machine.{Machine}
 use Rattle.node_code.specs.Instructions.{Instruction, NewMapping}
 use Rattle.node_code.specs.ProgramText.{Text, texts}
-use Rattle.lowering.specs.StatementCode.{block_copies, block_slots, program_code}
+use Rattle.lowering.specs.StatementCode.{block_slots, program_code}
 use Rattle.node_program.specs.Openings.{opening_machine, start_rows}
-use Rattle.nodes_lowered.specs.OnNodes.{AreUnmade, LieAsDeclared, LiesAsDeclared}
+use Rattle.nodes_lowered.specs.OnNodes.{AreUnmade, LieAsDeclared, LiesAsDeclared, program_copies}
 use Rattle.nodes_lowered.specs.ProgramLayouts.{empty_layout, maps_after, program_layouts}
 use Rattle.nodes_lowered.specs.ProgramRuns.{program_shapes, text_opening}
 use Rattle.nodes_lowered.proofs.Laid.{array-size}
@@ -81,9 +81,9 @@ module _ (nodes : ℕ) (p : MainProgram) (maps : List Mapping) (moves : ℕ → 
     (shapes : List (List Dim)) (slots values : List ℤ) where
   abbrev Opens : List Entry → Type 0
   Opens names =
-      LieAsDeclared nodes (block_copies (resolved_block names p.body)) names layouts → is ≡ program_code (length names) moves (resolved_block names p.body) → hidden ≡ block_slots (resolved_block names p.body)
+      LieAsDeclared nodes (program_copies p) names layouts → is ≡ program_code (length names) moves (resolved_block names p.body) → hidden ≡ block_slots (resolved_block names p.body)
       → shapes ≡ map (λ (e : Entry). (initial_array e.what).dims) names → slots ≡ map (λ (e : Entry). initial_scalar e.what) names ++ replicate hidden (pos 0)
-      → values ≡ values_of (block_copies (resolved_block names p.body)) names → opening_machine (texts nodes maps shapes is) slots layouts values ≡ text_opening nodes p maps moves layouts
+      → values ≡ values_of (program_copies p) names → opening_machine (texts nodes maps shapes is) slots layouts values ≡ text_opening nodes p maps moves layouts
 
   opens : Opens (entries p)
   opens laid code slots-after dims first starts =
@@ -95,7 +95,7 @@ module _ (nodes : ℕ) (p : MainProgram) (maps : List Mapping) (moves : ℕ → 
       ∙ ap (λ s. machine layouts (texts nodes maps (program_shapes p) (program_code (length es) moves block)) s (start_rows layouts values))
       (first ∙ ap (λ k. scalars ++ replicate k (pos 0)) slots-after)
       ∙ ap (machine layouts (texts nodes maps (program_shapes p) (program_code (length es) moves block)) (scalars ++ replicate (block_slots block) (pos 0)))
-      (ap (start_rows layouts) starts ∙ rows-are nodes (block_copies block) es layouts laid)
+      (ap (start_rows layouts) starts ∙ rows-are nodes (program_copies p) es layouts laid)
 
   pub opening-is : (names : List Entry) → names ≡ entries p → Opens names
   opening-is names same = subst Opens (sym same) opens

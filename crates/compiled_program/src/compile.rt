@@ -10,7 +10,7 @@ ghost use Rattle.name_table.specs.Entries.{entries};
 ghost use Rattle.array_maps.specs.Maps.{AreMaps};
 ghost use Rattle.accepted_program.specs.Accepted.{KeepsRules};
 ghost use Rattle.array_meaning.specs.Resolution.{resolved_block};
-ghost use Rattle.nest_standing.specs.FittingNumbers.{BlockNestsFit, ProgramNestsFit};
+ghost use Rattle.fitting_states.specs.FittingStates.{BlockFits, ProgramFits};
 ghost use Rattle.node_code.specs.ProgramText.{texts};
 ghost use Rattle.node_code.specs.Texts.{instructions};
 ghost use Rattle.lowering.specs.StatementCode.{block_copies, block_slots, program_code};
@@ -30,7 +30,7 @@ use crate::starts::{first_slots, first_values, shapes};
 use accepted_program::AcceptedProgram;
 use array_maps::Maps;
 use expression_rules::Dims;
-use fitting_numbers::nests_fit;
+use fitting_numbers::{initial_values_fit, numbers_fit};
 use hpf_base::OutOfMemory;
 use name_table::Program;
 use node_code::Instruction;
@@ -56,7 +56,7 @@ pub struct CompiledProgram {
 }
 
 /// Compiles a program for the nodes of the grid that it is accepted on, where its arrays lie as they are mapped at the start (HPF 2.0, 3) and
-/// move with each REDISTRIBUTE (HPF 2.0, 8.3). The code fits the rows, and the numbers in the program's nests of INDEPENDENT loops are of 64 bits.
+/// move with each REDISTRIBUTE (HPF 2.0, 8.3). The code fits the rows, and the numbers of the program are of 64 bits.
 /// An `Err` is want of memory.
 pub fn compile_program(
     alloc: Global,
@@ -68,7 +68,7 @@ pub fn compile_program(
     ensures nodes { IfOk result (λ c. (arc_value c.text).nodes ≡ c.owners.nodes) }
     ensures values { IfOk result (λ c. length c.values.items ≡ length c.owners.layouts) }
     ensures fits { IfOk result (λ c. FitsRows (arc_value c.text) c.owners.layouts) }
-    ensures numbers { IfOk result (λ c. ProgramNestsFit (main_program accepted.now.program.tree)) }
+    ensures numbers { IfOk result (λ c. ProgramFits (main_program accepted.now.program.tree)) }
 {
     let compiled = compile_on(
         alloc,
@@ -101,10 +101,11 @@ fn compile_on(
     ensures nodes { IfOk result (λ c. (arc_value c.text).nodes ≡ c.owners.nodes) }
     ensures values { IfOk result (λ c. length c.values.items ≡ length c.owners.layouts) }
     ensures fits { IfOk result (λ c. FitsRows (arc_value c.text) c.owners.layouts) }
-    ensures numbers { IfOk result (λ c. ProgramNestsFit (main_program program.now.tree)) }
+    ensures numbers { IfOk result (λ c. ProgramFits (main_program program.now.tree)) }
 {
     accepted_programs_have_valid_code();
     let names = &program.names;
+    initial_values_fit(names);
     let made = program_moves(alloc, names, maps, nodes)?;
     let code = compiled(alloc, program, &made.moves)?;
     let owners = program_owners(alloc, names, maps.arrays.as_slice(), code.copies, nodes)?;
@@ -125,11 +126,11 @@ fn compiled(alloc: Global, program: &Program, moves: &[LineMoves]) -> Result<Cod
     ensures code { IfOk result (λ c. instructions c.instructions.items ≡ program_code (length program.now.names) (moves_by moves.now)
         (resolved_block program.now.names (main_program program.now.tree).body)) }
     ensures hidden { IfOk result (λ c. c.hidden ≡ block_slots (resolved_block program.now.names (main_program program.now.tree).body)) }
-    ensures copies { IfOk result (λ c. c.copies ≡ block_copies (resolved_block program.now.names (main_program program.now.tree).body)) }
-    ensures numbers { IfOk result (λ c. BlockNestsFit (resolved_block program.now.names (main_program program.now.tree).body)) }
+    ensures copies { IfOk result (λ c. c.copies ≡ block_copies (length program.now.names) (resolved_block program.now.names (main_program program.now.tree).body)) }
+    ensures numbers { IfOk result (λ c. BlockFits (resolved_block program.now.names (main_program program.now.tree).body)) }
 {
     let plan = plan(alloc, program)?;
-    nests_fit(&plan.body);
+    numbers_fit(&plan.body);
     compile(alloc, program.names.len(), &plan, moves)
 }
 

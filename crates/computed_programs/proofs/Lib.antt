@@ -6,3 +6,4 @@ mod AssignmentExamples
 mod ForallExamples
 mod StatementExamples
 mod TrailExamples
+mod NestTrailExamples

@@ -140,6 +140,10 @@ block (f ∷ fs) = f (block fs)
 abbrev pub loop : ℕ → s.Axis → List (s.Block → s.Block) → s.Block → s.Block
 loop line x body = at line (s.Do None x (block body))
 
+-- a loop after an INDEPENDENT of a line, with its NEW and REDUCTION lists
+abbrev pub nest : ℕ → List Name → List Name → ℕ → s.Axis → List (s.Block → s.Block) → s.Block → s.Block
+nest directive new reduction line x body = at line (s.Do (Some record { line = directive; new = new; reduction = reduction }) x (block body))
+
 abbrev pub if_one : ℕ → e.Expression → (s.Block → s.Block) → s.Block → s.Block
 if_one line condition statement = at line (s.If (s.Arm line condition (statement s.Done) s.NoArm) s.Without)
 

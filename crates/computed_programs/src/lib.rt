@@ -12,5 +12,5 @@
 //! - `OperatorExamples`: values of operators at the ends of 64 bits and of negative numbers.
 //! - `AssignmentExamples`, `ForallExamples`: array assignment and WHERE; FORALL.
 //! - `StatementExamples`: IF, DO, STOP, PRINT, and what names stand for.
-//! - `TrailExamples`: which parts are reached.
+//! - `TrailExamples`, `NestTrailExamples`: which parts are reached.
 #![tactic(auto)]

@@ -1,13 +1,8 @@
 -- What an accepted program's machine has come to where it is over.
-use Rattle.std.proofs.Common.{◌≡◌, ℕ, ◌++◌, List, [], All, Some, ap, sym, ◌∙◌, subst}
-use Rattle.hpf_base.specs.ElementOrder.{product}
+use Rattle.std.proofs.Common.{◌≡◌, ℕ, ◌++◌, List, [], Some, ap, ◌∙◌, subst}
 use Rattle.hpf_base.specs.Grid.{IsGrid}
 use Rattle.syntax_tree.specs.MainProgram.{MainProgram, main_program}
-use Rattle.array_maps.specs.Maps.{AreNewMaps, IsArrayMap}
-use Rattle.array_maps.specs.declared.maps.ArrayMap.{ArrayMap}
-use Rattle.array_maps.specs.declared.maps.Redistribution.{Redistribution}
-use Rattle.directive_check.specs.ProgramMaps.{program_moves, start_maps}
-use Rattle.nest_standing.specs.FittingNumbers.{ProgramNestsFit}
+use Rattle.fitting_states.specs.FittingStates.{ProgramFits}
 use Rattle.accepted_program.specs.declared.accepted.AcceptedProgram.{AcceptedProgram}
 use Rattle.array_meaning.specs.Faults.{Fault}
 use Rattle.array_meaning.specs.Serial.{serial}
@@ -25,7 +20,7 @@ use Rattle.compiled_program.proofs.Accepted.{arrays-valid, moves-valid}
 use Rattle.distributed_run.proofs.GridLaws.{AllMovesDealt}
 use Rattle.distributed_run.proofs.ProgramLines.{AllMovesByNumber, AllTextsLowered, end-is, text-is}
 
-module _ (a : AcceptedProgram) (is : IsGrid a.grid.now) (fit : ProgramNestsFit (main_program a.program.tree)) (texts : AllTextsLowered) (dealt : AllMovesDealt) (numbers : AllMovesByNumber)
+module _ (a : AcceptedProgram) (is : IsGrid a.grid.now) (fit : ProgramFits (main_program a.program.tree)) (texts : AllTextsLowered) (dealt : AllMovesDealt) (numbers : AllMovesByNumber)
     (old new : Machine Text Fault) (before after : List ℕ) (empty : before ≡ []) (begins : old ≡ grid_opening a.grid.now (main_program a.program.tree))
     (listed : IsListed a.program.names old new before after) (over : IsOver new.control.status) where
   abbrev grid : List ℕ

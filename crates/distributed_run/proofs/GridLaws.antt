@@ -9,7 +9,7 @@ use Rattle.array_maps.specs.Maps.{AreNewMaps, IsArrayMap}
 use Rattle.array_maps.specs.declared.maps.Redistribution.{Redistribution}
 use Rattle.directive_check.specs.ProgramMaps.{program_moves, start_maps}
 use Rattle.accepted_program.specs.Accepted.{KeepsRules}
-use Rattle.nest_standing.specs.FittingNumbers.{ProgramNestsFit}
+use Rattle.fitting_states.specs.FittingStates.{ProgramFits}
 use Rattle.machine_steps.specs.Layout.{Layout}
 use Rattle.node_code.specs.Instructions.{NewMapping}
 use Rattle.nodes_lowered.specs.NewMappings.{program_mappings, program_remaps}
@@ -19,7 +19,7 @@ use Rattle.nodes_lowered.specs.ProgramRuns.{RunOnNodes}
 
 -- nodes run a program
 abbrev pub RunsOnNodes : Type 0
-RunsOnNodes = (nodes : ℕ) (p : MainProgram) (maps : List Mapping) (moves : ℕ → List NewMapping) (layouts : List Layout) → 0 < nodes → KeepsRules p → ProgramNestsFit p
+RunsOnNodes = (nodes : ℕ) (p : MainProgram) (maps : List Mapping) (moves : ℕ → List NewMapping) (layouts : List Layout) → 0 < nodes → KeepsRules p → ProgramFits p
     → LieAsDeclared nodes (program_copies p) (entries p) layouts → MovesDealt nodes p maps moves layouts → RunOnNodes nodes p maps moves layouts
 
 -- what its redistributions move gives each element an owner

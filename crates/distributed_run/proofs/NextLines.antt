@@ -16,7 +16,7 @@ use Rattle.node_code.specs.Texts.{instruction, instructions}
 use Rattle.message_text.specs.InstructionLines.{instruction_lines}
 use Rattle.node_code.specs.declared.instruction.Instruction.{Instruction as HeldInstruction}
 use Rattle.message_lines.specs.TextLines.{text_lines}
-use Rattle.distributed_run.specs.StepLines.{lines_at, lines_now, lines_while}
+use Rattle.distributed_run.specs.StepLines.{lines_now, lines_while}
 
 -- what each text of a program has as its number of nodes is the program's, where it has a text
 pub same-nodes : (nodes : ℕ) (maps : List Mapping) (dims : List (List Dim)) (xs : List HeldInstruction) (at count : ℕ) → at < length xs
@@ -83,10 +83,10 @@ next-lines es moves m t running first here = λ j. lines_while es moves (running
 -- lines that are new, where the rows and the slots are those
 pub fresh-lines : (es : List Entry) (moves : ℕ → List Remapping) (t : Text) (nodes : ℕ) (maps : List Mapping) (dims : List (List Dim)) (i : Instruction)
     (layouts layouts' : List Layout) (slots slots' : List ℤ) (start new : List ℕ) → t ≡ text nodes maps dims i → start ≡ []
-    → new ≡ start ++ instruction_lines maps (record { nodes = nodes; names = map (λ (e : Entry). e.name) es; shapes = dims; moves = moves }) (take (length es) layouts) i slots
+    → new ≡ start ++ instruction_lines maps (record { nodes = nodes; names = map (λ (e : Entry). e.name) es; shapes = dims; moves = moves; copies = []; copied = [] }) (take (length es) layouts) i slots
     → layouts ≡ layouts' → slots ≡ slots' → new ≡ text_lines es moves t layouts' slots'
 fresh-lines es moves t nodes maps dims i layouts layouts' slots slots' start new is empty made lies stand =
     made
-    ∙ ap (λ l. l ++ instruction_lines maps (record { nodes = nodes; names = map (λ (e : Entry). e.name) es; shapes = dims; moves = moves }) (take (length es) layouts) i slots) empty
+    ∙ ap (λ l. l ++ instruction_lines maps (record { nodes = nodes; names = map (λ (e : Entry). e.name) es; shapes = dims; moves = moves; copies = []; copied = [] }) (take (length es) layouts) i slots) empty
     ∙ ap (λ x. text_lines es moves x layouts slots) (sym is)
     ∙ (λ j. text_lines es moves t (lies j) (stand j))

@@ -1,38 +1,28 @@
 -- An accepted program on the nodes of its grid.
-use Rattle.std.proofs.Common.{◌≡◌, ℕ, ◌<◌, ◌≤◌, ◌^◌, List, All, length, sym, ap, subst, ◌∙◌, arith}
+use Rattle.std.proofs.Common.{◌≡◌, ℕ, ◌<◌, ◌≤◌, ◌^◌, List, length, sym, ap, subst, ◌∙◌, arith}
 use Rattle.std.specs.List.{slice_get}
 use Rattle.hpf_base.specs.ElementOrder.{product}
 use Rattle.hpf_base.specs.Grid.{IsGrid}
 use Rattle.hpf_base.proofs.ElementOrder.{product-some}
 use Rattle.syntax_tree.specs.MainProgram.{MainProgram, main_program}
-use Rattle.name_table.specs.Entries.{entries}
-use Rattle.name_table.specs.declared.names.Entry.{Entry}
-use Rattle.mappings.specs.declared.mapping.Mapping.{Mapping}
-use Rattle.array_maps.specs.declared.maps.ArrayMap.{ArrayMap}
-use Rattle.array_maps.specs.declared.maps.Redistribution.{Redistribution}
-use Rattle.array_maps.specs.Maps.{AreMaps, AreNewMaps, IsArrayMap}
-use Rattle.directive_check.specs.ProgramMaps.{program_moves, start_maps}
-use Rattle.accepted_program.specs.Accepted.{KeepsRules}
-use Rattle.nest_standing.specs.FittingNumbers.{ProgramNestsFit}
+use Rattle.fitting_states.specs.FittingStates.{ProgramFits}
 use Rattle.accepted_program.specs.declared.accepted.AcceptedProgram.{AcceptedProgram}
 use Rattle.array_meaning.specs.Faults.{Fault}
 use Rattle.node_law.specs.Cores.{start}
 use Rattle.node_law.specs.Phases.{Lockstep}
 use Rattle.node_law.specs.Reached.{EndsInLockstep}
-use Rattle.machine_steps.specs.Layout.{Layout}
 use Rattle.machine_steps.specs.Node.{Node}
-use Rattle.node_code.specs.Instructions.{NewMapping}
 use Rattle.node_code.specs.ProgramText.{Text}
 use Rattle.nodes_lowered.specs.GridRuns.{AreLastOnGrid, RunsOnGrid, grid_nodes}
-use Rattle.nodes_lowered.specs.NewMappings.{array_places, new_mappings, numbered_at, program_mappings, program_remaps}
-use Rattle.nodes_lowered.specs.OnNodes.{LieAsDeclared, MovesDealt, program_copies}
-use Rattle.nodes_lowered.specs.ProgramLayouts.{program_layouts, start_layouts}
-use Rattle.nodes_lowered.specs.ProgramRuns.{RunOnNodes, program_nodes, program_steps}
+use Rattle.nodes_lowered.specs.NewMappings.{program_mappings, program_remaps}
+use Rattle.nodes_lowered.specs.OnNodes.{program_copies}
+use Rattle.nodes_lowered.specs.ProgramLayouts.{start_layouts}
+use Rattle.nodes_lowered.specs.ProgramRuns.{program_steps}
 use Rattle.nodes_lowered.proofs.StartLaid.{program-laid}
 use Rattle.compiled_program.proofs.Accepted.{arrays-valid, moves-valid}
 use Rattle.distributed_run.proofs.GridLaws.{AllMovesDealt, RunsOnNodes}
 
-module _ (a : AcceptedProgram) (is : IsGrid a.grid.now) (fit : ProgramNestsFit (main_program a.program.tree)) where
+module _ (a : AcceptedProgram) (is : IsGrid a.grid.now) (fit : ProgramFits (main_program a.program.tree)) where
   abbrev grid : List ℕ
   grid = a.grid.now
 

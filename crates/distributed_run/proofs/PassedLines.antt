@@ -11,15 +11,18 @@ use Rattle.machine_steps.specs.Agrees.{IsValidCode}
 use Rattle.machine_steps.specs.Instr.{Remapping, Status, Running, Finished, Faulted}
 use Rattle.machine_steps.specs.Layout.{Layout}
 use Rattle.machine_steps.specs.Machine.{Machine, step, steps}
-use Rattle.node_code.specs.Instructions.{ArrayTable, Instruction, NewMapping, meaning_of, remappings, Par, ParForall, ParCopy, ParForallCopy, Reduce, Remap}
+use Rattle.node_code.specs.Instructions.{ArrayTable, Instruction, NewMapping, meaning_of, remappings, Par, ParForall, ParNest, ParCopy, ParForallCopy, Reduce, Remap}
 use Rattle.node_code.specs.ProgramText.{Text, table_on, text, text_meaning}
-use Rattle.lowered_expressions.specs.Passed.{Passed, note, note_at, note_while, passed, passed_now}
+use Rattle.node_code.specs.declared.nest.NestRole.{NestRole}
+use Rattle.node_code.specs.declared.nest.NestRole.TheVariants.{Assigns, Tests, SetsElse, SetsMark}
+use Rattle.node_code.specs.NestStatements.{NestStatement}
+use Rattle.lowered_expressions.specs.Passed.{Passed, unless_mark, note, note_at, note_while, passed, passed_now}
 use Rattle.passed_states.specs.PassedLayouts.{layouts_after, passed_layouts}
 use Rattle.passed_states.proofs.PassedLayouts.{maps-now}
 use Rattle.node_run.specs.Coded.{with_code}
 use Rattle.node_run.proofs.CodedSteps.{steps-coded}
 use Rattle.message_text.specs.Parts.{Setting}
-use Rattle.message_text.specs.InstructionLines.{instruction_lines}
+use Rattle.message_text.specs.InstructionLines.{instruction_lines, nest_lines}
 use Rattle.messages_lowered.specs.PassedText.{passed_text, setting_by}
 use Rattle.distributed_run.specs.StepLines.{lines_at, lines_now, lines_of_steps, lines_while}
 use Rattle.distributed_run.proofs.StepLines.{lines-more}
@@ -41,6 +44,14 @@ module _ (maps : List Mapping) (s : Setting) where
       ∙ sym (append_assoc (instruction_lines maps s layouts p.instruction p.slots) (passed_text maps s (layouts_after maps p.instruction layouts) ps)
       (passed_text maps s (passed_layouts maps ps (layouts_after maps p.instruction layouts)) qs))
 
+  -- a mark of a nest's last iteration has no lines
+  noted-nest : (p : NestStatement) (layouts : List Layout) (slots : List ℤ) (role : NestRole) → p.role ≡ role
+      → instruction_lines maps s layouts (ParNest p) slots ≡ passed_text maps s layouts (unless_mark role (record { instruction = ParNest p; slots = slots }))
+  noted-nest p layouts slots Assigns is = sym (append-nil (instruction_lines maps s layouts (ParNest p) slots))
+  noted-nest p layouts slots Tests is = sym (append-nil (instruction_lines maps s layouts (ParNest p) slots))
+  noted-nest p layouts slots SetsElse is = sym (append-nil (instruction_lines maps s layouts (ParNest p) slots))
+  noted-nest p layouts slots SetsMark is = ap (λ r. nest_lines r s layouts p slots) is
+
   note-lines : (x : Instruction) (layouts : List Layout) (slots : List ℤ) → instruction_lines maps s layouts x slots ≡ passed_text maps s layouts (note x slots)
   note-lines (Par p) layouts slots = sym (append-nil (instruction_lines maps s layouts (Par p) slots))
   note-lines (ParForall p) layouts slots = sym (append-nil (instruction_lines maps s layouts (ParForall p) slots))
@@ -48,6 +59,7 @@ module _ (maps : List Mapping) (s : Setting) where
   note-lines (ParForallCopy copy p) layouts slots = sym (append-nil (instruction_lines maps s layouts (ParForallCopy copy p) slots))
   note-lines (Reduce p r x) layouts slots = sym (append-nil (instruction_lines maps s layouts (Reduce p r x) slots))
   note-lines (Remap line new) layouts slots = sym (append-nil (instruction_lines maps s layouts (Remap line new) slots))
+  note-lines (ParNest p) layouts slots = noted-nest p layouts slots p.role refl
   note-lines x layouts slots = refl
 
 -- where these names are declared, over so many nodes with mappings and arrays of the program, and `moves` says of a line what it moves

@@ -1,12 +1,10 @@
 -- The lines of the steps of a program's machine are the text of its messages.
-use Rattle.std.proofs.Common.{◌≡◌, ℕ, zero, suc, ◌+◌, ◌<◌, ◌≤◌, List, [], ◌∷◌, All, length, map, replicate, take, Some, refl, sym, ap, ◌∙◌, subst, arith}
-use Rattle.std.proofs.Math.Path.{fun_ext}
+use Rattle.std.proofs.Common.{◌≡◌, ℕ, ◌+◌, ◌≤◌, List, [], ◌∷◌, All, length, map, take, Some, refl, sym, ap, ◌∙◌, subst, arith}
 use Rattle.std.proofs.lemmas.List.{length-replicate}
 use Rattle.hpf_base.specs.ElementOrder.{product}
 use Rattle.hpf_base.specs.FirstBreach.{Among}
 use Rattle.hpf_base.specs.Grid.{IsGrid}
 use Rattle.hpf_base.specs.Refusal.{NoBreach}
-use Rattle.hpf_base.specs.declared.index.Shape.{Shape}
 use Rattle.hpf_base.proofs.ElementOrder.{product-some}
 use Rattle.syntax_tree.specs.MainProgram.{MainProgram}
 use Rattle.mappings.specs.declared.mapping.Mapping.{Mapping}
@@ -30,7 +28,7 @@ use Rattle.array_meaning.specs.Serial.{End, end_of, serial}
 use Rattle.array_meaning.specs.State.{State}
 use Rattle.statement_trail.specs.Trail.{serial_trail}
 use Rattle.machine_steps.specs.Agrees.{IsOver, IsValidCode}
-use Rattle.machine_steps.specs.Instr.{Remapping, Status, Running, Finished, Faulted}
+use Rattle.machine_steps.specs.Instr.{Status, Running, Finished, Faulted}
 use Rattle.machine_steps.specs.Layout.{Layout}
 use Rattle.machine_steps.specs.Machine.{Machine, steps}
 use Rattle.node_code.specs.Instructions.{ArrayTable, Instruction, NewMapping, meaning_of, remappings}
@@ -40,15 +38,15 @@ use Rattle.lowered_expressions.specs.Passed.{passed}
 use Rattle.lowering.specs.StatementCode.{block_copies}
 use Rattle.well_formed.proofs.Programs.{trail_lowered, valid}
 use Rattle.nest_items.specs.BlockForms.{BlockHasForms}
-use Rattle.nest_standing.specs.FittingNumbers.{ProgramNestsFit}
+use Rattle.fitting_states.specs.FittingStates.{ProgramFits}
 use Rattle.nest_standing.proofs.Programs.{program_forms}
 use Rattle.owner_tables.proofs.CopyLaws.{copy-dealt, copy-size}
+use Rattle.owner_tables.proofs.SameLayouts.{same_layouts}
 use Rattle.comm_sets.proofs.Covering.{rounds-cover}
-use Rattle.node_run.specs.Coded.{with_code}
 use Rattle.node_run.proofs.CodedSteps.{steps-coded}
 use Rattle.nodes_lowered.specs.GridRuns.{grid_opening}
 use Rattle.nodes_lowered.specs.NewMappings.{array_places, new_mappings, numbered_at, program_mappings, program_remaps, remapping}
-use Rattle.nodes_lowered.specs.OnNodes.{MovesDealt, names_shapes, program_copies, program_opening, program_run}
+use Rattle.nodes_lowered.specs.OnNodes.{names_shapes, program_copies, program_opening, program_run}
 use Rattle.nodes_lowered.specs.ProgramLayouts.{layout_by, maps_after, program_layouts, start_layouts}
 use Rattle.nodes_lowered.specs.ProgramRuns.{end_by_status, program_shapes}
 use Rattle.nodes_lowered.proofs.Laid.{names-many}
@@ -96,9 +94,9 @@ end-over (Faulted f) e h = tt
 abbrev pub AllTextsLowered : Type 0
 AllTextsLowered = (p : MainProgram) (room : ℕ) (table : ArrayTable) (moves : ℕ → List NewMapping) (nodes : ℕ) (names : List (List ℕ)) (shapes : List (List Dim))
     (layouts starts : List Layout)
-    → IsTable (initial_state (entries p)) table → block_copies (resolved_block (entries p) p.body) ≤ room
-    → length layouts ≡ length (entries p) + room → HasNoBreach p → NoBreach (Among (body_breaches (entries p) p.body))
-    → BlockHasForms (resolved_block (entries p) p.body)
+    → IsTable (initial_state (entries p)) table → block_copies (length (entries p)) (resolved_block (entries p) p.body) ≤ room
+    → length layouts ≡ length (entries p) + room → length starts ≡ length (entries p) → HasNoBreach p → NoBreach (Among (body_breaches (entries p) p.body))
+    → BlockHasForms (resolved_block (entries p) p.body) → ProgramFits p
     → MachineHasText (length (entries p)) table (setting_by nodes names shapes table.maps moves) starts
     (opening (length (entries p)) room moves (resolved_block (entries p) p.body) (initial_state (entries p)) layouts)
     (run_block (resolved_block (entries p) p.body) (initial_state (entries p))) (serial_trail p)
@@ -151,25 +149,27 @@ module _ (grid : List ℕ) (p : MainProgram) where
       (end-over end.control.status (end_of r.completion) (ended n end r.state r.completion h))
 
   tabled : IsTable (initial_state (entries p)) table
-  tabled = record { shapes = refl; copies = λ ls extents. copy-size nodes extents }
+  tabled = record { shapes = refl; copies = λ ls extents. copy-size nodes extents; steady = λ one other extents. refl }
 
   many : length layouts ≡ n + program_copies p
   many = layouts-many nodes (program_copies p) (entries p) (start_maps grid p)
 
   -- after so many steps the run is over
-  pub ends : KeepsRules p → ProgramNestsFit p → (k : ℕ) × IsOver (steps text_meaning k (grid_opening grid p)).control.status
+  pub ends : KeepsRules p → ProgramFits p → (k : ℕ) × IsOver (steps text_meaning k (grid_opening grid p)).control.status
   ends rules fit =
-      let enough : 1 ≤ 1 = omega arith in
-      let has = trail_lowered p (program_copies p) moves table layouts tabled enough many rules.resolved rules.bodies_fine (program_forms p rules.resolved rules.bodies_fine fit) in
+      let enough : program_copies p ≤ program_copies p = omega arith in
+      let has = trail_lowered p (program_copies p) moves table layouts tabled enough many rules.resolved rules.bodies_fine (program_forms p rules.resolved rules.bodies_fine fit.1) fit in
       (has.0, over-at has.0 has.1)
 
-  module _ (texts : AllTextsLowered) (dealt : AllMovesDealt) (numbers : AllMovesByNumber) (rules : KeepsRules p) (fit : ProgramNestsFit p) (is : IsGrid grid)
+  module _ (texts : AllTextsLowered) (dealt : AllMovesDealt) (numbers : AllMovesByNumber) (rules : KeepsRules p) (fit : ProgramFits p) (is : IsGrid grid)
       (arrays : All (IsArrayMap nodes) (start_maps grid p)) (new : All (λ (r : Redistribution). AreNewMaps nodes (start_maps grid p) r.maps) (program_moves grid p)) where
     has : MachineHasText n table s (names_layouts grid p) m r (serial_trail p)
     has =
-        let enough : 1 ≤ 1 = omega arith in
-        texts p (program_copies p) table moves nodes names (program_shapes p) layouts (names_layouts grid p) tabled enough many rules.resolved rules.bodies_fine
-        (program_forms p rules.resolved rules.bodies_fine fit)
+        let enough : program_copies p ≤ program_copies p = omega arith in
+        let begun-many : length (names_layouts grid p) ≡ n + 0 = layouts-many nodes 0 (entries p) (start_maps grid p) in
+        let begun : length (names_layouts grid p) ≡ n = omega (arith, begun-many) in
+        texts p (program_copies p) table moves nodes names (program_shapes p) layouts (names_layouts grid p) tabled enough many begun rules.resolved rules.bodies_fine
+        (program_forms p rules.resolved rules.bodies_fine fit.1) fit
 
     over : IsOver (steps text_meaning has.0 (grid_opening grid p)).control.status
     over = over-at has.0 has.1
@@ -188,7 +188,7 @@ module _ (grid : List ℕ) (p : MainProgram) where
     valid-code : IsValidCode (meaning_of table) nodes (names_shapes p layouts) m.code
     valid-code =
         let some : 1 ≤ nodes = product-some grid is.extents in
-        valid nodes p (names_shapes p layouts) table moves (omega (arith, few)) (λ ls owned extents. copy-dealt nodes extents some)
+        valid nodes p (names_shapes p layouts) table moves (omega (arith, few)) (λ ls owned extents. copy-dealt nodes extents some) same_layouts
         (λ line. (dealt grid (program_copies p) p is arrays new line, λ ls declared owned. rounds-cover nodes (remappings maps (moves line)) ls owned))
         rules.resolved rules.bodies_fine
 
@@ -199,6 +199,8 @@ module _ (grid : List ℕ) (p : MainProgram) where
       names = names;
       shapes = program_shapes p;
       moves = λ line. numbers (array_places 0 (entries p)) (program_moves grid p) line i;
+      copies = [];
+      copied = [];
     }
 
     pub text-is : (k : ℕ) → IsOver (steps text_meaning k (grid_opening grid p)).control.status

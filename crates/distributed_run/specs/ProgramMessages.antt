@@ -1,5 +1,5 @@
 -- The text of `messages` of a program on a grid.
-use Rattle.std.specs.Prelude.{ℕ, List, map}
+use Rattle.std.specs.Prelude.{ℕ, List, [], map}
 use Rattle.hpf_base.specs.ElementOrder.{product}
 use Rattle.syntax_tree.specs.MainProgram.{MainProgram}
 use Rattle.name_table.specs.Entries.{entries}
@@ -20,6 +20,8 @@ program_setting grid p = record {
   names = map (λ e. e.name) (entries p);
   shapes = program_shapes p;
   moves = λ line. map (remapping (array_places 0 (entries p))) (moves_at (program_moves grid p) line);
+  copies = [];
+  copied = [];
 }
 
 -- how the declared names lie at the start

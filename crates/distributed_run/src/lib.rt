@@ -2,7 +2,7 @@
 //!
 //! Comes in: an accepted program, with the mappings of its arrays on its grid, at the start and after each REDISTRIBUTE. Goes out: what the program prints, how it ends
 //! and its last arrays, from nodes that own pieces of the arrays and exchange letters; and these nodes at the end of their run. Or a line for each
-//! message that they send for array statements, reductions and redistributions, and how the program ends.
+//! message that they send for array statements, reductions, nests of INDEPENDENT loops and redistributions, and how the program ends.
 //!
 //! What holds in between: the nodes begin as the openings of the machine over the compiled program, and so they are phased. A core of them ends, in every order
 //! of steps, in the one end that the laws of `nodes_lowered` say: node 0 has what was printed, and the element of an array is at its address in the piece of

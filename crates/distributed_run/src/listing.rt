@@ -25,7 +25,7 @@ pub struct MessageList {
     pub end: End,
 }
 
-/// Lists the messages that the nodes of the grid, on which a program is accepted, send for its array statements and reductions and for its
+/// Lists the messages that the nodes of the grid, on which a program is accepted, send for its array statements, reductions, nests and for its
 /// REDISTRIBUTEs (HPF 2.0, 8.3). At the first fault the list ends with what was sent before it. An `Err` is want of memory.
 pub fn list_messages(
     alloc: Global,

@@ -8,8 +8,8 @@ ghost use Rattle.machine_steps.specs.Instr.{Remapping, Running};
 ghost use Rattle.node_code.specs.ProgramText.{Text};
 ghost use Rattle.node_program.specs.Fits.{FitsRows};
 ghost use Rattle.node_program.specs.Programs.{code_of};
-ghost use Rattle.nest_standing.specs.FitProps.{program-prop};
-ghost use Rattle.nest_standing.specs.FittingNumbers.{ProgramNestsFit};
+ghost use Rattle.fitting_states.specs.FitProps.{program-prop};
+ghost use Rattle.fitting_states.specs.FittingStates.{ProgramFits};
 ghost use Rattle.nodes_lowered.specs.GridRuns.{grid_opening};
 ghost use Rattle.message_lines.specs.KeptLines.{AreKeptLines};
 ghost use Rattle.message_lines.specs.TextLines.{text_lines};
@@ -24,11 +24,11 @@ use slot_values::Status;
 use std::alloc::Global;
 use whole_machine::WholeMachine;
 
-/// A program whose machine comes to an end: the numbers in its nests of INDEPENDENT loops are of 64 bits.
+/// A program whose machine comes to an end: its numbers are of 64 bits.
 #[derive(Drop)]
 pub(crate) struct EndingProgram<'a> {
     pub accepted: &'a AcceptedProgram<'a>,
-    pub ghost numbers: { ProgramNestsFit (main_program accepted.now.program.tree) } by { program-prop (main_program accepted.now.program.tree) },
+    pub ghost numbers: { ProgramFits (main_program accepted.now.program.tree) } by { program-prop (main_program accepted.now.program.tree) },
 }
 
 /// Runs the machine of a program to its end, and puts the lines of the messages of its steps after the others. An `Err` is want of memory.

@@ -5,7 +5,7 @@ ghost use Rattle.std.specs.Arc.{arc_value};
 ghost use Rattle.hpf_base.specs.Grid.{IsGrid};
 ghost use Rattle.syntax_tree.specs.MainProgram.{main_program};
 ghost use Rattle.machine_steps.specs.Agrees.{openings};
-ghost use Rattle.nest_standing.specs.FittingNumbers.{ProgramNestsFit};
+ghost use Rattle.fitting_states.specs.FittingStates.{ProgramFits};
 ghost use Rattle.node_program.specs.Fits.{FitsRows};
 ghost use Rattle.node_program.specs.Openings.{opening_machine};
 ghost use Rattle.node_program.specs.Programs.{code_of};
@@ -26,7 +26,7 @@ pub(crate) fn first_nodes(
     accepted: &AcceptedProgram<'_>,
 ) -> Result<Vec<Node>, OutOfMemory>
     ensures grid { IsGrid accepted.now.grid.now }
-    ensures numbers { IfOk result (λ first. ProgramNestsFit (main_program accepted.now.program.tree)) }
+    ensures numbers { IfOk result (λ first. ProgramFits (main_program accepted.now.program.tree)) }
     ensures nodes { IfOk result (λ first. first.items ≡ grid_nodes accepted.now.grid.now (main_program accepted.now.program.tree)) }
 {
     let compiled = compile_program(alloc, accepted)?;

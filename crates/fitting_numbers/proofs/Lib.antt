@@ -1,1 +1,2 @@
-mod FittingNests
+mod FittingMarks
+mod FittingValues

@@ -1,17 +1,21 @@
-//! That the numbers in nests of INDEPENDENT loops are of 64 bits.
+//! That the numbers of a program are of 64 bits.
 //!
-//! Comes in: the statements of a resolved program. Goes out: nothing but the fact that the numbers in its nests fit. The definitions have
-//! integers of any size, and the types of `resolved_program` hold none past 64 bits; to say so of a whole program, each number is read.
-//! What holds in between: the numbers of each expression fit, and those of each statement that may stand in a nest; so do those of its
-//! parts, which are the loops and the innermost block of each nest.
+//! Comes in: the statements of a resolved program, and the names that it declares. Goes out: nothing but the fact that the numbers in its statements
+//! fit, and so do the initial values of its names. The definitions have integers of any size, and the types of `resolved_program` and `name_table`
+//! hold none past 64 bits; to say so of a whole program, each number is read.
+//! What holds in between: the numbers of each expression fit, and those of each statement; so do those of the loops and of the innermost block that a
+//! nest names again.
 //!
 //! - `terms`: the numbers in expressions.
-//! - `statements`: those in statements.
-//! - `nests`: those in the nests of a block.
+//! - `assignments`: those in the parts of WHERE and FORALL.
+//! - `statements`: those in statements. What PRINT evaluates isn't asked.
+//! - `values`: the initial values.
 #![tactic(auto)]
 
-mod nests;
+mod assignments;
 mod statements;
 mod terms;
+mod values;
 
-pub use nests::nests_fit;
+pub use statements::numbers_fit;
+pub use values::initial_values_fit;

@@ -1,15 +1,26 @@
-//! The numbers in statements that may stand in a nest.
+//! The numbers in statements.
 
 ghost use Rattle.array_meaning.specs.Statements.{Arms};
-ghost use Rattle.resolved_program.specs.Resolved.{arms_of, block_of, statement, term, with_arm};
-ghost use Rattle.nest_standing.specs.FittingNumbers.{ArmsFit, BlockFits, NumbersFit, StatementFits};
+ghost use Rattle.fitting_states.specs.FittingStates.{ArmsFit, BlockFits, StatementFits};
+ghost use Rattle.resolved_program.specs.Resolved.{arms_of, block_of, statement, with_arm};
 
-use crate::terms::{term_fits, terms_fit};
-use resolved_program::{Action, Arm, Loop, Statement};
+use crate::assignments::{
+    control_fits, controls_fit, element_assignments_fit, mask_fits, section_assignments_fit,
+};
+use crate::terms::{subscripts_fit, term_fits, terms_fit};
+use resolved_program::{Action, Arm, Statement};
+
+/// The numbers in the statements of a resolved program are of 64 bits: its types hold no others. It reads each of them, those of PRINT aside, takes
+/// no memory and changes nothing.
+pub fn numbers_fit(body: &Vec<Statement>)
+    ensures { BlockFits (block_of body.now.items) }
+{
+    block_fits(body)
+}
 
 /// The numbers in a block fit.
 #[cycle(block_fits)]
-pub(crate) fn block_fits(statements: &[Statement])
+fn block_fits(statements: &[Statement])
     ensures { BlockFits (block_of statements.now) }
 {
     for s in statements {
@@ -28,33 +39,35 @@ fn statement_fits(s: &Action)
             terms_fit(subscripts);
             term_fits(right);
         }
+        Action::AssignSection(_, subscripts, right) => {
+            subscripts_fit(subscripts);
+            term_fits(right);
+        }
         Action::If(arms, other) => {
             arms_fit(arms);
             block_fits(other);
         }
         Action::Do(_, l, body) => {
-            bounds_fit(l);
+            control_fits(&l.control);
             block_fits(body);
         }
-        Action::AssignSection(_, _, _)
-        | Action::Where(_, _, _)
-        | Action::Forall(_, _, _)
-        | Action::Print(_)
+        Action::Where(mask, body, others) => {
+            term_fits(mask);
+            section_assignments_fit(body);
+            section_assignments_fit(others);
+        }
+        Action::Forall(controls, mask, body) => {
+            controls_fit(controls);
+            mask_fits(mask);
+            element_assignments_fit(body);
+        }
+        Action::Print(_)
         | Action::Stop
         | Action::Exit
         | Action::Cycle
         | Action::Continue
         | Action::Redistribute => {}
     }
-}
-
-/// The numbers in the bounds of a loop fit.
-fn bounds_fit(l: &Loop)
-    ensures first { NumbersFit (term l.now.control.first) }
-    ensures last { NumbersFit (term l.now.control.last) }
-{
-    term_fits(&l.control.first);
-    term_fits(&l.control.last);
 }
 
 /// The numbers in an IF and its ELSE IFs fit.

@@ -3,12 +3,15 @@
 use Rattle.std.specs.Prelude.{ℕ, List, Option, Some, None, slice_index_or, pos, FitsSigned}
 use Rattle.std.specs.Int.{w64}
 use Rattle.std.specs.List.{AllByRecursion}
+use Rattle.syntax_tree.specs.MainProgram.{MainProgram}
+use Rattle.name_table.specs.Entries.{entries}
 use Rattle.name_table.specs.declared.names.Entry.{Entry}
 use Rattle.name_table.specs.declared.names.What.{What}
 use Rattle.name_table.specs.declared.names.What.TheVariants as what
 use Rattle.array_meaning.specs.Terms.{Term, Number, Element, Section, Apply, Reduce, Terms, NoTerm, More, SectionSubscripts, NoSubscript, Subscript, Triplet, Control}
 use Rattle.array_meaning.specs.Statements.{SectionAssignment, ElementAssignment, Block, Done, Then, Statement, AssignScalar, AssignElement, AssignSection, If, Do, Where, Forall, Mark, Unmarked, Outermost, Arms, NoArm, Arm}
 use Rattle.array_meaning.specs.State.{State, scalar, array}
+use Rattle.array_meaning.specs.Resolution.{resolved_block}
 
 -- ---- states
 
@@ -87,3 +90,9 @@ abbrev mutual
   pub ArmsFit : Arms → Type 0
   ArmsFit NoArm = Unit {0}
   ArmsFit (Arm line t body arms) = TermFits t × BlockFits body × ArmsFit arms
+
+-- ---- programs
+
+-- the initial values of its names, and its statements
+abbrev pub ProgramFits : MainProgram → Type 0
+ProgramFits p = InitialValuesFit (entries p) × BlockFits (resolved_block (entries p) p.body)

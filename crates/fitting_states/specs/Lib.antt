@@ -1,1 +1,2 @@
 pub mod FittingStates
+pub mod FitProps

@@ -6,7 +6,7 @@ use Rattle.hpf_base.specs.declared.status.Status.TheVariants.{Done, Fault, Refus
 use Rattle.hpf_base.specs.declared.status.Status.{Status}
 use Rattle.hpf_base.specs.declared.limits.TheConstants.{MAX_SOURCE_BYTES}
 use Rattle.hpf_ports.specs.Ports.{Gave, IsAtEnd, Rose, AreAppended}
-use Rattle.hpf_run.specs.Outcome.{is_of_text, is_too_long, is_usage, text_accepted, text_refused, check_done, map_done, messages_left_out, messages_report, run_report, serial_report, report_end, report_fault, ActionOutcome, IsReportOf, means_memory, means_outcome, all_written, err_failed, out_failed, listed, Delivered, Had, IsRead, Meant, Outcome, TextOutcome, Port, port, refusal_line, too_long_line, usage_line, with_arrays}
+use Rattle.hpf_run.specs.Outcome.{is_of_text, is_too_long, is_usage, text_accepted, text_refused, check_done, map_done, messages_report, run_report, serial_report, report_end, report_fault, ActionOutcome, IsReportOf, means_memory, means_outcome, all_written, err_failed, out_failed, listed, Delivered, Had, IsRead, Meant, Outcome, TextOutcome, Port, port, too_long_line, usage_line, with_arrays}
 use Rattle.hpf_run.specs.Reply.{ActionMeant, IsFaulted, IsReplyOf, IsReported, TextMeant, action_memory, action_outcome, reply_memory, reply_refused, reported, reported_fault, reported_memory, fault_memory, text_memory, text_outcome}
 use Rattle.hpf_run.specs.Accepted.{IsAccepted, IsRefused}
 use Rattle.syntax_tree.specs.MainProgram.{MainProgram}
@@ -34,13 +34,6 @@ pub accepted-meant : (text : List ℕ) (job : Job) (p : MainProgram) (o : Outcom
     → TextMeant text job o
 accepted-meant text job p o is (action_outcome made by) = text_outcome made (text_accepted p is made by)
 accepted-meant text job p o is action_memory = text_memory
-
--- the reply to a refusal is what an action makes of an accepted text that it leaves out so
-pub left_out-meant : (grid : List ℕ) (arrays : Bool) (p : MainProgram) (act : Action) (r : Refusal) (o : Outcome)
-    → ActionOutcome grid arrays p act record { status = Refused; out = []; err = refusal_line r } → IsReplyOf r o → ActionMeant grid arrays p act o
-left_out-meant grid arrays p act r o is (reply_refused line line_is) =
-    subst (λ l. ActionMeant grid arrays p act record { status = Refused; out = []; err = l }) (sym line_is) (action_outcome _ is)
-left_out-meant grid arrays p act r o is reply_memory = action_memory
 
 -- what an action prints
 pub done-meant : (grid : List ℕ) (arrays : Bool) (p : MainProgram) (act : Action) (bytes printed : List ℕ) → bytes ≡ printed
@@ -102,9 +95,7 @@ read_action grid text arrays p act o left left' check_done gave end = (gave, end
 read_action grid text arrays p act o left left' map_done gave end = (gave, end)
 read_action grid text arrays p act o left left' (serial_report o' report) gave end = read_reported (entries p) false (serial p) o' left left' text report gave end
 read_action grid text arrays p act o left left' (run_report o' report) gave end = read_reported (entries p) arrays (serial p) o' left left' text report gave end
-read_action grid text arrays p act o left left' (messages_report built o' report) gave end =
-    read_reported (entries p) false (listed grid p) o' left left' text report gave end
-read_action grid text arrays p act o left left' (messages_left_out r is) gave end = (gave, end)
+read_action grid text arrays p act o left left' (messages_report o' report) gave end = read_reported (entries p) false (listed grid p) o' left left' text report gave end
 
 read_whole : (text : List ℕ) (job : Job) (o : Outcome) (left left' : Option (List ℕ)) → TextOutcome text job o → Gave left left' text → IsAtEnd left'
     → IsRead o.status left left' text

@@ -1,11 +1,9 @@
 -- What a call of the program means to answer.
 use Rattle.std.specs.Prelude.{◌≡◌, ℕ, ◌+◌, ◌<◌, ◌≤◌, Bool, true, false, ℤ, List, [], ◌++◌, length, take, codes, Option, None, Some, decimal}
-use Rattle.std.specs.List.{flat_map}
 use Rattle.hpf_base.specs.declared.refusal.Refusal.{Refusal}
 use Rattle.hpf_base.specs.declared.status.Status.{Status}
 use Rattle.hpf_base.specs.declared.status.Status.TheVariants.{Done, Refused, Fault, Usage, ReadFault, WriteFault, Memory, TooLong}
 use Rattle.hpf_base.specs.ElementOrder.{product}
-use Rattle.hpf_base.specs.FirstBreach.{least}
 use Rattle.hpf_base.specs.Refusal.{name_of, number_of}
 use Rattle.hpf_base.specs.declared.limits.TheConstants.{MAX_SOURCE_BYTES}
 use Rattle.hpf_ports.specs.Ports.{Gave, IsAtEnd, Rose, AreAppended}
@@ -15,7 +13,6 @@ use Rattle.name_table.specs.declared.names.Entry.{Entry}
 use Rattle.array_meaning.specs.Faults as faults
 use Rattle.array_meaning.specs.Serial as serial
 use Rattle.array_meaning.specs.Serial.{Finished, Faulted}
-use Rattle.serial_run.specs.Independent.{left_out, marks}
 use Rattle.directive_check.specs.ProgramMaps.{start_maps}
 use Rattle.run_report.specs.ArraysText.{arrays_text}
 use Rattle.run_report.specs.FaultLine.{fault_line}
@@ -66,10 +63,6 @@ pub data IsReportOf (names : List Entry) (arrays : Bool) (s : serial.Outcome) : 
   report_end : s.end ≡ Finished → IsReportOf names arrays s record { status = Done; out = with_arrays arrays names s.printed s.arrays; err = [] }
   report_fault : (f : faults.Fault) → s.end ≡ Faulted f → IsReportOf names arrays s record { status = Fault; out = s.printed; err = fault_line names f }
 
--- of what messages aren't listed yet: of DO loops with INDEPENDENT before them
-abbrev pub unlisted : MainProgram → List Refusal
-unlisted p = flat_map left_out (marks p.body)
-
 -- the outcome of a program, with the lines of the messages that nodes of a grid send for it in place of what it prints
 abbrev pub listed : List ℕ → MainProgram → serial.Outcome
 listed grid p = record (serial.serial p) { printed = messages_text grid p }
@@ -81,8 +74,7 @@ pub data ActionOutcome (grid : List ℕ) (arrays : Bool) (p : MainProgram) : Act
   map_done : ActionOutcome grid arrays p Map record { status = Done; out = map_text (product grid) (start_maps grid p); err = [] }
   serial_report : (o : Outcome) → IsReportOf (entries p) false (serial.serial p) o → ActionOutcome grid arrays p Serial o
   run_report : (o : Outcome) → IsReportOf (entries p) arrays (serial.serial p) o → ActionOutcome grid arrays p Run o
-  messages_report : least (unlisted p) ≡ None → (o : Outcome) → IsReportOf (entries p) false (listed grid p) o → ActionOutcome grid arrays p Messages o
-  messages_left_out : (r : Refusal) → least (unlisted p) ≡ Some r → ActionOutcome grid arrays p Messages record { status = Refused; out = []; err = refusal_line r }
+  messages_report : (o : Outcome) → IsReportOf (entries p) false (listed grid p) o → ActionOutcome grid arrays p Messages o
 
 -- what a job makes of a text: whatever the action, a text that isn't accepted on the grid is refused
 pub data TextOutcome (text : List ℕ) (job : Job) : Outcome → Type 0 where

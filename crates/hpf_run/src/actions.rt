@@ -2,23 +2,22 @@
 
 ghost use Rattle.std.specs.Prelude.{◌≡◌, Bool, false, ℕ, List, map, true, IfOk};
 ghost use Rattle.syntax_tree.specs.MainProgram.{MainProgram, main_program};
-ghost use Rattle.hpf_base.specs.FirstBreach.{least};
 ghost use Rattle.array_meaning.specs.Serial.{Outcome as SerialOutcome, outcome, serial};
 ghost use Rattle.serial_run.specs.Outcomes.{end_seen};
 ghost use Rattle.distributed_run.specs.Outcomes.{IsOutcome};
 ghost use Rattle.hpf_words.specs.declared.job.Action.TheVariants.{Check, Map, Messages, Run, Serial};
 ghost use Rattle.hpf_run.specs.Command.{is_built};
-ghost use Rattle.hpf_run.specs.Outcome.{listed, unlisted, with_arrays};
+ghost use Rattle.hpf_run.specs.Outcome.{listed, with_arrays};
 ghost use Rattle.hpf_run.specs.Reply.{ActionMeant, IsFaulted, IsReported, outcome_of};
 
-use crate::reply::{Reply, reply_refused};
+use crate::reply::Reply;
 use accepted_program::AcceptedProgram;
 use distributed_run::{MessageList, NodesOutcome, list_messages, run_on_nodes};
-use hpf_base::{OutOfMemory, Refusal};
+use hpf_base::OutOfMemory;
 use hpf_words::{Action, Job};
 use name_table::{Names, Program};
 use run_report::{arrays_text, fault_line, map_text};
-use serial_run::{End, Outcome, first_independent, run_serial};
+use serial_run::{End, Outcome, run_serial};
 use std::alloc::Global;
 use term_values::Fault;
 
@@ -128,21 +127,11 @@ fn report_nodes(alloc: Global, names: &Names, arrays: bool, outcome: NodesOutcom
     }
 }
 
-/// The first DO that has INDEPENDENT before it, where there is one: messages of such a program aren't listed yet.
-fn first_unlisted(accepted: &AcceptedProgram<'_>) -> Option<Refusal>
-    ensures { result ≡ least (unlisted (main_program accepted.now.program.tree)) }
-{
-    first_independent(&accepted.program.tree.body)
-}
-
 /// What `messages` answers.
 fn messages_reply(alloc: Global, accepted: &AcceptedProgram<'_>) -> Reply
     ensures { (arrays : Bool) → ActionMeant accepted.now.grid.now arrays (main_program accepted.now.program.tree) Messages (outcome_of result) }
 {
-    match first_unlisted(accepted) {
-        None => list_program(alloc, accepted),
-        Some(left_out) => reply_refused(alloc, left_out),
-    }
+    list_program(alloc, accepted)
 }
 
 /// The lines of a program's messages, and its fault where it has one.

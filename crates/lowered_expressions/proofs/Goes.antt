@@ -101,12 +101,12 @@ module _ (table : ArrayTable) (row_count : ℕ) (moves : ℕ → List NewMapping
     pub goes-as : (T U : Trail) (to b : ℕ) (slots : List ℤ) (m : Place row_count) (r : Run) → T ≡ U → Goes T to b slots m r → Goes U to b slots m r
     goes-as T U to b slots m r e h = subst (λ V. Goes V to b slots m r) e h
 
-    -- one statement and what follows it, which may use the hidden slots
-    pub goes-then-kept : (T : Trail) (U : State → Trail) (mid to b : ℕ) (slots : List ℤ) (m : Place row_count) (r : Run) (f : State → Run) → Goes T mid b slots m r
-        → ((slots1 : List ℤ) (rows1 : Storage) (s : State) → Kept b slots slots1 → Holds s slots1 rows1
-        → Goes (U s) to b slots1 (stands table row_count moves code mid slots1 rows1 s.printed) (f s))
+    -- one statement and what follows it from the state that it leaves, which may use the hidden slots
+    pub goes-next : (T : Trail) (U : State → Trail) (mid to b : ℕ) (slots : List ℤ) (m : Place row_count) (r : Run) (f : State → Run) → Goes T mid b slots m r
+        → ((slots1 : List ℤ) (rows1 : Storage) → Kept b slots slots1 → Holds r.state slots1 rows1
+        → Goes (U r.state) to b slots1 (stands table row_count moves code mid slots1 rows1 r.state.printed) (f r.state))
         → Goes (T ++ after_run r U) to b slots m (then_do r f)
-    goes-then-kept T U mid to b slots m r f h next = by_flow r.completion h
+    goes-next T U mid to b slots m r f h next = by_flow r.completion h
       where
         ended : (flow : Completion) → Flows T mid b slots m r.state flow → Flows (T ++ []) mid b slots m r.state flow
         ended flow h = subst (λ V. Flows V mid b slots m r.state flow) (sym (append-nil T)) h
@@ -114,17 +114,18 @@ module _ (table : ArrayTable) (row_count : ℕ) (moves : ℕ → List NewMapping
         by_flow : (flow : Completion) → Flows T mid b slots m r.state flow
             → Goes (T ++ after_run (record { state = r.state; completion = flow }) U) to b slots m (if_normal flow r.state f)
         by_flow Normal h = goes-on T (U r.state) to b b slots h.0 m (stands table row_count moves code mid h.0 h.1 r.state.printed) (f r.state) (omega arith) h.2 h.3
-            (next h.0 h.1 r.state h.3 h.4)
+            (next h.0 h.1 h.3 h.4)
         by_flow Exited h = ended Exited h
         by_flow Cycled h = ended Cycled h
         by_flow Stopped h = ended Stopped h
         by_flow (runs.Faulted f) h = ended (runs.Faulted f) h
 
-    -- one statement and what follows it
-    pub goes-then : (T : Trail) (U : State → Trail) (mid to b : ℕ) (slots : List ℤ) (m : Place row_count) (r : Run) (f : State → Run) → Goes T mid b slots m r
-        → ((slots1 : List ℤ) (rows1 : Storage) (s : State) → Holds s slots1 rows1 → Goes (U s) to b slots1 (stands table row_count moves code mid slots1 rows1 s.printed) (f s))
+    -- one statement and what follows it from any state
+    pub goes-then-kept : (T : Trail) (U : State → Trail) (mid to b : ℕ) (slots : List ℤ) (m : Place row_count) (r : Run) (f : State → Run) → Goes T mid b slots m r
+        → ((slots1 : List ℤ) (rows1 : Storage) (s : State) → Kept b slots slots1 → Holds s slots1 rows1
+        → Goes (U s) to b slots1 (stands table row_count moves code mid slots1 rows1 s.printed) (f s))
         → Goes (T ++ after_run r U) to b slots m (then_do r f)
-    goes-then T U mid to b slots m r f h next = goes-then-kept T U mid to b slots m r f h (λ slots1 rows1 s kept holds. next slots1 rows1 s holds)
+    goes-then-kept T U mid to b slots m r f h next = goes-next T U mid to b slots m r f h (λ slots1 rows1 kept holds. next slots1 rows1 r.state kept holds)
 
     -- a value and what follows it
     pub goes-value : {A : Type 0} (T : Trail) (U : A → Trail) (line pc pc1 to b b1 : ℕ) (slots : List ℤ) (rows : Storage) (s : State) (P : List ℤ → A → Type 0)

@@ -1,3 +1,5 @@
 pub mod ExpressionCode
+pub mod NestTerms
 pub mod WellFormed
+pub mod NestEvents
 pub mod Passed

@@ -1,33 +1,43 @@
 -- What the machine with whole arrays passes: parallel statements, reductions and redistributions, each with the slots before it; and when these
 -- are the entries of a trail.
-use Rattle.std.specs.Prelude.{◌≡◌, ℕ, zero, suc, ◌<◌, List, [], ◌∷◌, ◌++◌, map, length, slice_index_or, is_some, ℤ, pos, Bool, Option, Some, None, ⊤}
+use Rattle.std.specs.Prelude.{◌≡◌, ℕ, zero, suc, ◌<◌, List, [], ◌∷◌, ◌++◌, map, length, slice_index_or, is_some, ℤ, pos, Option, Some, None, ⊤}
 use Rattle.std.specs.List.{slice_get}
 use Rattle.op_tables.specs.declared.op.Op.{Op}
 use Rattle.op_tables.specs.Reductions.{reduction_of}
 use Rattle.array_meaning.specs.Faults.{Fault}
 use Rattle.array_meaning.specs.Sections.{extents}
 use Rattle.array_meaning.specs.Terms.{Term, Terms}
-use Rattle.statement_trail.specs.Trail.{Event, Trail, TrailEntry, SectionAssigned, WhereMask, Reduced, ForallMask, ElementsAssigned, Redistributed}
+use Rattle.statement_trail.specs.Trail.{Event, Trail, TrailEntry, SectionAssigned, WhereMask, Reduced, ForallMask, ElementsAssigned, OfNest, Redistributed}
+use Rattle.statement_trail.specs.NestParts.{EnteredNest, Asked, NestPart}
 use Rattle.array_meaning.specs.declared.sections.Sequence.{Sequence}
 use Rattle.array_meaning.specs.declared.sections.Selection.TheVariants.{Along}
 use Rattle.machine_steps.specs.Instr.{Status, Running}
 use Rattle.machine_steps.specs.Machine.{Machine, step}
+use Rattle.node_code.specs.declared.nest.NestRole.{NestRole}
+use Rattle.node_code.specs.declared.nest.NestRole.TheVariants.{SetsMark}
 use Rattle.node_code.specs.Flat.{slot}
 use Rattle.node_code.specs.Forms.{selections_in, elemental_in}
 use Rattle.node_code.specs.Parallel.{When, evaluation_extents}
 use Rattle.lowered_expressions.specs.WellFormed.{AreSubscripts, IsIndexed}
-use Rattle.node_code.specs.Instructions.{NewMapping, Instruction, ArrayTable, meaning_of, Par, ParForall, ParCopy, ParForallCopy, Reduce, Remap}
+use Rattle.node_code.specs.Instructions.{NewMapping, Instruction, ArrayTable, meaning_of, Par, ParForall, ParNest, ParCopy, ParForallCopy, Reduce, Remap}
 use Rattle.lowered_expressions.specs.ExpressionCode.{index_subs, index_form}
+use Rattle.lowered_expressions.specs.NestEvents.{whens_for, AreStored, IsPart}
 
 -- an instruction that is passed, and the slots before it
 pub record Passed : Type 0 where
   pub instruction : Instruction
   pub slots : List ℤ
 
+-- the mark of an assignment of a nest is no part
+abbrev pub unless_mark : NestRole → Passed → List Passed
+unless_mark SetsMark p = []
+unless_mark role p = p ∷ []
+
 -- what is noted of an instruction: nothing, but for one that is a part or a redistribution
 abbrev pub note : Instruction → List ℤ → List Passed
 note (Par p) slots = record { instruction = Par p; slots = slots } ∷ []
 note (ParForall p) slots = record { instruction = ParForall p; slots = slots } ∷ []
+note (ParNest p) slots = unless_mark p.role (record { instruction = ParNest p; slots = slots })
 note (ParCopy copy p) slots = record { instruction = ParCopy copy p; slots = slots } ∷ []
 note (ParForallCopy copy p) slots = record { instruction = ParForallCopy copy p; slots = slots } ∷ []
 note (Reduce p r x) slots = record { instruction = Reduce p r x; slots = slots } ∷ []
@@ -75,6 +85,10 @@ IsEvent moves n (ParForall p) slots line event =
 IsEvent moves n (ParForallCopy copy p) slots line event =
     (p.line ≡ line) × ((axes : List Sequence) × (t : Term) × (event ≡ ForallMask axes t) × (selections_in slots p.over ≡ map Along axes)
     × (p.form ≡ index_form t) × (copy ≡ n) × IsIndexed n t)
+IsEvent moves n (ParNest p) slots line event =
+    (p.line ≡ line) × ((nest : EnteredNest) × (asked : List Asked) × (part : NestPart) × (event ≡ OfNest nest asked part)
+    × (selections_in slots p.over ≡ map Along nest.axes) × (p.whens ≡ whens_for n nest asked) × AreStored n nest asked
+    × IsPart n nest p part)
 IsEvent moves n (Remap l new) slots line event = (l ≡ line) × (event ≡ Redistributed) × (new ≡ moves line)
 IsEvent moves n i slots line event = ⊥
 

@@ -1,9 +1,8 @@
 -- What the laws of nests ask of the machine's slots and rows holds where a nest stands.
-use Rattle.std.proofs.Common.{◌≡◌, ℕ, ◌+◌, ◌*◌, ◌<◌, ◌≤◌, nat_lt, List, [], ◌∷◌, length, map, replicate, get_or, ℤ, pos, Bool, true, false, Some, None, Ok, if◌then◌else◌, refl, sym, ap, ap₂, ◌∙◌, subst, arith}
+use Rattle.std.proofs.Common.{◌≡◌, ℕ, ◌+◌, ◌*◌, ◌<◌, ◌≤◌, nat_lt, List, [], ◌∷◌, length, map, replicate, get_or, ℤ, pos, Bool, true, false, Some, None, Ok, if◌then◌else◌, refl, sym, ap, ap₂, ◌∙◌, subst, arith, eqb-true}
 use Rattle.std.specs.Prelude.{nat_le, ◌&&◌, ◌==◌}
-use Rattle.std.specs.List.{Contains}
+use Rattle.std.specs.List.{Contains, list_all}
 use Rattle.std.specs.Cmp.{first_so, second_so}
-use Rattle.std.proofs.Common.{eqb-true}
 use Rattle.std.proofs.lemmas.Bool.Decides.{nat_tests}
 use Rattle.std.proofs.lemmas.List.{get_or_append_left, get_or-append-add, get_or-replicate, length-replicate, length-append}
 use Rattle.hpf_base.specs.declared.limits.TheConstants.{MAX_TUPLES}
@@ -20,7 +19,6 @@ use Rattle.array_meaning.specs.NestEntry.{unless_clash}
 use Rattle.array_meaning.specs.NestLimits.{is_nest_in_limits, is_block_in_limits, is_in_limits}
 use Rattle.array_meaning.specs.Clashes.{first_clash}
 use Rattle.array_meaning.specs.Forall.{is_index_in_limits}
-use Rattle.std.specs.List.{list_all}
 use Rattle.node_code.specs.Flat.{slot}
 use Rattle.node_code.specs.Forms.{Sub, selections_in}
 use Rattle.node_code.specs.Instructions.{Instruction, ArrayTable, NewMapping}
@@ -33,7 +31,6 @@ use Rattle.nest_items.specs.NestForm.{IsNest}
 use Rattle.nest_items.specs.NestItems.{ToScalar, ToElement, Assigning}
 use Rattle.nest_items.specs.Paths.{PathsAssign}
 use Rattle.nest_items.proofs.Storing.{if_so, if_not, row-at, rows-length}
-use Rattle.nest_items.proofs.NameKinds.{copies_of_kind}
 use Rattle.nest_parts.specs.NestParts as whole
 use Rattle.nest_parts.specs.NestParts.{opened}
 use Rattle.nest_parts.proofs.Opening.{condition_rows}
@@ -45,28 +42,25 @@ use Rattle.nest_machine.specs.Placed.{PlacedTexts}
 use Rattle.nest_machine.specs.PlacedEnds.{IsPlacedFinal}
 use Rattle.nest_machine.proofs.PlacedCopies.{row-each}
 use Rattle.nest_texts.specs.NestInstructions.{nest_layout}
-use Rattle.nest_join.specs.NestNames.{NestNames, index_in}
+use Rattle.statement_trail.specs.NestParts.{index_in}
+use Rattle.nest_join.specs.NestNames.{NestNames}
 use Rattle.nest_join.specs.NestTexts.{NestAction, assignment_text, text_of, test_of, texts_of, HoldsEntry}
 use Rattle.nest_join.specs.CodedBlocks.{IsCodedBlock, coded}
 use Rattle.nest_join.specs.Places.{AreScalars}
 use Rattle.nest_join.specs.NestRuns.{NestCode, machine_body, HoldsRows, HasFinals}
-use Rattle.nest_join.proofs.RowPlaces.{condition-place, condition-row, marks-off, not-among}
+use Rattle.nest_join.proofs.RowPlaces.{condition-place, condition-row, marks-off, copies-behind, marks-behind, not-among}
 use Rattle.nest_join.proofs.MadeRows.{names-unmade}
 use Rattle.nest_join.proofs.ListedFinals.{has-final}
-use Rattle.lowered_nests.specs.NestCode.{plain, text_in, test_in, scalars, conditions, kinds_in, operator_in, stored, finals, along, names_in}
+use Rattle.lowered_nests.specs.NestCode.{plain, text_in, test_in, scalars, conditions, kinds_in, stored, finals, along, names_in}
 use Rattle.lowered_nests.proofs.NestRuns.{HasCopies, NestStands}
 use Rattle.lowered_nests.proofs.PlainCode.{same-count}
 use Rattle.lowered_nests.proofs.OneKind.{one-kind}
-use Rattle.lowered_nests.proofs.Listed.{in-some, in-none}
+use Rattle.lowered_nests.proofs.Listed.{and-off, in-some, in-none}
 use Rattle.lowered_nests.proofs.FreeIndices.{IsBody, nest-body}
 use Rattle.lowered_nests.proofs.CodedTexts.{same-block}
 use Rattle.lowered_nests.proofs.CodedBody.{are-scalars, of-scalars, array-row, block-coded}
 use Rattle.lowered_nests.proofs.Standing.{same-along, these-indices, these-many}
 use Rattle.lowered_nests.proofs.Counted.{count-of}
-
-and-off : (a : Bool) → (a && false) ≡ false
-and-off true = refl
-and-off false = refl
 
 module _ (table : ArrayTable) (row_count : ℕ) (moves : ℕ → List NewMapping) (code : List Instruction) (n many : ℕ) (lie : HasCopies table)
     (line pc v : ℕ) (nest : Nest) (loop : Loop) (block body : Block) (s : State) (slots : List ℤ) (rows : Storage)
@@ -123,14 +117,14 @@ module _ (table : ArrayTable) (row_count : ℕ) (moves : ℕ → List NewMapping
   inside = nest-body kinds all n nest loop block body formed h.named
 
   pub ok : IsCodedBlock w s [] body
-  ok = block-coded table n nest body over all s h.fits.scalars formed.quiet inside.named inside.free [] inside.are body inside.keeps inside.named h.asked.texts
+  ok = block-coded table n nest body over all s h.fits.scalars formed.quiet inside.named inside.free [] inside.are body inside.keeps inside.named h.form.texts
 
   pub count-is : count_body (machine_body w c s body ok) ≡ conds
   count-is = count-of (coded w s [] body ok)
       ∙ same-count (text_of w) (text_in n nest body) (test_of w) (test_in n nest body) (coded w s [] body ok) (plain body) (same-block table n nest body over is_index s [] body ok)
 
   pub are : AreScalars n ks
-  are = are-scalars n nest body inside.named
+  are = are-scalars n nest body
 
   pub listed : (k : ℕ) → has_copies (kinds k) ≡ true → (j : ℕ) × (index_in ks 0 k ≡ Some j)
   listed k e = in-some ks 0 k (sym (of-scalars table n nest body over all s h.fits.scalars formed.quiet inside.named k) ∙ e)
@@ -143,7 +137,7 @@ module _ (table : ArrayTable) (row_count : ℕ) (moves : ℕ → List NewMapping
   pub from : n ≤ b
   from = let z = h.from in omega (arith, z)
 
-  gives : (s' : List ℤ) → SameSlots is_index b slots s' → selections_in s' over ≡ map Along (nest_axes s nest)
+  pub gives : (s' : List ℤ) → SameSlots is_index b slots s' → selections_in s' over ≡ map Along (nest_axes s nest)
   gives s' same = sym (same-along nest.loops v slots s' (λ x le lt. same.1 x lt (outside x (let z = h.from in omega (arith, z, le))))) ∙ h.bounds
 
   pub entry-held : HoldsEntry w b slots s
@@ -168,11 +162,11 @@ module _ (table : ArrayTable) (row_count : ℕ) (moves : ℕ → List NewMapping
       by_test false e false f g = absurd cc
 
   limit : N ≤ MAX_TUPLES
-  limit = of_block body h.asked.small (second_so (list_all is_index_in_limits (nest_axes s nest)) (is_block_in_limits (nest_indices nest) s N body) in-limits)
+  limit = of_block body h.statements (second_so (list_all is_index_in_limits (nest_axes s nest)) (is_block_in_limits (nest_indices nest) s N body) in-limits)
     where
-      of_block : (x : Block) → (x ≡ Done → N ≤ MAX_TUPLES) → is_block_in_limits (nest_indices nest) s N x ≡ true → N ≤ MAX_TUPLES
-      of_block Done small e = small refl
-      of_block (Then l st rest) small e =
+      of_block : (x : Block) → (x ≡ Done → ⊥) → is_block_in_limits (nest_indices nest) s N x ≡ true → N ≤ MAX_TUPLES
+      of_block Done some e = absurd (some refl)
+      of_block (Then l st rest) some e =
           let both = first_so (nat_le N MAX_TUPLES && is_in_limits (nest_indices nest) s N st) (is_block_in_limits (nest_indices nest) s N rest) e in
           let one = first_so (nat_le N MAX_TUPLES) (is_in_limits (nest_indices nest) s N st) both in
           grind (arith, nat_tests, one)
@@ -241,7 +235,8 @@ module _ (table : ArrayTable) (row_count : ℕ) (moves : ℕ → List NewMapping
     names = omega arith;
     stored = omega arith;
     unmade = names-unmade n ks conds kinds;
-    scalars = λ a lt e. h.asked.bare a (sym (copies_of_kind (operator_in body) nest body a) ∙ e);
+    copies = λ k e. let z = listed k e in copies-behind n ks conds are k z.0 z.1;
+    marks = λ k r e. marks-behind n ks conds are kinds k r e;
     arrays = λ a lt e.
         let z = array-row table n nest body over all s h.fits.scalars formed.quiet inside.named a lt e in
         (z.0, z.1, row-is a lt ∙ if_not (has_copies (kinds a)) (scalar s a ∷ []) (array s a).elements e);

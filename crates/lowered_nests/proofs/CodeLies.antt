@@ -55,7 +55,7 @@ module _ (w : NestNames) (s : State) where
     safe-in line round (If arms other) ok x h =
         (safe-arms round arms ok.0 (else_arm w (coded w s round other ok.1)) (safe-else (coded w s round other ok.1) (safe-block round other ok.1)), h)
     safe-in line round (Do Unmarked loop inner) ok x h = (
-      (cant-fault w.count loop.control.first ok.0.first.0, cant-fault w.count loop.control.last ok.0.last.0, cant-fault w.count loop.control.step ok.0.step.0),
+      (cant-fault w.count loop.control.first ok.0.first.0, cant-fault w.count loop.control.last ok.0.last.0, (λ slots. refl)),
       safe-block (loop.index ∷ round) inner ok.1,
       h,
     )

@@ -1,43 +1,39 @@
 -- The innermost block of a nest by its form is one that has code.
-use Rattle.std.proofs.Common.{◌≡◌, ℕ, ◌<◌, nat_eq, nat_lt, arith, if◌then◌else◌, inl, inr, List, [], ◌∷◌, ℤ, Bool, true, false, true≢false, not, Option, Some, None, Ok, FitsSigned, w64, refl, sym, ap, ap₂, ◌∙◌, subst}
-use Rattle.std.specs.Prelude.{option_and_then, ◌&&◌}
-use Rattle.std.proofs.lemmas.Bool.Decides.{nat_tests}
+use Rattle.std.proofs.Common.{◌≡◌, ℕ, ◌<◌, nat_eq, nat_lt, arith, if◌then◌else◌, inl, inr, List, [], ◌∷◌, Bool, true, false, true≢false, not, Option, Some, None, FitsSigned, w64, refl, sym, ap, ap₂, ◌∙◌, subst}
+use Rattle.std.specs.Prelude.{◌&&◌}
 use Rattle.op_tables.specs.declared.op.Op.{Op}
 use Rattle.op_tables.specs.declared.op.Op.TheVariants as op
-use Rattle.op_tables.specs.Operators.{can_divide, operator_value, is_zero}
+use Rattle.op_tables.specs.Operators.{can_divide}
 use Rattle.nest_order.specs.Copies.{Kind, has_copies}
 use Rattle.array_meaning.specs.Terms.{Term, Number, Scalar, Index, Element, Section, Apply, Reduce, Terms, NoTerm, More}
-use Rattle.array_meaning.specs.Faults.{◌>>=◌, with_more}
-use Rattle.array_meaning.specs.Elementals.{operated, unless_zero}
 use Rattle.array_meaning.specs.State.{State, scalar}
 use Rattle.array_meaning.specs.Statements.{Loop, Nest, Block, Done, Then, Statement, AssignScalar, AssignElement, AssignSection, If, Do, Where, Forall, Print, Stop, Exit, Cycle, Continue, Redistribute, Mark, Arms, NoArm, Arm}
 use Rattle.array_meaning.specs.Iterations.{is_in, nest_indices}
 use Rattle.array_meaning.specs.Touches.{assigned_in, assigned_by, assigned_in_arms}
-use Rattle.node_code.specs.Flat.{flat_value, flat_values, or_zero}
 use Rattle.node_code.specs.Forms.{Sub}
 use Rattle.node_code.specs.Instructions.{ArrayTable}
-use Rattle.lowered_expressions.specs.ExpressionCode.{index_flat, index_flats}
-use Rattle.lowered_expressions.specs.WellFormed.{IsScalar, AreScalar, IsSubscript, AreSubscripts, IsWellFormed, IsWellFormedBlock, AreWellFormedArms}
+use Rattle.lowered_expressions.specs.WellFormed.{IsScalar, AreScalar, IsSubscript, AreSubscripts, IsIndexed, AreIndexed, IsWellFormed, IsWellFormedBlock, AreWellFormedArms}
 use Rattle.nest_items.specs.Naming.{IsNaming, AreNaming}
 use Rattle.nest_items.specs.Settled.{without}
 use Rattle.nest_items.specs.Standing.{Stands}
-use Rattle.nest_items.specs.NestForm.{is_linear_operator, IsExact, AreExact, with_closed, closed_value, closed_values, BlockKeeps, StatementKeeps, ArmsKeep}
+use Rattle.nest_items.specs.NestForm.{is_linear_operator, IsExact, AreExact, IsPlain, ArePlain, NamesNone, TextsKeep, TextKeeps, ArmsTextsKeep, BlockKeeps, StatementKeeps, ArmsKeep}
 use Rattle.nest_items.proofs.FormStands.{block_stands}
 use Rattle.nest_items.proofs.NameKinds.{copies_of_kind}
-use Rattle.nest_join.specs.NestNames.{NestNames, index_in, indices_of, IsFixedName, IsTextTerm}
+use Rattle.statement_trail.specs.NestParts.{index_in, scalars_in}
+use Rattle.lowered_expressions.specs.NestTerms.{HasNoIndex, HaveNoIndex}
+use Rattle.nest_join.specs.NestNames.{NestNames, indices_of, IsFixedName, IsTextTerm}
 use Rattle.nest_join.specs.Places.{AreScalars}
 use Rattle.nest_join.specs.CodedBlocks.{IsBoundName, IsCodedLoop, IsCodedBlock, IsCodedStatement, AreCodedArms}
 use Rattle.nest_join.proofs.Names.{eq-is}
-use Rattle.nest_join.proofs.RowPlaces.{name-row, array-place}
-use Rattle.lowered_nests.specs.NestCode.{scalars, conditions, kinds_in, operator_in, names_in, scalars_in}
-use Rattle.lowered_nests.specs.TextBlocks.{IsPlainTerm, IsConstantLoop, IsTextBlock, IsTextStatement, AreTextArms}
-use Rattle.lowered_nests.proofs.Listed.{in-some, in-none, is-in, once-in, once-apart, read-here, not-read, in-either}
+use Rattle.nest_join.proofs.RowPlaces.{lt-so, name-row, array-place}
+use Rattle.lowered_nests.specs.NestCode.{scalars, conditions, kinds_in, operator_in, names_in}
+use Rattle.lowered_nests.proofs.Listed.{in-some, in-none, is-in, among-is, is-among, among-apart, read-here, not-read, in-either}
 use Rattle.lowered_nests.proofs.FreeIndices.{AreFree, free-is, free-inside, not-hidden}
 use Rattle.lowered_nests.proofs.TextTerms.{text-term, text-subscripts}
 
--- ---- bounds
+-- ---- bounds and subscripts
 
-no-division : (o : Op) → is_linear_operator o ≡ true → can_divide o ≡ false
+pub no-division : (o : Op) → is_linear_operator o ≡ true → can_divide o ≡ false
 no-division op.Neg h = refl
 no-division op.Plus h = refl
 no-division op.Add h = refl
@@ -59,32 +55,49 @@ mutual
   exact-subscripts n NoTerm h ok = tt
   exact-subscripts n (More t ts) h ok = (exact-subscript n t h.0 ok.0, exact-subscripts n ts h.1 ok.1)
 
-closed-more : (a : Option ℤ) (b : Option (List ℤ)) (vs : List ℤ) → with_closed a b ≡ Some vs → (v : ℤ) × (ws : List ℤ) × (a ≡ Some v) × (b ≡ Some ws) × (v ∷ ws ≡ vs)
-closed-more (Some v) (Some ws) vs h = let same : v ∷ ws ≡ vs = cc in (v, ws, refl, refl, same)
-closed-more (Some v) None vs h = absurd cc
-closed-more None b vs h = absurd cc
+mutual
+  exact-none : (t : Term) → IsExact t → HasNoIndex t
+  exact-none (Number v) h = tt
+  exact-none (Scalar k) h = tt
+  exact-none (Index k) h = absurd h
+  exact-none (Element a ts) h = absurd h
+  exact-none (Section a subs) h = tt
+  exact-none (Apply o ts) h = exacts-none ts h.1
+  exact-none (Reduce o t) h = tt
 
-applied-closed : (o : Op) (a : Option (List ℤ)) (v : ℤ) → option_and_then (operator_value o) a ≡ Some v → (vs : List ℤ) × (a ≡ Some vs) × (operator_value o vs ≡ Some v)
-applied-closed o (Some vs) v h = (vs, refl, h)
-applied-closed o None v h = absurd cc
+  exacts-none : (ts : Terms) → AreExact ts → HaveNoIndex ts
+  exacts-none NoTerm h = tt
+  exacts-none (More t ts) h = (exact-none t h.0, exacts-none ts h.1)
+
+-- ---- plain expressions
 
 mutual
-  closed-flat : (slots : List ℤ) (t : Term) (v : ℤ) → closed_value t ≡ Some v → flat_value slots [] [] (index_flat t) ≡ Ok v
-  closed-flat slots (Number w) v h = let same : w ≡ v = cc in ap Ok same
-  closed-flat slots (Apply o ts) v h =
-      let m = applied-closed o (closed_values ts) v h in
-      ap (λ r. r >>= operated o) (closed-flats slots ts m.0 m.1) ∙ ap unless_zero m.2
-  closed-flat slots (Scalar k) v h = absurd cc
-  closed-flat slots (Index k) v h = absurd cc
-  closed-flat slots (Element a ts) v h = absurd cc
-  closed-flat slots (Section a subs) v h = absurd cc
-  closed-flat slots (Reduce o t) v h = absurd cc
+  pub plain-form : (n : ℕ) (t : Term) → IsPlain t → IsScalar n t → IsIndexed n t
+  plain-form n (Number v) h ok = tt
+  plain-form n (Scalar k) h ok = ok
+  plain-form n (Index k) h ok = tt
+  plain-form n (Element a ts) h ok = (ok.0, exact-subscripts n ts h ok.1)
+  plain-form n (Section a subs) h ok = tt
+  plain-form n (Apply o ts) h ok = plain-forms n ts h ok
+  plain-form n (Reduce o t) h ok = absurd h
 
-  closed-flats : (slots : List ℤ) (ts : Terms) (vs : List ℤ) → closed_values ts ≡ Some vs → flat_values slots [] [] (index_flats ts) ≡ Ok vs
-  closed-flats slots NoTerm vs h = let same : [] ≡ vs = cc in ap Ok same
-  closed-flats slots (More t ts) vs h =
-      let m = closed-more (closed_value t) (closed_values ts) vs h in
-      ap₂ with_more (closed-flat slots t m.0 m.2) (closed-flats slots ts m.1 m.3) ∙ ap Ok m.4
+  plain-forms : (n : ℕ) (ts : Terms) → ArePlain ts → AreScalar n ts → AreIndexed n ts
+  plain-forms n NoTerm h ok = tt
+  plain-forms n (More t ts) h ok = (plain-form n t h.0 ok.0, plain-forms n ts h.1 ok.1)
+
+mutual
+  plain-none : (t : Term) → IsPlain t → HasNoIndex t
+  plain-none (Number v) h = tt
+  plain-none (Scalar k) h = tt
+  plain-none (Index k) h = absurd h
+  plain-none (Element a ts) h = exacts-none ts h
+  plain-none (Section a subs) h = tt
+  plain-none (Apply o ts) h = plain-nones ts h
+  plain-none (Reduce o t) h = tt
+
+  plain-nones : (ts : Terms) → ArePlain ts → HaveNoIndex ts
+  plain-nones NoTerm h = tt
+  plain-nones (More t ts) h = (plain-none t h.0, plain-nones ts h.1)
 
 module _ (P : ℕ → Type 0) (n : ℕ) (off : (k : ℕ) → Bool) (names : (k : ℕ) → k < n → off k ≡ false → P k) where
   mutual
@@ -102,9 +115,6 @@ module _ (P : ℕ → Type 0) (n : ℕ) (off : (k : ℕ) → Bool) (names : (k :
     all-bound-names (More t ts) h ok = (bound-names t h.0 ok.0, all-bound-names ts h.1 ok.1)
 
 -- ---- what is assigned is declared
-
-pub lt-so : (a b : ℕ) → a < b → nat_lt a b ≡ true
-lt-so a b h = grind (arith, nat_tests, h)
 
 one-in : (k x : ℕ) → is_in k (x ∷ []) ≡ true → x ≡ k
 one-in k x h = by_place (in-some (x ∷ []) 0 k h)
@@ -134,11 +144,21 @@ mutual
   assigned-below-arms n k (Arm line t body arms) ok h =
       in-either (assigned_in body) (assigned_in_arms arms) k h (assigned-below n k body ok.1) (assigned-below-arms n k arms ok.2)
 
-pub are-scalars : (n : ℕ) (nest : Nest) (body : Block) → IsWellFormedBlock n body → AreScalars n (scalars n nest body)
-are-scalars n nest body ok = record {
-  below = λ k j e. assigned-below n k body ok (sym (once-in (assigned_in body) k) ∙ is-in (scalars n nest body) 0 k j e);
-  distinct = once-apart (assigned_in body);
+pub are-scalars : (n : ℕ) (nest : Nest) (body : Block) → AreScalars n (scalars n nest body)
+are-scalars n nest body = record {
+  below = λ k j e. let below = (among-is (assigned_in body) 0 n k (is-in (scalars n nest body) 0 k j e)).below in omega (arith, below);
+  distinct = among-apart (assigned_in body) 0 n;
 }
+
+scalars-all : (n : ℕ) (nest : Nest) (body : Block) → IsWellFormedBlock n body → (k : ℕ) → is_in k (assigned_in body) ≡ is_in k (scalars n nest body)
+scalars-all n nest body ok k = by_tests (is_in k (assigned_in body)) refl (is_in k (scalars n nest body)) refl
+  where
+    by_tests : (a : Bool) → is_in k (assigned_in body) ≡ a → (b : Bool) → is_in k (scalars n nest body) ≡ b → a ≡ b
+    by_tests true e true f = refl
+    by_tests true e false f =
+        let below = assigned-below n k body ok e in sym (is-among (assigned_in body) 0 n k (record { listed = e; from = omega arith; below = omega (arith, below) })) ∙ f
+    by_tests false e true f = sym e ∙ (among-is (assigned_in body) 0 n k f).listed
+    by_tests false e false f = refl
 
 -- ---- the block
 
@@ -155,11 +175,11 @@ module _ (table : ArrayTable) (n : ℕ) (nest : Nest) (body : Block) (over : Lis
   kinds = kinds_in n nest body
 
   are : AreScalars n (scalars n nest body)
-  are = are-scalars n nest body named
+  are = are-scalars n nest body
 
   -- what has copies is among the scalars
   pub of-scalars : (k : ℕ) → has_copies (kinds k) ≡ is_in k (scalars n nest body)
-  of-scalars k = copies_of_kind (operator_in body) nest body k ∙ sym (once-in (assigned_in body) k)
+  of-scalars k = copies_of_kind (operator_in body) nest body k ∙ scalars-all n nest body named k
 
   unread : (t : Term) (k : ℕ) → has_copies (kinds k) ≡ false → index_in (w.copied_in t) 0 k ≡ None
   unread t k h = not-read (scalars n nest body) (scalars_in t) k (sym (of-scalars k) ∙ h)
@@ -202,10 +222,10 @@ module _ (table : ArrayTable) (n : ℕ) (nest : Nest) (body : Block) (over : Lis
           absurd (true≢false (sym (h.is k ∙ is) ∙ off))
       by_tests false e false f false g = (lt, c, inr (inl (in-none (nest_indices nest) 0 k f, in-none round 0 k e, ap (λ b. b && nat_lt k n) g)))
 
-  coded-term : (free : ℕ → Bool) (round : List ℕ) → Free free round → (own : Option ℕ) (t : Term) → Stands kinds free own t → IsPlainTerm n all t
+  coded-term : (free : ℕ → Bool) (round : List ℕ) → Free free round → (own : Option ℕ) (t : Term) → Stands kinds free own t → IsScalar n t → IsPlain t
       → IsTextTerm w round (w.copied_in t) t
-  coded-term free round h own t stands plain =
-      text-term w free round (w.copied_in t) (fixed free round h) (unread t) (copied free round h) array-row own t stands plain.0 plain.1 (read t)
+  coded-term free round h own t stands ok plain =
+      text-term w free round (w.copied_in t) (fixed free round h) (unread t) (copied free round h) array-row own t stands (plain-form n t plain ok) (plain-none t plain) (read t)
 
   bound-name : (free : ℕ → Bool) (round : List ℕ) → Free free round → (k : ℕ) → k < n → all k ≡ false → IsBoundName w round k
   bound-name free round h k lt off =
@@ -213,7 +233,7 @@ module _ (table : ArrayTable) (n : ℕ) (nest : Nest) (body : Block) (over : Lis
       (lt, ap (λ b. b && nat_lt k n) off, in-none (nest_indices nest) 0 k z.0, in-none round 0 k z.1)
 
   coded-loop : (free : ℕ → Bool) (round : List ℕ) → Free free round → (mark : Mark) (loop : Loop) (inner : Block) → StatementKeeps kinds free (Do mark loop inner)
-      → IsWellFormed n (Do mark loop inner) → IsConstantLoop n all loop → IsCodedLoop w s round loop
+      → IsWellFormed n (Do mark loop inner) → NamesNone all loop.control.first × NamesNone all loop.control.last → IsCodedLoop w s round loop
   coded-loop free round h mark loop inner keeps ok plain =
       let kept = keeps.0 in
       let z = free-is all (nest_indices nest) free round h loop.index kept.unseen in
@@ -224,28 +244,27 @@ module _ (table : ArrayTable) (n : ℕ) (nest : Nest) (body : Block) (over : Lis
         below = ok.0;
         first = (first, bound-names (IsBoundName w round) n all (bound-name free round h) loop.control.first plain.0 first);
         last = (last, bound-names (IsBoundName w round) n all (bound-name free round h) loop.control.last plain.1 last);
-        step = (plain.3, bound-names (IsBoundName w round) n all (bound-name free round h) loop.control.step plain.2 plain.3);
-        steps = λ slots. ap (λ r. not (is_zero (or_zero r))) (closed-flat slots loop.control.step kept.step_exact.number kept.step_exact.is) ∙ ap not kept.step_exact.nonzero;
+        step = kept.step_exact;
         fits = (block_stands kinds free s (Then 0 (Do mark loop inner) Done) fit (keeps, tt)).0.0.fits;
       }
 
   mutual
-    pub block-coded : (free : ℕ → Bool) (round : List ℕ) → Free free round → (b : Block) → BlockKeeps kinds free b → IsWellFormedBlock n b → IsTextBlock n all b
+    pub block-coded : (free : ℕ → Bool) (round : List ℕ) → Free free round → (b : Block) → BlockKeeps kinds free b → IsWellFormedBlock n b → TextsKeep all b
         → IsCodedBlock w s round b
     block-coded free round h Done keeps ok plain = tt
     block-coded free round h (Then line st rest) keeps ok plain =
         (statement-coded free round h st keeps.0 ok.0 plain.0, block-coded free round h rest keeps.1 ok.1 plain.1)
 
-    statement-coded : (free : ℕ → Bool) (round : List ℕ) → Free free round → (st : Statement) → StatementKeeps kinds free st → IsWellFormed n st → IsTextStatement n all st
+    statement-coded : (free : ℕ → Bool) (round : List ℕ) → Free free round → (st : Statement) → StatementKeeps kinds free st → IsWellFormed n st → TextKeeps all st
         → IsCodedStatement w s round st
     statement-coded free round h (AssignScalar k t) keeps ok plain =
-        ((keeps.0, name-row n (scalars n nest body) (conditions n nest body) are k ok.0), coded-term free round h (Some k) t keeps.1 plain)
+        ((keeps.0, name-row n (scalars n nest body) (conditions n nest body) are k ok.0), coded-term free round h (Some k) t keeps.1 ok.1 plain)
     statement-coded free round h (AssignElement a ts t) keeps ok plain = (
       (
         (ok.0, keeps.0, (array-row a ok.0 keeps.0).0, (array-row a ok.0 keeps.0).1),
-        text-subscripts w free round (w.copied_in t) (fixed free round h) (unread t) (copied free round h) array-row ts keeps.1 plain.0.0 plain.0.1,
+        text-subscripts w free round (w.copied_in t) (fixed free round h) (unread t) (copied free round h) array-row ts keeps.1 (exact-subscripts n ts plain.0 ok.1) (exacts-none ts plain.0),
       ),
-      coded-term free round h None t keeps.2 plain.1,
+      coded-term free round h None t keeps.2 ok.2 plain.1,
     )
     statement-coded free round h (If arms other) keeps ok plain =
         (arms-coded free round h arms keeps.0 ok.0 plain.0, block-coded free round h other keeps.1 ok.1 plain.1, keeps.2)
@@ -264,8 +283,8 @@ module _ (table : ArrayTable) (n : ℕ) (nest : Nest) (body : Block) (over : Lis
     statement-coded free round h Cycle keeps ok plain = absurd keeps
     statement-coded free round h Redistribute keeps ok plain = absurd keeps
 
-    arms-coded : (free : ℕ → Bool) (round : List ℕ) → Free free round → (arms : Arms) → ArmsKeep kinds free arms → AreWellFormedArms n arms → AreTextArms n all arms
+    arms-coded : (free : ℕ → Bool) (round : List ℕ) → Free free round → (arms : Arms) → ArmsKeep kinds free arms → AreWellFormedArms n arms → ArmsTextsKeep all arms
         → AreCodedArms w s round arms
     arms-coded free round h NoArm keeps ok plain = tt
     arms-coded free round h (Arm line t b arms) keeps ok plain =
-        (coded-term free round h None t keeps.0 plain.0, block-coded free round h b keeps.1 ok.1 plain.1, arms-coded free round h arms keeps.2 ok.2 plain.2)
+        (coded-term free round h None t keeps.0 ok.0 plain.0, block-coded free round h b keeps.1 ok.1 plain.1, arms-coded free round h arms keeps.2 ok.2 plain.2)

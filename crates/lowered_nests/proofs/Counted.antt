@@ -1,18 +1,13 @@
 -- How many stored conditions and slots a nest's body has, and what its names are below.
-use Rattle.std.proofs.Common.{◌≡◌, ℕ, zero, suc, ◌+◌, ◌<◌, max, List, ℤ, Bool, refl, arith}
+use Rattle.std.proofs.Common.{◌≡◌, ℕ, ◌+◌, ◌<◌, max, Bool, refl}
 use Rattle.array_meaning.specs.Terms.{Term, Number, Scalar, Index, Element, Section, Apply, Reduce, Terms, NoTerm, More}
 use Rattle.array_meaning.specs.Statements.{Block, Done, Then, Statement, AssignScalar, AssignElement, If, Do, Arms, NoArm, Arm}
 use Rattle.lowered_expressions.specs.WellFormed.{IsSubscript, AreSubscripts, IsIndexed, AreIndexed, IsWellFormed, IsWellFormedBlock, AreWellFormedArms}
 use Rattle.nest_items.specs.Naming.{TermBelow, AreNaming, BlockBelow, StatementBelow, ArmsBelow}
-use Rattle.nest_order.specs.Items.{Items, Branches}
-use Rattle.nest_order.specs.Parts.{most, count_items, count_branches}
-use Rattle.nest_machine.specs.Counting.{Counting, trips_at}
-use Rattle.nest_machine.specs.Body as nest
-use Rattle.nest_machine.specs.Body.{Body, Arms as BodyArms, count_body, count_arms, body_slots, arms_slots}
-use Rattle.nest_machine.specs.Slots.{headed, trip_slots, first_trip, left_slots, slots_after, slots_after_arms}
-use Rattle.nest_machine.specs.ItemsAt.{items_at, branches_at}
+use Rattle.nest_machine.specs.Body.{count_body, count_arms, body_slots, arms_slots}
 use Rattle.nest_texts.specs.NestInstructions.{NestBody, NoText, AndText, AndIf, AndLoop, NestArms, NoArm as NoArmText, AndArm, body_of, arms_of, count_nest, count_nest_arms, slots_of_nest, slots_of_arms}
-use Rattle.lowered_nests.specs.TextBlocks.{IsTextBlock, IsTextStatement, AreTextArms}
+use Rattle.nest_items.specs.NestForm.{TextsKeep, TextKeeps, ArmsTextsKeep}
+use Rattle.lowered_nests.proofs.CodedBody.{plain-form}
 
 module _ {A C : Type 0} where
   mutual
@@ -37,42 +32,9 @@ module _ {A C : Type 0} where
     slots-of-arms NoArmText = refl
     slots-of-arms (AndArm c x xs) = λ i. max (slots-of x i) (slots-of-arms xs i)
 
--- ---- of the statements of an iteration
-
-most-same : (n : ℕ) (f : ℕ → ℕ) (c : ℕ) → ((x : ℕ) → f x ≡ c) → most (suc n) f ≡ c
-most-same zero f c h = let e : f 0 ≡ c = h 0 in omega (arith, e)
-most-same (suc n) f c h = let e : f (suc n) ≡ c = h (suc n) in let r : most (suc n) f ≡ c = most-same n f c h in omega (arith, e, r)
-
-module _ {A C F P Q : Type 0} (counting : Counting F) (action_at : A → List ℤ → ℕ → P) (condition_at : C → List ℤ → ℕ → Q) (i : ℕ) where
-  abbrev ItemsOf : Body A C → ℕ → List ℤ → Items P Q
-  ItemsOf = items_at counting action_at condition_at i
-
-  abbrev BranchesOf : BodyArms A C → ℕ → List ℤ → Branches P Q
-  BranchesOf = branches_at counting action_at condition_at i
-
-  mutual
-    pub items-count : (body : Body A C) (b : ℕ) (s : List ℤ) → count_items (ItemsOf body b s) ≡ count_body body
-    items-count nest.NoText b s = refl
-    items-count (nest.AndText a rest) b s = items-count rest b s
-    items-count (nest.AndIf arms rest) b s =
-        λ j. branches-count arms b s j + items-count rest b (slots_after_arms counting arms b s) j
-    items-count (nest.AndLoop bounds inner rest) b s =
-        let f = slots_after counting inner (b + 4) in
-        let h = headed bounds b s in
-        let n = trips_at counting b h in
-        let first = first_trip counting b h n in
-        λ j. most-same n (λ x. count_items (ItemsOf inner (b + 4) (trip_slots counting f bounds.index b first x))) (count_body inner)
-        (λ x. items-count inner (b + 4) (trip_slots counting f bounds.index b first x)) j
-        + items-count rest b (left_slots counting f bounds.index b h n) j
-
-    branches-count : (arms : BodyArms A C) (b : ℕ) (s : List ℤ) → count_branches (BranchesOf arms b s) ≡ count_arms arms
-    branches-count nest.NoArm b s = refl
-    branches-count (nest.AndArm test body others) b s =
-        λ j. 1 + items-count body b s j + branches-count others b (slots_after counting body b s) j
-
 -- ---- names
 
-module _ (n : ℕ) (is_index : ℕ → Bool) where
+module _ (n : ℕ) (all : ℕ → Bool) where
   mutual
     subscript-below : (t : Term) → IsSubscript n t → TermBelow n t
     subscript-below (Number v) ok = tt
@@ -102,17 +64,17 @@ module _ (n : ℕ) (is_index : ℕ → Bool) where
     terms-below (More t ts) ok = (term-below t ok.0, terms-below ts ok.1)
 
   mutual
-    pub block-below : (b : Block) → IsWellFormedBlock n b → IsTextBlock n is_index b → BlockBelow n b
+    pub block-below : (b : Block) → IsWellFormedBlock n b → TextsKeep all b → BlockBelow n b
     block-below Done ok h = tt
     block-below (Then line st rest) ok h = (statement-below st ok.0 h.0, block-below rest ok.1 h.1)
 
-    statement-below : (st : Statement) → IsWellFormed n st → IsTextStatement n is_index st → StatementBelow n st
-    statement-below (AssignScalar k t) ok h = (ok.0, term-below t h.0)
-    statement-below (AssignElement a ts t) ok h = (ok.0, term-below t h.1.0)
+    statement-below : (st : Statement) → IsWellFormed n st → TextKeeps all st → StatementBelow n st
+    statement-below (AssignScalar k t) ok h = (ok.0, term-below t (plain-form n t h ok.1))
+    statement-below (AssignElement a ts t) ok h = (ok.0, term-below t (plain-form n t h.1 ok.2))
     statement-below (If arms other) ok h = (arms-below arms ok.0 h.0, block-below other ok.1 h.1)
     statement-below (Do mark loop body) ok h = block-below body ok.2 h.1
     statement-below st ok h = tt
 
-    arms-below : (arms : Arms) → AreWellFormedArms n arms → AreTextArms n is_index arms → ArmsBelow n arms
+    arms-below : (arms : Arms) → AreWellFormedArms n arms → ArmsTextsKeep all arms → ArmsBelow n arms
     arms-below NoArm ok h = tt
-    arms-below (Arm line t b arms) ok h = (term-below t h.0.0, block-below b ok.1 h.1, arms-below arms ok.2 h.2)
+    arms-below (Arm line t b arms) ok h = (term-below t (plain-form n t h.0 ok.0), block-below b ok.1 h.1, arms-below arms ok.2 h.2)

@@ -20,7 +20,8 @@ use Rattle.nest_machine.specs.Trace.{Data}
 use Rattle.nest_machine.specs.Entries.{Entry, at_zero, final_entries, nest_entries, NotMade}
 use Rattle.nest_machine.specs.PlacedEntry.{IsPlacedMemory}
 use Rattle.nest_texts.specs.NestInstructions.{nest_layout}
-use Rattle.nest_join.specs.NestNames.{NestNames, index_in}
+use Rattle.statement_trail.specs.NestParts.{index_in}
+use Rattle.nest_join.specs.NestNames.{NestNames}
 use Rattle.nest_join.specs.Places.{AreScalars, place_by, final_by}
 use Rattle.nest_join.specs.CodedBlocks.{IsCodedBlock}
 use Rattle.nest_join.specs.NestRuns.{NestCode}

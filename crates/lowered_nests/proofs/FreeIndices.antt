@@ -1,29 +1,17 @@
 -- Which indices are free round a place of a nest's innermost block.
-use Rattle.std.proofs.Common.{◌≡◌, ℕ, nat_eq, List, [], ◌∷◌, ◌++◌, map, reverse, Bool, true, false, true≢false, not, if◌then◌else◌, refl, sym, ap, ◌∙◌, subst, append_assoc, append-nil}
+use Rattle.std.proofs.Common.{◌≡◌, ℕ, nat_eq, List, [], ◌∷◌, ◌++◌, map, Bool, true, false, true≢false, not, if◌then◌else◌, refl, sym, ap, ◌∙◌, subst, append_assoc, append-nil}
 use Rattle.std.specs.Prelude.{◌||◌, ◌&&◌}
 use Rattle.std.proofs.lemmas.List.Folds.{list_any-append}
-use Rattle.std.proofs.lemmas.List.{reverse-append}
 use Rattle.nest_order.specs.Copies.{Kind}
 use Rattle.array_meaning.specs.Statements.{Loop, Nest, Block}
 use Rattle.array_meaning.specs.Iterations.{is_in, nest_indices}
 use Rattle.lowered_expressions.specs.WellFormed.{IsWellFormedBlock}
 use Rattle.nest_items.specs.Settled.{without}
 use Rattle.nest_items.specs.NestForm.{BlockKeeps, LoopsKeep, IsNest}
+use Rattle.nest_items.proofs.NameKinds.{reversed}
 use Rattle.nest_join.specs.CodedBlocks.{hidden_in}
 use Rattle.nest_join.proofs.Names.{eq-is}
 use Rattle.lowered_nests.proofs.Listed.{turned}
-
-reversed : (k : ℕ) (xs : List ℕ) → is_in k (reverse xs) ≡ is_in k xs
-reversed k [] = refl
-reversed k (x ∷ xs) =
-    ap (is_in k) (reverse-append (x ∷ []) xs) ∙ list_any-append (nat_eq k) (reverse xs) (x ∷ []) ∙ ap (λ b. b || (nat_eq k x || false)) (reversed k xs)
-    ∙ swapped (is_in k xs) (nat_eq k x)
-  where
-    swapped : (a b : Bool) → (a || (b || false)) ≡ (b || a)
-    swapped true true = refl
-    swapped true false = refl
-    swapped false true = refl
-    swapped false false = refl
 
 -- what is free: indices but those of the nest and of the inner loops round the place
 pub record AreFree (all : ℕ → Bool) (outer : List ℕ) (free : ℕ → Bool) (round : List ℕ) : Type 0 where

@@ -1,12 +1,11 @@
 -- The values that the indices of loops, each of which is inside the one before, have after them.
-use Rattle.std.proofs.Common.{◌≡◌, ℕ, zero, suc, ◌+◌, ◌*◌, ◌⊎◌, inl, inr, nat_eq, List, [], ◌∷◌, ◌++◌, map, reverse, length, ℤ, pos, ◌+ℤ◌, ◌-ℤ◌, ◌*ℤ◌, Bool, true, false, Some, None, if◌then◌else◌, refl, sym, ap, ◌∙◌, arith, w64}
+use Rattle.std.proofs.Common.{◌≡◌, ℕ, zero, suc, ◌+◌, ◌*◌, ◌⊎◌, inl, inr, nat_eq, List, [], ◌∷◌, map, reverse, length, ℤ, pos, ◌+ℤ◌, ◌-ℤ◌, ◌*ℤ◌, Bool, true, false, Some, None, if◌then◌else◌, refl, sym, ap, ◌∙◌, arith, w64}
 use Rattle.std.specs.List.{AllByRecursion}
 use Rattle.std.proofs.lemmas.Bool.{cases_eq}
 use Rattle.std.proofs.lemmas.Bool.Decides.{nat_tests}
-use Rattle.std.proofs.lemmas.List.{reverse-append, map-append}
+use Rattle.std.proofs.lemmas.List.{reverse-append}
 use Rattle.std.proofs.lemmas.Int.{ints, int_wrap-add_left, int_wrap-add_right, int_wrap-mul_left}
 use Rattle.std.proofs.Math.IntN.{zero-*ℤ}
-use Rattle.std.proofs.Math.Nat.{mul_assoc}
 use Rattle.hpf_base.specs.ElementOrder.{product}
 use Rattle.op_tables.specs.Operators.{wrapped}
 use Rattle.array_meaning.specs.State.{State}
@@ -15,8 +14,9 @@ use Rattle.array_meaning.specs.declared.sections.Sequence.{Sequence}
 use Rattle.array_meaning.specs.Forall.{index_extents}
 use Rattle.array_meaning.specs.Iterations.{values_of, turn_value}
 use Rattle.nest_items.proofs.Turns.{next_value}
-use Rattle.nest_join.specs.NestNames.{index_in}
+use Rattle.statement_trail.specs.NestParts.{index_in}
 use Rattle.nest_join.proofs.Names.{eq-is, in-both-none}
+use Rattle.nest_join.proofs.NestIndices.{iterations-of}
 
 -- ---- tests of names
 
@@ -166,10 +166,6 @@ module _ (s : State) where
 
   -- ---- how many iterations there are
 
-  product-last : (xs : List ℕ) (c : ℕ) → product (xs ++ c ∷ []) ≡ product xs * c
-  product-last [] c = omega arith
-  product-last (x ∷ xs) c = ap (λ z. x * z) (product-last xs c) ∙ sym (mul_assoc x (product xs) c)
-
   no-product : (m c : ℕ) → (m ≡ 0 → ⊥) → m * suc c ≡ 0 → ⊥
   no-product zero c some e = some refl
   no-product (suc m) c some e = omega (arith, e)
@@ -178,8 +174,15 @@ module _ (s : State) where
   some-iterations [] h e = let z : 1 ≡ 0 = e in omega (arith, z)
   some-iterations (l ∷ ls) h e =
       let m : ℕ = product (index_extents (reverse (map (values_of s) ls))) in
-      let q : product (index_extents (reverse (map (values_of s) (l ∷ ls)))) ≡ m * (values_of s l).count =
-      ap (λ ps. product (index_extents ps)) (reverse-append (values_of s l ∷ []) (map (values_of s) ls))
-      ∙ ap product (map-append (λ p. p.count) (reverse (map (values_of s) ls)) (values_of s l ∷ []))
-      ∙ product-last (index_extents (reverse (map (values_of s) ls))) (values_of s l).count in
-      no-product m h.0 (some-iterations ls h.2) (ap (λ c. m * c) (sym h.1) ∙ sym q ∙ e)
+      no-product m h.0 (some-iterations ls h.2) (ap (λ c. m * c) (sym h.1) ∙ sym (iterations-of s l ls) ∙ e)
+
+  pub no-iterations : (ls : List Loop) → IsEmpty ls → product (index_extents (reverse (map (values_of s) ls))) ≡ 0
+  no-iterations [] h = absurd h
+  no-iterations (l ∷ ls) (inl e) =
+      let m : ℕ = product (index_extents (reverse (map (values_of s) ls))) in
+      let z : m * 0 ≡ 0 = omega arith in
+      iterations-of s l ls ∙ ap (λ c. m * c) e ∙ z
+  no-iterations (l ∷ ls) (inr h) =
+      let c : ℕ = (values_of s l).count in
+      let z : 0 * c ≡ 0 = omega arith in
+      iterations-of s l ls ∙ ap (λ m. m * c) (no-iterations ls h.1) ∙ z

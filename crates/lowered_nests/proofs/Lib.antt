@@ -1,12 +1,12 @@
 pub mod NestRuns
 mod OneKind
 mod Layouts
-mod Listed
+pub mod Listed
 mod TextTerms
 mod FreeIndices
 pub mod PlainCode
 mod CodedTexts
-mod CodedBody
+pub mod CodedBody
 mod ManyActs
 mod Standing
 mod Counted
@@ -15,7 +15,10 @@ pub mod Entered
 pub mod CodeLies
 pub mod Starts
 mod SteadyRows
-mod QuietSteps
+mod Passing
+mod LoopPasses
+mod NestPasses
+mod NestTrails
 pub mod StatementsEnds
 pub mod StatementsRuns
 mod IndexValues
@@ -27,3 +30,4 @@ mod LoopTrips
 mod IndexCode
 mod NestPieces
 pub mod NestGoes
+pub mod StillLoops

@@ -1,5 +1,5 @@
 -- The code of a nest's loops on the machine: their bounds, and whether they make trips.
-use Rattle.std.proofs.Common.{◌≡◌, ℕ, suc, ◌+◌, ◌*◌, ◌≤◌, inl, inr, List, [], ◌∷◌, length, ℤ, pos, Bool, Some, None, Ok, refl, sym, ap, ◌∙◌, subst, arith, slice_get, slice_set, length-set, get_or-set_same}
+use Rattle.std.proofs.Common.{◌≡◌, ℕ, suc, ◌+◌, ◌*◌, ◌≤◌, inl, inr, List, [], ◌∷◌, length, ℤ, pos, Bool, Some, None, unwrap_or, Ok, refl, sym, ap, ◌∙◌, subst, arith, slice_get, slice_set, length-set, get_or-set_same}
 use Rattle.std.specs.List.{AllByRecursion}
 use Rattle.op_tables.specs.Operators.{wrapped}
 use Rattle.storage.specs.Storage.{Storage}
@@ -18,6 +18,7 @@ use Rattle.lowered_expressions.specs.ExpressionCode.{index_flat}
 use Rattle.lowered_expressions.proofs.Reach.{HasAt, Reaches, reaches-on, stands, one, still, Place, SameBelow, same-refl, same-on, same-set}
 use Rattle.lowered_expressions.proofs.Terms.{HoldsScalars, holds-same}
 use Rattle.lowered_expressions.proofs.Goes.{set-reaches}
+use Rattle.nest_join.specs.CodedBlocks.{step_flat}
 use Rattle.lowered_nests.specs.NestCode.{bounds_code, trips_code}
 use Rattle.lowered_nests.proofs.IndexValues.{HaveTurns, IsEmpty}
 use Rattle.lowered_nests.proofs.NestLoops.{has-bounds, fixed-flat, IsLoop}
@@ -117,26 +118,26 @@ module _ (table : ArrayTable) (row_count : ℕ) (moves : ℕ → List NewMapping
         let b = has-bounds n kinds all s l kept in
         let slots1 : List ℤ = slice_set slots v b.first in
         let slots2 : List ℤ = slice_set slots1 (v + 1) b.last in
-        let slots3 : List ℤ = slice_set slots2 (v + 2) b.step in
+        let slots3 : List ℤ = slice_set slots2 (v + 2) b.step.number in
         let same1 : SameBelow v slots slots1 = same-set v v slots b.first (omega arith) in
         let same2 : SameBelow v slots1 slots2 = same-set v (v + 1) slots1 b.last (omega arith) in
-        let same3 : SameBelow v slots2 slots3 = same-set v (v + 2) slots2 b.step (omega arith) in
+        let same3 : SameBelow v slots2 slots3 = same-set v (v + 2) slots2 b.step.number (omega arith) in
         let held1 : HoldsScalars n s slots1 = holds-same n v s slots slots1 le held same1 in
         let held2 : HoldsScalars n s slots2 = holds-same n v s slots1 slots2 le held1 same2 in
         let held3 : HoldsScalars n s slots3 = holds-same n v s slots2 slots3 le held2 same3 in
         let l1 : length slots1 ≡ length slots = length-set slots v b.first in
         let l2 : length slots2 ≡ length slots1 = length-set slots1 (v + 1) b.last in
-        let l3 : length slots3 ≡ length slots2 = length-set slots2 (v + 2) b.step in
+        let l3 : length slots3 ≡ length slots2 = length-set slots2 (v + 2) b.step.number in
         let r1 = sets pc v slots (index_flat l.control.first) b.first has.0 (fixed-flat n kinds all s slots held l.control.first kept.first names.0 ∙ b.is_first) in
         let r2 = sets (pc + 1) (v + 1) slots1 (index_flat l.control.last) b.last has.1.0 (fixed-flat n kinds all s slots1 held1 l.control.last kept.last names.1 ∙ b.is_last) in
-        let r3 = sets (pc + 1 + 1) (v + 2) slots2 (index_flat l.control.step) b.step has.1.1.0 (fixed-flat n kinds all s slots2 held2 l.control.step kept.step names.2 ∙ b.is_step) in
+        let r3 = sets (pc + 1 + 1) (v + 2) slots2 (step_flat l.control.step) b.step.number has.1.1.0 (ap (λ o. Ok (unwrap_or o (pos 0))) b.step.is) in
         let rest = bounds-go ls (v + 4) (pc + 1 + 1 + 1) slots3 has.1.1.1 named.1 held3 (omega (arith, le)) (omega (arith, few, l1, l2, l3)) in
         let e : pc + 1 + 1 + 1 + length (bounds_code line (v + 4) ls) ≡ pc + length (bounds_code line v (l ∷ ls)) = omega arith in
         let a0 : slot slots3 v ≡ b.first =
-        set-past (v + 2) v slots2 b.step (λ z. omega (arith, z)) ∙ set-past (v + 1) v slots1 b.last (λ z. omega (arith, z)) ∙ get_or-set_same slots v b.first (pos 0) (omega (arith, few)) in
+        set-past (v + 2) v slots2 b.step.number (λ z. omega (arith, z)) ∙ set-past (v + 1) v slots1 b.last (λ z. omega (arith, z)) ∙ get_or-set_same slots v b.first (pos 0) (omega (arith, few)) in
         let a1 : slot slots3 (v + 1) ≡ b.last =
-        set-past (v + 2) (v + 1) slots2 b.step (λ z. omega (arith, z)) ∙ get_or-set_same slots1 (v + 1) b.last (pos 0) (omega (arith, few, l1)) in
-        let a2 : slot slots3 (v + 2) ≡ b.step = get_or-set_same slots2 (v + 2) b.step (pos 0) (omega (arith, few, l1, l2)) in (
+        set-past (v + 2) (v + 1) slots2 b.step.number (λ z. omega (arith, z)) ∙ get_or-set_same slots1 (v + 1) b.last (pos 0) (omega (arith, few, l1)) in
+        let a2 : slot slots3 (v + 2) ≡ b.step.number = get_or-set_same slots2 (v + 2) b.step.number (pos 0) (omega (arith, few, l1, l2)) in (
           rest.0,
           ends-at pc (pc + 1 + 1 + 1 + length (bounds_code line (v + 4) ls)) (pc + length (bounds_code line v (l ∷ ls))) slots rest.0 e
               (on pc (pc + 1) (pc + 1 + 1 + 1 + length (bounds_code line (v + 4) ls)) slots slots1 rest.0 r1

@@ -1,23 +1,27 @@
 -- The code of a nest, after its entry, goes on the machine as the meaning's run.
 use Rattle.std.proofs.Common.{◌≡◌, ℕ, ◌+◌, ◌*◌, ◌<◌, ◌≤◌, ◌⊎◌, inl, inr, List, [], ◌∷◌, length, ℤ, pos, Bool, true, false, None, Ok, refl, sym, ap, ◌∙◌, subst, arith, slice_index_or}
+use Rattle.std.specs.Prelude.{◌==◌, if◌then◌else◌}
 use Rattle.std.specs.List.{AllByRecursion}
 use Rattle.std.specs.Result.{result_unwrap_or}
+use Rattle.std.proofs.lemmas.Bool.Decides.{nat_tests}
 use Rattle.std.proofs.lemmas.Option.{none-some}
 use Rattle.storage.specs.Storage.{Storage}
 use Rattle.nest_order.specs.Copies.{Kind}
 use Rattle.array_meaning.specs.declared.sections.Sequence.{Sequence}
 use Rattle.array_meaning.specs.Sections.{sequence}
 use Rattle.array_meaning.specs.State.{State, Array, no_array, scalar, set_scalar}
-use Rattle.array_meaning.specs.Statements.{Loop, Nest, Block, Do, Outermost}
+use Rattle.array_meaning.specs.Statements.{Loop, Nest, Block, Done, Do, Outermost}
 use Rattle.array_meaning.specs.Runs.{Run, normal, then_do, with_value, one_step}
 use Rattle.array_meaning.specs.Execution.{iterate, run, run_block}
 use Rattle.array_meaning.specs.Expressions.{index_values}
-use Rattle.array_meaning.specs.Iterations.{values_of, turn_value}
+use Rattle.array_meaning.specs.Iterations.{values_of, iteration_count, turn_value}
+use Rattle.statement_trail.specs.NestParts.{entered_nest}
+use Rattle.statement_trail.specs.Trail.{block_parts, nest_trail}
 use Rattle.array_meaning.specs.NestEntry.{check_nest}
 use Rattle.node_code.specs.Flat.{slot}
 use Rattle.node_code.specs.Instructions.{Instruction, ArrayTable, NewMapping}
 use Rattle.lowered_expressions.specs.WellFormed.{IsWellFormedBlock}
-use Rattle.lowered_expressions.proofs.Reach.{HasAt, Place, Reaches, reaches-on, Stops, stops-on, stands, SameBelow}
+use Rattle.lowered_expressions.proofs.Reach.{HasAt, Place, Reaches, reaches-on, reaches-last, Stops, stops-on, stands, SameBelow}
 use Rattle.lowered_expressions.proofs.Terms.{HoldsArrays}
 use Rattle.lowered_expressions.proofs.Goes.{Holds, Kept, Goes}
 use Rattle.nest_items.specs.BlockForms.{HasForm}
@@ -26,10 +30,10 @@ use Rattle.nest_items.specs.NestForm.{IsNest}
 use Rattle.nest_items.specs.Settled.{settled_by, without}
 use Rattle.nest_texts.specs.NestInstructions.{slots_of_nest}
 use Rattle.lowered_nests.specs.NestCode.{plain, inner_bounds, nest_rows, nest_slots, nest_code}
-use Rattle.lowered_nests.proofs.NestRuns.{IsAsked, HasCopies, NestStands, NestDone, StatementsEnd, StatementsFault}
+use Rattle.lowered_nests.proofs.NestRuns.{HasCopies, NestStands, NestDone, StatementsEnd, StatementsFault}
 use Rattle.lowered_nests.proofs.StatementsRuns.{statements-run}
-use Rattle.fitting_states.specs.FittingStates.{StateFits}
-use Rattle.lowered_nests.proofs.IndexValues.{AreOther, AreApart, IsIndexOf, other-or-index, none-index, HaveTurns, IsEmpty, turns-or-empty, left, left-none, some-iterations}
+use Rattle.fitting_states.specs.FittingStates.{StateFits, ControlFits}
+use Rattle.lowered_nests.proofs.IndexValues.{AreOther, AreApart, IsIndexOf, other-or-index, none-index, HaveTurns, IsEmpty, turns-or-empty, left, left-none, some-iterations, no-iterations}
 use Rattle.lowered_nests.proofs.NestLoops.{all-below, all-free, index-free, IsLoop, loops-are, other-loops, loops-apart, IsNear, near-set}
 use Rattle.lowered_nests.proofs.EmptyNests.{loop-ends, block-ends}
 use Rattle.lowered_nests.proofs.SettledNests.{loop-settles, block-settles}
@@ -40,7 +44,7 @@ use Rattle.lowered_nests.proofs.NestPieces.{at_trips, at_statements, at_indices,
 
 module _ (table : ArrayTable) (row_count : ℕ) (moves : ℕ → List NewMapping) (code : List Instruction) (n many : ℕ) (copies : HasCopies table)
     (declared : length table.shapes ≡ n) (line pc v : ℕ) (nest : Nest) (loop : Loop) (block body : Block) (s : State) (slots : List ℤ) (rows : Storage) (form : HasForm nest loop block body)
-    (named : IsWellFormedBlock n block) (index : loop.index < n) (from : n ≤ v) (few : v + nest_slots nest body ≤ many) (room : n + nest_rows n nest body ≤ row_count) (fits : StateFits s) (asked : IsAsked n nest loop block body form s)
+    (named : IsWellFormedBlock n block) (index : loop.index < n) (with_statements : body ≡ Done → ⊥) (control : ControlFits loop.control) (from : n ≤ v) (few : v + nest_slots nest body ≤ many) (room : n + nest_rows n nest body ≤ row_count) (fits : StateFits s)
     (holds : Holds table row_count moves code n many None s slots rows) (has : HasAt code pc (nest_code n line nest body v pc)) (known : index_values s loop.control ≡ Ok (values_of s loop))
     (first : sequence (slot slots v) (slot slots (v + 1)) (slot slots (v + 2)) ≡ Ok (values_of s loop)) (passed : check_nest nest body s ≡ Ok s) (leave again : ℕ) where
   abbrev kinds : ℕ → Kind
@@ -119,24 +123,24 @@ module _ (table : ArrayTable) (row_count : ℕ) (moves : ℕ → List NewMapping
   start = stands table row_count moves code pc slots rows s.printed
 
   abbrev Goal : Run → Type 0
-  Goal r = Goes table row_count moves code n many None leave again [] (pc + length (nest_code n line nest body v pc)) v slots start r
+  Goal r = Goes table row_count moves code n many None leave again (nest_trail nest body s) (pc + length (nest_code n line nest body v pc)) v slots start r
 
-  finish : (r : Run) (slots2 : List ℤ) (rows2 : Storage) (st : State) → Reaches table row_count moves code [] start (stands table row_count moves code indices_at slots2 rows2 s.printed)
+  finish : (r : Run) (slots2 : List ℤ) (rows2 : Storage) (st : State) → Reaches table row_count moves code (nest_trail nest body s) start (stands table row_count moves code indices_at slots2 rows2 s.printed)
       → Kept table row_count moves code n many None v slots slots2 → HaveBounds s slots2 v nest.loops → length slots2 ≡ many
       → ((k : ℕ) → k < n → left s nest.loops k (slot slots2 k) ≡ scalar st k) → HoldsArrays n table.shapes st rows2 → length st.scalars ≡ n → length st.arrays ≡ n
       → st.printed ≡ s.printed → length rows2 ≡ row_count → r ≡ normal st → Goal r
   finish r slots2 rows2 st reach kept has_bounds size scalars arrays places more_places printed long ends =
       let f = fit in
       let q = indices-go table row_count moves code n many line s rows2 s.printed nest.loops v indices_at to slots2 pieces.has_indices refl has_bounds below apart from (omega (arith, f, size)) in
-      let reach1 = reaches-on table row_count moves code start (stands table row_count moves code indices_at slots2 rows2 s.printed) (stands table row_count moves code to q.0 rows2 s.printed) reach q.1 in
-      let reach2 : Reaches table row_count moves code [] start (stands table row_count moves code to q.0 rows2 st.printed) =
-      subst (λ out. Reaches table row_count moves code [] start (stands table row_count moves code to q.0 rows2 out)) (sym printed) reach1 in
+      let reach1 = reaches-last table row_count moves code (nest_trail nest body s) start (stands table row_count moves code indices_at slots2 rows2 s.printed) (stands table row_count moves code to q.0 rows2 s.printed) reach q.1 in
+      let reach2 : Reaches table row_count moves code (nest_trail nest body s) start (stands table row_count moves code to q.0 rows2 st.printed) =
+      subst (λ out. Reaches table row_count moves code (nest_trail nest body s) start (stands table row_count moves code to q.0 rows2 out)) (sym printed) reach1 in
       let wide = holds.wide in
       let more = holds.more_rows in
       subst Goal (sym ends) (
         q.0,
         rows2,
-        subst (λ x. Reaches table row_count moves code [] start (stands table row_count moves code x q.0 rows2 st.printed)) (end-is n line nest body v pc) reach2,
+        subst (λ x. Reaches table row_count moves code (nest_trail nest body s) start (stands table row_count moves code x q.0 rows2 st.printed)) (end-is n line nest body v pc) reach2,
         (λ k le lt. kept k le lt ∙ sym (q.2.others k le lt)),
         record {
           scalars = λ k lt. q.2.indices k lt ∙ scalars k lt;
@@ -155,6 +159,13 @@ module _ (table : ArrayTable) (row_count : ℕ) (moves : ℕ → List NewMapping
 
   -- ---- a nest without an iteration
 
+  empty-trail : IsEmpty s nest.loops → [] ≡ nest_trail nest body s
+  empty-trail empty = by_test (iteration_count nest s == 0) refl
+    where
+      by_test : (t : Bool) → (iteration_count nest s == 0) ≡ t → [] ≡ (if t then [] else block_parts (entered_nest nest body s) None 0 body s)
+      by_test true e = refl
+      by_test false e = let z = no-iterations s nest.loops empty in absurd (grind (arith, nat_tests, e, z))
+
   goes-empty : IsEmpty s nest.loops → Goal rest
   goes-empty empty =
       let i = entered in
@@ -162,7 +173,8 @@ module _ (table : ArrayTable) (row_count : ℕ) (moves : ℕ → List NewMapping
       let e = loop-ends n kinds all s loop inner (run_block block) index is.unseen (subst (IsEmpty s) is.loops empty)
       (block-ends n kinds all s inner (without all loop.index) block body is.tight loops) s near in
       finish rest t.0 rows e.0
-      (reaches-on table row_count moves code start (stands table row_count moves code trips_at i.0 rows s.printed) (stands table row_count moves code indices_at t.0 rows s.printed) i.1 t.1)
+      (subst (λ V. Reaches table row_count moves code V start (stands table row_count moves code indices_at t.0 rows s.printed)) (empty-trail empty)
+      (reaches-on table row_count moves code start (stands table row_count moves code trips_at i.0 rows s.printed) (stands table row_count moves code indices_at t.0 rows s.printed) i.1 t.1))
       (λ k le lt. i.2.1 k (omega (arith, lt)) ∙ t.2.1 k lt) t.3 (sym t.2.0 ∙ sym i.2.0 ∙ holds.size)
       (λ k lt. ap (left s nest.loops k) (sym (t.2.1 k (omega (arith, lt, from))) ∙ sym (i.2.1 k (omega (arith, lt, from))) ∙ holds.scalars k lt)
       ∙ ap (λ ls. left s ls k (scalar s k)) is.loops ∙ sym (e.2.scalars k))
@@ -211,7 +223,8 @@ module _ (table : ArrayTable) (row_count : ℕ) (moves : ℕ → List NewMapping
       known = known;
       passed = passed;
       fits = fits;
-      asked = asked;
+      statements = with_statements;
+      control = control;
       holds = record {
         scalars = λ k lt. sym (same k (omega (arith, lt, from))) ∙ holds.scalars k lt;
         arrays = holds.arrays;
@@ -251,7 +264,7 @@ module _ (table : ArrayTable) (row_count : ℕ) (moves : ℕ → List NewMapping
         e.done.size (scalar-held e.state e.slots' e.rows' e.done) e.done.arrays e.done.places e.done.more_places e.done.printed e.done.rows (sym run-is ∙ e.ends)
     by-end (inr f) =
         subst Goal (sym (sym run-is ∙ f.ends))
-        (subst (λ out. Stops table row_count moves code [] start f.fault out) (sym f.quiet)
+        (subst (λ out. Stops table row_count moves code (nest_trail nest body s) start f.fault out) (sym f.quiet)
         (stops-on table row_count moves code start (stands table row_count moves code statements_at slots1 rows s.printed) f.fault s.printed reach f.stops))
 
     goes-on-statements : Goal rest
@@ -269,16 +282,17 @@ module _ (table : ArrayTable) (row_count : ℕ) (moves : ℕ → List NewMapping
 -- the code of a nest, after the bounds of its outermost loop are in slots and its entry is checked, makes what is left of the run
 pub nest-goes : (table : ArrayTable) (row_count : ℕ) (moves : ℕ → List NewMapping) (code : List Instruction) (n many : ℕ) → HasCopies table → length table.shapes ≡ n
     → (line pc v : ℕ) (nest : Nest) (loop : Loop) (block body : Block) (s : State) (slots : List ℤ) (rows : Storage) (form : HasForm nest loop block body) → IsWellFormedBlock n block → loop.index < n
-    → n ≤ v → v + nest_slots nest body ≤ many → n + nest_rows n nest body ≤ row_count → StateFits s → IsAsked n nest loop block body form s → Holds table row_count moves code n many None s slots rows
+    → (body ≡ Done → ⊥) → ControlFits loop.control
+    → n ≤ v → v + nest_slots nest body ≤ many → n + nest_rows n nest body ≤ row_count → StateFits s → Holds table row_count moves code n many None s slots rows
     → HasAt code pc (nest_code n line nest body v pc) → (p : Sequence) → index_values s loop.control ≡ Ok p
     → (a z d : ℤ) → slot slots v ≡ a → slot slots (v + 1) ≡ z → slot slots (v + 2) ≡ d → index_values s loop.control ≡ sequence a z d → check_nest nest body s ≡ Ok s → (leave again : ℕ)
-    → Goes table row_count moves code n many None leave again [] (pc + length (nest_code n line nest body v pc)) v slots (stands table row_count moves code pc slots rows s.printed)
+    → Goes table row_count moves code n many None leave again (nest_trail nest body s) (pc + length (nest_code n line nest body v pc)) v slots (stands table row_count moves code pc slots rows s.printed)
     (iterate p.count loop.index p.first p.step (run_block block) s)
-nest-goes table row_count moves code n many copies declared line pc v nest loop block body s slots rows form named index from few room fits asked holds has p is a z d e1 e2 e3 values passed
+nest-goes table row_count moves code n many copies declared line pc v nest loop block body s slots rows form named index with_statements control from few room fits holds has p is a z d e1 e2 e3 values passed
     leave again =
     let q : values_of s loop ≡ p = ap (λ r. result_unwrap_or r record { first = pos 0; step = pos 1; count = 0 }) is in
     let known : index_values s loop.control ≡ Ok (values_of s loop) = is ∙ ap Ok (sym q) in
-    subst (λ (p : Sequence). Goes table row_count moves code n many None leave again [] (pc + length (nest_code n line nest body v pc)) v slots
+    subst (λ (p : Sequence). Goes table row_count moves code n many None leave again (nest_trail nest body s) (pc + length (nest_code n line nest body v pc)) v slots
     (stands table row_count moves code pc slots rows s.printed) (iterate p.count loop.index p.first p.step (run_block block) s)) q
-    (goes-after-entry table row_count moves code n many copies declared line pc v nest loop block body s slots rows form named index from few room fits asked holds has known
+    (goes-after-entry table row_count moves code n many copies declared line pc v nest loop block body s slots rows form named index with_statements control from few room fits holds has known
     ((λ i. sequence (e1 i) (e2 i) (e3 i)) ∙ sym values ∙ known) passed leave again)

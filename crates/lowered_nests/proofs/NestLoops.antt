@@ -1,57 +1,38 @@
 -- The loops inside the outermost one of a nest: their bounds have values, which no index changes.
-use Rattle.std.proofs.Common.{◌≡◌, ℕ, ◌<◌, inl, inr, nat_eq, List, [], ◌∷◌, length, ℤ, pos, Bool, true, false, ◌&&◌, not, if◌then◌else◌, Option, Some, None, Result, Ok, refl, sym, ap, ap₂, ◌∙◌, subst, length-set, get_or-set_other, true≢false}
+use Rattle.std.proofs.Common.{◌≡◌, ℕ, ◌<◌, inl, inr, nat_eq, List, [], ◌∷◌, length, ℤ, pos, Bool, true, false, not, Ok, refl, sym, ap, ap₂, ◌∙◌, subst, length-set, get_or-set_other, true≢false}
 use Rattle.std.specs.List.{AllByRecursion}
-use Rattle.std.specs.Prelude.{option_and_then}
 use Rattle.std.specs.Result.{result_unwrap_or}
-use Rattle.op_tables.specs.declared.op.Op.{Op}
-use Rattle.op_tables.specs.declared.op.Op.TheVariants as op
-use Rattle.op_tables.specs.Operators.{wrapped, operator_value, value_of, is_zero, can_divide}
+use Rattle.std.proofs.lemmas.Bool.{and_parts}
+use Rattle.op_tables.specs.Operators.{wrapped, value_of}
 use Rattle.nest_order.specs.Copies.{Kind}
 use Rattle.array_meaning.specs.Terms.{Term, Number, Scalar, Index, Element, Section, Apply, Reduce, Terms, NoTerm, More}
 use Rattle.array_meaning.specs.Statements.{Loop, Block, Unmarked}
-use Rattle.array_meaning.specs.Faults.{Cause, ◌>>=◌, fails, with_more}
-use Rattle.array_meaning.specs.declared.faults.FaultKind.TheVariants.{ZeroStride}
+use Rattle.array_meaning.specs.Faults.{◌>>=◌, with_more}
 use Rattle.array_meaning.specs.declared.sections.Sequence.{Sequence}
 use Rattle.array_meaning.specs.State.{State, scalar, set_scalar}
-use Rattle.array_meaning.specs.Sections.{sequence, sequence_of, value_count}
+use Rattle.array_meaning.specs.Sections.{sequence, value_count}
 use Rattle.array_meaning.specs.Expressions.{value, values, index_values}
-use Rattle.array_meaning.specs.Elementals.{operated, unless_zero}
+use Rattle.array_meaning.specs.Elementals.{operated}
 use Rattle.array_meaning.specs.Iterations.{values_of}
 use Rattle.node_code.specs.Flat.{flat_value, flat_values}
 use Rattle.lowered_expressions.specs.ExpressionCode.{index_flat, index_flats}
 use Rattle.lowered_expressions.specs.WellFormed.{IsScalar, AreScalar, IsControl, IsWellFormedBlock}
-use Rattle.lowered_expressions.proofs.Terms.{HoldsScalars, total}
+use Rattle.lowered_expressions.proofs.Terms.{HoldsScalars}
 use Rattle.nest_items.specs.Settled.{without}
 use Rattle.nest_items.specs.Standing.{IsFixed, IsFixedTerm, AreFixedTerms}
-use Rattle.nest_items.specs.NestForm.{is_linear_operator, IsExact, AreExact, with_closed, closed_value, closed_values, IsKeptLoop, LoopsKeep}
+use Rattle.nest_items.specs.NestForm.{IsExact, AreExact, IsStep, IsKeptLoop, LoopsKeep}
+use Rattle.nest_items.proofs.FormStands.{operator_is, closed_is, sequence_is, three}
 use Rattle.nest_items.proofs.Values.{control_near}
 use Rattle.lowered_nests.proofs.IndexValues.{same-test, AreOther, AreApart, IsIndexOf}
 
 -- ---- bounds
-
-linear-total : (o : Op) → is_linear_operator o ≡ true → can_divide o ≡ false
-linear-total op.Neg h = refl
-linear-total op.Plus h = refl
-linear-total op.Add h = refl
-linear-total op.Sub h = refl
-linear-total op.Mul h = refl
-linear-total o h = absurd (true≢false (sym h))
-
-closed_more : (a : Option ℤ) (b : Option (List ℤ)) (vs : List ℤ) → with_closed a b ≡ Some vs → (v : ℤ) × (ws : List ℤ) × (a ≡ Some v) × (b ≡ Some ws) × (v ∷ ws ≡ vs)
-closed_more (Some v) (Some ws) vs h = let same : v ∷ ws ≡ vs = cc in (v, ws, refl, refl, same)
-closed_more (Some v) None vs h = absurd cc
-closed_more None b vs h = absurd cc
-
-applied_closed : (o : Op) (a : Option (List ℤ)) (v : ℤ) → option_and_then (operator_value o) a ≡ Some v → (vs : List ℤ) × (a ≡ Some vs) × (operator_value o vs ≡ Some v)
-applied_closed o (Some vs) v h = (vs, refl, h)
-applied_closed o None v h = absurd cc
 
 module _ (st : State) where
   mutual
     exact-ok : (t : Term) → IsExact t → (v : ℤ) × (value [] st t ≡ Ok v)
     exact-ok (Number v) h = (v, refl)
     exact-ok (Scalar k) h = (scalar st k, refl)
-    exact-ok (Apply o ts) h = let m = exacts-ok ts h.1 in (value_of o m.0, ap (λ r. r >>= operated o) m.1 ∙ total o m.0 (linear-total o h.0))
+    exact-ok (Apply o ts) h = let m = exacts-ok ts h.1 in (value_of o m.0, ap (λ r. r >>= operated o) m.1 ∙ operator_is o m.0 h.0)
     exact-ok (Index k) h = absurd h
     exact-ok (Element a ts) h = absurd h
     exact-ok (Section a subs) h = absurd h
@@ -64,43 +45,19 @@ module _ (st : State) where
         let ms = exacts-ok ts h.1 in
         (m.0 ∷ ms.0, ap₂ with_more m.1 ms.1)
 
-  mutual
-    closed-is : (t : Term) (v : ℤ) → closed_value t ≡ Some v → value [] st t ≡ Ok v
-    closed-is (Number w) v h = let same : w ≡ v = cc in ap Ok same
-    closed-is (Apply o ts) v h =
-        let m = applied_closed o (closed_values ts) v h in
-        ap (λ r. r >>= operated o) (closed-are ts m.0 m.1) ∙ ap unless_zero m.2
-    closed-is (Scalar k) v h = absurd cc
-    closed-is (Index k) v h = absurd cc
-    closed-is (Element a ts) v h = absurd cc
-    closed-is (Section a subs) v h = absurd cc
-    closed-is (Reduce o t) v h = absurd cc
-
-    closed-are : (ts : Terms) (vs : List ℤ) → closed_values ts ≡ Some vs → values [] st ts ≡ Ok vs
-    closed-are NoTerm vs h = let same : [] ≡ vs = cc in ap Ok same
-    closed-are (More t ts) vs h =
-        let m = closed_more (closed_value t) (closed_values ts) vs h in
-        ap₂ with_more (closed-is t m.0 m.2) (closed-are ts m.1 m.3) ∙ ap Ok m.4
-
   -- the values of a loop's bounds
   pub record HasBounds (l : Loop) : Type 0 where
     pub first : ℤ
     pub last : ℤ
-    pub step : ℤ
+    pub step : IsStep l.control.step
     pub is_first : value [] st l.control.first ≡ Ok first
     pub is_last : value [] st l.control.last ≡ Ok last
-    pub is_step : value [] st l.control.step ≡ Ok step
-    pub values_are : sequence first last step ≡ Ok (values_of st l)
-
-sequence-is : (a b c : ℤ) → is_zero c ≡ false → sequence a b c ≡ Ok record { first = a; step = c; count = value_count (wrapped a) (wrapped b) (wrapped c) }
-sequence-is a b c h = ap (λ z. if z then fails ZeroStride else Ok record { first = a; step = c; count = value_count (wrapped a) (wrapped b) (wrapped c) }) h
-
-three : (x y z : Result ℤ Cause) (a b c : ℤ) → x ≡ Ok a → y ≡ Ok b → z ≡ Ok c → sequence_of x y z ≡ sequence a b c
-three x y z a b c e f g = λ i. sequence_of (e i) (f i) (g i)
+    pub values_are : sequence first last step.number ≡ Ok (values_of st l)
 
 pub known-values : (st : State) (l : Loop) (h : HasBounds st l) → index_values st l.control ≡ Ok (values_of st l)
 known-values st l h =
-    three (value [] st l.control.first) (value [] st l.control.last) (value [] st l.control.step) h.first h.last h.step h.is_first h.is_last h.is_step ∙ h.values_are
+    three (value [] st l.control.first) (value [] st l.control.last) (value [] st l.control.step) h.first h.last h.step.number h.is_first h.is_last
+    (closed_is st l.control.step h.step.number h.step.is) ∙ h.values_are
 
 module _ (n : ℕ) (kinds : ℕ → Kind) (all : ℕ → Bool) where
   pub has-bounds : (st : State) (l : Loop) → IsKeptLoop kinds all Unmarked l → HasBounds st l
@@ -109,12 +66,11 @@ module _ (n : ℕ) (kinds : ℕ → Kind) (all : ℕ → Bool) where
       let b = exact-ok st l.control.last h.last_exact in
       let c = h.step_exact in
       let q : Sequence = record { first = a.0; step = c.number; count = value_count (wrapped a.0) (wrapped b.0) (wrapped c.number) } in
-      let by_step = closed-is st l.control.step c.number c.is in
-      let seq : sequence a.0 b.0 c.number ≡ Ok q = sequence-is a.0 b.0 c.number c.nonzero in
+      let seq : sequence a.0 b.0 c.number ≡ Ok q = sequence_is a.0 b.0 c.number c.nonzero in
       let is : index_values st l.control ≡ Ok q =
-      three (value [] st l.control.first) (value [] st l.control.last) (value [] st l.control.step) a.0 b.0 c.number a.1 b.1 by_step ∙ seq in
+      three (value [] st l.control.first) (value [] st l.control.last) (value [] st l.control.step) a.0 b.0 c.number a.1 b.1 (closed_is st l.control.step c.number c.is) ∙ seq in
       let q_is : values_of st l ≡ q = ap (λ r. result_unwrap_or r record { first = pos 0; step = pos 1; count = 0 }) is in
-      record { first = a.0; last = b.0; step = c.number; is_first = a.1; is_last = b.1; is_step = by_step; values_are = seq ∙ ap Ok (sym q_is) }
+      record { first = a.0; last = b.0; step = c; is_first = a.1; is_last = b.1; values_are = seq ∙ ap Ok (sym q_is) }
 
   -- code evaluates them
   module _ (s : State) (slots : List ℤ) (held : HoldsScalars n s slots) where
@@ -143,18 +99,14 @@ module _ (n : ℕ) (kinds : ℕ → Kind) (all : ℕ → Bool) where
       let mine = subst (IsWellFormedBlock n) h.2 ok in
       ((mine.0.0, mine.0.1, h.3), loops-are (without free l.index) ls h.1 body h.5 mine.0.2)
 
-  both-true : (p q : Bool) → (p && q) ≡ true → (p ≡ true) × (q ≡ true)
-  both-true true q e = (refl, e)
-  both-true false q e = absurd (true≢false (sym e))
-
   free-less : (free : ℕ → Bool) (x : ℕ) (ls : List Loop) → AllByRecursion (λ (l : Loop). without free x l.index ≡ true) ls → AllByRecursion (λ (l : Loop). free l.index ≡ true) ls
   free-less free x [] h = tt
-  free-less free x (l ∷ ls) h = ((both-true (free l.index) (not (nat_eq l.index x)) h.0).0, free-less free x ls h.1)
+  free-less free x (l ∷ ls) h = ((and_parts (free l.index) (not (nat_eq l.index x)) h.0).0, free-less free x ls h.1)
 
   others : (free : ℕ → Bool) (x : ℕ) (ls : List Loop) → AllByRecursion (λ (l : Loop). without free x l.index ≡ true) ls → AreOther x ls
   others free x [] h = tt
   others free x (l ∷ ls) h =
-      ((λ e. true≢false (sym (both-true (free l.index) (not (nat_eq l.index x)) h.0).1 ∙ ap not (same-test l.index x e))), others free x ls h.1)
+      ((λ e. true≢false (sym (and_parts (free l.index) (not (nat_eq l.index x)) h.0).1 ∙ ap not (same-test l.index x e))), others free x ls h.1)
 
   loops-free : (free : ℕ → Bool) (ls : List Loop) (block body : Block) → LoopsKeep kinds all free ls block body → AllByRecursion (λ (l : Loop). free l.index ≡ true) ls
   loops-free free [] block body h = tt

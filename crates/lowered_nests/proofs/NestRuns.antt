@@ -1,20 +1,18 @@
 -- What is asked of a nest and of the machine where its loops have their bounds, and what is so after its statements.
-use Rattle.std.proofs.Common.{◌≡◌, ℕ, ◌+◌, ◌*◌, ◌<◌, ◌≤◌, ◌⊎◌, List, [], length, map, ℤ, true, false, None, Ok}
-use Rattle.op_tables.specs.Operators.{wrapped}
+use Rattle.std.proofs.Common.{◌≡◌, ℕ, ◌+◌, ◌*◌, ◌<◌, ◌≤◌, ◌⊎◌, List, length, map, ℤ, true, false, None, Ok}
 use Rattle.storage.specs.Storage.{Storage}
 use Rattle.machine_steps.specs.Layout.{Layout, size_of}
 use Rattle.machine_steps.specs.Space.{space_count}
 use Rattle.array_meaning.specs.declared.sections.Selection.TheVariants.{Along}
 use Rattle.array_meaning.specs.Faults.{Fault}
-use Rattle.array_meaning.specs.State.{State, scalar, array}
+use Rattle.array_meaning.specs.State.{State, scalar}
 use Rattle.array_meaning.specs.Statements.{Loop, Nest, Block, Done, Do, Outermost}
 use Rattle.array_meaning.specs.Runs.{Run, normal, Faulted}
 use Rattle.array_meaning.specs.Execution.{run}
 use Rattle.array_meaning.specs.Expressions.{index_values}
-use Rattle.array_meaning.specs.Iterations.{is_in, values_of, nest_axes, nest_indices, iteration_count}
-use Rattle.array_meaning.specs.Touches.{assigned_in}
-use Rattle.hpf_base.specs.declared.limits.TheConstants.{MAX_TUPLES}
+use Rattle.array_meaning.specs.Iterations.{values_of, nest_axes, nest_indices, iteration_count}
 use Rattle.array_meaning.specs.NestEntry.{check_nest}
+use Rattle.statement_trail.specs.Trail.{nest_trail}
 use Rattle.node_code.specs.Flat.{slot}
 use Rattle.node_code.specs.Forms.{selections_in}
 use Rattle.node_code.specs.Instructions.{Instruction, ArrayTable, NewMapping}
@@ -25,26 +23,19 @@ use Rattle.lowered_expressions.proofs.Goes.{Holds}
 use Rattle.nest_items.specs.BlockForms.{HasForm}
 use Rattle.nest_items.specs.Settled.{SameIn, settled_by}
 use Rattle.nest_texts.specs.NestInstructions.{nest_instructions, slots_of_nest}
-use Rattle.nest_join.specs.NestNames.{index_in}
-use Rattle.lowered_nests.specs.TextBlocks.{IsTextBlock}
-use Rattle.fitting_states.specs.FittingStates.{StateFits}
+use Rattle.statement_trail.specs.NestParts.{index_in}
+use Rattle.fitting_states.specs.FittingStates.{StateFits, ControlFits}
 use Rattle.lowered_nests.specs.NestCode.{plain, text_in, test_in, stored, finals, along, nest_rows}
-
--- what is asked of a nest beside its form, and of the state at its entry
-pub record IsAsked (n : ℕ) (nest : Nest) (loop : Loop) (block body : Block) (form : HasForm nest loop block body) (s : State) : Type 0 where
-  -- what the rules of nests say of its texts
-  pub texts : IsTextBlock n form.all body
-  -- the first value of the outermost loop is of 64 bits
-  pub first : wrapped (values_of s loop).first ≡ (values_of s loop).first
-  -- a scalar that the nest assigns is no array
-  pub bare : (a : ℕ) → is_in a (assigned_in body) ≡ true → (array s a).elements ≡ []
-  -- a nest with statements has so few iterations by its check
-  pub small : body ≡ Done → iteration_count nest s ≤ MAX_TUPLES
 
 -- how copies lie: with an element for each position, whatever lies how
 pub record HasCopies (table : ArrayTable) : Type 0 where
   pub sized : (layouts : List Layout) (ns : List ℕ) → size_of (table.copies layouts ns) ≡ space_count ns
   pub steady : (one other : List Layout) (ns : List ℕ) → table.copies one ns ≡ table.copies other ns
+
+-- the place after the statements of the nest of a line at a place
+abbrev pub behind : (n line pc v : ℕ) → Nest → Block → ℕ
+behind n line pc v nest body =
+    pc + length (nest_instructions line (along v nest.loops) (text_in n nest body) (test_in n nest body) (stored n nest body) (finals n nest body) (plain body) (v + 4 * length nest.loops) pc)
 
 module _ (table : ArrayTable) (row_count : ℕ) (moves : ℕ → List NewMapping) (code : List Instruction) (n many : ℕ) where
   -- the statements of the nest of a line stand at a place, and the bounds of its loops are in the slots from v on; the inner loops of its
@@ -56,7 +47,8 @@ module _ (table : ArrayTable) (row_count : ℕ) (moves : ℕ → List NewMapping
     pub known : index_values s loop.control ≡ Ok (values_of s loop)
     pub passed : check_nest nest body s ≡ Ok s
     pub fits : StateFits s
-    pub asked : IsAsked n nest loop block body form s
+    pub statements : body ≡ Done → ⊥
+    pub control : ControlFits loop.control
     pub holds : Holds table row_count moves code n many None s slots rows
     pub bounds : selections_in slots (along v nest.loops) ≡ map Along (nest_axes s nest)
     pub from : n ≤ v
@@ -82,26 +74,22 @@ module _ (table : ArrayTable) (row_count : ℕ) (moves : ℕ → List NewMapping
     abbrev pub nest_run : Run
     nest_run = run (Do (Outermost nest body) loop block) line s
 
-    abbrev pub to : ℕ
-    to = pc + length (nest_instructions line (along v nest.loops) (text_in n nest body) (test_in n nest body) (stored n nest body) (finals n nest body) (plain body)
-        (v + 4 * length nest.loops) pc)
-
-    -- both end normally
+    -- both end normally, and the nest's parts are passed
     pub record StatementsEnd : Type 0 where
       pub state : State
       pub slots' : List ℤ
       pub rows' : Storage
       pub ends : nest_run ≡ normal state
-      pub reach : Reaches table row_count moves code [] (stands table row_count moves code pc slots rows s.printed) (stands table row_count moves code to slots' rows' s.printed)
+      pub reach : Reaches table row_count moves code (nest_trail nest body s) (stands table row_count moves code pc slots rows s.printed) (stands table row_count moves code (behind n line pc v nest body) slots' rows' s.printed)
       pub done : NestDone v nest loop block body form s state slots slots' rows'
 
-    -- or both with one fault
+    -- or both with one fault, and all parts are passed, too
     pub record StatementsFault : Type 0 where
       pub fault : Fault
       pub state : State
       pub ends : nest_run ≡ record { state = state; completion = Faulted fault }
       pub quiet : state.printed ≡ s.printed
-      pub stops : Stops table row_count moves code [] (stands table row_count moves code pc slots rows s.printed) fault s.printed
+      pub stops : Stops table row_count moves code (nest_trail nest body s) (stands table row_count moves code pc slots rows s.printed) fault s.printed
 
 -- the statements of a nest that has an iteration end as the meaning says
 abbrev pub StatementsRun : Type 0

@@ -6,15 +6,17 @@ use Rattle.op_tables.specs.declared.join.Join.{Join}
 use Rattle.op_tables.specs.declared.join.Join.TheVariants.{Sum}
 use Rattle.op_tables.specs.declared.op.Op.{Op}
 use Rattle.op_tables.specs.Reductions.{joined_by}
-use Rattle.nest_order.specs.Copies.{Kind, Shared, New, Assigned, Reduced}
+use Rattle.nest_order.specs.Copies.{Kind, Reduced}
 use Rattle.array_meaning.specs.Terms.{Term}
 use Rattle.array_meaning.specs.Statements.{Loop, Nest, Block, Done, Then, Statement, AssignScalar, If, Do, Arms, NoArm, Arm}
 use Rattle.array_meaning.specs.Iterations.{is_in}
 use Rattle.array_meaning.specs.Touches.{assigned_in, assigned_by, assigned_in_arms}
 use Rattle.nest_items.specs.BlockForms.{HasForm}
-use Rattle.nest_items.specs.NestForm.{BlockKeeps, StatementKeeps, ArmsKeep, LoopsKeep}
+use Rattle.nest_items.specs.NestForm.{BlockKeeps, StatementKeeps, ArmsKeep}
 use Rattle.nest_items.specs.NestKinds.{kind_of, reduction_term}
 use Rattle.nest_items.specs.Settled.{without}
+use Rattle.nest_items.proofs.FormStands.{innermost, inmost}
+use Rattle.nest_items.proofs.NameKinds.{kind_by}
 use Rattle.nest_items.specs.Standing.{RightKind, IsReductionStatement}
 use Rattle.nest_join.proofs.Names.{eq-is}
 use Rattle.lowered_nests.specs.NestCode.{operator_by, operator_in, rights_of, rights_in, rights_in_arms}
@@ -106,14 +108,6 @@ operator-is op (x ∷ xs) e h = h.0 xs
 
 -- ---- kinds
 
-pub kept-body : (kinds : ℕ → Kind) (all free : ℕ → Bool) (ls : List Loop) (block body : Block) → LoopsKeep kinds all free ls block body
-    → (f : ℕ → Bool) × BlockKeeps kinds f body
-kept-body kinds all free [] block body h = (free, h.1)
-kept-body kinds all free (l ∷ ls) block body h = kept-body kinds all (without free l.index) ls h.1 body h.5
-
-abbrev kind_by : Bool → Bool → Bool → Join → Kind
-kind_by a r w o = if a then (if r then Reduced o else if w then New else Assigned) else Shared
-
 one-by : (a r w : Bool) (o p : Join) → (a ≡ true → r ≡ true → o ≡ p) → kind_by a r w o ≡ kind_by a r w p
 one-by true true w o p h = ap Reduced (h refl refl)
 one-by true false w o p h = refl
@@ -126,7 +120,9 @@ reduced-by false r w o e f = absurd (true≢false (sym e))
 
 pub one-kind : (nest : Nest) (loop : Loop) (block body : Block) (h : HasForm nest loop block body) → kind_of h.operators nest body ≡ kind_of (operator_in body) nest body
 one-kind nest loop block body h =
-    let kept = kept-body (kind_of h.operators nest body) h.all (without h.all loop.index) h.form.inner block body h.form.tight in
+    let kinds = kind_of h.operators nest body in
+    let free = innermost kinds (without h.all loop.index) h.form.inner in
+    let kept = inmost kinds h.all (without h.all loop.index) h.form.inner block body h.form.tight in
     λ i k. one-by (is_in k (assigned_in body)) (is_in k nest.reduction) (is_in k nest.new) (h.operators k) (operator_in body k)
     (λ e f. let is = reduced-by (is_in k (assigned_in body)) (is_in k nest.reduction) (is_in k nest.new) (h.operators k) e f in
-    sym (operator-is (h.operators k) (rights_of k body) (sym (found k body) ∙ e) (all-of (kind_of h.operators nest body) k (h.operators k) is kept.0 body kept.1))) i
+    sym (operator-is (h.operators k) (rights_of k body) (sym (found k body) ∙ e) (all-of kinds k (h.operators k) is free body kept))) i

@@ -19,7 +19,7 @@ use Rattle.node_code.specs.Parallel.{indices_in}
 use Rattle.nest_order.specs.Copies.{Kind, Shared, New, Assigned, Reduced}
 use Rattle.nest_machine.specs.Finals.{Final}
 use Rattle.nest_machine.specs.Entries.{Entry, at_zero, final_entries, finals_entries, conditions_entries, nest_entries}
-use Rattle.nest_join.specs.NestNames.{index_in}
+use Rattle.statement_trail.specs.NestParts.{index_in}
 use Rattle.nest_join.specs.Places.{conditions_from, final_by, finals_from, finals_of}
 use Rattle.nest_join.proofs.Names.{eq-is}
 use Rattle.lowered_nests.specs.NestCode.{along}

@@ -1,13 +1,15 @@
 -- A nest that stands is entered and begun.
-use Rattle.std.proofs.Common.{◌≡◌, ℕ, zero, suc, ◌+◌, ◌*◌, ◌<◌, ◌≤◌, nat_eq, List, [], ◌∷◌, length, slice_index_or, ℤ, Bool, true, false, None, refl, sym, ap, ◌∙◌, subst, arith}
+use Rattle.std.proofs.Common.{◌≡◌, ℕ, zero, suc, ◌+◌, ◌*◌, ◌<◌, ◌≤◌, nat_eq, List, [], ◌∷◌, length, slice_index_or, ℤ, Bool, true, false, None, w64, refl, sym, ap, ◌∙◌, subst, arith}
 use Rattle.std.specs.Prelude.{◌||◌}
 use Rattle.std.specs.List.{Contains}
 use Rattle.std.proofs.lemmas.Bool.Decides.{nat_tests}
+use Rattle.std.proofs.lemmas.Int.{int_wrap_fits}
 use Rattle.storage.specs.Storage.{Storage, row_of}
 use Rattle.array_meaning.specs.Faults.{Fault}
 use Rattle.array_meaning.specs.State.{State}
 use Rattle.array_meaning.specs.Statements.{Loop, Nest, Block}
-use Rattle.array_meaning.specs.Iterations.{is_in, iteration_count, at_iteration}
+use Rattle.array_meaning.specs.Iterations.{is_in, values_of, iteration_count, at_iteration}
+use Rattle.fitting_states.proofs.Values.{values_of_fit}
 use Rattle.node_code.specs.Forms.{Sub}
 use Rattle.node_code.specs.Instructions.{Instruction, ArrayTable, NewMapping, meaning_of}
 use Rattle.node_code.specs.NestStatements.{iterations_at}
@@ -28,6 +30,7 @@ use Rattle.nest_machine.specs.Finals.{Final, final_slot}
 use Rattle.nest_machine.specs.Entries.{nest_entries}
 use Rattle.nest_machine.specs.PlacedEntry.{IsPlacedMemory}
 use Rattle.nest_machine.proofs.Slots.{same-refl}
+use Rattle.nest_machine.proofs.Counts as counts
 use Rattle.nest_texts.specs.NestLoops.{counting_at}
 use Rattle.nest_texts.specs.NestInstructions.{nest_layout, slots_of_nest}
 use Rattle.nest_join.specs.NestNames.{NestNames}
@@ -43,7 +46,7 @@ use Rattle.lowered_nests.proofs.PlainCode.{same-slots}
 use Rattle.lowered_nests.proofs.CodedTexts.{same-block}
 use Rattle.lowered_nests.proofs.Listed.{in-some}
 use Rattle.lowered_nests.proofs.Layouts.{layout-itself}
-use Rattle.lowered_nests.proofs.Counted.{items-count, slots-of, block-below}
+use Rattle.lowered_nests.proofs.Counted.{slots-of, block-below}
 use Rattle.lowered_nests.proofs.ManyActs.{as-many}
 use Rattle.lowered_nests.proofs.Begun as begun
 use Rattle.lowered_nests.proofs.Entered.{memory}
@@ -119,17 +122,17 @@ module _ (table : ArrayTable) (row_count : ℕ) (moves : ℕ → List NewMapping
   has-room = record {
     rows = λ i number lt few.
         let e : count_items (items_in i (iteration_items nest body s i)) ≡ conds =
-        ap count_items (sym (same-items i)) ∙ items-count (counting_at line) (action_at w s) (condition_at w s) i (machine_body w c s body ok) b slots ∙ count-is in
+        ap count_items (sym (same-items i)) ∙ counts.count-is (counting_at line) (action_at w s) (condition_at w s) i (machine_body w c s body ok) b slots ∙ count-is in
         let small : number < conds = subst (λ m. number < m) e few in
         let r = condition_rows kinds s even there conds N number small in
         (subst (λ m. kinds (m + number) ≡ Shared) h.holds.more_places r.0, subst (λ m. length (row_of start (m + number)) ≡ N) h.holds.more_places r.1);
-    below = block-below n h.form.all body (begun.inside table row_count moves code n many lie line pc v nest loop block body s slots rows h some).named h.asked.texts;
+    below = block-below n h.form.all body (begun.inside table row_count moves code n many lie line pc v nest loop block body s slots rows h some).named h.form.texts;
   }
 
   pub entered : IsEntered kinds h.form.all s nest loop block body start n (acts_of w c s body ok slots)
   entered = record {
     stands = nest_stands kinds h.form.all nest loop block body (begun.formed table row_count moves code n many lie line pc v nest loop block body s slots rows h some)
-        s h.fits.scalars h.known h.asked.first;
+        s h.fits.scalars h.known (int_wrap_fits w64 (values_of s loop).first (values_of_fit s h.fits loop h.control).0);
     kinds_are = begun.kinds-are table row_count moves code n many lie line pc v nest loop block body s slots rows h some;
     passed = h.passed;
     opening = opening kinds s even there conds N;

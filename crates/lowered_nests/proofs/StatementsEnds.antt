@@ -5,7 +5,7 @@ use Rattle.std.proofs.lemmas.List.{length-replicate}
 use Rattle.storage.specs.Storage.{Storage}
 use Rattle.machine_steps.specs.Layout.{size_of}
 use Rattle.machine_steps.specs.Instr as machine
-use Rattle.machine_steps.specs.Machine.{Machine}
+use Rattle.machine_steps.specs.Machine.{Machine, steps}
 use Rattle.machine_steps.specs.SameLayouts.{is_same_layout}
 use Rattle.array_meaning.specs.Faults.{Fault}
 use Rattle.array_meaning.specs.State.{State, scalar}
@@ -32,9 +32,12 @@ use Rattle.nest_join.proofs.Held.{arrays-held, scalar-held}
 use Rattle.nest_join.proofs.HeldIndices.{index-held}
 use Rattle.node_code.specs.NestStatements.{iterations_at}
 use Rattle.lowered_nests.specs.NestCode.{plain, text_in, test_in, stored, finals, along, names_in}
-use Rattle.lowered_nests.proofs.NestRuns.{HasCopies, NestStands, NestDone, StatementsEnd, StatementsFault, nest_run, to}
+use Rattle.lowered_nests.proofs.NestRuns.{HasCopies, NestStands, NestDone, StatementsEnd, StatementsFault, behind, nest_run}
 use Rattle.lowered_nests.proofs.SteadyRows.{same-rows}
-use Rattle.lowered_nests.proofs.QuietSteps.{silent_at, quiet-trail}
+use Rattle.lowered_nests.proofs.NestTrails.{is_before}
+use Rattle.statement_trail.specs.Trail.{nest_trail}
+use Rattle.lowered_expressions.specs.Passed.{passed, IsTrail}
+use Rattle.nest_machine.specs.Stands.{StaysQuiet}
 
 -- where the code of the nest lies
 abbrev pub code_in : (n line pc v : ℕ) → Nest → Block → NestCode
@@ -61,13 +64,18 @@ module _ (table : ArrayTable) (row_count : ℕ) (moves : ℕ → List NewMapping
     pub no_index : (k : ℕ) → n ≤ k → is_index k ≡ false
     pub ok : IsCodedBlock (names_in table n nest body (along v nest.loops) is_index) s [] body
     pub start : Storage
-    pub begun : (i : Idle row_count) → IsBegun (meaning_of table) code (silent_at code) (names_in table n nest body (along v nest.loops) is_index) (code_in n line pc v nest body) h.form.all s loop
+    pub begun : (i : Idle row_count) → IsBegun (meaning_of table) code (is_before (behind n line pc v nest body)) (names_in table n nest body (along v nest.loops) is_index) (code_in n line pc v nest body) h.form.all s loop
         block body ok start slots (data_in rows i)
     pub held : (i : Idle row_count) → HoldsRows (names_in table n nest body (along v nest.loops) is_index) (code_in n line pc v nest body) s
         (count_body (machine_body (names_in table n nest body (along v nest.loops) is_index) (code_in n line pc v nest body) s body ok)) start (data_in rows i)
     pub have : HasFinals (names_in table n nest body (along v nest.loops) is_index) (code_in n line pc v nest body) s body ok start slots
     pub free : (k : ℕ) → has_copies ((names_in table n nest body (along v nest.loops) is_index).kinds k) ≡ true → h.form.all k ≡ false
     pub named : (x : ℕ) → n ≤ x → NotAmong x (finals n nest body)
+    -- a run over the code that ends after it or with a fault passes the nest's parts
+    pub trail : (i : Idle row_count) (k : ℕ) → StaysQuiet (meaning_of table) (is_before (behind n line pc v nest body)) k (stands table row_count moves code pc slots rows s.printed i)
+        → ((steps (meaning_of table) k (stands table row_count moves code pc slots rows s.printed i)).control.at ≡ behind n line pc v nest body)
+        ⊎ ((f : Fault) × ((steps (meaning_of table) k (stands table row_count moves code pc slots rows s.printed i)).control.status ≡ machine.Faulted f))
+        → IsTrail moves (passed table k (stands table row_count moves code pc slots rows s.printed i)) (nest_trail nest body s)
     pub long : length (code_of (names_in table n nest body (along v nest.loops) is_index) (code_in n line pc v nest body) s body ok)
         ≡ length (nest_instructions line (along v nest.loops) (text_in n nest body) (test_in n nest body) (stored n nest body) (finals n nest body) (plain body) (v + 4 * length nest.loops) pc)
 
@@ -84,16 +92,16 @@ module _ (table : ArrayTable) (row_count : ℕ) (moves : ℕ → List NewMapping
     r = nest_run table row_count moves code n many line pc v nest loop block body h.form s slots rows
 
     abbrev end : ℕ
-    end = to table row_count moves code n many line pc v nest loop block body h.form s slots rows
+    end = behind n line pc v nest body
 
     abbrev Ends : Idle row_count → Type 0
-    Ends i = EndsAsMeant (meaning_of table) code (silent_at code) i.joined [] s.printed w c h.form.all s loop block body b.ok b.start slots (data_in rows i) r
+    Ends i = EndsAsMeant (meaning_of table) code (is_before end) i.joined [] s.printed w c h.form.all s loop block body b.ok b.start slots (data_in rows i) r
 
     abbrev Faults : Idle row_count → Type 0
-    Faults i = FaultsAsMeant (meaning_of table) code (silent_at code) i.joined [] s.printed w c h.form.all s loop block body b.ok b.start slots (data_in rows i) r
+    Faults i = FaultsAsMeant (meaning_of table) code (is_before end) i.joined [] s.printed w c h.form.all s loop block body b.ok b.start slots (data_in rows i) r
 
     both-ways : (i : Idle row_count) → Ends i ⊎ Faults i
-    both-ways i = nests-end (meaning_of table) code (silent_at code) i.joined [] s.printed w c h.form.all s loop block body b.ok b.start slots (data_in rows i) (b.begun i)
+    both-ways i = nests-end (meaning_of table) code (is_before end) i.joined [] s.printed w c h.form.all s loop block body b.ok b.start slots (data_in rows i) (b.begun i)
 
     -- one way in which the rows may lie
     first : Idle row_count
@@ -119,7 +127,7 @@ module _ (table : ArrayTable) (row_count : ℕ) (moves : ℕ → List NewMapping
 
       -- scalars that are no indices
       scalar-is : (i : Idle row_count) (k : ℕ) → k < n → h.form.all k ≡ false → slot (ends i).after.slots k ≡ scalar (ends i).state k
-      scalar-is i k lt off = scalar-held (meaning_of table) code (silent_at code) i.joined [] s.printed w c h.form.all s loop block body b.ok b.start slots (data_in rows i) r (ends i) (b.begun i).holds
+      scalar-is i k lt off = scalar-held (meaning_of table) code (is_before end) i.joined [] s.printed w c h.form.all s loop block body b.ok b.start slots (data_in rows i) r (ends i) (b.begun i).holds
           b.have k lt off (b.same_index k lt ∙ off)
 
       -- the slots are the same, wherever the rows lie
@@ -132,7 +140,7 @@ module _ (table : ArrayTable) (row_count : ℕ) (moves : ℕ → List NewMapping
           copied : x < n → has_copies (w.kinds x) ≡ true → slot (ends i).after.slots x ≡ slot slots' x
           copied lt has =
               scalar-is i x lt (b.free x has) ∙ ap (λ (z : State). scalar z x) (ended-so (ends i).state e.state (ends i).ends e.ends)
-              ∙ sym (scalar-held (meaning_of table) code (silent_at code) first.joined [] s.printed w c h.form.all s loop block body b.ok b.start slots (data_in rows first) r e (b.begun first).holds
+              ∙ sym (scalar-held (meaning_of table) code (is_before end) first.joined [] s.printed w c h.form.all s loop block body b.ok b.start slots (data_in rows first) r e (b.begun first).holds
               b.have x lt (b.free x has) (b.same_index x lt ∙ b.free x has))
 
       slots-same : (i : Idle row_count) → (ends i).after.slots ≡ slots'
@@ -147,7 +155,7 @@ module _ (table : ArrayTable) (row_count : ℕ) (moves : ℕ → List NewMapping
       printed-is : e.state.printed ≡ s.printed
       printed-is = e.same.printed
 
-      reach : Reaches table row_count moves code [] (stands table row_count moves code pc slots rows s.printed) (stands table row_count moves code end slots' rows' s.printed)
+      reach : Reaches table row_count moves code (nest_trail nest body s) (stands table row_count moves code pc slots rows s.printed) (stands table row_count moves code end slots' rows' s.printed)
       reach i =
           let a = (ends i).after in
           let j : Idle row_count = record { layouts = a.data'.layouts; joined = i.joined; laid = a.laid ∙ i.laid } in
@@ -160,17 +168,17 @@ module _ (table : ArrayTable) (row_count : ℕ) (moves : ℕ → List NewMapping
               kept = a.kept t;
               parts = a.parts t;
             }),
-            quiet-trail table code moves a.count' (stands table row_count moves code pc slots rows s.printed i) refl a.quiet,
+            b.trail i a.count' a.quiet (inl (ap (λ (m : Machine Instruction Fault). m.control.at) a.reach ∙ (λ t. pc + b.long t))),
           )
 
       done : NestDone table row_count moves code n many v nest loop block body h.form s e.state slots slots' rows'
       done = record {
-        scalars = λ k lt off. scalar-held (meaning_of table) code (silent_at code) first.joined [] s.printed w c h.form.all s loop block body b.ok b.start slots (data_in rows first) r e
+        scalars = λ k lt off. scalar-held (meaning_of table) code (is_before end) first.joined [] s.printed w c h.form.all s loop block body b.ok b.start slots (data_in rows first) r e
             (b.begun first).holds b.have k lt off (b.same_index k lt ∙ off);
-        inner = λ k lt is off. index-held (meaning_of table) code (silent_at code) first.joined [] s.printed w c h.form.all s loop block body b.ok b.start slots (data_in rows first) r (b.begun first) e
+        inner = λ k lt is off. index-held (meaning_of table) code (is_before end) first.joined [] s.printed w c h.form.all s loop block body b.ok b.start slots (data_in rows first) r (b.begun first) e
             b.have some (λ j less on. h.holds.scalars j less) k lt is (b.same_index k lt ∙ is) off;
         settled = e.indices;
-        arrays = arrays-held (meaning_of table) code (silent_at code) first.joined [] s.printed w c h.form.all s loop block body b.ok b.start slots (data_in rows first) r e (b.begun first).holds
+        arrays = arrays-held (meaning_of table) code (is_before end) first.joined [] s.printed w c h.form.all s loop block body b.ok b.start slots (data_in rows first) r e (b.begun first).holds
             (b.held first);
         places = e.same.count ∙ state-scalars w.kinds s e.storage ∙ h.holds.places;
         more_places = ap length e.same.arrays ∙ state-arrays w.kinds s e.storage ∙ h.holds.more_places;
@@ -200,11 +208,11 @@ module _ (table : ArrayTable) (row_count : ℕ) (moves : ℕ → List NewMapping
       unfolding faults
       same-fault i = ap (λ (x : Run). fault-of x.completion) (sym (faults i).ends ∙ f.ends)
 
-      stops : Stops table row_count moves code [] (stands table row_count moves code pc slots rows s.printed) f.fault s.printed
+      stops : Stops table row_count moves code (nest_trail nest body s) (stands table row_count moves code pc slots rows s.printed) f.fault s.printed
       stops i =
           let a = (faults i).machine in (
             a.last,
-            (a.count, a.reach, quiet-trail table code moves a.count (stands table row_count moves code pc slots rows s.printed i) refl a.quiet),
+            (a.count, a.reach, b.trail i a.count a.quiet (inr ((faults i).fault, ap (λ (m : Machine Instruction Fault). m.control.status) a.reach ∙ a.status))),
             a.status ∙ ap machine.Faulted (same-fault i),
             a.bytes,
           )

@@ -7,10 +7,10 @@ use Rattle.lowered_expressions.specs.WellFormed.{IsSubscript, AreSubscripts, IsI
 use Rattle.nest_items.specs.Naming.{IsNaming, AreNaming}
 use Rattle.nest_items.specs.Standing.{IsFixedTerm, AreFixedTerms, Stands, AllStand}
 use Rattle.nest_items.proofs.Storing.{by_cases}
-use Rattle.nest_values.specs.NestTerms.{scalar_or_index, indexed, all_indexed, NamesFirst, AllNameFirst, SubscriptsFirst, AllSubscriptsFirst}
-use Rattle.nest_join.specs.NestNames.{NestNames, index_in, indices_of, index_of, HasNoIndex, HaveNoIndex, IsFixedName, IsFixedHere, IsScalarName, IsArrayName, IsTextTerm, AreTextSubscripts}
+use Rattle.lowered_expressions.specs.NestTerms.{scalar_or_index, indexed, all_indexed, NamesFirst, AllNameFirst, SubscriptsFirst, AllSubscriptsFirst, HasNoIndex, HaveNoIndex}
+use Rattle.statement_trail.specs.NestParts.{index_in, scalars_in, all_scalars_in}
+use Rattle.nest_join.specs.NestNames.{NestNames, indices_of, index_of, IsFixedName, IsFixedHere, IsScalarName, IsArrayName, IsTextTerm, AreTextSubscripts}
 use Rattle.nest_join.proofs.Names.{in-from, in-both-some, in-both-none}
-use Rattle.lowered_nests.specs.NestCode.{scalars_in, all_scalars_in}
 use Rattle.lowered_nests.proofs.Listed.{in-self, in-front, in-back, in-none, not-in}
 
 -- names that are more
@@ -70,6 +70,19 @@ module _ (n : ℕ) (f : ℕ → Option ℕ) where
 
 -- ---- in a text, by what is free round it and which copies it reads
 
+-- an index of a subscript whose copies aren't read is one of the nest's
+module _ (w : NestNames) (copies : List ℕ) where
+  pub first-index : (k : ℕ) → index_in copies 0 k ≡ None → (o : Option ℕ) → index_in (indices_of w) 0 k ≡ o → NamesFirst (length (indices_of w)) (scalar_or_index (index_of w copies k) k)
+  first-index k h (Some j) e =
+      let r = in-from (indices_of w) 0 k j e in
+      let lt : j < length (indices_of w) = (let a = r.1 in let b = r.2 in omega (arith, a, b)) in
+      subst (λ o. NamesFirst (length (indices_of w)) (scalar_or_index o k)) (sym (in-both-some (indices_of w) copies 0 k j e)) lt
+  first-index k h None e =
+      subst (λ o. NamesFirst (length (indices_of w)) (scalar_or_index o k)) (sym (in-both-none (indices_of w) copies 0 k e ∙ none-later (0 + length (indices_of w)) k copies 0 h)) tt
+    where
+      none-later : (i k : ℕ) (ys : List ℕ) (a : ℕ) → index_in ys a k ≡ None → index_in ys i k ≡ None
+      none-later i k ys a h = in-none ys i k (not-in ys a k h)
+
 module _ (w : NestNames) (free : ℕ → Bool) (round copies : List ℕ)
     (fixed : (k : ℕ) → k < w.count → free k ≡ false → has_copies (w.kinds k) ≡ false → IsFixedName w round k)
     (unread : (k : ℕ) → has_copies (w.kinds k) ≡ false → index_in copies 0 k ≡ None)
@@ -92,21 +105,10 @@ module _ (w : NestNames) (free : ℕ → Bool) (round copies : List ℕ)
   abbrev m : ℕ
   m = length (indices_of w)
 
-  first-index : (k : ℕ) → index_in copies 0 k ≡ None → (o : Option ℕ) → index_in (indices_of w) 0 k ≡ o → NamesFirst m (scalar_or_index (index_of w copies k) k)
-  first-index k h (Some j) e =
-      let r = in-from (indices_of w) 0 k j e in
-      let lt : j < m = (let a = r.1 in let b = r.2 in omega (arith, a, b)) in
-      subst (λ o. NamesFirst m (scalar_or_index o k)) (sym (in-both-some (indices_of w) copies 0 k j e)) lt
-  first-index k h None e =
-      subst (λ o. NamesFirst m (scalar_or_index o k)) (sym (in-both-none (indices_of w) copies 0 k e ∙ none-later (0 + m) k copies 0 h)) tt
-    where
-      none-later : (i k : ℕ) (ys : List ℕ) (a : ℕ) → index_in ys a k ≡ None → index_in ys i k ≡ None
-      none-later i k ys a h = in-none ys i k (not-in ys a k h)
-
   mutual
     names-first : (t : Term) → IsFixedTerm w.kinds free t → HasNoIndex t → NamesFirst m (indexed (index_of w copies) t)
     names-first (Number v) h plain = tt
-    names-first (Scalar k) h plain = first-index k (unread k h.1) (index_in (indices_of w) 0 k) refl
+    names-first (Scalar k) h plain = first-index w copies k (unread k h.1) (index_in (indices_of w) 0 k) refl
     names-first (Index k) h plain = absurd plain
     names-first (Element a ts) h plain = tt
     names-first (Section a subs) h plain = tt

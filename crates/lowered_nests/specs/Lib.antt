@@ -1,2 +1,1 @@
 pub mod NestCode
-pub mod TextBlocks

@@ -4,7 +4,7 @@ use Rattle.op_tables.specs.declared.join.Join.{Join}
 use Rattle.op_tables.specs.declared.join.Join.TheVariants.{Sum}
 use Rattle.op_tables.specs.declared.op.Op.TheVariants as op
 use Rattle.op_tables.specs.Reductions.{joined_by}
-use Rattle.array_meaning.specs.Terms.{Term, Scalar, Element, Apply, Terms, NoTerm, More}
+use Rattle.array_meaning.specs.Terms.{Term, Apply}
 use Rattle.array_meaning.specs.Statements.{Loop, Nest, Block, Done, Then, Statement, AssignScalar, AssignElement, If, Do, Arms, NoArm, Arm}
 use Rattle.array_meaning.specs.Iterations.{is_in, nest_indices}
 use Rattle.array_meaning.specs.Touches.{assigned_in}
@@ -20,8 +20,11 @@ use Rattle.nest_machine.specs.Finals.{Final}
 use Rattle.nest_texts.specs.NestTexts.{NestText, NestTest}
 use Rattle.nest_texts.specs.NestInstructions as forms
 use Rattle.nest_texts.specs.NestInstructions.{FlatBounds, NestBody, NestArms, count_nest, slots_of_nest, nest_instructions}
-use Rattle.nest_values.specs.NestTerms.{indexed, all_indexed}
-use Rattle.nest_join.specs.NestNames.{NestNames, index_in}
+use Rattle.statement_trail.specs.NestParts as parts
+use Rattle.statement_trail.specs.NestParts.{among_from, index_in}
+use Rattle.lowered_expressions.specs.NestTerms.{indexed, all_indexed}
+use Rattle.nest_join.specs.NestNames.{NestNames}
+use Rattle.nest_join.specs.CodedBlocks.{step_flat}
 use Rattle.nest_join.specs.Places.{conditions_from, place_of, is_nest_row, marks_of, finals_of}
 
 -- ---- the innermost block as a body of texts
@@ -42,7 +45,7 @@ bounds_in loop = record {
   index = loop.index;
   first = index_flat loop.control.first;
   last = index_flat loop.control.last;
-  step = index_flat loop.control.step;
+  step = step_flat loop.control.step;
 }
 
 -- an ELSE without statements is none
@@ -67,28 +70,6 @@ abbrev mutual
   plain_arms (Arm line t block arms) other = forms.AndArm (Some (record { line = line; text = t })) (plain block) (plain_arms arms other)
 
 -- ---- the scalars that a nest assigns
-
--- each number of a list once
-abbrev pub each_once : List ℕ → List ℕ
-each_once [] = []
-each_once (k ∷ ks) = if is_in k ks then each_once ks else k ∷ each_once ks
-
--- those of a list that are among others
-abbrev pub of_these : List ℕ → List ℕ → List ℕ
-of_these scalars [] = []
-of_these scalars (k ∷ ks) = if is_in k scalars then k ∷ of_these scalars ks else of_these scalars ks
-
--- the scalars in an expression
-abbrev mutual
-  pub scalars_in : Term → List ℕ
-  scalars_in (Scalar k) = k ∷ []
-  scalars_in (Element a ts) = all_scalars_in ts
-  scalars_in (Apply o ts) = all_scalars_in ts
-  scalars_in t = []
-
-  pub all_scalars_in : Terms → List ℕ
-  all_scalars_in NoTerm = []
-  all_scalars_in (More t ts) = scalars_in t ++ all_scalars_in ts
 
 -- the right sides of a scalar's assignments, in the order of the text
 abbrev mutual
@@ -121,8 +102,9 @@ module _ (n : ℕ) (nest : Nest) (body : Block) where
   abbrev pub kinds_in : ℕ → Kind
   kinds_in = kind_of (operator_in body) nest body
 
+  -- as declared
   abbrev pub scalars : List ℕ
-  scalars = each_once (assigned_in body)
+  scalars = among_from (assigned_in body) 0 n
 
   -- how many stored conditions there are
   abbrev pub conditions : ℕ
@@ -145,7 +127,7 @@ module _ (n : ℕ) (nest : Nest) (body : Block) where
 
   -- the scalars whose copies an expression reads
   abbrev pub copied_in : Term → List ℕ
-  copied_in t = each_once (of_these scalars (scalars_in t))
+  copied_in = parts.copied_in scalars
 
   -- a name as an index of a form: an index of the nest, or after those a scalar whose copy is read
   abbrev pub axis_in : List ℕ → ℕ → Option ℕ
@@ -157,6 +139,7 @@ module _ (n : ℕ) (nest : Nest) (body : Block) where
     by_side line (ToScalar k t) = record {
       line = line;
       copies = map place_in (copied_in t);
+      names = copied_in t;
       left = CopyLeft (place_in k);
       right = index_form (indexed (axis_in (copied_in t)) t);
       mark = marks_of n scalars conditions kinds_in k;
@@ -164,6 +147,7 @@ module _ (n : ℕ) (nest : Nest) (body : Block) where
     by_side line (ToElement a ts t) = record {
       line = line;
       copies = map place_in (copied_in t);
+      names = copied_in t;
       left = ElementLeft a (index_subs (all_indexed (axis_in (copied_in t)) ts));
       right = index_form (indexed (axis_in (copied_in t)) t);
       mark = None;
@@ -173,6 +157,7 @@ module _ (n : ℕ) (nest : Nest) (body : Block) where
   test_in c = record {
     line = c.line;
     copies = map place_in (copied_in c.text);
+    names = copied_in c.text;
     form = index_form (indexed (axis_in (copied_in c.text)) c.text);
   }
 
@@ -202,7 +187,7 @@ along v (l ∷ ls) = along (v + 4) ls ++ SubAlong v ∷ []
 abbrev pub bounds_code : ℕ → ℕ → List Loop → List Instruction
 bounds_code line v [] = []
 bounds_code line v (l ∷ ls) =
-    Set line v (index_flat l.control.first) ∷ Set line (v + 1) (index_flat l.control.last) ∷ Set line (v + 2) (index_flat l.control.step)
+    Set line v (index_flat l.control.first) ∷ Set line (v + 1) (index_flat l.control.last) ∷ Set line (v + 2) (step_flat l.control.step)
     ∷ bounds_code line (v + 4) ls
 
 -- the run goes on at a target where a loop makes no trip

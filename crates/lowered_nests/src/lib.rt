@@ -3,7 +3,7 @@
 //! Comes in: a nest in resolved form, with what it keeps by its form (`nest_items`); its code as texts over copies, with the law that the machine
 //! with whole arrays ends over it as the meaning says (`nest_join`); and what it is for that machine to come over code to a place
 //! (`lowered_expressions`). Goes out, in `specs/`: the node code of a nest as a function of it. In `proofs/`, for the laws of statements: over that
-//! code the machine goes on as the run of the nest does. There is no function here that runs, and no node.
+//! code the machine goes on as the run of the nest does, and passes the nest's trail. There is no function here that runs, and no node.
 //!
 //! What holds in between, from the bottom up:
 //!
@@ -11,11 +11,15 @@
 //!   indices.
 //! - `PlainCode`, `CodedTexts`: that code is the one of which the law of nests speaks.
 //! - `CodedBody`, `Begun`, `Entered`, `Starts`: all that the law of nests asks at the entry holds of a nest that keeps its form and is entered.
+//! - `Passing`, `LoopPasses`, `NestPasses`, `NestTrails`: on its way through the statements the machine passes the parts of the nest, in their order; where it
+//!   goes depends on slots alone.
 //! - `StatementsEnds`, `StatementsRuns`: so its statements end as the run of the nest does. What a nest's code makes of slots and rows doesn't
-//!   depend on how the rows lie (`SteadyRows`), and on the way nothing is noted (`QuietSteps`).
+//!   depend on how the rows lie (`SteadyRows`).
 //! - `LoopBounds`, `LoopTrips`, `IndexCode`: the code round the statements. `EmptyNests`, `SettledNests`: what the meaning leaves in the indices
 //!   of a nest, without an iteration and with one.
-//! - `NestGoes`: all of it together.
+//! - `NestGoes`: all of it together. `StillLoops`: the loops of a nest without statements pass nothing, as the nest doesn't.
 //!
-//! What is asked of a nest beside its form, and of the state at its entry, is `IsAsked` (`NestRuns`): it isn't shown here of any nest.
+//! What is asked of a nest is its form (`nest_items`), that its names are declared, that it has statements, since one without is compiled as its loops
+//! are, and that the numbers in the control of its outermost loop are of 64 bits; of the state at its entry, that its values are of 64 bits, and that the
+//! check of the entry is passed.
 #![tactic(auto)]

@@ -1,6 +1,6 @@
 -- The code of an IF and of the control of a DO.
 use Rattle.node_code.specs.Instructions.{NewMapping, go_if, Instruction, Set, Trips, Jump, JumpIfZero, begin_trips, meaning_of, ArrayTable}
-use Rattle.std.proofs.Common.{◌≡◌, ℕ, zero, suc, ◌+◌, ◌<◌, ◌≤◌, ◌^◌, List, [], ◌∷◌, ◌++◌, length, ℤ, pos, Bool, true, false, if◌then◌else◌, Option, Some, Result, Ok, refl, sym, ap, ◌∙◌, subst, arith, length-append, slice_get, slice_set, get_or-set_same, get_or-set_other}
+use Rattle.std.proofs.Common.{◌≡◌, ℕ, zero, suc, ◌+◌, ◌<◌, ◌≤◌, ◌^◌, List, [], ◌∷◌, ◌++◌, length, ℤ, pos, FitsSigned, w64, Bool, true, false, if◌then◌else◌, Option, Some, Result, Ok, refl, sym, ap, ◌∙◌, subst, arith, length-append, slice_get, slice_set, get_or-set_same, get_or-set_other}
 use Rattle.array_meaning.specs.Execution.{condition, iterate}
 use Rattle.array_meaning.specs.Expressions.{value}
 use Rattle.array_meaning.specs.Faults.{Cause, fails}
@@ -29,6 +29,8 @@ use Rattle.node_code.specs.Flat.{slot, Slot}
 use Rattle.node_code.specs.Parallel.{at_line}
 use Rattle.op_tables.specs.Operators.{wrapped, is_zero, is_true}
 use Rattle.array_meaning.specs.Runs as runs
+use Rattle.fitting_states.specs.FittingStates.{StateFits}
+use Rattle.fitting_states.proofs.Runs.{KeepsFits}
 
 module _ (table : ArrayTable) (row_count : ℕ) (moves : ℕ → List NewMapping) (code : List Instruction) (n many : ℕ) (copy : Option (List ℤ)) (leave again : ℕ) where
   -- a jump after what was made
@@ -50,13 +52,13 @@ module _ (table : ArrayTable) (row_count : ℕ) (moves : ℕ → List NewMapping
       by_flow Stopped g = g
       by_flow (runs.Faulted f) g = g
 
-  abbrev pub Makes : (ℕ → List Instruction) → ℕ → ℕ → (State → Run) → (State → Trail) → Type 0
-  Makes part b pc does dtrail = (slots : List ℤ) (rows : Storage) (s : State) → HasAt code pc (part pc) → Holds table row_count moves code n many copy s slots rows
+  abbrev pub Makes : (ℕ → List Instruction) → ℕ → ℕ → (State → Run) → (State → Trail) → State → Type 0
+  Makes part b pc does dtrail s = (slots : List ℤ) (rows : Storage) → HasAt code pc (part pc) → Holds table row_count moves code n many copy s slots rows
       → Goes table row_count moves code n many copy leave again (dtrail s) (pc + length (part pc)) b slots (stands table row_count moves code pc slots rows s.printed) (does s)
 
   pub arm-goes : (line b pc : ℕ) (cond : Term) (part rest : ℕ → List Instruction) (does others : State → Run) (dtrail otrail : State → Trail) (slots : List ℤ) (rows : Storage) (s : State) → IsScalar n cond
       → HasAt code pc (arm_code line pc b cond part rest) → n ≤ b → b + (slots_of cond + 1) ≤ many
-      → Holds table row_count moves code n many copy s slots rows → ((pc : ℕ) → Makes part b pc does dtrail) → ((pc : ℕ) → Makes rest b pc others otrail)
+      → Holds table row_count moves code n many copy s slots rows → ((pc : ℕ) → Makes part b pc does dtrail s) → ((pc : ℕ) → Makes rest b pc others otrail s)
       → Goes table row_count moves code n many copy leave again (value_trail line s cond ++ after_value (condition s cond) (λ holds. (if holds then dtrail else otrail) s)) (pc + length (arm_code line pc b cond part rest)) b slots (stands table row_count moves code pc slots rows s.printed)
       (with_value line s (condition s cond) (λ holds. (if holds then does else others) s))
   arm-goes line b pc cond part rest does others dtrail otrail slots rows s ok has le few holds makes makes_rest =
@@ -94,8 +96,8 @@ module _ (table : ArrayTable) (row_count : ℕ) (moves : ℕ → List NewMapping
       ((if is_true v then does else others) s) (omega arith) r1 (λ j from lt. sym (get_or-set_other slots1 x j v (pos 0) (λ e. absurd (omega (arith, e, lt)))))
       (by_test slots2 to next inner x (is_true v) e1 (λ t et. test-reaches table row_count moves code n many copy (pc1 + 1) next x slots2 rows s.printed t h1.1.0 (ap is_true here ∙ et)) refl
       (goes-jump (dtrail s) (inner + length (part inner)) to b slots2 (stands table row_count moves code inner slots2 rows s.printed) (does s) h3.0
-      (makes inner slots2 rows s (has-front code inner (part inner) (Jump to ∷ rest next) h2) holds2))
-      (makes_rest next slots2 rows s h3.1 holds2))))))
+      (makes inner slots2 rows (has-front code inner (part inner) (Jump to ∷ rest next) h2) holds2))
+      (makes_rest next slots2 rows h3.1 holds2))))))
     where
       by_test : (slots2 : List ℤ) (to next inner x : ℕ) (t : Bool) → pc + length (code_of line b cond) + 1 + 1 ≡ inner
           → ((u : Bool) → t ≡ u → Reaches table row_count moves code [] (stands table row_count moves code (pc + length (code_of line b cond) + 1) slots2 rows s.printed)
@@ -116,10 +118,10 @@ module _ (table : ArrayTable) (row_count : ℕ) (moves : ℕ → List NewMapping
   -- a loop from its head on, when its numbers stand in their slots
   pub enters : (line pc v x : ℕ) (bcode : ℕ → ℕ → ℕ → List Instruction) (brun : State → Run) (btrail : State → Trail) (slots : List ℤ) (rows : Storage) (s : State) (a z d : ℤ)
       → HasAt code pc (loop_code line pc v x bcode) → x < n → n ≤ v → v + 4 ≤ many → Body table row_count moves code n many copy line pc v x bcode brun btrail
-      → Holds table row_count moves code n many copy s slots rows → slot slots v ≡ a → slot slots (v + 1) ≡ z → slot slots (v + 2) ≡ d
+      → KeepsFits brun → StateFits s → FitsSigned w64 a → Holds table row_count moves code n many copy s slots rows → slot slots v ≡ a → slot slots (v + 1) ≡ z → slot slots (v + 2) ≡ d
       → Goes table row_count moves code n many copy leave again (after_value (sequence a z d) (λ p. iterate_trail p.count x p.first p.step brun btrail s)) (after table row_count moves code n many copy line pc v x bcode brun btrail) v slots (stands table row_count moves code pc slots rows s.printed)
       (with_value line s (sequence a z d) (λ p. iterate p.count x p.first p.step brun s))
-  enters line pc v x bcode brun btrail slots rows s a z d has lx lv few makes holds e1 e2 e3 =
+  enters line pc v x bcode brun btrail slots rows s a z d has lx lv few makes stays fits fit holds e1 e2 e3 =
       goes-on table row_count moves code n many copy leave again [] (after_value (sequence a z d) (λ p. iterate_trail p.count x p.first p.step brun btrail s)) to v v slots slots1 (stands table row_count moves code pc slots rows s.printed) m1
       (with_value line s (sequence a z d) (λ p. iterate p.count x p.first p.step brun s)) (omega arith) r1 (λ j from lt. sym (other j from))
       (by_span (is_zero d) (value_count (wrapped a) (wrapped z) (wrapped d)) (count-small a z d)
@@ -161,7 +163,7 @@ module _ (table : ArrayTable) (row_count : ℕ) (moves : ℕ → List NewMapping
       by_span false zero small g =
           goes-on table row_count moves code n many copy leave again [] [] to v v slots1 slots1 m1 (stands table row_count moves code leave1 slots1 rows s.printed) (normal (set_scalar s x a)) (omega arith)
           (λ i. (1, i, g i, trips i)) (kept-refl table row_count moves code n many copy v slots1)
-          (ends-loop table row_count moves code n many copy line pc v x bcode brun btrail leave again has lx lv few makes slots1 rows (set_scalar s x a) holds1)
+          (ends-loop table row_count moves code n many copy line pc v x bcode brun btrail leave again has lx lv few makes stays slots1 rows (set_scalar s x a) holds1)
       by_span false (suc k) small g =
           let left : ℤ = wrapped (pos k) in
           let slots2 : List ℤ = slice_set slots1 (v + 3) left in
@@ -173,8 +175,8 @@ module _ (table : ArrayTable) (row_count : ℕ) (moves : ℕ → List NewMapping
           (reaches-on table row_count moves code m1 (stands table row_count moves code (pc + 2) slots2 rows s.printed) (stands table row_count moves code in1 slots2 rows s.printed) g2
           (jump-reaches table row_count moves code n many copy (pc + 2) in1 slots2 rows s.printed (has-drop code 2 pc (loop_code line pc v x bcode) has).0))
           (λ j from lt. sym (get_or-set_other slots1 (v + 3) j left (pos 0) (λ e. absurd (omega (arith, e, lt)))))
-          (from-inside table row_count moves code n many copy line pc v x bcode brun btrail leave again has lx lv few makes k
-          (from-again table row_count moves code n many copy line pc v x bcode brun btrail leave again has lx lv few makes k (omega (arith, small))) s slots2 rows a d
+          (from-inside table row_count moves code n many copy line pc v x bcode brun btrail leave again has lx lv few makes stays k
+          (from-again table row_count moves code n many copy line pc v x bcode brun btrail leave again has lx lv few makes stays k (omega (arith, small))) s slots2 rows a d fits fit
           (holds-slot table row_count moves code n many copy (set_scalar s x a) slots1 rows (v + 3) left (omega (arith, lv)) holds1) (
             get_or-set_other slots1 (v + 3) v left (pos 0) (λ e. absurd (omega (arith, e))) ∙ other v lv ∙ e1,
             get_or-set_other slots1 (v + 3) (v + 2) left (pos 0) (λ e. absurd (omega (arith, e))) ∙ other (v + 2) (omega (arith, lv)) ∙ e3,

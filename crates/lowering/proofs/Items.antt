@@ -13,7 +13,7 @@ use Rattle.array_meaning.specs.declared.sections.Selection.{Selection}
 use Rattle.hpf_base.specs.ElementOrder.{product}
 use Rattle.lowering.proofs.Parts.{SubsGive, subscripts-come}
 use Rattle.statement_trail.specs.Trail.{selections_trail}
-use Rattle.lowered_expressions.proofs.Reach.{still, comes-last, HasAt, has-front, has-back, SameBelow, same-refl, Reaches, stands, one, Comes, comes-on, comes-then, comes-at}
+use Rattle.lowered_expressions.proofs.Reach.{still, comes-last, HasAt, has-front, has-back, SameBelow, same-refl, Reaches, stands, one, Comes, comes-on, comes-at}
 use Rattle.lowered_expressions.proofs.Scatter.{space-size, space-counted}
 use Rattle.lowered_expressions.proofs.Terms.{HoldsScalars, HoldsArrays}
 use Rattle.lowered_expressions.specs.ExpressionCode.{own_evaluation, subscripts_slots, subs_of, subscripts_code}

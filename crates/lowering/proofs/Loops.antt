@@ -1,6 +1,6 @@
 -- The code of a loop makes its turns.
 use Rattle.node_code.specs.Instructions.{NewMapping, Instruction, Jump, ArrayTable}
-use Rattle.std.proofs.Common.{◌≡◌, ℕ, zero, suc, ◌+◌, ◌<◌, ◌≤◌, ◌^◌, List, [], ◌∷◌, length, ℤ, pos, ◌+ℤ◌, true, false, Option, Some, Ok, refl, sym, ap, ◌∙◌, subst, arith, slice_get, slice_set, length-set, get_or-set_same, get_or-set_other, ◌++◌, append-nil}
+use Rattle.std.proofs.Common.{◌≡◌, ℕ, zero, suc, ◌+◌, ◌<◌, ◌≤◌, ◌^◌, List, [], ◌∷◌, length, ℤ, pos, ◌+ℤ◌, FitsSigned, w64, true, false, Option, Some, Ok, refl, sym, ap, ◌∙◌, subst, arith, slice_get, slice_set, length-set, get_or-set_same, get_or-set_other, ◌++◌, append-nil}
 use Rattle.array_meaning.specs.Execution.{iterate, after_iteration}
 use Rattle.array_meaning.specs.Runs.{Completion, Normal, Exited, Cycled, Stopped, Run, normal}
 use Rattle.array_meaning.specs.State.{State, set_scalar}
@@ -14,6 +14,10 @@ use Rattle.storage.specs.Storage.{Storage}
 use Rattle.node_code.specs.Flat.{slot, Int, Slot, Operated, NoFlat, AndFlat}
 use Rattle.op_tables.specs.Operators.{wrapped, is_true}
 use Rattle.array_meaning.specs.Runs as runs
+use Rattle.fitting_states.specs.FittingStates.{StateFits}
+use Rattle.fitting_states.proofs.OperatorRanges.{wraps_fit}
+use Rattle.fitting_states.proofs.Storing.{set_scalar_fits}
+use Rattle.fitting_states.proofs.Runs.{KeepsFits}
 use Rattle.op_tables.specs.declared.op.Op.TheVariants as op
 
 module _ (table : ArrayTable) (row_count : ℕ) (moves : ℕ → List NewMapping) (code : List Instruction) (n many : ℕ) (copy : Option (List ℤ)) (line pc v x : ℕ) (bcode : ℕ → ℕ → ℕ → List Instruction) (brun : State → Run) (btrail : State → Trail) where
@@ -33,10 +37,10 @@ module _ (table : ArrayTable) (row_count : ℕ) (moves : ℕ → List NewMapping
   after = inside + length body + 1
 
   abbrev pub Body : Type 0
-  Body = (s : State) (slots : List ℤ) (rows : Storage) → Holds table row_count moves code n many copy s slots rows → Goes table row_count moves code n many copy leave_at again_at (btrail s) (inside + length body)
+  Body = (s : State) (slots : List ℤ) (rows : Storage) → StateFits s → Holds table row_count moves code n many copy s slots rows → Goes table row_count moves code n many copy leave_at again_at (btrail s) (inside + length body)
       (v + 4) slots (stands table row_count moves code inside slots rows s.printed) (brun s)
 
-  module _ (leave again : ℕ) (has : HasAt code pc (loop_code line pc v x bcode)) (lx : x < n) (lv : n ≤ v) (few : v + 4 ≤ many) (makes : Body) where
+  module _ (leave again : ℕ) (has : HasAt code pc (loop_code line pc v x bcode)) (lx : x < n) (lv : n ≤ v) (few : v + 4 ≤ many) (makes : Body) (stays : KeepsFits brun) where
     -- the loop's numbers stand in their slots
     abbrev Numbers : List ℤ → ℤ → ℤ → ℕ → Type 0
     Numbers slots index step k = (slot slots v ≡ index) × (slot slots (v + 2) ≡ step) × (slot slots (v + 3) ≡ wrapped (pos k))
@@ -56,14 +60,15 @@ module _ (table : ArrayTable) (row_count : ℕ) (moves : ℕ → List NewMapping
 
     -- what is left of the loop from the place where CYCLE goes
     abbrev FromAgain : ℕ → Type 0
-    FromAgain k = (s : State) (slots : List ℤ) (rows : Storage) (index step : ℤ) → Holds table row_count moves code n many copy s slots rows → Numbers slots index step k
+    FromAgain k = (s : State) (slots : List ℤ) (rows : Storage) (index step : ℤ) → StateFits s → Holds table row_count moves code n many copy s slots rows → Numbers slots index step k
         → Goes table row_count moves code n many copy leave again (iterate_trail k x (wrapped (index +ℤ step)) step brun btrail s) after v slots (stands table row_count moves code again_at slots rows s.printed) (iterate k x (wrapped (index +ℤ step)) step brun s)
 
     -- and from the body, where the index is set
-    pub from-inside : (k : ℕ) → FromAgain k → (s : State) (slots : List ℤ) (rows : Storage) (index step : ℤ) → Holds table row_count moves code n many copy (set_scalar s x index) slots rows
+    pub from-inside : (k : ℕ) → FromAgain k → (s : State) (slots : List ℤ) (rows : Storage) (index step : ℤ) → StateFits s → FitsSigned w64 index → Holds table row_count moves code n many copy (set_scalar s x index) slots rows
         → Numbers slots index step k
         → Goes table row_count moves code n many copy leave again (iterate_trail (suc k) x index step brun btrail s) after v slots (stands table row_count moves code inside slots rows s.printed) (iterate (suc k) x index step brun s)
-    from-inside k next s slots rows index step holds numbers = by_flow (brun (set_scalar s x index)).completion (makes (set_scalar s x index) slots rows holds)
+    from-inside k next s slots rows index step fits fit holds numbers =
+        by_flow (brun (set_scalar s x index)).completion (makes (set_scalar s x index) slots rows (set_scalar_fits s x index fits fit) holds)
       where
         m : Place row_count
         m = stands table row_count moves code inside slots rows s.printed
@@ -77,7 +82,7 @@ module _ (table : ArrayTable) (row_count : ℕ) (moves : ℕ → List NewMapping
         on slots1 rows1 reach kept holds1 =
             goes-on table row_count moves code n many copy leave again (btrail (set_scalar s x index)) (iterate_trail k x (wrapped (index +ℤ step)) step brun btrail s') after v v slots slots1 m (stands table row_count moves code again_at slots1 rows1 s'.printed)
             (iterate k x (wrapped (index +ℤ step)) step brun s') (omega arith) reach (λ j from lt. kept j from (omega (arith, lt)))
-            (next s' slots1 rows1 index step holds1 (numbers-kept slots slots1 index step k numbers kept))
+            (next s' slots1 rows1 index step (stays (set_scalar s x index) (set_scalar_fits s x index fits fit)) holds1 (numbers-kept slots slots1 index step k numbers kept))
 
         back : HasAt code (inside + length body) (Jump again_at ∷ [])
         back = has-back code inside body (Jump again_at ∷ []) (has-drop code 8 pc (loop_code line pc v x bcode) has)
@@ -133,7 +138,7 @@ module _ (table : ArrayTable) (row_count : ℕ) (moves : ℕ → List NewMapping
         moved2 {m} {slots} r = let e : pc + 5 + 1 ≡ pc + 6 = omega arith in subst (λ p. Reaches table row_count moves code [] m (stands table row_count moves code p slots rows s.printed)) e r
 
     pub from-again : (k : ℕ) → k < 2 ^ 64 → FromAgain k
-    from-again zero small s slots rows index step holds numbers =
+    from-again zero small s slots rows index step fits holds numbers =
         let a = advanced s slots rows index step 0 holds numbers in
         let next : ℤ = wrapped (index +ℤ step) in
         goes-on table row_count moves code n many copy leave again [] [] after v v slots a.0 (stands table row_count moves code again_at slots rows s.printed) (stands table row_count moves code leave_at a.0 rows s.printed)
@@ -143,7 +148,7 @@ module _ (table : ArrayTable) (row_count : ℕ) (moves : ℕ → List NewMapping
         (test-reaches table row_count moves code n many copy (pc + 6) leave_at (v + 3) a.0 rows s.printed false (has-drop code 6 pc (loop_code line pc v x bcode) has).0
         (ap is_true a.4.2 ∙ none-left)))
         a.2 (ends-loop a.0 rows (set_scalar s x next) a.3)
-    from-again (suc k) small s slots rows index step holds numbers =
+    from-again (suc k) small s slots rows index step fits holds numbers =
         let a = advanced s slots rows index step (suc k) holds numbers in
         let next : ℤ = wrapped (index +ℤ step) in
         let left : ℤ = wrapped (pos k) in
@@ -162,7 +167,7 @@ module _ (table : ArrayTable) (row_count : ℕ) (moves : ℕ → List NewMapping
         (subst (λ p. Reaches table row_count moves code [] (stands table row_count moves code (pc + 6) a.0 rows s.printed) (stands table row_count moves code p a.0 rows s.printed)) e7 r1)
         (subst (λ p. Reaches table row_count moves code [] (stands table row_count moves code (pc + 7) a.0 rows s.printed) (stands table row_count moves code p slots2 rows s.printed)) e8 r2)))
         (λ j from lt. a.2 j from lt ∙ sym (get_or-set_other a.0 (v + 3) j left (pos 0) (λ e. absurd (omega (arith, e, lt)))))
-        (from-inside k (from-again k (omega (arith, small))) s slots2 rows next step
+        (from-inside k (from-again k (omega (arith, small))) s slots2 rows next step fits (wraps_fit (index +ℤ step))
         (holds-slot table row_count moves code n many copy (set_scalar s x next) a.0 rows (v + 3) left (omega (arith, lv)) a.3) (
           get_or-set_other a.0 (v + 3) v left (pos 0) (λ e. absurd (omega (arith, e))) ∙ a.4.0,
           get_or-set_other a.0 (v + 3) (v + 2) left (pos 0) (λ e. absurd (omega (arith, e))) ∙ a.4.1,

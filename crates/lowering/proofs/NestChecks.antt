@@ -1,5 +1,5 @@
 -- The entry of a loop: one that isn't the outermost of a nest has none, and the code of any other asks what the meaning asks.
-use Rattle.std.proofs.Common.{◌≡◌, ℕ, zero, suc, ◌+◌, ◌<◌, ◌≤◌, List, [], ◌∷◌, ◌++◌, length, ℤ, pos, Bool, true, false, if◌then◌else◌, Option, Some, None, Result, Ok, Err, refl, sym, ap, ◌∙◌, subst, arith, ◌⊎◌, inl, inr, ⊎_elim, map, reverse, slice_index_or, ap₂}
+use Rattle.std.proofs.Common.{◌≡◌, ℕ, ◌+◌, ◌<◌, ◌≤◌, List, [], ◌∷◌, ◌++◌, length, ℤ, pos, Bool, true, false, if◌then◌else◌, Option, Some, Result, Ok, Err, refl, sym, ap, ◌∙◌, subst, arith, ◌⊎◌, inl, inr, ⊎_elim, map, reverse, slice_index_or, ap₂}
 use Rattle.std.specs.List.{AllByRecursion}
 use Rattle.std.specs.Result.{result_unwrap_or}
 use Rattle.std.proofs.lemmas.List.{get_or_past, reverse-append}
@@ -13,29 +13,26 @@ use Rattle.array_meaning.specs.declared.faults.FaultKind.TheVariants.{ZeroStride
 use Rattle.array_meaning.specs.declared.sections.Sequence.{Sequence}
 use Rattle.array_meaning.specs.Sections.{sequence, value_count}
 use Rattle.array_meaning.specs.Faults.{Cause, fails}
-use Rattle.array_meaning.specs.State.{Array, State, scalar, array, no_array}
+use Rattle.array_meaning.specs.State.{Array, State, array, no_array}
 use Rattle.array_meaning.specs.Statements.{Loop, Nest, Block, Do, Mark, Unmarked, Outermost}
 use Rattle.array_meaning.specs.Runs.{Run, then_do, with_value, one_step}
 use Rattle.array_meaning.specs.Expressions.{index_values}
 use Rattle.array_meaning.specs.Iterations.{values_of, nest_axes, nest_indices}
 use Rattle.array_meaning.specs.NestEntry.{check_nest, entered}
-use Rattle.array_meaning.specs.Execution.{iterate}
-use Rattle.statement_trail.specs.Trail.{Trail, after_value, iterate_trail}
-use Rattle.nest_items.proofs.EntryAlike.{Alike, fault_of, same_entry, same_axis, entered_or_not, IsNestLoop, IsNestBlock}
+use Rattle.statement_trail.specs.Trail.{Trail, after_value}
+use Rattle.nest_items.proofs.EntryAlike.{Alike, fault_of, same_entry, same_axis, entered_or_not, IsNestLoop}
 use Rattle.machine_steps.specs.Instr.{Running}
 use Rattle.machine_steps.specs.Machine.{steps}
 use Rattle.storage.specs.Storage.{Storage}
 use Rattle.node_code.specs.Flat.{slot}
-use Rattle.node_code.specs.Parallel.{at_line, fault_at}
+use Rattle.node_code.specs.Parallel.{at_line}
 use Rattle.node_code.specs.NestChecks.{entry_state, without_elements}
-use Rattle.node_code.specs.Instructions.{NewMapping, Instruction, TestStride, Check, ArrayTable, go_on_if, stride_at, meaning_of}
-use Rattle.lowering.specs.StatementCode.{with_bounds, entry_code, loop_code}
+use Rattle.node_code.specs.Instructions.{NewMapping, Instruction, TestStride, Check, ArrayTable, go_on_if, meaning_of}
+use Rattle.lowering.specs.StatementCode.{with_bounds, entry_code}
 use Rattle.lowered_expressions.specs.Passed.{passed, IsTrail}
-use Rattle.lowered_expressions.proofs.Reach.{still, Idle, HasAt, has-front, has-back, Reaches, reaches-on, stands, one, Place}
+use Rattle.lowered_expressions.proofs.Reach.{still, Idle, HasAt, Reaches, stands, one, Place}
 use Rattle.lowered_expressions.proofs.Terms.{HoldsScalars, HoldsArrays}
 use Rattle.lowered_expressions.proofs.Goes.{Holds, kept-refl, Goes, goes-on}
-use Rattle.lowering.proofs.Loops.{after, Body}
-use Rattle.lowering.proofs.Branches.{enters}
 use Rattle.lowering.proofs.NestNames.{IsFormedNest, formed_nest}
 use Rattle.nest_items.specs.BlockForms.{BlockHasForms, HasForms}
 use Rattle.lowered_expressions.specs.WellFormed.{IsWellFormedBlock}
@@ -122,33 +119,35 @@ module _ (table : ArrayTable) (row_count : ℕ) (moves : ℕ → List NewMapping
       below = subst (λ ls. AllByRecursion (λ x. x < n) (reverse (map (λ (l : Loop). l.index) ls))) (sym formed.is)
           (all_reversed (λ x. x < n) (loop.index ∷ map (λ (l : Loop). l.index) formed.inner) (lx, indices_below n formed.inner formed.loops))
 
-  module _ (line v x : ℕ) (bcode : ℕ → ℕ → ℕ → List Instruction) (brun : State → Run) (btrail : State → Trail) (s : State) where
+  -- the step isn't 0 where that is tested before the loop begins
+  abbrev pub IsTested : Mark → ℤ → Type 0
+  IsTested Unmarked d = Unit {0}
+  IsTested (Outermost nest body) d = is_zero d ≡ false
+
+  -- what follows the entry of a loop, by the values of its index: its trail, and its run
+  module _ (line v : ℕ) (s : State) (trail_on : Sequence → State → Trail) (go : Sequence → State → Run) where
     -- what is left to show where these are the values of the index and the answer of the entry
     abbrev Goal : ℕ → List ℤ → Place row_count → Result Sequence Cause → Result State Cause → Type 0
-    Goal to slots m q e = Goes table row_count moves code n many copy leave again (after_value q (λ p. after_value e (iterate_trail p.count x p.first p.step brun btrail))) to v slots m
-        (with_value line s q (λ p. then_do (one_step line s e) (iterate p.count x p.first p.step brun)))
+    Goal to slots m q e =
+        Goes table row_count moves code n many copy leave again (after_value q (λ p. after_value e (trail_on p))) to v slots m (with_value line s q (λ p. then_do (one_step line s e) (go p)))
 
-    pub entry-goes : (mark : Mark) (loop : Loop) (block : Block) (pc : ℕ) (slots : List ℤ) (rows : Storage) (a z d : ℤ) → IsFormedMark n mark loop block → loop.index < n
-        → HasAt code pc (entry_code line mark v ++ loop_code line (pc + length (entry_code line mark v)) v x bcode) → x < n → n ≤ v → v + 4 ≤ many
-        → Body table row_count moves code n many copy line (pc + length (entry_code line mark v)) v x bcode brun btrail → Holds table row_count moves code n many copy s slots rows
+    -- it goes on at a place after the entry
+    abbrev pub GoesOn : Mark → (pc to : ℕ) → List ℤ → Storage → (a z d : ℤ) → Type 0
+    GoesOn mark pc to slots rows a z d = entered mark s ≡ Ok s → IsTested mark d
+        → Goes table row_count moves code n many copy leave again (after_value (sequence a z d) (λ p. trail_on p s)) to v slots (stands table row_count moves code pc slots rows s.printed)
+        (with_value line s (sequence a z d) (λ p. go p s))
+
+    pub entry-goes : (mark : Mark) (loop : Loop) (block : Block) (pc to : ℕ) (slots : List ℤ) (rows : Storage) (a z d : ℤ) → IsFormedMark n mark loop block → loop.index < n
+        → HasAt code pc (entry_code line mark v) → n ≤ many → Holds table row_count moves code n many copy s slots rows
         → slot slots v ≡ a → slot slots (v + 1) ≡ z → slot slots (v + 2) ≡ d → index_values s loop.control ≡ sequence a z d
-        → Goal (after table row_count moves code n many copy line (pc + length (entry_code line mark v)) v x bcode brun btrail) slots (stands table row_count moves code pc slots rows s.printed)
-        (sequence a z d) (entered mark s)
-    entry-goes Unmarked loop block pc slots rows a z d formed li has lx lv few makes holds e1 e2 e3 known =
+        → GoesOn mark (pc + length (entry_code line mark v)) to slots rows a z d → Goal to slots (stands table row_count moves code pc slots rows s.printed) (sequence a z d) (entered mark s)
+    entry-goes Unmarked loop block pc to slots rows a z d formed li has few holds e1 e2 e3 known on =
         let e : pc + 0 ≡ pc = omega arith in
-        subst (λ p. Goal (after table row_count moves code n many copy line (pc + 0) v x bcode brun btrail) slots (stands table row_count moves code p slots rows s.printed) (sequence a z d) (Ok s)) e
-        (enters table row_count moves code n many copy leave again line (pc + 0) v x bcode brun btrail slots rows s a z d (has-back code pc [] (loop_code line (pc + 0) v x bcode) has) lx lv few
-        makes holds e1 e2 e3)
-    entry-goes (Outermost nest body) loop block pc slots rows a z d formed li has lx lv few makes holds e1 e2 e3 known = by_step (is_zero d) refl
+        subst (λ p. Goal to slots (stands table row_count moves code p slots rows s.printed) (sequence a z d) (Ok s)) e (on refl tt)
+    entry-goes (Outermost nest body) loop block pc to slots rows a z d formed li has few holds e1 e2 e3 known on = by_step (is_zero d) refl
         (λ i. one table row_count moves code pc slots rows s.printed (TestStride line (v + 2)) has.0 i
         ∙ ap (λ d. record (m i) { control = go_on_if {A = ℕ} (at_line line (if is_zero d then fails ZeroStride else Ok 0)) (record { at = pc; slots = slots; status = Running }) }) e3)
       where
-        lp : ℕ
-        lp = pc + 2
-
-        to : ℕ
-        to = after table row_count moves code n many copy line lp v x bcode brun btrail
-
         mine : Nest
         mine = bounded v nest
 
@@ -161,9 +160,6 @@ module _ (table : ArrayTable) (row_count : ℕ) (moves : ℕ → List NewMapping
         m1 : Place row_count
         m1 = stands table row_count moves code (pc + 1) slots rows s.printed
 
-        loop_has : HasAt code lp (loop_code line lp v x bcode)
-        loop_has = has-back code pc (entry_code line (Outermost nest body) v) (loop_code line lp v x bcode) has
-
         first : Sequence
         first = record { first = a; step = d; count = value_count (wrapped a) (wrapped z) (wrapped d) }
 
@@ -175,19 +171,18 @@ module _ (table : ArrayTable) (row_count : ℕ) (moves : ℕ → List NewMapping
         quiet : (i : Idle row_count) → IsTrail moves (passed table 1 (m1 i)) []
         quiet i = still table row_count moves code (pc + 1) slots rows s.printed (Check line (Outermost mine body)) has.1.0 refl i
 
-        -- the loop, where the nest is entered
-        goes_in : is_zero d ≡ false → check_nest mine body es ≡ Ok es → Goal to slots m1 (sequence a z d) (Ok s)
-        goes_in nonzero e =
-            let next : pc + 1 + 1 ≡ lp = omega arith in
-            goes-on table row_count moves code n many copy leave again [] (after_value (sequence a z d) (λ p. iterate_trail p.count x p.first p.step brun btrail s)) to v v slots slots m1
-            (stands table row_count moves code lp slots rows s.printed) (with_value line s (sequence a z d) (λ p. iterate p.count x p.first p.step brun s)) (omega arith)
-            (subst (λ p. Reaches table row_count moves code [] m1 (stands table row_count moves code p slots rows s.printed)) next (λ i. (1, i, tested (Ok es) e i, quiet i)))
-            (kept-refl table row_count moves code n many copy v slots)
-            (enters table row_count moves code n many copy leave again line lp v x bcode brun btrail slots rows s a z d loop_has lx lv few makes holds e1 e2 e3)
+        -- what follows, where the nest is entered
+        goes_in : is_zero d ≡ false → check_nest nest body s ≡ Ok s → check_nest mine body es ≡ Ok es → Goal to slots m1 (sequence a z d) (Ok s)
+        goes_in nonzero e e' =
+            let next : pc + 1 + 1 ≡ pc + 2 = omega arith in
+            goes-on table row_count moves code n many copy leave again [] (after_value (sequence a z d) (λ p. trail_on p s)) to v v slots slots m1
+            (stands table row_count moves code (pc + 2) slots rows s.printed) (with_value line s (sequence a z d) (λ p. go p s)) (omega arith)
+            (subst (λ p. Reaches table row_count moves code [] m1 (stands table row_count moves code p slots rows s.printed)) next (λ i. (1, i, tested (Ok es) e' i, quiet i)))
+            (kept-refl table row_count moves code n many copy v slots) (on e nonzero)
 
         by_entry : (nonzero : is_zero d ≡ false) → (check_nest nest body s ≡ Ok s) ⊎ ((c : Cause) × (check_nest nest body s ≡ Err c)) → (check_nest mine body es ≡ Ok es) ⊎ ((c : Cause) × (check_nest mine body es ≡ Err c))
             → fault_of (check_nest mine body es) ≡ fault_of (check_nest nest body s) → Goal to slots m1 (sequence a z d) (check_nest nest body s)
-        by_entry nonzero (inl e) (inl e') same = subst (λ q. Goal to slots m1 (sequence a z d) q) (sym e) (goes_in nonzero e')
+        by_entry nonzero (inl e) (inl e') same = subst (λ q. Goal to slots m1 (sequence a z d) q) (sym e) (goes_in nonzero e e')
         by_entry nonzero (inl e) (inr f) same = absurd (none-some f.0 (sym (ap fault_of e) ∙ sym same ∙ ap fault_of f.1))
         by_entry nonzero (inr f) (inl e') same = absurd (none-some f.0 (sym (ap fault_of e') ∙ same ∙ ap fault_of f.1))
         by_entry nonzero (inr f) (inr g) same =
@@ -203,8 +198,8 @@ module _ (table : ArrayTable) (row_count : ℕ) (moves : ℕ → List NewMapping
             subst (λ q. Goal to slots m q (check_nest nest body s)) (sym (ap (λ t. if t then fails ZeroStride else Ok first) none))
             (λ i. (_, (1, g i, still table row_count moves code pc slots rows s.printed (TestStride line (v + 2)) has.0 refl i), refl, refl))
         by_step false nonzero g =
-            goes-on table row_count moves code n many copy leave again [] (after_value (sequence a z d) (λ p. after_value (check_nest nest body s) (iterate_trail p.count x p.first p.step brun btrail))) to v v slots slots m m1
-            (with_value line s (sequence a z d) (λ p. then_do (one_step line s (check_nest nest body s)) (iterate p.count x p.first p.step brun))) (omega arith)
+            goes-on table row_count moves code n many copy leave again [] (after_value (sequence a z d) (λ p. after_value (check_nest nest body s) (trail_on p))) to v v slots slots m m1
+            (with_value line s (sequence a z d) (λ p. then_do (one_step line s (check_nest nest body s)) (go p))) (omega arith)
             (λ i. (1, i, g i, still table row_count moves code pc slots rows s.printed (TestStride line (v + 2)) has.0 refl i))
             (kept-refl table row_count moves code n many copy v slots)
-            (by_entry nonzero (entered_or_not nest body s) (entered_or_not mine body es) (same_fault nest loop block body v s slots rows a z d formed li holds (omega (arith, lv, few)) e1 e2 e3 known))
+            (by_entry nonzero (entered_or_not nest body s) (entered_or_not mine body es) (same_fault nest loop block body v s slots rows a z d formed li holds few e1 e2 e3 known))

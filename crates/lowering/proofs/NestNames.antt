@@ -6,8 +6,8 @@ use Rattle.array_meaning.specs.Terms.{Term, Number, Scalar, Index, Element, Sect
 use Rattle.array_meaning.specs.Statements.{Loop, Nest, Block, Done, Then, Statement, AssignScalar, AssignElement, AssignSection, If, Do, Where, Forall, Print, Stop, Exit, Cycle, Continue, Redistribute, Mark, Unmarked, Arms, NoArm, Arm}
 use Rattle.nest_items.specs.NestKinds.{kind_of}
 use Rattle.nest_items.specs.Settled.{without}
-use Rattle.nest_items.specs.Standing.{IsFixed, IsFixedTerm, AreFixedTerms, Stands, AllStand}
-use Rattle.nest_items.specs.NestForm.{IsKeptLoop, BlockKeeps, StatementKeeps, ArmsKeep, LoopsKeep, IsNest}
+use Rattle.nest_items.specs.Standing.{IsFixedTerm, AreFixedTerms, Stands, AllStand}
+use Rattle.nest_items.specs.NestForm.{IsKeptLoop, BlockKeeps, StatementKeeps, ArmsKeep, LoopsKeep}
 use Rattle.nest_items.specs.BlockForms.{HasForm, BlockHasForms, HasForms, ArmsHaveForms}
 use Rattle.nest_items.proofs.EntryAlike.{IsOfScalars, AreOfScalars, IsNestTerm, AreNestTerms, IsNestLoop, IsNestBlock, IsNestStatement, AreNestArms}
 use Rattle.lowered_expressions.specs.WellFormed.{IsScalar, AreScalar, IsControl, IsWellFormed, IsWellFormedBlock, AreWellFormedArms}

@@ -18,11 +18,13 @@ use Rattle.node_code.specs.Instructions.{Instruction, NewMapping, Jump, Halt, me
 use Rattle.lowering.specs.StatementCode.{block_copies, block_slots, block_code, program_code}
 use Rattle.lowered_expressions.specs.WellFormed.{IsWellFormedBlock}
 use Rattle.nest_items.specs.BlockForms.{BlockHasForms}
+use Rattle.fitting_states.specs.FittingStates.{StateFits, BlockFits}
 use Rattle.lowering.specs.Lowered.{IsState, IsTable, opening, IsLeft, EndsAs, MachineEnds, MachinePasses}
 use Rattle.statement_trail.specs.Trail.{Trail, block_trail}
 use Rattle.lowered_expressions.specs.Passed.{passed, IsTrail}
 use Rattle.lowered_expressions.proofs.Reach.{still, entries-more, reaches-last, Idle, Place, HasAt, has-front, has-back, Reaches, reaches-on, stands, one, steps-more}
 use Rattle.lowered_expressions.proofs.Goes.{Holds, Flows, jump-reaches}
+use Rattle.lowering.proofs.Rooms.{some_copy}
 use Rattle.lowering.proofs.Statements.{block-goes}
 
 has-all : (is pre : List Instruction) → HasAt (pre ++ is) (length pre) is
@@ -39,7 +41,8 @@ has-all (i ∷ is) pre =
 abbrev unmade : ℕ → Storage
 unmade room = replicate room []
 
-module _ (table : ArrayTable) (n room : ℕ) (moves : ℕ → List NewMapping) (body : Block) (s : State) (is : IsState n s) (tabled : IsTable s table) (roomy : block_copies body ≤ room) where
+module _ (table : ArrayTable) (n room : ℕ) (moves : ℕ → List NewMapping) (body : Block) (s : State) (is : IsState n s) (tabled : IsTable s table) (roomy : block_copies n body ≤ room)
+    (fit : BlockFits body) (fits : StateFits s) where
   abbrev code : List Instruction
   code = program_code n moves body
 
@@ -75,7 +78,7 @@ module _ (table : ArrayTable) (n room : ℕ) (moves : ℕ → List NewMapping) (
     };
     places = is.scalars;
     more_places = is.arrays;
-    wide = let some : 1 ≤ room = roomy in omega (arith, some, as_many);
+    wide = let some = some_copy n body in omega (arith, some, roomy, as_many);
     more_rows = as_many;
     copied = λ m e. cc;
     size = length-append s.scalars (replicate (block_slots body) (pos 0)) ∙ omega (arith, is.scalars, length-replicate (block_slots body) (pos 0));
@@ -89,7 +92,7 @@ module _ (table : ArrayTable) (n room : ℕ) (moves : ℕ → List NewMapping) (
 
   pub program-passes : (layouts : List Layout) → length layouts ≡ row_count → IsWellFormedBlock n body → BlockHasForms body → MachinePasses n table moves (opening n room moves body s layouts) (run_block body s) (block_trail body s)
   program-passes layouts laid ok forms = by_completion r.completion
-      (block-goes table row_count moves code n many declared tabled.copies body n 2 1 1 slots rows s ok forms (has-front code 2 (block_code n moves body n 2 1 1) (Jump 1 ∷ []) all.1.1) (omega arith)
+      (block-goes table row_count moves code n many declared (record { sized = tabled.copies; steady = tabled.steady }) body n 2 1 1 slots rows s ok forms fit fits (omega (arith, roomy)) (has-front code 2 (block_code n moves body n 2 1 1) (Jump 1 ∷ []) all.1.1) (omega arith)
       (omega arith) holds)
     where
       r : Run

@@ -1,40 +1,52 @@
 -- The code of a block does what the block means.
-use Rattle.std.proofs.Common.{◌≡◌, ℕ, zero, suc, ◌+◌, ◌<◌, ◌≤◌, List, [], ◌∷◌, ◌++◌, drop, length, ℤ, None, Some, Result, Ok, Err, slice_get, append_assoc, append-nil, refl, sym, ap, ◌∙◌, subst, arith, length-append, slice_set, length-set}
+use Rattle.std.proofs.Common.{◌≡◌, ℕ, zero, suc, ◌+◌, ◌<◌, ◌≤◌, List, [], ◌∷◌, ◌++◌, drop, length, ℤ, if◌then◌else◌, None, Some, Result, Ok, Err, slice_get, append_assoc, append-nil, refl, sym, ap, ◌∙◌, subst, arith, length-append, slice_set, length-set, Bool, true, false}
+use Rattle.std.specs.Prelude.{◌==◌}
 use Rattle.std.specs.Fmt.{signed_decimal}
-use Rattle.machine_steps.specs.Layout.{Layout, size_of}
+use Rattle.machine_steps.specs.Layout.{Layout}
 use Rattle.node_code.specs.Instructions.{NewMapping, items_of, Instruction, Set, Jump, Halt, Print, PrintItem, PrintBytes, Remap, ArrayTable, remappings}
 use Rattle.machine_steps.specs.Instr.{Remapping}
 use Rattle.machine_steps.specs.Machine.{remapped, with_mapping}
 use Rattle.mappings.specs.declared.mapping.Mapping.{Mapping}
-use Rattle.machine_steps.specs.Space.{space_count}
 use Rattle.lowering.proofs.Printing.{all_bytes, prints-line}
-use Rattle.lowered_expressions.specs.WellFormed.{AreItems, IsControl, IsWellFormed, AreWellFormedArms, IsWellFormedBlock, IsScalar}
+use Rattle.lowered_expressions.specs.WellFormed.{AreItems, IsControl, IsWellFormed, AreWellFormedArms, IsWellFormedBlock}
 use Rattle.lowering.proofs.Foralls.{forall-goes}
 use Rattle.array_meaning.specs.Execution.{item_bytes, run, run_arms, run_block, iterate, all_item_bytes, print}
 use Rattle.array_meaning.specs.Expressions.{value, index_values}
-use Rattle.array_meaning.specs.Faults.{Cause, ◌>>=◌}
+use Rattle.array_meaning.specs.Faults.{Cause, ◌>>=◌, fails}
+use Rattle.op_tables.specs.Operators.{wrapped}
 use Rattle.array_meaning.specs.Runs.{Run, normal, then_do, one_step, with_value}
+use Rattle.array_meaning.specs.Iterations.{iteration_count}
 use Rattle.array_meaning.specs.NestEntry.{entered}
-use Rattle.array_meaning.specs.Sections.{sequence, sequence_of}
+use Rattle.array_meaning.specs.declared.faults.FaultKind.TheVariants.{ZeroStride}
+use Rattle.array_meaning.specs.Sections.{sequence, sequence_of, value_count}
 use Rattle.array_meaning.specs.State.{State}
-use Rattle.array_meaning.specs.Statements.{Item, Value, Elements, Loop, Mark, Block, Done, Then, Statement, AssignScalar, AssignElement, AssignSection, If, Do, Where, Forall, Stop, Exit, Cycle, Continue, Redistribute, Arms, NoArm, Arm}
+use Rattle.array_meaning.specs.Statements.{Item, Value, Elements, Loop, Nest, Mark, Unmarked, Outermost, Block, Done, Then, Statement, AssignScalar, AssignElement, AssignSection, If, Do, Where, Forall, Stop, Exit, Cycle, Continue, Redistribute, Arms, NoArm, Arm}
 use Rattle.array_meaning.specs.Terms.{Control}
 use Rattle.array_meaning.specs.declared.sections.Sequence.{Sequence}
 use Rattle.lowering.proofs.Assigns.{assigns, assigns-element, after-bind}
-use Rattle.lowering.proofs.Branches.{Makes, arm-goes}
-use Rattle.lowering.proofs.NestChecks.{IsFormedMark, formed_mark, entry-goes}
-use Rattle.nest_items.specs.BlockForms.{BlockHasForms, HasForms, ArmsHaveForms}
-use Rattle.lowered_expressions.proofs.Goes.{Holds, kept-refl, Goes, goes-on, goes-at, goes-then, goes-value, ends-bind, value-bind, lands-done, set-reaches, jump-reaches, holds-slot, goes-as, goes-value-last}
+use Rattle.lowering.proofs.Loops.{after}
+use Rattle.lowering.proofs.Branches.{Makes, arm-goes, enters}
+use Rattle.lowering.proofs.NestChecks.{IsFormedMark, GoesOn, entry-goes}
+use Rattle.lowering.proofs.NestNames.{formed_nest}
+use Rattle.nest_items.specs.BlockForms.{HasForm, BlockHasForms, HasForms, ArmsHaveForms}
+use Rattle.fitting_states.specs.FittingStates.{StateFits, ControlFits, BlockFits, StatementFits, ArmsFit}
+use Rattle.fitting_states.proofs.Values.{known_value_fits}
+use Rattle.fitting_states.proofs.Runs.{KeepsFits, run_fits, block_fits}
+use Rattle.lowered_nests.specs.NestCode.{nest_rows, nest_slots, nest_code}
+use Rattle.lowered_nests.proofs.NestRuns.{HasCopies}
+use Rattle.lowered_nests.proofs.NestGoes.{nest-goes}
+use Rattle.lowering.proofs.SilentNests.{silent}
+use Rattle.lowered_expressions.proofs.Goes.{Holds, kept-refl, Goes, goes-on, goes-at, goes-next, goes-value, ends-bind, value-bind, lands-done, set-reaches, jump-reaches, holds-slot, goes-as, goes-value-last}
 use Rattle.lowering.proofs.Items.{SpreadGives, elements-come}
 use Rattle.lowering.proofs.Parts.{term-comes}
-use Rattle.statement_trail.specs.Trail.{Trail, Redistributed, after_value, reached, value_trail, selections_trail, control_trail, all_items_trail, iterate_trail, trail, arms_trail, block_trail}
+use Rattle.statement_trail.specs.Trail.{Trail, Redistributed, after_value, reached, value_trail, selections_trail, control_trail, all_items_trail, iterate_trail, trail, arms_trail, block_trail, marked_trail, nest_trail}
 use Rattle.lowered_expressions.specs.Passed.{note_at, passed, IsTrail}
 use Rattle.lowered_expressions.proofs.Reach.{Idle, still, comes-last, HasAt, has-front, has-back, has-drop, SameBelow, same-refl, same-on, same-set, slot-set, Reaches, reaches-on, stands, one, Comes, comes-then, comes-at, comes-here}
 use Rattle.lowering.proofs.Sections.{section-goes}
 use Rattle.lowered_expressions.proofs.Terms.{HoldsArrays, HoldsScalars, holds-same, Gives}
 use Rattle.lowering.proofs.Wheres.{where-goes}
 use Rattle.lowered_expressions.specs.ExpressionCode.{subscripts_slots, subs_of, slots_of, flat_of, code_of, control_slots, control_code}
-use Rattle.lowering.specs.StatementCode.{entry_code, loop_code, statement_slots, arms_slots, block_slots, statement_code, arms_code, block_code, items_slots, item_code, items_code, print_items}
+use Rattle.lowering.specs.StatementCode.{entry_code, loop_code, statement_slots, arms_slots, block_slots, statement_copies, arms_copies, block_copies, statement_code, arms_code, block_code, items_slots, item_code, items_code, print_items}
 use Rattle.storage.specs.Storage.{Storage, read}
 use Rattle.node_code.specs.Flat.{slot, Flat}
 use Rattle.array_meaning.specs.Statements as statements
@@ -60,7 +72,7 @@ loop-trail F L S (Ok a) (Ok b) r3 I =
     ∙ ap (λ T. F ++ T) (sym (append_assoc L S (after_value (r3 >>= sequence a b) I)))
     ∙ sym (append_assoc F (L ++ S) (after_value (r3 >>= sequence a b) I))
 
-module _ (table : ArrayTable) (row_count : ℕ) (moves : ℕ → List NewMapping) (code : List Instruction) (n many : ℕ) (declared : length table.shapes ≡ n) (sized : (layouts : List Layout) (ns : List ℕ) → size_of (table.copies layouts ns) ≡ space_count ns) where
+module _ (table : ArrayTable) (row_count : ℕ) (moves : ℕ → List NewMapping) (code : List Instruction) (n many : ℕ) (declared : length table.shapes ≡ n) (lie : HasCopies table) where
   -- ---- PRINT
 
   abbrev ShowsAll : Storage → ℕ → List PrintItem → List ℤ → List ℕ → Type 0
@@ -195,226 +207,320 @@ module _ (table : ArrayTable) (row_count : ℕ) (moves : ℕ → List NewMapping
         },
       ))))
 
-  loop-goes : (line b pc leave again : ℕ) (mark : Mark) (l : Loop) (block : Block) (bcode : ℕ → ℕ → ℕ → List Instruction) (brun : State → Run) (btrail : State → Trail) (slots : List ℤ) (rows : Storage) (s : State) → IsFormedMark n mark l block → l.index < n
-      → IsControl n l.control
-      → HasAt code pc ((control_code line b l.control ++ entry_code line mark (b + control_slots l.control)) ++ loop_code line (pc + length (control_code line b l.control ++ entry_code line mark (b + control_slots l.control))) (b + control_slots l.control) l.index bcode) → n ≤ b → b + (control_slots l.control + 4) ≤ many
-      → Holds table row_count moves code n many None s slots rows
-      → ((s : State) (slots : List ℤ) (rows : Storage) (pc leave again : ℕ) → HasAt code pc (bcode pc leave again) → Holds table row_count moves code n many None s slots rows
-      → Goes table row_count moves code n many None leave again (btrail s) (pc + length (bcode pc leave again)) (b + control_slots l.control + 4) slots (stands table row_count moves code pc slots rows s.printed) (brun s))
-      → Goes table row_count moves code n many None leave again (control_trail line s l.control ++ after_value (index_values s l.control) (λ p. after_value (entered mark s) (iterate_trail p.count l.index p.first p.step brun btrail))) (pc + length ((control_code line b l.control ++ entry_code line mark (b + control_slots l.control)) ++ loop_code line (pc + length (control_code line b l.control ++ entry_code line mark (b + control_slots l.control))) (b + control_slots l.control) l.index bcode)) b
-      slots (stands table row_count moves code pc slots rows s.printed) (with_value line s (index_values s l.control) (λ p. then_do (one_step line s (entered mark s)) (iterate p.count l.index p.first p.step brun)))
-  loop-goes line b pc leave again mark l block bcode brun btrail slots rows s formed lx ok has le few holds makes =
-      goes-at table row_count moves code n many None leave again (control_trail line s c ++ after_value (index_values s c) (λ p. after_value (entered mark s) (iterate_trail p.count x p.first p.step brun btrail))) to (pc + length (head ++ loop_code line (pc + length head) v x bcode)) b slots (stands table row_count moves code pc slots rows s.printed)
-      (with_value line s (index_values s c) does) long
-      (goes-as table row_count moves code n many None leave again (value_trail line s c.first ++ after_value (value [] s c.first) u1) (control_trail line s c ++ after_value (index_values s c) (λ p. after_value (entered mark s) (iterate_trail p.count x p.first p.step brun btrail))) to b slots (stands table row_count moves code pc slots rows s.printed) (with_value line s (index_values s c) does)
-      (loop-trail (value_trail line s c.first) (value_trail line s c.last) (value_trail line s c.step) (value [] s c.first) (value [] s c.last) (value [] s c.step) (λ p. after_value (entered mark s) (iterate_trail p.count x p.first p.step brun btrail)))
-      (subst (Goes table row_count moves code n many None leave again (value_trail line s c.first ++ after_value (value [] s c.first) u1) to b slots (stands table row_count moves code pc slots rows s.printed))
-      (sym (value-bind line s (value [] s c.first) (λ a. value [] s c.last >>= (λ z. value [] s c.step >>= sequence a z)) does))
-      (goes-value table row_count moves code n many None leave again (value_trail line s c.first) u1 line pc pc1 to b b1 slots rows s (Gives b1 f1) (value [] s c.first)
-      (λ a. with_value line s (value [] s c.last >>= (λ z. value [] s c.step >>= sequence a z)) does) (omega arith) le holds
-      (term-comes table row_count moves code line n s rows s.printed holds.arrays c.first pc b slots ok.0 (has-front code pc c1 (c2 ++ (c3 ++ sets)) h) holds.scalars le
-      (omega (arith, few, holds.size)))
-      (λ slots1 a e1 same1 gives1 holds1.
-      subst (Goes table row_count moves code n many None leave again (u1 a) to b1 slots1 (stands table row_count moves code pc1 slots1 rows s.printed))
-      (sym (value-bind line s (value [] s c.last) (λ z. value [] s c.step >>= sequence a z) does))
-      (goes-value table row_count moves code n many None leave again (value_trail line s c.last) (u2 a) line pc1 pc2 to b1 b2 slots1 rows s (Gives b2 f2) (value [] s c.last)
-      (λ z. with_value line s (value [] s c.step >>= sequence a z) does) (omega arith) (omega (arith, le)) holds1
-      (term-comes table row_count moves code line n s rows s.printed holds1.arrays c.last pc1 b1 slots1 ok.1 (has-front code pc1 c2 (c3 ++ sets) h1) holds1.scalars (omega (arith, le))
-      (omega (arith, few, holds1.size)))
-      (λ slots2 z e2 same2 gives2 holds2.
-      subst (Goes table row_count moves code n many None leave again (u2 a z) to b2 slots2 (stands table row_count moves code pc2 slots2 rows s.printed)) (sym (value-bind line s (value [] s c.step) (sequence a z) does))
-      (goes-value table row_count moves code n many None leave again (value_trail line s c.step) (λ d. after_value (sequence a z d) (λ p. after_value (entered mark s) (iterate_trail p.count x p.first p.step brun btrail))) line pc2 pc3 to b2 v' slots2 rows s (Gives v' f3) (value [] s c.step) (λ d. with_value line s (sequence a z d) does)
-      (omega arith) (omega (arith, le)) holds2
-      (term-comes table row_count moves code line n s rows s.printed holds2.arrays c.step pc2 b2 slots2 ok.2 (has-front code pc2 c3 sets h2) holds2.scalars (omega (arith, le))
-      (omega (arith, few, holds2.size)))
-      (λ slots3 d e3 same3 gives3 holds3.
-      goes-on table row_count moves code n many None leave again [] (after_value (sequence a z d) (λ p. after_value (entered mark s) (iterate_trail p.count x p.first p.step brun btrail))) to v' v slots3 (filled slots3 a z d) (stands table row_count moves code pc3 slots3 rows s.printed)
-      (stands table row_count moves code ep (filled slots3 a z d) rows s.printed) (with_value line s (sequence a z d) does) (omega arith)
-      (fills slots3 a z d (λ later sl. gives1 later
-      (same-on b1 b1 v' slots1 slots3 later (omega arith) (omega arith) (same-on b1 b1 b2 slots1 slots2 slots3 (omega arith) (omega arith) same2 same3) sl))
-      (λ later sl. gives2 later (same-on b2 b2 v' slots2 slots3 later (omega arith) (omega arith) same3 sl)) gives3)
-      (λ j from lt. (filled-below slots3 a z d).1 j (omega (arith, lt)))
-      (entry-goes table row_count moves code n many None declared leave again line v x bcode brun btrail s mark l block ep (filled slots3 a z d) rows a z d formed lx hl lx (omega (arith, le)) (omega (arith, few))
-      (λ s slots rows holds. makes s slots rows (lp + 8) (lp + 3) (lp + 4)
-      (has-front code (lp + 8) (bcode (lp + 8) (lp + 3) (lp + 4)) (Jump (lp + 4) ∷ []) (has-drop code 8 lp loop in_loop)) holds)
-      (holds-slot table row_count moves code n many None s (slice_set (slice_set slots3 v a) (v + 1) z) rows (v + 2) d (omega (arith, le))
-      (holds-slot table row_count moves code n many None s (slice_set slots3 v a) rows (v + 1) z (omega (arith, le))
-      (holds-slot table row_count moves code n many None s slots3 rows v a (omega (arith, le)) holds3)))
-      (numbers slots3 a z d (omega (arith, few, holds3.size))).0 (numbers slots3 a z d (omega (arith, few, holds3.size))).1
-      (numbers slots3 a z d (omega (arith, few, holds3.size))).2 (λ j. sequence_of (e1 j) (e2 j) (e3 j)))))))))))
+  -- the bounds of a loop, its entry, and what follows these: its trail and its run, by the values of its index
+  module _ (line b pc leave again : ℕ) (mark : Mark) (l : Loop) (block : Block) (tail : ℕ → List Instruction) (trail_on : Sequence → State → Trail) (go : Sequence → State → Run)
+      (slots : List ℤ) (rows : Storage) (s : State) where
+    abbrev bounds_at : ℕ
+    bounds_at = b + control_slots l.control
+
+    abbrev before : List Instruction
+    before = control_code line b l.control ++ entry_code line mark bounds_at
+
+    -- what follows goes on where the bounds stand in slots
+    abbrev FollowsOn : Type 0
+    FollowsOn = (lp : ℕ) (slots1 : List ℤ) (a z d : ℤ) → HasAt code lp (tail lp) → value [] s l.control.first ≡ Ok a → index_values s l.control ≡ sequence a z d
+        → Holds table row_count moves code n many None s slots1 rows → slot slots1 bounds_at ≡ a → slot slots1 (bounds_at + 1) ≡ z → slot slots1 (bounds_at + 2) ≡ d
+        → GoesOn table row_count moves code n many None declared leave again line bounds_at s trail_on go mark lp (lp + length (tail lp)) slots1 rows a z d
+
+    control-goes : IsFormedMark n mark l block → l.index < n → IsControl n l.control → HasAt code pc (before ++ tail (pc + length before)) → n ≤ b → b + (control_slots l.control + 4) ≤ many
+        → Holds table row_count moves code n many None s slots rows → FollowsOn
+        → Goes table row_count moves code n many None leave again (control_trail line s l.control ++ after_value (index_values s l.control) (λ p. after_value (entered mark s) (trail_on p)))
+        (pc + length (before ++ tail (pc + length before))) b slots (stands table row_count moves code pc slots rows s.printed)
+        (with_value line s (index_values s l.control) (λ p. then_do (one_step line s (entered mark s)) (go p)))
+    control-goes formed lx ok has le few holds on =
+        goes-at table row_count moves code n many None leave again (control_trail line s c ++ after_value (index_values s c) (λ p. after_value (entered mark s) (trail_on p))) to (pc + length (head ++ tail (pc + length head))) b slots (stands table row_count moves code pc slots rows s.printed)
+        (with_value line s (index_values s c) does) long
+        (goes-as table row_count moves code n many None leave again (value_trail line s c.first ++ after_value (value [] s c.first) u1) (control_trail line s c ++ after_value (index_values s c) (λ p. after_value (entered mark s) (trail_on p))) to b slots (stands table row_count moves code pc slots rows s.printed) (with_value line s (index_values s c) does)
+        (loop-trail (value_trail line s c.first) (value_trail line s c.last) (value_trail line s c.step) (value [] s c.first) (value [] s c.last) (value [] s c.step) (λ p. after_value (entered mark s) (trail_on p)))
+        (subst (Goes table row_count moves code n many None leave again (value_trail line s c.first ++ after_value (value [] s c.first) u1) to b slots (stands table row_count moves code pc slots rows s.printed))
+        (sym (value-bind line s (value [] s c.first) (λ a. value [] s c.last >>= (λ z. value [] s c.step >>= sequence a z)) does))
+        (goes-value table row_count moves code n many None leave again (value_trail line s c.first) u1 line pc pc1 to b b1 slots rows s (Gives b1 f1) (value [] s c.first)
+        (λ a. with_value line s (value [] s c.last >>= (λ z. value [] s c.step >>= sequence a z)) does) (omega arith) le holds
+        (term-comes table row_count moves code line n s rows s.printed holds.arrays c.first pc b slots ok.0 (has-front code pc c1 (c2 ++ (c3 ++ sets)) h) holds.scalars le
+        (omega (arith, few, holds.size)))
+        (λ slots1 a e1 same1 gives1 holds1.
+        subst (Goes table row_count moves code n many None leave again (u1 a) to b1 slots1 (stands table row_count moves code pc1 slots1 rows s.printed))
+        (sym (value-bind line s (value [] s c.last) (λ z. value [] s c.step >>= sequence a z) does))
+        (goes-value table row_count moves code n many None leave again (value_trail line s c.last) (u2 a) line pc1 pc2 to b1 b2 slots1 rows s (Gives b2 f2) (value [] s c.last)
+        (λ z. with_value line s (value [] s c.step >>= sequence a z) does) (omega arith) (omega (arith, le)) holds1
+        (term-comes table row_count moves code line n s rows s.printed holds1.arrays c.last pc1 b1 slots1 ok.1 (has-front code pc1 c2 (c3 ++ sets) h1) holds1.scalars (omega (arith, le))
+        (omega (arith, few, holds1.size)))
+        (λ slots2 z e2 same2 gives2 holds2.
+        subst (Goes table row_count moves code n many None leave again (u2 a z) to b2 slots2 (stands table row_count moves code pc2 slots2 rows s.printed)) (sym (value-bind line s (value [] s c.step) (sequence a z) does))
+        (goes-value table row_count moves code n many None leave again (value_trail line s c.step) (λ d. after_value (sequence a z d) (λ p. after_value (entered mark s) (trail_on p))) line pc2 pc3 to b2 v' slots2 rows s (Gives v' f3) (value [] s c.step) (λ d. with_value line s (sequence a z d) does)
+        (omega arith) (omega (arith, le)) holds2
+        (term-comes table row_count moves code line n s rows s.printed holds2.arrays c.step pc2 b2 slots2 ok.2 (has-front code pc2 c3 sets h2) holds2.scalars (omega (arith, le))
+        (omega (arith, few, holds2.size)))
+        (λ slots3 d e3 same3 gives3 holds3.
+        let holds4 = holds-slot table row_count moves code n many None s (slice_set (slice_set slots3 v a) (v + 1) z) rows (v + 2) d (omega (arith, le))
+        (holds-slot table row_count moves code n many None s (slice_set slots3 v a) rows (v + 1) z (omega (arith, le))
+        (holds-slot table row_count moves code n many None s slots3 rows v a (omega (arith, le)) holds3)) in
+        let four = numbers slots3 a z d (omega (arith, few, holds3.size)) in
+        let known : index_values s c ≡ sequence a z d = (λ j. sequence_of (e1 j) (e2 j) (e3 j)) in
+        goes-on table row_count moves code n many None leave again [] (after_value (sequence a z d) (λ p. after_value (entered mark s) (trail_on p))) to v' v slots3 (filled slots3 a z d) (stands table row_count moves code pc3 slots3 rows s.printed)
+        (stands table row_count moves code ep (filled slots3 a z d) rows s.printed) (with_value line s (sequence a z d) does) (omega arith)
+        (fills slots3 a z d (λ later sl. gives1 later
+        (same-on b1 b1 v' slots1 slots3 later (omega arith) (omega arith) (same-on b1 b1 b2 slots1 slots2 slots3 (omega arith) (omega arith) same2 same3) sl))
+        (λ later sl. gives2 later (same-on b2 b2 v' slots2 slots3 later (omega arith) (omega arith) same3 sl)) gives3)
+        (λ j from lt. (filled-below slots3 a z d).1 j (omega (arith, lt)))
+        (entry-goes table row_count moves code n many None declared leave again line v s trail_on go mark l block ep to (filled slots3 a z d) rows a z d formed lx
+        (has-front code ep entry (tail lp) hl) (omega (arith, le, few)) holds4 four.0 four.1 four.2 known
+        (on lp (filled slots3 a z d) a z d (has-back code ep entry (tail lp) hl) e1 known holds4 four.0 four.1 four.2))))))))))
+      where
+        c : Control
+        c = l.control
+
+        u2 : ℤ → ℤ → Trail
+        u2 a z = value_trail line s c.step ++ after_value (value [] s c.step) (λ d. after_value (sequence a z d) (λ p. after_value (entered mark s) (trail_on p)))
+
+        u1 : ℤ → Trail
+        u1 a = value_trail line s c.last ++ after_value (value [] s c.last) (u2 a)
+
+        does : Sequence → Run
+        does p = then_do (one_step line s (entered mark s)) (go p)
+
+        v : ℕ
+        v = b + control_slots c
+
+        control : List Instruction
+        control = control_code line b c
+
+        entry : List Instruction
+        entry = entry_code line mark v
+
+        head : List Instruction
+        head = control ++ entry
+
+        ep : ℕ
+        ep = pc + length control
+
+        lp : ℕ
+        lp = ep + length entry
+
+        at_loop : pc + length head ≡ lp
+        at_loop = omega (arith, length-append control entry)
+
+        to : ℕ
+        to = lp + length (tail lp)
+
+        b1 : ℕ
+        b1 = b + slots_of c.first
+
+        b2 : ℕ
+        b2 = b1 + slots_of c.last
+
+        v' : ℕ
+        v' = b2 + slots_of c.step
+
+        f1 : Flat
+        f1 = flat_of b c.first
+
+        f2 : Flat
+        f2 = flat_of b1 c.last
+
+        f3 : Flat
+        f3 = flat_of b2 c.step
+
+        c1 : List Instruction
+        c1 = code_of line b c.first
+
+        c2 : List Instruction
+        c2 = code_of line b1 c.last
+
+        c3 : List Instruction
+        c3 = code_of line b2 c.step
+
+        sets : List Instruction
+        sets = Set line v f1 ∷ Set line (v + 1) f2 ∷ Set line (v + 2) f3 ∷ []
+
+        pc1 : ℕ
+        pc1 = pc + length c1
+
+        pc2 : ℕ
+        pc2 = pc1 + length c2
+
+        pc3 : ℕ
+        pc3 = pc2 + length c3
+
+        long : to ≡ pc + length (head ++ tail (pc + length head))
+        long = omega (arith, length-append control entry, length-append head (tail lp)) ∙ ap (λ k. pc + length (head ++ tail k)) (sym at_loop)
+
+        whole : HasAt code pc (control ++ (entry ++ tail lp))
+        whole = subst (HasAt code pc) (append_assoc control entry (tail lp)) (subst (λ k. HasAt code pc (head ++ tail k)) at_loop has)
+
+        h : HasAt code pc control
+        h = has-front code pc control (entry ++ tail lp) whole
+
+        hl : HasAt code ep (entry ++ tail lp)
+        hl = has-back code pc control (entry ++ tail lp) whole
+
+        h1 : HasAt code pc1 (c2 ++ (c3 ++ sets))
+        h1 = has-back code pc c1 (c2 ++ (c3 ++ sets)) h
+
+        h2 : HasAt code pc2 (c3 ++ sets)
+        h2 = has-back code pc1 c2 (c3 ++ sets) h1
+
+        h3 : HasAt code pc3 sets
+        h3 = has-back code pc2 c3 sets h2
+
+        filled : List ℤ → ℤ → ℤ → ℤ → List ℤ
+        filled slots a z d = slice_set (slice_set (slice_set slots v a) (v + 1) z) (v + 2) d
+
+        filled-below : (slots : List ℤ) (a z d : ℤ) → SameBelow v slots (filled slots a z d)
+        filled-below slots a z d = same-on v v v slots (slice_set (slice_set slots v a) (v + 1) z) (filled slots a z d) (omega arith) (omega arith)
+            (same-on v v v slots (slice_set slots v a) (slice_set (slice_set slots v a) (v + 1) z) (omega arith) (omega arith) (same-set v v slots a (omega arith))
+            (same-set v (v + 1) (slice_set slots v a) z (omega arith))) (same-set v (v + 2) (slice_set (slice_set slots v a) (v + 1) z) d (omega arith))
+
+        numbers : (slots : List ℤ) (a z d : ℤ) → v + 4 ≤ length slots → (slot (filled slots a z d) v ≡ a) × (slot (filled slots a z d) (v + 1) ≡ z)
+            × (slot (filled slots a z d) (v + 2) ≡ d)
+        numbers slots a z d lt =
+            let s1 = slice_set slots v a in
+            let s2 = slice_set s1 (v + 1) z in (
+              sym ((same-set (v + 1) (v + 2) s2 d (omega arith)).1 v (omega arith)) ∙ sym ((same-set (v + 1) (v + 1) s1 z (omega arith)).1 v (omega arith))
+                  ∙ slot-set v slots a (omega (arith, lt)),
+              sym ((same-set (v + 2) (v + 2) s2 d (omega arith)).1 (v + 1) (omega arith)) ∙ slot-set (v + 1) s1 z (omega (arith, lt, length-set slots v a)),
+              slot-set (v + 2) s2 d (omega (arith, lt, length-set slots v a, length-set s1 (v + 1) z)),
+            )
+
+        fills : (slots : List ℤ) (a z d : ℤ) → Gives v' f1 slots a → Gives v' f2 slots z → Gives v' f3 slots d → Reaches table row_count moves code [] (stands table row_count moves code pc3 slots rows s.printed)
+            (stands table row_count moves code ep (filled slots a z d) rows s.printed)
+        fills slots a z d g1 g2 g3 =
+            let s1 = slice_set slots v a in
+            let s2 = slice_set s1 (v + 1) z in
+            let r1 = set-reaches table row_count moves code n many None line pc3 v slots rows s.printed f1 a h3.0 (g1 slots (same-refl v' slots)) in
+            let r2 = set-reaches table row_count moves code n many None line (pc3 + 1) (v + 1) s1 rows s.printed f2 z h3.1.0 (g2 s1 (same-set v' v slots a (omega arith))) in
+            let r3 = set-reaches table row_count moves code n many None line (pc3 + 1 + 1) (v + 2) s2 rows s.printed f3 d h3.1.1.0
+            (g3 s2 (same-on v' v' v' slots s1 s2 (omega arith) (omega arith) (same-set v' v slots a (omega arith)) (same-set v' (v + 1) s1 z (omega arith)))) in
+            let e : pc3 + 1 + 1 + 1 ≡ ep = omega (arith, length-append c1 (c2 ++ (c3 ++ sets)), length-append c2 (c3 ++ sets), length-append c3 sets) in
+            reaches-on table row_count moves code (stands table row_count moves code pc3 slots rows s.printed) (stands table row_count moves code (pc3 + 1) s1 rows s.printed)
+            (stands table row_count moves code ep (filled slots a z d) rows s.printed) r1
+            (reaches-on table row_count moves code (stands table row_count moves code (pc3 + 1) s1 rows s.printed) (stands table row_count moves code (pc3 + 1 + 1) s2 rows s.printed)
+            (stands table row_count moves code ep (filled slots a z d) rows s.printed) r2
+            (subst (λ p. Reaches table row_count moves code [] (stands table row_count moves code (pc3 + 1 + 1) s2 rows s.printed) (stands table row_count moves code p (filled slots a z d) rows s.printed)) e r3))
+
+  after-same : {A : Type 0} (r : Result A Cause) (T U : A → Trail) → ((a : A) → T a ≡ U a) → after_value r T ≡ after_value r U
+  after-same (Ok a) T U h = h a
+  after-same (Err c) T U h = refl
+
+  -- a loop whose trail is that of its turns
+  loop-goes : (line b pc leave again : ℕ) (mark : Mark) (l : Loop) (block : Block) (bcode : ℕ → ℕ → ℕ → List Instruction) (brun : State → Run) (btrail : State → Trail) (slots : List ℤ)
+      (rows : Storage) (s : State) → IsFormedMark n mark l block → l.index < n → IsControl n l.control → ControlFits l.control → StateFits s
+      → HasAt code pc ((control_code line b l.control ++ entry_code line mark (b + control_slots l.control))
+      ++ loop_code line (pc + length (control_code line b l.control ++ entry_code line mark (b + control_slots l.control))) (b + control_slots l.control) l.index bcode)
+      → n ≤ b → b + (control_slots l.control + 4) ≤ many → Holds table row_count moves code n many None s slots rows → KeepsFits brun
+      → ((p : Sequence) → iterate_trail p.count l.index p.first p.step brun btrail s ≡ marked_trail mark (iterate_trail p.count l.index p.first p.step brun btrail) s)
+      → ((s : State) (slots : List ℤ) (rows : Storage) (pc leave again : ℕ) → StateFits s → HasAt code pc (bcode pc leave again) → Holds table row_count moves code n many None s slots rows
+      → Goes table row_count moves code n many None leave again (btrail s) (pc + length (bcode pc leave again)) (b + control_slots l.control + 4) slots
+      (stands table row_count moves code pc slots rows s.printed) (brun s))
+      → Goes table row_count moves code n many None leave again
+      (control_trail line s l.control ++ after_value (index_values s l.control) (λ p. after_value (entered mark s) (marked_trail mark (iterate_trail p.count l.index p.first p.step brun btrail))))
+      (pc + length ((control_code line b l.control ++ entry_code line mark (b + control_slots l.control))
+      ++ loop_code line (pc + length (control_code line b l.control ++ entry_code line mark (b + control_slots l.control))) (b + control_slots l.control) l.index bcode)) b slots
+      (stands table row_count moves code pc slots rows s.printed)
+      (with_value line s (index_values s l.control) (λ p. then_do (one_step line s (entered mark s)) (iterate p.count l.index p.first p.step brun)))
+  loop-goes line b pc leave again mark l block bcode brun btrail slots rows s formed lx ok fit fits has le few holds stays turns makes =
+      control-goes line b pc leave again mark l block (λ lp. loop_code line lp v x bcode) (λ p. marked_trail mark (iterate_trail p.count x p.first p.step brun btrail))
+      (λ p. iterate p.count x p.first p.step brun) slots rows s formed lx ok has le few holds
+      (λ lp slots1 a z d in_loop is known holds1 e1 e2 e3 passed tested.
+      goes-at table row_count moves code n many None leave again (after_value (sequence a z d) (λ p. marked_trail mark (iterate_trail p.count x p.first p.step brun btrail) s))
+      (after table row_count moves code n many None line lp v x bcode brun btrail) (lp + length (loop_code line lp v x bcode)) v slots1
+      (stands table row_count moves code lp slots1 rows s.printed) (with_value line s (sequence a z d) (λ p. iterate p.count x p.first p.step brun s))
+      (omega (arith, length-append (bcode (lp + 8) (lp + 3) (lp + 4)) (Jump (lp + 4) ∷ [])))
+      (goes-as table row_count moves code n many None leave again (after_value (sequence a z d) (λ p. iterate_trail p.count x p.first p.step brun btrail s))
+      (after_value (sequence a z d) (λ p. marked_trail mark (iterate_trail p.count x p.first p.step brun btrail) s)) (after table row_count moves code n many None line lp v x bcode brun btrail) v
+      slots1 (stands table row_count moves code lp slots1 rows s.printed) (with_value line s (sequence a z d) (λ p. iterate p.count x p.first p.step brun s))
+      (after-same (sequence a z d) (λ p. iterate_trail p.count x p.first p.step brun btrail s) (λ p. marked_trail mark (iterate_trail p.count x p.first p.step brun btrail) s) turns)
+      (enters table row_count moves code n many None leave again line lp v x bcode brun btrail slots1 rows s a z d in_loop lx (omega (arith, le)) (omega (arith, few))
+      (λ s slots rows fits holds. makes s slots rows (lp + 8) (lp + 3) (lp + 4) fits
+      (has-front code (lp + 8) (bcode (lp + 8) (lp + 3) (lp + 4)) (Jump (lp + 4) ∷ []) (has-drop code 8 lp (loop_code line lp v x bcode) in_loop)) holds)
+      stays fits (known_value_fits s fits [] tt l.control.first a fit.0 is) holds1 e1 e2 e3)))
     where
-      c : Control
-      c = l.control
+      v : ℕ
+      v = b + control_slots l.control
 
       x : ℕ
       x = l.index
 
-      u2 : ℤ → ℤ → Trail
-      u2 a z = value_trail line s c.step ++ after_value (value [] s c.step) (λ d. after_value (sequence a z d) (λ p. after_value (entered mark s) (iterate_trail p.count x p.first p.step brun btrail)))
+  -- a nest without statements has no part, and neither have its loops
+  no-part : (nest : Nest) (s : State) → nest_trail nest Done s ≡ []
+  no-part nest s = by (iteration_count nest s == 0)
+    where
+      none : Trail
+      none = []
 
-      u1 : ℤ → Trail
-      u1 a = value_trail line s c.last ++ after_value (value [] s c.last) (u2 a)
+      by : (t : Bool) → (if t then none else none) ≡ none
+      by true = refl
+      by false = refl
 
-      does : Sequence → Run
-      does p = then_do (one_step line s (entered mark s)) (iterate p.count x p.first p.step brun)
-
+  -- a nest with statements
+  nest-follows : (line b pc leave again : ℕ) (nest : Nest) (l : Loop) (bl body : Block) (slots : List ℤ) (rows : Storage) (s : State) → HasForm nest l bl body → (body ≡ Done → ⊥)
+      → l.index < n → IsControl n l.control → IsWellFormedBlock n bl → ControlFits l.control → StateFits s → n + nest_rows n nest body ≤ row_count
+      → HasAt code pc ((control_code line b l.control ++ entry_code line (Outermost nest body) (b + control_slots l.control))
+      ++ nest_code n line nest body (b + control_slots l.control) (pc + length (control_code line b l.control ++ entry_code line (Outermost nest body) (b + control_slots l.control))))
+      → n ≤ b → b + (control_slots l.control + nest_slots nest body) ≤ many → Holds table row_count moves code n many None s slots rows
+      → Goes table row_count moves code n many None leave again (trail (Do (Outermost nest body) l bl) line s)
+      (pc + length ((control_code line b l.control ++ entry_code line (Outermost nest body) (b + control_slots l.control))
+      ++ nest_code n line nest body (b + control_slots l.control) (pc + length (control_code line b l.control ++ entry_code line (Outermost nest body) (b + control_slots l.control))))) b slots
+      (stands table row_count moves code pc slots rows s.printed) (run (Do (Outermost nest body) l bl) line s)
+  nest-follows line b pc leave again nest l bl body slots rows s form some lx ok named fit fits room has le few holds =
+      let formed = formed_nest n nest l bl body form named in
+      let loops : length nest.loops ≡ suc (length formed.inner) = ap length formed.is in
+      control-goes line b pc leave again (Outermost nest body) l bl (λ lp. nest_code n line nest body v lp) (λ p. nest_trail nest body)
+      (λ p. iterate p.count l.index p.first p.step (run_block bl)) slots rows s formed lx ok has le (omega (arith, few, loops)) holds
+      (λ lp slots1 a z d in_nest is known holds1 e1 e2 e3 passed tested.
+      let first : Sequence = record { first = a; step = d; count = value_count (wrapped a) (wrapped z) (wrapped d) } in
+      let q : sequence a z d ≡ Ok first = ap (λ t. if t then fails ZeroStride else Ok first) tested in
+      let to : ℕ = lp + length (nest_code n line nest body v lp) in
+      subst (λ r. Goes table row_count moves code n many None leave again (after_value r (λ p. nest_trail nest body s)) to v slots1
+      (stands table row_count moves code lp slots1 rows s.printed) (with_value line s r (λ p. iterate p.count l.index p.first p.step (run_block bl) s))) (sym q)
+      (nest-goes table row_count moves code n many lie declared line lp v nest l bl body s slots1 rows form named lx some fit (omega (arith, le)) (omega (arith, few)) room fits holds1
+      in_nest first (known ∙ q) a z d e1 e2 e3 known passed leave again))
+    where
       v : ℕ
-      v = b + control_slots c
-
-      control : List Instruction
-      control = control_code line b c
-
-      entry : List Instruction
-      entry = entry_code line mark v
-
-      head : List Instruction
-      head = control ++ entry
-
-      ep : ℕ
-      ep = pc + length control
-
-      lp : ℕ
-      lp = ep + length entry
-
-      at_loop : pc + length head ≡ lp
-      at_loop = omega (arith, length-append control entry)
-
-      loop : List Instruction
-      loop = loop_code line lp v x bcode
-
-      to : ℕ
-      to = lp + 8 + length (bcode (lp + 8) (lp + 3) (lp + 4)) + 1
-
-      b1 : ℕ
-      b1 = b + slots_of c.first
-
-      b2 : ℕ
-      b2 = b1 + slots_of c.last
-
-      v' : ℕ
-      v' = b2 + slots_of c.step
-
-      f1 : Flat
-      f1 = flat_of b c.first
-
-      f2 : Flat
-      f2 = flat_of b1 c.last
-
-      f3 : Flat
-      f3 = flat_of b2 c.step
-
-      c1 : List Instruction
-      c1 = code_of line b c.first
-
-      c2 : List Instruction
-      c2 = code_of line b1 c.last
-
-      c3 : List Instruction
-      c3 = code_of line b2 c.step
-
-      sets : List Instruction
-      sets = Set line v f1 ∷ Set line (v + 1) f2 ∷ Set line (v + 2) f3 ∷ []
-
-      pc1 : ℕ
-      pc1 = pc + length c1
-
-      pc2 : ℕ
-      pc2 = pc1 + length c2
-
-      pc3 : ℕ
-      pc3 = pc2 + length c3
-
-      long : to ≡ pc + length (head ++ loop_code line (pc + length head) v x bcode)
-      long = omega (arith, length-append control entry, length-append head loop, length-append (bcode (lp + 8) (lp + 3) (lp + 4)) (Jump (lp + 4) ∷ []))
-          ∙ ap (λ k. pc + length (head ++ loop_code line k v x bcode)) (sym at_loop)
-
-      whole : HasAt code pc (control ++ (entry ++ loop))
-      whole = subst (HasAt code pc) (append_assoc control entry loop) (subst (λ k. HasAt code pc (head ++ loop_code line k v x bcode)) at_loop has)
-
-      h : HasAt code pc control
-      h = has-front code pc control (entry ++ loop) whole
-
-      hl : HasAt code ep (entry ++ loop)
-      hl = has-back code pc control (entry ++ loop) whole
-
-      in_loop : HasAt code lp loop
-      in_loop = has-back code ep entry loop hl
-
-      h1 : HasAt code pc1 (c2 ++ (c3 ++ sets))
-      h1 = has-back code pc c1 (c2 ++ (c3 ++ sets)) h
-
-      h2 : HasAt code pc2 (c3 ++ sets)
-      h2 = has-back code pc1 c2 (c3 ++ sets) h1
-
-      h3 : HasAt code pc3 sets
-      h3 = has-back code pc2 c3 sets h2
-
-      filled : List ℤ → ℤ → ℤ → ℤ → List ℤ
-      filled slots a z d = slice_set (slice_set (slice_set slots v a) (v + 1) z) (v + 2) d
-
-      filled-below : (slots : List ℤ) (a z d : ℤ) → SameBelow v slots (filled slots a z d)
-      filled-below slots a z d = same-on v v v slots (slice_set (slice_set slots v a) (v + 1) z) (filled slots a z d) (omega arith) (omega arith)
-          (same-on v v v slots (slice_set slots v a) (slice_set (slice_set slots v a) (v + 1) z) (omega arith) (omega arith) (same-set v v slots a (omega arith))
-          (same-set v (v + 1) (slice_set slots v a) z (omega arith))) (same-set v (v + 2) (slice_set (slice_set slots v a) (v + 1) z) d (omega arith))
-
-      numbers : (slots : List ℤ) (a z d : ℤ) → v + 4 ≤ length slots → (slot (filled slots a z d) v ≡ a) × (slot (filled slots a z d) (v + 1) ≡ z)
-          × (slot (filled slots a z d) (v + 2) ≡ d)
-      numbers slots a z d lt =
-          let s1 = slice_set slots v a in
-          let s2 = slice_set s1 (v + 1) z in (
-            sym ((same-set (v + 1) (v + 2) s2 d (omega arith)).1 v (omega arith)) ∙ sym ((same-set (v + 1) (v + 1) s1 z (omega arith)).1 v (omega arith))
-                ∙ slot-set v slots a (omega (arith, lt)),
-            sym ((same-set (v + 2) (v + 2) s2 d (omega arith)).1 (v + 1) (omega arith)) ∙ slot-set (v + 1) s1 z (omega (arith, lt, length-set slots v a)),
-            slot-set (v + 2) s2 d (omega (arith, lt, length-set slots v a, length-set s1 (v + 1) z)),
-          )
-
-      fills : (slots : List ℤ) (a z d : ℤ) → Gives v' f1 slots a → Gives v' f2 slots z → Gives v' f3 slots d → Reaches table row_count moves code [] (stands table row_count moves code pc3 slots rows s.printed)
-          (stands table row_count moves code ep (filled slots a z d) rows s.printed)
-      fills slots a z d g1 g2 g3 =
-          let s1 = slice_set slots v a in
-          let s2 = slice_set s1 (v + 1) z in
-          let r1 = set-reaches table row_count moves code n many None line pc3 v slots rows s.printed f1 a h3.0 (g1 slots (same-refl v' slots)) in
-          let r2 = set-reaches table row_count moves code n many None line (pc3 + 1) (v + 1) s1 rows s.printed f2 z h3.1.0 (g2 s1 (same-set v' v slots a (omega arith))) in
-          let r3 = set-reaches table row_count moves code n many None line (pc3 + 1 + 1) (v + 2) s2 rows s.printed f3 d h3.1.1.0
-          (g3 s2 (same-on v' v' v' slots s1 s2 (omega arith) (omega arith) (same-set v' v slots a (omega arith)) (same-set v' (v + 1) s1 z (omega arith)))) in
-          let e : pc3 + 1 + 1 + 1 ≡ ep = omega (arith, length-append c1 (c2 ++ (c3 ++ sets)), length-append c2 (c3 ++ sets), length-append c3 sets) in
-          reaches-on table row_count moves code (stands table row_count moves code pc3 slots rows s.printed) (stands table row_count moves code (pc3 + 1) s1 rows s.printed)
-          (stands table row_count moves code ep (filled slots a z d) rows s.printed) r1
-          (reaches-on table row_count moves code (stands table row_count moves code (pc3 + 1) s1 rows s.printed) (stands table row_count moves code (pc3 + 1 + 1) s2 rows s.printed)
-          (stands table row_count moves code ep (filled slots a z d) rows s.printed) r2
-          (subst (λ p. Reaches table row_count moves code [] (stands table row_count moves code (pc3 + 1 + 1) s2 rows s.printed) (stands table row_count moves code p (filled slots a z d) rows s.printed)) e r3))
+      v = b + control_slots l.control
 
   mutual
-    pub statement-goes : (st : Statement) (line b pc leave again : ℕ) (slots : List ℤ) (rows : Storage) (s : State) → IsWellFormed n st → HasForms st
-        → HasAt code pc (statement_code n moves line st b pc leave again) → n ≤ b → b + statement_slots st ≤ many → Holds table row_count moves code n many None s slots rows
-        → Goes table row_count moves code n many None leave again (trail st line s) (pc + length (statement_code n moves line st b pc leave again)) b slots (stands table row_count moves code pc slots rows s.printed) (run st line s)
-    statement-goes (AssignScalar k t) line b pc leave again slots rows s ok forms has le few holds = assigns table row_count moves code n many None leave again line b pc k t slots rows s ok.0 ok.1
-        has le few holds
-    statement-goes (AssignElement a ts t) line b pc leave again slots rows s ok forms has le few holds = assigns-element table row_count moves code n many None leave again line b pc a ts t slots rows
-        s ok.0 ok.1 ok.2 has le few holds
-    statement-goes (AssignSection a rs t) line b pc leave again slots rows s ok forms has le few holds = section-goes table row_count moves code n many None leave again line b pc a rs t slots rows s
-        ok.0 ok.1 ok.2 has le few holds
-    statement-goes (If arms other) line b pc leave again slots rows s ok forms has le few holds =
-        arms-go arms (λ pc. block_code n moves other b pc leave again) (run_block other) (block_trail other) b pc leave again slots rows s ok.0 forms.0 has le (omega (arith, few)) holds
-        (λ pc slots rows s has holds. block-goes other b pc leave again slots rows s ok.1 forms.1 has le (omega (arith, few)) holds)
-    statement-goes (Do mark loop bl) line b pc leave again slots rows s ok forms has le few holds =
-        let formed = formed_mark n mark loop bl forms ok.2 in
-        loop-goes line b pc leave again mark loop bl (block_code n moves bl (b + control_slots loop.control + 4)) (run_block bl) (block_trail bl) slots rows s formed.0 ok.0 ok.1 has le
+    pub statement-goes : (st : Statement) (line b pc leave again : ℕ) (slots : List ℤ) (rows : Storage) (s : State) → IsWellFormed n st → HasForms st → StatementFits st → StateFits s
+        → n + statement_copies n st ≤ row_count → HasAt code pc (statement_code n moves line st b pc leave again) → n ≤ b → b + statement_slots st ≤ many
+        → Holds table row_count moves code n many None s slots rows
+        → Goes table row_count moves code n many None leave again (trail st line s) (pc + length (statement_code n moves line st b pc leave again)) b slots
+        (stands table row_count moves code pc slots rows s.printed) (run st line s)
+    statement-goes (AssignScalar k t) line b pc leave again slots rows s ok forms fit fits room has le few holds =
+        assigns table row_count moves code n many None leave again line b pc k t slots rows s ok.0 ok.1 has le few holds
+    statement-goes (AssignElement a ts t) line b pc leave again slots rows s ok forms fit fits room has le few holds =
+        assigns-element table row_count moves code n many None leave again line b pc a ts t slots rows s ok.0 ok.1 ok.2 has le few holds
+    statement-goes (AssignSection a rs t) line b pc leave again slots rows s ok forms fit fits room has le few holds =
+        section-goes table row_count moves code n many None leave again line b pc a rs t slots rows s ok.0 ok.1 ok.2 has le few holds
+    statement-goes (If arms other) line b pc leave again slots rows s ok forms fit fits room has le few holds =
+        arms-go arms (λ pc. block_code n moves other b pc leave again) (run_block other) (block_trail other) b pc leave again slots rows s ok.0 forms.0 fit.0 fits (omega (arith, room)) has le
         (omega (arith, few)) holds
-        (λ s slots rows pc leave again has holds. block-goes bl (b + control_slots loop.control + 4) pc leave again slots rows s ok.2 formed.1 has (omega (arith, le))
+        (λ pc slots rows has holds. block-goes other b pc leave again slots rows s ok.1 forms.1 fit.1 fits (omega (arith, room)) has le (omega (arith, few)) holds)
+    statement-goes (Do Unmarked loop bl) line b pc leave again slots rows s ok forms fit fits room has le few holds =
+        loop-goes line b pc leave again Unmarked loop bl (block_code n moves bl (b + control_slots loop.control + 4)) (run_block bl) (block_trail bl) slots rows s tt ok.0 ok.1 fit.1 fits has le
+        (omega (arith, few)) holds (block_fits bl fit.2) (λ p. refl)
+        (λ s slots rows pc leave again fits has holds. block-goes bl (b + control_slots loop.control + 4) pc leave again slots rows s ok.2 forms fit.2 fits room has (omega (arith, le))
         (omega (arith, few)) holds)
-    statement-goes (Where mask bl others) line b pc leave again slots rows s ok forms has le few holds = where-goes table row_count moves code n many leave again sized line b pc mask bl others slots
-        rows s ok.0 ok.1 ok.2 has le few holds
-    statement-goes (Forall cs mask bl) line b pc leave again slots rows s ok forms has le few holds = forall-goes table row_count moves code n many leave again sized line b pc cs mask bl slots rows s
-        ok.0 ok.1 ok.2 has le few holds
-    statement-goes (statements.Print items) line b pc leave again slots rows s ok forms has le few holds = prints line b pc leave again items slots rows s ok has le few holds
-    statement-goes Stop line b pc leave again slots rows s ok forms has le few holds = λ i. (_, (1, one table row_count moves code pc slots rows s.printed Halt has.0 i, still table row_count moves code pc slots rows s.printed Halt has.0 refl i), refl, refl, holds)
-    statement-goes Exit line b pc leave again slots rows s ok forms has le few holds =
+    statement-goes (Do (Outermost nest Done) loop bl) line b pc leave again slots rows s ok forms fit fits room has le few holds =
+        let formed = formed_nest n nest loop bl Done forms ok.2 in
+        loop-goes line b pc leave again (Outermost nest Done) loop bl (block_code n moves bl (b + control_slots loop.control + 4)) (run_block bl) (block_trail bl) slots rows s formed ok.0 ok.1
+        fit.1 fits has le (omega (arith, few)) holds (block_fits bl fit.2) (λ p. silent nest loop bl Done forms p s ∙ sym (no-part nest s))
+        (λ s slots rows pc leave again fits has holds. block-goes bl (b + control_slots loop.control + 4) pc leave again slots rows s ok.2 formed.forms fit.2 fits room has (omega (arith, le))
+        (omega (arith, few)) holds)
+    statement-goes (Do (Outermost nest (Then l st rest)) loop bl) line b pc leave again slots rows s ok forms fit fits room has le few holds =
+        nest-follows line b pc leave again nest loop bl (Then l st rest) slots rows s forms (λ e. absurd cc) ok.0 ok.1 ok.2 fit.1 fits room has le few holds
+    statement-goes (Where mask bl others) line b pc leave again slots rows s ok forms fit fits room has le few holds =
+        where-goes table row_count moves code n many leave again lie.sized line b pc mask bl others slots rows s ok.0 ok.1 ok.2 has le few holds
+    statement-goes (Forall cs mask bl) line b pc leave again slots rows s ok forms fit fits room has le few holds =
+        forall-goes table row_count moves code n many leave again lie.sized line b pc cs mask bl slots rows s ok.0 ok.1 ok.2 has le few holds
+    statement-goes (statements.Print items) line b pc leave again slots rows s ok forms fit fits room has le few holds = prints line b pc leave again items slots rows s ok has le few holds
+    statement-goes Stop line b pc leave again slots rows s ok forms fit fits room has le few holds =
+        λ i. (_, (1, one table row_count moves code pc slots rows s.printed Halt has.0 i, still table row_count moves code pc slots rows s.printed Halt has.0 refl i), refl, refl, holds)
+    statement-goes Exit line b pc leave again slots rows s ok forms fit fits room has le few holds =
         (slots, rows, jump-reaches table row_count moves code n many None pc leave slots rows s.printed has.0, kept-refl table row_count moves code n many None b slots, holds)
-    statement-goes Cycle line b pc leave again slots rows s ok forms has le few holds =
+    statement-goes Cycle line b pc leave again slots rows s ok forms fit fits room has le few holds =
         (slots, rows, jump-reaches table row_count moves code n many None pc again slots rows s.printed has.0, kept-refl table row_count moves code n many None b slots, holds)
-    statement-goes Continue line b pc leave again slots rows s ok forms has le few holds = stays b pc leave again slots rows s holds
-    statement-goes Redistribute line b pc leave again slots rows s ok forms has le few holds = (
+    statement-goes Continue line b pc leave again slots rows s ok forms fit fits room has le few holds = stays b pc leave again slots rows s holds
+    statement-goes Redistribute line b pc leave again slots rows s ok forms fit fits room has le few holds = (
       slots,
       rows,
       (λ i. (
@@ -432,28 +538,32 @@ module _ (table : ArrayTable) (row_count : ℕ) (moves : ℕ → List NewMapping
     )
 
     pub arms-go : (arms : Arms) (rest : ℕ → List Instruction) (others : State → Run) (otrail : State → Trail) (b pc leave again : ℕ) (slots : List ℤ) (rows : Storage) (s : State)
-        → AreWellFormedArms n arms → ArmsHaveForms arms → HasAt code pc (arms_code n moves arms rest b pc leave again) → n ≤ b → b + arms_slots arms ≤ many → Holds table row_count moves code n many None s slots rows
-        → ((pc : ℕ) → Makes table row_count moves code n many None leave again rest b pc others otrail)
-        → Goes table row_count moves code n many None leave again (arms_trail arms otrail s) (pc + length (arms_code n moves arms rest b pc leave again)) b slots (stands table row_count moves code pc slots rows s.printed)
-        (run_arms arms others s)
-    arms-go NoArm rest others otrail b pc leave again slots rows s ok forms has le few holds makes = makes pc slots rows s has holds
-    arms-go (Arm line cond bl arms) rest others otrail b pc leave again slots rows s ok forms has le few holds makes =
+        → AreWellFormedArms n arms → ArmsHaveForms arms → ArmsFit arms → StateFits s → n + arms_copies n arms ≤ row_count → HasAt code pc (arms_code n moves arms rest b pc leave again) → n ≤ b
+        → b + arms_slots arms ≤ many → Holds table row_count moves code n many None s slots rows → ((pc : ℕ) → Makes table row_count moves code n many None leave again rest b pc others otrail s)
+        → Goes table row_count moves code n many None leave again (arms_trail arms otrail s) (pc + length (arms_code n moves arms rest b pc leave again)) b slots
+        (stands table row_count moves code pc slots rows s.printed) (run_arms arms others s)
+    arms-go NoArm rest others otrail b pc leave again slots rows s ok forms fit fits room has le few holds makes = makes pc slots rows has holds
+    arms-go (Arm line cond bl arms) rest others otrail b pc leave again slots rows s ok forms fit fits room has le few holds makes =
         arm-goes table row_count moves code n many None leave again line b pc cond (λ pc. block_code n moves bl b pc leave again) (λ pc. arms_code n moves arms rest b pc leave again) (run_block bl)
         (run_arms arms others) (block_trail bl) (arms_trail arms otrail) slots rows s ok.0 has le (omega (arith, few)) holds
-        (λ pc slots rows s has holds. block-goes bl b pc leave again slots rows s ok.1 forms.0 has le (omega (arith, few)) holds)
-        (λ pc slots rows s has holds. arms-go arms rest others otrail b pc leave again slots rows s ok.2 forms.1 has le (omega (arith, few)) holds makes)
+        (λ pc slots rows has holds. block-goes bl b pc leave again slots rows s ok.1 forms.0 fit.1 fits (omega (arith, room)) has le (omega (arith, few)) holds)
+        (λ pc slots rows has holds. arms-go arms rest others otrail b pc leave again slots rows s ok.2 forms.1 fit.2 fits (omega (arith, room)) has le (omega (arith, few)) holds makes)
 
-    pub block-goes : (bl : Block) (b pc leave again : ℕ) (slots : List ℤ) (rows : Storage) (s : State) → IsWellFormedBlock n bl → BlockHasForms bl
-        → HasAt code pc (block_code n moves bl b pc leave again) → n ≤ b → b + block_slots bl ≤ many → Holds table row_count moves code n many None s slots rows
-        → Goes table row_count moves code n many None leave again (block_trail bl s) (pc + length (block_code n moves bl b pc leave again)) b slots (stands table row_count moves code pc slots rows s.printed) (run_block bl s)
-    block-goes Done b pc leave again slots rows s ok forms has le few holds = stays b pc leave again slots rows s holds
-    block-goes (Then line st rest) b pc leave again slots rows s ok forms has le few holds =
+    pub block-goes : (bl : Block) (b pc leave again : ℕ) (slots : List ℤ) (rows : Storage) (s : State) → IsWellFormedBlock n bl → BlockHasForms bl → BlockFits bl → StateFits s
+        → n + block_copies n bl ≤ row_count → HasAt code pc (block_code n moves bl b pc leave again) → n ≤ b → b + block_slots bl ≤ many
+        → Holds table row_count moves code n many None s slots rows
+        → Goes table row_count moves code n many None leave again (block_trail bl s) (pc + length (block_code n moves bl b pc leave again)) b slots
+        (stands table row_count moves code pc slots rows s.printed) (run_block bl s)
+    block-goes Done b pc leave again slots rows s ok forms fit fits room has le few holds = stays b pc leave again slots rows s holds
+    block-goes (Then line st rest) b pc leave again slots rows s ok forms fit fits room has le few holds =
         let c = statement_code n moves line st b pc leave again in
         let pc1 : ℕ = pc + length c in
         let cs = block_code n moves rest b pc1 leave again in
         let long : pc1 + length cs ≡ pc + length (c ++ cs) = omega (arith, length-append c cs) in
-        goes-at table row_count moves code n many None leave again (block_trail (Then line st rest) s) (pc1 + length cs) (pc + length (c ++ cs)) b slots (stands table row_count moves code pc slots rows s.printed)
-        (run_block (Then line st rest) s) long
-        (goes-then table row_count moves code n many None leave again (trail st line s) (block_trail rest) pc1 (pc1 + length cs) b slots (stands table row_count moves code pc slots rows s.printed) (run st line s) (run_block rest)
-        (statement-goes st line b pc leave again slots rows s ok.0 forms.0 (has-front code pc c cs has) le (omega (arith, few)) holds)
-        (λ slots1 rows1 s1 holds1. block-goes rest b pc1 leave again slots1 rows1 s1 ok.1 forms.1 (has-back code pc c cs has) le (omega (arith, few)) holds1))
+        goes-at table row_count moves code n many None leave again (block_trail (Then line st rest) s) (pc1 + length cs) (pc + length (c ++ cs)) b slots
+        (stands table row_count moves code pc slots rows s.printed) (run_block (Then line st rest) s) long
+        (goes-next table row_count moves code n many None leave again (trail st line s) (block_trail rest) pc1 (pc1 + length cs) b slots (stands table row_count moves code pc slots rows s.printed)
+        (run st line s) (run_block rest)
+        (statement-goes st line b pc leave again slots rows s ok.0 forms.0 fit.0 fits (omega (arith, room)) (has-front code pc c cs has) le (omega (arith, few)) holds)
+        (λ slots1 rows1 kept holds1. block-goes rest b pc1 leave again slots1 rows1 (run st line s).state ok.1 forms.1 fit.1 (run_fits st line fit.0 s fits) (omega (arith, room))
+        (has-back code pc c cs has) le (omega (arith, few)) holds1))

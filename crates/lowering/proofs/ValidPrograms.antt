@@ -10,7 +10,7 @@ use Rattle.op_tables.specs.declared.op.Op.TheVariants as op
 use Rattle.op_tables.specs.Operators.{can_divide}
 use Rattle.array_meaning.specs.Terms.{Term, Number, Scalar, Index, Element, Section, Apply, Reduce, Terms, NoTerm, More, list_of, SectionSubscripts, NoSubscript, Subscript, Triplet, Control}
 use Rattle.array_meaning.specs.Statements as statements
-use Rattle.array_meaning.specs.Statements.{Mark, Unmarked, Outermost, Item, Text, Value, Elements, SectionAssignment, ElementAssignment, Block, Done, Then, Statement, AssignScalar, AssignElement, AssignSection, If, Do, Where, Forall, Stop, Exit, Cycle, Continue, Redistribute, Arms, NoArm, Arm}
+use Rattle.array_meaning.specs.Statements.{Loop, Mark, Unmarked, Outermost, Item, Text, Value, Elements, SectionAssignment, ElementAssignment, Block, Done, Then, Statement, AssignScalar, AssignElement, AssignSection, If, Do, Where, Forall, Stop, Exit, Cycle, Continue, Redistribute, Arms, NoArm, Arm}
 use Rattle.array_meaning.specs.Forall.{subscripts_in, subscripts_in_all, mask_subscripts, body_subscripts}
 use Rattle.node_code.specs.Flat.{Flat, Int, Slot, Axis, Read, Operated, Flats, NoFlat, AndFlat}
 use Rattle.node_code.specs.Forms.{Sub, ArrayForm, FlatForm, SectionForm, OperationForm, Forms, NoForm, AndForm}
@@ -18,15 +18,17 @@ use Rattle.node_code.specs.Parallel.{When, Evaluation, shape_of}
 use Rattle.node_code.specs.Instructions.{NewMapping, Instruction, Jump, JumpIfZero, Halt, MakeCopy, Remap, Set, Trips}
 use Rattle.node_code.specs.ValidCode.{CodeTable, flat_count, IsCopy, IsFlat, AreFlats, IsValue, IsReference, IsElement, IsSub, IsSection, IsSpace, IsForm, AreForms, IsMask, IsAssignment, IsEvaluation, IsItem, IsValid, IsValidNodeCode, is_closed}
 use Rattle.lowered_expressions.specs.ExpressionCode.{one_if, slots_of, all_slots_of, parts_slots, all_parts_slots, subscripts_slots, control_slots, operated_flat, flat_of, flats_of, subs_of, form_of, forms_of, set_if, three_code, first_subs, first_subs_of, or_no_sub, own_evaluation, reduce_code, code_of, codes_of, subscripts_code, parts_code, all_parts_code, control_code, index_flat, index_flats, index_subs, index_form, index_forms}
-use Rattle.lowering.specs.StatementCode.{entry_code, item_slots, items_slots, item_code, items_code, print_item, print_items, loop_code, arm_code, assignment, assignment_code, masked_slots, masked_code, where_true, where_code, triplets, one_to_one_code, forall_mask_code, forall_assignments_code, forall_code, statement_slots, arms_slots, block_slots, block_copies, statement_code, arms_code, block_code, program_code}
+use Rattle.lowering.specs.StatementCode.{entry_code, item_slots, items_slots, item_code, items_code, print_item, print_items, loop_code, arm_code, assignment, assignment_code, masked_slots, masked_code, where_true, where_code, triplets, one_to_one_code, forall_mask_code, forall_assignments_code, forall_code, statement_slots, arms_slots, block_slots, block_copies, statement_code, arms_code, block_code, program_code, statement_copies, arms_copies}
 use Rattle.lowered_expressions.specs.WellFormed.{IsScalar, AreScalar, AreScalarSubscripts, IsArray, AreArrays, IsControl, AreControls, AreMasked, IsSubscript, AreSubscripts, IsIndexed, AreIndexed, IsIndexedMask, AreIndexedAssignments, AreItems, IsWellFormed, AreWellFormedArms, IsWellFormedBlock}
+use Rattle.lowered_nests.specs.NestCode.{nest_slots, nest_code}
+use Rattle.nest_items.specs.BlockForms.{BlockHasForms, HasForms, ArmsHaveForms}
+use Rattle.lowering.proofs.NestNames.{formed_nest}
+use Rattle.lowering.proofs.NestValidity.{both}
+use Rattle.lowering.proofs.ValidNests.{nest-names}
+use Rattle.lowering.proofs.Rooms.{some_copy}
 use Rattle.lowering.specs.Ranks.{subscript_count, AreFewDims, IsRanked, AreRanked, AreRankedSubscripts, IsRankedControl, IsRankedMasked, IsRankedIndexed, IsRankedMask, IsRankedItem, KeepsRanks, ArmsKeepRanks, BlockKeepsRanks}
 
 -- ---- lists, and how many there are
-
-both : {A : Type 0} (P : A → Type 0) (xs ys : List A) → AllByRecursion P xs → AllByRecursion P ys → AllByRecursion P (xs ++ ys)
-both P [] ys h g = g
-both P (x ∷ xs) ys h g = (h.0, both P xs ys h.1 g)
 
 both_mapped : {A B : Type 0} (P : B → Type 0) (f : A → B) (xs ys : List A) → AllByRecursion P (map f xs) → AllByRecursion P (map f ys) → AllByRecursion P (map f (xs ++ ys))
 both_mapped P f [] ys h g = g
@@ -489,13 +491,30 @@ module _ (table : CodeTable) (n : ℕ) (declared : length table.shapes ≡ n) (f
     is-copy : IsCopy table n
     is-copy = (omega (arith, declared), omega (arith, declared, copied))
 
+    -- loops that are no nest with statements
+    plain-good : (line b pc : ℕ) (mark : Mark) (loop : Loop) (body : Block) (bcode : ℕ → ℕ → ℕ → List Instruction) → loop.index < n → IsControl n loop.control
+        → IsRankedControl table.shapes loop.control → b + (control_slots loop.control + 4) ≤ table.slots
+        → pc + length ((control_code line b loop.control ++ entry_code line mark (b + control_slots loop.control))
+        ++ loop_code line (pc + length (control_code line b loop.control ++ entry_code line mark (b + control_slots loop.control))) (b + control_slots loop.control) loop.index bcode) < table.places
+        → ((at leave again : ℕ) → leave < table.places → again < table.places → at + length (bcode at leave again) < table.places → AllValid (bcode at leave again))
+        → AllValid ((control_code line b loop.control ++ entry_code line mark (b + control_slots loop.control))
+        ++ loop_code line (pc + length (control_code line b loop.control ++ entry_code line mark (b + control_slots loop.control))) (b + control_slots loop.control) loop.index bcode)
+    plain-good line b pc mark loop body bcode lx ok ranked le within inside =
+        let v : ℕ = b + control_slots loop.control in
+        let c : List Instruction = control_code line b loop.control ++ entry_code line mark v in
+        let rest : List Instruction = loop_code line (pc + length c) v loop.index bcode in
+        join c rest
+        (join (control_code line b loop.control) (entry_code line mark v) (control-good line b loop.control ok ranked (omega (arith, le))) (entry-good line mark v (omega (arith, le))))
+        (loop-good line (pc + length c) v loop.index bcode (scalar-slot loop.index lx) (omega (arith, le)) (omega (arith, within, length-append c rest))
+        (λ leave again out back here. inside (pc + length c + 8) leave again out back here))
+
     mutual
-      statement-good : (st : Statement) (line b pc leave again : ℕ) → IsWellFormed n st → KeepsRanks table.shapes st → b + statement_slots st ≤ table.slots →
+      statement-good : (st : Statement) (line b pc leave again : ℕ) → IsWellFormed n st → HasForms st → KeepsRanks table.shapes st → statement_copies n st ≤ table.copies → b + statement_slots st ≤ table.slots →
           pc + length (statement_code n moves line st b pc leave again) < table.places → leave < table.places → again < table.places →
           AllValid (statement_code n moves line st b pc leave again)
-      statement-good (AssignScalar k t) line b pc leave again ok ranked le within away round =
+      statement-good (AssignScalar k t) line b pc leave again ok forms ranked room le within away round =
           join (code_of line b t) _ (term-good line b t ok.1 ranked le) ((scalar-slot k ok.0, value-good (flat_of b t) (flat-good 0 b t ok.1 le)), tt)
-      statement-good (AssignElement a ts t) line b pc leave again ok ranked le within away round =
+      statement-good (AssignElement a ts t) line b pc leave again ok forms ranked room le within away round =
           let more : b + (all_slots_of ts + slots_of t) ≤ table.slots = le in
           let own = element-good a b ts ok.0 ok.1 ranked.0.0 (omega (arith, more)) in
           join (codes_of line b ts) _ (terms-good line b ts ok.1 ranked.0.1 (omega (arith, more))) (
@@ -503,53 +522,59 @@ module _ (table : CodeTable) (n : ℕ) (declared : length table.shapes ≡ n) (f
             join (code_of line (b + all_slots_of ts) t) _ (term-good line (b + all_slots_of ts) t ok.2 ranked.1 (omega (arith, more)))
                 ((own, flat-good 0 (b + all_slots_of ts) t ok.2 (omega (arith, more))), tt),
           )
-      statement-good (AssignSection a subs t) line b pc leave again ok ranked le within away round =
+      statement-good (AssignSection a subs t) line b pc leave again ok forms ranked room le within away round =
           assignment-good line b a subs t None tt ok.0 ok.1 ok.2 ranked.0 ranked.1 le
-      statement-good (If arms other) line b pc leave again ok ranked le within away round =
+      statement-good (If arms other) line b pc leave again ok forms ranked room le within away round =
           let more : b + max (arms_slots arms) (block_slots other) ≤ table.slots = le in
-          arms-good arms (λ pc. block_code n moves other b pc leave again) b pc leave again ok.0 ranked.0 (omega (arith, more)) within away round
-          (λ at here. block-good other b at leave again ok.1 ranked.1 (omega (arith, more)) here away round)
-      statement-good (Do mark loop body) line b pc leave again ok ranked le within away round =
-          let more : b + (control_slots loop.control + 4 + block_slots body) ≤ table.slots = le in
+          arms-good arms (λ pc. block_code n moves other b pc leave again) b pc leave again ok.0 forms.0 ranked.0 (omega (arith, room)) (omega (arith, more)) within away round
+          (λ at here. block-good other b at leave again ok.1 forms.1 ranked.1 (omega (arith, room)) (omega (arith, more)) here away round)
+      statement-good (Do Unmarked loop body) line b pc leave again ok forms ranked room le within away round =
+          plain-good line b pc Unmarked loop body (block_code n moves body (b + control_slots loop.control + 4)) ok.0 ok.1 ranked.0 (omega (arith, le)) within
+          (λ at leave again out back here. block-good body (b + control_slots loop.control + 4) at leave again ok.2 forms ranked.1 room (omega (arith, le)) here out back)
+      statement-good (Do (Outermost nest Done) loop body) line b pc leave again ok forms ranked room le within away round =
+          plain-good line b pc (Outermost nest Done) loop body (block_code n moves body (b + control_slots loop.control + 4)) ok.0 ok.1 ranked.0 (omega (arith, le)) within
+          (λ at leave again out back here. block-good body (b + control_slots loop.control + 4) at leave again ok.2 (formed_nest n nest loop body Done forms ok.2).forms ranked.1 room
+          (omega (arith, le)) here out back)
+      statement-good (Do (Outermost nest (Then l st rest)) loop body) line b pc leave again ok forms ranked room le within away round =
           let v : ℕ = b + control_slots loop.control in
-          let c : List Instruction = control_code line b loop.control ++ entry_code line mark v in
-          let rest : List Instruction = loop_code line (pc + length c) v loop.index (block_code n moves body (v + 4)) in
-          let whole : pc + length (c ++ rest) < table.places = within in
-          join c rest
-          (join (control_code line b loop.control) (entry_code line mark v) (control-good line b loop.control ok.1 ranked.0 (omega (arith, more))) (entry-good line mark v (omega (arith, more))))
-          (loop-good line (pc + length c) v loop.index (block_code n moves body (v + 4)) (scalar-slot loop.index ok.0) (omega (arith, more))
-          (omega (arith, whole, length-append c rest))
-          (λ leave again out back here. block-good body (v + 4) (pc + length c + 8) leave again ok.2 ranked.1 (omega (arith, more)) here out back))
-      statement-good (Where mask body others) line b pc leave again ok ranked le within away round = where-good n line b mask body others is-copy ok ranked le
-      statement-good (Forall cs mask body) line b pc leave again ok ranked le within away round = forall-good n line b cs mask body is-copy ok ranked le
-      statement-good (statements.Print items) line b pc leave again ok ranked le within away round =
+          let c : List Instruction = control_code line b loop.control ++ entry_code line (Outermost nest (Then l st rest)) v in
+          let own : List Instruction = nest_code n line nest (Then l st rest) v (pc + length c) in
+          let loops : length nest.loops ≡ suc (length forms.form.inner) = ap length forms.form.loops in
+          let more : b + (control_slots loop.control + nest_slots nest (Then l st rest)) ≤ table.slots = le in
+          join c own
+          (join (control_code line b loop.control) (entry_code line (Outermost nest (Then l st rest)) v) (control-good line b loop.control ok.1 ranked.0 (omega (arith, more, loops)))
+          (entry-good line (Outermost nest (Then l st rest)) v (omega (arith, more, loops))))
+          (nest-names table n declared few roomy line v (pc + length c) nest loop body (Then l st rest) forms ok.2 ok.0 ranked.1 room (omega (arith, more)) (omega (arith, within, length-append c own)))
+      statement-good (Where mask body others) line b pc leave again ok forms ranked room le within away round = where-good n line b mask body others is-copy ok ranked le
+      statement-good (Forall cs mask body) line b pc leave again ok forms ranked room le within away round = forall-good n line b cs mask body is-copy ok ranked le
+      statement-good (statements.Print items) line b pc leave again ok forms ranked room le within away round =
           join (items_code line b items) _ (items-good line b items ok ranked le) (all-printed b items ok ranked le, tt)
-      statement-good Stop line b pc leave again ok ranked le within away round = (tt, tt)
-      statement-good Exit line b pc leave again ok ranked le within away round = (away, tt)
-      statement-good Cycle line b pc leave again ok ranked le within away round = (round, tt)
-      statement-good Continue line b pc leave again ok ranked le within away round = tt
-      statement-good Redistribute line b pc leave again ok ranked le within away round = (moving line, tt)
+      statement-good Stop line b pc leave again ok forms ranked room le within away round = (tt, tt)
+      statement-good Exit line b pc leave again ok forms ranked room le within away round = (away, tt)
+      statement-good Cycle line b pc leave again ok forms ranked room le within away round = (round, tt)
+      statement-good Continue line b pc leave again ok forms ranked room le within away round = tt
+      statement-good Redistribute line b pc leave again ok forms ranked room le within away round = (moving line, tt)
 
-      arms-good : (arms : Arms) (rest : ℕ → List Instruction) (b pc leave again : ℕ) → AreWellFormedArms n arms → ArmsKeepRanks table.shapes arms →
+      arms-good : (arms : Arms) (rest : ℕ → List Instruction) (b pc leave again : ℕ) → AreWellFormedArms n arms → ArmsHaveForms arms → ArmsKeepRanks table.shapes arms → arms_copies n arms ≤ table.copies →
           b + arms_slots arms ≤ table.slots → pc + length (arms_code n moves arms rest b pc leave again) < table.places → leave < table.places → again < table.places →
           ((at : ℕ) → at + length (rest at) < table.places → AllValid (rest at)) → AllValid (arms_code n moves arms rest b pc leave again)
-      arms-good NoArm rest b pc leave again ok ranked le within away round more = more pc within
-      arms-good (Arm line cond body arms) rest b pc leave again ok ranked le within away round more =
-          let room : b + max (slots_of cond + 1) (max (block_slots body) (arms_slots arms)) ≤ table.slots = le in
-          arm-good line pc b cond (λ pc. block_code n moves body b pc leave again) (λ pc. arms_code n moves arms rest b pc leave again) ok.0 ranked.0 (omega (arith, room)) within
-          (λ at here. block-good body b at leave again ok.1 ranked.1 (omega (arith, room)) here away round)
-          (λ at here. arms-good arms rest b at leave again ok.2 ranked.2 (omega (arith, room)) here away round more)
+      arms-good NoArm rest b pc leave again ok forms ranked room le within away round more = more pc within
+      arms-good (Arm line cond body arms) rest b pc leave again ok forms ranked room le within away round more =
+          let all : b + max (slots_of cond + 1) (max (block_slots body) (arms_slots arms)) ≤ table.slots = le in
+          arm-good line pc b cond (λ pc. block_code n moves body b pc leave again) (λ pc. arms_code n moves arms rest b pc leave again) ok.0 ranked.0 (omega (arith, all)) within
+          (λ at here. block-good body b at leave again ok.1 forms.0 ranked.1 (omega (arith, room)) (omega (arith, all)) here away round)
+          (λ at here. arms-good arms rest b at leave again ok.2 forms.1 ranked.2 (omega (arith, room)) (omega (arith, all)) here away round more)
 
-      block-good : (bl : Block) (b pc leave again : ℕ) → IsWellFormedBlock n bl → BlockKeepsRanks table.shapes bl → b + block_slots bl ≤ table.slots →
+      block-good : (bl : Block) (b pc leave again : ℕ) → IsWellFormedBlock n bl → BlockHasForms bl → BlockKeepsRanks table.shapes bl → block_copies n bl ≤ table.copies → b + block_slots bl ≤ table.slots →
           pc + length (block_code n moves bl b pc leave again) < table.places → leave < table.places → again < table.places → AllValid (block_code n moves bl b pc leave again)
-      block-good Done b pc leave again ok ranked le within away round = tt
-      block-good (Then line st rest) b pc leave again ok ranked le within away round =
+      block-good Done b pc leave again ok forms ranked room le within away round = tt
+      block-good (Then line st rest) b pc leave again ok forms ranked room le within away round =
           let more : b + max (statement_slots st) (block_slots rest) ≤ table.slots = le in
           let first : List Instruction = statement_code n moves line st b pc leave again in
           let others : List Instruction = block_code n moves rest b (pc + length first) leave again in
           let whole : pc + length (first ++ others) < table.places = within in
-          join first others (statement-good st line b pc leave again ok.0 ranked.0 (omega (arith, more)) (omega (arith, whole, length-append first others)) away round)
-          (block-good rest b (pc + length first) leave again ok.1 ranked.1 (omega (arith, more)) (omega (arith, whole, length-append first others)) away round)
+          join first others (statement-good st line b pc leave again ok.0 forms.0 ranked.0 (omega (arith, room)) (omega (arith, more)) (omega (arith, whole, length-append first others)) away round)
+          (block-good rest b (pc + length first) leave again ok.1 forms.1 ranked.1 (omega (arith, room)) (omega (arith, more)) (omega (arith, whole, length-append first others)) away round)
 
 -- ---- programs
 
@@ -564,16 +589,16 @@ closed-by (x ∷ []) target = refl
 closed-by (x ∷ y ∷ ys) target = closed-by (y ∷ ys) target
 
 pub program-valid : (table : CodeTable) (n : ℕ) (moves : ℕ → List NewMapping) (body : Block) → length table.shapes ≡ n → AreFewDims table.shapes → n + block_slots body ≤ table.slots →
-    block_copies body ≤ table.copies → length (program_code n moves body) ≡ table.places → ((line : ℕ) → IsValid table (Remap line (moves line))) →
-    IsWellFormedBlock n body → BlockKeepsRanks table.shapes body → IsValidNodeCode table (program_code n moves body)
-program-valid table n moves body declared few slots copies places moving ok ranked =
+    block_copies n body ≤ table.copies → length (program_code n moves body) ≡ table.places → ((line : ℕ) → IsValid table (Remap line (moves line))) →
+    IsWellFormedBlock n body → BlockHasForms body → BlockKeepsRanks table.shapes body → IsValidNodeCode table (program_code n moves body)
+program-valid table n moves body declared few slots copies places moving ok forms ranked =
     let own : List Instruction = block_code n moves body n 2 1 1 in
     let all : List Instruction = own ++ Jump 1 ∷ [] in
     let long : length (Jump 2 ∷ Halt ∷ all) ≡ table.places = places in
     let count : length all ≡ length own + 1 = length-append own (Jump 1 ∷ []) in
     let roomy : n ≤ table.slots = omega (arith, slots) in
     let within : 2 + length own < table.places = omega (arith, long, count) in
-    let block = block-good table n declared few roomy copies moves moving body n 2 1 1 ok ranked slots within (omega (arith, within)) (omega (arith, within)) in
+    let block = block-good table n declared few roomy (let some = some_copy n body in omega (arith, some, copies)) moves moving body n 2 1 1 ok forms ranked copies slots within (omega (arith, within)) (omega (arith, within)) in
     let code : AllByRecursion (IsValid table) (program_code n moves body) =
     (omega (arith, within), (tt, join table n declared few roomy own (Jump 1 ∷ []) block (omega (arith, within), tt))) in
     record {

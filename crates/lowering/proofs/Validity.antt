@@ -1,6 +1,7 @@
 -- The code of programs is one that nodes can run.
-use Rattle.std.proofs.Common.{ℕ, zero, suc, ◌+◌, ◌≤◌, List, [], ◌∷◌, ◌++◌, length, Bool, true, false, Option, Some, None, slice_get}
+use Rattle.std.proofs.Common.{◌≡◌, ℕ, zero, suc, ◌+◌, ◌≤◌, List, [], ◌∷◌, ◌++◌, length, Bool, true, false, Option, Some, None, slice_get, arith}
 use Rattle.std.specs.Bool.{⊤}
+use Rattle.std.specs.List.{AllByRecursion}
 use Rattle.hpf_base.specs.declared.index.Shape.{Shape}
 use Rattle.op_tables.specs.Operators.{can_divide}
 use Rattle.op_tables.specs.Reductions.{reduction_of}
@@ -9,18 +10,23 @@ use Rattle.array_meaning.specs.Statements as statements
 use Rattle.array_meaning.specs.Statements.{Mark, Unmarked, Outermost, Item, Text, Value, Elements, SectionAssignment, ElementAssignment, Block, Done, Then, Statement, AssignScalar, AssignElement, AssignSection, If, Do, Where, Forall, Stop, Exit, Cycle, Continue, Redistribute, Arms, NoArm, Arm}
 use Rattle.node_code.specs.Instructions.{NewMapping, Instruction, Remap, ArrayTable, meaning_of}
 use Rattle.machine_steps.specs.Layout.{AreOwned, IsDealt, Layout}
+use Rattle.machine_steps.specs.SameLayouts.{is_same_layout}
 use Rattle.machine_steps.specs.Machine.{instr_of}
 use Rattle.machine_steps.specs.Agrees.{IsValidInstr, IsValidCode}
 use Rattle.node_code.specs.Flat.{Flat}
 use Rattle.node_code.specs.Forms.{Sub}
 use Rattle.node_code.specs.Parallel.{When}
 use Rattle.lowered_expressions.specs.ExpressionCode.{slots_of, parts_slots, subscripts_slots, control_slots, set_if, three_code, code_of, codes_of, subscripts_code, parts_code, all_parts_code, control_code}
-use Rattle.lowering.specs.StatementCode.{entry_code, item_slots, item_code, items_code, assignment_code, masked_code, triplets, one_to_one_code, forall_mask_code, forall_assignments_code, statement_code, arms_code, block_code, program_code}
+use Rattle.lowering.specs.StatementCode.{marked_code, entry_code, loop_code, item_slots, item_code, items_code, assignment_code, masked_code, triplets, one_to_one_code, forall_mask_code, forall_assignments_code, statement_code, arms_code, block_code, program_code}
 use Rattle.lowered_expressions.specs.WellFormed.{IsScalar, AreScalar, AreScalarSubscripts, IsArray, AreArrays, IsControl, AreControls, AreMasked, AreItems, IsWellFormed, AreWellFormedArms, IsWellFormedBlock}
+use Rattle.lowered_nests.specs.NestCode.{nest_code}
+use Rattle.lowering.proofs.NestValidity.{IsOfNests}
+use Rattle.lowering.proofs.ValidNests.{each-of-nest}
 use Rattle.lowering.proofs.Folding.{fold-is}
 
 module _ (count n : ℕ) (shapes : List Shape) (table : ArrayTable) (moves : ℕ → List NewMapping) (few : length shapes ≤ n)
     (dealt : (layouts : List Layout) → AreOwned count layouts → (ns : List ℕ) → IsDealt count (table.copies layouts ns))
+    (same : (one other : Layout) → is_same_layout one other ≡ true → one ≡ other)
     (moving : (line : ℕ) → IsValidInstr count shapes (meaning_of table (Remap line (moves line)))) where
   abbrev AllValid : List Instruction → Type 0
   AllValid [] = ⊤
@@ -118,6 +124,30 @@ module _ (count n : ℕ) (shapes : List Shape) (table : ArrayTable) (moves : ℕ
   entry-valid line Unmarked v = tt
   entry-valid line (Outermost nest body) v = (tt, (tt, tt))
 
+  nest-instructions-valid : (line : ℕ) → IsOfNests (λ x. IsValidInstr count shapes (meaning_of table x)) line n
+  nest-instructions-valid line = record {
+    set = λ x f. tt;
+    trips = λ first last step left target. tt;
+    jump = λ target. tt;
+    jump_if = λ target x. tt;
+    par = λ p. tt;
+    makes = λ copy over start le. (omega (arith, few, le), λ layouts declared owned slots. dealt layouts owned _);
+    verdict = tt;
+    folds = λ copy j x. fold-is j;
+    lasts = λ copy set x. same;
+  }
+
+  marked-valid : (line : ℕ) (mark : Mark) (v pc : ℕ) (loops : List Instruction) → AllValid loops → AllValid (marked_code n line mark v pc loops)
+  marked-valid line Unmarked v pc loops h = h
+  marked-valid line (Outermost nest Done) v pc loops h = h
+  marked-valid line (Outermost nest (Then l st rest)) v pc loops h =
+      all-valid (nest_code n line nest (Then l st rest) v pc)
+      (each-of-nest (λ x. IsValidInstr count shapes (meaning_of table x)) line n (nest-instructions-valid line) nest (Then l st rest) v pc)
+    where
+      all-valid : (xs : List Instruction) → AllByRecursion (λ x. IsValidInstr count shapes (meaning_of table x)) xs → AllValid xs
+      all-valid [] h = tt
+      all-valid (x ∷ xs) h = (h.0, all-valid xs h.1)
+
   mutual
     statement-valid : (st : Statement) (line b pc leave again : ℕ) → IsWellFormed n st → AllValid (statement_code n moves line st b pc leave again)
     statement-valid (AssignScalar k t) line b pc leave again ok = both (code_of line b t) _ (term-valid line b t ok.1) (tt, tt)
@@ -126,33 +156,11 @@ module _ (count n : ℕ) (shapes : List Shape) (table : ArrayTable) (moves : ℕ
     statement-valid (AssignSection a subs t) line b pc leave again ok = assignment-valid line b a subs t None ok.1 ok.2
     statement-valid (If arms other) line b pc leave again ok = arms-valid arms _ b pc leave again ok.0 (λ pc. block-valid other b pc leave again ok.1)
     statement-valid (Do mark loop body) line b pc leave again ok =
-        both (control_code line b loop.control ++ entry_code line mark (b + control_slots loop.control)) _
-        (both (control_code line b loop.control) _ (control-valid line b loop.control ok.1) (entry-valid line mark (b + control_slots loop.control))) (
-          tt,
-          (
-            tt,
-            (
-              tt,
-              (
-                tt,
-                (
-                  tt,
-                  (
-                    tt,
-                    (
-                      tt,
-                      (
-                        tt,
-                        both (block_code n moves body (b + control_slots loop.control + 4) _ _ _) _ (block-valid body (b + control_slots loop.control + 4) _ _ _ ok.2)
-                            (tt, tt),
-                      ),
-                    ),
-                  ),
-                ),
-              ),
-            ),
-          ),
-        )
+        let v : ℕ = b + control_slots loop.control in
+        let c = control_code line b loop.control ++ entry_code line mark v in
+        both c _ (both (control_code line b loop.control) _ (control-valid line b loop.control ok.1) (entry-valid line mark v))
+        (marked-valid line mark v (pc + length c) (loop_code line (pc + length c) v loop.index (block_code n moves body (v + 4)))
+        (tt, (tt, (tt, (tt, (tt, (tt, (tt, (tt, both (block_code n moves body (v + 4) _ _ _) _ (block-valid body (v + 4) _ _ _ ok.2) (tt, tt))))))))))
     statement-valid (Where mask body others) line b pc leave again ok =
         both (parts_code line b mask) _ (parts-valid line b mask ok.0) (
           tt,

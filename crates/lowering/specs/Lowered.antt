@@ -39,10 +39,11 @@ opening n room moves body s layouts = record {
   printed = s.printed;
 }
 
--- the arrays as declared, and copies with a layout that has an element for each tuple of their space
+-- the arrays as declared, and copies with a layout that has an element for each tuple of their space, and that doesn't depend on how other rows lie
 pub record IsTable (s : State) (table : ArrayTable) : Type 0 where
   pub shapes : table.shapes ≡ map (λ a. a.dims) s.arrays
   pub copies : (layouts : List Layout) (extents : List ℕ) → size_of (table.copies layouts extents) ≡ space_count extents
+  pub steady : (one other : List Layout) (extents : List ℕ) → table.copies one extents ≡ table.copies other extents
 
 -- the slots of the declared names are the scalars, and the rows the arrays, of which there are as many as names
 abbrev pub IsLeft : ℕ → Machine Instruction Fault → State → Type 0

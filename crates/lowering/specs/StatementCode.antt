@@ -9,6 +9,7 @@ use Rattle.node_code.specs.Flat.{Int, Slot, Operated, NoFlat, AndFlat}
 use Rattle.node_code.specs.Forms.{Sub, SectionForm}
 use Rattle.node_code.specs.Parallel.{When, Assignment, Evaluation}
 use Rattle.node_code.specs.Instructions.{NewMapping, PrintItem, PrintBytes, PrintNumber, PrintSection, Instruction, Set, Store, TestBounds, TestStride, Trips, Jump, JumpIfZero, Halt, Limits, OwnLimits, ForallLimits, OneToOne, Check, Par, ParForall, MakeCopy, ParCopy, ParForallCopy, Verdict, Inside, Print, Remap}
+use Rattle.lowered_nests.specs.NestCode.{nest_rows, nest_slots, nest_code}
 use Rattle.lowered_expressions.specs.ExpressionCode.{slots_of, all_slots_of, subscripts_slots, parts_slots, flat_of, flats_of, subs_of, form_of, code_of, codes_of, subscripts_code, parts_code, control_slots, control_code, own_evaluation, index_flat, index_subs, index_form}
 
 -- ---- PRINT
@@ -164,6 +165,16 @@ abbrev pub entry_code : ℕ → Mark → ℕ → List Instruction
 entry_code line Unmarked v = []
 entry_code line (Outermost nest body) v = TestStride line (v + 2) ∷ Check line (Outermost (record nest { loops = with_bounds v nest.loops }) body) ∷ []
 
+-- A nest takes the place of its loops, whose bounds stand in the slots from v on. A nest without statements is its loops
+abbrev pub marked_code : (n line : ℕ) → Mark → (v pc : ℕ) → (loops : List Instruction) → List Instruction
+marked_code n line (Outermost nest (Then l s rest)) v pc loops = nest_code n line nest (Then l s rest) v pc
+marked_code n line mark v pc loops = loops
+
+-- the slots from v on that it takes, where its loops take so many
+abbrev pub marked_slots : Mark → (loops : ℕ) → ℕ
+marked_slots (Outermost nest (Then l s rest)) loops = nest_slots nest (Then l s rest)
+marked_slots mark loops = loops
+
 -- ---- all statements
 
 abbrev mutual
@@ -173,7 +184,7 @@ abbrev mutual
   statement_slots (AssignElement a ts t) = all_slots_of ts + slots_of t
   statement_slots (AssignSection a subs t) = subscripts_slots subs + parts_slots t
   statement_slots (If arms other) = max (arms_slots arms) (block_slots other)
-  statement_slots (Do mark loop body) = control_slots loop.control + 4 + block_slots body
+  statement_slots (Do mark loop body) = control_slots loop.control + marked_slots mark (4 + block_slots body)
   statement_slots (Where mask body others) = parts_slots mask + max (masked_slots body) (masked_slots others)
   statement_slots (Forall controls mask body) = subscripts_slots (triplets controls)
   statement_slots (statements.Print items) = items_slots items
@@ -187,11 +198,28 @@ abbrev mutual
   block_slots Done = 0
   block_slots (Then line s rest) = max (statement_slots s) (block_slots rest)
 
--- how many copies the code of a block names: that of a mask, and no statement has two
-abbrev pub block_copies : Block → ℕ
-block_copies body = 1
+-- how many rows after n declared names the code of a statement takes, where its loops take so many: those of a nest have its copies, its stored conditions
+-- and its marks
+abbrev pub marked_copies : (n : ℕ) → Mark → (loops : ℕ) → ℕ
+marked_copies n (Outermost nest (Then l s rest)) loops = nest_rows n nest (Then l s rest)
+marked_copies n mark loops = loops
 
--- `copy` is the row of the first of the copies. `moves` says of a line which arrays its REDISTRIBUTE moves, and to which mappings: a REDISTRIBUTE is known by
+abbrev mutual
+  pub statement_copies : (n : ℕ) → Statement → ℕ
+  statement_copies n (If arms other) = max (arms_copies n arms) (block_copies n other)
+  statement_copies n (Do mark loop body) = marked_copies n mark (block_copies n body)
+  statement_copies n s = 0
+
+  pub arms_copies : (n : ℕ) → Arms → ℕ
+  arms_copies n NoArm = 0
+  arms_copies n (Arm line condition body arms) = max (block_copies n body) (arms_copies n arms)
+
+  -- one is there for the mask of a WHERE or of a FORALL
+  pub block_copies : (n : ℕ) → Block → ℕ
+  block_copies n Done = 1
+  block_copies n (Then line s rest) = max (statement_copies n s) (block_copies n rest)
+
+-- `copy` is the row of the first of the copies, which stand after the declared names. `moves` says of a line which arrays its REDISTRIBUTE moves, and to which mappings: a REDISTRIBUTE is known by
 -- its line, since a directive line holds one directive
 module _ (copy : ℕ) (moves : ℕ → List NewMapping) where
   abbrev mutual
@@ -206,7 +234,7 @@ module _ (copy : ℕ) (moves : ℕ → List NewMapping) where
     statement_code line (Do mark loop body) b pc leave again =
         let v : ℕ = b + control_slots loop.control in
         let c = control_code line b loop.control ++ entry_code line mark v in
-        c ++ loop_code line (pc + length c) v loop.index (block_code body (v + 4))
+        c ++ marked_code copy line mark v (pc + length c) (loop_code line (pc + length c) v loop.index (block_code body (v + 4)))
     statement_code line (Where mask body others) b pc leave again = where_code copy line b mask body others
     statement_code line (Forall controls mask body) b pc leave again = forall_code copy line b controls mask body
     statement_code line (statements.Print items) b pc leave again = items_code line b items ++ Print (print_items b items) ∷ []

@@ -1,6 +1,6 @@
 //! Programs as node code.
 
-ghost use Rattle.std.specs.Prelude.{◌≡◌, ◌<◌, ◌≤◌, ◌+◌, ℕ, List, length};
+ghost use Rattle.std.specs.Prelude.{◌≡◌, ◌<◌, ◌≤◌, ◌+◌, ℕ, List, length, true};
 ghost use Rattle.syntax_tree.specs.Statement as syntax;
 ghost use Rattle.name_table.specs.declared.names.Entry.{Entry};
 ghost use Rattle.hpf_base.specs.declared.index.Shape.{Shape};
@@ -14,18 +14,21 @@ ghost use Rattle.statement_trail.specs.Trail.{block_trail};
 ghost use Rattle.array_meaning.specs.Statements.{Block};
 ghost use Rattle.lowering.specs.Lowered.{IsState, IsTable, opening, MachineEnds, MachineHas, MachinePasses};
 ghost use Rattle.nest_items.specs.BlockForms.{BlockHasForms};
+ghost use Rattle.fitting_states.specs.FittingStates.{BlockFits, InitialValuesFit, StateFits};
 ghost use Rattle.lowered_expressions.specs.WellFormed.{IsWellFormedBlock};
 ghost use Rattle.lowering.specs.Ranks.{AreFewDims, BlockKeepsRanks};
 ghost use Rattle.machine_steps.specs.Layout.{AreOwned, IsDealt, Layout};
+ghost use Rattle.machine_steps.specs.SameLayouts.{is_same_layout};
 ghost use Rattle.node_code.specs.Instructions.{ArrayTable, NewMapping, Remap, meaning_of};
 ghost use Rattle.node_code.specs.ValidCode.{CodeTable, IsValid, IsValidNodeCode};
 
 /// The machine with whole arrays ends over a program's code as the program does: with the first fault, its line, kind and tuple, and
 /// the bytes that were printed before it, or finished with the program's bytes, scalars and arrays. After the declared names there is
-/// room for as many copies as the code names, or more. Each nest of INDEPENDENT loops keeps the rules by its form.
+/// room for as many copies as the code names, or more. Each nest of INDEPENDENT loops keeps the rules by its form, and all numbers are of 64 bits.
 pub fn programs_lowered()
     ensures { (n room : ℕ) (table : ArrayTable) (moves : ℕ → List NewMapping) (body : Block) (s : State) (layouts : List Layout)
-        → IsState n s → IsTable s table → block_copies body ≤ room → length layouts ≡ n + room → IsWellFormedBlock n body → BlockHasForms body
+        → IsState n s → IsTable s table → block_copies n body ≤ room → length layouts ≡ n + room → IsWellFormedBlock n body → BlockHasForms body
+        → BlockFits body → StateFits s
         → MachineEnds n table (opening n room moves body s layouts) (run_block body s) }
 {}
 
@@ -34,15 +37,17 @@ pub fn programs_lowered()
 /// what was evaluated once; or it gives the arrays the mappings of the REDISTRIBUTE's line.
 pub fn trails_lowered()
     ensures { (n room : ℕ) (table : ArrayTable) (moves : ℕ → List NewMapping) (body : Block) (s : State) (layouts : List Layout)
-        → IsState n s → IsTable s table → block_copies body ≤ room → length layouts ≡ n + room → IsWellFormedBlock n body → BlockHasForms body
+        → IsState n s → IsTable s table → block_copies n body ≤ room → length layouts ≡ n + room → IsWellFormedBlock n body → BlockHasForms body
+        → BlockFits body → StateFits s
         → MachinePasses n table moves (opening n room moves body s layouts) (run_block body s) (block_trail body s) }
 {}
 
 /// The machine with whole arrays ends over a program's code with the serial outcome of the program, where these names are declared.
 pub fn outcomes_lowered()
     ensures { (names : List Entry) (room : ℕ) (moves : ℕ → List NewMapping) (body : syntax.Block) (table : ArrayTable) (layouts : List Layout)
-        → IsTable (initial_state names) table → block_copies (resolved_block names body) ≤ room → length layouts ≡ length names + room
+        → IsTable (initial_state names) table → block_copies (length names) (resolved_block names body) ≤ room → length layouts ≡ length names + room
         → IsWellFormedBlock (length names) (resolved_block names body) → BlockHasForms (resolved_block names body)
+        → BlockFits (resolved_block names body) → InitialValuesFit names
         → MachineHas (length names) table
         (opening (length names) room moves (resolved_block names body) (initial_state names) layouts) (outcome names body) }
 {}
@@ -52,6 +57,7 @@ pub fn outcomes_lowered()
 pub fn code_is_valid()
     ensures { (count n : ℕ) (shapes : List Shape) (table : ArrayTable) (moves : ℕ → List NewMapping) (body : Block)
         → length shapes ≤ n → ((layouts : List Layout) → AreOwned count layouts → (extents : List ℕ) → IsDealt count (table.copies layouts extents))
+        → ((one other : Layout) → is_same_layout one other ≡ true → one ≡ other)
         → ((line : ℕ) → IsValidInstr count shapes (meaning_of table (Remap line (moves line))))
         → IsWellFormedBlock n body → IsValidCode (meaning_of table) count shapes (program_code n moves body) }
 {}
@@ -61,7 +67,7 @@ pub fn code_is_valid()
 /// ones, and as many copies as the code names, or more.
 pub fn programs_have_valid_code()
     ensures { (table : CodeTable) (n : ℕ) (moves : ℕ → List NewMapping) (body : Block)
-        → length table.shapes ≡ n → AreFewDims table.shapes → n + block_slots body ≤ table.slots → block_copies body ≤ table.copies
+        → length table.shapes ≡ n → AreFewDims table.shapes → n + block_slots body ≤ table.slots → block_copies n body ≤ table.copies
         → length (program_code n moves body) ≡ table.places → ((line : ℕ) → IsValid table (Remap line (moves line)))
-        → IsWellFormedBlock n body → BlockKeepsRanks table.shapes body → IsValidNodeCode table (program_code n moves body) }
+        → IsWellFormedBlock n body → BlockHasForms body → BlockKeepsRanks table.shapes body → IsValidNodeCode table (program_code n moves body) }
 {}

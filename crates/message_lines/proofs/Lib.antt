@@ -1,3 +1,4 @@
+mod Growing
 mod Inside
 mod Moves
 mod PartLaws

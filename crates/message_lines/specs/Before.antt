@@ -3,13 +3,15 @@ use Rattle.std.specs.Prelude.{List, [], ◌∷◌, ◌++◌, length, map, take}
 use Rattle.array_meaning.specs.Sections.{extents}
 use Rattle.machine_steps.specs.CopyLayout.{copy_layout}
 use Rattle.machine_steps.specs.Layout.{Layout}
-use Rattle.message_text.specs.Parts.{Setting}
+use Rattle.message_text.specs.InstructionLines.{copy_rows, rows_after}
+use Rattle.message_text.specs.Parts.{Setting, with_copies}
+use Rattle.node_code.specs.NestStatements.{NestStatement, copies_extents}
 use Rattle.node_code.specs.Forms.{Sub, selections_in}
 use Rattle.message_lines.specs.declared.before.Before.{Before}
 
 -- the nodes, the declared names, and the dimensions of the arrays among them. No line of a message depends on the rest
 abbrev pub setting_before : Before → Setting
-setting_before b = record { nodes = b.owners.now.nodes; names = map (λ e. e.name) b.names.now; shapes = b.program.now.shapes.items; moves = λ line. [] }
+setting_before b = record { nodes = b.owners.now.nodes; names = map (λ e. e.name) b.names.now; shapes = b.program.now.shapes.items; moves = λ line. []; copies = []; copied = [] }
 
 -- how the declared names lie
 abbrev pub names_layouts : Before → List Layout
@@ -18,3 +20,7 @@ names_layouts b = take (length b.names.now) b.owners.now.layouts
 -- the same, and after them a copy with an element for each tuple of the space of this section
 abbrev pub copy_layouts : Before → List Sub → List Layout
 copy_layouts b over = names_layouts b ++ copy_layout b.owners.now.nodes (extents (selections_in b.slots.now over)) ∷ []
+
+-- the same, and after them the copies that a statement of a nest names
+abbrev pub nest_layouts : Before → NestStatement → List Layout
+nest_layouts b p = with_copies (setting_before b) (names_layouts b) (rows_after (length (names_layouts b)) (copy_rows p)) (copies_extents p.over b.slots.now)

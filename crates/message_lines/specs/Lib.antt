@@ -5,3 +5,4 @@ pub mod Messages
 pub mod RowLines
 pub mod RowParts
 pub mod Settings
+pub mod Grown

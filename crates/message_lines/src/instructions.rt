@@ -1,6 +1,6 @@
 //! The lines of an instruction.
 
-ghost use Rattle.std.specs.Prelude.{◌≡◌, ◌==◌, ◌≤◌, ◌++◌, ℕ, All, IfOk, List, OnOk, length, map, nat_le, take, true};
+ghost use Rattle.std.specs.Prelude.{◌≡◌, ◌==◌, ◌≤◌, ◌++◌, [], ℕ, All, IfOk, List, OnOk, length, map, nat_le, take, true};
 ghost use Rattle.std.specs.List.{list_all};
 ghost use Rattle.hpf_base.specs.declared.limits.TheConstants.{MAX_ELEMENTS, MAX_RANK};
 ghost use Rattle.hpf_base.specs.ElementOrder.{product};
@@ -10,22 +10,24 @@ ghost use Rattle.machine_steps.specs.Instr.{Remapping};
 ghost use Rattle.machine_steps.specs.Machine.{remapped};
 ghost use Rattle.machine_steps.specs.Message.{par_part, reduce_part};
 ghost use Rattle.message_text.specs.MessageText.{part_lines, redistribution_lines};
-ghost use Rattle.message_text.specs.InstructionLines.{instruction_lines};
+ghost use Rattle.message_text.specs.InstructionLines.{instruction_lines, nest_lines};
+ghost use Rattle.message_text.specs.Parts.{with_copied};
 ghost use Rattle.node_code.specs.Forms.{selections_in};
 ghost use Rattle.node_code.specs.Instructions.{remappings};
+ghost use Rattle.node_code.specs.NestStatements.{nest_spot, nest_tuples};
 ghost use Rattle.node_code.specs.Parallel.{assigned_spot, assignment_tuples, copy_spot, evaluation_tuples, forall_mask_tuples, forall_spot, forall_tuples, reduction_tuples};
-ghost use Rattle.node_code.specs.Texts.{assignment, evaluation, instruction, new_mapping, subs};
+ghost use Rattle.node_code.specs.Texts.{assignment, evaluation, instruction, nest_statement, new_mapping, subs};
 ghost use Rattle.node_program.specs.Fits.{fits_row, fits_rows, shapes_of};
 ghost use Rattle.node_program.specs.Programs.{mappings_of};
-ghost use Rattle.message_lines.specs.Before.{copy_layouts, names_layouts, setting_before};
+ghost use Rattle.message_lines.specs.Before.{copy_layouts, names_layouts, nest_layouts, setting_before};
 
 use crate::before::Before;
 use crate::part_lines::add_part;
 use crate::redistributions::add_redistribution;
-use crate::rows::{Rows, names_rows, rows_with_copy};
+use crate::rows::{Rows, names_rows, rows_of_nest, rows_with_copy};
 use hpf_base::OutOfMemory;
 use name_table::Names;
-use node_code::{Assignment, Evaluation, Instruction, NewMapping, Sub};
+use node_code::{Assignment, Evaluation, Instruction, NestRole, NestStatement, NewMapping, Sub};
 use node_program::{NodeProgram, owners_after};
 use op_tables::Reduction;
 use owner_tables::Owners;
@@ -52,7 +54,7 @@ pub fn push_lines(
     requires tables { list_all (λ t. t.nodes == program.now.nodes) program.now.tables.items ≡ true }
     requires fits { fits_rows (length program.now.shapes.items) program.now.tables.items (shapes_of owners.now.layouts) (instruction i.now) ≡ true }
     ensures { (moves : ℕ → List Remapping) → OnOk result (text.new.items ≡ text.old.items ++ instruction_lines (mappings_of program.now.tables.items)
-        (record { nodes = program.now.nodes; names = map (λ e. e.name) names.now; shapes = program.now.shapes.items; moves = moves })
+        (record { nodes = program.now.nodes; names = map (λ e. e.name) names.now; shapes = program.now.shapes.items; moves = moves; copies = []; copied = [] })
         (take (length names.now) owners.now.layouts) (instruction i.now) slots.now) }
 {
     let before = Before {
@@ -74,6 +76,7 @@ impl<'a> Before<'a> {
         match i {
             Instruction::Par(p) => self.add_assignment(alloc, p, text),
             Instruction::ParForall(p) => self.add_forall(alloc, p, text),
+            Instruction::ParNest(p) => self.add_nest(alloc, p, text),
             Instruction::ParCopy { copy, evaluation } => {
                 self.add_evaluation(alloc, *copy, evaluation, text)
             }
@@ -125,6 +128,45 @@ impl<'a> Before<'a> {
         let rows = self.rows(alloc, &p.over)?;
         let shapes = &self.program.shapes;
         let statement = ParallelStatement::of_forall_assignment(alloc, shapes, self.slots, p)?;
+        add_part(alloc, &rows, &statement, Who::Left, p.line, text)
+    }
+
+    /// Adds those of a statement of a nest. One that sets the mark of an assignment is no part.
+    fn add_nest(
+        &self,
+        alloc: Global,
+        p: &NestStatement,
+        text: &mut Vec<u8>,
+    ) -> Result<(), OutOfMemory>
+        requires { nat_le (length (subs p.now.over.items)) MAX_RANK ≡ true }
+        ensures { OnOk result (text.new.items ≡ text.old.items
+            ++ nest_lines p.now.role (setting_before self.now) (names_layouts self.now) (nest_statement p.now) self.now.slots.now) }
+    {
+        match p.role {
+            NestRole::Assigns => self.add_nest_part(alloc, p, text),
+            NestRole::Tests => self.add_nest_part(alloc, p, text),
+            NestRole::SetsElse => self.add_nest_part(alloc, p, text),
+            NestRole::SetsMark => Ok(()),
+        }
+    }
+
+    /// Adds those of one that is a part.
+    fn add_nest_part(
+        &self,
+        alloc: Global,
+        p: &NestStatement,
+        text: &mut Vec<u8>,
+    ) -> Result<(), OutOfMemory>
+        requires { nat_le (length (subs p.now.over.items)) MAX_RANK ≡ true }
+        ensures { OnOk result (text.new.items ≡ text.old.items ++ (let ls = nest_layouts self.now (nest_statement p.now) in
+            part_lines (with_copied (setting_before self.now) p.now.copies.items p.now.names.items) ls p.now.line
+            (par_part ls (nest_tuples self.now.program.now.shapes.items (nest_statement p.now))
+            (nest_spot self.now.program.now.shapes.items (nest_statement p.now)) self.now.slots.now))) }
+    {
+        let extents = space_extents(alloc, self.slots, &p.over)?;
+        let rows = rows_of_nest(alloc, self.names, self.owners, &extents, p)?;
+        let shapes = &self.program.shapes;
+        let statement = ParallelStatement::of_nest(alloc, shapes, self.slots, p)?;
         add_part(alloc, &rows, &statement, Who::Left, p.line, text)
     }
 
@@ -216,6 +258,8 @@ impl<'a> Before<'a> {
         requires { nat_le (length (subs over.now)) MAX_RANK ≡ true }
         ensures names { IfOk result (λ r. r.names.now ≡ self.now.names.now) }
         ensures owners { IfOk result (λ r. r.owners ≡ record { layouts = copy_layouts self.now (subs over.now); nodes = self.now.owners.now.nodes }) }
+        ensures copies { IfOk result (λ r. r.copies.now ≡ []) }
+        ensures copied { IfOk result (λ r. r.copied.now ≡ []) }
     {
         let extents = space_extents(alloc, self.slots, over)?;
         rows_with_copy(alloc, self.names, self.owners, &extents)

@@ -1,20 +1,27 @@
 //! The rows whose elements messages have.
 
-ghost use Rattle.std.specs.Prelude.{◌≡◌, ◌≤◌, ◌+◌, ◌++◌, ◌∷◌, [], All, IfOk, OnOk, length, take};
+ghost use Rattle.std.specs.Prelude.{◌≡◌, ◌≤◌, ◌+◌, ◌++◌, ◌∷◌, [], All, IfOk, OnOk, length, map, take};
 ghost use Rattle.hpf_base.specs.declared.limits.TheConstants.{MAX_ELEMENTS, MAX_RANK};
 ghost use Rattle.hpf_base.specs.ElementOrder.{product};
 ghost use Rattle.machine_steps.specs.CopyLayout.{layout_of};
+ghost use Rattle.message_text.specs.InstructionLines.{copy_rows, left_rows};
+ghost use Rattle.node_code.specs.Texts.{nest_left, nest_statement, when};
+ghost use Rattle.message_lines.specs.Grown.{grown, up_to};
 
 use hpf_base::OutOfMemory;
 use name_table::Names;
+use node_code::{NestLeft, NestStatement, When};
 use owner_tables::{OwnerTable, Owners};
 use std::alloc::Global;
 
-/// The declared names and how they lie, and after them a copy, where there is one.
+/// The declared names and how they lie, and after them copies, where there are some.
 #[derive(Drop)]
 pub(crate) struct Rows<'a> {
     pub(crate) names: &'a Names,
     pub(crate) owners: Owners,
+    /// Rows of copies of scalars, and these scalars, by their places.
+    pub(crate) copies: &'a [usize],
+    pub(crate) copied: &'a [usize],
 }
 
 /// The declared names, which are the first rows of these owners.
@@ -25,9 +32,16 @@ pub(crate) fn names_rows<'a>(
 ) -> Result<Rows<'a>, OutOfMemory>
     ensures names { IfOk result (λ r. r.names.now ≡ names.now) }
     ensures owners { IfOk result (λ r. r.owners ≡ record { layouts = take (length names.now) owners.now.layouts; nodes = owners.now.nodes }) }
+    ensures copies { IfOk result (λ r. r.copies.now ≡ []) }
+    ensures copied { IfOk result (λ r. r.copied.now ≡ []) }
 {
     let owners = first_rows(alloc, owners, names.len())?;
-    Ok(Rows { names, owners })
+    Ok(Rows {
+        names,
+        owners,
+        copies: &[],
+        copied: &[],
+    })
 }
 
 /// The same, and after them a copy that has these extents.
@@ -45,9 +59,112 @@ pub(crate) fn rows_with_copy<'a>(
       layouts = take (length names.now) owners.now.layouts ++ layout_of owners.now.nodes extents.now ∷ [];
       nodes = owners.now.nodes;
     }) }
+    ensures copies { IfOk result (λ r. r.copies.now ≡ []) }
+    ensures copied { IfOk result (λ r. r.copied.now ≡ []) }
 {
     let owners = owners_with_copy(alloc, owners, names.len(), extents)?;
-    Ok(Rows { names, owners })
+    Ok(Rows {
+        names,
+        owners,
+        copies: &[],
+        copied: &[],
+    })
+}
+
+/// The same, and after them copies that have these extents, up to the last one that a statement of a nest names.
+pub(crate) fn rows_of_nest<'a>(
+    alloc: Global,
+    names: &'a Names,
+    owners: &Owners,
+    extents: &[u32],
+    p: &'a NestStatement,
+) -> Result<Rows<'a>, OutOfMemory>
+    requires rank { length extents.now ≤ MAX_RANK }
+    requires each { All (λ extent. extent ≤ MAX_ELEMENTS) extents.now }
+    requires size { product extents.now ≤ MAX_ELEMENTS }
+    ensures names { IfOk result (λ r. r.names.now ≡ names.now) }
+    ensures owners { IfOk result (λ r. r.owners ≡ record {
+      layouts = grown (layout_of owners.now.nodes extents.now) (take (length names.now) owners.now.layouts) (copy_rows (nest_statement p.now));
+      nodes = owners.now.nodes;
+    }) }
+    ensures copies { IfOk result (λ r. r.copies.now ≡ p.now.copies.items) }
+    ensures copied { IfOk result (λ r. r.copied.now ≡ p.now.names.items) }
+{
+    let owners = owners_of_nest(alloc, owners, names.len(), extents, p)?;
+    Ok(Rows {
+        names,
+        owners,
+        copies: &p.copies,
+        copied: &p.names,
+    })
+}
+
+/// The first so many rows, and after them copies that have these extents, up to the last one that the statement names.
+fn owners_of_nest(
+    alloc: Global,
+    owners: &Owners,
+    count: usize,
+    extents: &[u32],
+    p: &NestStatement,
+) -> Result<Owners, OutOfMemory>
+    requires rank { length extents.now ≤ MAX_RANK }
+    requires each { All (λ extent. extent ≤ MAX_ELEMENTS) extents.now }
+    requires size { product extents.now ≤ MAX_ELEMENTS }
+    ensures { IfOk result (λ o. o ≡ record {
+      layouts = grown (layout_of owners.now.nodes extents.now) (take count owners.now.layouts) (copy_rows (nest_statement p.now));
+      nodes = owners.now.nodes;
+    }) }
+{
+    let mut rows = first_rows(alloc, owners, count)?;
+    let copy = OwnerTable::of_copy(alloc, owners.nodes(), extents)?;
+    grow_to_whens(&mut rows, &copy, &p.whens)?;
+    grow_to_all(&mut rows, &copy, &p.copies)?;
+    grow_to_left(&mut rows, &copy, &p.left)?;
+    Ok(rows)
+}
+
+/// Puts copies after the rows, up to those of stored conditions.
+fn grow_to_whens(rows: &mut Owners, copy: &OwnerTable, whens: &[When]) -> Result<(), OutOfMemory>
+    requires nodes { rows.old.nodes ≡ copy.now.nodes }
+    ensures { OnOk result (rows.new ≡ record { layouts = grown copy.now.layout rows.old.layouts (map (λ w. w.copy) (map when whens.now)); nodes = rows.old.nodes }) }
+{
+    for w in whens {
+        grow_to(rows, copy, w.copy)?;
+    }
+    Ok(())
+}
+
+/// The same up to all of these rows.
+fn grow_to_all(rows: &mut Owners, copy: &OwnerTable, all: &[usize]) -> Result<(), OutOfMemory>
+    requires nodes { rows.old.nodes ≡ copy.now.nodes }
+    ensures { OnOk result (rows.new ≡ record { layouts = grown copy.now.layout rows.old.layouts all.now; nodes = rows.old.nodes }) }
+{
+    for row in all {
+        grow_to(rows, copy, *row)?;
+    }
+    Ok(())
+}
+
+/// The same up to the row in which a statement stores copies, if it does.
+fn grow_to_left(rows: &mut Owners, copy: &OwnerTable, left: &NestLeft) -> Result<(), OutOfMemory>
+    requires nodes { rows.old.nodes ≡ copy.now.nodes }
+    ensures { OnOk result (rows.new ≡ record { layouts = grown copy.now.layout rows.old.layouts (left_rows (nest_left left.now)); nodes = rows.old.nodes }) }
+{
+    match left {
+        NestLeft::Element(_, _) => Ok(()),
+        NestLeft::Copy(row) => grow_to(rows, copy, *row),
+    }
+}
+
+/// The same up to one row.
+fn grow_to(rows: &mut Owners, copy: &OwnerTable, row: usize) -> Result<(), OutOfMemory>
+    requires nodes { rows.old.nodes ≡ copy.now.nodes }
+    ensures { OnOk result (rows.new ≡ record { layouts = up_to copy.now.layout rows.old.layouts row; nodes = rows.old.nodes }) }
+{
+    while rows.rows() <= row {
+        rows.push(copy.shared()?)?;
+    }
+    Ok(())
 }
 
 /// The first so many rows, and after them a copy that has these extents.

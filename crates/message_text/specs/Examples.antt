@@ -1,6 +1,5 @@
 -- Small programs on nodes, and the text of their messages.
 use Rattle.std.specs.Prelude.{ℕ, codes, List, [], ◌∷◌, pos, negsuc, Some, None, if◌then◌else◌, nat_eq}
-use Rattle.hpf_base.specs.declared.index.Shape.{Shape}
 use Rattle.mappings.specs.declared.mapping.Form.{Form}
 use Rattle.mappings.specs.declared.mapping.Form.TheVariants.{Block, Cyclic}
 use Rattle.mappings.specs.declared.mapping.AlignDim.TheVariants.{Linear}
@@ -44,7 +43,7 @@ abbrev moves : ℕ → List Remapping
 moves line = if nat_eq line 5 then record { row = 0; mapping = mapping 8 (Cyclic 1) } ∷ [] else []
 
 abbrev setting : ℕ → Setting
-setting k = record { nodes = 4; names = A ∷ I ∷ []; shapes = (up_to k ∷ []) ∷ [] ∷ []; moves = moves }
+setting k = record { nodes = 4; names = A ∷ I ∷ []; shapes = (up_to k ∷ []) ∷ [] ∷ []; moves = moves; copies = []; copied = [] }
 
 abbrev at_i : e.Parts
 at_i = e.More (e.One (e.Name I)) e.End
@@ -86,7 +85,7 @@ abbrev two_names : List Entry
 two_names = record { name = A; what = what.Array (up_to 4 ∷ []) (pos 1) } ∷ record { name = B; what = what.Array (up_to 4 ∷ []) (pos 0) } ∷ record { name = I; what = what.Scalar (pos 0) } ∷ []
 
 abbrev two_setting : Setting
-two_setting = record { nodes = 2; names = A ∷ B ∷ I ∷ []; shapes = (up_to 4 ∷ []) ∷ (up_to 4 ∷ []) ∷ [] ∷ []; moves = λ line. [] }
+two_setting = record { nodes = 2; names = A ∷ B ∷ I ∷ []; shapes = (up_to 4 ∷ []) ∷ (up_to 4 ∷ []) ∷ [] ∷ []; moves = λ line. []; copies = []; copied = [] }
 
 abbrev sum : e.Parts
 sum = e.More (e.One (e.Binary op.Add (e.Name B) (e.Name A))) e.End
@@ -96,3 +95,41 @@ abbrev pub masked : List ℕ
 masked = trail_lines two_setting (lies (Block 2) ∷ lies (Cyclic 1) ∷ copy_layout 2 (0 ∷ []) ∷ []) (trail_of two_names
     (s.Then 4 (s.Where (e.Binary op.Gt (e.Name A) (n 0)) (record { line = 4; left = record { name = B; subscripts = None }; right = e.Name A } ∷ []) [])
     (s.Then 5 (s.Assign (record { name = I; subscripts = None }) (e.Call op.Sum sum)) s.Done)))
+
+-- ---- a nest of INDEPENDENT loops over an array that lies cyclically, with a scalar of its own and a REDUCTION variable
+
+abbrev T : List ℕ
+T = codes "T"
+
+abbrev S : List ℕ
+S = codes "S"
+
+abbrev nest_names : List Entry
+nest_names = record { name = A; what = what.Array (up_to 6 ∷ []) (pos 0) } ∷ record { name = I; what = what.Scalar (pos 0) } ∷ record { name = T; what = what.Scalar (pos 0) }
+    ∷ record { name = S; what = what.Scalar (pos 0) } ∷ []
+
+abbrev nest_setting : Setting
+nest_setting = record { nodes = 4; names = A ∷ I ∷ T ∷ S ∷ []; shapes = (up_to 6 ∷ []) ∷ [] ∷ [] ∷ [] ∷ []; moves = λ line. []; copies = []; copied = [] }
+
+abbrev nest_start : List Layout
+nest_start = record { shape = record { lower = pos 1 ∷ []; extent = pos 6 ∷ [] }; mapping = mapping 6 (Cyclic 1) }
+    ∷ copy_layout 4 (0 ∷ []) ∷ copy_layout 4 (0 ∷ []) ∷ copy_layout 4 (0 ∷ []) ∷ []
+
+abbrev left : List ℕ → e.Maybe → s.Variable
+left x e.Absent = record { name = x; subscripts = None }
+left x (e.Present i) = record { name = x; subscripts = Some (e.More (e.One i) e.End) }
+
+-- INTEGER :: A(6), I, T, S|!HPF$ DISTRIBUTE A(CYCLIC)|FORALL (I=1:6) A(I) = I|S = 100|!HPF$ INDEPENDENT, NEW(T), REDUCTION(S)|DO I = 1, 6|T = A(I) - I|S = S + T|A(I) = T|END DO|END
+abbrev pub new_and_reduction : List ℕ
+new_and_reduction = trail_lines nest_setting nest_start (trail_of nest_names (numbers 6
+    (s.Then 4 (s.Assign (left S e.Absent) (n 100))
+    (s.Then 6 (s.Do (Some record { line = 5; new = T ∷ []; reduction = S ∷ [] }) record { index = I; first = n 1; last = n 6; step = None }
+    (s.Then 7 (s.Assign (left T e.Absent) (e.Binary op.Sub (e.Element A at_i) (e.Name I)))
+    (s.Then 8 (s.Assign (left S e.Absent) (e.Binary op.Add (e.Name S) (e.Name T)))
+    (s.Then 9 (s.Assign (left A (e.Present (e.Name I))) (e.Name T)) s.Done)))) s.Done))))
+
+-- INTEGER :: A(6), I, T, S|!HPF$ DISTRIBUTE A(CYCLIC)|!HPF$ INDEPENDENT|DO I = 1, 6|IF (I > 4) A(I) = 1|END DO|END
+abbrev pub known_condition : List ℕ
+known_condition = trail_lines nest_setting nest_start (trail_of nest_names
+    (s.Then 4 (s.Do (Some record { line = 3; new = []; reduction = [] }) record { index = I; first = n 1; last = n 6; step = None }
+    (s.Then 5 (s.If (s.Arm 5 (e.Binary op.Gt (e.Name I) (n 4)) (s.Then 5 (s.Assign (left A (e.Present (e.Name I))) (n 1)) s.Done) s.NoArm) s.Without) s.Done)) s.Done))

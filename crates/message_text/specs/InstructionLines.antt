@@ -1,5 +1,5 @@
 -- The lines of an instruction of node code: those of the part that it is by the slots, or of its redistribution.
-use Rattle.std.specs.Prelude.{List, [], ℤ, ℕ}
+use Rattle.std.specs.Prelude.{ℕ, ◌+◌, ◌-◌, max, List, [], ◌∷◌, ◌++◌, length, map, ℤ}
 use Rattle.mappings.specs.declared.mapping.Mapping.{Mapping}
 use Rattle.array_meaning.specs.Sections.{extents}
 use Rattle.machine_steps.specs.Layout.{Layout}
@@ -7,9 +7,36 @@ use Rattle.machine_steps.specs.Machine.{remapped}
 use Rattle.machine_steps.specs.Message.{par_part, reduce_part}
 use Rattle.node_code.specs.Forms.{selections_in}
 use Rattle.node_code.specs.Parallel.{assignment_tuples, assigned_spot, evaluation_tuples, evaluation_extents, copy_spot, reduction_tuples, forall_tuples, forall_spot, forall_mask_tuples}
-use Rattle.node_code.specs.Instructions.{Instruction, remappings, Par, ParForall, ParCopy, ParForallCopy, Reduce, Remap}
-use Rattle.message_text.specs.Parts.{Setting, with_copy}
+use Rattle.node_code.specs.declared.nest.NestRole.{NestRole}
+use Rattle.node_code.specs.declared.nest.NestRole.TheVariants.{SetsMark}
+use Rattle.node_code.specs.NestStatements.{NestStatement, NestLeft, ElementLeft, CopyLeft, nest_tuples, nest_spot, copies_extents}
+use Rattle.node_code.specs.Instructions.{Instruction, remappings, Par, ParForall, ParNest, ParCopy, ParForallCopy, Reduce, Remap}
+use Rattle.message_text.specs.Parts.{Setting, with_copy, with_copies, with_copied}
 use Rattle.message_text.specs.MessageText.{part_lines, redistribution_lines}
+
+-- ---- statements of nests
+
+-- the rows of the copies that a statement of a nest names
+abbrev pub left_rows : NestLeft → List ℕ
+left_rows (ElementLeft a subs) = []
+left_rows (CopyLeft row) = row ∷ []
+
+abbrev pub copy_rows : NestStatement → List ℕ
+copy_rows p = map (λ w. w.copy) p.whens ++ (p.copies ++ left_rows p.left)
+
+-- of so many declared names, how many rows there are after them up to the last of these
+abbrev pub rows_after : ℕ → List ℕ → ℕ
+rows_after n [] = 0
+rows_after n (row ∷ rows) = max (row + 1 - n) (rows_after n rows)
+
+-- its lines, where the declared names lie so. The mark of an assignment is no part
+abbrev pub nest_lines : NestRole → Setting → List Layout → NestStatement → List ℤ → List ℕ
+nest_lines SetsMark s layouts p slots = []
+nest_lines role s layouts p slots =
+    let ls = with_copies s layouts (rows_after (length layouts) (copy_rows p)) (copies_extents p.over slots) in
+    part_lines (with_copied s p.copies p.names) ls p.line (par_part ls (nest_tuples s.shapes p) (nest_spot s.shapes p) slots)
+
+-- ---- all instructions
 
 -- with these mappings of the program
 module _ (maps : List Mapping) where
@@ -21,6 +48,7 @@ module _ (maps : List Mapping) where
   instruction_lines s layouts (ParForall p) slots =
       let ls = with_copy s layouts (extents (selections_in slots p.over)) in
       part_lines s ls p.line (par_part ls (forall_tuples s.shapes p) (forall_spot s.shapes p) slots)
+  instruction_lines s layouts (ParNest p) slots = nest_lines p.role s layouts p slots
   instruction_lines s layouts (ParCopy copy p) slots =
       let ls = with_copy s layouts (evaluation_extents p slots) in
       part_lines s ls p.line (par_part ls (evaluation_tuples s.shapes p) (copy_spot copy) slots)

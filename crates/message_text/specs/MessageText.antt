@@ -1,22 +1,32 @@
--- The text of `messages`: what nodes send for the parts of array statements and for redistributions.
-use Rattle.std.specs.Prelude.{ℕ, ◌+◌, suc, List, [], ◌∷◌, ◌++◌, codes, decimal, slice_index_or, slice_get, ℤ, Option, Some, None}
+-- The text of `messages`: what nodes send for the parts of array statements and of nests, and for redistributions.
+use Rattle.std.specs.Prelude.{ℕ, ◌+◌, suc, nat_eq, if◌then◌else◌, List, [], ◌∷◌, ◌++◌, length, codes, decimal, slice_index_or, slice_get, ℤ, Option, Some, None}
 use Rattle.std.specs.List.{flat_map, range_with_len}
 use Rattle.storage.specs.Storage.{Spot}
-use Rattle.statement_trail.specs.Trail.{Event, Trail, TrailEntry, Redistributed}
+use Rattle.statement_trail.specs.Trail.{Event, Trail, TrailEntry, OfNest, Redistributed}
+use Rattle.array_meaning.specs.Forall.{index_extents}
 use Rattle.passed_states.specs.TrailLayouts.{layouts_after}
 use Rattle.machine_steps.specs.Layout.{Layout, element_index}
 use Rattle.machine_steps.specs.Machine.{remapped}
 use Rattle.machine_steps.specs.Message.{Part, message, remap_message}
 use Rattle.letters.specs.declared.pair.Pair.{Pair}
 use Rattle.machine_steps.specs.Rounds.{remap_rounds}
-use Rattle.message_text.specs.Parts.{Setting, part_of, space_of, with_copy}
+use Rattle.message_text.specs.Parts.{Setting, part_of, space_of, with_copy, with_copies, with_copied, copies_of}
 use Rattle.run_report.specs.TupleText.{tuple_text}
 
 -- ---- elements and lines
 
--- a declared name, or the copy of a mask
+-- the scalar whose copies a row has, by rows with their scalars
+abbrev pub scalar_of : (copies copied : List ℕ) → ℕ → Option ℕ
+scalar_of (c ∷ cs) (k ∷ ks) row = if nat_eq c row then Some k else scalar_of cs ks row
+scalar_of cs ks row = None
+
+-- a copy of a scalar is written by its name, as in `T@(3)`; another row is a declared name, or the copy of a mask or of a condition
+abbrev pub name_by : Setting → Option ℕ → ℕ → List ℕ
+name_by s (Some k) row = slice_index_or s.names k [] ++ codes "@"
+name_by s None row = slice_index_or s.names row (codes "?@")
+
 abbrev pub row_name : Setting → ℕ → List ℕ
-row_name s row = slice_index_or s.names row (codes "?@")
+row_name s row = name_by s (scalar_of s.copies s.copied row) row
 
 abbrev pub subscripts_text : Option Layout → ℕ → List ℕ
 subscripts_text None at = []
@@ -60,6 +70,9 @@ redistribution_lines s line old new = rounds_lines s line old new 1 (remap_round
 -- the lines of an event of a line, where the declared names lie so
 abbrev pub event_lines : Setting → List Layout → ℕ → List ℤ → Event → List ℕ
 event_lines s layouts line scalars Redistributed = redistribution_lines s line layouts (remapped (s.moves line) layouts)
+event_lines s layouts line scalars (OfNest nest asked part) =
+    let ls = with_copies s layouts (length nest.assigned + nest.conditions) (index_extents nest.axes) in
+    part_lines (with_copied s (copies_of nest scalars) nest.assigned) ls line (part_of s ls scalars (OfNest nest asked part))
 event_lines s layouts line scalars event =
     part_lines s (with_copy s layouts (space_of event)) line (part_of s (with_copy s layouts (space_of event)) scalars event)
 

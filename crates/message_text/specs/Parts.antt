@@ -1,28 +1,31 @@
 -- The parts of a trail on nodes: what each reads at a tuple, and who computes it. The owners of the element that is assigned compute it.
-use Rattle.std.specs.Prelude.{ℕ, ◌==◌, Bool, true, false, List, [], ◌∷◌, ◌++◌, length, ℤ, Option, Some, None}
+use Rattle.std.specs.Prelude.{ℕ, ◌+◌, ◌==◌, Bool, true, false, List, [], ◌∷◌, ◌++◌, length, map, replicate, ℤ, Option, Some, None}
 use Rattle.std.specs.Result.{result_unwrap_or}
 use Rattle.expression_rules.specs.declared.dims.Dim.{Dim}
 use Rattle.storage.specs.Storage.{Spot}
 use Rattle.array_meaning.specs.Terms.{Term, Element, Apply, Terms, NoTerm, More}
-use Rattle.array_meaning.specs.State.{State}
 use Rattle.array_meaning.specs.Sections.{positions, subscripts_at}
 use Rattle.array_meaning.specs.Expressions.{values}
 use Rattle.array_meaning.specs.Forall.{index_extents, indices_at}
-use Rattle.statement_trail.specs.Trail.{Event, SectionAssigned, WhereMask, Reduced, ForallMask, ElementsAssigned, Redistributed}
+use Rattle.statement_trail.specs.NestParts.{EnteredNest, Asked, NestPart, ScalarPart, ElementPart, ConditionPart, index_in, copied_in, scalar_copy, condition_copy}
+use Rattle.statement_trail.specs.Trail.{Event, SectionAssigned, WhereMask, Reduced, ForallMask, ElementsAssigned, OfNest, Redistributed}
 use Rattle.machine_steps.specs.Instr.{Remapping}
 use Rattle.machine_steps.specs.Layout.{Layout, in_bounds}
 use Rattle.machine_steps.specs.Message.{Part, computes_left, first_read, least_or_zero}
 use Rattle.machine_steps.specs.CopyLayout.{copy_layout}
 use Rattle.machine_steps.specs.Space.{space_count}
 use Rattle.node_code.specs.Parallel.{reads_at, spot_of}
+use Rattle.lowered_expressions.specs.NestTerms.{indexed, all_indexed}
 
 -- what is known beside a trail: how many nodes there are; the declared names, by their places, and the dimensions of those that are
--- arrays; and which arrays the REDISTRIBUTE of a line moves, and to which mappings (HPF 2.0, 8.3)
+-- arrays; which arrays the REDISTRIBUTE of a line moves, and to which mappings (HPF 2.0, 8.3); and rows of copies, with the scalars whose copies these are
 pub record Setting : Type 0 where
   pub nodes : ℕ
   pub names : List (List ℕ)
   pub shapes : List (List Dim)
   pub moves : ℕ → List Remapping
+  pub copies : List ℕ
+  pub copied : List ℕ
 
 -- ---- expressions of a FORALL, where the indices have these values. Its subscripts name no element
 
@@ -41,6 +44,35 @@ module _ (shapes : List (List Dim)) (scalars : List ℤ) (indices : List ℤ) wh
     all_named_in NoTerm = []
     all_named_in (More t ts) = named_in t ++ all_named_in ts
 
+-- ---- parts of nests of INDEPENDENT loops (HPF 2.0, 5.1). The copies stand after the declared names, of which there are as many as scalars
+
+module _ (nest : EnteredNest) (scalars : List ℤ) where
+  -- the iteration's element of a copy
+  abbrev pub copy_at : ℕ → ℕ → Option Spot
+  copy_at copy t = Some record { row = length scalars + copy; at = t }
+
+  -- the stored conditions that are asked for
+  abbrev pub conditions_read : List Asked → ℕ → List (Option Spot)
+  conditions_read asked t = map (λ w. copy_at (condition_copy nest w.number) t) asked
+
+  -- the copies of the scalars that an expression names and the nest assigns, and then the elements that it names. A scalar that is an index of the nest
+  -- has the value that this has in the iteration
+  abbrev pub right_read : List (List Dim) → Term → ℕ → List (Option Spot)
+  right_read shapes e t =
+      map (λ k. copy_at (scalar_copy nest k) t) (copied_in nest.assigned e) ++ named_in shapes scalars (indices_at nest.axes t) (indexed (index_in nest.indices 0) e)
+
+  abbrev pub part_read : List (List Dim) → NestPart → ℕ → List (Option Spot)
+  part_read shapes (ScalarPart k e) t = right_read shapes e t
+  part_read shapes (ElementPart a ts e) t = right_read shapes e t
+  part_read shapes (ConditionPart k (Some e)) t = right_read shapes e t
+  part_read shapes (ConditionPart k None) t = []
+
+  -- what is assigned in an iteration: its copy of a scalar or of a condition, or an element
+  abbrev pub part_assigned : List (List Dim) → NestPart → ℕ → Option Spot
+  part_assigned shapes (ScalarPart k e) t = copy_at (scalar_copy nest k) t
+  part_assigned shapes (ElementPart a ts e) t = spot_of shapes a (subscripts_in scalars (indices_at nest.axes t) (all_indexed (index_in nest.indices 0) ts))
+  part_assigned shapes (ConditionPart k e) t = copy_at (condition_copy nest k) t
+
 -- ---- parts
 
 -- the extents of the space of a part
@@ -50,6 +82,7 @@ space_of (WhereMask ns x) = ns
 space_of (Reduced o ns x) = ns
 space_of (ForallMask axes t) = index_extents axes
 space_of (ElementsAssigned masked axes a ts t) = index_extents axes
+space_of (OfNest nest asked part) = index_extents nest.axes
 space_of Redistributed = []
 
 -- an element of the copy of a mask, which stands after the declared names, of which there are as many as scalars
@@ -60,19 +93,21 @@ abbrev pub mask_reads : List ℤ → Bool → ℕ → List (Option Spot)
 mask_reads scalars false t = []
 mask_reads scalars true t = mask_spot scalars t ∷ []
 
--- what is read at a tuple: the mask, and then the elements that the expression names, in the order of the text
+-- what is read at a tuple: the mask or other copies, and then the elements that the expression names, in the order of the text
 abbrev pub reads_of : Setting → List ℤ → Event → ℕ → List (Option Spot)
 reads_of s scalars (SectionAssigned masked ns a ds x) t = mask_reads scalars masked t ++ reads_at s.shapes (positions ns t) x
 reads_of s scalars (WhereMask ns x) t = reads_at s.shapes (positions ns t) x
 reads_of s scalars (Reduced o ns x) t = reads_at s.shapes (positions ns t) x
 reads_of s scalars (ForallMask axes e) t = named_in s.shapes scalars (indices_at axes t) e
 reads_of s scalars (ElementsAssigned masked axes a ts e) t = mask_reads scalars masked t ++ named_in s.shapes scalars (indices_at axes t) e
+reads_of s scalars (OfNest nest asked part) t = conditions_read nest scalars asked t ++ part_read nest scalars s.shapes part t
 reads_of s scalars Redistributed t = []
 
--- the element that is assigned at a tuple, of an array or of the copy of a mask
+-- the element that is assigned at a tuple, of an array or of a copy
 abbrev pub left_of : Setting → List ℤ → Event → ℕ → Option Spot
 left_of s scalars (SectionAssigned masked ns a ds x) t = spot_of s.shapes a (subscripts_at ds (positions ns t))
 left_of s scalars (ElementsAssigned masked axes a ts e) t = spot_of s.shapes a (subscripts_in scalars (indices_at axes t) ts)
+left_of s scalars (OfNest nest asked part) t = part_assigned nest scalars s.shapes part t
 left_of s scalars event t = mask_spot scalars t
 
 -- who computes a tuple: the owners of the element that is assigned, or in a reduction the least owner of the first element that is
@@ -92,3 +127,15 @@ part_of s layouts scalars event = record {
 -- the declared names lie so, and after them a copy of these extents
 abbrev pub with_copy : Setting → List Layout → List ℕ → List Layout
 with_copy s layouts ns = layouts ++ copy_layout s.nodes ns ∷ []
+
+-- or so many copies of these extents
+abbrev pub with_copies : Setting → List Layout → (count : ℕ) → List ℕ → List Layout
+with_copies s layouts count ns = layouts ++ replicate count (copy_layout s.nodes ns)
+
+-- where these rows have copies of these scalars
+abbrev pub with_copied : Setting → (copies copied : List ℕ) → Setting
+with_copied s copies copied = record s { copies = copies; copied = copied }
+
+-- the copies of a nest's scalars
+abbrev pub copies_of : EnteredNest → List ℤ → List ℕ
+copies_of nest scalars = map (λ k. length scalars + scalar_copy nest k) nest.assigned

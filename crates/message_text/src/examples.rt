@@ -1,10 +1,11 @@
 //! Lines of small programs.
 
 ghost use Rattle.std.specs.Prelude.{◌≡◌, codes};
-ghost use Rattle.message_text.specs.Examples.{block_to_cyclic, masked, reversal, shift_left};
+ghost use Rattle.message_text.specs.Examples.{block_to_cyclic, known_condition, masked, new_and_reduction, reversal, shift_left};
 
 /// A shift to the left and a reversal of an array in blocks over four nodes, its redistribution, and a mask and a reduction over an array in
-/// blocks and one that is cyclic on two.
+/// blocks and one that is cyclic on two. Then two nests of INDEPENDENT loops over a cyclic array: one with a scalar of its own and a REDUCTION variable, and one
+/// with a condition.
 pub fn lines_of_examples()
     ensures shift { shift_left ≡ codes "line 4: 1 -> 0: A(4)\nline 4: 2 -> 1: A(7)\nline 4: 3 -> 2: A(10)\n" }
     ensures reverse { reversal
@@ -13,4 +14,8 @@ pub fn lines_of_examples()
         ≡ codes "line 5: round 1: 0 -> 1: A(2)\nline 5: round 1: 1 -> 2: A(3)\nline 5: round 2: 1 -> 3: A(4)\nline 5: round 2: 2 -> 0: A(5)\nline 5: round 3: 2 -> 1: A(6)\nline 5: round 3: 3 -> 2: A(7)\n" }
     ensures mask { masked
         ≡ codes "line 4: 0 -> 1: A(2) ?@(2)\nline 4: 1 -> 0: A(3) ?@(3)\nline 5: 0 -> 1: A(2)\nline 5: 1 -> 0: A(3)\n" }
+    ensures nest { new_and_reduction
+        ≡ codes "line 7: 0 -> 2: A(5)\nline 7: 1 -> 0: A(2)\nline 7: 1 -> 2: A(6)\nline 7: 2 -> 1: A(3)\nline 7: 3 -> 1: A(4)\nline 9: 0 -> 1: T@(2)\nline 9: 1 -> 2: T@(3)\nline 9: 1 -> 3: T@(4)\nline 9: 2 -> 0: T@(5)\nline 9: 2 -> 1: T@(6)\n" }
+    ensures condition { known_condition
+        ≡ codes "line 5: 0 -> 1: ?@(2)\nline 5: 1 -> 2: ?@(3)\nline 5: 1 -> 3: ?@(4)\nline 5: 2 -> 0: ?@(5)\nline 5: 2 -> 1: ?@(6)\n" }
 {}

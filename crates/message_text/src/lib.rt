@@ -1,4 +1,4 @@
-//! The text of `messages`: what nodes send for the parts of array statements and for redistributions, as definitions.
+//! The text of `messages`: what nodes send for the parts of array statements and of nests of INDEPENDENT loops, and for redistributions, as definitions.
 //!
 //! Comes in: the trail of a run (`statement_trail`), and who owns which element and sends it to whom (`machine_steps`). Goes out, in
 //! `specs/`: the lines of a trail on so many nodes, where the declared names lie so at the start. There is no function here that runs.

@@ -1,1 +1,5 @@
+mod NamedElements
+mod TrailPlaces
+mod MoreRows
+mod NestLines
 mod SameLines

@@ -1,76 +1,45 @@
 -- What is passed has the lines of the trail.
-use Rattle.std.proofs.Common.{◌≡◌, ℕ, ◌<◌, List, [], ◌∷◌, ◌++◌, length, map, slice_index_or, ℤ, pos, Option, Some, None, refl, sym, ap, ◌∙◌, subst}
+use Rattle.std.proofs.Common.{◌≡◌, ℕ, zero, suc, ◌<◌, List, [], ◌∷◌, ◌++◌, length, map, slice_index_or, ℤ, pos, Option, Some, None, refl, sym, ap, ◌∙◌, subst}
 use Rattle.std.specs.Prelude.{is_some}
-use Rattle.std.specs.Result.{result_unwrap_or}
 use Rattle.mappings.specs.declared.mapping.Mapping.{Mapping}
 use Rattle.machine_steps.specs.Space.{space_count}
 use Rattle.expression_rules.specs.declared.dims.Dim.{Dim}
-use Rattle.storage.specs.Storage.{Spot}
 use Rattle.array_meaning.specs.Forall.{index_extents, indices_at}
 use Rattle.array_meaning.specs.Sections.{extents, positions, subscripts_at}
-use Rattle.array_meaning.specs.State.{State}
-use Rattle.array_meaning.specs.Terms.{Term, Number, Scalar, Index, Element, Section, Apply, Reduce, Terms, NoTerm, More}
-use Rattle.statement_trail.specs.Trail.{Event, Trail, TrailEntry, SectionAssigned, WhereMask, Reduced, ForallMask, ElementsAssigned, Redistributed}
-use Rattle.array_meaning.specs.declared.sections.Selection.{Selection}
+use Rattle.array_meaning.specs.Terms.{Term, Terms}
+use Rattle.statement_trail.specs.Trail.{Event, Trail, SectionAssigned, WhereMask, Reduced, ForallMask, ElementsAssigned, Redistributed}
 use Rattle.array_meaning.specs.declared.sections.Selection.TheVariants.{Along}
 use Rattle.array_meaning.specs.declared.sections.Sequence.{Sequence}
 use Rattle.machine_steps.specs.Layout.{Layout, in_bounds}
-use Rattle.machine_steps.specs.Machine.{remapped}
-use Rattle.machine_steps.specs.Message.{Part, par_part, computes_left}
+use Rattle.machine_steps.specs.Machine.{remapped, with_mapping}
+use Rattle.machine_steps.specs.Message.{par_part, computes_left}
 use Rattle.node_code.specs.Flat.{slot}
-use Rattle.node_code.specs.Forms.{Sub, selections_in, selections_at, elemental_in, elemental_at, elementals_at}
+use Rattle.node_code.specs.Forms.{selections_in, selections_at, elemental_in, elemental_at}
 use Rattle.node_code.specs.Instructions as code
-use Rattle.node_code.specs.Instructions.{Instruction, NewMapping, remappings, Par, ParForall, ParCopy, ParForallCopy, Remap}
+use Rattle.node_code.specs.Instructions.{Instruction, NewMapping, remappings, Par, ParForall, ParNest, ParCopy, ParForallCopy, Remap}
 use Rattle.node_code.specs.Parallel as parallel
 use Rattle.node_code.specs.Parallel.{When, Assignment, Evaluation, reads_at, spot_of, indices_in, evaluation_extents, forall_tuples, forall_spot, forall_mask_tuples, copy_spot}
-use Rattle.lowered_expressions.specs.ExpressionCode.{index_subs, index_form, index_forms}
-use Rattle.lowered_expressions.specs.Passed.{Passed, IsMaskCopy, IsEvent, IsTrailEntry, IsTrail}
-use Rattle.lowered_expressions.specs.WellFormed.{AreSubscripts, IsIndexed, AreIndexed}
-use Rattle.lowered_expressions.proofs.Indexed.{subs-are}
-use Rattle.message_text.specs.Parts.{Setting, subscripts_in, named_in, all_named_in, mask_spot, mask_reads, reads_of, left_of, part_of, with_copy}
+use Rattle.lowered_expressions.specs.ExpressionCode.{index_subs, index_form}
+use Rattle.lowered_expressions.specs.Passed.{Passed, IsMaskCopy, IsEvent, IsTrail}
+use Rattle.lowered_expressions.specs.WellFormed.{AreSubscripts, IsIndexed}
+use Rattle.message_text.specs.Parts.{Setting, subscripts_in, named_in, mask_reads, part_of, with_copy, with_copies, with_copied}
 use Rattle.message_text.specs.MessageText.{part_lines, redistribution_lines, event_lines, trail_lines}
 use Rattle.passed_states.specs.TrailLayouts as trail
 use Rattle.message_text.specs.InstructionLines.{instruction_lines}
 use Rattle.messages_lowered.specs.PassedText.{setting_by, passed_text}
+use Rattle.machine_steps.specs.Instr.{Remapping}
+use Rattle.statement_trail.specs.NestParts.{EnteredNest, NestPart, ScalarPart, ElementPart, ConditionPart}
+use Rattle.node_code.specs.NestStatements.{NestStatement, nest_tuples, nest_spot, copies_extents}
+use Rattle.lowered_expressions.specs.NestEvents.{IsPart}
+use Rattle.message_text.specs.InstructionLines.{rows_after, copy_rows, nest_lines}
+use Rattle.messages_lowered.proofs.NestLines.{nest-lines-same}
+use Rattle.messages_lowered.proofs.TrailPlaces.{HavePlaces}
+use Rattle.messages_lowered.proofs.NamedElements.{header-extents, subscripts-same, named-same, indices-same}
 use Rattle.passed_states.specs.PassedLayouts.{layouts_after}
 
 masks-same : (scalars : List ℤ) (mask : Option When) → IsMaskCopy (length scalars) mask → (t : ℕ) → parallel.mask_reads mask t ≡ mask_reads scalars (is_some mask) t
 masks-same scalars None h t = refl
 masks-same scalars (Some w) h t = ap (λ (row : ℕ). Some record { row = row; at = t } ∷ []) (h w refl)
-
-header-extents : (axes : List Sequence) → extents (map Along axes) ≡ index_extents axes
-header-extents [] = refl
-header-extents (p ∷ axes) = ap (λ ns. p.count ∷ ns) (header-extents axes)
-
--- ---- FORALL, at an index tuple
-
-module _ (shapes : List (List Dim)) (scalars slots : List ℤ) (holds : (k : ℕ) → k < length scalars → slot slots k ≡ slice_index_or scalars k (pos 0)) where
-  abbrev state : State
-  state = record { scalars = scalars; arrays = []; printed = [] }
-
-  subscripts-same : (y : List ℤ) (ts : Terms) → AreSubscripts (length scalars) ts → subscripts_at (selections_at slots y (index_subs ts)) y ≡ subscripts_in scalars y ts
-  subscripts-same y ts ok = sym (ap (λ r. result_unwrap_or r []) (subs-are (length scalars) state slots holds y y ts ok))
-
-  mutual
-    named-same : (y : List ℤ) (t : Term) → IsIndexed (length scalars) t → reads_at shapes y (elemental_at slots y (index_form t)) ≡ named_in shapes scalars y t
-    named-same y (Number v) ok = refl
-    named-same y (Scalar k) ok = refl
-    named-same y (Index k) ok = refl
-    named-same y (Element a ts) ok = ap (λ is. spot_of shapes a is ∷ []) (subscripts-same y ts ok.1)
-    named-same y (Section a subs) ok = refl
-    named-same y (Apply o ts) ok = all-named-same y ts ok
-    named-same y (Reduce o t) ok = absurd ok
-
-    all-named-same : (y : List ℤ) (ts : Terms) → AreIndexed (length scalars) ts
-        → parallel.all_reads_at shapes y (elementals_at slots y (index_forms ts)) ≡ all_named_in shapes scalars y ts
-    all-named-same y NoTerm ok = refl
-    all-named-same y (More t ts) ok =
-        ap (λ l. l ++ parallel.all_reads_at shapes y (elementals_at slots y (index_forms ts))) (named-same y t ok.0)
-        ∙ ap (λ l. named_in shapes scalars y t ++ l) (all-named-same y ts ok.1)
-
-indices-same : (over : List Sub) (slots : List ℤ) (axes : List Sequence) → selections_in slots over ≡ map Along axes → (u : ℕ) → indices_in over slots u ≡ indices_at axes u
-indices-same over slots axes h u =
-    ap (λ ds. subscripts_at ds (positions (extents ds) u)) h ∙ ap (λ ns. subscripts_at (map Along axes) (positions ns u)) (header-extents axes)
 
 -- ---- entries
 
@@ -84,7 +53,7 @@ module _ (nodes : ℕ) (names : List (List ℕ)) (shapes : List (List Dim)) (map
   s = setting_by nodes names shapes maps moves
 
   module _ (layouts : List Layout) (line : ℕ) (scalars slots : List ℤ)
-      (holds : (k : ℕ) → k < length scalars → slot slots k ≡ slice_index_or scalars k (pos 0)) where
+      (holds : (k : ℕ) → k < length scalars → slot slots k ≡ slice_index_or scalars k (pos 0)) (laid : length layouts ≡ length scalars) where
     par-same : (q : Assignment) → IsMaskCopy (length scalars) q.mask → (ls : List Layout)
         → par_part ls (parallel.assignment_tuples s.shapes q) (parallel.assigned_spot s.shapes q) slots
         ≡ part_of s ls scalars (SectionAssigned (is_some q.mask) (extents (selections_in slots q.over)) q.array (selections_in slots q.left) (elemental_in slots q.right))
@@ -153,6 +122,15 @@ module _ (nodes : ℕ) (names : List (List ℕ)) (shapes : List (List Dim)) (map
             ∙ ap (λ y. reads_at s.shapes y (elemental_at slots y (index_form t))) (indices-same q.over slots axes over u)
             ∙ named-same s.shapes scalars slots holds (indices_at axes u) t ok
 
+    -- a statement that is a part sets no mark
+    noted : (q : NestStatement) (N : EnteredNest) (part : NestPart) → IsPart (length scalars) N q part → nest_lines q.role s layouts q slots
+        ≡ (let ls = with_copies s layouts (rows_after (length layouts) (copy_rows q)) (copies_extents q.over slots) in
+        part_lines (with_copied s q.copies q.names) ls q.line (par_part ls (nest_tuples s.shapes q) (nest_spot s.shapes q) slots))
+    noted q N (ScalarPart k t) h = ap (λ r. nest_lines r s layouts q slots) h.1
+    noted q N (ElementPart a ts t) h = ap (λ r. nest_lines r s layouts q slots) h.1
+    noted q N (ConditionPart k (Some t)) h = ap (λ r. nest_lines r s layouts q slots) h.1
+    noted q N (ConditionPart k None) h = ap (λ r. nest_lines r s layouts q slots) h.1
+
     abbrev Same : Instruction → Event → Type 0
     Same x event = (instruction_lines maps s layouts x slots ≡ event_lines s layouts line scalars event) × (layouts_after maps x layouts ≡ moved s line event layouts)
 
@@ -192,6 +170,13 @@ module _ (nodes : ℕ) (names : List (List ℕ)) (shapes : List (List Dim)) (map
               ∙ ap (part_lines s ls line) (forall-mask-same copy q h.1.0 h.1.1 h.1.3 h.1.4 h.1.5 h.1.6 ls),
           refl,
         )
+    lines-same (ParNest q) event h =
+        let e = nest-lines-same s layouts line scalars slots holds laid h.1.0 q h.1.1 h.1.2 h.1.4 h.1.5 h.1.6 h.1.7 in
+        let ls = with_copies s layouts (rows_after (length layouts) (copy_rows q)) (copies_extents q.over slots) in
+        subst (λ ev. (instruction_lines maps s layouts (ParNest q) slots ≡ event_lines s layouts line scalars ev) × (layouts ≡ moved s line ev layouts)) (sym h.1.3) (
+          noted q h.1.0 h.1.2 h.1.7 ∙ ap (λ l. part_lines (with_copied s q.copies q.names) ls l (par_part ls (nest_tuples s.shapes q) (nest_spot s.shapes q) slots)) h.0 ∙ e,
+          refl,
+        )
     lines-same (Remap l new) event h =
         subst (λ ev. (instruction_lines maps s layouts (Remap l new) slots ≡ event_lines s layouts line scalars ev)
         × (remapped (remappings maps new) layouts ≡ moved s line ev layouts)) (sym h.1) (
@@ -201,12 +186,29 @@ module _ (nodes : ℕ) (names : List (List ℕ)) (shapes : List (List Dim)) (map
         )
     lines-same x event h = absurd h
 
-  pub text-same : (layouts : List Layout) (ps : List Passed) (T : Trail) → IsTrail moves ps T → passed_text maps s layouts ps ≡ trail_lines s layouts T
-  text-same layouts [] [] h = refl
-  text-same layouts [] (e ∷ T) h = absurd h
-  text-same layouts (p ∷ ps) [] h = absurd h
-  text-same layouts (p ∷ ps) (e ∷ T) h =
-      let same = lines-same layouts e.line e.scalars p.slots h.0.scalars p.instruction e.event h.0.event in
+  -- ---- as many names at each entry
+
+  mapping-long : (ls : List Layout) (row : ℕ) (m : Mapping) → length (with_mapping ls row m) ≡ length ls
+  mapping-long [] row m = refl
+  mapping-long (l ∷ ls) zero m = refl
+  mapping-long (l ∷ ls) (suc row) m = ap suc (mapping-long ls row m)
+
+  remapped-long : (new : List Remapping) (ls : List Layout) → length (remapped new ls) ≡ length ls
+  remapped-long [] ls = refl
+  remapped-long (x ∷ new) ls = remapped-long new (with_mapping ls x.row x.mapping) ∙ mapping-long ls x.row x.mapping
+
+  moved-long : (line : ℕ) (event : Event) (ls : List Layout) → length (moved s line event ls) ≡ length ls
+  moved-long line Redistributed ls = remapped-long (s.moves line) ls
+  moved-long line event ls = refl
+
+  pub text-same : (n : ℕ) (layouts : List Layout) (ps : List Passed) (T : Trail) → length layouts ≡ n → HavePlaces n T → IsTrail moves ps T
+      → passed_text maps s layouts ps ≡ trail_lines s layouts T
+  text-same n layouts [] [] laid places h = refl
+  text-same n layouts [] (e ∷ T) laid places h = absurd h
+  text-same n layouts (p ∷ ps) [] laid places h = absurd h
+  text-same n layouts (p ∷ ps) (e ∷ T) laid places h =
+      let same = lines-same layouts e.line e.scalars p.slots h.0.scalars (laid ∙ sym places.0) p.instruction e.event h.0.event in
       ap (λ l. l ++ passed_text maps s (layouts_after maps p.instruction layouts) ps) same.0
       ∙ ap (λ ls. event_lines s layouts e.line e.scalars e.event ++ passed_text maps s ls ps) same.1
-      ∙ ap (λ l. event_lines s layouts e.line e.scalars e.event ++ l) (text-same (moved s e.line e.event layouts) ps T h.1)
+      ∙ ap (λ l. event_lines s layouts e.line e.scalars e.event ++ l)
+      (text-same n (moved s e.line e.event layouts) ps T (moved-long e.line e.event layouts ∙ laid) places.1 h.1)

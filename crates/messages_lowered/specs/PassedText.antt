@@ -17,7 +17,7 @@ use Rattle.message_text.specs.MessageText.{trail_lines}
 
 -- what is known beside a trail where a program has these mappings
 abbrev pub setting_by : ℕ → List (List ℕ) → List (List Dim) → List Mapping → (ℕ → List NewMapping) → Setting
-setting_by nodes names shapes maps moves = record { nodes = nodes; names = names; shapes = shapes; moves = λ line. remappings maps (moves line) }
+setting_by nodes names shapes maps moves = record { nodes = nodes; names = names; shapes = shapes; moves = λ line. remappings maps (moves line); copies = []; copied = [] }
 
 -- with these mappings of the program: the text of what is passed from where the declared names lie so
 abbrev pub passed_text : List Mapping → Setting → List Layout → List Passed → List ℕ

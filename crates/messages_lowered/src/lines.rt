@@ -19,6 +19,7 @@ ghost use Rattle.lowering.specs.Lowered.{IsState, IsTable, opening};
 ghost use Rattle.lowering.specs.StatementCode.{block_copies};
 ghost use Rattle.lowered_expressions.specs.WellFormed.{IsWellFormedBlock};
 ghost use Rattle.nest_items.specs.BlockForms.{BlockHasForms};
+ghost use Rattle.fitting_states.specs.FittingStates.{BlockFits, ProgramFits, StateFits};
 ghost use Rattle.messages_lowered.specs.PassedText.{MachineHasText, setting_by};
 
 /// The machine with whole arrays ends over a program's code as the program does, and the text of `messages` by what it passes on its way
@@ -26,7 +27,8 @@ ghost use Rattle.messages_lowered.specs.PassedText.{MachineHasText, setting_by};
 pub fn texts_lowered()
     ensures { (n room : ℕ) (table : ArrayTable) (moves : ℕ → List NewMapping) (nodes : ℕ) (names : List (List ℕ)) (shapes : List (List Dim))
         (body : Block) (s : State) (layouts starts : List Layout)
-        → IsState n s → IsTable s table → block_copies body ≤ room → length layouts ≡ n + room → IsWellFormedBlock n body → BlockHasForms body
+        → IsState n s → IsTable s table → block_copies n body ≤ room → length layouts ≡ n + room → length starts ≡ n → IsWellFormedBlock n body → BlockHasForms body
+        → BlockFits body → StateFits s
         → MachineHasText n table (setting_by nodes names shapes table.maps moves) starts (opening n room moves body s layouts) (run_block body s)
         (block_trail body s) }
 {}
@@ -35,9 +37,9 @@ pub fn texts_lowered()
 pub fn accepted_texts_lowered()
     ensures { (p : MainProgram) (room : ℕ) (table : ArrayTable) (moves : ℕ → List NewMapping) (nodes : ℕ) (names : List (List ℕ)) (shapes : List (List Dim))
         (layouts starts : List Layout)
-        → IsTable (initial_state (entries p)) table → block_copies (resolved_block (entries p) p.body) ≤ room
-        → length layouts ≡ length (entries p) + room → HasNoBreach p → NoBreach (Among (body_breaches (entries p) p.body))
-        → BlockHasForms (resolved_block (entries p) p.body)
+        → IsTable (initial_state (entries p)) table → block_copies (length (entries p)) (resolved_block (entries p) p.body) ≤ room
+        → length layouts ≡ length (entries p) + room → length starts ≡ length (entries p) → HasNoBreach p → NoBreach (Among (body_breaches (entries p) p.body))
+        → BlockHasForms (resolved_block (entries p) p.body) → ProgramFits p
         → MachineHasText (length (entries p)) table (setting_by nodes names shapes table.maps moves) starts
         (opening (length (entries p)) room moves (resolved_block (entries p) p.body) (initial_state (entries p)) layouts)
         (run_block (resolved_block (entries p) p.body) (initial_state (entries p))) (serial_trail p) }

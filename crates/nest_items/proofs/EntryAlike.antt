@@ -1,6 +1,6 @@
 -- The entry of a nest depends on the scalars and on the dimensions of arrays alone: in two states that are alike in these it has one fault, or
 -- none in both.
-use Rattle.std.proofs.Common.{◌≡◌, ℕ, zero, suc, ◌<◌, ◌≤◌, ◌*◌, nat_le, List, [], ◌∷◌, ◌++◌, length, ℤ, pos, ◌-ℤ◌, Bool, true, false, ◌&&◌, ◌||◌, not, ◌==◌, if◌then◌else◌, Option, Some, None, Result, Ok, Err, refl, sym, ap, ap₂, ◌∙◌, subst, arith, true≢false, ◌⊎◌, inl, inr, length-set, get_or-set_same, get_or-set_other, ⊎_elim, map}
+use Rattle.std.proofs.Common.{◌≡◌, ℕ, ◌<◌, ◌≤◌, ◌*◌, nat_le, List, [], ◌∷◌, ◌++◌, length, ℤ, pos, ◌-ℤ◌, Bool, true, false, ◌&&◌, ◌||◌, ◌==◌, if◌then◌else◌, Option, Some, None, Result, Ok, Err, refl, sym, ap, ap₂, ◌∙◌, subst, arith, true≢false, ◌⊎◌, inl, inr, length-set, get_or-set_same, get_or-set_other, ⊎_elim}
 use Rattle.std.specs.List.{AllByRecursion, list_all}
 use Rattle.std.specs.Result.{result_unwrap_or}
 use Rattle.std.proofs.lemmas.Bool.{cases_eq, and_parts}
@@ -8,18 +8,18 @@ use Rattle.hpf_base.specs.ElementOrder.{product}
 use Rattle.hpf_base.specs.declared.limits.TheConstants.{MAX_TUPLES}
 use Rattle.op_tables.specs.Operators.{wrapped}
 use Rattle.array_meaning.specs.Terms.{Term, Number, Scalar, Index, Element, Section, Apply, Reduce, Terms, NoTerm, More, list_of}
-use Rattle.array_meaning.specs.Statements.{Loop, Nest, Block, Done, Then, Statement, AssignScalar, AssignElement, AssignSection, If, Do, Where, Forall, Print, Stop, Exit, Cycle, Continue, Redistribute, Mark, Arms, NoArm, Arm}
+use Rattle.array_meaning.specs.Statements.{Loop, Nest, Block, Done, Then, Statement, AssignScalar, AssignElement, AssignSection, If, Do, Where, Forall, Print, Stop, Exit, Cycle, Continue, Redistribute, Arms, NoArm, Arm}
 use Rattle.array_meaning.specs.declared.faults.FaultKind.TheVariants.{SpaceLimit, Interfere}
 use Rattle.array_meaning.specs.Faults.{Cause, Between, ◌>>=◌, fails}
 use Rattle.array_meaning.specs.State.{State, scalar, array, set_scalar, place_in, if_in_bounds, element_place}
 use Rattle.array_meaning.specs.declared.sections.Sequence.{Sequence}
 use Rattle.array_meaning.specs.Sections.{is_subscript_in_limits}
-use Rattle.array_meaning.specs.Expressions.{value, values, index_values}
+use Rattle.array_meaning.specs.Expressions.{value, values}
 use Rattle.array_meaning.specs.Forall.{index_extents, indices_at, is_index_in_limits, subscripts_in, subscripts_in_all}
 use Rattle.array_meaning.specs.Iterations.{values_of, nest_axes, nest_indices, with_indices, turn_value, in_turns}
 use Rattle.array_meaning.specs.Touches.{Touch, element_touch, reads, all_reads, assigned_in, is_known, are_known, truth_of, known_truth, counted, touches, touches_in, touches_in_arms, hidden_scalars, iteration_touches, scalar_touch}
 use Rattle.array_meaning.specs.Clashes.{Clash, first_clash}
-use Rattle.array_meaning.specs.NestLimits.{with_all, number_in, is_linear_in_limits, are_linear_in_limits, is_block_in_limits, is_in_limits, are_arms_in_limits}
+use Rattle.array_meaning.specs.NestLimits.{with_all, is_linear_in_limits, are_linear_in_limits, is_block_in_limits, is_in_limits, are_arms_in_limits}
 use Rattle.array_meaning.specs.NestEntry.{object_subscripts, unless_clash, check_nest}
 use Rattle.nest_items.specs.Naming.{IsNaming, AreNaming}
 use Rattle.nest_items.proofs.Values.{value_near, values_near, control_near, then_same}

@@ -63,7 +63,7 @@ operator_fits o (a ∷ []) h f = one_fits o a h f.0
 operator_fits o (a ∷ b ∷ []) h f = two_fit o a b h
 operator_fits o (a ∷ b ∷ c ∷ vs) h f = many_fit o a b c vs h
 
-operator_is : (o : Op) (vs : List ℤ) → is_linear_operator o ≡ true → operated o vs ≡ Ok (value_of o vs)
+pub operator_is : (o : Op) (vs : List ℤ) → is_linear_operator o ≡ true → operated o vs ≡ Ok (value_of o vs)
 operator_is op.Neg vs h = refl
 operator_is op.Plus vs h = refl
 operator_is op.Add vs h = refl
@@ -106,7 +106,7 @@ applied_closed o (Some vs) v h = (vs, refl, h)
 applied_closed o None v h = absurd cc
 
 mutual
-  closed_is : (s : State) (t : Term) (v : ℤ) → closed_value t ≡ Some v → value [] s t ≡ Ok v
+  pub closed_is : (s : State) (t : Term) (v : ℤ) → closed_value t ≡ Some v → value [] s t ≡ Ok v
   closed_is s (Number w) v h = let same : w ≡ v = cc in ap Ok same
   closed_is s (Apply o ts) v h =
       let m = applied_closed o (closed_values ts) v h in
@@ -125,10 +125,10 @@ mutual
 
 -- ---- loops
 
-sequence_is : (a b c : ℤ) → is_zero c ≡ false → sequence a b c ≡ Ok record { first = a; step = c; count = value_count (wrapped a) (wrapped b) (wrapped c) }
+pub sequence_is : (a b c : ℤ) → is_zero c ≡ false → sequence a b c ≡ Ok record { first = a; step = c; count = value_count (wrapped a) (wrapped b) (wrapped c) }
 sequence_is a b c h = ap (λ z. if z then fails ZeroStride else Ok record { first = a; step = c; count = value_count (wrapped a) (wrapped b) (wrapped c) }) h
 
-three : (x y z : Result ℤ Cause) (a b c : ℤ) → x ≡ Ok a → y ≡ Ok b → z ≡ Ok c → sequence_of x y z ≡ sequence a b c
+pub three : (x y z : Result ℤ Cause) (a b c : ℤ) → x ≡ Ok a → y ≡ Ok b → z ≡ Ok c → sequence_of x y z ≡ sequence a b c
 three x y z a b c e f g = λ i. sequence_of (e i) (f i) (g i)
 
 module _ (kinds : ℕ → Kind) where
@@ -201,7 +201,7 @@ module _ (kinds : ℕ → Kind) where
   innermost free [] = free
   innermost free (l ∷ ls) = innermost (without free l.index) ls
 
-  inmost : (all free : ℕ → Bool) (ls : List Loop) (block body : Block) → LoopsKeep kinds all free ls block body → BlockKeeps kinds (innermost free ls) body
+  pub inmost : (all free : ℕ → Bool) (ls : List Loop) (block body : Block) → LoopsKeep kinds all free ls block body → BlockKeeps kinds (innermost free ls) body
   inmost all free [] block body h = h.1
   inmost all free (l ∷ ls) block body h = inmost all (without free l.index) ls h.1 body h.5
 

@@ -15,7 +15,7 @@ use Rattle.nest_items.specs.Settled.{without}
 use Rattle.nest_items.specs.Standing.{AreKinds}
 use Rattle.nest_items.specs.NestForm.{LoopsKeep, IsNest}
 
-abbrev kind_by : Bool → Bool → Bool → Join → Kind
+abbrev pub kind_by : Bool → Bool → Bool → Join → Kind
 kind_by a r w o = if a then (if r then Reduced o else if w then New else Assigned) else Shared
 
 assigned_by_kind : (a r w : Bool) (o : Join) → kind_by a r w o ≡ Assigned → (a ≡ true) × (r ≡ false) × (w ≡ false)
@@ -53,7 +53,7 @@ kinds_of_nest operators nest body over apart = record {
       subst IsOverNumbers (reduced_by_kind (is_in k (assigned_in body)) (is_in k nest.reduction) (is_in k nest.new) (operators k) op e) (over k);
 }
 
-reversed : (k : ℕ) (xs : List ℕ) → is_in k (reverse xs) ≡ is_in k xs
+pub reversed : (k : ℕ) (xs : List ℕ) → is_in k (reverse xs) ≡ is_in k xs
 reversed k [] = refl
 reversed k (x ∷ xs) =
     ap (is_in k) (reverse-append (x ∷ []) xs) ∙ list_any-append (nat_eq k) (reverse xs) (x ∷ []) ∙ ap (λ b. b || (nat_eq k x || false)) (reversed k xs) ∙ turned (is_in k xs) (nat_eq k x)

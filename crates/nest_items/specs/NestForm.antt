@@ -5,8 +5,9 @@ use Rattle.op_tables.specs.declared.op.Op.{Op}
 use Rattle.op_tables.specs.declared.op.Op.TheVariants as op
 use Rattle.op_tables.specs.Operators.{operator_value, is_zero}
 use Rattle.nest_order.specs.Copies.{Kind, has_copies}
-use Rattle.array_meaning.specs.Terms.{Term, Number, Scalar, Apply, Terms, NoTerm, More}
+use Rattle.array_meaning.specs.Terms.{Term, Number, Scalar, Index, Element, Apply, Reduce, Terms, NoTerm, More}
 use Rattle.array_meaning.specs.Statements.{Loop, Nest, Block, Done, Then, Statement, AssignScalar, AssignElement, If, Do, Continue, Mark, Unmarked, Arms, NoArm, Arm}
+use Rattle.nest_items.specs.Naming.{IsNaming}
 use Rattle.nest_items.specs.Standing.{IsFixedTerm, AreFixedTerms, Stands, RightKind, has_no_loop, have_no_loop}
 use Rattle.nest_items.specs.Settled.{without}
 
@@ -30,6 +31,41 @@ abbrev mutual
   pub AreExact : Terms → Type 0
   AreExact NoTerm = Unit {0}
   AreExact (More t ts) = IsExact t × AreExact ts
+
+-- an expression in the text of a nest: no index of a FORALL stands in it and no reduction, and its subscripts are exact
+abbrev mutual
+  pub IsPlain : Term → Type 0
+  IsPlain (Index k) = ⊥
+  IsPlain (Element a ts) = AreExact ts
+  IsPlain (Apply o ts) = ArePlain ts
+  IsPlain (Reduce o t) = ⊥
+  IsPlain t = Unit {0}
+
+  pub ArePlain : Terms → Type 0
+  ArePlain NoTerm = Unit {0}
+  ArePlain (More t ts) = IsPlain t × ArePlain ts
+
+-- the expressions in a block of a nest are such, subscripts on the left are exact, and the bounds of a loop in it name none of `all`, which are the
+-- indices of the nest and of the loops in it
+module _ (all : ℕ → Bool) where
+  abbrev pub NamesNone : Term → Type 0
+  NamesNone t = IsNaming (λ k. all k ≡ false) (λ a. ⊥) t
+
+  abbrev mutual
+    pub TextsKeep : Block → Type 0
+    TextsKeep Done = Unit {0}
+    TextsKeep (Then line statement rest) = TextKeeps statement × TextsKeep rest
+
+    pub TextKeeps : Statement → Type 0
+    TextKeeps (AssignScalar k t) = IsPlain t
+    TextKeeps (AssignElement a ts t) = AreExact ts × IsPlain t
+    TextKeeps (If arms other) = ArmsTextsKeep arms × TextsKeep other
+    TextKeeps (Do mark loop body) = (NamesNone loop.control.first × NamesNone loop.control.last) × TextsKeep body
+    TextKeeps statement = Unit {0}
+
+    pub ArmsTextsKeep : Arms → Type 0
+    ArmsTextsKeep NoArm = Unit {0}
+    ArmsTextsKeep (Arm line t body arms) = IsPlain t × TextsKeep body × ArmsTextsKeep arms
 
 -- the value of an expression of numbers and operators, where it has one
 abbrev pub with_closed : Option ℤ → Option (List ℤ) → Option (List ℤ)

@@ -10,8 +10,8 @@
 //!   expressions have no second meaning.
 //! - `NestKinds`, `Naming`, `Standing`, `Paths`: what each name is to a nest, and what may stand in one, by rules over resolved statements.
 //! - `Settled`, `NestEnds`: which state is left: the indices of loops are as the loops leave them, and all else as the storage has it.
-//! - `NestForm`, `BlockForms` and `keeping_nests_stand`: the same rules without a state, of a nest and of all nests in a block. What keeps them stands in each
-//!   state whose scalars are numbers of 64 bits.
+//! - `NestForm`, `BlockForms` and `keeping_nests_stand`: the same rules without a state, of a nest and of all nests in a block, with what its texts are and
+//!   how many loops it has at most. What keeps them stands in each state whose scalars are numbers of 64 bits.
 //! - `nests_end`: a nest that keeps the rules and that is entered ends as plain loops over its iterations do.
 //! - `EntryAlike`, among the proofs: whether a nest is entered depends on scalars and on the dimensions of arrays alone.
 #![tactic(auto)]

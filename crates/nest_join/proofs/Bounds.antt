@@ -1,5 +1,5 @@
--- The values of bounds of inner loops, by states and by slots.
-use Rattle.std.proofs.Common.{◌≡◌, ℕ, List, [], ◌∷◌, ℤ, pos, Bool, true, false, not, Result, Ok, if◌then◌else◌, refl, ap, ◌∙◌}
+-- The values of bounds and of steps of inner loops, by states and by slots.
+use Rattle.std.proofs.Common.{◌≡◌, ℕ, List, [], ◌∷◌, ℤ, pos, Bool, true, false, not, Result, Ok, unwrap_or, if◌then◌else◌, refl, ap, ◌∙◌}
 use Rattle.std.specs.Result.{result_unwrap_or}
 use Rattle.op_tables.specs.Operators.{wrapped, is_zero, value_of}
 use Rattle.array_meaning.specs.Terms.{Term, Number, Scalar, Index, Element, Section, Apply, Reduce, Terms, NoTerm, More}
@@ -10,11 +10,14 @@ use Rattle.array_meaning.specs.declared.sections.Sequence.{Sequence}
 use Rattle.array_meaning.specs.Sections.{sequence_of, value_count}
 use Rattle.array_meaning.specs.Elementals.{operated}
 use Rattle.array_meaning.specs.Expressions.{value, values}
-use Rattle.node_code.specs.Flat.{slot, flat_value, flat_values}
+use Rattle.node_code.specs.Flat.{slot, flat_value, flat_values, slots_value}
 use Rattle.lowered_expressions.specs.ExpressionCode.{index_flat, index_flats}
 use Rattle.lowered_expressions.specs.WellFormed.{IsSubscript, AreSubscripts}
 use Rattle.lowered_expressions.proofs.Terms.{total}
 use Rattle.nest_items.specs.Naming.{IsNaming, AreNaming}
+use Rattle.nest_items.specs.NestForm.{IsStep}
+use Rattle.nest_items.proofs.FormStands.{closed_is}
+use Rattle.nest_join.specs.CodedBlocks.{step_flat}
 
 -- a bound has no fault, and is its value by the names in it
 module _ (n : ℕ) where
@@ -64,6 +67,17 @@ module _ (n : ℕ) where
       bound-flats : (ts : Terms) → AreSubscripts n ts → AreNaming Name (λ a. ⊥) ts → flat_values slots [] [] (index_flats ts) ≡ values [] s ts
       bound-flats NoTerm ok names = refl
       bound-flats (More t ts) ok names = λ i. with_more (bound-flat t ok.0 names.0 i) (bound-flats ts ok.1 names.1 i)
+
+-- a step is the same number in each state and by all slots, and isn't 0
+module _ (t : Term) (h : IsStep t) where
+  pub step-value : (s : State) → value [] s t ≡ Ok h.number
+  step-value s = closed_is s t h.number h.is
+
+  pub step-flat : (slots : List ℤ) → slots_value slots (step_flat t) ≡ h.number
+  step-flat slots = ap (λ o. unwrap_or o (pos 0)) h.is
+
+  pub step-some : not (is_zero h.number) ≡ true
+  step-some = ap not h.nonzero
 
 abbrev pub sequence_at : ℤ → ℤ → ℤ → Sequence
 sequence_at a b c = record { first = a; step = c; count = value_count (wrapped a) (wrapped b) (wrapped c) }

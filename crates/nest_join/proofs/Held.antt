@@ -1,28 +1,32 @@
 -- After a nest the rows hold the arrays of the state that it leaves, and the slots its scalars, but for indices.
-use Rattle.std.proofs.Common.{◌≡◌, ℕ, ◌<◌, List, [], ◌∷◌, length, slice_index_or, ℤ, pos, Bool, true, false, if◌then◌else◌, refl, sym, ap, ◌∙◌, subst, arith, ext_get_or}
+use Rattle.std.proofs.Common.{◌≡◌, ℕ, ◌<◌, List, [], length, slice_index_or, ℤ, pos, Bool, true, false, true≢false, Some, if◌then◌else◌, refl, sym, ap, ◌∙◌, subst, arith, ext_get_or}
 use Rattle.storage.specs.Storage.{Storage, row_of, read}
 use Rattle.nest_order.specs.Copies.{has_copies, scalar_at}
 use Rattle.nest_order.proofs.Copying.{shared_of}
 use Rattle.array_meaning.specs.Statements.{Loop, Block}
 use Rattle.array_meaning.specs.Faults.{Fault}
-use Rattle.array_meaning.specs.State.{State, Array, no_array, array, scalar}
+use Rattle.array_meaning.specs.State.{State, Array, no_array, array, scalar, element_place}
+use Rattle.array_meaning.specs.Sections.{subscripts_at}
 use Rattle.array_meaning.specs.Runs.{Run}
 use Rattle.machine_steps.specs.Instr.{Instr}
 use Rattle.node_code.specs.Flat.{slot}
-use Rattle.node_code.specs.Parallel.{shape_of}
+use Rattle.node_code.specs.Forms.{selections_at}
+use Rattle.node_code.specs.Parallel.{shape_of, indices_in}
+use Rattle.lowered_expressions.specs.ExpressionCode.{index_subs}
 use Rattle.lowered_expressions.proofs.Terms.{HoldsArrays}
+use Rattle.nest_items.specs.NestItems.{Assigning, ToScalar, ToElement}
 use Rattle.nest_items.specs.StateStorage.{state_of}
 use Rattle.nest_items.proofs.Storing.{scalar-at, array-at, fixed-scalar, state-scalars, if_so, if_not, by_cases}
 use Rattle.nest_machine.specs.Body.{count_body}
 use Rattle.nest_machine.specs.Trace.{Data}
-use Rattle.nest_join.specs.NestNames.{NestNames}
-use Rattle.nest_join.specs.NestTexts.{HoldsEntry}
+use Rattle.nest_machine.specs.PlacedEnds.{OffRow}
+use Rattle.nest_texts.specs.NestTexts.{left_spot}
+use Rattle.lowered_expressions.specs.NestTerms.{all_indexed}
+use Rattle.nest_join.specs.NestNames.{NestNames, index_of, IsText}
+use Rattle.nest_join.specs.NestTexts.{NestAction, assignment_text, texts_of, HoldsEntry}
 use Rattle.nest_join.specs.CodedBlocks.{IsCodedBlock}
 use Rattle.nest_join.specs.NestRuns.{NestCode, machine_body, EndsAsMeant, HoldsRows, HasFinals}
-
-none-left : (xs : List ℤ) → length xs ≡ 0 → xs ≡ []
-none-left [] e = refl
-none-left (x ∷ xs) e = absurd (omega (arith, e))
+use Rattle.nest_join.proofs.PairedTexts.{no-mark, off-element}
 
 module _ {I : Type 0} (meaning : I → Instr Fault) (code : List I) (is_quiet : ℕ → Bool) (joined : ℤ) (line printed : List ℕ) (w : NestNames) (c : NestCode) (all : ℕ → Bool) (s : State)
     (loop : Loop) (block body : Block) (ok : IsCodedBlock w s [] body) (start : Storage) (entry : List ℤ) (d : Data Fault) (run : Run)
@@ -37,14 +41,34 @@ module _ {I : Type 0} (meaning : I → Instr Fault) (code : List I) (is_quiet : 
     as-long : (a : ℕ) → a < w.count → length (row_of h.after.data'.rows a) ≡ length (array s a).elements
     as-long a lt = let le = rows.stored in h.after.extents a (omega (arith, lt, le)) (rows.unmade a lt) ∙ ap length (rows.elements a lt)
 
+    -- a row of a scalar's name is stored to by no text, and has no marks
+    elsewhere : (a : ℕ) → a < w.count → has_copies (w.kinds a) ≡ true → (x : NestAction w) (slots : List ℤ) (i : ℕ) → OffRow a ((texts_of w).left x slots i)
+    elsewhere a lt has x slots i = by_text x.action.line x.action.round x.action.copies x.action.text x.named
+      where
+        by_text : (line : ℕ) (round copies : List ℕ) (t : Assigning) → IsText w round copies t
+            → OffRow a (left_spot w.table.shapes w.over (assignment_text w line copies t).left slots i)
+        by_text line round copies (ToScalar k t) named = λ e. let le = rows.copies k named.0.0 in omega (arith, e, le, lt)
+        by_text line round copies (ToElement b ts t) named =
+            let subs = index_subs (all_indexed (index_of w copies) ts) in
+            off-element b a (element_place (shape_of w.table.shapes b) (subscripts_at (selections_at slots (indices_in w.over slots i) subs) (indices_in w.over slots i)))
+            (λ e. true≢false (sym has ∙ ap (λ y. has_copies (w.kinds y)) (sym e) ∙ named.0.0.1))
+
+    unmarked : (a : ℕ) → a < w.count → (x : NestAction w) → (texts_of w).mark x ≡ Some a → ⊥
+    unmarked a lt x e = by_text x.action.line x.action.copies x.action.text e
+      where
+        by_text : (line : ℕ) (copies : List ℕ) (t : Assigning) → (assignment_text w line copies t).mark ≡ Some a → ⊥
+        by_text line copies (ToScalar k t) e = let le = rows.marks k a e in omega (arith, le, lt)
+        by_text line copies (ToElement b ts t) e = no-mark a e
+
     -- of what is no array, and of an array
-    no-elements : (a : ℕ) → a < w.count → has_copies (w.kinds a) ≡ true → row_of h.after.data'.rows a ≡ (array h.state a).elements
-    no-elements a lt has =
+    scalar-elements : (a : ℕ) → a < w.count → has_copies (w.kinds a) ≡ true → row_of h.after.data'.rows a ≡ (array h.state a).elements
+    scalar-elements a lt has =
         let as' = holds.arrays in
-        let empty = rows.scalars a lt has in
+        let le = rows.stored in
         let is : array left a ≡ array s a = array-at w.kinds s h.storage a (omega (arith, lt, as'))
         ∙ if_so (has_copies (w.kinds a)) (array s a) (record (array s a) { elements = row_of h.storage a }) has in
-        none-left (row_of h.after.data'.rows a) (as-long a lt ∙ ap length empty) ∙ sym empty ∙ sym (ap (λ (x : Array). x.elements) (array-left a ∙ is))
+        h.after.untouched a (omega (arith, lt, le)) (rows.unmade a lt) (elsewhere a lt has) (unmarked a lt)
+        ∙ rows.elements a lt ∙ sym (ap (λ (x : Array). x.elements) (array-left a ∙ is))
 
     own-elements : (a : ℕ) → a < w.count → has_copies (w.kinds a) ≡ false → row_of h.after.data'.rows a ≡ (array h.state a).elements
     own-elements a lt none =
@@ -69,7 +93,7 @@ module _ {I : Type 0} (meaning : I → Instr Fault) (code : List I) (is_quiet : 
 
     pub arrays-held : HoldsArrays w.count w.table.shapes h.state h.after.data'.rows
     arrays-held = record {
-      elements = λ a lt. by_cases (has_copies (w.kinds a)) (no-elements a lt) (own-elements a lt);
+      elements = λ a lt. by_cases (has_copies (w.kinds a)) (scalar-elements a lt) (own-elements a lt);
       shape = shape-left;
       places = h.same.count ∙ state-scalars w.kinds s h.storage ∙ holds.scalars;
     }

@@ -13,7 +13,8 @@ use Rattle.nest_items.proofs.Storing.{by_cases}
 use Rattle.nest_machine.specs.Trace.{Data}
 use Rattle.nest_machine.specs.Finals.{NotAmong}
 use Rattle.nest_machine.proofs.Slots.{same-refl}
-use Rattle.nest_join.specs.NestNames.{NestNames, index_in, indices_of}
+use Rattle.statement_trail.specs.NestParts.{index_in}
+use Rattle.nest_join.specs.NestNames.{NestNames, indices_of}
 use Rattle.nest_join.specs.CodedBlocks.{IsCodedBlock}
 use Rattle.nest_join.specs.NestRuns.{NestCode, IsBegun, EndsAsMeant, HasFinals}
 use Rattle.nest_join.proofs.InnerIndices.{after-block}

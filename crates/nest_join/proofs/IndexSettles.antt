@@ -7,7 +7,8 @@ use Rattle.array_meaning.specs.Statements.{Loop, Block, Done, Then, AssignScalar
 use Rattle.array_meaning.specs.declared.sections.Sequence.{Sequence}
 use Rattle.array_meaning.specs.Iterations.{values_of, turn_value}
 use Rattle.nest_items.specs.Settled.{settled, settled_by}
-use Rattle.nest_join.specs.NestNames.{NestNames, index_in, indices_of}
+use Rattle.statement_trail.specs.NestParts.{index_in}
+use Rattle.nest_join.specs.NestNames.{NestNames, indices_of}
 use Rattle.nest_join.specs.NestTexts.{HoldsEntry}
 use Rattle.nest_join.specs.CodedBlocks.{IsCodedLoop, IsCodedBlock}
 use Rattle.nest_join.proofs.HiddenIndices.{hidden-is}

@@ -1,7 +1,7 @@
 -- After the code of a body the indices of its loops are in their slots as the meaning leaves them.
-use Rattle.std.proofs.Common.{◌≡◌, ℕ, zero, suc, ◌+◌, ◌<◌, ◌≤◌, ⊎_elim, nat_eq, List, ◌∷◌, length, ℤ, pos, Bool, true, false, ◌&&◌, if◌then◌else◌, refl, sym, ap, ◌∙◌, subst, arith, length-set, get_or-set_same, get_or-set_other, true≢false}
+use Rattle.std.proofs.Common.{◌≡◌, ℕ, zero, suc, ◌+◌, ◌<◌, ◌≤◌, ⊎_elim, nat_eq, List, ◌∷◌, length, ℤ, pos, Bool, true, false, if◌then◌else◌, refl, sym, ap, ◌∙◌, subst, arith, length-set, get_or-set_same, get_or-set_other, true≢false}
 use Rattle.std.proofs.lemmas.Bool.Decides.{nat_tests}
-use Rattle.std.proofs.lemmas.Bool.{cases_eq}
+use Rattle.std.proofs.lemmas.Bool.{cases_eq, and_parts}
 use Rattle.nest_order.specs.Turns.{after_turns}
 use Rattle.array_meaning.specs.Faults.{Fault}
 use Rattle.array_meaning.specs.State.{State, scalar, set_scalar}
@@ -53,10 +53,6 @@ module _ (w : NestNames) (l b0 : ℕ) (entry : List ℤ) (s0 : State) (holds : H
   abbrev AfterArms : CodedArms w → ℕ → List ℤ → List ℤ
   AfterArms arms = slots_after_arms counting (arms_of arms)
 
-  both-true : (p q : Bool) → (p && q) ≡ true → (p ≡ true) × (q ≡ true)
-  both-true true q e = (refl, e)
-  both-true false q e = cc
-
   else-still : (body : CodedBody w) (b : ℕ) (s : List ℤ)
       → AfterArms (else_arm w body) b s ≡ After body b s
   else-still forms.NoText b s = refl
@@ -69,7 +65,7 @@ module _ (w : NestNames) (l b0 : ℕ) (entry : List ℤ) (s0 : State) (holds : H
         → After (code round block ok) b s ≡ s
     still-block round Done ok e b s = refl
     still-block round (Then line statement rest) ok e b s =
-        let h = both-true (is_no_loop statement) (has_no_loop rest) e in
+        let h = and_parts (is_no_loop statement) (has_no_loop rest) e in
         still-in line round statement ok.0 (code round rest ok.1) h.0 b s (λ z. still-block round rest ok.1 h.1 b z)
 
     still-in : (line : ℕ) (round : List ℕ) (statement : Statement) (ok : IsCodedStatement w s0 round statement)
@@ -79,7 +75,7 @@ module _ (w : NestNames) (l b0 : ℕ) (entry : List ℤ) (s0 : State) (holds : H
     still-in line round (AssignElement a ts t) ok rest e b s next = next s
     still-in line round (AssignSection a subs t) ok rest e b s next = absurd ok
     still-in line round (If arms other) ok rest e b s next =
-        let h = both-true (have_no_loop arms) (has_no_loop other) e in
+        let h = and_parts (have_no_loop arms) (has_no_loop other) e in
         next (AfterArms (code_arms round arms ok.0 (else_arm w (code round other ok.1))) b s)
         ∙ still-arms round arms ok.0 (else_arm w (code round other ok.1)) h.0 b s
         (λ z. else-still (code round other ok.1) b z ∙ still-block round other ok.1 h.1 b z)
@@ -99,7 +95,7 @@ module _ (w : NestNames) (l b0 : ℕ) (entry : List ℤ) (s0 : State) (holds : H
         → AfterArms (code_arms round arms ok other) b s ≡ s
     still-arms round NoArm ok other e b s next = next s
     still-arms round (Arm line t body arms) ok other e b s next =
-        let h = both-true (has_no_loop body) (have_no_loop arms) e in
+        let h = and_parts (has_no_loop body) (have_no_loop arms) e in
         still-arms round arms ok.2 other h.1 b (After (code round body ok.1) b s) next ∙ still-block round body ok.1 h.0 b s
 
   pub turns-length : (c : ℕ) (f : ℕ → State → State) (z : State) → ((y : ℕ) (later : State) → length (f y later).scalars ≡ length later.scalars) → length (after_turns c f z).scalars ≡ length z.scalars
@@ -150,7 +146,7 @@ module _ (w : NestNames) (l b0 : ℕ) (entry : List ℤ) (s0 : State) (holds : H
     after-block round (Then line (AssignSection a subs t) rest) ok st b s le h few z lz r = absurd ok.0
     after-block round (Then line (If arms other) rest) ok st b s le h few z lz r =
         let ea = else_arm w (code round other ok.0.1) in
-        let both = both-true (have_no_loop arms) (has_no_loop other) ok.0.2 in
+        let both = and_parts (have_no_loop arms) (has_no_loop other) ok.0.2 in
         let e : AfterArms (code_arms round arms ok.0.0 ea) b s ≡ s =
         still-arms round arms ok.0.0 ea both.0 b s (λ y. else-still (code round other ok.0.1) b y ∙ still-block round other ok.0.1 both.1 b y) in
         subst (λ y. Rel round (settled st rest z) (After (code round rest ok.1) b y)) (sym e) (after-block round rest ok.1 st b s le h (omega (arith, few)) z lz r)

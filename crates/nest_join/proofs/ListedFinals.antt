@@ -6,7 +6,8 @@ use Rattle.nest_order.specs.Copies.{Kind, Shared, New, Assigned, Reduced, has_co
 use Rattle.node_code.specs.Flat.{slot}
 use Rattle.nest_machine.specs.Finals.{Final, final_slot}
 use Rattle.nest_machine.specs.PlacedEnds.{OfScalar, OfMarks, IsPlacedFinal}
-use Rattle.nest_join.specs.NestNames.{NestNames, index_in}
+use Rattle.statement_trail.specs.NestParts.{index_in}
+use Rattle.nest_join.specs.NestNames.{NestNames}
 use Rattle.nest_join.specs.NestTexts.{texts_of}
 use Rattle.nest_join.specs.Places.{conditions_from, marks_from, place_of, is_nest_row, marks_of, final_by, finals_from, finals_of, AreScalars}
 use Rattle.nest_join.proofs.Names.{eq-is}

@@ -1,6 +1,6 @@
 -- The slots of an inner loop, turn by turn.
-use Rattle.std.proofs.Common.{◌≡◌, ℕ, zero, suc, ◌+◌, ◌<◌, ◌≤◌, List, [], map, length, slice_set, ℤ, pos, ◌+ℤ◌, Bool, true, false, not, Ok, refl, sym, ap, ◌∙◌, subst, arith, length-set, get_or-set_same, get_or-set_other}
-use Rattle.op_tables.specs.Operators.{wrapped, is_zero}
+use Rattle.std.proofs.Common.{◌≡◌, ℕ, zero, suc, ◌+◌, ◌<◌, ◌≤◌, List, [], map, length, slice_set, ℤ, pos, ◌+ℤ◌, Bool, false, Ok, refl, sym, ap, ◌∙◌, subst, arith, length-set, get_or-set_same, get_or-set_other}
+use Rattle.op_tables.specs.Operators.{wrapped}
 use Rattle.array_meaning.specs.Terms.{Term}
 use Rattle.array_meaning.specs.Faults.{Fault}
 use Rattle.array_meaning.specs.State.{State, scalar}
@@ -16,14 +16,14 @@ use Rattle.nest_items.proofs.Turns.{next_value, first_value}
 use Rattle.nest_machine.specs.Counting.{Counting, trips_at}
 use Rattle.nest_machine.specs.Body.{Bounds}
 use Rattle.nest_machine.specs.Slots.{SameSlots, headed, first_trip, trip_slots, left_slots, again, next_index, advanced}
-use Rattle.nest_machine.proofs.Slots.{same-refl, same-on, same-set}
+use Rattle.nest_machine.proofs.Slots.{same-on, same-set}
 use Rattle.nest_texts.specs.NestLoops.{counting_at}
 use Rattle.nest_texts.specs.NestInstructions.{bounds_of}
 use Rattle.nest_join.specs.NestNames.{NestNames, indices_of}
 use Rattle.nest_join.specs.NestTexts.{state_at, HoldsEntry}
 use Rattle.nest_join.specs.CodedBlocks.{IsBoundName, IsBound, IsCodedLoop, loop_bounds}
 use Rattle.nest_join.proofs.Names.{with-other}
-use Rattle.nest_join.proofs.Bounds.{bound-ok, bound-same, bound-flat, sequence_at, control-values}
+use Rattle.nest_join.proofs.Bounds.{bound-ok, bound-same, bound-flat, step-value, step-flat, step-some, sequence_at, control-values}
 
 module _ (w : NestNames) (l b0 : ℕ) (entry : List ℤ) (s0 : State) (holds : HoldsEntry w b0 entry s0) (outside : (x : ℕ) → b0 ≤ x → w.is_index x ≡ false) where
   abbrev n : ℕ
@@ -52,8 +52,12 @@ module _ (w : NestNames) (l b0 : ℕ) (entry : List ℤ) (s0 : State) (holds : H
     abbrev V : Term → ℤ
     V t = or_zero (value [] s0 t)
 
+    -- the step
+    abbrev d : ℤ
+    d = ok.step.number
+
     abbrev pub P : Sequence
-    P = sequence_at (V loop.control.first) (V loop.control.last) (V loop.control.step)
+    P = sequence_at (V loop.control.first) (V loop.control.last) d
 
     abbrev Name : ℕ → Type 0
     Name = IsBoundName w round
@@ -64,13 +68,10 @@ module _ (w : NestNames) (l b0 : ℕ) (entry : List ℤ) (s0 : State) (holds : H
     slot-is : (s : List ℤ) → SameSlots w.is_index b0 entry s → (t : Term) → IsBound w round t → slots_value s (index_flat t) ≡ V t
     slot-is s same t h = ap or_zero (bound-flat n s0 s Name (held-names round s same) t h.0 h.1)
 
-    step-is : not (is_zero (V loop.control.step)) ≡ true
-    step-is = subst (λ v. not (is_zero v) ≡ true) (slot-is entry (same-refl w.is_index b0 entry) loop.control.step ok.step) (ok.steps entry)
-
     pub values-are : (s : State) → ((k : ℕ) → Name k → scalar s k ≡ scalar s0 k) → values_of s loop ≡ P
     values-are s same =
-        control-values (value [] s loop.control.first) (value [] s loop.control.last) (value [] s loop.control.step) (V loop.control.first) (V loop.control.last) (V loop.control.step)
-        (value-is s same loop.control.first ok.first) (value-is s same loop.control.last ok.last) (value-is s same loop.control.step ok.step) step-is
+        control-values (value [] s loop.control.first) (value [] s loop.control.last) (value [] s loop.control.step) (V loop.control.first) (V loop.control.last) d
+        (value-is s same loop.control.first ok.first) (value-is s same loop.control.last ok.last) (step-value loop.control.step ok.step s) (step-some loop.control.step ok.step)
 
     first-fits : wrapped P.first ≡ P.first
     first-fits = subst (λ (p : Sequence). wrapped p.first ≡ p.first) (values-are s0 (λ k e. refl)) ok.fits
@@ -102,7 +103,7 @@ module _ (w : NestNames) (l b0 : ℕ) (entry : List ℤ) (s0 : State) (holds : H
       pub record Turn (z : List ℤ) (v : ℤ) : Type 0 where
         pub value : slot z b ≡ v
         pub index : slot z x ≡ v
-        pub step : slot z (b + 2) ≡ V loop.control.step
+        pub step : slot z (b + 2) ≡ d
         pub long : length z ≡ length s
 
       abbrev s1 : List ℤ
@@ -140,8 +141,8 @@ module _ (w : NestNames) (l b0 : ℕ) (entry : List ℤ) (s0 : State) (holds : H
       last3 = let l1 = long1 in set-other s2 (b + 2) (b + 1) (bounds.step s2) (λ e. omega (arith, e)) ∙ set-here s1 (b + 1) (bounds.last s1) (omega (arith, few, l1))
           ∙ slot-is s1 same1 loop.control.last ok.last
 
-      step3 : slot s3 (b + 2) ≡ V loop.control.step
-      step3 = let l2 = long2 in set-here s2 (b + 2) (bounds.step s2) (omega (arith, few, l2)) ∙ slot-is s2 same2 loop.control.step ok.step
+      step3 : slot s3 (b + 2) ≡ d
+      step3 = let l2 = long2 in set-here s2 (b + 2) (bounds.step s2) (omega (arith, few, l2)) ∙ step-flat loop.control.step ok.step s2
 
       head-other : (k : ℕ) → (k ≡ x → ⊥) → slot h k ≡ slot s3 k
       head-other k ne = set-other s3 x k (slot s3 b) ne
@@ -152,7 +153,7 @@ module _ (w : NestNames) (l b0 : ℕ) (entry : List ℤ) (s0 : State) (holds : H
       head-last : slot h (b + 1) ≡ V loop.control.last
       head-last = head-other (b + 1) (λ e. let u = under in omega (arith, e, u)) ∙ last3
 
-      head-step : slot h (b + 2) ≡ V loop.control.step
+      head-step : slot h (b + 2) ≡ d
       head-step = head-other (b + 2) (λ e. let u = under in omega (arith, e, u)) ∙ step3
 
       pub count-is : t ≡ P.count
@@ -187,7 +188,7 @@ module _ (w : NestNames) (l b0 : ℕ) (entry : List ℤ) (s0 : State) (holds : H
           let u = under in
           let lw : length past ≡ length s = sym k.0 ∙ turn.long in
           let wb : slot past b ≡ turn_value P y = sym (k.1 b (omega arith) (outside b le)) ∙ turn.value in
-          let ws : slot past (b + 2) ≡ V loop.control.step = sym (k.1 (b + 2) (omega arith) (outside (b + 2) (omega (arith, le)))) ∙ turn.step in
+          let ws : slot past (b + 2) ≡ d = sym (k.1 (b + 2) (omega arith) (outside (b + 2) (omega (arith, le)))) ∙ turn.step in
           let l1 : length n1 ≡ length s = length-set past b (counting.advance (slot past b) (slot past (b + 2))) ∙ lw in
           let la : length a ≡ length s = length-set n1 x (slot n1 b) ∙ l1 in
           let v1 : slot n1 b ≡ turn_value P (suc y) = set-here past b (counting.advance (slot past b) (slot past (b + 2))) (omega (arith, lw, few)) ∙ (λ j. wrapped (wb j +ℤ ws j)) ∙ next_value P y in record {

@@ -7,7 +7,7 @@ use Rattle.array_meaning.specs.State.{State, Array, no_array, array, scalar}
 use Rattle.array_meaning.specs.Iterations.{with_indices}
 use Rattle.node_code.specs.Flat.{slot}
 use Rattle.lowered_expressions.proofs.Terms.{HoldsScalars, HoldsArrays}
-use Rattle.nest_join.specs.NestNames.{index_in}
+use Rattle.statement_trail.specs.NestParts.{index_in}
 use Rattle.nest_join.specs.MachineState.{listed_from, machine_array, machine_state}
 
 -- ---- lists by their places

@@ -13,7 +13,8 @@ use Rattle.array_meaning.specs.Iterations.{values_of, turn_value, nest_axes, ite
 use Rattle.nest_items.specs.Settled.{settled, settled_by, without}
 use Rattle.nest_items.specs.Standing.{IsFixed, IsFixedTerm, EachFixed, TightStands, NestStands}
 use Rattle.nest_items.proofs.Values.{control_near}
-use Rattle.nest_join.specs.NestNames.{NestNames, index_in, indices_of}
+use Rattle.statement_trail.specs.NestParts.{index_in}
+use Rattle.nest_join.specs.NestNames.{NestNames, indices_of}
 use Rattle.nest_join.specs.NestTexts.{HoldsEntry}
 use Rattle.nest_join.specs.CodedBlocks.{IsCodedBlock}
 use Rattle.nest_join.proofs.Names.{in-both-none, with-other}
@@ -62,15 +63,20 @@ product-last : (xs : List ℕ) (c : ℕ) → product (xs ++ c ∷ []) ≡ produc
 product-last [] c = omega arith
 product-last (x ∷ xs) c = ap (λ z. x * z) (product-last xs c) ∙ sym (mul_assoc x (product xs) c)
 
+-- how many iterations loops have, with one more loop round them
+pub iterations-of : (s : State) (a : Loop) (ls : List Loop)
+    → product (index_extents (reverse (map (values_of s) (a ∷ ls)))) ≡ product (index_extents (reverse (map (values_of s) ls))) * (values_of s a).count
+iterations-of s a ls =
+    ap (λ ps. product (index_extents ps)) (reverse-append (values_of s a ∷ []) (map (values_of s) ls))
+    ∙ ap product (map-append (λ p. p.count) (reverse (map (values_of s) ls)) (values_of s a ∷ []))
+    ∙ product-last (index_extents (reverse (map (values_of s) ls))) (values_of s a).count
+
 have-turns : (s : State) (ls : List Loop) → (product (index_extents (reverse (map (values_of s) ls))) ≡ 0 → ⊥) → HaveTurns s ls
 have-turns s [] some = tt
 have-turns s (a ∷ ls) some =
     let m : ℕ = product (index_extents (reverse (map (values_of s) ls))) in
     let c : ℕ = (values_of s a).count in
-    let e : product (index_extents (reverse (map (values_of s) (a ∷ ls)))) ≡ m * c =
-    ap (λ ps. product (index_extents ps)) (reverse-append (values_of s a ∷ []) (map (values_of s) ls))
-    ∙ ap product (map-append (λ p. p.count) (reverse (map (values_of s) ls)) (values_of s a ∷ []))
-    ∙ product-last (index_extents (reverse (map (values_of s) ls))) c in
+    let e : product (index_extents (reverse (map (values_of s) (a ∷ ls)))) ≡ m * c = iterations-of s a ls in
     let right : m * 0 ≡ 0 = omega arith in
     let left : 0 * c ≡ 0 = omega arith in
     (λ z. some (e ∙ ap (λ q. m * q) z ∙ right), have-turns s ls (λ z. some (e ∙ ap (λ q. q * c) z ∙ left)))

@@ -12,23 +12,24 @@ use Rattle.node_code.specs.Parallel.{at_line, outcome_of, shape_of, indices_in}
 use Rattle.lowered_expressions.specs.ExpressionCode.{index_subs}
 use Rattle.node_code.specs.NestStatements.{form_value, nest_place}
 use Rattle.nest_texts.specs.NestTexts.{left_spot, text_outcome}
-use Rattle.nest_values.specs.NestTerms.{all_indexed}
+use Rattle.lowered_expressions.specs.NestTerms.{all_indexed}
 use Rattle.nest_items.specs.NestItems.{Assigning, ToScalar, ToElement}
 use Rattle.nest_machine.specs.BodyCode.{copy_spot}
 use Rattle.nest_machine.specs.PlacedEnds.{OffRow, PairedTexts}
-use Rattle.nest_join.specs.NestNames.{NestNames, index_in, index_of, IsText}
+use Rattle.statement_trail.specs.NestParts.{index_in}
+use Rattle.nest_join.specs.NestNames.{NestNames, index_of, IsText}
 use Rattle.nest_join.specs.NestTexts.{assignment_text, texts_of}
 use Rattle.nest_join.specs.Places.{conditions_from, marks_from, place_by, place_of, marks_by, marks_of, AreScalars}
 use Rattle.nest_join.proofs.Names.{in-from}
 
-no-mark : (q : ℕ) → None ≡ Some q → ⊥
+pub no-mark : (q : ℕ) → None ≡ Some q → ⊥
 no-mark q e = cc
 
 never-nothing : (r : Result ℤ Fault) → outcome_of r ≡ Nothing → ⊥
 never-nothing (Ok v) e = cc
 never-nothing (Err f) e = cc
 
-off-element : (a r : ℕ) (o : Option ℕ) → (a ≡ r → ⊥) → OffRow r (option_map (λ k. record { row = a; at = k }) o)
+pub off-element : (a r : ℕ) (o : Option ℕ) → (a ≡ r → ⊥) → OffRow r (option_map (λ k. record { row = a; at = k }) o)
 off-element a r None ne = tt
 off-element a r (Some k) ne = ne
 

@@ -4,7 +4,7 @@ use Rattle.std.proofs.lemmas.Bool.Decides.{nat_tests}
 use Rattle.nest_order.specs.Copies.{Kind, Shared, New, Assigned, Reduced}
 use Rattle.nest_machine.specs.Finals.{final_slot, NotAmong, AreApart}
 use Rattle.nest_machine.specs.Placed.{IsPlace}
-use Rattle.nest_join.specs.NestNames.{index_in}
+use Rattle.statement_trail.specs.NestParts.{index_in}
 use Rattle.nest_join.specs.Places.{AreDistinct, conditions_from, marks_from, place_by, place_of, is_nest_row, marks_by, marks_of, final_by, finals_from, finals_of, AreScalars}
 use Rattle.nest_join.proofs.Names.{in-from}
 
@@ -14,7 +14,7 @@ lt-is a b e = grind (arith, nat_tests, e)
 lt-not : (a b : ℕ) → nat_lt a b ≡ false → b ≤ a
 lt-not a b e = grind (arith, nat_tests, e)
 
-lt-so : (a b : ℕ) → a < b → nat_lt a b ≡ true
+pub lt-so : (a b : ℕ) → a < b → nat_lt a b ≡ true
 lt-so a b h = grind (arith, nat_tests, h)
 
 some-none : {A : Type 0} (x : A) → Some x ≡ None → ⊥
@@ -109,6 +109,13 @@ module _ (n : ℕ) (scalars : List ℕ) (conditions : ℕ) (are : AreScalars n s
       let beyond = marks-beyond (kinds k) (index_in scalars 0 k) q e in
       let before = rows-before r of_row in
       omega (arith, beyond, before, at)
+
+  -- copies and marks lie behind the names
+  pub copies-behind : (k j : ℕ) → index_in scalars 0 k ≡ Some j → n ≤ place k
+  copies-behind k j e = let is : place k ≡ n + j = ap (λ o. place_by n scalars conditions o k) e in omega (arith, is)
+
+  pub marks-behind : (kinds : ℕ → Kind) (k q : ℕ) → marks_of n scalars conditions kinds k ≡ Some q → n ≤ q
+  marks-behind kinds k q e = let beyond = marks-beyond (kinds k) (index_in scalars 0 k) q e in omega (arith, beyond)
 
   -- ---- scalars
 

@@ -1,5 +1,6 @@
 -- The statements of a nest's body on the machine are those of its block in the meaning.
-use Rattle.std.proofs.Common.{◌≡◌, ℕ, ◌+◌, ◌≤◌, List, ◌∷◌, length, ℤ, Bool, true, false, Some, None, refl, sym, ap, ◌∙◌, arith}
+use Rattle.std.proofs.Common.{◌≡◌, ℕ, ◌+◌, ◌≤◌, List, ◌∷◌, length, ℤ, Bool, true, false, not, Some, None, refl, sym, ap, ◌∙◌, arith}
+use Rattle.op_tables.specs.Operators.{is_zero}
 use Rattle.nest_order.specs.Items as order
 use Rattle.nest_order.specs.Items.{Items, Branches}
 use Rattle.nest_order.specs.Copies.{InIteration, in_iteration, items_in, branches_in}
@@ -23,6 +24,7 @@ use Rattle.nest_join.specs.NestNames.{NestNames}
 use Rattle.nest_join.specs.NestTexts.{state_at, action_at, condition_at, HoldsEntry}
 use Rattle.nest_join.specs.CodedBlocks.{hidden_in, IsCodedBlock, IsCodedStatement, AreCodedArms, CodedBody, CodedArms, loop_bounds, else_arm, coded, coded_in, coded_arms}
 use Rattle.nest_join.proofs.HiddenIndices.{hidden-less, hidden-is, AllOff, all-next, map-kept}
+use Rattle.nest_join.proofs.Bounds.{step-flat, step-some}
 use Rattle.nest_join.proofs.LoopTurns.{P, same-names, values-are, count-is, turns}
 
 -- ---- items
@@ -105,7 +107,7 @@ module _ (w : NestNames) (l b0 : ℕ) (entry : List ℤ) (s0 : State) (holds : H
       takes-in line round (If arms other) ok rest q h =
           (takes-arms round arms ok.0 (else_arm w (code round other ok.1)) q (else-takes (code round other ok.1) (takes round other ok.1 q)), h)
       takes-in line round (Do Unmarked loop body) ok rest q h =
-          ((ok.0.steps, q loop.index ok.0.index), takes (loop.index ∷ round) body ok.1 (λ k e. q k (hidden-less is_index loop.index round k e)), h)
+          (((λ s. ap (λ v. not (is_zero v)) (step-flat loop.control.step ok.0.step s) ∙ step-some loop.control.step ok.0.step), q loop.index ok.0.index), takes (loop.index ∷ round) body ok.1 (λ k e. q k (hidden-less is_index loop.index round k e)), h)
       takes-in line round (Do (Outermost nest inner) loop body) ok rest q h = absurd ok
       takes-in line round (Where mask body others) ok rest q h = absurd ok
       takes-in line round (Forall cs mask body) ok rest q h = absurd ok

@@ -23,8 +23,10 @@ use Rattle.nest_machine.specs.Placed.{Placed}
 use Rattle.nest_machine.proofs.PlacedCopies.{row-each, length-each}
 use Rattle.nest_machine.proofs.Rows.{row-beyond}
 use Rattle.node_code.specs.NestStatements.{row_spots}
-use Rattle.nest_values.specs.NestTerms.{scalar_or_index, IsAlike, AreAlike}
-use Rattle.nest_join.specs.NestNames.{NestNames, index_in, indices_of, index_of, HasNoIndex, HaveNoIndex, IsFixedHere, IsCopyName, IsScalarName, IsArrayName}
+use Rattle.lowered_expressions.specs.NestTerms.{scalar_or_index, HasNoIndex, HaveNoIndex}
+use Rattle.nest_values.specs.NestTerms.{IsAlike, AreAlike}
+use Rattle.statement_trail.specs.NestParts.{index_in}
+use Rattle.nest_join.specs.NestNames.{NestNames, indices_of, index_of, IsFixedHere, IsCopyName, IsScalarName, IsArrayName}
 use Rattle.nest_join.specs.MachineState.{machine_state}
 use Rattle.nest_join.specs.NestTexts.{state_at, HoldsEntry}
 use Rattle.nest_join.proofs.Names.{in-from, machine-scalar, machine-array, in-values, in-both-none, in-both-some, in-later, with-arrays, with-scalars, with-other, with-here, with-values, none-later}

@@ -1,25 +1,31 @@
 -- The innermost block of a nest as a body of texts for the machine.
-use Rattle.std.specs.Prelude.{◌≡◌, ℕ, ◌<◌, nat_eq, List, [], ◌∷◌, ℤ, Bool, true, false, not, ◌&&◌, Some, None, if◌then◌else◌}
-use Rattle.op_tables.specs.Operators.{wrapped, is_zero}
+use Rattle.std.specs.Prelude.{◌≡◌, ℕ, ◌<◌, nat_eq, List, [], ◌∷◌, pos, Bool, true, false, ◌&&◌, Some, None, unwrap_or, if◌then◌else◌}
+use Rattle.op_tables.specs.Operators.{wrapped}
 use Rattle.array_meaning.specs.Terms.{Term}
 use Rattle.array_meaning.specs.State.{State}
 use Rattle.array_meaning.specs.Statements.{Loop, Block, Done, Then, Statement, AssignScalar, AssignElement, If, Do, Unmarked, Continue, Arms, NoArm, Arm}
 use Rattle.array_meaning.specs.Iterations.{values_of}
-use Rattle.node_code.specs.Flat.{slots_value}
+use Rattle.node_code.specs.Flat.{Flat, Int}
 use Rattle.lowered_expressions.specs.ExpressionCode.{index_flat}
 use Rattle.lowered_expressions.specs.WellFormed.{IsSubscript}
 use Rattle.nest_items.specs.NestItems.{ToScalar, ToElement}
 use Rattle.nest_items.specs.Naming.{IsNaming}
 use Rattle.nest_items.specs.Standing.{has_no_loop, have_no_loop}
+use Rattle.nest_items.specs.NestForm.{closed_value, IsStep}
 use Rattle.nest_texts.specs.NestInstructions as forms
 use Rattle.nest_texts.specs.NestInstructions.{FlatBounds, NestBody, NestArms}
-use Rattle.nest_join.specs.NestNames.{NestNames, index_in, indices_of, IsTextTerm, IsText}
+use Rattle.statement_trail.specs.NestParts.{index_in}
+use Rattle.nest_join.specs.NestNames.{NestNames, indices_of, IsTextTerm, IsText}
 use Rattle.nest_join.specs.NestTexts.{NestAction, NestCondition}
 
 -- the indices of loops but for those of the loops round a place
 abbrev pub hidden_in : (ℕ → Bool) → List ℕ → ℕ → Bool
 hidden_in is_index [] k = is_index k
 hidden_in is_index (x ∷ round) k = if nat_eq x k then false else hidden_in is_index round k
+
+-- a step, which is a constant
+abbrev pub step_flat : Term → Flat
+step_flat t = Int (unwrap_or (closed_value t) (pos 0))
 
 module _ (w : NestNames) where
   -- ---- which blocks have code
@@ -31,14 +37,13 @@ module _ (w : NestNames) where
   abbrev pub IsBound : List ℕ → Term → Type 0
   IsBound round t = IsSubscript w.count t × IsNaming (IsBoundName round) (λ a. ⊥) t
 
-  -- an inner loop: its index is that of no loop round it, and its step isn't 0, whatever the slots
+  -- an inner loop: its index is that of no loop round it, and its step is a constant other than 0
   pub record IsCodedLoop (s : State) (round : List ℕ) (loop : Loop) : Type 0 where
     pub index : hidden_in w.is_index round loop.index ≡ true
     pub below : loop.index < w.count
     pub first : IsBound round loop.control.first
     pub last : IsBound round loop.control.last
-    pub step : IsBound round loop.control.step
-    pub steps : (slots : List ℤ) → not (is_zero (slots_value slots (index_flat loop.control.step))) ≡ true
+    pub step : IsStep loop.control.step
     pub fits : wrapped (values_of s loop).first ≡ (values_of s loop).first
 
   module _ (s : State) where
@@ -72,7 +77,7 @@ module _ (w : NestNames) where
     index = loop.index;
     first = index_flat loop.control.first;
     last = index_flat loop.control.last;
-    step = index_flat loop.control.step;
+    step = step_flat loop.control.step;
   }
 
   -- an ELSE without statements is none

@@ -1,13 +1,14 @@
 -- The names of a nest on the machine, and what its texts may name.
-use Rattle.std.specs.Prelude.{◌≡◌, ℕ, suc, ◌<◌, ◌⊎◌, nat_eq, List, [], ◌∷◌, ◌++◌, length, Bool, true, false, Option, Some, None, if◌then◌else◌}
+use Rattle.std.specs.Prelude.{◌≡◌, ℕ, ◌<◌, ◌⊎◌, List, ◌++◌, length, Bool, true, false, Option, Some, None}
 use Rattle.nest_order.specs.Copies.{Kind, has_copies}
-use Rattle.array_meaning.specs.Terms.{Term, Number, Scalar, Index, Element, Section, Apply, Reduce, Terms, NoTerm, More}
+use Rattle.array_meaning.specs.Terms.{Term, Terms}
 use Rattle.array_meaning.specs.Statements.{Nest}
 use Rattle.array_meaning.specs.Iterations.{nest_indices}
 use Rattle.node_code.specs.Forms.{Sub}
 use Rattle.node_code.specs.Instructions.{ArrayTable}
 use Rattle.lowered_expressions.specs.WellFormed.{IsIndexed, AreSubscripts}
-use Rattle.nest_values.specs.NestTerms.{indexed, all_indexed, SubscriptsFirst}
+use Rattle.statement_trail.specs.NestParts.{index_in}
+use Rattle.lowered_expressions.specs.NestTerms.{HasNoIndex, HaveNoIndex, indexed, all_indexed, SubscriptsFirst}
 use Rattle.nest_items.specs.Naming.{IsNaming, AreNaming}
 use Rattle.nest_items.specs.NestItems.{Assigning, ToScalar, ToElement}
 
@@ -26,26 +27,6 @@ pub record NestNames : Type 0 where
   pub is_index : ℕ → Bool
   pub over : List Sub
   pub copied_in : Term → List ℕ
-
--- the first place of a number in a list, counted from j
-abbrev pub index_in : List ℕ → ℕ → ℕ → Option ℕ
-index_in [] j k = None
-index_in (x ∷ xs) j k = if nat_eq x k then Some j else index_in xs (suc j) k
-
--- no index of a FORALL stands in an expression
-abbrev mutual
-  pub HasNoIndex : Term → Type 0
-  HasNoIndex (Number v) = Unit {0}
-  HasNoIndex (Scalar k) = Unit {0}
-  HasNoIndex (Index k) = ⊥
-  HasNoIndex (Element a ts) = HaveNoIndex ts
-  HasNoIndex (Section a subs) = Unit {0}
-  HasNoIndex (Apply o ts) = HaveNoIndex ts
-  HasNoIndex (Reduce o t) = Unit {0}
-
-  pub HaveNoIndex : Terms → Type 0
-  HaveNoIndex NoTerm = Unit {0}
-  HaveNoIndex (More t ts) = HasNoIndex t × HaveNoIndex ts
 
 module _ (w : NestNames) where
   -- the indices of the nest, the innermost loop's first

@@ -1,5 +1,5 @@
 -- How a nest of the meaning and its code on the machine end.
-use Rattle.std.specs.Prelude.{◌≡◌, ℕ, ◌+◌, ◌<◌, ◌≤◌, List, [], length, ℤ, Bool, true, false, None}
+use Rattle.std.specs.Prelude.{◌≡◌, ℕ, ◌+◌, ◌<◌, ◌≤◌, List, [], length, ℤ, Bool, true, false, Some, None}
 use Rattle.std.specs.List.{Contains}
 use Rattle.storage.specs.Storage.{Storage, row_of, Alike}
 use Rattle.nest_order.specs.Copies.{has_copies}
@@ -97,14 +97,15 @@ module _ {I : Type 0} (meaning : I → Instr Fault) (code : List I) (is_quiet : 
 
 -- ---- the arrays and the scalars of a state on the machine
 
--- the machine's rows hold the arrays of the state at the entry. What is no array has no elements, and its row isn't the one of its copies; an array
--- lies at its own place, and is no row that the nest makes
+-- the machine's rows hold the arrays of the state at the entry. The nest makes no row of a name; its copies and its marks lie behind those; and an array
+-- lies at its own place
 pub record HoldsRows (w : NestNames) (c : NestCode) (s : State) (count : ℕ) (start : Storage) (d : Data Fault) : Type 0 where
   pub elements : (a : ℕ) → a < w.count → row_of d.rows a ≡ (array s a).elements
   pub names : w.count ≤ c.row
   pub stored : w.count ≤ c.stored
   pub unmade : (a : ℕ) → a < w.count → NotMade a (nest_entries c.finals c.stored count)
-  pub scalars : (a : ℕ) → a < w.count → has_copies (w.kinds a) ≡ true → (array s a).elements ≡ []
+  pub copies : (k : ℕ) → has_copies (w.kinds k) ≡ true → w.count ≤ w.place k
+  pub marks : (k r : ℕ) → w.marks k ≡ Some r → w.count ≤ r
   pub arrays : (a : ℕ) → a < w.count → has_copies (w.kinds a) ≡ false → (w.is_row a ≡ true) × (w.place a ≡ a) × (row_of start a ≡ (array s a).elements)
 
 -- each scalar with copies has its final, and no other slot of a name is one of a final

@@ -14,7 +14,7 @@ use Rattle.nest_machine.specs.BodyCode.{Texts}
 use Rattle.nest_machine.specs.Slots.{SameSlots}
 use Rattle.node_code.specs.NestStatements.{ElementLeft, CopyLeft}
 use Rattle.nest_texts.specs.NestTexts.{NestText, NestTest, nest_texts}
-use Rattle.nest_values.specs.NestTerms.{indexed, all_indexed}
+use Rattle.lowered_expressions.specs.NestTerms.{indexed, all_indexed}
 use Rattle.nest_join.specs.NestNames.{NestNames, index_of, IsTextTerm, IsText}
 
 -- an assignment or a condition where it stands: its line, the indices of the inner loops round it, the innermost first, and the scalars whose
@@ -41,6 +41,7 @@ module _ (w : NestNames) where
   assignment_text line copies (ToScalar k t) = record {
     line = line;
     copies = map w.place copies;
+    names = copies;
     left = CopyLeft (w.place k);
     right = index_form (indexed (index_of w copies) t);
     mark = w.marks k;
@@ -48,6 +49,7 @@ module _ (w : NestNames) where
   assignment_text line copies (ToElement a ts t) = record {
     line = line;
     copies = map w.place copies;
+    names = copies;
     left = ElementLeft a (index_subs (all_indexed (index_of w copies) ts));
     right = index_form (indexed (index_of w copies) t);
     mark = None;
@@ -60,6 +62,7 @@ module _ (w : NestNames) where
   test_of x = record {
     line = x.condition.line;
     copies = map w.place x.condition.copies;
+    names = x.condition.copies;
     form = index_form (indexed (index_of w x.condition.copies) x.condition.text);
   }
 

@@ -3,7 +3,7 @@
 use Rattle.std.specs.Prelude.{◌≡◌, ℕ, suc, ◌+◌, ◌<◌, nat_lt, List, [], ◌∷◌, length, Bool, Option, Some, None, if◌then◌else◌}
 use Rattle.nest_order.specs.Copies.{Kind, New, Assigned, Reduced}
 use Rattle.nest_machine.specs.Finals.{Final, Folds, Lasts}
-use Rattle.nest_join.specs.NestNames.{index_in}
+use Rattle.statement_trail.specs.NestParts.{index_in}
 
 -- no number stands twice in a list
 abbrev pub AreDistinct : List ℕ → Type 0

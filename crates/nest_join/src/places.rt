@@ -9,7 +9,8 @@ ghost use Rattle.nest_machine.specs.Placed.{IsPlace};
 ghost use Rattle.nest_machine.specs.Finals.{Final, final_slot, AreApart};
 ghost use Rattle.nest_machine.specs.PlacedEnds.{IsPlacedFinal};
 ghost use Rattle.nest_machine.specs.Entries.{nest_entries, NotMade, AreRows};
-ghost use Rattle.nest_join.specs.NestNames.{NestNames, index_in};
+ghost use Rattle.statement_trail.specs.NestParts.{index_in};
+ghost use Rattle.nest_join.specs.NestNames.{NestNames};
 ghost use Rattle.nest_join.specs.NestTexts.{texts_of};
 ghost use Rattle.nest_join.specs.Places.{conditions_from, place_of, is_nest_row, marks_of, finals_of, AreScalars};
 

@@ -4,7 +4,7 @@ mod Loops
 mod Bodies
 pub mod Rows
 mod Asked
-mod Counts
+pub mod Counts
 pub mod KeptFaults
 pub mod PlacedActs
 mod PlacedRows

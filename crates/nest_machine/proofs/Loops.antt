@@ -12,7 +12,7 @@ use Rattle.nest_machine.specs.BodyCode.{goes_to, goes_unless, loop_tail, loop_co
 use Rattle.nest_machine.specs.Slots.{SameSlots, headed, entered, next_index, advanced, trip_slots, first_trip, left_slots}
 use Rattle.nest_machine.specs.Trace.{Traced, Data, traced, all_traced}
 use Rattle.nest_machine.specs.Stands.{stands, HasAt}
-use Rattle.nest_machine.proofs.Slots.{same-trip}
+use Rattle.nest_machine.proofs.Slots.{trip-long, left-over}
 use Rattle.nest_machine.proofs.Runs.{Reaches, reaches-on, reaches-to, has-back, has-at, one, set-reaches, first-quiet}
 
 pub traced-append : {F : Type 0} (layout : List Layout → List ℤ → Layout) (xs ys : List (Traced F)) (d : Data F) → all_traced layout (xs ++ ys) d ≡ all_traced layout ys (all_traced layout xs d)
@@ -68,40 +68,11 @@ module _ {I F : Type 0} (meaning : I → Instr F) (code : List I) (is_quiet : �
       abbrev T : ℕ → List ℤ
       T x = trip_slots counting after bounds.index b (entered counting b n h) x
 
-      long : (x : ℕ) → length (T x) ≡ many
-      long x = sym (same-trip counting is_index after bounds.index b is keeps (entered counting b n h) x).0
-          ∙ length-set h (b + 3) (counting.left n) ∙ size_h
-
-      long-after : (x : ℕ) → length (after (T x)) ≡ many
-      long-after x = sym (keeps (T x)).0 ∙ long x
-
       abbrev adv : ℕ → List ℤ
       adv x = advanced counting bounds.index b (after (T x))
 
-      not-index : (k : ℕ) → base ≤ k → k ≡ bounds.index → ⊥
-      not-index k le z = true≢false (sym is ∙ ap is_index (sym z) ∙ hidden k le)
-
-      adv-left : (x : ℕ) → slot (adv x) (b + 3) ≡ slot (T x) (b + 3)
-      adv-left x =
-          let a : List ℤ = next_index counting b (after (T x)) in
-          get_or-set_other a bounds.index (b + 3) (slot a b) (pos 0) (not-index (b + 3) (omega (arith, above)))
-          ∙ get_or-set_other (after (T x)) b (b + 3) (counting.advance (slot (after (T x)) b) (slot (after (T x)) (b + 2))) (pos 0) (λ z. absurd (omega (arith, z)))
-          ∙ sym ((keeps (T x)).1 (b + 3) (omega arith) (hidden (b + 3) (omega (arith, above))))
-
-      adv-long : (x : ℕ) → length (adv x) ≡ many
-      adv-long x =
-          let a : List ℤ = next_index counting b (after (T x)) in
-          length-set a bounds.index (slot a b) ∙ length-set (after (T x)) b (counting.advance (slot (after (T x)) b) (slot (after (T x)) (b + 2))) ∙ long-after x
-
-      -- how many trips are left stands in its slot
-      left-is : (x r : ℕ) → x + r ≡ n → slot (T x) (b + 3) ≡ counting.left r
-      left-is zero r e = get_or-set_same h (b + 3) (counting.left n) (pos 0) (omega (arith, room, size_h)) ∙ ap counting.left (let z : n ≡ r = omega (arith, e) in z)
-      left-is (suc x) r e =
-          get_or-set_same (adv x) (b + 3) (counting.less (slot (adv x) (b + 3))) (pos 0) (let l = adv-long x in omega (arith, room, l))
-          ∙ ap counting.less (adv-left x ∙ left-is x (suc r) (omega (arith, e))) ∙ right.less r
-
-      left-over : (x r : ℕ) → x + r ≡ n → slot (adv x) (b + 3) ≡ counting.left r
-      left-over x r e = adv-left x ∙ left-is x r e
+      left : (x r : ℕ) → x + r ≡ n → slot (adv x) (b + 3) ≡ counting.left r
+      left = left-over counting right is_index base hidden bounds.index b many is above room after keeps h size_h n
 
       abbrev data_after : Data F → ℕ → Data F
       data_after d x = all_traced layout (joined_up_to x (λ y. tr (T y))) d
@@ -118,7 +89,7 @@ module _ {I F : Type 0} (meaning : I → Instr F) (code : List I) (is_quiet : �
 
       -- from the first trip to after the body of trip x
       trips-run : (small : n < right.most) (d : Data F) (x r : ℕ) → x + r ≡ n → Reaches meaning is_quiet (At inside (T 0) d) (At over (after (T x)) (data_after d (suc x)))
-      trips-run small d zero r e = runs (T 0) d (long 0)
+      trips-run small d zero r e = runs (T 0) d (trip-long counting right is_index base hidden bounds.index b many is above room after keeps h size_h n 0)
       trips-run small d (suc x) r e =
           let d1 : Data F = data_after d (suc x) in
           let a : List ℤ = adv x in
@@ -129,21 +100,21 @@ module _ {I F : Type 0} (meaning : I → Instr F) (code : List I) (is_quiet : �
           let m4 = At (over + 1 + 1 + 1 + 1) (T (suc x)) d1 in
           let m5 = At inside (T (suc x)) d1 in
           let m6 = At over (after (T (suc x))) (all_traced layout (tr (T (suc x))) d1) in
-          let some : counting.is_left (slot a (b + 3)) ≡ true = ap counting.is_left (left-over x (suc r) (omega (arith, e))) ∙ right.some r (omega (arith, e, small)) in
+          let some : counting.is_left (slot a (b + 3)) ≡ true = ap counting.is_left (left x (suc r) (omega (arith, e))) ∙ right.some r (omega (arith, e, small)) in
           reaches-to meaning is_quiet m0 m6 (At over (after (T (suc x))) (data_after d (suc (suc x)))) (ap (At over (after (T (suc x)))) (data-more d (suc x)))
           (reaches-on meaning is_quiet m0 m1 m6 (trips-run small d x (suc r) (omega (arith, e)))
           (reaches-on meaning is_quiet m1 m2 m6 (advance-reaches x d1)
           (reaches-on meaning is_quiet m2 m3 m6 (test-reaches a d1 true some)
           (reaches-on meaning is_quiet m3 m4 m6 (set-reaches meaning code is_quiet joined line printed (over + 1 + 1 + 1) a d1 (b + 3) (λ slots. counting.less (slot slots (b + 3))) at-tail.1.1.1.0)
           (reaches-on meaning is_quiet m4 m5 m6 (1, one meaning code joined line printed (over + 1 + 1 + 1 + 1) (T (suc x)) d1 (goes_to inside) at-tail.1.1.1.1.0.0, first-quiet meaning is_quiet m4 at-tail.1.1.1.1.0.1)
-          (runs (T (suc x)) d1 (long (suc x))))))))
+          (runs (T (suc x)) d1 (trip-long counting right is_index base hidden bounds.index b many is above room after keeps h size_h n (suc x))))))))
 
       -- and out of the loop
       pub all-trips : n < right.most → (d : Data F) → Reaches meaning is_quiet (At inside (T 0) d) (At end (adv n) (data_after d (suc n)))
       all-trips small d =
           let a : List ℤ = adv n in
           let d1 : Data F = data_after d (suc n) in
-          let none : counting.is_left (slot a (b + 3)) ≡ false = ap counting.is_left (left-over n 0 (omega arith)) ∙ right.none in
+          let none : counting.is_left (slot a (b + 3)) ≡ false = ap counting.is_left (left n 0 (omega arith)) ∙ right.none in
           reaches-on meaning is_quiet (At inside (T 0) d) (At over (after (T n)) d1) (At end a d1) (trips-run small d n 0 (omega arith))
           (reaches-on meaning is_quiet (At over (after (T n)) d1) (At (over + 1 + 1) a d1) (At end a d1) (advance-reaches n d1) (test-reaches a d1 false none))
 

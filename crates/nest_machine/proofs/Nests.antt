@@ -24,7 +24,7 @@ use Rattle.nest_machine.specs.Finals.{Final, Folds, Lasts, final_slot, finals_co
 use Rattle.nest_machine.specs.Entries.{Entry, NotMade, nest_entries, entries_code, all_made, nest_code}
 use Rattle.nest_machine.specs.Placed.{IsPlace, PlacedMean, PlacedTexts}
 use Rattle.nest_machine.specs.PlacedEntry.{IsPlacedMemory}
-use Rattle.nest_machine.specs.PlacedEnds.{IsPlacedFinal, PlacedAfter}
+use Rattle.nest_machine.specs.PlacedEnds.{OffRow, IsPlacedFinal, PlacedAfter}
 use Rattle.nest_machine.proofs.Slots.{same-after, same-refl}
 use Rattle.nest_machine.proofs.Runs.{Reaches, reaches-on, has-front, has-back, one, first-quiet}
 use Rattle.nest_machine.proofs.Bodies.{body-runs}
@@ -35,7 +35,7 @@ use Rattle.nest_machine.proofs.PlacedBodies.{do-body}
 use Rattle.nest_machine.proofs.Paired.{PairedMarks, paired-body}
 use Rattle.nest_machine.proofs.PlacedMarks.{said-all}
 use Rattle.nest_machine.proofs.Finals.{or_entry, last-is, value_of, finals-run, finals-here, finals-other, finals-length, finals-many}
-use Rattle.nest_machine.proofs.Unmade.{traced-length, unmade-stays, unmade-body}
+use Rattle.nest_machine.proofs.Unmade.{traced-length, unmade-stays, untouched-stays, unmade-body, untouched-body}
 use Rattle.nest_machine.proofs.MadeCopies.{made-length, made-kept, made-other, entries-run}
 use Rattle.nest_machine.proofs.PlacedCopies.{entered-placed, unset-marks}
 
@@ -207,6 +207,12 @@ module _ {I A C F P Q : Type 0} (meaning : I → Instr F) (code : List I) (is_qu
           let h = stays x (λ k lk e. absurd (omega (arith, e, lt))) in
           let g = made-other layout s es d x off in (h.0 ∙ ap length g.0, h.1 ∙ g.1)
 
+      untouched-before : (x : ℕ) → x < stored → NotMade x es → ((a : A) (s : List ℤ) (i : ℕ) → OffRow x (texts.left a s i)) → ((a : A) → texts.mark a ≡ Some x → ⊥)
+          → row_of d2.rows x ≡ row_of d.rows x
+      untouched-before x lt off elsewhere no_mark =
+          untouched-stays layout x done d1 (untouched-body texts counting size stored (count_body body) x (λ k lk e. absurd (omega (arith, e, lt))) body None 0 b s (omega arith) elsewhere no_mark)
+          ∙ (made-other layout s es d x off).0
+
       many-rows : (length d2.rows ≡ length d.rows) × (length d2.layouts ≡ length d.layouts)
       many-rows =
           let h = traced-length layout done d1 in
@@ -252,6 +258,7 @@ module _ {I A C F P Q : Type 0} (meaning : I → Instr F) (code : List I) (is_qu
         laid = many-rows.1;
         extents = λ x lt off. (stays-before x lt off).0;
         lie = λ x lt off. (stays-before x lt off).1;
+        untouched = untouched-before;
         shared = λ spot lt is shared. ap (λ xs. slice_index_or xs spot.at (pos 0)) (passed.1.rows spot.row is) ∙ sym (agrees.shared spot lt shared);
         scalars = λ f r inside is.
             finals-here alike d2.layouts d2.rows finals s1 apart (λ g cg. let z = few g cg in let l = same1.0 in omega (arith, z, l, room)) f inside

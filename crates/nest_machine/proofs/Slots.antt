@@ -1,7 +1,7 @@
 -- The code of a body changes no slot before those of its inner loops but their indices.
-use Rattle.std.proofs.Common.{◌≡◌, ℕ, zero, suc, ◌+◌, ◌≤◌, List, slice_set, ℤ, pos, Bool, true, refl, sym, ap, ◌∙◌, arith, length-set, get_or-set_other}
+use Rattle.std.proofs.Common.{◌≡◌, ℕ, zero, suc, ◌+◌, ◌≤◌, List, length, slice_set, ℤ, pos, Bool, true, false, refl, sym, ap, ◌∙◌, arith, length-set, get_or-set_same, get_or-set_other}
 use Rattle.std.proofs.lemmas.Bool.{true≢false}
-use Rattle.nest_machine.specs.Counting.{slot, Counting, trips_at}
+use Rattle.nest_machine.specs.Counting.{slot, Counting, trips_at, IsCounting}
 use Rattle.nest_machine.specs.Body.{Bounds, Body, NoText, AndText, AndIf, AndLoop, Arms, NoArm, AndArm, TakeSteps, ArmsTakeSteps}
 use Rattle.nest_machine.specs.Slots.{SameSlots, headed, entered, next_index, advanced, again, trip_slots, first_trip, left_slots, slots_after, slots_after_arms}
 
@@ -34,13 +34,13 @@ module _ {F : Type 0} (counting : Counting F) (is_index : ℕ → Bool) where
       (same-on is_index b b b s2 s3 s4 (omega arith) (omega arith) (same-set is_index b (b + 2) s2 (bounds.step s2) (omega arith))
       (same-index is_index b bounds.index s3 (slot s3 b) is)))
 
-  same-advanced : (x b : ℕ) (s : List ℤ) → is_index x ≡ true → Same is_index b s (advanced counting x b s)
+  pub same-advanced : (x b : ℕ) (s : List ℤ) → is_index x ≡ true → Same is_index b s (advanced counting x b s)
   same-advanced x b s is =
       let s1 : List ℤ = next_index counting b s in
       same-on is_index b b b s s1 (advanced counting x b s) (omega arith) (omega arith)
       (same-set is_index b b s (counting.advance (slot s b) (slot s (b + 2))) (omega arith)) (same-index is_index b x s1 (slot s1 b) is)
 
-  same-again : (x b : ℕ) (s : List ℤ) → is_index x ≡ true → Same is_index b s (again counting x b s)
+  pub same-again : (x b : ℕ) (s : List ℤ) → is_index x ≡ true → Same is_index b s (again counting x b s)
   same-again x b s is =
       let a : List ℤ = advanced counting x b s in
       same-on is_index b b b s a (again counting x b s) (omega arith) (omega arith) (same-advanced x b s is)
@@ -92,3 +92,45 @@ module _ {F : Type 0} (counting : Counting F) (is_index : ℕ → Bool) where
           let s1 : List ℤ = slots_after counting body b s in
           same-on is_index b b b s s1 (slots_after_arms counting others b s1) (omega arith) (omega arith) (same-after body ok.0 b s)
           (same-after-arms others ok.1 b s1)
+
+-- how many trips are left, trip by trip, where n trips are left after the first
+module _ {F : Type 0} (counting : Counting F) (right : IsCounting counting) (is_index : ℕ → Bool) (base : ℕ) (hidden : (k : ℕ) → base ≤ k → is_index k ≡ false) (index b many : ℕ)
+    (is : is_index index ≡ true) (above : base ≤ b) (room : b + 4 ≤ many) (after : List ℤ → List ℤ) (keeps : (s : List ℤ) → SameSlots is_index (b + 4) s (after s)) (h : List ℤ)
+    (size_h : length h ≡ many) (n : ℕ) where
+  abbrev T : ℕ → List ℤ
+  T x = trip_slots counting after index b (entered counting b n h) x
+
+  pub trip-long : (x : ℕ) → length (T x) ≡ many
+  trip-long x = sym (same-trip counting is_index after index b is keeps (entered counting b n h) x).0 ∙ length-set h (b + 3) (counting.left n) ∙ size_h
+
+  long-after : (x : ℕ) → length (after (T x)) ≡ many
+  long-after x = sym (keeps (T x)).0 ∙ trip-long x
+
+  abbrev adv : ℕ → List ℤ
+  adv x = advanced counting index b (after (T x))
+
+  not-index : (k : ℕ) → base ≤ k → k ≡ index → ⊥
+  not-index k le z = true≢false (sym is ∙ ap is_index (sym z) ∙ hidden k le)
+
+  adv-left : (x : ℕ) → slot (adv x) (b + 3) ≡ slot (T x) (b + 3)
+  adv-left x =
+      let a : List ℤ = next_index counting b (after (T x)) in
+      get_or-set_other a index (b + 3) (slot a b) (pos 0) (not-index (b + 3) (omega (arith, above)))
+      ∙ get_or-set_other (after (T x)) b (b + 3) (counting.advance (slot (after (T x)) b) (slot (after (T x)) (b + 2))) (pos 0) (λ z. absurd (omega (arith, z)))
+      ∙ sym ((keeps (T x)).1 (b + 3) (omega arith) (hidden (b + 3) (omega (arith, above))))
+
+  adv-long : (x : ℕ) → length (adv x) ≡ many
+  adv-long x =
+      let a : List ℤ = next_index counting b (after (T x)) in
+      length-set a index (slot a b) ∙ length-set (after (T x)) b (counting.advance (slot (after (T x)) b) (slot (after (T x)) (b + 2))) ∙ long-after x
+
+  -- how many trips are left stands in its slot
+  left-is : (x r : ℕ) → x + r ≡ n → slot (T x) (b + 3) ≡ counting.left r
+  left-is zero r e = get_or-set_same h (b + 3) (counting.left n) (pos 0) (omega (arith, room, size_h)) ∙ ap counting.left (let z : n ≡ r = omega (arith, e) in z)
+  left-is (suc x) r e =
+      get_or-set_same (adv x) (b + 3) (counting.less (slot (adv x) (b + 3))) (pos 0) (let l = adv-long x in omega (arith, room, l))
+      ∙ ap counting.less (adv-left x ∙ left-is x (suc r) (omega (arith, e))) ∙ right.less r
+
+  -- also after the index is set to its next value
+  pub left-over : (x r : ℕ) → x + r ≡ n → slot (adv x) (b + 3) ≡ counting.left r
+  left-over x r e = adv-left x ∙ left-is x r e

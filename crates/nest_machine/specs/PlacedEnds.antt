@@ -53,7 +53,7 @@ module _ {A C F : Type 0} (texts : Texts A C F) (stored row count b : ℕ) (plac
 
 -- The machine comes after the nest, at `to`, with the arrays and the scalars of a storage m. `after` and `rows` are the slots and the rows after the
 -- body: an inner index is what the body leaves, and the other slots before b are as at the entry. Rows before those of conditions keep their extents and lie as they
--- did, but for the copies that are made. On the way it comes to quiet places alone
+-- did, but for the copies that are made, and are the same where no text stores and no marks lie. On the way it comes to quiet places alone
 module _ {I A C F : Type 0} (meaning : I → Instr F) (code : List I) (is_quiet : ℕ → Bool) (joined : ℤ) (line printed : List ℕ) (pc to : ℕ) (texts : Texts A C F) (stored row count b : ℕ)
     (place : ℕ → ℕ) (is_row is_index : ℕ → Bool) (kinds : ℕ → Kind) (start : Storage) (finals : List Final) (after entry : List ℤ) (rows : Storage) (d : Data F) where
   pub record PlacedAfter (m : Storage) : Type 0 where
@@ -70,6 +70,8 @@ module _ {I A C F : Type 0} (meaning : I → Instr F) (code : List I) (is_quiet 
     pub laid : length data'.layouts ≡ length d.layouts
     pub extents : (r : ℕ) → r < stored → NotMade r (nest_entries finals stored count) → length (row_of data'.rows r) ≡ length (row_of d.rows r)
     pub lie : (r : ℕ) → r < stored → NotMade r (nest_entries finals stored count) → slice_get data'.layouts r ≡ slice_get d.layouts r
+    pub untouched : (r : ℕ) → r < stored → NotMade r (nest_entries finals stored count) → ((a : A) (s : List ℤ) (i : ℕ) → OffRow r (texts.left a s i))
+        → ((a : A) → texts.mark a ≡ Some r → ⊥) → row_of data'.rows r ≡ row_of d.rows r
     pub shared : (spot : Spot) → spot.row < row → is_row spot.row ≡ true → kinds spot.row ≡ Shared → read data'.rows (placed_spot place spot) ≡ read m spot
     pub scalars : (f : Final) (r : ℕ) → Contains finals f → IsPlacedFinal texts stored row count b place is_row is_index kinds start entry f r
         → slot slots (final_slot f) ≡ read m (scalar_at r)

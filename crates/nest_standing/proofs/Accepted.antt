@@ -9,20 +9,23 @@ use Rattle.expression_rules.specs.Inner.{axis_expressions}
 use Rattle.expression_rules.specs.Operands.{are_operands, names_in}
 use Rattle.expression_rules.specs.Symbols.{Name, SymbolTable, find, satisfies, is_operand, is_scalar, is_variable, is_among}
 use Rattle.expression_rules.specs.declared.symbols.Symbol.{Symbol}
+use Rattle.expression_rules.specs.declared.symbols.Symbol.TheVariants as symbol
 use Rattle.statement_walk.specs.Heads.{PlacedHead}
 use Rattle.statement_walk.specs.Nests.{Loop}
 use Rattle.declarations.specs.Reasons.{when}
-use Rattle.name_table.specs.Entries.{entry}
+use Rattle.name_table.specs.Entries.{entry, what_is}
 use Rattle.name_table.specs.declared.names.Entry.{Entry}
 use Rattle.name_table.specs.NameRules.{expressions_of, header_names, name_breaches_at, name_reasons, own_uses}
 use Rattle.name_table.specs.Uses.{Use, Assigned, DoVariable, ForallIndex, Listed, allows, repeats}
+use Rattle.body_forms.specs.Names.{is_scalar as is_scalar_variable}
 use Rattle.nest_check.specs.NestNames.{NestNames}
 use Rattle.nest_check.specs.NestRules.{are_linear_inside, head_expressions, is_inner_axis, is_axis_allowed, is_allowed_in_nest, is_readable, keeps_nest_rules, keeps_path_rules, nest_breaches_at, path_breaches_at, list_breaches, axis_breaches, inner_loop_breaches}
 use Rattle.nest_check.specs.Paths.{ReachedHead}
+use Rattle.well_formed.proofs.Dimensions.{declared_found}
 use Rattle.well_formed.proofs.Lists.{both, empties, fails, holds, neither, no_reason}
-use Rattle.nest_standing.specs.Named.{Declared, AreDeclared, Names, names_arrays, IsGoodUse, IsNamed}
+use Rattle.nest_standing.specs.Named.{Declared, AreDeclared, IsScalar, Names, names_arrays, IsGoodUse, IsNamed}
 use Rattle.nest_standing.proofs.Ruled.{IsKept, IsReached}
-use Rattle.nest_standing.proofs.Bodies.{not_true}
+use Rattle.nest_standing.proofs.Exprs.{not_true}
 
 pub kept_all : (n : NestNames) (hs : List PlacedHead) → flat_map (nest_breaches_at n) hs ≡ [] → AllByRecursion (IsKept n) hs
 kept_all n [] h = tt
@@ -83,11 +86,23 @@ operands_declared : (t : SymbolTable) (es : List Expression) → list_all (are_o
 operands_declared t [] h = tt
 operands_declared t (e ∷ es) h = let s = both (are_operands t e) (list_all (are_operands t) es) h in (all_declared t (names_in e) s.0, operands_declared t es s.1)
 
+scalar_symbol : (s : Symbol) → is_scalar s ≡ true → is_scalar_variable (Some (what_is s)) ≡ true
+scalar_symbol symbol.Uninitialized h = refl
+scalar_symbol (symbol.Initialized n) h = refl
+scalar_symbol s h = absurd (true≢false (sym h))
+
+scalar_found : (x : Name) (t : SymbolTable) → satisfies is_scalar (find x t) ≡ true → IsScalar (map entry t) x
+scalar_found x t h = by (find x t) refl h
+  where
+    by : (o : Option Symbol) → find x t ≡ o → satisfies is_scalar o ≡ true → IsScalar (map entry t) x
+    by None f g = absurd (true≢false (sym g))
+    by (Some s) f g = (declared x t (ap is_some f), ap is_scalar_variable (declared_found x t s f) ∙ scalar_symbol s g)
+
 good_use : (t : SymbolTable) (ys : List Name) (u : Use) → allows t ys u ≡ true → IsGoodUse (map entry t) ys u
 good_use t ys (Assigned hidden x) h =
     let s = both (satisfies is_variable (find x t)) (not (is_among x ys) || is_among x hidden) h in (declared x t (is_found is_variable (find x t) s.0), s.1)
 good_use t ys (DoVariable x) h =
-    let s = both (satisfies is_scalar (find x t)) (not (is_among x ys)) h in (declared x t (is_found is_scalar (find x t) s.0), not_true (is_among x ys) s.1)
+    let s = both (satisfies is_scalar (find x t)) (not (is_among x ys)) h in (scalar_found x t s.0, not_true (is_among x ys) s.1)
 good_use t ys (ForallIndex x) h = tt
 good_use t ys (Listed x) h = tt
 

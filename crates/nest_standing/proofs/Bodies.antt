@@ -26,17 +26,13 @@ use Rattle.nest_order.specs.Copies.{Kind}
 use Rattle.array_meaning.specs.Terms.{Term, Number, Scalar, Element, Section, Apply, Reduce, Terms, NoTerm, More}
 use Rattle.array_meaning.specs.Terms as term
 use Rattle.array_meaning.specs.Resolution.{place_of, alone, assignment, called, left_of, term_of, terms_of, resolved, resolved_block, resolved_arms, resolved_otherwise}
+use Rattle.fitting_states.specs.FittingStates.{TermFits, TermsFit}
 use Rattle.well_formed.proofs.Lists.{all_split, both, pass_split}
 use Rattle.nest_items.specs.NestKinds.{is_difference}
 use Rattle.nest_items.specs.Standing.{Stands, IsReductionStatement, has_no_loop, is_no_loop, have_no_loop}
 use Rattle.nest_standing.specs.Named.{Names, is_array_in}
 use Rattle.nest_standing.proofs.Ruled.{IsReached, Tied, IsFree}
-use Rattle.nest_standing.specs.FittingNumbers.{NumbersFit, AllNumbersFit}
-use Rattle.nest_standing.proofs.Exprs.{stands}
-
-pub not_true : (b : Bool) → not b ≡ true → b ≡ false
-not_true false h = refl
-not_true true h = absurd (true≢false (sym h))
+use Rattle.nest_standing.proofs.Exprs.{not_true, or_case, stands}
 
 pub not_both : {A : Type 0} (b : Bool) → b ≡ true → b ≡ false → A
 not_both b t f = absurd (true≢false (sym t ∙ f))
@@ -100,10 +96,6 @@ pub or_true : (a b : Bool) → (a || b) ≡ true → (a ≡ true) ⊎ (b ≡ tru
 or_true true b h = inl refl
 or_true false b h = inr h
 
-pub or_case : {A B C : Type 0} → A ⊎ B → (A → C) → (B → C) → C
-or_case (inl a) f g = f a
-or_case (inr b) f g = g b
-
 same_difference : (o : Op) → is_difference o ≡ by_name.is_difference o
 same_difference op.Sub = refl
 same_difference o = refl
@@ -155,7 +147,7 @@ module _ (n : NestNames) (kinds : ℕ → Kind) (tied : Tied n kinds) (xs : List
     pub allowed : list_all (may_stand_in_nest n xs own) (subexpressions a) ≡ true
     pub linear : list_all (has_linear_subscripts (body_names n)) (subexpressions a) ≡ true
     pub arrays : list_all (is_array_in n.declared) (subexpressions a) ≡ true
-    pub fit : NumbersFit (term_of n.declared [] a)
+    pub fit : TermFits (term_of n.declared [] a)
 
   pub right_stands : (own : Option Name) (a : Expression) → Right own a → Stands kinds free (option_map (place_of n.declared) own) (term_of n.declared [] a)
   right_stands own a h = stands n kinds tied xs own free is_free a h.names h.allowed h.linear h.arrays h.fit
@@ -217,7 +209,7 @@ module _ (n : NestNames) (kinds : ℕ → Kind) (tied : Tied n kinds) (xs : List
   reduction_is x v u (e.Call o (e.More (e.One a) (e.More (e.One b) e.End))) w h g =
       let s = if_some_is (are_operands_of x o a b) (joined_by o) u h in
       let ps : Parts = e.More (e.One a) (e.More (e.One b) e.End) in
-      let fits : AllNumbersFit (terms_of n.declared [] ps) = subst NumbersFit (called_is n o u ps (terms_of n.declared [] ps) s.1) g.fit in
+      let fits : TermsFit (terms_of n.declared [] ps) = subst TermFits (called_is n o u ps (terms_of n.declared [] ps) s.1) g.fit in
       let m = all_split _ (names_in a) (names_in b ++ []) g.names in
       let m' = all_split _ (names_in b) [] m.1 in
       let gs = pass_split (may_stand_in_nest n xs (Some x)) (subexpressions a) (subexpressions b ++ []) (both (not (is_reduction o)) _ g.allowed).1 in

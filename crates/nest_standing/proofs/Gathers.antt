@@ -34,19 +34,17 @@ use Rattle.well_formed.proofs.Lists.{all_split, both}
 use Rattle.well_formed.proofs.Expressions.{either}
 use Rattle.array_meaning.specs.Iterations.{is_in}
 use Rattle.array_meaning.specs.Touches.{assigned_in, assigned_by, assigned_in_arms}
-use Rattle.nest_standing.specs.Named.{Declared, AreDeclared, IsNamed}
+use Rattle.nest_standing.specs.Named.{Declared, AreDeclared, IsScalar, IsNamed}
 use Rattle.nest_standing.proofs.Ruled.{IsKept, IsGathered}
 use Rattle.nest_standing.proofs.PlacesOf.{among_is}
-use Rattle.nest_standing.proofs.Bodies.{not_both, or_true, or_case, if_some_is}
+use Rattle.nest_standing.proofs.Exprs.{or_case, or_left, or_right}
+use Rattle.nest_standing.proofs.Bodies.{not_both, or_true, if_some_is}
 use Rattle.nest_standing.proofs.Ties.{among_all, operator_at_over, operators_of_nest, Meets}
 use Rattle.nest_standing.proofs.Operators.{operators_hold, has_all}
 
-all_join : {A : Type 0} (P : A → Type 0) (xs ys : List A) → AllByRecursion P xs → AllByRecursion P ys → AllByRecursion P (xs ++ ys)
+pub all_join : {A : Type 0} (P : A → Type 0) (xs ys : List A) → AllByRecursion P xs → AllByRecursion P ys → AllByRecursion P (xs ++ ys)
 all_join P [] ys h g = g
 all_join P (x ∷ xs) ys h g = (h.0, all_join P xs ys h.1 g)
-
-abbrev pub IsScalar : List Entry → Name → Type 0
-IsScalar names x = Declared names x × (is_scalar (declared_as names x) ≡ true)
 
 module _ (n : NestNames) where
   -- what the rules say of a scalar that is assigned
@@ -57,7 +55,7 @@ module _ (n : NestNames) where
   pub record Gives (hs : List Head) (ks : List ℕ) : Type 0 where
     pub places : ks ≡ map (place_of n.declared) (flat_map scalar_assigned hs)
     pub quiet : AllByRecursion IsQuiet (flat_map scalar_assigned hs)
-    pub indices : AreDeclared n.declared (flat_map do_variable_of hs)
+    pub indices : AllByRecursion (IsScalar n.declared) (flat_map do_variable_of hs)
 
   nothing : Gives [] []
   nothing = record { places = refl; quiet = tt; indices = tt }
@@ -67,8 +65,8 @@ module _ (n : NestNames) where
     places = ap₂ (λ a b. a ++ b) h.places g.places ∙ sym (map-append (place_of n.declared) (flat_map scalar_assigned hs) (flat_map scalar_assigned gs))
         ∙ ap (map (place_of n.declared)) (sym (flat_map-append scalar_assigned hs gs));
     quiet = subst (AllByRecursion IsQuiet) (sym (flat_map-append scalar_assigned hs gs)) (all_join IsQuiet (flat_map scalar_assigned hs) (flat_map scalar_assigned gs) h.quiet g.quiet);
-    indices = subst (AreDeclared n.declared) (sym (flat_map-append do_variable_of hs gs))
-        (all_join (Declared n.declared) (flat_map do_variable_of hs) (flat_map do_variable_of gs) h.indices g.indices);
+    indices = subst (AllByRecursion (IsScalar n.declared)) (sym (flat_map-append do_variable_of hs gs))
+        (all_join (IsScalar n.declared) (flat_map do_variable_of hs) (flat_map do_variable_of gs) h.indices g.indices);
   }
 
   unindexed_by : (r o i l x y : Bool) → ((l || x) ≡ true → y ≡ true) → y ≡ false → ((not r || o) && (not i || l || x)) ≡ true → i ≡ false
@@ -187,7 +185,7 @@ none_among x is (y ∷ ys) P h g = by (bytes_eq x y) refl (none_among x is ys P 
     by true f more = not_both (is_among x is) g (subst (λ q. is_among q is ≡ false) (sym ((bytes_eq-Decides x y).0 f)) h.0.1)
     by false f more = more
 
-all_first : {A : Type 0} (P Q : A → Type 0) (xs : List A) → AllByRecursion (λ x. P x × Q x) xs → AllByRecursion P xs
+pub all_first : {A : Type 0} (P Q : A → Type 0) (xs : List A) → AllByRecursion (λ x. P x × Q x) xs → AllByRecursion P xs
 all_first P Q [] h = tt
 all_first P Q (x ∷ xs) h = (h.0.0, all_first P Q xs h.1)
 
@@ -233,6 +231,14 @@ no_array names x f (y ∷ ys) h = by (bytes_eq x y) refl (no_array names x f ys 
     by true e more = absurd (true≢false (sym h.0.1 ∙ ap (λ q. is_scalar (declared_as names q)) (sym ((bytes_eq-Decides x y).0 e)) ∙ f))
     by false e more = more
 
+-- what is among scalars is one
+scalar_among : (names : List Entry) (x : Name) (ys : List Name) → AllByRecursion (IsScalar names) ys → is_among x ys ≡ true → is_scalar (declared_as names x) ≡ true
+scalar_among names x ys h f = by (is_scalar (declared_as names x)) refl
+  where
+    by : (b : Bool) → is_scalar (declared_as names x) ≡ b → b ≡ true
+    by true g = refl
+    by false g = not_both (is_among x ys) f (no_array names x g ys h)
+
 -- what joins the REDUCTION variables is over all numbers of 64 bits
 joined_over : (x : Name) (u : Join) (a : Expression) → operator_in x a ≡ Some u → IsOverNumbers u
 joined_over x u (e.Binary o a b) h = over_numbers o u (if_some_is (are_operands_of x o a b) (joined_by o) u h).1
@@ -261,11 +267,13 @@ numbers_joined es t k =
 
 -- the names of a nest meet the resolved nest, where its lists do
 pub meets : (es : List Entry) (t : NamedNest) (nest : Nest) (body : Block) → Gives (nest_names es t) (inner_heads t.body) (assigned_in body)
+    → AllByRecursion (IsScalar es) (nest_indices t ++ flat_map do_variable_of (inner_heads t.body))
     → ((x : Name) → Declared es x → is_in (place_of es x) nest.reduction ≡ is_among x (nest_names es t).reduction_names)
     → ((x : Name) → Declared es x → is_in (place_of es x) nest.new ≡ is_among x (nest_names es t).new_names)
     → Meets (nest_names es t) nest body
-meets es t nest body h reduction new =
+meets es t nest body h indices reduction new =
     let ys : List Name = flat_map scalar_assigned (inner_heads t.body) in
+    let is : List Name = nest_indices t ++ flat_map do_variable_of (inner_heads t.body) in
     let scalars = all_first (IsScalar es) (λ x. is_among x (nest_names es t).indices ≡ false) ys h.quiet in
     let declared = all_first (Declared es) (λ x. is_scalar (declared_as es x) ≡ true) ys scalars in
     record {
@@ -275,6 +283,7 @@ meets es t nest body h reduction new =
       operators = operators_hold (λ p. Declared es p.variable) [] (flat_map (operators_of (reductions t)) (inner_heads t.body)) tt (operators_named (nest_names es t) (reductions t) (inner_heads t.body) declared);
       quiet = λ x d i. among_all x [] ys ∙ none_among x (nest_names es t).indices ys (IsScalar es) h.quiet i;
       arrays = λ x f. among_all x [] ys ∙ no_array es x f ys scalars;
+      scalars = λ x i. scalar_among es x is indices (sym (among_all x [] is) ∙ i);
     }
 
 -- ---- each statement with what is gathered
@@ -284,14 +293,6 @@ module _ (n : NestNames) where
     assigned : (x : Name) → is_among x (flat_map scalar_assigned hs) ≡ true → is_among x n.assigned ≡ true
     indices : (x : Name) → is_among x (flat_map do_variable_of hs) ≡ true → is_among x n.indices ≡ true
     operators : (x : Name) → list_any (λ p. bytes_eq x p.variable) (flat_map (operators_of n.reduction_names) hs) ≡ true → list_any (λ p. bytes_eq x p.variable) n.operators ≡ true
-
-  or_left : (a b : Bool) → a ≡ true → (a || b) ≡ true
-  or_left true b h = refl
-  or_left false b h = absurd (true≢false (sym h))
-
-  or_right : (a b : Bool) → b ≡ true → (a || b) ≡ true
-  or_right true b h = refl
-  or_right false b h = h
 
   rest : (h : Head) (hs : List Head) → Has (h ∷ hs) → Has hs
   rest h hs g = record {
@@ -335,6 +336,6 @@ pub gathered : (es : List Entry) (t : NamedNest) → AllByRecursion (IsGathered 
 gathered es t = all_gathered (nest_names es t) (inner_heads t.body) (record {
   assigned = λ x h. among_all x [] (flat_map scalar_assigned (inner_heads t.body)) ∙ h;
   indices = λ x h. among_all x [] (nest_indices t ++ flat_map do_variable_of (inner_heads t.body))
-      ∙ list_any-append (bytes_eq x) (nest_indices t) (flat_map do_variable_of (inner_heads t.body)) ∙ or_right (nest_names es t) (is_among x (nest_indices t)) _ h;
+      ∙ list_any-append (bytes_eq x) (nest_indices t) (flat_map do_variable_of (inner_heads t.body)) ∙ or_right (is_among x (nest_indices t)) _ h;
   operators = λ x h. has_all [] (flat_map (operators_of (reductions t)) (inner_heads t.body)) (operators_added [] (flat_map (operators_of (reductions t)) (inner_heads t.body))) refl x h;
 })

@@ -29,19 +29,19 @@ use Rattle.nest_order.specs.Copies.{Kind, Shared, New, Assigned, Reduced, has_co
 use Rattle.array_meaning.specs.Terms.{Term, Number, Scalar, Element, Section, Apply, Reduce, Terms, NoTerm, More}
 use Rattle.array_meaning.specs.Terms as term
 use Rattle.array_meaning.specs.Statements.{Unmarked}
-use Rattle.array_meaning.specs.Resolution.{place_of, dims_of, is_element, alone, assignment, left_of, loop_of, step_of, term_of, terms_of, section_subscripts, resolved, resolved_block, resolved_arms, resolved_otherwise}
+use Rattle.array_meaning.specs.Resolution.{control_of, place_of, dims_of, is_element, alone, assignment, left_of, loop_of, step_of, term_of, terms_of, section_subscripts, resolved, resolved_block, resolved_arms, resolved_otherwise}
+use Rattle.fitting_states.specs.FittingStates.{TermFits, ControlFits, BlockFits, StatementFits, ArmsFit}
 use Rattle.well_formed.proofs.Lists.{all_split, both}
 use Rattle.well_formed.proofs.Heads.{placed_all}
 use Rattle.nest_items.specs.Naming.{IsNaming, AreNaming}
-use Rattle.nest_items.specs.Standing.{Stands, IsReductionStatement, RightKind, has_no_loop, have_no_loop}
+use Rattle.nest_items.specs.Standing.{IsFixed, IsFixedTerm, Stands, IsReductionStatement, RightKind, has_no_loop, have_no_loop}
 use Rattle.nest_items.specs.Settled.{without}
 use Rattle.nest_items.specs.NestForm.{with_closed, closed_value, closed_values, IsStep, IsKeptLoop, BlockKeeps, StatementKeeps, ArmsKeep}
 use Rattle.nest_standing.specs.Named.{Declared, Names, names_arrays, IsNamed}
 use Rattle.nest_standing.proofs.Ruled.{IsKept, IsReached, IsGathered, Tied, IsFree}
-use Rattle.nest_standing.specs.FittingNumbers.{NumbersFit, BlockFits, StatementFits, ArmsFit}
 use Rattle.nest_standing.proofs.PlacesOf.{place_eq}
-use Rattle.nest_standing.proofs.Exprs.{either_from, bound, fixed_parts}
-use Rattle.nest_standing.proofs.Bodies.{not_true, not_both, two, no_arm_loop, no_else_loop, Right, right_stands, reduction_is}
+use Rattle.nest_standing.proofs.Exprs.{not_true, either_from, bound_names, exact_bound, fixed_parts}
+use Rattle.nest_standing.proofs.Bodies.{not_both, two, no_arm_loop, no_else_loop, Right, right_stands, reduction_is}
 
 reduced_same : (a b : Join) → Reduced a ≡ Reduced b → a ≡ b
 reduced_same a b h = cc
@@ -166,7 +166,7 @@ module _ (n : NestNames) (kinds : ℕ → Kind) (tied : Tied n kinds)
         → ((o : Join) → reduction_operator n.reduction_names (record { name = x; subscripts = None }) right ≡ Some o → list_any (λ p. bytes_eq x p.variable) n.operators ≡ true)
         → may_be_named n xs (own_variable x (reduction_operator n.reduction_names (record { name = x; subscripts = None }) right)) x ≡ true
         → has_one_operator n x (reduction_operator n.reduction_names (record { name = x; subscripts = None }) right) ≡ true
-        → (NumbersFit (term_of n.declared [] right)
+        → (TermFits (term_of n.declared [] right)
         → Right n kinds tied xs free is_free (own_variable x (reduction_operator n.reduction_names (record { name = x; subscripts = None }) right)) right)
         → StatementFits (assignment (alone None (place_of n.declared x) w) (term_of n.declared [] right))
         → StatementKeeps kinds free (assignment (alone None (place_of n.declared x) w) (term_of n.declared [] right))
@@ -228,7 +228,7 @@ module _ (n : NestNames) (kinds : ℕ → Kind) (tied : Tied n kinds)
         )) (λ i f. not_both (is_element ps) (all_single ps r.0) i) fit
 
     cond_stands : (line : ℕ) (cond : Expression) → IsNamed n.declared (placed ys line (head.Condition cond)) → IsKept n (placed xs line (head.Condition cond))
-        → NumbersFit (term_of n.declared [] cond) → Stands kinds free None (term_of n.declared [] cond)
+        → TermFits (term_of n.declared [] cond) → Stands kinds free None (term_of n.declared [] cond)
     cond_stands line cond named kept fit =
         right_stands n kinds tied xs free is_free None cond
         (record {
@@ -245,25 +245,26 @@ module _ (n : NestNames) (kinds : ℕ → Kind) (tied : Tied n kinds)
   pub loop_keeps : (free : ℕ → Bool) → ((x : Name) → Declared n.declared x → is_among x n.indices ≡ false → free (place_of n.declared x) ≡ false) → (a : Axis)
       → AllByRecursion (Names n.declared) (axis_expressions a) → is_inner_axis n a ≡ true → Declared n.declared a.index → is_among a.index n.indices ≡ true
       → free (place_of n.declared a.index) ≡ true
-      → NumbersFit (term_of n.declared [] a.first) → NumbersFit (term_of n.declared [] a.last) → IsKeptLoop kinds free Unmarked (loop_of n.declared a)
-  loop_keeps free unseen a names rules d i is_unseen fit fit' =
+      → ControlFits (control_of n.declared [] a) → IsKeptLoop kinds free Unmarked (loop_of n.declared a)
+  loop_keeps free unseen a names rules d i is_unseen fit =
       let q = both (is_bound n a.first && is_bound n a.last) (list_all (is_step n) (present a.step)) rules in
       let r = both (is_bound n a.first) (is_bound n a.last) q.0 in
-      let f = bound n kinds tied free unseen a.first names.0 fit r.0 in
-      let l = bound n kinds tied free unseen a.last names.1.0 fit' r.1 in
       let s = by_step a.step q.1 in
       record {
         unmarked = refl;
         index = tied.copies a.index d ∙ tied.quiet a.index d i;
         unseen = is_unseen;
-        first = f.0;
-        last = l.0;
-        step = closed_names (λ k. (free k ≡ false) × (has_copies (kinds k) ≡ false)) (λ a. ⊥) (step_of n.declared [] a.step) (ap is_some s.is);
-        first_exact = f.1;
-        last_exact = l.1;
+        first = fixed a.first names.0 r.0;
+        last = fixed a.last names.1.0 r.1;
+        step = closed_names (IsFixed kinds free) (λ a. ⊥) (step_of n.declared [] a.step) (ap is_some s.is);
+        first_exact = exact_bound n tied.scalars a.first r.0 fit.0;
+        last_exact = exact_bound n tied.scalars a.last r.1 fit.1;
         step_exact = s;
       }
     where
+      fixed : (x : Expression) → Names n.declared x → is_bound n x ≡ true → IsFixedTerm kinds free (term_of n.declared [] x)
+      fixed x names h = bound_names n (IsFixed kinds free) (λ y e i' q. (unseen y e i', tied.copies y e ∙ q)) x names h
+
       by_step : (s : Option Expression) → list_all (is_step n) (present s) ≡ true → IsStep (step_of n.declared [] s)
       by_step None h = record { number = pos 1; is = refl; nonzero = refl }
       by_step (Some x) h = step_is x (both (is_step n x) true h).0
@@ -332,9 +333,9 @@ module _ (n : NestNames) (kinds : ℕ → Kind) (tied : Tied n kinds)
         let own = named.0.uses.0 in
         let rules = both (is_inner_axis n axis) _ kept.0.rules in (
           loop_keeps free (λ x d f. is_free.is x d ∙ ap (λ q. q && not (is_among x n.loops || is_among x xs)) f) axis (placed_names (axis_expressions axis) named.0.expressions)
-              rules.0 own.0 gathered.0
-              (is_free.is i own.0 ∙ unfree_index (is_among i n.indices) (is_among i n.loops || is_among i xs) gathered.0 (round i own.1)) fit.0 fit.1,
-          block_keeps (xs ++ i ∷ []) (ys ++ i ∷ []) (without free (place_of n.declared i)) c zs (free_more xs free i is_free own.0) (round_more xs ys i round) b
+              rules.0 own.0.0 gathered.0
+              (is_free.is i own.0.0 ∙ unfree_index (is_among i n.indices) (is_among i n.loops || is_among i xs) gathered.0 (round i own.1)) fit.1,
+          block_keeps (xs ++ i ∷ []) (ys ++ i ∷ []) (without free (place_of n.declared i)) c zs (free_more xs free i is_free own.0.0) (round_more xs ys i round) b
               named.1 kept.1 reach.1 gathered.1 fit.2,
         )
     statement_keeps xs ys free c zs is_free round line (syntax.Do (Some m) axis b) named kept reach gathered fit = absurd (true≢false (sym kept.1.0.rules))

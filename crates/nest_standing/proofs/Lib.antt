@@ -3,6 +3,7 @@ mod PlacesOf
 mod Exprs
 mod Bodies
 mod Kept
+mod Texts
 mod PathsOf
 mod Ties
 mod Loops

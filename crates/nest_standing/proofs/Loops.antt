@@ -17,14 +17,14 @@ use Rattle.nest_check.specs.Paths.{reached_heads}
 use Rattle.nest_order.specs.Copies.{Kind, has_copies}
 use Rattle.array_meaning.specs.Terms.{Term, Number, Scalar, Index, Element, Section, Apply, Reduce}
 use Rattle.array_meaning.specs.Statements.{Loop, Nest, Block, Then}
-use Rattle.array_meaning.specs.Resolution.{place_of, assignment, left_of, term_of, loop_of, with_inner_unmarked, resolved_block}
+use Rattle.array_meaning.specs.Resolution.{control_of, place_of, assignment, left_of, term_of, loop_of, with_inner_unmarked, resolved_block}
+use Rattle.fitting_states.specs.FittingStates.{ControlFits, BlockFits}
 use Rattle.well_formed.proofs.Lists.{all_split}
 use Rattle.nest_items.specs.Settled.{without}
 use Rattle.nest_items.specs.Paths.{PathsAssign}
 use Rattle.nest_items.specs.NestForm.{IsStep, BlockKeeps, LoopsKeep, IsNest}
 use Rattle.nest_standing.specs.Named.{Declared, IsNamed}
 use Rattle.nest_standing.proofs.Ruled.{IsKept, IsReached, IsGathered, Tied}
-use Rattle.nest_standing.specs.FittingNumbers.{NumbersFit, BlockFits}
 use Rattle.nest_standing.proofs.PlacesOf.{place_eq}
 use Rattle.nest_standing.proofs.Kept.{loop_keeps, block_keeps, placed_names}
 use Rattle.nest_standing.proofs.PathsOf.{paths_assign}
@@ -67,8 +67,7 @@ or_nothing false = refl
 pub record IsInnerLoop (n : NestNames) (a : Axis) : Type 0 where
   pub rules : is_inner_axis n a ≡ true
   pub gathered : is_among a.index n.indices ≡ true
-  pub first : NumbersFit (term_of n.declared [] a.first)
-  pub last : NumbersFit (term_of n.declared [] a.last)
+  pub fit : ControlFits (control_of n.declared [] a)
 
 module _ (n : NestNames) (kinds : ℕ → Kind) (tied : Tied n kinds) (step_is : (x : Expression) → is_step n x ≡ true → IsStep (term_of n.declared [] x))
     (all : ℕ → Bool) (all_is : (x : Name) → Declared n.declared x → all (place_of n.declared x) ≡ is_among x n.indices) where
@@ -107,10 +106,10 @@ module _ (n : NestNames) (kinds : ℕ → Kind) (tied : Tied n kinds) (step_is :
         line,
         with_inner_unmarked (resolved_block n.declared b),
         refl,
-        loop_keeps n kinds tied step_is all (λ x d f. all_is x d ∙ f) axis (placed_names n kinds tied step_is (axis_expressions axis) parts.1.0.expressions) inner.0.rules own.0 inner.0.gathered
-            (all_is i own.0 ∙ inner.0.gathered) inner.0.first inner.0.last,
-        up.free_is i own.0 ∙ unfree_index (is_among i n.indices) (is_among i done) inner.0.gathered (up.round i own.1),
-        loops_keep (done ++ i ∷ []) (ys ++ i ∷ []) (without free (place_of n.declared i)) (more done ys free i up own.0) b parts.1.1 inner.1
+        loop_keeps n kinds tied step_is all (λ x d f. all_is x d ∙ f) axis (placed_names n kinds tied step_is (axis_expressions axis) parts.1.0.expressions) inner.0.rules own.0.0 inner.0.gathered
+            (all_is i own.0.0 ∙ inner.0.gathered) inner.0.fit,
+        up.free_is i own.0.0 ∙ unfree_index (is_among i n.indices) (is_among i done) inner.0.gathered (up.round i own.1),
+        loops_keep (done ++ i ∷ []) (ys ++ i ∷ []) (without free (place_of n.declared i)) (more done ys free i up own.0.0) b parts.1.1 inner.1
             (λ done' ys' free' up' same. inside done' ys' free' up' (same ∙ append_assoc done (i ∷ []) (map (λ l. l.axis.index) (nest_in b).loops))),
       )
   loops_keep done ys free up (syntax.Then line (syntax.Do (Some m) axis b) (syntax.Then k s rest)) named inner inside = (refl, inside done ys free up (ends done) named)

@@ -6,7 +6,8 @@ use Rattle.std.proofs.lemmas.List.Folds.{list_any-append}
 use Rattle.std.proofs.lemmas.Slice.Eq.{bytes_eq-Decides}
 use Rattle.expression_rules.specs.Symbols.{Name}
 use Rattle.nest_check.specs.NestNames.{operator_added, operators_added}
-use Rattle.nest_standing.proofs.Bodies.{or_true, or_case}
+use Rattle.nest_standing.proofs.Exprs.{or_case}
+use Rattle.nest_standing.proofs.Bodies.{or_true}
 
 pub operators_hold : (P : _ → Type 0) (os ps : List _) → AllByRecursion P os → AllByRecursion P ps → AllByRecursion P (operators_added os ps)
 operators_hold P os [] d f = d

@@ -28,16 +28,8 @@ use Rattle.nest_items.specs.Paths.{IsReadable, PathsAssign, PathAssigns, ArmsAss
 use Rattle.nest_standing.specs.Named.{Declared, IsNamed}
 use Rattle.nest_standing.proofs.Ruled.{IsKept, IsReached, Tied}
 use Rattle.nest_standing.proofs.PlacesOf.{place_eq}
-use Rattle.nest_standing.proofs.Bodies.{two, or_true, or_case}
-use Rattle.nest_standing.proofs.Exprs.{readable}
-
-true_or : (a b : Bool) → a ≡ true → (a || b) ≡ true
-true_or true b h = refl
-true_or false b h = absurd (true≢false (sym h))
-
-or_right : (a b : Bool) → b ≡ true → (a || b) ≡ true
-or_right true b h = refl
-or_right false b h = h
+use Rattle.nest_standing.proofs.Bodies.{two, or_true}
+use Rattle.nest_standing.proofs.Exprs.{or_case, or_left, or_right, readable}
 
 common_both : (x : Name) (xs ys : List Name) → is_among x (common xs ys) ≡ true → (is_among x xs ≡ true) × (is_among x ys ≡ true)
 common_both x [] ys h = absurd (true≢false (sym h))
@@ -46,7 +38,7 @@ common_both x (z ∷ zs) ys h = by (is_among z ys) refl h (common_both x zs ys)
     by : (b : Bool) → is_among z ys ≡ b → is_among x (cond b (z ∷ common zs ys) (common zs ys)) ≡ true
         → (is_among x (common zs ys) ≡ true → (is_among x zs ≡ true) × (is_among x ys ≡ true)) → ((bytes_eq x z || is_among x zs) ≡ true) × (is_among x ys ≡ true)
     by true f g more = or_case (or_true (bytes_eq x z) (is_among x (common zs ys)) g)
-        (λ s. (true_or (bytes_eq x z) (is_among x zs) s, subst (λ q. is_among q ys ≡ true) (sym ((bytes_eq-Decides x z).0 s)) f))
+        (λ s. (or_left (bytes_eq x z) (is_among x zs) s, subst (λ q. is_among q ys ≡ true) (sym ((bytes_eq-Decides x z).0 s)) f))
         (λ r. (or_right (bytes_eq x z) (is_among x zs) (more r).0, (more r).1))
     by false f g more = (or_right (bytes_eq x z) (is_among x zs) (more g).0, (more g).1)
 
@@ -93,7 +85,7 @@ module _ (n : NestNames) (kinds : ℕ → Kind) (tied : Tied n kinds) where
       → Grown (added zs x) (assigned_after_statement before (assignment (alone None (place_of n.declared x) w) t))
   grown_scalar zs before x (Some (what.Scalar v)) t g s d = λ y dy h.
       or_case (added_case x y zs h)
-      (λ z. true_or (before (place_of n.declared y)) (nat_eq (place_of n.declared x) (place_of n.declared y)) (g y dy z))
+      (λ z. or_left (before (place_of n.declared y)) (nat_eq (place_of n.declared x) (place_of n.declared y)) (g y dy z))
       (λ b. or_right (before (place_of n.declared y)) (nat_eq (place_of n.declared x) (place_of n.declared y))
       (place_eq n.declared x y d dy ∙ (bytes_eq-Decides x y).1 (sym ((bytes_eq-Decides y x).0 b))))
   grown_scalar zs before x (Some (what.Constant v)) t g s d = absurd (true≢false (sym s))

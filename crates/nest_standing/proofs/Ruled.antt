@@ -47,6 +47,7 @@ pub record Tied (n : NestNames) (kinds : ℕ → Kind) : Type 0 where
   pub new : (x : Name) → Declared n.declared x → kinds (place_of n.declared x) ≡ New → is_among x n.new_names ≡ true
   pub quiet : (x : Name) → Declared n.declared x → is_among x n.indices ≡ true → is_among x n.assigned ≡ false
   pub arrays : (x : Name) → is_scalar (declared_as n.declared x) ≡ false → is_among x n.assigned ≡ false
+  pub scalars : (x : Name) → is_among x n.indices ≡ true → is_scalar (declared_as n.declared x) ≡ true
 
 -- the free places are the indices that neither a loop of the nest has nor one of these
 pub record IsFree (n : NestNames) (xs : List Name) (free : ℕ → Bool) : Type 0 where

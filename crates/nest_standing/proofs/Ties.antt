@@ -149,6 +149,7 @@ pub record Meets (n : NestNames) (nest : Nest) (body : Block) : Type 0 where
   pub operators : AllByRecursion (λ p. Declared n.declared p.variable) n.operators
   pub quiet : (x : Name) → Declared n.declared x → is_among x n.indices ≡ true → is_among x n.assigned ≡ false
   pub arrays : (x : Name) → is_scalar (declared_as n.declared x) ≡ false → is_among x n.assigned ≡ false
+  pub scalars : (x : Name) → is_among x n.indices ≡ true → is_scalar (declared_as n.declared x) ≡ true
 
 pub tied : (n : NestNames) (nest : Nest) (body : Block) → Meets n nest body → Tied n (kind_of (operators_of_nest n) nest body)
 tied n nest body h = record {
@@ -165,6 +166,7 @@ tied n nest body h = record {
       (is_in (place_of n.declared x) nest.new) (operators_of_nest n (place_of n.declared x)) e;
   quiet = h.quiet;
   arrays = h.arrays;
+  scalars = h.scalars;
 }
 
 -- ---- both lists of a directive, and of all

@@ -1,16 +1,22 @@
 -- A nest that breaks no rule is one by its form.
-use Rattle.std.proofs.Common.{◌≡◌, ℕ, nat_eq, Bool, true, false, true≢false, List, [], ◌∷◌, ◌++◌, map, position, bytes_eq, Option, Some, None, refl, sym, ap, ap₂, ◌∙◌, subst, append_assoc}
+use Rattle.std.proofs.Common.{◌≡◌, ℕ, suc, ◌≤◌, length, ⊎_elim, nat_eq, Bool, true, false, true≢false, List, [], ◌∷◌, ◌++◌, map, position, bytes_eq, Option, Some, None, refl, sym, ap, ap₂, ◌∙◌, subst, append_assoc}
 use Rattle.std.specs.Prelude.{◌&&◌, ◌||◌, not, is_some, option_map, option_and_then, slice_get}
 use Rattle.std.specs.List.{AllByRecursion, flat_map, list_all}
+use Rattle.std.proofs.lemmas.List.{length-map}
 use Rattle.std.proofs.lemmas.List.Folds.{list_any-append}
+use Rattle.std.proofs.lemmas.Option.{slice_get_cases}
+use Rattle.hpf_base.specs.declared.limits.TheConstants.{MAX_INDICES}
 use Rattle.hpf_base.specs.declared.refusal.Reason.TheVariants as reason
 use Rattle.syntax_tree.specs.Expression.{Expression}
 use Rattle.syntax_tree.specs.Statement as syntax
 use Rattle.syntax_tree.specs.Statement.{Axis, Independent}
+use Rattle.expression_rules.specs.Inner.{present}
 use Rattle.expression_rules.specs.Symbols.{Name, is_among}
 use Rattle.statement_walk.specs.Heads.{heads, statement_heads, all_heads}
 use Rattle.statement_walk.specs.Nests.{Loop as NamedLoop, Nest as NamedNest, nest_in}
+use Rattle.declarations.specs.Reasons.{at}
 use Rattle.name_table.specs.Entries.{declared_as}
+use Rattle.name_table.specs.NameRules as name_rules
 use Rattle.name_table.specs.declared.names.Entry.{Entry}
 use Rattle.body_forms.specs.Names.{is_scalar}
 use Rattle.nest_check.specs.NestNames.{NestNames, all_added, distinct, do_variable_of, scalar_assigned, inner_heads}
@@ -18,22 +24,24 @@ use Rattle.nest_check.specs.NestRules.{is_well_listed, are_well_listed, is_step,
 use Rattle.nest_check.specs.Paths.{reached_heads}
 use Rattle.nest_order.specs.Copies.{Kind, has_copies}
 use Rattle.array_meaning.specs.Statements.{Block, Do}
-use Rattle.array_meaning.specs.Resolution.{place_of, term_of, loop_of, with_inner_unmarked, resolved_block}
+use Rattle.array_meaning.specs.Resolution.{control_of, place_of, term_of, loop_of, with_inner_unmarked, resolved_block}
+use Rattle.fitting_states.specs.FittingStates.{ControlFits, BlockFits}
 use Rattle.well_formed.proofs.Lists.{all_split, both, empties, fails, holds, no_reason}
 use Rattle.array_meaning.specs.Iterations.{is_in}
 use Rattle.nest_items.specs.NestKinds.{kind_of}
 use Rattle.nest_items.specs.Standing.{AreKinds}
 use Rattle.nest_items.specs.Paths.{PathsAssign}
-use Rattle.nest_items.specs.NestForm.{IsStep, IsNest}
-use Rattle.nest_standing.specs.Named.{Declared, AreDeclared, IsNamed}
-use Rattle.nest_standing.specs.FittingNumbers.{NumbersFit, BlockFits}
+use Rattle.nest_items.specs.NestForm.{IsStep, IsNest, TextsKeep}
+use Rattle.nest_standing.specs.Named.{Declared, AreDeclared, IsScalar, IsNamed}
 use Rattle.nest_standing.specs.KeptNests.{nest_of, names_of, StepsAre, FitsNest, IsKeptNest}
 use Rattle.nest_items.proofs.NameKinds.{copies_of_kind, kinds_are}
 use Rattle.nest_standing.proofs.PlacesOf.{among_is, same_name}
 use Rattle.nest_standing.proofs.Ties.{among_all, added_declared, operators_of_nest, tied}
-use Rattle.nest_standing.proofs.Gathers.{block_gives, quiet_places, meets, gathered, numbers_joined}
+use Rattle.nest_standing.proofs.Exprs.{or_left, or_right}
+use Rattle.nest_standing.proofs.Gathers.{all_join, all_first, block_gives, quiet_places, meets, gathered, numbers_joined}
 use Rattle.nest_standing.proofs.Accepted.{kept_all, reached_all, axes_all}
 use Rattle.nest_standing.proofs.Marked.{marked}
+use Rattle.nest_standing.proofs.Texts.{texts_keep}
 use Rattle.nest_standing.proofs.Loops.{IsInnerLoop, nest_keeps, nest_paths}
 
 -- ---- lists
@@ -87,7 +95,7 @@ pub record Inmost (n : NestNames) (done : List Name) (b : syntax.Block) : Type 0
   pub round : List Name
   pub has : (x : Name) → is_among x (done ++ map (λ l. l.axis.index) (nest_in b).loops) ≡ true → is_among x round ≡ true
   pub named : AllByRecursion (IsNamed n.declared) (heads round (nest_in b).body)
-  pub declared : AreDeclared n.declared (map (λ l. l.axis.index) (nest_in b).loops)
+  pub scalars : AllByRecursion (IsScalar n.declared) (map (λ l. l.axis.index) (nest_in b).loops)
 
 or_nothing : (b : Bool) → (b || false) ≡ b
 or_nothing true = refl
@@ -100,7 +108,7 @@ module _ (n : NestNames) where
     round = ys;
     has = λ x h. within x (sym (list_any-append (bytes_eq x) done [] ∙ or_nothing (is_among x done)) ∙ ap (λ ls. is_among x (done ++ map (λ l. l.axis.index) ls)) (sym none) ∙ h);
     named = subst (λ q. AllByRecursion (IsNamed n.declared) (heads ys q)) (sym same) named;
-    declared = subst (λ ls. AreDeclared n.declared (map (λ l. l.axis.index) ls)) (sym none) tt;
+    scalars = subst (λ ls. AllByRecursion (IsScalar n.declared) (map (λ l. l.axis.index) ls)) (sym none) tt;
   }
 
   inmost : (done ys : List Name) (b : syntax.Block) → ((x : Name) → is_among x done ≡ true → is_among x ys ≡ true) → AllByRecursion (IsNamed n.declared) (heads ys b) → Inmost n done b
@@ -116,7 +124,7 @@ module _ (n : NestNames) where
             ∙ shift (is_among x done) (bytes_eq x i) (is_among x (map (λ l. l.axis.index) (nest_in b).loops))
             ∙ sym (list_any-append (bytes_eq x) done (i ∷ map (λ l. l.axis.index) (nest_in b).loops)) ∙ f);
         named = h.named;
-        declared = (parts.1.0.uses.0.0, h.declared);
+        scalars = (parts.1.0.uses.0.0, h.scalars);
       }
     where
       more : (d b y : Bool) → (d ≡ true → y ≡ true) → (d || b) ≡ true → (y || b) ≡ true
@@ -144,18 +152,6 @@ module _ (n : NestNames) where
   inmost done ys (syntax.Then line syntax.Continue rest) within named = here done ys (syntax.Then line syntax.Continue rest) within refl refl named
   inmost done ys (syntax.Then line (syntax.Redistribute d) rest) within named = here done ys (syntax.Then line (syntax.Redistribute d) rest) within refl refl named
 
-or_right : (a b : Bool) → b ≡ true → (a || b) ≡ true
-or_right true b h = refl
-or_right false b h = h
-
-or_left : (a b : Bool) → a ≡ true → (a || b) ≡ true
-or_left true b h = refl
-or_left false b h = absurd (true≢false (sym h))
-
-join_declared : (es : List Entry) (xs ys : List Name) → AreDeclared es xs → AreDeclared es ys → AreDeclared es (xs ++ ys)
-join_declared es [] ys h g = g
-join_declared es (x ∷ xs) ys h g = (h.0, join_declared es xs ys h.1 g)
-
 first_index : (x : Name) (is ds : List Name) → is_among x (distinct ((x ∷ is) ++ ds)) ≡ true
 first_index x is ds = among_all x [] ((x ∷ is) ++ ds) ∙ or_left (bytes_eq x x) (is_among x (is ++ ds)) (same_name x)
 
@@ -174,9 +170,16 @@ all_among n done (l ∷ ls) ds h = (
 )
 
 pub loops_good : (n : NestNames) (is : List Name) (ls : List NamedLoop) → AllByRecursion (λ l. is_inner_axis n l.axis ≡ true) ls → AllByRecursion (λ l. is_among l.axis.index n.indices ≡ true) ls
-    → AllByRecursion (λ l. NumbersFit (term_of n.declared [] l.axis.first) × NumbersFit (term_of n.declared [] l.axis.last)) ls → AllByRecursion (λ l. IsInnerLoop n l.axis) ls
+    → AllByRecursion (λ l. ControlFits (control_of n.declared [] l.axis)) ls → AllByRecursion (λ l. IsInnerLoop n l.axis) ls
 loops_good n is [] a g f = tt
-loops_good n is (l ∷ ls) a g f = (record { rules = a.0; gathered = g.0; first = f.0.0; last = f.0.1 }, loops_good n is ls a.1 g.1 f.1)
+loops_good n is (l ∷ ls) a g f = (record { rules = a.0; gathered = g.0; fit = f.0 }, loops_good n is ls a.1 g.1 f.1)
+
+-- a nest without a loop too many
+few_loops : (t : NamedNest) → name_rules.nest_breaches t ≡ [] → length t.loops ≤ MAX_INDICES
+few_loops t none = ⊎_elim (λ h. absurd (too_many h.0 (ap (λ o. flat_map (λ l. at l.line (reason.Limit ∷ [])) (present o)) (sym h.2) ∙ none))) (λ h. h.0) (slice_get_cases t.loops MAX_INDICES).1
+  where
+    too_many : (l : NamedLoop) → flat_map (λ l. at l.line (reason.Limit ∷ [])) (l ∷ []) ≡ [] → ⊥
+    too_many l h = cc
 
 -- ---- the whole
 
@@ -192,13 +195,14 @@ pub record Stands (es : List Entry) (line : ℕ) (m : Independent) (axis : Axis)
       (resolved_block es (nest_in b).body)
   pub kinds : AreKinds (kinds_of es line m axis b) (marked es m axis b).nest (resolved_block es (nest_in b).body)
   pub paths : PathsAssign (kinds_of es line m axis b) (λ k. false) (resolved_block es (nest_in b).body)
+  pub texts : TextsKeep (indices_of_nest es line m axis b) (resolved_block es (nest_in b).body)
 
 pub nest_by_rules : (es : List Entry) (ys : List Name) (line : ℕ) (m : Independent) (axis : Axis) (b : syntax.Block)
-    → nest_breaches es (nest_of line m axis b) ≡ [] → Declared es axis.index → AllByRecursion (IsNamed es) (heads (ys ++ axis.index ∷ []) b)
+    → nest_breaches es (nest_of line m axis b) ≡ [] → IsScalar es axis.index → AllByRecursion (IsNamed es) (heads (ys ++ axis.index ∷ []) b)
     → ((x : Expression) → is_step (names_of es line m axis b) x ≡ true → IsStep (term_of es [] x))
-    → AllByRecursion (λ l. NumbersFit (term_of es [] l.axis.first) × NumbersFit (term_of es [] l.axis.last)) (nest_in b).loops → BlockFits (resolved_block es (nest_in b).body)
+    → AllByRecursion (λ l. ControlFits (control_of es [] l.axis)) (nest_in b).loops → BlockFits (resolved_block es (nest_in b).body)
     → Stands es line m axis b
-nest_by_rules es ys line m axis b none index_declared named step_is loops_fit fit =
+nest_by_rules es ys line m axis b none index_scalar named step_is loops_fit fit =
     let t : NamedNest = nest_of line m axis b in
     let n : NestNames = names_of es line m axis b in
     let is : List Name = map (λ l. l.axis.index) (nest_in b).loops in
@@ -214,7 +218,8 @@ nest_by_rules es ys line m axis b none index_declared named step_is loops_fit fi
     let lists = all_listed n (nest_in b).loops outer.1 in
     let i = inmost n (axis.index ∷ []) (ys ++ axis.index ∷ []) b (λ x f. list_any-append (bytes_eq x) ys (axis.index ∷ []) ∙ or_right (is_among x ys) _ f) named in
     let gives = block_gives n [] i.round (λ x f. i.has x (sym (or_nothing (is_among x n.loops)) ∙ f)) t.body i.named kept in
-    let met = meets es t h.nest body gives
+    let scalars = all_join (IsScalar es) (axis.index ∷ is) (flat_map do_variable_of (inner_heads t.body)) (index_scalar, i.scalars) gives.indices in
+    let met = meets es t h.nest body gives scalars
     (λ x d. h.reduction (place_of es x) ∙ ap₂ (λ a c. a || c) (among_is es x m.reduction d own.1)
     (lists_in es (λ l. l.mark.reduction) x (nest_in b).loops d (all_map (λ l. IsListedWell n l.mark) (λ l. AreDeclared es l.mark.reduction) (λ l q. q.1) (nest_in b).loops lists))
     ∙ sym (list_any-append (bytes_eq x) m.reduction (flat_map (λ l. l.mark.reduction) (nest_in b).loops)) ∙ sym (among_all x [] (flat_map (λ l. l.mark.reduction) t.loops)))
@@ -224,12 +229,12 @@ nest_by_rules es ys line m axis b none index_declared named step_is loops_fit fi
     let ties = tied n h.nest body met in
     let all_declared : AreDeclared es n.indices =
     added_declared es [] ((axis.index ∷ is) ++ flat_map do_variable_of (inner_heads t.body)) tt
-    (join_declared es (axis.index ∷ is) (flat_map do_variable_of (inner_heads t.body)) (index_declared, i.declared) gives.indices) in
+    (all_first (Declared es) (λ x. is_scalar (declared_as es x) ≡ true) ((axis.index ∷ is) ++ flat_map do_variable_of (inner_heads t.body)) scalars) in
     let all_is : (x : Name) → Declared es x → is_in (place_of es x) (map (place_of es) n.indices) ≡ is_among x n.indices = λ x d. among_is es x n.indices d all_declared in
     let quiet : (k : ℕ) → has_copies (ks k) ≡ true → indices_of_nest es line m axis b k ≡ false = λ k c.
     quiet_places es n.indices (flat_map scalar_assigned (inner_heads t.body)) k all_declared gives.quiet
     (ap (is_in k) (sym gives.places) ∙ sym (copies_of_kind (operators_of_nest n) h.nest body k) ∙ c) in
-    let nest = nest_keeps n ks ties step_is (indices_of_nest es line m axis b) all_is ys axis b h.nest refl h.loops index_declared
+    let nest = nest_keeps n ks ties step_is (indices_of_nest es line m axis b) all_is ys axis b h.nest refl h.loops index_scalar.0
     (first_index axis.index is (flat_map do_variable_of (inner_heads t.body))) quiet named
     (loops_good n is (nest_in b).loops (axes_all n (nest_in b).loops outer.1) (all_among n (axis.index ∷ []) (nest_in b).loops (flat_map do_variable_of (inner_heads t.body)) refl) loops_fit)
     kept reach (gathered es t) fit in
@@ -237,21 +242,25 @@ nest_by_rules es ys line m axis b none index_declared named step_is loops_fit fi
       nest = nest;
       kinds = kinds_are (operators_of_nest n) (indices_of_nest es line m axis b) h.nest (loop_of es axis) (with_inner_unmarked (resolved_block es b)) body (numbers_joined es t) nest;
       paths = nest_paths n ks ties step_is (indices_of_nest es line m axis b) all_is i.round t.body i.named kept reach;
+      texts = texts_keep n ties.scalars (indices_of_nest es line m axis b) (λ x d f. all_is x d ∙ f) [] i.round t.body i.named kept fit;
     }
 
 pub kept_nest : (es : List Entry) (ys : List Name) (line : ℕ) (m : Independent) (axis : Axis) (b : syntax.Block)
-    → nest_breaches es (nest_of line m axis b) ≡ [] → Declared es axis.index → AllByRecursion (IsNamed es) (heads (ys ++ axis.index ∷ []) b)
-    → StepsAre es → FitsNest es b → IsKeptNest es m axis b
-kept_nest es ys line m axis b none declared named step_is fit =
-    let h = nest_by_rules es ys line m axis b none declared named step_is fit.loops fit.body in
+    → name_rules.nest_breaches (nest_of line m axis b) ≡ [] → nest_breaches es (nest_of line m axis b) ≡ [] → IsScalar es axis.index
+    → AllByRecursion (IsNamed es) (heads (ys ++ axis.index ∷ []) b) → StepsAre es → FitsNest es b → IsKeptNest es m axis b
+kept_nest es ys line m axis b few none scalar named step_is fit =
+    let h = nest_by_rules es ys line m axis b none scalar named step_is fit.loops fit.body in
+    let whole = marked es m axis b in
     record {
-      nest = (marked es m axis b).nest;
-      is = ap (λ q. Do q (loop_of es axis) (with_inner_unmarked (resolved_block es b))) (marked es m axis b).is;
+      nest = whole.nest;
+      is = ap (λ q. Do q (loop_of es axis) (with_inner_unmarked (resolved_block es b))) whole.is;
       form = record {
         operators = operators_of_nest (names_of es line m axis b);
         all = indices_of_nest es line m axis b;
         form = h.nest;
         kinds = h.kinds;
         paths = h.paths;
+        texts = h.texts;
+        few = subst (λ k. k ≤ MAX_INDICES) (ap suc (sym (length-map (nest_in b).loops (λ l. loop_of es l.axis))) ∙ ap length (sym whole.loops)) (few_loops (nest_of line m axis b) few);
       };
     }

@@ -10,10 +10,10 @@ use Rattle.name_table.specs.declared.names.Entry.{Entry}
 use Rattle.nest_check.specs.NestNames.{NestNames, constant_symbols, nest_names}
 use Rattle.nest_check.specs.NestRules.{is_nonzero}
 use Rattle.array_meaning.specs.Statements.{Nest, Do, Outermost}
-use Rattle.array_meaning.specs.Resolution.{term_of, loop_of, with_inner_unmarked, resolved, resolved_block}
+use Rattle.array_meaning.specs.Resolution.{control_of, term_of, loop_of, with_inner_unmarked, resolved, resolved_block}
+use Rattle.fitting_states.specs.FittingStates.{ControlFits, BlockFits}
 use Rattle.nest_items.specs.NestForm.{IsStep}
 use Rattle.nest_items.specs.BlockForms.{HasForm}
-use Rattle.nest_standing.specs.FittingNumbers.{NumbersFit, BlockFits}
 
 -- the nest of a DO at a line, which is its outermost loop
 abbrev pub nest_of : ℕ → Independent → Axis → syntax.Block → NamedNest
@@ -29,7 +29,7 @@ StepsAre es = (x : Expression) → is_nonzero (value None (constant_symbols es) 
 
 -- the numbers in a nest are of 64 bits
 pub record FitsNest (es : List Entry) (b : syntax.Block) : Type 0 where
-  pub loops : AllByRecursion (λ l. NumbersFit (term_of es [] l.axis.first) × NumbersFit (term_of es [] l.axis.last)) (nest_in b).loops
+  pub loops : AllByRecursion (λ l. ControlFits (control_of es [] l.axis)) (nest_in b).loops
   pub body : BlockFits (resolved_block es (nest_in b).body)
 
 -- the DO with this mark, resolved, is a nest by its form

@@ -1,4 +1,2 @@
 pub mod Named
-pub mod FittingNumbers
-pub mod FitProps
 pub mod KeptNests

@@ -19,14 +19,18 @@ Declared names x = is_some (position (λ (e : Entry). bytes_eq x e.name) names) 
 abbrev pub AreDeclared : List Entry → List Name → Type 0
 AreDeclared names xs = AllByRecursion (Declared names) xs
 
+-- a scalar variable
+abbrev pub IsScalar : List Entry → Name → Type 0
+IsScalar names x = Declared names x × (is_scalar (declared_as names x) ≡ true)
+
 -- the names in an expression are declared
 abbrev pub Names : List Entry → Expression → Type 0
 Names names e = AreDeclared names (names_in e)
 
--- what the rules of names say of a use inside loops of these indices: no index is assigned, and no loop has it once more
+-- what the rules of names say of a use inside loops of these indices: no index is assigned, and a loop has a scalar that is none of them
 abbrev pub IsGoodUse : List Entry → List Name → Use → Type 0
 IsGoodUse names ys (Assigned hidden x) = Declared names x × ((not (is_among x ys) || is_among x hidden) ≡ true)
-IsGoodUse names ys (DoVariable x) = Declared names x × (is_among x ys ≡ false)
+IsGoodUse names ys (DoVariable x) = IsScalar names x × (is_among x ys ≡ false)
 IsGoodUse names ys u = Unit {0}
 
 -- what has subscripts is no scalar

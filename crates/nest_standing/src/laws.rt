@@ -11,20 +11,21 @@ ghost use Rattle.expression_rules.specs.Symbols.{Name};
 ghost use Rattle.statement_walk.specs.Heads.{heads};
 ghost use Rattle.name_table.specs.declared.names.Entry.{Entry};
 ghost use Rattle.name_table.specs.Entries.{entries};
+ghost use Rattle.name_table.specs.NameRules as name_rules;
 ghost use Rattle.name_table.specs.Resolved.{HasNoBreach};
 ghost use Rattle.body_check.specs.BodyRules.{body_breaches};
 ghost use Rattle.array_meaning.specs.Resolution.{resolved_block};
+ghost use Rattle.fitting_states.specs.FittingStates.{BlockFits};
 ghost use Rattle.nest_items.specs.BlockForms.{BlockHasForms};
-ghost use Rattle.nest_standing.specs.FittingNumbers.{BlockNestsFit};
 ghost use Rattle.nest_check.specs.NestRules.{nest_breaches};
-ghost use Rattle.nest_standing.specs.Named.{Declared, IsNamed};
+ghost use Rattle.nest_standing.specs.Named.{IsScalar, IsNamed};
 ghost use Rattle.nest_standing.specs.KeptNests.{nest_of, StepsAre, FitsNest, IsKeptNest};
 
-/// A nest that breaks no rule of nests, whose statements keep those of names and types inside the loops of these indices round it, is a nest by its
-/// form once it is resolved.
+/// A nest that breaks no rule of nests and has no loop too many, whose index is a scalar and whose statements keep the rules of names and types inside
+/// the loops of these indices round it, is a nest by its form once it is resolved.
 pub fn kept_nests()
     ensures { (es : List Entry) (ys : List Name) (line : ℕ) (m : Independent) (axis : Axis) (b : syntax.Block)
-        → nest_breaches es (nest_of line m axis b) ≡ [] → Declared es axis.index
+        → name_rules.nest_breaches (nest_of line m axis b) ≡ [] → nest_breaches es (nest_of line m axis b) ≡ [] → IsScalar es axis.index
         → AllByRecursion (IsNamed es) (heads (ys ++ axis.index ∷ []) b)
         → StepsAre es → FitsNest es b → IsKeptNest es m axis b }
 {}
@@ -32,5 +33,5 @@ pub fn kept_nests()
 /// Each nest of a program that breaks no rule is a nest by its form once it is resolved.
 pub fn programs_have_forms()
     ensures { (p : MainProgram) → HasNoBreach p → NoBreach (Among (body_breaches (entries p) p.body))
-        → BlockNestsFit (resolved_block (entries p) p.body) → BlockHasForms (resolved_block (entries p) p.body) }
+        → BlockFits (resolved_block (entries p) p.body) → BlockHasForms (resolved_block (entries p) p.body) }
 {}

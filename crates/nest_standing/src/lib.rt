@@ -6,15 +6,16 @@
 //! What holds in between:
 //!
 //! - What the rules say of names holds of their places (`Tied`): which are assigned, listed, indices or arrays.
-//! - Bounds, subscripts and right sides that keep the rules are such expressions resolved; so are statements, loops and paths.
+//! - Bounds, subscripts and right sides that keep the rules are such expressions resolved; so are statements, loops, paths and texts: subscripts and
+//!   bounds have no fault, since an index is a scalar, and the bounds inside a nest name no index.
 //! - The lists of all loops of the nest are those of its resolved mark, and its REDUCTION variables have one operator each.
 //!
 //! - What has subscripts in an expression with a type and a rank is no scalar, so no nest assigns it as one.
 //!
 //! - Each name stands once in a symbol table, so a constant expression has its value in the resolved program too.
 //!
-//! That the numbers in nests are of 64 bits is asked beside the rules: the abstract syntax has integers of any size, and a text that is read has none that
-//! is greater.
+//! That the numbers of a program are of 64 bits (`fitting_states`) is asked beside the rules: the abstract syntax has integers of any size, and a text that
+//! is read has none that is greater.
 #![tactic(auto)]
 
 mod laws;

@@ -107,17 +107,17 @@ whens_of stored (w ∷ ws) = record { copy = stored + w.number; value = w.value 
 -- over the indices of the nest, under stored conditions
 module _ (over : List Sub) (whens : List When) where
   abbrev pub assigning : NestText → NestStatement
-  assigning p = record { line = p.line; over = over; whens = whens; copies = p.copies; left = p.left; right = p.right; role = Assigns }
+  assigning p = record { line = p.line; over = over; whens = whens; copies = p.copies; names = p.names; left = p.left; right = p.right; role = Assigns }
 
   abbrev pub testing : NestTest → (copy : ℕ) → NestStatement
-  testing p copy = record { line = p.line; over = over; whens = whens; copies = p.copies; left = CopyLeft copy; right = p.form; role = Tests }
+  testing p copy = record { line = p.line; over = over; whens = whens; copies = p.copies; names = p.names; left = CopyLeft copy; right = p.form; role = Tests }
 
   -- they can't fault, so that they have no line
   abbrev pub setting_else : (copy : ℕ) → NestStatement
-  setting_else copy = record { line = 0; over = over; whens = whens; copies = []; left = CopyLeft copy; right = FlatForm (Int (pos 1)); role = SetsElse }
+  setting_else copy = record { line = 0; over = over; whens = whens; copies = []; names = []; left = CopyLeft copy; right = FlatForm (Int (pos 1)); role = SetsElse }
 
   abbrev pub setting_mark : (copy : ℕ) → NestStatement
-  setting_mark copy = record { line = 0; over = over; whens = whens; copies = []; left = CopyLeft copy; right = FlatForm (Int (pos 1)); role = SetsMark }
+  setting_mark copy = record { line = 0; over = over; whens = whens; copies = []; names = []; left = CopyLeft copy; right = FlatForm (Int (pos 1)); role = SetsMark }
 
 -- ---- the code
 

@@ -13,18 +13,20 @@ use Rattle.node_code.specs.NestStatements.{NestLeft, nest_place, left_row, form_
 use Rattle.nest_machine.specs.BodyCode.{Texts}
 use Rattle.nest_machine.specs.ItemsAt.{truth_outcome}
 
--- an assignment: its line, the rows of the copies that it reads, the left side, the right side, and the row of the scalar's marks if it has some
+-- an assignment: its line, the rows of the copies that it reads and the scalars whose copies these are, the left side, the right side, and the row of the scalar's marks if it has some
 pub record NestText : Type 0 where
   pub line : ℕ
   pub copies : List ℕ
+  pub names : List ℕ
   pub left : NestLeft
   pub right : ArrayForm
   pub mark : Option ℕ
 
--- a condition: its line, the rows of the copies that it reads, and its form
+-- a condition: its line, the rows of the copies that it reads and the scalars whose copies these are, and its form
 pub record NestTest : Type 0 where
   pub line : ℕ
   pub copies : List ℕ
+  pub names : List ℕ
   pub form : ArrayForm
 
 -- `over` are the indices of the nest, and `shapes` the dimensions of the arrays

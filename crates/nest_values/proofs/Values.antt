@@ -20,7 +20,8 @@ use Rattle.lowered_expressions.specs.WellFormed.{IsIndexed, AreSubscripts}
 use Rattle.lowered_expressions.proofs.Terms.{HoldsScalars, HoldsArrays}
 use Rattle.lowered_expressions.proofs.Scatter.{value-of-reads}
 use Rattle.lowered_expressions.proofs.Indexed.{subs-are, indexed-value, indexed-names}
-use Rattle.nest_values.specs.NestTerms.{indexed, all_indexed, IsAlike, AreAlike, NamesFirst, AllNameFirst, SubscriptsFirst, AllSubscriptsFirst}
+use Rattle.lowered_expressions.specs.NestTerms.{indexed, all_indexed, NamesFirst, AllNameFirst, SubscriptsFirst, AllSubscriptsFirst}
+use Rattle.nest_values.specs.NestTerms.{IsAlike, AreAlike}
 
 -- ---- the state of an iteration
 

@@ -14,7 +14,8 @@ ghost use Rattle.node_code.specs.NestStatements.{form_reads, form_value, row_spo
 ghost use Rattle.node_code.specs.Parallel.{indices_in, shape_of};
 ghost use Rattle.lowered_expressions.specs.ExpressionCode.{index_form, index_subs};
 ghost use Rattle.lowered_expressions.specs.WellFormed.{IsIndexed, AreSubscripts};
-ghost use Rattle.nest_values.specs.NestTerms.{indexed, all_indexed, IsAlike, AreAlike, SubscriptsFirst};
+ghost use Rattle.lowered_expressions.specs.NestTerms.{indexed, all_indexed, SubscriptsFirst};
+ghost use Rattle.nest_values.specs.NestTerms.{IsAlike, AreAlike};
 
 /// Over slots and rows that hold the state at a nest's entry the form of an expression has the value that the expression has in the state
 /// of its iteration, faults included.

@@ -31,6 +31,7 @@ pub fn read_nest(alloc: Global, line: u32, words: &mut Words<'_>) -> NestStateme
         right: read_form(alloc, words),
         over: read_over(alloc, words),
         copies: read_rows(alloc, words),
+        names: Vec::new(alloc),
         whens: read_masks(alloc, words),
         left,
         role,

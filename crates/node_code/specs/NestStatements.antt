@@ -24,12 +24,14 @@ pub data NestLeft : Type 0 where
   CopyLeft : (row : ℕ) → NestLeft
 
 -- Its line; the indices of the nest, the innermost loop's first; the stored conditions under which it stands, each in the row of a copy, with the value
--- that is asked for; the rows of the copies that it reads; what is assigned; what is evaluated; and what it is in the text
+-- that is asked for; the rows of the copies that it reads, and the scalars whose copies these are; what is assigned; what is evaluated; and what it
+-- is in the text
 pub record NestStatement : Type 0 where
   pub line : ℕ
   pub over : List Sub
   pub whens : List When
   pub copies : List ℕ
+  pub names : List ℕ
   pub left : NestLeft
   pub right : ArrayForm
   pub role : NestRole

@@ -35,6 +35,8 @@ pub struct NestStatement {
     pub whens: Vec<When>,
     /// The rows of the copies that it reads. In `right` the axes after those of the indices are their values, in this order.
     pub copies: Vec<usize>,
+    /// The scalars whose copies these are, by their places: lists of messages call a copy by the name of its scalar.
+    pub names: Vec<usize>,
     pub left: NestLeft,
     pub right: ArrayForm,
     pub role: NestRole,

@@ -1,2 +1,7 @@
 mod Arms
 mod Parts
+mod InnerLoops
+mod NestBody
+mod NestOperators
+mod NestNames
+mod NestWhole

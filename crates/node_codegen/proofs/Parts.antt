@@ -13,7 +13,7 @@ use Rattle.resolved_program.specs.declared.statements.Statement.{Statement}
 use Rattle.resolved_program.specs.Resolved.{arms_of, block_of, loop_of, mark, statement}
 use Rattle.resolved_program.proofs.Rows.{do_vec, if_vec}
 use Rattle.lowered_expressions.specs.ExpressionCode.{control_code, control_slots}
-use Rattle.lowering.specs.StatementCode.{block_code, entry_code, loop_code, statement_code}
+use Rattle.lowering.specs.StatementCode.{block_code, entry_code, loop_code, marked_code, statement_code}
 use Rattle.node_codegen.specs.Arms.{AreArms, arms_before}
 
 -- an IF, by the codes of its arms
@@ -25,15 +25,16 @@ if_is copy moves line b pc leave again a as' other cs after is arms =
     ∙ ap (λ s. statement_code copy moves line s b pc leave again) (if_vec as' other)
     ∙ arms (λ pc. block_code copy moves (block_of other.items) b pc leave again)
 
--- a DO, by the code before its turns and that of its body
-pub do_is : (copy : ℕ) (moves : ℕ → List NewMapping) (line b pc leave again first at : ℕ) (a : Action) (nest : Option Nest) (l : Loop) (body : Vec Statement Global) (head inner : List HeldInstruction) →
-    a ≡ action.Do nest l body → first ≡ b + control_slots (loop_of l).control →
+-- a DO, by the code before its turns and that of these
+pub do_is : (copy : ℕ) (moves : ℕ → List NewMapping) (line b pc leave again first at : ℕ) (a : Action) (nest : Option Nest) (l : Loop) (body : Vec Statement Global)
+    (head : List HeldInstruction) (turns : List Instruction) → a ≡ action.Do nest l body → first ≡ b + control_slots (loop_of l).control →
     instructions head ≡ control_code line b (loop_of l).control ++ entry_code line (mark nest (loop_of l) (block_of body.items)) first → at ≡ pc + length head →
-    instructions inner ≡ block_code copy moves (block_of body.items) (first + 4) (at + 8) (at + 3) (at + 4) →
-    instructions head ++ loop_code line at first l.index (λ inside leave again. instructions inner) ≡ statement_code copy moves line (statement a) b pc leave again
-do_is copy moves line b pc leave again first at a nest l body head inner is slots bounds place code =
+    turns ≡ marked_code copy line (mark nest (loop_of l) (block_of body.items)) first at (loop_code line at first l.index (block_code copy moves (block_of body.items) (first + 4))) →
+    instructions head ++ turns ≡ statement_code copy moves line (statement a) b pc leave again
+do_is copy moves line b pc leave again first at a nest l body head turns is slots bounds place code =
     let before = bounds ∙ ap (λ v. control_code line b (loop_of l).control ++ entry_code line (mark nest (loop_of l) (block_of body.items)) v) slots in
-    let turns = λ (place first : ℕ). loop_code line place first l.index (block_code copy moves (block_of body.items) (first + 4)) in
-    ap (λ i. instructions head ++ loop_code line at first l.index (λ inside leave again. i)) code
-    ∙ (λ i. before i ++ turns ((place ∙ ap (λ n. pc + n) (sym (length-map head instruction) ∙ ap length before)) i) (slots i))
+    let own = λ (place first : ℕ). marked_code copy line (mark nest (loop_of l) (block_of body.items)) first place
+    (loop_code line place first l.index (block_code copy moves (block_of body.items) (first + 4))) in
+    ap (λ t. instructions head ++ t) code
+    ∙ (λ i. before i ++ own ((place ∙ ap (λ n. pc + n) (sym (length-map head instruction) ∙ ap length before)) i) (slots i))
     ∙ sym (ap (λ a. statement_code copy moves line (statement a) b pc leave again) is ∙ ap (λ s. statement_code copy moves line s b pc leave again) (do_vec nest l body))

@@ -69,7 +69,7 @@ fn loop_head(
 }
 
 /// The index gets its next value, and one iteration less is left; where none is, the loop is left.
-fn next_turn(
+pub(crate) fn next_turn(
     alloc: Global,
     line: u32,
     first: usize,
@@ -100,14 +100,14 @@ fn next_turn(
 }
 
 /// A slot gets a value.
-fn set(line: u32, slot: usize, value: Flat) -> Instruction
+pub(crate) fn set(line: u32, slot: usize, value: Flat) -> Instruction
     ensures { instruction result ≡ Set line slot (text.flat value) }
 {
     Instruction::Set { line, slot, value }
 }
 
 /// An operator of two operands.
-fn of_two(alloc: Global, op: Op, x: Flat, y: Flat) -> Result<Flat, OutOfMemory>
+pub(crate) fn of_two(alloc: Global, op: Op, x: Flat, y: Flat) -> Result<Flat, OutOfMemory>
     ensures { IfOk result (λ f. text.flat f ≡ Operated op (AndFlat (text.flat x) (AndFlat (text.flat y) NoFlat))) }
 {
     Ok(Flat::Operated(op, vec![in alloc; x, y]?))

@@ -6,6 +6,7 @@ ghost use Rattle.resolved_program.specs.Resolved.{block_of};
 ghost use Rattle.lowering.specs.StatementCode.{block_copies, block_slots, program_code};
 ghost use Rattle.node_codegen.specs.Moves.{moves_by};
 
+use crate::copies::block_copies;
 use crate::moves::LineMoves;
 use crate::sequences::with_last;
 use crate::slots::block_slots;
@@ -37,14 +38,15 @@ pub fn compile(
 ) -> Result<Code, OutOfMemory>
     ensures code { IfOk result (λ c. instructions c.instructions.items ≡ program_code names (moves_by moves.now) (block_of plan.now.body.items)) }
     ensures hidden { IfOk result (λ c. c.hidden ≡ block_slots (block_of plan.now.body.items)) }
-    ensures copies { IfOk result (λ c. c.copies ≡ block_copies (block_of plan.now.body.items)) }
+    ensures copies { IfOk result (λ c. c.copies ≡ block_copies names (block_of plan.now.body.items)) }
 {
     let hidden = block_slots(&plan.body)?;
+    let copies = block_copies(alloc, names, &plan.body)?;
     let instructions = program_code(alloc, names, plan, moves)?;
     Ok(Code {
         instructions,
         hidden,
-        copies: 1,
+        copies,
     })
 }
 

@@ -6,6 +6,7 @@ ghost use Rattle.lowering.specs.StatementCode.{arms_slots, block_slots, statemen
 ghost use Rattle.array_meaning.specs.Statements.{Arms};
 
 use crate::forall_header::header_slots;
+use crate::nest_code::marked_slots;
 use crate::print::items_slots;
 use crate::where_construct::masked_slots;
 use expression_code::{all_slots_of, control_slots, parts_slots, plus, slots_of, subscripts_slots};
@@ -45,10 +46,19 @@ fn statement_slots(s: &Action) -> Result<usize, OutOfMemory>
             let rest = block_slots(other)?;
             Ok(most.max(rest))
         }
-        Action::Do(_, l, body) => {
-            let head = plus(control_slots(&l.control)?, 4)?;
-            let inner = block_slots(body)?;
-            plus(head, inner)
+        Action::Do(nest, l, body) => {
+            let head = control_slots(&l.control)?;
+            match marked_slots(nest, body)? {
+                Some(taken) => {
+                    let all = plus(head, taken)?;
+                    Ok(all)
+                }
+                None => {
+                    let inner = block_slots(body)?;
+                    let all = plus(head, plus(4, inner)?)?;
+                    Ok(all)
+                }
+            }
         }
         Action::Where(mask, body, others) => {
             let most = masked_slots(body)?;

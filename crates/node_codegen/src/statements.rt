@@ -13,6 +13,7 @@ use crate::forall::forall_code;
 use crate::if_construct::{ArmCodes, arm_code, condition_code, if_code};
 use crate::loops::loop_code;
 use crate::moves::{LineMoves, remap_code};
+use crate::nest_code::marked_code;
 use crate::nests::bounds_code;
 use crate::print::print_code;
 use crate::sequences::{only, place_after, with_more};
@@ -24,7 +25,7 @@ use resolved_program::{Action, Arm, Statement};
 use std::alloc::Global;
 
 /// The code of statements, one after the other, from the place `pc` on, with slots from `b` on, and with the places where EXIT and
-/// CYCLE go; `copy` is the row of the first of the copies.
+/// CYCLE go; `copy` is the row of the first of the copies, so many names are declared.
 #[cycle(code)]
 pub(crate) fn block_code(
     alloc: Global,
@@ -48,7 +49,7 @@ pub(crate) fn block_code(
     Ok(code)
 }
 
-/// The code of a statement of a line. No mark of a loop plays a part in it.
+/// The code of a statement of a line. A nest of INDEPENDENT loops with statements takes the place of its loops.
 #[cycle(code)]
 fn statement_code(
     alloc: Global,
@@ -80,9 +81,15 @@ fn statement_code(
             let first = plus(b, control_slots(&l.control)?)?;
             let head = bounds_code(alloc, line, b, first, nest, l, body)?;
             let at = place_after(pc, &head)?;
-            let inner = body_code(alloc, copy, moves, body, first, at)?;
-            let turns = loop_code(alloc, line, at, first, l.index, inner)?;
-            with_more(head, turns)
+            match marked_code(alloc, copy, line, nest, l, body, first, at)? {
+                Some(turns) => with_more(head, turns),
+                None => {
+                    let inner = body_code(alloc, copy, moves, body, first, at)?;
+                    let turns = loop_code(alloc, line, at, first, l.index, inner)?;
+                    let code = with_more(head, turns)?;
+                    Ok(code)
+                }
+            }
         }
         Action::Where(mask, body, others) => where_code(alloc, copy, line, b, mask, body, others),
         Action::Forall(controls, mask, body) => forall_code(

@@ -1,7 +1,6 @@
 -- The steps of a redistribution.
-use Rattle.std.proofs.Common.{◌≡◌, ℕ, ℤ, zero, suc, ◌+◌, ◌<◌, true, false, Option, Some, None, List, [], ◌∷◌, length, map, drop, get_or, nat_lt, refl, sym, ◌∙◌, ap}
-use Rattle.std.proofs.lemmas.List.{drop_more, length-map}
-use Rattle.std.specs.List.{slice_get}
+use Rattle.std.proofs.Common.{◌≡◌, ℕ, ℤ, zero, suc, ◌+◌, true, false, List, [], ◌∷◌, length, nat_lt, refl, sym, ◌∙◌, ap}
+use Rattle.std.proofs.lemmas.List.{length-map}
 use Rattle.mappings.specs.declared.mapping.Mapping.{Mapping}
 use Rattle.array_meaning.specs.Faults.{Fault}
 use Rattle.storage.specs.Storage.{Spot}
@@ -9,14 +8,9 @@ use Rattle.machine_steps.specs.Instr.{Instr, Remapping}
 use Rattle.machine_steps.specs.Layout.{Layout, size_of, sizes}
 use Rattle.machine_steps.specs.Machine.{remapped, with_mapping}
 use Rattle.machine_steps.specs.Node.{Node, begun_by, done_by, no_values, pieces_by}
-use Rattle.owner_tables.specs.Views.{TableView}
 use Rattle.node_code.specs.FaultValues.{fault_values}
-use Rattle.node_code.specs.Instructions.{remapping_by, remappings}
 use Rattle.node_code.specs.ProgramText.{Text}
-use Rattle.node_code.specs.Texts.{new_mapping}
-use Rattle.node_code.specs.declared.instruction.NewMapping.{NewMapping as HeldMapping}
 use Rattle.remap_steps.specs.Redistributions.{Redistribution, all_rounds, moved_pieces, value_after}
-use Rattle.node_program.specs.Programs.{mappings_of}
 use Rattle.node_machine.specs.Remaps.{IsRemap, remap_ended, round_next, round_opened}
 
 module _ (r : Redistribution) (a : Node Text Fault) where

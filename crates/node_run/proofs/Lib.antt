@@ -3,7 +3,6 @@ mod Exchange
 mod Goes
 mod JoinedValues
 pub mod Keeping
-mod PartLetters
 pub mod CodedSteps
 pub mod Openings
 pub mod OwnedPieces
@@ -19,6 +18,9 @@ mod Remaps
 pub mod WholeRuns
 mod Spots
 mod Stepping
+pub mod Numbers
+pub mod PairLetters
+mod Messages
 mod TreeFold
 mod TreeLevels
 mod TreeRun

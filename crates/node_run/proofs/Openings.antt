@@ -1,9 +1,9 @@
 -- The nodes at the beginning of a run.
-use Rattle.std.proofs.Common.{◌≡◌, ℕ, zero, suc, ◌+◌, ◌<◌, ◌≤◌, List, map, replicate, get_or, Some, None, refl, sym, ◌∙◌, ap, subst, arith, ◌⊎◌, inl, inr}
+use Rattle.std.proofs.Common.{◌≡◌, ℕ, zero, suc, ◌+◌, ◌<◌, ◌≤◌, List, map, Some, None, refl, sym, ◌∙◌, ap, subst, arith, ◌⊎◌, inl, inr}
 use Rattle.std.specs.List.{range_with_len, slice_get}
 use Rattle.std.proofs.Math.Path.{fun_ext}
 use Rattle.std.proofs.lemmas.Bool.{cases_lt, lt-ltb, le-ltb}
-use Rattle.std.proofs.lemmas.List.{length-replicate}
+use Rattle.std.proofs.lemmas.List.{get_or-replicate, length-replicate}
 use Rattle.hpf_base.specs.declared.index.Shape.{Shape}
 use Rattle.node_law.specs.NodeSteps.{after_at}
 use Rattle.node_law.specs.Phases.{IsLockstep, all_moves}
@@ -13,11 +13,6 @@ use Rattle.machine_steps.specs.Machine.{Machine, is_before, instr_at, steps}
 use Rattle.machine_steps.specs.Node.{FaultValues, node_steps}
 use Rattle.node_run.proofs.Plain.{at-start}
 use Rattle.node_run.proofs.WholeRuns.{nodes-run}
-
-get-replicate : (count q v d : ℕ) → q < count → get_or (replicate count v) q d ≡ v
-get-replicate zero q v d lt = absurd (omega arith)
-get-replicate (suc count) zero v d lt = refl
-get-replicate (suc count) (suc q) v d lt = get-replicate count q v d (omega arith)
 
 -- a list of nodes, by number
 at-number : {A : Type 0} (f : ℕ → A) (n lo p : ℕ) → (p < n → slice_get (map f (range_with_len lo n)) p ≡ Some (f (lo + p))) ×
@@ -29,7 +24,7 @@ at-number f (suc n) lo (suc p) =
     let e : lo + 1 + p ≡ lo + suc p = omega arith in
     ((λ lt. r.0 (omega arith) ∙ ap (λ x. Some (f x)) e), (λ ge. r.1 (omega arith)))
 
-listed : {A : Type 0} (f : ℕ → A) (count p : ℕ) → slice_get (map f (range_with_len 0 count)) p ≡ by_number count f p
+pub listed : {A : Type 0} (f : ℕ → A) (count p : ℕ) → slice_get (map f (range_with_len 0 count)) p ≡ by_number count f p
 listed f count p = by_cases (cases_lt p count)
   where
     by_cases : (p < count) ⊎ (count ≤ p) → slice_get (map f (range_with_len 0 count)) p ≡ by_number count f p
@@ -42,7 +37,7 @@ module _ {C F : Type 0} (faults : FaultValues F) (meaning : C → Instr F) (coun
     numbers = record {
       sent = λ p lt. length-replicate count 1;
       taken = λ p lt. length-replicate count 1;
-      same = λ p q lp lq. get-replicate count q 1 0 lq ∙ sym (get-replicate count p 1 0 lp);
+      same = λ p q lp lq. get_or-replicate count q 1 0 lq ∙ sym (get_or-replicate count p 1 0 lp);
     };
     kept = subst (λ o. IsFirst is_before count o (λ p. None)) (sym none) (record { others = λ p lt l e. cc; here = λ l e. cc });
     joined = subst (λ j. AreJoined count (instr_at meaning m.code m.control.at) j (λ p. None) m.joined) (sym first)

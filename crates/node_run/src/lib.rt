@@ -6,16 +6,17 @@
 //! - `runs`: nodes that agree with the machine run each instruction as it does; so they are phased where its run ends, and their last
 //!   nodes agree with its last state. They begin as one list of openings, which agree with the machine.
 //! - `coded`: the machine over other texts that mean the same does the same.
-//! - `letters`: the letters of a message phase and of the rounds of a redistribution are exactly those of the whole arrays, and what a
-//!   node receives gives it each value that it needs.
+//! - `letter_laws`: all letters of a pair in a whole run, with their numbers, phases and values, are those that the machine's steps say;
+//!   a message holds exactly the elements that its taker wants of its sender; and what a node receives gives it each value that it needs.
 //! - `parted`: parallel statements one after the other are the parted order of a nest, and what the machine keeps is its least fault.
 //! - `joining`: what the nodes join of their own values is what is joined of all values in their order.
-//! - `trees`: the rounds of a tree are those of `reduction_tree`, and what the letters of each tree hold.
+//! - `trees`: the rounds of a tree are those of `reduction_tree`.
 //! - `pieces`: who owns what, and what a node's piece is, by the definitions of mapped arrays.
 //!
 //! What holds in between: no law of runs looks into who owns what, so an element may have several owners. The simulation is one lemma an
 //! instruction (`proofs/`): an instruction without a phase is a local step, a message phase is one exchange, a tree and a
-//! redistribution are rounds of exchanges, and segments of a lockstep run are put together.
+//! redistribution are rounds of exchanges, and segments of a lockstep run are put together. Each lemma says too what its phases carry, and
+//! what the nodes have for themselves after it, by the whole arrays. The numbers of letters come from the moves of each node alone.
 #![tactic(auto)]
 
 mod coded;
@@ -28,8 +29,8 @@ mod trees;
 
 pub use coded::other_texts;
 pub use joining::{folded_from_unit, values_regrouped};
-pub use letter_laws::{message_read, part_letters, remap_letters};
+pub use letter_laws::{letters_exact, message_exact, message_read, phases_carried};
 pub use parted::{least_of_parts, parts_in_a_row};
 pub use pieces::{elements_have_owners, owners_by_mapping, pieces_by_elements};
 pub use runs::{nodes_pass, nodes_run, nodes_step, openings_agree, openings_run};
-pub use trees::{fold_letters, trees_by_acts, verdict_letters};
+pub use trees::trees_by_acts;

@@ -1,5 +1,5 @@
 -- No step of the machine changes its code.
-use Rattle.std.proofs.Common.{◌≡◌, ℕ, zero, suc, List, [], refl, ◌∙◌}
+use Rattle.std.proofs.Common.{◌≡◌, ℕ, zero, suc, [], refl, ◌∙◌}
 use Rattle.machine_steps.specs.Instr.{Status, Running, Finished, Faulted, Instr}
 use Rattle.machine_steps.specs.Machine.{Machine, instr_at, step, step_while, steps}
 use Rattle.node_run.proofs.Wholes.{same-code}

@@ -40,7 +40,7 @@ LieAsDeclared count room (e ∷ es) (layout ∷ layouts) = LiesAsDeclared count 
 
 -- how many copies the code of a program names
 abbrev pub program_copies : MainProgram → ℕ
-program_copies p = block_copies (resolved_block (entries p) p.body)
+program_copies p = block_copies (length (entries p)) (resolved_block (entries p) p.body)
 
 -- the run of a program in one order, whose outcome is its serial one
 abbrev pub program_run : MainProgram → Run

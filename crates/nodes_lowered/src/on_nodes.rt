@@ -11,7 +11,8 @@ ghost use Rattle.accepted_program.specs.Accepted.{KeepsRules};
 ghost use Rattle.mappings.specs.declared.mapping.Mapping.{Mapping};
 ghost use Rattle.machine_steps.specs.Layout.{Layout};
 ghost use Rattle.node_code.specs.Instructions.{NewMapping};
-ghost use Rattle.nest_standing.specs.FittingNumbers.{ProgramNestsFit};
+ghost use Rattle.fitting_states.specs.FittingStates.{ProgramFits};
+ghost use Rattle.nodes_lowered.specs.LettersOnNodes.{LettersOnNodes};
 ghost use Rattle.nodes_lowered.specs.OnNodes.{LieAsDeclared, MovesDealt, program_copies};
 ghost use Rattle.nodes_lowered.specs.ProgramLayouts.{program_layouts};
 ghost use Rattle.nodes_lowered.specs.ProgramRuns.{RunOnNodes};
@@ -24,20 +25,27 @@ pub fn arrays_lie_as_mapped()
         → LieAsDeclared (product grid) room (entries p) (program_layouts (product grid) room (entries p) (start_maps grid p)) }
 {}
 
-/// For every program that keeps the rules of names, ranks and bodies and has numbers of 64 bits in its nests of INDEPENDENT loops, every number of nodes, layouts of its arrays by which each element
+/// For every program that keeps the rules of names, ranks and bodies and whose numbers are of 64 bits, every number of nodes, layouts of its arrays by which each element
 /// has an owner, and mappings that the REDISTRIBUTE of each line gives, by which each has one too, the nodes that begin with its code are
 /// phased, and end as its last nodes in every order of their steps: all have its code, one place, the same slots and the same layouts, by
 /// which its arrays lie as at first, with the redistributions that the program reaches; each has the program's first fault with its line,
 /// kind and tuple, or is finished with the program's last scalars and its pieces of the last arrays; and node 0 has printed the program's
 /// bytes, no other any.
 pub fn programs_run_on_nodes()
-    ensures { (nodes : ℕ) (p : MainProgram) (maps : List Mapping) (moves : ℕ → List NewMapping) (layouts : List Layout) → 0 < nodes → KeepsRules p → ProgramNestsFit p
+    ensures { (nodes : ℕ) (p : MainProgram) (maps : List Mapping) (moves : ℕ → List NewMapping) (layouts : List Layout) → 0 < nodes → KeepsRules p → ProgramFits p
         → LieAsDeclared nodes (program_copies p) (entries p) layouts → MovesDealt nodes p maps moves layouts → RunOnNodes nodes p maps moves layouts }
 {}
 
 /// On their way to that end these nodes pass the program's trail: for each of its entries all of them come to stand before an instruction that
 /// is that entry, with the scalars of that moment, and there the arrays lie as at first, with the redistributions before it.
 pub fn trails_on_nodes()
-    ensures { (nodes : ℕ) (p : MainProgram) (maps : List Mapping) (moves : ℕ → List NewMapping) (layouts : List Layout) → 0 < nodes → KeepsRules p → ProgramNestsFit p
+    ensures { (nodes : ℕ) (p : MainProgram) (maps : List Mapping) (moves : ℕ → List NewMapping) (layouts : List Layout) → 0 < nodes → KeepsRules p → ProgramFits p
         → LieAsDeclared nodes (program_copies p) (entries p) layouts → MovesDealt nodes p maps moves layouts → TrailOnNodes nodes p maps moves layouts }
+{}
+
+/// All letters of these nodes are known: of each pair they are those of the phases that the steps of the machine with whole arrays say, in
+/// order, each with the number of its phase, the pair's next number, and the values of the whole arrays. There are no others.
+pub fn letters_on_nodes()
+    ensures { (nodes : ℕ) (p : MainProgram) (maps : List Mapping) (moves : ℕ → List NewMapping) (layouts : List Layout) → 0 < nodes → KeepsRules p → ProgramFits p
+        → LieAsDeclared nodes (program_copies p) (entries p) layouts → MovesDealt nodes p maps moves layouts → LettersOnNodes nodes p maps moves layouts }
 {}

@@ -1,5 +1,5 @@
 -- By slots that agree on all that an instruction mentions, it is the same part.
-use Rattle.std.proofs.Common.{◌≡◌, ℕ, ◌+◌, List, [], ◌∷◌, ◌++◌, ℤ, Bool, true, false, true≢false, Option, Some, Ok, refl, ap, sym, option_map}
+use Rattle.std.proofs.Common.{◌≡◌, ℕ, ◌+◌, List, [], ◌∷◌, ◌++◌, ℤ, Bool, true, false, true≢false, Some, Ok, refl, ap, sym, option_map}
 use Rattle.std.specs.Prelude.{◌==◌, ◌&&◌}
 use Rattle.std.proofs.lemmas.Bool.Decides.{Decides-int_eq}
 use Rattle.array_meaning.specs.State.{element_place}

@@ -1,5 +1,5 @@
 -- The declared names lie as the redistributions that were passed say.
-use Rattle.std.proofs.Common.{◌≡◌, ℕ, zero, suc, ◌+◌, ◌≤◌, ◌⊎◌, inl, inr, List, [], ◌∷◌, ◌++◌, ℤ, length, take, Option, Some, None, refl, sym, ap, ◌∙◌, subst, arith, slice_set}
+use Rattle.std.proofs.Common.{◌≡◌, ℕ, zero, suc, ◌≤◌, ◌⊎◌, inl, inr, List, [], ◌∷◌, ◌++◌, length, take, Option, Some, None, refl, sym, ap, ◌∙◌, subst, arith, slice_set}
 use Rattle.std.specs.Bool.{⊤}
 use Rattle.std.specs.List.{slice_get}
 use Rattle.hpf_base.specs.declared.index.Shape.{Shape}
@@ -10,10 +10,13 @@ use Rattle.machine_steps.specs.Instr.{Instr, Tuples, Fold, Item, Status, Running
 use Rattle.machine_steps.specs.Layout.{Layout}
 use Rattle.machine_steps.specs.Machine.{Machine, Kept, instr_at, instr_of, print_step, reduce_step, remapped, step, step_by, step_while, steps, with_mapping}
 use Rattle.machine_steps.specs.Agrees.{IsValidCode, IsValidInstr}
+use Rattle.node_run.proofs.Wholes.{same-code}
 use Rattle.node_code.specs.Instructions as code
 use Rattle.node_code.specs.Instructions.{Instruction, ArrayTable, meaning_of, remappings}
-use Rattle.lowered_expressions.specs.Passed.{Passed, note_at, note_while, passed, passed_now}
-use Rattle.passed_states.specs.PassedLayouts.{passed_layouts}
+use Rattle.node_code.specs.declared.nest.NestRole.{NestRole}
+use Rattle.node_code.specs.declared.nest.NestRole.TheVariants.{Assigns, Tests, SetsElse, SetsMark}
+use Rattle.lowered_expressions.specs.Passed.{Passed, unless_mark, note_at, note_while, passed, passed_now}
+use Rattle.passed_states.specs.PassedLayouts.{layouts_after, passed_layouts}
 
 take-set : {A : Type 0} (n c : ℕ) (xs : List A) (x : A) → n ≤ c → take n (slice_set xs c x) ≡ take n xs
 take-set zero c xs x le = refl
@@ -49,20 +52,6 @@ reduce-layouts (suc (suc k)) t f slot m = refl
 print-layouts : (o : Option Item) (line : List ℕ → List ℕ) (m : Machine Instruction Fault) → (print_step o line m).layouts ≡ m.layouts
 print-layouts (Some x) line m = refl
 print-layouts None line m = refl
-
-reduce-code : (k : ℕ) (t : Tuples Fault) (f : Fold) (slot : ℕ) (m : Machine Instruction Fault) → (reduce_step k t f slot m).code ≡ m.code
-reduce-code zero t f slot m = refl
-reduce-code (suc zero) t f slot m = refl
-reduce-code (suc (suc k)) t f slot m = refl
-
-print-code : (o : Option Item) (line : List ℕ → List ℕ) (m : Machine Instruction Fault) → (print_step o line m).code ≡ m.code
-print-code (Some x) line m = refl
-print-code None line m = refl
-
-same-code : (i : Instr Fault) (m : Machine Instruction Fault) → (step_by i m).code ≡ m.code
-same-code (machine.Reduce t f slot) m = reduce-code m.substep t f slot m
-same-code (machine.Print items line) m = print-code (slice_get items m.substep) line m
-same-code i m = refl
 
 module _ (table : ArrayTable) (count : ℕ) (shapes : List Shape) where
   abbrev n : ℕ
@@ -101,6 +90,12 @@ module _ (table : ArrayTable) (count : ℕ) (shapes : List Shape) where
 
   -- ---- layouts
 
+  nest-layouts : (role : NestRole) (p : Passed) (layouts : List Layout) → layouts_after table.maps p.instruction layouts ≡ layouts → layouts ≡ passed_layouts table.maps (unless_mark role p) layouts
+  nest-layouts Assigns p layouts e = sym e
+  nest-layouts Tests p layouts e = sym e
+  nest-layouts SetsElse p layouts e = sym e
+  nest-layouts SetsMark p layouts e = refl
+
   one-layouts : (x : Instruction) (k : ℕ) (m : Machine Instruction Fault) → m.substep ≡ k → (k ≡ 0) ⊎ IsLong (meaning_of table x) → IsValidInstr count shapes (meaning_of table x)
       → take n (step_by (meaning_of table x) m).layouts ≡ passed_layouts table.maps (note_at k (Some x) m.control.slots) (take n m.layouts)
   one-layouts (code.Reduce p o x) zero m e h v = ap (take n) (reduce-layouts m.substep _ _ x m)
@@ -111,6 +106,8 @@ module _ (table : ArrayTable) (count : ℕ) (shapes : List Shape) where
   one-layouts (code.MakeCopy copy p) (suc k) m e h v = take-set n copy m.layouts _ v.0
   one-layouts (code.MakeCopies copy over start) zero m e h v = take-set n copy m.layouts _ v.0
   one-layouts (code.MakeCopies copy over start) (suc k) m e h v = take-set n copy m.layouts _ v.0
+  one-layouts (code.ParNest p) zero m e h v = nest-layouts p.role (record { instruction = code.ParNest p; slots = m.control.slots }) (take n m.layouts) refl
+  one-layouts (code.ParNest p) (suc k) m e h v = refl
   one-layouts (code.Remap line new) zero m e h v = take-remapped n (remappings table.maps new) m.layouts
   one-layouts (code.Remap line new) (suc k) m e (inl z) v = absurd (omega (arith, z))
   one-layouts (code.Remap line new) (suc k) m e (inr l) v = absurd l
@@ -129,7 +126,7 @@ module _ (table : ArrayTable) (count : ℕ) (shapes : List Shape) where
   step-layouts Running m e h v =
       subst (λ s. (take n (step_while (meaning_of table) s m).layouts ≡ passed_layouts table.maps (note_while s m.substep (slice_get m.code m.control.at) m.control.slots) (take n m.layouts))
       × ((step_while (meaning_of table) s m).code ≡ m.code)) (sym e)
-      (at-layouts (slice_get m.code m.control.at) m.substep m refl h (v m.control.at), same-code (instr_at (meaning_of table) m.code m.control.at) m)
+      (at-layouts (slice_get m.code m.control.at) m.substep m refl h (v m.control.at), same-code count shapes (instr_at (meaning_of table) m.code m.control.at) m)
   step-layouts Finished m e h v =
       subst (λ s. (take n (step_while (meaning_of table) s m).layouts ≡ passed_layouts table.maps (note_while s m.substep (slice_get m.code m.control.at) m.control.slots) (take n m.layouts))
       × ((step_while (meaning_of table) s m).code ≡ m.code)) (sym e) (refl, refl)

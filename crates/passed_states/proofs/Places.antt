@@ -1,22 +1,31 @@
 -- Each entry of a trail is passed at a state of the machine.
-use Rattle.std.proofs.Common.{◌≡◌, ℕ, zero, suc, ◌<◌, ◌⊎◌, inl, inr, List, [], ◌∷◌, ◌++◌, ℤ, take, Option, Some, None, refl, sym, subst, arith}
+use Rattle.std.proofs.Common.{◌≡◌, ℕ, zero, suc, ◌⊎◌, inl, inr, List, [], ◌∷◌, ◌++◌, ℤ, take, Option, Some, None, refl, sym, subst, arith}
 use Rattle.std.specs.List.{slice_get}
 use Rattle.std.proofs.lemmas.Option.{same_Some}
 use Rattle.array_meaning.specs.Faults.{Fault}
 use Rattle.statement_trail.specs.Trail.{Trail, TrailEntry}
 use Rattle.machine_steps.specs.Instr.{Status, Running, Finished, Faulted}
-use Rattle.machine_steps.specs.Machine.{Machine, step, steps}
-use Rattle.node_code.specs.Instructions.{Instruction, NewMapping, ArrayTable, meaning_of, Par, ParForall, ParCopy, ParForallCopy, Reduce, Remap}
+use Rattle.machine_steps.specs.Machine.{Machine, step}
+use Rattle.node_code.specs.Instructions.{Instruction, NewMapping, ArrayTable, meaning_of, Par, ParForall, ParNest, ParCopy, ParForallCopy, Reduce, Remap}
+use Rattle.node_code.specs.declared.nest.NestRole.{NestRole}
+use Rattle.node_code.specs.declared.nest.NestRole.TheVariants.{Assigns, Tests, SetsElse, SetsMark}
 use Rattle.passed_states.specs.Places.{IsPassed}
-use Rattle.lowered_expressions.specs.Passed.{Passed, IsTrailEntry, IsTrail, note, note_at, note_while, passed, passed_now}
+use Rattle.lowered_expressions.specs.Passed.{Passed, IsTrailEntry, IsTrail, unless_mark, note, note_at, note_while, passed, passed_now}
 
 -- nothing, or one
 abbrev Few : List Passed → Type 0
 Few ps = (ps ≡ []) ⊎ ((p : Passed) × (ps ≡ p ∷ []))
 
+few-nest : (role : NestRole) (p : Passed) → Few (unless_mark role p)
+few-nest Assigns p = inr (p, refl)
+few-nest Tests p = inr (p, refl)
+few-nest SetsElse p = inr (p, refl)
+few-nest SetsMark p = inl refl
+
 few-noted : (x : Instruction) (slots : List ℤ) → Few (note x slots)
 few-noted (Par p) slots = inr (_, refl)
 few-noted (ParForall p) slots = inr (_, refl)
+few-noted (ParNest p) slots = few-nest p.role (record { instruction = ParNest p; slots = slots })
 few-noted (ParCopy copy p) slots = inr (_, refl)
 few-noted (ParForallCopy copy p) slots = inr (_, refl)
 few-noted (Reduce p r x) slots = inr (_, refl)

@@ -3,7 +3,7 @@ use Rattle.std.proofs.Common.{◌≡◌, ℕ, List, [], ◌∷◌, ℤ, refl, sy
 use Rattle.mappings.specs.declared.mapping.Mapping.{Mapping}
 use Rattle.machine_steps.specs.Layout.{Layout}
 use Rattle.machine_steps.specs.Machine.{remapped}
-use Rattle.node_code.specs.Instructions.{Instruction, NewMapping, Par, ParForall, ParCopy, ParForallCopy, Reduce, Remap, remappings}
+use Rattle.node_code.specs.Instructions.{Instruction, NewMapping, Par, ParForall, ParNest, ParCopy, ParForallCopy, Reduce, Remap, remappings}
 use Rattle.statement_trail.specs.Trail.{Event, Trail}
 use Rattle.passed_states.specs.TrailLayouts as trail
 use Rattle.passed_states.specs.TrailLayouts.{trail_layouts}
@@ -21,6 +21,7 @@ module _ (maps : List Mapping) (moves : ℕ → List NewMapping) where
   one-moves n (Reduce p r x) slots line event layouts h = ap (λ e. Moved line e layouts) (sym h.1.1)
   one-moves n (ParForall p) slots line event layouts h = ap (λ e. Moved line e layouts) (sym h.1.3)
   one-moves n (ParForallCopy copy p) slots line event layouts h = ap (λ e. Moved line e layouts) (sym h.1.2)
+  one-moves n (ParNest p) slots line event layouts h = ap (λ e. Moved line e layouts) (sym h.1.3)
   one-moves n (Remap l new) slots line event layouts h = ap (λ new. remapped (remappings maps new) layouts) h.2 ∙ ap (λ e. Moved line e layouts) (sym h.1)
   one-moves n i slots line event layouts h = absurd h
 

@@ -4,5 +4,4 @@ mod Statements
 mod Stores
 mod StoredSections
 mod NamedValues
-mod Marks
 mod PositionTuples

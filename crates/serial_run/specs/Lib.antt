@@ -5,7 +5,6 @@ pub mod Printing
 pub mod SectionStores
 pub mod WhereConstruct
 pub mod InitialState
-pub mod Independent
 pub mod LoopEntry
 pub mod Outcomes
 pub mod PositionTuples

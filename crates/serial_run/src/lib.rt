@@ -10,7 +10,6 @@ mod completion;
 mod execution;
 mod forall;
 mod forall_stores;
-mod independent;
 mod index_tuples;
 mod initial_state;
 mod loop_entry;
@@ -23,6 +22,5 @@ mod serial;
 mod where_construct;
 
 pub use completion::Completion;
-pub use independent::first_independent;
 pub use initial_state::initial_scalars;
 pub use serial::{End, Outcome, run_serial};

@@ -1,1 +1,2 @@
+pub mod NestParts
 pub mod Trail

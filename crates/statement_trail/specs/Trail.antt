@@ -1,6 +1,6 @@
--- The trail of a run: the parts of array statements and the REDISTRIBUTEs that are reached, in order, each with the scalars at that
+-- The trail of a run: the parts of array statements and of nests, and the REDISTRIBUTEs, that are reached, in order, each with the scalars at that
 -- moment and with what is evaluated once for it. It is told beside the meaning, which doesn't know of it.
-use Rattle.std.specs.Prelude.{ℕ, zero, suc, List, [], ◌∷◌, ◌++◌, ℤ, ◌+ℤ◌, Bool, ◌==◌, if◌then◌else◌, is_some, Option, Some, None, unwrap_or, Result, Ok, Err}
+use Rattle.std.specs.Prelude.{ℕ, zero, suc, ◌+◌, List, [], ◌∷◌, ◌++◌, ℤ, ◌+ℤ◌, Bool, ◌==◌, if◌then◌else◌, is_some, Option, Some, None, unwrap_or, Result, Ok, Err}
 use Rattle.hpf_base.specs.ElementOrder.{product}
 use Rattle.op_tables.specs.declared.op.Op.{Op}
 use Rattle.op_tables.specs.Operators.{wrapped}
@@ -9,7 +9,7 @@ use Rattle.syntax_tree.specs.Statement as syntax
 use Rattle.name_table.specs.declared.names.Entry.{Entry}
 use Rattle.name_table.specs.Entries.{entries}
 use Rattle.array_meaning.specs.Terms.{Term, Element, Section, Apply, Reduce, Terms, NoTerm, More, SectionSubscripts, NoSubscript, Subscript, Triplet, Control}
-use Rattle.array_meaning.specs.Statements.{SectionAssignment, ElementAssignment, Item, Text, Value, Elements, Block, Done, Then, Statement, AssignScalar, AssignElement, AssignSection, If, Do, Where, Forall, Print, Redistribute, Arms, NoArm, Arm}
+use Rattle.array_meaning.specs.Statements.{SectionAssignment, ElementAssignment, Item, Text, Value, Elements, Nest, Block, Done, Then, Statement, AssignScalar, AssignElement, AssignSection, If, Do, Where, Forall, Print, Redistribute, Mark, Unmarked, Outermost, Arms, NoArm, Arm}
 use Rattle.array_meaning.specs.Faults.{Cause, ◌>>=◌}
 use Rattle.array_meaning.specs.State.{State, set_scalar, place_in}
 use Rattle.array_meaning.specs.Runs.{Completion, Normal, Cycled, Run, normal, one_step}
@@ -20,9 +20,11 @@ use Rattle.array_meaning.specs.Elementals.{Elemental, sections, own_extents, own
 use Rattle.array_meaning.specs.Expressions.{value, values, elemental, selections, index_values, all_index_values}
 use Rattle.array_meaning.specs.ArrayAssignments.{Mask, assign_where, assign_all_where, mask_of, negated_mask}
 use Rattle.array_meaning.specs.Forall.{index_extents, all_subscripts, check_limits, check_one_to_one, mask_over, assign_forall}
+use Rattle.array_meaning.specs.Iterations.{values_of, iteration_count, in_turns}
 use Rattle.array_meaning.specs.NestEntry.{entered}
 use Rattle.array_meaning.specs.Execution.{condition, item_bytes, run, run_block}
 use Rattle.array_meaning.specs.Resolution.{resolved_block, initial_state}
+use Rattle.statement_trail.specs.NestParts.{EnteredNest, Asked, NestPart, ScalarPart, ElementPart, ConditionPart, has_statement, conditions_in, conditions_by, branch_asked, arm_asked, in_trip, indices_after, indices_by, entered_nest}
 
 pub data Event : Type 0 where
   -- an assignment to a section: whether a mask is over it, the extents of its space, its left side and its right side
@@ -33,6 +35,8 @@ pub data Event : Type 0 where
   -- the mask of a FORALL, and one of its assignments, each with the values of the indices
   ForallMask : List Sequence → Term → Event
   ElementsAssigned : (masked : Bool) → List Sequence → (array : ℕ) → Terms → Term → Event
+  -- a part of a nest, at the iterations at which these stored conditions are as asked for
+  OfNest : EnteredNest → List Asked → NestPart → Event
   Redistributed : Event
 
 pub record TrailEntry : Type 0 where
@@ -149,6 +153,44 @@ abbrev pub all_items_trail : ℕ → State → List Item → Trail
 all_items_trail line s [] = []
 all_items_trail line s (i ∷ is) = item_trail line s i ++ after_value (item_bytes s i) (λ bytes. all_items_trail line s is)
 
+-- ---- nests of INDEPENDENT loops
+
+module _ (nest : EnteredNest) where
+  -- The statements of a block one after another, each at all iterations. `guard` is the branch in which the block stands, if it does, and its conditions are numbered
+  -- from k on in the order of the text. The scalars are those at the nest's entry, but for the indices of inner loops, whose trips are made one after another.
+  -- ELSE has no line of its own; its part sends nothing
+  abbrev mutual
+    pub block_parts : Option ℕ → ℕ → Block → State → Trail
+    block_parts guard k Done s = []
+    block_parts guard k (Then line statement rest) s =
+        statement_parts guard k line statement s ++ block_parts guard (conditions_by statement + k) rest (indices_by statement s)
+
+    pub statement_parts : Option ℕ → ℕ → ℕ → Statement → State → Trail
+    statement_parts guard k line (AssignScalar x t) s = reached line s (OfNest nest (branch_asked guard) (ScalarPart x t))
+    statement_parts guard k line (AssignElement a ts t) s = reached line s (OfNest nest (branch_asked guard) (ElementPart a ts t))
+    statement_parts guard k line (If arms other) s =
+        arms_parts guard [] k arms (λ earlier k. if has_statement other
+        then reached 0 s (OfNest nest (arm_asked guard earlier) (ConditionPart k None)) ++ block_parts (Some k) (k + 1) other s else []) s
+    statement_parts guard k line (Do mark loop body) s =
+        in_turns (values_of s loop).count (λ x. block_parts guard k body (in_trip (indices_after body) loop.index (values_of s loop) s x))
+    statement_parts guard k line statement s = []
+
+    -- the branches of an IF, where the conditions of earlier ones have these numbers; `other` is that of ELSE
+    pub arms_parts : Option ℕ → List ℕ → ℕ → Arms → (List ℕ → ℕ → Trail) → State → Trail
+    arms_parts guard earlier k NoArm other s = other earlier k
+    arms_parts guard earlier k (Arm line t body arms) other s =
+        reached line s (OfNest nest (arm_asked guard earlier) (ConditionPart k (Some t)))
+        ++ (block_parts (Some k) (k + 1) body s ++ arms_parts guard (k ∷ earlier) (k + 1 + conditions_in body) arms other s)
+
+-- a nest without an iteration has no part
+abbrev pub nest_trail : Nest → Block → State → Trail
+nest_trail nest body s = if iteration_count nest s == 0 then [] else block_parts (entered_nest nest body s) None 0 body s
+
+-- a loop that is the outermost of a nest has the nest's parts in place of its own
+abbrev pub marked_trail : Mark → (State → Trail) → State → Trail
+marked_trail Unmarked loops s = loops s
+marked_trail (Outermost nest body) loops s = nest_trail nest body s
+
 -- ---- all statements
 
 -- what comes after an iteration, where the loop goes on
@@ -176,7 +218,7 @@ abbrev mutual
   trail (Do mark loop body) line s =
       control_trail line s loop.control
       ++ after_value (index_values s loop.control) (λ p.
-      after_value (entered mark s) (iterate_trail p.count loop.index p.first p.step (run_block body) (block_trail body)))
+      after_value (entered mark s) (marked_trail mark (iterate_trail p.count loop.index p.first p.step (run_block body) (block_trail body))))
   trail (Where mask body others) line s =
       elemental_trail line s mask ++ after_value (elemental [] s mask) (λ x.
       over_own_space line s x WhereMask ++ after_value (array_value s x) (λ m.

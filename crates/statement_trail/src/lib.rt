@@ -1,9 +1,9 @@
-//! The trail of a run: the parts of array statements and the REDISTRIBUTEs that it reaches, in order.
+//! The trail of a run: the parts of array statements and of nests of INDEPENDENT loops, and the REDISTRIBUTEs, that it reaches, in order.
 //!
 //! Comes in: the sequential meaning of `array_meaning`, which doesn't know of parts. Goes out, in `specs/`: the trail of statements and of a
 //! program, each part with its line, the scalars of that moment and what was evaluated once for it. There is no function here.
 //!
 //! What holds in between: a part is one computation over a space, as an assignment to a section, the values of a mask, a reduction. It is
-//! reached where all that comes before it has no fault, whether or not it has one itself. A nest of INDEPENDENT loops runs as its plain loops
-//! do, and is no part.
+//! reached where all that comes before it has no fault, whether or not it has one itself. A nest of INDEPENDENT loops that is entered has all its
+//! parts (`NestParts`), an assignment or a condition at all its iterations, also where it then ends with a fault.
 #![tactic(auto)]

@@ -1,5 +1,5 @@
 -- Programs that break no rule.
-use Rattle.std.proofs.Common.{◌≡◌, ◌≤◌, ◌+◌, ℕ, List, [], length, sym, ap, subst, ◌∙◌}
+use Rattle.std.proofs.Common.{◌≡◌, ◌≤◌, ◌+◌, ℕ, List, [], length, true, sym, ap, subst, ◌∙◌}
 use Rattle.std.proofs.lemmas.List.{length-map}
 use Rattle.std.specs.List.{flat_map}
 use Rattle.hpf_base.specs.FirstBreach.{Among}
@@ -23,6 +23,7 @@ use Rattle.array_meaning.specs.Resolution.{resolved_block, initial_array, initia
 use Rattle.statement_trail.specs.Trail.{serial_trail}
 use Rattle.machine_steps.specs.Agrees.{IsValidCode, IsValidInstr}
 use Rattle.machine_steps.specs.Layout.{AreOwned, IsDealt, Layout}
+use Rattle.machine_steps.specs.SameLayouts.{is_same_layout}
 use Rattle.node_code.specs.Instructions.{ArrayTable, NewMapping, Remap, meaning_of}
 use Rattle.lowering.specs.Lowered.{IsState, IsTable, MachineEnds, MachinePasses, opening}
 use Rattle.node_code.specs.ValidCode.{CodeTable, IsValid, IsValidNodeCode}
@@ -30,6 +31,8 @@ use Rattle.lowering.specs.Ranks.{AreFewDims, BlockKeepsRanks, declared_shapes}
 use Rattle.lowering.specs.StatementCode.{block_copies, block_slots, program_code}
 use Rattle.lowered_expressions.specs.WellFormed.{IsWellFormedBlock}
 use Rattle.nest_items.specs.BlockForms.{BlockHasForms}
+use Rattle.fitting_states.specs.FittingStates.{ProgramFits}
+use Rattle.fitting_states.proofs.Starts.{initial_fits}
 use Rattle.lowering.proofs.Programs.{program-ends, program-passes}
 use Rattle.lowering.proofs.Validity.{code-valid}
 use Rattle.lowering.proofs.ValidPrograms.{program-valid}
@@ -60,28 +63,31 @@ starts names = record {
 }
 
 module _ (p : MainProgram) (room : ℕ) (moves : ℕ → List NewMapping) (table : ArrayTable) (layouts : List Layout) where
-  pub lowered : IsTable (initial_state (entries p)) table → block_copies (resolved_block (entries p) p.body) ≤ room → length layouts ≡ length (entries p) + room →
-      HasNoBreach p → NoBreach (Among (body_breaches (entries p) p.body)) → BlockHasForms (resolved_block (entries p) p.body) →
+  pub lowered : IsTable (initial_state (entries p)) table → block_copies (length (entries p)) (resolved_block (entries p) p.body) ≤ room → length layouts ≡ length (entries p) + room →
+      HasNoBreach p → NoBreach (Among (body_breaches (entries p) p.body)) → BlockHasForms (resolved_block (entries p) p.body) → ProgramFits p →
       MachineEnds (length (entries p)) table (opening (length (entries p)) room moves (resolved_block (entries p) p.body) (initial_state (entries p)) layouts)
       (run_block (resolved_block (entries p) p.body) (initial_state (entries p)))
-  lowered is-table roomy laid rules bodies forms =
-      program-ends table (length (entries p)) room moves (resolved_block (entries p) p.body) (initial_state (entries p)) (starts (entries p)) is-table roomy layouts laid
+  lowered is-table roomy laid rules bodies forms fit =
+      program-ends table (length (entries p)) room moves (resolved_block (entries p) p.body) (initial_state (entries p)) (starts (entries p)) is-table roomy fit.1
+      (initial_fits (entries p) fit.0) layouts laid
       (well_formed p rules.names bodies) forms
 
-  pub trail_lowered : IsTable (initial_state (entries p)) table → block_copies (resolved_block (entries p) p.body) ≤ room → length layouts ≡ length (entries p) + room →
-      HasNoBreach p → NoBreach (Among (body_breaches (entries p) p.body)) → BlockHasForms (resolved_block (entries p) p.body) →
+  pub trail_lowered : IsTable (initial_state (entries p)) table → block_copies (length (entries p)) (resolved_block (entries p) p.body) ≤ room → length layouts ≡ length (entries p) + room →
+      HasNoBreach p → NoBreach (Among (body_breaches (entries p) p.body)) → BlockHasForms (resolved_block (entries p) p.body) → ProgramFits p →
       MachinePasses (length (entries p)) table moves (opening (length (entries p)) room moves (resolved_block (entries p) p.body) (initial_state (entries p)) layouts)
       (run_block (resolved_block (entries p) p.body) (initial_state (entries p))) (serial_trail p)
-  trail_lowered is-table roomy laid rules bodies forms =
-      program-passes table (length (entries p)) room moves (resolved_block (entries p) p.body) (initial_state (entries p)) (starts (entries p)) is-table roomy layouts laid
+  trail_lowered is-table roomy laid rules bodies forms fit =
+      program-passes table (length (entries p)) room moves (resolved_block (entries p) p.body) (initial_state (entries p)) (starts (entries p)) is-table roomy fit.1
+      (initial_fits (entries p) fit.0) layouts laid
       (well_formed p rules.names bodies) forms
 
 pub valid : (count : ℕ) (p : MainProgram) (shapes : List Shape) (table : ArrayTable) (moves : ℕ → List NewMapping) → length shapes ≤ length (entries p) →
     ((layouts : List Layout) → AreOwned count layouts → (extents : List ℕ) → IsDealt count (table.copies layouts extents)) →
+    ((one other : Layout) → is_same_layout one other ≡ true → one ≡ other) →
     ((line : ℕ) → IsValidInstr count shapes (meaning_of table (Remap line (moves line)))) → HasNoBreach p → NoBreach (Among (body_breaches (entries p) p.body)) →
     IsValidCode (meaning_of table) count shapes (program_code (length (entries p)) moves (resolved_block (entries p) p.body))
-valid count p shapes table moves few dealt moving rules bodies =
-    code-valid count (length (entries p)) shapes table moves few dealt moving (resolved_block (entries p) p.body) (well_formed p rules.names bodies)
+valid count p shapes table moves few dealt same moving rules bodies =
+    code-valid count (length (entries p)) shapes table moves few dealt same moving (resolved_block (entries p) p.body) (well_formed p rules.names bodies)
 
 abbrev KeepsAllRanks : MainProgram → Type 0
 KeepsAllRanks p = AreFewDims (declared_shapes (initial_state (entries p))) × BlockKeepsRanks (declared_shapes (initial_state (entries p))) (resolved_block (entries p) p.body)
@@ -99,11 +105,11 @@ ranked p known rules =
     )
 
 pub code_valid : (p : MainProgram) (moves : ℕ → List NewMapping) (table : CodeTable) → KeepsAllRanks p → table.shapes ≡ declared_shapes (initial_state (entries p)) →
-    length (entries p) + block_slots (resolved_block (entries p) p.body) ≤ table.slots → block_copies (resolved_block (entries p) p.body) ≤ table.copies →
+    length (entries p) + block_slots (resolved_block (entries p) p.body) ≤ table.slots → block_copies (length (entries p)) (resolved_block (entries p) p.body) ≤ table.copies →
     length (program_code (length (entries p)) moves (resolved_block (entries p) p.body)) ≡ table.places → ((line : ℕ) → IsValid table (Remap line (moves line))) →
-    HasNoBreach p → NoBreach (Among (body_breaches (entries p) p.body)) →
+    HasNoBreach p → NoBreach (Among (body_breaches (entries p) p.body)) → BlockHasForms (resolved_block (entries p) p.body) →
     IsValidNodeCode table (program_code (length (entries p)) moves (resolved_block (entries p) p.body))
-code_valid p moves table keeps same slots copies places moving rules bodies =
+code_valid p moves table keeps same slots copies places moving rules bodies forms =
     program-valid table (length (entries p)) moves (resolved_block (entries p) p.body) (ap length same ∙ length-map (initial_state (entries p)).arrays _ ∙ length-map (entries p) _)
-    (subst AreFewDims (sym same) keeps.0) slots copies places moving (well_formed p rules.names bodies)
+    (subst AreFewDims (sym same) keeps.0) slots copies places moving (well_formed p rules.names bodies) forms
     (subst (λ shapes. BlockKeepsRanks shapes (resolved_block (entries p) p.body)) (sym same) keeps.1)

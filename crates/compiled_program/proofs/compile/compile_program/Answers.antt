@@ -1,4 +1,3 @@
-use Rattle.std.proofs.Common.{◌≡◌, IfOk, ap}
 use Rattle.compiled_program.specs.Openings.{opening_of}
 use Rattle.compiled_program.proofs.Accepted.{arrays-count, laid, mapped, opening-on-grid, some-nodes}
 use Rattle.compiled_program.proofs.compile.compile_program.Goals as goal

@@ -1,4 +1,4 @@
-use Rattle.std.proofs.Common.{sym, ◌∙◌}
+use Rattle.std.proofs.Common.{◌∙◌}
 use Rattle.compiled_program.proofs.Numbering.{moved-shaped, new-laid}
 use Rattle.compiled_program.proofs.moves.new_table.Goals as goal
 

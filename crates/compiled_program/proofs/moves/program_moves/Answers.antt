@@ -1,8 +1,7 @@
-use Rattle.std.proofs.Common.{◌≡◌, ◌∙◌, ap}
+use Rattle.std.proofs.Common.{◌∙◌, ap}
 use Rattle.std.specs.List.{flat_map}
 use Rattle.array_maps.specs.declared.maps.Redistribution.{Redistribution}
 use Rattle.node_program.specs.Programs.{mappings_of}
-use Rattle.nodes_lowered.specs.NewMappings.{array_places, numbered_at}
 use Rattle.compiled_program.specs.NewTables.{new_tables}
 use Rattle.compiled_program.proofs.Numbering.{mappings_are}
 use Rattle.compiled_program.proofs.moves.program_moves.Goals as goal

@@ -2,11 +2,8 @@ use Rattle.std.proofs.Common.{◌≡◌, IsSome, refl, sym, ap, ◌∙◌, subst
 use Rattle.std.specs.Arc.{arc_value}
 use Rattle.std.proofs.lemmas.Option.{same_Some}
 use Rattle.syntax_tree.specs.MainProgram.{main_program}
-use Rattle.array_meaning.specs.Faults.{Fault}
 use Rattle.array_meaning.specs.Serial.{serial}
 use Rattle.serial_run.specs.Outcomes.{end_seen}
-use Rattle.machine_steps.specs.Machine.{Machine}
-use Rattle.node_code.specs.ProgramText.{Text}
 use Rattle.node_program.specs.Openings.{opening_machine}
 use Rattle.node_program.specs.Programs.{code_of}
 use Rattle.nodes_lowered.specs.GridRuns.{grid_opening}

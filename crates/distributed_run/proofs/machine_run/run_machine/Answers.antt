@@ -1,4 +1,4 @@
-use Rattle.std.proofs.Common.{◌≡◌, ◌<◌, List, sym, ap, ◌∙◌, subst}
+use Rattle.std.proofs.Common.{◌<◌, List, sym, ap, ◌∙◌, subst}
 use Rattle.array_meaning.specs.Faults.{Fault}
 use Rattle.syntax_tree.specs.MainProgram.{main_program}
 use Rattle.machine_steps.specs.Agrees.{IsOver}

@@ -1,4 +1,3 @@
-use Rattle.std.proofs.Common.{◌≡◌}
 use Rattle.syntax_tree.specs.MainProgram.{main_program}
 use Rattle.machine_steps.specs.Agrees.{IsOver}
 use Rattle.machine_steps.specs.Machine.{steps}

@@ -1,8 +1,9 @@
 use Rattle.std.proofs.Common.{subst, sym, ap, ◌∙◌}
 use Rattle.array_meaning.specs.Statements.{If}
-use Rattle.resolved_program.specs.Resolved.{arms_of, block_of, do_loop, loop_of, statement}
+use Rattle.resolved_program.specs.Resolved.{arms_of, block_of, loop_of, statement}
 use Rattle.resolved_program.proofs.Rows.{arm_parts, do_vec, if_vec}
-use Rattle.nest_standing.specs.FittingNumbers.{ArmsFit, BlockFits, StatementFits}
+use Rattle.fitting_states.specs.FittingStates.{ArmsFit, BlockFits, StatementFits}
+use Rattle.fitting_numbers.proofs.FittingMarks.{mark_fits}
 use Rattle.fitting_numbers.proofs.statements.+block_fits.Goals as goal
 
 pub arm_fits-returns : goal.arm_fits-returns
@@ -17,6 +18,6 @@ statement_fits-returns-in-If t c =
 
 pub statement_fits-returns-in-Do : goal.statement_fits-returns-in-Do
 statement_fits-returns-in-Do t c =
-    subst StatementFits
-    (ap (λ l. do_loop c.in-Do.field-0 (loop_of c.in-Do.l) (block_of l)) c.deref-in-Do.ensures.value ∙ sym (ap statement c.in-Do.is ∙ do_vec c.in-Do.field-0 c.in-Do.l c.in-Do.body))
-    (c.bounds_fit.ensures.first, c.bounds_fit.ensures.last, c.block_fits-in-Do.ensures)
+    let fits : BlockFits (block_of c.in-Do.body.items) = subst (λ l. BlockFits (block_of l)) c.deref-in-Do.ensures.value c.block_fits-in-Do.ensures in
+    subst StatementFits (sym (ap statement c.in-Do.is ∙ do_vec c.in-Do.field-0 c.in-Do.l c.in-Do.body))
+    (mark_fits c.in-Do.field-0 (loop_of c.in-Do.l) (block_of c.in-Do.body.items) c.control_fits.ensures fits, c.control_fits.ensures, fits)

@@ -1,6 +1,6 @@
 use Rattle.std.proofs.Common.{drop}
+use Rattle.fitting_states.specs.FittingStates.{ArmsFit, BlockFits}
 use Rattle.resolved_program.specs.Resolved.{arms_of, block_of}
-use Rattle.nest_standing.specs.FittingNumbers.{ArmsFit, BlockFits}
 use Rattle.fitting_numbers.proofs.statements.+block_fits.Given as goal
 
 -- all fit where those that are left do

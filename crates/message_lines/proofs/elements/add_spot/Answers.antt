@@ -20,7 +20,7 @@ returns-in-Some c =
     let text = c.args.text.now.items in
     let spot = c.args.spot in
     let name = row_name (setting_of c.args.rows.now) spot.row in
-    let named = c.in_ok-extend_from_slice.ensures.items ∙ ap (λ n. text ++ n) c.row_name.ensures in
+    let named = c.in_ok-add_row_name.ensures in
     let told = ap (λ s. tuple_text (element_index s spot.at)) c.shape.ensures.value ∙ ap (λ l. subscripts_text l spot.at) c.in-Some.ensures.layout in
     subst (λ (t : List ℕ). OnOk c.add_subscripts.result (c.add_subscripts.new.text.items ≡ t))
     ((λ i. named i ++ told i) ∙ append_assoc text name (subscripts_text (slice_get c.args.rows.now.owners.layouts spot.row) spot.at)) c.add_subscripts.ensures
@@ -30,5 +30,5 @@ returns-in-None c =
     let text = c.args.text.now.items in
     let spot = c.args.spot in
     let name = row_name (setting_of c.args.rows.now) spot.row in
-    c.in_ok-extend_from_slice.ensures.items ∙ ap (λ n. text ++ n) (c.row_name.ensures ∙ sym (append-nil name))
+    c.in_ok-add_row_name.ensures ∙ ap (λ n. text ++ n) (sym (append-nil name))
     ∙ ap (λ l. text ++ (name ++ subscripts_text l spot.at)) c.in-None.ensures.layout

@@ -1,21 +1,29 @@
 use Rattle.std.proofs.Common.{refl}
-use Rattle.std.specs.Int.{int_wrap}
 use Rattle.std.specs.Fmt.{digits}
-use Rattle.machine_steps.specs.Layout.{owned_by, size_of}
+use Rattle.std.specs.Int.{int_wrap}
+use Rattle.machine_steps.specs.Layout.{size_of, owned_by}
 use Rattle.message_text.proofs.examples.lines_of_examples.Goals as goal
 
 pub returns-clause-shift : goal.returns-clause-shift
-unfolding int_wrap digits owned_by size_of
+unfolding int_wrap size_of owned_by digits
 returns-clause-shift c = refl
 
 pub returns-clause-reverse : goal.returns-clause-reverse
-unfolding int_wrap digits owned_by size_of
+unfolding int_wrap size_of owned_by digits
 returns-clause-reverse c = refl
 
 pub returns-clause-moved : goal.returns-clause-moved
-unfolding int_wrap digits owned_by size_of
+unfolding int_wrap size_of owned_by digits
 returns-clause-moved c = refl
 
 pub returns-clause-mask : goal.returns-clause-mask
-unfolding int_wrap digits owned_by size_of
+unfolding int_wrap size_of owned_by digits
 returns-clause-mask c = refl
+
+pub returns-clause-nest : goal.returns-clause-nest
+unfolding int_wrap size_of owned_by digits
+returns-clause-nest c = refl
+
+pub returns-clause-condition : goal.returns-clause-condition
+unfolding int_wrap size_of owned_by digits
+returns-clause-condition c = refl

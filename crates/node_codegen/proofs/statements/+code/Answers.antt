@@ -7,9 +7,10 @@ use Rattle.node_code.specs.Texts.{instruction, instructions}
 use Rattle.resolved_program.specs.declared.statements.Arm.{out-Arm}
 use Rattle.resolved_program.specs.Resolved.{arms_of, block_of, term}
 use Rattle.resolved_program.proofs.Rows.{arm_parts}
-use Rattle.lowering.specs.StatementCode.{arms_code, block_code}
+use Rattle.lowering.specs.StatementCode.{arms_code, block_code, loop_code}
 use Rattle.node_codegen.specs.Arms.{AreArms, arms_before, codes, jumping_to}
 use Rattle.node_codegen.specs.Moves.{moves_by}
+use Rattle.node_codegen.specs.NestCodes.{or_loops}
 use Rattle.node_codegen.proofs.Arms.{arm_is, arms_next, codes_next}
 use Rattle.node_codegen.proofs.Parts.{do_is, if_is}
 use Rattle.node_codegen.proofs.statements.+code.Goals as goal
@@ -41,17 +42,35 @@ code_of_arm-returns t c = λ tail other.
     ∙ ap (λ x. instructions condition.items ++ JumpIfZero (c.args.pc + length condition.items + 1 + length body.items + 1) x ∷ instructions body.items)
     (c.in_ok-slot.ensures ∙ ap (λ n. b + n) c.in_ok-slots_of.ensures))
 
-pub statement_code-returns-in_ok-turns-in-Do : goal.statement_code-returns-in_ok-turns-in-Do
-statement_code-returns-in_ok-turns-in-Do t c =
+pub statement_code-returns-in-Some : goal.statement_code-returns-in-Some
+statement_code-returns-in-Some t c =
     let l = c.in-Do.l in
+    let first = c.in_ok-first-in-Do.first in
+    let at = c.in_ok-at-in-Do.at in
+    let loops = loop_code c.args.line at first l.index (block_code c.args.copy (moves_by c.args.moves.now) (block_of c.in-Do.body.items) (first + 4)) in
     subst (λ w. IfOk c.with_more.result (λ v. instructions v.items ≡ w))
-    (ap (λ i. instructions c.in_ok-head-in-Do.head.items ++ i) c.in_ok-turns-in-Do.ensures
-    ∙ do_is c.args.copy (moves_by c.args.moves.now) c.args.line c.args.b c.args.pc c.args.leave c.args.again c.in_ok-first-in-Do.first c.in_ok-at-in-Do.at c.args.s.now c.in-Do.nest l c.in-Do.body
-    c.in_ok-head-in-Do.head.items c.in_ok-inner-in-Do.inner.items c.in-Do.is
+    (do_is c.args.copy (moves_by c.args.moves.now) c.args.line c.args.b c.args.pc c.args.leave c.args.again first at c.args.s.now c.in-Do.nest l c.in-Do.body
+    c.in_ok-head-in-Do.head.items (instructions c.in-Some.turns.items) c.in-Do.is
     (c.in_ok-first-in-Do.ensures ∙ ap (λ n. c.args.b + n) c.in_ok-control_slots-in-Do.ensures) c.in_ok-head-in-Do.ensures c.in_ok-at-in-Do.ensures
-    (c.in_ok-inner-in-Do.ensures
-    ∙ ap (λ x. block_code c.args.copy (moves_by c.args.moves.now) (block_of x) (c.in_ok-first-in-Do.first + 4) (c.in_ok-at-in-Do.at + 8) (c.in_ok-at-in-Do.at + 3) (c.in_ok-at-in-Do.at + 4)) c.deref-in-Do.ensures.value))
+    (ap (λ r. or_loops r loops) (sym c.in-Some.is) ∙ c.in_ok-turns-in-Do.ensures loops))
     c.with_more.ensures
+
+pub statement_code-returns-in_ok-code-in-None : goal.statement_code-returns-in_ok-code-in-None
+statement_code-returns-in_ok-code-in-None t c =
+    let l = c.in-Do.l in
+    let first = c.in_ok-first-in-Do.first in
+    let at = c.in_ok-at-in-Do.at in
+    let code = block_code c.args.copy (moves_by c.args.moves.now) (block_of c.in-Do.body.items) (first + 4) in
+    let loops = loop_code c.args.line at first l.index code in
+    c.in_ok-code-in-None.ensures
+    ∙ do_is c.args.copy (moves_by c.args.moves.now) c.args.line c.args.b c.args.pc c.args.leave c.args.again first at c.args.s.now c.in-Do.nest l c.in-Do.body
+    c.in_ok-head-in-Do.head.items (instructions c.in_ok-turns-in-None.turns.items) c.in-Do.is
+    (c.in_ok-first-in-Do.ensures ∙ ap (λ n. c.args.b + n) c.in_ok-control_slots-in-Do.ensures) c.in_ok-head-in-Do.ensures c.in_ok-at-in-Do.ensures
+    (c.in_ok-turns-in-None.ensures
+    ∙ ap (λ i. loop_code c.args.line at first l.index (λ inside leave again. i))
+    (c.in_ok-inner-in-None.ensures
+    ∙ ap (λ x. block_code c.args.copy (moves_by c.args.moves.now) (block_of x) (first + 4) (at + 8) (at + 3) (at + 4)) c.deref-in-None.ensures.value)
+    ∙ ap (λ r. or_loops r loops) (sym c.in-None.is) ∙ c.in_ok-turns-in-Do.ensures loops)
 
 pub arm_codes-loop-arm-preserved : goal.arm_codes-loop-arm-preserved
 arm_codes-loop-arm-preserved t c = λ other.

@@ -20,6 +20,6 @@ returns c =
     let owned = c.in_ok-rows.ensures.owners ∙ (λ i. record { layouts = copy_layouts b (subs (c.deref.ensures.value i)); nodes = b.owners.now.nodes }) in
     let is = subst (λ (ds : List (List Dim)). IsStatement w b.slots.now (evaluation_tuples ds p) (copy_spot c.args.copy)) c.deref-2.ensures.value c.in_ok-statement.ensures in
     subst (λ (lines : List ℕ). OnOk c.add_part.result (c.add_part.new.text.items ≡ c.args.text.now.items ++ lines))
-    (rows-lines c.in_ok-rows.rows (setting_before b) layouts b.names.now refl c.in_ok-rows.ensures.names owned Left w c.args.p.now.line _
+    (rows-lines c.in_ok-rows.rows (setting_before b) layouts b.names.now refl c.in_ok-rows.ensures.names owned c.in_ok-rows.ensures.copies c.in_ok-rows.ensures.copied Left w c.args.p.now.line _
     (par-is b.owners.now.nodes layouts w b.slots.now (evaluation_tuples shapes p) (copy_spot c.args.copy) is))
     c.add_part.ensures

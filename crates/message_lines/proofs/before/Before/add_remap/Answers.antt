@@ -41,6 +41,6 @@ returns c =
     let after : c.in_ok-after.after.layouts ≡ remapped (remappings (mappings_of b.program.now.tables.items) new) rows.owners.layouts =
     c.in_ok-after.ensures.layouts ∙ (λ i. remapped (remappings (mappings_of (c.deref.ensures.value i)) new) rows.owners.layouts) in
     subst (λ (lines : List ℕ). OnOk c.add_redistribution.result (c.add_redistribution.new.text.items ≡ c.args.text.now.items ++ lines))
-    (rows-redistribution rows (setting_before b) (names_layouts b) b.names.now refl c.in_ok-rows.ensures.names c.in_ok-rows.ensures.owners c.args.line
+    (rows-redistribution rows (setting_before b) (names_layouts b) b.names.now refl c.in_ok-rows.ensures.names c.in_ok-rows.ensures.owners c.in_ok-rows.ensures.copies c.in_ok-rows.ensures.copied c.args.line
     (remappings (mappings_of b.program.now.tables.items) new) c.in_ok-after.after.layouts after)
     c.add_redistribution.ensures

@@ -1,4 +1,4 @@
-use Rattle.std.proofs.Common.{◌≡◌, ℕ, List, All, subst, rules}
+use Rattle.std.proofs.Common.{◌≡◌, List, All, subst, rules}
 use Rattle.std.specs.Arc.{arc_value}
 use Rattle.machine_steps.specs.Layout.{Layout}
 use Rattle.node_code.specs.ProgramText.{Text}

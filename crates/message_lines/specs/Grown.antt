@@ -1,0 +1,12 @@
+-- No public clause cites this file. Copies after rows, up to rows that are named.
+use Rattle.std.specs.Prelude.{ℕ, ◌+◌, ◌-◌, List, [], ◌∷◌, ◌++◌, length, replicate}
+use Rattle.machine_steps.specs.Layout.{Layout}
+
+-- a row is there
+abbrev pub up_to : Layout → List Layout → ℕ → List Layout
+up_to copy layouts row = layouts ++ replicate (row + 1 - length layouts) copy
+
+-- and each of these rows
+abbrev pub grown : Layout → List Layout → List ℕ → List Layout
+grown copy layouts [] = layouts
+grown copy layouts (row ∷ rows) = grown copy (up_to copy layouts row) rows

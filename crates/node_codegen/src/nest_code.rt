@@ -1,0 +1,262 @@
+//! The code of a nest of INDEPENDENT loops in the place of its loops (HPF 2.0, 5.1).
+
+ghost use Rattle.std.specs.Prelude.{◌≡◌, ◌+◌, ◌*◌, [], ◌∷◌, ℕ, List, map, pos, unwrap_or, IfOk};
+ghost use Rattle.array_meaning.specs.Statements.{Loop as LoopMeaning, Nest as NestMeaning};
+ghost use Rattle.lowered_nests.specs.NestCode.{indices_code, nest_code, nest_rows, nest_slots, plain, trips_code};
+ghost use Rattle.lowering.specs.StatementCode.{marked_code, marked_copies, marked_slots};
+ghost use Rattle.nest_texts.specs.NestInstructions.{nest_instructions};
+ghost use Rattle.node_code.specs.Flat.{AndFlat, Int, NoFlat, Operated, Slot};
+ghost use Rattle.node_code.specs.Instructions.{Instruction as Code, Trips};
+ghost use Rattle.node_code.specs.Texts.{flat, instruction, instructions};
+ghost use Rattle.op_tables.specs.declared.op.Op.TheVariants as operator;
+ghost use Rattle.resolved_program.specs.Resolved.{block_of, loop_of, mark};
+ghost use Rattle.node_codegen.specs.NestCodes.{or_loops};
+ghost use Rattle.node_codegen.specs.NestFinals.{finals_by};
+ghost use Rattle.node_codegen.specs.NestNames.{AreNamesOf, nest_of, over_by, test_by, text_by, with_index};
+
+use crate::loops::{of_two, set};
+use crate::nest_body::body_code;
+use crate::nest_counts::{block_conditions, inner_slots};
+use crate::nest_finals::{finals, finals_instructions, makes};
+use crate::nest_loops::{bounds_code, innermost, loops_slots};
+use crate::nest_names::{NestNames, loop_indices, nest_names};
+use crate::nest_scalars::scalars;
+use crate::sequences::{place_after, with_more};
+use expression_code::{joined, plus};
+use hpf_base::OutOfMemory;
+use node_code::{Flat, Instruction};
+use op_tables::Op;
+use resolved_program::{Loop, Nest, Statement};
+use std::alloc::Global;
+
+// ---- marks of loops
+
+/// The slots that a nest with statements takes from those of the bounds of its outermost loop on.
+pub(crate) fn marked_slots(
+    nest: &Option<Nest>,
+    body: &Vec<Statement>,
+) -> Result<Option<usize>, OutOfMemory>
+    ensures { IfOk result (λ r. (l : LoopMeaning) (loops : ℕ) → unwrap_or r loops ≡ marked_slots (mark nest.now l (block_of body.now.items)) loops) }
+{
+    match nest {
+        None => Ok(None),
+        Some(nest) => {
+            let inside = innermost(nest.inner_loops, body);
+            if inside.len() == 0 {
+                return Ok(None);
+            }
+            Ok(Some(nest_slots(nest, body, inside)?))
+        }
+    }
+}
+
+/// The rows that one takes after so many declared names.
+pub(crate) fn marked_copies(
+    alloc: Global,
+    names: usize,
+    nest: &Option<Nest>,
+    body: &Vec<Statement>,
+) -> Result<Option<usize>, OutOfMemory>
+    ensures { IfOk result (λ r. (l : LoopMeaning) (loops : ℕ) → unwrap_or r loops ≡ marked_copies names (mark nest.now l (block_of body.now.items)) loops) }
+{
+    match nest {
+        None => Ok(None),
+        Some(nest) => {
+            let inside = innermost(nest.inner_loops, body);
+            if inside.len() == 0 {
+                return Ok(None);
+            }
+            Ok(Some(nest_rows(alloc, names, inside)?))
+        }
+    }
+}
+
+/// The code of one at a place, whose outermost loop has its bounds in slots from `v` on.
+pub(crate) fn marked_code(
+    alloc: Global,
+    names: usize,
+    line: u32,
+    nest: &Option<Nest>,
+    l: &Loop,
+    body: &Vec<Statement>,
+    v: usize,
+    pc: usize,
+) -> Result<Option<Vec<Instruction>>, OutOfMemory>
+    ensures { IfOk result (λ r. (loops : List Code) → or_loops r loops ≡ marked_code names line (mark nest.now (loop_of l.now) (block_of body.now.items)) v pc loops) }
+{
+    match nest {
+        None => Ok(None),
+        Some(nest) => {
+            let inside = innermost(nest.inner_loops, body);
+            if inside.len() == 0 {
+                return Ok(None);
+            }
+            let w = nest_names(alloc, names, line, nest, l, body, inside, v)?;
+            Ok(Some(nest_code(alloc, &w, nest, l, body, inside, v, pc)?))
+        }
+    }
+}
+
+// ---- nests
+
+/// The slots of a nest with this innermost block.
+fn nest_slots(
+    nest: &Nest,
+    body: &Vec<Statement>,
+    inside: &Vec<Statement>,
+) -> Result<usize, OutOfMemory>
+    ensures { IfOk result (λ n. (l : LoopMeaning) → n ≡ nest_slots (nest_of nest.now l (block_of body.now.items)) (block_of inside.now.items)) }
+{
+    let outermost = plus(inner_slots(inside)?, 4)?;
+    plus(loops_slots(nest.inner_loops, body)?, outermost)
+}
+
+/// The rows of a nest with this innermost block.
+fn nest_rows(alloc: Global, names: usize, inside: &Vec<Statement>) -> Result<usize, OutOfMemory>
+    ensures { IfOk result (λ n. (nest : NestMeaning) → n ≡ nest_rows names nest (block_of inside.now.items)) }
+{
+    let copies = scalars(alloc, names, inside)?.len();
+    let conditions = plus(copies, block_conditions(inside)?)?;
+    plus(conditions, copies)
+}
+
+/// The code of a nest with these names, whose bounds stand in slots from `v` on.
+fn nest_code(
+    alloc: Global,
+    w: &NestNames,
+    nest: &Nest,
+    l: &Loop,
+    body: &Vec<Statement>,
+    inside: &Vec<Statement>,
+    v: usize,
+    pc: usize,
+) -> Result<Vec<Instruction>, OutOfMemory>
+    ensures { IfOk result (λ c. (n line : ℕ) → AreNamesOf n line (nest_of nest.now (loop_of l.now) (block_of body.now.items)) (block_of inside.now.items) v w.now
+        → instructions c.items ≡ nest_code n line (nest_of nest.now (loop_of l.now) (block_of body.now.items)) (block_of inside.now.items) v pc) }
+{
+    let second = plus(v, 4)?;
+    let mut code = bounds_code(alloc, w.line, second, nest.inner_loops, body)?;
+    let indices = loop_indices(alloc, nest.inner_loops, l, body)?;
+    let count = indices.len();
+    let from = plus(place_after(pc, &code)?, count)?;
+    let free = plus(second, loops_slots(nest.inner_loops, body)?)?;
+    let statements = statements_code(alloc, w, inside, free, from)?;
+    let after = place_after(from, &statements)?;
+    let trips = trips_code(alloc, w.line, v, after, &indices)?;
+    joined(&mut code, trips)?;
+    joined(&mut code, statements)?;
+    let end = plus(after, three_times(count)?)?;
+    let last = indices_code(alloc, w.line, v, end, &indices)?;
+    joined(&mut code, last)?;
+    Ok(code)
+}
+
+/// Three times a number.
+fn three_times(n: usize) -> Result<usize, OutOfMemory>
+    ensures { IfOk result (λ m. m ≡ 3 * n) }
+{
+    plus(n, plus(n, n)?)
+}
+
+/// The statements of the innermost block over the copies of a nest, at a place and with slots from `b` on.
+fn statements_code(
+    alloc: Global,
+    w: &NestNames,
+    inside: &Vec<Statement>,
+    b: usize,
+    pc: usize,
+) -> Result<Vec<Instruction>, OutOfMemory>
+    ensures { IfOk result (λ c. instructions c.items
+        ≡ nest_instructions w.now.line (over_by w.now) (text_by w.now) (test_by w.now) w.now.stored (finals_by w.now (block_of inside.now.items) 0 w.now.scalars.items) (plain (block_of inside.now.items)) b pc) }
+{
+    let finals = finals(alloc, w, inside)?;
+    let mut code = makes(alloc, w, &finals, block_conditions(inside)?)?;
+    let at = place_after(pc, &code)?;
+    joined(&mut code, body_code(alloc, w, inside, None, 0, b, at)?)?;
+    code.push(Instruction::Verdict)?;
+    with_more(code, finals_instructions(alloc, w.line, &finals)?)
+}
+
+/// The run goes on at a target where a loop makes no trip. Each loop has four slots, those of the first one from `v` on.
+fn trips_code(
+    alloc: Global,
+    line: u32,
+    v: usize,
+    target: usize,
+    indices: &[usize],
+) -> Result<Vec<Instruction>, OutOfMemory>
+    ensures { IfOk result (λ c. instructions c.items ≡ trips_code line v target (map with_index indices.now)) }
+{
+    let mut code = Vec::new(alloc);
+    let mut at = v;
+    for _index in indices {
+        code.push(trips(line, at, target)?)?;
+        at = plus(at, 4)?;
+    }
+    Ok(code)
+}
+
+/// How many trips a loop makes, by its four slots.
+fn trips(line: u32, v: usize, target: usize) -> Result<Instruction, OutOfMemory>
+    ensures { IfOk result (λ i. instruction i ≡ Trips line v (v + 1) (v + 2) (v + 3) target) }
+{
+    let last = plus(v, 1)?;
+    let step = plus(v, 2)?;
+    let left = plus(v, 3)?;
+    Ok(Instruction::Trips {
+        line,
+        first: v,
+        last,
+        step,
+        left,
+        target,
+    })
+}
+
+/// Each index has its value after the loop, and the run goes on at a target where a loop makes no trip.
+fn indices_code(
+    alloc: Global,
+    line: u32,
+    v: usize,
+    target: usize,
+    indices: &[usize],
+) -> Result<Vec<Instruction>, OutOfMemory>
+    ensures { IfOk result (λ c. instructions c.items ≡ indices_code line v target (map with_index indices.now)) }
+{
+    let mut code = Vec::new(alloc);
+    let mut at = v;
+    for k in indices {
+        let one = index_code(alloc, line, at, target, *k)?;
+        at = plus(at, 4)?;
+        joined(&mut code, one)?;
+    }
+    Ok(code)
+}
+
+/// That of one.
+fn index_code(
+    alloc: Global,
+    line: u32,
+    v: usize,
+    target: usize,
+    k: usize,
+) -> Result<Vec<Instruction>, OutOfMemory>
+    ensures { IfOk result (λ c. instructions c.items ≡ indices_code line v target (with_index k ∷ [])) }
+{
+    let first = set(line, k, Flat::Slot(v));
+    let count = trips(line, v, target)?;
+    let last = set(line, k, value_after(alloc, v)?);
+    Ok(vec![in alloc; first, count, last]?)
+}
+
+/// The value of an index after a loop that makes a trip, by the slots of the loop.
+fn value_after(alloc: Global, v: usize) -> Result<Flat, OutOfMemory>
+    ensures { IfOk result (λ f. flat f ≡ Operated operator.Add (AndFlat (Slot v)
+        (AndFlat (Operated operator.Mul (AndFlat (Operated operator.Add (AndFlat (Slot (v + 3)) (AndFlat (Int (pos 1)) NoFlat))) (AndFlat (Slot (v + 2)) NoFlat))) NoFlat))) }
+{
+    let left = plus(v, 3)?;
+    let step = plus(v, 2)?;
+    let trips = of_two(alloc, Op::Add, Flat::Slot(left), Flat::Int(1))?;
+    let way = of_two(alloc, Op::Mul, trips, Flat::Slot(step))?;
+    of_two(alloc, Op::Add, Flat::Slot(v), way)
+}

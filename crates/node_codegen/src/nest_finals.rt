@@ -1,0 +1,165 @@
+//! The copies of a nest before its statements and after them.
+
+ghost use Rattle.std.specs.Prelude.{◌≡◌, ◌++◌, ℕ, map, IfOk};
+ghost use Rattle.nest_texts.specs.NestInstructions.{conditions_makes, final_instruction, final_makes, finals_instructions, finals_makes};
+ghost use Rattle.node_code.specs.Texts.{instruction, instructions};
+ghost use Rattle.resolved_program.specs.Resolved.{block_of};
+ghost use Rattle.node_codegen.specs.NestFinals.{final, final_of, finals_by};
+ghost use Rattle.node_codegen.specs.NestNames.{over_by};
+
+use crate::nest_names::NestNames;
+use crate::nest_scalars::{is_in, operator_in};
+use crate::nest_statements::making;
+use crate::sequences::only;
+use expression_code::{joined, plus};
+use hpf_base::OutOfMemory;
+use node_code::{Flat, Instruction};
+use op_tables::Join;
+use resolved_program::Statement;
+use std::alloc::Global;
+
+/// How a scalar that a nest assigns gets its value after it.
+#[derive(Clone, Copy, Debug, PartialEq, Eq)]
+pub(crate) enum Final {
+    /// Its copies in a row are folded into its slot.
+    Folds {
+        join: Join,
+        row: usize,
+        slot: usize,
+    },
+    /// Its slot gets the copy of the last iteration that is marked.
+    Lasts {
+        row: usize,
+        mark: usize,
+        slot: usize,
+    },
+}
+
+/// Those of all scalars that the innermost block of a nest assigns, in their order.
+pub(crate) fn finals(
+    alloc: Global,
+    w: &NestNames,
+    body: &Vec<Statement>,
+) -> Result<Vec<Final>, OutOfMemory>
+    ensures { IfOk result (λ v. map final v.items ≡ finals_by w.now (block_of body.now.items) 0 w.now.scalars.items) }
+{
+    let mut made = Vec::new(alloc);
+    for j in 0..w.scalars.len() {
+        made.push(final_of(w, body, j, w.scalars[j])?)?;
+    }
+    Ok(made)
+}
+
+/// That of a scalar with a place among those.
+fn final_of(w: &NestNames, body: &Vec<Statement>, j: usize, k: usize) -> Result<Final, OutOfMemory>
+    ensures { IfOk result (λ f. final f ≡ final_of w.now (block_of body.now.items) j k) }
+{
+    let row = plus(w.names, j)?;
+    if is_in(k, &w.reduction) {
+        return Ok(Final::Folds {
+            join: operator_in(body, k),
+            row,
+            slot: k,
+        });
+    }
+    Ok(Final::Lasts {
+        row,
+        mark: plus(w.marks, j)?,
+        slot: k,
+    })
+}
+
+/// The copies at the entry: those of scalars, and those of so many stored conditions.
+pub(crate) fn makes(
+    alloc: Global,
+    w: &NestNames,
+    finals: &[Final],
+    conditions: usize,
+) -> Result<Vec<Instruction>, OutOfMemory>
+    ensures { IfOk result (λ v. instructions v.items ≡ finals_makes w.now.line (over_by w.now) (map final finals.now) ++ conditions_makes w.now.line (over_by w.now) w.now.stored conditions) }
+{
+    let mut code = finals_makes(alloc, w, finals)?;
+    joined(&mut code, conditions_makes(alloc, w, conditions)?)?;
+    Ok(code)
+}
+
+/// Those of scalars.
+fn finals_makes(
+    alloc: Global,
+    w: &NestNames,
+    finals: &[Final],
+) -> Result<Vec<Instruction>, OutOfMemory>
+    ensures { IfOk result (λ v. instructions v.items ≡ finals_makes w.now.line (over_by w.now) (map final finals.now)) }
+{
+    let mut code = Vec::new(alloc);
+    for f in finals {
+        joined(&mut code, final_makes(alloc, w, f)?)?;
+    }
+    Ok(code)
+}
+
+/// A REDUCTION variable's copies begin with the unit, any other's with its value, and no mark is set.
+fn final_makes(alloc: Global, w: &NestNames, f: &Final) -> Result<Vec<Instruction>, OutOfMemory>
+    ensures { IfOk result (λ v. instructions v.items ≡ final_makes w.now.line (over_by w.now) (final f.now)) }
+{
+    match f {
+        Final::Folds { join, row, .. } => {
+            let one = making(alloc, w, *row, Flat::Int(join.unit()))?;
+            only(alloc, one)
+        }
+        Final::Lasts { row, mark, slot } => {
+            let copies = making(alloc, w, *row, Flat::Slot(*slot))?;
+            let marks = making(alloc, w, *mark, Flat::Int(0))?;
+            Ok(vec![in alloc; copies, marks]?)
+        }
+    }
+}
+
+/// Those of stored conditions: none holds.
+fn conditions_makes(
+    alloc: Global,
+    w: &NestNames,
+    conditions: usize,
+) -> Result<Vec<Instruction>, OutOfMemory>
+    ensures { IfOk result (λ v. instructions v.items ≡ conditions_makes w.now.line (over_by w.now) w.now.stored conditions) }
+{
+    let mut code = Vec::new(alloc);
+    for k in 0..conditions {
+        let copy = plus(w.stored, k)?;
+        code.push(making(alloc, w, copy, Flat::Int(0))?)?;
+    }
+    Ok(code)
+}
+
+/// The values of scalars after a nest.
+pub(crate) fn finals_instructions(
+    alloc: Global,
+    line: u32,
+    finals: &[Final],
+) -> Result<Vec<Instruction>, OutOfMemory>
+    ensures { IfOk result (λ v. instructions v.items ≡ finals_instructions line (map final finals.now)) }
+{
+    let mut code = Vec::new(alloc);
+    for f in finals {
+        code.push(final_instruction(f))?;
+    }
+    Ok(code)
+}
+
+/// That of a scalar.
+fn final_instruction(f: &Final) -> Instruction
+    ensures { (line : ℕ) → instruction result ≡ final_instruction line (final f.now) }
+{
+    match f {
+        Final::Folds { join, row, slot } => Instruction::FoldCopy {
+            copy: *row,
+            join: *join,
+            slot: *slot,
+        },
+        Final::Lasts { row, mark, slot } => Instruction::LastCopy {
+            copy: *row,
+            set: *mark,
+            slot: *slot,
+        },
+    }
+}

@@ -1,0 +1,239 @@
+//! The parallel statements of a nest of INDEPENDENT loops.
+
+ghost use Rattle.std.specs.Prelude.{◌≡◌, ◌+◌, [], false, map, IfOk, pos};
+ghost use Rattle.nest_items.specs.NestItems.{ToElement, ToScalar};
+ghost use Rattle.nest_machine.specs.Asked.{guard_asked, tested_asked};
+ghost use Rattle.nest_texts.specs.NestInstructions.{setting_else, setting_mark, testing, whens_of};
+ghost use Rattle.node_code.specs.declared.nest.NestRole.TheVariants.{Assigns};
+ghost use Rattle.node_code.specs.Flat.{Int};
+ghost use Rattle.node_code.specs.Forms.{FlatForm};
+ghost use Rattle.node_code.specs.Instructions as code;
+ghost use Rattle.node_code.specs.NestStatements.{CopyLeft};
+ghost use Rattle.node_code.specs.Texts.{flat, form, instruction, instructions, nest_left, when};
+ghost use Rattle.resolved_program.specs.Resolved.{term, terms_of};
+ghost use Rattle.node_codegen.specs.NestNames.{over_by, test_by, texts_by};
+
+use crate::nest_names::NestNames;
+use crate::nest_terms::{NestTerm, nest_subs, nest_term};
+use crate::sequences::only;
+use expression_code::plus;
+use hpf_base::OutOfMemory;
+use node_code::{ArrayForm, Flat, Instruction, NestLeft, NestRole, NestStatement, When};
+use resolved_program::Term;
+use std::alloc::Global;
+
+// ---- stored conditions
+
+/// The guard of an arm's body: its condition holds. The conditions lie in rows from `stored` on.
+fn guard_whens(alloc: Global, stored: usize, guard: Option<usize>) -> Result<Vec<When>, OutOfMemory>
+    ensures { IfOk result (λ ws. map when ws.items ≡ whens_of stored (guard_asked guard)) }
+{
+    let mut whens = Vec::new(alloc);
+    if let Some(k) = guard {
+        whens.push(When {
+            copy: plus(stored, k)?,
+            value: true,
+        })?;
+    }
+    Ok(whens)
+}
+
+/// Where the condition of an arm is evaluated: the guard of the IF holds, and no condition of an earlier arm.
+fn tested_whens(
+    alloc: Global,
+    stored: usize,
+    guard: Option<usize>,
+    earlier: &[usize],
+) -> Result<Vec<When>, OutOfMemory>
+    ensures { IfOk result (λ ws. map when ws.items ≡ whens_of stored (tested_asked guard earlier.now)) }
+{
+    let mut whens = guard_whens(alloc, stored, guard)?;
+    for k in earlier {
+        whens.push(unmet(stored, *k)?)?;
+    }
+    Ok(whens)
+}
+
+/// A condition that doesn't hold.
+fn unmet(stored: usize, k: usize) -> Result<When, OutOfMemory>
+    ensures { IfOk result (λ w. when w ≡ record { copy = stored + k; value = false }) }
+{
+    Ok(When {
+        copy: plus(stored, k)?,
+        value: false,
+    })
+}
+
+// ---- statements
+
+/// An assignment, and then the mark of its scalar.
+pub(crate) fn scalar_text(
+    alloc: Global,
+    w: &NestNames,
+    line: u32,
+    guard: Option<usize>,
+    k: usize,
+    right: &Term,
+) -> Result<Vec<Instruction>, OutOfMemory>
+    ensures { IfOk result (λ v. instructions v.items ≡ texts_by w.now guard (record { line = line; text = ToScalar k (term right.now) })) }
+{
+    let value = nest_term(alloc, w, right)?;
+    let left = NestLeft::Copy(w.place(k)?);
+    let mut code = Vec::new(alloc);
+    code.push(assigning(alloc, w, line, guard, left, value)?)?;
+    if let Some(row) = w.mark(k)? {
+        code.push(setting_mark(alloc, w, guard, row)?)?;
+    }
+    Ok(code)
+}
+
+/// An assignment of an element.
+pub(crate) fn element_text(
+    alloc: Global,
+    w: &NestNames,
+    line: u32,
+    guard: Option<usize>,
+    a: usize,
+    subscripts: &[Term],
+    right: &Term,
+) -> Result<Vec<Instruction>, OutOfMemory>
+    ensures { IfOk result (λ v. instructions v.items ≡ texts_by w.now guard (record { line = line; text = ToElement a (terms_of subscripts.now) (term right.now) })) }
+{
+    let value = nest_term(alloc, w, right)?;
+    let left = NestLeft::Element(a, nest_subs(alloc, &value.axes, subscripts)?);
+    let one = assigning(alloc, w, line, guard, left, value)?;
+    only(alloc, one)
+}
+
+/// An assignment to what is on the left.
+fn assigning(
+    alloc: Global,
+    w: &NestNames,
+    line: u32,
+    guard: Option<usize>,
+    left: NestLeft,
+    value: NestTerm,
+) -> Result<Instruction, OutOfMemory>
+    ensures { IfOk result (λ i. instruction i ≡ code.ParNest (record {
+      line = line;
+      over = over_by w.now;
+      whens = whens_of w.now.stored (guard_asked guard);
+      copies = value.copies.items;
+      names = value.names.items;
+      left = nest_left left;
+      right = form value.form;
+      role = Assigns;
+    })) }
+{
+    let over = w.over(alloc)?;
+    let whens = guard_whens(alloc, w.stored, guard)?;
+    Ok(Instruction::ParNest(NestStatement {
+        line,
+        over,
+        whens,
+        copies: value.copies,
+        names: value.names,
+        left,
+        right: value.form,
+        role: NestRole::Assigns,
+    }))
+}
+
+/// The mark of an iteration that assigns a scalar.
+fn setting_mark(
+    alloc: Global,
+    w: &NestNames,
+    guard: Option<usize>,
+    row: usize,
+) -> Result<Instruction, OutOfMemory>
+    ensures { IfOk result (λ i. instruction i ≡ code.ParNest (setting_mark (over_by w.now) (whens_of w.now.stored (guard_asked guard)) row)) }
+{
+    let whens = guard_whens(alloc, w.stored, guard)?;
+    setting(alloc, w, whens, row, NestRole::SetsMark)
+}
+
+/// The condition of an arm, into a row of copies.
+pub(crate) fn testing(
+    alloc: Global,
+    w: &NestNames,
+    line: u32,
+    guard: Option<usize>,
+    earlier: &[usize],
+    condition: &Term,
+    copy: usize,
+) -> Result<Instruction, OutOfMemory>
+    ensures { IfOk result (λ i. instruction i ≡ code.ParNest (testing (over_by w.now) (whens_of w.now.stored (tested_asked guard earlier.now)) (test_by w.now (record { line = line; text = term condition.now })) copy)) }
+{
+    let value = nest_term(alloc, w, condition)?;
+    let over = w.over(alloc)?;
+    let whens = tested_whens(alloc, w.stored, guard, earlier)?;
+    Ok(Instruction::ParNest(NestStatement {
+        line,
+        over,
+        whens,
+        copies: value.copies,
+        names: value.names,
+        left: NestLeft::Copy(copy),
+        right: value.form,
+        role: NestRole::Tests,
+    }))
+}
+
+/// That of ELSE, which holds where no earlier one does.
+pub(crate) fn setting_else(
+    alloc: Global,
+    w: &NestNames,
+    guard: Option<usize>,
+    earlier: &[usize],
+    copy: usize,
+) -> Result<Instruction, OutOfMemory>
+    ensures { IfOk result (λ i. instruction i ≡ code.ParNest (setting_else (over_by w.now) (whens_of w.now.stored (tested_asked guard earlier.now)) copy)) }
+{
+    let whens = tested_whens(alloc, w.stored, guard, earlier)?;
+    setting(alloc, w, whens, copy, NestRole::SetsElse)
+}
+
+/// What sets a row of copies, and can't fault.
+fn setting(
+    alloc: Global,
+    w: &NestNames,
+    whens: Vec<When>,
+    row: usize,
+    role: NestRole,
+) -> Result<Instruction, OutOfMemory>
+    ensures { IfOk result (λ i. instruction i ≡ code.ParNest (record {
+      line = 0;
+      over = over_by w.now;
+      whens = map when whens.items;
+      copies = [];
+      names = [];
+      left = CopyLeft row;
+      right = FlatForm (Int (pos 1));
+      role = role;
+    })) }
+{
+    let over = w.over(alloc)?;
+    Ok(Instruction::ParNest(NestStatement {
+        line: 0,
+        over,
+        whens,
+        copies: Vec::new(alloc),
+        names: Vec::new(alloc),
+        left: NestLeft::Copy(row),
+        right: ArrayForm::Flat(Flat::Int(1)),
+        role,
+    }))
+}
+
+/// Copies in a row, all with a value.
+pub(crate) fn making(
+    alloc: Global,
+    w: &NestNames,
+    copy: usize,
+    start: Flat,
+) -> Result<Instruction, OutOfMemory>
+    ensures { IfOk result (λ i. instruction i ≡ code.MakeCopies copy (over_by w.now) (flat start)) }
+{
+    let over = w.over(alloc)?;
+    Ok(Instruction::MakeCopies { copy, over, start })
+}

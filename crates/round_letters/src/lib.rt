@@ -1,0 +1,12 @@
+//! What a node sends and takes in a round of a redistribution.
+//!
+//! Comes in: the rounds of a redistribution, as definitions (`machine_steps`), and the law that the rounds of a rotation are legal
+//! (`redistribute_rounds`). Goes out: one law, the contract of a function that does nothing.
+//!
+//! What holds in between: the pairs with a message are distinct and each goes from a node to another (`comm_sets`), so in a round their
+//! sources differ, and so do their targets.
+#![tactic(auto)]
+
+mod rounds;
+
+pub use rounds::one_letter_a_round;
