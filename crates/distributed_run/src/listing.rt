@@ -25,8 +25,8 @@ pub struct MessageList {
     pub end: End,
 }
 
-/// Lists the messages that the nodes of the grid, on which a program is accepted, send for its array statements, reductions, nests and for its
-/// REDISTRIBUTEs (HPF 2.0, 8.3). At the first fault the list ends with what was sent before it. An `Err` is want of memory.
+/// Lists the messages that the nodes of the grid, on which a program is accepted, send for its array statements and reductions, for its nests of
+/// INDEPENDENT loops (HPF 2.0, 5.1) and for its REDISTRIBUTEs (HPF 2.0, 8.3). At the first fault the list ends with what was sent before it. An `Err` is want of memory.
 pub fn list_messages(
     alloc: Global,
     accepted: &AcceptedProgram<'_>,

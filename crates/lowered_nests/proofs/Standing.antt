@@ -16,6 +16,7 @@ use Rattle.array_meaning.specs.Statements.{Loop}
 use Rattle.node_code.specs.Flat.{slot, flat_value, or_zero}
 use Rattle.node_code.specs.Forms.{Sub, SubAt, SubAlong, sequence_in, selections_in}
 use Rattle.node_code.specs.Parallel.{indices_in}
+use Rattle.lowered_expressions.proofs.Indexed.{axes-extents}
 use Rattle.nest_order.specs.Copies.{Kind, Shared, New, Assigned, Reduced}
 use Rattle.nest_machine.specs.Finals.{Final}
 use Rattle.nest_machine.specs.Entries.{Entry, at_zero, final_entries, finals_entries, conditions_entries, nest_entries}
@@ -53,10 +54,6 @@ same-along (l ∷ ls) v xs ys h =
     let inner = same-along ls (v + 4) xs ys (λ x le lt. h x (omega (arith, le)) (omega (arith, lt))) in
     let own = same-sequence xs ys v (λ x le lt. h x le (omega (arith, lt))) in
     selections-both xs (along (v + 4) ls) (SubAlong v ∷ []) ∙ (λ i. inner i ++ own i ∷ []) ∙ sym (selections-both ys (along (v + 4) ls) (SubAlong v ∷ []))
-
-pub axes-extents : (axes : List Sequence) → extents (map Along axes) ≡ index_extents axes
-axes-extents [] = refl
-axes-extents (p ∷ axes) = ap (λ ns. p.count ∷ ns) (axes-extents axes)
 
 module _ (over : List Sub) (axes : List Sequence) (slots : List ℤ) (gives : selections_in slots over ≡ map Along axes) where
   pub these-extents : extents (selections_in slots over) ≡ index_extents axes

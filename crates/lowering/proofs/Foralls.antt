@@ -47,7 +47,7 @@ use Rattle.lowered_expressions.proofs.Terms.{HoldsArrays}
 use Rattle.lowered_expressions.proofs.Scatter.{Does, values_of, value-of-reads, counted-if}
 use Rattle.lowering.proofs.Storing.{masked-does, stores-go}
 use Rattle.lowering.proofs.Copies.{copy-goes}
-use Rattle.lowered_expressions.proofs.Indexed.{all-listed, all-in-forall, subs-are, indexed-value, indexed-names, limits-are, one-to-one-are}
+use Rattle.lowered_expressions.proofs.Indexed.{axes-extents, all-listed, all-in-forall, subs-are, indexed-value, indexed-names, limits-are, one-to-one-are}
 
 -- ---- the header
 
@@ -64,10 +64,6 @@ header-is s (c ∷ cs) = ap (with_more (index_values s c >>= (λ p. Ok (Along p)
 header-scalar : (n : ℕ) (cs : List Control) → AreControls n cs → AreScalarSubscripts n (triplets cs)
 header-scalar n [] ok = tt
 header-scalar n (c ∷ cs) ok = (ok.0, header-scalar n cs ok.1)
-
-header-extents : (axes : List Sequence) → extents (map Along axes) ≡ index_extents axes
-header-extents [] = refl
-header-extents (p ∷ axes) = ap (λ ns. p.count ∷ ns) (header-extents axes)
 
 header-sequences : (axes : List Sequence) → sequences_of (map Along axes) ≡ axes
 header-sequences [] = refl
@@ -235,10 +231,10 @@ module _ (table : ArrayTable) (row_count : ℕ) (moves : ℕ → List NewMapping
     gives-kept copy slots slots1 gives kept = sym (header-kept n b b1 controls slots slots1 le (omega (arith, room)) kept) ∙ gives
 
     extents-are : (slots : List ℤ) → Gives slots → extents (selections_in slots over) ≡ ns
-    extents-are slots gives = ap extents gives ∙ header-extents axes
+    extents-are slots gives = ap extents gives ∙ axes-extents axes
 
     indices-are : (slots : List ℤ) → Gives slots → (t : ℕ) → indices_in over slots t ≡ indices_at axes t
-    indices-are slots gives t = ap (λ ds. subscripts_at ds (positions (extents ds) t)) gives ∙ ap (λ ms. subscripts_at (map Along axes) (positions ms t)) (header-extents axes)
+    indices-are slots gives t = ap (λ ds. subscripts_at ds (positions (extents ds) t)) gives ∙ ap (λ ms. subscripts_at (map Along axes) (positions ms t)) (axes-extents axes)
 
     -- ---- limits
 
@@ -508,7 +504,7 @@ module _ (table : ArrayTable) (row_count : ℕ) (moves : ℕ → List NewMapping
           limits : forall_limits over' (map index_flat (all_subscripts mask body)) slots1 ≡ (if test then Ok 0 else fails SpaceLimit)
           limits =
               ap (λ ds. unless_empty (extents ds) (is_forall_in_limits (slots_state slots1) (sequences_of ds) flats) SpaceLimit) gives
-              ∙ ap (λ ms. unless_empty ms (is_forall_in_limits (slots_state slots1) (sequences_of (map Along axes)) flats) SpaceLimit) (header-extents axes)
+              ∙ ap (λ ms. unless_empty ms (is_forall_in_limits (slots_state slots1) (sequences_of (map Along axes)) flats) SpaceLimit) (axes-extents axes)
               ∙ ap (λ ps. unless_empty (index_extents axes) (is_forall_in_limits (slots_state slots1) ps flats) SpaceLimit) (header-sequences axes)
               ∙ ap (λ b. unless_empty (index_extents axes) (nat_le (product (index_extents axes)) MAX_TUPLES && list_all is_index_in_limits axes && b) SpaceLimit)
               (limits-are n s slots1 holds1.scalars (all_subscripts mask body) (all-in-forall n mask body ok_mask ok_body))

@@ -219,8 +219,8 @@ abbrev mutual
   block_copies n Done = 1
   block_copies n (Then line s rest) = max (statement_copies n s) (block_copies n rest)
 
--- `copy` is the row of the first of the copies, which stand after the declared names. `moves` says of a line which arrays its REDISTRIBUTE moves, and to which mappings: a REDISTRIBUTE is known by
--- its line, since a directive line holds one directive
+-- `copy` is the row of the first of the copies, which stand after the declared names. `moves` says of a line which arrays its REDISTRIBUTE moves, and
+-- to which mappings: a REDISTRIBUTE is known by its line, since a directive line holds one directive
 module _ (copy : ℕ) (moves : ℕ → List NewMapping) where
   abbrev mutual
     -- the statement of a line at a place `pc`, with the places where EXIT and CYCLE go. A DO keeps its four slots from its body

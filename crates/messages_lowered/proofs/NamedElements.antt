@@ -2,7 +2,7 @@
 use Rattle.std.proofs.Common.{◌≡◌, ℕ, ◌<◌, List, [], ◌∷◌, ◌++◌, length, map, slice_index_or, ℤ, pos, refl, sym, ap, ◌∙◌}
 use Rattle.std.specs.Result.{result_unwrap_or}
 use Rattle.expression_rules.specs.declared.dims.Dim.{Dim}
-use Rattle.array_meaning.specs.Forall.{index_extents, indices_at}
+use Rattle.array_meaning.specs.Forall.{indices_at}
 use Rattle.array_meaning.specs.Sections.{extents, positions, subscripts_at}
 use Rattle.array_meaning.specs.State.{State}
 use Rattle.array_meaning.specs.Terms.{Term, Number, Scalar, Index, Element, Section, Apply, Reduce, Terms, NoTerm, More}
@@ -14,12 +14,8 @@ use Rattle.node_code.specs.Parallel as parallel
 use Rattle.node_code.specs.Parallel.{reads_at, spot_of, indices_in}
 use Rattle.lowered_expressions.specs.ExpressionCode.{index_subs, index_form, index_forms}
 use Rattle.lowered_expressions.specs.WellFormed.{AreSubscripts, IsIndexed, AreIndexed}
-use Rattle.lowered_expressions.proofs.Indexed.{subs-are}
+use Rattle.lowered_expressions.proofs.Indexed.{axes-extents, subs-are}
 use Rattle.message_text.specs.Parts.{subscripts_in, named_in, all_named_in}
-
-pub header-extents : (axes : List Sequence) → extents (map Along axes) ≡ index_extents axes
-header-extents [] = refl
-header-extents (p ∷ axes) = ap (λ ns. p.count ∷ ns) (header-extents axes)
 
 -- ---- FORALL, at an index tuple
 
@@ -49,4 +45,4 @@ module _ (shapes : List (List Dim)) (scalars slots : List ℤ) (holds : (k : ℕ
 
 pub indices-same : (over : List Sub) (slots : List ℤ) (axes : List Sequence) → selections_in slots over ≡ map Along axes → (u : ℕ) → indices_in over slots u ≡ indices_at axes u
 indices-same over slots axes h u =
-    ap (λ ds. subscripts_at ds (positions (extents ds) u)) h ∙ ap (λ ns. subscripts_at (map Along axes) (positions ns u)) (header-extents axes)
+    ap (λ ds. subscripts_at ds (positions (extents ds) u)) h ∙ ap (λ ns. subscripts_at (map Along axes) (positions ns u)) (axes-extents axes)

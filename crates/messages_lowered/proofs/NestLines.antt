@@ -30,7 +30,8 @@ use Rattle.message_text.specs.MessageText.{scalar_of, name_by, row_name, part_li
 use Rattle.message_text.specs.InstructionLines.{copy_rows, left_rows, rows_after}
 use Rattle.nest_join.proofs.Names.{eq-is, ne-is, in-from, in-both-some, in-both-none}
 use Rattle.lowered_nests.proofs.Listed.{in-some, once-in, these-in}
-use Rattle.messages_lowered.proofs.NamedElements.{header-extents, subscripts-same, named-same, indices-same}
+use Rattle.lowered_expressions.proofs.Indexed.{axes-extents}
+use Rattle.messages_lowered.proofs.NamedElements.{subscripts-same, named-same, indices-same}
 use Rattle.messages_lowered.proofs.MoreRows.{ReadsIn, reads-both, part-lines-same}
 
 -- ---- indices of the nest in expressions
@@ -228,7 +229,7 @@ module _ (s : Setting) (layouts : List Layout) (line : ℕ) (scalars slots : Lis
   -- ---- what is read and assigned
 
   sizes-same : extents (selections_in slots p.over) ≡ index_extents N.axes
-  sizes-same = ap extents over ∙ header-extents N.axes
+  sizes-same = ap extents over ∙ axes-extents N.axes
 
   whens-same : (ws : List Asked) (u : ℕ) → when_spots (whens_for n N ws) u ≡ conditions_read N scalars ws u
   whens-same [] u = refl

@@ -34,7 +34,8 @@ use Rattle.lowered_expressions.specs.NestEvents.{IsPart}
 use Rattle.message_text.specs.InstructionLines.{rows_after, copy_rows, nest_lines}
 use Rattle.messages_lowered.proofs.NestLines.{nest-lines-same}
 use Rattle.messages_lowered.proofs.TrailPlaces.{HavePlaces}
-use Rattle.messages_lowered.proofs.NamedElements.{header-extents, subscripts-same, named-same, indices-same}
+use Rattle.lowered_expressions.proofs.Indexed.{axes-extents}
+use Rattle.messages_lowered.proofs.NamedElements.{subscripts-same, named-same, indices-same}
 use Rattle.passed_states.specs.PassedLayouts.{layouts_after}
 
 masks-same : (scalars : List ℤ) (mask : Option When) → IsMaskCopy (length scalars) mask → (t : ℕ) → parallel.mask_reads mask t ≡ mask_reads scalars (is_some mask) t
@@ -82,7 +83,7 @@ module _ (nodes : ℕ) (names : List (List ℕ)) (shapes : List (List Dim)) (map
     }
       where
         sizes : extents (selections_in slots q.over) ≡ index_extents axes
-        sizes = ap extents over ∙ header-extents axes
+        sizes = ap extents over ∙ axes-extents axes
 
         at : ℕ → List ℤ
         at u = indices_in q.over slots u
@@ -111,7 +112,7 @@ module _ (nodes : ℕ) (names : List (List ℕ)) (shapes : List (List Dim)) (map
     }
       where
         sizes : extents (selections_in slots q.over) ≡ index_extents axes
-        sizes = ap extents over ∙ header-extents axes
+        sizes = ap extents over ∙ axes-extents axes
 
         at : ℕ → List ℤ
         at u = indices_in q.over slots u
@@ -153,7 +154,7 @@ module _ (nodes : ℕ) (names : List (List ℕ)) (shapes : List (List Dim)) (map
           refl,
         )
     lines-same (ParForall q) event h =
-        let sizes : extents (selections_in slots q.over) ≡ index_extents h.1.0 = ap extents h.1.4 ∙ header-extents h.1.0 in
+        let sizes : extents (selections_in slots q.over) ≡ index_extents h.1.0 = ap extents h.1.4 ∙ axes-extents h.1.0 in
         let ls = with_copy s layouts (index_extents h.1.0) in
         subst (λ ev. (instruction_lines maps s layouts (ParForall q) slots ≡ event_lines s layouts line scalars ev) × (layouts ≡ moved s line ev layouts)) (sym h.1.3) (
           ap (λ ns. part_lines s (with_copy s layouts ns) q.line (par_part (with_copy s layouts ns) (forall_tuples s.shapes q) (forall_spot s.shapes q) slots)) sizes
@@ -162,7 +163,7 @@ module _ (nodes : ℕ) (names : List (List ℕ)) (shapes : List (List Dim)) (map
           refl,
         )
     lines-same (ParForallCopy copy q) event h =
-        let sizes : extents (selections_in slots q.over) ≡ index_extents h.1.0 = ap extents h.1.3 ∙ header-extents h.1.0 in
+        let sizes : extents (selections_in slots q.over) ≡ index_extents h.1.0 = ap extents h.1.3 ∙ axes-extents h.1.0 in
         let ls = with_copy s layouts (index_extents h.1.0) in
         subst (λ ev. (instruction_lines maps s layouts (ParForallCopy copy q) slots ≡ event_lines s layouts line scalars ev) × (layouts ≡ moved s line ev layouts)) (sym h.1.2) (
           ap (λ ns. part_lines s (with_copy s layouts ns) q.line (par_part (with_copy s layouts ns) (forall_mask_tuples s.shapes q) (copy_spot copy) slots)) sizes

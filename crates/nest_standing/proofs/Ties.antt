@@ -16,11 +16,12 @@ use Rattle.name_table.specs.declared.names.Entry.{Entry}
 use Rattle.name_table.specs.Entries.{declared_as}
 use Rattle.body_forms.specs.Names.{is_scalar}
 use Rattle.nest_check.specs.NestNames.{NestNames, added, all_added}
-use Rattle.nest_order.specs.Copies.{Kind, Shared, New, Assigned, Reduced, has_copies}
+use Rattle.nest_order.specs.Copies.{New, Reduced, has_copies}
 use Rattle.array_meaning.specs.Resolution.{place_of, union}
 use Rattle.array_meaning.specs.Iterations.{is_in}
 use Rattle.array_meaning.specs.Touches.{assigned_in}
 use Rattle.nest_items.specs.NestKinds.{kind_of, is_read}
+use Rattle.nest_items.proofs.NameKinds.{kind_by, copies_of_kind}
 use Rattle.array_meaning.specs.Statements.{Nest, Block}
 use Rattle.nest_standing.specs.Named.{Declared, AreDeclared}
 use Rattle.nest_standing.proofs.Ruled.{Tied}
@@ -114,15 +115,6 @@ operators_of_nest n = operator_at (λ p. p.variable) (λ p. p.operator) n.declar
 
 -- ---- kinds
 
-abbrev kind_by : Bool → Bool → Bool → Join → Kind
-kind_by a r w o = if a then (if r then Reduced o else if w then New else Assigned) else Shared
-
-copies_by : (a r w : Bool) (o : Join) → has_copies (kind_by a r w o) ≡ a
-copies_by false r w o = refl
-copies_by true true w o = refl
-copies_by true false true o = refl
-copies_by true false false o = refl
-
 read_by : (a r w : Bool) (o : Join) → r ≡ false → is_read (kind_by a r w o) ≡ has_copies (kind_by a r w o)
 read_by false r w o h = refl
 read_by true true w o h = absurd (true≢false h)
@@ -153,8 +145,7 @@ pub record Meets (n : NestNames) (nest : Nest) (body : Block) : Type 0 where
 
 pub tied : (n : NestNames) (nest : Nest) (body : Block) → Meets n nest body → Tied n (kind_of (operators_of_nest n) nest body)
 tied n nest body h = record {
-  copies = λ x d. copies_by (is_in (place_of n.declared x) (assigned_in body)) (is_in (place_of n.declared x) nest.reduction) (is_in (place_of n.declared x) nest.new)
-      (operators_of_nest n (place_of n.declared x)) ∙ h.assigned x d;
+  copies = λ x d. copies_of_kind (operators_of_nest n) nest body (place_of n.declared x) ∙ h.assigned x d;
   read = λ x d r. read_by (is_in (place_of n.declared x) (assigned_in body)) (is_in (place_of n.declared x) nest.reduction) (is_in (place_of n.declared x) nest.new)
       (operators_of_nest n (place_of n.declared x)) (h.reduction x d ∙ r);
   reduced = λ x o d a r one has-it.

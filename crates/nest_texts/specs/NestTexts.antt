@@ -13,7 +13,8 @@ use Rattle.node_code.specs.NestStatements.{NestLeft, nest_place, left_row, form_
 use Rattle.nest_machine.specs.BodyCode.{Texts}
 use Rattle.nest_machine.specs.ItemsAt.{truth_outcome}
 
--- an assignment: its line, the rows of the copies that it reads and the scalars whose copies these are, the left side, the right side, and the row of the scalar's marks if it has some
+-- an assignment: its line, the rows of the copies that it reads and the scalars whose copies these are, the left side, the right side, and the row of
+-- the scalar's marks if it has some
 pub record NestText : Type 0 where
   pub line : ℕ
   pub copies : List ℕ

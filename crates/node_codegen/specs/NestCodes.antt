@@ -1,4 +1,4 @@
--- What takes the place of the loops of a nest, if it has statements. Private contracts alone cite this file.
+-- No public clause cites this file. What takes the place of the loops of a nest, if it has statements.
 use Rattle.std.specs.Prelude.{List, Option, Some, None, Vec}
 use Rattle.std.specs.Global.{Global}
 use Rattle.node_code.specs.declared.instruction.Instruction.{Instruction as HeldInstruction}

@@ -1,4 +1,4 @@
--- How scalars get their values after a nest, as code holds it. Private contracts alone cite this file.
+-- No public clause cites this file. How scalars get their values after a nest, as code holds it.
 use Rattle.std.specs.Prelude.{ℕ, suc, ◌+◌, List, [], ◌∷◌, if◌then◌else◌}
 use Rattle.array_meaning.specs.Statements.{Block}
 use Rattle.array_meaning.specs.Iterations.{is_in}

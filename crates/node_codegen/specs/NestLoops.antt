@@ -1,4 +1,4 @@
--- A statement that is all of a body, where it is a loop of a nest (HPF 2.0, 5.1). Private contracts alone cite this file.
+-- No public clause cites this file. A statement that is all of a body, where it is a loop of a nest (HPF 2.0, 5.1).
 use Rattle.std.specs.Prelude.{ℕ, List, [], ◌∷◌, Option, Some, None}
 use Rattle.array_meaning.specs.Statements.{Loop, Block, Statement, Do}
 use Rattle.resolved_program.specs.Resolved.{block_of, inner_loops, innermost, loop_of}

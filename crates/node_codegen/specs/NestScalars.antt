@@ -1,4 +1,4 @@
--- What joins by the first of the right sides of a scalar's assignments, if there is one. Private contracts alone cite this file.
+-- No public clause cites this file. What joins by the first of the right sides of a scalar's assignments, if there is one.
 use Rattle.std.specs.Prelude.{List, [], ◌∷◌, Option, Some, None}
 use Rattle.op_tables.specs.declared.join.Join.{Join}
 use Rattle.array_meaning.specs.Terms.{Term}

@@ -1,4 +1,4 @@
--- The statements of a nest one by one. Private contracts alone cite this file.
+-- No public clause cites this file. The statements of a nest one by one.
 use Rattle.std.specs.Prelude.{◌≡◌, ℕ, ◌+◌, List, ◌∷◌, ◌++◌, length, Bool, true, false, Option, Some}
 use Rattle.array_meaning.specs.Terms.{Term}
 use Rattle.array_meaning.specs.Statements.{Statement, If, Do}
