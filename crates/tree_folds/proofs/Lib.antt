@@ -1,0 +1,6 @@
+mod Carried
+mod Faults
+mod Numbers
+mod Passing
+mod Picked
+mod Positions

@@ -1,0 +1,6 @@
+pub mod FaultKeys
+pub mod Optional
+pub mod OptionalJoins
+pub mod Passing
+pub mod Places
+pub mod TruthJoins
