@@ -1,0 +1,5 @@
+pub mod OwnedSequence
+pub mod GapTable
+pub mod Sizes
+pub mod Sections
+pub mod Residues
