@@ -7,6 +7,7 @@
 #![tactic(auto)]
 
 mod gate;
+mod meet;
 mod mem;
 mod read;
 mod sink;
@@ -15,6 +16,7 @@ mod standard;
 mod write;
 
 pub use gate::{Gate, OpenGate};
+pub use meet::{MEET_TURNS, MeetGate};
 pub use mem::{MemSink, MemSource};
 pub use read::{ReadAll, read_all};
 pub use sink::Sink;

@@ -12,7 +12,8 @@ use Rattle.machine_steps.specs.Machine.{Machine}
 use Rattle.machine_steps.specs.Node.{FaultValues, Node, Stage, Ready, Passing, Passed, act_of, letter_of, awaits_by, node_steps}
 use Rattle.node_run.proofs.Numbers.{Numbers, IsNumbered, IsWithin, same-node, moved-from, opening-numbered}
 use Rattle.node_run.proofs.Openings.{listed}
-use Rattle.node_numbers.specs.Lettered.{route, IsLettered}
+use Rattle.all_pairs.specs.Routes.{route}
+use Rattle.stations.specs.Lettered.{IsLettered}
 
 module _ {C F : Type 0} (faults : FaultValues F) (meaning : C → Instr F) (count id : ℕ) where
   sends-next : (told heard : ℕ → ℕ) (st : Status F) (s : Stage) (q : ℕ) (a : Node C F) → act_of st s ≡ Send (record { 0 = q }) → Numbers count id told heard a → IsWithin count s

@@ -6,7 +6,7 @@ ghost use Rattle.machine_steps.specs.Agrees.{openings};
 ghost use Rattle.machine_steps.specs.Instr.{Instr};
 ghost use Rattle.machine_steps.specs.Machine.{Machine};
 ghost use Rattle.machine_steps.specs.Node.{FaultValues, Node, node_steps};
-ghost use Rattle.node_numbers.specs.Lettered.{IsLettered};
+ghost use Rattle.stations.specs.Lettered.{IsLettered};
 
 /// Each node at the beginning of a run numbers its letters: whatever moves it makes and whatever it takes in them, what it is to
 /// send then is its pair's next letter, and it awaits its pair's next letter where it is to take one.

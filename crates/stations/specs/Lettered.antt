@@ -3,12 +3,8 @@ use Rattle.std.specs.Prelude.{◌≡◌, ℕ, ◌<◌, IsTrue, List, length}
 use Rattle.node_law.specs.declared.act.Act.TheVariants.{Send, Take}
 use Rattle.node_law.specs.NodeSteps.{NodeSteps, Move, AreMovesOf, after_all, sent, taken}
 use Rattle.letters.specs.declared.letter.Letter.{Letter}
-use Rattle.pair_mailbox.specs.declared.route.Route.{Route}
 use Rattle.pair_mailbox.specs.Rule.{IsNextLetter}
-
--- the pair of two nodes in run 1
-abbrev pub route : ℕ → ℕ → Route
-route from to = record { run = 1; from = record { 0 = from }; to = record { 0 = to } }
+use Rattle.all_pairs.specs.Routes.{route}
 
 module _ {N : Type 0} (S : NodeSteps N Letter) where
   -- The node a, which is `id` of so many, numbers its letters: whatever moves it makes and whatever it takes in them, what it is

@@ -1,0 +1,5 @@
+mod ClosedRows
+mod OpenRows
+pub mod Tables
+mod Transposition
+mod Walks

@@ -1,0 +1,7 @@
+mod Lists
+mod Keeps
+mod StationLaw
+mod EndsAlike
+mod Opened
+mod Gathered
+pub mod Sent

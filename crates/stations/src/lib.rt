@@ -1,0 +1,29 @@
+//! Stations: the nodes of a run, each with the ends of its queues, stepped one at a time in any order.
+//!
+//! Comes in: nodes at their openings, which number their letters. `open_stations` gives each of them its ends of the queues between all
+//! ordered pairs. A step of a station is one local step of its node, one push of a letter, one pop of a letter, or nothing where the
+//! node is Done. Goes out: once all stations have ended, `close_stations` gives the last nodes and the closed queues. Where the nodes are phased,
+//! these are the last nodes and the letters of their lockstep run.
+//!
+//! What holds in between: a station's type keeps that some moves lead from the node's opening to the node, with the letters that its ends
+//! have taken, and that these moves made the letters that its ends have sent, and then the one that is kept. A letter is kept where its
+//! queue was full when the node made it, and it is pushed before anything else. No step changes what `fixed` says: the station's
+//! number, its opening and the queues of its ends. So whoever steps the stations between opening and closing has to keep `fixed` and
+//! nothing else, and the order of the steps has no effect: that is the law of stations.
+//!
+//! Nothing here starts a thread. A step may wait, since a step of a queue may spin, and no clause says that a step ever moves.
+#![tactic(auto)]
+
+mod closing;
+mod laws;
+mod opening;
+mod station;
+
+pub use closing::{all_ended, close_stations};
+pub use hpf_base::{NodeId, OutOfMemory};
+pub use laws::{law_of_last_nodes, law_of_stations};
+pub use letters::{Body, Letter};
+pub use node_law::{Act, PhasedNode, Stepped};
+pub use opening::open_stations;
+pub use pair_mailbox::{Closed, InEnd, OutEnd};
+pub use station::{Kept, Station};
