@@ -1,5 +1,6 @@
-pub mod Outcomes
-pub mod Values
-pub mod ProgramMessages
 pub mod Listed
+pub mod Outcomes
+pub mod ProgramMessages
+pub mod Ran
 pub mod StepLines
+pub mod Values

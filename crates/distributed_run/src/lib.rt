@@ -15,7 +15,9 @@ mod listing;
 mod machine_run;
 mod openings;
 mod outcome;
+mod ran;
 mod run;
 
 pub use listing::{MessageList, list_messages};
+pub use ran::Ran;
 pub use run::{NodesOutcome, run_on_nodes};

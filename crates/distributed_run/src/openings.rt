@@ -9,7 +9,7 @@ ghost use Rattle.fitting_states.specs.FittingStates.{ProgramFits};
 ghost use Rattle.node_program.specs.Fits.{FitsRows};
 ghost use Rattle.node_program.specs.Openings.{opening_machine};
 ghost use Rattle.node_program.specs.Programs.{code_of};
-ghost use Rattle.nodes_lowered.specs.GridRuns.{grid_nodes};
+ghost use Rattle.nodes_lowered.specs.GridRuns.{grid_nodes, grid_opening};
 
 use accepted_program::AcceptedProgram;
 use compiled_program::compile_program;
@@ -20,23 +20,36 @@ use owner_tables::Owners;
 use std::alloc::Global;
 use std::sync::Arc;
 
-/// The nodes of the grid on which the program is accepted, before its first instruction, node 0 first.
+/// The nodes of a run before its first instruction, and the code that they share.
+#[derive(Drop)]
+pub(crate) struct FirstNodes {
+    pub code: Arc<NodeProgram>,
+    /// Node 0 first.
+    pub nodes: Vec<Node>,
+}
+
+/// The nodes of the grid on which the program is accepted, before its first instruction.
 pub(crate) fn first_nodes(
     alloc: Global,
     accepted: &AcceptedProgram<'_>,
-) -> Result<Vec<Node>, OutOfMemory>
+) -> Result<FirstNodes, OutOfMemory>
     ensures grid { IsGrid accepted.now.grid.now }
     ensures numbers { IfOk result (λ first. ProgramFits (main_program accepted.now.program.tree)) }
-    ensures nodes { IfOk result (λ first. first.items ≡ grid_nodes accepted.now.grid.now (main_program accepted.now.program.tree)) }
+    ensures nodes { IfOk result (λ first. first.nodes.items ≡ grid_nodes accepted.now.grid.now (main_program accepted.now.program.tree)) }
+    ensures code { IfOk result (λ first. code_of (arc_value first.code) ≡ (grid_opening accepted.now.grid.now (main_program accepted.now.program.tree)).code) }
 {
     let compiled = compile_program(alloc, accepted)?;
-    openings(
+    let nodes = openings(
         alloc,
         &compiled.text,
         &compiled.owners,
         &compiled.slots,
         &compiled.values,
-    )
+    )?;
+    Ok(FirstNodes {
+        code: compiled.text,
+        nodes,
+    })
 }
 
 /// The nodes before the first instruction, which share the program and the tables.

@@ -15,6 +15,7 @@ ghost use Rattle.nodes_lowered.specs.ProgramRuns.{end_by_status};
 ghost use Rattle.distributed_run.specs.Outcomes.{IsOutcome};
 ghost use Rattle.distributed_run.specs.Values.{row_values, value_of};
 
+use crate::ran::Ran;
 use crate::run::NodesOutcome;
 use accepted_program::AcceptedProgram;
 use hpf_base::OutOfMemory;
@@ -24,15 +25,17 @@ use serial_run::End;
 use slot_values::{Fault, Status, fault_numbers, fault_of_numbers};
 use std::alloc::Global;
 
-/// What the program has come to whose last nodes these are, with the nodes.
+/// What the program has come to whose last nodes these are, with the nodes and what their run leaves.
 pub(crate) fn outcome_of(
     alloc: Global,
     accepted: &AcceptedProgram<'_>,
     last: Vec<Node>,
+    ran: Ran,
 ) -> Result<NodesOutcome, OutOfMemory>
     requires { AreLastOnGrid accepted.now.grid.now (main_program accepted.now.program.tree) last.items }
     ensures outcome { IfOk result (λ o. IsOutcome o (serial (main_program accepted.now.program.tree))) }
     ensures nodes { IfOk result (λ o. o.nodes.items ≡ last.items) }
+    ensures ran { IfOk result (λ o. o.ran ≡ ran) }
 {
     let root = first(&last);
     let printed = Vec::from_slice(alloc, root.printed())?;
@@ -43,6 +46,7 @@ pub(crate) fn outcome_of(
         end,
         arrays,
         nodes: last,
+        ran,
     })
 }
 

@@ -9,16 +9,21 @@ ghost use Rattle.node_law.specs.Reached.{EndsInLockstep};
 ghost use Rattle.nodes_lowered.specs.GridRuns.{AreLastOnGrid, grid_nodes};
 ghost use Rattle.nodes_lowered.specs.ProgramRuns.{program_steps};
 ghost use Rattle.distributed_run.specs.Outcomes.{IsOutcome};
+ghost use Rattle.distributed_run.specs.Ran.{IsRunOf};
 
-use crate::openings::first_nodes;
+use crate::openings::{FirstNodes, first_nodes};
 use crate::outcome::outcome_of;
+use crate::ran::Ran;
 use accepted_program::AcceptedProgram;
 use hpf_base::OutOfMemory;
-use node_core::Core;
+use hpf_ports::Gate;
+use node_crew::{Crewed, run_nodes};
 use node_machine::Node;
 use nodes_lowered::{accepted_moves_are_dealt, programs_run_on_nodes};
 use serial_run::End;
 use std::alloc::Global;
+use std::sync::Wait;
+use std::thread::Threads;
 
 /// What a program comes to on nodes.
 #[derive(Drop)]
@@ -31,34 +36,30 @@ pub struct NodesOutcome {
     pub arrays: Vec<Vec<i64>>,
     /// The nodes after their last steps, node 0 first, with their pieces and the numbers of their letters.
     pub nodes: Vec<Node>,
+    /// The code that they ran, and the queues of their letters.
+    pub ran: Ran,
 }
 
 /// Runs a program on the nodes of the grid that it is accepted on, where its arrays lie as they are mapped at the start (HPF 2.0, 3) and move
-/// with each REDISTRIBUTE that it reaches (HPF 2.0, 8.3), and gives what it means in one order, with the nodes on which their run ends. An
-/// `Err` is want of memory.
-pub fn run_on_nodes(
+/// with each REDISTRIBUTE that it reaches (HPF 2.0, 8.3), and gives what it means in one order, with the nodes on which their run ends, their
+/// code, and the closed queues of their letters. Crews of threads step the nodes, as many as asked for, or as there are nodes, where these are
+/// fewer; no thread changes what is given. It may wait. An `Err` is want of memory.
+pub fn run_on_nodes<R: Threads + Wait + Sync, G: Gate>(
+    rt: &R,
     alloc: Global,
     accepted: &AcceptedProgram<'_>,
+    threads: u32,
+    gate: &G,
 ) -> Result<NodesOutcome, OutOfMemory>
     ensures outcome { IfOk result (λ o. IsOutcome o (serial (main_program accepted.now.program.tree))) }
     ensures ends { IfOk result (λ o. EndsInLockstep program_steps (start (grid_nodes accepted.now.grid.now (main_program accepted.now.program.tree))) o.nodes.items) }
     ensures nodes { IfOk result (λ o. AreLastOnGrid accepted.now.grid.now (main_program accepted.now.program.tree) o.nodes.items) }
+    ensures ran { IfOk result (λ o. IsRunOf accepted.now.grid.now (main_program accepted.now.program.tree) o.ran) }
 {
     programs_run_on_nodes();
     accepted_moves_are_dealt();
-    let first = first_nodes(alloc, accepted)?;
-    let last = last_nodes(alloc, first)?;
-    let outcome = outcome_of(alloc, accepted, last)?;
+    let FirstNodes { code, nodes } = first_nodes(alloc, accepted)?;
+    let Crewed { nodes, closed } = run_nodes(rt, alloc, nodes, threads, gate)?;
+    let outcome = outcome_of(alloc, accepted, nodes, Ran { code, closed })?;
     Ok(outcome)
-}
-
-/// The nodes after their run.
-fn last_nodes(alloc: Global, first: Vec<Node>) -> Result<Vec<Node>, OutOfMemory>
-    requires phased { Lockstep program_steps (slice_get first.items) }
-    requires few { length first.items < 2 ^ 32 }
-    ensures { IfOk result (λ last. EndsInLockstep program_steps (start first.items) last.items) }
-{
-    let mut core = Core::new(alloc, first)?;
-    core.run_rotation()?;
-    Ok(core.into_nodes())
 }

@@ -32,6 +32,6 @@ fn main(rt: HostRuntime) -> ExitCode {
     let mut src = StdSource::new(rt.stdin());
     let mut out = StdSink::new(rt.stdout());
     let mut err = StdSink::new(rt.stderr());
-    let status = hpf_top(&rt, alloc, &words, &mut src, &mut out, &mut err, &OpenGate);
-    ExitCode::from(status.exit_code())
+    let answer = hpf_top(&rt, alloc, &words, &mut src, &mut out, &mut err, &OpenGate);
+    ExitCode::from(answer.status.exit_code())
 }

@@ -6,6 +6,11 @@ use hpf_ports::{MemSink, OpenGate};
 use hpf_run::hpf_top;
 use std::alloc::{AllocError, Global};
 use std::fmt::Write;
+use std::sync::Wait;
+use std::thread::Threads;
+
+/// The numbers of threads on which programs run.
+const THREADS: [&str; 4] = ["1", "2", "3", "8"];
 
 /// What the program answers: its exit status, and what it writes.
 #[derive(Drop)]
@@ -16,54 +21,67 @@ struct Answer {
 }
 
 /// Writes what the program writes on four nodes, to standard output and then to standard error.
-pub fn write_writing(
+pub fn write_writing<R: Threads + Wait + Sync>(
+    rt: &R,
     alloc: Global,
     answer: &mut String,
     action: &str,
     text: &[u8],
 ) -> Result<(), AllocError> {
-    let written = answer_on(alloc, action, "4", text)?;
+    let written = answer_to_words(rt, alloc, &[action, "--grid", "4"], text)?;
     answer.push_str("  ")?;
     write_text(answer, written.out.bytes())?;
     write_text(answer, written.err.bytes())?;
     answer.push_str("\n")
 }
 
-/// Writes for each grid whether `run` answers as `serial` does for the text.
-pub fn write_alike(
+/// Writes for each grid whether `run` answers as `serial` does for the text, on each number of threads.
+pub fn write_alike<R: Threads + Wait + Sync>(
+    rt: &R,
     alloc: Global,
     answer: &mut String,
     grids: &str,
     text: &[u8],
 ) -> Result<(), AllocError> {
     for grid in grids.split(' ') {
-        let in_order = answer_on(alloc, "serial", grid, text)?;
-        let on_nodes = answer_on(alloc, "run", grid, text)?;
-        if is_same(&in_order, &on_nodes) {
+        let in_order = answer_to_words(rt, alloc, &["serial", "--grid", grid], text)?;
+        let mut alike = true;
+        for threads in THREADS {
+            let words = ["run", "--grid", grid, "--threads", threads];
+            let on_nodes = answer_to_words(rt, alloc, &words, text)?;
+            if !is_same(&in_order, &on_nodes) {
+                alike = false;
+                writeln!(
+                    answer,
+                    "  {grid}: status {} in one order, {} on nodes with {threads} threads",
+                    in_order.status, on_nodes.status
+                )?;
+            }
+        }
+        if alike {
             writeln!(answer, "  {grid}: alike")?;
-        } else {
-            writeln!(
-                answer,
-                "  {grid}: status {} in one order, {} on nodes",
-                in_order.status, on_nodes.status
-            )?;
         }
     }
     Ok(())
 }
 
-/// What the program answers on a grid.
-fn answer_on(alloc: Global, action: &str, grid: &str, text: &[u8]) -> Result<Answer, AllocError> {
+/// What the program answers to words.
+fn answer_to_words<R: Threads + Wait + Sync>(
+    rt: &R,
+    alloc: Global,
+    given: &[&str],
+    text: &[u8],
+) -> Result<Answer, AllocError> {
     let mut words = Vec::new(alloc);
-    for word in [action, "--grid", grid] {
+    for word in given {
         words.push(String::from_str(alloc, word)?)?;
     }
     let mut src = Stream::new(alloc).source(Vec::from_slice(alloc, text)?);
     let mut out = Stream::new(alloc).sink(alloc)?;
     let mut err = Stream::new(alloc).sink(alloc)?;
-    let status = hpf_top(&(), alloc, &words, &mut src, &mut out, &mut err, &OpenGate);
+    let answer = hpf_top(rt, alloc, &words, &mut src, &mut out, &mut err, &OpenGate);
     Ok(Answer {
-        status: status.exit_code(),
+        status: answer.status.exit_code(),
         out,
         err,
     })

@@ -3,25 +3,32 @@
 use crate::alike::{write_alike, write_writing};
 use crate::case::{Case, Wanted};
 use crate::job::write_job;
+use crate::ran::write_ran;
 use case_texts::{TextError, text_of, write_text};
-use hpf_ports::{MemSink, OpenGate, Source, read_all};
-use hpf_run::hpf_top;
+use hpf_ports::{Gate, MeetGate, MemSink, OpenGate, Source, read_all};
+use hpf_run::{Ran, hpf_top};
 use std::alloc::{AllocError, Global};
 use std::fmt::Write;
+use std::sync::Wait;
+use std::thread::Threads;
 
 /// The answer to a case, in lines.
-pub fn answer_to(alloc: Global, case: Case) -> Result<String, AllocError> {
+pub fn answer_to<R: Threads + Wait + Sync>(
+    rt: &R,
+    alloc: Global,
+    case: Case,
+) -> Result<String, AllocError> {
     let mut out = String::new(alloc);
     match case.wanted {
         Wanted::Job => {
             let words = words_of(alloc, case.words.as_str())?;
             write_job(alloc, &mut out, &words)?;
         }
-        Wanted::Answer | Wanted::Writing | Wanted::Alike => match text_of(
+        Wanted::Answer | Wanted::Ran | Wanted::Writing | Wanted::Alike => match text_of(
             alloc,
             case.text.as_str(),
         ) {
-            Ok(text) => write_answer(alloc, &mut out, case, text)?,
+            Ok(text) => write_answer(rt, alloc, &mut out, case, text)?,
             Err(TextError::Malformed) => out.push_str("  no text is written so\n")?,
             Err(TextError::Memory) => out.push_str("  out of memory\n")?,
         },
@@ -30,35 +37,63 @@ pub fn answer_to(alloc: Global, case: Case) -> Result<String, AllocError> {
 }
 
 /// Writes what a case with this source asks for.
-fn write_answer(
+fn write_answer<R: Threads + Wait + Sync>(
+    rt: &R,
     alloc: Global,
     answer: &mut String,
     case: Case,
     text: Vec<u8>,
 ) -> Result<(), AllocError> {
     match case.wanted {
-        Wanted::Alike => write_alike(alloc, answer, case.words.as_str(), &text),
-        Wanted::Writing => write_writing(alloc, answer, case.words.as_str(), &text),
-        _ => write_run(alloc, answer, case, text),
+        Wanted::Alike => write_alike(rt, alloc, answer, case.words.as_str(), &text),
+        Wanted::Writing => write_writing(rt, alloc, answer, case.words.as_str(), &text),
+        Wanted::Ran => write_meeting(rt, alloc, answer, case, text),
+        _ => {
+            write_run(rt, alloc, answer, case, text, &OpenGate)?;
+            Ok(())
+        }
     }
 }
 
-/// Runs the top call on a case with this source, and writes what it comes to.
-fn write_run(
+/// Runs the top call on a case with this source at a gate where two threads meet, and writes what it comes to, what its run on nodes leaves, and
+/// whether they met.
+fn write_meeting<R: Threads + Wait + Sync>(
+    rt: &R,
     alloc: Global,
     answer: &mut String,
     case: Case,
     text: Vec<u8>,
 ) -> Result<(), AllocError> {
+    let gate = MeetGate::new();
+    let ran = write_run(rt, alloc, answer, case, text, &gate)?;
+    write_ran(answer, &ran)?;
+    let met = if gate.met() {
+        "  two threads met\n"
+    } else {
+        "  no two threads met\n"
+    };
+    answer.push_str(met)
+}
+
+/// Runs the top call on a case with this source, writes what it comes to, and gives what its run on nodes leaves.
+fn write_run<R: Threads + Wait + Sync, G: Gate>(
+    rt: &R,
+    alloc: Global,
+    written: &mut String,
+    case: Case,
+    text: Vec<u8>,
+    gate: &G,
+) -> Result<Option<Ran>, AllocError> {
     let words = words_of(alloc, case.words.as_str())?;
     let mut src = case.source.source(text);
     let mut out = case.out.sink(alloc)?;
     let mut err = case.err.sink(alloc)?;
-    let status = hpf_top(&(), alloc, &words, &mut src, &mut out, &mut err, &OpenGate);
-    write!(answer, "  status {}, ", status.exit_code())?;
-    write_left(alloc, answer, &mut src)?;
-    write_held(answer, "out", &out)?;
-    write_held(answer, "err", &err)
+    let answer = hpf_top(rt, alloc, &words, &mut src, &mut out, &mut err, gate);
+    write!(written, "  status {}, ", answer.status.exit_code())?;
+    write_left(alloc, written, &mut src)?;
+    write_held(written, "out", &out)?;
+    write_held(written, "err", &err)?;
+    Ok(answer.ran)
 }
 
 /// The words that stand in a line; none where nothing does.

@@ -3,12 +3,13 @@
 use crate::stream::Stream;
 use std::alloc::{AllocError, Global};
 
-/// What a case asks for: the job that its words are, or what the program answers, or what it writes, or whether it answers alike in one order
-/// and on nodes.
+/// What a case asks for: the job that its words are, or what the program answers, also with what its run on nodes leaves, or what it writes, or
+/// whether it answers alike in one order and on nodes.
 #[derive(Clone, Copy)]
 pub enum Wanted {
     Job,
     Answer,
+    Ran,
     Writing,
     Alike,
 }
@@ -36,6 +37,7 @@ impl Case {
         let (wanted, words, text) = match word {
             "job" => (Wanted::Job, rest, ""),
             "words" => (Wanted::Answer, rest, ""),
+            "ran" => (Wanted::Ran, rest, ""),
             "alike" => (Wanted::Alike, rest, ""),
             "check" | "serial" => (Wanted::Writing, word, rest),
             _ => return Ok(None),

@@ -5,7 +5,10 @@
 //!
 //! - `job`: the answer is the job that the words are, or that they are none.
 //! - `words`: the answer is the status, how many bytes the source has left, and what standard output and standard error then hold.
-//! - `alike`: grids stand after it; the answer says of each whether `run` and `serial` on it have the same status and write the same.
+//! - `ran`: the answer is that of `words`, at a gate where two threads meet; and then for each queue on which nodes sent letters how many, how many
+//!   queues there are, and whether two threads met.
+//! - `alike`: grids stand after it; the answer says of each whether `run` and `serial` on it have the same status and write the same, on 1, 2, 3
+//!   and 8 threads.
 //!
 //! A line that begins with `check` or `serial` is a case with its source after the word; the answer is what this action on four nodes writes.
 //!
@@ -22,17 +25,23 @@ mod alike;
 mod answer;
 mod case;
 mod job;
+mod ran;
 mod stream;
 
 use crate::answer::answer_to;
 use crate::case::Case;
 use std::io;
 use std::io::{BufRead, BufReader};
+use std::sync::Wait;
+use std::thread::Threads;
 
 /// Prints the answer to a case.
-fn print_answer(rt: &(impl Print + AllocGlobal), case: Option<Case>) -> io::Result<()> {
+fn print_answer<R: Print + AllocGlobal + Threads + Wait + Sync>(
+    rt: &R,
+    case: Option<Case>,
+) -> io::Result<()> {
     if let Some(case) = case {
-        print!(rt; "{}", answer_to(rt.alloc(), case)?)?;
+        print!(rt; "{}", answer_to(rt, rt.alloc(), case)?)?;
     }
     Ok(())
 }

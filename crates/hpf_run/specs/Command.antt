@@ -1,27 +1,34 @@
 -- The words that the program is called with.
-use Rattle.std.specs.Prelude.{◌≡◌, Bool, true, false, List, Some}
+use Rattle.std.specs.Prelude.{◌≡◌, Bool, true, false, List, Option, Some, None}
 use Rattle.hpf_words.specs.Parts.{Text}
 use Rattle.hpf_words.specs.Jobs.{job_of}
 use Rattle.hpf_words.specs.declared.job.Action.{Action}
-use Rattle.hpf_words.specs.declared.job.Action.TheVariants.{Run, Serial, Check, Map, Messages}
+use Rattle.hpf_words.specs.declared.job.Action.TheVariants.{Run, Bulk}
 use Rattle.hpf_words.specs.declared.job.Job.{Job}
 
--- an action that is built
-abbrev pub is_built_action : Action → Bool
-is_built_action Run = true
-is_built_action Serial = true
-is_built_action Check = true
-is_built_action Map = true
-is_built_action Messages = true
-is_built_action _ = false
-
-abbrev pub is_built : Job → Bool
-is_built job = is_built_action job.action
-
--- the words are a job that is built
+-- the words are this job
 abbrev pub IsCommand : List Text → Job → Type 0
-IsCommand words job = (job_of words ≡ Some job) × (is_built job ≡ true)
+IsCommand words job = job_of words ≡ Some job
 
--- the words are no job, or one that isn't built
+-- the words are no job
 abbrev pub IsNoCommand : List Text → Type 0
-IsNoCommand words = (job : Job) → IsCommand words job → ⊥
+IsNoCommand words = job_of words ≡ None
+
+-- the actions that run on nodes
+abbrev pub runs_on_nodes : Action → Bool
+runs_on_nodes Run = true
+runs_on_nodes Bulk = true
+runs_on_nodes _ = false
+
+-- the actions that read the source; bulk work has a text of its own
+abbrev pub reads_source : Action → Bool
+reads_source Bulk = false
+reads_source _ = true
+
+abbrev pub some_reads : Option Job → Bool
+some_reads None = false
+some_reads (Some job) = reads_source job.action
+
+-- the words ask for what reads the source; words that are no job, and bulk work, don't
+abbrev pub reads : List Text → Bool
+reads words = some_reads (job_of words)

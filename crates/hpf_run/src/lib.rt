@@ -1,14 +1,24 @@
 //! The door: from words and a source to a status and the bytes of standard output and standard error.
 //!
-//! Comes in: the words of a command line, a source, two sinks and a gate. Goes out: a status. What holds in
-//! between: which texts are accepted is said once, for all actions, and an action sees accepted texts alone; what is printed is the
-//! meaning of the text; every answer that isn't the outcome of the text has a fault that was counted in this call, or is want of memory.
+//! Comes in: the words of a command line, a source, two sinks, and for what runs on nodes the runtime's threads and a gate. Goes out: a status, and of
+//! a run on nodes its code and the closed queues of its letters. What holds in between: which texts are accepted is said once, for all
+//! actions, and an action sees accepted texts alone; what is printed is the meaning of the text; every answer that isn't the outcome of the text
+//! has a fault that was counted in this call, or is want of memory. What waits for nobody goes through a call of its own, without a runtime.
 #![tactic(auto)]
 
 mod accept;
 mod actions;
-mod command;
+mod alone;
+mod answer;
+mod bulk;
+mod delivery;
+mod nodes;
+mod reading;
 mod reply;
 mod top;
 
+pub use alone::hpf_alone;
+pub use answer::Answer;
+pub use bulk::bulk_text;
+pub use distributed_run::Ran;
 pub use top::hpf_top;

@@ -2,19 +2,23 @@
 
 ghost use Rattle.std.specs.Prelude.{◌≡◌, IfOk};
 ghost use Rattle.hpf_run.specs.Outcome.{refusal_line};
-ghost use Rattle.hpf_run.specs.Reply.{IsReplyOf, outcome_of};
+ghost use Rattle.hpf_run.specs.Reply.{IsFaulted, IsReplyOf, outcome_of};
 
+use distributed_run::Ran;
 use hpf_base::{OutOfMemory, Refusal, Status};
 use itoa::Buffer;
+use name_table::Names;
+use run_report::fault_line;
 use std::alloc::Global;
+use term_values::Fault;
 
 /// An answer, with the text that isn't known beforehand.
-#[derive(Debug, Drop)]
+#[derive(Drop)]
 pub enum Reply {
-    /// The bytes that the action prints.
-    Done(Vec<u8>),
-    /// The bytes that the program prints before a fault, and the fault's line.
-    Fault(Vec<u8>, Vec<u8>),
+    /// The bytes that the action prints, and what its run on nodes leaves, where there was one.
+    Done(Vec<u8>, Option<Ran>),
+    /// The bytes that the program prints before a fault, the fault's line, and what its run on nodes leaves, where there was one.
+    Fault(Vec<u8>, Vec<u8>, Option<Ran>),
     /// The refusal's line.
     Refused(Vec<u8>),
     Usage,
@@ -28,8 +32,8 @@ impl Reply {
         ensures { result ≡ (outcome_of self.now).status }
     {
         match self {
-            Reply::Done(_) => Status::Done,
-            Reply::Fault(_, _) => Status::Fault,
+            Reply::Done(_, _) => Status::Done,
+            Reply::Fault(_, _, _) => Status::Fault,
             Reply::Refused(_) => Status::Refused,
             Reply::Usage => Status::Usage,
             Reply::ReadFault => Status::ReadFault,
@@ -43,7 +47,7 @@ impl Reply {
         ensures { result.now ≡ (outcome_of self.now).out }
     {
         match self {
-            Reply::Done(printed) | Reply::Fault(printed, _) => printed,
+            Reply::Done(printed, _) | Reply::Fault(printed, _, _) => printed,
             _ => &[],
         }
     }
@@ -53,14 +57,26 @@ impl Reply {
         ensures { result.now ≡ (outcome_of self.now).err }
     {
         match self {
-            Reply::Done(_) => &[],
-            Reply::Fault(_, line) | Reply::Refused(line) => line,
+            Reply::Done(_, _) => &[],
+            Reply::Fault(_, line, _) | Reply::Refused(line) => line,
             Reply::Usage => {
                 b"hpf: usage: hpf ACTION [--grid G] [--threads T] [--size N] [--arrays]\n"
             }
             Reply::ReadFault => b"hpf: read fault\n",
             Reply::TooLong => b"hpf: source too long\n",
             Reply::Memory => b"hpf: out of memory\n",
+        }
+    }
+
+    /// What a run on nodes leaves.
+    pub fn into_ran(self) -> Option<Ran>
+        ensures { result ≡ (outcome_of self).ran }
+    {
+        match self {
+            Reply::Done(_printed, ran) => ran,
+            Reply::Fault(_printed, _line, ran) => ran,
+            Reply::Refused(_line) => None,
+            Reply::Usage | Reply::ReadFault | Reply::TooLong | Reply::Memory => None,
         }
     }
 }
@@ -87,6 +103,22 @@ pub fn reply_refused(alloc: Global, refusal: Refusal) -> Reply
 {
     match refusal_text(alloc, refusal) {
         Ok(text) => Reply::Refused(text),
+        Err(_) => Reply::Memory,
+    }
+}
+
+/// The reply to a fault after what was printed.
+pub fn reply_faulted(
+    alloc: Global,
+    names: &Names,
+    printed: Vec<u8>,
+    fault: Fault,
+    ran: Option<Ran>,
+) -> Reply
+    ensures { IsFaulted names.now printed.items fault ran (outcome_of result) }
+{
+    match fault_line(alloc, names, fault.line, &fault.cause) {
+        Ok(line) => Reply::Fault(printed, line, ran),
         Err(_) => Reply::Memory,
     }
 }

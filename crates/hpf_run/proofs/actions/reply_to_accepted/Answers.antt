@@ -18,11 +18,6 @@ returns-in-Serial c =
     subst (λ act. ActionMeant c.args.accepted.now.grid.now c.args.job.now.arrays (main_program c.args.accepted.now.program.tree) act (outcome_of c.serial_reply.result))
     (sym c.in-Serial.is) (c.serial_reply.ensures _ _)
 
-pub returns-in-Run : goal.returns-in-Run
-returns-in-Run c =
-    subst (λ act. ActionMeant c.args.accepted.now.grid.now c.args.job.now.arrays (main_program c.args.accepted.now.program.tree) act (outcome_of c.run_reply.result))
-    (sym c.in-Run.is) (c.run_reply.ensures _)
-
 pub returns-in-Messages : goal.returns-in-Messages
 returns-in-Messages c =
     subst (λ act. ActionMeant c.args.accepted.now.grid.now c.args.job.now.arrays (main_program c.args.accepted.now.program.tree) act (outcome_of c.messages_reply.result))

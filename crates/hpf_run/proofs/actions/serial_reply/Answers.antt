@@ -1,4 +1,4 @@
-use Rattle.std.proofs.Common.{false, subst}
+use Rattle.std.proofs.Common.{None, false, subst}
 use Rattle.syntax_tree.specs.MainProgram.{main_program}
 use Rattle.array_meaning.specs.Serial.{outcome, serial}
 use Rattle.hpf_words.specs.declared.job.Action.TheVariants.{Serial}
@@ -10,5 +10,5 @@ use Rattle.hpf_run.proofs.actions.serial_reply.Goals as goal
 pub returns : goal.returns
 returns c = λ grid arrays.
     let p = main_program c.args.accepted.now.program.tree in
-    reported-meant grid arrays p Serial false (serial p) (outcome_of c.run_program.result) serial_report
-    (subst (λ es. IsReported es false (outcome es p.body) (outcome_of c.run_program.result)) c.args.accepted.now.names c.run_program.ensures)
+    reported-meant grid arrays p Serial false (serial p) None (outcome_of c.run_program.result) serial_report
+    (subst (λ es. IsReported es false (outcome es p.body) None (outcome_of c.run_program.result)) c.args.accepted.now.names c.run_program.ensures)

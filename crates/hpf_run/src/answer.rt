@@ -1,0 +1,12 @@
+//! What a call of the program answers.
+
+use distributed_run::Ran;
+use hpf_base::Status;
+
+/// The status of a call, and what a run on nodes leaves: that is there exactly where the action is `run` or `bulk` and the status is `Done` or
+/// `Fault`.
+#[derive(Drop)]
+pub struct Answer {
+    pub status: Status,
+    pub ran: Option<Ran>,
+}

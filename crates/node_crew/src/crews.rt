@@ -1,0 +1,117 @@
+//! Crews: the stations that one thread steps in turn.
+
+ghost use Rattle.std.specs.Prelude.{◌≡◌, map};
+ghost use Rattle.stations.specs.Stations.{fixed};
+
+use hpf_ports::Gate;
+use node_law::Stepped;
+use node_machine::Node;
+use stations::Station;
+use std::marker::Model;
+use std::sync::Wait;
+use std::sync::atomic::{AtomicU64, Ordering};
+use std::thread;
+
+/// The stations that one thread steps. Contracts see what no step of them changes.
+#[derive(Drop)]
+pub(crate) struct Crew {
+    pub(crate) stations: Vec<Station<Node>>,
+}
+
+impl Model for Crew {
+    ghost use Rattle.std.specs.Prelude.{List, map};
+    ghost use Rattle.array_meaning.specs.Faults.{Fault};
+    ghost use Rattle.machine_steps.specs.Node.{Node as NodeState};
+    ghost use Rattle.node_code.specs.ProgramText.{Text};
+    ghost use Rattle.node_machine.specs.contracts.node.Node as n;
+    ghost use Rattle.std.specs.Coded.{codes};
+    ghost use Rattle.stations.specs.Stations.{Fixed, fixed};
+
+    ghost Value = { List (Fixed (NodeState Text Fault)) };
+
+    ghost coded = { Prim.hlevel (codes, n.the_row.coded) };
+
+    ghost view = { λ c. map fixed c.stations.items };
+}
+
+/// What came of one step of each station.
+#[derive(Clone, Copy)]
+pub(crate) enum Round {
+    /// All had ended.
+    Over,
+    /// Some moved.
+    Moved,
+    /// None moved, and some had not ended.
+    Still,
+}
+
+/// What came of the steps of both.
+pub(crate) fn both(one: Round, other: Round) -> Round {
+    match one {
+        Round::Moved => Round::Moved,
+        Round::Over => other,
+        Round::Still => match other {
+            Round::Moved => Round::Moved,
+            _ => Round::Still,
+        },
+    }
+}
+
+// One step of a station. Where its node is refused memory, the word `halt` is set, at which all crews stop.
+fn step_one<R: Wait, G: Gate>(
+    rt: &R,
+    gate: &G,
+    station: &mut Station<Node>,
+    halt: &AtomicU64,
+) -> Round
+    ensures { fixed station.new ≡ fixed station.old }
+{
+    if let Some((node, phase)) = station.comes_to() {
+        gate.pass(node, phase);
+    }
+    match station.step(rt) {
+        Ok(Stepped::Moved) => Round::Moved,
+        Ok(Stepped::NotReady) => Round::Still,
+        Ok(Stepped::Ended) => Round::Over,
+        Err(_) => {
+            halt.store(1, Ordering::SeqCst);
+            Round::Still
+        }
+    }
+}
+
+impl Crew {
+    /// One step of each station, in order.
+    pub(crate) fn step_all<R: Wait, G: Gate>(&mut self, rt: &R, gate: &G, halt: &AtomicU64) -> Round
+        ensures { self.new ≡ self.old }
+    {
+        let mut round = Round::Over;
+        for station in self.stations.iter_mut() {
+            round = both(round, step_one(rt, gate, station, halt));
+        }
+        round
+    }
+
+    /// The crew after its work: all its stations have ended, or one of the two words was set.
+    pub(crate) fn run<R: Wait, G: Gate>(
+        mut self,
+        rt: &R,
+        gate: &G,
+        halt: &AtomicU64,
+        recall: &AtomicU64,
+    ) -> Crew
+        ensures { result ≡ self }
+    {
+        for _ in rt.forever() {
+            if halt.load(Ordering::SeqCst) != 0 || recall.load(Ordering::SeqCst) != 0 {
+                break;
+            }
+            match self.step_all(rt, gate, halt) {
+                Round::Over => break,
+                Round::Moved => {}
+                Round::Still => thread::yield_now(),
+            }
+        }
+        self
+    }
+}
