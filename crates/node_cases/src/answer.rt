@@ -1,6 +1,6 @@
 //! The answers to cases.
 
-use crate::driver::{Progress, Run};
+use crate::driver::{Order, Progress, Run};
 use crate::opening::nodes_on;
 use crate::outcome::outcome_of;
 use crate::show::{write_end, write_shown};
@@ -25,9 +25,35 @@ fn write_answer(alloc: Global, out: &mut String, case: &[String]) -> Option<()> 
     let mut first = String::new(alloc);
     for grid in grids.split(' ') {
         let mut run = Run::new(alloc, nodes_on(alloc, case, grid)?)?;
-        let left = run.to_end(alloc)?;
+        let left = run.to_end(alloc, Order::Rotation)?;
         write_run(alloc, out, grid, left, &run, &mut first).ok()?;
         write_shows(out, case, grid, &run).ok()?;
+        write_other(alloc, out, case, grid, Order::Descending, &run)?;
+        write_other(alloc, out, case, grid, Order::Whole, &run)?;
+    }
+    Some(())
+}
+
+/// Writes where the nodes of a grid come to another outcome, or send other letters, in another order of steps than in rotation.
+fn write_other(
+    alloc: Global,
+    out: &mut String,
+    case: &[String],
+    grid: &str,
+    order: Order,
+    rotation: &Run,
+) -> Option<()> {
+    let mut run = Run::new(alloc, nodes_on(alloc, case, grid)?)?;
+    let left = run.to_end(alloc, order)?;
+    let outcome = outcome_of(alloc, &run.nodes).ok()?;
+    let wanted = outcome_of(alloc, &rotation.nodes).ok()?;
+    if outcome.as_str() != wanted.as_str() {
+        write!(out, "  {grid}: ").ok()?;
+        write_left(out, left).ok()?;
+        writeln!(out, "other than in rotation:\n{outcome}").ok()?;
+    }
+    if run.letters.as_slice() != rotation.letters.as_slice() {
+        writeln!(out, "  {grid}: other letters than in rotation").ok()?;
     }
     Some(())
 }

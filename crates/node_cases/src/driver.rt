@@ -1,4 +1,4 @@
-//! The nodes, stepped in rotation.
+//! The nodes, stepped in some order.
 
 use letters::Letter;
 use node_law::{Act, PhasedNode};
@@ -9,8 +9,22 @@ use std::collections::VecDeque;
 /// How many rounds of steps a case makes at most.
 const ROUNDS: u32 = 20_000;
 
+/// How many steps a node makes at most in a round.
+const STEPS: u32 = 20_000;
+
+/// The order in which nodes are stepped, again and again.
+#[derive(Clone, Copy)]
+pub enum Order {
+    /// One step each, node 0 first.
+    Rotation,
+    /// One step each, node 0 last.
+    Descending,
+    /// Each as long as it moves, node 0 first.
+    Whole,
+}
+
 /// A letter that was sent.
-#[derive(Drop)]
+#[derive(PartialEq, Drop)]
 pub struct Sent {
     pub phase: u64,
     pub from: u32,
@@ -56,12 +70,11 @@ impl Run {
         })
     }
 
-    /// Steps nodes 0, 1 and so on again and again, as long as one of them moves, and puts the letters in the order of phases, sources and
-    /// targets.
-    pub fn to_end(&mut self, alloc: Global) -> Option<Progress> {
+    /// Steps the nodes again and again, as long as one of them moves, and puts the letters in the order of phases, sources and targets.
+    pub fn to_end(&mut self, alloc: Global, order: Order) -> Option<Progress> {
         let mut last = Progress::Moved;
         for _ in 0..ROUNDS {
-            last = self.round(alloc)?;
+            last = self.round(alloc, order)?;
             if !matches!(last, Progress::Moved) {
                 break;
             }
@@ -72,16 +85,41 @@ impl Run {
         Some(last)
     }
 
-    /// One step of each node.
-    fn round(&mut self, alloc: Global) -> Option<Progress> {
+    /// One turn of each node.
+    fn round(&mut self, alloc: Global, order: Order) -> Option<Progress> {
         let mut all = Progress::Ended;
-        for index in 0..self.nodes.len() {
-            all = match (self.step(alloc, index)?, all) {
+        let count = self.nodes.len();
+        for turn in 0..count {
+            let made = match order {
+                Order::Rotation => self.step(alloc, turn)?,
+                Order::Descending => self.step(alloc, count - 1 - turn)?,
+                Order::Whole => self.steps(alloc, turn)?,
+            };
+            all = match (made, all) {
                 (Progress::Astray, _) => return Some(Progress::Astray),
                 (Progress::Moved, _) | (_, Progress::Moved) => Progress::Moved,
                 (Progress::Ended, all) => all,
                 (Progress::Waits, _) => Progress::Waits,
             };
+        }
+        Some(all)
+    }
+
+    /// Steps of a node as long as it moves.
+    fn steps(&mut self, alloc: Global, index: usize) -> Option<Progress> {
+        let mut all = Progress::Ended;
+        for _ in 0..STEPS {
+            match self.step(alloc, index)? {
+                Progress::Moved => all = Progress::Moved,
+                Progress::Ended => return Some(all),
+                Progress::Waits => {
+                    return Some(match all {
+                        Progress::Moved => Progress::Moved,
+                        _ => Progress::Waits,
+                    });
+                }
+                Progress::Astray => return Some(Progress::Astray),
+            }
         }
         Some(all)
     }

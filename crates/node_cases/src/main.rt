@@ -1,7 +1,8 @@
 //! Tries node code on nodes: code that is written by hand, whose outcome is known.
 //!
 //! Comes in: cases on standard input. Goes out: the same lines, and after each case what its code comes to on the first of its grids, and
-//! whether the nodes of each grid come to the same. What holds in between: `case` begins a case and `run` ends it; these lines say what it is.
+//! whether the nodes of each grid come to the same, with one step each in rotation; where they don't in descending order of nodes, or with each node as long as it
+//! moves, or send other letters then, that is said too. What holds in between: `case` begins a case and `run` ends it; these lines say what it is.
 //!
 //! - `text`: an HPF program, written as `case_texts` says. Its arrays, with their values and their mappings, are those of the code: the rows A,
 //!   B and so on in the order of their declaration.
