@@ -71,6 +71,7 @@ module _ (a : AcceptedProgram) (is : IsGrid a.grid.now) (fit : ProgramFits (main
         → AreClosed program_steps first ran.closed.items → IsRunOf grid p ran
     is-run ran code count closed = record {
       code = code;
+      runs = run;
       count = count ∙ ap (λ n. n * n) as_many;
       closed = subst (λ ns. AreClosed program_steps ns ran.closed.items) begin closed;
     }

@@ -9,9 +9,6 @@ use std::fmt::Write;
 use std::sync::Wait;
 use std::thread::Threads;
 
-/// The numbers of threads on which programs run.
-const THREADS: [&str; 4] = ["1", "2", "3", "8"];
-
 /// What the program answers: its exit status, and what it writes.
 #[derive(Drop)]
 struct Answer {
@@ -35,6 +32,17 @@ pub fn write_writing<R: Threads + Wait + Sync>(
     answer.push_str("\n")
 }
 
+/// The numbers of threads on which programs run on a grid: 1, 2, 3 and 8, without those that make no more crews; on 64 nodes 1 and 8.
+fn threads_on(grid: &str) -> &str {
+    match grid {
+        "1" | "1x1" => "1",
+        "2" | "2x1" => "1 2",
+        "3" | "3x1" => "1 2 3",
+        "8x8" => "1 8",
+        _ => "1 2 3 8",
+    }
+}
+
 /// Writes for each grid whether `run` answers as `serial` does for the text, on each number of threads.
 pub fn write_alike<R: Threads + Wait + Sync>(
     rt: &R,
@@ -46,7 +54,7 @@ pub fn write_alike<R: Threads + Wait + Sync>(
     for grid in grids.split(' ') {
         let in_order = answer_to_words(rt, alloc, &["serial", "--grid", grid], text)?;
         let mut alike = true;
-        for threads in THREADS {
+        for threads in threads_on(grid).split(' ') {
             let words = ["run", "--grid", grid, "--threads", threads];
             let on_nodes = answer_to_words(rt, alloc, &words, text)?;
             if !is_same(&in_order, &on_nodes) {

@@ -8,7 +8,7 @@
 //! - `ran`: the answer is that of `words`, at a gate where two threads meet; and then for each queue on which nodes sent letters how many, how many
 //!   queues there are, and whether two threads met.
 //! - `alike`: grids stand after it; the answer says of each whether `run` and `serial` on it have the same status and write the same, on 1, 2, 3
-//!   and 8 threads.
+//!   and 8 threads, where these are crews of another number, and on 64 nodes on 1 and 8.
 //!
 //! A line that begins with `check` or `serial` is a case with its source after the word; the answer is what this action on four nodes writes.
 //!

@@ -5,10 +5,10 @@ use std::alloc::AllocError;
 use std::fmt::Write;
 
 /// Writes a line for each queue on which letters were sent, with how many, and how many of them were left; and how many queues there are. Where
-/// nothing ran on nodes it says so.
+/// no run is kept it says so.
 pub fn write_ran(answer: &mut String, ran: &Option<Ran>) -> Result<(), AllocError> {
     match ran {
-        None => answer.push_str("  nothing ran on nodes\n"),
+        None => answer.push_str("  no run is kept\n"),
         Some(ran) => write_queues(answer, ran),
     }
 }

@@ -128,7 +128,7 @@ IsRead true TooLong left left' bytes = Gave left left' (take (MAX_SOURCE_BYTES +
 IsRead true status left left' bytes = Gave left left' bytes × IsAtEnd left'
 
 -- what a call means to answer: the outcome of its words and its source, or a counted read fault, or want of
--- memory, which comes without a cause; in the last two cases the source gave no byte past the limit, and none for
+-- memory, which comes without a cause; at a read fault and in want of memory the source gave no byte past the limit, and none for
 -- words that ask for nothing that reads it
 pub data Meant (words : List (List ℕ)) (source source' : Port) : Outcome → Type 0 where
   means_outcome : (bytes : List ℕ) (o : Outcome) → Had source.bytes bytes → TopOutcome words bytes o

@@ -36,7 +36,7 @@ impl Model for Crew {
 
 /// What came of one step of each station.
 #[derive(Clone, Copy)]
-pub(crate) enum Round {
+pub(crate) enum Turn {
     /// All had ended.
     Over,
     /// Some moved.
@@ -45,14 +45,14 @@ pub(crate) enum Round {
     Still,
 }
 
-/// What came of the steps of both.
-pub(crate) fn both(one: Round, other: Round) -> Round {
+/// What came of two turns, or of parts of one.
+pub(crate) fn joined(one: Turn, other: Turn) -> Turn {
     match one {
-        Round::Moved => Round::Moved,
-        Round::Over => other,
-        Round::Still => match other {
-            Round::Moved => Round::Moved,
-            _ => Round::Still,
+        Turn::Moved => Turn::Moved,
+        Turn::Over => other,
+        Turn::Still => match other {
+            Turn::Moved => Turn::Moved,
+            _ => Turn::Still,
         },
     }
 }
@@ -63,33 +63,33 @@ fn step_one<R: Wait, G: Gate>(
     gate: &G,
     station: &mut Station<Node>,
     halt: &AtomicU64,
-) -> Round
+) -> Turn
     ensures { fixed station.new ≡ fixed station.old }
 {
     if let Some((node, phase)) = station.comes_to() {
         gate.pass(node, phase);
     }
     match station.step(rt) {
-        Ok(Stepped::Moved) => Round::Moved,
-        Ok(Stepped::NotReady) => Round::Still,
-        Ok(Stepped::Ended) => Round::Over,
+        Ok(Stepped::Moved) => Turn::Moved,
+        Ok(Stepped::NotReady) => Turn::Still,
+        Ok(Stepped::Ended) => Turn::Over,
         Err(_) => {
             halt.store(1, Ordering::SeqCst);
-            Round::Still
+            Turn::Still
         }
     }
 }
 
 impl Crew {
     /// One step of each station, in order.
-    pub(crate) fn step_all<R: Wait, G: Gate>(&mut self, rt: &R, gate: &G, halt: &AtomicU64) -> Round
+    pub(crate) fn step_all<R: Wait, G: Gate>(&mut self, rt: &R, gate: &G, halt: &AtomicU64) -> Turn
         ensures { self.new ≡ self.old }
     {
-        let mut round = Round::Over;
+        let mut turn = Turn::Over;
         for station in self.stations.iter_mut() {
-            round = both(round, step_one(rt, gate, station, halt));
+            turn = joined(turn, step_one(rt, gate, station, halt));
         }
-        round
+        turn
     }
 
     /// The crew after its work: all its stations have ended, or one of the two words was set.
@@ -107,9 +107,9 @@ impl Crew {
                 break;
             }
             match self.step_all(rt, gate, halt) {
-                Round::Over => break,
-                Round::Moved => {}
-                Round::Still => thread::yield_now(),
+                Turn::Over => break,
+                Turn::Moved => {}
+                Turn::Still => thread::yield_now(),
             }
         }
         self

@@ -4,7 +4,7 @@
 //! queues of all pairs.
 //!
 //! Each node becomes a station, which has the ends of its queues to each node and from each node. The stations are dealt into crews of
-//! neighbours, a crew for each thread, and a crew steps its stations in turn. After a round in which none of them moved it yields its processor.
+//! neighbours, a crew for each thread, and a crew steps its stations in turn. After a turn in which none of them moved it yields its processor.
 //!
 //! What holds in between: a crew comes back with the stations that it was given, in order. That is all that is known of it, and all that is needed: the
 //! type of a station says how far its node has come, and once all stations have ended, their law gives the last nodes and the letters. So it

@@ -2,7 +2,7 @@
 
 ghost use Rattle.std.specs.Prelude.{◌≡◌, ◌<◌, ◌≤◌, ◌+◌, ◌^◌, [], ◌∷◌, ◌++◌, IfOk, IfErr, length, vec_capacity};
 
-use crate::crews::{Crew, Round, both};
+use crate::crews::{Crew, Turn, joined};
 use hpf_base::OutOfMemory;
 use hpf_ports::Gate;
 use std::alloc::Global;
@@ -69,7 +69,7 @@ fn start<'s, E, R: Threads + Wait + Sync, G: Gate>(
 }
 
 // Starts a thread for the crew, or puts the crew after those that the caller runs, once there are any.
-fn place<'s, E, R: Threads + Wait + Sync, G: Gate>(
+fn start_or_keep<'s, E, R: Threads + Wait + Sync, G: Gate>(
     scope: &Scope<'s, E>,
     rt: &'s R,
     gate: &'s G,
@@ -110,7 +110,7 @@ fn start_all<'s, E, R: Threads + Wait + Sync, G: Gate>(
 {
     let mut recalls = recalls.iter();
     for crew in crews {
-        place(
+        start_or_keep(
             scope,
             rt,
             gate,
@@ -125,14 +125,14 @@ fn start_all<'s, E, R: Threads + Wait + Sync, G: Gate>(
 }
 
 // One step of each station of the crews that the caller runs.
-fn step_here<R: Wait, G: Gate>(rt: &R, gate: &G, here: &mut Vec<Crew>, halt: &AtomicU64) -> Round
+fn step_here<R: Wait, G: Gate>(rt: &R, gate: &G, here: &mut Vec<Crew>, halt: &AtomicU64) -> Turn
     ensures { here.new.items ≡ here.old.items }
 {
-    let mut round = Round::Over;
+    let mut turn = Turn::Over;
     for crew in here.iter_mut() {
-        round = both(round, crew.step_all(rt, gate, halt));
+        turn = joined(turn, crew.step_all(rt, gate, halt));
     }
-    round
+    turn
 }
 
 // The crews that the caller runs, after their work: all their stations have ended, or `halt` was set.
@@ -144,9 +144,9 @@ fn run_here<R: Wait, G: Gate>(rt: &R, gate: &G, mut here: Vec<Crew>, halt: &Atom
             break;
         }
         match step_here(rt, gate, &mut here, halt) {
-            Round::Over => break,
-            Round::Moved => {}
-            Round::Still => thread::yield_now(),
+            Turn::Over => break,
+            Turn::Moved => {}
+            Turn::Still => thread::yield_now(),
         }
     }
     here

@@ -161,8 +161,8 @@ impl<N: PhasedNode<Mail = Letter>> Station<N> {
         }
     }
 
-    /// One step: the push of the letter that is kept, or else what the node's act says. NotReady means that a queue was full or empty at
-    /// this call's own step. Want of memory comes only from a local step, and changes nothing.
+    /// One step: the push of the letter that is kept, or else what the node's act says. NotReady means that the push or the pop was
+    /// refused, which a queue does where it is full or empty at that step. Want of memory comes only from a local step, and changes nothing.
     pub fn step<R: Wait>(&mut self, rt: &R) -> Result<Stepped, OutOfMemory>
         ensures same { fixed self.new ≡ fixed self.old }
         ensures step { IfOk result (λ r. IsStationStep N.steps self.old r self.new) }
