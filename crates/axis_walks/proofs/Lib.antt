@@ -1,0 +1,3 @@
+pub mod Tests
+mod Merges
+mod RowLaws
