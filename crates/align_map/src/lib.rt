@@ -14,5 +14,5 @@ mod subscripts;
 
 pub use composition::compose;
 pub use laws::composed_owners;
-pub use owners::{coordinate_of, least_owner, node_coordinate, owns};
+pub use owners::{coordinate_of, least_owner, node_coordinate, owns, position};
 pub use subscripts::linear;

@@ -84,8 +84,8 @@ pub fn coordinate_of(line: &Line, subscript: i128) -> u32
     owner(line, position(line, subscript))
 }
 
-/// The position, from 1, at which a subscript stands in a line.
-fn position(line: &Line, subscript: i128) -> u64
+/// The position, from 1, at which a subscript stands in a line. It takes no memory.
+pub fn position(line: &Line, subscript: i128) -> u64
     requires line { IsLine line.now }
     requires inside { InLine line.now (Some subscript) }
     ensures value { result ≡ unsigned_abs (position_at line.now subscript) }

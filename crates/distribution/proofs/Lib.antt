@@ -1,1 +1,3 @@
+pub mod Cycles
+pub mod Repeats
 pub mod CountLaws

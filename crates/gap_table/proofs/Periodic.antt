@@ -1,5 +1,5 @@
 -- What passes a test that repeats.
-use Rattle.std.proofs.Common.{◌≡◌, ℕ, zero, suc, ◌+◌, ◌-◌, ◌*◌, ◌/◌, ◌%◌, ◌<◌, ◌≤◌, ◌⊎◌, inl, inr, Bool, true, false, cond, List, [], ◌∷◌, ◌++◌, refl, sym, ◌∙◌, ap, arith, length, length-append, map, get_or}
+use Rattle.std.proofs.Common.{◌≡◌, ℕ, zero, suc, ◌+◌, ◌-◌, ◌*◌, ◌/◌, ◌%◌, ◌<◌, ◌≤◌, ◌⊎◌, inl, inr, Bool, List, [], ◌++◌, refl, sym, ◌∙◌, ap, arith, length, length-append, map, get_or}
 use Rattle.std.proofs.Math.ListN.{get_or-append}
 use Rattle.std.proofs.Math.Nat.{mod-eq_of_lt, div-eq_of_lt, add-div_left, add-mod_left}
 use Rattle.std.proofs.lemmas.Grind.{same_number_lists}
@@ -10,6 +10,7 @@ use Rattle.std.proofs.lemmas.List.FromFn.{length-map-range_with_len, get_or-map-
 use Rattle.std.specs.Prelude.{filter}
 use Rattle.std.specs.List.{range_with_len}
 use Rattle.hpf_base.proofs.Ranges.{range_with_len-add}
+use Rattle.distribution.proofs.Repeats.{filter-shifted}
 use Rattle.gap_table.specs.GapTable.{place_at}
 
 -- the first places of a table are its offsets
@@ -26,20 +27,6 @@ first_places T xs ys = same_number_lists _ _ (length-map-range_with_len (place_a
         let d : k / length (xs ++ ys) ≡ 0 = div-eq_of_lt whole in
         let front : get_or (xs ++ ys) k 0 ≡ get_or xs k 0 = get_or-append xs ys 0 k inside in
         rw (m, d) (omega (arith, front))
-
--- a test that repeats passes the same, a period further
-filter-shifted : (P : ℕ → Bool) (T : ℕ) → ((j : ℕ) → P (j + T) ≡ P j) → (a n : ℕ)
-    → filter P (range_with_len (a + T) n) ≡ map (λ j. j + T) (filter P (range_with_len a n))
-filter-shifted P T repeats a zero = refl
-filter-shifted P T repeats a (suc n) =
-    let next : a + T + 1 ≡ a + 1 + T = omega arith in
-    ap (λ b. cond b ((a + T) ∷ filter P (range_with_len (a + T + 1) n)) (filter P (range_with_len (a + T + 1) n))) (repeats a)
-    ∙ ap (λ ys. cond (P a) ((a + T) ∷ ys) ys) (ap (λ b. filter P (range_with_len b n)) next ∙ filter-shifted P T repeats (a + 1) n)
-    ∙ by_case (P a) (filter P (range_with_len (a + 1) n))
-  where
-    by_case : (b : Bool) (ys : List ℕ) → cond b ((a + T) ∷ map (λ j. j + T) ys) (map (λ j. j + T) ys) ≡ map (λ j. j + T) (cond b (a ∷ ys) ys)
-    by_case true ys = refl
-    by_case false ys = refl
 
 -- a range in two parts, filtered
 pub split : (P : ℕ → Bool) (r T : ℕ) → r ≤ T → filter P (range_with_len 0 T) ≡ filter P (range_with_len 0 r) ++ filter P (range_with_len (0 + r) (T - r))
@@ -95,7 +82,7 @@ filter-periodic-step P T repeats (suc q) r below os is =
     ap (λ n. filter P (range_with_len 0 n)) n-is
     ∙ ap (filter P) (range_with_len-add 0 T (q * T + r)) ∙ filter-append P (range_with_len 0 T) (range_with_len (0 + T) (q * T + r))
     ∙ ap (λ ys. ys ++ filter P (range_with_len (0 + T) (q * T + r))) (sym is)
-    ∙ ap (λ ys. os ++ ys) (filter-shifted P T repeats 0 (q * T + r) ∙ ap (map (λ j. j + T)) (filter-periodic-step P T repeats q r below os is) ∙ sym (places_shifted T os l none))
+    ∙ ap (λ ys. os ++ ys) (filter-shifted P T 0 (λ j low. repeats j) 0 (q * T + r) (omega arith) ∙ ap (map (λ j. j + T)) (filter-periodic-step P T repeats q r below os is) ∙ sym (places_shifted T os l none))
     ∙ ap (λ xs. xs ++ map (place_at 0 T os) (range_with_len (length os) l))
     (sym (first_places T os []) ∙ ap (λ o. map (place_at 0 T o) (range_with_len 0 (length os))) (append-nil os))
     ∙ sym (map-append (place_at 0 T os) (range_with_len 0 (length os)) (range_with_len (length os) l))

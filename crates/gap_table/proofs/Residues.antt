@@ -1,23 +1,12 @@
 -- The residues of a block, and the places that lead to them.
 use Rattle.std.proofs.Common.{◌≡◌, ℕ, ◌+◌, ◌-◌, ◌*◌, ◌/◌, ◌%◌, ◌<◌, ◌≤◌, refl, sym, ◌∙◌, ap, subst, arith}
 use Rattle.std.proofs.Math.Nat.{mod-eq_of_lt, add-mul-mod_self_left, mod-add-div, mul-le-mul_right}
-use Rattle.std.proofs.lemmas.Nat.{mod_below, same_from_place}
-use Rattle.std.specs.Int.{div_ceil}
+use Rattle.std.proofs.lemmas.Nat.{mod_below}
 use Rattle.mappings.specs.declared.mapping.Form.TheVariants.{Cyclic}
 use Rattle.mappings.specs.Owner.{coordinate_under}
-use Rattle.mappings.proofs.Blocks.{coordinate-within}
+use Rattle.distribution.proofs.Cycles.{coordinate-block, owned}
 use Rattle.congruences.specs.Naturals.{AreCongruentNaturals, IsInverse}
 use Rattle.congruences.proofs.Solutions.{factor_times, one_number, pos_of_product}
-
--- where a position stands: in a block of a cycle
-pub coordinate-block : (k procs p : ℕ) → 1 ≤ k → 1 ≤ p
-    → (b : ℕ) × (r : ℕ) × (r < k) × (p ≡ (b * procs + coordinate_under (Cyclic k) procs p) * k + 1 + r)
-coordinate-block k procs p some begins =
-    let within = coordinate-within k p some begins in
-    let split : (div_ceil p k - 1) % procs + procs * ((div_ceil p k - 1) / procs) ≡ div_ceil p k - 1 = mod-add-div (div_ceil p k - 1) procs in
-    let same : ((div_ceil p k - 1) / procs * procs + (div_ceil p k - 1) % procs) * k ≡ (div_ceil p k - 1) * k = ap (λ c. c * k)
-    (let e : (div_ceil p k - 1) / procs * procs + (div_ceil p k - 1) % procs ≡ div_ceil p k - 1 = omega (arith, split) in e) in
-    ((div_ceil p k - 1) / procs, p - 1 - (div_ceil p k - 1) * k, omega (arith, within.0, within.1), omega (arith, within.0, within.1, same))
 
 -- what leads from a place to its residue, in one equation
 forward_sum : (M d t g c u v w e i n y a b first start lo r0 : ℕ)
@@ -58,14 +47,6 @@ leads k procs q start d g t u n i some inside begins is period place =
     let whole : q * k + 1 + distance % g + g * (distance / g) ≡ start + k * procs = omega (arith, room, split) in
     let ny : n + t * ((first + i * u) / t) ≡ first + i * u = rw place (mod-add-div (first + i * u) t) in
     (_, _, forward_sum M d t g c u v w (distance / g) i n ((first + i * u) / t) f.0 f.1 first start (q * k + 1) (distance % g) (factor_times d M g t u is) is.inverse.2 ny f.2 whole)
-
--- a position with a residue in the block is owned
-pub owned : (k procs q p r a b : ℕ) → 1 ≤ k → q < procs → 1 ≤ p → r < k → p + k * procs * a ≡ q * k + 1 + r + k * procs * b → coordinate_under (Cyclic k) procs p ≡ q
-owned k procs q p r a b some inside begins below is =
-    let block = coordinate-block k procs p some begins in
-    let stands : ((block.0 + a) * procs + coordinate_under (Cyclic k) procs p) * k + block.1 ≡ (b * procs + q) * k + r = omega (arith, block.3, is) in
-    let row = same_from_place _ _ _ _ k block.2 below stands in
-    (same_from_place (block.0 + a) (coordinate_under (Cyclic k) procs p) b q procs (mod_below (div_ceil p k - 1) procs (omega (arith, inside))) inside row.0).1
 
 -- a place whose residue by g begins with that of another
 residue_from : (r rest g x y : ℕ) → 0 < g → rest < g → r + g * x ≡ rest + g * y → rest + r / g * g ≡ r

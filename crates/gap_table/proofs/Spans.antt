@@ -2,7 +2,7 @@
 use Rattle.std.proofs.Common.{◌≡◌, ℕ, zero, suc, ℤ, pos, negsuc, ◌+ℤ◌, ◌≤ℤ◌, ◌<ℤ◌, neg_ℤ, unsigned_abs, ◌+◌, ◌-◌, ◌*◌, ◌<◌, ◌≤◌, ◌⊎◌, inl, inr, ◌&&◌, nat_le, nat_lt, Bool, true, [], ◌∷◌, refl, sym, ◌∙◌, ap, subst, arith, map, min, max, eq-eqb, ◌==◌}
 use Rattle.std.proofs.Math.Nat.{lt_of_mul-lt-mul_right, mul-le-mul_right, mod-one, div-one}
 use Rattle.std.proofs.Math.IntN.{pos-*ℤ-pos, negsuc-*ℤ-pos, *ℤ-zero}
-use Rattle.std.proofs.lemmas.Bool.{cases_lt, eqb-true}
+use Rattle.std.proofs.lemmas.Bool.{cases_lt}
 use Rattle.std.proofs.lemmas.Bool.Decides.{nat_tests}
 use Rattle.std.proofs.lemmas.Grind.{div_ceil_times}
 use Rattle.std.proofs.lemmas.Int.{ints}
@@ -11,7 +11,7 @@ use Rattle.std.specs.Prelude.{filter}
 use Rattle.std.specs.List.{range_with_len}
 use Rattle.mappings.specs.declared.mapping.Form.TheVariants.{Whole, Block}
 use Rattle.mappings.specs.declared.mapping.Line.{Line}
-use Rattle.mappings.proofs.Blocks.{coordinate-within, coordinate-unique}
+use Rattle.distribution.proofs.Cycles.{in_block}
 use Rattle.mappings.specs.Mapping.{IsLine}
 use Rattle.mappings.specs.Positions.{in_section}
 use Rattle.hpf_base.proofs.Ranges.{map-range_shifted}
@@ -175,13 +175,6 @@ section_limited line start count stride same e is moves some section =
     })
 
 -- what a processor owns of a section under BLOCK(m), and of one that isn't distributed
-pub in_block : (m q p : ℕ) → 1 ≤ m → 1 ≤ p → in_section (q * m + 1) ((q + 1) * m) p ≡ (div_ceil p m - 1 == q)
-in_block m q p some begins = same_test _ _
-    (λ h. let w = in_section_true (q * m + 1) ((q + 1) * m) p h in eq-eqb _ _ (coordinate-unique m p q some begins (omega (arith, w.0)) w.1))
-    (λ h. let is : div_ceil p m - 1 ≡ q = eqb-true _ _ h in
-    let within = coordinate-within m p some begins in
-    in_section_holds (q * m + 1) ((q + 1) * m) p (omega (arith, rw is at within.0)) (rw is at within.1))
-
 pub in_whole : (extent q p : ℕ) → q < 1 → 1 ≤ p → p ≤ extent → in_section 1 extent p ≡ (0 == q)
 in_whole extent q p inside begins ends = let e : 0 ≡ q = omega (arith, inside) in in_section_holds 1 extent p begins ends ∙ sym (eq-eqb 0 q e)
 

@@ -4,7 +4,6 @@ use Rattle.std.proofs.Math.ListN.{get_or-append}
 use Rattle.std.proofs.Math.Nat.{mod-add-div, one-le-mul}
 use Rattle.std.proofs.lemmas.Nat.{mod_below}
 use Rattle.std.proofs.lemmas.Grind.{get_or_default_zero}
-use Rattle.std.specs.Int.{div_ceil}
 use Rattle.std.proofs.lemmas.Int.{ints}
 use Rattle.std.proofs.lemmas.Bool.{cases_lt}
 use Rattle.std.proofs.lemmas.Bool.Decides.{nat_tests}
@@ -15,13 +14,13 @@ use Rattle.std.specs.List.Sorted.{IsPartitionPoint}
 use Rattle.hpf_base.specs.declared.limits.TheConstants.{MAX_CYCLIC, MAX_TEMPLATE_EXTENT}
 use Rattle.mappings.specs.declared.mapping.Form.TheVariants.{Cyclic}
 use Rattle.mappings.specs.Owner.{coordinate_under}
+use Rattle.distribution.proofs.Cycles.{same_coordinate}
 use Rattle.gap_table.specs.GapTable.{IsGapTable, place_at}
 use Rattle.gap_table.specs.OwnedSequence.{position_of, owned_under}
 use Rattle.congruences.specs.Congruences.{residue_of}
 use Rattle.congruences.proofs.Remainders.{residue, scaled}
 use Rattle.gap_table.specs.Residues.{AreOffsets}
 use Rattle.gap_table.proofs.Periodic.{filter-periodic-step, split}
-use Rattle.gap_table.proofs.Residues.{coordinate-block, owned}
 use Rattle.gap_table.proofs.AscendingLists.{In, contains-in, in-filter, map_range-in}
 
 pub filter-agree : (P Q : ℕ → Bool) (lo n : ℕ) → ((j : ℕ) → lo ≤ j → j < lo + n → P j ≡ Q j) → filter P (range_with_len lo n) ≡ filter Q (range_with_len lo n)
@@ -29,14 +28,6 @@ filter-agree P Q lo zero same = refl
 filter-agree P Q lo (suc n) same =
     ap (λ b. cond b (lo ∷ filter P (range_with_len (lo + 1) n)) (filter P (range_with_len (lo + 1) n))) (same lo (omega arith) (omega arith))
     ∙ ap (λ ys. cond (Q lo) (lo ∷ ys) ys) (filter-agree P Q (lo + 1) n (λ j low high. same j (omega (arith, low)) (omega (arith, high))))
-
--- positions that are the same up to whole cycles have one coordinate
-pub same_coordinate : (k procs p p' a b : ℕ) → 1 ≤ k → 0 < procs → 1 ≤ p → 1 ≤ p' → p' + k * procs * a ≡ p + k * procs * b
-    → coordinate_under (Cyclic k) procs p' ≡ coordinate_under (Cyclic k) procs p
-same_coordinate k procs p p' a b some some_procs begins begins' same =
-    let block = coordinate-block k procs p some begins in
-    let point : p ≡ (block.0 * procs + coordinate_under (Cyclic k) procs p) * k + 1 + block.1 = block.3 in
-    owned k procs (coordinate_under (Cyclic k) procs p) p' block.1 a (block.0 + b) some (mod_below (div_ceil p k - 1) procs some_procs) begins' block.2 (omega (arith, same, point))
 
 -- a difference that isn't negative
 pub minus : (s x : ℕ) (z : ℤ) → z ≡ pos s +ℤ neg_ℤ (pos x) → pos 1 ≤ℤ z → (unsigned_abs z + x ≡ s) × (1 ≤ unsigned_abs z)

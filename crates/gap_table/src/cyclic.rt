@@ -104,6 +104,7 @@ fn cyclic_offsets<L: Ledger>(
         offset = (offset + inverse) % period;
     }
     offsets.sort_unstable();
+    // All offsets differ, so nothing is dropped: this makes the list strictly ascending without a proof that they do.
     offsets.dedup();
     Ok(Offsets { offsets, period })
 }

@@ -101,6 +101,22 @@ impl GapTable {
         self.len
     }
 
+    /// After how many numbers the places repeat. It takes no memory.
+    pub fn period(&self) -> u64
+        ensures value { result ≡ self.now.period }
+        ensures some { 1 ≤ self.now.period }
+    {
+        self.period
+    }
+
+    /// How many places there are in a period. It takes no memory.
+    pub fn in_period(&self) -> u64
+        ensures value { result ≡ length self.now.offsets }
+        ensures some { 1 ≤ self.now.len → 1 ≤ length self.now.offsets }
+    {
+        self.offsets.len() as u64
+    }
+
     /// The n-th place, counted from 0; None exactly where n isn't below the length. It takes no memory.
     pub fn nth(&self, n: u64) -> Option<u64>
         ensures { result ≡ (if nat_lt n self.now.len then Some (nth_of self.now n) else None) }

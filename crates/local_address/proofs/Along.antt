@@ -1,7 +1,7 @@
 -- To own an element is to agree along each dimension and in what all elements are given alike.
 use Rattle.std.proofs.Common.{◌≡◌, ℕ, zero, suc, ◌+◌, ◌<◌, ◌≤◌, ℤ, pos, ◌+ℤ◌, ◌*ℤ◌, Bool, true, false, cond, ◌&&◌, ◌==◌, not, List, [], ◌∷◌, refl, sym, ◌∙◌, ap, subst, arith, length, map, get_or, eq-eqb, All, AllPairs, Option, Some, None, option_map}
 use Rattle.std.proofs.Math.IntN.{zero-*ℤ}
-use Rattle.std.proofs.lemmas.Bool.{eqb-true, ne_eqb}
+use Rattle.std.proofs.lemmas.Bool.{both_ways, eqb-true, ne_eqb}
 use Rattle.std.proofs.lemmas.Bool.Decides.{Decides-int_eq}
 use Rattle.std.proofs.lemmas.Int.{ints}
 use Rattle.std.proofs.lemmas.List.{get_or-map}
@@ -16,6 +16,7 @@ use Rattle.mappings.specs.Alignment.{agrees, agrees_at, aligned, owns}
 use Rattle.hpf_base.specs.Grid.{node_coordinates}
 use Rattle.mappings.specs.Mapping.{InLine, IsAlign, IsMapDim, IsMapping, MoveApart, moves_along}
 use Rattle.local_address.specs.declared.axes.Axis.{Axis}
+use Rattle.local_address.specs.Pieces.{IsMoving}
 use Rattle.local_address.specs.Runs.{HasLine, InAxis, IsOfGrid, along, axis_along, axis_by, axis_or, coordinate_on, fixed_agrees, fixed_subscript, own_on}
 use Rattle.local_address.proofs.Tuples.{each}
 
@@ -84,7 +85,7 @@ entry-each coordinates index entry (At v) valid = and_more _ _ (each-true (λ k 
 entry-each coordinates index entry Every valid = sym (each-true (λ k i. true) 0 index (λ k i from. refl))
 
 -- an entry that moves along a dimension
-axis-moves : (k : ℕ) (entry : MapDim) (align : AlignDim) (axis : Axis) → axis_by k entry align ≡ Some axis → moves_along align ≡ Some k
+pub axis-moves : (k : ℕ) (entry : MapDim) (align : AlignDim) (axis : Axis) → axis_by k entry align ≡ Some axis → moves_along align ≡ Some k
 axis-moves k entry (Linear d a b) axis is = cases (int_eq a (pos 0)) (d == k) refl refl is
   where
     cases : (t u : Bool) → int_eq a (pos 0) ≡ t → (d == k) ≡ u
@@ -96,7 +97,7 @@ axis-moves k entry (Linear d a b) axis is = cases (int_eq a (pos 0)) (d == k) re
 axis-moves k entry (At v) axis is = cc
 axis-moves k entry Every axis is = cc
 
-no_axis : (k : ℕ) (align : AlignDim) (entries : List MapDim) → moves_along align ≡ Some k → All (λ e. MoveApart align e.align) entries → axis_along k entries ≡ None
+pub no_axis : (k : ℕ) (align : AlignDim) (entries : List MapDim) → moves_along align ≡ Some k → All (λ e. MoveApart align e.align) entries → axis_along k entries ≡ None
 no_axis k align [] moves apart = refl
 no_axis k align (e ∷ es) moves apart =
     cases (axis_by k e e.align) refl ∙ no_axis k align es moves (All-tail (λ x. MoveApart align x.align) e es apart)
@@ -140,7 +141,7 @@ axis-or-found : (Q : Option Axis → Type 0) (one other : Option Axis) → Q one
 axis-or-found Q None other here there = there
 axis-or-found Q (Some axis) other here there = here
 
-axis-found : (Q : Option Axis → Type 0) (k : ℕ) → Q None → (entries : List MapDim) → All (λ e. Q (axis_by k e e.align)) entries → Q (axis_along k entries)
+pub axis-found : (Q : Option Axis → Type 0) (k : ℕ) → Q None → (entries : List MapDim) → All (λ e. Q (axis_by k e e.align)) entries → Q (axis_along k entries)
 axis-found Q k none [] all = none
 axis-found Q k none (e ∷ es) all =
     axis-or-found Q (axis_by k e e.align) (axis_along k es) (All-head (λ x. Q (axis_by k x x.align)) e es all)
@@ -164,6 +165,21 @@ pub line-along : (mapping : Mapping) (rank k : ℕ) → IsMapping rank mapping
 line-along mapping rank k valid =
     axis-found (λ axis. HasLine axis × IsOfGrid mapping.grid axis) k (tt {0}, tt {0}) mapping.dims
     (λ n d within. line-by mapping.grid rank k (get_or mapping.dims n d) (valid.entries n d within) (get_or mapping.dims n d).align)
+
+moves-by : (k : ℕ) (entry : MapDim) (align : AlignDim) → IsMoving (axis_by k entry align)
+moves-by k entry (Linear d a b) = cases (int_eq a (pos 0)) (d == k) refl
+  where
+    cases : (t u : Bool) → int_eq a (pos 0) ≡ t
+        → IsMoving (cond (not t && u) (Some record { line = entry.line; grid_dim = entry.grid_dim; factor = a; offset = b }) None)
+    cases true u is = tt {0}
+    cases false false is = tt {0}
+    cases false true is = λ none. both_ways (int_eq a (pos 0)) is ((Decides-int_eq a (pos 0)).1 none)
+moves-by k entry (At v) = tt {0}
+moves-by k entry Every = tt {0}
+
+-- the entry that is found along a dimension moves
+pub moves-along : (k : ℕ) (entries : List MapDim) → IsMoving (axis_along k entries)
+moves-along k entries = axis-found IsMoving k (tt {0}) entries (λ n d within. moves-by k (get_or entries n d) (get_or entries n d).align)
 
 InAxis-by : (k : ℕ) (index : List ℤ) (entry : MapDim) (align : AlignDim) → k < length index → InLine entry.line (aligned align (map Some index))
     → InAxis (axis_by k entry align) (get_or index k (pos 0))

@@ -35,7 +35,7 @@ use Rattle.local_address.proofs.Along.{InAxis-along, owns-each}
 use Rattle.local_address.proofs.ElementLaws.{factors_some, length-index_at}
 use Rattle.local_address.proofs.Tuples.{each, filter-elements, last_of-append, length-tuples, no_tuples, passing, span_of-tuples}
 
-place-below : (extents : List ℕ) (n k : ℕ) → k < length extents → All (λ e. 1 ≤ e) extents → get_or (place_at extents n) k 0 < get_or extents k 0
+pub place-below : (extents : List ℕ) (n k : ℕ) → k < length extents → All (λ e. 1 ≤ e) extents → get_or (place_at extents n) k 0 < get_or extents k 0
 place-below [] n k within some = absurd (omega arith)
 place-below (e ∷ es) n zero within some = mod_below n e (All-head (λ x. 1 ≤ x) e es some)
 place-below (e ∷ es) n (suc k) within some = place-below es (n / e) k (omega arith) (All-tail (λ x. 1 ≤ x) e es some)
@@ -153,7 +153,7 @@ extent_most (e ∷ es) (suc k) within some =
     omega (arith, rest, extent_most es k (omega arith) (All-tail (λ x. 1 ≤ x) e es some))
 
 -- one dimension moved from the first element
-moved-inside : (shape : Shape) (dim place : ℕ) → IsShape shape → 1 ≤ product (extents_of shape) → dim < length shape.lower → place < get_or (extents_of shape) dim 0
+pub moved-inside : (shape : Shape) (dim place : ℕ) → IsShape shape → 1 ≤ product (extents_of shape) → dim < length shape.lower → place < get_or (extents_of shape) dim 0
     → IsInside shape (set shape.lower dim (get_or shape.lower dim (pos 0) +ℤ pos place))
 moved-inside shape dim place valid some within below = record {
   rank = length-set shape.lower dim i;
@@ -196,7 +196,7 @@ moved-inside shape dim place valid some within below = record {
         subst (λ z. z <ℤ (get_or shape.lower k (pos 0) +ℤ get_or shape.extent k (pos 0))) (sym (get_or-set_other shape.lower dim k i (pos 0) other))
         (subst (λ z. get_or shape.lower k (pos 0) <ℤ (get_or shape.lower k (pos 0) +ℤ z)) (sym (extent k inside)) (omega (arith, ints, some_at k inside)))
 
-inside_element : (mapping : Mapping) (shape : Shape) (index : List ℤ) → IsShape shape → IsInside shape index → All (MapsInside mapping) (elements shape) → MapsInside mapping index
+pub inside_element : (mapping : Mapping) (shape : Shape) (index : List ℤ) → IsShape shape → IsInside shape index → All (MapsInside mapping) (elements shape) → MapsInside mapping index
 inside_element mapping shape index valid inside all =
     let element = elements-contains shape index valid inside in subst (MapsInside mapping) element.2 (all element.0 index element.1)
 

@@ -120,7 +120,7 @@ fn entry_agrees(grid: &Grid, entry: &MapDim, node: NodeId) -> bool
 }
 
 /// The subscript that an alignment gives all elements alike, where it does.
-fn fixed_subscript(align: &AlignDim) -> Option<i64>
+pub fn fixed_subscript(align: &AlignDim) -> Option<i64>
     ensures { result ≡ fixed_subscript align.now }
 {
     match *align {

@@ -92,7 +92,7 @@ fn column_along(
 }
 
 /// The lower bound of a dimension, counted from 0.
-fn lower_of(lower: &[i64], dim: usize) -> i64
+pub fn lower_of(lower: &[i64], dim: usize) -> i64
     requires { dim < length lower.now }
     ensures { result ≡ slice_index_or lower.now dim (pos 0) }
 {

@@ -1,16 +1,21 @@
 //! A node's piece of a mapped array.
 
-ghost use Rattle.std.specs.Prelude.{◌≡◌, ◌↔◌, ℕ, ◌<◌, All, length, slice_get, Some, IfOk, IsNone, IsTrue, OnOk, filter, false, [], ◌∷◌, ◌++◌};
+ghost use Rattle.std.specs.Prelude.{◌≡◌, ◌↔◌, ℕ, ◌<◌, ◌≤◌, All, length, slice_get, Some, IfOk, IsNone, false, []};
 ghost use Rattle.hpf_base.specs.declared.index.Shape.{Shape};
+ghost use Rattle.hpf_base.specs.declared.limits.TheConstants.{MAX_RANK};
 ghost use Rattle.mappings.specs.declared.mapping.Mapping.{Mapping};
 ghost use Rattle.mappings.specs.Alignment.{owns};
-ghost use Rattle.hpf_base.specs.ElementOrder.{elements, IsInside, product};
+ghost use Rattle.hpf_base.specs.ElementOrder.{elements, extents_of, IsInside, product};
 ghost use Rattle.mappings.specs.LocalOrder.{local_elements};
 ghost use Rattle.hpf_base.specs.Shape.{IsShape};
 ghost use Rattle.mappings.specs.Mapping.{IsMapping, MapsInside};
+ghost use Rattle.local_address.specs.Pieces.{owned_along};
 
-use crate::element::{element_count, nth_element};
-use align_map::owns;
+use crate::axes::{axis_along, fixed_agree};
+use crate::columns::lower_of;
+use crate::element::{element_count, extent_of};
+use crate::owned::OwnedSubscripts;
+use crate::tuple_numbers::{nth_tuple, number_of, tuple_number};
 use hpf_base::{Index, NodeId, OutOfMemory, Shape};
 use mappings::Mapping;
 use std::alloc::Global;
@@ -20,18 +25,23 @@ use std::marker::Model;
 /// 6.2.2.2). Contracts see the list of them. An element's local address is its number in the list, from 0.
 #[derive(Drop)]
 pub struct Piece {
-    elements: Vec<Index>,
+    /// Whether the array has an element and the node has the coordinate of all of them in every entry that gives them one
+    /// subscript. Otherwise it owns none.
+    agrees: bool,
+    /// The subscripts that it owns along each dimension: its elements are their tuples.
+    dims: Vec<OwnedSubscripts>,
     alloc: Global,
 }
 
 impl Model for Piece {
-    ghost use Rattle.std.specs.Prelude.{◌≢◌, AllPairs, List, ℤ};
+    ghost use Rattle.std.specs.Prelude.{List, ℤ};
+    ghost use Rattle.local_address.specs.Pieces.{AreDimensions, tuples_where};
 
     ghost Value = { List (List ℤ) };
 
-    ghost view = { λ p. p.elements.items };
+    ghost view = { λ p. tuples_where p.agrees p.dims.items };
 
-    ghost invariant = { λ p. AllPairs (λ x y. x ≢ y) p.elements.items };
+    ghost invariant = { λ p. AreDimensions p.dims.items };
 }
 
 impl Piece {
@@ -49,13 +59,13 @@ impl Piece {
         requires node { node.0 < product map.now.grid }
         ensures { IfOk result (λ piece. piece ≡ local_elements map.now shape.now node.0) }
     {
-        let mut owned = Vec::new(alloc);
-        for number in 0..element_count(shape) {
-            let index = nth_element(alloc, shape, number);
-            push_owned(&mut owned, map, index, node)?;
+        if element_count(shape) == 0 || !fixed_agree(map, node) {
+            return Ok(empty_piece(alloc));
         }
+        let dims = owned_dims(alloc, map, shape, node)?;
         Ok(Piece {
-            elements: owned,
+            agrees: true,
+            dims,
             alloc,
         })
     }
@@ -64,7 +74,11 @@ impl Piece {
     pub fn len(&self) -> usize
         ensures { result ≡ length self.now }
     {
-        self.elements.len()
+        if self.agrees {
+            tuple_number(&self.dims) as usize
+        } else {
+            0
+        }
     }
 
     /// The element's local address, from 0; None exactly where the node doesn't own it. It takes no memory.
@@ -73,44 +87,63 @@ impl Piece {
         ensures none { (mapping : Mapping) (shape : Shape) (node : ℕ) → self.now ≡ local_elements mapping shape node
             → IsShape shape → IsInside shape index.now → (IsNone result ↔ (owns mapping index.now node ≡ false)) }
     {
-        for (address, element) in self.elements.iter().enumerate() {
-            if is_same(element, index) {
-                return Some(address);
-            }
+        if !self.agrees {
+            return None;
         }
-        None
+        let number = number_of(&self.dims, index.numbers())?;
+        Some(number as usize)
     }
 
     /// The element with this local address, from 0; None exactly where it is at least `len`. It takes no memory.
     pub fn element(&self, address: usize) -> Option<Index>
         ensures { result ≡ slice_get self.now address }
     {
-        let element = self.elements.get(address)?;
-        Index::new(self.alloc, element.numbers())
+        if address >= self.len() {
+            return None;
+        }
+        Some(nth_tuple(self.alloc, &self.dims, address as u64))
     }
 }
 
-/// Appends the element where the node owns it.
-fn push_owned(
-    owned: &mut Vec<Index>,
+/// The piece of a node that owns no element.
+fn empty_piece(alloc: Global) -> Piece
+    ensures { result ≡ [] }
+{
+    Piece {
+        agrees: false,
+        dims: Vec::new(alloc),
+        alloc,
+    }
+}
+
+/// What a node owns along each dimension of an array that has an element.
+fn owned_dims(
+    alloc: Global,
     map: &Mapping,
-    index: Index,
+    shape: &Shape,
     node: NodeId,
-) -> Result<(), OutOfMemory>
-    requires mapping { IsMapping (length index) map.now }
-    requires inside { MapsInside map.now index }
+) -> Result<Vec<OwnedSubscripts>, OutOfMemory>
+    requires mapping { IsMapping (length shape.now.lower) map.now }
+    requires shape { IsShape shape.now }
+    requires inside { All (MapsInside map.now) (elements shape.now) }
     requires node { node.0 < product map.now.grid }
-    ensures { OnOk result (owned.new.items ≡ owned.old.items ++ filter (λ element. owns map.now element node.0) (index ∷ [])) }
+    requires some { 1 ≤ product (extents_of shape.now) }
+    ensures short { IfOk result (λ dims. length dims.items ≤ MAX_RANK) }
+    ensures value { IfOk result (λ dims. dims.items ≡ owned_along map.now node.0 0 shape.now.lower (extents_of shape.now)) }
 {
-    if owns(map, &index, node) {
-        owned.push(index)?;
+    let mut dims = Vec::new(alloc);
+    let lower = shape.lower.numbers();
+    let extent = shape.extent.numbers();
+    for dim in 0..lower.len() {
+        let axis = axis_along(alloc, map, dim as u32)?;
+        dims.push(OwnedSubscripts::new(
+            alloc,
+            &map.grid,
+            &axis,
+            node,
+            lower_of(lower, dim),
+            extent_of(extent, dim),
+        )?)?;
     }
-    Ok(())
-}
-
-/// Whether the subscripts are the same.
-fn is_same(one: &Index, other: &Index) -> bool
-    ensures { IsTrue result ↔ (one.now ≡ other.now) }
-{
-    one.numbers() == other.numbers()
+    Ok(dims)
 }

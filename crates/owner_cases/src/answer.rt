@@ -1,8 +1,10 @@
 //! The answers to cases.
 
 use crate::composed::write_composed;
+use crate::integers::{write_common, write_divisor, write_solution};
 use crate::owned::{write_owners, write_piece};
 use crate::positions::{Asked, write_positions};
+use crate::tables::write_table;
 use case_texts::{Answers, Case, TextError};
 use std::alloc::{AllocError, Global};
 
@@ -31,6 +33,10 @@ fn write_answer(alloc: Global, out: &mut String, case: &Case) -> Result<(), Text
         "owners" => write_owners(alloc, out, written),
         "piece" => write_piece(alloc, out, written),
         "compose" => write_composed(alloc, out, written),
+        "table" => write_table(alloc, out, written),
+        "gcd" => write_divisor(alloc, out, written),
+        "solve" => write_solution(alloc, out, written),
+        "meet" => write_common(alloc, out, written),
         _ => Ok(()),
     }
 }

@@ -41,7 +41,7 @@ pub fn write_positions(
 }
 
 /// The line that is written so.
-fn written_line(alloc: Global, text: &str) -> Result<Option<Line>, TextError>
+pub fn written_line(alloc: Global, text: &str) -> Result<Option<Line>, TextError>
     ensures { IfOk result (λ line. IfSome line IsLine) }
 {
     let numbers = numbers(alloc, text)?;

@@ -1,30 +1,29 @@
-use Rattle.std.proofs.Common.{◌≡◌, ◌≢◌, ◌≤◌, sym, arith, length, AllPairs, subst}
-use Rattle.mappings.specs.Alignment.{owns}
-use Rattle.hpf_base.specs.ElementOrder.{elements}
-use Rattle.mappings.specs.LocalOrder.{local_elements}
-use Rattle.hpf_base.proofs.Elements.{AllPairs-filter, elements-distinct, length-elements}
-use Rattle.local_address.proofs.PieceLaws.{filter_all, filter_one_more}
+use Rattle.std.proofs.Common.{sym, ◌∙◌, arith}
+use Rattle.local_address.proofs.PieceLaws.{owned-dimensions, owned-elements}
+use Rattle.local_address.proofs.SpanLaws.{fixed-inside, owned-empty, owned-none}
 use Rattle.local_address.proofs.piece.Piece.new.Goals as goal
+use Rattle.local_address.proofs.piece.Piece.new.Goals.{then-element_count-eq0-via-then-element_count-eq0, then-element_count-eq0-via-else-element_count-eq0+then-not-fixed_agree}
 
-pub loop-number-preserved : goal.loop-number-preserved
-loop-number-preserved c =
-    filter_one_more (λ index. owns c.args.map.now index c.args.node.0) (elements c.args.shape.now) c.loop-number.owned.items c.push_owned.new.owned.items
-    c.loop-number.number c.nth_element-index.result c.nth_element-index.ensures.value c.loop-number.invariant c.in_ok-push_owned.ensures
+pub fixed_agree-requires-clause-inside : goal.fixed_agree-requires-clause-inside
+fixed_agree-requires-clause-inside c =
+    fixed-inside c.args.map.now c.args.shape.now c.requires.shape (omega (arith, c.element_count.ensures.value, c.if-element_count-eq0.false)) c.requires.mapping
+    c.requires.inside
+
+pub returns-then-element_count-eq0 : goal.returns-then-element_count-eq0
+returns-then-element_count-eq0 c = c.empty_piece.ensures ∙ elim c.then-element_count-eq0.branch [
+  | then-element_count-eq0-via-then-element_count-eq0 w ↦
+      sym (owned-empty c.args.map.now c.args.shape.now c.args.node.0 (sym c.element_count.ensures.value ∙ w.if-element_count-eq0.true))
+  | then-element_count-eq0-via-else-element_count-eq0+then-not-fixed_agree w ↦
+      sym (owned-none c.args.map.now c.args.shape.now c.args.node.0 c.requires.shape c.requires.mapping (sym w.if-not-fixed_agree.true ∙ w.fixed_agree.ensures))
+]
 
 pub invariant_of-result : goal.invariant_of-result
 invariant_of-result c =
-    let all : length (elements c.args.shape.now) ≤ c.loop-number.number =
-    omega (arith, length-elements c.args.shape.now, c.element_count-number-end.ensures.value, c.loop-number-test.false) in
-    let is : c.loop-number.owned.items ≡ local_elements c.args.map.now c.args.shape.now c.args.node.0 =
-    filter_all (λ index. owns c.args.map.now index c.args.node.0) (elements c.args.shape.now) c.loop-number.owned.items c.loop-number.number all
-    c.loop-number.invariant in
-    subst (AllPairs (λ x y. x ≢ y)) (sym is)
-    (AllPairs-filter (λ x y. x ≢ y) (λ index. owns c.args.map.now index c.args.node.0) (elements c.args.shape.now)
-    (elements-distinct c.args.shape.now c.requires.shape))
+    owned-dimensions c.args.map.now c.args.shape.now c.args.node.0 c.in_ok-dims.dims.items c.requires.shape c.requires.mapping
+    (sym c.if-not-fixed_agree.false ∙ c.fixed_agree.ensures) (omega (arith, c.element_count.ensures.value, c.if-element_count-eq0.false)) c.in_ok-dims.ensures.short
+    c.in_ok-dims.ensures.value
 
 pub returns : goal.returns
 returns c =
-    let all : length (elements c.args.shape.now) ≤ c.loop-number.number =
-    omega (arith, length-elements c.args.shape.now, c.element_count-number-end.ensures.value, c.loop-number-test.false) in
-    filter_all (λ index. owns c.args.map.now index c.args.node.0) (elements c.args.shape.now) c.loop-number.owned.items c.loop-number.number all
-    c.loop-number.invariant
+    owned-elements c.args.map.now c.args.shape.now c.args.node.0 c.in_ok-dims.dims.items c.requires.shape c.requires.mapping
+    (sym c.if-not-fixed_agree.false ∙ c.fixed_agree.ensures) c.in_ok-dims.ensures.value
