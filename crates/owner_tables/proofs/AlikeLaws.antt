@@ -1,9 +1,8 @@
 -- Where a node owns an element, any node owns it exactly where the two are alike.
-use Rattle.std.proofs.Common.{◌≡◌, ℕ, ◌<◌, ◌≤◌, true, ◌==◌, ◌&&◌, ℤ, pos, ◌+ℤ◌, ◌*ℤ◌, List, [], ◌∷◌, Option, Some, None, get_or, length, map, refl, sym, ◌∙◌, ap, subst, arith, eq-eqb, All, filter}
+use Rattle.std.proofs.Common.{◌≡◌, ℕ, ◌<◌, true, ◌==◌, ◌&&◌, ℤ, pos, ◌+ℤ◌, ◌*ℤ◌, List, [], ◌∷◌, Option, Some, None, get_or, length, map, refl, sym, ◌∙◌, ap, subst, arith, eq-eqb, All, filter}
 use Rattle.std.proofs.lemmas.Bool.{and_from, and_parts, eqb-true}
 use Rattle.std.proofs.lemmas.List.{get_or-map, length-map}
 use Rattle.std.proofs.lemmas.List.Elements.{All-head, All-tail}
-use Rattle.std.proofs.lemmas.List.FromFn.{get_or-map-range_with_len}
 use Rattle.std.specs.List.{list_all, range_with_len}
 use Rattle.std.specs.Prelude.{option_map, unsigned_abs}
 use Rattle.hpf_base.specs.declared.index.Shape.{Shape}
@@ -22,11 +21,11 @@ use Rattle.hpf_base.proofs.Places.{length-place_at, place_at}
 use Rattle.mappings.proofs.Sections.{same_test}
 use Rattle.local_address.proofs.ElementLaws.{length-index_at}
 use Rattle.machine_steps.proofs.Owners.{owned-inside}
-use Rattle.machine_steps.specs.Layout.{Layout, count_passing, element_index, first, owned_by, size_of}
+use Rattle.machine_steps.specs.Layout.{Layout, element_index, owned_by, size_of}
 use Rattle.owner_tables.specs.Alike.{alike_nodes, is_alike, is_alike_at, is_alike_in, leader}
 use Rattle.owner_tables.specs.Layouts.{IsLaid}
-use Rattle.owner_tables.specs.Numbers.{AreOwnedByLeast, count_of, least_at, least_owners, number_at}
-use Rattle.owner_tables.proofs.Ranges.{count-agree, filter-agree, first-agree, first-passes}
+use Rattle.owner_tables.specs.Numbers.{least_at}
+use Rattle.owner_tables.proofs.Ranges.{filter-agree, first-agree, first-passes}
 
 same_coordinate : (line : Line) (one other : ℕ) (given : Option ℤ) (subscript : ℤ) → given ≡ Some subscript
     → agrees_at line one given ≡ true → agrees_at line other given ≡ (one == other)
@@ -83,7 +82,7 @@ alike-turned mapping one other = alike-turned-in (node_coordinates mapping.grid 
 
 -- ---- owners
 
-element_index-rank : (shape : Shape) (at : ℕ) → IsShape shape → at < product (extents_of shape) → length (element_index shape at) ≡ length shape.lower
+pub element_index-rank : (shape : Shape) (at : ℕ) → IsShape shape → at < product (extents_of shape) → length (element_index shape at) ≡ length shape.lower
 element_index-rank shape at valid below =
     ap length (elements-get shape at [] below)
     ∙ length-index_at shape.lower (place_at (extents_of shape) at)
@@ -95,19 +94,6 @@ module _ (mapping : Mapping) (index : List ℤ) (valid : IsMapping (length index
       alike-entries (node_coordinates mapping.grid one) (node_coordinates mapping.grid other) index mapping.dims
       (λ k d within. (valid.entries k d within).align) h
 
-  -- the leader of an owner is the first owner
-  leader-first : (nodes node : ℕ) → owns mapping index node ≡ true → first (owns mapping index) 0 nodes ≡ leader mapping nodes node
-  leader-first nodes node h = first-agree (owns mapping index) (is_alike mapping node) 0 nodes (λ k from upto. alike-owns node k h)
-
-  pub leader-owns : (nodes node : ℕ) (leaders : List ℕ) → leaders ≡ map (leader mapping nodes) (range_with_len 0 nodes) → node < nodes
-      → owns mapping index node ≡ true
-      → (get_or leaders node 0 ≡ first (owns mapping index) 0 nodes) × (get_or leaders node 0 < nodes) × (owns mapping index (get_or leaders node 0) ≡ true)
-  leader-owns nodes node leaders are within h =
-      let is : get_or leaders node 0 ≡ first (owns mapping index) 0 nodes =
-      ap (λ l. get_or l node 0) are ∙ get_or-map-range_with_len (leader mapping nodes) 0 nodes node node 0 within (omega arith) ∙ sym (leader-first nodes node h) in
-      let found = first-passes (owns mapping index) 0 nodes node (omega arith) (omega arith) h in
-      (is, omega (arith, is, found.1), ap (owns mapping index) is ∙ found.0)
-
 module _ (nodes : ℕ) (layout : Layout) (laid : IsLaid nodes layout) where
   valid-at : (at : ℕ) → at < size_of layout → IsMapping (length (element_index layout.shape at)) layout.mapping
   unfolding size_of
@@ -118,6 +104,11 @@ module _ (nodes : ℕ) (layout : Layout) (laid : IsLaid nodes layout) where
       owned-inside layout other at below
       ∙ alike-owns layout.mapping (element_index layout.shape at) (valid-at at below) one other (sym (owned-inside layout one at below) ∙ h)
 
+  -- where a node owns an element, its owners are those alike to the node
+  pub sharers-own : (node at : ℕ) → at < size_of layout → owned_by layout node at ≡ true
+      → filter (λ other. owned_by layout other at) (range_with_len 0 nodes) ≡ alike_nodes layout.mapping nodes node
+  sharers-own node at below h = filter-agree _ _ 0 nodes (λ k from upto. alike-owned at node k below h)
+
   leader-of-owner : (node at : ℕ) → at < size_of layout → owned_by layout node at ≡ true → least_at nodes layout at ≡ leader layout.mapping nodes node
   leader-of-owner node at below h = first-agree _ _ 0 nodes (λ k from upto. alike-owned at node k below h)
 
@@ -126,12 +117,12 @@ module _ (nodes : ℕ) (layout : Layout) (laid : IsLaid nodes layout) where
       let lead = first-passes (is_alike layout.mapping node) 0 nodes node (omega arith) (omega arith) (alike-self layout.mapping node) in
       omega (arith, lead.1)
 
-  module _ (dealt : AreOwnedByLeast nodes layout (size_of layout)) where
+  module _ (dealt : (at : ℕ) → at < size_of layout → owned_by layout (least_at nodes layout at) at ≡ true) where
     -- the nodes alike to the least owner are the owners
     pub owners-alike : (at : ℕ) → at < size_of layout
         → alike_nodes layout.mapping nodes (least_at nodes layout at) ≡ filter (λ node. owned_by layout node at) (range_with_len 0 nodes)
     owners-alike at below =
-        filter-agree _ _ 0 nodes (λ k from upto. sym (alike-owned at (least_at nodes layout at) k below (dealt at below).1))
+        filter-agree _ _ 0 nodes (λ k from upto. sym (alike-owned at (least_at nodes layout at) k below (dealt at below)))
 
     -- a node owns the elements whose least owner is its leader
     pub owned-by-leader : (node at : ℕ) → node < nodes → at < size_of layout → (least_at nodes layout at == leader layout.mapping nodes node) ≡ owned_by layout node at
@@ -142,28 +133,6 @@ module _ (nodes : ℕ) (layout : Layout) (laid : IsLaid nodes layout) where
         same_test _ _
         (λ h.
         let is : least_at nodes layout at ≡ leader mapping nodes node = eqb-true _ _ h in
-        alike-owned at (least_at nodes layout at) node below (dealt at below).1
+        alike-owned at (least_at nodes layout at) node below (dealt at below)
         ∙ alike-turned mapping (least_at nodes layout at) node ∙ ap (is_alike mapping node) is ∙ lead)
         (λ h. eq-eqb _ _ (leader-of-owner node at below h))
-
-    least-get : (at : ℕ) → at < size_of layout → get_or (least_owners nodes layout) at 0 ≡ least_at nodes layout at
-    least-get at below = get_or-map-range_with_len (least_at nodes layout) 0 (size_of layout) at at 0 below (omega arith)
-
-    counted : (node done : ℕ) → node < nodes → done ≤ size_of layout
-        → count_of (least_owners nodes layout) done (leader layout.mapping nodes node) ≡ count_passing (owned_by layout node) 0 done
-    counted node done within upto = count-agree _ _ 0 done
-        (λ k from below.
-        let inside : k < size_of layout = omega (arith, below, upto) in
-        ap (λ least. least == leader layout.mapping nodes node) (least-get k inside) ∙ owned-by-leader node k within inside)
-
-    -- a node owns as many elements as have its leader as their least owner
-    pub owned-count : (node : ℕ) → node < nodes
-        → count_of (least_owners nodes layout) (size_of layout) (leader layout.mapping nodes node) ≡ count_passing (owned_by layout node) 0 (size_of layout)
-    owned-count node within = counted node (size_of layout) within (omega arith)
-
-    -- an element's number among those with its least owner is its local address
-    pub owned-address : (node at : ℕ) → node < nodes → at < size_of layout → owned_by layout node at ≡ true
-        → number_at (least_owners nodes layout) at ≡ count_passing (owned_by layout node) 0 at
-    owned-address node at within below h =
-        ap (count_of (least_owners nodes layout) at) (least-get at below ∙ leader-of-owner node at below h)
-        ∙ counted node at within (omega (arith, below))

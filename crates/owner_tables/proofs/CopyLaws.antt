@@ -21,7 +21,7 @@ use Rattle.mappings.proofs.Blocks.{coordinate-within, default_block-all, default
 use Rattle.hpf_base.proofs.Elements.{elements-get, length-elements}
 use Rattle.hpf_base.proofs.Places.{length-place_at, number_of, place_at, place_at-number_of, places-get}
 use Rattle.local_address.proofs.ElementLaws.{factors_some}
-use Rattle.machine_steps.specs.Layout.{IsDealt, element_index, owned_by, size_of}
+use Rattle.machine_steps.specs.Layout.{IsDealt, element_index, size_of}
 use Rattle.machine_steps.proofs.Owners.{owned-inside}
 use Rattle.machine_steps.specs.CopyLayout.{copy_dims, copy_extents, copy_layout, copy_mapping, copy_shape}
 use Rattle.machine_steps.specs.Space.{space_count}

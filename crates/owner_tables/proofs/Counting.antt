@@ -1,32 +1,37 @@
--- The counts of elements by their least owners, with one element more.
-use Rattle.std.proofs.Common.{◌≡◌, ℕ, suc, ◌+◌, ◌<◌, true, false, ◌==◌, List, get_or, set, map, refl, sym, ◌∙◌, ap, arith, eq-eqb}
+-- How many of the first numbers have each value of a function, with one number more.
+use Rattle.std.proofs.Common.{◌≡◌, ℕ, ◌+◌, ◌<◌, ◌≤◌, Bool, ◌==◌, cond, List, [], ◌∷◌, get_or, set, length, map, filter, refl, sym, ◌∙◌, ap, arith, eq-eqb}
 use Rattle.std.proofs.lemmas.Bool.{ne_eqb}
-use Rattle.std.proofs.lemmas.List.FromFn.{get_or-map-range_with_len}
+use Rattle.std.proofs.lemmas.List.{length-append}
+use Rattle.std.proofs.lemmas.List.FromFn.{get_or-map-range_with_len, length-range_with_len}
+use Rattle.std.proofs.lemmas.List.Sums.{count_by-le-length, length-filter}
 use Rattle.std.specs.List.{range_with_len}
-use Rattle.owner_tables.specs.Numbers.{count_of, number_at}
-use Rattle.owner_tables.proofs.Ranges.{count-more, set-range}
+use Rattle.owner_tables.proofs.Ranges.{filter-range_push, set-range}
 
-module _ (least : List ℕ) (nodes at : ℕ) (within : get_or least at 0 < nodes) (counts : List ℕ) (is : counts ≡ map (count_of least at) (range_with_len 0 nodes)) where
-  abbrev node : ℕ
-  node = get_or least at 0
+abbrev pub count : (ℕ → ℕ) → ℕ → ℕ → ℕ
+count f n c = length (filter (λ k. f k == c) (range_with_len 0 n))
 
-  pub count-here : get_or counts node 0 ≡ number_at least at
-  count-here = ap (λ l. get_or l node 0) is ∙ get_or-map-range_with_len (count_of least at) 0 nodes node node 0 within (omega arith)
+count-push : (P : ℕ → Bool) (n : ℕ) → length (filter P (range_with_len 0 (n + 1))) ≡ length (filter P (range_with_len 0 n)) + length (filter P (n ∷ []))
+count-push P n =
+    ap length (sym (filter-range_push P (filter P (range_with_len 0 n)) _ n refl refl)) ∙ length-append (filter P (range_with_len 0 n)) (filter P (n ∷ []))
 
-  next : at + 1 ≡ suc at
-  next = omega arith
+pub count-few : (P : ℕ → Bool) (n : ℕ) → length (filter P (range_with_len 0 n)) ≤ n
+count-few P n = omega (arith, length-filter P (range_with_len 0 n), count_by-le-length P (range_with_len 0 n), length-range_with_len 0 n)
 
-  counted : count_of least (at + 1) node ≡ get_or counts node 0 + 1
+module _ (f : ℕ → ℕ) (values at : ℕ) (within : f at < values) (counts : List ℕ) (is : counts ≡ map (count f at) (range_with_len 0 values)) where
+  pub count-here : get_or counts (f at) 0 ≡ count f at (f at)
+  count-here = ap (λ l. get_or l (f at) 0) is ∙ get_or-map-range_with_len (count f at) 0 values (f at) (f at) 0 within (omega arith)
+
+  counted : count f (at + 1) (f at) ≡ get_or counts (f at) 0 + 1
   counted =
-      let more : count_of least (suc at) node ≡ suc (count_of least at node) =
-      count-more (λ k. get_or least k 0 == node) true 0 at at (omega arith) (eq-eqb node node refl) in
-      ap (λ n. count_of least n node) next ∙ more ∙ omega (arith, count-here)
+      let one : length (filter (λ k. f k == f at) (at ∷ [])) ≡ 1 = ap (λ b. length (cond b (at ∷ []) [])) (eq-eqb (f at) (f at) refl) in
+      omega (arith, count-push (λ k. f k == f at) at, one, count-here)
 
-  others : (k : ℕ) → (k ≡ node → ⊥) → count_of least at k ≡ count_of least (at + 1) k
-  others k other = sym
-      (ap (λ n. count_of least n k) next ∙ count-more (λ j. get_or least j 0 == k) false 0 at at (omega arith) (ne_eqb node k (λ e. other (sym e))))
+  others : (c : ℕ) → (c ≡ f at → ⊥) → count f at c ≡ count f (at + 1) c
+  others c other =
+      let none : length (filter (λ k. f k == c) (at ∷ [])) ≡ 0 = ap (λ b. length (cond b (at ∷ []) [])) (ne_eqb (f at) c (λ e. other (sym e))) in
+      omega (arith, count-push (λ k. f k == c) at, none)
 
-  pub counts-next : set counts node (get_or counts node 0 + 1) ≡ map (count_of least (at + 1)) (range_with_len 0 nodes)
+  pub counts-next : set counts (f at) (get_or counts (f at) 0 + 1) ≡ map (count f (at + 1)) (range_with_len 0 values)
   counts-next =
-      ap (λ l. set l node (get_or counts node 0 + 1)) is
-      ∙ set-range (count_of least at) (count_of least (at + 1)) 0 nodes node node (get_or counts node 0 + 1) (omega arith) within counted others
+      ap (λ l. set l (f at) (get_or counts (f at) 0 + 1)) is
+      ∙ set-range (count f at) (count f (at + 1)) 0 values (f at) (f at) (get_or counts (f at) 0 + 1) (omega arith) within counted others

@@ -1,5 +1,6 @@
 -- The first number of a range that passes, and how many of its numbers pass.
-use Rattle.std.proofs.Common.{◌≡◌, ℕ, zero, suc, ◌+◌, ◌<◌, ◌≤◌, Bool, true, false, if◌then◌else◌, ℤ, List, [], ◌∷◌, ◌++◌, Some, get_or, set, replicate, map, filter, find, refl, sym, ◌∙◌, ap, arith}
+use Rattle.std.proofs.Common.{◌≡◌, ℕ, zero, suc, ◌+◌, ◌<◌, ◌≤◌, ◌⊎◌, inl, inr, length, Bool, true, false, if◌then◌else◌, ℤ, List, [], ◌∷◌, ◌++◌, Some, get_or, set, replicate, map, filter, find, refl, sym, ◌∙◌, ap, arith}
+use Rattle.std.proofs.lemmas.Bool.{cases_eq}
 use Rattle.std.proofs.lemmas.Option.{same_Some}
 use Rattle.std.proofs.lemmas.List.Elements.{filter-append}
 use Rattle.std.specs.List.{range_with_len}
@@ -56,6 +57,22 @@ first-passes P lo (suc len) n from below passes =
     by_test true is ih = (is, omega arith)
     by_test false is ih = let rest = ih (λ e. cc) in (rest.0, omega (arith, rest.1))
 
+-- it is the one before which none passes
+pub first-is : (P : ℕ → Bool) (lo len n : ℕ) → lo ≤ n → n < lo + len → P n ≡ true → ((k : ℕ) → lo ≤ k → k < n → P k ≡ true → ⊥) → first P lo len ≡ n
+first-is P lo zero n from below passes none = absurd (omega arith)
+first-is P lo (suc len) n from below passes none =
+    by_case (cases_eq lo n) (λ later. first-is P (lo + 1) len n later (omega arith) passes (λ k low high. none k (omega arith) high))
+  where
+    not-passing : (b : Bool) → lo < n → P lo ≡ b → P lo ≡ false
+    not-passing true less is = absurd (none lo (omega arith) less is)
+    not-passing false less is = is
+
+    by_case : (lo ≡ n) ⊎ (lo ≡ n → ⊥) → (lo + 1 ≤ n → first P (lo + 1) len ≡ n) → (if P lo then lo else first P (lo + 1) len) ≡ n
+    by_case (inl same) ih = ap (λ b. if b then lo else first P (lo + 1) len) (ap P same ∙ passes) ∙ same
+    by_case (inr other) ih =
+        let less : lo < n = omega (arith, other) in
+        ap (λ b. if b then lo else first P (lo + 1) len) (not-passing (P lo) less refl) ∙ ih (omega (arith, less))
+
 pub filter-head : (P : ℕ → Bool) (lo len : ℕ) → get_or (filter P (range_with_len lo len)) 0 0 ≡ first P lo len
 filter-head P lo zero = refl
 filter-head P lo (suc len) = by_test (P lo) (filter-head P (lo + 1) len)
@@ -81,6 +98,21 @@ count-more P b lo (suc len) at is h = by_test (P lo) b (count-more P b (lo + 1) 
     by_test true false ih = ap suc ih
     by_test false true ih = ih
     by_test false false ih = ih
+
+-- they are as many as the list of them is long
+pub count-length : (P : ℕ → Bool) (lo len : ℕ) → count_passing P lo len ≡ length (filter P (range_with_len lo len))
+count-length P lo zero = refl
+count-length P lo (suc len) = by_test (P lo) (count-length P (lo + 1) len)
+  where
+    by_test : (b : Bool) → count_passing P (lo + 1) len ≡ length (filter P (range_with_len (lo + 1) len))
+        → (if b then suc (count_passing P (lo + 1) len) else count_passing P (lo + 1) len)
+        ≡ length (if b then lo ∷ filter P (range_with_len (lo + 1) len) else filter P (range_with_len (lo + 1) len))
+    by_test true ih = ap suc ih
+    by_test false ih = ih
+
+pub count-none : (lo len : ℕ) → count_passing (λ k. false) lo len ≡ 0
+count-none lo zero = refl
+count-none lo (suc len) = count-none (lo + 1) len
 
 pub count-most : (P : ℕ → Bool) (lo len : ℕ) → count_passing P lo len ≤ len
 count-most P lo zero = omega arith

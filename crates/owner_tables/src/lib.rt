@@ -1,25 +1,30 @@
 //! Who owns each element of an array or of a copy, and where it lies there, as tables.
 //!
 //! Comes in: the shape of an array and the mapping by which its elements lie on the nodes, or the extents of a copy. Goes out: for each
-//! element its owners, the owner with the least number, and the local address, each by a look-up; and how many elements a node owns. The
-//! tables of all rows stand in `Owners`, and are shared by the nodes. A node's piece of a row is a `Row`, and `local_value` is the value of
-//! an element that it owns.
+//! element its owners, the owner with the least number, and the local address, each by a look-up; of each node how many elements it owns,
+//! the positions of these, and the nodes that own them too; and by two tables of a row which owners elements have by both. The tables of
+//! all rows stand in `Owners`, and are shared by the nodes. A node's piece of a row is a `Row`, and `local_value` is the value of an
+//! element that it owns.
 //!
 //! What holds in between: where a node owns one element, any node owns it exactly where the two agree in each distributed dimension that
 //! isn't replicated. So elements with the same least owner have the same owners, the least owner tells all of them, and an element has one
 //! local address: its number, from 0, among the elements with its least owner. Each element of a copy has an owner, whatever its extents.
+//! Both come from one table a dimension, so they take memory by the sum of the extents: each place adds its part to the number of the least
+//! owner, and its rank among the places with its coordinate, times what the owner owns on the dimensions before, to the local address.
 #![tactic(auto)]
 
 mod alike;
+mod columns;
 mod copies;
 mod held_values;
 mod laws;
-mod least;
 mod numbers;
 mod owner_table;
 mod owners;
+mod positions;
 mod row;
 mod same;
+mod samples;
 mod tables;
 
 pub use held_values::{held_value, local_value, local_values};

@@ -1,12 +1,14 @@
 //! The table of one row: who owns its elements, and where they lie.
 
-ghost use Rattle.std.specs.Prelude.{◌≡◌, ◌<◌, ◌≤◌, All, IfOk, length};
+ghost use Rattle.std.specs.Prelude.{◌≡◌, ℕ, ◌<◌, ◌≤◌, All, IfOk, filter, length, true};
+ghost use Rattle.std.specs.List.{range_with_len};
 ghost use Rattle.hpf_base.specs.declared.limits.TheConstants.{MAX_ELEMENTS, MAX_NODES, MAX_RANK};
 ghost use Rattle.hpf_base.specs.ElementOrder.{product};
 ghost use Rattle.hpf_base.specs.Shape.{IsShape};
 ghost use Rattle.machine_steps.specs.Layout.{count_passing, owned_by, size_of};
 ghost use Rattle.machine_steps.specs.CopyLayout.{layout_of};
 ghost use Rattle.owner_tables.specs.Layouts.{IsLaid};
+ghost use Rattle.owner_tables.specs.Samples.{AreSamples, owners_by};
 ghost use Rattle.machine_steps.specs.SameLayouts.{is_same_layout, is_same_shape};
 
 use crate::copies::{CopyLayout, copy_layout};
@@ -99,6 +101,24 @@ impl OwnerTable {
         self.tables.shape()
     }
 
+    /// Its mapping.
+    pub fn mapping(&self) -> &Mapping
+        ensures value { result.now ≡ self.now.layout.mapping }
+        ensures laid { IsLaid self.now.nodes self.now.layout }
+    {
+        self.tables.mapping()
+    }
+
+    /// The nodes that own each element which the node owns, ascending.
+    pub fn sharers(&self, node: u32) -> &[u32]
+        requires { node < self.now.nodes }
+        ensures owners { (at : ℕ) → at < size_of self.now.layout → owned_by self.now.layout node at ≡ true
+            → filter (λ other. owned_by self.now.layout other at) (range_with_len 0 self.now.nodes) ≡ result.now }
+        ensures nodes { All (λ other. other < self.now.nodes) result.now }
+    {
+        self.tables.sharers(node)
+    }
+
     /// The number of elements.
     pub fn size(&self) -> usize
         ensures { result ≡ size_of self.now.layout }
@@ -112,6 +132,25 @@ impl OwnerTable {
         ensures { result ≡ count_passing (owned_by self.now.layout node) 0 (size_of self.now.layout) }
     {
         self.tables.owned(node)
+    }
+
+    /// The positions of the elements that the node owns, ascending. It goes over these alone, and over the places that the node owns on each
+    /// dimension.
+    pub fn owned_positions(&self, alloc: Global, node: u32) -> Result<Vec<u32>, OutOfMemory>
+        requires { node < self.now.nodes }
+        ensures { IfOk result (λ ps. ps.items ≡ filter (owned_by self.now.layout node) (range_with_len 0 (size_of self.now.layout))) }
+    {
+        self.tables.owned_positions(alloc, node)
+    }
+
+    /// Positions of elements. Each element has the same owners as one of them, by this table and by another. Where the shapes are the same,
+    /// it goes over the places of each dimension alone, and over the pairs of a least owner by this table and one by the other.
+    pub fn samples(&self, alloc: Global, other: &OwnerTable) -> Result<Vec<u32>, OutOfMemory>
+        requires { size_of self.now.layout ≡ size_of other.now.layout }
+        ensures { IfOk result (λ ps. AreSamples (size_of self.now.layout) (owners_by self.now.nodes (owned_by self.now.layout))
+            (owners_by other.now.nodes (owned_by other.now.layout)) ps.items) }
+    {
+        self.tables.samples(alloc, &other.tables)
     }
 
     /// Whether the row has the shape of another. It takes no memory.

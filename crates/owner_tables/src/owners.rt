@@ -5,6 +5,7 @@ ghost use Rattle.std.specs.List.{range_with_len, slice_get};
 ghost use Rattle.hpf_base.specs.declared.limits.TheConstants.{MAX_NODES};
 ghost use Rattle.machine_steps.specs.Layout.{AreOwned, address, count_passing, least_owner_of, owned_by, owned_in, owns_spot, size_of, sizes};
 ghost use Rattle.machine_steps.specs.Machine.{with_mapping};
+ghost use Rattle.owner_tables.specs.Samples.{AreSamples, owners_by};
 ghost use Rattle.storage.specs.Spots.{spot_of};
 
 use crate::owner_table::OwnerTable;
@@ -243,6 +244,34 @@ impl Owners {
             self.row(row).owned(node)
         } else {
             0
+        }
+    }
+
+    /// The positions of the elements of the row that the node owns, ascending; none where there is no such row. It goes over these alone,
+    /// and over the places that the node owns on each dimension.
+    pub fn positions(&self, node: u32, row: usize) -> Result<Vec<u32>, OutOfMemory>
+        requires { node < self.now.nodes }
+        ensures { IfOk result (λ ps. ps.items ≡ filter (owned_in self.now.layouts row node) (range_with_len 0 (slice_index_or (sizes self.now.layouts) row 0))) }
+    {
+        if row < self.tables.len() {
+            self.row(row).owned_positions(self.alloc, node)
+        } else {
+            Ok(Vec::new(self.alloc))
+        }
+    }
+
+    /// Positions of elements of the row; none where there is no such row. Each element of the row has the same owners as one of them, by these
+    /// tables and by others of rows with the same sizes. Where the shapes of the row are the same, it goes over the places of each dimension
+    /// alone, and over the pairs of least owners.
+    pub fn samples(&self, other: &Owners, row: usize) -> Result<Vec<u32>, OutOfMemory>
+        requires { sizes self.now.layouts ≡ sizes other.now.layouts }
+        ensures { IfOk result (λ ps. AreSamples (slice_index_or (sizes self.now.layouts) row 0) (owners_by self.now.nodes (owned_in self.now.layouts row))
+            (owners_by other.now.nodes (owned_in other.now.layouts row)) ps.items) }
+    {
+        if row < self.tables.len() && row < other.tables.len() {
+            self.row(row).samples(self.alloc, other.row(row))
+        } else {
+            Ok(Vec::new(self.alloc))
         }
     }
 

@@ -1,19 +1,23 @@
 //! The look-ups of one row's tables.
 
-ghost use Rattle.std.specs.Prelude.{◌≡◌, ◌<◌, ◌≤◌, ◌&&◌, IfOk, None, Some, filter, if◌then◌else◌, nat_lt, true};
+ghost use Rattle.std.specs.Prelude.{◌≡◌, ℕ, ◌<◌, ◌≤◌, ◌&&◌, All, IfOk, None, Some, filter, if◌then◌else◌, nat_lt, true};
 ghost use Rattle.std.specs.List.{range_with_len};
 ghost use Rattle.hpf_base.specs.declared.limits.TheConstants.{MAX_NODES};
 ghost use Rattle.hpf_base.specs.Shape.{IsShape};
 ghost use Rattle.machine_steps.specs.Layout.{IsDealt, count_passing, owned_by, size_of};
 ghost use Rattle.owner_tables.specs.Layouts.{IsLaid};
 ghost use Rattle.owner_tables.specs.Numbers.{least_at};
+ghost use Rattle.owner_tables.specs.Samples.{AreSamples, owners_by};
 ghost use Rattle.machine_steps.specs.SameLayouts.{is_same_layout, is_same_shape};
 
 use crate::alike::{alike_nodes, leaders};
-use crate::least::least_owners;
+use crate::columns::{find_at, parts_at};
 use crate::numbers::{Numbers, numbered};
+use crate::positions::{numbers_below, positions};
 use crate::same::{is_same_mapping, is_same_shape};
+use crate::samples::samples;
 use hpf_base::{OutOfMemory, Shape};
+use local_address::element_count;
 use mappings::Mapping;
 use std::alloc::Global;
 use std::marker::Model;
@@ -28,8 +32,8 @@ pub(crate) struct Tables {
     alike: Vec<Vec<u32>>,
     /// For each node the first of them.
     leaders: Vec<u32>,
-    /// For each element, in array-element order, its least owner.
-    least: Vec<u32>,
+    /// The number of elements.
+    size: usize,
     numbers: Numbers,
 }
 
@@ -60,15 +64,15 @@ impl Tables {
     {
         let alike = alike_nodes(alloc, nodes, &mapping)?;
         let leaders = leaders(alloc, &alike)?;
-        let least = least_owners(alloc, nodes, &shape, &mapping, &leaders)?;
-        let numbers = numbered(alloc, nodes, &least)?;
+        let size = element_count(&shape) as usize;
+        let numbers = numbered(alloc, nodes, &shape, &mapping)?;
         Ok(Tables {
             nodes,
             shape,
             mapping,
             alike,
             leaders,
-            least,
+            size,
             numbers,
         })
     }
@@ -81,11 +85,29 @@ impl Tables {
         &self.shape
     }
 
+    /// The mapping of the row.
+    pub(crate) fn mapping(&self) -> &Mapping
+        ensures value { result.now ≡ self.now.layout.mapping }
+        ensures laid { IsLaid self.now.nodes self.now.layout }
+    {
+        &self.mapping
+    }
+
+    /// The nodes that own what the node owns, ascending.
+    pub(crate) fn sharers(&self, node: u32) -> &[u32]
+        requires { node < self.now.nodes }
+        ensures owners { (at : ℕ) → at < size_of self.now.layout → owned_by self.now.layout node at ≡ true
+            → filter (λ other. owned_by self.now.layout other at) (range_with_len 0 self.now.nodes) ≡ result.now }
+        ensures nodes { All (λ other. other < self.now.nodes) result.now }
+    {
+        self.alike[node as usize].as_slice()
+    }
+
     /// The number of elements.
     pub(crate) fn size(&self) -> usize
         ensures { result ≡ size_of self.now.layout }
     {
-        self.least.len()
+        self.size
     }
 
     /// How many elements the node owns.
@@ -93,7 +115,7 @@ impl Tables {
         requires { node < self.now.nodes }
         ensures { result ≡ count_passing (owned_by self.now.layout node) 0 (size_of self.now.layout) }
     {
-        self.numbers.counts[self.leaders[node as usize] as usize] as usize
+        self.numbers.owned[node as usize] as usize
     }
 
     /// The owners of the element at the position, ascending.
@@ -101,7 +123,7 @@ impl Tables {
         requires { at < size_of self.now.layout }
         ensures { result.now ≡ filter (λ node. owned_by self.now.layout node at) (range_with_len 0 self.now.nodes) }
     {
-        self.alike[self.least[at] as usize].as_slice()
+        self.alike[self.least_owner(at) as usize].as_slice()
     }
 
     /// Whether the node owns the element at the position.
@@ -110,7 +132,7 @@ impl Tables {
         requires at { at < size_of self.now.layout }
         ensures { result ≡ owned_by self.now.layout node at }
     {
-        self.least[at] == self.leaders[node as usize]
+        self.least_owner(at) == self.leaders[node as usize]
     }
 
     /// The owner of the element at the position with the least number.
@@ -120,7 +142,7 @@ impl Tables {
         ensures below { result < self.now.nodes }
         ensures owner { owned_by self.now.layout result at ≡ true }
     {
-        self.least[at]
+        self.numbers.base + parts_at(&self.numbers.columns, at as u32)
     }
 
     /// The local address, from 0, of the element at the position on a node that owns it.
@@ -130,8 +152,7 @@ impl Tables {
         requires owner { owned_by self.now.layout node at ≡ true }
         ensures { result ≡ count_passing (owned_by self.now.layout node) 0 at }
     {
-        let _node = node;
-        self.numbers.addresses[at] as usize
+        find_at(&self.numbers.columns, node, at as u32).address as usize
     }
 
     /// The local address, from 0, of the element at the position, if there is one and the node owns it.
@@ -140,18 +161,54 @@ impl Tables {
         ensures { result ≡ (if nat_lt at (size_of self.now.layout) && owned_by self.now.layout node at
             then Some (count_passing (owned_by self.now.layout node) 0 at) else None) }
     {
-        if at < self.size() && self.owns(node, at) {
-            Some(self.address(node, at))
+        if at < self.size() {
+            self.held_there(node, at)
         } else {
             None
         }
+    }
+
+    /// The same where there is such an element: its places are asked once for both.
+    fn held_there(&self, node: u32, at: usize) -> Option<usize>
+        requires node { node < self.now.nodes }
+        requires at { at < size_of self.now.layout }
+        ensures { result ≡ (if owned_by self.now.layout node at then Some (count_passing (owned_by self.now.layout node) 0 at) else None) }
+    {
+        let found = find_at(&self.numbers.columns, node, at as u32);
+        if self.numbers.base + found.parts == self.leaders[node as usize] {
+            Some(found.address as usize)
+        } else {
+            None
+        }
+    }
+
+    /// The positions of the elements that the node owns, ascending.
+    pub(crate) fn owned_positions(&self, alloc: Global, node: u32) -> Result<Vec<u32>, OutOfMemory>
+        requires { node < self.now.nodes }
+        ensures { IfOk result (λ ps. ps.items ≡ filter (owned_by self.now.layout node) (range_with_len 0 (size_of self.now.layout))) }
+    {
+        positions(alloc, self.nodes, &self.shape, &self.mapping, node)
+    }
+
+    /// Positions of elements. Each element has the same owners as one of them, by this table and by another.
+    pub(crate) fn samples(&self, alloc: Global, other: &Tables) -> Result<Vec<u32>, OutOfMemory>
+        requires { size_of self.now.layout ≡ size_of other.now.layout }
+        ensures { IfOk result (λ ps. AreSamples (size_of self.now.layout) (owners_by self.now.nodes (owned_by self.now.layout))
+            (owners_by other.now.nodes (owned_by other.now.layout)) ps.items) }
+    {
+        if self.size > 0 && self.is_shaped_as(other) {
+            let positions = samples(alloc, &self.numbers.columns, &other.numbers.columns)?;
+            return Ok(positions);
+        }
+        let positions = numbers_below(alloc, self.size as u32)?;
+        Ok(positions)
     }
 
     /// Each element has an owner. It does nothing.
     pub(crate) fn is_dealt(&self)
         ensures { IsDealt self.now.nodes self.now.layout }
     {
-        let _ = &self.least;
+        let _ = &self.numbers;
     }
 
     /// The number of nodes, from 1 to 64.

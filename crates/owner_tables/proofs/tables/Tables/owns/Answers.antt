@@ -5,16 +5,11 @@ use Rattle.owner_tables.proofs.tables.Tables.owns.Goals as goal
 
 pub index-requires : goal.index-requires
 index-requires c =
-    let l = seen c.self.inside c.args.self.now c.self.view_is c.self.invariant in omega (arith, l.size, c.requires.at)
-
-pub index-requires-2 : goal.index-requires-2
-index-requires-2 c =
     let l = seen c.self.inside c.args.self.now c.self.view_is c.self.invariant in omega (arith, l.leaders, c.requires.node)
 
 pub returns : goal.returns
 returns c =
     let l = seen c.self.inside c.args.self.now c.self.view_is c.self.invariant in
-    ap (λ n. n == c.index-2.result.now) (c.index.ensures ∙ l.least c.args.at c.index.result.now c.requires.at)
-    ∙ ap (λ n. least_at c.args.self.now.nodes c.args.self.now.layout c.args.at == n)
-    (c.index-2.ensures ∙ l.led c.args.node c.index-2.result.now c.requires.node)
+    ap (λ n. n == c.index.result.now) c.least_owner.ensures.value
+    ∙ ap (λ n. least_at c.args.self.now.nodes c.args.self.now.layout c.args.at == n) (c.index.ensures ∙ l.led c.args.node c.index.result.now c.requires.node)
     ∙ l.owns c.args.node c.args.at c.requires.node c.requires.at
