@@ -2,7 +2,6 @@
 use Rattle.std.proofs.Common.{◌≡◌, ℕ, ◌+◌, List, [], ◌∷◌, ◌++◌, map, take, drop, length, ℤ, pos, Bool, true, false, ◌&&◌, Option, Some, None, Result, Ok, Err, refl, sym, ap, ◌∙◌, length-append, append_assoc, append-nil, slice_index_or, option_map}
 use Rattle.std.proofs.lemmas.List.{length-map}
 use Rattle.op_tables.specs.declared.reductions.Made.{Made}
-use Rattle.op_tables.specs.Operators.{is_true}
 use Rattle.expression_rules.specs.declared.dims.Dim.{Dim}
 use Rattle.storage.specs.Storage.{Spot}
 use Rattle.array_meaning.specs.Elementals.{Elemental, Same, Selected, Operation, Elementals, NoOperand, Operand, operated}
@@ -13,14 +12,15 @@ use Rattle.machine_steps.specs.Instr.{Outcome, Nothing, Value, Breaks}
 use Rattle.machine_steps.specs.Machine.{value_by}
 use Rattle.node_code.specs.Forms.{ArrayForm, elemental_at}
 use Rattle.node_code.specs.NestStatements.{are_asked, nest_elemental, row_spots, when_spots}
-use Rattle.node_code.specs.Parallel.{When, as_asked, at_line, outcome_if, shape_of, reads_at, all_reads_at, value_by_reads, values_by_reads}
+use Rattle.node_code.specs.Parallel.{When, at_line, outcome_if, shape_of, reads_at, all_reads_at, value_by_reads, values_by_reads}
 use Rattle.term_values.specs.declared.stops.Stop.{Stop}
 use Rattle.term_values.specs.declared.stops.Stop.TheVariants as stop
 use Rattle.term_values.specs.Stops.{IsStop, cause}
 use Rattle.tuple_values.specs.declared.outcome.Outcome.{Outcome as HeldOutcome}
 use Rattle.tuple_values.specs.ByElements.{value_by_elements, values_by_elements}
 use Rattle.tuple_values.specs.Outcomes.{located_in, outcome_view, IsBroken}
-use Rattle.tuple_values.specs.Statements.{Statement, asked_by, asked_outcome, asks, axes_in, bounded_value, copied_by, made_by, entries, form_at, located_at, outcome_made_by, read_form, spot_in_row, tuple_outcome, tuple_place, tuple_reads, tuple_value, value_at}
+use Rattle.courses.specs.Entries.{axes_in}
+use Rattle.tuple_values.specs.Statements.{Statement, asked_by, asked_outcome, asks, bounded_value, copied_by, made_by, entries, located_at, outcome_made_by, read_form, spot_in_row, tuple_outcome, tuple_place, tuple_reads, tuple_value, value_at}
 use Rattle.tuple_values.proofs.NestForms.{same_reads}
 
 value-here : (pre : List ℤ) (v : ℤ) (post : List ℤ) → slice_index_or (pre ++ v ∷ post) (length pre) (pos 0) ≡ v

@@ -1,4 +1,5 @@
 pub mod ByReads
+pub mod NamedElements
 pub mod NestForms
 pub mod OfInstructions
 pub mod Operands

@@ -1,7 +1,6 @@
 -- Expressions of nests, which see values outside of subscripts, and others.
-use Rattle.std.proofs.Common.{◌≡◌, List, ◌++◌, ℤ, Option, refl, ap}
+use Rattle.std.proofs.Common.{◌≡◌, List, ◌++◌, ℤ, refl, ap}
 use Rattle.expression_rules.specs.declared.dims.Dim.{Dim}
-use Rattle.storage.specs.Storage.{Spot}
 use Rattle.array_meaning.specs.Elementals.{Operand, Operation}
 use Rattle.node_code.specs.Forms.{ArrayForm, FlatForm, SectionForm, OperationForm, Forms, NoForm, AndForm, elemental_at, elementals_at}
 use Rattle.node_code.specs.NestStatements.{nest_elemental, nest_elementals}

@@ -4,7 +4,6 @@ use Rattle.std.specs.Prelude.{option_to_list}
 use Rattle.op_tables.specs.declared.reductions.Made.{Made}
 use Rattle.op_tables.specs.Operators.{is_true}
 use Rattle.expression_rules.specs.declared.dims.Dim.{Dim}
-use Rattle.storage.specs.Storage.{Spot}
 use Rattle.array_meaning.specs.Elementals.{Elemental, Same, Selected, Operation, Elementals, NoOperand, Operand, operated}
 use Rattle.array_meaning.specs.Faults.{Cause, Fault, ◌>>=◌, at_tuple, with_more}
 use Rattle.array_meaning.specs.State.{element_place, if_in_bounds}
@@ -13,8 +12,9 @@ use Rattle.array_meaning.specs.Sections.{extents, subscripts_at}
 use Rattle.machine_steps.specs.Instr.{Outcome}
 use Rattle.node_code.specs.Forms.{ArrayForm, selections_in, elemental_at}
 use Rattle.node_code.specs.NestStatements.{NestLeft, ElementLeft, CopyLeft, NestStatement, are_asked, form_value, left_row, nest_elemental, nest_place, nest_spot, nest_tuples, role_made, when_spots}
-use Rattle.node_code.specs.Parallel.{Assignment, Evaluation, When, as_asked, at_line, is_asked, made_outcome, outcome_if, outcome_of, mask_reads, shape_of, reads_at, value_by_reads, values_by_reads, assigned_spot, assignment_tuples, copy_spot, evaluation_tuples, forall_mask_tuples, forall_spot, forall_tuples, indices_in, reduction_tuples}
-use Rattle.tuple_values.specs.Statements.{Statement, Target, Nowhere, InCopy, InSection, ByIndices, IsStatement, axes_in, entries, entries_in, left_in, no_left, outcome_made_by, place_in, tuple_outcome, tuple_value}
+use Rattle.node_code.specs.Parallel.{Assignment, Evaluation, When, as_asked, at_line, is_asked, made_outcome, outcome_if, outcome_of, mask_reads, shape_of, reads_at, value_by_reads, values_by_reads, assigned_spot, assignment_tuples, copy_spot, evaluation_tuples, forall_mask_tuples, forall_spot, forall_tuples, reduction_tuples}
+use Rattle.courses.specs.Entries.{axes_in, entries_in}
+use Rattle.tuple_values.specs.Statements.{Statement, Target, Nowhere, InCopy, InSection, ByIndices, IsStatement, left_in, no_left, outcome_made_by, place_in, tuple_outcome, tuple_value}
 use Rattle.tuple_values.specs.Targets.{nest_target}
 use Rattle.tuple_values.proofs.NestForms.{sees_axes}
 

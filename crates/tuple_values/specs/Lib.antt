@@ -1,5 +1,7 @@
 pub mod ByElements
 pub mod Here
+pub mod NamedElements
+pub mod Naming
 pub mod Outcomes
 pub mod Spots
 pub mod Statements

@@ -1,5 +1,5 @@
 -- What parallel statements are, once the slots are known.
-use Rattle.std.specs.Prelude.{◌≡◌, ℕ, List, [], ◌++◌, length, map, take, drop, ℤ, Bool, true, false, Option, Some, None, option_map, Result}
+use Rattle.std.specs.Prelude.{◌≡◌, ℕ, List, ◌++◌, length, map, take, drop, ℤ, Bool, true, false, Option, Some, None, option_map, Result}
 use Rattle.std.specs.List.{list_all}
 use Rattle.op_tables.specs.declared.reductions.Made.{Made}
 use Rattle.op_tables.specs.Operators.{is_true}
@@ -16,6 +16,7 @@ use Rattle.machine_steps.specs.Space.{space_count}
 use Rattle.node_code.specs.Forms.{Sub, ArrayForm, selections_at, elemental_at}
 use Rattle.node_code.specs.NestStatements.{are_asked, nest_elemental, row_spots, when_spots}
 use Rattle.node_code.specs.Parallel.{When, at_line, as_asked, outcome_of, outcome_if, shape_of, reads_at, value_by_reads, made_outcome}
+use Rattle.courses.specs.Entries.{axes_in, entries_in}
 use Rattle.tuple_values.specs.ByElements.{value_by_elements}
 
 -- what is assigned: nothing, an element of a copy by the tuple's number, or an element of a section; in a FORALL and in a nest the subscripts
@@ -41,18 +42,6 @@ pub record Statement : Type 0 where
   pub target : Target
   pub form : ArrayForm
   pub made : Option Made
-
--- ---- entries
-
--- those of the tuple with a number: positions in the space, or the values of the indices
-abbrev pub entries_in : Option (List Selection) → List ℕ → ℕ → List ℤ
-entries_in None ns t = positions ns t
-entries_in (Some ds) ns t = subscripts_at ds (positions ns t)
-
--- those that are the axes of expressions, which where there are indices are expressions of these
-abbrev pub axes_in : Option (List Selection) → List ℤ → List ℤ
-axes_in None x = []
-axes_in (Some ds) x = x
 
 -- ---- what is assigned
 

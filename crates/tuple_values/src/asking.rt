@@ -10,7 +10,8 @@ ghost use Rattle.term_values.specs.Stops.{IsStop};
 ghost use Rattle.tuple_values.specs.ByElements.{value_by_elements};
 ghost use Rattle.tuple_values.specs.Outcomes.{outcome_view};
 ghost use Rattle.tuple_values.specs.Spots.{read_of, reads_of};
-ghost use Rattle.tuple_values.specs.Statements.{asked_by, asked_outcome, asks, axes_in, bounded_value, copied_by, made_by, entries, form_seeing, indexed_place, left_in, read_form, tuple_count, tuple_left, tuple_outcome, tuple_place, tuple_reads, value_at};
+ghost use Rattle.courses.specs.Entries.{axes_in};
+ghost use Rattle.tuple_values.specs.Statements.{asked_by, asked_outcome, asks, bounded_value, copied_by, made_by, entries, form_seeing, indexed_place, left_in, read_form, tuple_count, tuple_left, tuple_outcome, tuple_place, tuple_reads, value_at};
 ghost use Rattle.tuple_values.specs.Views.{statement};
 
 use crate::assigned::assigned_place;

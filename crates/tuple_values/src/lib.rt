@@ -2,7 +2,8 @@
 //!
 //! Comes in: an instruction that works at the tuples of a space, the dimensions of the arrays, and the slots. Goes out: how many tuples
 //! there are and, for each tuple, the elements that are read, the element that is assigned, and the value or fault by the values of what
-//! is read.
+//! is read. Where each subscript goes along one axis of the space, what is named comes out once for all tuples too, by courses
+//! (`references`).
 //!
 //! What holds in between: all of it is what node_code's definitions say of the instruction, whatever the elements are: they are asked for
 //! one by one (`Elements`), and only where the definitions' evaluation comes to them. A tuple of at most seven entries needs no memory of its
@@ -14,8 +15,11 @@ mod assigned;
 mod elements;
 mod here;
 mod making;
+mod names;
+mod naming;
 mod outcome;
 mod reads;
+mod references;
 mod right;
 mod sections;
 mod space;
@@ -25,4 +29,5 @@ mod values;
 
 pub use elements::Elements;
 pub use outcome::Outcome;
+pub use references::References;
 pub use statement::ParallelStatement;

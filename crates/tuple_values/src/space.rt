@@ -6,7 +6,7 @@ ghost use Rattle.array_meaning.specs.Sections.{extents};
 ghost use Rattle.machine_steps.specs.Space.{space_count};
 ghost use Rattle.node_code.specs.Forms.{selections_in};
 ghost use Rattle.node_code.specs.Texts.{subs};
-ghost use Rattle.tuple_values.specs.Statements.{axes_in, entries_in};
+ghost use Rattle.courses.specs.Entries.{axes_in, entries_in};
 
 use array_meaning::Selection;
 use hpf_base::OutOfMemory;

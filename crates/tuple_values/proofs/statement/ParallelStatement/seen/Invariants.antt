@@ -1,5 +1,6 @@
 use Rattle.std.proofs.Common.{◌≡◌, ◌++◌, drop}
-use Rattle.tuple_values.specs.Statements.{axes_in, copied_by}
+use Rattle.courses.specs.Entries.{axes_in}
+use Rattle.tuple_values.specs.Statements.{copied_by}
 use Rattle.tuple_values.specs.Views.{statement}
 use Rattle.tuple_values.proofs.statement.ParallelStatement.seen.Given as goal
 

@@ -1,0 +1,4 @@
+pub mod Operands
+pub mod Drops
+pub mod Before
+pub mod CopyDims

@@ -1,0 +1,20 @@
+//! The courses of subscripts, computed.
+//!
+//! Comes in: the extents of a space, whose product is at most the limit on tuples, the slots, and selections or subscripts that are expressions
+//! of indices. Goes out: their courses, and references by them: a row, its dimensions and a course for each dimension.
+//!
+//! What holds in between: what is found is what the definitions of `courses` say. None says nothing: a subscript that may wrap or that isn't
+//! linear in one index has no course, and neither has one that goes past 128 bits on the way, or an operator of three operands.
+#![tactic(auto)]
+
+mod course;
+mod indexed;
+mod reference;
+mod section;
+mod straight;
+
+pub use course::{Course, flat_course};
+pub use indexed::indexed_courses;
+pub use reference::{Reference, named_copy, named_element};
+pub use section::section_courses;
+pub use straight::{Straight, straight_form};

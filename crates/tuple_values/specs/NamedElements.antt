@@ -1,0 +1,22 @@
+-- What a parallel statement names at the tuples of its space, by courses.
+use Rattle.std.specs.Prelude.{◌≡◌, ℕ, ◌<◌, List, length, map, All, Option, Some, None, IfSome}
+use Rattle.hpf_base.specs.ElementOrder.{product}
+use Rattle.storage.specs.Storage.{Spot}
+use Rattle.courses.specs.References.{IsAlongAxes, Named, named_spot}
+use Rattle.tuple_values.specs.Statements.{Statement, tuple_count, tuple_left, tuple_reads}
+
+-- what is assigned at the tuple with a number, where something is
+abbrev pub spot_if : List ℕ → ℕ → Option Named → Option Spot
+spot_if ns t None = None
+spot_if ns t (Some r) = named_spot ns t r
+
+-- These are the extents of its space, in which there are tuples, what is assigned, and what is read, in order. Each has a course for each
+-- dimension, along the axes of the space
+pub record AreReferences (w : Statement) (ns : List ℕ) (l : Option Named) (rs : List Named) : Type 0 where
+  pub extents : ns ≡ w.extents
+  pub some : 0 < product ns
+  pub count : product ns ≡ tuple_count w
+  pub left : (t : ℕ) → t < product ns → tuple_left w t ≡ spot_if ns t l
+  pub reads : (t : ℕ) → t < product ns → tuple_reads w t ≡ map (named_spot ns t) rs
+  pub along_left : IfSome l (IsAlongAxes (length ns))
+  pub along_reads : All (IsAlongAxes (length ns)) rs
