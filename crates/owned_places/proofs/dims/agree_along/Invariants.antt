@@ -1,0 +1,10 @@
+use Rattle.std.proofs.Common.{◌≡◌, drop}
+use Rattle.hpf_base.specs.Grid.{node_coordinates}
+use Rattle.courses.specs.Subscripts.{along_dims}
+use Rattle.owned_places.proofs.dims.agree_along.Given as goal
+
+-- what is left of the entries decides
+abbrev pub invariant-loop-entry : goal.invariant-loop-entry
+invariant-loop-entry l =
+    along_dims (node_coordinates l.mapping.grid l.node) l.mapping.dims l.k l.i
+    ≡ along_dims (node_coordinates l.mapping.grid l.node) (drop l.entry-index l.mapping.dims) l.k l.i
