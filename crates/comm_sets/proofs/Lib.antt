@@ -11,3 +11,6 @@ pub mod Marking
 pub mod Pairs
 pub mod Covering
 pub mod Parcels
+pub mod Visited
+pub mod Ends
+pub mod Sampled

@@ -66,7 +66,7 @@ at-element nodes old new spot from to lt =
 abbrev pub in_row : ℕ → ℕ → Spot
 in_row row at = record { row = row; at = at }
 
-or_turned : (a b : Bool) → (a || b) ≡ (b || a)
+pub or_turned : (a b : Bool) → (a || b) ≡ (b || a)
 or_turned true true = refl
 or_turned true false = refl
 or_turned false true = refl

@@ -3,3 +3,4 @@ pub mod Exchanges
 pub mod Marks
 pub mod Moves
 pub mod Noted
+pub mod Visits

@@ -1,4 +1,4 @@
-//! One pass over the tuples of a part.
+//! One pass over tuples of a part.
 
 ghost use Rattle.std.specs.Prelude.{◌≡◌, ◌<◌, IfOk};
 ghost use Rattle.comm_sets.specs.Exchanges.{AreExchanged};
@@ -8,28 +8,31 @@ use crate::messages::Messages;
 use crate::reads::Reads;
 use crate::receiving::{number_of, receive_tuple};
 use crate::sending::send_reads;
+use crate::visiting::by_visits;
 use hpf_base::OutOfMemory;
 use owner_tables::Owners;
 use std::alloc::Global;
 
-/// What the node exchanges, from one pass over the tuples. A message holds the elements that the target needs, that it doesn't own, and
-/// whose least owner is the source, each once, row by row, each in array-element order. A node needs every element that is read at a tuple
-/// that it computes. Where there is one node no read is evaluated. Want of memory is the answer, too, where the node computes a tuple whose
-/// number is past 2^32 - 1.
+/// What the node exchanges, from one pass over tuples: over those at which it exchanges something where the part knows them, and else over
+/// all. A message holds the elements that the target needs, that it doesn't own, and whose least owner is the source, each once, row by row,
+/// each in array-element order. A node needs every element that is read at a tuple that it computes. Where there is one node no read is
+/// evaluated. Want of memory is the answer, too, where the node computes a tuple whose number is past 2^32 - 1.
 pub fn exchange<P: Reads>(
     alloc: Global,
     owners: &Owners,
     part: &P,
     id: u32,
 ) -> Result<Exchange, OutOfMemory>
-    requires nodes { P.nodes part.now ≡ owners.now.nodes }
+    requires owners { P.owners part.now ≡ owners.now }
     requires id { id < owners.now.nodes }
     ensures { IfOk result (AreExchanged owners.now.nodes owners.now.layouts (P.part part.now) id) }
 {
     if owners.nodes() == 1 {
-        alone(alloc, owners, part, id)
-    } else {
-        among_nodes(alloc, owners, part, id)
+        return alone(alloc, owners, part, id);
+    }
+    match part.visits(alloc, id)? {
+        Some(visits) => by_visits(alloc, owners, part, id, visits),
+        None => among_nodes(alloc, owners, part, id),
     }
 }
 
@@ -40,7 +43,7 @@ fn alone<P: Reads>(
     part: &P,
     id: u32,
 ) -> Result<Exchange, OutOfMemory>
-    requires nodes { P.nodes part.now ≡ owners.now.nodes }
+    requires owners { P.owners part.now ≡ owners.now }
     requires one { owners.now.nodes ≡ 1 }
     requires id { id < owners.now.nodes }
     ensures { IfOk result (AreExchanged owners.now.nodes owners.now.layouts (P.part part.now) id) }
@@ -60,14 +63,14 @@ fn alone<P: Reads>(
     })
 }
 
-/// The same of a node among several.
+/// The same of a node among several, from a pass over all tuples.
 fn among_nodes<P: Reads>(
     alloc: Global,
     owners: &Owners,
     part: &P,
     id: u32,
 ) -> Result<Exchange, OutOfMemory>
-    requires nodes { P.nodes part.now ≡ owners.now.nodes }
+    requires owners { P.owners part.now ≡ owners.now }
     requires id { id < owners.now.nodes }
     ensures { IfOk result (AreExchanged owners.now.nodes owners.now.layouts (P.part part.now) id) }
 {

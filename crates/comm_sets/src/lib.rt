@@ -2,9 +2,11 @@
 //!
 //! Comes in: who owns each element of arrays and copies; and which elements are read at which tuples and which nodes compute each
 //! tuple, or who owns each element after a redistribution. Goes out: all messages from and to one node, each the list of its
-//! elements, and the tuples that it computes. What holds in between: one pass over the tuples, or over the elements, notes what goes
-//! from one end to the other, in a list for each node at the other end; sorted and without repetitions such a list is the message. The time
-//! of a part goes with its tuples, and its memory with what is sent and computed; there is no table of all elements.
+//! elements, and the tuples that it computes. What holds in between: one pass over the tuples, or over the elements that the node owns,
+//! notes what goes from one end to the other, in a list for each node at the other end; sorted and without repetitions such a list is the
+//! message. Where a part knows at which tuples a node exchanges something, the pass is over these alone, and else over all of them. The time
+//! of a part goes with the tuples of the pass, and its memory with what is sent and computed; there is no table of all elements. Between
+//! which nodes a redistribution moves something is seen at a few of its elements, found by the places of each dimension.
 #![tactic(auto)]
 
 mod exchanged;
@@ -18,6 +20,8 @@ mod receiving;
 mod remapping;
 mod rounds;
 mod sending;
+mod visiting;
+mod visits;
 
 pub use exchanged::Exchange;
 pub use exchanging::exchange;
@@ -25,9 +29,10 @@ pub use hpf_base::OutOfMemory;
 pub use laws::rounds_cover;
 pub use lookup::value_in;
 pub use marks::is_unchanged;
-pub use messages::Messages;
+pub use messages::{Messages, arrange_list, note};
 pub use owner_tables::{Owners, Spot};
 pub use reads::Reads;
 pub use redistribute_rounds::{Pair, Rounds};
 pub use remapping::{remap_incoming, remap_outgoing};
 pub use rounds::remap_rounds;
+pub use visits::Visits;

@@ -1,6 +1,6 @@
 //! Which nodes have a message for which at a redistribution.
 
-ghost use Rattle.std.specs.Prelude.{◌≡◌, ◌<◌, ◌≤◌, ◌*◌, ◌+◌, ◌&&◌, All, IfOk, IsTrue, Some, false, length, map, nat_eq, not, replicate, slice_index_or, slice_set, true};
+ghost use Rattle.std.specs.Prelude.{◌≡◌, ◌<◌, ◌≤◌, ◌*◌, ◌+◌, ◌&&◌, All, IfOk, IsTrue, OnOk, Some, false, length, map, nat_eq, not, replicate, slice_index_or, slice_set, true};
 ghost use Rattle.std.specs.List.{list_any, range_with_len, slice_get};
 ghost use Rattle.storage.specs.Storage.{Spot};
 ghost use Rattle.machine_steps.specs.Layout.{Layout, owned_in, owns_spot, sizes};
@@ -22,31 +22,42 @@ pub(crate) fn unmarked(alloc: Global, nodes: u32) -> Result<Vec<bool>, OutOfMemo
 }
 
 /// Marks the pairs of the least owner of an element before and a node that owns it after and not before.
-pub(crate) fn mark_rows(marks: &mut Vec<bool>, before: &Owners, after: &Owners)
+pub(crate) fn mark_rows(
+    marks: &mut Vec<bool>,
+    before: &Owners,
+    after: &Owners,
+) -> Result<(), OutOfMemory>
     requires nodes { before.now.nodes ≡ after.now.nodes }
     requires sizes { sizes before.now.layouts ≡ sizes after.now.layouts }
     requires few { before.now.nodes ≤ 64 }
     requires long { length marks.old.items ≡ before.now.nodes * 64 }
-    ensures { Marked before.now.nodes marks.old.items marks.new.items
-        (any_moved before.now.nodes before.now.layouts after.now.layouts (all_spots before.now.layouts)) }
+    ensures { OnOk result (Marked before.now.nodes marks.old.items marks.new.items
+        (any_moved before.now.nodes before.now.layouts after.now.layouts (all_spots before.now.layouts))) }
 {
     for row in 0..before.rows() {
-        mark_row(marks, before, after, row);
+        mark_row(marks, before, after, row)?;
     }
+    Ok(())
 }
 
 /// Marks those of the elements of a row.
-fn mark_row(marks: &mut Vec<bool>, before: &Owners, after: &Owners, row: usize)
+fn mark_row(
+    marks: &mut Vec<bool>,
+    before: &Owners,
+    after: &Owners,
+    row: usize,
+) -> Result<(), OutOfMemory>
     requires nodes { before.now.nodes ≡ after.now.nodes }
     requires sizes { sizes before.now.layouts ≡ sizes after.now.layouts }
     requires few { before.now.nodes ≤ 64 }
     requires long { length marks.old.items ≡ before.now.nodes * 64 }
-    ensures { Marked before.now.nodes marks.old.items marks.new.items (any_moved before.now.nodes before.now.layouts after.now.layouts
-        (map (λ at. record { row = row; at = at }) (range_with_len 0 (slice_index_or (sizes before.now.layouts) row 0)))) }
+    ensures { OnOk result (Marked before.now.nodes marks.old.items marks.new.items (any_moved before.now.nodes before.now.layouts after.now.layouts
+        (map (λ at. record { row = row; at = at }) (range_with_len 0 (slice_index_or (sizes before.now.layouts) row 0))))) }
 {
-    if !is_unchanged(before, after, row) {
-        mark_elements(marks, before, after, row);
+    if is_unchanged(before, after, row) {
+        return Ok(());
     }
+    mark_elements(marks, before, after, row)
 }
 
 /// Whether there is a row that lies as before, by its shape and its mapping: then each node owns the same of its elements. It takes no memory.
@@ -63,18 +74,26 @@ pub fn is_unchanged(before: &Owners, after: &Owners, row: usize) -> bool
     }
 }
 
-/// Marks those of the elements of a row, element by element.
-fn mark_elements(marks: &mut Vec<bool>, before: &Owners, after: &Owners, row: usize)
+/// Marks those of the elements of a row, by some of the elements: each has the same owners as one of them, before and after.
+fn mark_elements(
+    marks: &mut Vec<bool>,
+    before: &Owners,
+    after: &Owners,
+    row: usize,
+) -> Result<(), OutOfMemory>
     requires nodes { before.now.nodes ≡ after.now.nodes }
     requires sizes { sizes before.now.layouts ≡ sizes after.now.layouts }
     requires few { before.now.nodes ≤ 64 }
     requires long { length marks.old.items ≡ before.now.nodes * 64 }
-    ensures { Marked before.now.nodes marks.old.items marks.new.items (any_moved before.now.nodes before.now.layouts after.now.layouts
-        (map (λ at. record { row = row; at = at }) (range_with_len 0 (slice_index_or (sizes before.now.layouts) row 0)))) }
+    ensures { OnOk result (Marked before.now.nodes marks.old.items marks.new.items (any_moved before.now.nodes before.now.layouts after.now.layouts
+        (map (λ at. record { row = row; at = at }) (range_with_len 0 (slice_index_or (sizes before.now.layouts) row 0))))) }
 {
-    for at in 0..before.size(row) {
+    let positions = before.samples(after, row)?;
+    for at in &positions {
+        let at = *at as usize;
         mark_element(marks, before, after, Spot { row, at });
     }
+    Ok(())
 }
 
 /// Marks those of one element.

@@ -69,7 +69,7 @@ impl Messages {
 
 /// Adds the element to the list. Repetitions are dropped before the list grows, so that its memory goes with its elements, however often
 /// they are added.
-fn note(list: &mut Vec<Spot>, spot: Spot) -> Result<(), OutOfMemory>
+pub fn note(list: &mut Vec<Spot>, spot: Spot) -> Result<(), OutOfMemory>
     ensures { OnOk result (OneMore (spot_of spot) (map spot_of list.old.items) (map spot_of list.new.items)) }
 {
     if list.len() == list.capacity() {
@@ -90,7 +90,7 @@ fn make_room(list: &mut Vec<Spot>) -> Result<(), OutOfMemory>
 }
 
 /// Puts the list in order, and drops repetitions.
-fn arrange_list(list: &mut Vec<Spot>)
+pub fn arrange_list(list: &mut Vec<Spot>)
     ensures ascends { Ascends (map spot_of list.new.items) }
     ensures among { SameAmong (map spot_of list.old.items) (map spot_of list.new.items) }
 {

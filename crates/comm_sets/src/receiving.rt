@@ -45,7 +45,7 @@ pub(crate) fn number_of(tuple: usize) -> Result<u32, OutOfMemory>
 }
 
 /// Notes what is read.
-fn receive_reads(
+pub(crate) fn receive_reads(
     messages: &mut Messages,
     owners: &Owners,
     to: u32,

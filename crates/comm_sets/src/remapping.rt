@@ -3,10 +3,10 @@
 ghost use Rattle.std.specs.Prelude.{◌≡◌, ◌<◌, ◌&&◌, IfOk, OnOk, filter, length, map, nat_eq, nat_lt, slice_index_or};
 ghost use Rattle.std.specs.List.{range_with_len};
 ghost use Rattle.storage.specs.Storage.{is_same_spot};
-ghost use Rattle.machine_steps.specs.Layout.{sizes};
+ghost use Rattle.machine_steps.specs.Layout.{AreOwned, sizes};
 ghost use Rattle.machine_steps.specs.Message.{all_spots, remap_message};
 ghost use Rattle.storage.specs.Spots.{spot_of};
-ghost use Rattle.comm_sets.specs.Moves.{is_moved, moves, node_of};
+ghost use Rattle.comm_sets.specs.Moves.{has_at, is_moved, moves, node_of};
 ghost use Rattle.comm_sets.specs.Noted.{Noted};
 
 use crate::marks::is_unchanged;
@@ -65,6 +65,7 @@ fn moved(alloc: Global, before: &Owners, after: &Owners, end: End) -> Result<Mes
     ensures { IfOk result (λ messages. messages ≡ map (λ other. filter (moves before.now.nodes before.now.layouts after.now.layouts end other) (all_spots before.now.layouts)) (range_with_len 0 before.now.nodes)) }
 {
     let mut messages = Messages::none(alloc, before.nodes())?;
+    before.are_dealt();
     for row in 0..before.rows() {
         move_row(&mut messages, before, after, end, row)?;
     }
@@ -80,6 +81,7 @@ fn move_row(
     end: End,
     row: usize,
 ) -> Result<(), OutOfMemory>
+    requires owned { AreOwned before.now.nodes before.now.layouts }
     requires nodes { before.now.nodes ≡ after.now.nodes }
     requires lists { length messages.old ≡ before.now.nodes }
     requires sizes { sizes before.now.layouts ≡ sizes after.now.layouts }
@@ -93,7 +95,7 @@ fn move_row(
     move_elements(messages, before, after, end, row)
 }
 
-/// Notes them, element by element.
+/// Notes them, by going over the elements that the end has.
 fn move_elements(
     messages: &mut Messages,
     before: &Owners,
@@ -101,6 +103,7 @@ fn move_elements(
     end: End,
     row: usize,
 ) -> Result<(), OutOfMemory>
+    requires owned { AreOwned before.now.nodes before.now.layouts }
     requires nodes { before.now.nodes ≡ after.now.nodes }
     requires lists { length messages.old ≡ before.now.nodes }
     requires sizes { sizes before.now.layouts ≡ sizes after.now.layouts }
@@ -108,10 +111,30 @@ fn move_elements(
     ensures { OnOk result (Noted messages.old messages.new (λ other s. (nat_eq row s.row && nat_lt s.at (slice_index_or (sizes before.now.layouts) row 0))
         && moves before.now.nodes before.now.layouts after.now.layouts end other s)) }
 {
-    for at in 0..before.size(row) {
+    let positions = end_positions(before, after, end, row)?;
+    for at in &positions {
+        let at = *at as usize;
         move_spot(messages, before, after, end, Spot { row, at })?;
     }
     Ok(())
+}
+
+/// The positions of the elements of a row that a source owns before, or a target after.
+fn end_positions(
+    before: &Owners,
+    after: &Owners,
+    end: End,
+    row: usize,
+) -> Result<Vec<u32>, OutOfMemory>
+    requires nodes { before.now.nodes ≡ after.now.nodes }
+    requires sizes { sizes before.now.layouts ≡ sizes after.now.layouts }
+    requires end { node_of end < before.now.nodes }
+    ensures { IfOk result (λ ps. ps.items ≡ filter (has_at before.now.layouts after.now.layouts end row) (range_with_len 0 (slice_index_or (sizes before.now.layouts) row 0))) }
+{
+    match end {
+        End::Source(from) => before.positions(from, row),
+        End::Target(to) => after.positions(to, row),
+    }
 }
 
 /// Notes the element, if it is sent from the end or to it.

@@ -13,8 +13,8 @@ use redistribute_rounds::{Pair, Rounds, rounds};
 use std::alloc::Global;
 
 /// The rounds in which the messages of a redistribution go, each round the pairs of a source and a target: those of a rotation, of which
-/// the ones without a message are left out. One pass over the elements finds who has a message for whom. The rows are of the same sizes
-/// before and after.
+/// the ones without a message are left out. Who has a message for whom is found by the places of each dimension. The rows are of the same
+/// sizes before and after.
 pub fn remap_rounds(alloc: Global, before: &Owners, after: &Owners) -> Result<Rounds, OutOfMemory>
     requires nodes { before.now.nodes ≡ after.now.nodes }
     requires sizes { sizes before.now.layouts ≡ sizes after.now.layouts }
@@ -22,7 +22,7 @@ pub fn remap_rounds(alloc: Global, before: &Owners, after: &Owners) -> Result<Ro
 {
     let nodes = before.nodes();
     let mut marks = unmarked(alloc, nodes)?;
-    mark_rows(&mut marks, before, after);
+    mark_rows(&mut marks, before, after)?;
     let pairs = marked_pairs(alloc, nodes, &marks)?;
     rounds(alloc, nodes, &pairs)
 }

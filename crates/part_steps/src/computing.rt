@@ -7,9 +7,11 @@ ghost use Rattle.machine_steps.specs.Message.{computes_left, first_read, least_o
 ghost use Rattle.tuple_values.specs.Spots.{read_of, reads_of};
 
 use crate::part::Part;
+use crate::visiting::part_visits;
 use crate::who::Who;
-use comm_sets::{Owners, Reads, Spot};
+use comm_sets::{Owners, Reads, Spot, Visits};
 use hpf_base::OutOfMemory;
+use std::alloc::Global;
 
 impl<'a> Reads for Part<'a> {
     ghost use Rattle.part_steps.specs.Parts.{part_of};
@@ -17,7 +19,7 @@ impl<'a> Reads for Part<'a> {
 
     ghost part = { λ p. part_of (part_view p) };
 
-    ghost nodes = { λ p. p.owners.now.nodes };
+    ghost owners = { λ p. p.owners.now };
 
     fn tuples(&self) -> usize {
         self.statement.count()
@@ -36,6 +38,10 @@ impl<'a> Reads for Part<'a> {
             Who::First => Ok(first_node(self.owners, reads)),
             Who::Root => Ok(&[0]),
         }
+    }
+
+    fn visits(&self, alloc: Global, id: u32) -> Result<Option<Visits>, OutOfMemory> {
+        part_visits(alloc, self, id)
     }
 
     fn alone(&self) {

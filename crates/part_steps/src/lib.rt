@@ -4,8 +4,9 @@
 //! out: what the node sends and from whom it takes, and after the phase what is stored, the fault that is kept, the values joined, or the
 //! values of a section.
 //!
-//! What holds in between: one pass over all tuples asks who computes each and what it reads (`exchange_of`), and all else goes by what the
-//! pass gave; values are asked of the tuples alone that the node computes; all values are taken before any is stored, so that want of
+//! What holds in between: what the node exchanges is found first (`exchange_of`), by asking the tuples that it computes and those at its
+//! border where what the statement names tells them axis by axis (`visiting`), and else all tuples; all else goes by what was found:
+//! values are asked of the tuples alone that the node computes; all values are taken before any is stored, so that want of
 //! memory leaves a node as it was; what is stored at last takes no memory. What a node exchanges for an instruction is kept from one run of
 //! it to the next (`KeptExchanges`): it depends on the slots that the instruction mentions and on no others, so where these are the same and
 //! the rows lie alike, it is the same.
@@ -25,6 +26,7 @@ mod reductions;
 mod sections;
 mod stores;
 mod values;
+mod visiting;
 mod who;
 
 pub use agreement::agrees;

@@ -18,7 +18,7 @@ use owner_tables::{Row, local_values};
 use std::alloc::Global;
 use std::collections::VecDeque;
 
-/// What a node exchanges in the phase of a part, and which tuples it computes, from one pass over the tuples.
+/// What a node exchanges in the phase of a part, and which tuples it computes.
 pub fn exchange_of(alloc: Global, part: &Part<'_>, id: u32) -> Result<Exchange, OutOfMemory>
     requires { id < part.now.owners.now.nodes }
     ensures { IfOk result (IsExchange (part_view part.now) id) }

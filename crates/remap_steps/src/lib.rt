@@ -3,9 +3,9 @@
 //! Comes in: who owns each element before it and after it, a node's number and its pieces, and the values received. Goes out: what the
 //! node sends in each round and from whom it takes, and after the last round its pieces.
 //!
-//! What holds in between: the messages of a node and the rounds are found once, by one pass over the elements each (`Redistribution`), and a
-//! round looks them up; nothing is changed, so want of memory leaves a node as it was. A row that lies as before is sent by no one, and
-//! its pieces are copied.
+//! What holds in between: the messages of a node are found once, by one pass over the elements that it owns, and the rounds by the places of
+//! each dimension (`Redistribution`), and a round looks them up; nothing is changed, so want of memory leaves a node as it was. A row that
+//! lies as before is sent by no one, and its pieces are copied.
 #![tactic(auto)]
 
 mod moving;

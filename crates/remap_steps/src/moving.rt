@@ -66,7 +66,7 @@ impl Redistribution {
         }
     }
 
-    /// Its piece of a row, element by element.
+    /// Its piece of a row, by the elements that it owns after.
     fn made_row(
         &self,
         alloc: Global,
@@ -79,31 +79,13 @@ impl Redistribution {
         requires row { row < length self.now.old }
         ensures { IfOk result (λ piece. piece ≡ moved_row self.now pieces.now received.now row) }
     {
-        let mut values = Vec::with_capacity(alloc, self.after.owned(self.id, row))?;
-        for at in 0..self.before.size(row) {
-            self.push_moved(pieces, received, incoming, Spot { row, at }, &mut values)?;
+        let positions = self.after.positions(self.id, row)?;
+        let mut values = Vec::with_capacity(alloc, positions.len())?;
+        for at in &positions {
+            let at = *at as usize;
+            values.push(self.value_after(pieces, received, incoming, Spot { row, at })?)?;
         }
         Ok(Row::of(values))
-    }
-
-    /// Puts the value of an element after the others, if the node owns it after.
-    fn push_moved(
-        &self,
-        pieces: &[Row],
-        received: &[Body],
-        incoming: &Messages,
-        spot: Spot,
-        values: &mut Vec<i64>,
-    ) -> Result<(), OutOfMemory>
-        requires incoming { incoming.now ≡ messages_to self.now }
-        requires spot { spot.at < slice_index_or (sizes self.now.old) spot.row 0 }
-        ensures { OnOk result (values.new.items ≡ values.old.items ++ map (λ at. value_after self.now pieces.now received.now (record { row = spot.row; at = at }))
-            (filter (owned_in self.now.new spot.row self.now.id) (spot.at ∷ []))) }
-    {
-        if self.after.owns(self.id, spot) {
-            values.push(self.value_after(pieces, received, incoming, spot)?)?;
-        }
-        Ok(())
     }
 
     /// The value of an element: the node's own, or received.

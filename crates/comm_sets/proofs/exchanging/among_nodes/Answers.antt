@@ -14,7 +14,7 @@ pub send_reads-requires-clause-computing : goal.send_reads-requires-clause-compu
 send_reads-requires-clause-computing g c =
     let computes = λ (node : ℕ). (g.P.Reads.part c.args.part.now).computes node c.loop-tuple.tuple in
     let all : List ℕ → Type 0 = λ computing. All (λ node. node < c.args.owners.now.nodes) computing in
-    subst all (sym (c.in_ok-computing.ensures ∙ ap (λ nodes. filter computes (range_with_len 0 nodes)) c.requires.nodes)) (are-nodes computes c.args.owners.now.nodes)
+    subst all (sym (c.in_ok-computing.ensures ∙ ap (λ o. filter computes (range_with_len 0 o.nodes)) c.requires.owners)) (are-nodes computes c.args.owners.now.nodes)
 
 pub loop-tuple-preserved : goal.loop-tuple-preserved
 loop-tuple-preserved g c =
@@ -28,7 +28,7 @@ loop-tuple-preserved g c =
     let sent : map (option_map spot_of) c.as_slice-in-loop-tuple.result.now ≡ part.reads n = ap (map (option_map spot_of)) c.as_slice-in-loop-tuple.ensures.value ∙ reads in
     let taken : map (option_map spot_of) c.as_slice-in-loop-tuple-2.result.now ≡ part.reads n = ap (map (option_map spot_of)) c.as_slice-in-loop-tuple-2.ensures.value ∙ reads in
     let computing : (node : ℕ) → node < nodes → list_any (λ other. nat_eq other node) c.in_ok-computing.computing.now ≡ part.computes node n =
-    λ node lt. ap (list_any (λ other. nat_eq other node)) (c.in_ok-computing.ensures ∙ ap (λ count. filter (λ other. part.computes other n) (range_with_len 0 count)) c.requires.nodes)
+    λ node lt. ap (list_any (λ other. nat_eq other node)) (c.in_ok-computing.ensures ∙ ap (λ o. filter (λ other. part.computes other n) (range_with_len 0 o.nodes)) c.requires.owners)
     ∙ computes-it (λ other. part.computes other n) nodes node lt in
     record {
       outgoing = noted-more c.loop-tuple.invariant.outgoing c.in_ok-send_reads.ensures (λ to lt s.

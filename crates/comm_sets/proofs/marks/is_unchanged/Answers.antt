@@ -1,4 +1,4 @@
-use Rattle.std.proofs.Common.{◌≡◌, Some, sym, ◌∙◌, ap}
+use Rattle.std.proofs.Common.{◌≡◌, sym, ◌∙◌, ap}
 use Rattle.std.proofs.lemmas.Option.{same_Some}
 use Rattle.machine_steps.specs.Layout.{owned_by}
 use Rattle.machine_steps.specs.SameLayouts.{is_same_layout}

@@ -13,5 +13,5 @@ loop-row-preserved c =
     let new = c.args.after.now in
     let row = c.loop-row.row in
     let within : row < length (sizes old.layouts) = omega (arith, c.loop-row-test.true, c.rows-row-end.ensures, length-map old.layouts size_of) in
-    marked-more (any_moved old.nodes old.layouts new.layouts (spots_from 0 (take (row + 1) (sizes old.layouts)))) c.loop-row.invariant c.mark_row.ensures
+    marked-more (any_moved old.nodes old.layouts new.layouts (spots_from 0 (take (row + 1) (sizes old.layouts)))) c.loop-row.invariant c.in_ok-mark_row.ensures
     (λ from to lt lt'. any-row (is_moved old.nodes old.layouts new.layouts from to) row (sizes old.layouts) within)

@@ -31,5 +31,5 @@ returns c =
     let none : c.in_ok-marks.marks.items ≡ replicate (old.nodes * 64) false = c.in_ok-marks.ensures ∙ ap (λ n. replicate (n * 64) false) count in
     let pairs : c.deref-2.result.now ≡ moving_pairs old.nodes old.layouts new.layouts =
     c.deref-2.ensures.value ∙ c.in_ok-pairs.ensures ∙ (λ i. filter (is_marked_pair (c.deref.ensures.value i)) (all_pairs (count i)))
-    ∙ marked-moving old.nodes old.layouts new.layouts c.in_ok-marks.marks.items c.mark_rows.new.marks.items few none c.mark_rows.ensures in
+    ∙ marked-moving old.nodes old.layouts new.layouts c.in_ok-marks.marks.items c.mark_rows.new.marks.items few none c.in_ok-mark_rows.ensures in
     subst (λ (all : List (List Pair)). IfOk c.rounds.result (λ rounds. rounds ≡ all)) (λ i. rotation_rounds (count i) (pairs i)) c.rounds.ensures.value

@@ -1,25 +1,20 @@
-use Rattle.std.proofs.Common.{◌≡◌, ℕ, [], ◌∷◌, ◌++◌, filter, get_or, map, sym, ◌∙◌, ap, arith}
-use Rattle.std.specs.List.{range_with_len}
+use Rattle.std.proofs.Common.{◌≡◌, ℕ, ◌<◌, All, List, get_or, subst, sym, ◌∙◌, ap, arith}
 use Rattle.machine_steps.specs.Layout.{owned_in, sizes}
-use Rattle.remap_steps.specs.Redistributions.{value_after}
+use Rattle.comm_sets.proofs.Computing.{are-nodes}
 use Rattle.remap_steps.proofs.Made.{seen}
-use Rattle.remap_steps.proofs.Nodes.{map-more}
 use Rattle.remap_steps.proofs.redistribution.Redistribution.made_row.Goals as goal
 
-pub loop-at-preserved : goal.loop-at-preserved
-loop-at-preserved c =
+pub value_after-requires-clause-spot : goal.value_after-requires-clause-spot
+value_after-requires-clause-spot c =
+    let r = c.self.inside in
     let v = c.args.self.now in
-    let at = c.loop-at.at in
-    let value = λ (at : ℕ). value_after v c.args.pieces.now c.args.received.now (record { row = c.args.row; at = at }) in
-    let owns = owned_in v.new c.args.row v.id in
-    c.in_ok-push_moved.ensures ∙ ap (λ xs. xs ++ map value (filter owns (at ∷ []))) c.loop-at.invariant ∙ sym (map-more value owns at)
-
-pub returns : goal.returns
-returns c =
-    let v = c.args.self.now in
-    let s = seen c.self.inside v c.self.view_is c.self.invariant in
+    let s = seen r v c.self.view_is c.self.invariant in
     let row = c.args.row in
-    let value = λ (at : ℕ). value_after v c.args.pieces.now c.args.received.now (record { row = row; at = at }) in
-    let size : get_or (sizes c.self.inside.before.layouts) row 0 ≡ get_or (sizes v.old) row 0 = ap (λ layouts. get_or (sizes layouts) row 0) s.old in
-    let done : c.loop-at.at ≡ get_or (sizes v.old) row 0 = omega (arith, c.size-at-end.ensures, size) in
-    c.of.ensures ∙ c.loop-at.invariant ∙ ap (λ n. map value (filter (owned_in v.new row v.id) (range_with_len 0 n))) done
+    let i = c.loop-at.at-index in
+    let n = get_or (sizes r.after.layouts) row 0 in
+    let below : List ℕ → Type 0 = λ ps. All (λ at. at < n) ps in
+    let inside : get_or c.deref-at-items.result.now i 0 < n =
+    subst below (sym (c.deref-at-items.ensures.value ∙ c.in_ok-positions.ensures)) (are-nodes (owned_in r.after.layouts row r.id) n) i 0 (omega arith) in
+    let size : n ≡ get_or (sizes v.old) row 0 =
+    ap (λ ns. get_or ns row 0) (sym c.self.invariant.sizes) ∙ ap (λ layouts. get_or (sizes layouts) row 0) s.old in
+    omega (arith, inside, size)

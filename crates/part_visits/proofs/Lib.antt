@@ -1,0 +1,4 @@
+mod AxisLists
+mod Items
+mod MoreReads
+mod Sharers

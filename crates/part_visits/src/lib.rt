@@ -1,0 +1,20 @@
+//! Which tuples of a part a node has to ask, found axis by axis.
+//!
+//! Comes in: how the rows lie, a node, the extents of a space, and what a part assigns and reads there, by the places of a tuple. Goes out: the
+//! tuples that the node computes, and those at which it may take or send something; or None, where that can't be told axis by axis, and each
+//! tuple has to be asked.
+//!
+//! What holds in between: what a node owns of a reference is a product of lists of places, one an axis. It computes such a product, takes something only at those of its
+//! tuples that haven't the places at which it owns all that is read, and sends something only at tuples with the places at which it owns what is read and that
+//! it doesn't compute itself. So the time is that of the places and of the tuples at the border of what the node computes, not that of all tuples.
+#![tactic(auto)]
+
+mod lists;
+mod own;
+mod sending;
+mod sharing;
+mod taking;
+mod visitor;
+mod visits;
+
+pub use visits::{assigned_visits, read_visits, root_visits};

@@ -1,0 +1,6 @@
+pub mod Members
+pub mod Reading
+pub mod Taken
+pub mod Sent
+pub mod Owning
+pub mod OfParts

@@ -1,0 +1,69 @@
+-- What is read at a tuple, found among the references.
+use Rattle.std.proofs.Common.{◌≡◌, ℕ, ◌&&◌, ◌||◌, Bool, true, false, List, [], ◌∷◌, map, nat_eq, Option, Some, None, option_map, All, refl, sym, ◌∙◌, ap, ◌⊎◌, inl, inr}
+use Rattle.std.proofs.lemmas.Bool.{eqb-true}
+use Rattle.std.proofs.lemmas.List.Elements.{All-head, All-tail}
+use Rattle.std.proofs.lemmas.Option.{none-some, same_Some}
+use Rattle.std.specs.List.{list_all}
+use Rattle.std.specs.Option.{is_some}
+use Rattle.storage.specs.Storage.{Spot, is_same_spot}
+use Rattle.machine_steps.specs.Layout.{Layout, owns_spot}
+use Rattle.machine_steps.specs.Message.{names_spot}
+use Rattle.axis_products.specs.Products.{places_at}
+use Rattle.axis_products.specs.Tests.{Test, holds}
+use Rattle.courses.specs.Owners.{IsLaidOut, bounds_test, owner_test}
+use Rattle.courses.specs.References.{Named, named_spot, place_at_places}
+use Rattle.courses.proofs.Owners.{bounded, holds-and, owned-named}
+use Rattle.courses.proofs.Sections.{both}
+use Rattle.visited_tuples.specs.Owned.{Lies, owns_in, owns_named}
+
+spot-is : (a b : Spot) → is_same_spot a b ≡ true → a ≡ b
+spot-is a b e =
+    let h = both (nat_eq a.row b.row) (nat_eq a.at b.at) e in
+    let p : a.row ≡ b.row = eqb-true a.row b.row h.0 in
+    let q : a.at ≡ b.at = eqb-true a.at b.at h.1 in
+    λ i. record { row = p i; at = q i }
+
+-- the place of what is named
+pub named-place : (row : ℕ) (o : Option ℕ) (spot : Spot) → option_map (λ k. record { row = row; at = k }) o ≡ Some spot
+    → (at : ℕ) × (o ≡ Some at) × (record { row = row; at = at } ≡ spot)
+named-place row None spot e = absurd (none-some spot e)
+named-place row (Some k) spot e = (k, refl, same_Some (record { row = row; at = k }) spot e)
+
+pub owns-named : (ns : List ℕ) (layouts : List Layout) (r : Named) (layout : Layout) (node t : ℕ) (spot : Spot) → IsLaidOut ns layouts r layout
+    → named_spot ns t r ≡ Some spot → owns_spot layouts node spot ≡ holds (owns_named layouts node r) (places_at ns t)
+owns-named ns layouts r layout node t spot laid named =
+    let places = places_at ns t in
+    let B : Test = bounds_test r.dims r.courses in
+    let O : Test = owner_test layout.mapping node r.courses in
+    let h = named-place r.row (place_at_places r places) spot named in
+    let inside : holds B places ≡ true = sym (bounded ns r t (record { rank = laid.rank; axes = laid.axes })) ∙ ap is_some h.1 in
+    ap (owns_spot layouts node) (sym h.2)
+    ∙ owned-named ns layouts r layout laid node t h.0 h.1
+    ∙ sym (ap (λ o. holds (owns_in o node r) places) laid.row ∙ holds-and B O places ∙ ap (λ b. b && holds O places) inside)
+
+-- the element is named by the first read, or by one behind it
+pub named-first : (o : Option Spot) (reads : List (Option Spot)) (spot : Spot) → names_spot (o ∷ reads) spot ≡ true
+    → (o ≡ Some spot) ⊎ (names_spot reads spot ≡ true)
+named-first None reads spot e = inr e
+named-first (Some s) reads spot e = by_same (is_same_spot s spot) refl e
+  where
+    by_same : (b : Bool) → is_same_spot s spot ≡ b → (b || names_spot reads spot) ≡ true → (Some s ≡ Some spot) ⊎ (names_spot reads spot ≡ true)
+    by_same true is e = inl (ap Some (spot-is s spot is))
+    by_same false is e = inr e
+
+pub own-all : (ns : List ℕ) (layouts : List Layout) (rs : List Named) (node t : ℕ) (spot : Spot) → All (Lies ns layouts) rs
+    → list_all (λ r. holds (owns_named layouts node r) (places_at ns t)) rs ≡ true → names_spot (map (named_spot ns t) rs) spot ≡ true
+    → owns_spot layouts node spot ≡ true
+own-all ns layouts [] node t spot lie all named = absurd cc
+own-all ns layouts (r ∷ rs) node t spot lie all named =
+    let each = both (holds (owns_named layouts node r) (places_at ns t)) (list_all (λ r. holds (owns_named layouts node r) (places_at ns t)) rs) all in
+    let here = All-head (Lies ns layouts) r rs lie in
+    by_first (named-first (named_spot ns t r) (map (named_spot ns t) rs) spot named)
+    (λ named. owns-named ns layouts r here.0 node t spot here.1 named ∙ each.0)
+    (λ named. own-all ns layouts rs node t spot (All-tail (Lies ns layouts) r rs lie) each.1 named)
+  where
+    by_first : (named_spot ns t r ≡ Some spot) ⊎ (names_spot (map (named_spot ns t) rs) spot ≡ true)
+        → (named_spot ns t r ≡ Some spot → owns_spot layouts node spot ≡ true)
+        → (names_spot (map (named_spot ns t) rs) spot ≡ true → owns_spot layouts node spot ≡ true) → owns_spot layouts node spot ≡ true
+    by_first (inl e) f g = f e
+    by_first (inr e) f g = g e

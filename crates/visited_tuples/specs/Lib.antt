@@ -1,0 +1,4 @@
+pub mod Owned
+pub mod Own
+pub mod Visited
+pub mod Parts
