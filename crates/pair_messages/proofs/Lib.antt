@@ -1,0 +1,12 @@
+mod Sharers
+mod TuplePlaces
+mod Subscripts
+mod Anys
+mod BothTests
+mod Ascending
+mod Enough
+mod Sending
+mod Whole
+mod Items
+mod ClassLaws
+mod AxisClasses

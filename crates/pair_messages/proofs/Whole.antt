@@ -1,0 +1,59 @@
+-- A list in order of what is sent of all references is the message.
+use Rattle.std.proofs.Common.{◌≡◌, ℕ, ◌<◌, ◌==◌, ◌&&◌, not, nat_lt, slice_index_or, Bool, true, false, List, map, refl, sym, ◌∙◌, ap, arith}
+use Rattle.std.specs.List.{list_any, range_with_len}
+use Rattle.hpf_base.specs.ElementOrder.{product}
+use Rattle.storage.specs.Storage.{Spot}
+use Rattle.machine_steps.specs.Layout.{Layout, in_bounds, least_owner_of, owns_spot, sizes}
+use Rattle.machine_steps.specs.Message.{Part, any_below, computes_left, message, names_spot, needs}
+use Rattle.comm_sets.specs.Ascending.{Ascends}
+use Rattle.comm_sets.specs.Noted.{is_among, is_sent}
+use Rattle.comm_sets.proofs.AllSpots.{is-filter}
+use Rattle.axis_products.specs.Products.{places_at}
+use Rattle.axis_products.specs.Tests.{Test, holds}
+use Rattle.courses.specs.Owners.{IsLaidOut, bounds_test, owner_test}
+use Rattle.courses.specs.References.{Named, named_spot}
+use Rattle.courses.proofs.Owners.{holds-and, left}
+use Rattle.visited_tuples.specs.Owned.{owns_in, owns_named}
+use Rattle.visited_tuples.specs.Parts.{IsPartOf}
+use Rattle.pair_messages.specs.Sent.{is_named_by, is_sent_of}
+use Rattle.pair_messages.proofs.Anys.{any-and, any-below, any-range, any-reads}
+
+-- who computes, where what is assigned is in bounds at each tuple
+pub computes-owned : (ns : List ℕ) (layouts : List Layout) (l : Named) (layout : Layout) (node t : ℕ) → IsLaidOut ns layouts l layout
+    → holds (bounds_test l.dims l.courses) (places_at ns t) ≡ true
+    → computes_left layouts node (in_bounds layouts (named_spot ns t l)) ≡ holds (owns_named layouts node l) (places_at ns t)
+computes-owned ns layouts l layout node t laid inside =
+    let B : Test = bounds_test l.dims l.courses in
+    let O : Test = owner_test layout.mapping node l.courses in
+    left ns layouts l layout node t laid inside
+    ∙ sym (ap (λ o. holds (owns_in o node l) (places_at ns t)) laid.row ∙ holds-and B O (places_at ns t) ∙ ap (λ b. b && holds O (places_at ns t)) inside)
+
+turned : (need within sent : Bool) → (need && (within && sent)) ≡ (within && (need && sent))
+turned true within sent = refl
+turned false true sent = refl
+turned false false sent = refl
+
+module _ (nodes : ℕ) (layouts : List Layout) (ns : List ℕ) (rs : List Named) (computed : Test) (from to : ℕ)
+    (who : (node tuple : ℕ) → Bool) (by : (t : ℕ) → t < product ns → who to t ≡ holds computed (places_at ns t)) (part : Part) (of : IsPartOf ns rs who part) where
+  needed : (s : Spot) → list_any (λ t. holds computed (places_at ns t) && names_spot (map (named_spot ns t) rs) s) (range_with_len 0 (product ns)) ≡ needs part to s
+  needed s =
+      any-range (λ t. holds computed (places_at ns t) && names_spot (map (named_spot ns t) rs) s) (λ t. part.computes to t && names_spot (part.reads t) s) 0 (product ns)
+      (λ t low high.
+      let below : t < product ns = omega (arith, high) in
+      ap (λ b. b && names_spot (map (named_spot ns t) rs) s) (sym (of.computes to t below ∙ by t below))
+      ∙ ap (λ l. part.computes to t && names_spot l s) (sym (of.reads t below)))
+      ∙ sym (any-below (λ t. part.computes to t && names_spot (part.reads t) s) (product ns))
+      ∙ sym (ap (any_below (λ t. part.computes to t && names_spot (part.reads t) s)) of.tuples)
+
+  -- just what is sent of the references is among it
+  all-sent : (s : Spot) → list_any (λ r. is_sent_of nodes layouts ns computed from to r s) rs ≡ (needs part to s && is_sent nodes layouts from to s)
+  all-sent s =
+      any-and (λ r. list_any (λ t. holds computed (places_at ns t) && is_named_by ns r t s) (range_with_len 0 (product ns))) (is_sent nodes layouts from to s) rs
+      ∙ ap (λ b. b && is_sent nodes layouts from to s) (any-reads ns (λ t. holds computed (places_at ns t)) s (range_with_len 0 (product ns)) rs ∙ needed s)
+
+  pub is-message : (spots : List Spot) → Ascends spots → ((s : Spot) → is_among spots s ≡ list_any (λ r. is_sent_of nodes layouts ns computed from to r s) rs)
+      → spots ≡ message nodes layouts part from to
+  is-message spots ascends among =
+      is-filter (λ s. needs part to s && (not (owns_spot layouts to s) && (least_owner_of nodes layouts s == from))) layouts spots ascends
+      (λ s. among s ∙ all-sent s
+      ∙ turned (needs part to s) (nat_lt s.at (slice_index_or (sizes layouts) s.row 0)) (not (owns_spot layouts to s) && (least_owner_of nodes layouts s == from)))
