@@ -5,8 +5,8 @@ use Rattle.std.specs.List.{range_with_len}
 use Rattle.storage.specs.Storage.{Spot}
 use Rattle.machine_steps.specs.Layout.{AreOwned, Layout, least_owner_of, owns_spot, sizes}
 use Rattle.machine_steps.specs.Message.{Part, message, needs}
-use Rattle.comm_sets.proofs.AllSpots.{is-filter}
-use Rattle.comm_sets.proofs.Ascending.{ascends-nil}
+use Rattle.message_elements.proofs.AllSpots.{is-filter}
+use Rattle.message_elements.proofs.Ascending.{ascends-nil}
 
 module _ (layouts : List Layout) (owned : AreOwned 1 layouts) where
   -- it owns each element

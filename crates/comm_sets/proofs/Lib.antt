@@ -1,5 +1,3 @@
-pub mod Ascending
-pub mod AllSpots
 pub mod Alone
 pub mod Arranging
 pub mod Noting

@@ -12,10 +12,10 @@ use Rattle.std.specs.Ordering.{eq_by_cmp, is_eq, is_lt, ordering_index, ordering
 use Rattle.storage.specs.Storage.{Spot}
 use Rattle.storage.specs.Storage.{is_same_spot}
 use Rattle.machine_steps.specs.Message.{lookup}
-use Rattle.comm_sets.specs.Ascending.{spot_cmp, Ascends}
-use Rattle.comm_sets.specs.Noted.{is_among}
-use Rattle.comm_sets.proofs.Arranging.{among-map}
-use Rattle.comm_sets.proofs.Ascending.{Above, same-refl, same-tied, spot-total}
+use Rattle.message_elements.specs.Ascending.{spot_cmp, Ascends}
+use Rattle.message_elements.specs.Elements.{is_among}
+use Rattle.message_elements.proofs.Arranging.{among-map}
+use Rattle.message_elements.proofs.Ascending.{Above, same-refl, same-tied, spot-total}
 
 -- one that isn't there
 pub lookup-none : (spots : List Spot) (values : List ℤ) (spot : Spot) → is_among spots spot ≡ false → lookup spots values spot ≡ pos 0

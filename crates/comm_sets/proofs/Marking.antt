@@ -14,7 +14,7 @@ use Rattle.comm_sets.specs.Marks.{Marked, is_marked, any_moved}
 use Rattle.comm_sets.specs.declared.remapping.End.{End}
 use Rattle.comm_sets.specs.declared.remapping.End.TheVariants.{Source, Target}
 use Rattle.comm_sets.specs.Moves.{is_moved, moves}
-use Rattle.comm_sets.proofs.AllSpots.{or_false}
+use Rattle.message_elements.proofs.AllSpots.{or_false}
 use Rattle.comm_sets.proofs.Computing.{computes-it}
 
 -- nothing

@@ -7,9 +7,9 @@ use Rattle.std.specs.List.{range_with_len}
 use Rattle.storage.specs.Storage.{Spot}
 use Rattle.machine_steps.specs.Layout.{Layout, owns_spot, least_owner_of}
 use Rattle.machine_steps.specs.Message.{Part, needs, message, remap_message}
-use Rattle.comm_sets.specs.Ascending.{Ascends}
-use Rattle.comm_sets.proofs.Ascending.{ascends-nil}
-use Rattle.comm_sets.proofs.AllSpots.{filter-ascends}
+use Rattle.message_elements.specs.Ascending.{Ascends}
+use Rattle.message_elements.proofs.Ascending.{ascends-nil}
+use Rattle.message_elements.proofs.AllSpots.{filter-ascends}
 
 pub message-ascends : (nodes : ℕ) (layouts : List Layout) (part : Part) (from to : ℕ) → Ascends (message nodes layouts part from to)
 message-ascends nodes layouts part from to = filter-ascends (λ s. needs part to s && (not (owns_spot layouts to s) && (least_owner_of nodes layouts s == from))) layouts

@@ -5,7 +5,8 @@ use Rattle.std.proofs.lemmas.List.{get_or-set_same, get_or-set_other, length-set
 use Rattle.storage.specs.Storage.{Spot}
 use Rattle.storage.specs.Storage.{is_same_spot}
 use Rattle.machine_steps.specs.Message.{names_spot, any_below}
-use Rattle.comm_sets.specs.Noted.{Lists, is_among, is_named, Noted, OneMore}
+use Rattle.message_elements.specs.Elements.{is_among, is_named, OneMore}
+use Rattle.comm_sets.specs.Noted.{Lists, Noted}
 
 -- nothing
 pub noted-none : (lists : Lists) → Noted lists lists (λ node spot. false)
@@ -85,13 +86,6 @@ names-more {R} f reads i d s lt = ap (λ rs. names_spot (map f rs) s) (take_more
 -- one tuple more
 pub below-more : (P : ℕ → Bool) (n : ℕ) → any_below P (n + 1) ≡ (P n || any_below P n)
 below-more P n = let e : n + 1 ≡ suc n = omega arith in ap (any_below P) e
-
-pub both-tests : (a b test : Bool) → ((a && test) || (b && test)) ≡ ((a || b) && test)
-both-tests true true true = refl
-both-tests true true false = refl
-both-tests true false true = refl
-both-tests true false false = refl
-both-tests false b test = refl
 
 pub both-within : (within a b : Bool) → ((within && a) || (within && b)) ≡ (within && (a || b))
 both-within true a b = refl

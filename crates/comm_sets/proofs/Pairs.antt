@@ -14,7 +14,7 @@ use Rattle.redistribute_rounds.specs.Rounds.{IsBetween}
 use Rattle.comm_sets.specs.Marks.{Marked, any_moved, is_marked, is_marked_pair}
 use Rattle.comm_sets.specs.Moves.{is_moved}
 use Rattle.machine_steps.specs.Rounds.{all_pairs, moving_pairs, pair_of}
-use Rattle.comm_sets.proofs.AllSpots.{or_false}
+use Rattle.message_elements.proofs.AllSpots.{or_false}
 use Rattle.comm_sets.proofs.Marking.{unmarked-pair}
 
 -- ---- filters

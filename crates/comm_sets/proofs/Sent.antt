@@ -8,9 +8,11 @@ use Rattle.std.specs.List.{range_with_len}
 use Rattle.storage.specs.Storage.{Spot}
 use Rattle.machine_steps.specs.Layout.{Layout, size_of, sizes, owns_spot, least_owner_of}
 use Rattle.machine_steps.specs.Message.{Part, any_below, names_spot, needs, message, all_spots}
-use Rattle.comm_sets.specs.Noted.{Lists, is_among, is_sent, Noted, Arranged}
-use Rattle.comm_sets.proofs.AllSpots.{is-filter, or_false}
-use Rattle.comm_sets.proofs.Noting.{below-more, both-tests}
+use Rattle.message_elements.specs.Elements.{is_among, is_sent}
+use Rattle.comm_sets.specs.Noted.{Lists, Noted, Arranged}
+use Rattle.message_elements.proofs.AllSpots.{is-filter, or_false}
+use Rattle.message_elements.proofs.AllSpots.{both-tests}
+use Rattle.comm_sets.proofs.Noting.{below-more}
 
 -- each node's list is the filter of all elements by what was noted for it
 pub are-filters : (nodes : ℕ) (layouts : List Layout) (noted arranged : Lists) {test : ℕ → Spot → Bool} (P : ℕ → Spot → Bool) → Noted (replicate nodes []) noted test → Arranged noted arranged

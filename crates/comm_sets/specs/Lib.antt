@@ -1,6 +1,4 @@
-pub mod Ascending
 pub mod Exchanges
 pub mod Marks
 pub mod Moves
 pub mod Noted
-pub mod Visits

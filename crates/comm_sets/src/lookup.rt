@@ -3,7 +3,7 @@
 ghost use Rattle.std.specs.Prelude.{◌≡◌, map, pos, slice_index_or};
 ghost use Rattle.machine_steps.specs.Message.{lookup};
 ghost use Rattle.storage.specs.Spots.{spot_of};
-ghost use Rattle.comm_sets.specs.Ascending.{Ascends};
+ghost use Rattle.message_elements.specs.Ascending.{Ascends};
 
 use storage::Spot;
 

@@ -3,10 +3,12 @@
 ghost use Rattle.std.specs.Prelude.{◌≡◌, ◌<◌, ◌&&◌, [], IfOk, OnOk, length, map, nat_eq, replicate, slice_index_or};
 ghost use Rattle.storage.specs.Storage.{is_same_spot};
 ghost use Rattle.storage.specs.Spots.{spot_of};
-ghost use Rattle.comm_sets.specs.Ascending.{Ascends};
-ghost use Rattle.comm_sets.specs.Noted.{Arranged, Noted, OneMore, SameAmong};
+ghost use Rattle.message_elements.specs.Ascending.{Ascends};
+ghost use Rattle.message_elements.specs.Elements.{OneMore, SameAmong};
+ghost use Rattle.comm_sets.specs.Noted.{Arranged, Noted};
 
 use hpf_base::OutOfMemory;
+use message_elements::{arrange_list, note};
 use std::alloc::Global;
 use std::marker::Model;
 use storage::Spot;
@@ -65,35 +67,4 @@ impl Messages {
     {
         self.lists[node as usize].as_slice()
     }
-}
-
-/// Adds the element to the list. Repetitions are dropped before the list grows, so that its memory goes with its elements, however often
-/// they are added.
-pub fn note(list: &mut Vec<Spot>, spot: Spot) -> Result<(), OutOfMemory>
-    ensures { OnOk result (OneMore (spot_of spot) (map spot_of list.old.items) (map spot_of list.new.items)) }
-{
-    if list.len() == list.capacity() {
-        make_room(list)?;
-    }
-    list.push(spot)?;
-    Ok(())
-}
-
-/// Drops repetitions, and makes room for at least as many elements as are left.
-fn make_room(list: &mut Vec<Spot>) -> Result<(), OutOfMemory>
-    ensures { OnOk result (SameAmong (map spot_of list.old.items) (map spot_of list.new.items)) }
-{
-    arrange_list(list);
-    let room = list.len() + 1;
-    list.reserve(room)?;
-    Ok(())
-}
-
-/// Puts the list in order, and drops repetitions.
-pub fn arrange_list(list: &mut Vec<Spot>)
-    ensures ascends { Ascends (map spot_of list.new.items) }
-    ensures among { SameAmong (map spot_of list.old.items) (map spot_of list.new.items) }
-{
-    list.sort_unstable();
-    list.dedup();
 }

@@ -5,10 +5,10 @@ ghost use Rattle.std.specs.List.{range_with_len};
 ghost use Rattle.machine_steps.specs.Message.{Part};
 ghost use Rattle.owner_tables.specs.Views.{OwnersView};
 ghost use Rattle.storage.specs.Spots.{spot_of};
-ghost use Rattle.comm_sets.specs.Visits.{AreVisits};
+ghost use Rattle.message_elements.specs.Visits.{AreVisits};
 
-use crate::visits::Visits;
 use hpf_base::OutOfMemory;
+use message_elements::Visits;
 use std::alloc::Global;
 use storage::Spot;
 

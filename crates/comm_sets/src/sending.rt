@@ -6,7 +6,8 @@ ghost use Rattle.machine_steps.specs.Layout.{sizes, owns_spot};
 ghost use Rattle.machine_steps.specs.Message.{names_spot};
 ghost use Rattle.storage.specs.Storage.{is_same_spot};
 ghost use Rattle.storage.specs.Spots.{spot_of};
-ghost use Rattle.comm_sets.specs.Noted.{Noted, is_named, is_sent};
+ghost use Rattle.message_elements.specs.Elements.{is_named, is_sent};
+ghost use Rattle.comm_sets.specs.Noted.{Noted};
 
 use crate::messages::Messages;
 use hpf_base::OutOfMemory;

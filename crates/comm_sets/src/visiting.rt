@@ -4,15 +4,15 @@ ghost use Rattle.std.specs.Prelude.{◌≡◌, ◌<◌, All, IfOk, map, true};
 ghost use Rattle.std.specs.List.{range_with_len};
 ghost use Rattle.machine_steps.specs.Message.{message};
 ghost use Rattle.comm_sets.specs.Exchanges.{AreExchanged};
-ghost use Rattle.comm_sets.specs.Visits.{AreVisits, IsVisited, sends_at, takes_at};
+ghost use Rattle.message_elements.specs.Visits.{AreVisits, IsVisited, sends_at, takes_at};
 
 use crate::exchanged::Exchange;
 use crate::messages::Messages;
 use crate::reads::Reads;
 use crate::receiving::receive_reads;
 use crate::sending::send_reads;
-use crate::visits::Visits;
 use hpf_base::OutOfMemory;
+use message_elements::Visits;
 use owner_tables::Owners;
 use std::alloc::Global;
 

@@ -5,8 +5,8 @@ use Rattle.std.specs.List.{list_any, range_with_len}
 use Rattle.hpf_base.proofs.Ranges.{range_with_len-add}
 use Rattle.storage.specs.Storage.{Spot}
 use Rattle.machine_steps.specs.Message.{any_below, names_spot}
-use Rattle.comm_sets.specs.Noted.{is_named}
-use Rattle.comm_sets.proofs.Noting.{both-tests}
+use Rattle.message_elements.specs.Elements.{is_named}
+use Rattle.message_elements.proofs.AllSpots.{both-tests}
 use Rattle.courses.specs.References.{Named, named_spot}
 use Rattle.pair_messages.specs.Sent.{is_named_by}
 

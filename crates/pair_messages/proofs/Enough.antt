@@ -7,7 +7,7 @@ use Rattle.std.specs.List.{list_any, range_with_len}
 use Rattle.hpf_base.specs.ElementOrder.{product}
 use Rattle.storage.specs.Storage.{Spot}
 use Rattle.array_meaning.specs.State.{element_place}
-use Rattle.comm_sets.specs.Noted.{is_named}
+use Rattle.message_elements.specs.Elements.{is_named}
 use Rattle.axis_products.specs.Products.{each, passing, places_at}
 use Rattle.axis_products.specs.Tests.{Test, holds}
 use Rattle.axis_products.proofs.Products.{some_factor}

@@ -5,8 +5,8 @@ use Rattle.std.specs.List.{list_any, range_with_len}
 use Rattle.hpf_base.specs.ElementOrder.{product}
 use Rattle.storage.specs.Storage.{Spot}
 use Rattle.machine_steps.specs.Layout.{AreOwned, Layout, first, least_owner_of, owned_by, owns_spot, size_of, sizes}
-use Rattle.comm_sets.specs.Noted.{is_named, is_sent}
-use Rattle.comm_sets.proofs.Ascending.{same-true}
+use Rattle.message_elements.specs.Elements.{is_named, is_sent}
+use Rattle.message_elements.proofs.Ascending.{same-true}
 use Rattle.axis_products.specs.Products.{places_at}
 use Rattle.axis_products.specs.Tests.{Test, and_test, holds}
 use Rattle.courses.specs.Owners.{IsLaidOut}

@@ -5,9 +5,9 @@ use Rattle.hpf_base.specs.ElementOrder.{product}
 use Rattle.storage.specs.Storage.{Spot}
 use Rattle.machine_steps.specs.Layout.{Layout, in_bounds, least_owner_of, owns_spot, sizes}
 use Rattle.machine_steps.specs.Message.{Part, any_below, computes_left, message, names_spot, needs}
-use Rattle.comm_sets.specs.Ascending.{Ascends}
-use Rattle.comm_sets.specs.Noted.{is_among, is_sent}
-use Rattle.comm_sets.proofs.AllSpots.{is-filter}
+use Rattle.message_elements.specs.Ascending.{Ascends}
+use Rattle.message_elements.specs.Elements.{is_among, is_sent}
+use Rattle.message_elements.proofs.AllSpots.{is-filter}
 use Rattle.axis_products.specs.Products.{places_at}
 use Rattle.axis_products.specs.Tests.{Test, holds}
 use Rattle.courses.specs.Owners.{IsLaidOut, bounds_test, owner_test}

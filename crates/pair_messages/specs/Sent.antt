@@ -5,7 +5,7 @@ use Rattle.std.specs.List.{list_any, range_with_len}
 use Rattle.hpf_base.specs.ElementOrder.{product}
 use Rattle.storage.specs.Storage.{Spot}
 use Rattle.machine_steps.specs.Layout.{Layout}
-use Rattle.comm_sets.specs.Noted.{is_among, is_named, is_sent}
+use Rattle.message_elements.specs.Elements.{is_among, is_named, is_sent}
 use Rattle.axis_products.specs.Products.{places_at}
 use Rattle.axis_products.specs.Tests.{Test, holds}
 use Rattle.courses.specs.References.{Named, named_spot}

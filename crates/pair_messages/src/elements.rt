@@ -10,11 +10,11 @@ ghost use Rattle.axis_products.specs.Products.{places_at};
 ghost use Rattle.courses.specs.Courses.{course_at, courses_at};
 ghost use Rattle.courses.specs.References.{named_spot};
 ghost use Rattle.course_forms.specs.Views.{course_of, courses_of, named_of};
-ghost use Rattle.comm_sets.specs.Noted.{OneMore};
+ghost use Rattle.message_elements.specs.Elements.{OneMore};
 ghost use Rattle.pair_messages.specs.Sent.{AreAdded, is_named_among, is_named_by};
 
 use align_map::linear;
-use comm_sets::note;
+use message_elements::note;
 use course_forms::{Course, Reference};
 use expression_rules::{Dim, extent};
 use hpf_base::OutOfMemory;

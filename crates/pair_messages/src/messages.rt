@@ -10,7 +10,7 @@ ghost use Rattle.course_forms.specs.Views.{named_of, names_of};
 ghost use Rattle.visited_tuples.specs.Parts.{IsPartOf};
 
 use crate::pair::{Pair, all_lie, lies};
-use comm_sets::arrange_list;
+use message_elements::arrange_list;
 use course_forms::Reference;
 use hpf_base::OutOfMemory;
 use owned_places::is_inside;

@@ -6,7 +6,7 @@ ghost use Rattle.hpf_base.specs.ElementOrder.{product};
 ghost use Rattle.storage.specs.Storage.{Spot as SpotSpec};
 ghost use Rattle.storage.specs.Spots.{spot_of};
 ghost use Rattle.machine_steps.specs.Layout.{AreOwned, Layout, first, owned_by, size_of};
-ghost use Rattle.comm_sets.specs.Noted.{is_among};
+ghost use Rattle.message_elements.specs.Elements.{is_among};
 ghost use Rattle.courses.specs.References.{IsAlongAxes};
 ghost use Rattle.course_forms.specs.Views.{named_of, names_of};
 ghost use Rattle.visited_tuples.specs.Owned.{Lies, owns_named};

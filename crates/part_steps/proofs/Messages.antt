@@ -4,7 +4,7 @@ use Rattle.std.specs.List.{range_with_len}
 use Rattle.storage.specs.Storage.{Spot}
 use Rattle.machine_steps.specs.Layout.{Layout, least_owner_of}
 use Rattle.machine_steps.specs.Message.{Part, message, lookup}
-use Rattle.comm_sets.specs.Ascending.{Ascends}
+use Rattle.message_elements.specs.Ascending.{Ascends}
 use Rattle.comm_sets.proofs.MessageLaws.{incoming-ascend}
 use Rattle.owner_tables.proofs.Listed.{listed-is}
 

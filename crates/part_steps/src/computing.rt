@@ -9,8 +9,9 @@ ghost use Rattle.tuple_values.specs.Spots.{read_of, reads_of};
 use crate::part::Part;
 use crate::visiting::part_visits;
 use crate::who::Who;
-use comm_sets::{Owners, Reads, Spot, Visits};
+use comm_sets::{Owners, Reads, Spot};
 use hpf_base::OutOfMemory;
+use message_elements::Visits;
 use std::alloc::Global;
 
 impl<'a> Reads for Part<'a> {

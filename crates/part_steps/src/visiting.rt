@@ -2,7 +2,7 @@
 
 ghost use Rattle.std.specs.Prelude.{◌≡◌, ◌<◌, ◌≤◌, ◌^◌, All, IfOk, IfSome, Some, length, option_map};
 ghost use Rattle.hpf_base.specs.ElementOrder.{product};
-ghost use Rattle.comm_sets.specs.Visits.{AreVisits};
+ghost use Rattle.message_elements.specs.Visits.{AreVisits};
 ghost use Rattle.courses.specs.References.{IsAlongAxes};
 ghost use Rattle.course_forms.specs.Views.{named_of, names_of};
 ghost use Rattle.tuple_values.specs.NamedElements.{AreReferences};
@@ -12,7 +12,7 @@ ghost use Rattle.part_steps.specs.Views.{part_view};
 
 use crate::part::Part;
 use crate::who::Who;
-use comm_sets::Visits;
+use message_elements::Visits;
 use hpf_base::OutOfMemory;
 use part_visits::{assigned_visits, read_visits, root_visits};
 use std::alloc::Global;

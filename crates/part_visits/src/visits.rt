@@ -4,7 +4,7 @@ ghost use Rattle.std.specs.Prelude.{◌≡◌, ℕ, ◌<◌, ◌≤◌, ◌==◌
 ghost use Rattle.hpf_base.specs.ElementOrder.{product};
 ghost use Rattle.machine_steps.specs.Layout.{in_bounds};
 ghost use Rattle.machine_steps.specs.Message.{Part, computes_left, first_read, least_or_zero};
-ghost use Rattle.comm_sets.specs.Visits.{AreVisits};
+ghost use Rattle.message_elements.specs.Visits.{AreVisits};
 ghost use Rattle.courses.specs.References.{IsAlongAxes, named_spot};
 ghost use Rattle.course_forms.specs.Views.{named_of, names_of};
 ghost use Rattle.visited_tuples.specs.Own.{IsOwn};
@@ -13,7 +13,7 @@ ghost use Rattle.visited_tuples.specs.Parts.{IsPartOf};
 
 use crate::own::Own;
 use crate::visitor::Visitor;
-use comm_sets::Visits;
+use message_elements::Visits;
 use course_forms::Reference;
 use hpf_base::OutOfMemory;
 use owner_tables::Owners;

@@ -9,7 +9,7 @@ use Rattle.machine_steps.specs.Layout.{count_passing, least_owner_of, owned_in, 
 use Rattle.machine_steps.specs.Message.{lookup}
 use Rattle.machine_steps.specs.Node.{pieces_by}
 use Rattle.owner_tables.proofs.Ranges.{count-more}
-use Rattle.comm_sets.specs.Ascending.{Ascends}
+use Rattle.message_elements.specs.Ascending.{Ascends}
 use Rattle.comm_sets.proofs.MessageLaws.{remap_message-ascends}
 use Rattle.owner_tables.proofs.Listed.{listed-is}
 use Rattle.remap_steps.specs.Redistributions.{Redistribution, message_between, messages_to, moved_row, value_after}

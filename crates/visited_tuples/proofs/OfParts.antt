@@ -5,9 +5,9 @@ use Rattle.hpf_base.specs.ElementOrder.{product}
 use Rattle.storage.specs.Storage.{Spot}
 use Rattle.machine_steps.specs.Layout.{Layout, least_owner_of, owns_spot, sizes}
 use Rattle.machine_steps.specs.Message.{Part, names_spot}
-use Rattle.comm_sets.specs.declared.visits.Visits.{Visits}
-use Rattle.comm_sets.specs.Noted.{is_sent}
-use Rattle.comm_sets.specs.Visits.{AreVisits, is_sent_at}
+use Rattle.message_elements.specs.declared.visits.Visits.{Visits}
+use Rattle.message_elements.specs.Elements.{is_sent}
+use Rattle.message_elements.specs.Visits.{AreVisits, is_sent_at}
 use Rattle.courses.specs.References.{Named}
 use Rattle.courses.proofs.Sections.{both}
 use Rattle.visited_tuples.specs.Own.{IsOwn, listed_tuples}

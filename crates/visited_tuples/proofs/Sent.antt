@@ -9,7 +9,7 @@ use Rattle.storage.specs.Storage.{Spot}
 use Rattle.machine_steps.specs.Layout.{AreOwned, Layout, first, in_bounds, least_owner_of, owned_by, owns_spot, size_of, sizes}
 use Rattle.axis_products.specs.Products.{each, passing, places_at}
 use Rattle.axis_products.specs.Tests.{ArePlaces, holds}
-use Rattle.comm_sets.specs.Noted.{is_sent}
+use Rattle.message_elements.specs.Elements.{is_sent}
 use Rattle.courses.specs.Owners.{IsLaidOut}
 use Rattle.courses.specs.References.{Named, named_spot, place_at_places}
 use Rattle.courses.proofs.Owners.{element-below, owned-get}

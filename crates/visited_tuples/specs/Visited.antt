@@ -5,7 +5,7 @@ use Rattle.hpf_base.specs.ElementOrder.{product}
 use Rattle.storage.specs.Storage.{Spot}
 use Rattle.machine_steps.specs.Layout.{Layout, owns_spot}
 use Rattle.machine_steps.specs.Message.{names_spot}
-use Rattle.comm_sets.specs.Noted.{is_sent}
+use Rattle.message_elements.specs.Elements.{is_sent}
 use Rattle.courses.specs.References.{Named, named_spot}
 
 -- tuples that the node computes, among them all at which something is read that it doesn't own

@@ -3,8 +3,8 @@
 ghost use Rattle.std.specs.Prelude.{◌≡◌, ℕ, Bool, List, Option};
 ghost use Rattle.machine_steps.specs.Layout.{Layout};
 ghost use Rattle.machine_steps.specs.Message.{Part};
-ghost use Rattle.comm_sets.specs.declared.visits.Visits.{Visits};
-ghost use Rattle.comm_sets.specs.Visits.{AreVisits};
+ghost use Rattle.message_elements.specs.declared.visits.Visits.{Visits};
+ghost use Rattle.message_elements.specs.Visits.{AreVisits};
 ghost use Rattle.courses.specs.References.{Named};
 ghost use Rattle.visited_tuples.specs.Own.{IsOwn, listed_tuples};
 ghost use Rattle.visited_tuples.specs.Parts.{IsPartOf};

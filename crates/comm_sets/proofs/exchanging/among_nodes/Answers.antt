@@ -4,7 +4,7 @@ use Rattle.std.specs.List.{list_any, range_with_len}
 use Rattle.storage.specs.Storage.{Spot}
 use Rattle.machine_steps.specs.Message.{names_spot}
 use Rattle.storage.specs.Spots.{spot_of}
-use Rattle.comm_sets.specs.Noted.{is_sent}
+use Rattle.message_elements.specs.Elements.{is_sent}
 use Rattle.comm_sets.proofs.Computing.{are-nodes, computes-it, filter-more}
 use Rattle.comm_sets.proofs.Noting.{noted-more}
 use Rattle.comm_sets.proofs.Sent.{is_sent_below, messages-from, messages-to, tuples-more}

@@ -4,7 +4,7 @@ use Rattle.std.proofs.lemmas.List.{length-map}
 use Rattle.std.proofs.Math.ListN.{get_or-map}
 use Rattle.std.specs.Ordering.{is_eq}
 use Rattle.storage.specs.Spots.{spot_of}
-use Rattle.comm_sets.proofs.Ascending.{same-tied, same-true}
+use Rattle.message_elements.proofs.Ascending.{same-tied, same-true}
 use Rattle.comm_sets.proofs.Lookups.{lookup-at, lookup-none, none-found, searchable}
 use Rattle.comm_sets.proofs.lookup.value_in.Goals as goal
 

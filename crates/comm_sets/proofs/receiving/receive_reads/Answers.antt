@@ -1,8 +1,9 @@
 use Rattle.std.proofs.Common.{◌<◌, length, map, option_map, take, None, ap, sym, ◌∙◌, ◌&&◌, arith}
 use Rattle.machine_steps.specs.Message.{names_spot}
 use Rattle.storage.specs.Spots.{spot_of}
-use Rattle.comm_sets.specs.Noted.{is_sent}
-use Rattle.comm_sets.proofs.Noting.{noted-more, names-more, both-tests}
+use Rattle.message_elements.specs.Elements.{is_sent}
+use Rattle.message_elements.proofs.AllSpots.{both-tests}
+use Rattle.comm_sets.proofs.Noting.{noted-more, names-more}
 use Rattle.comm_sets.proofs.receiving.receive_reads.Goals as goal
 
 pub loop-read-preserved : goal.loop-read-preserved

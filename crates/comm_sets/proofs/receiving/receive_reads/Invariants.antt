@@ -1,7 +1,8 @@
 use Rattle.std.proofs.Common.{◌&&◌, map, option_map, take}
 use Rattle.machine_steps.specs.Message.{names_spot}
 use Rattle.storage.specs.Spots.{spot_of}
-use Rattle.comm_sets.specs.Noted.{Noted, is_sent}
+use Rattle.message_elements.specs.Elements.{is_sent}
+use Rattle.comm_sets.specs.Noted.{Noted}
 use Rattle.comm_sets.proofs.receiving.receive_reads.Given as goal
 
 abbrev pub invariant-loop-read : goal.invariant-loop-read

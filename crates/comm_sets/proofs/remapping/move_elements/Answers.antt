@@ -7,7 +7,8 @@ use Rattle.comm_sets.specs.Moves.{has_at, moves}
 use Rattle.comm_sets.proofs.Computing.{are-nodes}
 use Rattle.comm_sets.proofs.Ends.{end-elements}
 use Rattle.comm_sets.proofs.Marking.{or_turned}
-use Rattle.comm_sets.proofs.Noting.{both-tests, both-within, noted-more, noted-same}
+use Rattle.message_elements.proofs.AllSpots.{both-tests}
+use Rattle.comm_sets.proofs.Noting.{both-within, noted-more, noted-same}
 use Rattle.comm_sets.proofs.remapping.move_elements.Goals as goal
 
 pub move_spot-requires-clause-spot : goal.move_spot-requires-clause-spot

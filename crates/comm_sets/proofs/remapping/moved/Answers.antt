@@ -1,7 +1,8 @@
 use Rattle.std.proofs.Common.{◌≡◌, ◌&&◌, nat_eq, nat_lt, get_or, length, ap, ◌∙◌, arith}
 use Rattle.machine_steps.specs.Layout.{sizes}
 use Rattle.comm_sets.specs.Moves.{moves}
-use Rattle.comm_sets.proofs.Noting.{noted-more, both-tests}
+use Rattle.message_elements.proofs.AllSpots.{both-tests}
+use Rattle.comm_sets.proofs.Noting.{noted-more}
 use Rattle.comm_sets.proofs.Sent.{all-rows, are-filters, rows-more}
 use Rattle.comm_sets.proofs.remapping.moved.Goals as goal
 

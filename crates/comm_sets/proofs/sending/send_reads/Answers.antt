@@ -2,8 +2,9 @@ use Rattle.std.proofs.Common.{◌<◌, nat_eq, length, map, option_map, take, No
 use Rattle.std.specs.List.{list_any}
 use Rattle.machine_steps.specs.Message.{names_spot}
 use Rattle.storage.specs.Spots.{spot_of}
-use Rattle.comm_sets.specs.Noted.{is_sent}
-use Rattle.comm_sets.proofs.Noting.{noted-more, names-more, both-tests, both-within}
+use Rattle.message_elements.specs.Elements.{is_sent}
+use Rattle.message_elements.proofs.AllSpots.{both-tests}
+use Rattle.comm_sets.proofs.Noting.{noted-more, names-more, both-within}
 use Rattle.comm_sets.proofs.sending.send_reads.Goals as goal
 
 pub loop-read-preserved : goal.loop-read-preserved

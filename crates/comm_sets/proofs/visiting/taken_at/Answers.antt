@@ -2,7 +2,8 @@ use Rattle.std.proofs.Common.{◌≡◌, ◌<◌, ◌&&◌, ◌||◌, ◌++◌, 
 use Rattle.std.proofs.lemmas.List.{take_all}
 use Rattle.machine_steps.specs.Message.{names_spot}
 use Rattle.storage.specs.Spots.{spot_of}
-use Rattle.comm_sets.specs.Noted.{Noted, is_sent}
+use Rattle.message_elements.specs.Elements.{is_sent}
+use Rattle.comm_sets.specs.Noted.{Noted}
 use Rattle.comm_sets.proofs.Noting.{noted-more}
 use Rattle.comm_sets.proofs.Visited.{is_sent_among, visited-more, visited-to}
 use Rattle.comm_sets.proofs.visiting.taken_at.Goals as goal

@@ -1,6 +1,6 @@
 use Rattle.std.proofs.Common.{ap, subst, sym}
 use Rattle.std.specs.Option.{IfSome, option_map}
-use Rattle.comm_sets.specs.Visits.{AreVisits}
+use Rattle.message_elements.specs.Visits.{AreVisits}
 use Rattle.course_forms.specs.Views.{named_of, names_of}
 use Rattle.tuple_values.specs.NamedElements.{AreReferences}
 use Rattle.tuple_values.specs.Views.{statement}

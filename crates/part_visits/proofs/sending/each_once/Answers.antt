@@ -3,7 +3,7 @@ use Rattle.std.proofs.lemmas.Bool.{eqb-true}
 use Rattle.std.proofs.lemmas.List.Filters.{dedup_is}
 use Rattle.std.proofs.lemmas.List.Sorted.{list_any-IsPermutation}
 use Rattle.std.specs.List.{list_any}
-use Rattle.comm_sets.proofs.Arranging.{any-dedup}
+use Rattle.message_elements.proofs.Arranging.{any-dedup}
 use Rattle.part_visits.proofs.sending.each_once.Goals as goal
 
 pub returns : goal.returns

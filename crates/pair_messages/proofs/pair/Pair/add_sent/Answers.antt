@@ -3,7 +3,7 @@ use Rattle.std.proofs.lemmas.List.{length-map}
 use Rattle.std.specs.Option.{option_map}
 use Rattle.hpf_base.specs.ElementOrder.{product}
 use Rattle.storage.specs.Spots.{spot_of}
-use Rattle.comm_sets.specs.Noted.{is_among}
+use Rattle.message_elements.specs.Elements.{is_among}
 use Rattle.axis_products.specs.Tests.{Test, and_test}
 use Rattle.axis_walks.specs.Lists.{AreBelow}
 use Rattle.courses.specs.References.{Named}

@@ -2,7 +2,7 @@ use Rattle.std.proofs.Common.{◌≡◌, map, take}
 use Rattle.std.specs.List.{list_any}
 use Rattle.storage.specs.Storage.{Spot}
 use Rattle.storage.specs.Spots.{spot_of}
-use Rattle.comm_sets.specs.Noted.{is_among}
+use Rattle.message_elements.specs.Elements.{is_among}
 use Rattle.course_forms.specs.Views.{named_of, names_of}
 use Rattle.visited_tuples.specs.Owned.{owns_named}
 use Rattle.pair_messages.specs.Sent.{is_sent_of}

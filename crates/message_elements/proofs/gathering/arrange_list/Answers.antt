@@ -2,11 +2,11 @@ use Rattle.std.proofs.lemmas.Cmp.{on_total}
 use Rattle.std.proofs.lemmas.List.Filters.{dedup_is}
 use Rattle.std.proofs.lemmas.List.Kept.{IsStrictlySortedBy-dedup}
 use Rattle.storage.specs.Spots.{spot_of}
-use Rattle.comm_sets.specs.Ascending.{spot_cmp}
+use Rattle.message_elements.specs.Ascending.{spot_cmp}
 use Rattle.storage.specs.Storage.{is_same_spot}
-use Rattle.comm_sets.proofs.Arranging.{sorted-map, same-among}
-use Rattle.comm_sets.proofs.Ascending.{spot-total, same-tied, same-true}
-use Rattle.comm_sets.proofs.messages.arrange_list.Goals as goal
+use Rattle.message_elements.proofs.Arranging.{sorted-map, same-among}
+use Rattle.message_elements.proofs.Ascending.{spot-total, same-tied, same-true}
+use Rattle.message_elements.proofs.gathering.arrange_list.Goals as goal
 
 pub returns-clause-ascends : goal.returns-clause-ascends
 returns-clause-ascends c =

@@ -9,8 +9,8 @@ use Rattle.std.specs.List.Sorted.{IsStrictlySortedBy}
 use Rattle.std.specs.Ordering.{nat_cmp, ordering_then, ordering_reverse, is_eq, eq_by_cmp}
 use Rattle.storage.specs.Storage.{Spot}
 use Rattle.storage.specs.Storage.{is_same_spot}
-use Rattle.comm_sets.specs.Ascending.{spot_cmp, Ascends}
-use Rattle.comm_sets.specs.Noted.{is_among}
+use Rattle.message_elements.specs.Ascending.{spot_cmp, Ascends}
+use Rattle.message_elements.specs.Elements.{is_among}
 
 pub spot-total : IsTotalOrder spot_cmp
 spot-total = then_total (on_total (λ (s : Spot). s.row) nat_cmp_total) (on_total (λ (s : Spot). s.at) nat_cmp_total)

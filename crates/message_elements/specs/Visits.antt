@@ -4,8 +4,8 @@ use Rattle.std.specs.List.{list_any, range_with_len}
 use Rattle.storage.specs.Storage.{Spot}
 use Rattle.machine_steps.specs.Layout.{Layout}
 use Rattle.machine_steps.specs.Message.{Part, names_spot}
-use Rattle.comm_sets.specs.Noted.{is_sent}
-use Rattle.comm_sets.specs.declared.visits.Visits.{Visits}
+use Rattle.message_elements.specs.Elements.{is_sent}
+use Rattle.message_elements.specs.declared.visits.Visits.{Visits}
 
 -- the target computes the tuple, the element is read there, and the source sends it
 abbrev pub is_sent_at : ℕ → List Layout → Part → (tuple from to : ℕ) → Spot → Bool

@@ -9,9 +9,9 @@ use Rattle.storage.specs.Storage.{Spot}
 use Rattle.storage.specs.Storage.{is_same_spot}
 use Rattle.machine_steps.specs.Layout.{Layout, sizes}
 use Rattle.machine_steps.specs.Message.{spots_from, all_spots}
-use Rattle.comm_sets.specs.Ascending.{spot_cmp, Ascends}
-use Rattle.comm_sets.specs.Noted.{is_among}
-use Rattle.comm_sets.proofs.Ascending.{Above, above-append, same-true, less-row, less-at, ascends-cons, ascends-nil, ascends-append, one-list}
+use Rattle.message_elements.specs.Ascending.{spot_cmp, Ascends}
+use Rattle.message_elements.specs.Elements.{is_among}
+use Rattle.message_elements.proofs.Ascending.{Above, above-append, same-true, less-row, less-at, ascends-cons, ascends-nil, ascends-append, one-list}
 
 abbrev in_row : ℕ → ℕ → Spot
 in_row row at = record { row = row; at = at }
@@ -79,6 +79,13 @@ above-rows row [] s lt = refl
 above-rows row (n ∷ ns) s lt =
     list_any-append (λ x. is_same_spot x s) (map (in_row row) (range_with_len 0 n)) (spots_from (row + 1) ns)
     ∙ ap (λ b. b || is_among (spots_from (row + 1) ns) s) (other-row row 0 n s (λ e. omega arith)) ∙ above-rows (row + 1) ns s (omega arith)
+
+pub both-tests : (a b test : Bool) → ((a && test) || (b && test)) ≡ ((a || b) && test)
+both-tests true true true = refl
+both-tests true true false = refl
+both-tests true false true = refl
+both-tests true false false = refl
+both-tests false b test = refl
 
 pub or_false : (b : Bool) → (b || false) ≡ b
 or_false true = refl

@@ -1,0 +1,3 @@
+pub mod Ascending
+pub mod AllSpots
+pub mod Arranging
