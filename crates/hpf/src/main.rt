@@ -33,5 +33,5 @@ fn main(rt: HostRuntime) -> ExitCode {
     let mut out = StdSink::new(rt.stdout());
     let mut err = StdSink::new(rt.stderr());
     let answer = hpf_top(&rt, alloc, &words, &mut src, &mut out, &mut err, &OpenGate);
-    ExitCode::from(answer.status.exit_code())
+    ExitCode::from(answer.into_status().exit_code())
 }

@@ -89,7 +89,7 @@ fn answer_to_words<R: Threads + Wait + Sync>(
     let mut err = Stream::new(alloc).sink(alloc)?;
     let answer = hpf_top(rt, alloc, &words, &mut src, &mut out, &mut err, &OpenGate);
     Ok(Answer {
-        status: answer.status.exit_code(),
+        status: answer.into_status().exit_code(),
         out,
         err,
     })

@@ -3,10 +3,10 @@
 use crate::alike::{write_alike, write_writing};
 use crate::case::{Case, Wanted};
 use crate::job::write_job;
-use crate::ran::write_ran;
+use crate::ran::queues_text;
 use case_texts::{TextError, text_of, write_text};
 use hpf_ports::{Gate, MeetGate, MemSink, OpenGate, Source, read_all};
-use hpf_run::{Ran, hpf_top};
+use hpf_run::hpf_top;
 use std::alloc::{AllocError, Global};
 use std::fmt::Write;
 use std::sync::Wait;
@@ -65,8 +65,8 @@ fn write_meeting<R: Threads + Wait + Sync>(
     text: Vec<u8>,
 ) -> Result<(), AllocError> {
     let gate = MeetGate::new();
-    let ran = write_run(rt, alloc, answer, case, text, &gate)?;
-    write_ran(answer, &ran)?;
+    let queues = write_run(rt, alloc, answer, case, text, &gate)?;
+    answer.push_str(&queues)?;
     let met = if gate.met() {
         "  two threads met\n"
     } else {
@@ -75,7 +75,7 @@ fn write_meeting<R: Threads + Wait + Sync>(
     answer.push_str(met)
 }
 
-/// Runs the top call on a case with this source, writes what it comes to, and gives what its run on nodes leaves.
+/// Runs the top call on a case with this source, writes what it comes to, and gives the lines of what its run on nodes leaves.
 fn write_run<R: Threads + Wait + Sync, G: Gate>(
     rt: &R,
     alloc: Global,
@@ -83,17 +83,19 @@ fn write_run<R: Threads + Wait + Sync, G: Gate>(
     case: Case,
     text: Vec<u8>,
     gate: &G,
-) -> Result<Option<Ran>, AllocError> {
+) -> Result<String, AllocError> {
     let words = words_of(alloc, case.words.as_str())?;
     let mut src = case.source.source(text);
     let mut out = case.out.sink(alloc)?;
     let mut err = case.err.sink(alloc)?;
     let answer = hpf_top(rt, alloc, &words, &mut src, &mut out, &mut err, gate);
-    write!(written, "  status {}, ", answer.status.exit_code())?;
+    let queues = queues_text(alloc, &answer.ran);
+    let status = answer.into_status();
+    write!(written, "  status {}, ", status.exit_code())?;
     write_left(alloc, written, &mut src)?;
     write_held(written, "out", &out)?;
     write_held(written, "err", &err)?;
-    Ok(answer.ran)
+    queues
 }
 
 /// The words that stand in a line; none where nothing does.

@@ -1,5 +1,7 @@
 //! What a call of the program answers.
 
+ghost use Rattle.std.specs.Prelude.{◌≡◌};
+
 use distributed_run::Ran;
 use hpf_base::Status;
 
@@ -9,4 +11,13 @@ use hpf_base::Status;
 pub struct Answer {
     pub status: Status,
     pub ran: Option<Ran>,
+}
+
+impl Answer {
+    /// The status alone. What a run on nodes leaves is dropped. It takes no memory.
+    pub fn into_status(self) -> Status
+        ensures { result ≡ self.status }
+    {
+        self.status
+    }
 }
