@@ -1,2 +1,2 @@
-pub mod MappingLaws
+pub mod Products
 pub mod SectionLaws

@@ -5,11 +5,9 @@ ghost use Rattle.std.specs.Int.{w64};
 ghost use Rattle.mappings.specs.Alignment.{align_through, composed_align};
 ghost use Rattle.mappings.specs.Mapping.{FitsAlign, IsAlign, IsMapping};
 
-use crate::entries::{align_of, mapping_of};
-use crate::numbers::numbers;
-use crate::parts::first_part;
 use crate::show::write_align;
 use align_map::{compose, linear};
+use case_mappings::{align_of, first_part, mapping_of, numbers};
 use case_texts::TextError;
 use mappings::{AlignDim, Mapping};
 use std::alloc::Global;
@@ -73,7 +71,7 @@ fn fits_through(a: i64, b: i64, align: &AlignDim) -> bool
     }
 }
 
-#[tactic(auto, using(crate::proofs::MappingLaws::fits_product))]
+#[tactic(auto, using(crate::proofs::Products::fits_product))]
 fn is_narrow_product(a: i64, b: i64) -> bool
     ensures { IsTrue result → FitsSigned w64 (a *ℤ b) }
 {

@@ -3,9 +3,8 @@
 ghost use Rattle.std.specs.Prelude.{◌≤◌, ◌≤ℤ◌, unsigned_abs, IfOk, IsTrue};
 ghost use Rattle.congruences.specs.Progressions.{IsProgression};
 
-use crate::numbers::numbers;
-use crate::parts::first_part;
 use crate::sections::last_of;
+use case_mappings::{first_part, numbers};
 use case_texts::TextError;
 use congruences::{Progression, gcd_ext, meet, solve};
 use std::alloc::Global;

@@ -4,16 +4,13 @@
 //! one of these words is a case. Its parts stand between semicolons, and in each its numbers count, in their order; words among them are for
 //! the reader.
 //!
-//! A line is its format's name, `whole`, `block` or `cyclic`, the size of a block, its lower bound, its extent and its number of processors.
-//! These cases have a line and then positions or coordinates:
+//! Lines, arrays and mappings are written as `case_mappings` says. These cases have a line and then positions or coordinates:
 //!
 //! - `owner`: the coordinate of the owner of each position.
 //! - `rank`: how many lesser positions have the owner of each position.
 //! - `count`: how many positions the processor at each coordinate owns.
 //!
-//! An array is the lower bound and the extent of each of its dimensions, one or two. A mapping is the extents of its grid, and an entry for
-//! each distributed dimension, at most two: a line without its processors, the dimension of the grid, from 0, and the alignment: a dimension
-//! of the array, from 0, a factor and an offset; or a subscript; or nothing, where the array is replicated.
+//! These have an array:
 //!
 //! - `owners` has an array and a mapping: the owners of each element, in array-element order.
 //! - `piece` has a node in front of these: the elements that it owns, by their local addresses; and of each element of the array, in
@@ -30,14 +27,8 @@
 
 mod answer;
 mod composed;
-mod entries;
-mod inside;
 mod integers;
-mod lines;
-mod mapped;
-mod numbers;
 mod owned;
-mod parts;
 mod positions;
 mod sections;
 mod show;

@@ -5,11 +5,9 @@ ghost use Rattle.hpf_base.specs.ElementOrder.{elements};
 ghost use Rattle.hpf_base.specs.Shape.{IsShape};
 ghost use Rattle.mappings.specs.Mapping.{IsMapping, MapsInside};
 
-use crate::inside::is_inside;
-use crate::mapped::{Mapped, mapped_of};
-use crate::parts::first_part;
 use crate::show::write_index;
 use align_map::{least_owner, owns};
+use case_mappings::{Mapped, first_part, is_inside, mapped_of};
 use case_texts::TextError;
 use hpf_base::{Index, NodeId, Shape};
 use local_address::{Piece, element_count, nth_element};

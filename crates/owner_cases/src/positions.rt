@@ -3,9 +3,7 @@
 ghost use Rattle.std.specs.Prelude.{IfOk, IfSome};
 ghost use Rattle.mappings.specs.Mapping.{IsLine};
 
-use crate::lines::line_of;
-use crate::numbers::numbers;
-use crate::parts::first_part;
+use case_mappings::{first_part, line_of, numbers};
 use case_texts::TextError;
 use distribution::{owned_count, owner, rank};
 use mappings::Line;

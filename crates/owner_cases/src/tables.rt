@@ -2,10 +2,9 @@
 
 ghost use Rattle.mappings.specs.Mapping.{IsLine};
 
-use crate::numbers::numbers;
-use crate::parts::first_part;
 use crate::positions::written_line;
 use crate::sections::is_section;
+use case_mappings::{first_part, numbers};
 use case_texts::TextError;
 use gap_table::GapTable;
 use mappings::Line;

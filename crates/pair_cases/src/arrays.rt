@@ -1,97 +1,106 @@
 //! The arrays of a case, and how they lie on its nodes.
 
-ghost use Rattle.std.specs.Prelude.{◌≡◌, ◌≤◌, All, IfOk};
+ghost use Rattle.std.specs.Prelude.{◌≡◌, ◌≤◌, All, IfOk, IfSome, length};
 ghost use Rattle.hpf_base.specs.declared.limits.TheConstants.{MAX_NODES};
-ghost use Rattle.array_maps.specs.Maps.{AreMaps, IsArrayMap};
+ghost use Rattle.hpf_base.specs.ElementOrder.{elements, product};
+ghost use Rattle.hpf_base.specs.Shape.{IsShape};
+ghost use Rattle.mappings.specs.Mapping.{IsMapping, MapsInside};
 
-use array_maps::{ArrayMap, Maps};
-use case_texts::text_of;
-use directive_check::check_mapping;
+use crate::bounds::dims_of;
+use crate::words::line_of;
+use case_mappings::{Mapped, mapped_of};
 use expression_rules::Dims;
-use hpf_base::{Grid, OutOfMemory};
-use hpf_reader::read_program;
-use name_table::{Program, What, resolve};
+use hpf_base::{MAX_NODES, OutOfMemory, Shape};
 use owner_tables::{OwnerTable, Owners};
 use std::alloc::Global;
 
-/// The dimensions of arrays, in the order of their declaration, and how they lie.
+/// Arrays with their mappings, in the order of their lines; their dimensions, their tables of owners, and whether all lines were well.
 #[derive(Drop)]
 pub struct Arrays {
+    pub mapped: Vec<Mapped>,
     pub shapes: Vec<Dims>,
     pub owners: Owners,
+    pub are_well: bool,
 }
 
-/// Those of a text on a grid.
-pub fn arrays_of(alloc: Global, grid: &str, text: &str) -> Option<Arrays> {
-    let grid = grid_of(alloc, grid)?;
-    let nodes = grid.node_count();
-    if nodes == 0 {
-        return None;
-    }
-    let text = text_of(alloc, text).ok()?;
-    match read_program(alloc, &text) {
-        Ok(tree) => match resolve(alloc, tree) {
-            Ok(program) => match check_mapping(alloc, &program, &grid) {
-                Ok(maps) => arrays_over(alloc, &program, &maps, nodes),
-                Err(_) => None,
-            },
-            Err(_) => None,
-        },
-        Err(_) => None,
-    }
-}
-
-/// Those of a program on so many nodes.
-fn arrays_over(alloc: Global, program: &Program, maps: &Maps, nodes: u32) -> Option<Arrays>
-    requires some { 1 ≤ nodes }
-    requires few { nodes ≤ MAX_NODES }
-    requires valid { AreMaps nodes maps.now }
-{
-    let owners = owners_of(alloc, maps.arrays.as_slice(), nodes).ok()?;
-    let shapes = shapes_of(alloc, program)?;
-    Some(Arrays { shapes, owners })
-}
-
-/// The grid that is written so, as `4` or `2x2`.
-fn grid_of(alloc: Global, written: &str) -> Option<Grid> {
-    let mut extents = Vec::new(alloc);
-    for extent in written.split('x') {
-        extents.push(extent.parse::<u32>().ok()?).ok()?;
-    }
-    Grid::new(alloc, &extents)
-}
-
-/// The dimensions of the arrays, in the order of their declaration.
-fn shapes_of(alloc: Global, program: &Program) -> Option<Vec<Dims>> {
-    let mut shapes = Vec::new(alloc);
-    for place in 0..program.names.len() {
-        if let What::Array(dims, _) = &program.names.get(place)?.what {
-            shapes.push(dims.copy(alloc).ok()?).ok()?;
+/// Those of a case.
+pub fn arrays_of(alloc: Global, case: &[String]) -> Arrays {
+    let nodes = nodes_of(line_of(case, "nodes"));
+    let mut arrays = Arrays {
+        mapped: Vec::new(alloc),
+        shapes: Vec::new(alloc),
+        owners: Owners::new(alloc, nodes.unwrap_or(1)),
+        are_well: nodes.is_some(),
+    };
+    for line in case {
+        if let Some(("array", rest)) = line.as_str().split_once(' ') {
+            let is_well = add_array(alloc, &mut arrays, rest);
+            arrays.are_well = arrays.are_well & is_well;
         }
     }
-    Some(shapes)
+    arrays
 }
 
-/// The tables of the arrays with these mappings.
-fn owners_of(alloc: Global, maps: &[ArrayMap], nodes: u32) -> Result<Owners, OutOfMemory>
-    requires some { 1 ≤ nodes }
-    requires few { nodes ≤ MAX_NODES }
-    requires valid { All (IsArrayMap nodes) maps.now }
+/// The number of nodes that is written so.
+fn nodes_of(written: &str) -> Option<u32>
+    ensures some { IfSome result (λ nodes. 1 ≤ nodes) }
+    ensures few { IfSome result (λ nodes. nodes ≤ MAX_NODES) }
 {
-    let mut owners = Owners::new(alloc, nodes);
-    for map in maps {
-        owners.push(table(alloc, map, nodes)?)?;
+    let nodes = written.parse::<u32>().ok()?;
+    if 1 <= nodes && nodes <= MAX_NODES {
+        Some(nodes)
+    } else {
+        None
     }
-    Ok(owners)
+}
+
+/// Adds the array that is written so, and says whether it could.
+fn add_array(alloc: Global, arrays: &mut Arrays, written: &str) -> bool {
+    match mapped_of(alloc, written) {
+        Ok(mapped) => {
+            let has_table = add_table(alloc, &mut arrays.owners, &mapped);
+            let has_dims = add_dims(alloc, &mut arrays.shapes, &mapped.shape);
+            let is_kept = arrays.mapped.push(mapped).is_ok();
+            has_table & has_dims & is_kept
+        }
+        Err(_) => false,
+    }
+}
+
+/// Adds the dimensions of an array.
+fn add_dims(alloc: Global, shapes: &mut Vec<Dims>, shape: &Shape) -> bool {
+    match dims_of(alloc, shape) {
+        Some(dims) => shapes.push(dims).is_ok(),
+        None => false,
+    }
+}
+
+/// Adds the table of an array whose grid has all nodes.
+fn add_table(alloc: Global, owners: &mut Owners, mapped: &Mapped) -> bool
+    requires shape { IsShape mapped.now.shape }
+    requires mapping { IsMapping (length mapped.now.shape.lower) mapped.now.mapping }
+    requires inside { All (MapsInside mapped.now.mapping) (elements mapped.now.shape) }
+{
+    let nodes = owners.nodes();
+    if mapped.mapping.grid.node_count() != nodes {
+        return false;
+    }
+    match table_of(alloc, nodes, mapped) {
+        Ok(table) => owners.push(table).is_ok(),
+        Err(_) => false,
+    }
 }
 
 /// The table of an array.
-fn table(alloc: Global, map: &ArrayMap, nodes: u32) -> Result<OwnerTable, OutOfMemory>
+fn table_of(alloc: Global, nodes: u32, mapped: &Mapped) -> Result<OwnerTable, OutOfMemory>
     requires some { 1 ≤ nodes }
     requires few { nodes ≤ MAX_NODES }
-    requires map { IsArrayMap nodes map.now }
+    requires shape { IsShape mapped.now.shape }
+    requires mapping { IsMapping (length mapped.now.shape.lower) mapped.now.mapping }
+    requires inside { All (MapsInside mapped.now.mapping) (elements mapped.now.shape) }
+    requires grid { product mapped.now.mapping.grid ≡ nodes }
     ensures { IfOk result (λ t. t.nodes ≡ nodes) }
 {
-    let mapping = map.start.copy(alloc)?;
-    OwnerTable::new(alloc, nodes, map.shape.copy(alloc), mapping)
+    let mapping = mapped.mapping.copy(alloc)?;
+    OwnerTable::new(alloc, nodes, mapped.shape.copy(alloc), mapping)
 }

@@ -1,26 +1,50 @@
 //! Tries the messages of pairs of nodes: statements by the courses of their subscripts, with what one node sends another for them.
 //!
-//! Comes in: cases on standard input. Goes out: the same lines, and after each line `message` its elements. What holds in between: `case` begins a case; these
+//! Comes in: cases on standard input. Goes out: the same lines, and after each line that asks its answer. What holds in between: `case` begins a case; these
 //! lines say what it is.
 //!
-//! - `grid`: the grid of nodes, as `4` or `2x2`.
-//! - `text`: an HPF program, written as `case_texts` says. Its arrays lie as it declares; they have the letters A, B and so on in the order of their declaration.
+//! - `nodes`: how many nodes there are.
+//! - `array`: an array with its mapping onto so many nodes, written as `case_mappings` says; a line each. They have the letters A, B and so on in their order.
 //! - `over`: the extents of the space.
 //! - `left`: what is assigned at its tuples: an array, and a course for each dimension, `f5` for the subscript 5 at each tuple, `m0:1:2` for one that
 //!   moves along axis 0 from 1 by 2.
 //! - `read`: what is read at them, written in the same way; a line each.
-//! - `message`: the numbers of the sender and the taker, and how often the message is asked, where that isn't once.
 //!
-//! An answer is the elements of the message, `empty` where there are none, and `none` where nothing is told; where the message is asked more often, how many of
-//! the answers are empty. Other lines are remarks. There is no answer where a case isn't written so, its text is refused, the space is too large, a
-//! course goes along no axis of it, there is no such node, or memory is wanting.
+//! These lines ask, of what stands before them in the case:
+//!
+//! - `message`: what one node sends another, by the numbers of the sender and the taker, and by how often it is asked, where that isn't once. The answer is the
+//!   elements of the message, and `empty` where there are none; where it is asked more often, how many of the answers are empty.
+//! - `pairs`: whether the message of each pair of nodes, of a node and itself too, is what a filter of all elements by the definitions gives: those that the
+//!   taker needs and doesn't own, and whose least owner is the sender. The answer is how many pairs there are and how many elements their messages have, or
+//!   the first pair that differs, with both lists. Each array has at most 1,024 elements, and the space 1,024 tuples.
+//!
+//! So a case with its answers, where A(1:3) and A(4:6) are on two nodes and A(1:5) = A(2:6) is done:
+//!
+//! ```text
+//! case shift
+//! nodes 2
+//! array 1 6; grid 2; block 3 lower 1 extent 6 over 0 linear 0 1 0
+//! over 5
+//! left A m0:1:1
+//! read A m0:2:1
+//! message 1 0
+//!   A(4)
+//! pairs
+//!   4 pairs as the filter, 1 elements
+//! ```
+//!
+//! The answer is `none` where nothing is told. Other lines are remarks. There is no answer where a case isn't written so, the space is too large, a course goes
+//! along no axis of it, there is no such node, or memory is wanting.
 #![tactic(auto)]
 
 mod answer;
 mod arrays;
+mod bounds;
+mod pairs;
 mod show;
 mod spaces;
 mod statement;
+mod told;
 mod words;
 
 use crate::answer::answer_to;
@@ -33,9 +57,9 @@ fn main(rt: HostRuntime) -> io::Result<()> {
     for line in BufReader::new(alloc, rt.reader())?.lines(alloc) {
         let line = line?;
         println!(rt; "{line}")?;
-        let (word, rest) = line.as_str().split_once(' ').unwrap_or(("", ""));
-        if word == "message" {
-            print!(rt; "{}", answer_to(alloc, &case, rest)?)?;
+        let (word, rest) = line.as_str().split_once(' ').unwrap_or((line.as_str(), ""));
+        if word == "message" || word == "pairs" {
+            print!(rt; "{}", answer_to(alloc, &case, word, rest)?)?;
         } else {
             if word == "case" {
                 case = Vec::new(alloc);

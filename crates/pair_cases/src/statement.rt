@@ -5,55 +5,92 @@ use course_forms::{Course, Reference, named_element};
 use expression_rules::Dims;
 use std::alloc::Global;
 
-/// The extents of a space, and what is assigned and read at its tuples.
+/// The extents of a space; what is assigned at its tuples, and after it what is read there; and whether all lines were well.
 #[derive(Drop)]
 pub struct Statement {
     pub extents: Vec<u64>,
-    pub left: Reference,
-    pub reads: Vec<Reference>,
+    pub references: Vec<Reference>,
+    pub is_well: bool,
 }
 
 /// That of these lines, over arrays with these dimensions.
-pub fn statement_of(alloc: Global, case: &[String], shapes: &[Dims]) -> Option<Statement> {
-    let extents = extents_of(alloc, line_of(case, "over"))?;
-    let left = reference_of(alloc, shapes, line_of(case, "left"))?;
-    let reads = reads_of(alloc, case, shapes)?;
-    Some(Statement {
-        extents,
-        left,
-        reads,
-    })
-}
-
-/// The numbers of a line.
-fn extents_of(alloc: Global, line: &str) -> Option<Vec<u64>> {
+pub fn statement_of(alloc: Global, case: &[String], shapes: &[Dims]) -> Statement {
     let mut extents = Vec::new(alloc);
-    for word in line.split(' ') {
-        extents.push(word.parse::<u64>().ok()?).ok()?;
+    let mut references = Vec::new(alloc);
+    let has_space = add_extents(&mut extents, line_of(case, "over"));
+    let has_left = add_reference(alloc, &mut references, shapes, line_of(case, "left"));
+    let has_reads = add_reads(alloc, &mut references, shapes, case);
+    Statement {
+        extents,
+        references,
+        is_well: has_space & has_left & has_reads,
     }
-    Some(extents)
 }
 
-/// What the case reads.
-fn reads_of(alloc: Global, case: &[String], shapes: &[Dims]) -> Option<Vec<Reference>> {
-    let mut reads = Vec::new(alloc);
-    for line in case {
-        if let Some(("read", rest)) = line.as_str().split_once(' ') {
-            reads.push(reference_of(alloc, shapes, rest)?).ok()?;
+/// Adds the numbers of a line, and says whether it could, here and below.
+fn add_extents(extents: &mut Vec<u64>, line: &str) -> bool {
+    for word in line.split(' ') {
+        match word.parse::<u64>() {
+            Ok(extent) => {
+                if extents.push(extent).is_err() {
+                    return false;
+                }
+            }
+            Err(_) => return false,
         }
     }
-    Some(reads)
+    true
 }
 
-/// The reference that is written so: an array, and a course for each dimension.
-fn reference_of(alloc: Global, shapes: &[Dims], written: &str) -> Option<Reference> {
-    let (name, rest) = written.split_once(' ')?;
-    let array = row_of(name)?;
-    let mut courses = Vec::new(alloc);
-    for word in rest.split(' ') {
-        courses.push(course_of(word)?).ok()?;
+/// Adds what the case reads.
+fn add_reads(
+    alloc: Global,
+    references: &mut Vec<Reference>,
+    shapes: &[Dims],
+    case: &[String],
+) -> bool {
+    for line in case {
+        if let Some(("read", rest)) = line.as_str().split_once(' ') {
+            if !add_reference(alloc, references, shapes, rest) {
+                return false;
+            }
+        }
     }
-    named_element(alloc, shapes, array, courses).ok()?
+    true
+}
+
+/// Adds the reference that is written so: an array, and a course for each dimension.
+fn add_reference(
+    alloc: Global,
+    references: &mut Vec<Reference>,
+    shapes: &[Dims],
+    written: &str,
+) -> bool {
+    let (name, rest) = written.split_once(' ').unwrap_or((written, ""));
+    let mut courses = Vec::new(alloc);
+    let are_well = add_courses(&mut courses, rest);
+    match row_of(name) {
+        Some(array) => match named_element(alloc, shapes, array, courses) {
+            Ok(Some(reference)) => references.push(reference).is_ok() & are_well,
+            _ => false,
+        },
+        None => false,
+    }
+}
+
+/// Adds the courses that are written so.
+fn add_courses(courses: &mut Vec<Course>, written: &str) -> bool {
+    for word in written.split(' ') {
+        match course_of(word) {
+            Some(course) => {
+                if courses.push(course).is_err() {
+                    return false;
+                }
+            }
+            None => return false,
+        }
+    }
+    true
 }
 
 /// The course that is written so.

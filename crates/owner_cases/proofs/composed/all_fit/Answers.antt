@@ -1,7 +1,7 @@
 use Rattle.std.proofs.Common.{◌∷◌, []}
 use Rattle.mappings.specs.Alignment.{composed_align}
 use Rattle.mappings.specs.Mapping.{FitsAlign}
-use Rattle.owner_cases.proofs.MappingLaws.{all_two}
+use Rattle.case_mappings.proofs.MappingLaws.{all_two}
 use Rattle.owner_cases.proofs.composed.all_fit.Goals as goal
 
 pub returns-then-fits : goal.returns-then-fits

@@ -4,7 +4,7 @@ use borrow.Author.Count.{below_more}
 use Rattle.hpf_base.specs.ElementOrder.{elements}
 use Rattle.hpf_base.proofs.Elements.{length-elements}
 use Rattle.mappings.specs.Mapping.{MapsInside}
-use Rattle.owner_cases.proofs.inside.all_inside.Goals as goal
+use Rattle.case_mappings.proofs.inside.all_inside.Goals as goal
 
 pub loop-number-preserved : goal.loop-number-preserved
 loop-number-preserved c = λ k d below.

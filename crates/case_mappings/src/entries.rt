@@ -4,8 +4,7 @@ ghost use Rattle.std.specs.Prelude.{◌≡◌, ◌≢◌, IfOk, IsTrue, Some, sl
 ghost use Rattle.mappings.specs.Mapping.{IsAlign, IsMapDim, IsMapping, MoveApart, moves_along};
 
 use crate::lines::{is_distributed, is_line, read_line};
-use crate::numbers::numbers;
-use crate::parts::first_part;
+use crate::parts::{first_part, numbers};
 use case_texts::TextError;
 use hpf_base::Grid;
 use mappings::{AlignDim, MapDim, MapDims, Mapping};

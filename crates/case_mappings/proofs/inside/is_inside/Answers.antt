@@ -1,8 +1,8 @@
 use Rattle.std.proofs.Common.{map, Some}
 use Rattle.mappings.specs.Alignment.{aligned}
 use Rattle.mappings.specs.Mapping.{InLine}
-use Rattle.owner_cases.proofs.MappingLaws.{all_two}
-use Rattle.owner_cases.proofs.inside.is_inside.Goals as goal
+use Rattle.case_mappings.proofs.MappingLaws.{all_two}
+use Rattle.case_mappings.proofs.inside.is_inside.Goals as goal
 
 pub returns-then-entry_inside : goal.returns-then-entry_inside
 returns-then-entry_inside c = λ yes.

@@ -1,6 +1,5 @@
 -- Mappings with at most two distributed dimensions, and arrays with two, from what is tried of each part.
-use Rattle.std.proofs.Common.{◌≡◌, ◌≢◌, ℕ, ◌+◌, ◌*◌, ◌^◌, ◌<◌, ◌≤◌, ℤ, pos, ◌≤ℤ◌, ◌+ℤ◌, ◌*ℤ◌, FitsSigned, unsigned_abs, List, [], ◌∷◌, All, AllPairs, get_or, length, map, sym, ◌∙◌, ap, subst, arith, refl}
-use Rattle.std.specs.Int.{w64}
+use Rattle.std.proofs.Common.{◌≡◌, ◌≢◌, ℕ, ◌+◌, ◌*◌, ◌^◌, ◌<◌, ◌≤◌, ℤ, pos, ◌≤ℤ◌, unsigned_abs, List, [], ◌∷◌, All, AllPairs, get_or, length, map, sym, ◌∙◌, ap, subst, arith, refl}
 use Rattle.std.proofs.lemmas.Int.{ints}
 use Rattle.std.proofs.lemmas.List.Elements.{All-cons, All-nil}
 use Rattle.hpf_base.proofs.Elements.{AllPairs-cons}
@@ -54,6 +53,3 @@ plane_shape lowers extents lower next e f n m lowers-are extents-are e-is f-is l
           let same : n * m ≡ product (map unsigned_abs (pos n ∷ pos m ∷ [])) = omega arith in
           subst (λ es. product (map unsigned_abs es) ≤ MAX_ELEMENTS) (sym are) (subst (λ k. k ≤ MAX_ELEMENTS) same few-all);
     }
-
-pub fits_product : (a b : ℤ) → FitsSigned w64 ((a *ℤ b) +ℤ pos 0) → FitsSigned w64 (a *ℤ b)
-fits_product a b fits = let same : (a *ℤ b) +ℤ pos 0 ≡ a *ℤ b = omega (arith, ints) in subst (FitsSigned w64) same fits

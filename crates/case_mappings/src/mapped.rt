@@ -7,8 +7,7 @@ ghost use Rattle.mappings.specs.Mapping.{IsMapping, MapsInside};
 
 use crate::entries::mapping_of;
 use crate::inside::all_inside;
-use crate::numbers::numbers;
-use crate::parts::first_part;
+use crate::parts::{first_part, numbers};
 use case_texts::TextError;
 use hpf_base::{Index, MAX_BOUND, MAX_ELEMENTS, Shape};
 use mappings::Mapping;

@@ -1,6 +1,6 @@
 use Rattle.std.proofs.Common.{arith, Fits, w32, rules}
-use Rattle.owner_cases.proofs.MappingLaws.{plane_shape}
-use Rattle.owner_cases.proofs.mapped.plane.Goals as goal
+use Rattle.case_mappings.proofs.MappingLaws.{plane_shape}
+use Rattle.case_mappings.proofs.mapped.plane.Goals as goal
 
 pub returns : goal.returns
 returns c =

@@ -1,6 +1,11 @@
-//! Numbers among words.
+//! Parts of a case, and numbers among their words.
 
 use std::alloc::{AllocError, Global};
+
+/// The part up to the first semicolon, and what stands after it.
+pub fn first_part(written: &str) -> (&str, &str) {
+    written.split_once(';').unwrap_or((written, ""))
+}
 
 /// The words of a text that are numbers, in their order.
 pub fn numbers(alloc: Global, text: &str) -> Result<Vec<i64>, AllocError> {
