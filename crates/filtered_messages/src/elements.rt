@@ -18,12 +18,29 @@ pub struct Element {
     takers: u64,
 }
 
-/// All elements, row by row, each in array-element order; None where those of an array or the tuples are too many.
+/// Why nodes need elements: for a statement over so many tuples, or for a redistribution after which the arrays lie so.
+#[derive(Clone, Copy)]
+enum Need<'a> {
+    Statement { named: &'a Named<'a>, tuples: u64 },
+    Redistribution { after: &'a [Mapped] },
+}
+
+/// All elements with those that need them for a statement, row by row, each in array-element order; None where those of an array or the tuples are too many.
 pub fn elements_of(alloc: Global, named: &Named<'_>) -> Option<Vec<Element>> {
     let tuples = tuples_of(named.extents)?;
+    all_rows(alloc, named.arrays, Need::Statement { named, tuples })
+}
+
+/// All elements as they lie before a redistribution, with those that own them after it, in the same order; None where those of an array are too many.
+pub fn moved_elements(alloc: Global, before: &[Mapped], after: &[Mapped]) -> Option<Vec<Element>> {
+    all_rows(alloc, before, Need::Redistribution { after })
+}
+
+/// The elements of all rows.
+fn all_rows(alloc: Global, arrays: &[Mapped], need: Need<'_>) -> Option<Vec<Element>> {
     let mut elements = Vec::new(alloc);
-    for (row, mapped) in named.arrays.iter().enumerate() {
-        if !add_row(&mut elements, named, tuples, row, &mapped.shape) {
+    for (row, mapped) in arrays.iter().enumerate() {
+        if !add_row(&mut elements, arrays, need, row, &mapped.shape) {
             return None;
         }
     }
@@ -33,8 +50,8 @@ pub fn elements_of(alloc: Global, named: &Named<'_>) -> Option<Vec<Element>> {
 /// Adds the elements of a row, and says whether it could.
 fn add_row(
     elements: &mut Vec<Element>,
-    named: &Named<'_>,
-    tuples: u64,
+    arrays: &[Mapped],
+    need: Need<'_>,
     row: usize,
     shape: &Shape,
 ) -> bool {
@@ -46,7 +63,7 @@ fn add_row(
             row,
             at: at as usize,
         };
-        if elements.push(element_at(named, tuples, spot)).is_err() {
+        if elements.push(element_at(arrays, need, spot)).is_err() {
             return false;
         }
     }
@@ -77,19 +94,28 @@ fn at_most(count: u64) -> Option<u64> {
 }
 
 /// An element with its owners and those that take it.
-fn element_at(named: &Named<'_>, tuples: u64, spot: Spot) -> Element {
-    let owners = owners_in(named.arrays, spot);
-    let mut takers: u64 = 0;
-    for tuple in 0..tuples {
-        if named.is_read(tuple, spot) {
-            takers |= computing(named, tuple);
-        }
-    }
+fn element_at(arrays: &[Mapped], need: Need<'_>, spot: Spot) -> Element {
+    let owners = owners_in(arrays, spot);
+    let needing = match need {
+        Need::Statement { named, tuples } => reading(named, tuples, spot),
+        Need::Redistribution { after } => owners_in(after, spot),
+    };
     Element {
         spot,
         owners,
-        takers: takers & !owners,
+        takers: needing & !owners,
     }
+}
+
+/// The nodes that compute a tuple at which an element is read.
+fn reading(named: &Named<'_>, tuples: u64, spot: Spot) -> u64 {
+    let mut nodes: u64 = 0;
+    for tuple in 0..tuples {
+        if named.is_read(tuple, spot) {
+            nodes |= computing(named, tuple);
+        }
+    }
+    nodes
 }
 
 /// The nodes that own an element; none where there is no such array.

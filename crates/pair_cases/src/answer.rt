@@ -1,10 +1,10 @@
 //! The answers to cases.
 
 use crate::arrays::{Arrays, arrays_of};
-use crate::pairs::write_pairs;
+use crate::pairs::{write_moves, write_pairs};
 use crate::show::write_spots;
 use crate::statement::{Statement, statement_of};
-use crate::told::{Silence, told};
+use crate::told::{Act, told};
 use std::alloc::{AllocError, Global};
 use std::fmt::Write;
 
@@ -16,10 +16,8 @@ pub fn answer_to(
     asked: &str,
 ) -> Result<String, AllocError> {
     let mut out = String::new(alloc);
-    match write_answer(alloc, &mut out, case, word, asked) {
-        Ok(()) => {}
-        Err(Silence::Untold) => out.push_str("  none\n")?,
-        Err(Silence::NoAnswer) => out.push_str("  no answer\n")?,
+    if write_answer(alloc, &mut out, case, word, asked).is_none() {
+        out.push_str("  no answer\n")?;
     }
     Ok(out)
 }
@@ -30,13 +28,24 @@ fn write_answer(
     case: &[String],
     word: &str,
     asked: &str,
-) -> Result<(), Silence> {
-    let arrays = arrays_of(alloc, case);
-    let statement = statement_of(alloc, case, &arrays.shapes);
-    if arrays.are_well & statement.is_well {
-        write_asked(alloc, out, &arrays, &statement, word, asked)
+) -> Option<()> {
+    let arrays = arrays_of(alloc, case, "array");
+    if !arrays.are_well {
+        None
+    } else if word == "remap" {
+        write_remap(alloc, out, case, &arrays)
     } else {
-        Err(Silence::NoAnswer)
+        write_asked(alloc, out, case, &arrays, word, asked)
+    }
+}
+
+/// Writes what is asked of a redistribution.
+fn write_remap(alloc: Global, out: &mut String, case: &[String], arrays: &Arrays) -> Option<()> {
+    let after = arrays_of(alloc, case, "after");
+    if after.are_well {
+        write_moves(alloc, out, arrays, &after)
+    } else {
+        None
     }
 }
 
@@ -44,15 +53,18 @@ fn write_answer(
 fn write_asked(
     alloc: Global,
     out: &mut String,
+    case: &[String],
     arrays: &Arrays,
-    statement: &Statement,
     word: &str,
     asked: &str,
-) -> Result<(), Silence> {
-    if word == "pairs" {
-        write_pairs(alloc, out, arrays, statement)
+) -> Option<()> {
+    let statement = statement_of(alloc, case, &arrays.shapes);
+    if !statement.is_well {
+        None
+    } else if word == "pairs" {
+        write_pairs(alloc, out, arrays, &statement)
     } else {
-        write_message(alloc, out, arrays, statement, asked)
+        write_message(alloc, out, arrays, &statement, asked)
     }
 }
 
@@ -63,25 +75,19 @@ fn write_message(
     arrays: &Arrays,
     statement: &Statement,
     asked: &str,
-) -> Result<(), Silence> {
+) -> Option<()> {
     let (from, rest) = asked.split_once(' ').unwrap_or((asked, ""));
     let (to, times) = rest.split_once(' ').unwrap_or((rest, ""));
-    let from = number(from)?;
-    let to = number(to)?;
+    let from = from.parse::<u32>().ok()?;
+    let to = to.parse::<u32>().ok()?;
     if times.is_empty() {
-        let spots = told(alloc, &arrays.owners, statement, from, to)?;
-        write_spots(out, &arrays.shapes, &spots)?;
+        let spots = told(alloc, &arrays.owners, Act::Statement(statement), from, to)?;
+        write_spots(out, &arrays.shapes, &spots).ok()
     } else {
-        let times = number(times)?;
+        let times = times.parse::<u32>().ok()?;
         let empty = empty_of(alloc, arrays, statement, from, to, times)?;
-        writeln!(out, "  {empty} of {times} empty")?;
+        writeln!(out, "  {empty} of {times} empty").ok()
     }
-    Ok(())
-}
-
-/// The number that is written so.
-fn number(written: &str) -> Result<u32, Silence> {
-    written.parse::<u32>().ok().ok_or(Silence::NoAnswer)
 }
 
 /// How many of so many answers are empty messages.
@@ -92,27 +98,13 @@ fn empty_of(
     from: u32,
     to: u32,
     times: u32,
-) -> Result<u32, Silence> {
+) -> Option<u32> {
     let mut empty: u32 = 0;
     for turn in 0..times {
-        if is_empty(alloc, arrays, statement, from, to)? {
+        let spots = told(alloc, &arrays.owners, Act::Statement(statement), from, to)?;
+        if spots.is_empty() {
             empty += 1;
         }
     }
-    Ok(empty)
-}
-
-/// Whether a message is told and has no element.
-fn is_empty(
-    alloc: Global,
-    arrays: &Arrays,
-    statement: &Statement,
-    from: u32,
-    to: u32,
-) -> Result<bool, Silence> {
-    match told(alloc, &arrays.owners, statement, from, to) {
-        Ok(spots) => Ok(spots.is_empty()),
-        Err(Silence::Untold) => Ok(false),
-        Err(Silence::NoAnswer) => Err(Silence::NoAnswer),
-    }
+    Some(empty)
 }

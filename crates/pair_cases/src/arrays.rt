@@ -23,8 +23,8 @@ pub struct Arrays {
     pub are_well: bool,
 }
 
-/// Those of a case.
-pub fn arrays_of(alloc: Global, case: &[String]) -> Arrays {
+/// Those of the lines of a case that begin with a word.
+pub fn arrays_of(alloc: Global, case: &[String], word: &str) -> Arrays {
     let nodes = nodes_of(line_of(case, "nodes"));
     let mut arrays = Arrays {
         mapped: Vec::new(alloc),
@@ -33,7 +33,8 @@ pub fn arrays_of(alloc: Global, case: &[String]) -> Arrays {
         are_well: nodes.is_some(),
     };
     for line in case {
-        if let Some(("array", rest)) = line.as_str().split_once(' ') {
+        let (first, rest) = line.as_str().split_once(' ').unwrap_or(("", ""));
+        if first == word {
             let is_well = add_array(alloc, &mut arrays, rest);
             arrays.are_well = arrays.are_well & is_well;
         }

@@ -1,4 +1,4 @@
-//! Tries the messages of pairs of nodes: statements by the courses of their subscripts, with what one node sends another for them.
+//! Tries the messages of pairs of nodes: what one node sends another for a statement, by the courses of its subscripts, and at a redistribution.
 //!
 //! Comes in: cases on standard input. Goes out: the same lines, and after each line that asks its answer. What holds in between: `case` begins a case; these
 //! lines say what it is.
@@ -9,6 +9,7 @@
 //! - `left`: what is assigned at its tuples: an array, and a course for each dimension, `f5` for the subscript 5 at each tuple, `m0:1:2` for one that
 //!   moves along axis 0 from 1 by 2.
 //! - `read`: what is read at them, written in the same way; a line each.
+//! - `after`: an array as it lies after a redistribution, written as `array` writes it and in the same order; a line each. One that stays has the same line again.
 //!
 //! These lines ask, of what stands before them in the case:
 //!
@@ -17,6 +18,8 @@
 //! - `pairs`: whether the message of each pair of nodes, of a node and itself too, is what a filter of all elements by the definitions gives: those that the
 //!   taker needs and doesn't own, and whose least owner is the sender. The answer is how many pairs there are and how many elements their messages have, or
 //!   the first pair that differs, with both lists. Each array has at most 1,024 elements, and the space 1,024 tuples.
+//! - `remap`: the same of the redistribution, for which a case needs no statement: those that the taker owns after it and not before, and whose least owner
+//!   before is the sender.
 //!
 //! So a case with its answers, where A(1:3) and A(4:6) are on two nodes and A(1:5) = A(2:6) is done:
 //!
@@ -31,10 +34,13 @@
 //!   A(4)
 //! pairs
 //!   4 pairs as the filter, 1 elements
+//! after 1 6; grid 2; cyclic 1 lower 1 extent 6 over 0 linear 0 1 0
+//! remap
+//!   4 pairs as the filter, 2 elements
 //! ```
 //!
-//! The answer is `none` where nothing is told. Other lines are remarks. There is no answer where a case isn't written so, the space is too large, a course goes
-//! along no axis of it, there is no such node, or memory is wanting.
+//! Other lines are remarks. There is no answer where a case isn't written so, the space is too large, a course goes along no axis of it, an array hasn't as many
+//! elements after as before, there is no such node, or memory is wanting.
 #![tactic(auto)]
 
 mod answer;
@@ -42,6 +48,7 @@ mod arrays;
 mod bounds;
 mod pairs;
 mod show;
+mod sizes;
 mod spaces;
 mod statement;
 mod told;
@@ -58,7 +65,7 @@ fn main(rt: HostRuntime) -> io::Result<()> {
         let line = line?;
         println!(rt; "{line}")?;
         let (word, rest) = line.as_str().split_once(' ').unwrap_or((line.as_str(), ""));
-        if word == "message" || word == "pairs" {
+        if word == "message" || word == "pairs" || word == "remap" {
             print!(rt; "{}", answer_to(alloc, &case, word, rest)?)?;
         } else {
             if word == "case" {

@@ -3,20 +3,22 @@
 use crate::arrays::Arrays;
 use crate::show::write_spots;
 use crate::statement::Statement;
-use crate::told::{Silence, told};
-use filtered_messages::{Element, Named, elements_of, sent};
+use crate::told::{Act, told};
+use expression_rules::Dims;
+use filtered_messages::{Element, Named, elements_of, moved_elements, sent};
 use std::alloc::Global;
 use std::fmt::Write;
+use storage::Spot;
 
-/// Writes how many elements the messages of all pairs of nodes have, or the first pair whose message isn't what the definition gives.
+/// Writes how many elements the messages of all pairs of nodes have for a statement, or the first pair whose message isn't what the definition gives.
 pub fn write_pairs(
     alloc: Global,
     out: &mut String,
     arrays: &Arrays,
     statement: &Statement,
-) -> Result<(), Silence> {
+) -> Option<()> {
     let [left, reads @ ..] = statement.references.as_slice() else {
-        return Err(Silence::NoAnswer);
+        return None;
     };
     let named = Named {
         arrays: &arrays.mapped,
@@ -25,8 +27,16 @@ pub fn write_pairs(
         reads,
     };
     match elements_of(alloc, &named) {
-        Some(elements) => compare(alloc, out, arrays, statement, &elements),
-        None => Err(Silence::NoAnswer),
+        Some(elements) => compare(alloc, out, arrays, Act::Statement(statement), &elements),
+        None => None,
+    }
+}
+
+/// The same for a redistribution after which the arrays lie so.
+pub fn write_moves(alloc: Global, out: &mut String, arrays: &Arrays, after: &Arrays) -> Option<()> {
+    match moved_elements(alloc, &arrays.mapped, &after.mapped) {
+        Some(elements) => compare(alloc, out, arrays, Act::Redistribution(after), &elements),
+        None => None,
     }
 }
 
@@ -35,38 +45,45 @@ fn compare(
     alloc: Global,
     out: &mut String,
     arrays: &Arrays,
-    statement: &Statement,
+    act: Act<'_>,
     elements: &[Element],
-) -> Result<(), Silence> {
+) -> Option<()> {
     let nodes = arrays.owners.nodes();
     let pairs = nodes.wrapping_mul(nodes);
     let mut sum: usize = 0;
     for pair in 0..pairs {
         let from = pair / nodes;
         let to = pair % nodes;
-        match counted(alloc, arrays, statement, elements, from, to)? {
+        match counted(alloc, arrays, act, elements, from, to) {
             Some(count) => sum = sum.wrapping_add(count),
-            None => return write_both(alloc, out, arrays, statement, elements, from, to),
+            None => return write_both(alloc, out, arrays, act, elements, from, to),
         }
     }
-    writeln!(out, "  {pairs} pairs as the filter, {sum} elements")?;
-    Ok(())
+    writeln!(out, "  {pairs} pairs as the filter, {sum} elements").ok()
 }
 
-/// How many elements a message has; None where it isn't what the definition gives.
+/// How many elements a message has; None where it isn't told, or isn't what the definition gives.
 fn counted(
     alloc: Global,
     arrays: &Arrays,
-    statement: &Statement,
+    act: Act<'_>,
     elements: &[Element],
     from: u32,
     to: u32,
-) -> Result<Option<usize>, Silence> {
-    let found = told(alloc, &arrays.owners, statement, from, to)?;
+) -> Option<usize> {
+    let found = told(alloc, &arrays.owners, act, from, to)?;
+    if is_filtered(alloc, elements, from, to, &found) {
+        Some(found.len())
+    } else {
+        None
+    }
+}
+
+/// Whether the definition gives these.
+fn is_filtered(alloc: Global, elements: &[Element], from: u32, to: u32, found: &[Spot]) -> bool {
     match sent(alloc, elements, from, to) {
-        Some(wanted) if found.as_slice() == wanted.as_slice() => Ok(Some(found.len())),
-        Some(_) => Ok(None),
-        None => Err(Silence::NoAnswer),
+        Some(wanted) => wanted.as_slice() == found,
+        None => false,
     }
 }
 
@@ -75,17 +92,19 @@ fn write_both(
     alloc: Global,
     out: &mut String,
     arrays: &Arrays,
-    statement: &Statement,
+    act: Act<'_>,
     elements: &[Element],
     from: u32,
     to: u32,
-) -> Result<(), Silence> {
-    writeln!(out, "  {from} to {to} as told and by the filter:")?;
-    let found = told(alloc, &arrays.owners, statement, from, to)?;
-    write_spots(out, &arrays.shapes, &found)?;
-    match sent(alloc, elements, from, to) {
-        Some(wanted) => write_spots(out, &arrays.shapes, &wanted)?,
-        None => return Err(Silence::NoAnswer),
-    }
-    Ok(())
+) -> Option<()> {
+    let found = told(alloc, &arrays.owners, act, from, to)?;
+    let wanted = sent(alloc, elements, from, to)?;
+    writeln!(out, "  {from} to {to} as told and by the filter:").ok()?;
+    write_lists(out, &arrays.shapes, &found, &wanted)
+}
+
+/// Writes two lists.
+fn write_lists(out: &mut String, shapes: &[Dims], one: &[Spot], other: &[Spot]) -> Option<()> {
+    write_spots(out, shapes, one).ok()?;
+    write_spots(out, shapes, other).ok()
 }

@@ -8,7 +8,7 @@ use Rattle.machine_steps.specs.Message.{any_below, names_spot}
 use Rattle.message_elements.specs.Elements.{is_named}
 use Rattle.message_elements.proofs.AllSpots.{both-tests}
 use Rattle.courses.specs.References.{Named, named_spot}
-use Rattle.pair_messages.specs.Sent.{is_named_by}
+use Rattle.pair_messages.specs.Sent.{is_named_by, is_named_of}
 
 pub and-false : (b : Bool) → (b && false) ≡ false
 and-false true = refl
@@ -82,20 +82,20 @@ names-first : (o : Option Spot) (reads : List (Option Spot)) (s : Spot) → name
 names-first None reads s = refl
 names-first (Some x) reads s = refl
 
+-- what the references name, as what is read
+pub names-any : (ns : List ℕ) (rs : List Named) (t : ℕ) (s : Spot) → names_spot (map (named_spot ns t) rs) s ≡ is_named_of ns rs t s
+names-any ns [] t s = refl
+names-any ns (r ∷ rs) t s = names-first (named_spot ns t r) (map (named_spot ns t) rs) s ∙ ap (λ b. is_named_by ns r t s || b) (names-any ns rs t s)
+
 shared : (c n m : Bool) → ((c && n) || (c && m)) ≡ (c && (n || m))
 shared true n m = refl
 shared false n m = refl
 
--- what one of the references names at one of the tuples is read at one of them
+-- what one of the references names at one of the tuples
 pub any-reads : (ns : List ℕ) (c : ℕ → Bool) (s : Spot) (ts : List ℕ) (rs : List Named)
-    → list_any (λ r. list_any (λ t. c t && is_named_by ns r t s) ts) rs ≡ list_any (λ t. c t && names_spot (map (named_spot ns t) rs) s) ts
+    → list_any (λ r. list_any (λ t. c t && is_named_by ns r t s) ts) rs ≡ list_any (λ t. c t && is_named_of ns rs t s) ts
 any-reads ns c s ts [] = sym (any-and c false ts ∙ and-false (list_any c ts))
 any-reads ns c s ts (r ∷ rs) =
     ap (λ b. list_any (λ t. c t && is_named_by ns r t s) ts || b) (any-reads ns c s ts rs)
-    ∙ sym (any-or (λ t. c t && is_named_by ns r t s) (λ t. c t && names_spot (map (named_spot ns t) rs) s) ts)
-    ∙ (λ i. list_any (λ t. one t i) ts)
-  where
-    one : (t : ℕ) → ((c t && is_named_by ns r t s) || (c t && names_spot (map (named_spot ns t) rs) s)) ≡ (c t && names_spot (map (named_spot ns t) (r ∷ rs)) s)
-    one t =
-        shared (c t) (is_named_by ns r t s) (names_spot (map (named_spot ns t) rs) s)
-        ∙ ap (λ b. c t && b) (sym (names-first (named_spot ns t r) (map (named_spot ns t) rs) s))
+    ∙ sym (any-or (λ t. c t && is_named_by ns r t s) (λ t. c t && is_named_of ns rs t s) ts)
+    ∙ (λ i. list_any (λ t. shared (c t) (is_named_by ns r t s) (is_named_of ns rs t s) i) ts)

@@ -7,6 +7,10 @@ mod Ascending
 mod Enough
 mod Sending
 mod Whole
+mod Counts
+mod Walks
+mod OwnRows
+mod Moving
 mod Items
 mod ClassLaws
 mod AxisClasses

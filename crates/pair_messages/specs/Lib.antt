@@ -1,3 +1,5 @@
 pub mod Sent
+pub mod Counts
+pub mod Moved
 pub mod Classes
 pub mod Enough

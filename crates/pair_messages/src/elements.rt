@@ -14,10 +14,10 @@ ghost use Rattle.message_elements.specs.Elements.{OneMore};
 ghost use Rattle.pair_messages.specs.Sent.{AreAdded, is_named_among, is_named_by};
 
 use align_map::linear;
-use message_elements::note;
 use course_forms::{Course, Reference};
 use expression_rules::{Dim, extent};
 use hpf_base::OutOfMemory;
+use message_elements::note;
 use storage::Spot;
 
 /// Adds what the reference names at the tuples.
@@ -53,7 +53,7 @@ fn add_spot(
 }
 
 /// The element that it names at a tuple; None where that is out of bounds.
-fn spot_at(extents: &[u64], reference: &Reference, tuple: u32) -> Option<Spot>
+pub(crate) fn spot_at(extents: &[u64], reference: &Reference, tuple: u32) -> Option<Spot>
     requires { tuple < product extents.now }
     ensures { option_map spot_of result ≡ named_spot extents.now tuple (named_of reference.now) }
 {

@@ -23,17 +23,18 @@ use std::alloc::Global;
 use storage::Spot;
 
 /// Two nodes, of which the one may send something to the other: how the rows lie, the extents of a space of tuples, and what is assigned there. The
-/// taker computes the tuples at which it owns what is assigned.
+/// taker computes the tuples at which it owns what is assigned; for that the rows may lie otherwise.
 #[derive(Drop)]
 pub(crate) struct Pair<'a> {
     pub(crate) owners: &'a Owners,
+    pub(crate) takers: &'a Owners,
     pub(crate) extents: &'a [u64],
     pub(crate) left: &'a Reference,
     pub(crate) from: u32,
     pub(crate) to: u32,
     ghost source: { from < owners.now.nodes },
     ghost target: { to < owners.now.nodes },
-    ghost few: { All (λ n. n ≤ 2 ^ 32) extents.now },
+    ghost taker: { to < takers.now.nodes },
     ghost tuples: { product extents.now ≤ 2 ^ 32 },
 }
 
@@ -64,12 +65,13 @@ pub(crate) fn all_lie(owners: &Owners, extents: &[u64], references: &[Reference]
 impl<'a> Pair<'a> {
     /// What is sent of what these references name, in any order.
     pub(crate) fn sent(&self, alloc: Global, reads: &[Reference]) -> Result<Vec<Spot>, OutOfMemory>
-        requires left { Lies self.now.extents.now self.now.owners.now.layouts (named_of self.now.left.now) }
+        requires few { All (λ n. n ≤ 2 ^ 32) self.now.extents.now }
+        requires left { Lies self.now.extents.now self.now.takers.now.layouts (named_of self.now.left.now) }
         requires lie { All (Lies self.now.extents.now self.now.owners.now.layouts) (names_of reads.now) }
         requires dealt { AreOwned self.now.owners.now.nodes self.now.owners.now.layouts }
         ensures { IfOk result (λ spots. (s : SpotSpec) → is_among (map spot_of spots.items) s
             ≡ list_any (λ r. is_sent_of self.now.owners.now.nodes self.now.owners.now.layouts self.now.extents.now
-            (owns_named self.now.owners.now.layouts self.now.to (named_of self.now.left.now)) self.now.from self.now.to r s) (names_of reads.now)) }
+            (owns_named self.now.takers.now.layouts self.now.to (named_of self.now.left.now)) self.now.from self.now.to r s) (names_of reads.now)) }
     {
         let mut spots = Vec::new(alloc);
         for read in reads {
@@ -79,17 +81,18 @@ impl<'a> Pair<'a> {
     }
 
     /// Adds what is sent of what a reference names.
-    fn add_sent(
+    pub(crate) fn add_sent(
         &self,
         alloc: Global,
         spots: &mut Vec<Spot>,
         read: &Reference,
     ) -> Result<(), OutOfMemory>
-        requires left { Lies self.now.extents.now self.now.owners.now.layouts (named_of self.now.left.now) }
+        requires few { All (λ n. n ≤ 2 ^ 32) self.now.extents.now }
+        requires left { Lies self.now.extents.now self.now.takers.now.layouts (named_of self.now.left.now) }
         requires lies { Lies self.now.extents.now self.now.owners.now.layouts (named_of read.now) }
         requires dealt { AreOwned self.now.owners.now.nodes self.now.owners.now.layouts }
         ensures { IfOk result (λ _. AreAdded (is_sent_of self.now.owners.now.nodes self.now.owners.now.layouts self.now.extents.now
-            (owns_named self.now.owners.now.layouts self.now.to (named_of self.now.left.now)) self.now.from self.now.to (named_of read.now))
+            (owns_named self.now.takers.now.layouts self.now.to (named_of self.now.left.now)) self.now.from self.now.to (named_of read.now))
             (map spot_of spots.old.items) (map spot_of spots.new.items)) }
     {
         if !self.sends(read.row) {

@@ -31,13 +31,14 @@ impl<'a> Pair<'a> {
         alloc: Global,
         read: &Reference,
     ) -> Result<Option<Lists>, OutOfMemory>
-        requires left { Lies self.now.extents.now self.now.owners.now.layouts (named_of self.now.left.now) }
+        requires few { All (λ n. n ≤ 2 ^ 32) self.now.extents.now }
+        requires left { Lies self.now.extents.now self.now.takers.now.layouts (named_of self.now.left.now) }
         requires lies { Lies self.now.extents.now self.now.owners.now.layouts (named_of read.now) }
         ensures { IfOk result (λ r. AreEnough (moves_on (named_of read.now).courses)
-            (and_test (owns_named self.now.owners.now.layouts self.now.to (named_of self.now.left.now)) (owns_named self.now.owners.now.layouts self.now.from (named_of read.now)))
+            (and_test (owns_named self.now.takers.now.layouts self.now.to (named_of self.now.left.now)) (owns_named self.now.owners.now.layouts self.now.from (named_of read.now)))
             self.now.extents.now (option_map (λ lists. map (λ v. v.items) lists.items) r)) }
     {
-        let Some(computed) = holding_of(self.owners, self.extents, self.to, self.left) else {
+        let Some(computed) = holding_of(self.takers, self.extents, self.to, self.left) else {
             return Ok(None);
         };
         let Some(owned) = holding_of(self.owners, self.extents, self.from, read) else {

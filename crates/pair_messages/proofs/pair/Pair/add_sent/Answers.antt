@@ -20,7 +20,7 @@ pub returns-then-not-sends : goal.returns-then-not-sends
 returns-then-not-sends c s =
     let self = c.args.self.now in
     let lies = c.requires.lies in
-    let computed : Test = owns_named self.owners.now.layouts self.to (named_of self.left.now) in
+    let computed : Test = owns_named self.takers.now.layouts self.to (named_of self.left.now) in
     sym (ap (λ b. b || is_among (map spot_of c.args.spots.now.items) s)
     (unsent self.owners.now.nodes self.owners.now.layouts self.extents.now (named_of c.args.read.now) lies.0 self.from self.to lies.1 c.requires.dealt
     c.sends.result (c.sends.ensures lies.0 lies.1.row) computed s c.if-not-sends.true))
@@ -30,7 +30,7 @@ returns-in_default c s =
     let self = c.args.self.now in
     let lies = c.requires.lies in
     let read : Named = named_of c.args.read.now in
-    let computed : Test = owns_named self.owners.now.layouts self.to (named_of self.left.now) in
+    let computed : Test = owns_named self.takers.now.layouts self.to (named_of self.left.now) in
     let both : Test = and_test computed (owns_named self.owners.now.layouts self.from read) in
     sym (ap (λ b. b || is_among (map spot_of c.args.spots.now.items) s)
     (sent-listed self.owners.now.nodes self.owners.now.layouts self.extents.now read lies.0 self.from self.to lies.1 c.requires.dealt
@@ -44,7 +44,7 @@ tuples_of-requires-clause-axes c =
     let ns = self.extents.now in
     let asked = moves_on (named_of c.args.read.now).courses in
     let lists = map (λ v. v.items) c.in-Some.places.items in
-    let both : Test = and_test (owns_named self.owners.now.layouts self.to (named_of self.left.now)) (owns_named self.owners.now.layouts self.from (named_of c.args.read.now)) in
+    let both : Test = and_test (owns_named self.takers.now.layouts self.to (named_of self.left.now)) (owns_named self.owners.now.layouts self.from (named_of c.args.read.now)) in
     let are : AreEnough asked both ns (Some lists) =
     subst (λ o. AreEnough asked both ns (option_map (λ lists. map (λ v. v.items) lists.items) o)) c.in-Some.is c.in_ok-places.ensures in
     ap length c.deref.ensures.value ∙ sym (length-map c.in-Some.places.items (λ v. v.items)) ∙ enough-long asked both.at 0 ns lists are.1
@@ -55,7 +55,7 @@ tuples_of-requires-clause-places c =
     let ns = self.extents.now in
     let asked = moves_on (named_of c.args.read.now).courses in
     let lists = map (λ v. v.items) c.in-Some.places.items in
-    let both : Test = and_test (owns_named self.owners.now.layouts self.to (named_of self.left.now)) (owns_named self.owners.now.layouts self.from (named_of c.args.read.now)) in
+    let both : Test = and_test (owns_named self.takers.now.layouts self.to (named_of self.left.now)) (owns_named self.owners.now.layouts self.from (named_of c.args.read.now)) in
     let are : AreEnough asked both ns (Some lists) =
     subst (λ o. AreEnough asked both ns (option_map (λ lists. map (λ v. v.items) lists.items) o)) c.in-Some.is c.in_ok-places.ensures in
     subst (AreBelow ns) (sym (ap (map (λ v. v.items)) c.deref.ensures.value ∙ enough-passing asked both.at ns lists are.1))
@@ -66,7 +66,7 @@ add_named-requires c =
     let self = c.args.self.now in
     let ns = self.extents.now in
     let lists = map (λ v. v.items) c.in-Some.places.items in
-    let both : Test = and_test (owns_named self.owners.now.layouts self.to (named_of self.left.now)) (owns_named self.owners.now.layouts self.from (named_of c.args.read.now)) in
+    let both : Test = and_test (owns_named self.takers.now.layouts self.to (named_of self.left.now)) (owns_named self.owners.now.layouts self.from (named_of c.args.read.now)) in
     let are : AreEnough (moves_on (named_of c.args.read.now).courses) both ns (Some lists) =
     subst (λ o. AreEnough (moves_on (named_of c.args.read.now).courses) both ns (option_map (λ lists. map (λ v. v.items) lists.items) o)) c.in-Some.is c.in_ok-places.ensures in
     subst (All (λ t. t < product ns)) (sym (c.deref-2.ensures.value ∙ c.in_ok-tuples.ensures ∙ ap (λ l. listed_tuples ns (Some (map (λ v. v.items) l))) c.deref.ensures.value))
@@ -79,7 +79,7 @@ returns c s =
     let lies = c.requires.lies in
     let read : Named = named_of c.args.read.now in
     let lists = map (λ v. v.items) c.in-Some.places.items in
-    let computed : Test = owns_named self.owners.now.layouts self.to (named_of self.left.now) in
+    let computed : Test = owns_named self.takers.now.layouts self.to (named_of self.left.now) in
     let both : Test = and_test computed (owns_named self.owners.now.layouts self.from read) in
     let are : AreEnough (moves_on (named_of c.args.read.now).courses) both ns (Some lists) =
     subst (λ o. AreEnough (moves_on (named_of c.args.read.now).courses) both ns (option_map (λ lists. map (λ v. v.items) lists.items) o)) c.in-Some.is c.in_ok-places.ensures in

@@ -10,7 +10,7 @@ use Rattle.pair_messages.proofs.pair.Pair.places.Goals as goal
 pub returns-in_default : goal.returns-in_default
 returns-in_default c =
     let self = c.args.self.now in
-    let computed : Test = owns_named self.owners.now.layouts self.to (named_of self.left.now) in
+    let computed : Test = owns_named self.takers.now.layouts self.to (named_of self.left.now) in
     let owned : Test = owns_named self.owners.now.layouts self.from (named_of c.args.read.now) in
     none-first computed owned self.extents.now
     (subst (λ o. IfNone o ((t : ℕ) → holds computed (places_at self.extents.now t) ≡ false)) c.in_default.is c.holding_of.ensures.none)
@@ -18,7 +18,7 @@ returns-in_default c =
 pub returns-in_default-holding_of : goal.returns-in_default-holding_of
 returns-in_default-holding_of c =
     let self = c.args.self.now in
-    let computed : Test = owns_named self.owners.now.layouts self.to (named_of self.left.now) in
+    let computed : Test = owns_named self.takers.now.layouts self.to (named_of self.left.now) in
     let owned : Test = owns_named self.owners.now.layouts self.from (named_of c.args.read.now) in
     none-second computed owned self.extents.now
     (subst (λ o. IfNone o ((t : ℕ) → holds owned (places_at self.extents.now t) ≡ false)) c.in_default-holding_of.is c.holding_of-2.ensures.none)
@@ -27,7 +27,7 @@ pub returns-in_default-2 : goal.returns-in_default-2
 returns-in_default-2 c =
     let self = c.args.self.now in
     let ns = self.extents.now in
-    let computed : Test = owns_named self.owners.now.layouts self.to (named_of self.left.now) in
+    let computed : Test = owns_named self.takers.now.layouts self.to (named_of self.left.now) in
     let owned : Test = owns_named self.owners.now.layouts self.from (named_of c.args.read.now) in
     let one : Test = test_of c.in-Some.computed in
     let other : Test = test_of c.in-Some-holding_of.owned in

@@ -15,7 +15,7 @@ add_sent-requires-clause-lies c =
 pub loop-read-preserved : goal.loop-read-preserved
 loop-read-preserved c s =
     let self = c.args.self.now in
-    let computed : Test = owns_named self.owners.now.layouts self.to (named_of self.left.now) in
+    let computed : Test = owns_named self.takers.now.layouts self.to (named_of self.left.now) in
     let n = c.loop-read.read-index in
     c.in_ok-add_sent.ensures s
     ∙ ap (λ b. is_sent_of self.owners.now.nodes self.owners.now.layouts self.extents.now computed self.from self.to (named_of c.read-item.result) s || b) (c.loop-read.invariant s)

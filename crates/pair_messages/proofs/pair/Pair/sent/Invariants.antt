@@ -12,4 +12,4 @@ use Rattle.pair_messages.proofs.pair.Pair.sent.Given as goal
 abbrev pub invariant-loop-read : goal.invariant-loop-read
 invariant-loop-read l = (s : Spot) → is_among (map spot_of l.spots.items) s
     ≡ list_any (λ r. is_sent_of l.self.owners.now.nodes l.self.owners.now.layouts l.self.extents.now
-    (owns_named l.self.owners.now.layouts l.self.to (named_of l.self.left.now)) l.self.from l.self.to r s) (names_of (take l.read-index l.reads))
+    (owns_named l.self.takers.now.layouts l.self.to (named_of l.self.left.now)) l.self.from l.self.to r s) (names_of (take l.read-index l.reads))
