@@ -1,5 +1,5 @@
 -- The nodes that compute a tuple, and the tuples that a node computes.
-use Rattle.std.proofs.Common.{◌≡◌, ℕ, zero, suc, ◌+◌, ◌<◌, ◌≤◌, nat_eq, ◌||◌, Bool, true, false, if◌then◌else◌, List, [], ◌∷◌, ◌++◌, filter, All, refl, ◌∙◌, ap, arith, eq-eqb, ◌⊎◌, inl, inr}
+use Rattle.std.proofs.Common.{◌≡◌, ℕ, zero, suc, ◌+◌, ◌<◌, ◌≤◌, nat_eq, ◌||◌, Bool, true, false, if◌then◌else◌, List, [], ◌∷◌, ◌++◌, filter, All, refl, sym, ◌∙◌, ap, arith, eq-eqb, ◌⊎◌, inl, inr}
 use Rattle.std.proofs.lemmas.Bool.{cases_order, ne_eqb}
 use Rattle.std.proofs.lemmas.List.Elements.{All-filter, filter-append}
 use Rattle.std.specs.List.{list_any, range_with_len}
@@ -50,3 +50,13 @@ filter-more P n = ap (filter P) (range_with_len-add 0 n 1) ∙ filter-append P (
   where
     same : 0 + n ≡ n
     same = omega arith
+
+-- all numbers pass
+pub all-pass : (P : ℕ → Bool) (n : ℕ) → ((t : ℕ) → t < n → P t ≡ true) → range_with_len 0 n ≡ filter P (range_with_len 0 n)
+all-pass P n every = all-from 0 n (λ t low high. every t (omega (arith, high)))
+  where
+    all-from : (a m : ℕ) → ((t : ℕ) → a ≤ t → t < a + m → P t ≡ true) → range_with_len a m ≡ filter P (range_with_len a m)
+    all-from a zero each = refl
+    all-from a (suc m) each =
+        ap (λ xs. a ∷ xs) (all-from (a + 1) m (λ t low high. each t (omega (arith, low)) (omega (arith, high))))
+        ∙ ap (λ b. if b then a ∷ filter P (range_with_len (a + 1) m) else filter P (range_with_len (a + 1) m)) (sym (each a (omega arith) (omega arith)))

@@ -9,4 +9,4 @@ use Rattle.comm_sets.specs.declared.exchanged.Exchange.{Exchange}
 pub record AreExchanged (nodes : ℕ) (layouts : List Layout) (part : Part) (id : ℕ) (e : Exchange) : Type 0 where
   pub outgoing : e.outgoing ≡ map (λ to. message nodes layouts part id to) (range_with_len 0 nodes)
   pub incoming : e.incoming ≡ map (λ from. message nodes layouts part from id) (range_with_len 0 nodes)
-  pub computed : e.computed.items ≡ filter (part.computes id) (range_with_len 0 part.tuples)
+  pub computed : e.computed ≡ filter (part.computes id) (range_with_len 0 part.tuples)

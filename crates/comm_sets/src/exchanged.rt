@@ -1,6 +1,7 @@
 //! What a node exchanges in the phase of a part, as a value.
 
 use crate::messages::Messages;
+use tuple_numbers::Tuples;
 
 /// What a node exchanges in the phase of a part, and which tuples it computes. Contracts see it by `AreExchanged`.
 #[derive(Debug, Drop)]
@@ -10,5 +11,5 @@ pub struct Exchange {
     /// The messages to the node from each node, node 0 first.
     pub incoming: Messages,
     /// The numbers of the tuples that the node computes, from 0, ascending.
-    pub computed: Vec<u32>,
+    pub computed: Tuples,
 }

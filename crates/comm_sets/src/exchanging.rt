@@ -6,17 +6,18 @@ ghost use Rattle.comm_sets.specs.Exchanges.{AreExchanged};
 use crate::exchanged::Exchange;
 use crate::messages::Messages;
 use crate::reads::Reads;
-use crate::receiving::{number_of, receive_tuple};
+use crate::receiving::receive_tuple;
 use crate::sending::send_reads;
 use crate::visiting::by_visits;
 use hpf_base::OutOfMemory;
 use owner_tables::Owners;
 use std::alloc::Global;
+use tuple_numbers::Tuples;
 
 /// What the node exchanges, from one pass over tuples: over those at which it exchanges something where the part knows them, and else over
 /// all. A message holds the elements that the target needs, that it doesn't own, and whose least owner is the source, each once, row by row,
 /// each in array-element order. A node needs every element that is read at a tuple that it computes. Where there is one node no read is
-/// evaluated. Want of memory is the answer, too, where the node computes a tuple whose number is past 2^32 - 1.
+/// evaluated. Where there are several nodes, want of memory is the answer, too, if the node computes a tuple whose number is past 2^32 - 1.
 pub fn exchange<P: Reads>(
     alloc: Global,
     owners: &Owners,
@@ -52,14 +53,10 @@ fn alone<P: Reads>(
     part.alone();
     let outgoing = Messages::none(alloc, owners.nodes())?;
     let incoming = Messages::none(alloc, owners.nodes())?;
-    let mut computed = Vec::new(alloc);
-    for tuple in 0..part.tuples() {
-        computed.push(number_of(tuple)?)?;
-    }
     Ok(Exchange {
         outgoing,
         incoming,
-        computed,
+        computed: Tuples::below(alloc, part.tuples()),
     })
 }
 
@@ -98,6 +95,6 @@ fn among_nodes<P: Reads>(
     Ok(Exchange {
         outgoing,
         incoming,
-        computed,
+        computed: Tuples::listed(alloc, computed),
     })
 }

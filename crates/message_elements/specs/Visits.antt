@@ -29,7 +29,7 @@ pub record IsVisited (nodes tuples : ℕ) (test : (tuple other : ℕ) → Spot �
 
 -- the tuples that the node computes, ascending; of these the ones at which it takes something are among some, and the tuples at which it sends something among others
 pub record AreVisits (nodes : ℕ) (layouts : List Layout) (part : Part) (id : ℕ) (v : Visits) : Type 0 where
-  pub computed : v.computed.items ≡ filter (part.computes id) (range_with_len 0 part.tuples)
+  pub computed : v.computed ≡ filter (part.computes id) (range_with_len 0 part.tuples)
   pub own : All (λ t. part.computes id t ≡ true) v.taking.items
   pub taking : IsVisited nodes part.tuples (takes_at nodes layouts part id) v.taking.items
   pub sending : IsVisited nodes part.tuples (sends_at nodes layouts part id) v.sending.items

@@ -68,7 +68,7 @@ fn size_of(slots: &[i64], owners: &Owners, exchange: &Exchange) -> usize
     slots
         .len()
         .saturating_add(owners.rows())
-        .saturating_add(exchange.computed.len())
+        .saturating_add(exchange.computed.size())
         .saturating_add(words(&exchange.outgoing, owners.nodes()))
         .saturating_add(words(&exchange.incoming, owners.nodes()))
 }

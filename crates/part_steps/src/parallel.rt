@@ -1,6 +1,6 @@
 //! What a parallel statement comes to on a node.
 
-ghost use Rattle.std.specs.Prelude.{◌≡◌, ◌<◌, ℤ, List, Some, IfOk, OnOk};
+ghost use Rattle.std.specs.Prelude.{◌≡◌, ◌<◌, ℤ, All, List, Some, IfOk, OnOk};
 ghost use Rattle.array_meaning.specs.Faults.{Fault as FaultOf};
 ghost use Rattle.machine_steps.specs.Instr.{Value};
 ghost use Rattle.machine_steps.specs.Machine.{earlier, effect_by, kept_of};
@@ -8,6 +8,7 @@ ghost use Rattle.machine_steps.specs.Node.{local_apply};
 ghost use Rattle.term_values.specs.Faults.{fault as fault_of};
 ghost use Rattle.tuple_values.specs.Spots.{read_of};
 ghost use Rattle.part_steps.specs.After.{applied, after, fault_below, outcome_of, stored_below, tuples};
+ghost use Rattle.part_steps.specs.Computed.{keep_of, over, store_of};
 ghost use Rattle.part_steps.specs.Exchanged.{IsComputed, IsExchange};
 ghost use Rattle.part_steps.specs.Gathered.{after_of};
 ghost use Rattle.slot_values.specs.KeptFaults.{kepts};
@@ -23,6 +24,7 @@ use letters::Body;
 use owner_tables::Row;
 use slot_values::{Fault, Kept, earlier};
 use std::alloc::Global;
+use tuple_numbers::Run;
 use tuple_values::Outcome;
 
 /// What the tuples of a parallel statement store on a node, in their order, and the first fault of those that it computes.
@@ -67,13 +69,34 @@ fn gathered_values(
         fault: None,
     };
     let computed = gathered.computed();
-    for tuple in computed {
-        values.add_tuple(gathered, *tuple as usize, number)?;
+    let mut done: usize = 0;
+    while done < computed.len() {
+        let run = computed.run(done);
+        values.add_run(gathered, &run, number)?;
+        let count = run.len();
+        done += count;
     }
     Ok(values)
 }
 
 impl ParValues {
+    /// Adds what a run of tuples that the node computes comes to.
+    fn add_run(
+        &mut self,
+        gathered: &Gathered<'_>,
+        run: &Run<'_>,
+        number: u64,
+    ) -> Result<(), OutOfMemory>
+        requires { All (IsComputed (after_of gathered.now)) run.now }
+        ensures stores { OnOk result ((ps : List (List ℤ)) → stored self.new.stores ps ≡ over (store_of (after_of gathered.now)) run.now (stored self.old.stores ps)) }
+        ensures fault { OnOk result (kepts self.new.fault ≡ over (keep_of (after_of gathered.now) number) run.now (kepts self.old.fault)) }
+    {
+        for index in 0..run.len() {
+            self.add_tuple(gathered, run.at(index), number)?;
+        }
+        Ok(())
+    }
+
     /// Adds what a tuple that the node computes comes to.
     fn add_tuple(
         &mut self,

@@ -1,10 +1,11 @@
 //! What a reduction comes to on a node.
 
-ghost use Rattle.std.specs.Prelude.{◌≡◌, ◌<◌, Some, IfOk, OnOk};
+ghost use Rattle.std.specs.Prelude.{◌≡◌, ◌<◌, All, Some, IfOk, OnOk};
 ghost use Rattle.machine_steps.specs.Machine.{earlier, kept_of};
 ghost use Rattle.machine_steps.specs.Node.{join_options, outcome_value};
 ghost use Rattle.op_tables.specs.Joins.{join};
 ghost use Rattle.part_steps.specs.After.{after, fault_below, joined_below, outcome_of, tuples};
+ghost use Rattle.part_steps.specs.Computed.{join_of, keep_of, over};
 ghost use Rattle.part_steps.specs.Exchanged.{IsComputed, IsExchange};
 ghost use Rattle.part_steps.specs.Gathered.{after_of};
 ghost use Rattle.slot_values.specs.KeptFaults.{kepts};
@@ -19,6 +20,7 @@ use letters::Body;
 use op_tables::Join;
 use owner_tables::Row;
 use slot_values::Kept;
+use tuple_numbers::Run;
 use tuple_values::Outcome;
 
 /// The values of the tuples that a node computes, joined in their order, where there are any, and the first fault.
@@ -62,13 +64,35 @@ fn gathered_values(
         fault: None,
     };
     let computed = gathered.computed();
-    for tuple in computed {
-        values.add_tuple(gathered, *tuple as usize, op, number)?;
+    let mut done: usize = 0;
+    while done < computed.len() {
+        let run = computed.run(done);
+        values.add_run(gathered, &run, op, number)?;
+        let count = run.len();
+        done += count;
     }
     Ok(values)
 }
 
 impl ReduceValues {
+    /// Adds what a run of tuples that the node computes comes to.
+    fn add_run(
+        &mut self,
+        gathered: &Gathered<'_>,
+        run: &Run<'_>,
+        op: Join,
+        number: u64,
+    ) -> Result<(), OutOfMemory>
+        requires { All (IsComputed (after_of gathered.now)) run.now }
+        ensures value { OnOk result (self.new.value ≡ over (join_of (after_of gathered.now) op) run.now self.old.value) }
+        ensures fault { OnOk result (kepts self.new.fault ≡ over (keep_of (after_of gathered.now) number) run.now (kepts self.old.fault)) }
+    {
+        for index in 0..run.len() {
+            self.add_tuple(gathered, run.at(index), op, number)?;
+        }
+        Ok(())
+    }
+
     /// Adds what a tuple that the node computes comes to.
     fn add_tuple(
         &mut self,

@@ -16,6 +16,7 @@ use comm_sets::{Exchange, Spot, value_in};
 use hpf_base::OutOfMemory;
 use letters::Body;
 use owner_tables::{Row, held_value};
+use tuple_numbers::Tuples;
 use tuple_values::{Elements, Outcome};
 
 impl<'a> Gathered<'a> {
@@ -41,10 +42,10 @@ impl<'a> Gathered<'a> {
     }
 
     /// The tuples that the node computes, ascending.
-    pub(crate) fn computed(&self) -> &[u32]
+    pub(crate) fn computed(&self) -> &Tuples
         ensures { result.now ≡ computed_of (after_of self.now) }
     {
-        self.exchange.computed.as_slice()
+        &self.exchange.computed
     }
 
     /// The value of an element: the node's own, or received; 0 where there is no such element.

@@ -12,8 +12,8 @@ ghost use Rattle.part_steps.specs.Views.{part_view};
 
 use crate::part::Part;
 use crate::who::Who;
-use message_elements::Visits;
 use hpf_base::OutOfMemory;
+use message_elements::Visits;
 use part_visits::{assigned_visits, read_visits, root_visits};
 use std::alloc::Global;
 use tuple_values::References;

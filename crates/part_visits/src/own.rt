@@ -17,6 +17,7 @@ use course_forms::Reference;
 use hpf_base::OutOfMemory;
 use owned_places::is_inside;
 use std::alloc::Global;
+use tuple_numbers::{Tuples, tuples_of_places};
 
 /// What a node computes.
 #[derive(Drop)]
@@ -139,6 +140,21 @@ impl<'a> Visitor<'a> {
         match lists {
             Some(lists) => tuples_of(alloc, self.extents, lists),
             None => Ok(Vec::new(alloc)),
+        }
+    }
+
+    /// The same tuples in a short form.
+    pub(crate) fn short_tuples(
+        &self,
+        alloc: Global,
+        lists: &Option<Lists>,
+    ) -> Result<Tuples, OutOfMemory>
+        requires { (c : Test) × ArePlaces c self.now.extents.now (option_map (λ lists. map (λ v. v.items) lists.items) lists.now) }
+        ensures { IfOk result (λ tuples. tuples ≡ listed_tuples self.now.extents.now (option_map (λ lists. map (λ v. v.items) lists.items) lists.now)) }
+    {
+        match lists {
+            Some(lists) => tuples_of_places(alloc, self.extents, lists),
+            None => Ok(Tuples::below(alloc, 0)),
         }
     }
 }

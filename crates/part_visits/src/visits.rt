@@ -13,9 +13,9 @@ ghost use Rattle.visited_tuples.specs.Parts.{IsPartOf};
 
 use crate::own::Own;
 use crate::visitor::Visitor;
-use message_elements::Visits;
 use course_forms::Reference;
 use hpf_base::OutOfMemory;
+use message_elements::Visits;
 use owner_tables::Owners;
 use std::alloc::Global;
 
@@ -143,7 +143,7 @@ impl<'a> Visitor<'a> {
         }
         let taking = self.taking(alloc, reads, &own)?;
         let sending = self.sending(alloc, reads, &own)?;
-        let computed = self.tuples(alloc, &own.lists)?;
+        let computed = self.short_tuples(alloc, &own.lists)?;
         Ok(Some(Visits {
             computed,
             taking,

@@ -18,7 +18,7 @@ use Rattle.visited_tuples.proofs.Sent.{not-true}
 use Rattle.visited_tuples.proofs.Taken.{computed}
 
 pub visits : (who : (node tuple : ℕ) → Bool) (nodes : ℕ) (layouts : List Layout) (ns : List ℕ) (rs : List Named) (id : ℕ) (lists : Option (List (List ℕ))) (beside : List ℕ)
-    (v : Visits) (part : Part) → IsOwn who nodes ns id lists beside → v.computed.items ≡ listed_tuples ns lists → IsTaking who layouts ns rs id v.taking.items
+    (v : Visits) (part : Part) → IsOwn who nodes ns id lists beside → v.computed ≡ listed_tuples ns lists → IsTaking who layouts ns rs id v.taking.items
     → IsSending who nodes layouts ns rs id v.sending.items → IsPartOf ns rs who part → AreVisits nodes layouts part id v
 visits who nodes layouts ns rs id lists beside v part own is taking sending of = record {
   computed =

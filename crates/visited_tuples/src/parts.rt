@@ -14,6 +14,6 @@ ghost use Rattle.visited_tuples.specs.Visited.{IsSending, IsTaking};
 pub fn visits_of_part()
     ensures { (who : (node tuple : ℕ) → Bool) (nodes : ℕ) (layouts : List Layout) (ns : List ℕ) (rs : List Named) (id : ℕ)
         (lists : Option (List (List ℕ))) (beside : List ℕ) (v : Visits) (part : Part)
-        → IsOwn who nodes ns id lists beside → v.computed.items ≡ listed_tuples ns lists → IsTaking who layouts ns rs id v.taking.items
+        → IsOwn who nodes ns id lists beside → v.computed ≡ listed_tuples ns lists → IsTaking who layouts ns rs id v.taking.items
         → IsSending who nodes layouts ns rs id v.sending.items → IsPartOf ns rs who part → AreVisits nodes layouts part id v }
 {}

@@ -50,5 +50,5 @@ returns g c =
     record {
       outgoing = messages-from owners.nodes owners.layouts part c.loop-tuple.tuple c.loop-tuple.outgoing c.arrange.new.self all c.arrange.ensures c.args.id c.loop-tuple.invariant.outgoing;
       incoming = messages-to owners.nodes owners.layouts part c.loop-tuple.tuple c.loop-tuple.incoming c.arrange-2.new.self all c.arrange-2.ensures c.args.id c.loop-tuple.invariant.incoming;
-      computed = c.loop-tuple.invariant.computed ∙ ap (λ count. filter (part.computes c.args.id) (range_with_len 0 count)) all;
+      computed = c.listed.ensures ∙ c.loop-tuple.invariant.computed ∙ ap (λ count. filter (part.computes c.args.id) (range_with_len 0 count)) all;
     }
