@@ -1,0 +1,4 @@
+pub mod Operated
+pub mod Places
+pub mod SlowSections
+pub mod Strips

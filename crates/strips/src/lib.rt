@@ -1,0 +1,22 @@
+//! The values of array expressions by strips: at most 256 tuples of one row at a time, and each operator over all of them before the next one.
+//!
+//! Comes in: a state, an array expression whose parts are evaluated, and the extents of a space. Goes out: its values at all tuples of the
+//! space, where each has one, and the places of a section at all tuples, where in each row they follow one another; else None, and then the
+//! caller goes tuple by tuple, which finds the first fault.
+//! What holds in between: a strip's clause is by index, its k-th value is that of the expression at its k-th tuple (`IsStrip`), and says
+//! nothing of the order in which values are taken; that all values so taken are those of the definitions is a law (`law_of_strips`). Nothing is taken
+//! from memory for a single tuple.
+#![tactic(auto)]
+
+mod elements;
+mod expression_strips;
+mod kernels;
+mod laws;
+mod operators;
+mod row_places;
+mod rows;
+mod tuples;
+
+pub use laws::{law_of_strips, law_of_values};
+pub use row_places::strip_places;
+pub use rows::strip_values;
