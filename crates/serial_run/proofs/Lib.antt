@@ -2,6 +2,7 @@ pub mod ForallStores
 pub mod IndexTuples
 mod Statements
 mod Stores
+mod StoredRows
 mod StoredSections
 mod NamedValues
 mod PositionTuples

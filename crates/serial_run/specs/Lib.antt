@@ -2,6 +2,7 @@ pub mod Completions
 pub mod ForallParts
 pub mod Arms
 pub mod Printing
+pub mod RowStores
 pub mod SectionStores
 pub mod WhereConstruct
 pub mod InitialState

@@ -16,6 +16,7 @@ mod loop_entry;
 mod one_to_one;
 mod position_tuples;
 mod print;
+mod row_stores;
 mod section_assignments;
 mod section_stores;
 mod serial;

@@ -10,6 +10,7 @@ ghost use Rattle.serial_run.specs.Completions.{IsRun, IsStopped};
 ghost use Rattle.serial_run.specs.SectionStores.{branch_mask, stored_each};
 
 use crate::completion::{Completion, ended};
+use crate::row_stores::store_kept;
 use crate::section_stores::{Space, section_stores, where_stores};
 use array_meaning::Store;
 use resolved_program::{SectionAssignment, SectionSubscript, Term};
@@ -43,7 +44,7 @@ fn assign_section(
     ensures stopped { IfErr result (IsStopped (assign_section array (subscripts_of subscripts.now.items) (term right.now) (state_of s.old)) (state_of s.old) (state_of s.new)) }
 {
     let stores = section_stores(s, array, subscripts, right)?;
-    store_each(s, array, &stores);
+    store_kept(s, array, &stores);
     Ok(())
 }
 
@@ -58,7 +59,7 @@ pub(crate) fn assign_where(
     ensures stopped { IfErr result (IsStopped (assign_where space.entry.extents.now (branch_mask space.entry.branch space.entry.mask.now) (section_assignment b.now) (state_of s.old)) (state_of s.old) (state_of s.new)) }
 {
     let stores = where_stores(s, space, b)?;
-    store_each(s, b.array, &stores);
+    store_kept(s, b.array, &stores);
     Ok(())
 }
 

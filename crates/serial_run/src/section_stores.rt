@@ -11,9 +11,11 @@ ghost use Rattle.resolved_program.specs.Resolved.{section_assignment, subscripts
 ghost use Rattle.term_values.specs.States.{state_of};
 ghost use Rattle.term_values.specs.Stops.{IsStop};
 ghost use Rattle.term_values.specs.Views.{elemental};
+ghost use Rattle.serial_run.specs.RowStores.{stores_of};
 ghost use Rattle.serial_run.specs.SectionStores.{Keeps, branch_mask, kept_of, masked_store, right_stores, section_stores, space_stores, tuple_store, where_stores};
 
 use crate::position_tuples::{advance, tuple_at};
+use crate::row_stores::{Stores, row_stores};
 use array_meaning::{Selection, Store};
 use resolved_program::{SectionAssignment, SectionSubscript, Term};
 use term_values::{
@@ -51,8 +53,8 @@ pub(crate) fn section_stores(
     array: usize,
     subscripts: &Vec<SectionSubscript>,
     right: &Term,
-) -> Result<Vec<Store>, Stop>
-    ensures value { IfOk result (λ v. section_stores array (subscripts_of subscripts.now.items) (term right.now) (state_of s.now) ≡ Ok v.items) }
+) -> Result<Stores, Stop>
+    ensures value { IfOk result (λ v. section_stores array (subscripts_of subscripts.now.items) (term right.now) (state_of s.now) ≡ Ok (stores_of v)) }
     ensures stopped { IfErr result (IsStop (section_stores array (subscripts_of subscripts.now.items) (term right.now) (state_of s.now))) }
 {
     let ds = selections(s, &[], subscripts)?;
@@ -71,8 +73,8 @@ pub(crate) fn where_stores(
     s: &State,
     space: Space<'_>,
     b: &SectionAssignment,
-) -> Result<Vec<Store>, Stop>
-    ensures value { IfOk result (λ v. where_stores space.entry.extents.now (branch_mask space.entry.branch space.entry.mask.now) (section_assignment b.now) (state_of s.now) ≡ Ok v.items) }
+) -> Result<Stores, Stop>
+    ensures value { IfOk result (λ v. where_stores space.entry.extents.now (branch_mask space.entry.branch space.entry.mask.now) (section_assignment b.now) (state_of s.now) ≡ Ok (stores_of v)) }
     ensures stopped { IfErr result (IsStop (where_stores space.entry.extents.now (branch_mask space.entry.branch space.entry.mask.now) (section_assignment b.now) (state_of s.now))) }
 {
     let ds = selections(s, &[], &b.subscripts)?;
@@ -87,8 +89,8 @@ fn right_stores(
     array: usize,
     left: &[Selection],
     right: &Term,
-) -> Result<Vec<Store>, Stop>
-    ensures value { IfOk result (λ v. right_stores space.entry.extents.now (branch_mask space.entry.branch space.entry.mask.now) array left.now (term right.now) (state_of s.now) ≡ Ok v.items) }
+) -> Result<Stores, Stop>
+    ensures value { IfOk result (λ v. right_stores space.entry.extents.now (branch_mask space.entry.branch space.entry.mask.now) array left.now (term right.now) (state_of s.now) ≡ Ok (stores_of v)) }
     ensures stopped { IfErr result (IsStop (right_stores space.entry.extents.now (branch_mask space.entry.branch space.entry.mask.now) array left.now (term right.now) (state_of s.now))) }
 {
     let x = elemental_of(s, &[], right)?;
@@ -102,8 +104,8 @@ fn right_stores(
 }
 
 /// What is stored, once both sides are evaluated.
-fn space_stores(s: &State, space: Space<'_>, sides: Sides<'_>) -> Result<Vec<Store>, Stop>
-    ensures value { IfOk result (λ v. space_stores space.entry.extents.now (branch_mask space.entry.branch space.entry.mask.now) sides.entry.array sides.entry.left.now (elemental sides.entry.right.now) (state_of s.now) ≡ Ok v.items) }
+fn space_stores(s: &State, space: Space<'_>, sides: Sides<'_>) -> Result<Stores, Stop>
+    ensures value { IfOk result (λ v. space_stores space.entry.extents.now (branch_mask space.entry.branch space.entry.mask.now) sides.entry.array sides.entry.left.now (elemental sides.entry.right.now) (state_of s.now) ≡ Ok (stores_of v)) }
     ensures stopped { IfErr result (IsStop (space_stores space.entry.extents.now (branch_mask space.entry.branch space.entry.mask.now) sides.entry.array sides.entry.left.now (elemental sides.entry.right.now) (state_of s.now))) }
 {
     let n = space_size(
@@ -112,8 +114,11 @@ fn space_stores(s: &State, space: Space<'_>, sides: Sides<'_>) -> Result<Vec<Sto
         sides.left,
         sides.right,
     )?;
+    if let Some(rows) = row_stores(s, space, sides, n)? {
+        return Ok(Stores::ByRows(rows));
+    }
     let stores = all_stores(s, space, sides, n)?;
-    Ok(stores)
+    Ok(Stores::Listed(stores))
 }
 
 /// What is stored at all tuples, in order.
