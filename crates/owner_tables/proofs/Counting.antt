@@ -10,7 +10,7 @@ use Rattle.owner_tables.proofs.Ranges.{filter-range_push, set-range}
 abbrev pub count : (ℕ → ℕ) → ℕ → ℕ → ℕ
 count f n c = length (filter (λ k. f k == c) (range_with_len 0 n))
 
-count-push : (P : ℕ → Bool) (n : ℕ) → length (filter P (range_with_len 0 (n + 1))) ≡ length (filter P (range_with_len 0 n)) + length (filter P (n ∷ []))
+pub count-push : (P : ℕ → Bool) (n : ℕ) → length (filter P (range_with_len 0 (n + 1))) ≡ length (filter P (range_with_len 0 n)) + length (filter P (n ∷ []))
 count-push P n =
     ap length (sym (filter-range_push P (filter P (range_with_len 0 n)) _ n refl refl)) ∙ length-append (filter P (range_with_len 0 n)) (filter P (n ∷ []))
 

@@ -1,5 +1,5 @@
 -- What the dimensions of an array say of its elements: the number of the least owner, and the local address.
-use Rattle.std.specs.Prelude.{◌≡◌, ◌≢◌, ℕ, ◌+◌, ◌*◌, ◌/◌, ◌%◌, ◌≤◌, ◌==◌, ℤ, pos, ◌+ℤ◌, unsigned_abs, List, [], ◌∷◌, map, filter, take, length, slice_index_or, Option, Some, None}
+use Rattle.std.specs.Prelude.{◌≡◌, ◌≢◌, ℕ, ◌+◌, ◌*◌, ◌/◌, ◌%◌, ◌<◌, ◌≤◌, ◌==◌, ℤ, pos, ◌+ℤ◌, unsigned_abs, List, [], ◌∷◌, map, filter, take, length, slice_index_or, Option, Some, None}
 use Rattle.std.specs.List.{range_with_len}
 use Rattle.mappings.specs.declared.mapping.AlignDim.{AlignDim}
 use Rattle.mappings.specs.declared.mapping.Line.{Line}
@@ -62,6 +62,19 @@ pub record IsFilled (nodes : ℕ) (column : ColumnView) : Type 0 where
   pub some : 1 ≤ column.extent
   pub places : length column.places ≡ column.extent
   pub strides : length column.strides ≡ nodes
+
+-- a place by its number
+abbrev pub place_of : List Place → ℕ → Place
+place_of places number = slice_index_or places number no_place
+
+-- where two places add the same and their ranks differ by as much as they lie apart, all places between them have their coordinate: each adds the
+-- same, and has the next rank
+abbrev pub AreRanked : List Place → Type 0
+AreRanked places = (number apart k : ℕ) → number + apart < length places
+    → (place_of places (number + apart)).part ≡ (place_of places number).part
+    → (place_of places (number + apart)).rank ≡ (place_of places number).rank + apart
+    → k ≤ apart
+    → ((place_of places (number + k)).part ≡ (place_of places number).part) × ((place_of places (number + k)).rank ≡ (place_of places number).rank + k)
 
 -- the extents of dimensions
 abbrev pub extents_along : List ColumnView → List ℕ

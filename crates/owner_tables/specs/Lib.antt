@@ -1,7 +1,9 @@
 pub mod Alike
 pub mod Columns
 pub mod Layouts
+pub mod Lines
 pub mod Numbers
 pub mod Samples
+pub mod Stretches
 pub mod Tables
 pub mod Views

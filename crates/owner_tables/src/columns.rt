@@ -57,8 +57,15 @@ impl Column {
         self.places[number as usize]
     }
 
+    /// The places.
+    pub(crate) fn places(&self) -> &[Place]
+        ensures { result.now ≡ self.now.places }
+    {
+        self.places.as_slice()
+    }
+
     /// The stride of a node.
-    fn stride(&self, node: u32) -> u32
+    pub(crate) fn stride(&self, node: u32) -> u32
         requires { node < length self.now.strides }
         ensures { result ≡ slice_index_or self.now.strides node 0 }
     {
@@ -220,13 +227,13 @@ pub(crate) fn weight(grid: &Grid, dim: u32) -> u32
 
 /// A number by a dimension: the place on it, and what is left for the others.
 #[derive(Clone, Copy, Debug)]
-struct Split {
-    place: u32,
-    rest: u32,
+pub(crate) struct Split {
+    pub(crate) place: u32,
+    pub(crate) rest: u32,
 }
 
 /// A number by a dimension of this extent. It doesn't divide a number below the extent.
-fn split_by(number: u32, extent: u32) -> Split
+pub(crate) fn split_by(number: u32, extent: u32) -> Split
     requires { 1 ≤ extent }
     ensures place { result.place ≡ number % extent }
     ensures rest { result.rest ≡ number / extent }

@@ -2,9 +2,10 @@
 //!
 //! Comes in: the shape of an array and the mapping by which its elements lie on the nodes, or the extents of a copy. Goes out: for each
 //! element its owners, the owner with the least number, and the local address, each by a look-up; of each node how many elements it owns,
-//! the positions of these, and the nodes that own them too; and by two tables of a row which owners elements have by both. The tables of
-//! all rows stand in `Owners`, and are shared by the nodes. A node's piece of a row is a `Row`, and `local_value` is the value of an
-//! element that it owns.
+//! the positions of these, and the nodes that own them too; and by two tables of a row which owners elements have by both. Of elements at equal
+//! distances `held_line` finds those at the front that a node owns and that lie at equal distances in its piece, without a look-up for each.
+//! The tables of all rows stand in `Owners`, and are shared by the nodes. A node's piece of a row is a `Row`, and `local_value` is the value
+//! of an element that it owns.
 //!
 //! What holds in between: where a node owns one element, any node owns it exactly where the two agree in each distributed dimension that
 //! isn't replicated. So elements with the same least owner have the same owners, the least owner tells all of them, and an element has one
@@ -18,6 +19,7 @@ mod columns;
 mod copies;
 mod held_values;
 mod laws;
+mod lines;
 mod numbers;
 mod owner_table;
 mod owners;
@@ -27,8 +29,9 @@ mod same;
 mod samples;
 mod tables;
 
-pub use held_values::{held_value, local_value, local_values};
+pub use held_values::{held_value, local_value, local_values, push_held};
 pub use laws::{copies_are_dealt, copies_have_sizes, pieces_of_one_value};
+pub use lines::HeldLine;
 pub use owner_table::OwnerTable;
 pub use owners::Owners;
 pub use row::Row;

@@ -1,13 +1,15 @@
 //! The tables of all rows.
 
-ghost use Rattle.std.specs.Prelude.{◌≡◌, ◌<◌, ◌≤◌, ◌++◌, ◌∷◌, ◌&&◌, [], IfOk, IfSome, IsTrue, None, OnErr, OnOk, Some, filter, if◌then◌else◌, length, nat_lt, option_map, slice_index_or, slice_set, true};
+ghost use Rattle.std.specs.Prelude.{◌≡◌, ℕ, ◌+◌, ◌*◌, ◌^◌, ◌<◌, ◌≤◌, ◌++◌, ◌∷◌, ◌&&◌, [], IfOk, IfSome, IsTrue, None, OnErr, OnOk, Some, filter, if◌then◌else◌, length, nat_lt, option_map, slice_index_or, slice_set, true};
 ghost use Rattle.std.specs.List.{range_with_len, slice_get};
 ghost use Rattle.hpf_base.specs.declared.limits.TheConstants.{MAX_NODES};
 ghost use Rattle.machine_steps.specs.Layout.{AreOwned, address, count_passing, least_owner_of, owned_by, owned_in, owns_spot, size_of, sizes};
 ghost use Rattle.machine_steps.specs.Machine.{with_mapping};
+ghost use Rattle.owner_tables.specs.Lines.{line_spot};
 ghost use Rattle.owner_tables.specs.Samples.{AreSamples, owners_by};
 ghost use Rattle.storage.specs.Spots.{spot_of};
 
+use crate::lines::HeldLine;
 use crate::owner_table::OwnerTable;
 use crate::tables::Tables;
 use hpf_base::OutOfMemory;
@@ -232,6 +234,22 @@ impl Owners {
             self.row(spot.row).held(node, spot.at)
         } else {
             None
+        }
+    }
+
+    /// How many elements at the front of a line the node owns, and where they lie. The first of the line's elements is `spot`, each other stands
+    /// `step` positions after the one before. It may stop early, so none doesn't say that the node doesn't own the first. It takes no memory.
+    pub fn held_line(&self, node: u32, spot: Spot, step: usize, count: usize) -> HeldLine
+        requires { node < self.now.nodes }
+        ensures few { result.count ≤ count }
+        ensures held { (k : ℕ) → k < result.count → (owns_spot self.now.layouts node (line_spot (spot_of spot) step k) ≡ true)
+            × (address self.now.layouts node (line_spot (spot_of spot) step k) ≡ result.first + k * result.step) }
+        ensures fits { (k : ℕ) → k < result.count → result.first + k * result.step < 2 ^ 64 }
+    {
+        if spot.row < self.tables.len() {
+            self.row(spot.row).held_line(node, spot.at, step, count)
+        } else {
+            HeldLine::none()
         }
     }
 

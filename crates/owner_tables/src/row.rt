@@ -1,6 +1,7 @@
 //! A node's piece of a row.
 
 ghost use Rattle.std.specs.Prelude.{◌≡◌, pos, length, slice_index_or, slice_set, IfOk, replicate, ℤ};
+ghost use Rattle.owner_tables.specs.Lines.{with_line};
 
 use hpf_base::OutOfMemory;
 use std::alloc::Global;
@@ -57,10 +58,46 @@ impl Row {
         }
     }
 
+    /// Puts values in order, the first at a place and each other `step` places after the one before, where there are such places. It takes no
+    /// memory.
+    pub fn set_line(&mut self, at: usize, step: usize, values: &[i64])
+        ensures { self.new ≡ with_line self.old at step values.now }
+    {
+        if step == 1 {
+            put_run(self.values.as_mut_slice(), at, values);
+        } else {
+            put_apart(self.values.as_mut_slice(), at, step, values);
+        }
+    }
+
     /// The values.
     pub fn as_slice(&self) -> &[i64]
         ensures { result.now ≡ self.now }
     {
         self.values.as_slice()
+    }
+}
+
+/// Puts values into a row in order, the first at a place and each other at the next, where there are such places.
+fn put_run(row: &mut [i64], at: usize, values: &[i64])
+    ensures { row.new ≡ with_line row.old at 1 values.now }
+{
+    if at < row.len() {
+        let count = values.len().min(row.len() - at);
+        row[at..at + count].copy_from_slice(&values[..count]);
+    }
+}
+
+/// The same, each other `step` places after the one before.
+fn put_apart(row: &mut [i64], at: usize, step: usize, values: &[i64])
+    ensures { row.new ≡ with_line row.old at step values.now }
+{
+    let mut place = at;
+    for value in values {
+        if place >= row.len() {
+            return;
+        }
+        row[place] = *value;
+        place = place.saturating_add(step);
     }
 }

@@ -1,6 +1,6 @@
 //! The look-ups of one row's tables.
 
-ghost use Rattle.std.specs.Prelude.{◌≡◌, ℕ, ◌<◌, ◌≤◌, ◌&&◌, All, IfOk, None, Some, filter, if◌then◌else◌, nat_lt, true};
+ghost use Rattle.std.specs.Prelude.{◌≡◌, ℕ, ◌+◌, ◌*◌, ◌^◌, ◌<◌, ◌≤◌, ◌&&◌, All, IfOk, None, Some, filter, if◌then◌else◌, nat_lt, true};
 ghost use Rattle.std.specs.List.{range_with_len};
 ghost use Rattle.hpf_base.specs.declared.limits.TheConstants.{MAX_NODES};
 ghost use Rattle.hpf_base.specs.Shape.{IsShape};
@@ -12,6 +12,7 @@ ghost use Rattle.machine_steps.specs.SameLayouts.{is_same_layout, is_same_shape}
 
 use crate::alike::{alike_nodes, leaders};
 use crate::columns::{find_at, parts_at};
+use crate::lines::{HeldLine, stretch_in};
 use crate::numbers::{Numbers, numbered};
 use crate::positions::{numbers_below, positions};
 use crate::same::{is_same_mapping, is_same_shape};
@@ -179,6 +180,53 @@ impl Tables {
             Some(found.address as usize)
         } else {
             None
+        }
+    }
+
+    /// How many elements at the front of a line the node owns, and where they lie. The first of the line's elements stands at `at`, each other
+    /// `step` positions after the one before. It may stop early.
+    pub(crate) fn held_line(&self, node: u32, at: usize, step: usize, count: usize) -> HeldLine
+        requires { node < self.now.nodes }
+        ensures few { result.count ≤ count }
+        ensures held { (k : ℕ) → k < result.count → (owned_by self.now.layout node (at + k * step) ≡ true)
+            × (count_passing (owned_by self.now.layout node) 0 (at + k * step) ≡ result.first + k * result.step) }
+        ensures fits { (k : ℕ) → k < result.count → result.first + k * result.step < 2 ^ 64 }
+    {
+        match self.held(node, at) {
+            Some(first) => self.line_from(node, at, first, step, count),
+            None => HeldLine::none(),
+        }
+    }
+
+    /// The same from an element that the node owns, by its local address.
+    fn line_from(&self, node: u32, at: usize, first: usize, step: usize, count: usize) -> HeldLine
+        requires node { node < self.now.nodes }
+        requires owned { owned_by self.now.layout node at ≡ true }
+        requires first { count_passing (owned_by self.now.layout node) 0 at ≡ first }
+        ensures few { result.count ≤ count }
+        ensures held { (k : ℕ) → k < result.count → (owned_by self.now.layout node (at + k * step) ≡ true)
+            × (count_passing (owned_by self.now.layout node) 0 (at + k * step) ≡ first + k * result.step) }
+        ensures first { result.first ≡ first }
+        ensures fits { (k : ℕ) → k < result.count → first + k * result.step < 2 ^ 64 }
+    {
+        if count == 0 || step >= self.size {
+            return HeldLine {
+                count: count.min(1),
+                first,
+                step: 0,
+            };
+        }
+        let stretch = stretch_in(
+            &self.numbers.columns,
+            node,
+            at as u32,
+            step as u32,
+            count - 1,
+        );
+        HeldLine {
+            count: stretch.others + 1,
+            first,
+            step: stretch.apart,
         }
     }
 
