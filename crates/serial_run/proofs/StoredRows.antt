@@ -12,7 +12,8 @@ use Rattle.array_meaning.specs.State.{State, store}
 use Rattle.array_meaning.specs.declared.sections.Selection.{Selection}
 use Rattle.array_meaning.specs.declared.sections.Store.{Store}
 use Rattle.strips.specs.Places.{AreRuns, row_length}
-use Rattle.strips.specs.Strips.{IsStrip, space_value}
+use Rattle.strip_operators.specs.Strips.{IsStrip}
+use Rattle.strips.specs.Strips.{space_value}
 use Rattle.serial_run.specs.declared.row_stores.Spot.{Spot}
 use Rattle.serial_run.specs.RowStores.{IsSpot, row_store, stores_below}
 use Rattle.serial_run.specs.SectionStores.{kept_of, masked_store, stored_each}

@@ -6,7 +6,7 @@ use Rattle.std.proofs.lemmas.List.{take_all}
 use Rattle.array_meaning.specs.Elementals.{each}
 use Rattle.array_meaning.specs.Faults.{Cause}
 use Rattle.term_values.proofs.Each.{each_more}
-use Rattle.strips.specs.Strips.{IsStrip}
+use Rattle.strip_operators.specs.Strips.{IsStrip}
 
 module _ (tuple : ℕ → List ℤ) (f : ℕ → Result ℤ Cause) where
   some_of : (n : ℕ) (vs : List ℤ) → IsStrip f n vs → (k : ℕ) → k ≤ n → each tuple f k ≡ Ok (take k vs)

@@ -9,8 +9,9 @@ use Rattle.array_meaning.specs.Elementals.{Elemental, NoOperand, Operand, Same, 
 use Rattle.array_meaning.specs.Faults.{Cause, ◌>>=◌, with_more}
 use Rattle.array_meaning.specs.Sections.{positions}
 use Rattle.array_meaning.specs.State.{State}
-use Rattle.strips.specs.Operated.{AreOfOne, AreOfTwo, AreWithNumber}
-use Rattle.strips.specs.Strips.{IsStrip, row_value, space_value}
+use Rattle.strip_operators.specs.Operated.{AreOfOne, AreOfTwo, AreWithNumber}
+use Rattle.strip_operators.specs.Strips.{IsStrip}
+use Rattle.strips.specs.Strips.{row_value, space_value}
 
 -- ---- one value, and operators
 

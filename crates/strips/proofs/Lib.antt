@@ -1,5 +1,4 @@
 pub mod InOrder
 pub mod Joined
-pub mod Lines
-pub mod Puts
+pub mod RowSubscripts
 pub mod Runs

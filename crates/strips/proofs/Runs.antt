@@ -1,22 +1,23 @@
 -- Places that follow one another.
-use Rattle.std.proofs.Common.{◌≡◌, ℕ, suc, ◌+◌, ◌-◌, ◌*◌, ◌/◌, ◌%◌, ◌<◌, ◌≤◌, ◌⊎◌, inl, inr, true, List, [], ◌∷◌, ◌++◌, length, take, drop, ℤ, pos, ◌+ℤ◌, ◌*ℤ◌, Option, Some, None, Result, Ok, Err, refl, ap, sym, subst, ◌∙◌, arith}
+use Rattle.std.proofs.Common.{◌≡◌, ℕ, suc, ◌+◌, ◌-◌, ◌*◌, ◌/◌, ◌%◌, ◌<◌, ◌≤◌, ◌⊎◌, inl, inr, true, List, [], ◌∷◌, ◌++◌, length, take, drop, ℤ, pos, Option, Some, None, Result, Ok, Err, refl, ap, sym, subst, ◌∙◌, arith}
 use Rattle.std.specs.List.{list_all}
 use Rattle.std.specs.Prelude.{slice_index_or}
 use Rattle.std.proofs.lemmas.Bool.{cases_lt}
-use Rattle.std.proofs.lemmas.Int.{ints}
 use Rattle.std.proofs.lemmas.List.{get_or-take, get_or-drop, length-take-le, length-drop, get_or_append_left, get_or_push}
 use Rattle.std.proofs.lemmas.Nat.{div_below, mod-mul-add, div-mul-add}
-use Rattle.std.proofs.Math.IntN.{*ℤ_comm, *ℤ-one, zero-*ℤ}
 use Rattle.hpf_base.specs.declared.limits.TheConstants.{MAX_TUPLES}
 use Rattle.array_meaning.specs.Elementals.{Selected}
 use Rattle.array_meaning.specs.Faults.{Cause, ◌>>=◌}
 use Rattle.array_meaning.specs.Sections.{positions, subscripts_at}
 use Rattle.array_meaning.specs.State.{State, array, element_place, if_in_bounds}
 use Rattle.array_meaning.specs.declared.sections.Selection.{Selection}
+use Rattle.element_lines.specs.Progressions.{members}
+use Rattle.element_lines.proofs.Lines.{on_a_line}
 use Rattle.strips.specs.Places.{AreRuns, IsRun, tuple_place}
 use Rattle.strips.specs.SlowSections.{is_slow}
-use Rattle.strips.specs.Strips.{IsStrip, row_tuple, row_value}
-use Rattle.strips.proofs.Lines.{Exists, Hits, line}
+use Rattle.strip_operators.specs.Strips.{IsStrip}
+use Rattle.strips.specs.Strips.{row_tuple, row_value}
+use Rattle.strips.proofs.RowSubscripts.{row_progressions, row_subscripts}
 
 no_ok : {B : Type 0} (c : Cause) (b : B) → (let x : Result B Cause = Err c in x) ≡ Ok b → ⊥
 no_ok c b e = cc
@@ -30,22 +31,9 @@ in_bounds : (o : Option ℕ) (p : ℕ) → if_in_bounds o ≡ Ok p → o ≡ Som
 in_bounds None p h = absurd (no_ok _ p h)
 in_bounds (Some q) p h = ap Some (ok_is q p h)
 
-exists : (o : Option ℕ) (p : ℕ) → o ≡ Some p → Exists o
-exists o p is = subst Exists (sym is) (tt {0})
-
-hit_at : (o : Option ℕ) (p : ℕ) (z : ℤ) → o ≡ Some p → Hits o z → pos p ≡ z
-hit_at o p z is h = subst (λ o. Hits o z) is h
-
-hit_is : (o : Option ℕ) (p : ℕ) (z : ℤ) → Hits o z → z ≡ pos p → o ≡ Some p
-hit_is None p z h is = absurd h
-hit_is (Some q) p z h is = let e : q ≡ p = omega (arith, ints, h, is) in ap Some e
-
 -- ---- runs
 
 module _ (s : State) (a : ℕ) (ds : List Selection) (u : ℕ) (rest : List ℤ) where
-  place : ℕ → Option ℕ
-  place k = element_place (array s a).dims (subscripts_at ds (row_tuple u rest k))
-
   at_place : (t k p : ℕ) → t ≡ u + k → tuple_place s a ds (pos (suc t) ∷ rest) ≡ Ok p → element_place (array s a).dims (subscripts_at ds (row_tuple u rest k)) ≡ Some p
   at_place t k p is h =
       in_bounds (element_place (array s a).dims (subscripts_at ds (row_tuple u rest k))) p
@@ -60,22 +48,16 @@ module _ (s : State) (a : ℕ) (ds : List Selection) (u : ℕ) (rest : List ℤ)
   pub run_by_ends : (n first second last : ℕ) → list_all is_slow ds ≡ true → u + n ≤ MAX_TUPLES → 1 < n → tuple_place s a ds (pos (suc u) ∷ rest) ≡ Ok first
       → tuple_place s a ds (pos (suc (u + 1)) ∷ rest) ≡ Ok second → tuple_place s a ds (pos (suc (u + (n - 1))) ∷ rest) ≡ Ok last → first < second → second - first ≡ 1
       → IsRun s a ds u rest n first
-  unfolding lib.IntN.one
   run_by_ends n first second last slow few two at_first at_second at_last up step k lt =
       let none : u ≡ u + 0 = omega arith in
-      let p0 = at_place u 0 first none at_first in
-      let p1 = at_place (u + 1) 1 second refl at_second in
-      let pn = at_place (u + (n - 1)) (n - 1) last refl at_last in
-      let some : 0 < n = omega (arith, two) in
-      let l = line (array s a).dims ds rest u n slow few some (exists _ first p0) (exists _ last pn) in
-      let h0 : pos first ≡ l.first +ℤ pos 0 *ℤ l.step = hit_at _ first (l.first +ℤ pos 0 *ℤ l.step) p0 (l.at 0 some) in
-      let h1 : pos second ≡ l.first +ℤ pos 1 *ℤ l.step = hit_at _ second (l.first +ℤ pos 1 *ℤ l.step) p1 (l.at 1 two) in
-      let z0 : pos 0 *ℤ l.step ≡ pos 0 = zero-*ℤ l.step in
-      let z1 : pos 1 *ℤ l.step ≡ l.step = *ℤ_comm (pos 1) l.step ∙ *ℤ-one l.step in
-      let one : l.step ≡ pos 1 = omega (arith, ints, h0, h1, z0, z1, up, step) in
-      let zk : pos k *ℤ l.step ≡ pos k = ap (λ z. pos k *ℤ z) one ∙ *ℤ-one (pos k) in
-      let here : l.first +ℤ pos k *ℤ l.step ≡ pos (first + k) = omega (arith, ints, h0, z0, zk) in
-      ap if_in_bounds (hit_is (element_place (array s a).dims (subscripts_at ds (row_tuple u rest k))) (first + k) (l.first +ℤ pos k *ℤ l.step) (l.at k lt) here)
+      let here : (k : ℕ) → k < n → element_place (array s a).dims (subscripts_at ds (row_tuple u rest k)) ≡ element_place (array s a).dims (members k (row_progressions u rest ds)) =
+      λ k lt. ap (element_place (array s a).dims) (row_subscripts ds rest u k slow (omega (arith, lt, few))) in
+      let p0 = sym (here 0 (omega (arith, two))) ∙ at_place u 0 first none at_first in
+      let p1 = sym (here 1 two) ∙ at_place (u + 1) 1 second refl at_second in
+      let pn = sym (here (n - 1) (omega (arith, two))) ∙ at_place (u + (n - 1)) (n - 1) last refl at_last in
+      let by_one : first + k * (second - first) ≡ first + k = ap (λ d. first + k * d) step ∙ omega arith in
+      ap if_in_bounds (here k lt ∙ on_a_line (array s a).dims (row_progressions u rest ds) n first second last two p0 p1 pn (omega (arith, up)) k lt)
+      ∙ ap Ok by_one
 
   -- the elements at the places of a run
   pub run_strip : (n first : ℕ) → IsRun s a ds u rest n first → first + n ≤ length (array s a).elements

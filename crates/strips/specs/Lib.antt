@@ -1,4 +1,3 @@
-pub mod Operated
 pub mod Places
 pub mod SlowSections
 pub mod Strips

@@ -1,13 +1,9 @@
 -- Values of an array expression at tuples that follow one another: a strip of one row, or all tuples of a space.
-use Rattle.std.specs.Prelude.{◌≡◌, ℕ, suc, ◌+◌, ◌<◌, List, ◌∷◌, length, slice_index_or, ℤ, pos, Result, Ok}
+use Rattle.std.specs.Prelude.{ℕ, suc, ◌+◌, List, ◌∷◌, ℤ, pos, Result}
 use Rattle.array_meaning.specs.Elementals.{Elemental, value_at}
 use Rattle.array_meaning.specs.Faults.{Cause}
 use Rattle.array_meaning.specs.Sections.{positions}
 use Rattle.array_meaning.specs.State.{State}
-
--- the results at so many numbers, all of which have a value
-abbrev pub IsStrip : (ℕ → Result ℤ Cause) → ℕ → List ℤ → Type 0
-IsStrip f n vs = (length vs ≡ n) × ((k : ℕ) → k < n → f k ≡ Ok (slice_index_or vs k (pos 0)))
 
 -- the tuples of a row from one on: only the first position moves, and the others are the row's own
 abbrev pub row_tuple : ℕ → List ℤ → ℕ → List ℤ

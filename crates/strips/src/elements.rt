@@ -5,7 +5,8 @@ ghost use Rattle.hpf_base.specs.declared.limits.TheConstants.{MAX_TUPLES};
 ghost use Rattle.array_meaning.specs.Elementals.{Same, Selected};
 ghost use Rattle.array_meaning.specs.State.{array};
 ghost use Rattle.term_values.specs.States.{state_of};
-ghost use Rattle.strips.specs.Strips.{IsStrip, row_value};
+ghost use Rattle.strip_operators.specs.Strips.{IsStrip};
+ghost use Rattle.strips.specs.Strips.{row_value};
 
 use crate::tuples::run_at;
 use array_meaning::Selection;

@@ -5,12 +5,13 @@ ghost use Rattle.hpf_base.specs.declared.limits.TheConstants.{MAX_TUPLES};
 ghost use Rattle.array_meaning.specs.Elementals.{NoOperand, Operand, Operation, Same};
 ghost use Rattle.term_values.specs.States.{state_of};
 ghost use Rattle.term_values.specs.Views.{elemental, elementals_of};
-ghost use Rattle.strips.specs.Strips.{IsStrip, row_value};
+ghost use Rattle.strip_operators.specs.Strips.{IsStrip};
+ghost use Rattle.strips.specs.Strips.{row_value};
 
 use crate::elements::{same_strip, selected_strip};
-use crate::kernels::{take_of_one, take_of_two, take_with_number};
 use op_tables::Op;
 use std::alloc::AllocError;
+use strip_operators::{take_of_one, take_of_two, take_with_number};
 use term_values::{Elemental, Number, State};
 
 /// The values at so many tuples of a row, where `u` tuples of it stand before them and `rest` are its other positions. None where a value

@@ -4,7 +4,8 @@ ghost use Rattle.std.specs.Prelude.{◌≡◌, ℕ, ℤ, List, Result, Ok};
 ghost use Rattle.array_meaning.specs.Elementals.{Elemental, each, values_over};
 ghost use Rattle.array_meaning.specs.Faults.{Cause};
 ghost use Rattle.array_meaning.specs.State.{State};
-ghost use Rattle.strips.specs.Strips.{IsStrip, space_value};
+ghost use Rattle.strip_operators.specs.Strips.{IsStrip};
+ghost use Rattle.strips.specs.Strips.{space_value};
 
 /// Where each of so many results has a value, these are the results in order, with no fault among them; whatever the tuples are.
 pub fn law_of_strips()

@@ -10,9 +10,7 @@
 
 mod elements;
 mod expression_strips;
-mod kernels;
 mod laws;
-mod operators;
 mod row_places;
 mod rows;
 mod tuples;

@@ -5,7 +5,8 @@ ghost use Rattle.hpf_base.specs.declared.limits.TheConstants.{MAX_TUPLES};
 ghost use Rattle.array_meaning.specs.Sections.{positions};
 ghost use Rattle.term_values.specs.States.{state_of};
 ghost use Rattle.term_values.specs.Views.{elemental};
-ghost use Rattle.strips.specs.Strips.{IsStrip, space_value};
+ghost use Rattle.strip_operators.specs.Strips.{IsStrip};
+ghost use Rattle.strips.specs.Strips.{space_value};
 
 use crate::expression_strips::strip;
 use hpf_base::MAX_TUPLES;

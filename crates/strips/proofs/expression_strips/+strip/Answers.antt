@@ -1,7 +1,8 @@
 use Rattle.std.proofs.Common.{subst, IfOk, IfSome}
 use Rattle.term_values.specs.States.{state_of}
 use Rattle.term_values.proofs.Operands.{operation_elemental}
-use Rattle.strips.specs.Strips.{IsStrip, row_value}
+use Rattle.strip_operators.specs.Strips.{IsStrip}
+use Rattle.strips.specs.Strips.{row_value}
 use Rattle.strips.proofs.expression_strips.+strip.Goals as goal
 
 pub strip-returns-in-Operation : goal.strip-returns-in-Operation

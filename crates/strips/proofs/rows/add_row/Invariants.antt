@@ -1,7 +1,8 @@
 use Rattle.std.proofs.Common.{◌*◌, ◌+◌, ◌-◌, ◌≤◌, ◌∷◌}
 use Rattle.term_values.specs.States.{state_of}
 use Rattle.term_values.specs.Views.{elemental}
-use Rattle.strips.specs.Strips.{IsStrip, space_value}
+use Rattle.strip_operators.specs.Strips.{IsStrip}
+use Rattle.strips.specs.Strips.{space_value}
 use Rattle.strips.proofs.rows.add_row.Given as goal
 
 -- the values at the strips so far

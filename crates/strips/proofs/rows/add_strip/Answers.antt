@@ -1,7 +1,8 @@
 use Rattle.std.proofs.Common.{◌≡◌, ◌+◌, ◌*◌, ◌++◌, ◌∷◌, ◌∙◌, ap, sym, subst}
 use Rattle.term_values.specs.States.{state_of}
 use Rattle.term_values.specs.Views.{elemental}
-use Rattle.strips.specs.Strips.{IsStrip, row_value, space_value}
+use Rattle.strip_operators.specs.Strips.{IsStrip}
+use Rattle.strips.specs.Strips.{row_value, space_value}
 use Rattle.strips.proofs.Joined.{row_behind}
 use Rattle.strips.proofs.rows.add_strip.Goals as goal
 
