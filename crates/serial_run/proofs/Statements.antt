@@ -1,5 +1,5 @@
 -- What statements come to, by the parts of a plan.
-use Rattle.std.proofs.Common.{◌≡◌, ℕ, suc, ◌+◌, ◌-◌, ◌<◌, ap, sym, ◌∙◌, ℤ, ◌+ℤ◌, List, ◌∷◌, Bool, true, false, if◌then◌else◌, Vec, Global, IfOk, Result, Ok, Err, Option, Some, None, refl, arith, ◌⊎◌, inl, inr}
+use Rattle.std.proofs.Common.{◌≡◌, ℕ, suc, ◌+◌, ◌-◌, ◌<◌, ap, sym, ◌∙◌, ℤ, ◌+ℤ◌, List, ◌∷◌, drop, get_or, length, Bool, true, false, if◌then◌else◌, Vec, Global, IfOk, Result, Ok, Err, Option, Some, None, refl, arith, ◌⊎◌, inl, inr}
 use Rattle.resolved_program.specs.declared.statements.Action.{Action}
 use Rattle.resolved_program.specs.declared.statements.Action.TheVariants as action
 use Rattle.resolved_program.specs.declared.statements.Arm.{Arm, out-Arm}
@@ -7,6 +7,7 @@ use Rattle.resolved_program.specs.declared.statements.Loop.{Loop as HeldLoop}
 use Rattle.resolved_program.specs.declared.statements.Nest.{Nest as HeldNest}
 use Rattle.resolved_program.specs.declared.statements.Statement.{Statement}
 use Rattle.resolved_program.specs.Resolved.{arms_of, block_of, loop_of, mark, statement, term}
+use Rattle.expression_rules.proofs.Lists.{drop_item}
 use Rattle.resolved_program.proofs.Rows.{arm_parts, do_vec, if_vec}
 use Rattle.std.specs.Prelude.{◌==◌}
 use Rattle.op_tables.specs.Operators.{wrapped}
@@ -42,6 +43,21 @@ pub arm_is : (a : Arm) (rest : List Arm) (s : State) (other : State → Run) →
     run_arms (arms_of (a ∷ rest)) other s
     ≡ with_value (out-Arm a).line s (condition s (term (out-Arm a).condition)) (λ is_met. (if is_met then run_block (block_of (out-Arm a).body.items) else run_arms (arms_of rest) other) s)
 arm_is a rest s other = ap (λ x. run_arms x other s) (arm_parts a (arms_of rest))
+
+-- the first arm of those from one on: its block, or what stands after it
+pub arm_taken : (xs : List Arm) (i : ℕ) (a : Arm) (s : State) (other : State → Run) → i < length xs → a ≡ get_or xs i a → condition s (term (out-Arm a).condition) ≡ Ok true →
+    run_arms (arms_of (drop i xs)) other s ≡ run_block (block_of (out-Arm a).body.items) s
+arm_taken xs i a s other lt is met =
+    ap (λ xs. run_arms (arms_of xs) other s) (drop_item xs i a lt is)
+    ∙ arm_is a (drop (i + 1) xs) s other
+    ∙ ap (λ r. with_value (out-Arm a).line s r (λ is_met. (if is_met then run_block (block_of (out-Arm a).body.items) else run_arms (arms_of (drop (i + 1) xs)) other) s)) met
+
+pub arm_passed : (xs : List Arm) (i : ℕ) (a : Arm) (s : State) (other : State → Run) → i < length xs → a ≡ get_or xs i a → condition s (term (out-Arm a).condition) ≡ Ok false →
+    run_arms (arms_of (drop i xs)) other s ≡ run_arms (arms_of (drop (i + 1) xs)) other s
+arm_passed xs i a s other lt is met =
+    ap (λ xs. run_arms (arms_of xs) other s) (drop_item xs i a lt is)
+    ∙ arm_is a (drop (i + 1) xs) s other
+    ∙ ap (λ r. with_value (out-Arm a).line s r (λ is_met. (if is_met then run_block (block_of (out-Arm a).body.items) else run_arms (arms_of (drop (i + 1) xs)) other) s)) met
 
 -- ---- DO
 
@@ -90,7 +106,7 @@ fault_is whole line s new r next stop.Memory (Ok x) is same stops ends = absurd 
 fault_is whole line s new r next e (Err x) is same stops ends = tt
 
 -- an iteration after which the loop goes on
-pub iterate_next : (n k x : ℕ) (at at' step : ℤ) (body : State → Run) (s s' : State) (c : Completion) → k < n → at' ≡ wrapped (at +ℤ step) →
+iterate_next : (n k x : ℕ) (at at' step : ℤ) (body : State → Run) (s s' : State) (c : Completion) → k < n → at' ≡ wrapped (at +ℤ step) →
     body (set_scalar s x at) ≡ record { state = s'; completion = c } → ((next : State → Run) → after_iteration c s' next ≡ next s') →
     iterate (n - k) x at step body s ≡ iterate (n - (k + 1)) x at' step body s'
 iterate_next n k x at at' step body s s' c lt next one goes =
@@ -99,6 +115,13 @@ iterate_next n k x at at' step body s s' c lt next one goes =
     ∙ ap (λ r. after_iteration r.completion r.state (iterate (n - (k + 1)) x (wrapped (at +ℤ step)) step body)) one
     ∙ goes (iterate (n - (k + 1)) x (wrapped (at +ℤ step)) step body)
     ∙ ap (λ a. iterate (n - (k + 1)) x a step body s') (sym next)
+
+-- after the iterations before it
+pub turn_next : (whole : Run) (n k x : ℕ) (at at' step : ℤ) (body : State → Run) (s s' last : State) (c : Completion) → whole ≡ iterate (n - k) x at step body s → k < n →
+    at' ≡ wrapped (at +ℤ step) → body (set_scalar s x at) ≡ record { state = s'; completion = c } → ((next : State → Run) → after_iteration c s' next ≡ next s') → last ≡ s' →
+    whole ≡ iterate (n - (k + 1)) x at' step body last
+turn_next whole n k x at at' step body s s' last c before lt next one goes same =
+    before ∙ iterate_next n k x at at' step body s s' c lt next one goes ∙ ap (iterate (n - (k + 1)) x at' step body) (sym same)
 
 -- it does so where the body completes normally, and by CYCLE
 pub goes_on : (c : HeldCompletion) → (c ≡ held.Normal) ⊎ (c ≡ held.Cycled) → (s : State) (next : State → Run) → after_iteration (completion c) s next ≡ next s

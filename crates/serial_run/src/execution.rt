@@ -1,6 +1,6 @@
 //! Statements, one after the other (Fortran 95, 8.1).
 
-ghost use Rattle.std.specs.Prelude.{◌≡◌, ◌+ℤ◌, IfErr, IfOk, Ok};
+ghost use Rattle.std.specs.Prelude.{◌≡◌, ◌+ℤ◌, IfErr, IfOk, Ok, drop};
 ghost use Rattle.op_tables.specs.Operators.{wrapped};
 ghost use Rattle.array_meaning.specs.Execution.{condition, iterate, run, run_block};
 ghost use Rattle.array_meaning.specs.State.{set_scalar};
@@ -13,12 +13,14 @@ ghost use Rattle.serial_run.specs.Completions.{IsRun};
 use crate::assignments::{run_assign_element, run_assign_scalar};
 use crate::completion::{Completion, faulted};
 use crate::forall::run_forall;
+use crate::known_steps::{known_step, known_steps};
 use crate::loop_entry::loop_values;
 use crate::print::run_print;
 use crate::section_assignments::run_assign_section;
 use crate::where_construct::run_where;
 use array_meaning::Sequence;
 use resolved_program::{Action, Arm, Statement, Term};
+use scalar_values::known_value;
 use std::alloc::AllocError;
 use term_values::{State, Stop, value};
 
@@ -30,8 +32,24 @@ pub(crate) fn run_block(
 ) -> Result<Completion, AllocError>
     ensures { IfOk result (IsRun (run_block (block_of statements.now.items) (state_of s.old)) (state_of s.new)) }
 {
-    for stmt in statements {
-        match run(s, stmt)? {
+    run_rest(s, statements, 0)
+}
+
+/// Runs the statements of a block from one on.
+#[inline(never)]
+#[cycle(run)]
+fn run_rest(
+    s: &mut State,
+    statements: &Vec<Statement>,
+    first: usize,
+) -> Result<Completion, AllocError>
+    ensures { IfOk result (IsRun (run_block (block_of (drop first statements.now.items)) (state_of s.old)) (state_of s.new)) }
+{
+    for i in first..statements.len() {
+        if known_step(s, &statements[i]) {
+            continue;
+        }
+        match run(s, &statements[i])? {
             Completion::Normal => {}
             completion => return Ok(completion),
         }
@@ -99,6 +117,10 @@ fn condition(s: &State, t: &Term) -> Result<bool, Stop>
     ensures value { IfOk result (λ is_met. condition (state_of s.now) (term t.now) ≡ Ok is_met) }
     ensures stopped { IfErr result (IsStop (condition (state_of s.now) (term t.now))) }
 {
+    let v = known_value(s, t);
+    if v.known {
+        return Ok(v.value != 0);
+    }
     let v = value(s, &[], t)?;
     Ok(v != 0)
 }
@@ -123,10 +145,13 @@ fn iterate(
     let mut at = IndexValue { value: p.first };
     for _ in 0..p.count {
         set_index(s, index, at);
-        match run_block(s, body)? {
-            Completion::Normal | Completion::Cycled => {}
-            Completion::Exited => return Ok(Completion::Normal),
-            completion => return Ok(completion),
+        let done = known_steps(s, body);
+        if done < body.len() {
+            match run_rest(s, body, done)? {
+                Completion::Normal | Completion::Cycled => {}
+                Completion::Exited => return Ok(Completion::Normal),
+                completion => return Ok(completion),
+            }
         }
         at = next(at, p);
     }

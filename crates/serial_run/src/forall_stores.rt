@@ -1,7 +1,7 @@
 //! What the mask of a FORALL comes to, and what its assignments store (Fortran 95, 7.5.4.2). All of it is evaluated before anything is
 //! stored.
 
-ghost use Rattle.std.specs.Prelude.{◌≡◌, ◌≤◌, IfErr, IfOk, Ok, OnOk, Some};
+ghost use Rattle.std.specs.Prelude.{◌≡◌, ◌≤◌, IfErr, IfOk, Ok, OnOk, Some, true};
 ghost use Rattle.hpf_base.specs.declared.limits.TheConstants.{MAX_TUPLES};
 ghost use Rattle.array_meaning.specs.Elementals.{each};
 ghost use Rattle.array_meaning.specs.Expressions.{value};
@@ -18,6 +18,7 @@ use crate::index_tuples::{advance, tuple_at};
 use crate::section_stores::{Space, is_chosen};
 use array_meaning::{Sequence, Store};
 use resolved_program::{ElementAssignment, Term};
+use scalar_values::{known_place_at, known_value_at};
 use term_values::{State, Stop, at_tuple, element_place, value, values};
 
 /// The values of a mask at the first tuples, in order; or its first fault, with its tuple.
@@ -43,7 +44,21 @@ pub(crate) fn mask_values(
 }
 
 /// The value of an expression at a tuple; a fault has the tuple.
+#[inline(always)]
 fn tuple_value(s: &State, x: &[i64], t: &Term) -> Result<i64, Stop>
+    ensures value { IfOk result (λ v. value x.now (state_of s.now) (term t.now) ≡ Ok v) }
+    ensures stopped { IfErr result (IsStop (at_tuple x.now (value x.now (state_of s.now) (term t.now)))) }
+{
+    let v = known_value_at(s, x, t);
+    if v.known {
+        return Ok(v.value);
+    }
+    evaluated_at(s, x, t)
+}
+
+/// The value, or its fault, where it isn't known.
+#[inline(never)]
+fn evaluated_at(s: &State, x: &[i64], t: &Term) -> Result<i64, Stop>
     ensures value { IfOk result (λ v. value x.now (state_of s.now) (term t.now) ≡ Ok v) }
     ensures stopped { IfErr result (IsStop (at_tuple x.now (value x.now (state_of s.now) (term t.now)))) }
 {
@@ -76,6 +91,7 @@ pub(crate) fn forall_stores(
 }
 
 /// Puts what is stored at a tuple after others, if the mask is true at its number.
+#[inline(always)]
 fn keep_store(
     s: &State,
     space: Space<'_>,
@@ -90,6 +106,48 @@ fn keep_store(
     if !is_chosen(space, t) {
         return Ok(());
     }
+    let st = known_store(s, b, x);
+    if st.known {
+        stores.push(st.store)?;
+        return Ok(());
+    }
+    keep_evaluated(s, b, x, stores)
+}
+
+/// What is stored at a tuple, where it is known.
+#[derive(Clone, Copy)]
+struct KnownStore {
+    store: Store,
+    known: bool,
+}
+
+/// What is stored at a tuple, where its place and its value are known.
+#[inline(always)]
+fn known_store(s: &State, b: &ElementAssignment, x: &[i64]) -> KnownStore
+    ensures { result.known ≡ true → forall_store (state_of s.now) (element_assignment b.now) x.now ≡ Ok (Some result.store) }
+{
+    let p = known_place_at(s, x, b.array, &b.subscripts);
+    let v = known_value_at(s, x, &b.right);
+    KnownStore {
+        store: Store {
+            place: p.place,
+            value: v.value,
+        },
+        known: p.known & v.known,
+    }
+}
+
+/// Evaluates what is stored at a tuple, where it isn't known, and puts it after others.
+#[inline(never)]
+fn keep_evaluated(
+    s: &State,
+    b: &ElementAssignment,
+    x: &[i64],
+    stores: &mut Vec<Store>,
+) -> Result<(), Stop>
+    ensures value { OnOk result (Keeps (forall_store (state_of s.now) (element_assignment b.now) x.now) stores.old.items stores.new.items) }
+    ensures stopped { IfErr result (IsStop (at_tuple x.now (forall_store (state_of s.now) (element_assignment b.now) x.now))) }
+{
     let st = tuple_store(s, b, x)?;
     stores.push(st)?;
     Ok(())

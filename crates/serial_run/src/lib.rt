@@ -12,6 +12,7 @@ mod forall;
 mod forall_stores;
 mod index_tuples;
 mod initial_state;
+mod known_steps;
 mod loop_entry;
 mod one_to_one;
 mod position_tuples;

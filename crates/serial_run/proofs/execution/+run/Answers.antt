@@ -1,14 +1,17 @@
-use Rattle.std.proofs.Common.{◌≡◌, ◌∙◌, sym, ap, subst, Ok, IfOk, ◌∷◌, drop, suc, ◌+◌, arith, if◌then◌else◌}
+use Rattle.std.proofs.Common.{◌≡◌, ◌∙◌, sym, ap, subst, refl, Ok, IfOk, ◌∷◌, drop, suc, ◌+◌, arith, rules, if◌then◌else◌}
 use Rattle.std.proofs.Math.Seq.{drop-cons}
-use Rattle.array_meaning.specs.Runs.{with_value}
+use Rattle.std.proofs.lemmas.List.{drop_all}
+use Rattle.array_meaning.specs.Runs.{Normal, Run, with_value}
+use Rattle.array_meaning.specs.State.{State, set_scalar}
 use Rattle.array_meaning.specs.Execution.{iterate, run, run_arms, run_block}
 use Rattle.resolved_program.specs.declared.statements.Arm.{out-Arm}
 use Rattle.resolved_program.specs.Resolved.{arms_of, block_of, statement}
 use Rattle.term_values.specs.States.{state_of}
 use Rattle.serial_run.specs.Arms.{IsArms}
 use Rattle.serial_run.specs.Completions.{IsRun, completion}
-use Rattle.serial_run.proofs.Statements.{if_is, arm_is, do_is, fault_is, iterate_next, goes_on}
+use Rattle.serial_run.proofs.Statements.{if_is, arm_is, do_is, fault_is, turn_next, goes_on}
 use Rattle.serial_run.proofs.execution.+run.Goals as goal
+use Rattle.serial_run.proofs.execution.+run.Goals.{iterate-then-done-len+in_ok-completion+in-Normal, iterate-else-done-len}
 
 pub run-returns-in-Some : goal.run-returns-in-Some
 run-returns-in-Some t c =
@@ -57,7 +60,21 @@ run_arms-loop-arm-preserved t c = λ other.
 
 pub iterate-loop-preserved : goal.iterate-loop-preserved
 iterate-loop-preserved t c =
-    c.loop.invariant
-    ∙ iterate_next c.args.p.count c.loop.counter c.args.index c.loop.at.value c.next-at.result.value c.args.p.step (run_block (block_of c.args.body.now.items)) (state_of c.loop.s) (state_of c.run_block.new.s) (completion c.in_ok-completion.completion) c.loop-test.true c.next-at.ensures
-    (ap (run_block (block_of c.args.body.now.items)) (sym c.set_index.ensures) ∙ c.in_ok-completion.ensures)
-    (goes_on c.in_ok-completion.completion c.in-Normal.is (state_of c.run_block.new.s))
+    let body : State → Run = run_block (block_of c.args.body.now.items) in
+    let begun : body (set_scalar (state_of c.loop.s) c.args.index c.loop.at.value)
+    ≡ run_block (block_of (drop c.known_steps-done.result c.args.body.now.items)) (state_of c.known_steps-done.new.s) =
+    ap body (sym c.set_index.ensures)
+    ∙ ap (λ xs. run_block (block_of xs) (state_of c.set_index.new.s)) (sym c.deref.ensures.value)
+    ∙ c.known_steps-done.ensures.rest
+    ∙ ap (λ xs. run_block (block_of (drop c.known_steps-done.result xs)) (state_of c.known_steps-done.new.s)) c.deref.ensures.value in
+    elim c.if-done-len.branch [
+      | iterate-then-done-len+in_ok-completion+in-Normal w ↦
+          turn_next _ c.args.p.count c.loop.counter c.args.index c.loop.at.value c.next-at.result.value c.args.p.step body (state_of c.loop.s) (state_of w.run_rest.new.s)
+          (state_of c.if-done-len.s) (completion w.in_ok-completion.completion) c.loop.invariant c.loop-test.true c.next-at.ensures (begun ∙ w.in_ok-completion.ensures)
+          (goes_on w.in_ok-completion.completion w.in-Normal.is (state_of w.run_rest.new.s)) (ap state_of w.s-is)
+      | iterate-else-done-len w ↦
+          turn_next _ c.args.p.count c.loop.counter c.args.index c.loop.at.value c.next-at.result.value c.args.p.step body (state_of c.loop.s) (state_of c.known_steps-done.new.s)
+          (state_of c.if-done-len.s) Normal c.loop.invariant c.loop-test.true c.next-at.ensures
+          (begun ∙ ap (λ xs. run_block (block_of xs) (state_of c.known_steps-done.new.s)) (drop_all c.known_steps-done.result c.args.body.now.items (search rules)))
+          (λ next. refl) (ap state_of w.s-is)
+    ]

@@ -7,8 +7,9 @@ use Rattle.term_values.specs.States.{state_of}
 use Rattle.serial_run.proofs.execution.+run.Given as goal
 
 -- what is left to run from here is the whole
-abbrev pub invariant-run_block-loop-stmt : goal.invariant-run_block-loop-stmt
-invariant-run_block-loop-stmt l = run_block (block_of l.fn.statements.items) (state_of l.fn.s) ≡ run_block (block_of (drop l.stmt-index l.stmt-items)) (state_of l.s)
+abbrev pub invariant-run_rest-loop-i : goal.invariant-run_rest-loop-i
+invariant-run_rest-loop-i l =
+    run_block (block_of (drop l.fn.first l.fn.statements.items)) (state_of l.fn.s) ≡ run_block (block_of (drop l.i l.statements.items)) (state_of l.s)
 
 -- no arm so far was taken
 abbrev pub invariant-run_arms-loop-arm : goal.invariant-run_arms-loop-arm

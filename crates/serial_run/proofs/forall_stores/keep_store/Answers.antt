@@ -6,7 +6,10 @@ use Rattle.serial_run.specs.SectionStores.{branch_mask}
 use Rattle.serial_run.specs.ForallParts.{forall_store}
 use Rattle.serial_run.proofs.forall_stores.keep_store.Goals as goal
 
-pub returns-clause-value : goal.returns-clause-value
-returns-clause-value c =
-    let chosen : branch_mask c.args.space.branch c.args.space.mask.now c.args.t ≡ true = search rules in
-    (Some c.in_ok-st.st, ap (λ b. if_true b (forall_store (state_of c.args.s.now) (element_assignment c.args.b.now) c.args.x.now)) chosen ∙ c.in_ok-st.ensures.value, c.in_ok-push.ensures.items)
+pub returns-then-st-clause-value : goal.returns-then-st-clause-value
+returns-then-st-clause-value c =
+    let chosen : branch_mask c.args.space.branch c.args.space.mask.now c.args.t ≡ true = search rules in (
+      Some c.known_store-st.result.store,
+      ap (λ b. if_true b (forall_store (state_of c.args.s.now) (element_assignment c.args.b.now) c.args.x.now)) chosen ∙ c.known_store-st.ensures c.if-st.true,
+      c.in_ok-push.ensures.items,
+    )
