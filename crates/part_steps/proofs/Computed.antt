@@ -23,7 +23,7 @@ use Rattle.part_steps.specs.Parts.{part_of}
 -- ---- a state by the items of a list
 
 module _ {S : Type 0} (step : ℕ → S → S) where
-  over-append : (xs ys : List ℕ) (s : S) → over step (xs ++ ys) s ≡ over step ys (over step xs s)
+  pub over-append : (xs ys : List ℕ) (s : S) → over step (xs ++ ys) s ≡ over step ys (over step xs s)
   over-append [] ys s = refl
   over-append (x ∷ xs) ys s = over-append xs ys (step x s)
 

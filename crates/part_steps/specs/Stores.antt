@@ -1,14 +1,24 @@
 -- Values that are to be stored in a node's pieces.
-use Rattle.std.specs.Prelude.{List, [], ◌∷◌}
+use Rattle.std.specs.Prelude.{ℕ, ◌+◌, List, [], ◌∷◌, ℤ}
 use Rattle.storage.specs.Storage.{Storage, write}
 use Rattle.storage.specs.Spots.{spot_of}
-use Rattle.part_steps.specs.declared.stores.Store.{Store}
+use Rattle.part_steps.specs.declared.stores.Stored.{Stored}
+use Rattle.part_steps.specs.declared.stores.Stored.TheVariants as held
 use Rattle.part_steps.specs.declared.stores.Stores.{Stores}
 
+-- the pieces with these values from a place of a row on, each so far after the one before
+abbrev pub line_stored : (row at step : ℕ) → List ℤ → Storage → Storage
+line_stored row at step [] pieces = pieces
+line_stored row at step (v ∷ vs) pieces = line_stored row (at + step) step vs (write pieces (record { row = row; at = at }) v)
+
+abbrev pub put : Stored → Storage → Storage
+put (held.One spot value) pieces = write pieces (spot_of spot) value
+put (held.Line spot step values) pieces = line_stored spot.row spot.at step values.items pieces
+
 -- the pieces with these values, the last store last
-abbrev pub stored_all : List Store → Storage → Storage
+abbrev pub stored_all : List Stored → Storage → Storage
 stored_all [] pieces = pieces
-stored_all (s ∷ ss) pieces = stored_all ss (write pieces (spot_of s.spot) s.value)
+stored_all (s ∷ ss) pieces = stored_all ss (put s pieces)
 
 abbrev pub stored : Stores → Storage → Storage
 stored s = stored_all s.list.items

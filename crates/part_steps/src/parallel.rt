@@ -1,6 +1,6 @@
 //! What a parallel statement comes to on a node.
 
-ghost use Rattle.std.specs.Prelude.{◌≡◌, ◌<◌, ℤ, All, List, Some, IfOk, OnOk};
+ghost use Rattle.std.specs.Prelude.{◌≡◌, ℕ, ◌+◌, ◌-◌, ◌<◌, ◌≤◌, ℤ, All, List, Some, IfOk, OnOk, drop, length, take};
 ghost use Rattle.array_meaning.specs.Faults.{Fault as FaultOf};
 ghost use Rattle.machine_steps.specs.Instr.{Value};
 ghost use Rattle.machine_steps.specs.Machine.{earlier, effect_by, kept_of};
@@ -13,11 +13,13 @@ ghost use Rattle.part_steps.specs.Exchanged.{IsComputed, IsExchange};
 ghost use Rattle.part_steps.specs.Gathered.{after_of};
 ghost use Rattle.slot_values.specs.KeptFaults.{kepts};
 ghost use Rattle.part_steps.specs.Stores.{stored};
+ghost use Rattle.part_steps.specs.Strips.{AreOutcomes, AreReferencesOf, IsStripOf, strip_tuples};
 ghost use Rattle.part_steps.specs.Views.{part_view};
 
 use crate::gathered::Gathered;
 use crate::part::Part;
 use crate::stores::Stores;
+use crate::strips::{StripOutcome, references_of, strip_from, strip_outcome};
 use comm_sets::{Exchange, Spot};
 use hpf_base::OutOfMemory;
 use letters::Body;
@@ -25,7 +27,7 @@ use owner_tables::Row;
 use slot_values::{Fault, Kept, earlier};
 use std::alloc::Global;
 use tuple_numbers::Run;
-use tuple_values::Outcome;
+use tuple_values::{Outcome, References, Strip};
 
 /// What the tuples of a parallel statement store on a node, in their order, and the first fault of those that it computes.
 #[derive(Drop)]
@@ -68,11 +70,12 @@ fn gathered_values(
         stores: Stores::new(alloc),
         fault: None,
     };
+    let references = references_of(gathered)?;
     let computed = gathered.computed();
     let mut done: usize = 0;
     while done < computed.len() {
         let run = computed.run(done);
-        values.add_run(gathered, &run, number)?;
+        values.add_run(gathered, &references, &run, number)?;
         let count = run.len();
         done += count;
     }
@@ -84,14 +87,89 @@ impl ParValues {
     fn add_run(
         &mut self,
         gathered: &Gathered<'_>,
+        references: &Option<References>,
         run: &Run<'_>,
         number: u64,
     ) -> Result<(), OutOfMemory>
-        requires { All (IsComputed (after_of gathered.now)) run.now }
+        requires computed { All (IsComputed (after_of gathered.now)) run.now }
+        requires references { AreReferencesOf gathered.now references.now }
         ensures stores { OnOk result ((ps : List (List ℤ)) → stored self.new.stores ps ≡ over (store_of (after_of gathered.now)) run.now (stored self.old.stores ps)) }
         ensures fault { OnOk result (kepts self.new.fault ≡ over (keep_of (after_of gathered.now) number) run.now (kepts self.old.fault)) }
     {
-        for index in 0..run.len() {
+        let mut done: usize = 0;
+        while done < run.len() {
+            let s = strip_from(run, done);
+            let end = done + s.count;
+            self.add_strip(gathered, references, run, done, end, s, number)?;
+            done = end;
+        }
+        Ok(())
+    }
+
+    /// Adds what a strip of a run comes to, which begins at an index and ends before another.
+    fn add_strip(
+        &mut self,
+        gathered: &Gathered<'_>,
+        references: &Option<References>,
+        run: &Run<'_>,
+        from: usize,
+        end: usize,
+        s: Strip,
+        number: u64,
+    ) -> Result<(), OutOfMemory>
+        requires computed { All (IsComputed (after_of gathered.now)) run.now }
+        requires references { AreReferencesOf gathered.now references.now }
+        requires strip { IsStripOf run.now from s }
+        requires end { end ≡ from + s.count }
+        ensures stores { OnOk result ((ps : List (List ℤ)) → stored self.new.stores ps
+            ≡ over (store_of (after_of gathered.now)) (take (end - from) (drop from run.now)) (stored self.old.stores ps)) }
+        ensures fault { OnOk result (kepts self.new.fault ≡ over (keep_of (after_of gathered.now) number) (take (end - from) (drop from run.now)) (kepts self.old.fault)) }
+    {
+        match strip_outcome(gathered, references, s)? {
+            Some(outcome) => self.add_outcome(gathered, s, outcome),
+            None => self.add_tuples(gathered, run, from, end, number),
+        }
+    }
+
+    /// Adds the values at a strip.
+    fn add_outcome(
+        &mut self,
+        gathered: &Gathered<'_>,
+        s: Strip,
+        outcome: StripOutcome,
+    ) -> Result<(), OutOfMemory>
+        requires { AreOutcomes (after_of gathered.now) s outcome }
+        ensures stores { OnOk result ((ps : List (List ℤ)) → stored self.new.stores ps
+            ≡ over (store_of (after_of gathered.now)) (strip_tuples s) (stored self.old.stores ps)) }
+        ensures fault { OnOk result ((number : ℕ) → kepts self.new.fault ≡ over (keep_of (after_of gathered.now) number) (strip_tuples s) (kepts self.old.fault)) }
+    {
+        match outcome.left {
+            None => Ok(()),
+            Some(line) => {
+                let owners = gathered.part.owners;
+                self.stores
+                    .add_line(owners, gathered.id, line, outcome.values)
+            }
+        }
+    }
+
+    /// Adds what the tuples of a run come to, from an index on and before another.
+    fn add_tuples(
+        &mut self,
+        gathered: &Gathered<'_>,
+        run: &Run<'_>,
+        from: usize,
+        end: usize,
+        number: u64,
+    ) -> Result<(), OutOfMemory>
+        requires computed { All (IsComputed (after_of gathered.now)) run.now }
+        requires order { from ≤ end }
+        requires within { end ≤ length run.now }
+        ensures stores { OnOk result ((ps : List (List ℤ)) → stored self.new.stores ps
+            ≡ over (store_of (after_of gathered.now)) (take (end - from) (drop from run.now)) (stored self.old.stores ps)) }
+        ensures fault { OnOk result (kepts self.new.fault ≡ over (keep_of (after_of gathered.now) number) (take (end - from) (drop from run.now)) (kepts self.old.fault)) }
+    {
+        for index in from..end {
             self.add_tuple(gathered, run.at(index), number)?;
         }
         Ok(())

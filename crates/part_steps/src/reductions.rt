@@ -1,6 +1,6 @@
 //! What a reduction comes to on a node.
 
-ghost use Rattle.std.specs.Prelude.{◌≡◌, ◌<◌, All, Some, IfOk, OnOk};
+ghost use Rattle.std.specs.Prelude.{◌≡◌, ℕ, ◌+◌, ◌-◌, ◌<◌, ◌≤◌, All, Some, IfOk, OnOk, drop, length, take};
 ghost use Rattle.machine_steps.specs.Machine.{earlier, kept_of};
 ghost use Rattle.machine_steps.specs.Node.{join_options, outcome_value};
 ghost use Rattle.op_tables.specs.Joins.{join};
@@ -9,11 +9,13 @@ ghost use Rattle.part_steps.specs.Computed.{join_of, keep_of, over};
 ghost use Rattle.part_steps.specs.Exchanged.{IsComputed, IsExchange};
 ghost use Rattle.part_steps.specs.Gathered.{after_of};
 ghost use Rattle.slot_values.specs.KeptFaults.{kepts};
+ghost use Rattle.part_steps.specs.Strips.{AreOutcomes, AreReferencesOf, IsStripOf, strip_tuples};
 ghost use Rattle.part_steps.specs.Views.{part_view};
 
 use crate::gathered::Gathered;
 use crate::parallel::kept_earlier;
 use crate::part::Part;
+use crate::strips::{StripOutcome, references_of, strip_from, strip_outcome};
 use comm_sets::Exchange;
 use hpf_base::OutOfMemory;
 use letters::Body;
@@ -21,7 +23,7 @@ use op_tables::Join;
 use owner_tables::Row;
 use slot_values::Kept;
 use tuple_numbers::Run;
-use tuple_values::Outcome;
+use tuple_values::{Outcome, References, Strip};
 
 /// The values of the tuples that a node computes, joined in their order, where there are any, and the first fault.
 #[derive(Drop)]
@@ -63,11 +65,12 @@ fn gathered_values(
         value: None,
         fault: None,
     };
+    let references = references_of(gathered)?;
     let computed = gathered.computed();
     let mut done: usize = 0;
     while done < computed.len() {
         let run = computed.run(done);
-        values.add_run(gathered, &run, op, number)?;
+        values.add_run(gathered, &references, &run, op, number)?;
         let count = run.len();
         done += count;
     }
@@ -79,15 +82,90 @@ impl ReduceValues {
     fn add_run(
         &mut self,
         gathered: &Gathered<'_>,
+        references: &Option<References>,
         run: &Run<'_>,
         op: Join,
         number: u64,
     ) -> Result<(), OutOfMemory>
-        requires { All (IsComputed (after_of gathered.now)) run.now }
+        requires computed { All (IsComputed (after_of gathered.now)) run.now }
+        requires references { AreReferencesOf gathered.now references.now }
         ensures value { OnOk result (self.new.value ≡ over (join_of (after_of gathered.now) op) run.now self.old.value) }
         ensures fault { OnOk result (kepts self.new.fault ≡ over (keep_of (after_of gathered.now) number) run.now (kepts self.old.fault)) }
     {
-        for index in 0..run.len() {
+        let mut done: usize = 0;
+        while done < run.len() {
+            let s = strip_from(run, done);
+            let end = done + s.count;
+            self.add_strip(gathered, references, run, done, end, s, op, number)?;
+            done = end;
+        }
+        Ok(())
+    }
+
+    /// Adds what a strip of a run comes to, which begins at an index and ends before another.
+    fn add_strip(
+        &mut self,
+        gathered: &Gathered<'_>,
+        references: &Option<References>,
+        run: &Run<'_>,
+        from: usize,
+        end: usize,
+        s: Strip,
+        op: Join,
+        number: u64,
+    ) -> Result<(), OutOfMemory>
+        requires computed { All (IsComputed (after_of gathered.now)) run.now }
+        requires references { AreReferencesOf gathered.now references.now }
+        requires strip { IsStripOf run.now from s }
+        requires end { end ≡ from + s.count }
+        ensures value { OnOk result (self.new.value ≡ over (join_of (after_of gathered.now) op) (take (end - from) (drop from run.now)) self.old.value) }
+        ensures fault { OnOk result (kepts self.new.fault ≡ over (keep_of (after_of gathered.now) number) (take (end - from) (drop from run.now)) (kepts self.old.fault)) }
+    {
+        match strip_outcome(gathered, references, s)? {
+            Some(outcome) => {
+                self.add_outcome(gathered, s, &outcome, op);
+                Ok(())
+            }
+            None => self.add_tuples(gathered, run, from, end, op, number),
+        }
+    }
+
+    /// Adds the values at a strip.
+    fn add_outcome(&mut self, gathered: &Gathered<'_>, s: Strip, outcome: &StripOutcome, op: Join)
+        requires { AreOutcomes (after_of gathered.now) s outcome.now }
+        ensures value { self.new.value ≡ over (join_of (after_of gathered.now) op) (strip_tuples s) self.old.value }
+        ensures fault { (number : ℕ) → kepts self.new.fault ≡ over (keep_of (after_of gathered.now) number) (strip_tuples s) (kepts self.old.fault) }
+    {
+        for index in 0..outcome.values.len() {
+            self.join_value(op, &outcome.values[index]);
+        }
+    }
+
+    /// Joins a value.
+    fn join_value(&mut self, op: Join, value: &i64)
+        ensures value { self.new.value ≡ join_options (join op) self.old.value (Some value.now) }
+        ensures fault { self.new.fault ≡ self.old.fault }
+    {
+        self.value = joined_after(op, self.value, *value);
+    }
+
+    /// Adds what the tuples of a run come to, from an index on and before another.
+    fn add_tuples(
+        &mut self,
+        gathered: &Gathered<'_>,
+        run: &Run<'_>,
+        from: usize,
+        end: usize,
+        op: Join,
+        number: u64,
+    ) -> Result<(), OutOfMemory>
+        requires computed { All (IsComputed (after_of gathered.now)) run.now }
+        requires order { from ≤ end }
+        requires within { end ≤ length run.now }
+        ensures value { OnOk result (self.new.value ≡ over (join_of (after_of gathered.now) op) (take (end - from) (drop from run.now)) self.old.value) }
+        ensures fault { OnOk result (kepts self.new.fault ≡ over (keep_of (after_of gathered.now) number) (take (end - from) (drop from run.now)) (kepts self.old.fault)) }
+    {
+        for index in from..end {
             self.add_tuple(gathered, run.at(index), op, number)?;
         }
         Ok(())

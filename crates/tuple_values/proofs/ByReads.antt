@@ -148,10 +148,14 @@ module _ (w : Statement) (get : Spot → ℤ) (t : ℕ) where
   pub where_asked : asked_by get w.whens t ≡ true → asked_outcome w get t ≡ tuple_outcome w t values
   where_asked h = ap (λ b. outcome_by b (bounded_value w get t)) (sym h) ∙ by-elements
 
-  pub has_value : (v : ℤ) (o : HeldOutcome) → bounded_value w get t ≡ Ok v → outcome_view o ≡ Value (made_by w.made v) → outcome_view o ≡ asked_outcome w get t
-  has_value v o is counts =
-      counts ∙ made-value w.made v ∙ ap (λ r. outcome_made_by w.made (outcome_if true (at_line w.line r))) (value-located w.located (entries w t) v)
+  -- the outcome that a value is
+  pub value_asked : (v : ℤ) → bounded_value w get t ≡ Ok v → Value (made_by w.made v) ≡ asked_outcome w get t
+  value_asked v is =
+      made-value w.made v ∙ ap (λ r. outcome_made_by w.made (outcome_if true (at_line w.line r))) (value-located w.located (entries w t) v)
       ∙ ap (outcome_by true) (sym is)
+
+  pub has_value : (v : ℤ) (o : HeldOutcome) → bounded_value w get t ≡ Ok v → outcome_view o ≡ Value (made_by w.made v) → outcome_view o ≡ asked_outcome w get t
+  has_value v o is counts = counts ∙ value_asked v is
 
   pub is_broken : (x : List ℤ) (e : Stop) (o : HeldOutcome) → IsStop (bounded_value w get t) e → x ≡ entries w t → IsBroken w.line w.located x e o
       → outcome_view o ≡ asked_outcome w get t

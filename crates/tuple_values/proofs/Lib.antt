@@ -1,7 +1,12 @@
+pub mod AxisProgressions
 pub mod ByReads
+pub mod FlatStrips
+pub mod FormStrips
+pub mod LineLaws
 pub mod NamedElements
 pub mod NestForms
 pub mod OfInstructions
 pub mod Operands
 pub mod Pairs
 pub mod SectionSubscripts
+pub mod StripValues

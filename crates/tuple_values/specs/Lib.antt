@@ -1,9 +1,15 @@
 pub mod ByElements
+pub mod Fixed
+pub mod FormStrips
 pub mod Here
 pub mod NamedElements
 pub mod Naming
 pub mod Outcomes
+pub mod Progressions
+pub mod SplitLines
 pub mod Spots
 pub mod Statements
+pub mod StripEnds
+pub mod Strips
 pub mod Targets
 pub mod Views

@@ -4,7 +4,9 @@ ghost use Rattle.std.specs.Prelude.{◌≡◌};
 ghost use Rattle.storage.specs.Storage.{read, row_of, write};
 ghost use Rattle.storage.specs.Spots.{spot_of};
 
+use hpf_base::OutOfMemory;
 use owner_tables::{Row, Spot};
+use std::alloc::Global;
 use tuple_values::Elements;
 
 /// All arrays and copies, as where values of elements come from.
@@ -20,6 +22,16 @@ impl<'a> Elements for WholeRows<'a> {
 
     fn value(&self, spot: Spot) -> i64 {
         read(self.rows, spot)
+    }
+
+    fn line(
+        &self,
+        _alloc: Global,
+        _first: Spot,
+        _step: usize,
+        _count: usize,
+    ) -> Result<Option<Vec<i64>>, OutOfMemory> {
+        Ok(None)
     }
 }
 

@@ -12,13 +12,14 @@ loop-done-init c =
     let b = after_of c.args.gathered.now in
     let computed = c.computed-computed.result.now in
     record {
+      references = c.in_ok-references.ensures;
       within = omega arith;
       stores = λ ps. ap (λ ss. over (store_of b) computed (stored_all ss ps)) c.new.ensures ∙ stored-over b computed c.computed-computed.ensures ps;
       fault = fault-over b computed c.computed-computed.ensures c.args.number;
     }
 
-pub add_run-requires : goal.add_run-requires
-add_run-requires c = are-computed (after_of c.args.gathered.now) c.computed-computed.result.now c.computed-computed.ensures c.loop-done.done c.run-run.result c.run-run.ensures.tuples
+pub add_run-requires-clause-computed : goal.add_run-requires-clause-computed
+add_run-requires-clause-computed c = are-computed (after_of c.args.gathered.now) c.computed-computed.result.now c.computed-computed.ensures c.loop-done.done c.run-run.result c.run-run.ensures.tuples
 
 pub loop-done-preserved : goal.loop-done-preserved
 loop-done-preserved c =
@@ -30,6 +31,7 @@ loop-done-preserved c =
     let most = run-within computed done run inside c.run-run.ensures.tuples in
     let long = c.len-count.ensures in
     record {
+      references = c.loop-done.invariant.references;
       within = omega (arith, most, long);
       stores = λ ps. subst (λ n. over (store_of b) (drop (done + n) computed) (stored c.add_run.new.self.stores ps) ≡ stored_below b (tuples b) ps) (sym long)
           (over-run (store_of b) computed done run (stored c.loop-done.values.stores ps) (stored c.add_run.new.self.stores ps) (stored_below b (tuples b) ps) c.run-run.ensures.tuples

@@ -11,13 +11,14 @@ loop-done-init c =
     let b = after_of c.args.gathered.now in
     let computed = c.computed-computed.result.now in
     record {
+      references = c.in_ok-references.ensures;
       within = omega arith;
       value = joined-over b computed c.computed-computed.ensures c.args.op;
       fault = fault-over b computed c.computed-computed.ensures c.args.number;
     }
 
-pub add_run-requires : goal.add_run-requires
-add_run-requires c = are-computed (after_of c.args.gathered.now) c.computed-computed.result.now c.computed-computed.ensures c.loop-done.done c.run-run.result c.run-run.ensures.tuples
+pub add_run-requires-clause-computed : goal.add_run-requires-clause-computed
+add_run-requires-clause-computed c = are-computed (after_of c.args.gathered.now) c.computed-computed.result.now c.computed-computed.ensures c.loop-done.done c.run-run.result c.run-run.ensures.tuples
 
 pub loop-done-preserved : goal.loop-done-preserved
 loop-done-preserved c =
@@ -29,6 +30,7 @@ loop-done-preserved c =
     let most = run-within computed done run inside c.run-run.ensures.tuples in
     let long = c.len-count.ensures in
     record {
+      references = c.loop-done.invariant.references;
       within = omega (arith, most, long);
       value = subst (λ n. over (join_of b c.args.op) (drop (done + n) computed) c.add_run.new.self.value ≡ joined_below b c.args.op (tuples b)) (sym long)
           (over-run (join_of b c.args.op) computed done run c.loop-done.values.value c.add_run.new.self.value (joined_below b c.args.op (tuples b)) c.run-run.ensures.tuples

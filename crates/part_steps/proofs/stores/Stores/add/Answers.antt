@@ -18,7 +18,7 @@ returns-in_ok-push-in-Some c pieces =
     let is : (if owns then Some at else None) ≡ Some c.in-Some.at = sym c.held.ensures ∙ c.in-Some.is in
     let fits : SFits w64 c.args.value.now = search rules in
     let place : ℕ → Spot = λ at. record { row = c.args.spot.row; at = at } in
-    stored-here layouts c.args.id spot c.args.value.now c.args.self.now.list.items _ c.push.new.self.items pieces c.in_ok-push-in-Some.ensures.items
+    stored-here layouts c.args.id spot c.args.value.now c.args.self.now.list.items (record { row = c.args.spot.row; at = c.in-Some.at }) _ c.push.new.self.items pieces c.in_ok-push-in-Some.ensures.items
     (ap place (held-is at owns c.in-Some.at is)) (to_z-of_z w64 c.args.value.now fits) (held-owner at owns c.in-Some.at is)
 
 pub returns-in-None : goal.returns-in-None
