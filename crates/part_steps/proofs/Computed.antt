@@ -7,9 +7,8 @@ use Rattle.std.specs.List.{range_with_len}
 use Rattle.storage.specs.Storage.{Storage}
 use Rattle.op_tables.specs.declared.join.Join.{Join}
 use Rattle.op_tables.specs.Joins.{join}
-use Rattle.array_meaning.specs.Faults.{Fault}
 use Rattle.machine_steps.specs.Instr.{Nothing}
-use Rattle.machine_steps.specs.Machine.{Kept, earlier, is_before, kept_of, value_by}
+use Rattle.machine_steps.specs.Machine.{earlier, is_before, kept_of, value_by}
 use Rattle.machine_steps.specs.Node.{join_options, outcome_value}
 use Rattle.node_run.proofs.Keeping.{before-order}
 use Rattle.node_run.proofs.Picked.{picked-none}

@@ -19,9 +19,8 @@ use Rattle.node_run.proofs.Picked.{picked-none}
 use Rattle.owner_tables.specs.Lines.{with_line}
 use Rattle.tuple_values.specs.declared.strips.ElementLine.{ElementLine}
 use Rattle.tuple_values.specs.declared.strips.Strip.{Strip}
-use Rattle.tuple_values.specs.Statements.{tuple_left}
 use Rattle.tuple_values.specs.Strips.{line_spot, strip_tuple}
-use Rattle.part_steps.specs.After.{After, applied, outcome_of}
+use Rattle.part_steps.specs.After.{After}
 use Rattle.part_steps.specs.Computed.{join_of, keep_of, over, store_of}
 use Rattle.part_steps.proofs.Computed.{over-append}
 use Rattle.part_steps.specs.Stores.{line_stored}
@@ -142,14 +141,11 @@ module _ (b : After) (s : Strip) (o : StripOutcome) (are : AreOutcomes b s o) wh
   pub joined-over : (op : Join) (k : Option ℤ) → joined_values op o.values.items k ≡ over (join_of b op) (strip_tuples s) k
   joined-over op k = sym (joined-from op 0 s.count (omega arith) k)
 
--- one value more, and all of them
+-- one value more
 pub joined-next : (op : Join) (vs : List ℤ) (i : ℕ) (d : ℤ) (now next whole : Option ℤ) → i < length vs → next ≡ join_options (join op) now (Some (get_or vs i d))
     → joined_values op (drop i vs) now ≡ whole → joined_values op (drop (i + 1) vs) next ≡ whole
 joined-next op vs i d now next whole lt is so_far =
     ap (joined_values op (drop (i + 1) vs)) is ∙ sym (ap (λ l. joined_values op l now) (drop_more vs i d lt)) ∙ so_far
-
-pub joined-end : (op : Join) (vs : List ℤ) (i : ℕ) (now before : Option ℤ) → length vs ≤ i → joined_values op (drop i vs) now ≡ joined_values op vs before → now ≡ joined_values op vs before
-joined-end op vs i now before le so_far = ap (λ l. joined_values op l now) (sym (drop_all i vs le)) ∙ so_far
 
 -- ---- lines of the pieces
 

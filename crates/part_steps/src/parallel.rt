@@ -19,7 +19,7 @@ ghost use Rattle.part_steps.specs.Views.{part_view};
 use crate::gathered::Gathered;
 use crate::part::Part;
 use crate::stores::Stores;
-use crate::strips::{StripOutcome, references_of, strip_from, strip_outcome};
+use crate::strips::{StripOutcome, references_of, row_of, strip_from, strip_outcome};
 use comm_sets::{Exchange, Spot};
 use hpf_base::OutOfMemory;
 use letters::Body;
@@ -96,9 +96,10 @@ impl ParValues {
         ensures stores { OnOk result ((ps : List (List ℤ)) → stored self.new.stores ps ≡ over (store_of (after_of gathered.now)) run.now (stored self.old.stores ps)) }
         ensures fault { OnOk result (kepts self.new.fault ≡ over (keep_of (after_of gathered.now) number) run.now (kepts self.old.fault)) }
     {
+        let row = row_of(references);
         let mut done: usize = 0;
         while done < run.len() {
-            let s = strip_from(run, done);
+            let s = strip_from(run, done, row);
             let end = done + s.count;
             self.add_strip(gathered, references, run, done, end, s, number)?;
             done = end;

@@ -9,13 +9,13 @@ ghost use Rattle.part_steps.specs.Computed.{join_of, keep_of, over};
 ghost use Rattle.part_steps.specs.Exchanged.{IsComputed, IsExchange};
 ghost use Rattle.part_steps.specs.Gathered.{after_of};
 ghost use Rattle.slot_values.specs.KeptFaults.{kepts};
-ghost use Rattle.part_steps.specs.Strips.{AreOutcomes, AreReferencesOf, IsStripOf, strip_tuples};
+ghost use Rattle.part_steps.specs.Strips.{AreOutcomes, AreReferencesOf, IsStripOf, joined_values, strip_tuples};
 ghost use Rattle.part_steps.specs.Views.{part_view};
 
 use crate::gathered::Gathered;
 use crate::parallel::kept_earlier;
 use crate::part::Part;
-use crate::strips::{StripOutcome, references_of, strip_from, strip_outcome};
+use crate::strips::{StripOutcome, references_of, row_of, strip_from, strip_outcome};
 use comm_sets::Exchange;
 use hpf_base::OutOfMemory;
 use letters::Body;
@@ -92,9 +92,10 @@ impl ReduceValues {
         ensures value { OnOk result (self.new.value ≡ over (join_of (after_of gathered.now) op) run.now self.old.value) }
         ensures fault { OnOk result (kepts self.new.fault ≡ over (keep_of (after_of gathered.now) number) run.now (kepts self.old.fault)) }
     {
+        let row = row_of(references);
         let mut done: usize = 0;
         while done < run.len() {
-            let s = strip_from(run, done);
+            let s = strip_from(run, done, row);
             let end = done + s.count;
             self.add_strip(gathered, references, run, done, end, s, op, number)?;
             done = end;
@@ -136,17 +137,7 @@ impl ReduceValues {
         ensures value { self.new.value ≡ over (join_of (after_of gathered.now) op) (strip_tuples s) self.old.value }
         ensures fault { (number : ℕ) → kepts self.new.fault ≡ over (keep_of (after_of gathered.now) number) (strip_tuples s) (kepts self.old.fault) }
     {
-        for index in 0..outcome.values.len() {
-            self.join_value(op, &outcome.values[index]);
-        }
-    }
-
-    /// Joins a value.
-    fn join_value(&mut self, op: Join, value: &i64)
-        ensures value { self.new.value ≡ join_options (join op) self.old.value (Some value.now) }
-        ensures fault { self.new.fault ≡ self.old.fault }
-    {
-        self.value = joined_after(op, self.value, *value);
+        self.value = joined_values(op, self.value, &outcome.values);
     }
 
     /// Adds what the tuples of a run come to, from an index on and before another.
@@ -206,4 +197,45 @@ fn joined_after(op: Join, so_far: Option<i64>, v: i64) -> Option<i64>
         None => Some(v),
         Some(a) => Some(op.join(a, v)),
     }
+}
+
+/// A value that there may be, and after it others, joined.
+fn joined_values(op: Join, so_far: Option<i64>, values: &[i64]) -> Option<i64>
+    ensures { result ≡ joined_values op values.now so_far }
+{
+    match so_far {
+        Some(value) => Some(joined_to(op, value, values)),
+        None => {
+            let (first, rest) = values.split_first()?;
+            Some(joined_to(op, *first, rest))
+        }
+    }
+}
+
+/// A value, and after it others, joined. Each operator has a loop of its own, which doesn't ask at each value which operator it is.
+fn joined_to(op: Join, first: i64, values: &[i64]) -> i64
+    ensures { Some result ≡ joined_values op values.now (Some first) }
+{
+    match op {
+        Join::Sum => joined_by(Join::Sum, first, values),
+        Join::Product => joined_by(Join::Product, first, values),
+        Join::Greatest => joined_by(Join::Greatest, first, values),
+        Join::Least => joined_by(Join::Least, first, values),
+        Join::And => joined_by(Join::And, first, values),
+        Join::Or => joined_by(Join::Or, first, values),
+        Join::ExclusiveOr => joined_by(Join::ExclusiveOr, first, values),
+        Join::Any => joined_by(Join::Any, first, values),
+        Join::All => joined_by(Join::All, first, values),
+    }
+}
+
+/// A value, and after it others, joined in one loop.
+fn joined_by(op: Join, first: i64, values: &[i64]) -> i64
+    ensures { Some result ≡ joined_values op values.now (Some first) }
+{
+    let mut so_far = first;
+    for value in values {
+        so_far = op.join(so_far, *value);
+    }
+    so_far
 }

@@ -4,7 +4,7 @@ ghost use Rattle.std.specs.Prelude.{◌≡◌, ◌+◌, ◌-◌, ◌*◌, ◌^�
 ghost use Rattle.machine_steps.specs.Node.{local_write};
 ghost use Rattle.storage.specs.Spots.{spot_of};
 ghost use Rattle.storage.specs.Storage.{write};
-ghost use Rattle.part_steps.specs.Stores.{line_stored, put, stored};
+ghost use Rattle.part_steps.specs.Stores.{each_stored, line_stored, put, stored};
 ghost use Rattle.part_steps.specs.Strips.{written};
 
 use crate::lines::spot_in;
@@ -12,12 +12,20 @@ use comm_sets::{Owners, Spot};
 use hpf_base::OutOfMemory;
 use owner_tables::Row;
 use std::alloc::Global;
+use std::mem;
 use tuple_values::ElementLine;
 
-/// A value for a place of the node's pieces; or values for places of one row from one on, each so far after the one before.
+/// A value for a place of the node's pieces.
+#[derive(Clone, Copy, Debug)]
+pub struct Store {
+    pub spot: Spot,
+    pub value: i64,
+}
+
+/// Values with a place each, in order; or values for places of one row from one on, each so far after the one before.
 #[derive(Drop)]
 pub enum Stored {
-    One(Spot, i64),
+    Each(Vec<Store>),
     Line(Spot, usize, Vec<i64>),
 }
 
@@ -25,15 +33,18 @@ pub enum Stored {
 #[derive(Drop)]
 pub struct Stores {
     pub(crate) list: Vec<Stored>,
+    /// Those stored after all of the list, with a place each: in a list of their own they take no more memory than place and value do.
+    pub(crate) singles: Vec<Store>,
 }
 
 impl Stores {
     /// Nothing is stored.
     pub(crate) fn new(alloc: Global) -> Stores
-        ensures { result.list.items ≡ [] }
+        ensures { (pieces : List (List ℤ)) → stored result pieces ≡ pieces }
     {
         Stores {
             list: Vec::new(alloc),
+            singles: Vec::new(alloc),
         }
     }
 
@@ -50,8 +61,11 @@ impl Stores {
     {
         match owners.held(id, spot) {
             Some(at) => {
-                self.list
-                    .push(Stored::One(Spot { row: spot.row, at }, *value))?;
+                let spot = Spot { row: spot.row, at };
+                self.singles.push(Store {
+                    spot,
+                    value: *value,
+                })?;
                 Ok(())
             }
             None => Ok(()),
@@ -78,7 +92,22 @@ impl Stores {
             row: line.first.row,
             at: held.first,
         };
+        self.list_singles()?;
         self.list.push(Stored::Line(first, held.step, values))?;
+        Ok(())
+    }
+
+    /// Moves the values with a place each to the end of the list, so that what is added to the list is stored after them.
+    fn list_singles(&mut self) -> Result<(), OutOfMemory>
+        ensures none { OnOk result (self.new.singles.items ≡ []) }
+        ensures same { OnOk result ((pieces : List (List ℤ)) → stored self.new pieces ≡ stored self.old pieces) }
+    {
+        if self.singles.is_empty() {
+            return Ok(());
+        }
+        let alloc = *self.singles.allocator();
+        let singles = mem::replace(&mut self.singles, Vec::new(alloc));
+        self.list.push(Stored::Each(singles))?;
         Ok(())
     }
 
@@ -107,6 +136,7 @@ impl Stores {
         for store in &self.list {
             put(pieces, store);
         }
+        put_each(pieces, &self.singles);
     }
 }
 
@@ -123,8 +153,17 @@ fn put(pieces: &mut Vec<Row>, store: &Stored)
     ensures { pieces.new.items ≡ put store.now pieces.old.items }
 {
     match store {
-        Stored::One(spot, value) => put_one(pieces, *spot, value),
+        Stored::Each(stores) => put_each(pieces, stores),
         Stored::Line(first, step, values) => put_line(pieces, *first, *step, values),
+    }
+}
+
+/// Stores values with a place each in order, where there are such places.
+fn put_each(pieces: &mut Vec<Row>, stores: &[Store])
+    ensures { pieces.new.items ≡ each_stored stores.now pieces.old.items }
+{
+    for store in stores {
+        put_one(pieces, store.spot, &store.value);
     }
 }
 

@@ -1,6 +1,6 @@
 //! What a part comes to at a strip of the tuples that a node computes.
 
-ghost use Rattle.std.specs.Prelude.{◌≡◌, ℕ, ◌+◌, ◌-◌, ◌*◌, ◌^◌, ◌<◌, ◌≤◌, length, true, IfOk, IfSome};
+ghost use Rattle.std.specs.Prelude.{◌≡◌, ℕ, ◌+◌, ◌-◌, ◌*◌, ◌%◌, ◌^◌, ◌<◌, ◌≤◌, length, slice_index, true, IfOk, IfSome, MatchOption};
 ghost use Rattle.tuple_values.specs.Strips.{strip_tuple};
 ghost use Rattle.part_steps.specs.Exchanged.{IsComputed};
 ghost use Rattle.part_steps.specs.Gathered.{after_of};
@@ -77,11 +77,26 @@ fn is_left_near(left: Option<ElementLine>, count: usize) -> bool
     }
 }
 
-/// The tuples of a run from an index on, as long as they go by equal steps: one at least.
-pub(crate) fn strip_from(run: &Run<'_>, from: usize) -> Strip
+/// The first extent of the space, where the names are known: how long a row of the first axis is. 0 is no answer.
+pub(crate) fn row_of(references: &Option<References>) -> u64
+    ensures { MatchOption references.now (result ≡ 0) (λ r. result ≡ slice_index r.extents.items 0) }
+{
+    match references {
+        None => 0,
+        Some(references) => match references.extents.first() {
+            None => 0,
+            Some(extent) => *extent,
+        },
+    }
+}
+
+/// The tuples of a run from an index on, as long as they go by equal steps and lie in one row of the first axis, which is so long: one at
+/// least. Where a row's length is 0 they may lie anywhere.
+pub(crate) fn strip_from(run: &Run<'_>, from: usize, row: u64) -> Strip
     requires { from < length run.now }
     ensures some { 0 < result.count }
     ensures tuples { IsStripOf run.now from result }
+    ensures row { 0 < row → result.first % row + (result.count - 1) * result.step < row }
 {
     let first = run.at(from);
     let most = at_most(run.len() - from, MOST);
@@ -93,11 +108,12 @@ pub(crate) fn strip_from(run: &Run<'_>, from: usize) -> Strip
         };
     }
     let step = run.at(from + 1) - first;
+    let end = row_end(first, row);
     let mut last = first;
     let mut count = 1;
     while count < most {
         let next = run.at(from + count);
-        if next < last || next - last != step {
+        if next > end || next < last || next - last != step {
             break;
         }
         last = next;
@@ -106,10 +122,23 @@ pub(crate) fn strip_from(run: &Run<'_>, from: usize) -> Strip
     Strip { first, step, count }
 }
 
+/// The last tuple of the row that a tuple lies in, where rows are so long; the greatest number of 64 bits where there is no such tuple, and
+/// where a row's length is 0.
+fn row_end(tuple: usize, row: u64) -> usize
+    ensures order { tuple ≤ result }
+    ensures row { 0 < row → tuple % row + (result - tuple) < row }
+{
+    if row == 0 {
+        return usize::MAX;
+    }
+    tuple.saturating_add((row - 1 - tuple as u64 % row) as usize)
+}
+
 /// A number, and no more than another.
 fn at_most(number: usize, most: usize) -> usize
     requires { 0 < most }
     ensures number { result ≤ number }
+    ensures most { result ≤ most }
     ensures some { 0 < number → 0 < result }
 {
     if number < most { number } else { most }

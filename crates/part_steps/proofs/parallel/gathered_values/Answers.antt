@@ -3,7 +3,7 @@ use Rattle.part_steps.specs.Computed.{keep_of, over, store_of}
 use Rattle.part_steps.specs.Gathered.{after_of}
 use Rattle.slot_values.specs.KeptFaults.{kepts}
 use Rattle.part_steps.specs.After.{fault_below, stored_below, tuples}
-use Rattle.part_steps.specs.Stores.{stored, stored_all}
+use Rattle.part_steps.specs.Stores.{stored}
 use Rattle.part_steps.proofs.Computed.{are-computed, fault-over, over-run, run-within, stored-over}
 use Rattle.part_steps.proofs.parallel.gathered_values.Goals as goal
 
@@ -14,7 +14,7 @@ loop-done-init c =
     record {
       references = c.in_ok-references.ensures;
       within = omega arith;
-      stores = λ ps. ap (λ ss. over (store_of b) computed (stored_all ss ps)) c.new.ensures ∙ stored-over b computed c.computed-computed.ensures ps;
+      stores = λ ps. ap (over (store_of b) computed) (c.new.ensures ps) ∙ stored-over b computed c.computed-computed.ensures ps;
       fault = fault-over b computed c.computed-computed.ensures c.args.number;
     }
 

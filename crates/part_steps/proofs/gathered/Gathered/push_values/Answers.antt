@@ -1,4 +1,4 @@
-use Rattle.std.proofs.Common.{◌≡◌, ◌<◌, ◌≤◌, ◌+◌, ◌-◌, length, arith}
+use Rattle.std.proofs.Common.{arith}
 use Rattle.storage.specs.Spots.{spot_of}
 use Rattle.part_steps.specs.Gathered.{after_of}
 use Rattle.part_steps.proofs.LineValues.{after-one, after-owned}

@@ -1,4 +1,3 @@
-use Rattle.std.proofs.Common.{◌≡◌}
 use Rattle.slot_values.specs.KeptFaults.{kepts}
 use Rattle.part_steps.specs.Computed.{keep_of, store_of}
 use Rattle.part_steps.specs.Gathered.{after_of}

@@ -1,4 +1,4 @@
-use Rattle.std.proofs.Common.{◌≡◌, ◌≤◌, ◌<◌, length, rules}
+use Rattle.std.proofs.Common.{◌≤◌, ◌<◌, length, rules}
 use Rattle.part_steps.specs.Computed.{keep_of, store_of}
 use Rattle.part_steps.specs.Gathered.{after_of}
 use Rattle.slot_values.specs.KeptFaults.{kepts}

@@ -1,4 +1,4 @@
-use Rattle.std.proofs.Common.{◌≡◌, ◌+◌, ◌-◌, ◌≤◌, ◌∙◌, ap, length, take, drop, arith}
+use Rattle.std.proofs.Common.{◌≡◌, ◌+◌, ◌-◌, ◌∙◌, ap, take, drop, arith}
 use Rattle.part_steps.specs.Computed.{join_of, keep_of, over}
 use Rattle.part_steps.specs.Gathered.{after_of}
 use Rattle.slot_values.specs.KeptFaults.{kepts}

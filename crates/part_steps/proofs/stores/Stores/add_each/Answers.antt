@@ -1,4 +1,4 @@
-use Rattle.std.proofs.Common.{◌≡◌, ◌∙◌, ap, sym}
+use Rattle.std.proofs.Common.{◌∙◌}
 use Rattle.std.specs.Prelude.{pos}
 use Rattle.machine_steps.specs.Node.{local_write}
 use Rattle.part_steps.specs.Stores.{stored}

@@ -1,4 +1,4 @@
-use Rattle.std.proofs.Common.{◌≡◌, ◌∙◌, ap}
+use Rattle.std.proofs.Common.{◌∙◌, ap}
 use Rattle.part_steps.specs.Stores.{put}
 use Rattle.part_steps.proofs.StoreLaws.{stored-next}
 use Rattle.part_steps.proofs.stores.Stores.apply.Goals as goal
