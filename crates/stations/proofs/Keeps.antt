@@ -1,5 +1,5 @@
 -- Each step of a station keeps what its type says.
-use Rattle.std.proofs.Common.{◌≡◌, ◌≢◌, ℕ, ◌<◌, IsTrue, List, [], ◌∷◌, ◌++◌, length, map, set, sym, refl, ap, ◌∙◌, subst, ⊎_elim, append-nil}
+use Rattle.std.proofs.Common.{◌≡◌, ◌≢◌, ℕ, zero, suc, ◌<◌, arith, IsTrue, List, [], ◌∷◌, ◌++◌, length, map, set, sym, refl, ap, ◌∙◌, subst, ⊎_elim, append-nil}
 use Rattle.std.specs.Prelude.{Option, Some, None, slice_get}
 use Rattle.std.proofs.Math.Seq.{map-set_same}
 use Rattle.std.proofs.lemmas.List.{length-set}
@@ -8,6 +8,7 @@ use Rattle.node_law.specs.declared.act.Act.TheVariants.{Local, Send, Take}
 use Rattle.node_law.specs.declared.stepped.Stepped.{Stepped}
 use Rattle.node_law.specs.NodeSteps.{NodeSteps, Move, Worked, Sent, Taken, IsMoveOf, node_after, AreMovesOf, after_all, sent, taken}
 use Rattle.node_law.proofs.Prefixes.{sent-append, taken-append, moves-append, after_all-append}
+use Rattle.local_runs.specs.LocalSteps.{after_locals, AreLocalSteps}
 use Rattle.letters.specs.declared.letter.Letter.{Letter}
 use Rattle.pair_mailbox.specs.declared.route.Route.{Route}
 use Rattle.pair_mailbox.specs.Rule.{IsNextLetter}
@@ -56,6 +57,18 @@ module _ {N : Type 0} (S : NodeSteps N Letter) where
     ins_stand = λ p i e. in_rests h.moves Worked p i refl (h.ins_stand p i e);
     kept_there = h.kept_there;
   }
+
+  -- so many local steps
+  works_times : {id : ℕ} {a n : N} {outs : List Outgoing} {ins : List Incoming} {kept : Option Kept} (count : ℕ) → Stands S id a n outs ins kept
+      → ((k : ℕ) → k < count → S.act (after_locals S k n) ≡ Local) → Stands S id a (after_locals S count n) outs ins kept
+  works_times zero h due = h
+  works_times (suc count) h due = works (works_times count h (λ k below. due k (omega arith))) (due count (omega arith)) refl
+
+  -- several local steps, one after another
+  pub works_on : {id : ℕ} {a n n' : N} {outs : List Outgoing} {ins : List Incoming} {kept : Option Kept} → Stands S id a n outs ins kept
+      → AreLocalSteps S n n' → Stands S id a n' outs ins kept
+  works_on {id} {a} {n} {n'} {outs} {ins} {kept} h steps =
+      subst (λ m. Stands S id a m outs ins kept) (sym steps.after) (works_times steps.count h steps.due)
 
   pub takes_there : {id : ℕ} {a n : N} {outs : List Outgoing} {ins : List Incoming} {kept : Option Kept} (p : ℕ) → Stands S id a n outs ins kept
       → S.act n ≡ Take (record { 0 = p }) → p < length ins

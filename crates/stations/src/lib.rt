@@ -2,8 +2,9 @@
 //!
 //! Comes in: nodes at their openings, which number their letters. `open_stations` gives each of them its ends of the queues between all
 //! ordered pairs. A step of a station is one local step of its node, one push of a letter, one pop of a letter, or nothing where the
-//! node is Done. Goes out: once all stations have ended, `close_stations` gives the last nodes and the closed queues. Where the nodes are phased,
-//! these are the last nodes and the letters of their lockstep run.
+//! node is Done. Where the node makes several local steps in one call, so does the station: that is as many steps. Goes out: once all
+//! stations have ended, `close_stations` gives the last nodes and the closed queues. Where the nodes are phased, these are the last
+//! nodes and the letters of their lockstep run.
 //!
 //! What holds in between: a station's type keeps that some moves lead from the node's opening to the node, with the letters that its ends
 //! have taken, and that these moves made the letters that its ends have sent, and then the one that is kept. A letter is kept where its
@@ -23,6 +24,7 @@ pub use closing::{all_ended, close_stations};
 pub use hpf_base::{NodeId, OutOfMemory};
 pub use laws::{law_of_last_nodes, law_of_stations};
 pub use letters::{Body, Letter};
+pub use local_runs::LocalRuns;
 pub use node_law::{Act, PhasedNode, Stepped};
 pub use opening::open_stations;
 pub use pair_mailbox::{Closed, InEnd, OutEnd};

@@ -1,6 +1,7 @@
 //! One node with the ends of its queues, and a letter that it made and that isn't sent yet.
 
 ghost use Rattle.std.specs.Prelude.{◌≡◌, ◌<◌, ◌↔◌, length, Some, None, IfOk, IfSome, OnErr, IsTrue, slice_get, slice_set};
+ghost use Rattle.local_runs.specs.LocalSteps.{AreLocalSteps};
 ghost use Rattle.pair_mailbox.specs.Rule.{IsNextLetter};
 ghost use Rattle.pair_mailbox.specs.Ends.{Incoming};
 ghost use Rattle.stations.specs.Lettered.{IsLettered};
@@ -9,6 +10,7 @@ ghost use Rattle.stations.specs.Steps.{IsPushed, IsPushedAt, IsPopped, IsStation
 
 use hpf_base::OutOfMemory;
 use letters::Letter;
+use local_runs::LocalRuns;
 use node_law::{Act, PhasedNode, Stepped};
 use pair_mailbox::{InEnd, OutEnd};
 use std::marker::Model;
@@ -206,6 +208,20 @@ impl<N: PhasedNode<Mail = Letter>> Station<N> {
                 None => Ok(Stepped::NotReady),
             },
             Act::Done => Ok(Stepped::Ended),
+        }
+    }
+}
+
+impl<N: LocalRuns<Mail = Letter>> Station<N> {
+    /// Local steps of the node, as many as it likes in one call; none while a letter is kept. It takes no memory.
+    pub fn run_local(&mut self)
+        ensures same { fixed self.new ≡ fixed self.old }
+        ensures steps { AreLocalSteps N.steps self.old.node self.new.node }
+        ensures rest { self.new ≡ record self.old { node = self.new.node } }
+        ensures kept { (letter : Kept) → self.old.kept ≡ Some letter → self.new ≡ self.old }
+    {
+        if self.ends.kept.is_none() {
+            self.node.run();
         }
     }
 }
