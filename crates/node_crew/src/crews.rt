@@ -57,7 +57,8 @@ pub(crate) fn joined(one: Turn, other: Turn) -> Turn {
     }
 }
 
-// One step of a station. Where its node is refused memory, the word `halt` is set, at which all crews stop.
+// Local steps of a station's node that take no memory, and then one step of the station. Where its node is refused memory, the word `halt` is set, at which
+// all crews stop.
 fn step_one<R: Wait, G: Gate>(
     rt: &R,
     gate: &G,
@@ -69,6 +70,7 @@ fn step_one<R: Wait, G: Gate>(
     if let Some((node, phase)) = station.comes_to() {
         gate.pass(node, phase);
     }
+    station.run_local();
     match station.step(rt) {
         Ok(Stepped::Moved) => Turn::Moved,
         Ok(Stepped::NotReady) => Turn::Still,

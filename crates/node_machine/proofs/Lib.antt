@@ -3,6 +3,7 @@ mod FetchLaws
 mod FirstPieces
 mod Instructions
 mod LastLaws
+mod LocalRuns
 mod Picks
 mod PostLaws
 mod PrintLaws

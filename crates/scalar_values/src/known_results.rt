@@ -18,7 +18,7 @@ pub struct KnownPlace {
 
 /// A value that is known.
 #[inline(always)]
-pub(crate) fn found(value: i64) -> Known
+pub fn found(value: i64) -> Known
     ensures value { result.value ≡ value }
     ensures known { result.known ≡ true }
 {
@@ -27,7 +27,7 @@ pub(crate) fn found(value: i64) -> Known
 
 /// A value that isn't known.
 #[inline(always)]
-pub(crate) fn unknown() -> Known
+pub fn unknown() -> Known
     ensures { result.known ≡ false }
 {
     Known {

@@ -13,4 +13,5 @@ mod known_results;
 mod operators;
 
 pub use expressions::{known_place, known_place_at, known_value, known_value_at};
-pub use known_results::{Known, KnownPlace};
+pub use known_results::{Known, KnownPlace, found, unknown};
+pub use operators::{value_of_one, value_of_two};

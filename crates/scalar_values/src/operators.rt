@@ -9,10 +9,10 @@ ghost use Rattle.scalar_values.specs.Known.{IsKnown};
 use crate::known_results::{Known, found, unknown};
 use op_tables::{Op, apply};
 
-/// The value of an operator of two operands.
+/// The value of an operator of two operands (Fortran 95, 7.1.7), where it is known. It takes no memory.
 #[inline(always)]
 #[tactic(auto, using(std::proofs::lemmas::Int::wraps))]
-pub(crate) fn value_of_two(op: Op, a: &i64, b: &i64) -> Known
+pub fn value_of_two(op: Op, a: &i64, b: &i64) -> Known
     ensures { IsKnown (operated op (a.now ∷ b.now ∷ [])) result }
 {
     match op {
@@ -40,10 +40,10 @@ pub(crate) fn value_of_two(op: Op, a: &i64, b: &i64) -> Known
     }
 }
 
-/// The value of an operator of one operand.
+/// The value of an operator of one operand, where it is known. It takes no memory.
 #[inline(always)]
 #[tactic(auto, using(std::proofs::lemmas::Int::wraps))]
-pub(crate) fn value_of_one(op: Op, a: &i64) -> Known
+pub fn value_of_one(op: Op, a: &i64) -> Known
     ensures { IsKnown (operated op (a.now ∷ [])) result }
 {
     match op {
