@@ -1,0 +1,19 @@
+//! Colours of the edges between nodes, as few as any colouring has.
+//!
+//! Comes in: the number of nodes, and edges, which are ordered pairs of nodes. Goes out: a colour for each edge, a number
+//! from 0; how many colours are needed; and the node that needs them. What holds in between: no two edges of one colour
+//! share a source or a target, and each colour is below the greatest number of edges from one node or to one node, by the
+//! method of D. König (1916).
+#![tactic(auto)]
+
+mod coloring;
+mod free_colors;
+mod laws;
+mod loads;
+mod table;
+
+pub use coloring::color;
+pub use hpf_base::{NodeId, OutOfMemory};
+pub use laws::{law_of_coloring, law_of_exchange, law_of_fewest, law_of_rows};
+pub use letters::Pair;
+pub use loads::{busiest_node, degree};
