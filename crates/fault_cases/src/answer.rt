@@ -1,6 +1,7 @@
 //! The answers to cases.
 
 use crate::case::{Case, Tried};
+use crate::chance::write_chance;
 use crate::faults::write_faults;
 use crate::prefixes::write_prefixes;
 use case_texts::{TextError, text_of};
@@ -34,6 +35,7 @@ fn write_runs<R: Threads + Wait + Sync>(
     let words = words_of(alloc, case.words.as_str())?;
     match case.tried {
         Tried::Prefixes => write_prefixes(rt, alloc, answer, &words, text),
+        Tried::Chance => write_chance(rt, alloc, answer, case.piece),
         _ => write_faults(rt, alloc, answer, case, &words, text),
     }
 }

@@ -2,18 +2,19 @@
 
 use std::alloc::{AllocError, Global};
 
-/// What is another in each run of a case: the read, the write to standard output or the write to standard error that fails, or the prefix of the
-/// text that is the source.
+/// What is another in each run of a case: the read, the write to standard output or the write to standard error that fails, the prefix of the
+/// text that is the source, or the text, which is made by a number.
 #[derive(Clone, Copy)]
 pub enum Tried {
     Reads,
     Writes,
     Errs,
     Prefixes,
+    Chance,
 }
 
-/// What is tried, the words and the text as they are written, how many bytes the stream that is tried gives or takes in a call at most, and the
-/// number of the read that fails in each run, 0 where none does.
+/// What is tried, the words and the text as they are written, how many bytes the stream that is tried gives or takes in a call at most, or how many
+/// texts are made, and the number of the read that fails in each run, 0 where none does.
 #[derive(Drop)]
 pub struct Case {
     pub tried: Tried,
@@ -35,6 +36,7 @@ fn tried_by(word: &str) -> Option<Tried> {
         "writes" => Some(Tried::Writes),
         "errs" => Some(Tried::Errs),
         "prefixes" => Some(Tried::Prefixes),
+        "chance" => Some(Tried::Chance),
         _ => None,
     }
 }

@@ -65,7 +65,7 @@ fn failing(case: &Case, number: u64) -> Streams {
         Tried::Reads => streams.source = stream,
         Tried::Writes => streams.out = stream,
         Tried::Errs => streams.err = stream,
-        Tried::Prefixes => {}
+        Tried::Prefixes | Tried::Chance => {}
     }
     streams
 }
@@ -86,7 +86,7 @@ fn is_faulted(case: &Case, number: u64, len: usize, whole: &Answer, found: &Answ
                 && found.out.bytes() == whole.out.bytes()
                 && is_front(done, whole.err.bytes(), found.err.bytes())
         }
-        Tried::Prefixes => false,
+        Tried::Prefixes | Tried::Chance => false,
     }
 }
 

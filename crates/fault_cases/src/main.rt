@@ -1,4 +1,4 @@
-//! Tries the top call where one call of a stream fails, at each call in turn, and on each prefix of a text.
+//! Tries the top call where one call of a stream fails, at each call in turn, on each prefix of a text, and on texts made by numbers.
 //!
 //! Comes in: cases on standard input. Goes out: the same lines, and after each case its answer. What holds in between: a line that begins with
 //! one of these words begins a case. A number of bytes stands after the first three, and then the words of the command line, a blank between two.
@@ -13,6 +13,10 @@
 //! - `prefixes`: the text is each prefix of the text in turn, from no byte to all of them. In each run the status is 0, standard output holds
 //!   `accepted` and a line feed, and standard error is empty; or the status is 1, standard output is empty, and standard error has the
 //!   line of a refusal.
+//! - `chance`: so many texts are made by the numbers from 0, of words in no order, of lines that may stand in a program, and of such lines with one
+//!   byte changed. Each is run under each action that reads a text. In each run the status is 0, 1 or 3, all of the text is read, and what stands on
+//!   standard error is nothing, the line of a refusal or the line of a fault; `check` and `map` accept what the others don't refuse, and
+//!   `messages` and `run` end as `serial` does.
 //!
 //! These lines go on with a case:
 //!
@@ -23,7 +27,8 @@
 //! many bytes the source has left, and what standard output and standard error hold. Then comes how many runs there were, and how many faults in
 //! those before the last, where the last comes to the same as the run without a fault and those before it are as said above; or else the first
 //! run that isn't so, with what it comes to. The answer to `prefixes` is how many runs there were, how many texts were accepted and how many
-//! refused, or the first prefix that isn't answered so. So a case with its answer, where `accepted` and a line feed are written in 3 calls, is:
+//! refused, or the first prefix that isn't answered so; that to `chance` how many texts there were, and whether each of the three ends was among
+//! them, or the first text that isn't answered so. So a case with its answer, where `accepted` and a line feed are written in 3 calls, is:
 //!
 //! ```text
 //! writes 4 check
@@ -37,6 +42,7 @@
 mod answer;
 mod call;
 mod case;
+mod chance;
 mod faults;
 mod prefixes;
 mod show;
