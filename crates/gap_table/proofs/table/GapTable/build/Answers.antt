@@ -22,6 +22,11 @@ section_table-requires-in-Block-clause-section g c =
     section_limited c.args.line.now c.args.start c.args.count c.args.stride _ (to_z-of_z w64 c.args.stride c.ranges.stride) c.requires.line c.requires.stride
     (omega (arith, c.if-count-eq0.false)) c.requires.section
 
+pub section_table-requires-in-Gen-clause-section : goal.section_table-requires-in-Gen-clause-section
+section_table-requires-in-Gen-clause-section g c =
+    section_limited c.args.line.now c.args.start c.args.count c.args.stride _ (to_z-of_z w64 c.args.stride c.ranges.stride) c.requires.line c.requires.stride
+    (omega (arith, c.if-count-eq0.false)) c.requires.section
+
 pub cyclic_table-requires-clause-section : goal.cyclic_table-requires-clause-section
 cyclic_table-requires-clause-section g c =
     section_limited c.args.line.now c.args.start c.args.count c.args.stride _ (to_z-of_z w64 c.args.stride c.ranges.stride) c.requires.line c.requires.stride
