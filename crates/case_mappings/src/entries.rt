@@ -3,7 +3,7 @@
 ghost use Rattle.std.specs.Prelude.{◌≡◌, ◌≢◌, IfOk, IsTrue, Some, slice_get};
 ghost use Rattle.mappings.specs.Mapping.{IsAlign, IsMapDim, IsMapping, MoveApart, moves_along};
 
-use crate::lines::{is_distributed, is_line, read_line};
+use crate::lines::{form_of, is_distributed, is_line, read_line};
 use crate::parts::{first_part, numbers};
 use case_texts::TextError;
 use hpf_base::Grid;
@@ -74,14 +74,15 @@ fn entry_of(alloc: Global, grid: &Grid, rank: usize, text: &str) -> Result<MapDi
 /// The entry with these numbers, which may not be those of one.
 fn read_entry(alloc: Global, grid: &Grid, rank: usize, text: &str) -> Result<MapDim, TextError> {
     let numbers = numbers(alloc, text)?;
-    match numbers.as_slice() {
-        [size, lower, extent, dim, align @ ..] => {
+    let (form, rest) = form_of(alloc, text, &numbers)?;
+    match rest {
+        [lower, extent, dim, align @ ..] => {
             let grid_dim = u32::try_from(*dim).ok().ok_or(TextError::Malformed)?;
             let procs = *grid
                 .dims()
                 .get(grid_dim as usize)
                 .ok_or(TextError::Malformed)?;
-            let line = read_line(text, *size, *lower, *extent, procs).ok_or(TextError::Malformed)?;
+            let line = read_line(form, *lower, *extent, procs).ok_or(TextError::Malformed)?;
             let align = align_of(rank, align)?;
             Ok(MapDim {
                 line,

@@ -6,7 +6,7 @@ use Rattle.hpf_base.specs.declared.index.Shape.{Shape}
 use Rattle.mappings.specs.declared.mapping.AlignDim.{AlignDim}
 use Rattle.mappings.specs.declared.mapping.AlignDim.TheVariants.{Linear, At, Every}
 use Rattle.mappings.specs.declared.mapping.Form.{Form}
-use Rattle.mappings.specs.declared.mapping.Form.TheVariants.{Whole, Block, Cyclic}
+use Rattle.mappings.specs.declared.mapping.Form.TheVariants.{Whole, Block, Cyclic, Gen}
 use Rattle.mappings.specs.declared.mapping.Line.{Line}
 use Rattle.mappings.specs.declared.mapping.MapDim.{MapDim}
 use Rattle.mappings.specs.declared.mapping.Mapping.{Mapping}
@@ -16,6 +16,7 @@ abbrev pub is_same_form : Form → Form → Bool
 is_same_form Whole Whole = true
 is_same_form (Block m) (Block n) = m == n
 is_same_form (Cyclic m) (Cyclic n) = m == n
+is_same_form (Gen sizes) (Gen others) = pointwise ◌==◌ sizes others
 is_same_form one other = false
 
 abbrev pub is_same_line : Line → Line → Bool

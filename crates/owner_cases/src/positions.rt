@@ -3,7 +3,7 @@
 ghost use Rattle.std.specs.Prelude.{IfOk, IfSome};
 ghost use Rattle.mappings.specs.Mapping.{IsLine};
 
-use case_mappings::{first_part, line_of, numbers};
+use case_mappings::{first_part, form_of, line_of, numbers};
 use case_texts::TextError;
 use distribution::{owned_count, owner, rank};
 use mappings::Line;
@@ -43,9 +43,10 @@ pub fn written_line(alloc: Global, text: &str) -> Result<Option<Line>, TextError
     ensures { IfOk result (λ line. IfSome line IsLine) }
 {
     let numbers = numbers(alloc, text)?;
-    match numbers.as_slice() {
-        [size, lower, extent, procs] => match u32::try_from(*procs) {
-            Ok(procs) => Ok(line_of(text, *size, *lower, *extent, procs)),
+    let (form, rest) = form_of(alloc, text, &numbers)?;
+    match rest {
+        [lower, extent, procs] => match u32::try_from(*procs) {
+            Ok(procs) => Ok(line_of(form, *lower, *extent, procs)),
             Err(_) => Ok(None),
         },
         _ => Ok(None),
