@@ -88,7 +88,7 @@ pub fn formats_pass<T: ExpressionTest>(test: &T, formats: &[Format]) -> bool
     all
 }
 
-/// That of one format passes.
+/// Those of one format pass.
 fn format_passes<T: ExpressionTest>(test: &T, one: &Format) -> bool
     ensures { result ≡ list_all (all_inside (T.passes test.now)) (format_expressions (format_of one.now)) }
 {
@@ -96,5 +96,17 @@ fn format_passes<T: ExpressionTest>(test: &T, one: &Format) -> bool
         Format::Star => true,
         Format::Block(size) => option_passes(test, size),
         Format::Cyclic(size) => option_passes(test, size),
+        Format::GenBlock(sizes) => list_passes(test, sizes),
     }
+}
+
+/// All expressions of a list pass.
+fn list_passes<T: ExpressionTest>(test: &T, list: &[Expr]) -> bool
+    ensures { result ≡ list_all (all_inside (T.passes test.now)) (map expression list.now) }
+{
+    let mut all = true;
+    for e in list {
+        all &= all_pass(test, e);
+    }
+    all
 }

@@ -85,6 +85,7 @@ format_is : (f : Format) → meant.format_of (directive_views.format_of f) ≡ d
 format_is held_format.Star = refl
 format_is (held_format.Block m) = refl
 format_is (held_format.Cyclic k) = refl
+format_is (held_format.GenBlock sizes) = refl
 
 distribution_is : (d : DistSpec) → meant.distribution d.colons (directive_views.distribution_of d.colons d) ≡ directive.distribution d
 distribution_is d = cases d.colons where

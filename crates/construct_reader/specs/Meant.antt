@@ -58,7 +58,8 @@ bound_of b = bounds b.0 b.1 where
 abbrev pub format_of : Value format → directive.Format
 format_of (inl star) = directive.Undistributed
 format_of (inr (inl m)) = directive.Block m
-format_of (inr (inr k)) = directive.Cyclic k
+format_of (inr (inr (inl k))) = directive.Cyclic k
+format_of (inr (inr (inr sizes))) = directive.GenBlock sizes
 
 -- `many` says that the names stand after `::`; else one name stands first
 abbrev pub distribution : (many : Bool) → Value (directives.distribution many) → directive.Distribution

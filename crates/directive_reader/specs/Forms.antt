@@ -23,9 +23,11 @@ listed g = Sequence (Skipped colons) (CommaList g)
 abbrev pub size : Grammar
 size = Optional opening (Suffixed Expr closing)
 
--- * | BLOCK [( expr )] | CYCLIC [( expr )]
+-- * | BLOCK [( expr )] | CYCLIC [( expr )] | GEN_BLOCK ( expr list )
 abbrev pub format : Grammar
-format = Choice star Nothing (Choice (key (codes "BLOCK")) size (Prefixed (key (codes "CYCLIC")) size))
+format =
+    Choice star Nothing
+    (Choice (key (codes "BLOCK")) size (Choice (key (codes "CYCLIC")) size (Prefixed (key (codes "GEN_BLOCK")) (enclosed Expr))))
 
 -- [ONTO name]
 abbrev pub onto : Grammar

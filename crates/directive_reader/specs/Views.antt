@@ -33,7 +33,8 @@ arrangement_of e = (e.name, bounds_in e.start (option_map (λ v. map bound_of v.
 abbrev pub format_of : Format → Value format
 format_of format_of_dimension.Star = inl tt
 format_of (format_of_dimension.Block m) = inr (inl (option_map expression m))
-format_of (format_of_dimension.Cyclic k) = inr (inr (option_map expression k))
+format_of (format_of_dimension.Cyclic k) = inr (inr (inl (option_map expression k)))
+format_of (format_of_dimension.GenBlock sizes) = inr (inr (inr (map expression sizes.items)))
 
 abbrev pub source_of : Source → Value source
 source_of source_of_dimension.Colon = inl tt

@@ -6,6 +6,7 @@ ghost use Rattle.syntax_tree.specs.Expression.{expression};
 ghost use Rattle.line_forms.specs.declared.depths.Depths.TheVariants.{Limited};
 ghost use Rattle.line_forms.specs.Read.{read};
 ghost use Rattle.line_forms.specs.Gives.{Gives};
+ghost use Rattle.line_forms.specs.Grammar.{Expr as OneExpr};
 ghost use Rattle.directive_reader.specs.Forms.{arrangement, format, onto, size, source, target};
 ghost use Rattle.directive_reader.specs.Views.{arrangement_of, format_of, source_of, target_of};
 
@@ -65,9 +66,32 @@ impl Element for Formats {
             let (size, rest) = size(alloc, depths, skip(tokens, 1))?;
             return Ok((Format::Block(size), rest));
         }
-        let rest = after_word(tokens, b"CYCLIC")?;
-        let (size, rest) = size(alloc, depths, rest)?;
-        Ok((Format::Cyclic(size), rest))
+        if is_word(tokens, b"CYCLIC") {
+            let (size, rest) = size(alloc, depths, skip(tokens, 1))?;
+            return Ok((Format::Cyclic(size), rest));
+        }
+        let rest = after_word(tokens, b"GEN_BLOCK")?;
+        let (sizes, rest) = enclosed::<Sizes>(alloc, depths, rest)?;
+        Ok((Format::GenBlock(sizes), rest))
+    }
+}
+
+/// The sizes of blocks in a list.
+pub struct Sizes {}
+
+impl Element for Sizes {
+    type Part = Expr;
+
+    ghost grammar = { OneExpr };
+
+    ghost view = { expression };
+
+    fn read(
+        alloc: Global,
+        depths: Depths,
+        tokens: &[Token],
+    ) -> Result<(Expr, &[Token]), ReadError> {
+        expr(alloc, depths, tokens)
     }
 }
 

@@ -1,7 +1,7 @@
 -- The expressions inside bounds, indices, items of PRINT and formats.
 use Rattle.std.specs.Prelude.{List, [], ◌∷◌, ◌++◌, Option, Some, None}
 use Rattle.syntax_tree.specs.Expression.{Expression}
-use Rattle.syntax_tree.specs.Directive.{Bound, Format, Undistributed, Block, Cyclic}
+use Rattle.syntax_tree.specs.Directive.{Bound, Format, Undistributed, Block, Cyclic, GenBlock}
 use Rattle.syntax_tree.specs.Statement.{Axis, Item, Value, Text}
 
 -- what may be there, as a list
@@ -23,3 +23,4 @@ abbrev pub format_expressions : Format → List Expression
 format_expressions Undistributed = []
 format_expressions (Block m) = present m
 format_expressions (Cyclic k) = present k
+format_expressions (GenBlock es) = es

@@ -1,3 +1,4 @@
 pub mod Sections
 pub mod Blocks
+pub mod GenBlocks
 pub mod Lines

@@ -1,3 +1,4 @@
+pub mod GenBlock
 pub mod Mapping
 pub mod Alignment
 pub mod Owner

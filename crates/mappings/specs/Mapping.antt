@@ -1,24 +1,23 @@
 -- Which lines, shapes and mappings are valid, and which subscripts a mapping takes.
-use Rattle.std.specs.Prelude.{◌≡◌, ◌≢◌, ℕ, ◌+◌, ◌*◌, ◌^◌, ◌≤◌, ◌<◌, ℤ, pos, ◌≤ℤ◌, FitsSigned, unsigned_abs, cond, ⊤, List, length, map, All, AllPairs, slice_get, Option, Some, None}
+use Rattle.std.specs.Prelude.{◌≡◌, ◌≢◌, ℕ, ◌*◌, ◌≤◌, ◌<◌, ℤ, pos, ◌≤ℤ◌, FitsSigned, unsigned_abs, cond, ⊤, List, length, map, sum, All, AllPairs, slice_get, Option, Some, None}
 use Rattle.std.specs.Int.{w64}
 use Rattle.std.specs.Ordering.{int_eq}
-use Rattle.hpf_base.specs.declared.limits.TheConstants.{MAX_BLOCK, MAX_BOUND, MAX_CYCLIC, MAX_ELEMENTS, MAX_NODES, MAX_TEMPLATE_EXTENT}
-use Rattle.hpf_base.specs.declared.index.Shape.{Shape}
+use Rattle.hpf_base.specs.declared.limits.TheConstants.{MAX_BLOCK, MAX_BOUND, MAX_CYCLIC, MAX_NODES, MAX_TEMPLATE_EXTENT}
 use Rattle.mappings.specs.declared.mapping.AlignDim.{AlignDim}
 use Rattle.mappings.specs.declared.mapping.AlignDim.TheVariants.{Linear, At, Every}
 use Rattle.mappings.specs.declared.mapping.Form.{Form}
-use Rattle.mappings.specs.declared.mapping.Form.TheVariants.{Whole, Block, Cyclic}
+use Rattle.mappings.specs.declared.mapping.Form.TheVariants.{Whole, Block, Cyclic, Gen}
 use Rattle.mappings.specs.declared.mapping.Line.{Line}
 use Rattle.mappings.specs.declared.mapping.MapDim.{MapDim}
 use Rattle.mappings.specs.declared.mapping.Mapping.{Mapping}
 use Rattle.mappings.specs.Alignment.{aligned, position_at}
-use Rattle.hpf_base.specs.ElementOrder.{extents_of, product}
 
 -- a format that deals out so many positions to so many processors (HPF 2.0, DISTRIBUTE)
 abbrev pub IsForm : Form → ℕ → ℕ → Type 0
 IsForm Whole extent procs = procs ≡ 1
 IsForm (Block m) extent procs = (1 ≤ m) × (m ≤ MAX_BLOCK) × (extent ≤ m * procs)
 IsForm (Cyclic k) extent procs = (1 ≤ k) × (k ≤ MAX_CYCLIC)
+IsForm (Gen sizes) extent procs = (length sizes ≡ procs) × All (λ n. n ≤ MAX_BLOCK) sizes × (extent ≤ sum sizes)
 
 pub record IsLine (line : Line) : Type 0 where
   pub some : 1 ≤ line.procs

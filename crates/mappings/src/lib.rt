@@ -3,9 +3,11 @@
 //! Comes in: a grid. Goes out: the formats of distributed dimensions, what a dimension of a template is given for an element,
 //! and mappings. In `specs/`: which mappings are valid, who owns an element, and which elements a node holds, in which order.
 //! What holds in between: a mapping says who owns an element and nothing else; how that is found in little time is for the
-//! crates above.
+//! crates above. Blocks of given sizes alone keep their running sums beside the sizes.
 #![tactic(auto)]
 
+mod gen_block;
 mod mapping;
 
+pub use gen_block::BlockSizes;
 pub use mapping::{AlignDim, Form, Line, MapDim, MapDims, Mapping};

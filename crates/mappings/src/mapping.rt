@@ -2,12 +2,13 @@
 
 ghost use Rattle.std.specs.Prelude.{◌≡◌, IfOk};
 
+use crate::gen_block::BlockSizes;
 use hpf_base::Grid;
 use std::alloc::{AllocError, Global};
 use std::marker::Model;
 
 /// The distribution format of a dimension (HPF 2.0, DISTRIBUTE).
-#[derive(Debug, Drop, PartialEq, Eq)]
+#[derive(Debug, Drop)]
 pub enum Form {
     /// The dimension isn't distributed.
     Whole,
@@ -15,23 +16,26 @@ pub enum Form {
     Block(u64),
     /// Blocks of so many positions, dealt out to the processors in turn.
     Cyclic(u64),
+    /// Blocks of these sizes, one a processor, in their order (HPF 2.0, approved extensions, GEN_BLOCK).
+    Gen(BlockSizes),
 }
 
 impl Form {
     /// The same format once more. An `Err` is want of memory, here and below.
-    pub fn copy(&self, _alloc: Global) -> Result<Form, AllocError>
+    pub fn copy(&self, alloc: Global) -> Result<Form, AllocError>
         ensures { IfOk result (λ copy. copy ≡ self.now) }
     {
         match self {
             Form::Whole => Ok(Form::Whole),
             Form::Block(size) => Ok(Form::Block(*size)),
             Form::Cyclic(size) => Ok(Form::Cyclic(*size)),
+            Form::Gen(sizes) => Ok(Form::Gen(sizes.copy(alloc)?)),
         }
     }
 }
 
 /// A dimension with its distribution. Its positions are 1 to `extent`; position 1 is index `lower`.
-#[derive(Debug, Drop, PartialEq, Eq)]
+#[derive(Debug, Drop)]
 pub struct Line {
     pub lower: i64,
     pub extent: u64,
@@ -67,7 +71,7 @@ pub enum AlignDim {
 
 /// One distributed dimension of the template: its line, the dimension of the grid on which it lies, counted from
 /// 0, and what it is given for an element.
-#[derive(Debug, Drop, PartialEq, Eq)]
+#[derive(Debug, Drop)]
 pub struct MapDim {
     pub line: Line,
     pub grid_dim: u32,

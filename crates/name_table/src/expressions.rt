@@ -93,14 +93,27 @@ pub(crate) fn in_items<T: ExpressionTest>(test: &T, items: &[Item]) -> Result<bo
     Ok(all)
 }
 
-/// Whether the expression in the format of a dimension passes.
+/// Whether the expressions in the format of a dimension pass.
 fn in_format<T: ExpressionTest>(test: &T, format: &Format) -> Result<bool, AllocError>
     ensures { IfOk result (λ b. b ≡ list_all (T.passes test.now) (format_expressions (format_of format.now))) }
 {
     match format {
         Format::Star => Ok(true),
         Format::Block(e) | Format::Cyclic(e) => in_option(test, e),
+        Format::GenBlock(sizes) => in_list(test, sizes),
     }
+}
+
+/// Whether all expressions of a list pass.
+fn in_list<T: ExpressionTest>(test: &T, list: &[Expr]) -> Result<bool, AllocError>
+    ensures { IfOk result (λ b. b ≡ list_all (T.passes test.now) (map expression list.now)) }
+{
+    let mut all = true;
+    for e in list {
+        let good = test.test(e)?;
+        all &= good;
+    }
+    Ok(all)
 }
 
 /// Whether the expressions in the formats of all dimensions pass.

@@ -27,11 +27,13 @@ pub record Entity : Type 0 where
   pub bounds : Option (List Bound)
   pub start : Option Expression
 
--- how a dimension is distributed (HPF 2.0, 3.3): `*`, BLOCK or CYCLIC, with the expression in parentheses after it
+-- how a dimension is distributed (HPF 2.0, 3.3 and 8): `*`, BLOCK or CYCLIC, with the expression in parentheses after
+-- it, or GEN_BLOCK, with the sizes of the blocks in parentheses after it
 pub data Format : Type 0 where
   Undistributed : Format
   Block : Option Expression → Format
   Cyclic : Option Expression → Format
+  GenBlock : List Expression → Format
 
 -- DISTRIBUTE and REDISTRIBUTE: the names of the distributees, a format for each of their dimensions, and the processor
 -- arrangement after ONTO
@@ -99,6 +101,7 @@ abbrev pub format_of : HeldFormat → Format
 format_of format.Star = Undistributed
 format_of (format.Block m) = Block (option_map expression m)
 format_of (format.Cyclic k) = Cyclic (option_map expression k)
+format_of (format.GenBlock sizes) = GenBlock (map expression sizes.items)
 
 abbrev pub distribution : DistSpec → Distribution
 distribution d = record { names = names_of d.colons d.names; formats = map format_of d.formats.items; onto = d.onto }

@@ -38,6 +38,8 @@ pub enum Format {
     Star,
     Block(Option<Expr>),
     Cyclic(Option<Expr>),
+    /// The sizes of the blocks, the first block first.
+    GenBlock(Vec<Expr>),
 }
 
 /// ALIGN: how the named arrays lie on a target.

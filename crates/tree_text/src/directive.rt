@@ -63,6 +63,14 @@ fn write_format(out: &mut String, format: &Format) -> Result<(), AllocError> {
             out.push_str("CYCLIC")?;
             write_size(out, size)
         }
+        Format::GenBlock(sizes) => {
+            out.push_str("GEN_BLOCK(")?;
+            for (place, size) in sizes.iter().enumerate() {
+                write_comma(out, place)?;
+                write_expr(out, size)?;
+            }
+            out.push_str(")")
+        }
     }
 }
 
