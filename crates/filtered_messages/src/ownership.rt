@@ -64,5 +64,18 @@ fn dealt_to(line: &Line, subscript: i128) -> u64 {
         Form::Whole => 0,
         Form::Block(size) => position / at_least_one(*size),
         Form::Cyclic(size) => position / at_least_one(*size) % at_least_one(line.procs as u64),
+        Form::Gen(sizes) => block_with(sizes.as_slice(), position),
     }
+}
+
+/// The number of the block with this position, which counts from 0, where blocks of these sizes follow each other.
+fn block_with(sizes: &[u64], position: u64) -> u64 {
+    let mut end: u64 = 0;
+    for (block, size) in sizes.iter().enumerate() {
+        end = end.wrapping_add(*size);
+        if position < end {
+            return block as u64;
+        }
+    }
+    sizes.len() as u64
 }

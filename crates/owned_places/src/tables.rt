@@ -82,7 +82,7 @@ fn table_by(
 /// Whether a table is made in fewer steps than there are places.
 fn is_short(form: &Form, count: u64) -> bool {
     match form {
-        Form::Whole | Form::Block(_) => true,
+        Form::Whole | Form::Block(_) | Form::Gen(_) => true,
         Form::Cyclic(k) => *k < count,
     }
 }

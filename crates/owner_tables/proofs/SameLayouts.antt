@@ -1,20 +1,16 @@
 -- Layouts that are the same are one.
-use Rattle.std.proofs.Common.{◌≡◌, ◌==◌, ◌&&◌, Bool, true, List, [], ◌∷◌, refl, sym, ap, subst, eq-eqb, eqb-true}
+use Rattle.std.proofs.Common.{◌≡◌, ◌==◌, Bool, true, refl, sym, ap, subst, eq-eqb, eqb-true}
 use Rattle.std.proofs.lemmas.Bool.{and_from}
 use mathlib.Core.Bool.{true≢false}
 use Rattle.std.specs.Bool.{Decides}
 use Rattle.std.specs.Cmp.{first_so, second_so, signed_Decides, unsigned_Decides}
 use Rattle.std.specs.Cmp.Lexicographic.{pointwise, pointwise_decides}
 use Rattle.std.specs.Ordering.{int_eq}
-use Rattle.mappings.specs.contracts.mapping.AlignDimPartialEq.TheImpl.{eq-value as eq-align}
-use Rattle.mappings.specs.contracts.mapping.FormPartialEq.TheImpl.{eq-value as eq-form}
-use Rattle.mappings.specs.contracts.mapping.LinePartialEq.TheImpl.{eq-value as eq-line}
-use Rattle.mappings.specs.contracts.mapping.MapDimPartialEq.TheImpl.{eq-value as eq-dim}
 use Rattle.hpf_base.specs.declared.index.Shape.{Shape}
 use Rattle.mappings.specs.declared.mapping.AlignDim.{AlignDim}
 use Rattle.mappings.specs.declared.mapping.AlignDim.TheVariants.{Linear, At, Every}
 use Rattle.mappings.specs.declared.mapping.Form.{Form}
-use Rattle.mappings.specs.declared.mapping.Form.TheVariants.{Whole, Block, Cyclic}
+use Rattle.mappings.specs.declared.mapping.Form.TheVariants.{Whole, Block, Cyclic, Gen}
 use Rattle.mappings.specs.declared.mapping.Line.{Line}
 use Rattle.mappings.specs.declared.mapping.MapDim.{MapDim}
 use Rattle.mappings.specs.declared.mapping.Mapping.{Mapping}
@@ -30,17 +26,25 @@ same-form : (one other : Form) → is_same_form one other ≡ true → one ≡ o
 same-form Whole Whole h = refl
 same-form (Block m) (Block n) h = ap Block (eqb-true m n h)
 same-form (Cyclic m) (Cyclic n) h = ap Cyclic (eqb-true m n h)
+same-form (Gen sizes) (Gen others) h = ap Gen ((pointwise_decides unsigned_Decides sizes others).0 h)
 same-form Whole (Block n) h = absurd (true≢false (sym h))
 same-form Whole (Cyclic n) h = absurd (true≢false (sym h))
+same-form Whole (Gen others) h = absurd (true≢false (sym h))
 same-form (Block m) Whole h = absurd (true≢false (sym h))
 same-form (Block m) (Cyclic n) h = absurd (true≢false (sym h))
+same-form (Block m) (Gen others) h = absurd (true≢false (sym h))
 same-form (Cyclic m) Whole h = absurd (true≢false (sym h))
 same-form (Cyclic m) (Block n) h = absurd (true≢false (sym h))
+same-form (Cyclic m) (Gen others) h = absurd (true≢false (sym h))
+same-form (Gen sizes) Whole h = absurd (true≢false (sym h))
+same-form (Gen sizes) (Block n) h = absurd (true≢false (sym h))
+same-form (Gen sizes) (Cyclic n) h = absurd (true≢false (sym h))
 
 form-itself : (form : Form) → is_same_form form form ≡ true
 form-itself Whole = refl
 form-itself (Block m) = eq-eqb m m refl
 form-itself (Cyclic m) = eq-eqb m m refl
+form-itself (Gen sizes) = (pointwise_decides unsigned_Decides sizes sizes).1 refl
 
 same-line : (one other : Line) → is_same_line one other ≡ true → one ≡ other
 same-line one other h =
@@ -118,40 +122,3 @@ layout_itself layout =
     ((pointwise_decides signed_Decides layout.shape.extent layout.shape.extent).1 refl))
     (and_from _ _ ((pointwise_decides unsigned_Decides layout.mapping.grid layout.mapping.grid).1 refl)
     ((pointwise_decides dim-decided layout.mapping.dims layout.mapping.dims).1 refl))
-
--- ---- the comparisons of the code
-
-form-eq : (one other : Form) → eq-form.it one other ≡ is_same_form one other
-form-eq Whole Whole = refl
-form-eq (Block m) (Block n) = refl
-form-eq (Cyclic m) (Cyclic n) = refl
-form-eq Whole (Block n) = refl
-form-eq Whole (Cyclic n) = refl
-form-eq (Block m) Whole = refl
-form-eq (Block m) (Cyclic n) = refl
-form-eq (Cyclic m) Whole = refl
-form-eq (Cyclic m) (Block n) = refl
-
-align-eq : (one other : AlignDim) → eq-align.it one other ≡ is_same_align one other
-align-eq (Linear dim a b) (Linear dim' a' b') = refl
-align-eq (At v) (At w) = refl
-align-eq Every Every = refl
-align-eq (Linear dim a b) (At w) = refl
-align-eq (Linear dim a b) Every = refl
-align-eq (At v) (Linear dim a b) = refl
-align-eq (At v) Every = refl
-align-eq Every (Linear dim a b) = refl
-align-eq Every (At w) = refl
-
-line-eq : (one other : Line) → eq-line.it one other ≡ is_same_line one other
-line-eq one other = λ i. int_eq one.lower other.lower && ((one.extent == other.extent) && (form-eq one.form other.form i && (one.procs == other.procs)))
-
-dim-eq : (one other : MapDim) → eq-dim.it one other ≡ is_same_dim one other
-dim-eq one other = λ i. line-eq one.line other.line i && ((one.grid_dim == other.grid_dim) && align-eq one.align other.align i)
-
--- the dimensions of two mappings
-pub dims-eq : (one other : List MapDim) → pointwise eq-dim.it one other ≡ pointwise is_same_dim one other
-dims-eq [] [] = refl
-dims-eq [] (y ∷ ys) = refl
-dims-eq (x ∷ xs) [] = refl
-dims-eq (x ∷ xs) (y ∷ ys) = λ i. dim-eq x y i && dims-eq xs ys i
