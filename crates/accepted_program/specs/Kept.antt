@@ -5,7 +5,7 @@ use Rattle.std.proofs.Props.{props}
 use Rattle.mappings.specs.declared.mapping.AlignDim.{AlignDim}
 use Rattle.mappings.specs.declared.mapping.AlignDim.TheVariants.{Linear, At, Every}
 use Rattle.mappings.specs.declared.mapping.Form.{Form}
-use Rattle.mappings.specs.declared.mapping.Form.TheVariants.{Whole, Block, Cyclic}
+use Rattle.mappings.specs.declared.mapping.Form.TheVariants.{Whole, Block, Cyclic, Gen}
 use Rattle.mappings.specs.declared.mapping.Line.{Line}
 use Rattle.mappings.specs.Mapping.{IsAlign, IsForm, InLine}
 use Rattle.name_table.specs.contracts.names.Entry as entry
@@ -32,6 +32,7 @@ form-prop : (f : Form) (extent procs : ℕ) → IsProp (IsForm f extent procs)
 form-prop Whole extent procs = Prim.hlevel props
 form-prop (Block m) extent procs = Prim.hlevel props
 form-prop (Cyclic k) extent procs = Prim.hlevel props
+form-prop (Gen sizes) extent procs = Prim.hlevel props
 
 align-prop : (rank : ℕ) (a : AlignDim) → IsProp (IsAlign rank a)
 align-prop rank (Linear dim a b) = Prim.hlevel props

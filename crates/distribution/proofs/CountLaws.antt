@@ -1,15 +1,17 @@
 -- How many positions up to a last one a processor owns, in closed form.
-use Rattle.std.proofs.Common.{◌≡◌, ℕ, ◌+◌, ◌-◌, ◌*◌, ◌/◌, ◌%◌, ◌<◌, ◌≤◌, ◌==◌, Bool, sym, ◌∙◌, ap, arith, length, min, max, eq-eqb}
+use Rattle.std.proofs.Common.{◌≡◌, ℕ, ◌+◌, ◌-◌, ◌*◌, ◌/◌, ◌%◌, ◌<◌, ◌≤◌, ◌==◌, Bool, List, sum, sym, ◌∙◌, ap, arith, length, min, max, eq-eqb}
 use Rattle.std.proofs.Math.Nat.{mod-add-div, mul-le-mul_right, one-le-mul}
 use Rattle.std.proofs.lemmas.Nat.{mod_below}
 use Rattle.std.proofs.lemmas.List.FromFn.{length-range_with_len}
 use Rattle.std.specs.Prelude.{filter}
 use Rattle.std.specs.List.{range_with_len}
-use Rattle.mappings.specs.declared.mapping.Form.TheVariants.{Block, Cyclic}
+use Rattle.mappings.specs.declared.mapping.Form.TheVariants.{Block, Cyclic, Gen}
+use Rattle.mappings.specs.GenBlock.{size_before}
 use Rattle.mappings.specs.Owner.{coordinate_under}
 use Rattle.mappings.specs.Positions.{in_section, section}
 use Rattle.mappings.proofs.Sections.{in_section_holds, filter-range}
 use Rattle.distribution.proofs.Cycles.{in_block, in_cycle, same_coordinate}
+use Rattle.distribution.proofs.GivenBlocks.{in_gen}
 use Rattle.distribution.proofs.Repeats.{count-periods}
 
 section-range : (last : ℕ) → section 1 last ≡ range_with_len 1 last
@@ -33,6 +35,16 @@ count-block m q last some =
     let own : min (1 + last) ((q + 1) * m + 1) - max 1 (q * m + 1) ≡ min last (q * m + m) - q * m = omega arith in
     sym (ap (λ xs. length (filter (λ j. coordinate_under (Block m) 1 j == q) xs)) (section-range last)
     ∙ count-section (λ j. coordinate_under (Block m) 1 j == q) last (q * m + 1) ((q + 1) * m) (λ j low high. sym (in_block m q j some low))
+    ∙ own)
+
+pub count-gen : (sizes : List ℕ) (procs q last : ℕ) → q < length sizes → last ≤ sum sizes
+    → min last (size_before sizes (q + 1)) - size_before sizes q ≡ length (filter (λ j. coordinate_under (Gen sizes) procs j == q) (section 1 last))
+count-gen sizes procs q last inside upto =
+    let own : min (1 + last) (size_before sizes (q + 1) + 1) - max 1 (size_before sizes q + 1) ≡ min last (size_before sizes (q + 1)) - size_before sizes q =
+    omega arith in
+    sym (ap (λ xs. length (filter (λ j. coordinate_under (Gen sizes) procs j == q) xs)) (section-range last)
+    ∙ count-section (λ j. coordinate_under (Gen sizes) procs j == q) last (size_before sizes q + 1) (size_before sizes (q + 1))
+    (λ j low high. sym (in_gen sizes procs q j inside low (omega (arith, high, upto))))
     ∙ own)
 
 -- in one cycle

@@ -1,3 +1,4 @@
+pub mod GivenBlocks
 pub mod Cycles
 pub mod Repeats
 pub mod CountLaws

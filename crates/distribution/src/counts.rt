@@ -37,10 +37,11 @@ fn owned_up_to(line: &Line, node: u32, last: u64) -> u64
     requires last { last ≤ line.now.extent }
     ensures { result ≡ length (filter (λ j. coordinate line.now j == node) (section 1 last)) }
 {
-    match line.form {
+    match &line.form {
         Form::Whole => last,
-        Form::Block(m) => block_up_to(m, node as u64, last),
-        Form::Cyclic(k) => cyclic_up_to(k, line.procs as u64, node as u64, last),
+        Form::Block(m) => block_up_to(*m, node as u64, last),
+        Form::Cyclic(k) => cyclic_up_to(*k, line.procs as u64, node as u64, last),
+        Form::Gen(sizes) => within(last, sizes.before(node), sizes.end(node)),
     }
 }
 
@@ -51,7 +52,7 @@ fn block_up_to(m: u64, node: u64, last: u64) -> u64
     requires node { node < MAX_NODES }
     ensures { result ≡ length (filter (λ j. coordinate_under (Block m) 1 j == node) (section 1 last)) }
 {
-    within(last, node * m, m)
+    within(last, node * m, node * m + m)
 }
 
 /// How many positions from 1 to `last` the processor owns under CYCLIC(k): k in each whole cycle, which is a block of each
@@ -65,13 +66,12 @@ fn cyclic_up_to(k: u64, procs: u64, node: u64, last: u64) -> u64
     ensures { result ≡ length (filter (λ j. coordinate_under (Cyclic k) procs j == node) (section 1 last)) }
 {
     let cycle = k * procs;
-    last / cycle * k + within(last % cycle, node * k, k)
+    last / cycle * k + within(last % cycle, node * k, node * k + k)
 }
 
-/// How many of the first `last` positions are among the `size` positions after the first `before`.
-fn within(last: u64, before: u64, size: u64) -> u64
-    requires { before + size ≤ MAX_BLOCK * MAX_NODES }
-    ensures { result ≡ min last (before + size) - before }
+/// How many of the first `last` positions come after the first `before` and up to the position `end`.
+fn within(last: u64, before: u64, end: u64) -> u64
+    ensures { result ≡ min last end - before }
 {
-    last.min(before + size).saturating_sub(before)
+    last.min(end).saturating_sub(before)
 }

@@ -2,7 +2,7 @@
 //!
 //! Comes in: a line, which is a dimension with its format, and positions of it, counted from 1. Goes out: the
 //! coordinate of a position's owner, how many positions a processor owns, and how many lesser positions have the
-//! same owner. What holds in between: a processor owns one section under BLOCK and one section of each cycle under
+//! same owner. What holds in between: a processor owns one section under BLOCK and GEN_BLOCK and one section of each cycle under
 //! CYCLIC(k), so both counts are closed forms of how many positions up to a last one a processor owns, and no call
 //! asks for the owner of each position. No call takes memory or refuses.
 #![tactic(auto)]

@@ -55,7 +55,7 @@ factors most (x ∷ xs) some few =
 pub few_nodes : (ps : List ℕ) → IsGrid ps → All (λ n. (1 ≤ n) × (n ≤ MAX_NODES)) ps
 few_nodes ps is = factors MAX_NODES ps (product-some ps is.extents) is.nodes
 
-both : (a b : Bool) → (a && b) ≡ true → (a ≡ true) × (b ≡ true)
+pub both : (a b : Bool) → (a && b) ≡ true → (a ≡ true) × (b ≡ true)
 both true b h = (refl, h)
 both false b h = absurd cc
 

@@ -1,6 +1,9 @@
 -- The lines of distributed dimensions that break no rule.
 use Rattle.std.proofs.Common.{◌≡◌, ◌≢◌, ℕ, ℤ, pos, negsuc, ◌+◌, ◌*◌, ◌<◌, ◌≤◌, Bool, true, false, List, [], ◌∷◌, ◌++◌, get_or, nat_lt, Some, unsigned_abs, refl, sym, subst, ◌∙◌, arith}
-use Rattle.std.specs.Prelude.{All, int_lt, slice_get, ◌||◌}
+use Rattle.std.specs.Prelude.{All, int_lt, slice_get, sum, nat_le, length, option_map, option_and_then, Option, None, if◌then◌else◌, ◌==◌, ◌||◌, ◌&&◌}
+use Rattle.std.specs.List.{list_all}
+use Rattle.std.proofs.lemmas.Bool.{eqb-true}
+use Rattle.std.proofs.lemmas.List.Elements.{All-cons, All-nil}
 use Rattle.std.proofs.Math.Nat.{lt_of_mul-lt-mul_right, mul-le-mul_left, mul_comm}
 use Rattle.std.proofs.lemmas.Bool.Decides.{nat_tests}
 use Rattle.std.proofs.lemmas.Grind.{div_ceil_times}
@@ -18,9 +21,11 @@ use Rattle.expression_rules.specs.declared.dims.Dim.{Dim}
 use Rattle.expression_rules.specs.declared.evaluated.Evaluated.TheVariants as evaluated
 use Rattle.declarations.specs.Reasons.{when}
 use Rattle.distribution_rules.specs.declared.evaluated_formats.FormatValue.{FormatValue}
-use Rattle.distribution_rules.specs.declared.evaluated_formats.FormatValue.TheVariants.{Undistributed, DefaultBlock, Block, Cyclic}
-use Rattle.distribution_rules.specs.Distributed.{form_of}
-use Rattle.distribution_rules.specs.DistributionRules.{format_reasons, leaves_some}
+use Rattle.distribution_rules.specs.declared.evaluated_formats.FormatValue.TheVariants.{Undistributed, DefaultBlock, Block, Cyclic, GenBlock}
+use Rattle.distribution_rules.specs.Dimensions.{passes}
+use Rattle.distribution_rules.specs.Distributed.{form_of, gen_block}
+use Rattle.distribution_rules.specs.DistributionRules.{format_reasons, has_small_sum, known_sizes, leaves_some}
+use Rattle.distribution_rules.proofs.ArrangementExtents.{both}
 
 -- an element of a list of which all have a property
 pub got : {X : Type 0} (P : X → Type 0) (xs : List X) → All P xs → (k : ℕ) (x : X) → slice_get xs k ≡ Some x → P x
@@ -41,6 +46,10 @@ none_left (x ∷ xs) ys none = absurd cc
 pub neither : (a b : Bool) → (a || b) ≡ false → (a ≡ false) × (b ≡ false)
 neither true b none = absurd cc
 neither false b none = (refl, none)
+
+pub if_some : {A : Type 0} (test : Bool) (x : Option A) (a : A) → (if test then x else None) ≡ Some a → (test ≡ true) × (x ≡ Some a)
+if_some true x a is = (refl, is)
+if_some false x a is = absurd cc
 
 at_most : (limit n : ℕ) → nat_lt limit n ≡ false → n ≤ limit
 at_most limit n h = grind (arith, nat_tests)
@@ -67,23 +76,46 @@ cyclic_distributes k h = cc
 abbrev Good : ℕ → ℕ → Form → Type 0
 Good positions procs f = IsForm f positions procs × (f ≢ form.Whole)
 
+gen_distributes : (sizes : List ℕ) → form.Gen sizes ≢ form.Whole
+gen_distributes sizes h = cc
+
+small : (ns : List ℕ) → list_all (λ n. nat_le n MAX_BLOCK) ns ≡ true → All (λ n. n ≤ MAX_BLOCK) ns
+small [] h = All-nil (λ n. n ≤ MAX_BLOCK)
+small (n ∷ ns) h = let two = both (nat_le n MAX_BLOCK) (list_all (λ m. nat_le m MAX_BLOCK) ns) h in All-cons (λ m. m ≤ MAX_BLOCK) n ns (le n two.0) (small ns two.1)
+  where
+    le : (m : ℕ) → nat_le m MAX_BLOCK ≡ true → m ≤ MAX_BLOCK
+    le m e = grind (arith, nat_tests)
+
+-- blocks of known sizes
+blocks_are : (d : Dim) (p : ℕ) (g : Form) (ns : List ℕ) → nat_lt (sum ns) (extent d) ≡ false → gen_block p ns ≡ Some g → Good (extent d) p g
+blocks_are d p g ns taken is =
+    let tests = if_some ((length ns == p) && list_all (λ n. nat_le n MAX_BLOCK) ns) (Some (form.Gen ns)) g is in
+    let two = both (length ns == p) (list_all (λ n. nat_le n MAX_BLOCK) ns) tests.0 in
+    subst (Good (extent d) p) (same_Some (form.Gen ns) g tests.1) ((eqb-true (length ns) p two.0, small ns two.1, at_most (sum ns) (extent d) taken), gen_distributes ns)
+
+sizes_are : (d : Dim) (p : ℕ) (g : Form) (ns : Option (List ℕ)) → passes (λ n. nat_lt n (extent d)) (option_map sum ns) ≡ false →
+    option_and_then (gen_block p) ns ≡ Some g → Good (extent d) p g
+sizes_are d p g None taken is = absurd cc
+sizes_are d p g (Some ns) taken is = blocks_are d p g ns taken is
+
 -- the form of a format that breaks no rule
 pub form_is : (f : FormatValue) (d : Dim) (p : ℕ) (g : Form) → 1 ≤ p → extent d ≤ MAX_TEMPLATE_EXTENT → format_reasons f ≡ [] → leaves_some f p d ≡ false →
-    form_of f (extent d) p ≡ Some g → IsForm g (extent d) p × (g ≢ form.Whole)
-form_is Undistributed d p g some few none all is = absurd cc
-form_is DefaultBlock d p g some few none all is =
+    has_small_sum f (Some d) ≡ false → form_of f (extent d) p ≡ Some g → IsForm g (extent d) p × (g ≢ form.Whole)
+form_is Undistributed d p g some few none all taken is = absurd cc
+form_is DefaultBlock d p g some few none all taken is =
     subst (Good (extent d) p) (same_Some _ _ is) (
       (default_block-some (extent d) p, block_few (extent d) p some few, omega (arith, default_block-all (extent d) p some, mul_comm p (default_block (extent d) p))),
       block_distributes (default_block (extent d) p),
     )
-form_is (Block evaluated.Invalid) d p g some few none all is = absurd cc
-form_is (Block evaluated.Unknown) d p g some few none all is = absurd cc
-form_is (Block (evaluated.Known m)) d p g some few none all is =
+form_is (Block evaluated.Invalid) d p g some few none all taken is = absurd cc
+form_is (Block evaluated.Unknown) d p g some few none all taken is = absurd cc
+form_is (Block (evaluated.Known m)) d p g some few none all taken is =
     let tests = two_none _ _ _ _ none in
     let size = size_is MAX_BLOCK m tests.0 tests.1 in
     subst (Good (extent d) p) (same_Some _ _ is) ((size.0, size.1, at_most (unsigned_abs m * p) (extent d) all), block_distributes (unsigned_abs m))
-form_is (Cyclic evaluated.Invalid) d p g some few none all is = absurd cc
-form_is (Cyclic evaluated.Unknown) d p g some few none all is = absurd cc
-form_is (Cyclic (evaluated.Known k)) d p g some few none all is =
+form_is (Cyclic evaluated.Invalid) d p g some few none all taken is = absurd cc
+form_is (Cyclic evaluated.Unknown) d p g some few none all taken is = absurd cc
+form_is (Cyclic (evaluated.Known k)) d p g some few none all taken is =
     let tests = two_none _ _ _ _ none in
     subst (Good (extent d) p) (same_Some _ _ is) (size_is MAX_CYCLIC k tests.0 tests.1, cyclic_distributes (unsigned_abs k))
+form_is (GenBlock sizes) d p g some few none all taken is = sizes_are d p g (known_sizes sizes) taken is

@@ -21,18 +21,18 @@ use Rattle.expression_rules.specs.declared.dims.Dim.{Dim}
 use Rattle.declarations.specs.Reasons.{when}
 use Rattle.distribution_rules.specs.declared.evaluated_formats.DistributionValues.{DistributionValues}
 use Rattle.distribution_rules.specs.declared.evaluated_formats.FormatValue.{FormatValue}
-use Rattle.distribution_rules.specs.declared.evaluated_formats.FormatValue.TheVariants.{Undistributed, DefaultBlock, Block, Cyclic}
+use Rattle.distribution_rules.specs.declared.evaluated_formats.FormatValue.TheVariants.{Undistributed, DefaultBlock, Block, Cyclic, GenBlock}
 use Rattle.distribution_rules.specs.declared.evaluated_formats.Processors.{Processors}
 use Rattle.distribution_rules.specs.declared.evaluated_formats.Processors.TheVariants.{Extents, Unknown, Missing}
 use Rattle.distribution_rules.specs.declared.objects.Object.{Object}
 use Rattle.distribution_rules.specs.Dimensions.{is_too_wide}
 use Rattle.distribution_rules.specs.Distributed.{all_or_none, and_more, are_formats, distributed_onto, form_of, has_all_nodes, map_dim, map_dim_with}
-use Rattle.distribution_rules.specs.DistributionRules.{DistributedDim, distributed_dims, distributed_from, format_reasons, is_block_too_small, leaves_some, processors_reasons}
+use Rattle.distribution_rules.specs.DistributionRules.{DistributedDim, are_unfit, distributed_dims, distributed_from, format_reasons, has_other_count, has_small_sum, have_small_sum, is_unfit, leaves_some, processors_reasons}
 use Rattle.distribution_rules.specs.DistributedSteps.{distributed_dim}
 use Rattle.distribution_rules.specs.MappingOf.{GivesMapping, IsMappingOf}
 use Rattle.distribution_rules.specs.Setting.{Setting, has_kind, is_array_kind, is_mapped_kind}
 use Rattle.distribution_rules.proofs.ArrangementExtents.{as_many, few_nodes, is_grid}
-use Rattle.distribution_rules.proofs.DistributedLines.{form_is, got, neither, none_left, two_none}
+use Rattle.distribution_rules.proofs.DistributedLines.{form_is, got, if_some, neither, none_left, two_none}
 
 -- ---- the entries
 
@@ -106,21 +106,24 @@ none_made : (ds : List (Option Dim)) (ps : List ℕ) (dim g : ℕ) (ms : List Ma
 none_made ds ps dim g ms is = subst (Made ds ps dim g) (same_Some [] ms is) (All-nil (IsEntry ds ps dim g), λ i j d before within. absurd (omega (arith, within)))
 
 -- the entries from a dimension on, which is distributed
-more : (ds : List (Option Dim)) (ps : List ℕ) (f : FormatValue) (fs : List FormatValue) (dim g : ℕ) (b : Option Dim) (q : ℕ) (ms : List MapDim) (dds : List DistributedDim) →
+more : (ds : List (Option Dim)) (ps : List ℕ) (f : FormatValue) (fs : List FormatValue) (dim g : ℕ) (b : Option Dim) (bs : List (Option Dim)) (q : ℕ) (ms : List MapDim) (dds : List DistributedDim) →
     slice_get ds dim ≡ Some b → slice_get ps g ≡ Some q → 1 ≤ q →
-    ((xs : List MapDim) → flat_map format_reasons fs ≡ [] → list_any is_block_too_small dds ≡ false → all_or_none map_dim dds ≡ Some xs → Made ds ps (suc dim) (suc g) xs) →
+    ((xs : List MapDim) → flat_map format_reasons fs ≡ [] → list_any is_unfit dds ≡ false → have_small_sum fs bs ≡ false → all_or_none map_dim dds ≡ Some xs →
+    Made ds ps (suc dim) (suc g) xs) →
     format_reasons f ++ flat_map format_reasons fs ≡ [] →
-    (is_block_too_small (distributed_dim f dim b g q) || list_any is_block_too_small dds) ≡ false →
+    (is_unfit (distributed_dim f dim b g q) || list_any is_unfit dds) ≡ false → (has_small_sum f b || have_small_sum fs bs) ≡ false →
     and_more (map_dim (distributed_dim f dim b g q)) (all_or_none map_dim dds) ≡ Some ms → Made ds ps dim g ms
-more ds ps f fs dim g None q ms dds at on some rest none all is = absurd cc
-more ds ps f fs dim g (Some d) q ms dds at on some rest none all is =
+more ds ps f fs dim g None bs q ms dds at on some rest none all taken is = absurd cc
+more ds ps f fs dim g (Some d) bs q ms dds at on some rest none all taken is =
     let make = map_dim_with (distributed_dim f dim (Some d) g q) d in
     let s = split (is_too_wide (Some d)) (form_of f (extent d) q) (all_or_none map_dim dds) make ms is in
     let free = none_left (format_reasons f) (flat_map format_reasons fs) none in
-    let large = neither (leaves_some f q d) (list_any is_block_too_small dds) all in
+    let fit = neither (are_unfit f q (Some d)) (list_any is_unfit dds) all in
+    let large = neither (has_other_count f q) (leaves_some f q d) fit.0 in
+    let sums = neither (has_small_sum f (Some d)) (have_small_sum fs bs) taken in
     let few : extent d ≤ MAX_TEMPLATE_EXTENT = at_most MAX_TEMPLATE_EXTENT (extent d) s.within in
-    let good = form_is f d q s.form some few free.0 large.0 s.is in
-    let others = rest s.others free.1 large.1 s.after in
+    let good = form_is f d q s.form some few free.0 large.1 sums.0 s.is in
+    let others = rest s.others free.1 fit.1 sums.1 s.after in
     let first : IsEntry ds ps dim g (make s.form) = record {
       at = dim;
       bounds = d;
@@ -151,34 +154,35 @@ next : {X : Type 0} (xs : List X) (n : ℕ) (y : X) (ys : List X) → GoesOn xs 
 next xs n y ys on j = let same_place : suc n + j ≡ n + suc j = omega arith in ap (slice_get xs) same_place ∙ on (suc j)
 
 made : (ds : List (Option Dim)) (ps : List ℕ) (dim g : ℕ) (fs : List FormatValue) (bs : List (Option Dim)) (qs : List ℕ) (ms : List MapDim) →
-    GoesOn ds dim bs → GoesOn ps g qs → All (λ q. 1 ≤ q) qs → flat_map format_reasons fs ≡ [] → list_any is_block_too_small (distributed_from dim g fs bs qs) ≡ false →
-    all_or_none map_dim (distributed_from dim g fs bs qs) ≡ Some ms → Made ds ps dim g ms
-made ds ps dim g [] bs qs ms at on some none all is = none_made ds ps dim g ms is
-made ds ps dim g (Undistributed ∷ fs) [] qs ms at on some none all is = none_made ds ps dim g ms is
-made ds ps dim g (Undistributed ∷ fs) (b ∷ bs) qs ms at on some none all is =
-    let rest = made ds ps (suc dim) g fs bs qs ms (next ds dim b bs at) on some none all is in
+    GoesOn ds dim bs → GoesOn ps g qs → All (λ q. 1 ≤ q) qs → flat_map format_reasons fs ≡ [] → list_any is_unfit (distributed_from dim g fs bs qs) ≡ false →
+    have_small_sum fs bs ≡ false → all_or_none map_dim (distributed_from dim g fs bs qs) ≡ Some ms → Made ds ps dim g ms
+made ds ps dim g [] bs qs ms at on some none all taken is = none_made ds ps dim g ms is
+made ds ps dim g (Undistributed ∷ fs) [] qs ms at on some none all taken is = none_made ds ps dim g ms is
+made ds ps dim g (Undistributed ∷ fs) (b ∷ bs) qs ms at on some none all taken is =
+    let rest = made ds ps (suc dim) g fs bs qs ms (next ds dim b bs at) on some none all taken is in
     (λ k z within. weaken ds ps dim g g _ (omega arith) (rest.0 k z within), rest.1)
-made ds ps dim g (DefaultBlock ∷ fs) [] qs ms at on some none all is = none_made ds ps dim g ms is
-made ds ps dim g (DefaultBlock ∷ fs) (b ∷ bs) [] ms at on some none all is = none_made ds ps dim g ms is
-made ds ps dim g (DefaultBlock ∷ fs) (b ∷ bs) (q ∷ qs) ms at on some none all is =
-    more ds ps DefaultBlock fs dim g b q ms (distributed_from (suc dim) (suc g) fs bs qs) (here ds dim b bs at) (here ps g q qs on) (All-head (λ q. 1 ≤ q) q qs some)
-    (λ xs. made ds ps (suc dim) (suc g) fs bs qs xs (next ds dim b bs at) (next ps g q qs on) (All-tail (λ q. 1 ≤ q) q qs some)) none all is
-made ds ps dim g (Block m ∷ fs) [] qs ms at on some none all is = none_made ds ps dim g ms is
-made ds ps dim g (Block m ∷ fs) (b ∷ bs) [] ms at on some none all is = none_made ds ps dim g ms is
-made ds ps dim g (Block m ∷ fs) (b ∷ bs) (q ∷ qs) ms at on some none all is =
-    more ds ps (Block m) fs dim g b q ms (distributed_from (suc dim) (suc g) fs bs qs) (here ds dim b bs at) (here ps g q qs on) (All-head (λ q. 1 ≤ q) q qs some)
-    (λ xs. made ds ps (suc dim) (suc g) fs bs qs xs (next ds dim b bs at) (next ps g q qs on) (All-tail (λ q. 1 ≤ q) q qs some)) none all is
-made ds ps dim g (Cyclic k ∷ fs) [] qs ms at on some none all is = none_made ds ps dim g ms is
-made ds ps dim g (Cyclic k ∷ fs) (b ∷ bs) [] ms at on some none all is = none_made ds ps dim g ms is
-made ds ps dim g (Cyclic k ∷ fs) (b ∷ bs) (q ∷ qs) ms at on some none all is =
-    more ds ps (Cyclic k) fs dim g b q ms (distributed_from (suc dim) (suc g) fs bs qs) (here ds dim b bs at) (here ps g q qs on) (All-head (λ q. 1 ≤ q) q qs some)
-    (λ xs. made ds ps (suc dim) (suc g) fs bs qs xs (next ds dim b bs at) (next ps g q qs on) (All-tail (λ q. 1 ≤ q) q qs some)) none all is
+made ds ps dim g (DefaultBlock ∷ fs) [] qs ms at on some none all taken is = none_made ds ps dim g ms is
+made ds ps dim g (DefaultBlock ∷ fs) (b ∷ bs) [] ms at on some none all taken is = none_made ds ps dim g ms is
+made ds ps dim g (DefaultBlock ∷ fs) (b ∷ bs) (q ∷ qs) ms at on some none all taken is =
+    more ds ps DefaultBlock fs dim g b bs q ms (distributed_from (suc dim) (suc g) fs bs qs) (here ds dim b bs at) (here ps g q qs on) (All-head (λ q. 1 ≤ q) q qs some)
+    (λ xs. made ds ps (suc dim) (suc g) fs bs qs xs (next ds dim b bs at) (next ps g q qs on) (All-tail (λ q. 1 ≤ q) q qs some)) none all taken is
+made ds ps dim g (Block m ∷ fs) [] qs ms at on some none all taken is = none_made ds ps dim g ms is
+made ds ps dim g (Block m ∷ fs) (b ∷ bs) [] ms at on some none all taken is = none_made ds ps dim g ms is
+made ds ps dim g (Block m ∷ fs) (b ∷ bs) (q ∷ qs) ms at on some none all taken is =
+    more ds ps (Block m) fs dim g b bs q ms (distributed_from (suc dim) (suc g) fs bs qs) (here ds dim b bs at) (here ps g q qs on) (All-head (λ q. 1 ≤ q) q qs some)
+    (λ xs. made ds ps (suc dim) (suc g) fs bs qs xs (next ds dim b bs at) (next ps g q qs on) (All-tail (λ q. 1 ≤ q) q qs some)) none all taken is
+made ds ps dim g (Cyclic k ∷ fs) [] qs ms at on some none all taken is = none_made ds ps dim g ms is
+made ds ps dim g (Cyclic k ∷ fs) (b ∷ bs) [] ms at on some none all taken is = none_made ds ps dim g ms is
+made ds ps dim g (Cyclic k ∷ fs) (b ∷ bs) (q ∷ qs) ms at on some none all taken is =
+    more ds ps (Cyclic k) fs dim g b bs q ms (distributed_from (suc dim) (suc g) fs bs qs) (here ds dim b bs at) (here ps g q qs on) (All-head (λ q. 1 ≤ q) q qs some)
+    (λ xs. made ds ps (suc dim) (suc g) fs bs qs xs (next ds dim b bs at) (next ps g q qs on) (All-tail (λ q. 1 ≤ q) q qs some)) none all taken is
+made ds ps dim g (GenBlock ns ∷ fs) [] qs ms at on some none all taken is = none_made ds ps dim g ms is
+made ds ps dim g (GenBlock ns ∷ fs) (b ∷ bs) [] ms at on some none all taken is = none_made ds ps dim g ms is
+made ds ps dim g (GenBlock ns ∷ fs) (b ∷ bs) (q ∷ qs) ms at on some none all taken is =
+    more ds ps (GenBlock ns) fs dim g b bs q ms (distributed_from (suc dim) (suc g) fs bs qs) (here ds dim b bs at) (here ps g q qs on) (All-head (λ q. 1 ≤ q) q qs some)
+    (λ xs. made ds ps (suc dim) (suc g) fs bs qs xs (next ds dim b bs at) (next ps g q qs on) (All-tail (λ q. 1 ≤ q) q qs some)) none all taken is
 
 -- ---- the mapping
-
-if_some : {A : Type 0} (test : Bool) (x : Option A) (a : A) → (if test then x else None) ≡ Some a → (test ≡ true) × (x ≡ Some a)
-if_some true x a is = (refl, is)
-if_some false x a is = absurd cc
 
 map_some : {A B : Type 0} (f : A → B) (x : Option A) (b : B) → option_map f x ≡ Some b → (a : A) × (x ≡ Some a) × (f a ≡ b)
 map_some f None b is = absurd cc
@@ -211,9 +215,10 @@ valid grid ds ps es is onto bounded entries = record {
 }
 
 onto_processors : (grid : List ℕ) (fs : List FormatValue) (ds : List (Option Dim)) (p : Processors) (m : Mapping) → IsGrid grid → All (λ d. IfSome d IsDim) ds →
-    flat_map format_reasons fs ≡ [] → list_any is_block_too_small (distributed_dims (record { formats = fs; processors = p }) ds) ≡ false →
+    flat_map format_reasons fs ≡ [] → list_any is_unfit (distributed_dims (record { formats = fs; processors = p }) ds) ≡ false →
+    have_small_sum fs ds ≡ false →
     (if are_formats fs ds then distributed_onto grid fs ds p else None) ≡ Some m → IsMappingOf grid ds m
-onto_processors grid fs ds (Extents ps) m is bounded none all gives =
+onto_processors grid fs ds (Extents ps) m is bounded none all taken gives =
     let made_of = all_or_none map_dim (distributed_from 0 0 fs ds ps) in
     let onto = (if_some (are_formats fs ds) (distributed_onto grid fs ds (Extents ps)) m gives).1 in
     let nodes = if_some (has_all_nodes grid ps) (option_map (λ es. record { grid = ps; dims = es }) made_of) m onto in
@@ -221,20 +226,22 @@ onto_processors grid fs ds (Extents ps) m is bounded none all gives =
     let arrangement = is_grid grid ps is nodes.0 in
     subst (IsMappingOf grid ds) entries.2
     (valid grid ds ps entries.0 arrangement (as_many grid ps nodes.0) bounded
-    (made ds ps 0 0 fs ds ps entries.0 (from_start ds) (from_start ps) arrangement.extents none all entries.1))
+    (made ds ps 0 0 fs ds ps entries.0 (from_start ds) (from_start ps) arrangement.extents none all taken entries.1))
   where
     from_start : {X : Type 0} (xs : List X) → GoesOn xs 0 xs
     from_start xs j = let same_place : 0 + j ≡ j = omega arith in ap (slice_get xs) same_place
-onto_processors grid fs ds Unknown m is bounded none all gives = let x = if_some (are_formats fs ds) None m gives in absurd cc
-onto_processors grid fs ds (Missing why) m is bounded none all gives = let x = if_some (are_formats fs ds) None m gives in absurd cc
+onto_processors grid fs ds Unknown m is bounded none all taken gives = let x = if_some (are_formats fs ds) None m gives in absurd cc
+onto_processors grid fs ds (Missing why) m is bounded none all taken gives = let x = if_some (are_formats fs ds) None m gives in absurd cc
 
--- no block is too small
-large_enough : (wrong wide small : Bool) → (if wrong then reason.BadDirective ∷ [] else (when wide reason.Limit ++ when small reason.BadDirective)) ≡ [] → small ≡ false
-large_enough true wide small none = absurd cc
-large_enough false wide small none = (two_none wide small reason.Limit reason.BadDirective none).1
+-- the blocks fit
+fit_all : (wrong wide unfit small : Bool) → (if wrong then reason.BadDirective ∷ [] else (when wide reason.Limit ++ when (unfit || small) reason.BadDirective)) ≡ [] →
+    (unfit ≡ false) × (small ≡ false)
+fit_all true wide unfit small none = absurd cc
+fit_all false wide unfit small none = neither unfit small (two_none wide (unfit || small) reason.Limit reason.BadDirective none).1
 
 pub gives_mapping : (s : Setting) (v : DistributionValues) (o : Object) (m : Mapping) → GivesMapping s v o m
 gives_mapping s v o m is bounded own other gives =
+    let fit = fit_all (not (has_kind is_mapped_kind (Some o)) || not (length v.formats == length o.dims)) (has_kind is_array_kind (Some o) && list_any is_too_wide o.dims)
+    (list_any is_unfit (distributed_dims v o.dims)) (have_small_sum v.formats o.dims) other in
     onto_processors s.grid v.formats o.dims v.processors m is bounded (none_left (flat_map format_reasons v.formats) (processors_reasons v.processors) own).0
-    (large_enough (not (has_kind is_mapped_kind (Some o)) || not (length v.formats == length o.dims))
-    (has_kind is_array_kind (Some o) && list_any is_too_wide o.dims) (list_any is_block_too_small (distributed_dims v o.dims)) other) gives
+    fit.0 fit.1 gives

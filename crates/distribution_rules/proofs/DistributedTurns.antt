@@ -10,9 +10,9 @@ use Rattle.mappings.specs.declared.mapping.MapDim.{MapDim}
 use Rattle.distribution_rules.specs.Distributed.{all_or_none, and_more, map_dim}
 use Rattle.expression_rules.specs.declared.dims.Dim.{Dim}
 use Rattle.distribution_rules.specs.declared.evaluated_formats.FormatValue.{FormatValue}
-use Rattle.distribution_rules.specs.declared.evaluated_formats.FormatValue.TheVariants.{Undistributed, DefaultBlock, Block, Cyclic}
-use Rattle.distribution_rules.specs.DistributionRules.{DistributedDim, distributed_from, is_block_too_small}
-use Rattle.distribution_rules.specs.DistributedSteps.{and_entries, distributed_at, distributed_dim, entry_if, procs_for, too_small_at, used}
+use Rattle.distribution_rules.specs.declared.evaluated_formats.FormatValue.TheVariants.{Undistributed, DefaultBlock, Block, Cyclic, GenBlock}
+use Rattle.distribution_rules.specs.DistributionRules.{DistributedDim, distributed_from, is_unfit}
+use Rattle.distribution_rules.specs.DistributedSteps.{and_entries, distributed_at, distributed_dim, entry_if, procs_for, unfit_at, used}
 use Rattle.distribution_rules.proofs.ArrangementExtents.{few_nodes}
 
 -- without processors
@@ -26,6 +26,8 @@ no_procs dim g (Block m ∷ fs) [] = refl
 no_procs dim g (Block m ∷ fs) (b ∷ bs) = refl
 no_procs dim g (Cyclic k ∷ fs) [] = refl
 no_procs dim g (Cyclic k ∷ fs) (b ∷ bs) = refl
+no_procs dim g (GenBlock ns ∷ fs) [] = refl
+no_procs dim g (GenBlock ns ∷ fs) (b ∷ bs) = refl
 
 add-none : (n : ℕ) → n + 0 ≡ n
 add-none n = omega arith
@@ -50,6 +52,9 @@ step (Block n) dim g fs b bs (p ∷ ps) =
 step (Cyclic n) dim g fs b bs [] = sym (no_procs (suc dim) (g + 0) fs bs)
 step (Cyclic n) dim g fs b bs (p ∷ ps) =
     ap (λ m. record { format = Cyclic n; dim = dim; bounds = b; grid_dim = g; procs = p } ∷ distributed_from (suc dim) m fs bs ps) (sym (add-one g))
+step (GenBlock ns) dim g fs b bs [] = sym (no_procs (suc dim) (g + 0) fs bs)
+step (GenBlock ns) dim g fs b bs (p ∷ ps) =
+    ap (λ m. record { format = GenBlock ns; dim = dim; bounds = b; grid_dim = g; procs = p } ∷ distributed_from (suc dim) m fs bs ps) (sym (add-one g))
 
 -- the distributed dimensions from a dimension on, where so many dimensions of the arrangement are taken
 abbrev pub from : List FormatValue → List (Option Dim) → List ℕ → ℕ → ℕ → List DistributedDim
@@ -80,9 +85,9 @@ or_false : (a : Bool) → (a || false) ≡ a
 or_false true = refl
 or_false false = refl
 
-too_small_alone : (f : FormatValue) (i : ℕ) (b : Option Dim) (g : ℕ) (taken : Option ℕ) → list_any is_block_too_small (distributed_at f i b g taken) ≡ too_small_at f b taken
-too_small_alone f i b g None = refl
-too_small_alone f i b g (Some p) = or_false (too_small_at f b (Some p))
+unfit_alone : (f : FormatValue) (i : ℕ) (b : Option Dim) (g : ℕ) (taken : Option ℕ) → list_any is_unfit (distributed_at f i b g taken) ≡ unfit_at f b taken
+unfit_alone f i b g None = refl
+unfit_alone f i b g (Some p) = or_false (unfit_at f b (Some p))
 
 or_assoc : (a b c : Bool) → ((a || b) || c) ≡ (a || (b || c))
 or_assoc true b c = refl
@@ -92,18 +97,18 @@ any_append : {X : Type 0} (test : X → Bool) (xs ys : List X) → list_any test
 any_append test [] ys = refl
 any_append test (x ∷ xs) ys = ap (λ b. test x || b) (any_append test xs ys) ∙ sym (or_assoc (test x) (list_any test xs) (list_any test ys))
 
--- a turn of a loop that looks for a block that is too small
+-- a turn of a loop that looks for blocks that don't fit
 pub any_next : (fs : List FormatValue) (bs : List (Option Dim)) (ps : List ℕ) (i g : ℕ) (y : FormatValue) (z : Option Dim) (taken : Option ℕ) (so_far found all : Bool) (h : ℕ) →
-    i < length fs → i < length bs → taken ≡ procs_for (get_or fs i y) (drop g ps) → found ≡ too_small_at (get_or fs i y) (get_or bs i z) taken → h ≡ g + used taken →
-    (so_far || list_any is_block_too_small (from fs bs ps i g)) ≡ all → ((so_far || found) || list_any is_block_too_small (from fs bs ps (i + 1) h)) ≡ all
+    i < length fs → i < length bs → taken ≡ procs_for (get_or fs i y) (drop g ps) → found ≡ unfit_at (get_or fs i y) (get_or bs i z) taken → h ≡ g + used taken →
+    (so_far || list_any is_unfit (from fs bs ps i g)) ≡ all → ((so_far || found) || list_any is_unfit (from fs bs ps (i + 1) h)) ≡ all
 any_next fs bs ps i g y z taken so_far found all h in_formats in_dims takes of_one next so_far_is =
     let f = get_or fs i y in
     let b = get_or bs i z in
-    or_assoc so_far found (list_any is_block_too_small (from fs bs ps (i + 1) h))
+    or_assoc so_far found (list_any is_unfit (from fs bs ps (i + 1) h))
     ∙ ap (λ t. so_far || t)
-    ((λ k. (of_one ∙ sym (too_small_alone f i b g taken)) k || list_any is_block_too_small (from fs bs ps (i + 1) (next k)))
-    ∙ sym (any_append is_block_too_small (distributed_at f i b g taken) (from fs bs ps (i + 1) (g + used taken)))
-    ∙ sym (ap (list_any is_block_too_small) (from_next fs bs ps i g y z taken in_formats in_dims takes)))
+    ((λ k. (of_one ∙ sym (unfit_alone f i b g taken)) k || list_any is_unfit (from fs bs ps (i + 1) (next k)))
+    ∙ sym (any_append is_unfit (distributed_at f i b g taken) (from fs bs ps (i + 1) (g + used taken)))
+    ∙ sym (ap (list_any is_unfit) (from_next fs bs ps i g y z taken in_formats in_dims takes)))
     ∙ so_far_is
 
 -- ---- the entries of a mapping
@@ -164,6 +169,8 @@ first_few (Block m) [] few = tt
 first_few (Block m) (p ∷ ps) few = All-head (λ n. (1 ≤ n) × (n ≤ MAX_NODES)) p ps few
 first_few (Cyclic k) [] few = tt
 first_few (Cyclic k) (p ∷ ps) few = All-head (λ n. (1 ≤ n) × (n ≤ MAX_NODES)) p ps few
+first_few (GenBlock ns) [] few = tt
+first_few (GenBlock ns) (p ∷ ps) few = All-head (λ n. (1 ≤ n) × (n ≤ MAX_NODES)) p ps few
 
 -- it is one of the extents
 pub taken_few : (f : FormatValue) (ps : List ℕ) (g : ℕ) (taken : Option ℕ) → taken ≡ procs_for f (drop g ps) → IsGrid ps → IfSome taken (λ n. (1 ≤ n) × (n ≤ MAX_NODES))

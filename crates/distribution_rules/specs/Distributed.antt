@@ -1,8 +1,9 @@
 -- The mapping that DISTRIBUTE gives its object (HPF 2.0, 3.3).
 use Rattle.std.specs.Prelude.{ℕ, ◌==◌, Bool, ◌&&◌, nat_le, unsigned_abs, List, [], ◌∷◌, length, pos, Option, Some, None, option_map, option_and_then, if◌then◌else◌}
+use Rattle.std.specs.List.{list_all}
 use Rattle.hpf_base.specs.ElementOrder.{product}
 use Rattle.mappings.specs.Owner.{default_block}
-use Rattle.hpf_base.specs.declared.limits.TheConstants.{MAX_RANK}
+use Rattle.hpf_base.specs.declared.limits.TheConstants.{MAX_BLOCK, MAX_RANK}
 use Rattle.mappings.specs.declared.mapping.AlignDim.TheVariants.{Linear}
 use Rattle.mappings.specs.declared.mapping.Form.{Form}
 use Rattle.mappings.specs.declared.mapping.Form.TheVariants as form
@@ -13,11 +14,11 @@ use Rattle.expression_rules.specs.declared.dims.Dim.{Dim}
 use Rattle.expression_rules.specs.declared.evaluated.Evaluated.TheVariants as evaluated
 use Rattle.distribution_rules.specs.declared.evaluated_formats.DistributionValues.{DistributionValues}
 use Rattle.distribution_rules.specs.declared.evaluated_formats.FormatValue.{FormatValue}
-use Rattle.distribution_rules.specs.declared.evaluated_formats.FormatValue.TheVariants.{DefaultBlock, Block, Cyclic}
+use Rattle.distribution_rules.specs.declared.evaluated_formats.FormatValue.TheVariants.{DefaultBlock, Block, Cyclic, GenBlock}
 use Rattle.distribution_rules.specs.declared.evaluated_formats.Processors.{Processors}
 use Rattle.distribution_rules.specs.declared.evaluated_formats.Processors.TheVariants.{Extents}
 use Rattle.distribution_rules.specs.Dimensions.{is_too_wide}
-use Rattle.distribution_rules.specs.DistributionRules.{DistributedDim, distributed_from}
+use Rattle.distribution_rules.specs.DistributionRules.{DistributedDim, distributed_from, known_sizes}
 use Rattle.distribution_rules.specs.Setting.{Setting}
 
 -- what is made of each, where it is made of all
@@ -29,11 +30,16 @@ abbrev pub all_or_none : {A B : Type 0} → (A → Option B) → List A → Opti
 all_or_none f [] = Some []
 all_or_none f (a ∷ as') = and_more (f a) (all_or_none f as')
 
+-- blocks of these sizes, one a processor, none of them above the limit
+abbrev pub gen_block : ℕ → List ℕ → Option Form
+gen_block procs sizes = if (length sizes == procs) && list_all (λ n. nat_le n MAX_BLOCK) sizes then Some (form.Gen sizes) else None
+
 -- the format of a dimension of this extent on so many processors
 abbrev pub form_of : FormatValue → ℕ → ℕ → Option Form
 form_of DefaultBlock extent procs = Some (form.Block (default_block extent procs))
 form_of (Block (evaluated.Known m)) extent procs = Some (form.Block (unsigned_abs m))
 form_of (Cyclic (evaluated.Known k)) extent procs = Some (form.Cyclic (unsigned_abs k))
+form_of (GenBlock sizes) extent procs = option_and_then (gen_block procs) (known_sizes sizes)
 form_of f extent procs = None
 
 abbrev pub map_dim_with : DistributedDim → Dim → Form → MapDim

@@ -1,12 +1,11 @@
 -- What private contracts see of distributed dimensions, one after the other. No public clause cites this file.
-use Rattle.std.specs.Prelude.{ℕ, Bool, false, List, [], ◌∷◌, ◌++◌, Option, Some, None, option_map, Vec}
+use Rattle.std.specs.Prelude.{ℕ, ◌+◌, Bool, false, List, [], ◌∷◌, ◌++◌, sum, Option, Some, None, option_map, Vec}
 use Rattle.std.specs.declared.alloc.Global.{Global}
 use Rattle.mappings.specs.declared.mapping.MapDim.{MapDim}
 use Rattle.expression_rules.specs.declared.dims.Dim.{Dim}
 use Rattle.distribution_rules.specs.declared.evaluated_formats.FormatValue.{FormatValue}
 use Rattle.distribution_rules.specs.declared.evaluated_formats.FormatValue.TheVariants.{Undistributed}
-use Rattle.distribution_rules.specs.Dimensions.{passes}
-use Rattle.distribution_rules.specs.DistributionRules.{DistributedDim, leaves_some}
+use Rattle.distribution_rules.specs.DistributionRules.{DistributedDim, are_unfit}
 
 -- the extent of the next dimension of an arrangement, where a format distributes
 abbrev pub procs_for : FormatValue → List ℕ → Option ℕ
@@ -27,9 +26,21 @@ abbrev pub distributed_at : FormatValue → ℕ → Option Dim → ℕ → Optio
 distributed_at f dim b grid_dim None = []
 distributed_at f dim b grid_dim (Some p) = distributed_dim f dim b grid_dim p ∷ []
 
-abbrev pub too_small_at : FormatValue → Option Dim → Option ℕ → Bool
-too_small_at f b None = false
-too_small_at f b (Some p) = passes (leaves_some f p) b
+abbrev pub unfit_at : FormatValue → Option Dim → Option ℕ → Bool
+unfit_at f b None = false
+unfit_at f b (Some p) = are_unfit f p b
+
+-- sizes, and more after them, where all are known
+abbrev pub and_sizes : List ℕ → Option (List ℕ) → Option (List ℕ)
+and_sizes ns ms = option_map (λ more. ns ++ more) ms
+
+-- sizes that a vector may hold
+abbrev pub size_list : Option (Vec ℕ Global) → Option (List ℕ)
+size_list ns = option_map (λ v. v.items) ns
+
+-- how many positions blocks take, after so many, where all sizes are known
+abbrev pub and_taken : ℕ → Option (List ℕ) → Option ℕ
+and_taken n ms = option_map (λ more. n + sum more) ms
 
 -- entries of a mapping, and more after them, where all are known
 abbrev pub and_entries : Option (List MapDim) → Option (List MapDim) → Option (List MapDim)

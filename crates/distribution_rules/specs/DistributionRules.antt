@@ -1,5 +1,5 @@
--- The rules of DISTRIBUTE and REDISTRIBUTE (HPF 2.0, 3.3 and 8.3).
-use Rattle.std.specs.Prelude.{ℕ, suc, ◌==◌, ◌*◌, Bool, true, false, ◌&&◌, ◌||◌, not, nat_lt, int_lt, unsigned_abs, List, [], ◌∷◌, ◌++◌, filter, map, length, ℤ, pos, Option, Some, None, if◌then◌else◌}
+-- The rules of DISTRIBUTE and REDISTRIBUTE (HPF 2.0, 3.3 and 8.3) and of GEN_BLOCK (approved extensions).
+use Rattle.std.specs.Prelude.{ℕ, suc, ◌==◌, ◌*◌, Bool, true, false, ◌&&◌, ◌||◌, not, nat_lt, int_lt, unsigned_abs, List, [], ◌∷◌, ◌++◌, filter, map, length, sum, ℤ, pos, Option, Some, None, option_map, if◌then◌else◌}
 use Rattle.std.specs.List.{list_any, flat_map}
 use Rattle.hpf_base.specs.ElementOrder.{product}
 use Rattle.hpf_base.specs.declared.limits.TheConstants.{MAX_BLOCK, MAX_CYCLIC}
@@ -16,7 +16,7 @@ use Rattle.declarations.specs.Reasons.{when}
 use Rattle.distribution_rules.specs.declared.objects.Object.{Object}
 use Rattle.distribution_rules.specs.declared.evaluated_formats.DistributionValues.{DistributionValues}
 use Rattle.distribution_rules.specs.declared.evaluated_formats.FormatValue.{FormatValue}
-use Rattle.distribution_rules.specs.declared.evaluated_formats.FormatValue.TheVariants.{Undistributed, DefaultBlock, Block, Cyclic}
+use Rattle.distribution_rules.specs.declared.evaluated_formats.FormatValue.TheVariants.{Undistributed, DefaultBlock, Block, Cyclic, GenBlock}
 use Rattle.distribution_rules.specs.declared.evaluated_formats.Processors.{Processors}
 use Rattle.distribution_rules.specs.declared.evaluated_formats.Processors.TheVariants.{Extents, Unknown, Missing}
 use Rattle.distribution_rules.specs.Dimensions.{passes, is_empty_dim, is_too_wide, extents}
@@ -31,6 +31,7 @@ format_value s (directive.Block None) = DefaultBlock
 format_value s (directive.Block (Some m)) = Block (value_in s m)
 format_value s (directive.Cyclic None) = Cyclic (evaluated.Known (pos 1))
 format_value s (directive.Cyclic (Some k)) = Cyclic (value_in s k)
+format_value s (directive.GenBlock sizes) = GenBlock (map (value_in s) sizes)
 
 abbrev pub is_distributed : directive.Format → Bool
 is_distributed directive.Undistributed = false
@@ -69,15 +70,16 @@ distribution_values s d = record {
 
 -- ---- what is wrong with it, whatever its distributees are
 
--- m of BLOCK(m) and k of CYCLIC(k): constant, at least 1, and no more than a limit
-abbrev pub size_reasons : ℕ → Evaluated ℤ → List Reason
-size_reasons most evaluated.Invalid = reason.BadConstant ∷ []
-size_reasons most evaluated.Unknown = []
-size_reasons most (evaluated.Known n) = when (int_lt n (pos 1)) reason.BadDirective ++ when (int_lt (pos most) n) reason.Limit
+-- m of BLOCK(m), k of CYCLIC(k) and a size of GEN_BLOCK: constant, at least so much, and no more than a limit
+abbrev pub size_reasons : ℕ → ℕ → Evaluated ℤ → List Reason
+size_reasons least most evaluated.Invalid = reason.BadConstant ∷ []
+size_reasons least most evaluated.Unknown = []
+size_reasons least most (evaluated.Known n) = when (int_lt n (pos least)) reason.BadDirective ++ when (int_lt (pos most) n) reason.Limit
 
 abbrev pub format_reasons : FormatValue → List Reason
-format_reasons (Block m) = size_reasons MAX_BLOCK m
-format_reasons (Cyclic k) = size_reasons MAX_CYCLIC k
+format_reasons (Block m) = size_reasons 1 MAX_BLOCK m
+format_reasons (Cyclic k) = size_reasons 1 MAX_CYCLIC k
+format_reasons (GenBlock sizes) = flat_map (size_reasons 0 MAX_BLOCK) sizes
 format_reasons f = []
 
 abbrev pub processors_reasons : Processors → List Reason
@@ -117,16 +119,44 @@ abbrev pub leaves_some : FormatValue → ℕ → Dim → Bool
 leaves_some (Block (evaluated.Known m)) procs d = nat_lt (unsigned_abs m * procs) (extent d)
 leaves_some f procs d = false
 
-abbrev pub is_block_too_small : DistributedDim → Bool
-is_block_too_small d = passes (leaves_some d.format d.procs) d.bounds
+-- GEN_BLOCK has another number of sizes than there are processors
+abbrev pub has_other_count : FormatValue → ℕ → Bool
+has_other_count (GenBlock sizes) procs = not (length sizes == procs)
+has_other_count f procs = false
+
+-- the blocks of a dimension don't fit the processors
+abbrev pub are_unfit : FormatValue → ℕ → Option Dim → Bool
+are_unfit f procs b = has_other_count f procs || passes (leaves_some f procs) b
+
+abbrev pub is_unfit : DistributedDim → Bool
+is_unfit d = are_unfit d.format d.procs d.bounds
+
+-- the sizes of GEN_BLOCK, where all are known
+abbrev pub with_size : Evaluated ℤ → Option (List ℕ) → Option (List ℕ)
+with_size (evaluated.Known n) (Some ns) = Some (unsigned_abs n ∷ ns)
+with_size v ns = None
+
+abbrev pub known_sizes : List (Evaluated ℤ) → Option (List ℕ)
+known_sizes [] = Some []
+known_sizes (v ∷ vs) = with_size v (known_sizes vs)
+
+-- their sum is below the extent of the dimension, whatever the processors are
+abbrev pub has_small_sum : FormatValue → Option Dim → Bool
+has_small_sum (GenBlock sizes) (Some d) = passes (λ n. nat_lt n (extent d)) (option_map sum (known_sizes sizes))
+has_small_sum f b = false
+
+-- so is that of one of the dimensions
+abbrev pub have_small_sum : List FormatValue → List (Option Dim) → Bool
+have_small_sum (f ∷ fs) (b ∷ bs) = has_small_sum f b || have_small_sum fs bs
+have_small_sum fs bs = false
 
 -- what is wrong with an object: it is neither an array nor a template, or its rank isn't the number of formats; or it is an array, which
--- is its own template, with too many positions in a dimension; or a block is too small
+-- is its own template, with too many positions in a dimension; or the blocks of a dimension don't fit, or are too small in all
 abbrev pub distributee_reasons : DistributionValues → Option Object → List Reason
 distributee_reasons v o =
     if not (has_kind is_mapped_kind o) || not (length v.formats == length (object_dims o)) then reason.BadDirective ∷ []
     else when (has_kind is_array_kind o && list_any is_too_wide (object_dims o)) reason.Limit
-    ++ when (list_any is_block_too_small (distributed_dims v (object_dims o))) reason.BadDirective
+    ++ when (list_any is_unfit (distributed_dims v (object_dims o)) || have_small_sum v.formats (object_dims o)) reason.BadDirective
 
 -- what is wrong with a DISTRIBUTE or REDISTRIBUTE
 abbrev pub distribute_reasons : Setting → Distribution → List Reason

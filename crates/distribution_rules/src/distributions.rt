@@ -1,23 +1,28 @@
 //! The rules of DISTRIBUTE and REDISTRIBUTE (HPF 2.0, 3.3 and 8.3).
 
-ghost use Rattle.std.specs.Prelude.{◌≡◌, ◌≤◌, ◌∷◌, [], map, option_copied, Some, IfOk};
-ghost use Rattle.std.specs.List.{flat_map};
+ghost use Rattle.std.specs.Prelude.{◌≡◌, ◌≤◌, ◌∷◌, ◌||◌, [], length, map, option_copied, Some, IfOk};
+ghost use Rattle.std.specs.List.{flat_map, list_any};
 ghost use Rattle.syntax_tree.specs.Directive.{distribution, format_of};
+ghost use Rattle.syntax_tree.specs.Expression.{expression};
 ghost use Rattle.declarations.specs.Declaring.{least_reason};
-ghost use Rattle.distribution_rules.specs.DistributionRules.{distributed_count, distributee_reasons, distribution_reasons, distribution_values, format_reasons, format_value, processors_of, processors_reasons, size_reasons};
-ghost use Rattle.distribution_rules.specs.Setting.{is_array_kind, is_mapped_kind};
+ghost use Rattle.hpf_base.specs.declared.limits.TheConstants.{MAX_BLOCK};
+ghost use Rattle.distribution_rules.specs.DistributionRules.{distributed_count, distributed_dims, distributee_reasons, distribution_reasons, distribution_values, format_reasons, format_value, have_small_sum, is_unfit, processors_of, processors_reasons, size_reasons};
+ghost use Rattle.distribution_rules.specs.Setting.{is_array_kind, is_mapped_kind, value_in};
 
-use crate::blocks::has_small_block;
-use crate::evaluated_formats::{DistributionValues, FormatValue, FormatValues, Processors};
+use crate::block_sizes::have_small_sum;
+use crate::blocks::has_unfit;
+use crate::evaluated_formats::{
+    DistributionValues, FormatValue, FormatValues, Processors, SizeValues,
+};
 use crate::least_reason::{lesser, reason_if};
 use crate::objects::{Object, ObjectKind};
 use crate::processors::{on_grid, onto_object};
 use crate::setting::{Setting, value_in};
 use crate::spaces::has_wide;
-use expression_rules::Evaluated;
+use expression_rules::{Dim, Evaluated};
 use hpf_base::{MAX_BLOCK, MAX_CYCLIC, Name, Reason};
 use std::alloc::{AllocError, Global};
-use syntax_tree::{DistSpec, Format};
+use syntax_tree::{DistSpec, Expr, Format};
 
 /// The formats of a DISTRIBUTE or REDISTRIBUTE, with the values of their expressions, and the processors. An `Err` is want of memory.
 pub fn distribution_values(
@@ -52,7 +57,7 @@ fn format_values(
     Ok(FormatValues::new(values))
 }
 
-/// A format, with the value of the expression after it.
+/// A format, with the values of the expressions after it.
 fn format_value(
     alloc: Global,
     setting: &Setting<'_>,
@@ -72,7 +77,27 @@ fn format_value(
             let found = value_in(alloc, setting, k)?;
             Ok(FormatValue::Cyclic(found))
         }
+        Format::GenBlock(sizes) => {
+            let found = size_values(alloc, setting, sizes)?;
+            Ok(FormatValue::GenBlock(found))
+        }
     }
+}
+
+/// The values of the sizes of GEN_BLOCK.
+fn size_values(
+    alloc: Global,
+    setting: &Setting<'_>,
+    sizes: &[Expr],
+) -> Result<SizeValues, AllocError>
+    ensures { IfOk result (λ vs. vs ≡ map (value_in setting.now) (map expression sizes.now)) }
+{
+    let mut values = Vec::new(alloc);
+    for size in sizes {
+        let value = value_in(alloc, setting, size)?;
+        values.push(value)?;
+    }
+    Ok(SizeValues::new(values))
 }
 
 /// How many of the dimensions are distributed.
@@ -93,7 +118,7 @@ fn one_if_distributed(format: &Format) -> usize
 {
     match format {
         Format::Star => 0,
-        Format::Block(_) | Format::Cyclic(_) => 1,
+        Format::Block(_) | Format::Cyclic(_) | Format::GenBlock(_) => 1,
     }
 }
 
@@ -141,20 +166,33 @@ fn format_reason(format: &FormatValue) -> Option<Reason>
 {
     match format {
         FormatValue::Undistributed | FormatValue::DefaultBlock => None,
-        FormatValue::Block(m) => size_reason(MAX_BLOCK, m),
-        FormatValue::Cyclic(k) => size_reason(MAX_CYCLIC, k),
+        FormatValue::Block(m) => size_reason(1, MAX_BLOCK, m),
+        FormatValue::Cyclic(k) => size_reason(1, MAX_CYCLIC, k),
+        FormatValue::GenBlock(sizes) => sizes_reason(sizes.as_slice()),
     }
 }
 
-/// The least reason for which m of BLOCK(m) or k of CYCLIC(k) breaks a rule: it must be at least 1 and at most so much.
-fn size_reason(most: u64, size: &Evaluated<i64>) -> Option<Reason>
-    ensures { result ≡ least_reason (size_reasons most size.now) }
+/// The least reason for which the sizes of GEN_BLOCK break a rule, whatever their number and their sum.
+fn sizes_reason(sizes: &[Evaluated<i64>]) -> Option<Reason>
+    ensures { result ≡ least_reason (flat_map (size_reasons 0 MAX_BLOCK) sizes.now) }
+{
+    let mut least = None;
+    for size in sizes {
+        least = lesser(least, size_reason(0, MAX_BLOCK, size));
+    }
+    least
+}
+
+/// The least reason for which m of BLOCK(m), k of CYCLIC(k) or a size of GEN_BLOCK breaks a rule: it must be at least so much and at most
+/// so much.
+fn size_reason(least: u64, most: u64, size: &Evaluated<i64>) -> Option<Reason>
+    ensures { result ≡ least_reason (size_reasons least most size.now) }
 {
     match size {
         Evaluated::Invalid => Some(Reason::BadConstant),
         Evaluated::Unknown => None,
         Evaluated::Known(n) => lesser(
-            reason_if(*n < 1, Reason::BadDirective),
+            reason_if((*n as i128) < least as i128, Reason::BadDirective),
             reason_if(*n as i128 > most as i128, Reason::Limit),
         ),
     }
@@ -191,8 +229,16 @@ fn distributee_reason(values: &DistributionValues, object: &Object) -> Option<Re
     }
     lesser(
         reason_if(is_array(object.kind) && has_wide(dims), Reason::Limit),
-        reason_if(has_small_block(values, dims), Reason::BadDirective),
+        reason_if(have_wrong_blocks(values, dims), Reason::BadDirective),
     )
+}
+
+/// Whether the blocks of a dimension don't fit the processors, or are too small in all.
+fn have_wrong_blocks(values: &DistributionValues, dims: &[Option<Dim>]) -> bool
+    requires { length values.now.formats ≡ length dims.now }
+    ensures { result ≡ (list_any is_unfit (distributed_dims values.now dims.now) || have_small_sum values.now.formats dims.now) }
+{
+    has_unfit(values, dims) || have_small_sum(values.formats.as_slice(), dims)
 }
 
 /// Whether it is an array or a template.

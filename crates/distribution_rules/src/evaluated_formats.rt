@@ -7,7 +7,7 @@ use hpf_base::Reason;
 use std::alloc::{AllocError, Global};
 use std::marker::Model;
 
-/// A format of a dimension, with the value of the expression after it. CYCLIC alone is CYCLIC(1).
+/// A format of a dimension, with the values of the expressions after it. CYCLIC alone is CYCLIC(1).
 #[derive(Debug, Drop)]
 pub enum FormatValue {
     Undistributed,
@@ -15,6 +15,38 @@ pub enum FormatValue {
     DefaultBlock,
     Block(Evaluated<i64>),
     Cyclic(Evaluated<i64>),
+    GenBlock(SizeValues),
+}
+
+/// The sizes of GEN_BLOCK, that of the first block first. Contracts see their list.
+#[derive(Debug, Drop)]
+pub struct SizeValues {
+    sizes: Vec<Evaluated<i64>>,
+}
+
+impl Model for SizeValues {
+    ghost use Rattle.std.specs.Prelude.{List, ℤ};
+    ghost use Rattle.expression_rules.specs.declared.evaluated.Evaluated.{Evaluated};
+
+    ghost Value = { List (Evaluated ℤ) };
+
+    ghost view = { λ s. s.sizes.items };
+}
+
+impl SizeValues {
+    /// These sizes. It takes no memory.
+    pub(crate) fn new(sizes: Vec<Evaluated<i64>>) -> SizeValues
+        ensures { result ≡ sizes.items }
+    {
+        SizeValues { sizes }
+    }
+
+    /// The sizes in order.
+    pub fn as_slice(&self) -> &[Evaluated<i64>]
+        ensures { result.now ≡ self.now }
+    {
+        &self.sizes
+    }
 }
 
 /// Formats, that of the first dimension first. Contracts see their list.

@@ -6,6 +6,7 @@
 //! and a distribution is judged by the values of its expressions.
 #![tactic(auto)]
 
+mod block_sizes;
 mod blocks;
 mod dimensions;
 mod distributions;
@@ -21,7 +22,7 @@ mod spaces;
 
 pub use distributions::{bad_distributee, bad_distribution, distribution_values};
 pub use evaluated_formats::{
-    DistributionValues, FormatValue, FormatValues, ProcessorExtents, Processors,
+    DistributionValues, FormatValue, FormatValues, ProcessorExtents, Processors, SizeValues,
 };
 pub use laws::distributed_maps;
 pub use least_reason::{lesser, reason_if};

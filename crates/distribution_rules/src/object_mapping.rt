@@ -7,6 +7,7 @@ ghost use Rattle.distribution_rules.specs.Distributed.{all_or_none, distributed,
 ghost use Rattle.distribution_rules.specs.DistributedSteps.{and_entries, distributed_dim, entry_if, entry_list};
 ghost use Rattle.distribution_rules.specs.DistributionRules.{distributed_from};
 
+use crate::block_sizes::known_blocks;
 use crate::blocks::{next_grid_dim, procs_for};
 use crate::dimensions::{is_too_wide, position_count};
 use crate::evaluated_formats::{DistributionValues, FormatValue, Processors};
@@ -114,7 +115,7 @@ fn entries(
     let mut grid_dim = 0;
     for place in 0..formats.len() {
         let procs = procs_for(&formats[place], extents, grid_dim);
-        let entry = entry_on(&formats[place], place, dims[place], grid_dim, procs);
+        let entry = entry_on(alloc, &formats[place], place, dims[place], grid_dim, procs)?;
         entries = and_entry(entries, procs, entry)?;
         grid_dim = next_grid_dim(grid_dim, procs);
     }
@@ -141,41 +142,51 @@ fn and_entry(
 
 /// The entry of a dimension that lies on one of the arrangement, where it is known.
 fn entry_on(
+    alloc: Global,
     format: &FormatValue,
     place: usize,
     dim: Option<Dim>,
     grid_dim: usize,
     procs: Option<u128>,
-) -> Option<MapDim>
+) -> Result<Option<MapDim>, AllocError>
     requires place { place < 2 ^ 32 }
     requires grid_dim { grid_dim < 2 ^ 32 }
     requires procs { IfSome procs (λ n. (1 ≤ n) × (n ≤ MAX_NODES)) }
-    ensures { result ≡ option_and_then (λ p. map_dim (distributed_dim format.now place dim grid_dim p)) procs }
+    ensures { IfOk result (λ m. m ≡ option_and_then (λ p. map_dim (distributed_dim format.now place dim grid_dim p)) procs) }
 {
     match (dim, procs) {
         (Some(dim), Some(procs)) => map_dim(
+            alloc,
             format,
             place as u32,
             dim,
             grid_dim as u32,
             procs as u32,
         ),
-        _ => None,
+        _ => Ok(None),
     }
 }
 
 /// The entry of a dimension of these bounds.
-fn map_dim(format: &FormatValue, place: u32, dim: Dim, grid_dim: u32, procs: u32) -> Option<MapDim>
-    requires { 1 ≤ procs }
-    ensures { result ≡ map_dim (distributed_dim format.now place (Some dim) grid_dim procs) }
+fn map_dim(
+    alloc: Global,
+    format: &FormatValue,
+    place: u32,
+    dim: Dim,
+    grid_dim: u32,
+    procs: u32,
+) -> Result<Option<MapDim>, AllocError>
+    requires some { 1 ≤ procs }
+    requires nodes { procs ≤ MAX_NODES }
+    ensures { IfOk result (λ m. m ≡ map_dim (distributed_dim format.now place (Some dim) grid_dim procs)) }
 {
     if is_too_wide(Some(dim)) {
-        return None;
+        return Ok(None);
     }
     let extent = position_count(dim) as u64;
-    match form_of(format, extent, procs) {
-        None => None,
-        Some(form) => Some(MapDim {
+    match form_of(alloc, format, extent, procs)? {
+        None => Ok(None),
+        Some(form) => Ok(Some(MapDim {
             line: Line {
                 lower: dim.lower,
                 extent,
@@ -188,20 +199,30 @@ fn map_dim(format: &FormatValue, place: u32, dim: Dim, grid_dim: u32, procs: u32
                 a: 1,
                 b: 0,
             },
-        }),
+        })),
     }
 }
 
 /// The format of a dimension of this extent on so many processors, where it is known.
-fn form_of(format: &FormatValue, extent: u64, procs: u32) -> Option<Form>
+fn form_of(
+    alloc: Global,
+    format: &FormatValue,
+    extent: u64,
+    procs: u32,
+) -> Result<Option<Form>, AllocError>
     requires some { 1 ≤ procs }
+    requires nodes { procs ≤ MAX_NODES }
     requires few { extent ≤ MAX_TEMPLATE_EXTENT }
-    ensures { result ≡ form_of format.now extent procs }
+    ensures { IfOk result (λ f. f ≡ form_of format.now extent procs) }
 {
     match format {
-        FormatValue::DefaultBlock => Some(Form::Block(u64::max(1, extent.div_ceil(procs as u64)))),
-        FormatValue::Block(Evaluated::Known(m)) => Some(Form::Block(m.unsigned_abs())),
-        FormatValue::Cyclic(Evaluated::Known(k)) => Some(Form::Cyclic(k.unsigned_abs())),
-        _ => None,
+        FormatValue::DefaultBlock => {
+            let size = u64::max(1, extent.div_ceil(procs as u64));
+            Ok(Some(Form::Block(size)))
+        }
+        FormatValue::Block(Evaluated::Known(m)) => Ok(Some(Form::Block(m.unsigned_abs()))),
+        FormatValue::Cyclic(Evaluated::Known(k)) => Ok(Some(Form::Cyclic(k.unsigned_abs()))),
+        FormatValue::GenBlock(sizes) => known_blocks(alloc, procs, sizes.as_slice()),
+        _ => Ok(None),
     }
 }

@@ -1,5 +1,5 @@
 -- The places of a regular section whose positions stand in a section from a first to a last position.
-use Rattle.std.proofs.Common.{◌≡◌, ℕ, zero, suc, ℤ, pos, negsuc, ◌+ℤ◌, ◌≤ℤ◌, ◌<ℤ◌, neg_ℤ, unsigned_abs, ◌+◌, ◌-◌, ◌*◌, ◌<◌, ◌≤◌, ◌⊎◌, inl, inr, ◌&&◌, nat_le, nat_lt, Bool, true, [], ◌∷◌, refl, sym, ◌∙◌, ap, subst, arith, map, min, max, eq-eqb, ◌==◌}
+use Rattle.std.proofs.Common.{◌≡◌, ℕ, zero, suc, ℤ, pos, negsuc, ◌+ℤ◌, ◌≤ℤ◌, ◌<ℤ◌, neg_ℤ, unsigned_abs, ◌+◌, ◌-◌, ◌*◌, ◌<◌, ◌≤◌, ◌⊎◌, inl, inr, ◌&&◌, nat_le, nat_lt, Bool, true, List, length, sum, [], ◌∷◌, refl, sym, ◌∙◌, ap, subst, arith, map, min, max, eq-eqb, ◌==◌}
 use Rattle.std.proofs.Math.Nat.{lt_of_mul-lt-mul_right, mul-le-mul_right, mod-one, div-one}
 use Rattle.std.proofs.Math.IntN.{pos-*ℤ-pos, negsuc-*ℤ-pos, *ℤ-zero}
 use Rattle.std.proofs.lemmas.Bool.{cases_lt}
@@ -9,9 +9,11 @@ use Rattle.std.proofs.lemmas.Int.{ints}
 use Rattle.std.specs.Int.{div_ceil}
 use Rattle.std.specs.Prelude.{filter}
 use Rattle.std.specs.List.{range_with_len}
-use Rattle.mappings.specs.declared.mapping.Form.TheVariants.{Whole, Block}
+use Rattle.mappings.specs.declared.mapping.Form.TheVariants.{Whole, Block, Gen}
 use Rattle.mappings.specs.declared.mapping.Line.{Line}
 use Rattle.distribution.proofs.Cycles.{in_block}
+use Rattle.distribution.proofs.GivenBlocks.{in_gen}
+use Rattle.mappings.specs.GenBlock.{size_before}
 use Rattle.mappings.specs.Mapping.{IsLine}
 use Rattle.mappings.specs.Positions.{in_section}
 use Rattle.hpf_base.proofs.Ranges.{map-range_shifted}
@@ -192,6 +194,14 @@ pub places_block : (m procs q start count : ℕ) (stride : ℤ) (line : Line) �
 places_block m procs q start count stride line some section =
     filter-agree _ _ 0 count (λ j low high. in_block m q (unsigned_abs (position_of start stride j)) some
     (section_position line start count j stride section (omega (arith, high))).0)
+
+pub places_gen : (sizes : List ℕ) (procs q start count : ℕ) (stride : ℤ) (line : Line) → q < length sizes → line.extent ≤ sum sizes
+    → IsSectionOf line start stride count
+    → filter (λ j. in_section (size_before sizes q + 1) (size_before sizes (q + 1)) (unsigned_abs (position_of start stride j))) (range_with_len 0 count)
+    ≡ owned_under (Gen sizes) procs q start stride count
+places_gen sizes procs q start count stride line inside upto section =
+    filter-agree _ _ 0 count (λ j low high. let at = section_position line start count j stride section (omega (arith, high)) in
+    in_gen sizes procs q (unsigned_abs (position_of start stride j)) inside at.0 (omega (arith, at.1, upto)))
 
 pub places_whole : (procs q start count : ℕ) (stride : ℤ) (line : Line) → q < 1 → IsSectionOf line start stride count
     → filter (λ j. in_section 1 line.extent (unsigned_abs (position_of start stride j))) (range_with_len 0 count) ≡ owned_under Whole procs q start stride count

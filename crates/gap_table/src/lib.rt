@@ -6,15 +6,15 @@
 //! owns, ascending; how long it is, its n-th place, how many of its places are at most j, and the first one after j.
 //!
 //! What holds in between: the test of ownership repeats after a period, so a table has the owned places of one period, as
-//! offsets into it, and the length of the sequence. Under BLOCK and in a dimension that isn't distributed the positions of a
+//! offsets into it, and the length of the sequence. Under BLOCK and GEN_BLOCK and in a dimension that isn't distributed the positions of a
 //! node are one section, so the period is 1 and there is one offset at most. Under CYCLIC(k) a position is owned where its
 //! residue by one cycle, which is a block of each processor, lies in the node's block; Euclid's algorithm gives the period and
 //! how many places lead from one residue to the next, and so at most k offsets are found without asking for any owner. The
 //! contract of `build` says that the places are those of a filter by the owner, and bounds the steps that it counts: a residue
 //! tried, or an offset placed.
 //!
-//! What a node owns as one section is apart from the formats (`section_table`): a further format that gives each node one
-//! section of positions needs its bounds alone.
+//! What a node owns as one section is apart from the formats (`section_table`): a format that gives each node one section of
+//! positions needs its bounds alone.
 #![tactic(auto)]
 
 mod ascending;

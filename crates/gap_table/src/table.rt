@@ -67,10 +67,14 @@ impl GapTable {
             count,
         };
         let node = node as u64;
-        let table = match line.form {
+        let table = match &line.form {
             Form::Whole => section_table(alloc, 1, line.extent, section, steps)?,
-            Form::Block(m) => section_table(alloc, node * m + 1, (node + 1) * m, section, steps)?,
-            Form::Cyclic(k) => cyclic_table(alloc, k, line.procs as u64, node, section, steps)?,
+            Form::Block(m) => section_table(alloc, node * *m + 1, (node + 1) * *m, section, steps)?,
+            Form::Cyclic(k) => cyclic_table(alloc, *k, line.procs as u64, node, section, steps)?,
+            Form::Gen(sizes) => {
+                let first = sizes.before(node as u32) + 1;
+                section_table(alloc, first, sizes.end(node as u32), section, steps)?
+            }
         };
         Ok(table)
     }

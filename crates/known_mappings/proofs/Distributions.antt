@@ -1,8 +1,8 @@
 -- The mapping that a distribution gives an object is known, where it breaks no rule.
 use Rattle.std.proofs.Common.{◌≡◌, ◌==◌, ◌≤◌, ℕ, suc, Bool, true, false, List, [], ◌∷◌, ◌++◌, length, map, nat_lt, Option, Some, None, refl, sym, ap, subst, ◌∙◌, arith}
 use Rattle.std.specs.Bool.{⊤}
-use Rattle.std.specs.Prelude.{ℤ, ◌&&◌, ◌||◌, not, nat_le, option_map, option_and_then, if◌then◌else◌}
-use Rattle.std.specs.List.{AllByRecursion, flat_map, list_any}
+use Rattle.std.specs.Prelude.{ℤ, pos, negsuc, ◌&&◌, ◌||◌, not, nat_le, option_map, option_and_then, if◌then◌else◌}
+use Rattle.std.specs.List.{AllByRecursion, flat_map, list_all, list_any}
 use Rattle.std.proofs.lemmas.Bool.{eqb-true}
 use Rattle.std.proofs.lemmas.Bool.Decides.{nat_tests}
 use Rattle.std.proofs.lemmas.List.{length-map}
@@ -10,8 +10,10 @@ use Rattle.hpf_base.specs.ElementOrder.{product}
 use Rattle.hpf_base.specs.Grid.{IsGrid}
 use Rattle.hpf_base.specs.declared.limits.TheConstants.{MAX_BLOCK, MAX_CYCLIC, MAX_RANK}
 use Rattle.hpf_base.specs.declared.refusal.Reason.TheVariants as reason
+use Rattle.mappings.specs.declared.mapping.Form.TheVariants as form
 use Rattle.mappings.specs.declared.mapping.Mapping.{Mapping}
 use Rattle.syntax_tree.specs.Directive as directive
+use Rattle.syntax_tree.specs.Expression.{Expression}
 use Rattle.expression_rules.specs.Dims.{extent}
 use Rattle.expression_rules.specs.Inner.{format_expressions}
 use Rattle.expression_rules.specs.Symbols.{Name, SymbolTable, find as find_symbol}
@@ -24,15 +26,15 @@ use Rattle.declarations.specs.Reasons.{when}
 use Rattle.name_table.specs.KnownSymbols.{is_known}
 use Rattle.distribution_rules.specs.declared.evaluated_formats.DistributionValues.{DistributionValues}
 use Rattle.distribution_rules.specs.declared.evaluated_formats.FormatValue.{FormatValue}
-use Rattle.distribution_rules.specs.declared.evaluated_formats.FormatValue.TheVariants.{Undistributed, DefaultBlock, Block, Cyclic}
+use Rattle.distribution_rules.specs.declared.evaluated_formats.FormatValue.TheVariants.{Undistributed, DefaultBlock, Block, Cyclic, GenBlock}
 use Rattle.distribution_rules.specs.declared.evaluated_formats.Processors.{Processors}
 use Rattle.distribution_rules.specs.declared.evaluated_formats.Processors.TheVariants.{Extents, Unknown, Missing}
 use Rattle.distribution_rules.specs.declared.objects.Object.{Object}
 use Rattle.distribution_rules.specs.declared.objects.ObjectKind.{ObjectKind}
 use Rattle.distribution_rules.specs.declared.objects.ObjectKind.TheVariants as kind
 use Rattle.distribution_rules.specs.Dimensions.{extents, is_empty_dim, is_too_wide, passes, with_extent}
-use Rattle.distribution_rules.specs.Distributed.{all_or_none, and_more, distributed_onto, form_of, has_all_nodes, map_dim, map_dim_in, map_dim_with}
-use Rattle.distribution_rules.specs.DistributionRules.{DistributedDim, distributed_count, distributed_dims, distributed_from, distribution_reasons, distribution_values, distributee_reasons, format_reasons, format_value, is_block_too_small, known_extents, on_grid, onto_object, processors_of, processors_reasons, size_reasons}
+use Rattle.distribution_rules.specs.Distributed.{all_or_none, and_more, distributed_onto, form_of, gen_block, has_all_nodes, map_dim, map_dim_in, map_dim_with}
+use Rattle.distribution_rules.specs.DistributionRules.{DistributedDim, are_unfit, distributed_count, distributed_dims, distributed_from, distribution_reasons, distribution_values, distributee_reasons, format_reasons, format_value, has_other_count, have_small_sum, is_unfit, known_extents, known_sizes, leaves_some, on_grid, onto_object, processors_of, processors_reasons, size_reasons, with_size}
 use Rattle.distribution_rules.specs.Setting.{Setting, dims_of, has_kind, is_array_kind, is_arrangement_kind, is_mapped_kind, object, object_dims, value_in}
 use Rattle.distribution_rules.specs.SpaceRules.{is_misfit}
 use Rattle.directive_check.specs.ProgramMaps.{distributed_as}
@@ -57,24 +59,53 @@ mapped_value f (Some a) h = refl
 
 -- ---- formats
 
--- the size of a format is known
+-- sizes are known, and none is above the limit
+record AreSizesKnown (vs : List (Evaluated ℤ)) : Type 0 where
+  sizes : List ℕ
+  are : known_sizes vs ≡ Some sizes
+  as_many : length sizes ≡ length vs
+  small : list_all (λ n. nat_le n MAX_BLOCK) sizes ≡ true
+
+-- the sizes of a format are known
 abbrev IsSizeKnown : FormatValue → Type 0
 IsSizeKnown (Block m) = HasValue (if_known m)
 IsSizeKnown (Cyclic k) = HasValue (if_known k)
+IsSizeKnown (GenBlock sizes) = AreSizesKnown sizes
 IsSizeKnown f = ⊤
 
-size_known : (most : ℕ) (v : Evaluated ℤ) → IsSettled v → size_reasons most v ≡ [] → HasValue (if_known v)
+size_known : (most : ℕ) (v : Evaluated ℤ) → IsSettled v → size_reasons 1 most v ≡ [] → HasValue (if_known v)
 size_known most evaluated.Invalid f none = absurd cc
 size_known most evaluated.Unknown f none = absurd f
 size_known most (evaluated.Known n) f none = refl
 
+first_known : (v : Evaluated ℤ) (vs : List (Evaluated ℤ)) → IsSettled v → size_reasons 0 MAX_BLOCK v ≡ [] → AreSizesKnown vs → AreSizesKnown (v ∷ vs)
+first_known evaluated.Invalid vs f none more = absurd cc
+first_known evaluated.Unknown vs f none more = absurd f
+first_known (evaluated.Known (negsuc k)) vs f none more = absurd cc
+first_known (evaluated.Known (pos k)) vs f none more = record {
+  sizes = k ∷ more.sizes;
+  are = ap (with_size (evaluated.Known (pos k))) more.are;
+  as_many = ap suc more.as_many;
+  small = (λ i. small (fails _ reason.Limit none) i && more.small i);
+}
+  where
+    small : nat_lt MAX_BLOCK k ≡ false → nat_le k MAX_BLOCK ≡ true
+    small h = grind (arith, nat_tests)
+
 module _ (s : Setting) (known : (x : Name) (a : Symbol) → find_symbol x s.names ≡ Some a → is_known a ≡ true) (u : SymbolTable) where
+  sizes_known : (es : List Expression) → AllByRecursion (IsTyped u) es → flat_map (size_reasons 0 MAX_BLOCK) (map (value_in s) es) ≡ [] → AreSizesKnown (map (value_in s) es)
+  sizes_known [] h none = record { sizes = []; are = refl; as_many = refl; small = refl }
+  sizes_known (e ∷ es) h none =
+      let two = empties (size_reasons 0 MAX_BLOCK (value_in s e)) _ none in
+      first_known (value_in s e) (map (value_in s) es) (settled s.grid s.names u known e h.0) two.0 (sizes_known es h.1 two.1)
+
   format_known : (f : directive.Format) → AllByRecursion (IsTyped u) (format_expressions f) → format_reasons (format_value s f) ≡ [] → IsSizeKnown (format_value s f)
   format_known directive.Undistributed h none = tt
   format_known (directive.Block None) h none = tt
   format_known (directive.Block (Some m)) h none = size_known MAX_BLOCK (value_in s m) (settled s.grid s.names u known m h.0) none
   format_known (directive.Cyclic None) h none = refl
   format_known (directive.Cyclic (Some k)) h none = size_known MAX_CYCLIC (value_in s k) (settled s.grid s.names u known k h.0) none
+  format_known (directive.GenBlock es) h none = sizes_known es h none
 
   formats_known : (fs : List directive.Format) → AllByRecursion (IsTyped u) (flat_map format_expressions fs) → flat_map format_reasons (map (format_value s) fs) ≡ [] →
       AllByRecursion IsSizeKnown (map (format_value s) fs)
@@ -86,44 +117,57 @@ module _ (s : Setting) (known : (x : Name) (a : Symbol) → find_symbol x s.name
 
 -- ---- distributed dimensions
 
-form_known : (f : FormatValue) (e p : ℕ) → IsSizeKnown f → (f ≡ Undistributed → ⊥) → HasValue (form_of f e p)
-form_known Undistributed e p h other = absurd (other refl)
-form_known DefaultBlock e p h other = refl
-form_known (Block (evaluated.Known m)) e p h other = refl
-form_known (Block evaluated.Invalid) e p h other = absurd (no_value h)
-form_known (Block evaluated.Unknown) e p h other = absurd (no_value h)
-form_known (Cyclic (evaluated.Known k)) e p h other = refl
-form_known (Cyclic evaluated.Invalid) e p h other = absurd (no_value h)
-form_known (Cyclic evaluated.Unknown) e p h other = absurd (no_value h)
+form_known : (f : FormatValue) (e p : ℕ) → IsSizeKnown f → (f ≡ Undistributed → ⊥) → has_other_count f p ≡ false → HasValue (form_of f e p)
+form_known Undistributed e p h other fit = absurd (other refl)
+form_known DefaultBlock e p h other fit = refl
+form_known (Block (evaluated.Known m)) e p h other fit = refl
+form_known (Block evaluated.Invalid) e p h other fit = absurd (no_value h)
+form_known (Block evaluated.Unknown) e p h other fit = absurd (no_value h)
+form_known (Cyclic (evaluated.Known k)) e p h other fit = refl
+form_known (Cyclic evaluated.Invalid) e p h other fit = absurd (no_value h)
+form_known (Cyclic evaluated.Unknown) e p h other fit = absurd (no_value h)
+form_known (GenBlock vs) e p h other fit =
+    subst (λ o. HasValue (option_and_then (gen_block p) o)) (sym h.are)
+    (subst (λ b. HasValue (if b && list_all (λ n. nat_le n MAX_BLOCK) h.sizes then Some (form.Gen h.sizes) else None)) (sym (ap (λ n. n == p) h.as_many ∙ holds (length vs == p) fit))
+    (subst (λ b. HasValue (if b then Some (form.Gen h.sizes) else None)) (sym h.small) refl))
 
 dim_known : (d : DistributedDim) (f : FormatValue) (b : Option Dim) → d.format ≡ f → d.bounds ≡ b → IsSizeKnown f → (f ≡ Undistributed → ⊥) → IsNear b → is_too_wide b ≡ false →
-    HasValue (map_dim d)
-dim_known d f None form bounds h other near narrow = absurd near
-dim_known d f (Some b) form bounds h other near narrow =
+    is_unfit d ≡ false → HasValue (map_dim d)
+dim_known d f None form bounds h other near narrow fit = absurd near
+dim_known d f (Some b) form bounds h other near narrow fit =
+    let count = subst (λ g. has_other_count g d.procs ≡ false) form (neither (has_other_count d.format d.procs) (passes (leaves_some d.format d.procs) d.bounds) fit).0 in
     subst (λ o. HasValue (option_and_then (map_dim_in d) o)) (sym bounds)
     (subst (λ w. HasValue (if w then None else option_map (map_dim_with d b) (form_of d.format (extent b) d.procs))) (sym narrow)
-    (mapped_value (map_dim_with d b) (form_of d.format (extent b) d.procs) (subst (λ g. HasValue (form_of g (extent b) d.procs)) (sym form) (form_known f (extent b) d.procs h other))))
+    (mapped_value (map_dim_with d b) (form_of d.format (extent b) d.procs) (subst (λ g. HasValue (form_of g (extent b) d.procs)) (sym form) (form_known f (extent b) d.procs h other count))))
 
 abbrev IsNarrow : Option Dim → Type 0
 IsNarrow b = is_too_wide b ≡ false
 
 dims_known : (dim grid_dim : ℕ) (fs : List FormatValue) (bs : List (Option Dim)) (ps : List ℕ) → AllByRecursion IsSizeKnown fs → AreNear bs → AllByRecursion IsNarrow bs →
-    AllByRecursion (λ d. HasValue (map_dim d)) (distributed_from dim grid_dim fs bs ps)
-dims_known dim grid_dim [] bs ps h near narrow = tt
-dims_known dim grid_dim (Undistributed ∷ fs) [] ps h near narrow = tt
-dims_known dim grid_dim (Undistributed ∷ fs) (b ∷ bs) ps h near narrow = dims_known (suc dim) grid_dim fs bs ps h.1 near.1 narrow.1
-dims_known dim grid_dim (DefaultBlock ∷ fs) [] ps h near narrow = tt
-dims_known dim grid_dim (DefaultBlock ∷ fs) (b ∷ bs) [] h near narrow = tt
-dims_known dim grid_dim (DefaultBlock ∷ fs) (b ∷ bs) (p ∷ ps) h near narrow =
-    (dim_known _ DefaultBlock b refl refl h.0 (λ e. absurd cc) near.0 narrow.0, dims_known (suc dim) (suc grid_dim) fs bs ps h.1 near.1 narrow.1)
-dims_known dim grid_dim (Block m ∷ fs) [] ps h near narrow = tt
-dims_known dim grid_dim (Block m ∷ fs) (b ∷ bs) [] h near narrow = tt
-dims_known dim grid_dim (Block m ∷ fs) (b ∷ bs) (p ∷ ps) h near narrow =
-    (dim_known _ (Block m) b refl refl h.0 (λ e. absurd cc) near.0 narrow.0, dims_known (suc dim) (suc grid_dim) fs bs ps h.1 near.1 narrow.1)
-dims_known dim grid_dim (Cyclic k ∷ fs) [] ps h near narrow = tt
-dims_known dim grid_dim (Cyclic k ∷ fs) (b ∷ bs) [] h near narrow = tt
-dims_known dim grid_dim (Cyclic k ∷ fs) (b ∷ bs) (p ∷ ps) h near narrow =
-    (dim_known _ (Cyclic k) b refl refl h.0 (λ e. absurd cc) near.0 narrow.0, dims_known (suc dim) (suc grid_dim) fs bs ps h.1 near.1 narrow.1)
+    list_any is_unfit (distributed_from dim grid_dim fs bs ps) ≡ false → AllByRecursion (λ d. HasValue (map_dim d)) (distributed_from dim grid_dim fs bs ps)
+dims_known dim grid_dim [] bs ps h near narrow fit = tt
+dims_known dim grid_dim (Undistributed ∷ fs) [] ps h near narrow fit = tt
+dims_known dim grid_dim (Undistributed ∷ fs) (b ∷ bs) ps h near narrow fit = dims_known (suc dim) grid_dim fs bs ps h.1 near.1 narrow.1 fit
+dims_known dim grid_dim (DefaultBlock ∷ fs) [] ps h near narrow fit = tt
+dims_known dim grid_dim (DefaultBlock ∷ fs) (b ∷ bs) [] h near narrow fit = tt
+dims_known dim grid_dim (DefaultBlock ∷ fs) (b ∷ bs) (p ∷ ps) h near narrow fit =
+    let two = neither (are_unfit DefaultBlock p b) (list_any is_unfit (distributed_from (suc dim) (suc grid_dim) fs bs ps)) fit in
+    (dim_known _ DefaultBlock b refl refl h.0 (λ e. absurd cc) near.0 narrow.0 two.0, dims_known (suc dim) (suc grid_dim) fs bs ps h.1 near.1 narrow.1 two.1)
+dims_known dim grid_dim (Block m ∷ fs) [] ps h near narrow fit = tt
+dims_known dim grid_dim (Block m ∷ fs) (b ∷ bs) [] h near narrow fit = tt
+dims_known dim grid_dim (Block m ∷ fs) (b ∷ bs) (p ∷ ps) h near narrow fit =
+    let two = neither (are_unfit (Block m) p b) (list_any is_unfit (distributed_from (suc dim) (suc grid_dim) fs bs ps)) fit in
+    (dim_known _ (Block m) b refl refl h.0 (λ e. absurd cc) near.0 narrow.0 two.0, dims_known (suc dim) (suc grid_dim) fs bs ps h.1 near.1 narrow.1 two.1)
+dims_known dim grid_dim (Cyclic k ∷ fs) [] ps h near narrow fit = tt
+dims_known dim grid_dim (Cyclic k ∷ fs) (b ∷ bs) [] h near narrow fit = tt
+dims_known dim grid_dim (Cyclic k ∷ fs) (b ∷ bs) (p ∷ ps) h near narrow fit =
+    let two = neither (are_unfit (Cyclic k) p b) (list_any is_unfit (distributed_from (suc dim) (suc grid_dim) fs bs ps)) fit in
+    (dim_known _ (Cyclic k) b refl refl h.0 (λ e. absurd cc) near.0 narrow.0 two.0, dims_known (suc dim) (suc grid_dim) fs bs ps h.1 near.1 narrow.1 two.1)
+dims_known dim grid_dim (GenBlock vs ∷ fs) [] ps h near narrow fit = tt
+dims_known dim grid_dim (GenBlock vs ∷ fs) (b ∷ bs) [] h near narrow fit = tt
+dims_known dim grid_dim (GenBlock vs ∷ fs) (b ∷ bs) (p ∷ ps) h near narrow fit =
+    let two = neither (are_unfit (GenBlock vs) p b) (list_any is_unfit (distributed_from (suc dim) (suc grid_dim) fs bs ps)) fit in
+    (dim_known _ (GenBlock vs) b refl refl h.0 (λ e. absurd cc) near.0 narrow.0 two.0, dims_known (suc dim) (suc grid_dim) fs bs ps h.1 near.1 narrow.1 two.1)
 
 -- ---- processors
 
@@ -278,15 +322,20 @@ dims_counted s dim grid_dim (directive.Cyclic None ∷ fs) (b ∷ bs) (p ∷ ps)
     ap suc (dims_counted s (suc dim) (suc grid_dim) fs bs ps (omega (arith, same)) (omega (arith, wide)))
 dims_counted s dim grid_dim (directive.Cyclic (Some k) ∷ fs) (b ∷ bs) (p ∷ ps) same wide =
     ap suc (dims_counted s (suc dim) (suc grid_dim) fs bs ps (omega (arith, same)) (omega (arith, wide)))
+dims_counted s dim grid_dim (directive.GenBlock es ∷ fs) [] ps same wide = absurd (omega (arith, same))
+dims_counted s dim grid_dim (directive.GenBlock es ∷ fs) (b ∷ bs) [] same wide = absurd (omega (arith, wide))
+dims_counted s dim grid_dim (directive.GenBlock es ∷ fs) (b ∷ bs) (p ∷ ps) same wide =
+    ap suc (dims_counted s (suc dim) (suc grid_dim) fs bs ps (omega (arith, same)) (omega (arith, wide)))
 
 -- ---- a distribution of an object
 
--- an object that may be distributed so: as many formats as dimensions, none of them too wide
+-- an object that may be distributed so: as many formats as dimensions, none of them too wide, and blocks that fit
 record MayBe (v : DistributionValues) (grid : List ℕ) (o : Option Object) : Type 0 where
   near : AreNear (object_dims o)
   few : nat_lt MAX_RANK (length (object_dims o)) ≡ false
   each : (length v.formats == length (object_dims o)) ≡ true
   narrow : AllByRecursion IsNarrow (object_dims o)
+  fit : list_any is_unfit (distributed_dims v (object_dims o)) ≡ false
 
 may_be : (v : DistributionValues) (grid : List ℕ) (o : Option Object) → ((q : Object) → o ≡ Some q → IsRight grid q) → distributee_reasons v o ≡ [] → MayBe v grid o
 may_be v grid None right none = absurd cc
@@ -295,16 +344,16 @@ may_be v grid (Some o) right none = by o.kind (length v.formats == length o.dims
     own : IsRight grid o
     own = right o refl
 
-    made : (length v.formats == length o.dims) ≡ true → list_any is_too_wide o.dims ≡ false → MayBe v grid (Some o)
-    made each narrow = record { near = own.near; few = own.few; each = each; narrow = none_pass is_too_wide o.dims narrow }
+    made : (length v.formats == length o.dims) ≡ true → list_any is_too_wide o.dims ≡ false → list_any is_unfit (distributed_dims v o.dims) ≡ false → MayBe v grid (Some o)
+    made each narrow fit = record { near = own.near; few = own.few; each = each; narrow = none_pass is_too_wide o.dims narrow; fit = fit }
 
     by : (k : ObjectKind) (same : Bool) → o.kind ≡ k → (length v.formats == length o.dims) ≡ same →
         (if not (is_mapped_kind k) || not same then reason.BadDirective ∷ [] else
-        (when (is_array_kind k && list_any is_too_wide o.dims) reason.Limit ++ when (list_any is_block_too_small (distributed_dims v o.dims)) reason.BadDirective)) ≡ [] →
+        (when (is_array_kind k && list_any is_too_wide o.dims) reason.Limit ++ when (list_any is_unfit (distributed_dims v o.dims) || have_small_sum v.formats o.dims) reason.BadDirective)) ≡ [] →
         MayBe v grid (Some o)
-    by kind.Array true is each none = made each (fails _ reason.Limit (empties _ _ none).0)
+    by kind.Array true is each none = let two = empties _ _ none in made each (fails _ reason.Limit two.0) (neither _ _ (fails _ reason.BadDirective two.1)).0
     by kind.Array false is each none = absurd cc
-    by kind.Template true is each none = made each (subst (λ k. IsOfKind grid k o.dims) is own.of_kind)
+    by kind.Template true is each none = made each (subst (λ k. IsOfKind grid k o.dims) is own.of_kind) (neither _ _ (fails _ reason.BadDirective none)).0
     by kind.Template false is each none = absurd cc
     by kind.Arrangement same is each none = absurd cc
 
@@ -313,12 +362,13 @@ IsGivenBy s d x m = (distributed_as s d x ≡ Some m) × (length m.dims ≡ dist
 
 onto_given : (s : Setting) (fs : List directive.Format) (bs : List (Option Dim)) (p : Processors) → HasExtents s.grid p → IsWide (distributed_count fs) p →
     AllByRecursion IsSizeKnown (map (format_value s) fs) → length fs ≡ length bs → AreNear bs → AllByRecursion IsNarrow bs →
+    list_any is_unfit (distributed_dims (record { formats = map (format_value s) fs; processors = p }) bs) ≡ false →
     (m : Mapping) × ((distributed_onto s.grid (map (format_value s) fs) bs p ≡ Some m) × (length m.dims ≡ distributed_count fs))
-onto_given s fs bs Unknown has wide sizes same near narrow = absurd has
-onto_given s fs bs (Missing why) has wide sizes same near narrow = absurd has
-onto_given s fs bs (Extents ps) has wide sizes same near narrow =
+onto_given s fs bs Unknown has wide sizes same near narrow fit = absurd has
+onto_given s fs bs (Missing why) has wide sizes same near narrow fit = absurd has
+onto_given s fs bs (Extents ps) has wide sizes same near narrow fit =
     let ds = distributed_from 0 0 (map (format_value s) fs) bs ps in
-    let made = value_of (all_or_none map_dim ds) (all_made map_dim ds (dims_known 0 0 (map (format_value s) fs) bs ps sizes near narrow)) in
+    let made = value_of (all_or_none map_dim ds) (all_made map_dim ds (dims_known 0 0 (map (format_value s) fs) bs ps sizes near narrow fit)) in
     let onto : Mapping = record { grid = ps; dims = made.0 } in (
       onto,
       (
@@ -337,7 +387,7 @@ distribution_given s known grid right u d x typed none own =
     let may = may_be v s.grid (object s x) (λ q is. found_right s.grid s.objects x q right is) own in
     let same : length d.formats ≡ length (dims_of s x) = sym (length-map d.formats (format_value s)) ∙ eqb-true (length v.formats) (length (dims_of s x)) may.each in
     let given = onto_given s d.formats (dims_of s x) v.processors (processors_known s d.onto (distributed_count d.formats) grid right two.1)
-    (processors_wide s d.onto (distributed_count d.formats) right) (formats_known s known u d.formats typed two.0) same may.near may.narrow in
+    (processors_wide s d.onto (distributed_count d.formats) right) (formats_known s known u d.formats typed two.0) same may.near may.narrow may.fit in
     (given.0, (ap (λ b. if b then distributed_onto s.grid v.formats (dims_of s x) v.processors else None) (fit (length (dims_of s x)) _ may.few may.each) ∙ given.1.0, given.1.1))
   where
     fit : (n : ℕ) (b : Bool) → nat_lt MAX_RANK n ≡ false → b ≡ true → (nat_le n MAX_RANK && b) ≡ true

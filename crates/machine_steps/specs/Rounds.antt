@@ -1,29 +1,27 @@
 -- The rounds of a redistribution (HPF 2.0, 8.3).
-use Rattle.std.specs.Prelude.{ℕ, ◌+◌, ◌-◌, ◌%◌, ◌==◌, ◌&&◌, not, Bool, true, false, List, [], ◌∷◌, length, map, filter, slice_index_or}
+use Rattle.std.specs.Prelude.{ℕ, ◌==◌, ◌&&◌, not, Bool, List, [], length, map, filter, slice_index_or, unwrap_or}
 use Rattle.std.specs.List.{flat_map, list_any, range_with_len}
 use Rattle.letters.specs.declared.pair.Pair.{Pair}
+use Rattle.round_color.specs.Coloring.{colored, degree}
+use Rattle.round_color.specs.Table.{ends}
 use Rattle.machine_steps.specs.Instr.{Remapping, Rounds}
 use Rattle.machine_steps.specs.Layout.{Layout}
 use Rattle.machine_steps.specs.Machine.{remapped}
 use Rattle.machine_steps.specs.Message.{has_any, remap_message}
 
--- ---- the rounds of a rotation
+-- ---- rounds by colours
 
--- how many nodes the target lies after the source, where node 0 comes after the last node
-abbrev pub round_of : ℕ → Pair → ℕ
-round_of nodes pair = (pair.to.0 + nodes - pair.from.0) % nodes
+-- the colour of a pair among these: no two of one colour have the same source or the same target
+abbrev pub color_of : ℕ → List Pair → Pair → ℕ
+color_of nodes pairs pair = unwrap_or (colored nodes (map ends pairs) pair.from.0 pair.to.0) 0
 
--- the pairs of one round of the rotation, as given
-abbrev pub rotation_round : ℕ → List Pair → ℕ → List Pair
-rotation_round nodes pairs r = filter (λ pair. round_of nodes pair == r) pairs
+-- the pairs of one colour, as given
+abbrev pub color_round : ℕ → List Pair → ℕ → List Pair
+color_round nodes pairs color = filter (λ pair. color_of nodes pairs pair == color) pairs
 
-abbrev pub has_pair : List Pair → Bool
-has_pair [] = false
-has_pair (pair ∷ pairs) = true
-
--- the rounds of the rotation that have a pair, in order
-abbrev pub rotation_rounds : ℕ → List Pair → List (List Pair)
-rotation_rounds nodes pairs = filter has_pair (map (rotation_round nodes pairs) (range_with_len 1 (nodes - 1)))
+-- a round for each colour, in ascending order: as many as the busiest node sends or takes
+abbrev pub color_rounds : ℕ → List Pair → List (List Pair)
+color_rounds nodes pairs = map (color_round nodes pairs) (range_with_len 0 (degree nodes (map ends pairs)))
 
 -- ---- the rounds of the pairs with a message
 
@@ -42,9 +40,9 @@ abbrev pub moving_pairs : ℕ → (old new : List Layout) → List Pair
 moving_pairs nodes old new =
     filter (λ pair. not (pair.from.0 == pair.to.0) && has_any (remap_message nodes old new pair.from.0 pair.to.0)) (all_pairs nodes)
 
--- they go in the rounds of a rotation, of which those without a message are left out
+-- they go in the rounds of their colours
 abbrev pub remap_rounds : ℕ → (old new : List Layout) → List (List Pair)
-remap_rounds nodes old new = rotation_rounds nodes (moving_pairs nodes old new)
+remap_rounds nodes old new = color_rounds nodes (moving_pairs nodes old new)
 
 -- the rounds in which arrays get new mappings on so many nodes
 abbrev pub rounds_on : ℕ → List Remapping → Rounds
