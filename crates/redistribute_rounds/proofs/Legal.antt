@@ -1,155 +1,131 @@
--- The rounds of a rotation are legal.
-use Rattle.std.proofs.Common.{◌≡◌, ◌≢◌, ℕ, zero, suc, ◌+◌, ◌-◌, ◌*◌, ◌%◌, ◌<◌, ◌≤◌, ◌==◌, ◌⊎◌, inl, inr, Bool, true, false, if◌then◌else◌, List, [], ◌∷◌, ◌++◌, map, filter, get_or, refl, sym, ◌∙◌, ap, subst, arith, ⊎_elim, eq-eqb, eqb-true}
-use Rattle.std.proofs.lemmas.Bool.{ne_eqb, cases_eq, cases_lt}
-use Rattle.std.proofs.lemmas.List.Elements.{All-filter, All-nil, All-cons, All-head, All-tail}
+-- The pairs of each colour are a legal round.
+use Rattle.std.proofs.Common.{◌≡◌, ◌≢◌, ℕ, zero, suc, ◌+◌, ◌<◌, ◌≤◌, ◌==◌, Bool, true, false, if◌then◌else◌, List, [], ◌∷◌, ◌++◌, length, map, filter, zip, get_or, refl, sym, ◌∙◌, ap, subst, arith, ⊎_elim, eq-eqb, eqb-true}
+use Rattle.std.proofs.lemmas.Bool.{ne_eqb, cases_eq}
+use Rattle.std.proofs.lemmas.List.{get_or-map}
+use Rattle.std.proofs.lemmas.List.Elements.{All-nil, All-cons, All-head, All-tail, All-map}
 use Rattle.std.proofs.lemmas.List.Kept.{AllPairs-filter}
 use Rattle.std.proofs.lemmas.List.Sorted.{IsPermutation-refl, IsPermutation-cons, IsPermutation-append_right, IsPermutation-middle, IsPermutation-sym, IsPermutation-trans}
-use Rattle.std.proofs.lemmas.Nat.{mod-mul-add}
-use Rattle.std.proofs.Math.Nat.{mod-eq_of_lt}
 use Rattle.std.specs.List.{All, AllPairs, flat_map, range_with_len}
 use Rattle.std.specs.List.Sorted.{IsPermutation}
 use Rattle.letters.specs.declared.pair.Pair.{Pair}
-use Rattle.machine_steps.specs.Rounds.{round_of, rotation_round, rotation_rounds, has_pair}
+use Rattle.round_color.specs.Coloring.{coloring, degree}
+use Rattle.round_color.specs.Proper.{IsEdge}
+use Rattle.round_color.specs.Table.{ends}
+use Rattle.round_color.proofs.Members.{length-mapped}
+use Rattle.round_color.proofs.Results.{is-coloring, edges-between, edges-distinct}
+use Rattle.machine_steps.specs.Rounds.{color_of, color_rounds}
 use Rattle.redistribute_rounds.specs.Rounds.{IsBetween, AreLegal}
 
--- the round of a pair, by which of its nodes has the greater number
-abbrev Turned : ℕ → Pair → Type 0
-Turned nodes pair =
-    ((pair.from.0 ≤ pair.to.0) × (round_of nodes pair ≡ pair.to.0 - pair.from.0))
-    ⊎ ((pair.to.0 < pair.from.0) × (round_of nodes pair ≡ pair.to.0 + nodes - pair.from.0))
+-- ---- rounds by any numbers of pairs
 
-turned : (nodes : ℕ) (pair : Pair) → IsBetween nodes pair → Turned nodes pair
-turned nodes pair b = by_order (cases_lt pair.to.0 pair.from.0)
-  where
-    by_order : (pair.to.0 < pair.from.0) ⊎ (pair.from.0 ≤ pair.to.0) → Turned nodes pair
-    by_order (inl below) = let h = b.from in inr (below, mod-eq_of_lt (omega arith))
-    by_order (inr upto) =
-        let h = b.to in
-        let e : pair.to.0 + nodes - pair.from.0 ≡ 1 * nodes + (pair.to.0 - pair.from.0) = omega arith in
-        inl (upto, ap (λ x. x % nodes) e ∙ mod-mul-add 1 nodes (pair.to.0 - pair.from.0) (omega arith))
+module _ (number : Pair → ℕ) where
+  abbrev of_number : List Pair → ℕ → List Pair
+  of_number pairs n = filter (λ pair. number pair == n) pairs
 
-round-within : (nodes : ℕ) (pair : Pair) → IsBetween nodes pair → (1 ≤ round_of nodes pair) × (round_of nodes pair < 1 + (nodes - 1))
-round-within nodes pair b = by_turn (turned nodes pair b)
-  where
-    by_turn : Turned nodes pair → (1 ≤ round_of nodes pair) × (round_of nodes pair < 1 + (nodes - 1))
-    by_turn (inl h) = let f = b.from in let t = b.to in let o = b.other in let g = h.0 in let e = h.1 in (omega (arith, o), omega arith)
-    by_turn (inr h) = let f = b.from in let t = b.to in let g = h.0 in let e = h.1 in (omega arith, omega arith)
+  -- all pairs of the rounds from one on
+  abbrev joined : List Pair → ℕ → ℕ → List Pair
+  joined pairs lo len = flat_map (λ round. round) (map (of_number pairs) (range_with_len lo len))
 
--- in one round a node has one target and one source
-module _ (nodes : ℕ) (one other : Pair) (b : IsBetween nodes one) (c : IsBetween nodes other) (same : round_of nodes one ≡ round_of nodes other) where
-  one-target : one.from.0 ≡ other.from.0 → one.to.0 ≡ other.to.0
-  one-target e = let f = b.to in let g = c.to in by_turns (turned nodes one b) (turned nodes other c)
+  none-joined : (lo len : ℕ) → joined [] lo len ≡ []
+  none-joined lo zero = refl
+  none-joined lo (suc len) = none-joined (lo + 1) len
+
+  -- one pair more
+  module _ (pair : Pair) (pairs : List Pair) where
+    other-round : (n : ℕ) → (number pair ≡ n → ⊥) → of_number (pair ∷ pairs) n ≡ of_number pairs n
+    other-round n ne = rw (ne_eqb (number pair) n ne) refl
+
+    later : (lo len : ℕ) → number pair < lo → joined (pair ∷ pairs) lo len ≡ joined pairs lo len
+    later lo zero lt = refl
+    later lo (suc len) lt = λ i. other-round lo (λ e. absurd (omega arith)) i ++ later (lo + 1) len (omega arith) i
+
+    inserted : (lo len : ℕ) → lo ≤ number pair → number pair < lo + len → IsPermutation (pair ∷ joined pairs lo len) (joined (pair ∷ pairs) lo len)
+    inserted lo zero ge lt = absurd (omega arith)
+    inserted lo (suc len) ge lt = ⊎_elim
+        (λ (e : number pair ≡ lo).
+        let this : of_number (pair ∷ pairs) lo ≡ pair ∷ of_number pairs lo = rw (eq-eqb (number pair) lo e) refl in
+        let same : joined (pair ∷ pairs) lo (suc len) ≡ pair ∷ joined pairs lo (suc len) = λ i. this i ++ later (lo + 1) len (omega arith) i in
+        subst (IsPermutation (pair ∷ joined pairs lo (suc len))) (sym same) (IsPermutation-refl (pair ∷ joined pairs lo (suc len))))
+        (λ (ne : number pair ≡ lo → ⊥).
+        let front = of_number pairs lo in
+        let rest = joined pairs (lo + 1) len in
+        let more = joined (pair ∷ pairs) (lo + 1) len in
+        let after : IsPermutation (front ++ (pair ∷ rest)) (front ++ more) =
+        IsPermutation-append_right front (pair ∷ rest) more (inserted (lo + 1) len (omega (arith, ne)) (omega arith)) in
+        let whole : front ++ more ≡ joined (pair ∷ pairs) lo (suc len) = ap (λ ps. ps ++ more) (sym (other-round lo ne)) in
+        subst (IsPermutation (pair ∷ (front ++ rest))) whole
+        (IsPermutation-trans (pair ∷ (front ++ rest)) (front ++ (pair ∷ rest)) (front ++ more)
+        (IsPermutation-sym (front ++ (pair ∷ rest)) (pair ∷ (front ++ rest)) (IsPermutation-middle front pair rest)) after))
+        (cases_eq (number pair) lo)
+
+  all-joined : (count : ℕ) (pairs : List Pair) → All (λ pair. number pair < count) pairs → IsPermutation pairs (joined pairs 0 count)
+  all-joined count [] below = subst (IsPermutation []) (sym (none-joined 0 count)) (IsPermutation-refl [])
+  all-joined count (pair ∷ pairs) below =
+      let this = All-head (λ p. number p < count) pair pairs below in
+      IsPermutation-trans (pair ∷ pairs) (pair ∷ joined pairs 0 count) (joined (pair ∷ pairs) 0 count)
+      (IsPermutation-cons pair pairs (joined pairs 0 count) (all-joined count pairs (All-tail (λ p. number p < count) pair pairs below)))
+      (inserted pair pairs 0 count (omega arith) (omega arith))
+
+  in-round : (pairs : List Pair) (n : ℕ) → All (λ pair. number pair ≡ n) (of_number pairs n)
+  in-round [] n = All-nil (λ pair. number pair ≡ n)
+  in-round (pair ∷ pairs) n = by_test (number pair == n) refl (in-round pairs n)
     where
-      by_turns : Turned nodes one → Turned nodes other → one.to.0 ≡ other.to.0
-      by_turns (inl h) (inl k) = let x = h.0 in let y = h.1 in let z = k.0 in let w = k.1 in omega arith
-      by_turns (inl h) (inr k) = let x = h.0 in let y = h.1 in let z = k.0 in let w = k.1 in omega arith
-      by_turns (inr h) (inl k) = let x = h.0 in let y = h.1 in let z = k.0 in let w = k.1 in omega arith
-      by_turns (inr h) (inr k) = let x = h.0 in let y = h.1 in let z = k.0 in let w = k.1 in omega arith
+      by_test : (b : Bool) → (number pair == n) ≡ b → All (λ p. number p ≡ n) (of_number pairs n)
+          → All (λ p. number p ≡ n) (if b then pair ∷ of_number pairs n else of_number pairs n)
+      by_test true e rest = All-cons (λ p. number p ≡ n) pair (of_number pairs n) (eqb-true (number pair) n e) rest
+      by_test false e rest = rest
 
-  one-source : one.to.0 ≡ other.to.0 → one.from.0 ≡ other.from.0
-  one-source e = let f = b.from in let g = c.from in by_turns (turned nodes one b) (turned nodes other c)
-    where
-      by_turns : Turned nodes one → Turned nodes other → one.from.0 ≡ other.from.0
-      by_turns (inl h) (inl k) = let x = h.0 in let y = h.1 in let z = k.0 in let w = k.1 in omega arith
-      by_turns (inl h) (inr k) = let x = h.0 in let y = h.1 in let z = k.0 in let w = k.1 in omega arith
-      by_turns (inr h) (inl k) = let x = h.0 in let y = h.1 in let z = k.0 in let w = k.1 in omega arith
-      by_turns (inr h) (inr k) = let x = h.0 in let y = h.1 in let z = k.0 in let w = k.1 in omega arith
+  -- they are legal where two pairs with one number share no end
+  legal : (count : ℕ) (pairs : List Pair) → All (λ pair. number pair < count) pairs
+      → AllPairs (λ one other. number one ≡ number other → (one.from.0 ≢ other.from.0) × (one.to.0 ≢ other.to.0)) pairs
+      → AreLegal pairs (map (of_number pairs) (range_with_len 0 count))
+  legal count pairs below apart =
+      let numbers = range_with_len 0 count in
+      let kept = λ (n : ℕ). AllPairs-filter (λ one other. number one ≡ number other → (one.from.0 ≢ other.from.0) × (one.to.0 ≢ other.to.0)) (λ pair. number pair == n) pairs apart in
+      let same = λ (n i j : ℕ) (d : Pair) (less : i < j) (inside : j < length (of_number pairs n)).
+      in-round pairs n i d (omega arith) ∙ sym (in-round pairs n j d inside) in
+      record {
+        each_once = all-joined count pairs below;
+        one_sent = All-map (AllPairs (λ one other. one.from.0 ≢ other.from.0)) (of_number pairs) numbers
+            (λ k e inside i j d less below. let n = get_or numbers k e in (kept n i j d less below (same n i j d less below)).0);
+        one_taken = All-map (AllPairs (λ one other. one.to.0 ≢ other.to.0)) (of_number pairs) numbers
+            (λ k e inside i j d less below. let n = get_or numbers k e in (kept n i j d less below (same n i j d less below)).1);
+      }
 
-same-pair : (one other : Pair) → one.from.0 ≡ other.from.0 → one.to.0 ≡ other.to.0 → one ≡ other
-same-pair one other f t = λ i. record { from = record { 0 = f i }; to = record { 0 = t i } }
+-- ---- colours as numbers
 
--- all pairs of a round are of that round
-in-round : (nodes : ℕ) (pairs : List Pair) (r : ℕ) → All (λ pair. round_of nodes pair ≡ r) (rotation_round nodes pairs r)
-in-round nodes [] r = All-nil (λ pair. round_of nodes pair ≡ r)
-in-round nodes (pair ∷ pairs) r = by_test (round_of nodes pair == r) refl (in-round nodes pairs r)
+pub colors-listed : (nodes : ℕ) (pairs : List Pair) → coloring nodes (map ends pairs) ≡ map (color_of nodes pairs) pairs
+colors-listed nodes pairs = listed pairs
   where
-    by_test : (b : Bool) → (round_of nodes pair == r) ≡ b → All (λ p. round_of nodes p ≡ r) (rotation_round nodes pairs r)
-        → All (λ p. round_of nodes p ≡ r) (if b then pair ∷ rotation_round nodes pairs r else rotation_round nodes pairs r)
-    by_test true e rest = All-cons (λ p. round_of nodes p ≡ r) pair (rotation_round nodes pairs r) (eqb-true (round_of nodes pair) r e) rest
-    by_test false e rest = rest
+    listed : (left : List Pair) → map (λ edge. color_of nodes pairs (record { from = record { 0 = edge.0 }; to = record { 0 = edge.1 } })) (map ends left) ≡ map (color_of nodes pairs) left
+    listed [] = refl
+    listed (pair ∷ left) = ap (λ colors. color_of nodes pairs pair ∷ colors) (listed left)
 
-module _ (nodes : ℕ) (pairs : List Pair) (between : All (IsBetween nodes) pairs) (distinct : AllPairs (λ one other. one ≢ other) pairs) (r : ℕ) where
-  apart : AllPairs (λ one other. one ≢ other) (rotation_round nodes pairs r)
-  apart = AllPairs-filter (λ one other. one ≢ other) (λ pair. round_of nodes pair == r) pairs distinct
+zip-mapped : {X Y Z : Type 0} (f : X → Y) (g : X → Z) (xs : List X) → zip (map f xs) (map g xs) ≡ map (λ x. (f x, g x)) xs
+zip-mapped f g [] = refl
+zip-mapped f g (x ∷ xs) = ap (λ rest. (f x, g x) ∷ rest) (zip-mapped f g xs)
 
-  kept : All (IsBetween nodes) (rotation_round nodes pairs r)
-  kept = All-filter (λ pair. round_of nodes pair == r) (IsBetween nodes) pairs between
+All-mapped : {X Y : Type 0} (P : Y → Type 0) (f : X → Y) (xs : List X) → All P (map f xs) → All (λ x. P (f x)) xs
+All-mapped P f [] h = All-nil (λ x. P (f x))
+All-mapped P f (x ∷ xs) h = All-cons (λ x. P (f x)) x xs (All-head P (f x) (map f xs) h) (All-mapped P f xs (All-tail P (f x) (map f xs) h))
 
-  sent-once : AllPairs (λ one other. one.from.0 ≢ other.from.0) (rotation_round nodes pairs r)
-  sent-once i j d lt in' same =
-      let one = get_or (rotation_round nodes pairs r) i d in
-      let other = get_or (rotation_round nodes pairs r) j d in
-      let round : round_of nodes one ≡ round_of nodes other = in-round nodes pairs r i d (omega arith) ∙ sym (in-round nodes pairs r j d in') in
-      apart i j d lt in' (same-pair one other same (one-target nodes one other (kept i d (omega arith)) (kept j d in') round same))
+AllPairs-mapped : {X Y : Type 0} (R : Y → Y → Type 0) (f : X → Y) (xs : List X) → AllPairs R (map f xs) → AllPairs (λ one other. R (f one) (f other)) xs
+AllPairs-mapped R f xs h i j d less below =
+    let size = length-mapped f xs in
+    subst (λ one. R one (f (get_or xs j d))) (get_or-map f xs i d (f d) (omega arith))
+    (subst (R (get_or (map f xs) i (f d))) (get_or-map f xs j d (f d) below) (h i j (f d) less (omega arith)))
 
-  taken-once : AllPairs (λ one other. one.to.0 ≢ other.to.0) (rotation_round nodes pairs r)
-  taken-once i j d lt in' same =
-      let one = get_or (rotation_round nodes pairs r) i d in
-      let other = get_or (rotation_round nodes pairs r) j d in
-      let round : round_of nodes one ≡ round_of nodes other = in-round nodes pairs r i d (omega arith) ∙ sym (in-round nodes pairs r j d in') in
-      apart i j d lt in' (same-pair one other (one-source nodes one other (kept i d (omega arith)) (kept j d in') round same) same)
+pub pairs-between : (nodes : ℕ) (pairs : List Pair) → All (IsBetween nodes) pairs → All (λ pair. IsEdge nodes (ends pair)) pairs
+pairs-between nodes pairs between i d inside = let b = between i d inside in record { from = b.from; to = b.to }
 
-each-round : {Y : Type 0} (P : Y → Type 0) (f : ℕ → Y) → ((r : ℕ) → P (f r)) → (rs : List ℕ) → All P (map f rs)
-each-round P f each [] = All-nil P
-each-round P f each (r ∷ rs) = All-cons P (f r) (map f rs) (each r) (each-round P f each rs)
-
--- rounds without a pair hold none
-without-empty : (rounds : List (List Pair)) → flat_map (λ round. round) (filter has_pair rounds) ≡ flat_map (λ round. round) rounds
-without-empty [] = refl
-without-empty ([] ∷ rounds) = without-empty rounds
-without-empty ((pair ∷ pairs) ∷ rounds) = ap (λ ps. (pair ∷ pairs) ++ ps) (without-empty rounds)
-
--- all pairs of the rounds from one on
-abbrev joined : ℕ → List Pair → ℕ → ℕ → List Pair
-joined nodes pairs lo len = flat_map (λ round. round) (map (rotation_round nodes pairs) (range_with_len lo len))
-
-none-joined : (nodes lo len : ℕ) → joined nodes [] lo len ≡ []
-none-joined nodes lo zero = refl
-none-joined nodes lo (suc len) = none-joined nodes (lo + 1) len
-
--- one pair more
-module _ (nodes : ℕ) (pair : Pair) (pairs : List Pair) where
-  other-round : (r : ℕ) → (round_of nodes pair ≡ r → ⊥) → rotation_round nodes (pair ∷ pairs) r ≡ rotation_round nodes pairs r
-  other-round r ne = rw (ne_eqb (round_of nodes pair) r ne) refl
-
-  later : (lo len : ℕ) → round_of nodes pair < lo → joined nodes (pair ∷ pairs) lo len ≡ joined nodes pairs lo len
-  later lo zero lt = refl
-  later lo (suc len) lt = λ i. other-round lo (λ e. absurd (omega arith)) i ++ later (lo + 1) len (omega arith) i
-
-  inserted : (lo len : ℕ) → lo ≤ round_of nodes pair → round_of nodes pair < lo + len → IsPermutation (pair ∷ joined nodes pairs lo len) (joined nodes (pair ∷ pairs) lo len)
-  inserted lo zero ge lt = absurd (omega arith)
-  inserted lo (suc len) ge lt = ⊎_elim
-      (λ (e : round_of nodes pair ≡ lo).
-      let this : rotation_round nodes (pair ∷ pairs) lo ≡ pair ∷ rotation_round nodes pairs lo = rw (eq-eqb (round_of nodes pair) lo e) refl in
-      let same : joined nodes (pair ∷ pairs) lo (suc len) ≡ pair ∷ joined nodes pairs lo (suc len) = λ i. this i ++ later (lo + 1) len (omega arith) i in
-      subst (IsPermutation (pair ∷ joined nodes pairs lo (suc len))) (sym same) (IsPermutation-refl (pair ∷ joined nodes pairs lo (suc len))))
-      (λ (ne : round_of nodes pair ≡ lo → ⊥).
-      let front = rotation_round nodes pairs lo in
-      let rest = joined nodes pairs (lo + 1) len in
-      let more = joined nodes (pair ∷ pairs) (lo + 1) len in
-      let after : IsPermutation (front ++ (pair ∷ rest)) (front ++ more) =
-      IsPermutation-append_right front (pair ∷ rest) more (inserted (lo + 1) len (omega (arith, ne)) (omega arith)) in
-      let whole : front ++ more ≡ joined nodes (pair ∷ pairs) lo (suc len) = ap (λ ps. ps ++ more) (sym (other-round lo ne)) in
-      subst (IsPermutation (pair ∷ (front ++ rest))) whole
-      (IsPermutation-trans (pair ∷ (front ++ rest)) (front ++ (pair ∷ rest)) (front ++ more)
-      (IsPermutation-sym (front ++ (pair ∷ rest)) (pair ∷ (front ++ rest)) (IsPermutation-middle front pair rest)) after))
-      (cases_eq (round_of nodes pair) lo)
-
-all-joined : (nodes : ℕ) (pairs : List Pair) → All (IsBetween nodes) pairs → IsPermutation pairs (joined nodes pairs 1 (nodes - 1))
-all-joined nodes [] between = subst (IsPermutation []) (sym (none-joined nodes 1 (nodes - 1))) (IsPermutation-refl [])
-all-joined nodes (pair ∷ pairs) between =
-    let within = round-within nodes pair (All-head (IsBetween nodes) pair pairs between) in
-    IsPermutation-trans (pair ∷ pairs) (pair ∷ joined nodes pairs 1 (nodes - 1)) (joined nodes (pair ∷ pairs) 1 (nodes - 1))
-    (IsPermutation-cons pair pairs (joined nodes pairs 1 (nodes - 1)) (all-joined nodes pairs (All-tail (IsBetween nodes) pair pairs between)))
-    (inserted nodes pair pairs 1 (nodes - 1) within.0 within.1)
-
-pub rotation_legal : (nodes : ℕ) (pairs : List Pair) → All (IsBetween nodes) pairs → AllPairs (λ one other. one ≢ other) pairs → AreLegal pairs (rotation_rounds nodes pairs)
-rotation_legal nodes pairs between distinct =
-    let all = map (rotation_round nodes pairs) (range_with_len 1 (nodes - 1)) in
-    record {
-      each_once = subst (IsPermutation pairs) (sym (without-empty all)) (all-joined nodes pairs between);
-      one_sent = All-filter has_pair (AllPairs (λ one other. one.from.0 ≢ other.from.0)) all
-          (each-round (AllPairs (λ one other. one.from.0 ≢ other.from.0)) (rotation_round nodes pairs) (sent-once nodes pairs between distinct) (range_with_len 1 (nodes - 1)));
-      one_taken = All-filter has_pair (AllPairs (λ one other. one.to.0 ≢ other.to.0)) all
-          (each-round (AllPairs (λ one other. one.to.0 ≢ other.to.0)) (rotation_round nodes pairs) (taken-once nodes pairs between distinct) (range_with_len 1 (nodes - 1)));
-    }
+pub colors-legal : (nodes : ℕ) (pairs : List Pair) → All (IsBetween nodes) pairs → AllPairs (λ one other. one ≢ other) pairs → AreLegal pairs (color_rounds nodes pairs)
+colors-legal nodes pairs between distinct =
+    let edges = map ends pairs in
+    let color : Pair → ℕ = color_of nodes pairs in
+    let Apart : (ℕ × ℕ) × ℕ → (ℕ × ℕ) × ℕ → Type 0 = λ one other. one.1 ≡ other.1 → (one.0.0 ≢ other.0.0) × (one.0.1 ≢ other.0.1) in
+    let h = is-coloring nodes edges (edges-between nodes pairs (pairs-between nodes pairs between)) (edges-distinct pairs distinct) in
+    let listed : coloring nodes edges ≡ map color pairs = colors-listed nodes pairs in
+    legal color (degree nodes edges) pairs
+    (All-mapped (λ c. c < degree nodes edges) color pairs (subst (λ (colors : List ℕ). All (λ c. c < degree nodes edges) colors) listed h.below))
+    (AllPairs-mapped Apart (λ pair. (ends pair, color pair)) pairs
+    (subst (AllPairs Apart) (ap (zip edges) listed ∙ zip-mapped ends color pairs) h.apart))

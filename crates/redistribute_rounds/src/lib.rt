@@ -1,15 +1,17 @@
 //! The rounds of a redistribution: in which order the pairs of nodes exchange their letters.
 //!
 //! Comes in: the number of nodes, and the ordered pairs of nodes of which the first sends to the second. Goes out: the
-//! pairs in rounds. What holds in between: each pair stands in exactly one round, and in a round a node sends at most one
-//! letter and takes at most one. The rounds are those of a rotation: in each of them every target lies equally many nodes
-//! after its source.
+//! pairs in rounds, and the node that needs so many. What holds in between: each pair stands in exactly one round, in a
+//! round a node sends at most one letter and takes at most one, and no rounds of which this holds are fewer. The pairs of
+//! a round are those of one colour, by the colours of `round_color`.
 #![tactic(auto)]
 
-mod rotation;
+mod color_rounds;
+mod laws;
 mod round_list;
 
+pub use color_rounds::rounds;
 pub use hpf_base::{NodeId, OutOfMemory};
+pub use laws::{law_of_fewest_rounds, law_of_full_rounds, law_of_legal_rounds};
 pub use letters::Pair;
-pub use rotation::rounds;
 pub use round_list::Rounds;
