@@ -17,7 +17,7 @@ use Rattle.machine_steps.specs.Machine.{remapped}
 use Rattle.machine_steps.specs.Message.{all_spots, has_any, remap_message, spots_from}
 use Rattle.owner_tables.proofs.Ranges.{first-passes}
 use Rattle.letters.specs.declared.pair.Pair.{Pair}
-use Rattle.redistribute_rounds.proofs.Legal.{rotation_legal}
+use Rattle.redistribute_rounds.proofs.Legal.{colors-legal}
 use Rattle.comm_sets.specs.Moves.{is_moved}
 use Rattle.machine_steps.specs.Rounds.{all_pairs, is_pair, moving_pairs, pair_of, remap_rounds, rounds_on}
 use Rattle.comm_sets.proofs.Marking.{in_row}
@@ -136,7 +136,7 @@ module _ (nodes : ℕ) (old new : List Layout) (owned : AreOwned nodes old) wher
     pub in-a-round : (k : ℕ) × (k < length (remap_rounds nodes old new)) × (list_any (is_pair from to) (get_or (remap_rounds nodes old new) k []) ≡ true)
     in-a-round =
         let test : Pair → Bool = λ pair. has_any (remap_message nodes old new pair.from.0 pair.to.0) in
-        let legal = rotation_legal nodes (moving_pairs nodes old new) (kept-between nodes test) (kept-distinct nodes test) in
+        let legal = colors-legal nodes (moving_pairs nodes old new) (kept-between nodes test) (kept-distinct nodes test) in
         round-of (is_pair from to) (remap_rounds nodes old new)
         (sym (list_any-IsPermutation (is_pair from to) (moving_pairs nodes old new) (flat_map (λ round. round) (remap_rounds nodes old new)) legal.each_once) ∙ moves)
 

@@ -12,13 +12,12 @@ use owner_tables::Owners;
 use redistribute_rounds::{Pair, Rounds, rounds};
 use std::alloc::Global;
 
-/// The rounds in which the messages of a redistribution go, each round the pairs of a source and a target: those of a rotation, of which
-/// the ones without a message are left out. Who has a message for whom is found by the places of each dimension. The rows are of the same
-/// sizes before and after.
+/// The rounds in which the messages of a redistribution go, each round the pairs of a source and a target: as few as can be. Who has a
+/// message for whom is found by the places of each dimension. The rows are of the same sizes before and after.
 pub fn remap_rounds(alloc: Global, before: &Owners, after: &Owners) -> Result<Rounds, OutOfMemory>
     requires nodes { before.now.nodes ≡ after.now.nodes }
     requires sizes { sizes before.now.layouts ≡ sizes after.now.layouts }
-    ensures { IfOk result (λ rounds. rounds ≡ remap_rounds before.now.nodes before.now.layouts after.now.layouts) }
+    ensures { IfOk result (λ rounds. map (λ v. v.items) rounds.list.items ≡ remap_rounds before.now.nodes before.now.layouts after.now.layouts) }
 {
     let nodes = before.nodes();
     let mut marks = unmarked(alloc, nodes)?;

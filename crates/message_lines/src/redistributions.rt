@@ -1,6 +1,6 @@
 //! The lines of a redistribution (HPF 2.0, 8.3).
 
-ghost use Rattle.std.specs.Prelude.{◌≡◌, ◌++◌, All, IfOk, OnOk};
+ghost use Rattle.std.specs.Prelude.{◌≡◌, ◌++◌, All, IfOk, OnOk, map};
 ghost use Rattle.std.specs.List.{flat_map};
 ghost use Rattle.machine_steps.specs.Layout.{sizes};
 ghost use Rattle.message_text.specs.MessageText.{redistribution_lines, rounds_lines};
@@ -76,9 +76,9 @@ impl<'a> Moving<'a> {
         rounds: &Rounds,
         text: &mut Vec<u8>,
     ) -> Result<(), OutOfMemory>
-        requires { All (All (IsBetween self.now.rows.now.owners.nodes)) rounds.now }
+        requires { All (All (IsBetween self.now.rows.now.owners.nodes)) (map (λ v. v.items) rounds.now.list.items) }
         ensures { OnOk result (text.new.items ≡ text.old.items
-            ++ rounds_lines (setting_of self.now.rows.now) line self.now.rows.now.owners.layouts self.now.after.now.layouts 1 rounds.now) }
+            ++ rounds_lines (setting_of self.now.rows.now) line self.now.rows.now.owners.layouts self.now.after.now.layouts 1 (map (λ v. v.items) rounds.now.list.items)) }
     {
         for place in 0..rounds.len() {
             let head = round_head(alloc, line, place + 1)?;

@@ -11,7 +11,7 @@ pub fn lines_of_examples()
     ensures reverse { reversal
         ≡ codes "line 4: 0 -> 2: A(2) A(3)\nline 4: 0 -> 3: A(1)\nline 4: 1 -> 2: A(4)\nline 4: 2 -> 0: A(8) A(9)\nline 4: 2 -> 1: A(7)\nline 4: 3 -> 0: A(10)\n" }
     ensures moved { block_to_cyclic
-        ≡ codes "line 5: round 1: 0 -> 1: A(2)\nline 5: round 1: 1 -> 2: A(3)\nline 5: round 2: 1 -> 3: A(4)\nline 5: round 2: 2 -> 0: A(5)\nline 5: round 3: 2 -> 1: A(6)\nline 5: round 3: 3 -> 2: A(7)\n" }
+        ≡ codes "line 5: round 1: 0 -> 1: A(2)\nline 5: round 1: 1 -> 2: A(3)\nline 5: round 1: 2 -> 0: A(5)\nline 5: round 2: 1 -> 3: A(4)\nline 5: round 2: 2 -> 1: A(6)\nline 5: round 2: 3 -> 2: A(7)\n" }
     ensures mask { masked
         ≡ codes "line 4: 0 -> 1: A(2) ?@(2)\nline 4: 1 -> 0: A(3) ?@(3)\nline 5: 0 -> 1: A(2)\nline 5: 1 -> 0: A(3)\n" }
     ensures nest { new_and_reduction

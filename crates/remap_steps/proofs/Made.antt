@@ -14,7 +14,7 @@ pub record Seen (r : Inside) (v : Redistribution) : Type 0 where
   pub id : r.id ≡ v.id
   pub node : v.id < v.nodes
   pub alike : sizes v.old ≡ sizes v.new
-  pub rounds : r.rounds ≡ all_rounds v
+  pub rounds : map (λ v. v.items) r.rounds.list.items ≡ all_rounds v
   pub outgoing : r.outgoing ≡ map (message_between v v.id) (range_with_len 0 v.nodes)
 
 pub seen : (r : Inside) (v : Redistribution) → view_of r ≡ v → IsMade r → Seen r v

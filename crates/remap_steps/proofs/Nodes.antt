@@ -12,9 +12,8 @@ use Rattle.hpf_base.proofs.Ranges.{All-range}
 use Rattle.machine_steps.specs.Layout.{Layout}
 use Rattle.machine_steps.specs.Message.{has_any, remap_message}
 use Rattle.letters.specs.declared.pair.Pair.{Pair}
-use Rattle.machine_steps.specs.Rounds.{has_pair, rotation_round, round_of}
 use Rattle.comm_sets.proofs.Computing.{filter-more}
-use Rattle.machine_steps.specs.Rounds.{all_pairs, is_pair, moving_pairs, remap_rounds}
+use Rattle.machine_steps.specs.Rounds.{all_pairs, color_of, color_round, is_pair, moving_pairs, remap_rounds}
 
 -- what is made of those that pass, with one node more
 pub map-more : {A : Type 0} (f : ℕ → A) (P : ℕ → Bool) (n : ℕ)
@@ -56,10 +55,8 @@ module _ (nodes : ℕ) (old new : List Layout) where
   rounds-send : All (All (Sends nodes old new)) (remap_rounds nodes old new)
   rounds-send =
       let pairs = moving_pairs nodes old new in
-      All-filter has_pair (All (Sends nodes old new)) (map (rotation_round nodes pairs) (range_with_len 1 (nodes - 1)))
-      (All-map (All (Sends nodes old new)) (rotation_round nodes pairs) (range_with_len 1 (nodes - 1))
-      (All-range (λ r. All (Sends nodes old new) (rotation_round nodes pairs r)) 1 (nodes - 1)
-      (λ r ge lt. All-filter (λ pair. round_of nodes pair == r) (Sends nodes old new) pairs (moving-send (all_pairs nodes)))))
+      All-map (All (Sends nodes old new)) (color_round nodes pairs) _
+      (λ k color inside. All-filter (λ pair. color_of nodes pairs pair == get_or _ k color) (Sends nodes old new) pairs (moving-send (all_pairs nodes)))
 
   -- so a pair sends in a round just where it stands in it
   pub stands-sends : (round from to : ℕ) → list_any (is_pair from to) (get_or (remap_rounds nodes old new) round [])

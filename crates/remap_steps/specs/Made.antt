@@ -14,5 +14,5 @@ pub record IsMade (r : Inside) : Type 0 where
   pub nodes : r.before.nodes ≡ r.after.nodes
   pub sizes : sizes r.before.layouts ≡ sizes r.after.layouts
   pub node : r.id < r.before.nodes
-  pub rounds : r.rounds ≡ remap_rounds r.before.nodes r.before.layouts r.after.layouts
+  pub rounds : map (λ v. v.items) r.rounds.list.items ≡ remap_rounds r.before.nodes r.before.layouts r.after.layouts
   pub outgoing : r.outgoing ≡ map (remap_message r.before.nodes r.before.layouts r.after.layouts r.id) (range_with_len 0 r.before.nodes)

@@ -11,7 +11,7 @@ use Rattle.machine_steps.specs.Machine.{remapped}
 use Rattle.machine_steps.specs.Message.{has_any, remap_message}
 use Rattle.letters.specs.declared.pair.Pair.{Pair}
 use Rattle.redistribute_rounds.specs.Rounds.{AreLegal}
-use Rattle.redistribute_rounds.proofs.Legal.{rotation_legal}
+use Rattle.redistribute_rounds.proofs.Legal.{colors-legal}
 use Rattle.machine_steps.specs.Rounds.{is_pair, moving_pairs, remap_rounds}
 use Rattle.comm_sets.proofs.Pairs.{kept-between, kept-distinct}
 
@@ -38,7 +38,7 @@ module _ (nodes : ℕ) (new : List Remapping) (layouts : List Layout) (k : ℕ) 
   legal : AreLegal (moving_pairs nodes layouts (remapped new layouts)) rounds
   legal =
       let test : Pair → Bool = λ pair. has_any (remap_message nodes layouts (remapped new layouts) pair.from.0 pair.to.0) in
-      rotation_legal nodes (moving_pairs nodes layouts (remapped new layouts)) (kept-between nodes test) (kept-distinct nodes test)
+      colors-legal nodes (moving_pairs nodes layouts (remapped new layouts)) (kept-between nodes test) (kept-distinct nodes test)
 
   abbrev round : List Pair
   round = get_or rounds k []

@@ -1,6 +1,6 @@
 //! What a node sends and takes in a round of a redistribution.
 //!
-//! Comes in: the rounds of a redistribution, as definitions (`machine_steps`), and the law that the rounds of a rotation are legal
+//! Comes in: the rounds of a redistribution, as definitions (`machine_steps`), and the law that they are legal
 //! (`redistribute_rounds`). Goes out: one law, the contract of a function that does nothing.
 //!
 //! What holds in between: the pairs with a message are distinct and each goes from a node to another (`comm_sets`), so in a round their

@@ -1,10 +1,9 @@
-use Rattle.std.proofs.Common.{◌≡◌, ◌≢◌, ◌≤◌, ◌*◌, false, List, All, IfOk, filter, replicate, sym, ◌∙◌, ap, subst, arith}
+use Rattle.std.proofs.Common.{◌≡◌, ◌≢◌, ◌≤◌, ◌*◌, false, List, All, IfOk, filter, map, replicate, sym, ◌∙◌, ap, subst, arith}
 use Rattle.std.specs.List.{AllPairs}
 use Rattle.letters.specs.declared.pair.Pair.{Pair}
-use Rattle.machine_steps.specs.Rounds.{rotation_rounds}
 use Rattle.redistribute_rounds.specs.Rounds.{IsBetween}
 use Rattle.comm_sets.specs.Marks.{is_marked, is_marked_pair}
-use Rattle.machine_steps.specs.Rounds.{all_pairs, moving_pairs}
+use Rattle.machine_steps.specs.Rounds.{all_pairs, color_rounds, moving_pairs}
 use Rattle.comm_sets.proofs.Pairs.{kept-between, kept-distinct, marked-moving}
 use Rattle.comm_sets.proofs.rounds.remap_rounds.Goals as goal
 
@@ -32,4 +31,4 @@ returns c =
     let pairs : c.deref-2.result.now ≡ moving_pairs old.nodes old.layouts new.layouts =
     c.deref-2.ensures.value ∙ c.in_ok-pairs.ensures ∙ (λ i. filter (is_marked_pair (c.deref.ensures.value i)) (all_pairs (count i)))
     ∙ marked-moving old.nodes old.layouts new.layouts c.in_ok-marks.marks.items c.mark_rows.new.marks.items few none c.in_ok-mark_rows.ensures in
-    subst (λ (all : List (List Pair)). IfOk c.rounds.result (λ rounds. rounds ≡ all)) (λ i. rotation_rounds (count i) (pairs i)) c.rounds.ensures.value
+    subst (λ (all : List (List Pair)). IfOk c.rounds.result (λ rounds. map (λ v. v.items) rounds.list.items ≡ all)) (λ i. color_rounds (count i) (pairs i)) c.rounds.ensures.value

@@ -1,4 +1,4 @@
-use Rattle.std.proofs.Common.{◌≡◌, ℕ, suc, ◌+◌, List, [], ◌∷◌, ◌++◌, Some, All, codes, decimal, drop, slice_get, sym, ◌∙◌, ap, append_assoc, arith, subst}
+use Rattle.std.proofs.Common.{◌≡◌, ℕ, suc, ◌+◌, List, [], ◌∷◌, ◌++◌, Some, All, codes, decimal, drop, map, slice_get, sym, ◌∙◌, ap, append_assoc, arith, subst}
 use Rattle.std.proofs.lemmas.List.{drop_more}
 use Rattle.std.specs.List.{flat_map}
 use Rattle.std.proofs.lemmas.Option.{get_or_from_slice_get, slice_get_within}
@@ -31,7 +31,7 @@ headed s line old new r pairs head is =
 pub add_round-requires : goal.add_round-requires
 add_round-requires c =
     let nodes = c.args.self.now.rows.now.owners.nodes in
-    let rounds = c.args.rounds.now in
+    let rounds = map (λ v. v.items) c.args.rounds.now.list.items in
     subst (λ (pairs : List Pair). All (IsBetween nodes) pairs) (get_or_from_slice_get rounds c.loop-place.place c.pairs.result.now [] c.pairs.ensures)
     (c.requires c.loop-place.place [] (slice_get_within rounds c.loop-place.place c.pairs.result.now c.pairs.ensures))
 
@@ -40,7 +40,7 @@ loop-place-preserved c =
     let rows = c.args.self.now.rows.now in
     let old = rows.owners.layouts in
     let new = c.args.self.now.after.now.layouts in
-    let rounds = c.args.rounds.now in
+    let rounds = map (λ v. v.items) c.args.rounds.now.list.items in
     let place = c.loop-place.place in
     let pairs = c.pairs.result.now in
     let head = headed (setting_of rows) c.args.line old new (place + 1) pairs c.deref.result.now (c.deref.ensures.value ∙ c.in_ok-head.ensures) in

@@ -1,4 +1,4 @@
-use Rattle.std.proofs.Common.{[], get_or, ◌∙◌, ap}
+use Rattle.std.proofs.Common.{[], get_or, map, ◌∙◌, ap}
 use Rattle.std.specs.List.{list_any}
 use Rattle.machine_steps.specs.Rounds.{is_pair}
 use Rattle.remap_steps.proofs.Made.{seen}
@@ -10,5 +10,5 @@ returns-then-round-len c =
     let v = c.args.self.now in
     let s = seen c.self.inside v c.self.view_is c.self.invariant in
     c.is_among.ensures
-    ∙ ap (list_any (is_pair c.args.from c.args.to)) (got c.self.inside.rounds c.args.round c.pairs.result.now [] c.pairs.ensures ∙ ap (λ rounds. get_or rounds c.args.round []) s.rounds)
+    ∙ ap (list_any (is_pair c.args.from c.args.to)) (got (map (λ v. v.items) c.self.inside.rounds.list.items) c.args.round c.pairs.result.now [] c.pairs.ensures ∙ ap (λ rounds. get_or rounds c.args.round []) s.rounds)
     ∙ stands-sends v.nodes v.old v.new c.args.round c.args.from c.args.to
