@@ -4,6 +4,7 @@ use crate::alike::{write_alike, write_writing};
 use crate::case::{Case, Wanted};
 use crate::job::write_job;
 use crate::ran::queues_text;
+use crate::rounds::are_fewest;
 use case_texts::{TextError, text_of, write_text};
 use hpf_ports::{Gate, MeetGate, MemSink, OpenGate, Source, read_all};
 use hpf_run::hpf_top;
@@ -94,6 +95,9 @@ fn write_run<R: Threads + Wait + Sync, G: Gate>(
     write!(written, "  status {}, ", status.exit_code())?;
     write_left(alloc, written, &mut src)?;
     write_held(written, "out", &out)?;
+    if !are_fewest(out.bytes()) {
+        written.push_str("  rounds that aren't the fewest\n")?;
+    }
     write_held(written, "err", &err)?;
     queues
 }

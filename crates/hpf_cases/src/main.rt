@@ -4,7 +4,8 @@
 //! line that begins with one of these words begins a case, with the words of the command line after it, a blank between two.
 //!
 //! - `job`: the answer is the job that the words are, or that they are none.
-//! - `words`: the answer is the status, how many bytes the source has left, and what standard output and standard error then hold.
+//! - `words`: the answer is the status, how many bytes the source has left, and what standard output and standard error then hold. Where standard output
+//!   lists messages of redistributions and their rounds aren't the fewest, that is said too.
 //! - `ran`: the answer is that of `words`, at a gate where two threads meet; and then for each queue on which nodes sent letters how many, how many
 //!   queues there are, and whether two threads met.
 //! - `alike`: grids stand after it; the answer says of each whether `run` and `serial` on it have the same status and write the same, on 1, 2, 3
@@ -26,6 +27,7 @@ mod answer;
 mod case;
 mod job;
 mod ran;
+mod rounds;
 mod stream;
 
 use crate::answer::answer_to;

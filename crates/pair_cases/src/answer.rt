@@ -2,9 +2,11 @@
 
 use crate::arrays::{Arrays, arrays_of};
 use crate::pairs::{write_moves, write_pairs};
+use crate::rounds::write_rounds;
 use crate::show::write_spots;
 use crate::statement::{Statement, statement_of};
 use crate::told::{Act, told};
+use crate::words::line_of;
 use std::alloc::{AllocError, Global};
 use std::fmt::Write;
 
@@ -29,6 +31,9 @@ fn write_answer(
     word: &str,
     asked: &str,
 ) -> Option<()> {
+    if word == "rounds" {
+        return write_rounds(alloc, out, line_of(case, "nodes"), asked);
+    }
     let arrays = arrays_of(alloc, case, "array");
     if !arrays.are_well {
         None

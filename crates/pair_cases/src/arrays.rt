@@ -43,7 +43,7 @@ pub fn arrays_of(alloc: Global, case: &[String], word: &str) -> Arrays {
 }
 
 /// The number of nodes that is written so.
-fn nodes_of(written: &str) -> Option<u32>
+pub(crate) fn nodes_of(written: &str) -> Option<u32>
     ensures some { IfSome result (λ nodes. 1 ≤ nodes) }
     ensures few { IfSome result (λ nodes. nodes ≤ MAX_NODES) }
 {

@@ -1,4 +1,5 @@
-//! Tries the messages of pairs of nodes: what one node sends another for a statement, by the courses of its subscripts, and at a redistribution.
+//! Tries the messages of pairs of nodes: what one node sends another for a statement, by the courses of its subscripts, and at a redistribution; and in which
+//! rounds pairs exchange their letters.
 //!
 //! Comes in: cases on standard input. Goes out: the same lines, and after each line that asks its answer. What holds in between: `case` begins a case; these
 //! lines say what it is.
@@ -20,6 +21,8 @@
 //!   the first pair that differs, with both lists. Each array has at most 1,024 elements, and the space 1,024 tuples.
 //! - `remap`: the same of the redistribution, for which a case needs no statement: those that the taker owns after it and not before, and whose least owner
 //!   before is the sender.
+//! - `rounds`: the rounds of pairs of nodes, written as `0>1 2>0`, for which a case needs no array. The answer is how many rounds there are and which node is the
+//!   busiest, and a line for each round; for the word `all`, which stands for all pairs of two nodes, no more than the first.
 //!
 //! So a case with its answers, where A(1:3) and A(4:6) are on two nodes and A(1:5) = A(2:6) is done:
 //!
@@ -40,13 +43,14 @@
 //! ```
 //!
 //! Other lines are remarks. There is no answer where a case isn't written so, the space is too large, a course goes along no axis of it, an array hasn't as many
-//! elements after as before, there is no such node, or memory is wanting.
+//! elements after as before, there is no such node, a pair of `rounds` stands twice or is a node and itself, or memory is wanting.
 #![tactic(auto)]
 
 mod answer;
 mod arrays;
 mod bounds;
 mod pairs;
+mod rounds;
 mod show;
 mod sizes;
 mod spaces;
@@ -65,7 +69,7 @@ fn main(rt: HostRuntime) -> io::Result<()> {
         let line = line?;
         println!(rt; "{line}")?;
         let (word, rest) = line.as_str().split_once(' ').unwrap_or((line.as_str(), ""));
-        if word == "message" || word == "pairs" || word == "remap" {
+        if word == "message" || word == "pairs" || word == "remap" || word == "rounds" {
             print!(rt; "{}", answer_to(alloc, &case, word, rest)?)?;
         } else {
             if word == "case" {
