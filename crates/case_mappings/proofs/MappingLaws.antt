@@ -13,12 +13,12 @@ two : {X : Type 0} (P : X → Type 0) (xs : List X) (a b : X) → xs ≡ a ∷ b
 two P xs a b is first next = subst (All P) (sym is) (All-cons P a (b ∷ []) first (All-cons P b [] next (All-nil P)))
 
 -- all of a list with two items
-pub all_two : {X : Type 0} (P : X → Type 0) (xs ys : List X) (d : X) → xs ≡ ys → 2 ≤ length xs → length xs < 3 → P (get_or xs 0 d)
-    → P (get_or xs 1 d) → All P ys
-all_two P [] ys d is some few first next = absurd (omega arith)
-all_two P (a ∷ []) ys d is some few first next = absurd (omega arith)
-all_two P (a ∷ b ∷ []) ys d is some few first next = two P ys a b (sym is) first next
-all_two P (a ∷ b ∷ x ∷ xs) ys d is some few first next = absurd (omega arith)
+pub all_two : {X : Type 0} (P : X → Type 0) (xs ys : List X) (x y : X) → xs ≡ ys → 2 ≤ length xs → length xs < 3 → x ≡ get_or xs 0 x
+    → y ≡ get_or xs 1 y → P x → P y → All P ys
+all_two P [] ys x y is some few first next holds also = absurd (omega arith)
+all_two P (a ∷ []) ys x y is some few first next holds also = absurd (omega arith)
+all_two P (a ∷ b ∷ []) ys x y is some few first next holds also = two P ys a b (sym is) (subst P first holds) (subst P next also)
+all_two P (a ∷ b ∷ e ∷ es) ys x y is some few first next holds also = absurd (omega arith)
 
 no_pairs : {X : Type 0} (R : X → X → Type 0) → AllPairs R []
 no_pairs R i j d order within = absurd (omega (arith, within))

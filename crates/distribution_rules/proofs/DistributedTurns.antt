@@ -7,6 +7,7 @@ use Rattle.std.proofs.lemmas.List.Elements.{All-drop, All-head}
 use Rattle.hpf_base.specs.Grid.{IsGrid}
 use Rattle.hpf_base.specs.declared.limits.TheConstants.{MAX_NODES}
 use Rattle.mappings.specs.declared.mapping.MapDim.{MapDim}
+use Rattle.expression_rules.proofs.Lists.{drop_item}
 use Rattle.distribution_rules.specs.Distributed.{all_or_none, and_more, map_dim}
 use Rattle.expression_rules.specs.declared.dims.Dim.{Dim}
 use Rattle.distribution_rules.specs.declared.evaluated_formats.FormatValue.{FormatValue}
@@ -65,13 +66,12 @@ drop_at : {X : Type 0} (xs : List X) (n : ℕ) (z : X) → n < length xs → dro
 drop_at xs n z within = drop-cons xs n z within ∙ ap (λ m. get_or xs n z ∷ drop m xs) (sym (add-one n))
 
 -- a turn of a loop over the dimensions
-pub from_next : (fs : List FormatValue) (bs : List (Option Dim)) (ps : List ℕ) (i g : ℕ) (y : FormatValue) (z : Option Dim) (taken : Option ℕ) →
-    i < length fs → i < length bs → taken ≡ procs_for (get_or fs i y) (drop g ps) →
-    from fs bs ps i g ≡ distributed_at (get_or fs i y) i (get_or bs i z) g taken ++ from fs bs ps (i + 1) (g + used taken)
-from_next fs bs ps i g y z taken in_formats in_dims takes =
-    let f = get_or fs i y in
+pub from_next : (fs : List FormatValue) (bs : List (Option Dim)) (ps : List ℕ) (i g : ℕ) (f : FormatValue) (z : Option Dim) (taken : Option ℕ) →
+    i < length fs → i < length bs → f ≡ get_or fs i f → taken ≡ procs_for f (drop g ps) →
+    from fs bs ps i g ≡ distributed_at f i (get_or bs i z) g taken ++ from fs bs ps (i + 1) (g + used taken)
+from_next fs bs ps i g f z taken in_formats in_dims is takes =
     let b = get_or bs i z in
-    (λ k. distributed_from i g (drop_at fs i y in_formats k) (drop_at bs i z in_dims k) (drop g ps))
+    (λ k. distributed_from i g (drop_item fs i f in_formats is k) (drop_at bs i z in_dims k) (drop g ps))
     ∙ step f i g (drop (i + 1) fs) b (drop (i + 1) bs) (drop g ps)
     ∙ ap (λ t. distributed_at f i b g t ++ rest i g t (drop (i + 1) fs) (drop (i + 1) bs) (drop g ps)) (sym takes)
     ∙ (λ k. distributed_at f i b g taken ++ distributed_from (sym (add-one i) k) (g + used taken) (drop (i + 1) fs) (drop (i + 1) bs) (drop-drop (used taken) g ps k))
@@ -98,17 +98,16 @@ any_append test [] ys = refl
 any_append test (x ∷ xs) ys = ap (λ b. test x || b) (any_append test xs ys) ∙ sym (or_assoc (test x) (list_any test xs) (list_any test ys))
 
 -- a turn of a loop that looks for blocks that don't fit
-pub any_next : (fs : List FormatValue) (bs : List (Option Dim)) (ps : List ℕ) (i g : ℕ) (y : FormatValue) (z : Option Dim) (taken : Option ℕ) (so_far found all : Bool) (h : ℕ) →
-    i < length fs → i < length bs → taken ≡ procs_for (get_or fs i y) (drop g ps) → found ≡ unfit_at (get_or fs i y) (get_or bs i z) taken → h ≡ g + used taken →
+pub any_next : (fs : List FormatValue) (bs : List (Option Dim)) (ps : List ℕ) (i g : ℕ) (f : FormatValue) (z : Option Dim) (taken : Option ℕ) (so_far found all : Bool) (h : ℕ) →
+    i < length fs → i < length bs → f ≡ get_or fs i f → taken ≡ procs_for f (drop g ps) → found ≡ unfit_at f (get_or bs i z) taken → h ≡ g + used taken →
     (so_far || list_any is_unfit (from fs bs ps i g)) ≡ all → ((so_far || found) || list_any is_unfit (from fs bs ps (i + 1) h)) ≡ all
-any_next fs bs ps i g y z taken so_far found all h in_formats in_dims takes of_one next so_far_is =
-    let f = get_or fs i y in
+any_next fs bs ps i g f z taken so_far found all h in_formats in_dims is takes of_one next so_far_is =
     let b = get_or bs i z in
     or_assoc so_far found (list_any is_unfit (from fs bs ps (i + 1) h))
     ∙ ap (λ t. so_far || t)
     ((λ k. (of_one ∙ sym (unfit_alone f i b g taken)) k || list_any is_unfit (from fs bs ps (i + 1) (next k)))
     ∙ sym (any_append is_unfit (distributed_at f i b g taken) (from fs bs ps (i + 1) (g + used taken)))
-    ∙ sym (ap (list_any is_unfit) (from_next fs bs ps i g y z taken in_formats in_dims takes)))
+    ∙ sym (ap (list_any is_unfit) (from_next fs bs ps i g f z taken in_formats in_dims is takes)))
     ∙ so_far_is
 
 -- ---- the entries of a mapping
@@ -143,12 +142,11 @@ entry_alone f i b g None = refl
 entry_alone f i b g (Some p) = alone (map_dim (distributed_dim f i b g p))
 
 -- a turn of a loop that makes the entries
-pub entries_next : (fs : List FormatValue) (bs : List (Option Dim)) (ps : List ℕ) (i g : ℕ) (y : FormatValue) (z : Option Dim) (taken : Option ℕ)
-    (entry : Option MapDim) (so_far after all : Option (List MapDim)) (h : ℕ) → i < length fs → i < length bs → taken ≡ procs_for (get_or fs i y) (drop g ps) →
-    entry ≡ option_and_then (λ p. map_dim (distributed_dim (get_or fs i y) i (get_or bs i z) g p)) taken → after ≡ and_entries so_far (entry_if taken entry) →
+pub entries_next : (fs : List FormatValue) (bs : List (Option Dim)) (ps : List ℕ) (i g : ℕ) (f : FormatValue) (z : Option Dim) (taken : Option ℕ)
+    (entry : Option MapDim) (so_far after all : Option (List MapDim)) (h : ℕ) → i < length fs → i < length bs → f ≡ get_or fs i f → taken ≡ procs_for f (drop g ps) →
+    entry ≡ option_and_then (λ p. map_dim (distributed_dim f i (get_or bs i z) g p)) taken → after ≡ and_entries so_far (entry_if taken entry) →
     h ≡ g + used taken → and_entries so_far (all_or_none map_dim (from fs bs ps i g)) ≡ all → and_entries after (all_or_none map_dim (from fs bs ps (i + 1) h)) ≡ all
-entries_next fs bs ps i g y z taken entry so_far after all h in_formats in_dims takes is_entry more next so_far_is =
-    let f = get_or fs i y in
+entries_next fs bs ps i g f z taken entry so_far after all h in_formats in_dims is takes is_entry more next so_far_is =
     let b = get_or bs i z in
     let rest = all_or_none map_dim (from fs bs ps (i + 1) (g + used taken)) in
     (λ k. and_entries (more k) (all_or_none map_dim (from fs bs ps (i + 1) (next k))))
@@ -156,7 +154,7 @@ entries_next fs bs ps i g y z taken entry so_far after all h in_formats in_dims 
     ∙ ap (and_entries so_far)
     (ap (λ e. and_entries e rest) (ap (entry_if taken) is_entry ∙ sym (entry_alone f i b g taken))
     ∙ sym (all_append (distributed_at f i b g taken) (from fs bs ps (i + 1) (g + used taken)))
-    ∙ sym (ap (all_or_none map_dim) (from_next fs bs ps i g y z taken in_formats in_dims takes)))
+    ∙ sym (ap (all_or_none map_dim) (from_next fs bs ps i g f z taken in_formats in_dims is takes)))
     ∙ so_far_is
 
 -- ---- the extent that a format takes

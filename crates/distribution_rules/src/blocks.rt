@@ -31,8 +31,9 @@ fn is_any_unfit(formats: &[FormatValue], dims: &[Option<Dim>], extents: &[u128])
     let mut unfit = false;
     let mut grid_dim = 0;
     for place in 0..formats.len() {
-        let procs = procs_for(&formats[place], extents, grid_dim);
-        unfit |= is_unfit_on(&formats[place], dims[place], procs);
+        let format = &formats[place];
+        let procs = procs_for(format, extents, grid_dim);
+        unfit |= is_unfit_on(format, dims[place], procs);
         grid_dim = next_grid_dim(grid_dim, procs);
     }
     unfit

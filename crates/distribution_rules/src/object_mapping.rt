@@ -114,8 +114,9 @@ fn entries(
     let mut entries = Some(Vec::new(alloc));
     let mut grid_dim = 0;
     for place in 0..formats.len() {
-        let procs = procs_for(&formats[place], extents, grid_dim);
-        let entry = entry_on(alloc, &formats[place], place, dims[place], grid_dim, procs)?;
+        let format = &formats[place];
+        let procs = procs_for(format, extents, grid_dim);
+        let entry = entry_on(alloc, format, place, dims[place], grid_dim, procs)?;
         entries = and_entry(entries, procs, entry)?;
         grid_dim = next_grid_dim(grid_dim, procs);
     }

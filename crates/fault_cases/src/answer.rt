@@ -35,7 +35,7 @@ fn write_runs<R: Threads + Wait + Sync>(
     let words = words_of(alloc, case.words.as_str())?;
     match case.tried {
         Tried::Prefixes => write_prefixes(rt, alloc, answer, &words, text),
-        Tried::Chance => write_chance(rt, alloc, answer, case.piece),
+        Tried::Chance => write_chance(rt, alloc, answer, case.number),
         _ => write_faults(rt, alloc, answer, case, &words, text),
     }
 }

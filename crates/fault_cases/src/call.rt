@@ -33,6 +33,21 @@ pub struct Answer {
     pub err: MemSink,
 }
 
+impl Streams {
+    /// Streams of which none fails.
+    pub fn plain() -> Streams {
+        let stream = Stream {
+            piece: 4096,
+            fails: 0,
+        };
+        Streams {
+            source: stream,
+            out: stream,
+            err: stream,
+        }
+    }
+}
+
 impl Stream {
     /// The numbers of the calls that fail.
     fn numbers(self, alloc: Global) -> Result<Vec<u64>, AllocError> {

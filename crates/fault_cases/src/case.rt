@@ -18,7 +18,7 @@ pub enum Tried {
 #[derive(Drop)]
 pub struct Case {
     pub tried: Tried,
-    pub piece: usize,
+    pub number: usize,
     pub words: String,
     pub text: String,
     pub fails: u64,
@@ -48,16 +48,16 @@ impl Case {
         let Some(tried) = tried_by(word) else {
             return Ok(None);
         };
-        let (piece, words) = match tried {
+        let (number, words) = match tried {
             Tried::Prefixes => ("4096", rest),
             _ => parted(rest),
         };
-        let Ok(piece) = piece.parse::<usize>() else {
+        let Ok(number) = number.parse::<usize>() else {
             return Ok(None);
         };
         Ok(Some(Case {
             tried,
-            piece,
+            number,
             words: String::from_str(alloc, words)?,
             text: String::new(alloc),
             fails: 0,

@@ -1,11 +1,18 @@
 //! Texts made by numbers, and what every action says of them.
 
-use crate::call::{Answer, Stream, Streams, call};
+use crate::call::{Answer, Streams, call};
+use crate::lines::{is_fault, is_refusal};
 use case_texts::write_text;
 use std::alloc::{AllocError, Global};
 use std::fmt::Write;
 use std::sync::Wait;
 use std::thread::Threads;
+
+/// The factor of the linear congruential generator of Knuth's MMIX, modulo 2^64.
+const MULTIPLIER: u64 = 6_364_136_223_846_793_005;
+
+/// What that generator adds.
+const INCREMENT: u64 = 1_442_695_040_888_963_407;
 
 /// The numbers that a text is made of, one after the other.
 #[derive(Drop)]
@@ -24,10 +31,7 @@ impl Numbers {
 
     /// The next one, of 31 bits.
     fn next(&mut self) -> u64 {
-        let next = self
-            .last
-            .wrapping_mul(6_364_136_223_846_793_005)
-            .wrapping_add(1_442_695_040_888_963_407);
+        let next = self.last.wrapping_mul(MULTIPLIER).wrapping_add(INCREMENT);
         self.last = next;
         next >> 33
     }
@@ -89,7 +93,8 @@ fn word_of(number: u64) -> &'static str {
     }
 }
 
-/// A text of words in no order, and one of lines of which each may stand in a program, with END after them.
+/// The text of a number, with END at its end: words in no order where four divides the number, and else lines that may stand in a program. In every
+/// fourth text one byte is changed.
 fn made(alloc: Global, text: u64) -> Result<Vec<u8>, AllocError> {
     let mut numbers = Numbers::of(text);
     let mut made = Vec::new(alloc);
@@ -140,18 +145,9 @@ fn end_of(found: &Answer) -> Option<End> {
     let (out, err) = (found.out.bytes(), found.err.bytes());
     match (found.status, found.left) {
         (0, 0) if err.is_empty() => Some(End::Done),
-        (1, 0) if out.is_empty() && is_line(err) => Some(End::Refused),
-        (3, 0) if is_line(err) => Some(End::Fault),
+        (1, 0) if out.is_empty() && is_refusal(err) => Some(End::Refused),
+        (3, 0) if is_fault(err) => Some(End::Fault),
         _ => None,
-    }
-}
-
-/// Whether bytes are one line, which begins with the number of a line.
-fn is_line(bytes: &[u8]) -> bool {
-    let rest = bytes.strip_prefix(b"hpf: line ").unwrap_or(&[]);
-    match rest.strip_suffix(b"\n") {
-        Some(rest) => !rest.is_empty() && !rest.contains(&b'\n'),
-        None => false,
     }
 }
 
@@ -181,7 +177,7 @@ fn tried<R: Threads + Wait + Sync>(
     let mut answers = Vec::new(alloc);
     for action in 0..5 {
         let words = words_of(alloc, action)?;
-        answers.push(call(rt, alloc, &words, text, plain())?)?;
+        answers.push(call(rt, alloc, &words, text, Streams::plain())?)?;
     }
     Ok(agreed(&answers))
 }
@@ -207,19 +203,6 @@ fn agreed(answers: &[Answer]) -> Option<End> {
 /// Whether two runs wrote the same.
 fn alike(one: &Answer, other: &Answer) -> bool {
     one.out.bytes() == other.out.bytes() && one.err.bytes() == other.err.bytes()
-}
-
-/// Streams of which none fails.
-fn plain() -> Streams {
-    let stream = Stream {
-        piece: 4096,
-        fails: 0,
-    };
-    Streams {
-        source: stream,
-        out: stream,
-        err: stream,
-    }
 }
 
 /// How many texts came to each end.

@@ -40,25 +40,16 @@ pub fn write_faults<R: Threads + Wait + Sync>(
 
 /// The streams of a case, of which none but the source may fail.
 fn plain(case: &Case) -> Streams {
-    let stream = Stream {
-        piece: 4096,
-        fails: 0,
-    };
-    Streams {
-        source: Stream {
-            piece: 4096,
-            fails: case.fails,
-        },
-        out: stream,
-        err: stream,
-    }
+    let mut streams = Streams::plain();
+    streams.source.fails = case.fails;
+    streams
 }
 
 /// The streams of the run in which the call of this number fails.
 fn failing(case: &Case, number: u64) -> Streams {
     let mut streams = plain(case);
     let stream = Stream {
-        piece: case.piece,
+        piece: case.number,
         fails: number,
     };
     match case.tried {
@@ -73,7 +64,7 @@ fn failing(case: &Case, number: u64) -> Streams {
 /// Whether the run in which the call of this number fails, of a text of so many bytes, comes to the fault of that call.
 fn is_faulted(case: &Case, number: u64, len: usize, whole: &Answer, found: &Answer) -> bool {
     let before = number.saturating_sub(1) as usize;
-    let done = before.saturating_mul(case.piece.max(1));
+    let done = before.saturating_mul(case.number.max(1));
     match case.tried {
         Tried::Reads => is_read_fault(found) && found.left == len.saturating_sub(done),
         Tried::Writes => {

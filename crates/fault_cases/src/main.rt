@@ -44,6 +44,7 @@ mod call;
 mod case;
 mod chance;
 mod faults;
+mod lines;
 mod prefixes;
 mod show;
 

@@ -1,6 +1,7 @@
 //! Runs on each prefix of a text.
 
-use crate::call::{Answer, Stream, Streams, call};
+use crate::call::{Answer, Streams, call};
+use crate::lines::is_refusal;
 use crate::show::write_answer;
 use std::alloc::{AllocError, Global};
 use std::fmt::Write;
@@ -26,7 +27,7 @@ pub fn write_prefixes<R: Threads + Wait + Sync>(
     let mut refused = 0u64;
     for len in 0..=text.len() {
         let prefix = text.get(..len).unwrap_or(text);
-        let found = call(rt, alloc, words, prefix, plain())?;
+        let found = call(rt, alloc, words, prefix, Streams::plain())?;
         match judged(&found) {
             Some(Verdict::Accepted) => accepted = accepted.saturating_add(1),
             Some(Verdict::Refused) => refused = refused.saturating_add(1),
@@ -40,19 +41,6 @@ pub fn write_prefixes<R: Threads + Wait + Sync>(
     )
 }
 
-/// Streams of which none fails.
-fn plain() -> Streams {
-    let stream = Stream {
-        piece: 4096,
-        fails: 0,
-    };
-    Streams {
-        source: stream,
-        out: stream,
-        err: stream,
-    }
-}
-
 /// What is said of a text, where it is said as it must be, with all of the text read.
 fn judged(found: &Answer) -> Option<Verdict> {
     let accepted: &[u8] = b"accepted\n";
@@ -61,15 +49,6 @@ fn judged(found: &Answer) -> Option<Verdict> {
         (0, 0) if out == accepted && err.is_empty() => Some(Verdict::Accepted),
         (1, 0) if out.is_empty() && is_refusal(err) => Some(Verdict::Refused),
         _ => None,
-    }
-}
-
-/// Whether bytes are one line, which begins as that of a refusal.
-fn is_refusal(bytes: &[u8]) -> bool {
-    let rest = bytes.strip_prefix(b"hpf: line ").unwrap_or(&[]);
-    match rest.strip_suffix(b"\n") {
-        Some(rest) => !rest.is_empty() && !rest.contains(&b'\n'),
-        None => false,
     }
 }
 

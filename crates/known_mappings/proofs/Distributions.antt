@@ -1,7 +1,7 @@
 -- The mapping that a distribution gives an object is known, where it breaks no rule.
 use Rattle.std.proofs.Common.{◌≡◌, ◌==◌, ◌≤◌, ℕ, suc, Bool, true, false, List, [], ◌∷◌, ◌++◌, length, map, nat_lt, Option, Some, None, refl, sym, ap, subst, ◌∙◌, arith}
 use Rattle.std.specs.Bool.{⊤}
-use Rattle.std.specs.Prelude.{ℤ, pos, negsuc, ◌&&◌, ◌||◌, not, nat_le, option_map, option_and_then, if◌then◌else◌}
+use Rattle.std.specs.Prelude.{ℤ, pos, negsuc, int_lt, ◌&&◌, ◌||◌, not, nat_le, option_map, option_and_then, if◌then◌else◌}
 use Rattle.std.specs.List.{AllByRecursion, flat_map, list_all, list_any}
 use Rattle.std.proofs.lemmas.Bool.{eqb-true}
 use Rattle.std.proofs.lemmas.Bool.Decides.{nat_tests}
@@ -86,11 +86,11 @@ first_known (evaluated.Known (pos k)) vs f none more = record {
   sizes = k ∷ more.sizes;
   are = ap (with_size (evaluated.Known (pos k))) more.are;
   as_many = ap suc more.as_many;
-  small = (λ i. small (fails _ reason.Limit none) i && more.small i);
+  small = (λ i. low (fails _ reason.Limit (empties (when (int_lt (pos k) (pos 0)) reason.BadDirective) _ none).1) i && more.small i);
 }
   where
-    small : nat_lt MAX_BLOCK k ≡ false → nat_le k MAX_BLOCK ≡ true
-    small h = grind (arith, nat_tests)
+    low : int_lt (pos MAX_BLOCK) (pos k) ≡ false → nat_le k MAX_BLOCK ≡ true
+    low h = grind (arith, nat_tests)
 
 module _ (s : Setting) (known : (x : Name) (a : Symbol) → find_symbol x s.names ≡ Some a → is_known a ≡ true) (u : SymbolTable) where
   sizes_known : (es : List Expression) → AllByRecursion (IsTyped u) es → flat_map (size_reasons 0 MAX_BLOCK) (map (value_in s) es) ≡ [] → AreSizesKnown (map (value_in s) es)

@@ -81,11 +81,11 @@ fn column_along(
     requires inside { (place : ℕ) → place < extent → InAxis (axis_along dim map.now.dims) (lower +ℤ pos place) }
     ensures { IfOk result (λ column. column ≡ column_of map.now dim lower extent) }
 {
-    let axis = axis_along(alloc, map, dim)?;
-    let by_coordinate = runs_on(alloc, &axis, lower, extent)?;
+    let axis = &axis_along(alloc, map, dim)?;
+    let by_coordinate = runs_on(alloc, axis, lower, extent)?;
     let mut runs = Vec::new(alloc);
     for node in 0..map.grid.node_count() {
-        let own = own_on(&map.grid, &axis, NodeId(node));
+        let own = own_on(&map.grid, axis, NodeId(node));
         runs.push(by_coordinate[own as usize])?;
     }
     Ok(Column { runs })

@@ -1,15 +1,16 @@
 //! A node's piece of a mapped array.
 
-ghost use Rattle.std.specs.Prelude.{◌≡◌, ◌↔◌, ℕ, ◌<◌, ◌≤◌, All, length, slice_get, Some, IfOk, IsNone, false, []};
+ghost use Rattle.std.specs.Prelude.{◌≡◌, ◌↔◌, ℕ, ◌<◌, ◌≤◌, pos, ◌+ℤ◌, unsigned_abs, All, filter, length, slice_get, Some, IfOk, IsNone, false, []};
 ghost use Rattle.hpf_base.specs.declared.index.Shape.{Shape};
-ghost use Rattle.hpf_base.specs.declared.limits.TheConstants.{MAX_RANK};
+ghost use Rattle.hpf_base.specs.declared.limits.TheConstants.{MAX_BOUND, MAX_ELEMENTS, MAX_RANK};
 ghost use Rattle.mappings.specs.declared.mapping.Mapping.{Mapping};
 ghost use Rattle.mappings.specs.Alignment.{owns};
 ghost use Rattle.hpf_base.specs.ElementOrder.{elements, extents_of, IsInside, product};
 ghost use Rattle.mappings.specs.LocalOrder.{local_elements};
 ghost use Rattle.hpf_base.specs.Shape.{IsShape};
 ghost use Rattle.mappings.specs.Mapping.{IsMapping, MapsInside};
-ghost use Rattle.local_address.specs.Pieces.{owned_along};
+ghost use Rattle.local_address.specs.Pieces.{IsMoving, owned_along};
+ghost use Rattle.local_address.specs.Runs.{HasLine, InAxis, IsOfGrid, along, axis_along, subscripts};
 
 use crate::axes::{axis_along, fixed_agree};
 use crate::columns::lower_of;
@@ -135,15 +136,37 @@ fn owned_dims(
     let lower = shape.lower.numbers();
     let extent = shape.extent.numbers();
     for dim in 0..lower.len() {
-        let axis = axis_along(alloc, map, dim as u32)?;
-        dims.push(OwnedSubscripts::new(
+        dims.push(owned_on(
             alloc,
-            &map.grid,
-            &axis,
+            map,
+            dim as u32,
             node,
             lower_of(lower, dim),
             extent_of(extent, dim),
         )?)?;
     }
     Ok(dims)
+}
+
+/// What a node owns along one dimension, counted from 0, which begins at `lower`.
+fn owned_on(
+    alloc: Global,
+    map: &Mapping,
+    dim: u32,
+    node: NodeId,
+    lower: i64,
+    extent: u64,
+) -> Result<OwnedSubscripts, OutOfMemory>
+    requires line { HasLine (axis_along dim map.now.dims) }
+    requires axis { IsOfGrid map.now.grid (axis_along dim map.now.dims) }
+    requires moves { IsMoving (axis_along dim map.now.dims) }
+    requires node { node.0 < product map.now.grid }
+    requires lower { unsigned_abs lower ≤ MAX_BOUND }
+    requires some { 1 ≤ extent }
+    requires extent { extent ≤ MAX_ELEMENTS }
+    requires inside { (place : ℕ) → place < extent → InAxis (axis_along dim map.now.dims) (lower +ℤ pos place) }
+    ensures { IfOk result (λ owned. owned ≡ filter (along map.now node.0 dim) (subscripts lower extent)) }
+{
+    let axis = axis_along(alloc, map, dim)?;
+    OwnedSubscripts::new(alloc, &map.grid, &axis, node, lower, extent)
 }

@@ -27,6 +27,7 @@ fn write_answer(alloc: Global, out: &mut String, case: &[String]) -> Option<()> 
         let mut run = Run::new(alloc, nodes_on(alloc, case, grid)?)?;
         let left = run.to_end(alloc, Order::Rotation)?;
         write_run(alloc, out, grid, left, &run, &mut first).ok()?;
+        write_refused(out, grid, &run).ok()?;
         write_shows(out, case, grid, &run).ok()?;
         write_other(alloc, out, case, grid, Order::Descending, &run)?;
         write_other(alloc, out, case, grid, Order::Whole, &run)?;
@@ -45,6 +46,7 @@ fn write_other(
 ) -> Option<()> {
     let mut run = Run::new(alloc, nodes_on(alloc, case, grid)?)?;
     let left = run.to_end(alloc, order)?;
+    write_refused(out, grid, &run).ok()?;
     let outcome = outcome_of(alloc, &run.nodes).ok()?;
     let wanted = outcome_of(alloc, &rotation.nodes).ok()?;
     if outcome.as_str() != wanted.as_str() {
@@ -79,6 +81,14 @@ fn write_run(
     } else {
         writeln!(out, "other than on the first grid:\n{outcome}")
     }
+}
+
+/// Writes how many local steps of a run were refused memory, if any was.
+fn write_refused(out: &mut String, grid: &str, run: &Run) -> Result<(), AllocError> {
+    if run.refused > 0 {
+        writeln!(out, "  {grid}: local steps refused memory: {}", run.refused)?;
+    }
+    Ok(())
 }
 
 /// Writes how a run was left, if not all nodes have ended.

@@ -46,12 +46,13 @@ pub enum Progress {
     Astray,
 }
 
-/// Nodes with a queue for each ordered pair of them, and the letters that were sent.
+/// Nodes with a queue for each ordered pair of them, the letters that were sent, and how many local steps were refused memory.
 #[derive(Drop)]
 pub struct Run {
     pub nodes: Vec<Node>,
     queues: Vec<VecDeque<Letter>>,
     pub letters: Vec<Sent>,
+    pub refused: u64,
 }
 
 impl Run {
@@ -67,6 +68,7 @@ impl Run {
             nodes,
             queues,
             letters: Vec::new(alloc),
+            refused: 0,
         })
     }
 
@@ -124,13 +126,16 @@ impl Run {
         Some(all)
     }
 
+    /// A step of a node. A local step that is refused memory changes nothing, and is made at the node's next turn.
     fn step(&mut self, alloc: Global, index: usize) -> Option<Progress> {
         if index >= self.nodes.len() {
             return Some(Progress::Ended);
         }
         match self.nodes[index].next_act() {
             Act::Local => {
-                self.nodes[index].local().ok()?;
+                if self.nodes[index].local().is_err() {
+                    self.refused = self.refused.saturating_add(1);
+                }
                 Some(Progress::Moved)
             }
             Act::Send(_) => {

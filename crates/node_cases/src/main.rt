@@ -14,7 +14,7 @@
 //!   each letter, with its phase, source, target, number and values.
 //!
 //! Other lines are remarks. A case has no answer where it isn't written so, its program is refused, its code doesn't fit the rows, or memory
-//! is wanting.
+//! is wanting but at a local step: that is made again, and the answer says how many were refused memory.
 #![tactic(auto)]
 
 mod answer;

@@ -93,11 +93,17 @@ agrees-is line own align dim k a b z is same =
     sym (ap (λ x. agrees_along line own x k z) is ∙ ap (λ t. not t || agrees_at line own (Some ((a *ℤ z) +ℤ b))) (eq-eqb dim k same))
 
 -- one entry of all
-pub one-agrees : (coordinates : List ℕ) (entries : List MapDim) (n k : ℕ) (z : ℤ) (d : MapDim) → n < length entries → along_dims coordinates entries k z ≡ true
+held-at : (coordinates : List ℕ) (entries : List MapDim) (n k : ℕ) (z : ℤ) (d : MapDim) → n < length entries → along_dims coordinates entries k z ≡ true
     → agrees_along (get_or entries n d).line (slice_index coordinates (get_or entries n d).grid_dim) (get_or entries n d).align k z ≡ true
-one-agrees coordinates [] n k z d within held = absurd (omega (arith, within))
-one-agrees coordinates (e ∷ es) zero k z d within held = (and-parts _ _ held).0
-one-agrees coordinates (e ∷ es) (suc n) k z d within held = one-agrees coordinates es n k z d (omega (arith, within)) (and-parts _ _ held).1
+held-at coordinates [] n k z d within held = absurd (omega (arith, within))
+held-at coordinates (e ∷ es) zero k z d within held = (and-parts _ _ held).0
+held-at coordinates (e ∷ es) (suc n) k z d within held = held-at coordinates es n k z d (omega (arith, within)) (and-parts _ _ held).1
+
+-- an entry that is read from the list
+pub one-agrees : (coordinates : List ℕ) (entries : List MapDim) (n k : ℕ) (z : ℤ) (e : MapDim) → n < length entries → e ≡ get_or entries n e
+    → along_dims coordinates entries k z ≡ true → agrees_along e.line (slice_index coordinates e.grid_dim) e.align k z ≡ true
+one-agrees coordinates entries n k z e within is held =
+    subst (λ x. agrees_along x.line (slice_index coordinates x.grid_dim) x.align k z ≡ true) (sym is) (held-at coordinates entries n k z e within held)
 
 -- an entry that doesn't ask the dimension
 unasked : (line : Line) (own : ℕ) (align : AlignDim) (k : ℕ) (z : ℤ) → asks_dim k align ≡ false → agrees_along line own align k z ≡ true
@@ -125,16 +131,16 @@ some-asks (e ∷ es) zero k d within asks = let one : ◌≡◌ {A = ℕ} (cond 
 some-asks (e ∷ es) (suc n) k d within asks = let later = some-asks es n k d (omega (arith, within)) asks in omega (arith, later)
 
 -- where one alone does
-pub one-asks : (coordinates : List ℕ) (entries : List MapDim) (n k : ℕ) (z : ℤ) (d : MapDim) → n < length entries → asks_dim k (get_or entries n d).align ≡ true
+asked-at : (coordinates : List ℕ) (entries : List MapDim) (n k : ℕ) (z : ℤ) (d : MapDim) → n < length entries → asks_dim k (get_or entries n d).align ≡ true
     → entries_asking k entries ≡ 1 → along_dims coordinates entries k z
     ≡ agrees_along (get_or entries n d).line (slice_index coordinates (get_or entries n d).grid_dim) (get_or entries n d).align k z
-one-asks coordinates [] n k z d within asks one = absurd (omega (arith, within))
-one-asks coordinates (e ∷ es) zero k z d within asks one =
+asked-at coordinates [] n k z d within asks one = absurd (omega (arith, within))
+asked-at coordinates (e ∷ es) zero k z d within asks one =
     let here : ◌≡◌ {A = ℕ} (cond (asks_dim k e.align) 1 0) 1 = ap (λ t. cond t 1 0) asks in
     let agrees = agrees_along e.line (slice_index coordinates e.grid_dim) e.align k z in
     ap (λ b. agrees && b) (none-asks coordinates es k z (omega (arith, one, here))) ∙ and-true agrees
-one-asks coordinates (e ∷ es) (suc n) k z d within asks one =
-    by_test (one-asks coordinates es n k z d (omega (arith, within)) asks) (asks_dim k e.align) refl one
+asked-at coordinates (e ∷ es) (suc n) k z d within asks one =
+    by_test (asked-at coordinates es n k z d (omega (arith, within)) asks) (asks_dim k e.align) refl one
   where
     by_test : (entries_asking k es ≡ 1 → along_dims coordinates es k z
         ≡ agrees_along (get_or es n d).line (slice_index coordinates (get_or es n d).grid_dim) (get_or es n d).align k z)
@@ -143,3 +149,11 @@ one-asks coordinates (e ∷ es) (suc n) k z d within asks one =
     by_test rest true here one = absurd (let later = some-asks es n k d (omega (arith, within)) asks in omega (arith, one, later))
     by_test rest false other one =
         ap (λ b. b && along_dims coordinates es k z) (unasked e.line (slice_index coordinates e.grid_dim) e.align k z other) ∙ rest (omega (arith, one))
+
+-- an entry that is read from the list
+pub one-asks : (coordinates : List ℕ) (entries : List MapDim) (n k : ℕ) (z : ℤ) (e : MapDim) → n < length entries → e ≡ get_or entries n e
+    → asks_dim k e.align ≡ true → entries_asking k entries ≡ 1 → along_dims coordinates entries k z
+    ≡ agrees_along e.line (slice_index coordinates e.grid_dim) e.align k z
+one-asks coordinates entries n k z e within is asks one =
+    asked-at coordinates entries n k z e within (subst (λ x. asks_dim k x.align ≡ true) is asks) one
+    ∙ ap (λ x. agrees_along x.line (slice_index coordinates x.grid_dim) x.align k z) (sym is)

@@ -1,5 +1,5 @@
 -- The positions of the elements that a node owns, one dimension more at a time.
-use Rattle.std.proofs.Common.{◌≡◌, ℕ, zero, suc, ◌+◌, ◌*◌, ◌<◌, ◌≤◌, ℤ, pos, negsuc, ◌+ℤ◌, ◌*ℤ◌, ◌≤ℤ◌, unsigned_abs, Bool, true, false, ◌&&◌, ◌==◌, not, cond, List, [], ◌∷◌, ◌++◌, refl, sym, ◌∙◌, ap, subst, arith, length, map, filter, get_or, drop, All, Some, None}
+use Rattle.std.proofs.Common.{◌≡◌, ℕ, zero, suc, ◌+◌, ◌*◌, ◌<◌, ◌≤◌, ℤ, pos, negsuc, ◌+ℤ◌, ◌*ℤ◌, ◌≤ℤ◌, unsigned_abs, Bool, true, false, ◌&&◌, ◌==◌, not, cond, List, [], ◌∷◌, ◌++◌, refl, sym, ◌∙◌, ap, subst, arith, length, map, filter, get_or, drop, All, Option, Some, None}
 use Rattle.std.proofs.Math.IntN.{*ℤ_comm}
 use Rattle.std.proofs.Math.Nat.{mul-le-mul_right}
 use Rattle.std.proofs.lemmas.Bool.Decides.{Decides-int_eq}
@@ -87,11 +87,11 @@ all-pass a zero = refl
 all-pass a (suc n) = ap (λ l. a ∷ l) (all-pass (a + 1) n)
 
 -- where nothing moves along a dimension each node owns all its places
-pub whole-along : (mapping : Mapping) (node dim extent : ℕ) (lower : ℤ) → axis_along dim mapping.dims ≡ None
-    → range_with_len 0 extent ≡ filter (λ place. along mapping node dim (lower +ℤ pos place)) (range_with_len 0 extent)
-whole-along mapping node dim extent lower is =
-    sym (filter-agree (λ place. along mapping node dim (lower +ℤ pos place)) (λ place. true) 0 extent
-    (λ place low high. ap (λ a. coordinate_on a (lower +ℤ pos place) == own_on (node_coordinates mapping.grid node) a) is)
+pub whole-along : (axis : Option Axis) (coordinates : List ℕ) (extent : ℕ) (lower : ℤ) → axis ≡ None
+    → range_with_len 0 extent ≡ filter (λ place. coordinate_on axis (lower +ℤ pos place) == own_on coordinates axis) (range_with_len 0 extent)
+whole-along axis coordinates extent lower is =
+    sym (filter-agree (λ place. coordinate_on axis (lower +ℤ pos place) == own_on coordinates axis) (λ place. true) 0 extent
+    (λ place low high. ap (λ a. coordinate_on a (lower +ℤ pos place) == own_on coordinates a) is)
     ∙ all-pass 0 extent)
 
 pub drop-most : (es : List ℕ) (k : ℕ) → All (λ e. 1 ≤ e) es → product (drop k es) ≤ product es

@@ -4,11 +4,12 @@ ghost use Rattle.std.specs.Prelude.{◌≡◌, ◌≢◌, ℕ, ◌+◌, ◌*◌,
 ghost use Rattle.std.specs.List.{flat_map, range_with_len};
 ghost use Rattle.hpf_base.specs.declared.limits.TheConstants.{MAX_ELEMENTS};
 ghost use Rattle.hpf_base.specs.ElementOrder.{extents_of, product};
+ghost use Rattle.hpf_base.specs.Grid.{node_coordinates};
 ghost use Rattle.mappings.specs.Alignment.{position_at};
 ghost use Rattle.mappings.specs.Mapping.{InLine, IsLine};
 ghost use Rattle.mappings.specs.Owner.{coordinate};
 ghost use Rattle.gap_table.specs.GapTable.{nth_of, places_of};
-ghost use Rattle.local_address.specs.Runs.{HasLine, InAxis, IsOfGrid, along, axis_along};
+ghost use Rattle.local_address.specs.Runs.{HasLine, InAxis, IsOfGrid, along, axis_along, coordinate_on, own_on};
 ghost use Rattle.machine_steps.specs.Layout.{owned_by, size_of};
 ghost use Rattle.owner_tables.specs.Columns.{IsMoving};
 ghost use Rattle.owner_tables.specs.Layouts.{IsLaid};
@@ -16,7 +17,7 @@ ghost use Rattle.owner_tables.specs.Layouts.{IsLaid};
 use crate::numbers::lower_of;
 use align_map::linear;
 use gap_table::GapTable;
-use hpf_base::{NodeId, OutOfMemory, Shape};
+use hpf_base::{Grid, NodeId, OutOfMemory, Shape};
 use local_address::{Axis, axis_along, element_count, extent_of, fixed_agree, own_on};
 use mappings::{Line, Mapping};
 use std::alloc::Global;
@@ -127,8 +128,31 @@ fn own_places(
     ensures { IfOk result (λ ps. ps.items ≡ filter (λ place. along mapping.now node dim (lower +ℤ pos place)) (range_with_len 0 extent)) }
 {
     let axis = axis_along(alloc, mapping, dim)?;
-    let own = own_on(&mapping.grid, &axis, NodeId(node));
-    match &axis {
+    places_along(alloc, &mapping.grid, &axis, lower, extent, node)
+}
+
+/// The places that the node owns on a dimension of which this is the axis.
+fn places_along(
+    alloc: Global,
+    grid: &Grid,
+    axis: &Option<Axis>,
+    lower: i64,
+    extent: u32,
+    node: u32,
+) -> Result<Vec<u32>, OutOfMemory>
+    requires line { HasLine axis.now }
+    requires axis { IsOfGrid grid.now axis.now }
+    requires moving { IsMoving axis.now }
+    requires lower { unsigned_abs lower ≤ 2 ^ 41 }
+    requires some { 1 ≤ extent }
+    requires extent { extent ≤ MAX_ELEMENTS }
+    requires inside { (place : ℕ) → place < extent → InAxis axis.now (lower +ℤ pos place) }
+    requires node { node < product grid.now }
+    ensures { IfOk result (λ ps. ps.items
+        ≡ filter (λ place. coordinate_on axis.now (lower +ℤ pos place) == own_on (node_coordinates grid.now node) axis.now) (range_with_len 0 extent)) }
+{
+    let own = own_on(grid, axis, NodeId(node));
+    match axis {
         None => Ok(numbers_below(alloc, extent)?),
         Some(axis) => Ok(places_on(alloc, axis, own, lower, extent)?),
     }

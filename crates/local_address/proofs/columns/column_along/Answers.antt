@@ -10,7 +10,7 @@ pub loop-node-preserved : goal.loop-node-preserved
 loop-node-preserved c =
     let lower = to_z w64 (of_z w64 c.args.lower) in
     let owned = λ (node : ℕ). run_of (filter (along c.args.map.now node c.args.dim) (subscripts lower c.args.extent)) in
-    let run = column-run c.args.map.now c.loop-node.node c.args.dim c.in_ok-axis.axis lower c.args.extent c.in_ok-by_coordinate.by_coordinate.items
+    let run = column-run c.args.map.now c.loop-node.node c.args.dim c.in_ok-axis.field-0 lower c.args.extent c.in_ok-by_coordinate.by_coordinate.items
     c.own_on-own.result c.index.result.now c.in_ok-axis.ensures c.in_ok-by_coordinate.ensures c.own_on-own.ensures.value c.own_on-own.ensures.below
     c.index.ensures in
     c.in_ok-push.ensures.items ∙ ap (λ runs. runs ++ c.index.result.now ∷ []) c.loop-node.invariant

@@ -3,8 +3,8 @@ use Rattle.std.proofs.lemmas.Int.{to_z-of_z}
 use Rattle.std.proofs.lemmas.List.{length-append, length-map}
 use Rattle.std.specs.Int.{w64}
 use Rattle.hpf_base.specs.ElementOrder.{extents_of}
-use Rattle.local_address.specs.Pieces.{IsMoving, owned_along}
-use Rattle.local_address.specs.Runs.{HasLine, InAxis, IsOfGrid, axis_along}
+use Rattle.local_address.specs.Pieces.{owned_along}
+use Rattle.local_address.specs.Runs.{InAxis, axis_along}
 use Rattle.local_address.proofs.Along.{line-along, moves-along}
 use Rattle.local_address.proofs.ElementLaws.{factors_some}
 use Rattle.local_address.proofs.PieceLaws.{length-owned_along}
@@ -18,26 +18,23 @@ extent_is c = (
   c.extent_of.ensures ∙ ap (λ extent. get_or (map unsigned_abs extent) c.loop-dim.dim 0) c.numbers-extent.ensures.value,
 )
 
-pub new-requires-clause-line : goal.new-requires-clause-line
-new-requires-clause-line c =
-    subst HasLine (sym c.in_ok-axis.ensures) (line-along c.args.map.now (length c.args.shape.now.lower) c.loop-dim.dim c.requires.mapping).0
+pub owned_on-requires-clause-line : goal.owned_on-requires-clause-line
+owned_on-requires-clause-line c = (line-along c.args.map.now (length c.args.shape.now.lower) c.loop-dim.dim c.requires.mapping).0
 
-pub new-requires-clause-axis : goal.new-requires-clause-axis
-new-requires-clause-axis c =
-    subst (IsOfGrid c.args.map.now.grid) (sym c.in_ok-axis.ensures)
-    (line-along c.args.map.now (length c.args.shape.now.lower) c.loop-dim.dim c.requires.mapping).1
+pub owned_on-requires-clause-axis : goal.owned_on-requires-clause-axis
+owned_on-requires-clause-axis c = (line-along c.args.map.now (length c.args.shape.now.lower) c.loop-dim.dim c.requires.mapping).1
 
-pub new-requires-clause-moves : goal.new-requires-clause-moves
-new-requires-clause-moves c = subst IsMoving (sym c.in_ok-axis.ensures) (moves-along c.loop-dim.dim c.args.map.now.dims)
+pub owned_on-requires-clause-moves : goal.owned_on-requires-clause-moves
+owned_on-requires-clause-moves c = moves-along c.loop-dim.dim c.args.map.now.dims
 
-pub new-requires-clause-some : goal.new-requires-clause-some
-new-requires-clause-some c =
+pub owned_on-requires-clause-some : goal.owned_on-requires-clause-some
+owned_on-requires-clause-some c =
     let is = extent_is c in
     let some : 1 ≤ get_or (extents_of c.args.shape.now) c.loop-dim.dim 0 = factors_some (extents_of c.args.shape.now) c.requires.some c.loop-dim.dim 0 is.0 in
     subst (λ e. 1 ≤ e) (sym is.1) some
 
-pub new-requires-clause-extent : goal.new-requires-clause-extent
-new-requires-clause-extent c =
+pub owned_on-requires-clause-extent : goal.owned_on-requires-clause-extent
+owned_on-requires-clause-extent c =
     let is = extent_is c in
     let same : c.extent_of.result ≡ get_or (extents_of c.args.shape.now) c.loop-dim.dim 0 = is.1 in
     omega (
@@ -47,8 +44,8 @@ new-requires-clause-extent c =
       c.requires.shape.size,
     )
 
-pub new-requires-clause-inside : goal.new-requires-clause-inside
-new-requires-clause-inside c = λ place below.
+pub owned_on-requires-clause-inside : goal.owned_on-requires-clause-inside
+owned_on-requires-clause-inside c = λ place below.
     let shape = c.args.shape.now in
     let dim = c.loop-dim.dim in
     let is = extent_is c in
@@ -57,9 +54,8 @@ new-requires-clause-inside c = λ place below.
     let lower : to_z w64 (of_z w64 c.lower_of.result) ≡ get_or shape.lower dim (pos 0) =
     to_z-of_z w64 c.lower_of.result fits ∙ c.lower_of.ensures ∙ ap (λ lowers. get_or lowers dim (pos 0)) c.numbers-lower.ensures.value in
     let inside : place < get_or (extents_of shape) dim 0 = subst (λ e. place < e) is.1 below in
-    subst (λ axis. InAxis axis (to_z w64 (of_z w64 c.lower_of.result) +ℤ pos place)) (sym c.in_ok-axis.ensures)
-    (subst (λ from. InAxis (axis_along dim c.args.map.now.dims) (from +ℤ pos place)) (sym lower)
-    (along-inside c.args.map.now shape dim place c.requires.shape c.requires.some c.requires.inside within inside))
+    subst (λ from. InAxis (axis_along dim c.args.map.now.dims) (from +ℤ pos place)) (sym lower)
+    (along-inside c.args.map.now shape dim place c.requires.shape c.requires.some c.requires.inside within inside)
 
 pub returns-clause-short : goal.returns-clause-short
 returns-clause-short c =

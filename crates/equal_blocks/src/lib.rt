@@ -1,0 +1,9 @@
+//! GEN_BLOCK with sizes that are all the same is BLOCK of that size.
+//!
+//! Comes in: a dimension with its format, and the definition of who owns a position (`mappings`). Goes out: a law, the contract of a
+//! function that does nothing. What holds in between: nothing more, so no crate stands on this one.
+#![tactic(auto)]
+
+mod laws;
+
+pub use laws::equal_sizes_are_blocks;
