@@ -18,7 +18,7 @@ use Rattle.fixed_lines.specs.FixedLines.{FixedLine, columns, content, fixed_line
 use Rattle.fixed_lines.specs.FixedBreaches.{is_passed}
 use Rattle.fixed_lines.specs.FreeText.{free_directive, free_line, free_statement}
 use Rattle.fixed_lines.proofs.GoodParts.{AreGood, either-false, good_parts, is_bad_here}
-use Rattle.fixed_lines.proofs.Ready.{behind_other, code-alone, code-both, code-end, continued_good, continued_code, ends_last, parts-alone, parts-both, parts-end, plain_ampersand, plain_semicolon, statement_code, directive_code}
+use Rattle.fixed_lines.proofs.Ready.{after_other, code-alone, code-both, code-end, continued_good, continued_code, ends_last, parts-alone, parts-both, parts-end, plain_ampersand, plain_semicolon, statement_code, directive_code}
 use Rattle.fixed_lines.proofs.Groups.{physical}
 
 -- what the rules leave of what stands on a line of this kind
@@ -85,7 +85,7 @@ two_bytes b (x ∷ c) e = last (nat_eq b 38)
 
 lone_both : (o : ℕ) (c : List ℕ) (e : ℕ) → is_blank o ≡ false → is_blank e ≡ false → is_lone_ampersand (o ∷ (c ++ e ∷ [])) ≡ false
 lone_both o c e begin end =
-    ap (λ l. bytes_eq (without_blanks l) (38 ∷ [])) (behind_other (o ∷ c) e end)
+    ap (λ l. bytes_eq (without_blanks l) (38 ∷ [])) (after_other (o ∷ c) e end)
     ∙ ap (λ t. bytes_eq (drop (cond t (1 + prefix_len is_blank (c ++ e ∷ [])) 0) (o ∷ (c ++ e ∷ []))) (38 ∷ [])) begin
     ∙ two_bytes o c e
 
@@ -95,13 +95,13 @@ blanks_first (b ∷ c) e some = step (is_blank b) refl (blanks_first c e)
   where
     step : (t : Bool) → is_blank b ≡ t → (list_all is_blank c ≡ false → bytes_eq (without_blanks (c ++ e ∷ [])) (38 ∷ []) ≡ false)
         → bytes_eq (without_blanks (b ∷ (c ++ e ∷ []))) (38 ∷ []) ≡ false
-    step true t behind =
+    step true t after =
         let rest : list_all is_blank c ≡ false = ap (λ t. t && list_all is_blank c) (sym t) ∙ some in
-        rw (t, one-add (prefix_len is_blank (c ++ e ∷ []))) (behind rest)
-    step false t behind = ap (λ t. bytes_eq (drop (cond t (1 + prefix_len is_blank (c ++ e ∷ [])) 0) (b ∷ (c ++ e ∷ []))) (38 ∷ [])) t ∙ two_bytes b c e
+        rw (t, one-add (prefix_len is_blank (c ++ e ∷ []))) (after rest)
+    step false t after = ap (λ t. bytes_eq (drop (cond t (1 + prefix_len is_blank (c ++ e ∷ [])) 0) (b ∷ (c ++ e ∷ []))) (38 ∷ [])) t ∙ two_bytes b c e
 
 lone_end : (c : List ℕ) → list_all is_blank c ≡ false → is_lone_ampersand (c ++ 38 ∷ []) ≡ false
-lone_end c some = ap (λ l. bytes_eq (without_blanks l) (38 ∷ [])) (behind_other c 38 refl) ∙ blanks_first c 38 some
+lone_end c some = ap (λ l. bytes_eq (without_blanks l) (38 ∷ [])) (after_other c 38 refl) ∙ blanks_first c 38 some
 
 lone_ends : (xs : List ℕ) → bytes_eq (without_blanks xs) (38 ∷ []) ≡ true → ends_with nat_eq xs (38 ∷ []) ≡ true
 lone_ends xs e =
@@ -136,38 +136,26 @@ statement_fine false ps false good fine short = three _ _ _
     (ap (list_any (is_bad_part logical.Statement)) (parts-both 59 ps 59 plain_semicolon good plain_semicolon) ∙ bad_end logical.Statement ps 59 fine refl)
     (ap is_lone_ampersand (code-both 59 ps 59 plain_semicolon good plain_semicolon) ∙ lone_both 59 (concat ps) 59 refl refl)
 
-directive_fine : (continues : Bool) (ps : List (List ℕ)) (continued : Bool) → AreGood ps → list_any (is_bad_part logical.Directive) ps ≡ false → length (concat ps) ≤ 66
-    → (continued ≡ true → (continues || not (list_all is_blank (concat ps))) ≡ true)
-    → is_bad (codes "!HPF$" ++ free_directive continues (concat ps) continued) ≡ false
-directive_fine true ps true good fine short some = three _ _ _
-    (not_less MAX_LINE_BYTES (length (codes "!HPF$" ++ 38 ∷ (concat ps ++ 38 ∷ []))) (omega (arith, length-append (concat ps) (38 ∷ []))))
-    (ap (list_any (is_bad_part logical.Directive)) (parts-both 38 ps 38 plain_ampersand good plain_ampersand) ∙ bad_end logical.Directive ps 38 fine refl)
-    (ap is_lone_ampersand (code-both 38 ps 38 plain_ampersand good plain_ampersand) ∙ lone_both 38 (concat ps) 38 refl refl)
-directive_fine false ps true good fine short some = three _ _ _
+directive_fine : (ps : List (List ℕ)) (continued : Bool) → AreGood ps → list_any (is_bad_part logical.Directive) ps ≡ false → length (concat ps) ≤ 66
+    → (continued ≡ true → list_all is_blank (concat ps) ≡ false)
+    → is_bad (codes "!HPF$" ++ free_directive (concat ps) continued) ≡ false
+directive_fine ps true good fine short some = three _ _ _
     (not_less MAX_LINE_BYTES (length (codes "!HPF$" ++ (concat ps ++ 38 ∷ []))) (omega (arith, length-append (concat ps) (38 ∷ []))))
     (ap (list_any (is_bad_part logical.Directive)) (parts-end ps 38 good plain_ampersand) ∙ bad_end logical.Directive ps 38 fine refl)
-    (ap is_lone_ampersand (code-end ps 38 good plain_ampersand) ∙ lone_end (concat ps) (other (list_all is_blank (concat ps)) (some refl)))
-  where
-    other : (t : Bool) → (not t) ≡ true → t ≡ false
-    other true e = absurd (false≢true e)
-    other false e = refl
-directive_fine true ps false good fine short some = three _ _ _
-    (not_less MAX_LINE_BYTES (length (codes "!HPF$" ++ concat ps)) (omega arith))
-    (ap (list_any (is_bad_part logical.Directive)) (parts-alone ps good) ∙ fine)
-    (ap is_lone_ampersand (code-alone ps good) ∙ lone_good ps good)
-directive_fine false ps false good fine short some = three _ _ _
+    (ap is_lone_ampersand (code-end ps 38 good plain_ampersand) ∙ lone_end (concat ps) (some refl))
+directive_fine ps false good fine short some = three _ _ _
     (not_less MAX_LINE_BYTES (length (codes "!HPF$" ++ concat ps)) (omega arith))
     (ap (list_any (is_bad_part logical.Directive)) (parts-alone ps good) ∙ fine)
     (ap is_lone_ampersand (code-alone ps good) ∙ lone_good ps good)
 
 -- the free line of a line isn't bad
 pub free_fine : (x : FixedLine) (continued : Bool) → (is_passed x.kind ≡ false → IsTight x.kind x.code)
-    → (x.kind ≡ Directive → continued ≡ true → (x.continues || not (list_all is_blank x.code)) ≡ true)
+    → (x.kind ≡ Directive → continued ≡ true → list_all is_blank x.code ≡ false)
     → (physical x continued).bad ≡ false
 free_fine x continued tight some = step x.kind x.code tight some
   where
     step : (kind : FixedKind) (code : List ℕ) → (is_passed kind ≡ false → IsTight kind code)
-        → (kind ≡ Directive → continued ≡ true → (x.continues || not (list_all is_blank code)) ≡ true)
+        → (kind ≡ Directive → continued ≡ true → list_all is_blank code ≡ false)
         → is_bad (free_line kind (record { number = x.number; kind = kind; continues = x.continues; code = code; bad = x.bad }) continued) ≡ false
     step Passed code tight some = refl
     step Statement code tight some =
@@ -176,6 +164,6 @@ free_fine x continued tight some = step x.kind x.code tight some
         ∙ statement_fine x.continues t.ps continued t.good (any_first (is_bad_part logical.Statement) is_ampersand t.ps t.fine) t.short
     step Directive code tight some =
         let t = tight refl in
-        ap (λ c. is_bad (codes "!HPF$" ++ free_directive x.continues c continued)) t.whole
-        ∙ directive_fine x.continues t.ps continued t.good (any_first (is_bad_part logical.Directive) is_ampersand t.ps t.fine) t.short
-        (λ goes. ap (λ c. x.continues || not (list_all is_blank c)) (sym t.whole) ∙ some refl goes)
+        ap (λ c. is_bad (codes "!HPF$" ++ free_directive c continued)) t.whole
+        ∙ directive_fine t.ps continued t.good (any_first (is_bad_part logical.Directive) is_ampersand t.ps t.fine) t.short
+        (λ goes. ap (list_all is_blank) (sym t.whole) ∙ some refl goes)

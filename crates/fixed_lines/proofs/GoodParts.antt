@@ -48,8 +48,8 @@ leads-append [] ys x y = y
 leads-append (b ∷ xs) ys x y = step (is_blank b) refl (leads-append xs ys)
   where
     step : (t : Bool) → is_blank b ≡ t → (leads xs ≡ false → leads ys ≡ false → leads (xs ++ ys) ≡ false) → leads (b ∷ xs ++ ys) ≡ false
-    step true t behind = leads_blank b (xs ++ ys) t ∙ behind (sym (leads_blank b xs t) ∙ x) y
-    step false t behind = leads_other b (xs ++ ys) t ∙ sym (leads_other b xs t) ∙ x
+    step true t after = leads_blank b (xs ++ ys) t ∙ after (sym (leads_blank b xs t) ∙ x) y
+    step false t after = leads_other b (xs ++ ys) t ∙ sym (leads_other b xs t) ∙ x
 
 -- the first part of good parts is the first of them
 pub cut_good : (ps : List (List ℕ)) (ys : List ℕ) → AreGood ps → cut first_part (concat ps ++ ys) ≡ ps ++ cut first_part ys
@@ -88,11 +88,11 @@ stop d (c ∷ t) rest l = step (c == d) refl l (stop d t rest)
   where
     step : (b : Bool) → (c == d) ≡ b → lacks d (c ∷ t) → (lacks d t → prefix_len (λ c. not (c == d)) (t ++ d ∷ rest) ≡ length t)
         → prefix_len (λ c. not (c == d)) ((c ∷ t) ++ d ∷ rest) ≡ length (c ∷ t)
-    step true e l behind = let l' = rw e at l in absurd (omega (arith, l'))
-    step false e l behind =
+    step true e l after = let l' = rw e at l in absurd (omega (arith, l'))
+    step false e l after =
         let l' = rw e at l in
         let m : lacks d t = omega (arith, l') in
-        rw e (omega (arith, behind m))
+        rw e (omega (arith, after m))
 
 other : (d c : ℕ) → (c == d) ≡ false → (d == c) ≡ false
 other d c e = false_from_ne_true (d == c) (λ t. false≢true (sym e ∙ eq-eqb c d (sym (eqb-true d c t))))
@@ -106,8 +106,8 @@ pub find_it : (d : ℕ) (bytes : List ℕ) → Found d bytes
 find_it d [] = nowhere refl refl
 find_it d (c ∷ bytes) = step (c == d) refl (find_it d bytes)
   where
-    behind : (c == d) ≡ false → lacks d bytes → ends_with nat_eq bytes (d ∷ []) ≡ false → ends_with nat_eq (c ∷ bytes) (d ∷ []) ≡ false
-    behind e l f = last bytes f
+    after : (c == d) ≡ false → lacks d bytes → ends_with nat_eq bytes (d ∷ []) ≡ false → ends_with nat_eq (c ∷ bytes) (d ∷ []) ≡ false
+    after e l f = last bytes f
       where
         last : (bytes : List ℕ) → ends_with nat_eq bytes (d ∷ []) ≡ false → ends_with nat_eq (c ∷ bytes) (d ∷ []) ≡ false
         last [] f = rw (other d c e) refl
@@ -119,7 +119,7 @@ find_it d (c ∷ bytes) = step (c == d) refl (find_it d bytes)
     step : (b : Bool) → (c == d) ≡ b → Found d bytes → Found d (c ∷ bytes)
     step true e f = at [] bytes (ap (λ x. x ∷ bytes) (eqb-true c d e)) refl
     step false e (at t rest whole l) = at (c ∷ t) rest (ap (λ l. c ∷ l) whole) (rw e (omega (arith, l)))
-    step false e (nowhere l f) = nowhere (rw e (omega (arith, l))) (behind e l f)
+    step false e (nowhere l f) = nowhere (rw e (omega (arith, l))) (after e l f)
 
 pub either-false : (a b : Bool) → (a || b) ≡ false → (a ≡ false) × (b ≡ false)
 either-false true b e = absurd (false≢true (sym e))
@@ -225,15 +225,15 @@ good_within kind (suc bound) (b ∷ bytes) within fine = step (b == 33) refl (go
         → (length (drop (first_part (b ∷ bytes)) (b ∷ bytes)) ≤ bound → list_any (is_bad_here kind) (parts (drop (first_part (b ∷ bytes)) (b ∷ bytes))) ≡ false
         → AreGood (parts (drop (first_part (b ∷ bytes)) (b ∷ bytes))))
         → AreGood (parts (b ∷ bytes))
-    step true e behind = subst AreGood (sym (parts-comment b bytes (eqb-true b 33 e))) tt
-    step false e behind =
+    step true e after = subst AreGood (sym (parts-comment b bytes (eqb-true b 33 e))) tt
+    step false e after =
         let cuts = parts-part b bytes e in
         let fine' : list_any (is_bad_here kind) (take (first_part (b ∷ bytes)) (b ∷ bytes) ∷ parts (drop (first_part (b ∷ bytes)) (b ∷ bytes))) ≡ false =
         ap (list_any (is_bad_here kind)) (sym cuts) ∙ fine in
         let both = either-false _ _ fine' in
         subst AreGood (sym cuts) (
           good_first kind b bytes e both.0,
-          behind (omega (arith, length-drop (first_part (b ∷ bytes)) (b ∷ bytes), first_part-some b bytes)) both.1,
+          after (omega (arith, length-drop (first_part (b ∷ bytes)) (b ∷ bytes), first_part-some b bytes)) both.1,
         )
 
 -- where no part of the bytes is bad, all are good

@@ -5,6 +5,7 @@ use Rattle.std.specs.List.{concat, flat_map, join_with_byte, list_all, prefix_le
 use Rattle.std.proofs.lemmas.List.{append-nil}
 use Rattle.std.proofs.lemmas.List.Elements.{filter-append}
 use Rattle.source_lines.specs.declared.line.LineKind.TheVariants as logical
+use Rattle.source_lines.specs.declared.line.LogicalLine.{LogicalLine}
 use Rattle.source_lines.specs.Cut.{cut, cut_after}
 use Rattle.source_lines.specs.PhysicalLines as free
 use Rattle.source_lines.specs.PhysicalLines.{first_part, is_blank, physical_line}
@@ -16,10 +17,18 @@ use Rattle.fixed_lines.specs.declared.kind.FixedKind.{FixedKind}
 use Rattle.fixed_lines.specs.declared.kind.FixedKind.TheVariants.{Passed, Statement, Directive}
 use Rattle.fixed_lines.specs.FixedLines.{FixedLine}
 use Rattle.fixed_lines.specs.FixedBreaches.{continues}
-use Rattle.fixed_lines.specs.FixedLogicalLines.{code, lines_of_kind, lines_of_group}
+use Rattle.fixed_lines.specs.FixedLogicalLines.{code, groups, lines_of_kind}
 use Rattle.fixed_lines.specs.FreeText.{first_continues, free_line}
 
--- the pieces of what stands behind are those of what stands behind alone
+-- the logical lines of a line and those that continue it, with no line left out
+abbrev pub lines_joined : List FixedLine → List LogicalLine
+lines_joined [] = []
+lines_joined (line ∷ lines) = lines_of_kind line.kind line.number (join_with_byte 32 (line.code ∷ map code lines))
+
+abbrev pub all_joined : List FixedLine → List LogicalLine
+all_joined lines = flat_map lines_joined (groups lines)
+
+-- the pieces of what stands after are those of what stands after alone
 abbrev pub Splits : List ℕ → Type 0
 Splits c = (ys : List ℕ) → cut first_part (c ++ ys) ≡ cut first_part c ++ cut first_part ys
 
@@ -65,7 +74,7 @@ pub record IsReady (line : FixedLine) (continued : Bool) : Type 0 where
   pub stands : free_breaches.is_passed (physical line continued).kind ≡ false
   pub like : (physical line continued).kind ≡ (physical_line 1 (sample line.kind)).kind
 
--- lines that aren't passed over, behind one of this kind
+-- lines that aren't passed over, after one of this kind
 abbrev pub Chain : FixedKind → List FixedLine → Type 0
 Chain kind [] = Unit {0}
 Chain kind (line ∷ lines) = (line.continues ≡ true → line.kind ≡ kind) × IsReady line (first_continues lines) × Chain line.kind lines
@@ -82,8 +91,8 @@ stops [] = refl
 stops (x ∷ xs) = step x.continues refl (stops xs)
   where
     step : (t : Bool) → x.continues ≡ t → first_continues (drop (prefix_len continues xs) xs) ≡ false → first_continues (drop (prefix_len continues (x ∷ xs)) (x ∷ xs)) ≡ false
-    step true t behind = rw (t, one-add (prefix_len continues xs)) behind
-    step false t behind = rw t refl
+    step true t after = rw (t, one-add (prefix_len continues xs)) after
+    step false t after = rw t refl
 
 join_front : (o c : List ℕ) (pieces : List (List ℕ)) → join_with_byte 32 ((o ++ c) ∷ pieces) ≡ o ++ join_with_byte 32 (c ∷ pieces)
 join_front o c [] = refl
@@ -99,12 +108,12 @@ tail_step : (kind : FixedKind) (c : List ℕ) (t : Bool) (n : ℕ) (p : free.Phy
     → join_with_byte 32 ((y.code ++ closing y.kind b) ∷ map continuing_body (take n ps)) ≡ join_with_byte 32 (y.code ∷ map code (take n ys)) ++ closing y.kind false
     → join_with_byte 32 ((c ++ closing kind t) ∷ map continuing_body (take (cond t (1 + n) 0) (p ∷ ps)))
     ≡ join_with_byte 32 (c ∷ map code (take (cond t (1 + n) 0) (y ∷ ys))) ++ closing kind false
-tail_step kind c false n p ps y ys b same next behind = refl
-tail_step kind c true n p ps y ys b same next behind =
+tail_step kind c false n p ps y ys b same next after = refl
+tail_step kind c true n p ps y ys b same next after =
     let pieces = join_with_byte 32 (y.code ∷ map code (take n ys)) in
     let left : join_with_byte 32 ((c ++ closing kind true) ∷ continuing_body p ∷ map continuing_body (take n ps)) ≡ c ++ (32 ∷ (pieces ++ closing kind false)) =
     (λ i. closed kind c i ++ (32 ∷ join_with_byte 32 (next refl i ∷ map continuing_body (take n ps))))
-    ∙ ap (λ l. c ++ (32 ∷ l)) (behind ∙ ap (λ k. pieces ++ closing k false) (same refl)) in
+    ∙ ap (λ l. c ++ (32 ∷ l)) (after ∙ ap (λ k. pieces ++ closing k false) (same refl)) in
     rw (one-add n) (left ∙ sym (append_assoc c (32 ∷ pieces) (closing kind false)))
 
 tail_joined : (kind : FixedKind) (c : List ℕ) (xs : List FixedLine) → Chain kind xs
@@ -130,9 +139,9 @@ together_last (p ∷ ps) = step (bytes_eq p (59 ∷ [])) refl (together ps) refl
   where
     step : (t : Bool) → bytes_eq p (59 ∷ []) ≡ t → (l : List (List ℕ)) → together ps ≡ l → (together (ps ++ (59 ∷ []) ∷ []) ≡ together ps ++ [] ∷ []) × (together ps ≡ [] → ⊥)
         → (together (p ∷ (ps ++ (59 ∷ []) ∷ [])) ≡ together (p ∷ ps) ++ [] ∷ []) × (together (p ∷ ps) ≡ [] → ⊥)
-    step true t l is behind = rw t (ap (λ l. [] ∷ l) behind.0, λ e. absurd cc)
-    step false t [] is behind = absurd (behind.1 is)
-    step false t (s ∷ l) is behind = rw (t, behind.0, is) (refl, λ e. absurd cc)
+    step true t l is after = rw t (ap (λ l. [] ∷ l) after.0, λ e. absurd cc)
+    step false t [] is after = absurd (after.1 is)
+    step false t (s ∷ l) is after = rw (t, after.0, is) (refl, λ e. absurd cc)
 
 statements_between : (j : List ℕ) → Splits j → statements (59 ∷ (j ++ 59 ∷ [])) ≡ statements j
 statements_between j s =
@@ -147,7 +156,7 @@ same_lines Statement number j s = ap (map (logical_line number logical.Statement
 same_lines Passed number j s = ap (map (logical_line number logical.Statement)) (statements_between j s)
 
 group_same : (kind : FixedKind) (x : FixedLine) (xs : List FixedLine) → Chain kind (x ∷ xs) → x.continues ≡ false
-    → free_logical.lines_of_group (physical x (first_continues xs) ∷ take (prefix_len continues xs) (freed xs)) ≡ lines_of_group (x ∷ take (prefix_len continues xs) xs)
+    → free_logical.lines_of_group (physical x (first_continues xs) ∷ take (prefix_len continues xs) (freed xs)) ≡ lines_joined (x ∷ take (prefix_len continues xs) xs)
 group_same kind x xs chain starts =
     let p = physical x (first_continues xs) in
     let n = prefix_len continues xs in
@@ -162,7 +171,7 @@ group_same kind x xs chain starts =
 
 pub groups_same : (kind : FixedKind) (xs : List FixedLine) (skipped : ℕ) → Chain kind xs → first_continues (drop skipped xs) ≡ false
     → flat_map free_logical.lines_of_group (cut_after (λ rest. prefix_len is_continued rest + 1) (freed xs) skipped)
-    ≡ flat_map lines_of_group (cut_after (λ rest. prefix_len continues (drop 1 rest) + 1) xs skipped)
+    ≡ flat_map lines_joined (cut_after (λ rest. prefix_len continues (drop 1 rest) + 1) xs skipped)
 groups_same kind [] skipped chain starts = refl
 groups_same kind (x ∷ xs) (suc skipped) chain starts = groups_same x.kind xs skipped chain.2 starts
 groups_same kind (x ∷ xs) zero chain starts =
@@ -172,5 +181,5 @@ groups_same kind (x ∷ xs) zero chain starts =
     (λ i. free_logical.lines_of_group (physical x (first_continues xs) ∷ take (free_len i) (freed xs))
     ++ flat_map free_logical.lines_of_group (cut_after (λ rest. prefix_len is_continued rest + 1) (freed xs) (free_len i)))
     ∙ (λ i. group_same kind x xs chain starts i ++ groups_same x.kind xs n chain.2 (stops xs) i)
-    ∙ (λ i. lines_of_group (x ∷ take (fixed_len i) xs)
-    ++ flat_map lines_of_group (cut_after (λ rest. prefix_len continues (drop 1 rest) + 1) xs (fixed_len i)))
+    ∙ (λ i. lines_joined (x ∷ take (fixed_len i) xs)
+    ++ flat_map lines_joined (cut_after (λ rest. prefix_len continues (drop 1 rest) + 1) xs (fixed_len i)))

@@ -1,8 +1,8 @@
 -- The free lines of fixed lines without a breach have none.
 use Rattle.std.proofs.Common.{◌≡◌, ℕ, zero, suc, ◌+◌, ◌-◌, ◌<◌, ◌≤◌, Bool, true, false, cond, List, [], ◌∷◌, ◌++◌, length, take, drop, map, reverse, refl, sym, ap, subst, ◌∙◌, append_assoc, arith, inl, inr}
-use Rattle.std.specs.Prelude.{◌==◌, ◌||◌, ◌&&◌, not, filter, codes}
-use Rattle.std.specs.List.{enumerate_from, list_all, prefix_len, suffix_len}
-use Rattle.std.proofs.lemmas.Bool.{false≢true, false_from_ne_true}
+use Rattle.std.specs.Prelude.{◌==◌, ◌||◌, ◌&&◌, not, filter}
+use Rattle.std.specs.List.{prefix_len, suffix_len}
+use Rattle.std.proofs.lemmas.Bool.{false≢true}
 use Rattle.std.proofs.lemmas.List.{append-nil, reverse-append}
 use Rattle.std.proofs.lemmas.List.Elements.{filter-append}
 use Rattle.hpf_base.specs.Refusal.{NoBreach, IsRefusalBy}
@@ -14,118 +14,53 @@ use Rattle.hpf_base.specs.declared.refusal.Reason.TheVariants.{BadLine, Limit}
 use Rattle.source_lines.specs.Breaches as free_breaches
 use Rattle.source_lines.specs.Breaches.{goes_on, is_continued, IsLineBreach}
 use Rattle.source_lines.specs.PhysicalLines as free
-use Rattle.source_lines.specs.PhysicalLines.{is_blank, physical_line, physical_lines}
+use Rattle.source_lines.specs.PhysicalLines.{physical_line}
 use Rattle.fixed_lines.specs.declared.kind.FixedKind.{FixedKind}
 use Rattle.fixed_lines.specs.declared.kind.FixedKind.TheVariants.{Passed, Statement, Directive}
-use Rattle.fixed_lines.specs.FixedLines.{FixedLine, fixed_line, fixed_kind, numbered_lines}
-use Rattle.fixed_lines.specs.FixedBreaches.{continues, is_passed, is_directive_to_continue, may_continue, standing, IsBreachIn, IsFixedBreach, MAX_FIXED_CONTINUATIONS}
+use Rattle.fixed_lines.specs.FixedLines.{FixedLine, numbered_lines}
+use Rattle.fixed_lines.specs.declared.limits.TheConstants.{MAX_FIXED_CONTINUATIONS}
+use Rattle.fixed_lines.specs.FixedBreaches.{is_directive, is_passed, meets, standing, IsFixedBreach}
 use Rattle.fixed_lines.specs.FreeText.{first_continues, free_line, free_text}
-use Rattle.fixed_lines.proofs.Ready.{IsSound, ready}
-use Rattle.fixed_lines.proofs.Fine.{IsTight, free_fine, tight_line}
+use Rattle.fixed_lines.proofs.ClosedLines.{begins, both-true, closed_lines, continued, is_kind}
+use Rattle.fixed_lines.proofs.Flows.{Flows, follows}
+use Rattle.fixed_lines.proofs.Runs.{AreShort, closed_short, run, run_before, run_here, run_passed, run_push, short_lines}
+use Rattle.fixed_lines.proofs.Ready.{ready}
+use Rattle.fixed_lines.proofs.Fine.{IsTight, free_fine}
 use Rattle.fixed_lines.proofs.Groups.{physical, sample}
-use Rattle.fixed_lines.proofs.Whole.{AreFine, AreSound, all_freed, all_fine, all_sound, free_numbered, kind_before, kind_of, passed_alike, passed_kind, pick}
-
-abbrev AreTight : List FixedLine → Type 0
-AreTight [] = Unit {0}
-AreTight (line ∷ lines) = (is_passed line.kind ≡ false → IsTight line.kind line.code) × AreTight lines
-
-tight_lines : (n : ℕ) (texts : List (List ℕ)) (before : List FixedLine) → AreFine before (map (λ x. fixed_line x.0 x.1) (enumerate_from n texts))
-    → AreTight (map (λ x. fixed_line x.0 x.1) (enumerate_from n texts))
-tight_lines n [] before fine = tt
-tight_lines n (text ∷ texts) before fine =
-    ((λ stands. tight_line n (fixed_kind text) text fine.0 stands), tight_lines (n + 1) texts (fixed_line n text ∷ before) fine.2)
-
--- the limits of the lines behind these
-abbrev AreWithin : List FixedLine → List FixedLine → Type 0
-AreWithin before [] = Unit {0}
-AreWithin before (line ∷ lines) =
-    (line.number ≡ MAX_LINES + 1 → ⊥) × (line.continues ≡ true → suffix_len continues (standing before) ≡ MAX_FIXED_CONTINUATIONS → ⊥)
-    × AreWithin (before ++ line ∷ []) lines
-
-within_from : (all before lines : List FixedLine) → all ≡ before ++ lines → NoBreach (IsBreachIn all) → AreWithin before lines
-within_from all before [] whole fine = tt
-within_from all before (line ∷ lines) whole fine = (
-  (λ far. fine line.number Limit (record { before = before; line = line; after = lines; whole = whole; numbered = refl; why = inl far })),
-  (λ goes many. fine line.number Limit (record { before = before; line = line; after = lines; whole = whole; numbered = refl; why = inr (goes, many) })),
-  within_from all (before ++ line ∷ []) lines (whole ∙ sym (append_assoc before (line ∷ []) lines)) fine,
-)
+use Rattle.fixed_lines.proofs.Kept.{AreNumbered, AreTight, sound}
+use Rattle.fixed_lines.proofs.Whole.{all_freed, are_numbered, are_tight, free_numbered, none_first, passed_alike, they_flow}
 
 passed_is : (k : FixedKind) → is_passed k ≡ true → k ≡ Passed
 passed_is Passed e = refl
 passed_is Statement e = absurd (false≢true e)
 passed_is Directive e = absurd (false≢true e)
 
--- a directive isn't continued behind a line that is passed over
-passed_between : (p : FixedLine) (before lines : List FixedLine) → is_passed p.kind ≡ true → kind_of before ≡ Directive → AreFine (p ∷ before) lines
-    → first_continues (standing lines) ≡ true → ⊥
-passed_between p before [] passed kind fine goes = false≢true goes
-passed_between p before (z ∷ zs) passed kind fine goes = step (is_passed z.kind) refl (passed_between z (p ∷ before) zs)
+-- a statement goes on with free lines where it goes on with the fixed ones
+free_follows : (lines : List FixedLine) → AreTight lines → follows lines ≡ true → goes_on (physical_line 1 (sample Statement)).kind (all_freed lines) ≡ true
+free_follows [] tight goes = absurd (false≢true goes)
+free_follows (z ∷ zs) tight goes = step z.kind refl (free_follows zs tight.1)
   where
-    here : kind_of (p ∷ before) ≡ Directive
-    here = passed_kind p.kind (kind_of before) passed ∙ kind
+    statement : free.PhysicalLine
+    statement = physical_line 1 (sample Statement)
 
-    no_directive : (k : FixedKind) → is_passed k ≡ true → is_directive_to_continue p k ≡ true → ⊥
-    no_directive Passed e d = false≢true d
-    no_directive Statement e d = false≢true e
-    no_directive Directive e d = false≢true e
+    step : (k : FixedKind) → z.kind ≡ k → (follows zs ≡ true → goes_on (physical_line 1 (sample Statement)).kind (all_freed zs) ≡ true)
+        → free_breaches.meets (physical z (continued zs)).kind (goes_on (physical_line 1 (sample Statement)).kind (all_freed zs)) ≡ true
+    step Passed e rest =
+        ap (λ k. free_breaches.meets (physical_line z.number (free_line k z (continued zs))).kind (goes_on (physical_line 1 (sample Statement)).kind (all_freed zs))) e
+        ∙ rest (sym (ap (λ k. meets k (follows zs)) e) ∙ goes)
+    step Statement e rest =
+        let r = ready z (continued zs) (λ p. false≢true (sym (ap is_passed e) ∙ ap is_passed p)) (sound z.kind z.code (tight.0 (ap is_passed e))) in
+        ap (λ k. free_breaches.meets k (goes_on (physical_line 1 (sample Statement)).kind (all_freed zs))) (r.like ∙ ap (λ k. (physical_line 1 (sample k)).kind) e)
+    step Directive e rest = absurd (false≢true (sym (ap (λ k. meets k (follows zs)) e) ∙ goes))
 
-    step : (t : Bool) → is_passed z.kind ≡ t
-        → (is_passed z.kind ≡ true → kind_of (p ∷ before) ≡ Directive → AreFine (z ∷ p ∷ before) zs → first_continues (standing zs) ≡ true → ⊥) → ⊥
-    step true t behind = behind t here fine.2 (ap (λ t. first_continues (cond (not t) (z ∷ standing zs) (standing zs))) (sym t) ∙ goes)
-    step false t behind =
-        let next : z.continues ≡ true = ap (λ t. first_continues (cond (not t) (z ∷ standing zs) (standing zs))) (sym t) ∙ goes in
-        let may = fine.1 next in
-        let same : z.kind ≡ Directive = kind_before z.kind (p ∷ before) t may ∙ here in
-        no_directive p.kind passed (ap (λ k. may_continue k (p ∷ before)) (sym same) ∙ may)
+free_begins : (lines : List FixedLine) → AreTight lines → begins lines ≡ true → goes_on (physical_line 1 (sample Directive)).kind (all_freed lines) ≡ true
+free_begins [] tight goes = absurd (false≢true goes)
+free_begins (z ∷ zs) tight goes =
+    let kind : z.kind ≡ Directive = is_kind z.kind (both-true z.continues (is_directive z.kind) goes).1 in
+    let r = ready z (continued zs) (λ p. false≢true (sym (ap is_passed kind) ∙ ap is_passed p)) (sound z.kind z.code (tight.0 (ap is_passed kind))) in
+    ap free_breaches.is_directive_kind (r.like ∙ ap (λ k. (physical_line 1 (sample k)).kind) kind)
 
--- a continued statement line meets a statement line
-statement_goes : (before lines : List FixedLine) → kind_of before ≡ Statement → AreFine before lines → AreSound lines → first_continues (standing lines) ≡ true
-    → goes_on (physical_line 1 (sample Statement)).kind (all_freed lines) ≡ true
-statement_goes before [] kind fine sound goes = absurd (false≢true goes)
-statement_goes before (z ∷ zs) kind fine sound goes = step (is_passed z.kind) refl (statement_goes (z ∷ before) zs)
-  where
-    step : (t : Bool) → is_passed z.kind ≡ t
-        → (kind_of (z ∷ before) ≡ Statement → AreFine (z ∷ before) zs → AreSound zs → first_continues (standing zs) ≡ true
-        → goes_on (physical_line 1 (sample Statement)).kind (all_freed zs) ≡ true)
-        → free_breaches.meets (physical z (first_continues (standing zs))).kind (goes_on (physical_line 1 (sample Statement)).kind (all_freed zs)) ≡ true
-    step true t behind =
-        ap
-        (λ k.
-        free_breaches.meets (physical_line z.number (free_line k z (first_continues (standing zs)))).kind
-        (goes_on (physical_line 1 (sample Statement)).kind (all_freed zs)))
-        (passed_is z.kind t)
-        ∙ behind (passed_kind z.kind (kind_of before) t ∙ kind) fine.2 sound.1
-        (ap (λ t. first_continues (cond (not t) (z ∷ standing zs) (standing zs))) (sym t) ∙ goes)
-    step false t behind =
-        let next : z.continues ≡ true = ap (λ t. first_continues (cond (not t) (z ∷ standing zs) (standing zs))) (sym t) ∙ goes in
-        let same : z.kind ≡ Statement = kind_before z.kind before t (fine.1 next) ∙ kind in
-        let r = ready z (first_continues (standing zs)) (λ e. false≢true (sym t ∙ ap is_passed e)) (sound.0 t) in
-        ap (λ k. free_breaches.meets k (goes_on (physical_line 1 (sample Statement)).kind (all_freed zs)))
-        (r.like ∙ ap (λ k. (physical_line 1 (sample k)).kind) same)
-
--- a continued directive line meets a directive line, and has something to continue
-directive_goes : (x : FixedLine) (before lines : List FixedLine) → x.kind ≡ Directive → AreFine (x ∷ before) lines → AreSound lines → first_continues (standing lines) ≡ true
-    → (goes_on (physical_line 1 (sample Directive)).kind (all_freed lines) ≡ true) × ((x.continues || not (list_all is_blank x.code)) ≡ true)
-directive_goes x before [] kind fine sound goes = absurd (false≢true goes)
-directive_goes x before (z ∷ zs) kind fine sound goes = step (is_passed z.kind) refl
-  where
-    here : kind_of (x ∷ before) ≡ Directive
-    here = ap (λ k. pick k (kind_of before)) kind
-
-    step : (t : Bool) → is_passed z.kind ≡ t
-        → (free_breaches.is_directive_kind (physical z (first_continues (standing zs))).kind ≡ true) × ((x.continues || not (list_all is_blank x.code)) ≡ true)
-    step true t =
-        absurd (passed_between z (x ∷ before) zs t here fine.2 (ap (λ t. first_continues (cond (not t) (z ∷ standing zs) (standing zs))) (sym t) ∙ goes))
-    step false t =
-        let next : z.continues ≡ true = ap (λ t. first_continues (cond (not t) (z ∷ standing zs) (standing zs))) (sym t) ∙ goes in
-        let may = fine.1 next in
-        let same : z.kind ≡ Directive = kind_before z.kind (x ∷ before) t may ∙ here in
-        let r = ready z (first_continues (standing zs)) (λ e. false≢true (sym t ∙ ap is_passed e)) (sound.0 t) in (
-          ap free_breaches.is_directive_kind (r.like ∙ ap (λ k. (physical_line 1 (sample k)).kind) same),
-          ap (is_directive_to_continue x) (sym kind) ∙ ap (λ k. may_continue k (x ∷ before)) (sym same) ∙ may,
-        )
-
--- none of the lines is a breach behind these
+-- none of the lines is a breach after these
 abbrev AreClear : List free.PhysicalLine → List free.PhysicalLine → Type 0
 AreClear before lines =
     (b : List free.PhysicalLine) (l : free.PhysicalLine) (a : List free.PhysicalLine) (reason : Reason) → lines ≡ b ++ l ∷ a
@@ -133,17 +68,17 @@ AreClear before lines =
 
 clear_cons : (before : List free.PhysicalLine) (x : free.PhysicalLine) (rest : List free.PhysicalLine)
     → ((reason : Reason) → free_breaches.IsBreachAt before x rest reason → ⊥) → AreClear (before ++ x ∷ []) rest → AreClear before (x ∷ rest)
-clear_cons before x rest here behind [] l a reason e why =
+clear_cons before x rest here after [] l a reason e why =
     let same : x ≡ l = cc in
     let tail : rest ≡ a = cc in
     here reason
     (subst (λ (q : List free.PhysicalLine). free_breaches.IsBreachAt q x rest reason) (append-nil before)
     (subst (λ (q : free.PhysicalLine). free_breaches.IsBreachAt (before ++ []) q rest reason) (sym same)
     (subst (λ (q : List free.PhysicalLine). free_breaches.IsBreachAt (before ++ []) l q reason) (sym tail) why)))
-clear_cons before x rest here behind (y ∷ b) l a reason e why =
+clear_cons before x rest here after (y ∷ b) l a reason e why =
     let same : x ≡ y = cc in
     let tail : rest ≡ b ++ l ∷ a = cc in
-    behind b l a reason tail
+    after b l a reason tail
     (subst (λ (q : List free.PhysicalLine). free_breaches.IsBreachAt q l a reason) (sym (append_assoc before (x ∷ []) b))
     (subst (λ (q : free.PhysicalLine). free_breaches.IsBreachAt (before ++ q ∷ b) l a reason) (sym same) why))
 
@@ -175,17 +110,6 @@ free_push before p t c passed goes =
         ap (prefix_len is_continued) (reverse-append (free_breaches.standing before) (p ∷ []))
         ∙ ap (λ c. cond c (1 + suffix_len is_continued (free_breaches.standing before)) 0) goes
 
-fixed_push : (before : List FixedLine) (x : FixedLine) (t : Bool) → is_passed x.kind ≡ t
-    → suffix_len continues (standing (before ++ x ∷ [])) ≡ cond t (suffix_len continues (standing before)) (cond x.continues (1 + suffix_len continues (standing before)) 0)
-fixed_push before x t passed =
-    ap (suffix_len continues) (filter-append (λ (l : FixedLine). not (is_passed l.kind)) before (x ∷ []))
-    ∙ ap (λ t. suffix_len continues (standing before ++ cond (not t) (x ∷ []) [])) passed ∙ step t
-  where
-    step : (t : Bool) → suffix_len continues (standing before ++ cond (not t) (x ∷ []) [])
-        ≡ cond t (suffix_len continues (standing before)) (cond x.continues (1 + suffix_len continues (standing before)) 0)
-    step true = ap (suffix_len continues) (append-nil (standing before))
-    step false = ap (prefix_len continues) (reverse-append (standing before) (x ∷ []))
-
 -- so many free lines in a row are continued, and so many fixed ones in a row continue
 record AreCounted (free_run fixed_run : ℕ) (continued : Bool) : Type 0 where
   few : free_run ≤ fixed_run + 1
@@ -216,63 +140,93 @@ count_passed f m f' m' c k is is' same counted =
 
 abbrev Counts : List free.PhysicalLine → List FixedLine → List FixedLine → Type 0
 Counts free_before before lines =
-    AreCounted (suffix_len is_continued (free_breaches.standing free_before)) (suffix_len continues (standing before)) (first_continues (standing lines))
+    AreCounted (suffix_len is_continued (free_breaches.standing free_before)) (run_before before) (continued lines)
 
-count_step : (free_before : List free.PhysicalLine) (before : List FixedLine) (x : FixedLine) (xs : List FixedLine) → (is_passed x.kind ≡ false → IsSound x.code)
-    → (x.continues ≡ true → suffix_len continues (standing before) ≡ MAX_FIXED_CONTINUATIONS → ⊥) → Counts free_before before (x ∷ xs)
-    → Counts (free_before ++ physical x (first_continues (standing xs)) ∷ []) (before ++ x ∷ []) xs
-count_step free_before before x xs sound more counted = step (is_passed x.kind) refl
+count_step : (free_before : List free.PhysicalLine) (before : List FixedLine) (x : FixedLine) (xs : List FixedLine) → (is_passed x.kind ≡ false → IsTight x.kind x.code)
+    → (is_passed x.kind ≡ false → x.continues ≡ true → run_before before ≡ MAX_FIXED_CONTINUATIONS → ⊥) → Counts free_before before (x ∷ xs)
+    → Counts (free_before ++ physical x (continued xs) ∷ []) (before ++ x ∷ []) xs
+count_step free_before before x xs tight more counted = step (is_passed x.kind) refl
   where
-    first : (t : Bool) → is_passed x.kind ≡ t → first_continues (standing (x ∷ xs)) ≡ first_continues (cond (not t) (x ∷ standing xs) (standing xs))
+    first : (t : Bool) → is_passed x.kind ≡ t → continued (x ∷ xs) ≡ first_continues (cond (not t) (x ∷ standing xs) (standing xs))
     first t e = ap (λ t. first_continues (cond (not t) (x ∷ standing xs) (standing xs))) e
 
-    step : (t : Bool) → is_passed x.kind ≡ t → Counts (free_before ++ physical x (first_continues (standing xs)) ∷ []) (before ++ x ∷ []) xs
+    step : (t : Bool) → is_passed x.kind ≡ t → Counts (free_before ++ physical x (continued xs) ∷ []) (before ++ x ∷ []) xs
     step true t =
-        count_passed _ _ _ _ (first_continues (standing xs)) (first_continues (standing (x ∷ xs)))
-        (free_push free_before (physical x (first_continues (standing xs))) true _ (passed_alike x (first_continues (standing xs)) sound ∙ t) refl)
-        (fixed_push before x true t) (first true t) counted
+        count_passed _ _ _ _ (continued xs) (continued (x ∷ xs))
+        (free_push free_before (physical x (continued xs)) true _ (passed_alike x (continued xs) tight ∙ t) refl)
+        (run_push before x true t) (first true t) counted
     step false t =
-        let r = ready x (first_continues (standing xs)) (λ e. false≢true (sym t ∙ ap is_passed e)) (sound t) in
-        count_standing _ _ _ _ (first_continues (standing xs)) x.continues
-        (free_push free_before (physical x (first_continues (standing xs))) false (first_continues (standing xs)) r.stands r.goes)
-        (fixed_push before x false t) (subst (AreCounted _ _) (first false t) counted) more
+        let r = ready x (continued xs) (λ e. false≢true (sym t ∙ ap is_passed e)) (sound x.kind x.code (tight t)) in
+        count_standing _ _ _ _ (continued xs) x.continues
+        (free_push free_before (physical x (continued xs)) false (continued xs) r.stands r.goes)
+        (run_push before x false t) (subst (AreCounted _ _) (first false t) counted) (more t)
 
-continued_meets : (x : FixedLine) (r xs : List FixedLine) → AreFine (x ∷ r) xs → AreSound (x ∷ xs) → is_continued (physical x (first_continues (standing xs))) ≡ true
-    → goes_on (physical x (first_continues (standing xs))).kind (all_freed xs) ≡ true
-continued_meets x r xs fine sound goes = step x.kind refl
+continued_meets : (x : FixedLine) (xs : List FixedLine) → Flows (x ∷ xs) → AreTight (x ∷ xs) → is_continued (physical x (continued xs)) ≡ true
+    → goes_on (physical x (continued xs)).kind (all_freed xs) ≡ true
+continued_meets x xs flows tight goes = step x.kind refl
   where
-    meant : (k : FixedKind) → x.kind ≡ k → is_passed k ≡ false → (first_continues (standing xs) ≡ true)
-        × ((physical x (first_continues (standing xs))).kind ≡ (physical_line 1 (sample k)).kind)
+    meant : (k : FixedKind) → x.kind ≡ k → is_passed k ≡ false → (continued xs ≡ true) × ((physical x (continued xs)).kind ≡ (physical_line 1 (sample k)).kind)
     meant k e stands =
         let t : is_passed x.kind ≡ false = ap is_passed e ∙ stands in
-        let r = ready x (first_continues (standing xs)) (λ e. false≢true (sym t ∙ ap is_passed e)) (sound.0 t) in
+        let r = ready x (continued xs) (λ e. false≢true (sym t ∙ ap is_passed e)) (sound x.kind x.code (tight.0 t)) in
         (sym r.goes ∙ goes, r.like ∙ ap (λ k. (physical_line 1 (sample k)).kind) e)
 
-    step : (k : FixedKind) → x.kind ≡ k → goes_on (physical x (first_continues (standing xs))).kind (all_freed xs) ≡ true
-    step Passed e = absurd (false≢true (sym (ap (λ k. is_continued (physical_line x.number (free_line k x (first_continues (standing xs))))) e) ∙ goes))
+    step : (k : FixedKind) → x.kind ≡ k → goes_on (physical x (continued xs)).kind (all_freed xs) ≡ true
+    step Passed e = absurd (false≢true (sym (ap (λ k. is_continued (physical_line x.number (free_line k x (continued xs)))) e) ∙ goes))
     step Statement e =
         let m = meant Statement e refl in
-        ap (λ k. goes_on k (all_freed xs)) m.1 ∙ statement_goes (x ∷ r) xs (ap (λ k. pick k (kind_of r)) e) fine sound.1 m.0
+        ap (λ k. goes_on k (all_freed xs)) m.1 ∙ free_follows xs tight.1 ((flows.0 m.0).0 e)
     step Directive e =
         let m = meant Directive e refl in
-        ap (λ k. goes_on k (all_freed xs)) m.1 ∙ (directive_goes x r xs e fine sound.1 m.0).0
+        ap (λ k. goes_on k (all_freed xs)) m.1 ∙ free_begins xs tight.1 ((flows.0 m.0).1 e).0
 
-all_clear : (free_before : List free.PhysicalLine) (before r lines : List FixedLine) → AreFine r lines → AreSound lines → AreTight lines → AreWithin before lines
-    → Counts free_before before lines → AreClear free_before (all_freed lines)
-all_clear free_before before r [] fine sound tight within counted = clear_none free_before
-all_clear free_before before r (x ∷ xs) fine sound tight within counted =
-    clear_cons free_before (physical x (first_continues (standing xs))) (all_freed xs)
-    (not_breach free_before (physical x (first_continues (standing xs))) (all_freed xs)
-    (free_fine x (first_continues (standing xs)) tight.0 (λ kind goes. (directive_goes x r xs kind fine.2 sound.1 goes).1))
-    (continued_meets x r xs fine.2 sound) within.0 (λ many. omega (arith, many, counted.few, counted.least)))
-    (all_clear (free_before ++ physical x (first_continues (standing xs)) ∷ []) (before ++ x ∷ []) (x ∷ r) xs fine.2 sound.1 tight.1 within.2
-    (count_step free_before before x xs sound.0 within.1 counted))
+-- so many lines in a row continue up to here, and as many after that as the limit lets
+abbrev HasRoom : List FixedLine → List FixedLine → Type 0
+HasRoom before lines = run_before before + run lines ≤ 19
+
+room_step : (before : List FixedLine) (x : FixedLine) (xs : List FixedLine) → run xs ≤ 19 → HasRoom before (x ∷ xs)
+    → HasRoom (before ++ x ∷ []) xs × (is_passed x.kind ≡ false → x.continues ≡ true → run_before before ≡ MAX_FIXED_CONTINUATIONS → ⊥)
+room_step before x xs few room = (step (is_passed x.kind) refl, λ p c. less p c)
+  where
+    less : is_passed x.kind ≡ false → x.continues ≡ true → run_before before ≡ MAX_FIXED_CONTINUATIONS → ⊥
+    less p c many =
+        let here : run (x ∷ xs) ≡ 1 + run xs = run_here x xs p ∙ ap (λ t. cond t (1 + run xs) 0) c in
+        omega (arith, here, room, many)
+
+    with_next : (c : Bool) → x.continues ≡ c → is_passed x.kind ≡ false → HasRoom (before ++ x ∷ []) xs
+    with_next true c p =
+        let here : run (x ∷ xs) ≡ 1 + run xs = run_here x xs p ∙ ap (λ t. cond t (1 + run xs) 0) c in
+        let there : run_before (before ++ x ∷ []) ≡ 1 + run_before before = run_push before x false p ∙ ap (λ t. cond t (1 + run_before before) 0) c in
+        omega (arith, here, there, room)
+    with_next false c p =
+        let there : run_before (before ++ x ∷ []) ≡ 0 = run_push before x false p ∙ ap (λ t. cond t (1 + run_before before) 0) c in
+        omega (arith, there, few)
+
+    step : (t : Bool) → is_passed x.kind ≡ t → HasRoom (before ++ x ∷ []) xs
+    step true p = omega (arith, run_passed x xs p, run_push before x true p, room)
+    step false p = with_next x.continues refl p
+
+first_short : (xs : List FixedLine) → AreShort xs → run xs ≤ 19
+first_short [] short = omega arith
+first_short (x ∷ xs) short = short.0
+
+all_clear : (free_before : List free.PhysicalLine) (before : List FixedLine) (n : ℕ) (lines : List FixedLine) → Flows lines → AreTight lines → AreNumbered n lines
+    → AreShort lines → HasRoom before lines → Counts free_before before lines → AreClear free_before (all_freed lines)
+all_clear free_before before n [] flows tight numbered short room counted = clear_none free_before
+all_clear free_before before n (x ∷ xs) flows tight numbered short room counted =
+    let next = room_step before x xs (first_short xs short.1) room in
+    clear_cons free_before (physical x (continued xs)) (all_freed xs)
+    (not_breach free_before (physical x (continued xs)) (all_freed xs)
+    (free_fine x (continued xs) tight.0 (λ kind goes. ((flows.0 goes).1 kind).1))
+    (continued_meets x xs flows tight) (λ far. numbered.1 (sym numbered.0 ∙ far)) (λ many. omega (arith, many, counted.few, counted.least)))
+    (all_clear (free_before ++ physical x (continued xs) ∷ []) (before ++ x ∷ []) (n + 1) xs flows.2 tight.1 numbered.2 short.1 next.0
+    (count_step free_before before x xs tight.0 next.1 counted))
 
 pub no_breach : (text : List ℕ) → NoBreach (IsFixedBreach text) → NoBreach (IsLineBreach (free_text text))
 no_breach text fine number reason b =
-    let lines = numbered_lines text in
-    all_clear [] [] [] lines (all_fine text fine) (all_sound text fine) (tight_lines 1 (physical_lines text) [] (all_fine text fine))
-    (within_from lines [] lines refl fine)
+    let lines = closed_lines (numbered_lines text) in
+    let short : AreShort lines = closed_short (numbered_lines text) (short_lines (numbered_lines text) fine) in
+    all_clear [] [] 1 lines (they_flow text fine) (are_tight text fine) (are_numbered text fine) short (omega (arith, first_short lines short))
     (record { few = omega arith; least = omega arith; start = λ e. refl }) b.before b.line b.after reason (sym (free_numbered text fine) ∙ b.whole) b.why
 
 -- where there is no breach, nothing is refused for one

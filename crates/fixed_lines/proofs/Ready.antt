@@ -69,14 +69,14 @@ splits_good ps good ys =
 suffix_len_push : (xs : List ℕ) (x : ℕ) → suffix_len is_blank (xs ++ x ∷ []) ≡ cond (is_blank x) (1 + suffix_len is_blank xs) 0
 suffix_len_push xs x = ap (prefix_len is_blank) (reverse-append xs (x ∷ []))
 
-pub behind_other : (xs : List ℕ) (x : ℕ) → is_blank x ≡ false → without_blanks_after (xs ++ x ∷ []) ≡ xs ++ x ∷ []
-behind_other xs x e =
+pub after_other : (xs : List ℕ) (x : ℕ) → is_blank x ≡ false → without_blanks_after (xs ++ x ∷ []) ≡ xs ++ x ∷ []
+after_other xs x e =
     let none : suffix_len is_blank (xs ++ x ∷ []) ≡ 0 = suffix_len_push xs x ∙ rw e refl in
     let all : length (xs ++ x ∷ []) - suffix_len is_blank (xs ++ x ∷ []) ≡ length (xs ++ x ∷ []) = omega (arith, none) in
     ap (λ n. take n (xs ++ x ∷ [])) all ∙ take-length (xs ++ x ∷ [])
 
-behind_blank : (xs : List ℕ) (x : ℕ) → is_blank x ≡ true → without_blanks_after (xs ++ x ∷ []) ≡ without_blanks_after xs
-behind_blank xs x e =
+after_blank : (xs : List ℕ) (x : ℕ) → is_blank x ≡ true → without_blanks_after (xs ++ x ∷ []) ≡ without_blanks_after xs
+after_blank xs x e =
     let more : suffix_len is_blank (xs ++ x ∷ []) ≡ 1 + suffix_len is_blank xs = suffix_len_push xs x ∙ rw e refl in
     let left : length (xs ++ x ∷ []) - suffix_len is_blank (xs ++ x ∷ []) ≡ length xs - suffix_len is_blank xs =
     omega (arith, more, length-append xs (x ∷ [])) in
@@ -102,7 +102,7 @@ abbrev pub rest_of : List ℕ → List ℕ
 rest_of body = if starts_with nat_eq (without_blanks body) (38 ∷ []) then drop 1 (without_blanks body) else body
 
 pub continued_last : (xs : List ℕ) (x : ℕ) → is_blank x ≡ false → continued_code (xs ++ x ∷ []) ≡ (38 == x)
-continued_last xs x e = ap (λ l. ends_with nat_eq l (38 ∷ [])) (behind_other xs x e) ∙ ends_last xs x 38
+continued_last xs x e = ap (λ l. ends_with nat_eq l (38 ∷ [])) (after_other xs x e) ∙ ends_last xs x 38
 
 continued_reverse : (r : List ℕ) → continued_code (reverse r) ≡ leads r
 continued_reverse [] = refl
@@ -112,9 +112,9 @@ continued_reverse (b ∷ r) = step (is_blank b) refl (continued_reverse r)
     turned = reverse-append (b ∷ []) r
 
     step : (t : Bool) → is_blank b ≡ t → continued_code (reverse r) ≡ leads r → continued_code (reverse (b ∷ r)) ≡ leads (b ∷ r)
-    step true t behind =
-        ap continued_code turned ∙ ap (λ l. ends_with nat_eq l (38 ∷ [])) (behind_blank (reverse r) b t) ∙ behind ∙ sym (leads_blank b r t)
-    step false t behind = ap continued_code turned ∙ continued_last (reverse r) b t ∙ sym (leads_other b r t)
+    step true t after =
+        ap continued_code turned ∙ ap (λ l. ends_with nat_eq l (38 ∷ [])) (after_blank (reverse r) b t) ∙ after ∙ sym (leads_blank b r t)
+    step false t after = ap continued_code turned ∙ continued_last (reverse r) b t ∙ sym (leads_other b r t)
 
 pub continued_good : (ps : List (List ℕ)) → AreGood ps → continued_code (concat ps) ≡ false
 continued_good ps good =
@@ -123,7 +123,7 @@ continued_good ps good =
 pub body_ampersand : (xs : List ℕ) → body_of (xs ++ 38 ∷ []) ≡ xs
 body_ampersand xs =
     let whole = xs ++ 38 ∷ [] in
-    let long : length (without_blanks_after whole) - 1 ≡ length xs = omega (arith, ap length (behind_other xs 38 refl), length-append xs (38 ∷ [])) in
+    let long : length (without_blanks_after whole) - 1 ≡ length xs = omega (arith, ap length (after_other xs 38 refl), length-append xs (38 ∷ [])) in
     ap (λ t. if t then take (length (without_blanks_after whole) - 1) whole else whole) (continued_last xs 38 refl)
     ∙ ap (λ n. take n whole) long ∙ take-append_seam xs (38 ∷ [])
 
@@ -212,46 +212,28 @@ statement_ready number false bad ps continued good =
       like = ap (physical_kind logical.Statement) e ∙ statement_like false (concat ps) continued;
     }
 
-pub directive_code : (continues : Bool) (ps : List (List ℕ)) (continued : Bool) → AreGood ps
-    → code_of (free_directive continues (concat ps) continued) ≡ free_directive continues (concat ps) continued
-directive_code true ps true good = code-both 38 ps 38 plain_ampersand good plain_ampersand
-directive_code false ps true good = code-end ps 38 good plain_ampersand
-directive_code true ps false good = code-alone ps good
-directive_code false ps false good = code-alone ps good
+pub directive_code : (ps : List (List ℕ)) (continued : Bool) → AreGood ps → code_of (free_directive (concat ps) continued) ≡ free_directive (concat ps) continued
+directive_code ps true good = code-end ps 38 good plain_ampersand
+directive_code ps false good = code-alone ps good
 
-directive_continued : (continues : Bool) (ps : List (List ℕ)) (continued : Bool) → AreGood ps → continued_code (free_directive continues (concat ps) continued) ≡ continued
-directive_continued true ps true good = continued_last (38 ∷ concat ps) 38 refl
-directive_continued false ps true good = continued_last (concat ps) 38 refl
-directive_continued true ps false good = continued_good ps good
-directive_continued false ps false good = continued_good ps good
+directive_continued : (ps : List (List ℕ)) (continued : Bool) → AreGood ps → continued_code (free_directive (concat ps) continued) ≡ continued
+directive_continued ps true good = continued_last (concat ps) 38 refl
+directive_continued ps false good = continued_good ps good
 
-directive_first : (ps : List (List ℕ)) (continued : Bool) → AreGood ps → body_of (free_directive false (concat ps) continued) ≡ concat ps ++ []
-directive_first ps true good = body_ampersand (concat ps) ∙ sym (append-nil (concat ps))
-directive_first ps false good = body_good ps good ∙ sym (append-nil (concat ps))
-
-directive_next : (ps : List (List ℕ)) (continued : Bool) → AreGood ps → rest_of (body_of (free_directive true (concat ps) continued)) ≡ concat ps ++ []
-directive_next ps true good = ap rest_of (body_ampersand (38 ∷ concat ps)) ∙ sym (append-nil (concat ps))
-directive_next ps false good = ap rest_of (body_good ps good) ∙ rest_good ps good ∙ sym (append-nil (concat ps))
+directive_body : (ps : List (List ℕ)) (continued : Bool) → AreGood ps → body_of (free_directive (concat ps) continued) ≡ concat ps
+directive_body ps true good = body_ampersand (concat ps)
+directive_body ps false good = body_good ps good
 
 -- a line of a directive in free form
 directive_ready : (number : ℕ) (continues bad : Bool) (ps : List (List ℕ)) (continued : Bool) → AreGood ps
     → IsReady (record { number = number; kind = Directive; continues = continues; code = concat ps; bad = bad }) continued
-directive_ready number true bad ps continued good =
-    let e = directive_code true ps continued good in record {
+directive_ready number continues bad ps continued good =
+    let e = directive_code ps continued good in
+    let given = ap body_of e ∙ directive_body ps continued good in record {
       kept = λ n bytes. refl;
-      goes = ap continued_code e ∙ directive_continued true ps continued good;
-      first = λ no. absurd (false≢true (sym no));
-      next = λ yes. ap (λ l. rest_of (body_of l)) e ∙ directive_next ps continued good;
-      splits = splits_good ps good;
-      stands = refl;
-      like = refl;
-    }
-directive_ready number false bad ps continued good =
-    let e = directive_code false ps continued good in record {
-      kept = λ n bytes. refl;
-      goes = ap continued_code e ∙ directive_continued false ps continued good;
-      first = λ no. ap body_of e ∙ directive_first ps continued good;
-      next = λ yes. absurd (false≢true yes);
+      goes = ap continued_code e ∙ directive_continued ps continued good;
+      first = λ starts. given ∙ sym (append-nil (concat ps));
+      next = λ goes. ap rest_of given ∙ rest_good ps good ∙ sym (append-nil (concat ps));
       splits = splits_good ps good;
       stands = refl;
       like = refl;

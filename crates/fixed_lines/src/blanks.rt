@@ -1,8 +1,8 @@
-//! Blanks at the ends of bytes.
+//! Blanks.
 
-ghost use Rattle.std.specs.Prelude.{◌≡◌, ◌-◌, ◌≤◌, length};
-ghost use Rattle.std.specs.List.{list_all, prefix_len, suffix_len};
-ghost use Rattle.source_lines.specs.PhysicalLines.{is_blank, without_blanks, without_blanks_after};
+ghost use Rattle.std.specs.Prelude.{◌≡◌, ◌≤◌, length};
+ghost use Rattle.std.specs.List.{list_all, prefix_len};
+ghost use Rattle.source_lines.specs.PhysicalLines.{is_blank, without_blanks};
 
 /// A blank, or a tab, which counts as one.
 pub(crate) fn is_blank(byte: u8) -> bool
@@ -31,28 +31,9 @@ fn blanks_before(bytes: &[u8]) -> usize
     bytes.len()
 }
 
-/// How many bytes are left without the blanks at the end.
-fn end_of(bytes: &[u8]) -> usize
-    ensures within { result ≤ length bytes.now }
-    ensures end { result ≡ length bytes.now - suffix_len is_blank bytes.now }
-{
-    let mut end = bytes.len();
-    while end > 0 && is_blank(bytes[end - 1]) {
-        end -= 1;
-    }
-    end
-}
-
 /// The bytes without the blanks in front.
 pub(crate) fn without_blanks(bytes: &[u8]) -> &[u8]
     ensures { result.now ≡ without_blanks bytes.now }
 {
     &bytes[blanks_before(bytes)..]
-}
-
-/// The bytes without the blanks at the end.
-pub(crate) fn without_blanks_after(bytes: &[u8]) -> &[u8]
-    ensures { result.now ≡ without_blanks_after bytes.now }
-{
-    &bytes[..end_of(bytes)]
 }

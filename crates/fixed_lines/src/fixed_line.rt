@@ -4,7 +4,7 @@ ghost use Rattle.std.specs.Prelude.{◌≡◌, ◌==◌, ◌<◌, ◌≤◌, ◌
 ghost use Rattle.std.specs.List.{list_any};
 ghost use Rattle.source_lines.specs.PhysicalLines.{is_control, physical_lines};
 ghost use Rattle.fixed_lines.specs.FixedBreaches.{standing};
-ghost use Rattle.fixed_lines.specs.FreeText.{first_continues};
+ghost use Rattle.fixed_lines.specs.FreeText.{blank_left, first_continues, with_code};
 ghost use Rattle.fixed_lines.specs.FixedLines as spec;
 ghost use Rattle.fixed_lines.specs.FixedLines.{begins_comment, columns, fixed_kind, fixed_line, has_comment_letter, has_mark, is_bad_margin, is_continuation, is_passed_over, numbered_lines, standing_line};
 
@@ -68,6 +68,7 @@ fn is_passed_over(line: &[u8]) -> bool
     all_blank(read) || has_comment_letter(read) || begins_comment(read)
 }
 
+/// What the line holds.
 fn fixed_kind(line: &[u8]) -> FixedKind
     ensures { result ≡ fixed_kind line.now }
 {
@@ -162,6 +163,36 @@ impl<'a> FixedLine<'a> {
     {
         self.code
     }
+
+    /// The line with something else on it.
+    pub(crate) fn with_code<'b>(&self, code: &'b [u8]) -> FixedLine<'b>
+        ensures { result ≡ with_code code.now self.now }
+    {
+        FixedLine {
+            number: self.number,
+            kind: self.kind,
+            continues: self.continues,
+            code,
+            bad: self.bad,
+        }
+    }
+
+    /// What is left of a directive line with nothing on it.
+    pub(crate) fn left_blank(&self) -> FixedLine<'a>
+        ensures { result ≡ blank_left self.now.continues self.now }
+    {
+        if self.continues {
+            FixedLine {
+                number: self.number,
+                kind: FixedKind::Passed,
+                continues: false,
+                code: &self.code[..0],
+                bad: self.bad,
+            }
+        } else {
+            self.with_code(self.code)
+        }
+    }
 }
 
 /// A line that isn't passed over.
@@ -195,7 +226,7 @@ fn fixed_line(number: usize, bytes: &[u8]) -> FixedLine<'_>
     }
 }
 
-/// The first line of a text, without a carriage return at its end, and the text of the lines behind it.
+/// The first line of a text, without a carriage return at its end, and the text of the lines after it.
 fn next_line(text: &[u8]) -> Option<(&[u8], &[u8])>
     ensures lines { MatchOption result (physical_lines text.now ≡ []) (λ x. physical_lines text.now ≡ x.0.now ∷ physical_lines x.1.now) }
     ensures shorter { MatchOption result ⊤ (λ x. length x.1.now < length text.now) }
@@ -210,9 +241,9 @@ pub(crate) fn numbered_lines(alloc: Global, text: &[u8]) -> Result<Vec<FixedLine
 {
     let mut lines = Vec::new(alloc);
     let mut rest = text;
-    while let Some((line, behind)) = next_line(rest) {
+    while let Some((line, after)) = next_line(rest) {
         lines.push(fixed_line(lines.len() + 1, line))?;
-        rest = behind;
+        rest = after;
     }
     Ok(lines)
 }

@@ -23,7 +23,7 @@ fn closing(delimiter: u8, bytes: &[u8]) -> Option<usize>
 }
 
 /// How many bytes the part at the front takes.
-pub(crate) fn first_part(bytes: &[u8]) -> usize
+fn first_part(bytes: &[u8]) -> usize
     ensures { result ≡ first_part bytes.now }
 {
     let Some((first, rest)) = bytes.split_first() else {
@@ -55,7 +55,7 @@ fn has_control(bytes: &[u8]) -> bool
     bytes.iter().any(|b| is_control(*b))
 }
 
-/// A text constant, behind its first delimiter, that isn't closed or holds a control byte.
+/// A text constant, after its first delimiter, that isn't closed or holds a control byte.
 fn is_bad_text(delimiter: u8, bytes: &[u8]) -> bool
     ensures { result ≡ is_bad_text delimiter bytes.now }
 {
@@ -104,7 +104,7 @@ fn is_bad_part_of(kind: FixedKind, part: &[u8]) -> bool
     }
 }
 
-/// The part at the front and what is behind it, if it isn't a comment.
+/// The part at the front and what is after it, if it isn't a comment.
 fn next_part(bytes: &[u8]) -> Option<(&[u8], &[u8])>
     ensures whole { MatchOption result (parts bytes.now ≡ []) (λ x. parts bytes.now ≡ x.0.now ∷ parts x.1.now) }
     ensures shorter { MatchOption result ⊤ (λ x. (bytes.now ≡ x.0.now ++ x.1.now) × (length x.1.now < length bytes.now)) }
@@ -125,9 +125,9 @@ pub(crate) fn code_of(kind: FixedKind, bytes: &[u8]) -> (&[u8], bool)
 {
     let mut rest = bytes;
     let mut bad = false;
-    while let Some((part, behind)) = next_part(rest) {
+    while let Some((part, after)) = next_part(rest) {
         bad |= is_bad_part_of(kind, part);
-        rest = behind;
+        rest = after;
     }
     (&bytes[..bytes.len() - rest.len()], bad)
 }
