@@ -1,17 +1,16 @@
 -- Lines with each directive closed up, line by line from the last.
-use Rattle.std.proofs.Common.{◌≡◌, ℕ, zero, suc, ◌+◌, ◌-◌, ◌<◌, ◌≤◌, Bool, true, false, cond, List, [], ◌∷◌, ◌++◌, length, take, drop, get_or, map, one-add, refl, sym, ap, subst, ◌∙◌, append_assoc, arith}
-use Rattle.std.specs.Prelude.{◌&&◌, not, filter}
+use Rattle.std.proofs.Common.{◌≡◌, ℕ, zero, suc, ◌+◌, ◌<◌, ◌≤◌, Bool, true, false, cond, List, [], ◌∷◌, ◌++◌, length, take, drop, get_or, one-add, refl, sym, ap, ◌∙◌, append_assoc, arith}
+use Rattle.std.specs.Prelude.{◌&&◌, not}
 use Rattle.std.specs.List.{flat_map, list_all, prefix_len}
 use Rattle.std.proofs.lemmas.Bool.{false≢true}
 use Rattle.std.proofs.lemmas.List.{drop_more, length-drop, take-append-drop}
-use Rattle.source_lines.specs.Cut.{cut}
 use Rattle.source_lines.specs.PhysicalLines.{is_blank}
 use Rattle.source_lines.proofs.Cuts.{cut-first, cut-head}
 use Rattle.fixed_lines.specs.declared.kind.FixedKind.{FixedKind}
 use Rattle.fixed_lines.specs.declared.kind.FixedKind.TheVariants.{Passed, Statement, Directive}
 use Rattle.fixed_lines.specs.FixedLines.{FixedLine}
-use Rattle.fixed_lines.specs.FixedBreaches.{is_directive, is_passed, standing}
-use Rattle.fixed_lines.specs.FixedLogicalLines.{code, is_blank_directive}
+use Rattle.fixed_lines.specs.FixedBreaches.{is_directive, standing}
+use Rattle.fixed_lines.specs.FixedLogicalLines.{is_blank_directive}
 use Rattle.fixed_lines.specs.FreeText.{blank_left, closed_directive, closed_up, contents, continues_directive, directive_len, first_continues, with_code, with_codes}
 
 -- a blank directive line before closed lines: what stands on those that continue its directive moves up by a line

@@ -1,6 +1,6 @@
 -- The free line of a line that isn't bad isn't bad.
-use Rattle.std.proofs.Common.{◌≡◌, ℕ, zero, suc, ◌+◌, ◌-◌, ◌<◌, ◌≤◌, Bool, true, false, cond, List, [], ◌∷◌, ◌++◌, length, take, drop, map, one-add, refl, sym, ap, subst, ◌∙◌, append_assoc, arith, min}
-use Rattle.std.specs.Prelude.{◌==◌, ◌||◌, ◌&&◌, not, filter, if◌then◌else◌, nat_eq, nat_lt, bytes_eq, codes}
+use Rattle.std.proofs.Common.{◌≡◌, ℕ, ◌+◌, ◌≤◌, Bool, true, false, cond, List, [], ◌∷◌, ◌++◌, length, take, drop, one-add, refl, sym, ap, ◌∙◌, arith}
+use Rattle.std.specs.Prelude.{◌||◌, ◌&&◌, not, filter, nat_eq, nat_lt, bytes_eq, codes}
 use Rattle.std.specs.List.{concat, ends_with, list_all, list_any, prefix_len}
 use Rattle.std.specs.Cmp.Lexicographic.{same_text}
 use Rattle.std.proofs.lemmas.Bool.{false≢true, false_from_ne_true, ltb-true}
@@ -14,11 +14,11 @@ use Rattle.source_lines.specs.PhysicalLines.{first_part, code_of, is_bad, is_bad
 use Rattle.source_lines.proofs.Cuts.{concat-cut}
 use Rattle.fixed_lines.specs.declared.kind.FixedKind.{FixedKind}
 use Rattle.fixed_lines.specs.declared.kind.FixedKind.TheVariants.{Passed, Statement, Directive}
-use Rattle.fixed_lines.specs.FixedLines.{FixedLine, columns, content, fixed_line_of, is_ampersand, is_bad_margin, is_bad_part_of}
+use Rattle.fixed_lines.specs.FixedLines.{FixedLine, content, fixed_line_of, is_ampersand, is_bad_margin, is_bad_part_of}
 use Rattle.fixed_lines.specs.FixedBreaches.{is_passed}
 use Rattle.fixed_lines.specs.FreeText.{free_directive, free_line, free_statement}
-use Rattle.fixed_lines.proofs.GoodParts.{AreGood, either-false, good_parts, is_bad_here}
-use Rattle.fixed_lines.proofs.Ready.{after_other, code-alone, code-both, code-end, continued_good, continued_code, ends_last, parts-alone, parts-both, parts-end, plain_ampersand, plain_semicolon, statement_code, directive_code}
+use Rattle.fixed_lines.proofs.GoodParts.{AreGood, either-false, good_parts}
+use Rattle.fixed_lines.proofs.Ready.{after_other, code-alone, code-both, code-end, continued_good, ends_last, parts-alone, parts-both, parts-end, plain_ampersand, plain_semicolon}
 use Rattle.fixed_lines.proofs.Groups.{physical}
 
 -- what the rules leave of what stands on a line of this kind

@@ -1,20 +1,18 @@
 -- The parts of bytes that aren't bad, and what stands in such bytes.
-use Rattle.std.proofs.Common.{◌≡◌, ℕ, zero, suc, ◌+◌, ◌-◌, ◌≤◌, Bool, true, false, cond, List, [], ◌∷◌, ◌++◌, length, take, drop, one-add, refl, sym, ap, subst, ◌∙◌, append_assoc, arith, min, reverse, ◌⊎◌, inl, inr}
-use Rattle.std.specs.Prelude.{◌==◌, ◌||◌, ◌&&◌, not, filter, if◌then◌else◌, nat_eq, nat_le, bytes_eq, IsFalse}
+use Rattle.std.proofs.Common.{◌≡◌, ℕ, zero, suc, ◌+◌, ◌-◌, ◌≤◌, Bool, true, false, List, [], ◌∷◌, ◌++◌, length, take, drop, one-add, refl, sym, ap, subst, ◌∙◌, append_assoc, arith, reverse}
+use Rattle.std.specs.Prelude.{◌==◌, ◌||◌, ◌&&◌, not, filter, nat_eq, nat_le}
 use Rattle.std.specs.Cmp.Lexicographic.{pointwise}
 use Rattle.std.specs.List.{concat, ends_with, starts_with, prefix_len, list_any}
 use Rattle.std.proofs.Math.Seq.{take-append_seam, drop-append_seam, take-length}
 use Rattle.std.proofs.lemmas.Bool.{eqb-true, eq-eqb, false≢true, false_from_ne_true}
 use Rattle.std.proofs.lemmas.List.Folds.{list_any-append}
-use Rattle.std.proofs.lemmas.List.{length-append, length-drop, reverse-append, append-nil}
+use Rattle.std.proofs.lemmas.List.{length-append, length-drop, reverse-append}
 use Rattle.source_lines.specs.declared.line.LineKind.{LineKind}
 use Rattle.source_lines.specs.Cut.{cut}
-use Rattle.source_lines.specs.PhysicalLines.{first_part, is_delimiter, is_comment, is_blank, is_bad_text, is_bad_part, is_barred, is_control, parts, code_of, without_blanks}
+use Rattle.source_lines.specs.PhysicalLines.{first_part, is_delimiter, is_comment, is_blank, is_bad_text, is_bad_part, is_barred, is_control, parts, without_blanks}
 use Rattle.source_lines.proofs.Cuts.{cut-first}
 use Rattle.source_lines.proofs.PartLaws.{parts-comment, parts-part, first_part-some}
-use Rattle.fixed_lines.specs.declared.kind.FixedKind.{FixedKind}
-use Rattle.fixed_lines.specs.declared.kind.FixedKind.TheVariants.{Passed, Statement, Directive}
-use Rattle.fixed_lines.specs.FixedLines.{is_bad_part_of, is_ampersand}
+use Rattle.fixed_lines.specs.FixedLines.{is_ampersand}
 
 -- the first byte, blanks aside, is `&`
 abbrev pub leads : List ℕ → Bool

@@ -1,7 +1,7 @@
 -- The logical lines of the free lines are those of the fixed ones.
-use Rattle.std.proofs.Common.{◌≡◌, ℕ, zero, suc, ◌+◌, ◌-◌, ◌≤◌, Bool, true, false, cond, List, [], ◌∷◌, ◌++◌, length, take, drop, map, one-add, refl, sym, ap, subst, ◌∙◌, append_assoc, arith}
-use Rattle.std.specs.Prelude.{◌==◌, ◌||◌, ◌&&◌, not, filter, if◌then◌else◌, bytes_eq, codes}
-use Rattle.std.specs.List.{concat, flat_map, join_with_byte, list_all, prefix_len}
+use Rattle.std.proofs.Common.{◌≡◌, ℕ, zero, suc, ◌+◌, ◌-◌, Bool, true, false, cond, List, [], ◌∷◌, ◌++◌, take, drop, map, one-add, refl, sym, ap, ◌∙◌, append_assoc, arith}
+use Rattle.std.specs.Prelude.{not, bytes_eq, codes}
+use Rattle.std.specs.List.{flat_map, join_with_byte, list_all, prefix_len}
 use Rattle.std.proofs.lemmas.List.{append-nil}
 use Rattle.std.proofs.lemmas.List.Elements.{filter-append}
 use Rattle.source_lines.specs.declared.line.LineKind.TheVariants as logical

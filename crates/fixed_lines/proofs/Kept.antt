@@ -1,6 +1,6 @@
 -- What of fixed lines without a breach holds when they are closed up.
-use Rattle.std.proofs.Common.{◌≡◌, ℕ, zero, suc, ◌+◌, ◌-◌, ◌<◌, ◌≤◌, Bool, true, false, cond, List, [], ◌∷◌, ◌++◌, length, take, drop, map, reverse, one-add, refl, sym, ap, subst, ◌∙◌, append_assoc, arith, inl, inr, add_comm}
-use Rattle.std.specs.Prelude.{◌&&◌, not, filter}
+use Rattle.std.proofs.Common.{◌≡◌, ℕ, ◌+◌, Bool, true, false, cond, List, [], ◌∷◌, ◌++◌, map, refl, sym, ap, subst, ◌∙◌, append_assoc, inl}
+use Rattle.std.specs.Prelude.{not}
 use Rattle.std.specs.List.{enumerate_from}
 use Rattle.std.proofs.lemmas.Bool.{false≢true}
 use Rattle.hpf_base.specs.Refusal.{NoBreach}
@@ -8,15 +8,15 @@ use Rattle.hpf_base.specs.declared.limits.TheConstants.{MAX_LINES}
 use Rattle.hpf_base.specs.declared.refusal.Reason.TheVariants.{Limit}
 use Rattle.fixed_lines.specs.declared.kind.FixedKind.{FixedKind}
 use Rattle.fixed_lines.specs.declared.kind.FixedKind.TheVariants.{Passed, Statement, Directive}
-use Rattle.fixed_lines.specs.FixedLines.{FixedLine, fixed_line, fixed_line_of, fixed_kind, numbered_lines}
+use Rattle.fixed_lines.specs.FixedLines.{FixedLine, fixed_line, fixed_line_of, fixed_kind}
 use Rattle.fixed_lines.specs.FixedBreaches.{is_directive, is_passed, meets, standing, IsBreachIn}
 use Rattle.fixed_lines.specs.FixedLogicalLines.{is_blank_directive}
-use Rattle.fixed_lines.specs.FreeText.{blank_left, continues_directive, with_code}
+use Rattle.fixed_lines.specs.FreeText.{blank_left, continues_directive}
 use Rattle.fixed_lines.proofs.ClosedLines.{begins, blank_kind, both-true, closed_blank, closed_lines, closed_other, continued, is_kind, raised, raised_end, raised_next}
 use Rattle.fixed_lines.proofs.Flows.{AreFine, Flows, continued_here, continued_passed, follows}
 use Rattle.fixed_lines.proofs.Fine.{IsTight, tight_line}
 use Rattle.fixed_lines.proofs.Ready.{IsSound, ready}
-use Rattle.fixed_lines.proofs.Groups.{Chain, IsReady}
+use Rattle.fixed_lines.proofs.Groups.{Chain}
 
 pub number_kept : (number : ℕ) (kind : FixedKind) (line : List ℕ) → (fixed_line_of number kind line).number ≡ number
 number_kept number Passed line = refl

@@ -1,6 +1,6 @@
 -- The free lines of fixed lines without a breach have none.
-use Rattle.std.proofs.Common.{◌≡◌, ℕ, zero, suc, ◌+◌, ◌-◌, ◌<◌, ◌≤◌, Bool, true, false, cond, List, [], ◌∷◌, ◌++◌, length, take, drop, map, reverse, refl, sym, ap, subst, ◌∙◌, append_assoc, arith, inl, inr}
-use Rattle.std.specs.Prelude.{◌==◌, ◌||◌, ◌&&◌, not, filter}
+use Rattle.std.proofs.Common.{◌≡◌, ℕ, ◌+◌, ◌≤◌, Bool, true, false, cond, List, [], ◌∷◌, ◌++◌, refl, sym, ap, subst, ◌∙◌, append_assoc, arith, inl, inr}
+use Rattle.std.specs.Prelude.{not}
 use Rattle.std.specs.List.{prefix_len, suffix_len}
 use Rattle.std.proofs.lemmas.Bool.{false≢true}
 use Rattle.std.proofs.lemmas.List.{append-nil, reverse-append}
@@ -28,7 +28,7 @@ use Rattle.fixed_lines.proofs.Ready.{ready}
 use Rattle.fixed_lines.proofs.Fine.{IsTight, free_fine}
 use Rattle.fixed_lines.proofs.Groups.{physical, sample}
 use Rattle.fixed_lines.proofs.Kept.{AreNumbered, AreTight, sound}
-use Rattle.fixed_lines.proofs.Whole.{all_freed, are_numbered, are_tight, free_numbered, none_first, passed_alike, they_flow}
+use Rattle.fixed_lines.proofs.Whole.{all_freed, are_numbered, are_tight, free_numbered, passed_alike, they_flow}
 
 passed_is : (k : FixedKind) → is_passed k ≡ true → k ≡ Passed
 passed_is Passed e = refl

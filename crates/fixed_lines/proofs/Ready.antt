@@ -1,26 +1,25 @@
 -- What the free line of a sound line is.
-use Rattle.std.proofs.Common.{◌≡◌, ℕ, zero, suc, ◌+◌, ◌-◌, ◌≤◌, Bool, true, false, cond, List, [], ◌∷◌, ◌++◌, length, take, drop, map, reverse, one-add, refl, sym, ap, subst, ◌∙◌, append_assoc, arith}
-use Rattle.std.specs.Prelude.{◌==◌, ◌||◌, ◌&&◌, not, filter, if◌then◌else◌, bytes_eq, nat_eq}
-use Rattle.std.specs.List.{concat, ends_with, starts_with, list_all, list_any, prefix_len, suffix_len}
+use Rattle.std.proofs.Common.{◌≡◌, ℕ, ◌+◌, ◌-◌, Bool, true, false, cond, List, [], ◌∷◌, ◌++◌, length, take, drop, reverse, refl, sym, ap, subst, ◌∙◌, arith}
+use Rattle.std.specs.Prelude.{◌==◌, ◌&&◌, not, filter, if◌then◌else◌, nat_eq}
+use Rattle.std.specs.List.{concat, ends_with, starts_with, prefix_len, suffix_len}
 use Rattle.std.specs.Cmp.Lexicographic.{pointwise}
 use Rattle.std.proofs.Math.Seq.{take-append_seam, drop-append_seam, take-length}
 use Rattle.std.proofs.lemmas.Bool.{false≢true}
 use Rattle.std.proofs.lemmas.List.{append-nil, length-append, reverse-append, reverse-reverse, take-append-le}
-use Rattle.std.proofs.lemmas.List.Sums.{suffix_len-le-length}
 use Rattle.std.proofs.lemmas.List.Elements.{filter-append}
 use Rattle.std.proofs.lemmas.List.Folds.{concat-append}
 use Rattle.source_lines.specs.declared.line.LineKind.TheVariants as logical
 use Rattle.source_lines.specs.Cut.{cut}
-use Rattle.source_lines.specs.PhysicalLines.{first_part, is_blank, is_comment, is_control, parts, code_of, physical_kind, without_blanks, without_blanks_after}
+use Rattle.source_lines.specs.PhysicalLines.{first_part, is_blank, is_comment, parts, code_of, physical_kind, without_blanks, without_blanks_after}
 use Rattle.source_lines.specs.LogicalLines as free_logical
 use Rattle.source_lines.specs.Breaches as free_breaches
 use Rattle.source_lines.proofs.Cuts.{cut-head}
 use Rattle.fixed_lines.specs.declared.kind.FixedKind.{FixedKind}
 use Rattle.fixed_lines.specs.declared.kind.FixedKind.TheVariants.{Passed, Statement, Directive}
 use Rattle.fixed_lines.specs.FixedLines.{FixedLine}
-use Rattle.fixed_lines.specs.FreeText.{free_statement, free_directive, free_line}
+use Rattle.fixed_lines.specs.FreeText.{free_statement, free_directive}
 use Rattle.fixed_lines.proofs.GoodParts.{AreGood, cut_good, keep_good, leads, leads_blank, leads_other, leads_good, ends_good}
-use Rattle.fixed_lines.proofs.Groups.{IsReady, Splits, physical, opening, closing}
+use Rattle.fixed_lines.proofs.Groups.{IsReady, Splits, closing}
 
 -- a byte that is a part of its own, and no comment
 pub record IsPlain (b : ℕ) : Type 0 where

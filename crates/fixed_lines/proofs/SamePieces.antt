@@ -1,10 +1,9 @@
 -- Closed lines, joined with no line left out, have the logical lines of a text's lines.
-use Rattle.std.proofs.Common.{◌≡◌, ℕ, ◌+◌, Bool, true, false, cond, List, [], ◌∷◌, ◌++◌, take, drop, map, one-add, refl, sym, ap, subst, ◌∙◌}
+use Rattle.std.proofs.Common.{◌≡◌, ◌+◌, Bool, true, false, cond, List, [], ◌∷◌, ◌++◌, take, drop, map, one-add, refl, sym, ap, subst, ◌∙◌}
 use Rattle.std.specs.Prelude.{not, filter}
 use Rattle.std.specs.List.{flat_map, join_with_byte, prefix_len}
 use Rattle.std.proofs.lemmas.Bool.{false≢true, false_from_ne_true}
 use Rattle.source_lines.specs.declared.line.LogicalLine.{LogicalLine}
-use Rattle.source_lines.specs.Cut.{cut}
 use Rattle.source_lines.proofs.Cuts.{cut-head}
 use Rattle.fixed_lines.specs.FixedLines.{FixedLine}
 use Rattle.fixed_lines.specs.declared.kind.FixedKind.TheVariants.{Directive}

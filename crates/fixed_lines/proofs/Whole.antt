@@ -1,8 +1,8 @@
 -- The lines of a text in free form that are made of fixed lines.
-use Rattle.std.proofs.Common.{◌≡◌, ℕ, zero, suc, ◌+◌, ◌-◌, ◌<◌, ◌≤◌, Bool, true, false, cond, List, [], ◌∷◌, ◌++◌, length, take, drop, map, reverse, one-add, refl, sym, ap, subst, ◌∙◌, append_assoc, arith, inl, inr, add_comm}
-use Rattle.std.specs.Prelude.{◌==◌, ◌||◌, ◌&&◌, not, filter, if◌then◌else◌, nat_eq, nat_lt, codes}
-use Rattle.std.specs.List.{enumerate_from, ends_with, flat_map, list_any}
-use Rattle.std.proofs.lemmas.Bool.{false≢true, false_from_ne_true, eqb-true}
+use Rattle.std.proofs.Common.{◌≡◌, ℕ, suc, ◌+◌, ◌-◌, Bool, true, false, cond, List, [], ◌∷◌, ◌++◌, length, take, map, refl, sym, ap, ◌∙◌}
+use Rattle.std.specs.Prelude.{◌==◌, ◌||◌, not, if◌then◌else◌}
+use Rattle.std.specs.List.{enumerate_from, flat_map, list_any}
+use Rattle.std.proofs.lemmas.Bool.{false≢true, eqb-true}
 use Rattle.std.proofs.lemmas.List.{length-map}
 use Rattle.std.proofs.lemmas.List.FromFn.{length-enumerate_from}
 use Rattle.std.proofs.lemmas.List.Folds.{list_any-append}
@@ -23,7 +23,7 @@ use Rattle.fixed_lines.proofs.ClosedLines.{closed_blank, closed_lines, closed_ot
 use Rattle.fixed_lines.proofs.Flows.{AreFine, Flows, all_fine, closed_flows, closed_starts, none_continues}
 use Rattle.fixed_lines.proofs.Fine.{IsTight}
 use Rattle.fixed_lines.proofs.Ready.{ready}
-use Rattle.fixed_lines.proofs.Groups.{Chain, IsReady, freed, groups_same, physical}
+use Rattle.fixed_lines.proofs.Groups.{Chain, freed, groups_same, physical}
 use Rattle.fixed_lines.proofs.Kept.{AreNumbered, AreTight, chain_of, closed_numbered, closed_tight, numbered_from, sound, tight_lines}
 use Rattle.fixed_lines.proofs.SamePieces.{closed_joined}
 

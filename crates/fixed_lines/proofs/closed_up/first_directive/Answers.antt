@@ -1,4 +1,4 @@
-use Rattle.std.proofs.Common.{◌≡◌, ◌++◌, ap, sym, subst, ◌∙◌, arith, length, take, drop}
+use Rattle.std.proofs.Common.{◌++◌, ap, sym, ◌∙◌, length, drop}
 use Rattle.std.proofs.lemmas.List.{length-take-le}
 use Rattle.fixed_lines.specs.FreeText.{closed_directive, closed_up}
 use Rattle.fixed_lines.proofs.ClosedLines.{first_closed}

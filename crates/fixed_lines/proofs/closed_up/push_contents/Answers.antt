@@ -1,4 +1,4 @@
-use Rattle.std.proofs.Common.{◌≡◌, ◌+◌, ◌++◌, ap, sym, ◌∙◌, arith, drop}
+use Rattle.std.proofs.Common.{◌+◌, ◌++◌, ap, sym, ◌∙◌, arith, drop}
 use Rattle.fixed_lines.specs.FreeText.{contents, with_codes}
 use Rattle.fixed_lines.proofs.ClosedLines.{rest_at}
 use Rattle.fixed_lines.proofs.closed_up.push_contents.Goals as goal
