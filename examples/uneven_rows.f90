@@ -1,5 +1,5 @@
-! The sums of the rows of a triangle. Later rows are longer, so the blocks of rows get smaller: each of four nodes has 30 to 39 of the
-! 136 elements, where blocks of four rows would give one node 10 of them and another 58.
+! The sums of the rows of a triangle. Later rows are longer, so the blocks of rows get smaller: each of four nodes has 30 to 39
+! of the 136 elements, where blocks of four rows would give one node 10 of them and another 58.
 PROGRAM UNEVEN_ROWS
 INTEGER, PARAMETER :: N = 16
 INTEGER :: L(N,N), S(N), I, J

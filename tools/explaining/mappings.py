@@ -6,8 +6,8 @@ from explaining.text import closing, entities, formats, is_name, objects, outsid
 from explaining.common import count, listed, nearest, nodes_in
 
 ONE_ATTRIBUTE = "a directive gives one attribute: write a directive for each"
-FORMATS = ("*", "BLOCK", "CYCLIC")
-THE_FORMATS = "the formats are *, BLOCK and CYCLIC, each with a number where it is needed"
+FORMATS = ("*", "BLOCK", "CYCLIC", "GEN_BLOCK")
+THE_FORMATS = "the formats are *, BLOCK and CYCLIC, each with a number where it is needed, and GEN_BLOCK with a size for each processor"
 
 
 def mapped_before(source, name, line):
@@ -39,8 +39,8 @@ def wrong_word(statement):
     elif first in ("DISTRIBUTE", "REDISTRIBUTE"):
         for item in formats(statement) or []:
             if item and item[0] not in FORMATS:
-                meant = nearest(item[0], ["BLOCK", "CYCLIC"])
-                yield f"{item[0]} is no format: is {meant} meant?" if meant and item[0] != "GEN_BLOCK" else THE_FORMATS
+                meant = nearest(item[0], FORMATS[1:])
+                yield f"{item[0]} is no format: is {meant} meant?" if meant else THE_FORMATS
         for word in tokens[1:]:
             if word in ("TO", "ON", "OVER"):
                 yield f"{word} is ONTO in this directive"
