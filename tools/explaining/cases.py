@@ -5,7 +5,7 @@ import subprocess
 import sys
 import tempfile
 
-from explaining.words import FAULTS, REASONS, RESERVED
+from explaining.words import FAULTS, FIXED_SECTIONS, REASONS, RESERVED
 from explaining.program import Answer, Questions, TOP, own_words
 from explaining.explanations import explained
 
@@ -68,13 +68,13 @@ class TableQuestions(Questions):
         super().__init__(program, words, case.text.encode(), case.slow)
         self.case, self.wrong = case, wrong
 
-    def ask(self, change, declared, grid):
+    def ask(self, change, declared, grid, fixed):
         said = self.case.asks.get(change)
         if said is None:
             self.wrong.append(f"it asks what the table has no answer to: {change}")
             said = "accepted"
         if self.program:
-            answer = super().ask(change, declared, grid)
+            answer = super().ask(change, declared, grid, fixed)
             found = (answer.out + answer.err).decode("ascii", "replace").strip()
             if found != said:
                 self.wrong.append(f"{change}: the program answers: {found}")
@@ -113,7 +113,7 @@ def wrong_pages():
     with open(f"{TOP}/docs/LANGUAGE.md", encoding="utf-8") as file:
         page = file.read()
     headings = set(re.findall(r"^#+ (.*)$", page, re.M))
-    named = {section for row in [*REASONS.values(), *FAULTS.values()] for section in row[-1]}
+    named = {section for sections in [*(row[-1] for row in [*REASONS.values(), *FAULTS.values()]), *FIXED_SECTIONS.values()] for section in sections}
     wrong = [f"docs/LANGUAGE.md has no section {section}" for section in sorted(named - headings)]
     rows = {int(number): name for number, name in re.findall(r"^\| (\d+) (\w+) \|", page, re.M)}
     if rows != {number: name for number, (name, _, _) in REASONS.items()}:
@@ -143,6 +143,8 @@ PASSED_ON = [
     (["map"], b"!" * 2000, 7, b"", b"hpf: source too long\n", b""),
     (["run"], b"END\n", 125, b"", b"hpf: something " + EVERY_BYTE, b""),
     (["check"], b"", 1, b"", b"hpf: line 1: refused 3 BadNest\n", b"  a statement stands"),
+    (["check", "--fixed"], b"10    END\n", 1, b"", b"hpf: line 1: refused 1 BadLine\n", b"    1 > 10    END\n"),
+    (["serial", "--fixed"], EVERY_BYTE, 1, b"", b"hpf: line 1: refused 1 BadLine\n", b"    1 > \\x00"),
 ]
 
 

@@ -1,10 +1,12 @@
 """What is said of an answer of the program."""
 import re
 
-from explaining.words import FAULTS, REASONS
+from explaining.words import FAULTS, FIXED_SECTIONS, REASONS
 from explaining.text import Source
 from explaining.common import nodes_in
+from explaining.program import is_fixed
 from explaining.statements import bad_line, bad_nest, left_out, limit, not_a_statement
+from explaining.fixed import apart, bad_fixed_line, fixed_limit, unread
 from explaining.names import bad_constant, bad_name, bad_rank
 from explaining.mappings import bad_arrangement, bad_directive
 from explaining.bodies import bad_independent, bad_subscript
@@ -16,16 +18,21 @@ class Trouble:
 
     def __init__(self, source, answer, words, questions):
         self.source, self.answer, self.words, self.questions = source, answer, words, questions
-        self.line = answer.line
+        self.line, self.fixed = answer.line, source.fixed
         self.statements = source.at(self.line)
-        self.raw = source.lines[self.line - 1] if self.line <= len(source.lines) else ""
+        line = source.lines[self.line - 1] if self.line <= len(source.lines) else ""
+        self.raw = line[:72] if self.fixed else line
 
     def hints(self):
         if self.answer.fault:
             return FAULT_HINTS[self.answer.fault](self)
-        whole = list(WHOLE_LINE.get(self.answer.reason, lambda trouble: [])(self))
+        found = (unread(self) or apart(self)) if self.fixed and self.answer.reason in (2, 4, 6) else []
+        return found or self.hints_by_reason()
+
+    def hints_by_reason(self):
+        whole = (WHOLE_FIXED_LINE if self.fixed else WHOLE_LINE).get(self.answer.reason, lambda trouble: [])(self)
         if whole:
-            return whole
+            return list(whole)
         for statement in self.statements:
             found = list(BY_STATEMENT.get(self.answer.reason, lambda trouble, statement: [])(self, statement))
             if found:
@@ -34,6 +41,7 @@ class Trouble:
 
 
 WHOLE_LINE = {1: bad_line, 3: bad_nest, 10: limit}
+WHOLE_FIXED_LINE = {1: bad_fixed_line, 3: bad_nest, 10: fixed_limit}
 BY_STATEMENT = {2: not_a_statement, 4: bad_name, 5: bad_rank, 6: bad_directive, 7: bad_subscript, 8: bad_independent, 9: bad_arrangement,
                 11: left_out, 12: bad_constant}
 
@@ -54,6 +62,10 @@ def usage_hints(words):
     grid = next((word.partition("=")[2] or (words + [""])[at + 1] for at, word in enumerate(words) if word.startswith("--grid")), "1")
     if files:
         return [f"the text is standard input: write < {files[0]}"]
+    if "bulk" in words and is_fixed(words):
+        return ["bulk reads no text, so --fixed doesn't go with it"]
+    if any(word.startswith("--fixed=") for word in words):
+        return ["--fixed has no value"]
     if not re.fullmatch(r"\d\d?(x\d\d?){0,6}", grid) or not 1 <= nodes_in(grid) <= 64:
         return ["a grid is 1 to 7 numbers joined by x, as 2x4, with a product of 64 at most"]
     return []
@@ -64,6 +76,7 @@ def explanation(source, trouble, form, name):
     answer = trouble.answer
     if answer.reason:
         kind, meaning, sections = REASONS[answer.reason]
+        sections = FIXED_SECTIONS.get(answer.reason, sections) if source.fixed else sections
         title = f"refused {answer.reason} {kind}"
     else:
         meaning, sections = FAULTS[answer.fault]
@@ -81,7 +94,7 @@ def explanation(source, trouble, form, name):
 def explained(answer, text, words, questions, form, name):
     """The lines that come after the program's, whatever the answer."""
     if answer.line and (answer.reason in REASONS or answer.fault in FAULTS):
-        source = Source(text)
+        source = Source(text, is_fixed(words))
         return explanation(source, Trouble(source, answer, words, questions), form, name)
     if answer.status == 2 and form != "gnu":
         return [f"  hint: {hint}" for hint in usage_hints(words)]

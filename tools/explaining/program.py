@@ -34,11 +34,35 @@ class Program:
         return Answer(status, done.stdout or b"", done.stderr)
 
 
+def is_fixed(words):
+    """Whether these words of a job say that the text is in fixed form."""
+    return "--fixed" in words
+
+
+# a text up to its PROGRAM statement
+FREE_FRONT = re.compile(rb"(?:[ \t]*(?:!(?!HPF\$)[^\n]*)?\n)*[ \t]*PROGRAM\b[^\n]*\n", re.I)
+FIXED_FRONT = re.compile(rb"(?:(?:[!C*](?!HPF\$)[^\n]*|[ \t]+![^\n]*|[ \t]*)\n)*      [ \t]*PROGRAM\b[^\n]*\n", re.I)
+
+
+def declarations(names, fixed):
+    """Lines that declare names: one, and in fixed form as many as it takes up to column 72."""
+    if not fixed:
+        return [f"INTEGER :: {', '.join(names)}"]
+    lines = []
+    for name in names:
+        if lines and len(lines[-1]) + 2 + len(name) <= 72:
+            lines[-1] += f", {name}"
+        else:
+            lines.append(f"      INTEGER :: {name}")
+    return lines
+
+
 class Questions:
     """Asks `hpf check` about a text that is changed a little, each change once."""
 
     def __init__(self, program, words, text, slow=False):
         self.program, self.words, self.text, self.slow, self.known = program, words, text, slow, {}
+        self.fixed = is_fixed(words)
 
     def grid(self):
         for at, word in enumerate(self.words):
@@ -48,22 +72,26 @@ class Questions:
                 return self.words[at + 1]
         return "1"
 
-    def check(self, declared=(), grid=None):
-        """The answer for the text with names declared in front, or on another grid; None where it isn't asked."""
+    def check(self, declared=(), grid=None, other_form=False):
+        """The answer for the text with names declared in front, on another grid, or in the other source form; None where it isn't asked. Its line is
+        that of a text with one line more, whatever the declarations take."""
         if self.slow:
             return None
-        change = ("declared " + " ".join(declared)) if declared else f"grid {grid}" if grid else "check"
+        change = ("declared " + " ".join(declared)) if declared else f"grid {grid}" if grid else "form" if other_form else "check"
         if change not in self.known:
-            self.known[change] = self.ask(change, list(declared), grid or self.grid())
+            answer = self.ask(change, list(declared), grid or self.grid(), self.fixed != other_form)
+            if declared and answer.line:
+                answer.line -= len(declarations(declared, self.fixed)) - 1
+            self.known[change] = answer
         return self.known[change]
 
-    def ask(self, change, declared, grid):
+    def ask(self, change, declared, grid, fixed):
         text = self.text
         if declared:
-            front = re.match(rb"(?:[ \t]*(?:!(?!HPF\$)[^\n]*)?\n)*[ \t]*PROGRAM\b[^\n]*\n", text, re.I)
+            front = (FIXED_FRONT if fixed else FREE_FRONT).match(text)
             at = front.end() if front else 0
-            text = text[:at] + f"INTEGER :: {', '.join(declared)}\n".encode() + text[at:]
-        return self.program.answer(["check", "--grid", grid], text)
+            text = text[:at] + "".join(f"{line}\n" for line in declarations(declared, fixed)).encode() + text[at:]
+        return self.program.answer(["check", "--grid", grid] + ["--fixed"] * fixed, text)
 
 
 def find_program():

@@ -6,10 +6,10 @@ from explaining.text import LOGICAL, NAME, RELATIONS, closing, entities, is_hpf,
 from explaining.common import listed, nearest
 from explaining.forms import further
 
-FIXED = "this looks like fixed form, and free form is read: a comment begins with !, and & at the end of a line continues it"
 NO_REALS = "there are integers alone: a fraction is an integer that counts parts, as in examples/heat.f90"
 CONSTRUCTOR = "array constructors are left out: assign the elements one by one, or by FORALL"
 NO_NAMES = "constructs have no names: EXIT and CYCLE are of the innermost DO"
+NO_LABELS = "statements have no labels: a loop ends with END DO, and EXIT, CYCLE and IF take the place of GO TO"
 NO_PROCEDURES = "procedures are left out: write the statements where they are called"
 ONE_KIND = "there is one kind of INTEGER, of 64 bits: write INTEGER without a kind"
 # first word of a statement that is left out: what to write in its place
@@ -32,6 +32,19 @@ INSTEAD = {
     **{word: "arrays have constant bounds: INTEGER, PARAMETER :: N = 8 and INTEGER :: A(N)"
        for word in "ALLOCATE ALLOCATABLE DEALLOCATE NULLIFY".split()},
 }
+
+
+def is_accepted_otherwise(trouble):
+    """Whether the text is accepted in the other source form."""
+    answer = trouble.questions.check(other_form=True)
+    return answer is not None and answer.status == 0
+
+
+def looks_fixed(trouble):
+    """The hint of a text that is read in free form and looks like fixed form."""
+    if is_accepted_otherwise(trouble):
+        return "this looks like fixed form: with --fixed the text is accepted"
+    return "this looks like fixed form, which --fixed reads: in free form a comment begins with !, and & at the end of a line continues it"
 
 
 def goes_on(source, line, is_directive):
@@ -57,9 +70,9 @@ def bad_line(trouble):
     if is_directive and ";" in content:
         return ["a directive has its line for itself, without ;"]
     if re.match(r"     [&+$.>]", line):
-        return [FIXED]
-    if re.match(r"[Cc*]HPF\$", line):
-        return ["in free form a directive line begins with !HPF$, and a comment with !"]
+        return [looks_fixed(trouble)]
+    if re.match(r"[C*]HPF\$", line, re.I):
+        return [looks_fixed(trouble) if is_accepted_otherwise(trouble) else "in free form a directive line begins with !HPF$, and a comment with !"]
     if line.startswith("#"):
         return ["no preprocessor is run: a line that begins with # is none of this language"]
     if content.strip() == "&":
@@ -70,6 +83,11 @@ def bad_line(trouble):
         return ["outside comments and texts the bytes are ASCII: quotes and dashes of a word processor aren't"]
     if content.rstrip().endswith("&") and not goes_on(source, trouble.line, is_directive):
         return ["the line ends with &, and no line follows that goes on with it"]
+    return no_token(rest)
+
+
+def no_token(rest):
+    """What is wrong with code, without its comments and with empty texts, of which a piece is no token."""
     if re.search(r"\d\.(?![A-Za-z]+\.)|\.\d", rest):
         return [NO_REALS]
     if re.search(r"\d_[A-Za-z0-9]", rest):
@@ -128,8 +146,9 @@ def chains(tokens):
 def not_a_statement(trouble, statement):
     tokens, bare, first = statement.tokens, statement.bare, statement.first
     after = trouble.source.lines[trouble.line:trouble.line + 1]
-    if re.match(r"[Cc*]( |$|\W)", trouble.raw) and not statement.assignment() or after and re.match(r"     [1-9&+$]", after[0]):
-        return [FIXED]
+    if not trouble.fixed and (
+            re.match(r"[Cc*]( |$|\W)", trouble.raw) and not statement.assignment() or after and re.match(r"     [1-9&+$]", after[0])):
+        return [looks_fixed(trouble)]
     if "!=" in trouble.raw or "FUNCTION" in tokens:
         better = further(trouble, statement)
         if better:
@@ -286,7 +305,7 @@ def limit(trouble):
             hints.append("an expression is at most 200 deep: take a part of it into a scalar before")
         if not hints and statement.construct() and len(source.open_before(line)) >= 64:
             hints.append("64 constructs stand inside one another at most")
-    if not hints and sum(without_comment(each)[0].rstrip().endswith("&") for each in source.lines[max(0, line - 40):line]) >= 39:
+    if not hints and not trouble.fixed and sum(without_comment(each)[0].rstrip().endswith("&") for each in source.lines[max(0, line - 40):line]) >= 39:
         hints.append("39 lines at most continue a line: write shorter statements")
     return hints
 
@@ -299,10 +318,10 @@ def left_out(trouble, statement):
         return ["align with a template, and redistribute that: what is aligned with it moves with it"]
     if statement.directive or first == "DO" and tokens[2:3] == ["="]:
         return []
-    if re.match(r"     [1-9]", trouble.raw):
-        return [FIXED]
+    if re.match(r"     [1-9]", trouble.raw) and not trouble.fixed:
+        return [looks_fixed(trouble)]
     if first.isdigit():
-        return ["statements have no labels: a loop ends with END DO, and EXIT, CYCLE and IF take the place of GO TO"]
+        return [NO_LABELS]
     if first == "DO":
         return ["DO WHILE is left out: write DO I = 1, N with IF (..) EXIT" if tokens[1:2] == ["WHILE"] else
                 "a loop ends with END DO and has no label" if tokens[1:2] and tokens[1].isdigit() else

@@ -26,6 +26,18 @@ def is_hpf(line):
     return bool(re.match(r"[ \t]*!HPF\$", line, re.I))
 
 
+class FixedLine:
+    """A line of fixed form: whether it is passed over or is a directive line, its mark of continuation or nothing, and what stands in columns 7 to 72."""
+
+    def __init__(self, line):
+        read = line[:72]
+        begin = len(read) - len(read.lstrip(" \t"))
+        self.directive = bool(re.match(r"[!C*]HPF\$", line, re.I))
+        self.passed = not self.directive and (begin == len(read) or line[0] in "Cc*" or (line[begin] == "!" and begin != 5))
+        self.mark = "" if self.passed else line[5:6].strip(" \t0")
+        self.content = "" if self.passed else read[6:]
+
+
 def is_name(token):
     return bool(NAME.match(token)) and token not in RESERVED
 
@@ -189,6 +201,15 @@ class Statement:
         return None
 
 
+def parted(line, last, directive, text):
+    """The statements of a logical line, or its directive."""
+    pieces = [text] if directive else re.findall(r"""(?:'(?:[^']|'')*'|"(?:[^"]|"")*"|[^;])+""", text)
+    for piece in pieces:
+        statement = Statement(line, last, directive, piece)
+        if statement.tokens or directive:
+            yield statement
+
+
 class Entity:
     """What a declaration makes: a scalar, a constant, an array, a template or an arrangement."""
 
@@ -203,12 +224,13 @@ class Entity:
 class Source:
     """A text by its lines, its statements and its declarations."""
 
-    def __init__(self, data):
+    def __init__(self, data, fixed=False):
+        self.fixed = fixed
         self.lines = data.decode("latin-1").split("\n")
         if self.lines[-1] == "":
             self.lines.pop()
         self.lines = [line[:-1] if line.endswith("\r") else line for line in self.lines]
-        self.statements = list(self.read())
+        self.statements = list(self.read_fixed() if fixed else self.read())
         self.names = {}
         self.twice = []
         for statement in self.statements:
@@ -242,13 +264,24 @@ class Source:
                 text += " " + re.sub("^&|&$" if text else "&$", "", line)
                 if not (continues or (text.strip() and start + 1 < at and not line)) or at == len(self.lines):
                     break
-            pieces = [text]
-            if not directive:
-                pieces = re.findall(r"""(?:'(?:[^']|'')*'|"(?:[^"]|"")*"|[^;])+""", text)
-            for piece in pieces:
-                statement = Statement(start + 1, at, directive, piece)
-                if statement.tokens or directive:
-                    yield statement
+            yield from parted(start + 1, at, directive, text)
+
+    def read_fixed(self):
+        """The logical lines of fixed form, each at its semicolons. A line that continues nothing stands alone."""
+        groups, passed = [], False
+        for number, line in enumerate(map(FixedLine, self.lines), 1):
+            if line.passed:
+                passed = True
+                continue
+            code = without_comment(line.content)[0]
+            if line.mark and groups and groups[-1][2] == line.directive and not (passed and line.directive):
+                groups[-1][1] = number
+                groups[-1][3].append(code)
+            else:
+                groups.append([number, number, line.directive, [code]])
+            passed = False
+        for first, last, directive, codes in groups:
+            yield from parted(first, last, directive, " ".join(codes))
 
     def at(self, line):
         return [statement for statement in self.statements if statement.line == line]

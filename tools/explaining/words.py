@@ -15,6 +15,7 @@ REASONS = {
     11: ("LeftOut", "a part of Fortran or HPF that this language leaves out", ["Statements"]),
     12: ("BadConstant", "an expression that must be constant isn't, or divides by zero", ["Names and constants"]),
 }
+FIXED_SECTIONS = {1: ["The fixed source form", "Lines and tokens"]}  # in place of these, of a text in fixed form
 FAULTS = {
     "Bounds": ("a subscript is out of its bounds", ["Faults"]),
     "DivZero": ("something is divided by zero", ["Faults", "Operators and their values"]),

@@ -8,7 +8,7 @@ use Rattle.std.proofs.lemmas.List.Elements.{filter-append}
 use Rattle.hpf_base.specs.Refusal.{NoBreach, IsRefusalBy}
 use Rattle.hpf_base.specs.declared.refusal.StaticError.{StaticError}
 use Rattle.hpf_base.specs.declared.refusal.StaticError.TheVariants.{Refused, Memory}
-use Rattle.hpf_base.specs.declared.limits.TheConstants.{MAX_CONTINUATIONS, MAX_LINES}
+use Rattle.hpf_base.specs.declared.limits.TheConstants.{MAX_CONTINUATIONS, MAX_FIXED_CONTINUATIONS, MAX_LINES}
 use Rattle.hpf_base.specs.declared.refusal.Reason.{Reason}
 use Rattle.hpf_base.specs.declared.refusal.Reason.TheVariants.{BadLine, Limit}
 use Rattle.source_lines.specs.Breaches as free_breaches
@@ -18,7 +18,6 @@ use Rattle.source_lines.specs.PhysicalLines.{physical_line}
 use Rattle.fixed_lines.specs.declared.kind.FixedKind.{FixedKind}
 use Rattle.fixed_lines.specs.declared.kind.FixedKind.TheVariants.{Passed, Statement, Directive}
 use Rattle.fixed_lines.specs.FixedLines.{FixedLine, numbered_lines}
-use Rattle.fixed_lines.specs.declared.limits.TheConstants.{MAX_FIXED_CONTINUATIONS}
 use Rattle.fixed_lines.specs.FixedBreaches.{is_directive, is_passed, meets, standing, IsFixedBreach}
 use Rattle.fixed_lines.specs.FreeText.{first_continues, free_line, free_text}
 use Rattle.fixed_lines.proofs.ClosedLines.{begins, both-true, closed_lines, continued, is_kind}

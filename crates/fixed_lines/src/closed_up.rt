@@ -6,9 +6,9 @@ ghost use Rattle.fixed_lines.specs.FixedLines.{FixedLine as Line};
 ghost use Rattle.fixed_lines.specs.FreeText as spec;
 ghost use Rattle.fixed_lines.specs.FreeText.{closed_directive, contents, continues_directive, with_codes};
 
-use crate::blanks::all_blank;
 use crate::breach::is_directive;
 use crate::fixed_line::FixedLine;
+use source_lines::all_blank;
 use std::alloc::{AllocError, Global};
 
 /// The line continues a directive.

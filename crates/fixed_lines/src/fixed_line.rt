@@ -1,18 +1,17 @@
 //! The lines of a text in fixed form, each alone.
 
-ghost use Rattle.std.specs.Prelude.{◌≡◌, ◌==◌, ◌<◌, ◌≤◌, ◌∷◌, ◌||◌, [], IfOk, MatchOption, ⊤, length, nat_le, not};
+ghost use Rattle.std.specs.Prelude.{◌≡◌, ◌==◌, ◌≤◌, ◌||◌, IfOk, nat_le, not};
 ghost use Rattle.std.specs.List.{list_any};
-ghost use Rattle.source_lines.specs.PhysicalLines.{is_control, physical_lines};
+ghost use Rattle.source_lines.specs.PhysicalLines.{is_control};
 ghost use Rattle.fixed_lines.specs.FixedBreaches.{standing};
 ghost use Rattle.fixed_lines.specs.FreeText.{blank_left, first_continues, with_code};
 ghost use Rattle.fixed_lines.specs.FixedLines as spec;
 ghost use Rattle.fixed_lines.specs.FixedLines.{begins_comment, columns, fixed_kind, fixed_line, has_comment_letter, has_mark, is_bad_margin, is_continuation, is_passed_over, numbered_lines, standing_line};
 
-use crate::blanks::{all_blank, is_blank, without_blanks};
 use crate::kind::FixedKind;
-use crate::parts::{code_of, is_control};
+use crate::parts::code_of;
 use hpf_base::MAX_LINE_BYTES;
-use source_lines::first_line;
+use source_lines::{all_blank, is_blank, is_control, next_line, without_blanks};
 use std::alloc::{AllocError, Global};
 use std::marker::Model;
 
@@ -224,15 +223,6 @@ fn fixed_line(number: usize, bytes: &[u8]) -> FixedLine<'_>
         FixedKind::Statement => standing_line(number, FixedKind::Statement, bytes),
         FixedKind::Directive => standing_line(number, FixedKind::Directive, bytes),
     }
-}
-
-/// The first line of a text, without a carriage return at its end, and the text of the lines after it.
-fn next_line(text: &[u8]) -> Option<(&[u8], &[u8])>
-    ensures lines { MatchOption result (physical_lines text.now ≡ []) (λ x. physical_lines text.now ≡ x.0.now ∷ physical_lines x.1.now) }
-    ensures shorter { MatchOption result ⊤ (λ x. length x.1.now < length text.now) }
-{
-    let (line, rest) = first_line(text)?;
-    Some((line.strip_suffix(b"\r").unwrap_or(line), rest))
 }
 
 /// The lines of a text.

@@ -1,90 +1,12 @@
-//! The parts of bytes: text constants, a comment, and single bytes.
+//! What stands on a line, and the parts of it that may not.
 
-ghost use Rattle.std.specs.Prelude.{◌≡◌, ◌==◌, ◌<◌, position, ◌++◌, ◌∷◌, [], MatchOption, ⊤, length};
+ghost use Rattle.std.specs.Prelude.{◌≡◌};
 ghost use Rattle.std.specs.List.{list_any};
-ghost use Rattle.source_lines.specs.PhysicalLines.{code_of, first_part, is_bad_part, is_bad_text, is_barred, is_control, is_delimiter, parts};
+ghost use Rattle.source_lines.specs.PhysicalLines.{code_of, parts};
 ghost use Rattle.fixed_lines.specs.FixedLines.{is_ampersand, is_bad_part_of};
 
 use crate::kind::FixedKind;
-use source_lines::LineKind;
-
-/// A byte that begins and ends a text constant.
-fn is_delimiter(byte: u8) -> bool
-    ensures { result ≡ is_delimiter byte }
-{
-    byte == b'\'' || byte == b'"'
-}
-
-/// The place of the first delimiter.
-fn closing(delimiter: u8, bytes: &[u8]) -> Option<usize>
-    ensures { result ≡ position (λ b. b == delimiter) bytes.now }
-{
-    bytes.iter().position(|b| *b == delimiter)
-}
-
-/// How many bytes the part at the front takes.
-fn first_part(bytes: &[u8]) -> usize
-    ensures { result ≡ first_part bytes.now }
-{
-    let Some((first, rest)) = bytes.split_first() else {
-        return 0;
-    };
-    if is_delimiter(*first) {
-        match closing(*first, rest) {
-            Some(end) => end + 2,
-            None => rest.len() + 1,
-        }
-    } else if *first == b'!' {
-        rest.len() + 1
-    } else {
-        1
-    }
-}
-
-/// A control byte other than tab.
-pub(crate) fn is_control(byte: u8) -> bool
-    ensures { result ≡ is_control byte }
-{
-    byte.is_ascii_control() && byte != b'\t'
-}
-
-/// A control byte other than tab stands among the bytes.
-fn has_control(bytes: &[u8]) -> bool
-    ensures { result ≡ list_any is_control bytes.now }
-{
-    bytes.iter().any(|b| is_control(*b))
-}
-
-/// A text constant, after its first delimiter, that isn't closed or holds a control byte.
-fn is_bad_text(delimiter: u8, bytes: &[u8]) -> bool
-    ensures { result ≡ is_bad_text delimiter bytes.now }
-{
-    !bytes.ends_with(&[delimiter]) || has_control(bytes)
-}
-
-/// A byte that may not stand on a line of this kind, though others may bear it.
-fn is_barred(kind: LineKind, byte: u8) -> bool
-    ensures { result ≡ is_barred kind byte }
-{
-    match kind {
-        LineKind::Directive => byte == b';',
-        LineKind::Statement => false,
-    }
-}
-
-/// A part that may not stand on a line of this kind.
-fn is_bad_part(kind: LineKind, part: &[u8]) -> bool
-    ensures { result ≡ is_bad_part kind part.now }
-{
-    let Some((first, rest)) = part.split_first() else {
-        return false;
-    };
-    if is_delimiter(*first) {
-        is_bad_text(*first, rest)
-    } else {
-        is_control(*first) || *first >= 128 || is_barred(kind, *first)
-    }
-}
+use source_lines::{LineKind, is_bad_part, next_part};
 
 /// The part is `&`.
 fn is_ampersand(part: &[u8]) -> bool
@@ -102,20 +24,6 @@ fn is_bad_part_of(kind: FixedKind, part: &[u8]) -> bool
         FixedKind::Statement => is_bad_part(LineKind::Statement, part) || is_ampersand(part),
         FixedKind::Directive => is_bad_part(LineKind::Directive, part) || is_ampersand(part),
     }
-}
-
-/// The part at the front and what is after it, if it isn't a comment.
-fn next_part(bytes: &[u8]) -> Option<(&[u8], &[u8])>
-    ensures whole { MatchOption result (parts bytes.now ≡ []) (λ x. parts bytes.now ≡ x.0.now ∷ parts x.1.now) }
-    ensures shorter { MatchOption result ⊤ (λ x. (bytes.now ≡ x.0.now ++ x.1.now) × (length x.1.now < length bytes.now)) }
-{
-    let Some((first, _)) = bytes.split_first() else {
-        return None;
-    };
-    if *first == b'!' {
-        return None;
-    }
-    Some(bytes.split_at(first_part(bytes)))
 }
 
 /// What stands in the bytes, a comment apart, and whether a part of it may not stand there.

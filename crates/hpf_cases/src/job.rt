@@ -13,7 +13,7 @@ pub fn write_job(alloc: Global, out: &mut String, words: &[String]) -> Result<()
     }
 }
 
-/// Writes the action, the grid, the threads and the size of a job, and whether the arrays are asked for.
+/// Writes the action, the grid, the threads and the size of a job, and whether the arrays are asked for and the text is in fixed form.
 fn write_asked(out: &mut String, job: &Job) -> Result<(), AllocError> {
     write!(out, "  {:?} on ", job.action)?;
     for (i, extent) in job.grid.dims().iter().enumerate() {
@@ -25,6 +25,9 @@ fn write_asked(out: &mut String, job: &Job) -> Result<(), AllocError> {
     write!(out, ", threads {}, size {}", job.threads, job.size)?;
     if job.arrays {
         out.push_str(", arrays")?;
+    }
+    if job.fixed {
+        out.push_str(", fixed")?;
     }
     out.push_str("\n")
 }

@@ -1,2 +1,3 @@
 pub mod LineBreaches
 pub mod Programs
+pub mod SourceForms

@@ -7,8 +7,6 @@ use Rattle.hpf_base.specs.Refusal.{IsRefusalBy, NoBreach}
 use Rattle.source_lines.specs.declared.line.LineKind.{LineKind}
 use Rattle.source_lines.specs.declared.line.LineKind.TheVariants as line
 use Rattle.source_lines.specs.PhysicalLines.{physical_lines}
-use Rattle.source_lines.specs.Breaches.{IsLineBreach}
-use Rattle.source_lines.specs.LogicalLines.{logical_lines}
 use Rattle.syntax_tree.specs.Lexeme.{Lexeme}
 use Rattle.statement_reader.specs.Forms as statements
 use Rattle.statement_reader.specs.Breaches.{IsStatement}
@@ -29,7 +27,8 @@ use Rattle.construct_reader.specs.Views.{spelled_program}
 use Rattle.construct_reader.specs.Said.{IsSaid, AreSaid}
 use Rattle.construct_reader.proofs.Meanings.{meant_is}
 use Rattle.construct_reader.proofs.Said.{declarations_said}
-use Rattle.hpf_reader.specs.ProgramText.{LexemeLine, lexeme_lines, IsContent, IsLineOf, AreLinesOf, IsProgramText, IsMeantBy, TokensBreak, FormsBreak, NestBreaks, IsProgramRefusal, by_nest}
+use Rattle.hpf_reader.specs.ProgramText.{LexemeLine, lexeme_lines, lines_in, IsContent, IsLineOf, AreLinesOf, IsProgramText, IsMeantBy, LinesBreak, TokensBreak, FormsBreak, NestBreaks, IsProgramRefusal, by_nest}
+use Rattle.hpf_reader.specs.declared.source_form.SourceForm.{SourceForm}
 
 -- lexemes are one directive to a tree
 same_directive : (ts : List Lexeme) (f g : directives.DirectiveForm) → IsDirective ts f → IsDirective ts g → f ≡ g
@@ -60,35 +59,35 @@ same_lines (l ∷ ls) (x ∷ a) [] h i = absurd i
 same_lines (l ∷ ls) (x ∷ a) (y ∷ b) h i = λ k. same_line l x y h.0 i.0 k ∷ same_lines ls a b h.1 i.1 k
 
 -- the breaches of the nest of a text are those of its lines
-module _ (text : List ℕ) (n : ℕ) (ss : List ProgramLine) (last : n ≡ length (physical_lines text)) (read : AreLinesOf (lexeme_lines text) ss) where
-  of_text : (line : ℕ) (why : Reason) → IsNestBreach n ss line why → NestBreaks text line why
+module _ (form : SourceForm) (text : List ℕ) (n : ℕ) (ss : List ProgramLine) (last : n ≡ length (physical_lines text)) (read : AreLinesOf (lexeme_lines form text) ss) where
+  of_text : (line : ℕ) (why : Reason) → IsNestBreach n ss line why → NestBreaks form text line why
   of_text line why b = record { lines = ss; read = read; broken = subst (λ n. IsNestBreach n ss line why) last b }
 
-  of_lines : (line : ℕ) (why : Reason) → NestBreaks text line why → IsNestBreach n ss line why
+  of_lines : (line : ℕ) (why : Reason) → NestBreaks form text line why → IsNestBreach n ss line why
   of_lines line why b =
       subst (λ n. IsNestBreach n ss line why) (sym last)
-      (subst (λ ss. IsNestBreach (length (physical_lines text)) ss line why) (same_lines (lexeme_lines text) b.lines ss b.read read) b.broken)
+      (subst (λ ss. IsNestBreach (length (physical_lines text)) ss line why) (same_lines (lexeme_lines form text) b.lines ss b.read read) b.broken)
 
-  pub nest_free : NoBreach (IsNestBreach n ss) → NoBreach (NestBreaks text)
-  nest_free = first_same (IsNestBreach n ss) (NestBreaks text) None of_text of_lines
+  pub nest_free : NoBreach (IsNestBreach n ss) → NoBreach (NestBreaks form text)
+  nest_free = first_same (IsNestBreach n ss) (NestBreaks form text) None of_text of_lines
 
-  pub nest_refused : (e : StaticError) → IsRefusalBy (IsNestBreach n ss) e → IsRefusalBy (NestBreaks text) e
-  nest_refused (Refused r) h = first_same (IsNestBreach n ss) (NestBreaks text) (Some r) of_text of_lines h
+  pub nest_refused : (e : StaticError) → IsRefusalBy (IsNestBreach n ss) e → IsRefusalBy (NestBreaks form text) e
+  nest_refused (Refused r) h = first_same (IsNestBreach n ss) (NestBreaks form text) (Some r) of_text of_lines h
   nest_refused Memory h = tt
 
-pub refused_by_nest : (text : List ℕ) (e : StaticError) → NoBreach (IsLineBreach text) → NoBreach (TokensBreak (logical_lines text))
-    → NoBreach (FormsBreak (lexeme_lines text)) → IsRefusalBy (NestBreaks text) e → IsProgramRefusal text e
-refused_by_nest text (Refused r) lines tokens forms h = by_nest lines tokens forms h
-refused_by_nest text Memory lines tokens forms h = tt
+pub refused_by_nest : (form : SourceForm) (text : List ℕ) (e : StaticError) → NoBreach (LinesBreak form text) → NoBreach (TokensBreak (lines_in form text))
+    → NoBreach (FormsBreak (lexeme_lines form text)) → IsRefusalBy (NestBreaks form text) e → IsProgramRefusal form text e
+refused_by_nest form text (Refused r) lines tokens forms h = by_nest lines tokens forms h
+refused_by_nest form text Memory lines tokens forms h = tt
 
 -- a text spells one program at most
-pub one_tree : (text : List ℕ) (p q : SpelledProgram) → IsProgramText text p → IsProgramText text q → p ≡ q
-one_tree text p q h i =
-    same_program p q h.formed i.formed h.lines h.spelled (subst (λ ls. IsSpelled ls q) (same_lines (lexeme_lines text) i.lines h.lines i.read h.read) i.spelled)
+pub one_tree : (form : SourceForm) (text : List ℕ) (p q : SpelledProgram) → IsProgramText form text p → IsProgramText form text q → p ≡ q
+one_tree form text p q h i =
+    same_program p q h.formed i.formed h.lines h.spelled (subst (λ ls. IsSpelled ls q) (same_lines (lexeme_lines form text) i.lines h.lines i.read h.read) i.spelled)
 
 -- a text means one program at most
-pub one_program : (text : List ℕ) (p q : MainProgram) → IsMeantBy text p → IsMeantBy text q → p ≡ q
-one_program text p q h i = sym h.means ∙ ap meant (one_tree text h.spelled i.spelled h.reads i.reads) ∙ i.means
+pub one_program : (form : SourceForm) (text : List ℕ) (p q : MainProgram) → IsMeantBy form text p → IsMeantBy form text q → p ≡ q
+one_program form text p q h i = sym h.means ∙ ap meant (one_tree form text h.spelled i.spelled h.reads i.reads) ∙ i.means
 
 content_said : (k : LineKind) (ts : List Lexeme) (what : LineContent) → IsContent k ts what → IsSaid what
 content_said line.Statement ts (OfStatement f) h = (h.written, h.same, h.formed)
@@ -103,9 +102,9 @@ lines_said (l ∷ ls) [] h = absurd h
 lines_said (l ∷ ls) (s ∷ ss) h = (content_said l.kind l.lexemes s.what h.0.1, lines_said ls ss h.1)
 
 -- what a text spells means the abstract syntax of its tree
-pub tree_meant : (text : List ℕ) (t : Tree) → IsProgramText text (spelled_program t) → IsMeantBy text (main_program t)
-tree_meant text t h = record {
+pub tree_meant : (form : SourceForm) (text : List ℕ) (t : Tree) → IsProgramText form text (spelled_program t) → IsMeantBy form text (main_program t)
+tree_meant form text t h = record {
   spelled = spelled_program t;
   reads = h;
-  means = meant_is t h.formed (declarations_said h.lines (spelled_program t) h.spelled (lines_said (lexeme_lines text) h.lines h.read));
+  means = meant_is t h.formed (declarations_said h.lines (spelled_program t) h.spelled (lines_said (lexeme_lines form text) h.lines h.read));
 }

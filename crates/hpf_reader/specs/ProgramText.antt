@@ -11,6 +11,8 @@ use Rattle.source_lines.specs.declared.line.LineKind.TheVariants as line
 use Rattle.source_lines.specs.PhysicalLines.{physical_lines}
 use Rattle.source_lines.specs.Breaches.{IsLineBreach}
 use Rattle.source_lines.specs.LogicalLines.{logical_lines}
+use Rattle.fixed_lines.specs.FixedBreaches.{IsFixedBreach}
+use Rattle.fixed_lines.specs.FixedLogicalLines.{fixed_lines}
 use Rattle.token_scan.specs.Tokens.{tokens, IsTokenBreach}
 use Rattle.syntax_tree.specs.Lexeme.{Lexeme, lexemes}
 use Rattle.syntax_tree.specs.MainProgram.{MainProgram}
@@ -22,6 +24,18 @@ use Rattle.construct_reader.specs.SpelledProgram.{SpelledProgram}
 use Rattle.construct_reader.specs.ProgramLines.{IsSpelled}
 use Rattle.construct_reader.specs.Formed.{IsProgram}
 use Rattle.construct_reader.specs.Meant.{meant}
+use Rattle.hpf_reader.specs.declared.source_form.SourceForm.{SourceForm}
+use Rattle.hpf_reader.specs.declared.source_form.SourceForm.TheVariants.{Free, Fixed}
+
+-- the logical lines of a text in a source form (Fortran 95, 3.3.1 and 3.3.2)
+abbrev pub lines_in : SourceForm → List ℕ → List LogicalLine
+lines_in Free text = logical_lines text
+lines_in Fixed text = fixed_lines text
+
+-- a line of a text breaks a rule of its source form
+abbrev pub LinesBreak : SourceForm → List ℕ → ℕ → Reason → Type 0
+LinesBreak Free text number reason = IsLineBreach text number reason
+LinesBreak Fixed text number reason = IsFixedBreach text number reason
 
 -- a logical line as its lexemes: the number of its first line, whether it is a statement or a directive, and the lexemes
 pub record LexemeLine : Type 0 where
@@ -33,8 +47,8 @@ abbrev pub lexeme_line : LogicalLine → LexemeLine
 lexeme_line l = record { number = l.line; kind = l.kind; lexemes = lexemes (tokens l.bytes) }
 
 -- the lines of a text
-abbrev pub lexeme_lines : List ℕ → List LexemeLine
-lexeme_lines text = map lexeme_line (logical_lines text)
+abbrev pub lexeme_lines : SourceForm → List ℕ → List LexemeLine
+lexeme_lines form text = map lexeme_line (lines_in form text)
 
 -- the statement or the directive that lexemes are
 abbrev pub IsContent : LineKind → List Lexeme → LineContent → Type 0
@@ -53,16 +67,16 @@ AreLinesOf (l ∷ ls) [] = ⊥
 AreLinesOf (l ∷ ls) (s ∷ ss) = IsLineOf l s × AreLinesOf ls ss
 
 -- the text spells the program: its lines are statements and directives that do
-pub record IsProgramText (text : List ℕ) (p : SpelledProgram) : Type 0 where
+pub record IsProgramText (form : SourceForm) (text : List ℕ) (p : SpelledProgram) : Type 0 where
   pub lines : List ProgramLine
-  pub read : AreLinesOf (lexeme_lines text) lines
+  pub read : AreLinesOf (lexeme_lines form text) lines
   pub spelled : IsSpelled lines p
   pub formed : IsProgram p
 
 -- the text means the program: it spells lines that mean it
-pub record IsMeantBy (text : List ℕ) (p : MainProgram) : Type 0 where
+pub record IsMeantBy (form : SourceForm) (text : List ℕ) (p : MainProgram) : Type 0 where
   pub spelled : SpelledProgram
-  pub reads : IsProgramText text spelled
+  pub reads : IsProgramText form text spelled
   pub means : meant spelled ≡ p
 
 -- one of the lines has the breach
@@ -87,29 +101,29 @@ abbrev pub FormsBreak : List LexemeLine → ℕ → Reason → Type 0
 FormsBreak ls number reason = OneBreaks FormBreaks ls number reason
 
 -- the lines are statements and directives, and one of them stands where it may not
-pub record NestBreaks (text : List ℕ) (number : ℕ) (reason : Reason) : Type 0 where
+pub record NestBreaks (form : SourceForm) (text : List ℕ) (number : ℕ) (reason : Reason) : Type 0 where
   pub lines : List ProgramLine
-  pub read : AreLinesOf (lexeme_lines text) lines
+  pub read : AreLinesOf (lexeme_lines form text) lines
   pub broken : IsNestBreach (length (physical_lines text)) lines number reason
 
 -- the breaches of a text stand in four stages: of its lines, of their tokens, of each statement and directive alone, and of
 -- the nest. The text is refused for the first breach of the first stage that has one
-pub data IsRefused (text : List ℕ) (r : Refusal) : Type 0 where
-  by_lines : IsFirstBreach (IsLineBreach text) r → IsRefused text r
-  by_tokens : NoBreach (IsLineBreach text) → IsFirstBreach (TokensBreak (logical_lines text)) r → IsRefused text r
-  by_forms : NoBreach (IsLineBreach text) → NoBreach (TokensBreak (logical_lines text))
-      → IsFirstBreach (FormsBreak (lexeme_lines text)) r → IsRefused text r
-  by_nest : NoBreach (IsLineBreach text) → NoBreach (TokensBreak (logical_lines text)) → NoBreach (FormsBreak (lexeme_lines text))
-      → IsFirstBreach (NestBreaks text) r → IsRefused text r
+pub data IsRefused (form : SourceForm) (text : List ℕ) (r : Refusal) : Type 0 where
+  by_lines : IsFirstBreach (LinesBreak form text) r → IsRefused form text r
+  by_tokens : NoBreach (LinesBreak form text) → IsFirstBreach (TokensBreak (lines_in form text)) r → IsRefused form text r
+  by_forms : NoBreach (LinesBreak form text) → NoBreach (TokensBreak (lines_in form text))
+      → IsFirstBreach (FormsBreak (lexeme_lines form text)) r → IsRefused form text r
+  by_nest : NoBreach (LinesBreak form text) → NoBreach (TokensBreak (lines_in form text)) → NoBreach (FormsBreak (lexeme_lines form text))
+      → IsFirstBreach (NestBreaks form text) r → IsRefused form text r
 
 -- no stage has a breach
-pub record HasNoBreach (text : List ℕ) : Type 0 where
-  pub lines : NoBreach (IsLineBreach text)
-  pub tokens : NoBreach (TokensBreak (logical_lines text))
-  pub forms : NoBreach (FormsBreak (lexeme_lines text))
-  pub nest : NoBreach (NestBreaks text)
+pub record HasNoBreach (form : SourceForm) (text : List ℕ) : Type 0 where
+  pub lines : NoBreach (LinesBreak form text)
+  pub tokens : NoBreach (TokensBreak (lines_in form text))
+  pub forms : NoBreach (FormsBreak (lexeme_lines form text))
+  pub nest : NoBreach (NestBreaks form text)
 
 -- why no tree is given; want of memory has no cause in the text
-abbrev pub IsProgramRefusal : List ℕ → StaticError → Type 0
-IsProgramRefusal text (Refused r) = IsRefused text r
-IsProgramRefusal text Memory = Unit {0}
+abbrev pub IsProgramRefusal : SourceForm → List ℕ → StaticError → Type 0
+IsProgramRefusal form text (Refused r) = IsRefused form text r
+IsProgramRefusal form text Memory = Unit {0}

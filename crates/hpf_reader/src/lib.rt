@@ -1,6 +1,6 @@
 //! From the bytes of a text to the one program that it means.
 //!
-//! Comes in: any bytes. Goes out: the tree of the program that the text spells, or its first breach. What holds in between:
+//! Comes in: any bytes, and the source form that they are in. Goes out: the tree of the program that the text spells, or its first breach. What holds in between:
 //! a text is read exactly where it is spelled as the language asks, and is refused at the stated line, for the stated
 //! reason, exactly where it isn't; it spells one program at most, and the abstract syntax of its tree is the one program
 //! that it means.
@@ -10,6 +10,8 @@ mod forms;
 mod laws;
 mod program;
 mod scan;
+mod source_form;
 
-pub use laws::{one_program, one_tree};
-pub use program::read_program;
+pub use laws::{fixed_as_free, one_program, one_tree};
+pub use program::{read_fixed, read_in_form, read_program};
+pub use source_form::SourceForm;

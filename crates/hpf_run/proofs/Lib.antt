@@ -1,2 +1,3 @@
 pub mod AcceptLaws
 pub mod TopLaws
+pub mod SourceForms

@@ -11,6 +11,8 @@ use Rattle.syntax_tree.specs.MainProgram.{MainProgram}
 use Rattle.hpf_words.specs.declared.job.Action.{Action}
 use Rattle.hpf_words.specs.declared.job.Action.TheVariants.{Run, Serial, Check, Map, Messages, Bulk}
 use Rattle.hpf_words.specs.declared.job.Job.{Job}
+use Rattle.hpf_reader.specs.declared.source_form.SourceForm.{SourceForm}
+use Rattle.hpf_reader.specs.declared.source_form.SourceForm.TheVariants.{Free}
 use Rattle.name_table.specs.Entries.{entries}
 use Rattle.name_table.specs.declared.names.Entry.{Entry}
 use Rattle.array_meaning.specs.Serial as serial
@@ -25,22 +27,22 @@ use Rattle.run_report.specs.FaultLine.{fault_line}
 use Rattle.hpf_run.specs.Accepted.{IsAccepted, IsRefused}
 use Rattle.hpf_run.specs.declared.answer.Answer.{Answer}
 use Rattle.hpf_run.specs.BulkText.{bulk_text}
-use Rattle.hpf_run.specs.Command.{IsCommand, IsNoCommand, reads, reads_source, runs_on_nodes, some_reads}
+use Rattle.hpf_run.specs.Command.{IsCommand, IsNoCommand, form_of, reads, reads_source, runs_on_nodes, some_reads}
 use Rattle.hpf_run.specs.Outcome.{is_of_bulk, is_of_text, is_too_long, is_usage, text_accepted, text_refused, check_done, map_done, messages_report, run_report, bulk_report, serial_report, report_end, report_fault, means_memory, means_memory_unread, means_outcome, means_read_fault, all_written, err_failed, out_failed}
 use Rattle.hpf_run.specs.Outcome.{ActionOutcome, IsAnswer, IsReportOf, IsRunReport, listed, Delivered, Had, IsRead, Meant, Outcome, TextOutcome, TopOutcome, Port, port, told, too_long_line, usage_line, with_arrays}
 use Rattle.hpf_run.specs.Reply.{ActionMeant, IsFaulted, IsReplyOf, IsReported, TextMeant, action_memory, action_outcome, reply_memory, reply_refused, reported, reported_fault, reported_memory, fault_memory, text_memory, text_outcome}
 
 -- the reply to a refusal is what a job makes of a text that is refused so
-pub refused-meant : (text : List ℕ) (job : Job) (r : Refusal) (o : Outcome) → IsRefused job.grid text r → IsReplyOf r o → TextMeant text job o
-refused-meant text job r o is (reply_refused line line_is) =
-    subst (λ l. TextMeant text job (told Refused [] l)) (sym line_is) (text_outcome _ (text_refused r is))
-refused-meant text job r o is reply_memory = text_memory
+pub refused-meant : (form : SourceForm) (text : List ℕ) (job : Job) (r : Refusal) (o : Outcome) → IsRefused form job.grid text r → IsReplyOf r o → TextMeant form text job o
+refused-meant form text job r o is (reply_refused line line_is) =
+    subst (λ l. TextMeant form text job (told Refused [] l)) (sym line_is) (text_outcome _ (text_refused r is))
+refused-meant form text job r o is reply_memory = text_memory
 
 -- what the job's action makes of an accepted text is what the job makes of it
-pub accepted-meant : (text : List ℕ) (job : Job) (p : MainProgram) (o : Outcome) → IsAccepted job.grid text p → ActionMeant job.grid job.arrays p job.action o
-    → TextMeant text job o
-accepted-meant text job p o is (action_outcome made by) = text_outcome made (text_accepted p is made by)
-accepted-meant text job p o is action_memory = text_memory
+pub accepted-meant : (form : SourceForm) (text : List ℕ) (job : Job) (p : MainProgram) (o : Outcome) → IsAccepted form job.grid text p → ActionMeant job.grid job.arrays p job.action o
+    → TextMeant form text job o
+accepted-meant form text job p o is (action_outcome made by) = text_outcome made (text_accepted p is made by)
+accepted-meant form text job p o is action_memory = text_memory
 
 -- what an action prints
 pub done-meant : (grid : List ℕ) (arrays : Bool) (p : MainProgram) (act : Action) (bytes printed : List ℕ) → bytes ≡ printed
@@ -116,7 +118,7 @@ pub usage-meant : (words : List (List ℕ)) (source : Port) → IsNoCommand word
 usage-meant words source no_command = unread-meant words source _ (ap some_reads no_command) (λ bytes. is_usage no_command)
 
 -- bulk work
-pub bulk-meant : (words : List (List ℕ)) (source : Port) (job : Job) (o : Outcome) → IsCommand words job → job.action ≡ Bulk → TextMeant (bulk_text job.size) job o
+pub bulk-meant : (words : List (List ℕ)) (source : Port) (job : Job) (o : Outcome) → IsCommand words job → job.action ≡ Bulk → TextMeant Free (bulk_text job.size) job o
     → Meant words source source o
 bulk-meant words source job o command bulk (text_outcome made is) =
     unread-meant words source made (job-reads words job false command (ap reads_source bulk)) (λ bytes. is_of_bulk job command bulk made is)
@@ -144,18 +146,18 @@ read_action grid text arrays p act o left left' (run_report o' is) gave end = re
 read_action grid text arrays p act o left left' (bulk_report o' is) gave end = read_reported (entries p) arrays (serial p) (Some is.ran) o' left left' text is.report gave end
 read_action grid text arrays p act o left left' (messages_report o' report) gave end = read_reported (entries p) false (listed grid p) None o' left left' text report gave end
 
-read_whole : (text : List ℕ) (job : Job) (o : Outcome) (left left' : Option (List ℕ)) → TextOutcome text job o → Gave left left' text → IsAtEnd left'
+read_whole : (form : SourceForm) (text : List ℕ) (job : Job) (o : Outcome) (left left' : Option (List ℕ)) → TextOutcome form text job o → Gave left left' text → IsAtEnd left'
     → IsRead true o.status left left' text
-read_whole text job o left left' (text_refused r is) gave end = (gave, end)
-read_whole text job o left left' (text_accepted p accepted o' made) gave end = read_action job.grid text job.arrays p job.action o' left left' made gave end
+read_whole form text job o left left' (text_refused r is) gave end = (gave, end)
+read_whole form text job o left left' (text_accepted p accepted o' made) gave end = read_action job.grid text job.arrays p job.action o' left left' made gave end
 
 -- what the job makes of the text is what the call means
 pub text-meant : (words : List (List ℕ)) (source source' : Port) (job : Job) (text : List ℕ) (o : Outcome) → IsCommand words job → reads_source job.action ≡ true
-    → Gave source.bytes source'.bytes text → IsAtEnd source'.bytes → length text ≤ MAX_SOURCE_BYTES → TextMeant text job o → Meant words source source' o
+    → Gave source.bytes source'.bytes text → IsAtEnd source'.bytes → length text ≤ MAX_SOURCE_BYTES → TextMeant (form_of job) text job o → Meant words source source' o
 text-meant words source source' job text o command reading gave end short (text_outcome made is) =
     means_outcome text o (read_had source.bytes source'.bytes text gave end) (is_of_text job command reading short o is)
     (subst (λ b. IsRead b o.status source.bytes source'.bytes text) (sym (job-reads words job true command reading))
-    (read_whole text job o source.bytes source'.bytes is gave end))
+    (read_whole (form_of job) text job o source.bytes source'.bytes is gave end))
 text-meant words source source' job text o command reading gave end short text_memory =
     means_memory (job-reads words job true command reading) text short gave
 
@@ -221,9 +223,9 @@ action-alone grid arrays p act o alone (run_report o' is) = cc
 action-alone grid arrays p act o alone (bulk_report o' is) = cc
 action-alone grid arrays p act o alone (messages_report o' is) = reported-alone (entries p) false (listed grid p) o' is
 
-text-alone : (text : List ℕ) (job : Job) (o : Outcome) → runs_on_nodes job.action ≡ false → TextOutcome text job o → o.ran ≡ None
-text-alone text job o alone (text_refused r is) = refl
-text-alone text job o alone (text_accepted p is o' made) = action-alone job.grid job.arrays p job.action o' alone made
+text-alone : (form : SourceForm) (text : List ℕ) (job : Job) (o : Outcome) → runs_on_nodes job.action ≡ false → TextOutcome form text job o → o.ran ≡ None
+text-alone form text job o alone (text_refused r is) = refl
+text-alone form text job o alone (text_accepted p is o' made) = action-alone job.grid job.arrays p job.action o' alone made
 
 same : (words : List (List ℕ)) (job job' : Job) → IsCommand words job → IsCommand words job' → runs_on_nodes job.action ≡ false → runs_on_nodes job'.action ≡ false
 same words job job' command command' alone = subst (λ (j : Job). runs_on_nodes j.action ≡ false) (same_Some job job' (sym command ∙ command')) alone
@@ -231,9 +233,9 @@ same words job job' command command' alone = subst (λ (j : Job). runs_on_nodes 
 top-alone : (words : List (List ℕ)) (bytes : List ℕ) (job : Job) (o : Outcome) → IsCommand words job → runs_on_nodes job.action ≡ false → TopOutcome words bytes o
     → o.ran ≡ None
 top-alone words bytes job o command alone (is_usage none) = refl
-top-alone words bytes job o command alone (is_of_bulk job' command' bulk o' is) = text-alone (bulk_text job'.size) job' o' (same words job job' command command' alone) is
+top-alone words bytes job o command alone (is_of_bulk job' command' bulk o' is) = text-alone Free (bulk_text job'.size) job' o' (same words job job' command command' alone) is
 top-alone words bytes job o command alone (is_too_long job' command' reading long) = refl
-top-alone words bytes job o command alone (is_of_text job' command' reading short o' is) = text-alone bytes job' o' (same words job job' command command' alone) is
+top-alone words bytes job o command alone (is_of_text job' command' reading short o' is) = text-alone (form_of job') bytes job' o' (same words job job' command command' alone) is
 
 alone-ran : (words : List (List ℕ)) (source source' : Port) (job : Job) (o : Outcome) → IsCommand words job → runs_on_nodes job.action ≡ false
     → Meant words source source' o → o.ran ≡ None

@@ -1,10 +1,12 @@
 -- The words that the program is called with.
-use Rattle.std.specs.Prelude.{◌≡◌, Bool, true, false, List, Option, Some, None}
+use Rattle.std.specs.Prelude.{◌≡◌, Bool, true, false, if◌then◌else◌, List, Option, Some, None}
 use Rattle.hpf_words.specs.Parts.{Text}
 use Rattle.hpf_words.specs.Jobs.{job_of}
 use Rattle.hpf_words.specs.declared.job.Action.{Action}
 use Rattle.hpf_words.specs.declared.job.Action.TheVariants.{Run, Bulk}
 use Rattle.hpf_words.specs.declared.job.Job.{Job}
+use Rattle.hpf_reader.specs.declared.source_form.SourceForm.{SourceForm}
+use Rattle.hpf_reader.specs.declared.source_form.SourceForm.TheVariants.{Fixed, Free}
 
 -- the words are this job
 abbrev pub IsCommand : List Text → Job → Type 0
@@ -13,6 +15,10 @@ IsCommand words job = job_of words ≡ Some job
 -- the words are no job
 abbrev pub IsNoCommand : List Text → Type 0
 IsNoCommand words = job_of words ≡ None
+
+-- the source form in which a job has its text
+abbrev pub form_of : Job → SourceForm
+form_of job = if job.fixed then Fixed else Free
 
 -- the actions that run on nodes
 abbrev pub runs_on_nodes : Action → Bool

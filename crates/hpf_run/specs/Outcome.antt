@@ -23,9 +23,11 @@ use Rattle.distributed_run.specs.declared.ran.Ran.{Ran}
 use Rattle.hpf_words.specs.declared.job.Action.{Action}
 use Rattle.hpf_words.specs.declared.job.Action.TheVariants.{Run, Serial, Check, Map, Messages, Bulk}
 use Rattle.hpf_words.specs.declared.job.Job.{Job}
+use Rattle.hpf_reader.specs.declared.source_form.SourceForm.{SourceForm}
+use Rattle.hpf_reader.specs.declared.source_form.SourceForm.TheVariants.{Free}
 use Rattle.hpf_run.specs.Accepted.{IsAccepted, IsRefused}
 use Rattle.hpf_run.specs.BulkText.{bulk_text}
-use Rattle.hpf_run.specs.Command.{IsCommand, IsNoCommand, reads, reads_source}
+use Rattle.hpf_run.specs.Command.{IsCommand, IsNoCommand, form_of, reads, reads_source}
 use Rattle.hpf_run.specs.declared.answer.Answer.{Answer}
 
 -- a status, the bytes for standard output and standard error, and what a run on nodes leaves, where there was one
@@ -41,7 +43,7 @@ told status out err = record { status = status; out = out; err = err; ran = None
 
 -- the lines of standard error
 abbrev pub usage_line : List ℕ
-usage_line = codes "hpf: usage: hpf ACTION [--grid G] [--threads T] [--size N] [--arrays]\n"
+usage_line = codes "hpf: usage: hpf ACTION [--grid G] [--threads T] [--size N] [--arrays] [--fixed]\n"
 
 abbrev pub read_fault_line : List ℕ
 read_fault_line = codes "hpf: read fault\n"
@@ -94,19 +96,19 @@ pub data ActionOutcome (grid : List ℕ) (arrays : Bool) (p : MainProgram) : Act
   bulk_report : (o : Outcome) → IsRunReport grid arrays p o → ActionOutcome grid arrays p Bulk o
   messages_report : (o : Outcome) → IsReportOf (entries p) false (listed grid p) None o → ActionOutcome grid arrays p Messages o
 
--- what a job makes of a text: whatever the action, a text that isn't accepted on the grid is refused
-pub data TextOutcome (text : List ℕ) (job : Job) : Outcome → Type 0 where
-  text_refused : (r : Refusal) → IsRefused job.grid text r → TextOutcome text job (told Refused [] (refusal_line r))
-  text_accepted : (p : MainProgram) → IsAccepted job.grid text p → (o : Outcome) → ActionOutcome job.grid job.arrays p job.action o → TextOutcome text job o
+-- what a job makes of a text in a source form: whatever the action, a text that isn't accepted on the grid is refused
+pub data TextOutcome (form : SourceForm) (text : List ℕ) (job : Job) : Outcome → Type 0 where
+  text_refused : (r : Refusal) → IsRefused form job.grid text r → TextOutcome form text job (told Refused [] (refusal_line r))
+  text_accepted : (p : MainProgram) → IsAccepted form job.grid text p → (o : Outcome) → ActionOutcome job.grid job.arrays p job.action o → TextOutcome form text job o
 
--- the outcome of words and a source's bytes; bulk work is the run of its own text, whatever the source has
+-- the outcome of words and a source's bytes; bulk work is the run of its own text, which is in the free form, whatever the source has
 pub data TopOutcome (words : List (List ℕ)) (bytes : List ℕ) : Outcome → Type 0 where
   is_usage : IsNoCommand words → TopOutcome words bytes (told Usage [] usage_line)
-  is_of_bulk : (job : Job) → IsCommand words job → job.action ≡ Bulk → (o : Outcome) → TextOutcome (bulk_text job.size) job o → TopOutcome words bytes o
+  is_of_bulk : (job : Job) → IsCommand words job → job.action ≡ Bulk → (o : Outcome) → TextOutcome Free (bulk_text job.size) job o → TopOutcome words bytes o
   is_too_long : (job : Job) → IsCommand words job → reads_source job.action ≡ true → MAX_SOURCE_BYTES < length bytes
       → TopOutcome words bytes (told TooLong [] too_long_line)
   is_of_text : (job : Job) → IsCommand words job → reads_source job.action ≡ true → length bytes ≤ MAX_SOURCE_BYTES → (o : Outcome)
-      → TextOutcome bytes job o → TopOutcome words bytes o
+      → TextOutcome (form_of job) bytes job o → TopOutcome words bytes o
 
 -- what a port tells: its bytes, where it tells them, and its count of faults
 pub record Port : Type 0 where

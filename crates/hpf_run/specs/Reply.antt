@@ -6,6 +6,7 @@ use Rattle.hpf_base.specs.declared.status.Status.TheVariants as status
 use Rattle.syntax_tree.specs.MainProgram.{MainProgram}
 use Rattle.hpf_words.specs.declared.job.Action.{Action}
 use Rattle.hpf_words.specs.declared.job.Job.{Job}
+use Rattle.hpf_reader.specs.declared.source_form.SourceForm.{SourceForm}
 use Rattle.hpf_run.specs.declared.reply.Reply.{Reply}
 use Rattle.hpf_run.specs.declared.reply.Reply.TheVariants.{Done, Fault, Refused, Usage, ReadFault, TooLong, Memory}
 use Rattle.name_table.specs.declared.names.Entry.{Entry}
@@ -31,9 +32,9 @@ abbrev pub no_memory : Outcome
 no_memory = told status.Memory [] memory_line
 
 -- what a job makes of a text, or want of memory
-pub data TextMeant (text : List ℕ) (job : Job) : Outcome → Type 0 where
-  text_outcome : (o : Outcome) → TextOutcome text job o → TextMeant text job o
-  text_memory : TextMeant text job no_memory
+pub data TextMeant (form : SourceForm) (text : List ℕ) (job : Job) : Outcome → Type 0 where
+  text_outcome : (o : Outcome) → TextOutcome form text job o → TextMeant form text job o
+  text_memory : TextMeant form text job no_memory
 
 -- what an action makes of an accepted text, or want of memory
 pub data ActionMeant (grid : List ℕ) (arrays : Bool) (p : MainProgram) (act : Action) : Outcome → Type 0 where

@@ -1,13 +1,14 @@
 //! The call for what waits for nobody.
 
 ghost use Rattle.std.specs.Prelude.{◌≡◌, ℕ, List, None, false};
-ghost use Rattle.hpf_run.specs.Command.{IsCommand, runs_on_nodes};
+ghost use Rattle.hpf_run.specs.Command.{IsCommand, form_of, runs_on_nodes};
 ghost use Rattle.hpf_run.specs.Outcome.{IsAnswer, Meant, port};
 ghost use Rattle.hpf_run.specs.Reply.{TextMeant, outcome_of};
 
 use crate::accept::accept;
 use crate::actions::reply_to_accepted;
 use crate::delivery::deliver;
+use crate::form::form_of;
 use crate::reading::read_text;
 use crate::reply::{Reply, reply_refused};
 use hpf_base::{StaticError, Status};
@@ -50,9 +51,9 @@ fn reply_alone<S: Source>(alloc: Global, job: &Job, src: &mut S) -> Reply
 /// What the job makes of a text.
 fn reply_to_text(alloc: Global, job: &Job, text: &[u8]) -> Reply
     requires { runs_on_nodes job.now.action ≡ false }
-    ensures { TextMeant text.now job.now (outcome_of result) }
+    ensures { TextMeant (form_of job.now) text.now job.now (outcome_of result) }
 {
-    match accept(alloc, &job.grid, text) {
+    match accept(alloc, form_of(job), &job.grid, text) {
         Ok(accepted) => reply_to_accepted(alloc, job, &accepted),
         Err(StaticError::Refused(refusal)) => reply_refused(alloc, refusal),
         Err(StaticError::Memory) => Reply::Memory,

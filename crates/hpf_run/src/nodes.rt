@@ -14,6 +14,7 @@ use accepted_program::AcceptedProgram;
 use distributed_run::{NodesOutcome, run_on_nodes};
 use hpf_base::{OutOfMemory, StaticError};
 use hpf_ports::Gate;
+use hpf_reader::SourceForm;
 use hpf_words::Job;
 use name_table::Names;
 use run_report::arrays_text;
@@ -22,18 +23,19 @@ use std::alloc::Global;
 use std::sync::Wait;
 use std::thread::Threads;
 
-/// What a job that runs on nodes makes of a text, on crews of threads. It may wait.
+/// What a job that runs on nodes makes of a text in a source form, on crews of threads. It may wait.
 pub fn run_text<R: Threads + Wait + Sync, G: Gate>(
     rt: &R,
     alloc: Global,
     job: &Job,
+    form: SourceForm,
     text: &[u8],
     gate: &G,
 ) -> Reply
     requires { runs_on_nodes job.now.action ≡ true }
-    ensures { TextMeant text.now job.now (outcome_of result) }
+    ensures { TextMeant form text.now job.now (outcome_of result) }
 {
-    match accept(alloc, &job.grid, text) {
+    match accept(alloc, form, &job.grid, text) {
         Ok(accepted) => run_accepted(rt, alloc, job, &accepted, gate),
         Err(StaticError::Refused(refusal)) => reply_refused(alloc, refusal),
         Err(StaticError::Memory) => Reply::Memory,

@@ -60,7 +60,7 @@ impl Reply {
             Reply::Done(_, _) => &[],
             Reply::Fault(_, line, _) | Reply::Refused(line) => line,
             Reply::Usage => {
-                b"hpf: usage: hpf ACTION [--grid G] [--threads T] [--size N] [--arrays]\n"
+                b"hpf: usage: hpf ACTION [--grid G] [--threads T] [--size N] [--arrays] [--fixed]\n"
             }
             Reply::ReadFault => b"hpf: read fault\n",
             Reply::TooLong => b"hpf: source too long\n",

@@ -10,10 +10,12 @@ use crate::alone::hpf_alone;
 use crate::answer::Answer;
 use crate::bulk::bulk_text;
 use crate::delivery::deliver;
+use crate::form::form_of;
 use crate::nodes::run_text;
 use crate::reading::read_text;
 use crate::reply::Reply;
 use hpf_ports::{Gate, Sink, Source};
+use hpf_reader::SourceForm;
 use hpf_words::{Action, Job, WordsError, read_words};
 use std::alloc::Global;
 use std::sync::Wait;
@@ -22,14 +24,14 @@ use std::thread::Threads;
 /// Runs the program on words, a source and two sinks, and answers its status and what a run on nodes leaves.
 ///
 /// The answer is what the words and the source mean: the outcome of the text, or a read fault where the source's count of faults rose in
-/// this call, or want of memory, which may come without a cause. Whatever the action, a text is refused for the first breach of the first
-/// stage that has one: lines, tokens, statements and directives, the nest, names, ranks, mappings onto the grid, bodies. For a text that is
-/// accepted `check` prints so, and `map` prints what each node owns of each array when the program starts; `serial` runs the program in one
-/// order, and `run` on the nodes of the grid, and both answer what the program means in one order: what it prints and, with `--arrays`, its
-/// last arrays, or what it prints before its first fault, and that fault. `bulk` runs the program of bulk work as `run` does, and reads no source.
-/// `messages` prints a line for each message that the nodes send for array statements, reductions, nests of INDEPENDENT loops and
-/// REDISTRIBUTEs, up to that fault, and then that fault. A nest of INDEPENDENT loops with two iterations that interfere is a fault at its entry
-/// (HPF 2.0, 5.1).
+/// this call, or want of memory, which may come without a cause. The text is in the free source form or, with `--fixed`, in the fixed one
+/// (Fortran 95, 3.3). Whatever the action, a text is refused for the first breach of the first stage that has one: lines, tokens, statements
+/// and directives, the nest, names, ranks, mappings onto the grid, bodies. For a text that is accepted `check` prints so, and `map` prints
+/// what each node owns of each array when the program starts; `serial` runs the program in one order, and `run` on the nodes of the grid, and
+/// both answer what the program means in one order: what it prints and, with `--arrays`, its last arrays, or what it prints before its first
+/// fault, and that fault. `bulk` runs the program of bulk work as `run` does, and reads no source. `messages` prints a line for each message
+/// that the nodes send for array statements, reductions, nests of INDEPENDENT loops and REDISTRIBUTEs, up to that fault, and then that fault.
+/// A nest of INDEPENDENT loops with two iterations that interfere is a fault at its entry (HPF 2.0, 5.1).
 ///
 /// Under `run` and `bulk` the nodes are stepped by crews, each on a thread of its own, and exchange their letters through queues. Whatever the
 /// number of threads and the order of their steps, the answer is the same, where the call returns; that it returns isn't said. Where the status is
@@ -105,7 +107,7 @@ fn reply_run<R: Threads + Wait + Sync, S: Source, G: Gate>(
         (port (S.left src.old) (S.faults src.old)) (port (S.left src.new) (S.faults src.new)) (outcome_of result) }
 {
     match read_text(alloc, src) {
-        Ok(text) => run_text(rt, alloc, job, &text, gate),
+        Ok(text) => run_text(rt, alloc, job, form_of(job), &text, gate),
         Err(reply) => reply,
     }
 }
@@ -122,7 +124,7 @@ fn reply_bulk<R: Threads + Wait + Sync, G: Gate>(
     ensures { (words : List (List ℕ)) (source : Port) → IsCommand words job.now → Meant words source source (outcome_of result) }
 {
     match bulk_text(alloc, job.size) {
-        Ok(text) => run_text(rt, alloc, job, &text, gate),
+        Ok(text) => run_text(rt, alloc, job, SourceForm::Free, &text, gate),
         Err(_) => Reply::Memory,
     }
 }

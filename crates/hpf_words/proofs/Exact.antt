@@ -12,7 +12,7 @@ use Rattle.clap.specs.Faults.{fault_of}
 use Rattle.hpf_base.specs.ElementOrder.{product}
 use Rattle.hpf_base.specs.declared.limits.TheConstants.{MAX_NODES}
 use Rattle.hpf_words.specs.Command.{hpf_app}
-use Rattle.hpf_words.specs.Parts.{Text, Part, Field, Valued, Word, ending, given, waiting, plain, wrong, value_of, flag, action, grid, threads, size, arrays, name_of, option_word, option_named, joined, positional, parts_with, parts_from, word_of, after_two, begins_with_dash, name_in, value_in}
+use Rattle.hpf_words.specs.Parts.{Text, Part, Field, Flag, Valued, Word, ending, given, waiting, plain, wrong, value_of, flag, action, grid, threads, size, arrays, fixed, name_of, option_word, option_named, joined, positional, parts_with, parts_from, word_of, after_two, begins_with_dash, name_in, value_in}
 use Rattle.hpf_words.specs.Jobs.{between, is_given, is_once, same, text_of, job_by, job_in, job_of, action_of, grid_of, number_of, extents_of, threads_of, size_of, is_x, is_small, or_default}
 use Rattle.hpf_words.specs.declared.job.Job.{Job}
 use Rattle.hpf_words.proofs.Given.{same_refl, same_is}
@@ -48,29 +48,32 @@ after : {X Y : Type 0} (f : X → Option Y) → ((x : X) → f x ≡ None) → (
 after f e None = refl
 after f e (Some x) = e x
 
-bad_action : (w : Text) (g t n : Option Text) (b : Bool) → action_of w ≡ None → job_by (Some w) g t n b ≡ None
-bad_action w g t n b e = rw e refl
+bad_action : (w : Text) (g t n : Option Text) (b c : Bool) → action_of w ≡ None → job_by (Some w) g t n b c ≡ None
+bad_action w g t n b c e = rw e refl
 
-bad_grid : (w : Option Text) (g : Text) (t n : Option Text) (b : Bool) → grid_of g ≡ None → job_by w (Some g) t n b ≡ None
-bad_grid w g t n b e = after _ (λ act. rw e refl) (option_and_then action_of w)
+bad_grid : (w : Option Text) (g : Text) (t n : Option Text) (b c : Bool) → grid_of g ≡ None → job_by w (Some g) t n b c ≡ None
+bad_grid w g t n b c e = after _ (λ act. rw e refl) (option_and_then action_of w)
 
-bad_threads : (w g : Option Text) (t : Text) (n : Option Text) (b : Bool) → threads_of t ≡ None → job_by w g (Some t) n b ≡ None
-bad_threads w g t n b e = after _ (λ act. after _ (λ ex. rw e refl) (or_default grid_of (1 ∷ []) g)) (option_and_then action_of w)
+bad_threads : (w g : Option Text) (t : Text) (n : Option Text) (b c : Bool) → threads_of t ≡ None → job_by w g (Some t) n b c ≡ None
+bad_threads w g t n b c e = after _ (λ act. after _ (λ ex. rw e refl) (or_default grid_of (1 ∷ []) g)) (option_and_then action_of w)
 
-bad_size : (w g t : Option Text) (n : Text) (b : Bool) → size_of n ≡ None → job_by w g t (Some n) b ≡ None
-bad_size w g t n b e =
+bad_size : (w g t : Option Text) (n : Text) (b c : Bool) → size_of n ≡ None → job_by w g t (Some n) b c ≡ None
+bad_size w g t n b c e =
     after _ (λ act. after _ (λ ex. after _ (λ crews. rw e refl) (or_default threads_of (product ex) t)) (or_default grid_of (1 ∷ []) g)) (option_and_then action_of w)
 
 abbrev job_from : List Part → Option Job
-job_from ps = job_by (text_of action ps) (text_of (value_of grid) ps) (text_of (value_of threads) ps) (text_of (value_of size) ps) (is_given (flag arrays) ps)
+job_from ps = job_by (text_of action ps) (text_of (value_of grid) ps) (text_of (value_of threads) ps) (text_of (value_of size) ps) (is_given (flag arrays) ps) (is_given (flag fixed) ps)
 
 dashed_field : (ps : List Part) (f : Field) (bs : Text) → has_text f ≡ true → text_of f ps ≡ Some (45 ∷ bs) → job_from ps ≡ None
-dashed_field ps (value_of grid) bs h e = rw e (bad_grid (text_of action ps) (45 ∷ bs) (text_of (value_of threads) ps) (text_of (value_of size) ps) (is_given (flag arrays) ps) (grid_none bs))
-dashed_field ps (value_of threads) bs h e = rw e (bad_threads (text_of action ps) (text_of (value_of grid) ps) (45 ∷ bs) (text_of (value_of size) ps) (is_given (flag arrays) ps) (number_none bs 2 1 64))
+dashed_field ps (value_of grid) bs h e =
+    rw e (bad_grid (text_of action ps) (45 ∷ bs) (text_of (value_of threads) ps) (text_of (value_of size) ps) (is_given (flag arrays) ps) (is_given (flag fixed) ps) (grid_none bs))
+dashed_field ps (value_of threads) bs h e =
+    rw e (bad_threads (text_of action ps) (text_of (value_of grid) ps) (45 ∷ bs) (text_of (value_of size) ps) (is_given (flag arrays) ps) (is_given (flag fixed) ps) (number_none bs 2 1 64))
 dashed_field ps (value_of size) bs h e =
-    rw e (bad_size (text_of action ps) (text_of (value_of grid) ps) (text_of (value_of threads) ps) (45 ∷ bs) (is_given (flag arrays) ps) (number_none bs 3 8 512))
+    rw e (bad_size (text_of action ps) (text_of (value_of grid) ps) (text_of (value_of threads) ps) (45 ∷ bs) (is_given (flag arrays) ps) (is_given (flag fixed) ps) (number_none bs 3 8 512))
 dashed_field ps (flag g) bs h e = absurd (true≢false (sym h))
-dashed_field ps action bs h e = rw e (bad_action (45 ∷ bs) (text_of (value_of grid) ps) (text_of (value_of threads) ps) (text_of (value_of size) ps) (is_given (flag arrays) ps) refl)
+dashed_field ps action bs h e =
+    rw e (bad_action (45 ∷ bs) (text_of (value_of grid) ps) (text_of (value_of threads) ps) (text_of (value_of size) ps) (is_given (flag arrays) ps) (is_given (flag fixed) ps) refl)
 
 -- ---- where some text begins with a dash
 
@@ -228,8 +231,8 @@ abbrev pub text_in : List Text → Field → Option Text
 text_in words f = first_of (name_of f) (matches_of hpf_app words)
 
 abbrev pub IsTaken : List Text → Type 0
-IsTaken words = (b : Bool) × (one_of (name_of (flag arrays)) (matches_of hpf_app words) ≡ Some (if b then codes "true" else codes "false"))
-    × (job_of words ≡ job_by (text_in words action) (text_in words (value_of grid)) (text_in words (value_of threads)) (text_in words (value_of size)) b)
+IsTaken words = (b : Flag → Bool) × ((g : Flag) → one_of (name_of (flag g)) (matches_of hpf_app words) ≡ Some (if b g then codes "true" else codes "false"))
+    × (job_of words ≡ job_by (text_in words action) (text_in words (value_of grid)) (text_in words (value_of threads)) (text_in words (value_of size)) (b arrays) (b fixed))
 
 found : (words : List Text) (ps : List Part) → lenient None words ≡ Some ps → is_once ps ≡ true → rows_left words ≡ rows ps → IsTaken words
 found words ps read once left =
@@ -239,10 +242,10 @@ found words ps read once left =
     let extents = text (value_of grid) (text_found (value_of grid) ps refl refl) in
     let crews = text (value_of threads) (text_found (value_of threads) ps refl refl) in
     let order = text (value_of size) (text_found (value_of size) ps refl refl) in (
-      is_given (flag arrays) ps,
-      ap (one_of (name_of (flag arrays))) m ∙ flag_found arrays ps refl,
+      λ g. is_given (flag g) ps,
+      λ g. ap (one_of (name_of (flag g))) m ∙ flag_found g ps,
       lenient_job words ∙ ap (option_and_then job_in) read ∙ ap (λ b. if b then job_from ps else None) once
-          ∙ (λ i. job_by (act i) (extents i) (crews i) (order i) (is_given (flag arrays) ps)),
+          ∙ (λ i. job_by (act i) (extents i) (crews i) (order i) (is_given (flag arrays) ps) (is_given (flag fixed) ps)),
     )
 
 pub taken : (words : List Text) → fault_of hpf_app words ≡ [] → IsTaken words

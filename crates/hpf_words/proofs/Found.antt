@@ -14,7 +14,7 @@ use Rattle.clap.specs.Kinds.{Kinds, or_else}
 use Rattle.clap.specs.declared.parser.matches.ValueSource.TheVariants.{DefaultValue}
 use Rattle.clap.specs.declared.builder.value_parser.Reading.TheVariants.{AsWritten}
 use Rattle.hpf_words.specs.Command.{hpf_app}
-use Rattle.hpf_words.specs.Parts.{Text, Part, Field, Flag, value_of, flag, action, name_of}
+use Rattle.hpf_words.specs.Parts.{Text, Part, Field, Flag, value_of, flag, action, arrays, fixed, name_of}
 use Rattle.hpf_words.specs.Jobs.{is_given, same, text_of}
 use Rattle.hpf_words.proofs.Rules.{rule, fields, R, S, defaults_pass}
 use Rattle.hpf_words.proofs.Given.{same_is}
@@ -151,9 +151,12 @@ text_found f ps has none = ap (option_and_then (λ (r : Row). slice_get r.values
     go (inl x) = rw x.0 refl
     go (inr x) = rw x.1 (ap Some (kept f x.0 has))
 
-pub flag_found : (g : Flag) (ps : List Part) → default_in (flag g) fields ≡ Some (absent g)
-    → one_of (name_of (flag g)) (all_rows (rows ps)) ≡ Some (if is_given (flag g) ps then codes "true" else codes "false")
-flag_found g ps some = ap (option_and_then row_text) (row_found (flag g) ps ∙ ap (option_or (option_map row (find (λ p. same (flag g) p.0) ps))) some) ∙ go (found_part (flag g) ps)
+absent_in : (g : Flag) → default_in (flag g) fields ≡ Some (absent g)
+absent_in arrays = refl
+absent_in fixed = refl
+
+pub flag_found : (g : Flag) (ps : List Part) → one_of (name_of (flag g)) (all_rows (rows ps)) ≡ Some (if is_given (flag g) ps then codes "true" else codes "false")
+flag_found g ps = ap (option_and_then row_text) (row_found (flag g) ps ∙ ap (option_or (option_map row (find (λ p. same (flag g) p.0) ps))) (absent_in g)) ∙ go (found_part (flag g) ps)
   where
     go : IsFound (flag g) ps → option_and_then row_text (option_or (option_map row (find (λ p. same (flag g) p.0) ps)) (Some (absent g)))
         ≡ Some (if is_given (flag g) ps then codes "true" else codes "false")

@@ -7,7 +7,7 @@ use Rattle.std.proofs.lemmas.Bool.{and_parts, and_right, or_left, or_parts, or_r
 use Rattle.std.proofs.lemmas.List.Folds.{list_any-append}
 use Rattle.std.proofs.lemmas.Option.{same_Some}
 use Rattle.std.proofs.lemmas.Slice.Eq.{bytes_eq-Decides}
-use Rattle.hpf_words.specs.Parts.{Part, Field, value_of, flag, action, grid, threads, size, arrays, name_of}
+use Rattle.hpf_words.specs.Parts.{Part, Field, value_of, flag, action, grid, threads, size, arrays, fixed, name_of}
 use Rattle.hpf_words.specs.Jobs.{same, is_given, is_once}
 use Rattle.hpf_words.proofs.Rules.{fields}
 
@@ -18,6 +18,7 @@ named (value_of grid) = refl
 named (value_of threads) = refl
 named (value_of size) = refl
 named (flag arrays) = refl
+named (flag fixed) = refl
 named action = refl
 
 -- fields of one name are one
@@ -48,6 +49,7 @@ not_action (value_of grid) o = refl
 not_action (value_of threads) o = refl
 not_action (value_of size) o = refl
 not_action (flag arrays) o = refl
+not_action (flag fixed) o = refl
 not_action action o = absurd (true≢false (sym o))
 
 -- ---- parts

@@ -5,7 +5,7 @@ use Rattle.clap.specs.Walk.{Rule, Row, arg_by_id, with_default, has_row}
 use Rattle.clap.specs.Simple.{Shape, built, filled, with_index, new_rule}
 use Rattle.clap.specs.Kinds.{Kinds, or_else}
 use Rattle.clap.specs.Faults.{default_fault, defaults_fault, is_simple_and_free}
-use Rattle.hpf_words.specs.Parts.{Field, value_of, flag, action, grid, threads, size, arrays, name_of, options}
+use Rattle.hpf_words.specs.Parts.{Field, value_of, flag, action, grid, threads, size, arrays, fixed, name_of, options}
 use Rattle.hpf_words.specs.Command.{hpf_app, value_rule, flag_rule}
 
 abbrev pub rule : Field → Rule
@@ -33,6 +33,7 @@ by_id (value_of grid) = refl
 by_id (value_of threads) = refl
 by_id (value_of size) = refl
 by_id (flag arrays) = refl
+by_id (flag fixed) = refl
 by_id action = refl
 
 abbrev pub nothing : Kinds
@@ -42,18 +43,18 @@ nothing = []
 no_fault : (rows : List Row) (f : Field) → default_fault rows (rule f) ≡ []
 no_fault rows f = go f
   where
-    fixed : (b : Bool) (k : Kinds) → cond (b || true) [] k ≡ []
-    fixed true k = refl
-    fixed false k = refl
+    always : (b : Bool) (k : Kinds) → cond (b || true) [] k ≡ []
+    always true k = refl
+    always false k = refl
 
     either : (b : Bool) → cond (b || false) nothing nothing ≡ nothing
     either true = refl
     either false = refl
 
     go : (f : Field) → default_fault rows (rule f) ≡ []
-    go (value_of v) = fixed (has_row (name_of (value_of v)) rows) _
+    go (value_of v) = always (has_row (name_of (value_of v)) rows) _
     go (flag g) = either (has_row (name_of (flag g)) rows)
-    go action = fixed (has_row (name_of action) rows) _
+    go action = always (has_row (name_of action) rows) _
 
 pub defaults_pass : (fs : List Field) (rows : List Row) → defaults_fault rows (map rule fs) ≡ []
 unfolding defaults_fault

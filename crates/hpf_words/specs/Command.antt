@@ -13,7 +13,7 @@ abbrev pub flag_rule : Text → Rule
 flag_rule name = record (new_rule name) { long = Some name; action = Some SetTrue }
 
 abbrev pub hpf_app : App
-hpf_app = with_rule (with_rule (with_rule (with_rule (with_rule
+hpf_app = with_rule (with_rule (with_rule (with_rule (with_rule (with_rule
     (on_top (λ s. record s { no_binary_name = true; disable_help_flag = true }) (new_app (codes "hpf")))
     (value_rule (codes "grid"))) (value_rule (codes "threads"))) (value_rule (codes "size")))
-    (flag_rule (codes "arrays"))) (new_rule (codes "action"))
+    (flag_rule (codes "arrays"))) (flag_rule (codes "fixed"))) (new_rule (codes "action"))

@@ -6,7 +6,7 @@ use Rattle.std.specs.Str.{bytes_eq, all_ascii_digits}
 use Rattle.std.specs.Str.Parse.{digits_value}
 use Rattle.hpf_base.specs.ElementOrder.{product}
 use Rattle.hpf_base.specs.declared.limits.TheConstants.{MAX_NODES, MAX_RANK}
-use Rattle.hpf_words.specs.Parts.{Text, Field, value_of, flag, action, grid, threads, size, arrays, name_of, Part, parts_of}
+use Rattle.hpf_words.specs.Parts.{Text, Field, value_of, flag, action, grid, threads, size, arrays, fixed, name_of, Part, parts_of}
 use Rattle.hpf_words.specs.declared.job.Action.{Action}
 use Rattle.hpf_words.specs.declared.job.Job.{Job}
 use Rattle.hpf_words.specs.declared.job.Action.TheVariants.{Run, Serial, Check, Map, Messages, Bulk}
@@ -85,22 +85,27 @@ abbrev pub takes_arrays : Action → Bool
 takes_arrays Run = true
 takes_arrays _ = false
 
+-- every action that reads a source
+abbrev pub takes_fixed : Action → Bool
+takes_fixed Bulk = false
+takes_fixed _ = true
+
 -- each option that is given is allowed with the action
-abbrev pub is_allowed : Action → Bool → Bool → Bool → Bool
-is_allowed act some_threads some_size some_arrays = (not some_threads || takes_threads act)
-    && ((not some_size || takes_size act) && (not some_arrays || takes_arrays act))
+abbrev pub is_allowed : Action → Bool → Bool → Bool → Bool → Bool
+is_allowed act some_threads some_size some_arrays some_fixed = (not some_threads || takes_threads act)
+    && ((not some_size || takes_size act) && ((not some_arrays || takes_arrays act) && (not some_fixed || takes_fixed act)))
 
 -- what an option's text says, or the default where the option isn't given
 abbrev pub or_default : {X : Type 0} → (Text → Option X) → X → Option Text → Option X
 or_default read default None = Some default
 or_default read default (Some text) = read text
 
--- the job by its texts: the action, the grid, the threads, the size, and whether `--arrays` stands
-abbrev pub job_by : Option Text → Option Text → Option Text → Option Text → Bool → Option Job
-job_by word g t n some_arrays =
+-- the job by its texts: the action, the grid, the threads, the size, and whether `--arrays` and whether `--fixed` stands
+abbrev pub job_by : Option Text → Option Text → Option Text → Option Text → Bool → Bool → Option Job
+job_by word g t n some_arrays some_fixed =
     option_and_then (λ act. option_and_then (λ extents. option_and_then (λ crews. option_and_then (λ order.
-    if is_allowed act (is_some t) (is_some n) some_arrays
-    then Some (record { action = act; grid = extents; threads = crews; size = order; arrays = some_arrays })
+    if is_allowed act (is_some t) (is_some n) some_arrays some_fixed
+    then Some (record { action = act; grid = extents; threads = crews; size = order; arrays = some_arrays; fixed = some_fixed })
     else None)
     (or_default size_of 64 n))
     (or_default threads_of (product extents) t))
@@ -109,7 +114,7 @@ job_by word g t n some_arrays =
 
 abbrev pub job_in : List Part → Option Job
 job_in ps = if is_once ps
-    then job_by (text_of action ps) (text_of (value_of grid) ps) (text_of (value_of threads) ps) (text_of (value_of size) ps) (is_given (flag arrays) ps)
+    then job_by (text_of action ps) (text_of (value_of grid) ps) (text_of (value_of threads) ps) (text_of (value_of size) ps) (is_given (flag arrays) ps) (is_given (flag fixed) ps)
     else None
 
 -- the job that the words are; None where they are none

@@ -17,6 +17,7 @@ pub data Valued : Type 0 where
 -- the options that take none
 pub data Flag : Type 0 where
   arrays : Flag
+  fixed : Flag
 
 -- what can be given
 pub data Field : Type 0 where
@@ -30,10 +31,11 @@ name_of (value_of grid) = codes "grid"
 name_of (value_of threads) = codes "threads"
 name_of (value_of size) = codes "size"
 name_of (flag arrays) = codes "arrays"
+name_of (flag fixed) = codes "fixed"
 name_of action = codes "action"
 
 abbrev pub options : List Field
-options = value_of grid ∷ value_of threads ∷ value_of size ∷ flag arrays ∷ []
+options = value_of grid ∷ value_of threads ∷ value_of size ∷ flag arrays ∷ flag fixed ∷ []
 
 abbrev pub option_named : Text → Option Field
 option_named name = find (λ f. bytes_eq (name_of f) name) options

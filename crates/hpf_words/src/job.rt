@@ -39,7 +39,7 @@ pub enum WordsError {
 }
 
 /// What the words ask for: the action and, for it, the arrangement of the nodes, the number of threads, the size of the bulk
-/// work, and whether the last arrays are printed too. What isn't given is at its default.
+/// work, whether the last arrays are printed too, and the source form. What isn't given is at its default.
 #[derive(Debug, Drop)]
 pub struct Job {
     pub action: Action,
@@ -49,6 +49,8 @@ pub struct Job {
     /// From 8 to 512.
     pub size: u32,
     pub arrays: bool,
+    /// Whether the text is in the fixed source form.
+    pub fixed: bool,
 }
 
 /// The job that the words are, in their order and without the program's own name. `Usage` comes only where they are no
@@ -64,10 +66,11 @@ pub fn read_words(alloc: Global, words: &[String]) -> Result<Job, WordsError>
 /// The job that the texts are.
 fn job_of_texts(alloc: Global, texts: &Texts<'_>) -> Result<Job, WordsError>
     ensures ok { IfOk result (λ job. job_by (option_map (λ s. s.now) texts.now.action) (option_map (λ s. s.now) texts.now.grid)
-        (option_map (λ s. s.now) texts.now.threads) (option_map (λ s. s.now) texts.now.size) texts.now.arrays ≡ Some job) }
+        (option_map (λ s. s.now) texts.now.threads) (option_map (λ s. s.now) texts.now.size)
+        texts.now.arrays texts.now.fixed ≡ Some job) }
     ensures err { IfErr result (λ e. e ≡ WordsError.Usage → job_by (option_map (λ s. s.now) texts.now.action)
         (option_map (λ s. s.now) texts.now.grid) (option_map (λ s. s.now) texts.now.threads) (option_map (λ s. s.now) texts.now.size)
-        texts.now.arrays ≡ None) }
+        texts.now.arrays texts.now.fixed ≡ None) }
 {
     let Some(action) = action_in(texts.action) else {
         return Err(WordsError::Usage);
@@ -86,6 +89,7 @@ fn job_of_texts(alloc: Global, texts: &Texts<'_>) -> Result<Job, WordsError>
         texts.threads.is_some(),
         texts.size.is_some(),
         texts.arrays,
+        texts.fixed,
     ) {
         return Err(WordsError::Usage);
     }
@@ -95,6 +99,7 @@ fn job_of_texts(alloc: Global, texts: &Texts<'_>) -> Result<Job, WordsError>
         threads,
         size,
         arrays: texts.arrays,
+        fixed: texts.fixed,
     })
 }
 

@@ -1,11 +1,11 @@
 //! The words of a command line.
 //!
-//! Comes in: the words after the program's own name, `ACTION [--grid G] [--threads T] [--size N] [--arrays]`. Goes out: the
-//! job that they are, or that they are none. What holds in between: the words are read from left to right.
+//! Comes in: the words after the program's own name, `ACTION [--grid G] [--threads T] [--size N] [--arrays] [--fixed]`. Goes
+//! out: the job that they are, or that they are none. What holds in between: the words are read from left to right.
 //!
 //! - After the first word `--` every word is positional.
 //! - Before it, `--grid`, `--threads` and `--size` have their value after `=` or as the next word, which then may not begin
-//!   with `-`. `--arrays` has none. No other word may begin with `-`, and no option may stand twice.
+//!   with `-`. `--arrays` and `--fixed` have none. No other word may begin with `-`, and no option may stand twice.
 //! - One word is positional: the action, `run`, `serial`, `check`, `map`, `messages` or `bulk`.
 //!
 //! | option | allowed with | its value | where it doesn't stand |
@@ -14,6 +14,7 @@
 //! | `--threads` | `run`, `bulk` | one or two digits, from 1 to 64 | as many as nodes |
 //! | `--size` | `bulk` | one to three digits, from 8 to 512 | 64 |
 //! | `--arrays` | `run` | none | not asked for |
+//! | `--fixed` | every action but `bulk` | none | the free source form |
 //!
 //! Words that break a rule are no job: [`WordsError::Usage`].
 #![tactic(auto)]

@@ -3,7 +3,7 @@
 ghost use Rattle.std.specs.Prelude.{◌≡◌, Some, None, map, string_bytes, option_map, codes, true, false, IfOk, IfErr, ◌↔◌};
 ghost use Rattle.clap.specs.Words.{app_of, rule_of};
 ghost use Rattle.hpf_words.specs.Jobs.{job_by, job_of};
-ghost use Rattle.hpf_words.specs.Command.{hpf_app, value_rule};
+ghost use Rattle.hpf_words.specs.Command.{flag_rule, hpf_app, value_rule};
 
 use crate::job::WordsError;
 use clap::error::ErrorKind;
@@ -18,6 +18,7 @@ pub(crate) struct Texts<'a> {
     pub threads: Option<&'a str>,
     pub size: Option<&'a str>,
     pub arrays: bool,
+    pub fixed: bool,
 }
 
 /// An option that takes one value.
@@ -28,20 +29,26 @@ fn option<'a>(alloc: Global, name: &'a str) -> Arg<'a>
     Arg::new(alloc, name).long(name).action(ArgAction::Set)
 }
 
+/// An option that takes no value.
+fn flag<'a>(alloc: Global, name: &'a str) -> Arg<'a>
+    ensures rule { rule_of result ≡ flag_rule name.entry.now }
+    ensures local { result.global ≡ false }
+{
+    Arg::new(alloc, name).long(name).action(ArgAction::SetTrue)
+}
+
 /// The command line, as `clap` reads it.
 fn command<'a>(alloc: Global) -> Result<Command<'a>, AllocError>
     ensures { IfOk result (λ c. app_of c ≡ hpf_app) }
 {
-    let arrays = Arg::new(alloc, "arrays")
-        .long("arrays")
-        .action(ArgAction::SetTrue);
     Command::new(alloc, "hpf")
         .no_binary_name(true)
         .disable_help_flag(true)
         .arg(option(alloc, "grid"))?
         .arg(option(alloc, "threads"))?
         .arg(option(alloc, "size"))?
-        .arg(arrays)?
+        .arg(flag(alloc, "arrays"))?
+        .arg(flag(alloc, "fixed"))?
         .arg(Arg::new(alloc, "action"))
 }
 
@@ -49,7 +56,7 @@ fn command<'a>(alloc: Global) -> Result<Command<'a>, AllocError>
 /// job that the texts are, if any.
 pub(crate) fn texts_of<'a>(alloc: Global, words: &'a [String]) -> Result<Texts<'a>, WordsError>
     ensures ok { IfOk result (λ t. job_of (map string_bytes words.entry.now) ≡ job_by (option_map (λ s. s.now) t.action)
-        (option_map (λ s. s.now) t.grid) (option_map (λ s. s.now) t.threads) (option_map (λ s. s.now) t.size) t.arrays) }
+        (option_map (λ s. s.now) t.grid) (option_map (λ s. s.now) t.threads) (option_map (λ s. s.now) t.size) t.arrays t.fixed) }
     ensures err { IfErr result (λ e. e ≡ WordsError.Usage → job_of (map string_bytes words.entry.now) ≡ None) }
 {
     let command = match command(alloc) {
@@ -66,6 +73,7 @@ pub(crate) fn texts_of<'a>(alloc: Global, words: &'a [String]) -> Result<Texts<'
         threads: matches.get_str("threads"),
         size: matches.get_str("size"),
         arrays: matches.get_flag("arrays"),
+        fixed: matches.get_flag("fixed"),
     })
 }
 

@@ -105,10 +105,17 @@ pub(crate) fn one_node(alloc: Global) -> Option<Grid>
 }
 
 /// Each option that is given is allowed with the action.
-pub(crate) fn is_allowed(action: Action, threads: bool, size: bool, arrays: bool) -> bool
-    ensures { result ≡ is_allowed action threads size arrays }
+pub(crate) fn is_allowed(
+    action: Action,
+    threads: bool,
+    size: bool,
+    arrays: bool,
+    fixed: bool,
+) -> bool
+    ensures { result ≡ is_allowed action threads size arrays fixed }
 {
     (!threads || matches!(action, Action::Run | Action::Bulk))
         && (!size || matches!(action, Action::Bulk))
         && (!arrays || matches!(action, Action::Run))
+        && (!fixed || !matches!(action, Action::Bulk))
 }

@@ -5,14 +5,14 @@ ghost use Rattle.std.specs.List.{list_all, prefix_len, suffix_len};
 ghost use Rattle.source_lines.specs.PhysicalLines.{is_blank, without_blanks, without_blanks_after};
 
 /// A blank, or a tab, which counts as one.
-fn is_blank(byte: u8) -> bool
+pub fn is_blank(byte: u8) -> bool
     ensures { result ≡ is_blank byte }
 {
     byte == b' ' || byte == b'\t'
 }
 
 /// No byte is there but blanks.
-pub(crate) fn all_blank(bytes: &[u8]) -> bool
+pub fn all_blank(bytes: &[u8]) -> bool
     ensures { result ≡ list_all is_blank bytes.now }
 {
     bytes.iter().all(|b| is_blank(*b))
@@ -44,7 +44,7 @@ fn end_of(bytes: &[u8]) -> usize
 }
 
 /// The bytes without the blanks in front.
-pub(crate) fn without_blanks(bytes: &[u8]) -> &[u8]
+pub fn without_blanks(bytes: &[u8]) -> &[u8]
     ensures { result.now ≡ without_blanks bytes.now }
 {
     &bytes[blanks_before(bytes)..]

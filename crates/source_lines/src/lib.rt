@@ -19,8 +19,10 @@ mod statements;
 mod text;
 mod token;
 
+pub use blanks::{all_blank, is_blank, without_blanks};
 pub use bytes::Bytes;
 pub use line::{LineKind, LogicalLine, LogicalLines};
-pub use line_split::first_line;
+pub use line_split::{first_line, next_line};
+pub use parts::{is_bad_part, is_control, next_part};
 pub use text::logical_lines;
 pub use token::{Token, TokenKind};

@@ -31,8 +31,9 @@ pub fn first_line(text: &[u8]) -> Option<(&[u8], &[u8])>
     }
 }
 
-/// The first line of a text, without a carriage return at its end either.
-pub(crate) fn next_line(text: &[u8]) -> Option<(&[u8], &[u8])>
+/// The first line of a text, without a carriage return at its end either, and the text of the lines after it; None exactly
+/// where the text is empty. It takes no memory.
+pub fn next_line(text: &[u8]) -> Option<(&[u8], &[u8])>
     ensures lines { MatchOption result (physical_lines text.now ≡ []) (λ x. physical_lines text.now ≡ x.0.now ∷ physical_lines x.1.now) }
     ensures shorter { MatchOption result ⊤ (λ x. length x.1.now < length text.now) }
 {

@@ -40,7 +40,7 @@ pub(crate) fn first_part(bytes: &[u8]) -> usize
 }
 
 /// A control byte other than tab.
-fn is_control(byte: u8) -> bool
+pub fn is_control(byte: u8) -> bool
     ensures { result ≡ is_control byte }
 {
     byte.is_ascii_control() && byte != b'\t'
@@ -70,8 +70,9 @@ fn is_barred(kind: LineKind, byte: u8) -> bool
     }
 }
 
-/// A part that may not stand on a line of this kind.
-fn is_bad_part(kind: LineKind, part: &[u8]) -> bool
+/// A part that may not stand on a line of this kind: a text constant that isn't closed or holds a control byte; another control byte than tab, or
+/// a byte from 128; in a directive `;`.
+pub fn is_bad_part(kind: LineKind, part: &[u8]) -> bool
     ensures { result ≡ is_bad_part kind part.now }
 {
     let Some((first, rest)) = part.split_first() else {
@@ -84,8 +85,9 @@ fn is_bad_part(kind: LineKind, part: &[u8]) -> bool
     }
 }
 
-/// The part at the front and what is after it, if it isn't a comment.
-fn next_part(bytes: &[u8]) -> Option<(&[u8], &[u8])>
+/// The part at the front, which is a text constant or a single byte, and what is after it; None exactly where nothing or a comment is there. It
+/// takes no memory.
+pub fn next_part(bytes: &[u8]) -> Option<(&[u8], &[u8])>
     ensures whole { MatchOption result (parts bytes.now ≡ []) (λ x. parts bytes.now ≡ x.0.now ∷ parts x.1.now) }
     ensures shorter { MatchOption result ⊤ (λ x. (bytes.now ≡ x.0.now ++ x.1.now) × (length x.1.now < length bytes.now)) }
 {
