@@ -1,4 +1,5 @@
 pub mod FirstPassing
+pub mod FreeLists
 pub mod Members
 pub mod Exchange
 pub mod Steps

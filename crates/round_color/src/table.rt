@@ -55,6 +55,27 @@ pub(crate) fn color_of(table: &[Option<u32>], nodes: u32, edge: &Pair) -> u32
     }
 }
 
+/// What colour the edge between the end and another node has, where it has one.
+pub(crate) fn color_beside(
+    table: &[Option<u32>],
+    nodes: u32,
+    at_target: bool,
+    node: u32,
+    other: u32,
+) -> Option<u32>
+    requires size { length table.now ≡ nodes * nodes }
+    requires few { nodes ≤ 64 }
+    requires node { node < nodes }
+    requires other { other < nodes }
+    ensures { result ≡ sided at_target (seen nodes table.now) node other }
+{
+    if at_target {
+        color_at(table, nodes, other, node)
+    } else {
+        color_at(table, nodes, node, other)
+    }
+}
+
 /// Whether the edge between the end and another node has the colour.
 fn has_color(
     table: &[Option<u32>],
@@ -70,12 +91,7 @@ fn has_color(
     requires other { other < nodes }
     ensures { result ≡ is_color color (sided at_target (seen nodes table.now) node other) }
 {
-    let found = if at_target {
-        color_at(table, nodes, other, node)
-    } else {
-        color_at(table, nodes, node, other)
-    };
-    match found {
+    match color_beside(table, nodes, at_target, node, other) {
         Some(found) => found == color,
         None => false,
     }

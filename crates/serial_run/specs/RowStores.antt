@@ -1,9 +1,8 @@
 -- Stores by rows of a space: in each row the places follow one another. Private contracts alone cite this.
-use Rattle.std.specs.Prelude.{◌≡◌, ℕ, suc, ◌+◌, ◌/◌, ◌%◌, ◌≤◌, List, length, map, slice_index_or, ℤ, pos}
+use Rattle.std.specs.Prelude.{ℕ, suc, ◌+◌, ◌/◌, ◌%◌, List, length, map, slice_index_or, ℤ, pos}
 use Rattle.std.specs.List.{range_with_len}
 use Rattle.array_meaning.specs.declared.sections.Store.{Store}
 use Rattle.serial_run.specs.declared.row_stores.RowStores.{RowStores}
-use Rattle.serial_run.specs.declared.row_stores.Spot.{Spot}
 use Rattle.serial_run.specs.declared.row_stores.Stores.{Stores}
 use Rattle.serial_run.specs.declared.row_stores.Stores.TheVariants.{Listed, ByRows}
 
@@ -22,10 +21,3 @@ rows_of r = stores_below r.firsts.items (suc r.last) r.values.items (length r.va
 abbrev pub stores_of : Stores → List Store
 stores_of (Listed v) = v.items
 stores_of (ByRows r) = rows_of r
-
--- where a tuple stands: its row, and its place in the row
-pub record IsSpot (n t : ℕ) (x : Spot) : Type 0 where
-  pub row : x.row ≡ t / n
-  pub place : x.place ≡ t % n
-  pub row_within : x.row ≤ t
-  pub place_within : x.place ≤ t

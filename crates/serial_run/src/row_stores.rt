@@ -1,14 +1,13 @@
 //! What assignments to sections store, by rows of their space where the places in each row follow one another.
 
-ghost use Rattle.std.specs.Prelude.{◌≡◌, ◌≤◌, ◌<◌, ◌+◌, ◌^◌, suc, length, slice_index_or, true, IfOk, IfSome, Ok};
+ghost use Rattle.std.specs.Prelude.{◌≡◌, ◌≤◌, suc, length, min, slice_index_or, true, IfOk, IfSome, Ok};
 ghost use Rattle.hpf_base.specs.declared.limits.TheConstants.{MAX_TUPLES};
 ghost use Rattle.array_meaning.specs.Elementals.{each};
 ghost use Rattle.array_meaning.specs.Sections.{positions};
-ghost use Rattle.array_meaning.specs.State.{store};
 ghost use Rattle.strips.specs.Places.{row_length};
 ghost use Rattle.term_values.specs.States.{state_of};
 ghost use Rattle.term_values.specs.Views.{elemental};
-ghost use Rattle.serial_run.specs.RowStores.{IsSpot, rows_of, stores_below, stores_of};
+ghost use Rattle.serial_run.specs.RowStores.{rows_of, stores_below, stores_of};
 ghost use Rattle.serial_run.specs.SectionStores.{branch_mask, kept_of, masked_store, stored_each};
 
 use crate::section_assignments::store_each;
@@ -32,13 +31,6 @@ pub(crate) struct RowStores {
 pub(crate) enum Stores {
     Listed(Vec<Store>),
     ByRows(RowStores),
-}
-
-/// Where a tuple stands: its row, and its place in the row, both from 0.
-#[derive(Clone, Copy)]
-struct Spot {
-    row: usize,
-    place: usize,
 }
 
 /// What is stored at all tuples of a space, in order. None where a mask chooses among them, where the places of a row don't follow one
@@ -107,61 +99,30 @@ pub(crate) fn store_kept(s: &mut State, array: usize, stores: &Stores)
     }
 }
 
-/// Stores by rows, in order.
-#[tactic(auto, using(crate::proofs::StoredRows::first_spot))]
+/// Stores by rows, in order, each row at once.
 fn store_rows(s: &mut State, array: usize, firsts: &[u32], last: usize, values: &[i64])
     ensures { state_of s.new ≡ stored_each (state_of s.old) array (stores_below firsts.now (suc last) values.now (length values.now)) }
 {
-    let mut spot = Spot { row: 0, place: 0 };
-    for t in 0..values.len() {
-        let place = place_of(firsts, spot);
-        store_value(s, array, place, &values[t]);
-        spot = next_spot(last, t, spot);
+    let mut row = 0;
+    let mut start = 0;
+    while start < values.len() {
+        let end = start + in_row(last, values.len() - start);
+        s.store_run(array, first_at(firsts, row) as usize, &values[start..end]);
+        start = end;
+        row += 1;
     }
 }
 
-/// Stores one value.
-#[inline(always)]
-fn store_value(s: &mut State, array: usize, place: usize, value: &i64)
-    ensures { state_of s.new ≡ store (state_of s.old) array place value.now }
+/// How many tuples stand in the next row, by how many are left.
+fn in_row(last: usize, left: usize) -> usize
+    ensures { result ≡ min (suc last) left }
 {
-    s.store(array, place, *value);
-}
-
-/// The place of the element at a spot.
-#[inline(always)]
-fn place_of(firsts: &[u32], spot: Spot) -> usize
-    requires { spot.place < 2 ^ 63 }
-    ensures { result ≡ slice_index_or firsts.now spot.row 0 + spot.place }
-{
-    first_at(firsts, spot.row) as usize + spot.place
+    if last < left { last + 1 } else { left }
 }
 
 /// The first place of a row; 0 where there is none.
-#[inline(always)]
 fn first_at(firsts: &[u32], row: usize) -> u32
     ensures { result ≡ slice_index_or firsts.now row 0 }
 {
     if row < firsts.len() { firsts[row] } else { 0 }
-}
-
-/// The spot of the next tuple.
-#[inline(always)]
-#[tactic(auto, using(crate::proofs::StoredRows::next_row, crate::proofs::StoredRows::next_place))]
-fn next_spot(last: usize, t: usize, x: Spot) -> Spot
-    requires few { t < 2 ^ 62 }
-    requires is { IsSpot (suc last) t x }
-    ensures { IsSpot (suc last) (t + 1) result }
-{
-    if x.place == last {
-        Spot {
-            row: x.row + 1,
-            place: 0,
-        }
-    } else {
-        Spot {
-            row: x.row,
-            place: x.place + 1,
-        }
-    }
 }

@@ -7,6 +7,7 @@ pub mod Members
 pub mod Operands
 pub mod Pairs
 pub mod Parts
+mod Runs
 pub mod SectionSubscripts
 pub mod Sizes
 pub mod ValuesOver

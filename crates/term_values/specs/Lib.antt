@@ -1,6 +1,7 @@
 pub mod AtTuples
 pub mod Parts
 pub mod Places
+pub mod Runs
 pub mod SectionSubscripts
 pub mod Spaces
 pub mod States

@@ -2,6 +2,7 @@
 
 ghost use Rattle.std.specs.Prelude.{◌≡◌, slice_index_or, slice_set, pos, [], ◌∷◌};
 ghost use Rattle.array_meaning.specs.State.{array, element_place, scalar, set_scalar, store};
+ghost use Rattle.term_values.specs.Runs.{store_run, with_run};
 ghost use Rattle.term_values.specs.States.{state_of};
 
 use crate::places::{place, place_of_one, place_of_two};
@@ -125,6 +126,16 @@ impl State {
             self.arrays[array].set(place, value);
         }
     }
+
+    /// Stores values at places of an array that follow one another, the first at this one; nothing where there is no such place. It takes no memory.
+    #[tactic(auto, using(crate::proofs::Runs::run_past))]
+    pub fn store_run(&mut self, array: usize, first: usize, values: &[i64])
+        ensures { state_of self.new ≡ store_run (state_of self.old) array first values.now }
+    {
+        if array < self.arrays.len() {
+            self.arrays[array].set_run(first, values);
+        }
+    }
 }
 
 impl Array {
@@ -163,6 +174,23 @@ impl Array {
         if place < self.elements.len() {
             self.elements[place] = value;
         }
+    }
+
+    /// Stores values at places that follow one another, the first at this one, and nothing where there is no such place.
+    fn set_run(&mut self, first: usize, values: &[i64])
+        ensures { self.new ≡ record (self.old) { elements = with_run self.old.elements first values.now } }
+    {
+        put_run(self.elements.as_mut_slice(), first, values);
+    }
+}
+
+/// Puts values into a list in order, the first at a place and each other at the next, where there are such places.
+fn put_run(numbers: &mut [i64], first: usize, values: &[i64])
+    ensures { numbers.new ≡ with_run numbers.old first values.now }
+{
+    if first < numbers.len() {
+        let count = values.len().min(numbers.len() - first);
+        numbers[first..first + count].copy_from_slice(&values[..count]);
     }
 }
 
