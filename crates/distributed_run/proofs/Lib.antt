@@ -1,6 +1,6 @@
 mod GridLaws
 mod LastValues
-mod NodesRun
+pub mod NodesRun
 mod OverRuns
 mod StepLines
 mod PassedLines

@@ -19,5 +19,6 @@ mod ran;
 mod run;
 
 pub use listing::{MessageList, list_messages};
+pub use openings::{FirstNodes, first_nodes};
 pub use ran::Ran;
 pub use run::{NodesOutcome, run_on_nodes};

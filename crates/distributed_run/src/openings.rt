@@ -22,17 +22,14 @@ use std::sync::Arc;
 
 /// The nodes of a run before its first instruction, and the code that they share.
 #[derive(Drop)]
-pub(crate) struct FirstNodes {
+pub struct FirstNodes {
     pub code: Arc<NodeProgram>,
     /// Node 0 first.
     pub nodes: Vec<Node>,
 }
 
-/// The nodes of the grid on which the program is accepted, before its first instruction.
-pub(crate) fn first_nodes(
-    alloc: Global,
-    accepted: &AcceptedProgram<'_>,
-) -> Result<FirstNodes, OutOfMemory>
+/// The nodes of the grid on which the program is accepted, before its first instruction, with the code that it is compiled to. It takes memory.
+pub fn first_nodes(alloc: Global, accepted: &AcceptedProgram<'_>) -> Result<FirstNodes, OutOfMemory>
     ensures grid { IsGrid accepted.now.grid.now }
     ensures numbers { IfOk result (λ first. ProgramFits (main_program accepted.now.program.tree)) }
     ensures nodes { IfOk result (λ first. first.nodes.items ≡ grid_nodes accepted.now.grid.now (main_program accepted.now.program.tree)) }

@@ -3,15 +3,13 @@
 //! Comes in: three numbers. Goes out: a core of three nodes, each with one of them. In the first phase each node
 //! sends its number to the next and takes the number of the one before. In the four phases after it node 0 sends
 //! to node 1 alone, and node 2 is idle. What holds in between: the nodes are phased, so every order of steps ends
-//! with the same numbers; and so it does where nodes are refused memory and the calls that answer so are made again.
+//! with the same numbers.
 #![tactic(auto)]
 
 mod passer;
-mod scarce;
 #[cfg(test)]
 mod tests;
 mod three;
 
 pub use passer::Passer;
-pub use scarce::Scarce;
-pub use three::{three_nodes, three_scarce_nodes};
+pub use three::three_nodes;

@@ -98,25 +98,3 @@ fn queue_fills(rt: HostRuntime) -> Result<(), Fail> {
     assert_eq!(rt; core.step(NodeId(2))?, Stepped::Moved);
     Ok(())
 }
-
-// Three local steps of the first phase, and four of node 2, which is idle in the phases after it: each is refused memory once.
-#[test]
-fn rotation_goes_on_after_want_of_memory(rt: HostRuntime) -> Result<(), Fail> {
-    let mut core = three_scarce_nodes(rt.alloc(), 7, 8, 9)?;
-    let mut refusals: u64 = 0;
-    for _ in 0..20 {
-        if core.run_rotation().is_err() {
-            refusals = refusals.wrapping_add(1);
-        }
-    }
-    assert_eq!(rt; refusals, 7);
-    assert!(rt; core.finished());
-    let numbers = [9, 9, 8];
-    let mut place = 0;
-    for node in &core.into_nodes() {
-        assert!(rt; place < 3 && node.node.number == numbers[place]);
-        place += 1;
-    }
-    assert_eq!(rt; place, 3);
-    Ok(())
-}

@@ -7,7 +7,6 @@ ghost use Rattle.node_core_tests.specs.Passer.{passer_steps};
 ghost use Rattle.node_core_tests.specs.Three.{three, at_start};
 
 use crate::passer::Passer;
-use crate::scarce::Scarce;
 use hpf_base::OutOfMemory;
 use node_core::Core;
 use std::alloc::Global;
@@ -35,31 +34,4 @@ pub fn three_nodes(alloc: Global, a: u64, b: u64, c: u64) -> Result<Core<Passer>
     nodes.push(passer(2, 0, b))?;
     nodes.push(passer(0, 1, c))?;
     Core::new(alloc, nodes)
-}
-
-/// The same, where each node is refused memory at each local step once.
-pub fn three_scarce_nodes(
-    alloc: Global,
-    a: u64,
-    b: u64,
-    c: u64,
-) -> Result<Core<Scarce<Passer>>, OutOfMemory>
-    ensures start { IfOk result (λ core. state core ≡ start (three a b c)) }
-    ensures ready { IfOk result (λ core. IsReady passer_steps core) }
-{
-    let mut nodes = Vec::new(alloc);
-    nodes.push(scarce(passer(1, 2, a)))?;
-    nodes.push(scarce(passer(2, 0, b)))?;
-    nodes.push(scarce(passer(0, 1, c)))?;
-    Core::new(alloc, nodes)
-}
-
-// The node, which wasn't refused memory yet.
-fn scarce(node: Passer) -> Scarce<Passer>
-    ensures { result ≡ node }
-{
-    Scarce {
-        node,
-        refused: false,
-    }
 }
