@@ -16,8 +16,7 @@ use Rattle.mappings.specs.Alignment.{agrees, agrees_at, aligned, owns}
 use Rattle.hpf_base.specs.Grid.{node_coordinates}
 use Rattle.mappings.specs.Mapping.{InLine, IsAlign, IsMapDim, IsMapping, MoveApart, moves_along}
 use Rattle.local_address.specs.declared.axes.Axis.{Axis}
-use Rattle.local_address.specs.Pieces.{IsMoving}
-use Rattle.local_address.specs.Runs.{HasLine, InAxis, IsOfGrid, along, axis_along, axis_by, axis_or, coordinate_on, fixed_agrees, fixed_subscript, own_on}
+use Rattle.local_address.specs.Runs.{HasLine, InAxis, IsMoving, IsOfGrid, along, axis_along, axis_by, axis_or, coordinate_on, fixed_agrees, fixed_subscript, own_on}
 use Rattle.local_address.proofs.Tuples.{each}
 
 and_more : (a b : Bool) → b ≡ true → a ≡ a && b

@@ -1,11 +1,10 @@
 -- No public clause cites this file.
 -- What a node owns along each dimension of an array, as its piece keeps it.
-use Rattle.std.specs.Prelude.{◌≢◌, ℕ, ◌+◌, ◌≤◌, ◌<◌, ℤ, pos, ◌+ℤ◌, unsigned_abs, Bool, cond, List, [], ◌∷◌, All, AllPairs, filter, length, map, take, Option, Some, None}
+use Rattle.std.specs.Prelude.{◌≢◌, ℕ, ◌+◌, ◌≤◌, ◌<◌, ℤ, pos, ◌+ℤ◌, unsigned_abs, Bool, cond, List, [], ◌∷◌, All, AllPairs, filter, length, map, take}
 use Rattle.std.specs.List.Sorted.{IsStrictlyIncreasing}
 use Rattle.hpf_base.specs.declared.limits.TheConstants.{MAX_BOUND, MAX_ELEMENTS, MAX_RANK}
 use Rattle.hpf_base.specs.ElementOrder.{product}
 use Rattle.mappings.specs.declared.mapping.Mapping.{Mapping}
-use Rattle.local_address.specs.declared.axes.Axis.{Axis}
 use Rattle.local_address.specs.Runs.{along, subscripts, tuples}
 
 -- the subscripts at these places, from 0, of a dimension with this lower bound
@@ -17,11 +16,6 @@ pub record ArePlaces (lower : ℤ) (places : List ℕ) : Type 0 where
   pub bound : unsigned_abs lower ≤ MAX_BOUND
   pub ascends : IsStrictlyIncreasing places
   pub below : All (λ place. place < MAX_ELEMENTS) places
-
--- the axis moves
-abbrev pub IsMoving : Option Axis → Type 0
-IsMoving None = Unit {0}
-IsMoving (Some axis) = axis.factor ≢ pos 0
 
 -- what a node owns along each dimension, from the one with this number on
 abbrev pub owned_along : Mapping → ℕ → ℕ → List ℤ → List ℕ → List (List ℤ)

@@ -1,5 +1,5 @@
 -- What a node owns along one dimension of an array.
-use Rattle.std.specs.Prelude.{◌≡◌, ℕ, ◌+◌, ◌<◌, ℤ, pos, ◌+ℤ◌, ◌*ℤ◌, unsigned_abs, Bool, ◌&&◌, ◌==◌, not, cond, List, [], ◌∷◌, length, map, filter, slice_get, slice_index, Option, Some, None}
+use Rattle.std.specs.Prelude.{◌≡◌, ◌≢◌, ℕ, ◌+◌, ◌<◌, ℤ, pos, ◌+ℤ◌, ◌*ℤ◌, unsigned_abs, Bool, ◌&&◌, ◌==◌, not, cond, List, [], ◌∷◌, length, map, filter, slice_get, slice_index, Option, Some, None}
 use Rattle.std.specs.List.{flat_map, range_with_len}
 use Rattle.std.specs.Ordering.{int_eq}
 use Rattle.mappings.specs.declared.mapping.AlignDim.{AlignDim}
@@ -73,6 +73,11 @@ HasLine (Some axis) = IsLine axis.line
 abbrev pub IsOfGrid : List ℕ → Option Axis → Type 0
 IsOfGrid grid None = Unit {0}
 IsOfGrid grid (Some axis) = slice_get grid axis.grid_dim ≡ Some axis.line.procs
+
+-- what has another subscript stands elsewhere on the axis
+abbrev pub IsMoving : Option Axis → Type 0
+IsMoving None = Unit {0}
+IsMoving (Some axis) = axis.factor ≢ pos 0
 
 -- what has the subscript i lies inside the axis's line
 abbrev pub InAxis : Option Axis → ℤ → Type 0

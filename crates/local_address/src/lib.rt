@@ -21,5 +21,6 @@ mod tuple_numbers;
 
 pub use axes::{Axis, axis_along, coordinate_on, fixed_agree, fixed_subscript, own_on, procs_on};
 pub use element::{element_count, extent_of, nth_element};
+pub use owned::node_places;
 pub use piece::Piece;
 pub use spans::{Span, owned_spans};

@@ -9,8 +9,7 @@ ghost use Rattle.hpf_base.specs.Grid.{node_coordinates};
 ghost use Rattle.mappings.specs.Alignment.{position_at};
 ghost use Rattle.mappings.specs.Mapping.{IsLine};
 ghost use Rattle.gap_table.specs.GapTable.{places_of};
-ghost use Rattle.local_address.specs.Pieces.{IsMoving};
-ghost use Rattle.local_address.specs.Runs.{HasLine, InAxis, IsOfGrid, coordinate_on, own_on, procs_on, subscripts};
+ghost use Rattle.local_address.specs.Runs.{HasLine, InAxis, IsMoving, IsOfGrid, coordinate_on, own_on, procs_on, subscripts};
 
 use crate::axes::{Axis, own_on};
 use align_map::{linear, position};
@@ -60,8 +59,7 @@ impl OwnedSubscripts {
         ensures { IfOk result (λ owned. owned
             ≡ filter (λ i. coordinate_on axis.now i == own_on (node_coordinates grid.now node.0) axis.now) (subscripts lower extent)) }
     {
-        let own = own_on(grid, axis, node);
-        let places = places_on(alloc, axis, own, lower, extent)?;
+        let places = node_places(alloc, grid, axis, node, lower, extent)?;
         Ok(OwnedSubscripts { lower, places })
     }
 
@@ -90,6 +88,32 @@ impl OwnedSubscripts {
         let place = place_from(self.lower, subscript)?;
         number_of_place(&self.places, place)
     }
+}
+
+/// The places, from 0 and ascending, of a dimension of an array that a node owns as far as the dimension tells (HPF 2.0, ALIGN and DISTRIBUTE): those
+/// whose subscripts stand at the node's coordinate on the axis that moves along the dimension, and all of them where none does. The dimension
+/// begins at `lower`.
+pub fn node_places(
+    alloc: Global,
+    grid: &Grid,
+    axis: &Option<Axis>,
+    node: NodeId,
+    lower: i64,
+    extent: u64,
+) -> Result<GapTable, OutOfMemory>
+    requires line { HasLine axis.now }
+    requires axis { IsOfGrid grid.now axis.now }
+    requires moves { IsMoving axis.now }
+    requires node { node.0 < product grid.now }
+    requires lower { unsigned_abs lower ≤ MAX_BOUND }
+    requires some { 1 ≤ extent }
+    requires extent { extent ≤ MAX_ELEMENTS }
+    requires inside { (place : ℕ) → place < extent → InAxis axis.now (lower +ℤ pos place) }
+    ensures { IfOk result (λ table. places_of table
+        ≡ filter (λ place. coordinate_on axis.now (lower +ℤ pos place) == own_on (node_coordinates grid.now node.0) axis.now) (range_with_len 0 extent)) }
+{
+    let own = own_on(grid, axis, node);
+    places_on(alloc, axis, own, lower, extent)
 }
 
 /// The places, from 0, of a dimension with which something has a coordinate on the axis.

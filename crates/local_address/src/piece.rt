@@ -9,8 +9,8 @@ ghost use Rattle.hpf_base.specs.ElementOrder.{elements, extents_of, IsInside, pr
 ghost use Rattle.mappings.specs.LocalOrder.{local_elements};
 ghost use Rattle.hpf_base.specs.Shape.{IsShape};
 ghost use Rattle.mappings.specs.Mapping.{IsMapping, MapsInside};
-ghost use Rattle.local_address.specs.Pieces.{IsMoving, owned_along};
-ghost use Rattle.local_address.specs.Runs.{HasLine, InAxis, IsOfGrid, along, axis_along, subscripts};
+ghost use Rattle.local_address.specs.Pieces.{owned_along};
+ghost use Rattle.local_address.specs.Runs.{HasLine, InAxis, IsMoving, IsOfGrid, along, axis_along, subscripts};
 
 use crate::axes::{axis_along, fixed_agree};
 use crate::columns::lower_of;

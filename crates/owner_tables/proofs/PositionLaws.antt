@@ -1,86 +1,26 @@
 -- The positions of the elements that a node owns, one dimension more at a time.
-use Rattle.std.proofs.Common.{◌≡◌, ℕ, zero, suc, ◌+◌, ◌*◌, ◌<◌, ◌≤◌, ℤ, pos, negsuc, ◌+ℤ◌, ◌*ℤ◌, ◌≤ℤ◌, unsigned_abs, Bool, true, false, ◌&&◌, ◌==◌, not, cond, List, [], ◌∷◌, ◌++◌, refl, sym, ◌∙◌, ap, subst, arith, length, map, filter, get_or, drop, All, Option, Some, None}
-use Rattle.std.proofs.Math.IntN.{*ℤ_comm}
+use Rattle.std.proofs.Common.{◌≡◌, ℕ, zero, suc, ◌+◌, ◌*◌, ◌<◌, ◌≤◌, ℤ, pos, ◌+ℤ◌, Bool, true, false, ◌&&◌, ◌==◌, List, [], ◌∷◌, ◌++◌, refl, sym, ◌∙◌, ap, subst, arith, length, map, filter, get_or, drop, All, Option, None}
 use Rattle.std.proofs.Math.Nat.{mul-le-mul_right}
-use Rattle.std.proofs.lemmas.Bool.Decides.{Decides-int_eq}
-use Rattle.std.proofs.lemmas.Int.{ints}
 use Rattle.std.proofs.lemmas.List.{drop_more, map-append}
 use Rattle.std.proofs.lemmas.List.Elements.{All-append, All-filter, All-head, All-map, All-tail}
 use Rattle.std.proofs.lemmas.Simd.{map-map}
 use Rattle.std.specs.List.{flat_map, range_with_len}
-use Rattle.std.specs.Ordering.{int_eq}
-use Rattle.mappings.specs.declared.mapping.AlignDim.{AlignDim}
-use Rattle.mappings.specs.declared.mapping.AlignDim.TheVariants.{Linear, At, Every}
-use Rattle.mappings.specs.declared.mapping.Line.{Line}
-use Rattle.mappings.specs.declared.mapping.MapDim.{MapDim}
-use Rattle.mappings.specs.declared.mapping.Mapping.{Mapping}
-use Rattle.mappings.specs.Alignment.{position_at}
-use Rattle.mappings.specs.Mapping.{InLine}
-use Rattle.mappings.specs.Owner.{coordinate}
 use Rattle.hpf_base.specs.ElementOrder.{extents_of, product}
-use Rattle.hpf_base.specs.Grid.{node_coordinates}
-use Rattle.hpf_base.proofs.Integers.{sum-*ℤ}
 use Rattle.hpf_base.proofs.Ranges.{All-range}
 use Rattle.axis_products.specs.Products.{combined, each, number_at, passing, places_at}
 use Rattle.axis_products.proofs.Products.{tuples}
-use Rattle.gap_table.specs.OwnedSequence.{IsSectionOf, owned_sequence, position_of}
 use Rattle.local_address.specs.declared.axes.Axis.{Axis}
-use Rattle.local_address.specs.Runs.{along, axis_along, axis_by, coordinate_on, own_on}
-use Rattle.local_address.proofs.Along.{axis-found}
+use Rattle.local_address.specs.Runs.{coordinate_on, own_on}
 use Rattle.machine_steps.specs.Layout.{Layout, owned_by, size_of}
-use Rattle.owner_tables.specs.Columns.{IsMoving}
 use Rattle.owner_tables.specs.Layouts.{IsLaid}
 use Rattle.owner_tables.proofs.ColumnLaws.{fixed, own_at, owned-places}
 use Rattle.owner_tables.proofs.Ranges.{filter-agree}
 
--- ---- places along an axis
-
-positive : (z : ℤ) → pos 1 ≤ℤ z → pos (unsigned_abs z) ≡ z
-positive (pos n) from = refl
-positive (negsuc n) from = absurd (omega (arith, ints))
-
-module _ (axis : Axis) (lower : ℤ) where
-  abbrev pub stands : ℤ → ℤ
-  stands i = position_at axis.line ((axis.factor *ℤ i) +ℤ axis.offset)
-
-  moved : (place : ℕ) → stands (lower +ℤ pos place) ≡ stands lower +ℤ (axis.factor *ℤ pos place)
-  moved place =
-      let f = axis.factor in
-      let sum : f *ℤ (lower +ℤ pos place) ≡ (lower *ℤ f) +ℤ (pos place *ℤ f) = *ℤ_comm f (lower +ℤ pos place) ∙ sum-*ℤ lower (pos place) f in
-      let first : lower *ℤ f ≡ f *ℤ lower = *ℤ_comm lower f in
-      let second : pos place *ℤ f ≡ f *ℤ pos place = *ℤ_comm (pos place) f in
-      omega (arith, ints, sum, first, second)
-
-  module _ (start : ℕ) (start-is : start ≡ unsigned_abs (stands lower)) (from : pos 1 ≤ℤ stands lower) where
-    pub position-is : (place : ℕ) → position_of start axis.factor place ≡ stands (lower +ℤ pos place)
-    position-is place = ap (λ z. z +ℤ (axis.factor *ℤ pos place)) (ap pos start-is ∙ positive (stands lower) from) ∙ sym (moved place)
-
-    pub section-is : (extent : ℕ) → ((place : ℕ) → place < extent → InLine axis.line (Some ((axis.factor *ℤ (lower +ℤ pos place)) +ℤ axis.offset)))
-        → IsSectionOf axis.line start axis.factor extent
-    section-is extent inside place below =
-        subst (λ z. (pos 1 ≤ℤ z) × (z ≤ℤ pos axis.line.extent)) (sym (position-is place)) (inside place below)
-
-    pub sequence-is : (own extent : ℕ)
-        → owned_sequence axis.line own start axis.factor extent
-        ≡ filter (λ place. coordinate axis.line (unsigned_abs (stands (lower +ℤ pos place))) == own) (range_with_len 0 extent)
-    sequence-is own extent =
-        filter-agree _ _ 0 extent (λ place low high. ap (λ z. coordinate axis.line (unsigned_abs z) == own) (position-is place))
-
--- what the section begins with
-pub first-inside : (axis : Axis) (lower : ℤ) (extent : ℕ) → 1 ≤ extent
-    → ((place : ℕ) → place < extent → InLine axis.line (Some ((axis.factor *ℤ (lower +ℤ pos place)) +ℤ axis.offset)))
-    → InLine axis.line (Some ((axis.factor *ℤ lower) +ℤ axis.offset))
-first-inside axis lower extent some inside =
-    let same : lower +ℤ pos 0 ≡ lower = omega (arith, ints) in
-    subst (λ i. InLine axis.line (Some ((axis.factor *ℤ i) +ℤ axis.offset))) same (inside 0 (omega (arith, some)))
+-- ---- places along a dimension
 
 pub filter-below : (P : ℕ → Bool) (n : ℕ) → All (λ place. place < n) (filter P (range_with_len 0 n))
 filter-below P n =
     All-filter P (λ place. place < n) (range_with_len 0 n) (All-range (λ place. place < n) 0 n (λ j low high. omega (arith, high)))
-
--- the places that a table lists
-pub sequence-below : (line : Line) (own start count : ℕ) (stride : ℤ) → All (λ place. place < count) (owned_sequence line own start stride count)
-sequence-below line own start count stride = filter-below (λ j. coordinate line (unsigned_abs (position_of start stride j)) == own) count
 
 all-pass : (a n : ℕ) → filter (λ k. true) (range_with_len a n) ≡ range_with_len a n
 all-pass a zero = refl
@@ -101,21 +41,6 @@ drop-most (e ∷ es) (suc k) some =
     let rest = drop-most es k (All-tail (λ x. 1 ≤ x) e es some) in
     let grows : 1 * product es ≤ e * product es = mul-le-mul_right (product es) (All-head (λ x. 1 ≤ x) e es some) in
     omega (arith, rest, grows)
-
-moving-by : (k : ℕ) (entry : MapDim) (align : AlignDim) → IsMoving (axis_by k entry align)
-moving-by k entry (Linear d a b) = by_case (int_eq a (pos 0)) (d == k) refl
-  where
-    by_case : (t u : Bool) → int_eq a (pos 0) ≡ t
-        → IsMoving (cond (not t && u) (Some record { line = entry.line; grid_dim = entry.grid_dim; factor = a; offset = b }) None)
-    by_case true u is = tt {0}
-    by_case false false is = tt {0}
-    by_case false true is = λ zero_factor. cc (sym is ∙ (Decides-int_eq a (pos 0)).1 zero_factor)
-moving-by k entry (At v) = tt {0}
-moving-by k entry Every = tt {0}
-
--- what moves along a dimension moves
-pub moving-along : (mapping : Mapping) (k : ℕ) → IsMoving (axis_along k mapping.dims)
-moving-along mapping k = axis-found IsMoving k (tt {0}) mapping.dims (λ n d within. moving-by k (get_or mapping.dims n d) (get_or mapping.dims n d).align)
 
 -- ---- numbers of tuples
 

@@ -1,5 +1,5 @@
 -- What the dimensions of an array say of its elements: the number of the least owner, and the local address.
-use Rattle.std.specs.Prelude.{◌≡◌, ◌≢◌, ℕ, ◌+◌, ◌*◌, ◌/◌, ◌%◌, ◌<◌, ◌≤◌, ◌==◌, ℤ, pos, ◌+ℤ◌, unsigned_abs, List, [], ◌∷◌, map, filter, take, length, slice_index_or, Option, Some, None}
+use Rattle.std.specs.Prelude.{◌≡◌, ℕ, ◌+◌, ◌*◌, ◌/◌, ◌%◌, ◌<◌, ◌≤◌, ◌==◌, ℤ, pos, ◌+ℤ◌, unsigned_abs, List, [], ◌∷◌, map, filter, take, length, slice_index_or, Option, Some, None}
 use Rattle.std.specs.List.{range_with_len}
 use Rattle.mappings.specs.declared.mapping.AlignDim.{AlignDim}
 use Rattle.mappings.specs.declared.mapping.Line.{Line}
@@ -30,11 +30,6 @@ asked_number grid given (entry ∷ entries) = asked entry.line (given entry.alig
 abbrev pub weight_on : List ℕ → Option Axis → ℕ
 weight_on grid None = 0
 weight_on grid (Some axis) = weight grid axis.grid_dim
-
--- what has another subscript stands elsewhere on the axis
-abbrev pub IsMoving : Option Axis → Type 0
-IsMoving None = Unit {0}
-IsMoving (Some axis) = axis.factor ≢ pos 0
 
 -- how many of the first places of a dimension have a coordinate on an axis
 abbrev pub count_on : Option Axis → ℤ → ℕ → ℕ → ℕ

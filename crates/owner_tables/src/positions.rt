@@ -2,24 +2,19 @@
 
 ghost use Rattle.std.specs.Prelude.{◌≡◌, ◌≢◌, ℕ, ◌+◌, ◌*◌, ◌<◌, ◌≤◌, ◌++◌, ◌==◌, ◌^◌, ℤ, pos, ◌+ℤ◌, ◌*ℤ◌, unsigned_abs, All, IfOk, OnOk, Some, drop, filter, length, map, slice_index_or};
 ghost use Rattle.std.specs.List.{flat_map, range_with_len};
-ghost use Rattle.hpf_base.specs.declared.limits.TheConstants.{MAX_ELEMENTS};
+ghost use Rattle.hpf_base.specs.declared.limits.TheConstants.{MAX_BOUND, MAX_ELEMENTS};
 ghost use Rattle.hpf_base.specs.ElementOrder.{extents_of, product};
 ghost use Rattle.hpf_base.specs.Grid.{node_coordinates};
-ghost use Rattle.mappings.specs.Alignment.{position_at};
-ghost use Rattle.mappings.specs.Mapping.{InLine, IsLine};
-ghost use Rattle.mappings.specs.Owner.{coordinate};
 ghost use Rattle.gap_table.specs.GapTable.{nth_of, places_of};
-ghost use Rattle.local_address.specs.Runs.{HasLine, InAxis, IsOfGrid, along, axis_along, coordinate_on, own_on};
+ghost use Rattle.local_address.specs.Runs.{HasLine, InAxis, IsMoving, IsOfGrid, along, axis_along, coordinate_on, own_on};
 ghost use Rattle.machine_steps.specs.Layout.{owned_by, size_of};
-ghost use Rattle.owner_tables.specs.Columns.{IsMoving};
 ghost use Rattle.owner_tables.specs.Layouts.{IsLaid};
 
 use crate::numbers::lower_of;
-use align_map::linear;
 use gap_table::GapTable;
 use hpf_base::{Grid, NodeId, OutOfMemory, Shape};
-use local_address::{Axis, axis_along, element_count, extent_of, fixed_agree, own_on};
-use mappings::{Line, Mapping};
+use local_address::{Axis, axis_along, element_count, extent_of, fixed_agree, node_places};
+use mappings::Mapping;
 use std::alloc::Global;
 
 /// The positions of the elements that the node owns, ascending. It goes over these alone, and over the places that the node owns on each
@@ -120,7 +115,7 @@ fn own_places(
     requires line { HasLine (axis_along dim mapping.now.dims) }
     requires axis { IsOfGrid mapping.now.grid (axis_along dim mapping.now.dims) }
     requires moving { IsMoving (axis_along dim mapping.now.dims) }
-    requires lower { unsigned_abs lower ≤ 2 ^ 41 }
+    requires lower { unsigned_abs lower ≤ MAX_BOUND }
     requires some { 1 ≤ extent }
     requires extent { extent ≤ MAX_ELEMENTS }
     requires inside { (place : ℕ) → place < extent → InAxis (axis_along dim mapping.now.dims) (lower +ℤ pos place) }
@@ -143,7 +138,7 @@ fn places_along(
     requires line { HasLine axis.now }
     requires axis { IsOfGrid grid.now axis.now }
     requires moving { IsMoving axis.now }
-    requires lower { unsigned_abs lower ≤ 2 ^ 41 }
+    requires lower { unsigned_abs lower ≤ MAX_BOUND }
     requires some { 1 ≤ extent }
     requires extent { extent ≤ MAX_ELEMENTS }
     requires inside { (place : ℕ) → place < extent → InAxis axis.now (lower +ℤ pos place) }
@@ -151,10 +146,9 @@ fn places_along(
     ensures { IfOk result (λ ps. ps.items
         ≡ filter (λ place. coordinate_on axis.now (lower +ℤ pos place) == own_on (node_coordinates grid.now node) axis.now) (range_with_len 0 extent)) }
 {
-    let own = own_on(grid, axis, NodeId(node));
     match axis {
         None => Ok(numbers_below(alloc, extent)?),
-        Some(axis) => Ok(places_on(alloc, axis, own, lower, extent)?),
+        Some(_) => Ok(moving_places(alloc, grid, axis, lower, extent, node)?),
     }
 }
 
@@ -169,46 +163,29 @@ pub(crate) fn numbers_below(alloc: Global, limit: u32) -> Result<Vec<u32>, OutOf
     Ok(numbers)
 }
 
-/// The places whose coordinate on the axis this is.
-fn places_on(
+/// Those of a dimension along which something moves.
+fn moving_places(
     alloc: Global,
-    axis: &Axis,
-    own: u32,
+    grid: &Grid,
+    axis: &Option<Axis>,
     lower: i64,
     extent: u32,
+    node: u32,
 ) -> Result<Vec<u32>, OutOfMemory>
-    requires line { IsLine axis.now.line }
-    requires factor { axis.now.factor ≢ pos 0 }
-    requires own { own < axis.now.line.procs }
+    requires line { HasLine axis.now }
+    requires axis { IsOfGrid grid.now axis.now }
+    requires moving { IsMoving axis.now }
+    requires lower { unsigned_abs lower ≤ MAX_BOUND }
     requires some { 1 ≤ extent }
     requires extent { extent ≤ MAX_ELEMENTS }
-    requires inside { (place : ℕ) → place < extent → InLine axis.now.line (Some ((axis.now.factor *ℤ (lower +ℤ pos place)) +ℤ axis.now.offset)) }
-    ensures { IfOk result (λ ps. ps.items ≡ filter (λ place.
-        coordinate axis.now.line (unsigned_abs (position_at axis.now.line ((axis.now.factor *ℤ (lower +ℤ pos place)) +ℤ axis.now.offset))) == own)
-        (range_with_len 0 extent)) }
+    requires inside { (place : ℕ) → place < extent → InAxis axis.now (lower +ℤ pos place) }
+    requires node { node < product grid.now }
+    ensures { IfOk result (λ ps. ps.items
+        ≡ filter (λ place. coordinate_on axis.now (lower +ℤ pos place) == own_on (node_coordinates grid.now node) axis.now) (range_with_len 0 extent)) }
 {
-    let start = position(axis, lower);
-    let table = GapTable::of_section(alloc, &axis.line, own, start, axis.factor, extent as u64)?;
+    let table = node_places(alloc, grid, axis, NodeId(node), lower, extent as u64)?;
     let places = listed(alloc, &table)?;
     Ok(places)
-}
-
-/// The position, from 1, on an axis of what has the subscript i.
-fn position(axis: &Axis, i: i64) -> u64
-    requires line { IsLine axis.now.line }
-    requires inside { InLine axis.now.line (Some ((axis.now.factor *ℤ i) +ℤ axis.now.offset)) }
-    ensures { result ≡ unsigned_abs (position_at axis.now.line ((axis.now.factor *ℤ i) +ℤ axis.now.offset)) }
-{
-    position_in(&axis.line, linear(axis.factor, i, axis.offset))
-}
-
-/// The position, from 1, at which a subscript stands in a line.
-fn position_in(line: &Line, subscript: i128) -> u64
-    requires line { IsLine line.now }
-    requires inside { InLine line.now (Some subscript) }
-    ensures { result ≡ unsigned_abs (position_at line.now subscript) }
-{
-    (subscript - line.lower as i128 + 1) as u64
 }
 
 /// The places of a table.

@@ -5,10 +5,10 @@ use Rattle.std.specs.List.{flat_map, range_with_len}
 use Rattle.hpf_base.specs.ElementOrder.{extents_of, product}
 use Rattle.hpf_base.proofs.ElementOrder.{product-drop_more}
 use Rattle.local_address.specs.Runs.{InAxis, along, axis_along}
-use Rattle.local_address.proofs.Along.{line-along}
+use Rattle.local_address.proofs.Along.{line-along, moves-along}
 use Rattle.local_address.proofs.ElementLaws.{factors_some}
 use Rattle.local_address.proofs.SpanLaws.{along-inside}
-use Rattle.owner_tables.proofs.PositionLaws.{drop-most, filter-below, moving-along}
+use Rattle.owner_tables.proofs.PositionLaws.{drop-most, filter-below}
 use Rattle.owner_tables.proofs.Strides.{extent-few}
 use Rattle.owner_tables.proofs.positions.with_dimension.Goals as goal
 
@@ -26,7 +26,7 @@ pub own_places-requires-clause-axis : goal.own_places-requires-clause-axis
 own_places-requires-clause-axis c = (line-along c.args.mapping.now (length c.args.shape.now.lower) c.args.dim c.requires.laid.mapping).1
 
 pub own_places-requires-clause-moving : goal.own_places-requires-clause-moving
-own_places-requires-clause-moving c = moving-along c.args.mapping.now c.args.dim
+own_places-requires-clause-moving c = moves-along c.args.dim c.args.mapping.now.dims
 
 pub own_places-requires-clause-some : goal.own_places-requires-clause-some
 own_places-requires-clause-some c =
