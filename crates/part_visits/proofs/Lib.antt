@@ -1,4 +1,5 @@
 mod AxisLists
+mod Counts
 mod Items
 mod MoreReads
 mod Sharers

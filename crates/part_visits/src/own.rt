@@ -8,6 +8,7 @@ ghost use Rattle.axis_products.specs.Tests.{ArePlaces, Test};
 ghost use Rattle.courses.specs.References.{IsAlongAxes, named_spot};
 ghost use Rattle.course_forms.specs.Views.{named_of, names_of};
 ghost use Rattle.visited_tuples.specs.Own.{IsOwn, listed_tuples};
+ghost use Rattle.visited_tuples.specs.Owned.{Lies};
 
 use crate::lists::all_places;
 use crate::sharing::leads;
@@ -36,9 +37,10 @@ impl<'a> Visitor<'a> {
         l: &Reference,
     ) -> Result<Option<Own>, OutOfMemory>
         requires { IsAlongAxes (length self.now.extents.now) (named_of l.now) }
-        ensures { IfOk result (λ own. IfSome own (λ o. IsOwn
+        ensures own { IfOk result (λ own. IfSome own (λ o. IsOwn
             (λ node t. computes_left self.now.owners.now.layouts node (in_bounds self.now.owners.now.layouts (named_spot self.now.extents.now t (named_of l.now))))
             self.now.owners.now.nodes self.now.extents.now self.now.id (option_map (λ lists. map (λ v. v.items) lists.items) o.lists) o.beside.items)) }
+        ensures lies { IfOk result (λ own. IfSome own (λ o. Lies self.now.extents.now self.now.owners.now.layouts (named_of l.now))) }
     {
         if !is_inside(l, self.extents) || !self.lies(l) {
             return Ok(None);

@@ -20,6 +20,7 @@ use std::alloc::Global;
 
 impl<'a> Visitor<'a> {
     /// The tuples at which the node may take something: those that it computes, but for those with the places at which it owns all that is read.
+    /// Where it owns all elements of the rows, these are none, and no place is looked at.
     pub(crate) fn taking(
         &self,
         alloc: Global,
@@ -33,6 +34,9 @@ impl<'a> Visitor<'a> {
             → IsOwn computes self.now.owners.now.nodes self.now.extents.now self.now.id (option_map (λ lists. map (λ v. v.items) lists.items) own.now.lists) own.now.beside.items
             → IfOk result (λ tuples. IsTaking computes self.now.owners.now.layouts self.now.extents.now (names_of reads.now) self.now.id tuples.items) }
     {
+        if self.owns_rows(reads) {
+            return Ok(Vec::new(alloc));
+        }
         passing_below();
         let Some(lists) = &own.lists else {
             return Ok(Vec::new(alloc));

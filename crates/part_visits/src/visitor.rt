@@ -6,7 +6,7 @@ ghost use Rattle.hpf_base.specs.ElementOrder.{product};
 ghost use Rattle.axis_products.specs.Tests.{ArePlaces};
 ghost use Rattle.courses.specs.References.{IsAlongAxes};
 ghost use Rattle.course_forms.specs.Views.{named_of, names_of};
-ghost use Rattle.visited_tuples.specs.Owned.{Lies, owns_named};
+ghost use Rattle.visited_tuples.specs.Owned.{Lies, OwnsRow, owns_named};
 
 use course_forms::Reference;
 use hpf_base::OutOfMemory;
@@ -47,6 +47,30 @@ impl<'a> Visitor<'a> {
     {
         for reference in references {
             if !self.lies(reference) {
+                return false;
+            }
+        }
+        true
+    }
+
+    /// Whether the node owns all elements of the row.
+    fn owns_row(&self, reference: &Reference) -> bool
+        requires { Lies self.now.extents.now self.now.owners.now.layouts (named_of reference.now) }
+        ensures { result ≡ true → OwnsRow self.now.extents.now self.now.owners.now.layouts self.now.id (named_of reference.now) }
+    {
+        match self.owners.table(reference.row) {
+            Some(table) => table.owned(self.id) == table.size(),
+            None => false,
+        }
+    }
+
+    /// Whether it owns all elements of the rows of all.
+    pub(crate) fn owns_rows(&self, references: &[Reference]) -> bool
+        requires { All (Lies self.now.extents.now self.now.owners.now.layouts) (names_of references.now) }
+        ensures { result ≡ true → All (OwnsRow self.now.extents.now self.now.owners.now.layouts self.now.id) (names_of references.now) }
+    {
+        for reference in references {
+            if !self.owns_row(reference) {
                 return false;
             }
         }

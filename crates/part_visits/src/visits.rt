@@ -1,15 +1,16 @@
 //! The tuples that a node has to ask, by who computes them.
 
-ghost use Rattle.std.specs.Prelude.{◌≡◌, ℕ, ◌<◌, ◌≤◌, ◌==◌, ◌^◌, Bool, All, IfOk, IfSome, IsTrue, length, map, option_map};
+ghost use Rattle.std.specs.Prelude.{◌≡◌, ℕ, ◌<◌, ◌≤◌, ◌==◌, ◌^◌, Bool, All, IfOk, IfSome, IsTrue, List, length, map, option_map};
 ghost use Rattle.hpf_base.specs.ElementOrder.{product};
 ghost use Rattle.machine_steps.specs.Layout.{in_bounds};
 ghost use Rattle.machine_steps.specs.Message.{Part, computes_left, first_read, least_or_zero};
 ghost use Rattle.message_elements.specs.Visits.{AreVisits};
-ghost use Rattle.courses.specs.References.{IsAlongAxes, named_spot};
+ghost use Rattle.courses.specs.References.{IsAlongAxes, Named, named_spot};
 ghost use Rattle.course_forms.specs.Views.{named_of, names_of};
 ghost use Rattle.visited_tuples.specs.Own.{IsOwn};
 ghost use Rattle.visited_tuples.specs.Owned.{Lies};
 ghost use Rattle.visited_tuples.specs.Parts.{IsPartOf};
+ghost use Rattle.visited_tuples.specs.Visited.{Suffice};
 
 use crate::own::Own;
 use crate::visitor::Visitor;
@@ -45,7 +46,11 @@ pub fn assigned_visits(
         id,
     };
     match visitor.own_of_assigned(alloc, left)? {
-        Some(own) => visitor.visits(alloc, reads, own),
+        Some(own) => {
+            let few = visitor.apart(alloc, left, reads)?;
+            let found = visitor.visits(alloc, &few, own)?;
+            Ok(found)
+        }
         None => Ok(None),
     }
 }
@@ -123,7 +128,7 @@ fn are_few(extents: &[u64]) -> bool
 }
 
 impl<'a> Visitor<'a> {
-    /// The tuples to be asked, by what the node computes; None where rows don't lie as references take them.
+    /// The tuples to be asked, by what the node computes and references that suffice; None where rows don't lie as references take them.
     fn visits(
         &self,
         alloc: Global,
@@ -135,7 +140,8 @@ impl<'a> Visitor<'a> {
             (option_map (λ lists. map (λ v. v.items) lists.items) own.lists) own.beside.items }
         ensures { (who : (node tuple : ℕ) → Bool)
             → IsOwn who self.now.owners.now.nodes self.now.extents.now self.now.id (option_map (λ lists. map (λ v. v.items) lists.items) own.lists) own.beside.items
-            → IfOk result (λ v. IfSome v (λ v. (part : Part) → IsPartOf self.now.extents.now (names_of reads.now) who part
+            → (rs : List Named) → Suffice who self.now.owners.now.layouts self.now.extents.now rs (names_of reads.now)
+            → IfOk result (λ v. IfSome v (λ v. (part : Part) → IsPartOf self.now.extents.now rs who part
             → AreVisits self.now.owners.now.nodes self.now.owners.now.layouts part self.now.id v)) }
     {
         if !self.all_lie(reads) {

@@ -1,5 +1,5 @@
 -- What is read at a tuple, found among the references.
-use Rattle.std.proofs.Common.{◌≡◌, ℕ, ◌&&◌, ◌||◌, Bool, true, false, List, [], ◌∷◌, map, nat_eq, Option, Some, None, option_map, All, refl, sym, ◌∙◌, ap, ◌⊎◌, inl, inr}
+use Rattle.std.proofs.Common.{◌≡◌, ℕ, ◌&&◌, ◌||◌, Bool, true, false, List, [], ◌∷◌, map, nat_eq, Option, Some, None, option_map, All, refl, sym, ◌∙◌, ap, ◌⊎◌, inl, inr, ⊎_elim}
 use Rattle.std.proofs.lemmas.Bool.{eqb-true}
 use Rattle.std.proofs.lemmas.List.Elements.{All-head, All-tail}
 use Rattle.std.proofs.lemmas.Option.{none-some, same_Some}
@@ -12,9 +12,9 @@ use Rattle.axis_products.specs.Products.{places_at}
 use Rattle.axis_products.specs.Tests.{Test, holds}
 use Rattle.courses.specs.Owners.{IsLaidOut, bounds_test, owner_test}
 use Rattle.courses.specs.References.{Named, named_spot, place_at_places}
-use Rattle.courses.proofs.Owners.{bounded, holds-and, owned-named}
+use Rattle.courses.proofs.Owners.{bounded, element-below, holds-and, owned-get, owned-named}
 use Rattle.courses.proofs.Sections.{both}
-use Rattle.visited_tuples.specs.Owned.{Lies, owns_in, owns_named}
+use Rattle.visited_tuples.specs.Owned.{Lies, OwnsRow, owns_in, owns_named}
 
 spot-is : (a b : Spot) → is_same_spot a b ≡ true → a ≡ b
 spot-is a b e =
@@ -58,12 +58,18 @@ own-all ns layouts [] node t spot lie all named = absurd cc
 own-all ns layouts (r ∷ rs) node t spot lie all named =
     let each = both (holds (owns_named layouts node r) (places_at ns t)) (list_all (λ r. holds (owns_named layouts node r) (places_at ns t)) rs) all in
     let here = All-head (Lies ns layouts) r rs lie in
-    by_first (named-first (named_spot ns t r) (map (named_spot ns t) rs) spot named)
-    (λ named. owns-named ns layouts r here.0 node t spot here.1 named ∙ each.0)
+    ⊎_elim (λ named. owns-named ns layouts r here.0 node t spot here.1 named ∙ each.0)
     (λ named. own-all ns layouts rs node t spot (All-tail (Lies ns layouts) r rs lie) each.1 named)
-  where
-    by_first : (named_spot ns t r ≡ Some spot) ⊎ (names_spot (map (named_spot ns t) rs) spot ≡ true)
-        → (named_spot ns t r ≡ Some spot → owns_spot layouts node spot ≡ true)
-        → (names_spot (map (named_spot ns t) rs) spot ≡ true → owns_spot layouts node spot ≡ true) → owns_spot layouts node spot ≡ true
-    by_first (inl e) f g = f e
-    by_first (inr e) f g = g e
+    (named-first (named_spot ns t r) (map (named_spot ns t) rs) spot named)
+
+-- the same where it owns all elements of the rows
+pub own-rows : (ns : List ℕ) (layouts : List Layout) (rs : List Named) (node t : ℕ) (spot : Spot) → All (OwnsRow ns layouts node) rs
+    → names_spot (map (named_spot ns t) rs) spot ≡ true → owns_spot layouts node spot ≡ true
+own-rows ns layouts [] node t spot whole named = absurd cc
+own-rows ns layouts (r ∷ rs) node t spot whole named =
+    let here = All-head (OwnsRow ns layouts node) r rs whole in
+    ⊎_elim (λ named. let h = named-place r.row (place_at_places r (places_at ns t)) spot named in
+    ap (owns_spot layouts node) (sym h.2) ∙ ap (λ o. o node h.0) (owned-get layouts r.row here.0 here.1.row)
+    ∙ here.2 h.0 (element-below ns layouts r here.0 here.1 t h.0 h.1))
+    (λ named. own-rows ns layouts rs node t spot (All-tail (OwnsRow ns layouts node) r rs whole) named)
+    (named-first (named_spot ns t r) (map (named_spot ns t) rs) spot named)

@@ -1,5 +1,6 @@
 -- The tuples that a node computes, and those at which it may take something.
 use Rattle.std.proofs.Common.{◌≡◌, ℕ, zero, suc, ◌+◌, ◌<◌, ◌&&◌, not, Bool, true, false, if◌then◌else◌, List, [], map, filter, Option, Some, None, All, refl, sym, ◌∙◌, ap, subst, arith}
+use Rattle.std.proofs.lemmas.List.Elements.{All-nil}
 use Rattle.std.specs.List.{list_all, range_with_len}
 use Rattle.hpf_base.specs.ElementOrder.{product}
 use Rattle.machine_steps.specs.Layout.{Layout}
@@ -7,11 +8,11 @@ use Rattle.axis_products.specs.Products.{combined, each, number_at, passing, pla
 use Rattle.axis_products.specs.Tests.{ArePlaces, Test, holds}
 use Rattle.axis_products.proofs.Products.{held}
 use Rattle.courses.specs.References.{Named}
-use Rattle.visited_tuples.specs.Owned.{Lies, owns_named}
+use Rattle.visited_tuples.specs.Owned.{Lies, OwnsRow, owns_named}
 use Rattle.visited_tuples.specs.Own.{IsOwn, listed_tuples}
 use Rattle.visited_tuples.specs.Visited.{IsTaking}
 use Rattle.visited_tuples.proofs.Members.{all-of, all-at, filter-agree, is-one, one-passing, passing-one}
-use Rattle.visited_tuples.proofs.Reading.{own-all}
+use Rattle.visited_tuples.proofs.Reading.{own-all, own-rows}
 
 -- what holds where the same is at all tuples
 pub holds-each : (c : Test) (places : List ℕ) → c.always ≡ true → holds c places ≡ each c.at 0 places
@@ -74,3 +75,12 @@ taking-beyond computes nodes ns id lists beside layouts rs b ts own lie within b
 pub taking-none : (computes : (node tuple : ℕ) → Bool) (nodes : ℕ) (ns : List ℕ) (id : ℕ) (beside : List ℕ) (layouts : List Layout) (rs : List Named)
     → IsOwn computes nodes ns id None beside → IsTaking computes layouts ns rs id []
 taking-none computes nodes ns id beside layouts rs own = taking-all computes nodes ns id None beside own layouts rs
+
+-- where it owns all elements of the rows that are read it takes nothing
+pub taking-nothing : (computes : (node tuple : ℕ) → Bool) (ns : List ℕ) (id : ℕ) (layouts : List Layout) (rs : List Named)
+    → All (OwnsRow ns layouts id) rs → IsTaking computes layouts ns rs id []
+taking-nothing computes ns id layouts rs whole = record {
+  below = All-nil (λ t. t < product ns);
+  own = All-nil (λ t. computes id t ≡ true);
+  every = λ t spot small mine named theirs. let e : true ≡ false = sym (own-rows ns layouts rs id t spot whole named) ∙ theirs in absurd cc;
+}

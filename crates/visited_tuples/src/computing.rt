@@ -11,6 +11,7 @@ ghost use Rattle.courses.specs.Owners.{IsLaidOut, bounds_test};
 ghost use Rattle.courses.specs.References.{Named, named_spot};
 ghost use Rattle.visited_tuples.specs.Owned.{owns_named};
 ghost use Rattle.visited_tuples.specs.Own.{IsOwn};
+ghost use Rattle.visited_tuples.specs.Visited.{AreAlike, IsHeld};
 
 /// The owners of what is assigned compute, where that is in bounds at every tuple.
 pub fn assigned_own()
@@ -42,4 +43,10 @@ pub fn unread_own()
 pub fn root_own()
     ensures { (nodes : ℕ) (ns : List ℕ) (id : ℕ) (lists : Option (List (List ℕ))) → ArePlaces (record { always = id == 0; at = λ axis place. true }) ns lists
         → IsOwn (λ node t. node == 0) nodes ns id lists (id ∷ []) }
+{}
+
+/// The owners of what is assigned own what lies as that does.
+pub fn alike_held()
+    ensures { (layouts : List Layout) (ns : List ℕ) (l r : Named) (layout : Layout) → IsLaidOut ns layouts l layout → AreAlike layouts l r
+        → IsHeld (λ node t. computes_left layouts node (in_bounds layouts (named_spot ns t l))) layouts ns r }
 {}

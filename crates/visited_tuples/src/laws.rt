@@ -1,6 +1,6 @@
 //! Laws on tuples at which nothing is exchanged.
 
-ghost use Rattle.std.specs.Prelude.{◌≡◌, ℕ, ◌<◌, ◌==◌, ◌&&◌, not, All, Bool, true, List, filter, map, Option, Some};
+ghost use Rattle.std.specs.Prelude.{◌≡◌, ℕ, ◌<◌, ◌==◌, ◌&&◌, not, All, Bool, true, List, [], filter, map, Option, Some};
 ghost use Rattle.std.specs.List.{list_all, list_any, range_with_len};
 ghost use Rattle.hpf_base.specs.ElementOrder.{product};
 ghost use Rattle.storage.specs.Storage.{Spot};
@@ -10,9 +10,9 @@ ghost use Rattle.axis_products.specs.Products.{each, passing, places_at};
 ghost use Rattle.axis_products.specs.Tests.{holds};
 ghost use Rattle.courses.specs.Owners.{IsLaidOut};
 ghost use Rattle.courses.specs.References.{Named, named_spot};
-ghost use Rattle.visited_tuples.specs.Owned.{Lies, owns_named};
+ghost use Rattle.visited_tuples.specs.Owned.{Lies, OwnsRow, owns_named};
 ghost use Rattle.visited_tuples.specs.Own.{IsOwn, listed_tuples};
-ghost use Rattle.visited_tuples.specs.Visited.{IsTaking};
+ghost use Rattle.visited_tuples.specs.Visited.{IsTaking, Suffice};
 
 /// A node owns the element that a reference names at a tuple where its test holds at the tuple's places.
 pub fn owned_by_places()
@@ -43,4 +43,16 @@ pub fn taken_beyond()
         → ((a : ℕ → ℕ → Bool) → lists ≡ passing a 0 ns → (t : ℕ) → t < product ns
         → list_any (λ v. v == t) ts ≡ (each a 0 (places_at ns t) && not (each b 0 (places_at ns t))))
         → IsTaking computes layouts ns rs id ts }
+{}
+
+/// A node that owns all elements of the rows that are read takes nothing.
+pub fn nothing_taken()
+    ensures { (computes : (node tuple : ℕ) → Bool) (ns : List ℕ) (id : ℕ) (layouts : List Layout) (rs : List Named)
+        → All (OwnsRow ns layouts id) rs → IsTaking computes layouts ns rs id [] }
+{}
+
+/// Where few references suffice, a node takes at the tuples at which it takes something that these name.
+pub fn taken_of_few()
+    ensures { (computes : (node tuple : ℕ) → Bool) (layouts : List Layout) (ns : List ℕ) (rs few : List Named) (id : ℕ) (ts : List ℕ)
+        → Suffice computes layouts ns rs few → IsTaking computes layouts ns few id ts → IsTaking computes layouts ns rs id ts }
 {}

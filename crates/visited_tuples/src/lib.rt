@@ -2,10 +2,11 @@
 //!
 //! Comes in: nothing. Goes out: laws, each the contract of a function that does nothing. What is read at a tuple is named by references, and
 //! a node owns it where a test of each axis holds at the tuple's places (`owned_by_places`). So the tuples that a node computes are told by lists
-//! of places, one an axis (`own_tuples`), whoever computes (`assigned_own`, `read_own`, `unread_own`, `root_own`); at those where it owns all that is read it takes nothing (`owned_reads`, `taken_beyond`); and it
+//! of places, one an axis (`own_tuples`), whoever computes (`assigned_own`, `read_own`, `unread_own`, `root_own`); at those where it owns all that is read it takes nothing (`owned_reads`, `taken_beyond`), nor anywhere where it owns whole rows (`nothing_taken`); and it
 //! sends what a reference names only where it owns that, and is the least owner (`least_alone`), where others lack it (`all_own`), at tuples
 //! with the places of the reference (`sent_where_owned`), and not at those that it computes itself, if all that compute these own it too
-//! (`sent_beyond`). All of it together: `visits_of_part`.
+//! (`sent_beyond`). Of what lies as what is assigned, and has its subscripts (`alike_held`), nothing is exchanged, so that few references
+//! suffice (`taken_of_few`, `sent_of_few`). All of it together: `visits_of_part`.
 #![tactic(auto)]
 
 mod computing;
@@ -13,7 +14,9 @@ mod laws;
 mod parts;
 mod sending;
 
-pub use computing::{assigned_own, read_own, root_own, unread_own};
-pub use laws::{own_tuples, owned_by_places, owned_reads, taken_beyond};
+pub use computing::{alike_held, assigned_own, read_own, root_own, unread_own};
+pub use laws::{
+    nothing_taken, own_tuples, owned_by_places, owned_reads, taken_beyond, taken_of_few,
+};
 pub use parts::visits_of_part;
-pub use sending::{all_own, least_alone, sent_beyond, sent_where_owned};
+pub use sending::{all_own, least_alone, sent_beyond, sent_of_few, sent_where_owned};

@@ -10,7 +10,7 @@ ghost use Rattle.courses.specs.Owners.{IsLaidOut};
 ghost use Rattle.courses.specs.References.{Named};
 ghost use Rattle.visited_tuples.specs.Owned.{owns_named};
 ghost use Rattle.visited_tuples.specs.Own.{IsOwn, listed_tuples};
-ghost use Rattle.visited_tuples.specs.Visited.{IsSendingOf};
+ghost use Rattle.visited_tuples.specs.Visited.{IsSending, IsSendingOf, Suffice};
 
 /// A node that isn't the least owner of what it owns sends nothing of it.
 pub fn least_alone()
@@ -46,4 +46,10 @@ pub fn sent_beyond()
         → ((a b : ℕ → ℕ → Bool) → owned ≡ passing a 0 ns → lists ≡ passing b 0 ns → (t : ℕ) → t < product ns
         → list_any (λ v. v == t) ts ≡ (each a 0 (places_at ns t) && not (each b 0 (places_at ns t))))
         → IsSendingOf computes nodes layouts ns r id ts }
+{}
+
+/// Where few references suffice, a node sends at the tuples at which it sends something that these name.
+pub fn sent_of_few()
+    ensures { (computes : (node tuple : ℕ) → Bool) (nodes : ℕ) (layouts : List Layout) (ns : List ℕ) (rs few : List Named) (id : ℕ) (ts : List ℕ)
+        → Suffice computes layouts ns rs few → IsSending computes nodes layouts ns few id ts → IsSending computes nodes layouts ns rs id ts }
 {}

@@ -1,4 +1,4 @@
-use Rattle.std.proofs.Common.{◌≡◌, ◌==◌, ℕ, Bool, length, map, sym, ◌∙◌, ap, subst, arith}
+use Rattle.std.proofs.Common.{◌≡◌, ◌==◌, ℕ, Bool, length, map, sym, ◌∙◌, ap, subst, arith, inl}
 use Rattle.std.proofs.lemmas.Bool.{eqb-false}
 use Rattle.std.specs.Option.{IfSome, option_map}
 use Rattle.machine_steps.specs.Layout.{in_bounds}
@@ -31,4 +31,4 @@ returns c =
       tuples = of.tuples;
       reads = of.reads;
       computes = λ node t small. of.computes node t small ∙ ap (λ o. least_or_zero nodes layouts (in_bounds layouts o) == node) (first t);
-    })) (c.in_ok-found.ensures who own)
+    })) (c.in_ok-found.ensures who own rs (λ t spot small named. inl named))

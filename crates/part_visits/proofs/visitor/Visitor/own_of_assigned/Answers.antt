@@ -4,8 +4,8 @@ use Rattle.course_forms.specs.Views.{named_of}
 use Rattle.visited_tuples.proofs.Owning.{assigned}
 use Rattle.part_visits.proofs.visitor.Visitor.own_of_assigned.Goals as goal
 
-pub returns : goal.returns
-returns c =
+pub returns-clause-own : goal.returns-clause-own
+returns-clause-own c =
     let self = c.args.self.now in
     let lies = c.lies.ensures c.if-not-lies.false in
     assigned self.owners.now.nodes self.owners.now.layouts self.extents.now (named_of c.args.l.now) lies.0 self.id lies.1 (c.is_inside.ensures c.if-not-is_inside.false)

@@ -1,4 +1,4 @@
-use Rattle.std.proofs.Common.{◌≡◌, map, ◌∙◌, ap, subst}
+use Rattle.std.proofs.Common.{map, ◌∙◌, ap, subst}
 use Rattle.std.specs.Option.{option_map}
 use Rattle.axis_products.specs.Tests.{ArePlaces}
 use Rattle.part_visits.proofs.visitor.Visitor.short_tuples.Goals as goal

@@ -8,9 +8,16 @@ use Rattle.course_forms.specs.Views.{names_of}
 use Rattle.visited_tuples.specs.Own.{IsOwn}
 use Rattle.visited_tuples.specs.Owned.{owns_named}
 use Rattle.visited_tuples.specs.Visited.{IsTaking}
-use Rattle.visited_tuples.proofs.Taken.{taking-all, taking-beyond}
+use Rattle.visited_tuples.proofs.Taken.{taking-all, taking-beyond, taking-nothing}
 use Rattle.part_visits.proofs.AxisLists.{as-many, length-passing}
 use Rattle.part_visits.proofs.visitor.Visitor.taking.Goals as goal
+
+pub returns-then-owns_rows : goal.returns-then-owns_rows
+returns-then-owns_rows c who own =
+    let ns = c.args.self.now.extents.now in
+    let layouts = c.args.self.now.owners.now.layouts in
+    subst (IsTaking who layouts ns (names_of c.args.reads.now) c.args.self.now.id) (sym c.new.ensures.items)
+    (taking-nothing who ns c.args.self.now.id layouts (names_of c.args.reads.now) (c.owns_rows.ensures c.if-owns_rows.true))
 
 pub tuples_beyond-requires-clause-outer_axes : goal.tuples_beyond-requires-clause-outer_axes
 tuples_beyond-requires-clause-outer_axes c =
