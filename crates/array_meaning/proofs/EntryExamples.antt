@@ -2,7 +2,7 @@
 -- end of a line.
 use Rattle.std.specs.Prelude.{◌≡◌, refl, [], ◌∷◌, pos, negsuc, Some, None, Err}
 use Rattle.std.specs.Int.{int_wrap}
-use Rattle.op_tables.specs.declared.op.Op.TheVariants as op
+use Rattle.name_table.specs.Op.TheVariants as op
 use Rattle.array_meaning.specs.Statements.{Done, AssignScalar, If, Do, Continue, Unmarked, NoArm}
 use Rattle.array_meaning.specs.declared.faults.FaultKind.TheVariants.{SpaceLimit}
 use Rattle.array_meaning.specs.Faults.{fails}

@@ -1,8 +1,8 @@
 -- What nests of INDEPENDENT loops are resolved to. In the comments a bar stands for the end of a line.
 use Rattle.std.specs.Prelude.{◌≡◌, refl, ℕ, List, [], ◌∷◌, pos, None}
-use Rattle.op_tables.specs.declared.op.Op.TheVariants as op
-use Rattle.syntax_tree.specs.Expression as e
-use Rattle.syntax_tree.specs.Statement as s
+use Rattle.name_table.specs.Op.TheVariants as op
+use Rattle.name_table.specs.Expression as e
+use Rattle.name_table.specs.Statement as s
 use Rattle.name_table.specs.declared.names.Entry.{Entry}
 use Rattle.array_meaning.specs.Terms.{Number, Scalar, Apply, NoTerm, More}
 use Rattle.array_meaning.specs.Statements.{Loop, Nest, Block, Done, Then, AssignScalar, AssignElement, Do, Unmarked, Outermost}

@@ -1,9 +1,9 @@
 -- Short ways to write a nest of the examples: the places of its names, its loops and statements, and the state at its entry.
 use Rattle.std.specs.Prelude.{◌≡◌, ℕ, List, [], ◌∷◌, replicate, ℤ, pos, Ok, Option}
-use Rattle.op_tables.specs.declared.op.Op.{Op}
-use Rattle.op_tables.specs.declared.op.Op.TheVariants as op
-use Rattle.expression_rules.specs.declared.dims.Dim.{Dim}
-use Rattle.expression_rules.specs.Dims.{elements}
+use Rattle.name_table.specs.Op.{Op}
+use Rattle.name_table.specs.Op.TheVariants as op
+use Rattle.name_table.specs.Dim.{Dim}
+use Rattle.name_table.specs.Dims.{elements}
 use Rattle.array_meaning.specs.Terms.{Term, Number, Scalar, Element, Apply, Terms, NoTerm, More}
 use Rattle.array_meaning.specs.Statements.{Loop, Nest, Block, Done, Then, Statement, AssignElement, Arms, Arm}
 use Rattle.array_meaning.specs.declared.faults.FaultKind.TheVariants.{Interfere}

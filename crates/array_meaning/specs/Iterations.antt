@@ -2,8 +2,8 @@
 use Rattle.std.specs.Prelude.{ℕ, zero, suc, nat_eq, List, [], ◌∷◌, ◌++◌, map, reverse, ℤ, pos, Bool}
 use Rattle.std.specs.List.{list_any}
 use Rattle.std.specs.Result.{result_unwrap_or}
-use Rattle.hpf_base.specs.ElementOrder.{product}
-use Rattle.op_tables.specs.Operators.{wrapped}
+use Rattle.name_table.specs.ElementOrder.{product}
+use Rattle.name_table.specs.Operators.{wrapped}
 use Rattle.array_meaning.specs.Statements.{Loop, Nest}
 use Rattle.array_meaning.specs.State.{State, set_scalar}
 use Rattle.array_meaning.specs.declared.sections.Sequence.{Sequence}

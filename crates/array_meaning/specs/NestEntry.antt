@@ -1,7 +1,7 @@
 -- The entry of a nest of INDEPENDENT loops (HPF 2.0, 5.1): its limits, and whether two of its iterations interfere.
 use Rattle.std.specs.Prelude.{ℕ, ◌%◌, ◌/◌, List, [], ◌∷◌, ℤ, pos, ◌+ℤ◌, ◌==◌, if◌then◌else◌, Option, Some, None, Result, Ok, Err}
-use Rattle.expression_rules.specs.declared.dims.Dim.{Dim}
-use Rattle.expression_rules.specs.Dims.{extent}
+use Rattle.name_table.specs.Dim.{Dim}
+use Rattle.name_table.specs.Dims.{extent}
 use Rattle.array_meaning.specs.Statements.{Nest, Block, Mark, Unmarked, Outermost}
 use Rattle.array_meaning.specs.declared.faults.FaultKind.TheVariants.{SpaceLimit, Interfere}
 use Rattle.array_meaning.specs.Faults.{Object, Between, Cause, fails}

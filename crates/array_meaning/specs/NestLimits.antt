@@ -2,8 +2,8 @@
 use Rattle.std.specs.Prelude.{ℕ, ◌*◌, nat_le, List, [], ◌∷◌, ◌++◌, ℤ, pos, ◌-ℤ◌, Bool, true, ◌&&◌, ◌||◌, ◌==◌}
 use Rattle.std.specs.List.{list_all}
 use Rattle.std.specs.Result.{result_unwrap_or}
-use Rattle.hpf_base.specs.declared.limits.TheConstants.{MAX_TUPLES}
-use Rattle.op_tables.specs.Operators.{wrapped}
+use Rattle.name_table.specs.TheConstants.{MAX_TUPLES}
+use Rattle.name_table.specs.Operators.{wrapped}
 use Rattle.array_meaning.specs.Terms.{Term, list_of}
 use Rattle.array_meaning.specs.Statements.{Nest, Block, Done, Then, Statement, AssignScalar, AssignElement, If, Do, Arms, NoArm, Arm}
 use Rattle.array_meaning.specs.State.{State, set_scalar}

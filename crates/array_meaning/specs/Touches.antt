@@ -1,7 +1,7 @@
 -- What an iteration of a nest touches (HPF 2.0, 5.1): the scalars and the elements that it reads or writes, but for those that each iteration
 -- has of its own.
 use Rattle.std.specs.Prelude.{ℕ, List, [], ◌∷◌, ◌++◌, ℤ, Bool, true, false, ◌&&◌, not, if◌then◌else◌, Option, Some, None, Result, Ok, Err}
-use Rattle.op_tables.specs.Operators.{is_true}
+use Rattle.name_table.specs.Operators.{is_true}
 use Rattle.array_meaning.specs.Terms.{Term, Number, Scalar, Element, Apply, Terms, NoTerm, More}
 use Rattle.array_meaning.specs.Statements.{Nest, Block, Done, Then, Statement, AssignScalar, AssignElement, If, Do, Arms, NoArm, Arm}
 use Rattle.array_meaning.specs.Faults.{Cause, ◌>>=◌}

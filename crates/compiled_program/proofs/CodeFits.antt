@@ -18,7 +18,7 @@ use Rattle.nest_texts.specs.NestTexts.{NestText, NestTest}
 use Rattle.nest_texts.specs.NestInstructions as forms
 use Rattle.nest_texts.specs.NestInstructions.{NestBody, NoText, AndText, AndIf, AndLoop, NestArms, AndArm, count_nest, text_instructions, test_instruction, tail_instructions, loop_instructions, body_instructions, arms_instructions, nest_instructions, finals_makes, conditions_makes, finals_instructions}
 use Rattle.lowered_nests.specs.NestCode.{plain, text_in, test_in, stored, finals, along, trips_code, indices_code, inner_bounds, nest_code}
-use Rattle.lowering.specs.StatementCode.{marked_code, entry_code, statement_code, arms_code, block_code, program_code}
+use Rattle.nodes_lowered.specs.StatementCode.{marked_code, entry_code, statement_code, arms_code, block_code, program_code}
 use Rattle.owner_tables.specs.Views.{TableView}
 use Rattle.node_program.specs.Fits.{fits_row, fits_rows}
 

@@ -6,3 +6,7 @@ pub mod Accepted
 mod CodeFits
 mod MovesFit
 mod ProgramFits
+pub use Rattle.nodes_lowered.proofs.Laid
+pub use Rattle.nodes_lowered.proofs.StartLaid
+pub use Rattle.nodes_lowered.proofs.Programs as StandingPrograms
+pub use Rattle.nodes_lowered.proofs.ValidPrograms

@@ -21,8 +21,8 @@ use Rattle.machine_steps.specs.Layout.{Layout}
 use Rattle.node_code.specs.Instructions.{NewMapping, Remap}
 use Rattle.node_code.specs.Texts.{instructions}
 use Rattle.node_code.specs.ValidCode.{CodeTable, IsValid, IsValidNodeCode}
-use Rattle.lowering.specs.Ranks.{declared_shapes}
-use Rattle.lowering.specs.StatementCode.{block_copies, block_slots, program_code}
+use Rattle.nodes_lowered.specs.Ranks.{declared_shapes}
+use Rattle.nodes_lowered.specs.StatementCode.{block_copies, block_slots, program_code}
 use Rattle.nest_items.specs.BlockForms.{BlockHasForms}
 use Rattle.owner_tables.specs.Views.{TableView}
 use Rattle.node_program.specs.Fits.{FitsRows, fits_rows, shapes_of}

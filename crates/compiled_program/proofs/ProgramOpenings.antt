@@ -20,7 +20,7 @@ use Rattle.machine_steps.specs.Layout.{Layout, size_of}
 use Rattle.machine_steps.specs.Machine.{Machine}
 use Rattle.node_code.specs.Instructions.{Instruction, NewMapping}
 use Rattle.node_code.specs.ProgramText.{Text, texts}
-use Rattle.lowering.specs.StatementCode.{block_slots, program_code}
+use Rattle.nodes_lowered.specs.StatementCode.{block_slots, program_code}
 use Rattle.node_program.specs.Openings.{opening_machine, start_rows}
 use Rattle.nodes_lowered.specs.OnNodes.{AreUnmade, LieAsDeclared, LiesAsDeclared, program_copies}
 use Rattle.nodes_lowered.specs.ProgramLayouts.{empty_layout, maps_after, program_layouts}

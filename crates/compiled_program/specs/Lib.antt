@@ -1,3 +1,10 @@
 pub mod NewTables
 pub mod Openings
 pub mod Starts
+pub use Rattle.nodes_lowered.specs.GridRuns
+pub use Rattle.nodes_lowered.specs.NewMappings
+pub use Rattle.nodes_lowered.specs.OnNodes
+pub use Rattle.nodes_lowered.specs.ProgramLayouts
+pub use Rattle.nodes_lowered.specs.ProgramRuns
+pub use Rattle.nodes_lowered.specs.Lowered
+pub use Rattle.nodes_lowered.specs.StatementCode

@@ -13,7 +13,7 @@ ghost use Rattle.array_meaning.specs.Resolution.{resolved_block};
 ghost use Rattle.fitting_states.specs.FittingStates.{BlockFits, ProgramFits};
 ghost use Rattle.node_code.specs.ProgramText.{texts};
 ghost use Rattle.node_code.specs.Texts.{instructions};
-ghost use Rattle.lowering.specs.StatementCode.{block_copies, block_slots, program_code};
+ghost use Rattle.nodes_lowered.specs.StatementCode.{block_copies, block_slots, program_code};
 ghost use Rattle.node_codegen.specs.Moves.{moves_by};
 ghost use Rattle.node_program.specs.Fits.{FitsRows};
 ghost use Rattle.node_program.specs.Programs.{code_of, mappings_of};
@@ -36,11 +36,11 @@ use name_table::Program;
 use node_code::Instruction;
 use node_codegen::{Code, LineMoves, compile};
 use node_program::NodeProgram;
+use nodes_lowered::accepted_programs_have_valid_code;
 use owner_tables::{OwnerTable, Owners};
 use program_plan::plan;
 use std::alloc::Global;
 use std::sync::Arc;
-use well_formed::accepted_programs_have_valid_code;
 
 /// A program compiled for the nodes of a grid, and what its run begins with there.
 #[derive(Drop)]

@@ -13,3 +13,4 @@ mod rows;
 mod starts;
 
 pub use compile::{CompiledProgram, compile_program};
+pub use nodes_lowered::{accepted_moves_are_dealt, moves_by_number, programs_run_on_nodes};

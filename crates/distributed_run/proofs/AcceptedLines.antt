@@ -11,9 +11,9 @@ use Rattle.machine_steps.specs.Instr.{Remapping}
 use Rattle.machine_steps.specs.Machine.{Machine, steps}
 use Rattle.node_code.specs.Instructions.{remappings}
 use Rattle.node_code.specs.ProgramText.{Text, text_meaning}
-use Rattle.nodes_lowered.specs.GridRuns.{grid_opening}
-use Rattle.nodes_lowered.specs.NewMappings.{program_mappings, program_remaps}
-use Rattle.nodes_lowered.specs.ProgramRuns.{end_by_status}
+use Rattle.compiled_program.specs.GridRuns.{grid_opening}
+use Rattle.compiled_program.specs.NewMappings.{program_mappings, program_remaps}
+use Rattle.compiled_program.specs.ProgramRuns.{end_by_status}
 use Rattle.distributed_run.specs.ProgramMessages.{messages_text}
 use Rattle.distributed_run.specs.StepLines.{IsListed, lines_of_steps}
 use Rattle.compiled_program.proofs.Accepted.{arrays-valid, moves-valid}

@@ -12,10 +12,10 @@ use Rattle.accepted_program.specs.Accepted.{KeepsRules}
 use Rattle.fitting_states.specs.FittingStates.{ProgramFits}
 use Rattle.machine_steps.specs.Layout.{Layout}
 use Rattle.node_code.specs.Instructions.{NewMapping}
-use Rattle.nodes_lowered.specs.NewMappings.{program_mappings, program_remaps}
-use Rattle.nodes_lowered.specs.OnNodes.{LieAsDeclared, MovesDealt, program_copies}
-use Rattle.nodes_lowered.specs.ProgramLayouts.{program_layouts}
-use Rattle.nodes_lowered.specs.ProgramRuns.{RunOnNodes}
+use Rattle.compiled_program.specs.NewMappings.{program_mappings, program_remaps}
+use Rattle.compiled_program.specs.OnNodes.{LieAsDeclared, MovesDealt, program_copies}
+use Rattle.compiled_program.specs.ProgramLayouts.{program_layouts}
+use Rattle.compiled_program.specs.ProgramRuns.{RunOnNodes}
 
 -- nodes run a program
 abbrev pub RunsOnNodes : Type 0

@@ -19,7 +19,7 @@ use Rattle.machine_steps.specs.Node.{Node, local_read}
 use Rattle.node_code.specs.Instructions.{NewMapping}
 use Rattle.node_code.specs.ProgramText.{Text}
 use Rattle.node_run.proofs.Reading.{least-owns}
-use Rattle.nodes_lowered.specs.ProgramRuns.{AreLastNodes, end_by_status}
+use Rattle.compiled_program.specs.ProgramRuns.{AreLastNodes, end_by_status}
 use Rattle.distributed_run.specs.Values.{row_values, value_of, value_on}
 
 -- ---- owners

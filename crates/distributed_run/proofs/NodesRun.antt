@@ -20,12 +20,12 @@ use Rattle.machine_steps.specs.Node.{Node}
 use Rattle.node_code.specs.FaultValues.{fault_values}
 use Rattle.node_code.specs.ProgramText.{Text, text_meaning}
 use Rattle.node_program.specs.Programs.{code_of}
-use Rattle.nodes_lowered.specs.GridRuns.{AreLastOnGrid, RunsOnGrid, grid_nodes, grid_opening}
-use Rattle.nodes_lowered.specs.NewMappings.{program_mappings, program_remaps}
-use Rattle.nodes_lowered.specs.OnNodes.{program_copies}
-use Rattle.nodes_lowered.specs.ProgramLayouts.{start_layouts}
-use Rattle.nodes_lowered.specs.ProgramRuns.{program_steps}
-use Rattle.nodes_lowered.proofs.StartLaid.{program-laid}
+use Rattle.compiled_program.specs.GridRuns.{AreLastOnGrid, RunsOnGrid, grid_nodes, grid_opening}
+use Rattle.compiled_program.specs.NewMappings.{program_mappings, program_remaps}
+use Rattle.compiled_program.specs.OnNodes.{program_copies}
+use Rattle.compiled_program.specs.ProgramLayouts.{start_layouts}
+use Rattle.compiled_program.specs.ProgramRuns.{program_steps}
+use Rattle.compiled_program.proofs.StartLaid.{program-laid}
 use Rattle.compiled_program.proofs.Accepted.{arrays-valid, moves-valid}
 use Rattle.distributed_run.proofs.GridLaws.{AllMovesDealt, RunsOnNodes}
 use Rattle.distributed_run.specs.Ran.{IsRunOf}

@@ -33,24 +33,24 @@ use Rattle.machine_steps.specs.Layout.{Layout}
 use Rattle.machine_steps.specs.Machine.{Machine, steps}
 use Rattle.node_code.specs.Instructions.{ArrayTable, Instruction, NewMapping, meaning_of, remappings}
 use Rattle.node_code.specs.ProgramText.{Text, table_on, text, text_meaning}
-use Rattle.lowering.specs.Lowered.{EndsAs, IsTable, opening}
+use Rattle.compiled_program.specs.Lowered.{EndsAs, IsTable, opening}
 use Rattle.lowered_expressions.specs.Passed.{passed}
-use Rattle.lowering.specs.StatementCode.{block_copies}
-use Rattle.well_formed.proofs.Programs.{trail_lowered, valid}
+use Rattle.compiled_program.specs.StatementCode.{block_copies}
+use Rattle.compiled_program.proofs.ValidPrograms.{trail_lowered, valid}
 use Rattle.nest_items.specs.BlockForms.{BlockHasForms}
 use Rattle.fitting_states.specs.FittingStates.{ProgramFits}
-use Rattle.nest_standing.proofs.Programs.{program_forms}
+use Rattle.compiled_program.proofs.StandingPrograms.{program_forms}
 use Rattle.owner_tables.proofs.CopyLaws.{copy-dealt, copy-size}
 use Rattle.owner_tables.proofs.SameLayouts.{same_layouts}
 use Rattle.comm_sets.proofs.Covering.{rounds-cover}
 use Rattle.node_run.proofs.CodedSteps.{steps-coded}
-use Rattle.nodes_lowered.specs.GridRuns.{grid_opening}
-use Rattle.nodes_lowered.specs.NewMappings.{array_places, new_mappings, numbered_at, program_mappings, program_remaps, remapping}
-use Rattle.nodes_lowered.specs.OnNodes.{names_shapes, program_copies, program_opening, program_run}
-use Rattle.nodes_lowered.specs.ProgramLayouts.{layout_by, maps_after, program_layouts, start_layouts}
-use Rattle.nodes_lowered.specs.ProgramRuns.{end_by_status, program_shapes}
-use Rattle.nodes_lowered.proofs.Laid.{names-many}
-use Rattle.nodes_lowered.proofs.StartLaid.{program-laid}
+use Rattle.compiled_program.specs.GridRuns.{grid_opening}
+use Rattle.compiled_program.specs.NewMappings.{array_places, new_mappings, numbered_at, program_mappings, program_remaps, remapping}
+use Rattle.compiled_program.specs.OnNodes.{names_shapes, program_copies, program_opening, program_run}
+use Rattle.compiled_program.specs.ProgramLayouts.{layout_by, maps_after, program_layouts, start_layouts}
+use Rattle.compiled_program.specs.ProgramRuns.{end_by_status, program_shapes}
+use Rattle.compiled_program.proofs.Laid.{names-many}
+use Rattle.compiled_program.proofs.StartLaid.{program-laid}
 use Rattle.message_text.specs.MessageText.{trail_lines}
 use Rattle.message_text.specs.Parts.{Setting}
 use Rattle.distributed_run.specs.ProgramMessages.{messages_text, names_layouts, program_setting}

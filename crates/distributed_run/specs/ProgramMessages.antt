@@ -7,9 +7,9 @@ use Rattle.array_maps.specs.Lines.{moves_at}
 use Rattle.directive_check.specs.ProgramMaps.{program_moves, start_maps}
 use Rattle.statement_trail.specs.Trail.{serial_trail}
 use Rattle.machine_steps.specs.Layout.{Layout}
-use Rattle.nodes_lowered.specs.NewMappings.{array_places, remapping}
-use Rattle.nodes_lowered.specs.ProgramLayouts.{program_layouts}
-use Rattle.nodes_lowered.specs.ProgramRuns.{program_shapes}
+use Rattle.compiled_program.specs.NewMappings.{array_places, remapping}
+use Rattle.compiled_program.specs.ProgramLayouts.{program_layouts}
+use Rattle.compiled_program.specs.ProgramRuns.{program_shapes}
 use Rattle.message_text.specs.Parts.{Setting}
 use Rattle.message_text.specs.MessageText.{trail_lines}
 

@@ -4,8 +4,8 @@ use Rattle.std.specs.Arc.{arc_value}
 use Rattle.hpf_base.specs.ElementOrder.{product}
 use Rattle.syntax_tree.specs.MainProgram.{MainProgram}
 use Rattle.node_program.specs.Programs.{code_of}
-use Rattle.nodes_lowered.specs.GridRuns.{RunsOnGrid, grid_nodes, grid_opening}
-use Rattle.nodes_lowered.specs.ProgramRuns.{program_steps}
+use Rattle.compiled_program.specs.GridRuns.{RunsOnGrid, grid_nodes, grid_opening}
+use Rattle.compiled_program.specs.ProgramRuns.{program_steps}
 use Rattle.stations.specs.Ended.{AreClosed}
 use Rattle.distributed_run.specs.declared.ran.Ran.{Ran}
 

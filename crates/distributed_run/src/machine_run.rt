@@ -10,7 +10,7 @@ ghost use Rattle.node_program.specs.Fits.{FitsRows};
 ghost use Rattle.node_program.specs.Programs.{code_of};
 ghost use Rattle.fitting_states.specs.FitProps.{program-prop};
 ghost use Rattle.fitting_states.specs.FittingStates.{ProgramFits};
-ghost use Rattle.nodes_lowered.specs.GridRuns.{grid_opening};
+ghost use Rattle.compiled_program.specs.GridRuns.{grid_opening};
 ghost use Rattle.message_lines.specs.KeptLines.{AreKeptLines};
 ghost use Rattle.message_lines.specs.TextLines.{text_lines};
 ghost use Rattle.distributed_run.specs.StepLines.{IsListed, lines_now};

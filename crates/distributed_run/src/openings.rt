@@ -9,12 +9,12 @@ ghost use Rattle.fitting_states.specs.FittingStates.{ProgramFits};
 ghost use Rattle.node_program.specs.Fits.{FitsRows};
 ghost use Rattle.node_program.specs.Openings.{opening_machine};
 ghost use Rattle.node_program.specs.Programs.{code_of};
-ghost use Rattle.nodes_lowered.specs.GridRuns.{grid_nodes, grid_opening};
+ghost use Rattle.compiled_program.specs.GridRuns.{grid_nodes, grid_opening};
 
 use accepted_program::AcceptedProgram;
 use compiled_program::compile_program;
 use hpf_base::OutOfMemory;
-use node_machine::Node;
+use node_crew::Node;
 use node_program::NodeProgram;
 use owner_tables::Owners;
 use std::alloc::Global;

@@ -1,9 +1,9 @@
 -- The state at the start is of 64 bits where the initial values are.
 use Rattle.std.proofs.Common.{ℕ, zero, suc, List, [], ◌∷◌, map, replicate, get_or, ℤ, pos, FitsSigned, w64}
 use Rattle.expression_rules.specs.Dims.{elements}
-use Rattle.name_table.specs.declared.names.Entry.{Entry}
-use Rattle.name_table.specs.declared.names.What.{What}
-use Rattle.name_table.specs.declared.names.What.TheVariants as what
+use Rattle.array_meaning.specs.Entry.{Entry}
+use Rattle.array_meaning.specs.What.{What}
+use Rattle.array_meaning.specs.What.TheVariants as what
 use Rattle.array_meaning.specs.State.{no_array}
 use Rattle.array_meaning.specs.Resolution.{initial_scalar, initial_array, initial_state}
 use Rattle.fitting_states.specs.FittingStates.{StateFits, InitialValueFits, InitialValuesFit}

@@ -3,10 +3,10 @@ use Rattle.std.specs.Prelude.{List, [], ◌∷◌, Option, Some, None}
 use Rattle.std.proofs.Props.{props}
 use Rattle.std.specs.List.{AllByRecursion}
 use Rattle.syntax_tree.specs.MainProgram.{MainProgram}
-use Rattle.name_table.specs.Entries.{entries}
-use Rattle.name_table.specs.declared.names.Entry.{Entry}
-use Rattle.name_table.specs.declared.names.What.{What}
-use Rattle.name_table.specs.declared.names.What.TheVariants as what
+use Rattle.array_meaning.specs.Entries.{entries}
+use Rattle.array_meaning.specs.Entry.{Entry}
+use Rattle.array_meaning.specs.What.{What}
+use Rattle.array_meaning.specs.What.TheVariants as what
 use Rattle.array_meaning.specs.Terms.{Term, Number, Scalar, Index, Element, Section, Apply, Reduce, Terms, NoTerm, More, SectionSubscripts, NoSubscript, Subscript, Triplet, Control}
 use Rattle.array_meaning.specs.Statements.{SectionAssignment, ElementAssignment, Loop, Block, Done, Then, Statement, AssignScalar, AssignElement, AssignSection, If, Do, Where, Forall, Print, Stop, Exit, Cycle, Continue, Redistribute, Mark, Unmarked, Outermost, Arms, NoArm, Arm}
 use Rattle.array_meaning.specs.Resolution.{resolved_block}

@@ -4,10 +4,10 @@ use Rattle.std.specs.Prelude.{ℕ, List, Option, Some, None, slice_index_or, pos
 use Rattle.std.specs.Int.{w64}
 use Rattle.std.specs.List.{AllByRecursion}
 use Rattle.syntax_tree.specs.MainProgram.{MainProgram}
-use Rattle.name_table.specs.Entries.{entries}
-use Rattle.name_table.specs.declared.names.Entry.{Entry}
-use Rattle.name_table.specs.declared.names.What.{What}
-use Rattle.name_table.specs.declared.names.What.TheVariants as what
+use Rattle.array_meaning.specs.Entries.{entries}
+use Rattle.array_meaning.specs.Entry.{Entry}
+use Rattle.array_meaning.specs.What.{What}
+use Rattle.array_meaning.specs.What.TheVariants as what
 use Rattle.array_meaning.specs.Terms.{Term, Number, Element, Section, Apply, Reduce, Terms, NoTerm, More, SectionSubscripts, NoSubscript, Subscript, Triplet, Control}
 use Rattle.array_meaning.specs.Statements.{SectionAssignment, ElementAssignment, Block, Done, Then, Statement, AssignScalar, AssignElement, AssignSection, If, Do, Where, Forall, Mark, Unmarked, Outermost, Arms, NoArm, Arm}
 use Rattle.array_meaning.specs.State.{State, scalar, array}

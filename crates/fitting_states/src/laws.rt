@@ -1,7 +1,7 @@
 //! Programs whose numbers are of 64 bits, and their states.
 
 ghost use Rattle.std.specs.Prelude.{ℕ, List};
-ghost use Rattle.name_table.specs.declared.names.Entry.{Entry};
+ghost use Rattle.array_meaning.specs.Entry.{Entry};
 ghost use Rattle.array_meaning.specs.State.{State};
 ghost use Rattle.array_meaning.specs.Statements.{Block, Statement};
 ghost use Rattle.array_meaning.specs.Execution.{run, run_block};

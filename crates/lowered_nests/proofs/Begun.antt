@@ -31,9 +31,9 @@ use Rattle.nest_items.specs.NestForm.{IsNest}
 use Rattle.nest_items.specs.NestItems.{ToScalar, ToElement, Assigning}
 use Rattle.nest_items.specs.Paths.{PathsAssign}
 use Rattle.nest_items.proofs.Storing.{if_so, if_not, row-at, rows-length}
-use Rattle.nest_parts.specs.NestParts as whole
-use Rattle.nest_parts.specs.NestParts.{opened}
-use Rattle.nest_parts.proofs.Opening.{condition_rows}
+use Rattle.nest_join.specs.NestParts as whole
+use Rattle.nest_join.specs.NestParts.{opened}
+use Rattle.nest_join.proofs.Opening.{condition_rows}
 use Rattle.nest_machine.specs.Body.{count_body}
 use Rattle.nest_machine.specs.Slots.{SameSlots}
 use Rattle.nest_machine.specs.Trace.{Data}

@@ -31,3 +31,4 @@ mod IndexCode
 mod NestPieces
 pub mod NestGoes
 pub mod StillLoops
+pub use Rattle.nest_join.proofs.Names as JoinedNames

@@ -20,8 +20,8 @@ use Rattle.nest_order.specs.Copies.{Kind, Shared, has_copies, InIteration, items
 use Rattle.lowered_expressions.proofs.Reach.{Idle}
 use Rattle.nest_items.specs.NestItems.{one, iteration_items, Action, Condition}
 use Rattle.nest_items.proofs.FormStands.{nest_stands}
-use Rattle.nest_parts.specs.NestParts.{IsGood, HasRoom, IsEntered}
-use Rattle.nest_parts.proofs.Opening.{opening, condition_rows, opened_fits}
+use Rattle.nest_join.specs.NestParts.{IsGood, HasRoom, IsEntered}
+use Rattle.nest_join.proofs.Opening.{opening, condition_rows, opened_fits}
 use Rattle.nest_machine.specs.Body.{count_body, body_slots}
 use Rattle.nest_machine.specs.ItemsAt.{items_at}
 use Rattle.nest_machine.specs.Stands.{HasAt}

@@ -19,11 +19,11 @@ use Rattle.nest_items.specs.Settled.{without}
 use Rattle.nest_items.specs.Standing.{IsFixedTerm, AreFixedTerms, Stands, AllStand}
 use Rattle.nest_items.specs.NestForm.{IsExact, AreExact, IsPlain, ArePlain, TextsKeep, TextKeeps, ArmsTextsKeep, BlockKeeps, StatementKeeps, ArmsKeep, LoopsKeep}
 use Rattle.nest_items.specs.BlockForms.{HasForm}
-use Rattle.nest_texts.specs.NestInstructions as forms
-use Rattle.nest_texts.specs.NestInstructions.{count_nest, slots_of_nest, nest_instructions}
+use Rattle.lowered_nests.specs.NestInstructions as forms
+use Rattle.lowered_nests.specs.NestInstructions.{count_nest, slots_of_nest, nest_instructions}
 use Rattle.lowered_expressions.specs.NestTerms.{indexed, all_indexed, scalar_or_index}
 use Rattle.statement_trail.specs.NestParts.{index_in, each_once, of_these, among_from, scalars_in}
-use Rattle.nest_join.specs.Places.{marks_by, final_by, finals_from, marks_from, place_by}
+use Rattle.lowered_nests.specs.Places.{marks_by, final_by, finals_from, marks_from, place_by}
 use Rattle.lowered_nests.specs.NestCode.{PlainBody, PlainArms, plain, plain_in, plain_arms, plain_else, bounds_in, kinds_in, scalars, conditions, nest_rows, stored, place_in, finals, copied_in, axis_in, text_in, test_in, along, bounds_code, trips_code, indices_code, nest_slots, inner_bounds, nest_code}
 use Rattle.lowered_nests.proofs.CodedBody.{no-division}
 use Rattle.lowered_nests.proofs.Listed.{in-some, in-none, not-in, among-is, is-among, not-read}

@@ -28,8 +28,8 @@ use Rattle.lowered_expressions.specs.WellFormed.{IsSubscript, AreSubscripts, IsI
 use Rattle.message_text.specs.Parts.{Setting, subscripts_in, named_in, all_named_in, copy_at, conditions_read, right_read, part_read, part_assigned, part_of, with_copies, with_copied, copies_of}
 use Rattle.message_text.specs.MessageText.{scalar_of, name_by, row_name, part_lines}
 use Rattle.message_text.specs.InstructionLines.{copy_rows, left_rows, rows_after}
-use Rattle.nest_join.proofs.Names.{eq-is, ne-is, in-from, in-both-some, in-both-none}
-use Rattle.lowered_nests.proofs.Listed.{in-some, once-in, these-in}
+use Rattle.well_formed.proofs.JoinedNames.{eq-is, ne-is, in-from, in-both-some, in-both-none}
+use Rattle.well_formed.proofs.Listed.{in-some, once-in, these-in}
 use Rattle.lowered_expressions.proofs.Indexed.{axes-extents}
 use Rattle.messages_lowered.proofs.NamedElements.{subscripts-same, named-same, indices-same}
 use Rattle.messages_lowered.proofs.MoreRows.{ReadsIn, reads-both, part-lines-same}

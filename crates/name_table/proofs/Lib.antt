@@ -8,3 +8,4 @@ mod ProgramBreaches
 mod Reasons
 mod Repeats
 mod Scalars
+pub use Rattle.expression_rules.proofs.Lists

@@ -15,3 +15,4 @@ pub mod RowPlaces
 pub mod MadeRows
 pub mod PairedTexts
 pub mod ListedFinals
+pub use Rattle.nest_parts.proofs.Opening

@@ -4,3 +4,4 @@ pub mod CodedBlocks
 pub mod MachineState
 pub mod NestRuns
 pub mod Places
+pub use Rattle.nest_parts.specs.NestParts

@@ -16,3 +16,4 @@ pub mod Programs
 mod Ranks
 mod DistinctNames
 mod ConstantSteps
+pub use Rattle.well_formed.proofs.Programs as ValidPrograms

@@ -21,3 +21,4 @@
 mod laws;
 
 pub use laws::{kept_nests, programs_have_forms};
+pub use well_formed::accepted_programs_have_valid_code;

@@ -4,18 +4,18 @@ use Rattle.std.specs.Fmt.{signed_decimal}
 use Rattle.op_tables.specs.declared.join.Join.{Join}
 use Rattle.op_tables.specs.declared.reductions.Reduction.{Reduction}
 use Rattle.op_tables.specs.Operators.{wrapped, is_zero, is_true}
-use Rattle.expression_rules.specs.declared.dims.Dim.{Dim}
+use Rattle.resolved_program.specs.Dim.{Dim}
 use Rattle.storage.specs.Storage.{Spot}
-use Rattle.array_meaning.specs.declared.faults.FaultKind.TheVariants.{ZeroStride}
-use Rattle.array_meaning.specs.Faults.{Cause, Fault, ◌>>=◌, fails}
-use Rattle.array_meaning.specs.State.{element_place, if_in_bounds}
-use Rattle.array_meaning.specs.declared.sections.Sequence.{Sequence}
-use Rattle.array_meaning.specs.declared.sections.Selection.{Selection}
-use Rattle.array_meaning.specs.Sections.{sequence, extents, subscripts_at, positions}
-use Rattle.array_meaning.specs.Elementals.{each}
-use Rattle.array_meaning.specs.Statements.{Mark}
-use Rattle.array_meaning.specs.NestEntry.{entered}
-use Rattle.array_meaning.specs.Execution.{decimals}
+use Rattle.resolved_program.specs.FaultKind.TheVariants.{ZeroStride}
+use Rattle.resolved_program.specs.Faults.{Cause, Fault, ◌>>=◌, fails}
+use Rattle.resolved_program.specs.State.{element_place, if_in_bounds}
+use Rattle.resolved_program.specs.Sequence.{Sequence}
+use Rattle.resolved_program.specs.Selection.{Selection}
+use Rattle.resolved_program.specs.Sections.{sequence, extents, subscripts_at, positions}
+use Rattle.resolved_program.specs.Elementals.{each}
+use Rattle.resolved_program.specs.Statements.{Mark}
+use Rattle.resolved_program.specs.NestEntry.{entered}
+use Rattle.resolved_program.specs.Execution.{decimals}
 use Rattle.mappings.specs.declared.mapping.Mapping.{Mapping}
 use Rattle.machine_steps.specs.Layout.{Layout}
 use Rattle.machine_steps.specs.Instr as machine

@@ -4,12 +4,12 @@ use Rattle.std.specs.Prelude.{ℕ, ◌+◌, List, [], ◌∷◌, ◌++◌, lengt
 use Rattle.op_tables.specs.declared.reductions.Made.{Made}
 use Rattle.op_tables.specs.declared.reductions.Made.TheVariants as made
 use Rattle.op_tables.specs.Operators.{is_true}
-use Rattle.expression_rules.specs.declared.dims.Dim.{Dim}
+use Rattle.resolved_program.specs.Dim.{Dim}
 use Rattle.storage.specs.Storage.{Spot}
-use Rattle.array_meaning.specs.Faults.{Cause, Fault, ◌>>=◌}
-use Rattle.array_meaning.specs.State.{element_place, if_in_bounds}
-use Rattle.array_meaning.specs.Sections.{extents, subscripts_at}
-use Rattle.array_meaning.specs.Elementals.{Elemental, Same, Selected, Operation, Elementals, NoOperand, Operand}
+use Rattle.resolved_program.specs.Faults.{Cause, Fault, ◌>>=◌}
+use Rattle.resolved_program.specs.State.{element_place, if_in_bounds}
+use Rattle.resolved_program.specs.Sections.{extents, subscripts_at}
+use Rattle.resolved_program.specs.Elementals.{Elemental, Same, Selected, Operation, Elementals, NoOperand, Operand}
 use Rattle.machine_steps.specs.Instr.{Outcome, Tuples}
 use Rattle.machine_steps.specs.Space.{space_count}
 use Rattle.node_code.specs.declared.nest.NestRole.{NestRole}

@@ -14,7 +14,7 @@ use Rattle.nest_texts.specs.NestTexts.{NestText, NestTest}
 use Rattle.nest_texts.specs.NestInstructions.{arms_instructions, body_instructions, text_instructions}
 use Rattle.lowered_expressions.specs.NestTerms.{all_indexed, indexed}
 use Rattle.statement_trail.specs.NestParts.{each_once, index_in, of_these, scalars_in}
-use Rattle.nest_join.specs.Places.{marks_from, place_of}
+use Rattle.lowered_nests.specs.Places.{marks_from, place_of}
 use Rattle.lowered_nests.specs.NestCode.{Lined, PlainBody, PlainArms, along, conditions, scalars, stored}
 use Rattle.node_codegen.specs.declared.nest_names.NestNames.{NestNames}
 

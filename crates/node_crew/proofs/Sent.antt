@@ -8,8 +8,8 @@ use denote.Param.Send.{IsSend, view_send, struct_send, recorded_send}
 use Rattle.std.proofs.Crossing.{Vec-send}
 use Rattle.stations.specs.contracts.station.Station as Station
 use Rattle.stations.proofs.Sent.{station_send}
-use Rattle.node_machine.specs.contracts.node.Node as Node
-use Rattle.node_machine.specs.contracts.node.NodePhasedNode.TheImpl.{ghosts}
+use Rattle.sendable_nodes.specs.contracts.Node as Node
+use Rattle.sendable_nodes.specs.NodePhasedNode.TheImpl.{ghosts}
 use Rattle.sendable_nodes.proofs.NodeSent.{node_sent}
 use Rattle.node_crew.specs.contracts.crews.Crew as Crew
 use Rattle.node_crew.specs.contracts.crews.Crew.TheInside as Inside

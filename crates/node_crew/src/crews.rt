@@ -5,7 +5,7 @@ ghost use Rattle.stations.specs.Stations.{fixed};
 
 use hpf_ports::Gate;
 use node_law::Stepped;
-use node_machine::Node;
+use sendable_nodes::Node;
 use stations::Station;
 use std::marker::Model;
 use std::sync::Wait;
@@ -23,7 +23,7 @@ impl Model for Crew {
     ghost use Rattle.array_meaning.specs.Faults.{Fault};
     ghost use Rattle.machine_steps.specs.Node.{Node as NodeState};
     ghost use Rattle.node_code.specs.ProgramText.{Text};
-    ghost use Rattle.node_machine.specs.contracts.node.Node as n;
+    ghost use Rattle.sendable_nodes.specs.contracts.Node as n;
     ghost use Rattle.std.specs.Coded.{codes};
     ghost use Rattle.stations.specs.Stations.{Fixed, fixed};
 

@@ -6,7 +6,7 @@ ghost use Rattle.stations.specs.Stations.{fixed};
 
 use crate::crews::Crew;
 use hpf_base::OutOfMemory;
-use node_machine::Node;
+use sendable_nodes::Node;
 use stations::Station;
 use std::alloc::Global;
 use std::mem;

@@ -23,6 +23,6 @@ mod threads;
 
 pub use hpf_base::OutOfMemory;
 pub use hpf_ports::Gate;
-pub use node_machine::Node;
 pub use pair_mailbox::Closed;
 pub use run::{Crewed, run_nodes};
+pub use sendable_nodes::Node;

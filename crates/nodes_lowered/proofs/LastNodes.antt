@@ -25,8 +25,8 @@ use Rattle.machine_steps.specs.Node.{Node, at_root, local_read}
 use Rattle.machine_steps.specs.Agrees.{IsWhole, Own, by_number, standing}
 use Rattle.node_code.specs.Instructions.{Instruction, NewMapping, remappings}
 use Rattle.node_code.specs.ProgramText.{Text, text, texts}
-use Rattle.lowering.specs.Lowered.{EndsAs, IsLeft}
-use Rattle.lowering.specs.StatementCode.{program_code}
+use Rattle.nest_standing.specs.Lowered.{EndsAs, IsLeft}
+use Rattle.nest_standing.specs.StatementCode.{program_code}
 use Rattle.node_run.specs.Coded.{with_code}
 use Rattle.node_run.proofs.PieceLaws.{read-local}
 use Rattle.node_run.proofs.Reading.{least-owns, size-row}

@@ -13,7 +13,7 @@ use Rattle.mappings.specs.declared.mapping.Mapping.{Mapping}
 use Rattle.statement_trail.specs.Trail.{Trail, serial_trail}
 use Rattle.passed_states.specs.TrailLayouts.{trail_layouts}
 use Rattle.lowered_expressions.specs.Passed.{IsTrail, passed}
-use Rattle.lowering.specs.Lowered.{MachinePasses}
+use Rattle.nest_standing.specs.Lowered.{MachinePasses}
 use Rattle.passed_states.proofs.PassedLayouts.{maps-now}
 use Rattle.passed_states.proofs.Places.{entry-passed}
 use Rattle.passed_states.proofs.TrailMoves.{trail-moves}
@@ -27,7 +27,7 @@ use Rattle.comm_sets.proofs.Covering.{rounds-cover}
 use Rattle.node_code.specs.Instructions.{ArrayTable, Instruction, NewMapping, meaning_of, remappings}
 use Rattle.node_code.specs.FaultValues.{fault_values}
 use Rattle.node_code.specs.ProgramText.{Text, table_on, text, text_meaning}
-use Rattle.well_formed.proofs.Programs.{trail_lowered, valid}
+use Rattle.nest_standing.proofs.ValidPrograms.{trail_lowered, valid}
 use Rattle.array_meaning.specs.Resolution.{resolved_block}
 use Rattle.nest_items.specs.BlockForms.{BlockHasForms}
 use Rattle.fitting_states.specs.FittingStates.{ProgramFits}

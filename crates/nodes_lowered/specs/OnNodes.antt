@@ -16,8 +16,8 @@ use Rattle.machine_steps.specs.Agrees.{AreDealt}
 use Rattle.machine_steps.specs.Layout.{IsDealt, Layout, size_of}
 use Rattle.machine_steps.specs.Machine.{Machine}
 use Rattle.node_code.specs.Instructions.{Instruction, NewMapping, remappings}
-use Rattle.lowering.specs.Lowered.{opening}
-use Rattle.lowering.specs.StatementCode.{block_copies}
+use Rattle.nest_standing.specs.Lowered.{opening}
+use Rattle.nest_standing.specs.StatementCode.{block_copies}
 
 -- an array has the shape of its declaration (Fortran 95, 5.1.2.4.1), and each of its elements has an owner; what is no array has no
 -- elements

@@ -27,7 +27,7 @@ use Rattle.node_code.specs.FaultValues.{fault_values}
 use Rattle.node_code.specs.Flat.{slot}
 use Rattle.node_code.specs.Instructions.{NewMapping, remappings}
 use Rattle.node_code.specs.ProgramText.{Text, text, text_meaning, texts}
-use Rattle.lowering.specs.StatementCode.{program_code}
+use Rattle.nest_standing.specs.StatementCode.{program_code}
 use Rattle.node_run.specs.Coded.{with_code}
 use Rattle.nodes_lowered.specs.OnNodes.{program_opening, program_run}
 

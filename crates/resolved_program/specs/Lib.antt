@@ -1,2 +1,15 @@
 pub mod Resolved
 pub mod Made
+pub use Rattle.array_meaning.specs.Elementals
+pub use Rattle.array_meaning.specs.Execution
+pub use Rattle.array_meaning.specs.Faults
+pub use Rattle.array_meaning.specs.Forall
+pub use Rattle.array_meaning.specs.NestEntry
+pub use Rattle.array_meaning.specs.Sections
+pub use Rattle.array_meaning.specs.State
+pub use Rattle.array_meaning.specs.Statements
+pub use Rattle.array_meaning.specs.Terms
+pub use Rattle.array_meaning.specs.declared.faults.FaultKind
+pub use Rattle.array_meaning.specs.declared.sections.Selection
+pub use Rattle.array_meaning.specs.declared.sections.Sequence
+pub use Rattle.array_meaning.specs.Dim

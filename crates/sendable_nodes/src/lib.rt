@@ -16,4 +16,5 @@
 
 mod nodes;
 
+pub use node_machine::Node;
 pub use nodes::nodes_may_be_sent;

@@ -4,10 +4,10 @@ use Rattle.std.specs.Prelude.{ℕ, zero, suc, ◌+◌, List, [], ◌∷◌, ◌+
 use Rattle.hpf_base.specs.ElementOrder.{product}
 use Rattle.op_tables.specs.declared.op.Op.{Op}
 use Rattle.op_tables.specs.Operators.{wrapped}
-use Rattle.syntax_tree.specs.MainProgram.{MainProgram}
-use Rattle.syntax_tree.specs.Statement as syntax
-use Rattle.name_table.specs.declared.names.Entry.{Entry}
-use Rattle.name_table.specs.Entries.{entries}
+use Rattle.array_meaning.specs.MainProgram.{MainProgram}
+use Rattle.array_meaning.specs.Statement as syntax
+use Rattle.array_meaning.specs.Entry.{Entry}
+use Rattle.array_meaning.specs.Entries.{entries}
 use Rattle.array_meaning.specs.Terms.{Term, Element, Section, Apply, Reduce, Terms, NoTerm, More, SectionSubscripts, NoSubscript, Subscript, Triplet, Control}
 use Rattle.array_meaning.specs.Statements.{SectionAssignment, ElementAssignment, Item, Text, Value, Elements, Nest, Block, Done, Then, Statement, AssignScalar, AssignElement, AssignSection, If, Do, Where, Forall, Print, Redistribute, Mark, Unmarked, Outermost, Arms, NoArm, Arm}
 use Rattle.array_meaning.specs.Faults.{Cause, ◌>>=◌}

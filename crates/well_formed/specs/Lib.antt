@@ -1,0 +1,3 @@
+pub use Rattle.lowering.specs.Lowered
+pub use Rattle.lowering.specs.StatementCode
+pub use Rattle.lowering.specs.Ranks

@@ -11,11 +11,11 @@ use Rattle.machine_steps.specs.Layout.{Layout}
 use Rattle.owner_tables.specs.Views.{OwnersView}
 use Rattle.array_meaning.specs.Resolution.{initial_array, resolved_block}
 use Rattle.fitting_states.specs.FittingStates.{InitialValuesFit, BlockFits}
-use Rattle.nest_standing.proofs.Programs.{program_forms}
+use Rattle.nodes_lowered.proofs.Programs.{program_forms}
 use Rattle.node_code.specs.Instructions.{Instruction, NewMapping}
 use Rattle.node_code.specs.ProgramText.{texts}
 use Rattle.node_code.specs.Texts.{instructions}
-use Rattle.lowering.specs.StatementCode.{block_copies, program_code}
+use Rattle.nodes_lowered.specs.StatementCode.{block_copies, program_code}
 use Rattle.node_codegen.specs.Moves.{moves_by}
 use Rattle.node_program.specs.Openings.{opening_machine}
 use Rattle.node_program.specs.Programs.{code_of}

@@ -1,7 +1,7 @@
 use Rattle.std.proofs.Common.{◌≡◌, IfOk, length, ap, subst, ◌∙◌}
 use Rattle.node_code.specs.Texts.{instructions}
 use Rattle.resolved_program.specs.Resolved.{block_of}
-use Rattle.lowering.specs.StatementCode.{program_code}
+use Rattle.nodes_lowered.specs.StatementCode.{program_code}
 use Rattle.node_codegen.specs.Moves.{moves_by}
 use Rattle.compiled_program.proofs.compile.compiled.Goals as goal
 

@@ -6,8 +6,8 @@ use Rattle.array_meaning.specs.Serial.{serial}
 use Rattle.serial_run.specs.Outcomes.{end_seen}
 use Rattle.node_program.specs.Openings.{opening_machine}
 use Rattle.node_program.specs.Programs.{code_of}
-use Rattle.nodes_lowered.specs.GridRuns.{grid_opening}
-use Rattle.nodes_lowered.specs.ProgramRuns.{end_by_status}
+use Rattle.compiled_program.specs.GridRuns.{grid_opening}
+use Rattle.compiled_program.specs.ProgramRuns.{end_by_status}
 use Rattle.distributed_run.proofs.AcceptedLines.{end-so, text-so}
 use Rattle.distributed_run.proofs.listing.list_messages.Goals as goal
 

@@ -7,9 +7,9 @@ use Rattle.array_meaning.specs.Faults.{Fault}
 use Rattle.array_meaning.specs.Serial.{Outcome, serial}
 use Rattle.machine_steps.specs.Instr.{Control}
 use Rattle.machine_steps.specs.Layout.{AreOwned}
-use Rattle.nodes_lowered.specs.NewMappings.{program_mappings, program_remaps}
-use Rattle.nodes_lowered.specs.ProgramLayouts.{start_layouts}
-use Rattle.nodes_lowered.specs.ProgramRuns.{end_by_status}
+use Rattle.compiled_program.specs.NewMappings.{program_mappings, program_remaps}
+use Rattle.compiled_program.specs.ProgramLayouts.{start_layouts}
+use Rattle.compiled_program.specs.ProgramRuns.{end_by_status}
 use Rattle.serial_run.specs.Outcomes.{end_seen}
 use Rattle.distributed_run.specs.Values.{row_values}
 use Rattle.distributed_run.proofs.LastValues.{arrays-are, finished}

@@ -2,8 +2,8 @@ use Rattle.std.proofs.Common.{subst, sym}
 use Rattle.syntax_tree.specs.MainProgram.{main_program}
 use Rattle.node_law.specs.Cores.{start}
 use Rattle.node_law.specs.Reached.{EndsInLockstep}
-use Rattle.nodes_lowered.specs.GridRuns.{AreLastOnGrid, grid_nodes}
-use Rattle.nodes_lowered.specs.ProgramRuns.{program_steps}
+use Rattle.compiled_program.specs.GridRuns.{AreLastOnGrid, grid_nodes}
+use Rattle.compiled_program.specs.ProgramRuns.{program_steps}
 use Rattle.distributed_run.specs.Ran.{IsRunOf}
 use Rattle.distributed_run.proofs.NodesRun.{few, is-run, last-ends, last-nodes, lettered, phased}
 use Rattle.distributed_run.proofs.run.run_on_nodes.Goals as goal

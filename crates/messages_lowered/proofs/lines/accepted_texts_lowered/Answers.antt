@@ -3,7 +3,7 @@ use Rattle.std.proofs.lemmas.List.{length-map}
 use Rattle.name_table.specs.declared.names.Entry.{Entry}
 use Rattle.name_table.specs.Entries.{entries}
 use Rattle.array_meaning.specs.Resolution.{initial_scalar, initial_state, resolved_block}
-use Rattle.lowering.specs.Lowered.{opening}
+use Rattle.well_formed.specs.Lowered.{opening}
 use Rattle.lowered_expressions.specs.Passed.{passed}
 use Rattle.statement_trail.specs.Trail.{serial_trail}
 use Rattle.well_formed.proofs.Programs.{trail_lowered}

@@ -1,5 +1,5 @@
-use Rattle.lowering.proofs.Programs.{program-passes}
-use Rattle.lowering.specs.Lowered.{opening}
+use Rattle.well_formed.proofs.PassedPrograms.{program-passes}
+use Rattle.well_formed.specs.Lowered.{opening}
 use Rattle.lowered_expressions.specs.Passed.{passed}
 use Rattle.statement_trail.specs.Trail.{block_trail}
 use Rattle.messages_lowered.proofs.TrailPlaces.{block-places}

@@ -1,5 +1,5 @@
 use Rattle.std.proofs.Common.{◌+◌, drop, arith, sym, ap, ◌∙◌}
-use Rattle.expression_rules.proofs.Lists.{drop_item}
+use Rattle.array_meaning.proofs.Lists.{drop_item}
 use Rattle.array_meaning.specs.Statements.{Arm, Do, If, Then}
 use Rattle.resolved_program.specs.declared.statements.Arm.{out-Arm}
 use Rattle.resolved_program.specs.Resolved.{arms_of, block_of, do_loop, loop_of, statement, with_arm}

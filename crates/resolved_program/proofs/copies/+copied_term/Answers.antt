@@ -1,5 +1,5 @@
 use Rattle.std.proofs.Common.{◌+◌, drop, arith, sym, ap, ◌∙◌}
-use Rattle.expression_rules.proofs.Lists.{drop_item}
+use Rattle.array_meaning.proofs.Lists.{drop_item}
 use Rattle.array_meaning.specs.Terms.{Apply, Element, More, Section}
 use Rattle.resolved_program.specs.Resolved.{subscripts_of, term, terms_of, with_subscript}
 use Rattle.resolved_program.proofs.Forms.{apply_is, element_is, section_is}

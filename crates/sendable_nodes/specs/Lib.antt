@@ -1,0 +1,1 @@
+pub use Rattle.node_machine.specs.contracts.node.NodePhasedNode
