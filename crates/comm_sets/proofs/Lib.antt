@@ -7,7 +7,6 @@ pub mod Sent
 pub mod MessageLaws
 pub mod Marking
 pub mod Pairs
-pub mod Covering
 pub mod Parcels
 pub mod Visited
 pub mod Ends

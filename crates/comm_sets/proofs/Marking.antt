@@ -13,7 +13,8 @@ use Rattle.machine_steps.specs.Message.{spots_from}
 use Rattle.comm_sets.specs.Marks.{Marked, is_marked, any_moved}
 use Rattle.comm_sets.specs.declared.remapping.End.{End}
 use Rattle.comm_sets.specs.declared.remapping.End.TheVariants.{Source, Target}
-use Rattle.comm_sets.specs.Moves.{is_moved, moves}
+use Rattle.comm_sets.specs.Moves.{moves}
+use Rattle.covering_rounds.specs.Moved.{is_moved}
 use Rattle.message_elements.proofs.AllSpots.{or_false}
 use Rattle.comm_sets.proofs.Computing.{computes-it}
 

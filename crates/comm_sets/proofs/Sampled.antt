@@ -8,7 +8,7 @@ use Rattle.machine_steps.specs.Layout.{Layout, first, least_owner_of, owned_in}
 use Rattle.owner_tables.specs.Samples.{AreSamples, owners_by}
 use Rattle.owner_tables.proofs.Ranges.{filter-head}
 use Rattle.comm_sets.specs.Marks.{any_moved}
-use Rattle.comm_sets.specs.Moves.{is_moved}
+use Rattle.covering_rounds.specs.Moved.{is_moved}
 use Rattle.comm_sets.proofs.Computing.{computes-it}
 use Rattle.comm_sets.proofs.Marking.{in_row, or_turned}
 use Rattle.comm_sets.proofs.Visited.{one-truth}

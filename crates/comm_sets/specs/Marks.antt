@@ -5,7 +5,7 @@ use Rattle.std.specs.List.{list_any}
 use Rattle.storage.specs.Storage.{Spot}
 use Rattle.machine_steps.specs.Layout.{Layout}
 use Rattle.letters.specs.declared.pair.Pair.{Pair}
-use Rattle.comm_sets.specs.Moves.{is_moved}
+use Rattle.covering_rounds.specs.Moved.{is_moved}
 
 abbrev pub is_marked : List Bool → (from to : ℕ) → Bool
 is_marked marks from to = slice_index_or marks (from * 64 + to) false

@@ -1,13 +1,10 @@
--- What a redistribution sends.
-use Rattle.std.specs.Prelude.{ℕ, ◌==◌, ◌&&◌, not, Bool, List}
+-- What a redistribution sends, at one end.
+use Rattle.std.specs.Prelude.{ℕ, Bool, List}
 use Rattle.storage.specs.Storage.{Spot}
-use Rattle.machine_steps.specs.Layout.{Layout, owned_in, owns_spot, least_owner_of}
+use Rattle.machine_steps.specs.Layout.{Layout, owned_in}
+use Rattle.covering_rounds.specs.Moved.{is_moved}
 use Rattle.comm_sets.specs.declared.remapping.End.{End}
 use Rattle.comm_sets.specs.declared.remapping.End.TheVariants.{Source, Target}
-
--- the target owns the element after it and not before, and its least owner before is the source
-abbrev pub is_moved : ℕ → (old new : List Layout) → (from to : ℕ) → Spot → Bool
-is_moved nodes old new from to spot = owns_spot new to spot && (not (owns_spot old to spot) && (least_owner_of nodes old spot == from))
 
 -- the same between one end and the node at the other end
 abbrev pub moves : ℕ → (old new : List Layout) → End → (other : ℕ) → Spot → Bool

@@ -11,7 +11,6 @@
 
 mod exchanged;
 mod exchanging;
-mod laws;
 mod lookup;
 mod marks;
 mod messages;
@@ -25,7 +24,6 @@ mod visiting;
 pub use exchanged::Exchange;
 pub use exchanging::exchange;
 pub use hpf_base::OutOfMemory;
-pub use laws::rounds_cover;
 pub use lookup::value_in;
 pub use marks::is_unchanged;
 pub use messages::Messages;

@@ -7,7 +7,7 @@ ghost use Rattle.machine_steps.specs.Layout.{Layout, owned_in, owns_spot, sizes}
 ghost use Rattle.machine_steps.specs.Message.{all_spots};
 ghost use Rattle.storage.specs.Spots.{spot_of};
 ghost use Rattle.comm_sets.specs.Marks.{Marked, any_moved};
-ghost use Rattle.comm_sets.specs.Moves.{is_moved};
+ghost use Rattle.covering_rounds.specs.Moved.{is_moved};
 
 use hpf_base::OutOfMemory;
 use owner_tables::{Owners, Spot};

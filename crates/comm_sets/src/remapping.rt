@@ -6,7 +6,8 @@ ghost use Rattle.storage.specs.Storage.{is_same_spot};
 ghost use Rattle.machine_steps.specs.Layout.{AreOwned, sizes};
 ghost use Rattle.machine_steps.specs.Message.{all_spots, remap_message};
 ghost use Rattle.storage.specs.Spots.{spot_of};
-ghost use Rattle.comm_sets.specs.Moves.{has_at, is_moved, moves, node_of};
+ghost use Rattle.comm_sets.specs.Moves.{has_at, moves, node_of};
+ghost use Rattle.covering_rounds.specs.Moved.{is_moved};
 ghost use Rattle.comm_sets.specs.Noted.{Noted};
 
 use crate::marks::is_unchanged;

@@ -16,7 +16,7 @@ use Rattle.array_meaning.specs.Faults.{Fault}
 use Rattle.machine_steps.specs.Layout.{Layout}
 use Rattle.machine_steps.specs.Machine.{Machine}
 use Rattle.node_code.specs.Instructions.{NewMapping}
-use Rattle.node_code.specs.ProgramText.{Text}
+use Rattle.code_meaning.specs.ProgramText.{Text}
 use Rattle.nodes_lowered.specs.GridRuns.{grid_opening}
 use Rattle.nodes_lowered.specs.NewMappings.{array_places, new_mappings, numbered_at, program_remaps}
 use Rattle.nodes_lowered.specs.OnNodes.{LieAsDeclared, program_copies}

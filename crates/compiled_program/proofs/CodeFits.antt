@@ -10,14 +10,14 @@ use Rattle.array_meaning.specs.Statements.{Loop, Nest, Mark, Unmarked, Outermost
 use Rattle.node_code.specs.Flat.{Int}
 use Rattle.node_code.specs.Forms.{Sub}
 use Rattle.node_code.specs.Instructions.{Instruction, Jump, Verdict, NewMapping, Par, ParForall, ParNest, MakeCopies, ParCopy, ParForallCopy, Reduce, MakeCopy, Remap}
-use Rattle.node_code.specs.ValidCode.{CodeTable, IsValid, IsValidNodeCode}
-use Rattle.lowered_expressions.specs.ExpressionCode.{code_of, control_code, control_slots}
-use Rattle.nest_machine.specs.Asked.{tested_asked}
-use Rattle.nest_machine.specs.Finals.{Final}
-use Rattle.nest_texts.specs.NestTexts.{NestText, NestTest}
-use Rattle.nest_texts.specs.NestInstructions as forms
-use Rattle.nest_texts.specs.NestInstructions.{NestBody, NoText, AndText, AndIf, AndLoop, NestArms, AndArm, count_nest, text_instructions, test_instruction, tail_instructions, loop_instructions, body_instructions, arms_instructions, nest_instructions, finals_makes, conditions_makes, finals_instructions}
-use Rattle.lowered_nests.specs.NestCode.{plain, text_in, test_in, stored, finals, along, trips_code, indices_code, inner_bounds, nest_code}
+use Rattle.code_meaning.specs.ValidCode.{CodeTable, IsValid, IsValidNodeCode}
+use Rattle.program_code.specs.ExpressionCode.{code_of, control_code, control_slots}
+use Rattle.nest_syntax.specs.Asked.{tested_asked}
+use Rattle.nest_syntax.specs.Finals.{Final}
+use Rattle.program_code.specs.NestTexts.{NestText, NestTest}
+use Rattle.program_code.specs.NestInstructions as forms
+use Rattle.program_code.specs.NestInstructions.{NestBody, NoText, AndText, AndIf, AndLoop, NestArms, AndArm, count_nest, text_instructions, test_instruction, tail_instructions, loop_instructions, body_instructions, arms_instructions, nest_instructions, finals_makes, conditions_makes, finals_instructions}
+use Rattle.program_code.specs.NestCode.{plain, text_in, test_in, stored, finals, along, trips_code, indices_code, inner_bounds, nest_code}
 use Rattle.nodes_lowered.specs.StatementCode.{marked_code, entry_code, statement_code, arms_code, block_code, program_code}
 use Rattle.owner_tables.specs.Views.{TableView}
 use Rattle.node_program.specs.Fits.{fits_row, fits_rows}

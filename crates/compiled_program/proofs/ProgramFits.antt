@@ -20,7 +20,7 @@ use Rattle.array_meaning.specs.Statements.{Block}
 use Rattle.machine_steps.specs.Layout.{Layout}
 use Rattle.node_code.specs.Instructions.{NewMapping, Remap}
 use Rattle.node_code.specs.Texts.{instructions}
-use Rattle.node_code.specs.ValidCode.{CodeTable, IsValid, IsValidNodeCode}
+use Rattle.code_meaning.specs.ValidCode.{CodeTable, IsValid, IsValidNodeCode}
 use Rattle.nodes_lowered.specs.Ranks.{declared_shapes}
 use Rattle.nodes_lowered.specs.StatementCode.{block_copies, block_slots, program_code}
 use Rattle.nest_items.specs.BlockForms.{BlockHasForms}

@@ -19,7 +19,7 @@ use Rattle.machine_steps.specs.Instr.{Running}
 use Rattle.machine_steps.specs.Layout.{Layout, size_of}
 use Rattle.machine_steps.specs.Machine.{Machine}
 use Rattle.node_code.specs.Instructions.{Instruction, NewMapping}
-use Rattle.node_code.specs.ProgramText.{Text, texts}
+use Rattle.code_meaning.specs.ProgramText.{Text, texts}
 use Rattle.nodes_lowered.specs.StatementCode.{block_slots, program_code}
 use Rattle.node_program.specs.Openings.{opening_machine, start_rows}
 use Rattle.nodes_lowered.specs.OnNodes.{AreUnmade, LieAsDeclared, LiesAsDeclared, program_copies}

@@ -2,7 +2,7 @@
 use Rattle.std.specs.Arc.{arc_value}
 use Rattle.array_meaning.specs.Faults.{Fault}
 use Rattle.machine_steps.specs.Machine.{Machine}
-use Rattle.node_code.specs.ProgramText.{Text}
+use Rattle.code_meaning.specs.ProgramText.{Text}
 use Rattle.node_program.specs.Openings.{opening_machine}
 use Rattle.node_program.specs.Programs.{code_of}
 use Rattle.compiled_program.specs.declared.compile.CompiledProgram.{CompiledProgram}

@@ -11,7 +11,7 @@ ghost use Rattle.array_maps.specs.Maps.{AreMaps};
 ghost use Rattle.accepted_program.specs.Accepted.{KeepsRules};
 ghost use Rattle.array_meaning.specs.Resolution.{resolved_block};
 ghost use Rattle.fitting_states.specs.FittingStates.{BlockFits, ProgramFits};
-ghost use Rattle.node_code.specs.ProgramText.{texts};
+ghost use Rattle.code_meaning.specs.ProgramText.{texts};
 ghost use Rattle.node_code.specs.Texts.{instructions};
 ghost use Rattle.nodes_lowered.specs.StatementCode.{block_copies, block_slots, program_code};
 ghost use Rattle.node_codegen.specs.Moves.{moves_by};

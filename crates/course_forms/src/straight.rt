@@ -1,7 +1,7 @@
 //! Subscripts of a FORALL or a nest that are linear in one index.
 
 ghost use Rattle.std.specs.Prelude.{◌≡◌, IfSome, Some, [], ◌∷◌, length};
-ghost use Rattle.node_code.specs.Flat.{slot};
+ghost use Rattle.code_meaning.specs.Flat.{slot};
 ghost use Rattle.node_code.specs.Texts.{flat, flats_of};
 ghost use Rattle.courses.specs.StraightForms.{Constant, Sloped, by_operands, sloped_by, straight_by, straights, straight, numbers};
 ghost use Rattle.course_forms.specs.Views.{straight_of};

@@ -8,8 +8,10 @@ use Rattle.op_tables.specs.Operators.{is_zero}
 use Rattle.expression_rules.specs.declared.dims.Dim.{Dim}
 use Rattle.array_meaning.specs.declared.sections.Selection.{Selection}
 use Rattle.array_meaning.specs.declared.sections.Selection.TheVariants.{At, Along}
-use Rattle.node_code.specs.Forms.{Sub, SubAt, SubAlong, ArrayForm, FlatForm, SectionForm, OperationForm, Forms, NoForm, AndForm, selections_at}
-use Rattle.node_code.specs.Parallel.{When, shape_of}
+use Rattle.node_code.specs.Forms.{Sub, SubAt, SubAlong, ArrayForm, FlatForm, SectionForm, OperationForm, Forms, NoForm, AndForm}
+use Rattle.code_meaning.specs.Forms.{selections_at}
+use Rattle.node_code.specs.Parallel.{When}
+use Rattle.code_meaning.specs.Parallel.{shape_of}
 use Rattle.courses.specs.Courses.{Course, Fixed, Moving, are_small, along, section_courses, is_section_small}
 use Rattle.courses.specs.References.{IsAlongAxes, Named, all_names, copy_names, form_names, forms_names, index_courses, indexed_courses, named_copy, named_element, own_courses, selected_courses, subs_courses, when_names}
 use Rattle.courses.specs.StraightForms.{Straight, Constant, Sloped, straight, sloped_course, course_if, flat_course}

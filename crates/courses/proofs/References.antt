@@ -7,10 +7,12 @@ use Rattle.expression_rules.specs.declared.dims.Dim.{Dim}
 use Rattle.storage.specs.Storage.{Spot}
 use Rattle.array_meaning.specs.declared.sections.Selection.{Selection}
 use Rattle.array_meaning.specs.Sections.{subscripts_at, positions}
-use Rattle.node_code.specs.Flat.{or_zero}
-use Rattle.node_code.specs.Forms.{Sub, SubAt, SubAlong, ArrayForm, FlatForm, SectionForm, OperationForm, Forms, NoForm, AndForm, selections_at, elemental_at, elementals_at}
-use Rattle.node_code.specs.NestStatements.{row_spots, when_spots}
-use Rattle.node_code.specs.Parallel.{When, shape_of, spot_of, reads_at, all_reads_at}
+use Rattle.code_meaning.specs.Flat.{or_zero}
+use Rattle.node_code.specs.Forms.{Sub, SubAt, SubAlong, ArrayForm, FlatForm, SectionForm, OperationForm, Forms, NoForm, AndForm}
+use Rattle.code_meaning.specs.Forms.{selections_at, elemental_at, elementals_at}
+use Rattle.code_meaning.specs.NestStatements.{row_spots, when_spots}
+use Rattle.node_code.specs.Parallel.{When}
+use Rattle.code_meaning.specs.Parallel.{shape_of, spot_of, reads_at, all_reads_at}
 use Rattle.axis_products.specs.Products.{places_at}
 use Rattle.courses.specs.Courses.{Course, course_at, courses_at, section_courses, is_section_small}
 use Rattle.courses.specs.Entries.{axes_in, entries_in}

@@ -13,7 +13,8 @@ use Rattle.op_tables.specs.Operators.{wrapped, operator_value}
 use Rattle.array_meaning.specs.Elementals.{operated, unless_zero}
 use Rattle.array_meaning.specs.Expressions.{index_value}
 use Rattle.array_meaning.specs.Faults.{◌>>=◌, with_more}
-use Rattle.node_code.specs.Flat.{Flat, Int, Slot, Axis, Read, Operated, Flats, NoFlat, AndFlat, flat_value, flat_values}
+use Rattle.node_code.specs.Flat.{Flat, Int, Slot, Axis, Read, Operated, Flats, NoFlat, AndFlat}
+use Rattle.code_meaning.specs.Flat.{flat_value, flat_values}
 use Rattle.axis_products.specs.Products.{places_at}
 use Rattle.axis_products.proofs.Products.{some_factor}
 use Rattle.courses.specs.Courses.{Course, Fixed, Moving, course_at, courses_at, is_small, are_small, along}

@@ -4,8 +4,10 @@ use Rattle.expression_rules.specs.declared.dims.Dim.{Dim}
 use Rattle.storage.specs.Storage.{Spot}
 use Rattle.array_meaning.specs.declared.sections.Selection.{Selection}
 use Rattle.array_meaning.specs.State.{element_place}
-use Rattle.node_code.specs.Forms.{Sub, SubAt, SubAlong, ArrayForm, FlatForm, SectionForm, OperationForm, Forms, NoForm, AndForm, selections_at}
-use Rattle.node_code.specs.Parallel.{When, shape_of}
+use Rattle.node_code.specs.Forms.{Sub, SubAt, SubAlong, ArrayForm, FlatForm, SectionForm, OperationForm, Forms, NoForm, AndForm}
+use Rattle.code_meaning.specs.Forms.{selections_at}
+use Rattle.node_code.specs.Parallel.{When}
+use Rattle.code_meaning.specs.Parallel.{shape_of}
 use Rattle.axis_products.specs.Products.{places_at}
 use Rattle.courses.specs.Courses.{Course, Moving, courses_at, section_courses, is_section_small}
 use Rattle.courses.specs.StraightForms.{flat_course}

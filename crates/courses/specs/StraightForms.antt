@@ -4,7 +4,8 @@ use Rattle.op_tables.specs.declared.op.Op.{Op}
 use Rattle.op_tables.specs.declared.op.Op.TheVariants as op
 use Rattle.op_tables.specs.Operators.{wrapped, operator_value}
 use Rattle.array_meaning.specs.Expressions.{index_value}
-use Rattle.node_code.specs.Flat.{Flat, Int, Slot, Axis, Read, Operated, Flats, NoFlat, AndFlat, slot}
+use Rattle.node_code.specs.Flat.{Flat, Int, Slot, Axis, Read, Operated, Flats, NoFlat, AndFlat}
+use Rattle.code_meaning.specs.Flat.{slot}
 use Rattle.courses.specs.Courses.{Course, Fixed, Moving, are_small, along}
 
 -- a number, or `factor * index + offset`

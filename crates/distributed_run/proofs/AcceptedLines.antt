@@ -9,8 +9,8 @@ use Rattle.array_meaning.specs.Serial.{serial}
 use Rattle.machine_steps.specs.Agrees.{IsOver}
 use Rattle.machine_steps.specs.Instr.{Remapping}
 use Rattle.machine_steps.specs.Machine.{Machine, steps}
-use Rattle.node_code.specs.Instructions.{remappings}
-use Rattle.node_code.specs.ProgramText.{Text, text_meaning}
+use Rattle.code_meaning.specs.Instructions.{remappings}
+use Rattle.code_meaning.specs.ProgramText.{Text, text_meaning}
 use Rattle.compiled_program.specs.GridRuns.{grid_opening}
 use Rattle.compiled_program.specs.NewMappings.{program_mappings, program_remaps}
 use Rattle.compiled_program.specs.ProgramRuns.{end_by_status}

@@ -17,7 +17,7 @@ use Rattle.machine_steps.specs.Instr.{Status, Running, Finished, Faulted}
 use Rattle.machine_steps.specs.Layout.{AreOwned, Layout, least_owner_of, owns_spot, sizes}
 use Rattle.machine_steps.specs.Node.{Node, local_read}
 use Rattle.node_code.specs.Instructions.{NewMapping}
-use Rattle.node_code.specs.ProgramText.{Text}
+use Rattle.code_meaning.specs.ProgramText.{Text}
 use Rattle.node_run.proofs.Reading.{least-owns}
 use Rattle.compiled_program.specs.ProgramRuns.{AreLastNodes, end_by_status}
 use Rattle.distributed_run.specs.Values.{row_values, value_of, value_on}

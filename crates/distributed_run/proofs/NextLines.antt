@@ -10,7 +10,7 @@ use Rattle.array_meaning.specs.Faults.{Fault}
 use Rattle.machine_steps.specs.Instr.{Remapping, Status, Running, Finished, Faulted}
 use Rattle.machine_steps.specs.Layout.{Layout}
 use Rattle.machine_steps.specs.Machine.{Machine}
-use Rattle.node_code.specs.ProgramText.{Text, text, texts}
+use Rattle.code_meaning.specs.ProgramText.{Text, text, texts}
 use Rattle.node_code.specs.Instructions.{Instruction}
 use Rattle.node_code.specs.Texts.{instruction, instructions}
 use Rattle.message_text.specs.InstructionLines.{instruction_lines}

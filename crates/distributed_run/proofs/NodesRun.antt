@@ -17,8 +17,8 @@ use Rattle.stations.specs.Ended.{AreClosed}
 use Rattle.stations.specs.Lettered.{IsLettered}
 use Rattle.node_numbers.proofs.Numbered.{openings-lettered}
 use Rattle.machine_steps.specs.Node.{Node}
-use Rattle.node_code.specs.FaultValues.{fault_values}
-use Rattle.node_code.specs.ProgramText.{Text, text_meaning}
+use Rattle.code_meaning.specs.FaultValues.{fault_values}
+use Rattle.code_meaning.specs.ProgramText.{Text, text_meaning}
 use Rattle.node_program.specs.Programs.{code_of}
 use Rattle.compiled_program.specs.GridRuns.{AreLastOnGrid, RunsOnGrid, grid_nodes, grid_opening}
 use Rattle.compiled_program.specs.NewMappings.{program_mappings, program_remaps}

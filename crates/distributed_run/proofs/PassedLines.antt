@@ -11,8 +11,9 @@ use Rattle.machine_steps.specs.Agrees.{IsValidCode}
 use Rattle.machine_steps.specs.Instr.{Remapping, Status, Running, Finished, Faulted}
 use Rattle.machine_steps.specs.Layout.{Layout}
 use Rattle.machine_steps.specs.Machine.{Machine, step, steps}
-use Rattle.node_code.specs.Instructions.{ArrayTable, Instruction, NewMapping, meaning_of, remappings, Par, ParForall, ParNest, ParCopy, ParForallCopy, Reduce, Remap}
-use Rattle.node_code.specs.ProgramText.{Text, table_on, text, text_meaning}
+use Rattle.code_meaning.specs.Instructions.{ArrayTable, meaning_of, remappings}
+use Rattle.node_code.specs.Instructions.{Instruction, NewMapping, Par, ParForall, ParNest, ParCopy, ParForallCopy, Reduce, Remap}
+use Rattle.code_meaning.specs.ProgramText.{Text, table_on, text, text_meaning}
 use Rattle.node_code.specs.declared.nest.NestRole.{NestRole}
 use Rattle.node_code.specs.declared.nest.NestRole.TheVariants.{Assigns, Tests, SetsElse, SetsMark}
 use Rattle.node_code.specs.NestStatements.{NestStatement}

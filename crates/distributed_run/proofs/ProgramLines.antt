@@ -31,8 +31,9 @@ use Rattle.machine_steps.specs.Agrees.{IsOver, IsValidCode}
 use Rattle.machine_steps.specs.Instr.{Status, Running, Finished, Faulted}
 use Rattle.machine_steps.specs.Layout.{Layout}
 use Rattle.machine_steps.specs.Machine.{Machine, steps}
-use Rattle.node_code.specs.Instructions.{ArrayTable, Instruction, NewMapping, meaning_of, remappings}
-use Rattle.node_code.specs.ProgramText.{Text, table_on, text, text_meaning}
+use Rattle.code_meaning.specs.Instructions.{ArrayTable, meaning_of, remappings}
+use Rattle.node_code.specs.Instructions.{Instruction, NewMapping}
+use Rattle.code_meaning.specs.ProgramText.{Text, table_on, text, text_meaning}
 use Rattle.compiled_program.specs.Lowered.{EndsAs, IsTable, opening}
 use Rattle.lowered_expressions.specs.Passed.{passed}
 use Rattle.compiled_program.specs.StatementCode.{block_copies}
@@ -42,7 +43,7 @@ use Rattle.fitting_states.specs.FittingStates.{ProgramFits}
 use Rattle.compiled_program.proofs.StandingPrograms.{program_forms}
 use Rattle.owner_tables.proofs.CopyLaws.{copy-dealt, copy-size}
 use Rattle.owner_tables.proofs.SameLayouts.{same_layouts}
-use Rattle.comm_sets.proofs.Covering.{rounds-cover}
+use Rattle.covering_rounds.proofs.Covering.{rounds-cover}
 use Rattle.node_run.proofs.CodedSteps.{steps-coded}
 use Rattle.compiled_program.specs.GridRuns.{grid_opening}
 use Rattle.compiled_program.specs.NewMappings.{array_places, new_mappings, numbered_at, program_mappings, program_remaps, remapping}

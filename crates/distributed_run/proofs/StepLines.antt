@@ -6,7 +6,7 @@ use Rattle.machine_steps.specs.Agrees.{IsOver}
 use Rattle.machine_steps.specs.Instr.{Remapping, Status, Running, Finished, Faulted}
 use Rattle.machine_steps.specs.Layout.{Layout}
 use Rattle.machine_steps.specs.Machine.{Machine, step, steps}
-use Rattle.node_code.specs.ProgramText.{Text, text_meaning}
+use Rattle.code_meaning.specs.ProgramText.{Text, text_meaning}
 use Rattle.distributed_run.specs.StepLines.{IsListed, lines_now, lines_of_steps, lines_while}
 use Rattle.distributed_run.proofs.OverRuns.{over-stays, steps-more}
 

@@ -6,7 +6,7 @@ use Rattle.array_meaning.specs.Faults.{Fault}
 use Rattle.machine_steps.specs.Instr.{Remapping, Status, Running}
 use Rattle.machine_steps.specs.Layout.{Layout}
 use Rattle.machine_steps.specs.Machine.{Machine, step, steps}
-use Rattle.node_code.specs.ProgramText.{Text, text_meaning}
+use Rattle.code_meaning.specs.ProgramText.{Text, text_meaning}
 use Rattle.message_lines.specs.TextLines.{text_lines}
 
 -- where these names are declared, and `moves` says of a line which arrays its REDISTRIBUTE moves

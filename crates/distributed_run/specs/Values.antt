@@ -6,7 +6,7 @@ use Rattle.storage.specs.Storage.{Spot}
 use Rattle.array_meaning.specs.Faults.{Fault}
 use Rattle.machine_steps.specs.Layout.{Layout, least_owner_of, sizes}
 use Rattle.machine_steps.specs.Node.{Node, local_read}
-use Rattle.node_code.specs.ProgramText.{Text}
+use Rattle.code_meaning.specs.ProgramText.{Text}
 
 module _ (layouts : List Layout) where
   abbrev pub value_on : ℕ → Option (Node Text Fault) → Spot → ℤ

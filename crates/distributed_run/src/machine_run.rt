@@ -5,7 +5,7 @@ ghost use Rattle.std.specs.List.{slice_get};
 ghost use Rattle.syntax_tree.specs.MainProgram.{main_program};
 ghost use Rattle.machine_steps.specs.Agrees.{IsOver};
 ghost use Rattle.machine_steps.specs.Instr.{Remapping, Running};
-ghost use Rattle.node_code.specs.ProgramText.{Text};
+ghost use Rattle.code_meaning.specs.ProgramText.{Text};
 ghost use Rattle.node_program.specs.Fits.{FitsRows};
 ghost use Rattle.node_program.specs.Programs.{code_of};
 ghost use Rattle.fitting_states.specs.FitProps.{program-prop};

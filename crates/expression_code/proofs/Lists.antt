@@ -4,7 +4,7 @@ use Rattle.std.proofs.lemmas.List.{append-nil}
 use Rattle.node_code.specs.declared.flat.Flat.{Flat as HeldFlat}
 use Rattle.node_code.specs.declared.form.ArrayForm.{ArrayForm as HeldForm}
 use Rattle.array_meaning.specs.Terms.{Terms, NoTerm, More, list_of}
-use Rattle.lowered_expressions.specs.ExpressionCode.{index_flat, index_flats}
+use Rattle.program_code.specs.ExpressionCode.{index_flat, index_flats}
 use Rattle.node_code.specs.Flat.{Flat, Flats, NoFlat, AndFlat}
 use Rattle.node_code.specs.Forms.{ArrayForm, Forms, NoForm, AndForm}
 use Rattle.node_code.specs.Texts.{flat, flats_of, form, forms_of}

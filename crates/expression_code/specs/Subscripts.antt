@@ -5,7 +5,7 @@ use Rattle.resolved_program.specs.declared.terms.SectionSubscript.TheBlock.{Subs
 use Rattle.resolved_program.specs.Resolved.{term}
 use Rattle.node_code.specs.Forms.{Sub, SubAt, SubAlong}
 use Rattle.node_code.specs.Instructions.{Instruction, TestStride}
-use Rattle.lowered_expressions.specs.ExpressionCode.{slots_of, flat_of, code_of, control_slots, control_code, triplet}
+use Rattle.program_code.specs.ExpressionCode.{slots_of, flat_of, code_of, control_slots, control_code, triplet}
 
 -- how many slots its code takes
 abbrev pub subscript_slots : HeldSubscript → ℕ

@@ -2,7 +2,7 @@
 
 ghost use Rattle.std.specs.Prelude.{◌≡◌, ◌+◌, IfOk};
 ghost use Rattle.array_meaning.specs.Terms.{Apply, Element, Reduce};
-ghost use Rattle.lowered_expressions.specs.ExpressionCode.{all_parts_code, all_slots_of, code_of, codes_of, control_code, control_slots, flats_of, form_of, own_evaluation, parts_code, parts_slots, subscripts_code, triplet};
+ghost use Rattle.program_code.specs.ExpressionCode.{all_parts_code, all_slots_of, code_of, codes_of, control_code, control_slots, flats_of, form_of, own_evaluation, parts_code, parts_slots, subscripts_code, triplet};
 ghost use Rattle.node_code.specs.Flat.{Operated};
 ghost use Rattle.node_code.specs.Instructions as code;
 ghost use Rattle.node_code.specs.Texts.{instruction, instructions};

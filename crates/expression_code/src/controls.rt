@@ -1,7 +1,7 @@
 //! The three values of a control or of a triplet, in three slots after those that their code takes. An `Err` is want of memory here.
 
 ghost use Rattle.std.specs.Prelude.{◌≡◌, ◌+◌, IfOk, OnOk, [], ◌∷◌, ◌++◌};
-ghost use Rattle.lowered_expressions.specs.ExpressionCode.{control_slots, flat_of, slots_of, three_code, triplet};
+ghost use Rattle.program_code.specs.ExpressionCode.{control_slots, flat_of, slots_of, three_code, triplet};
 ghost use Rattle.node_code.specs.Instructions as text;
 ghost use Rattle.node_code.specs.Texts.{flat, instructions};
 ghost use Rattle.resolved_program.specs.Resolved.{term};

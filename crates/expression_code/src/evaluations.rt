@@ -1,7 +1,7 @@
 //! Array expressions over their own space, which is that of their first section. An `Err` is want of memory here.
 
 ghost use Rattle.std.specs.Prelude.{◌≡◌, option_map, IfOk};
-ghost use Rattle.lowered_expressions.specs.ExpressionCode.{first_subs, first_subs_of, form_of, forms_of, or_no_sub, own_evaluation};
+ghost use Rattle.program_code.specs.ExpressionCode.{first_subs, first_subs_of, form_of, forms_of, or_no_sub, own_evaluation};
 ghost use Rattle.node_code.specs.Texts.{evaluation, subs};
 ghost use Rattle.resolved_program.specs.Resolved.{term, terms_of};
 

@@ -2,7 +2,7 @@
 
 ghost use Rattle.std.specs.Prelude.{◌≡◌, map, IfOk};
 ghost use Rattle.array_meaning.specs.Terms.{list_of};
-ghost use Rattle.lowered_expressions.specs.ExpressionCode.{index_flat, index_flats, index_form, index_forms, index_subs};
+ghost use Rattle.program_code.specs.ExpressionCode.{index_flat, index_flats, index_form, index_forms, index_subs};
 ghost use Rattle.node_code.specs.Flat.{Operated};
 ghost use Rattle.node_code.specs.Forms.{OperationForm, SectionForm};
 ghost use Rattle.node_code.specs.Texts.{flat, flats_of, form, forms_of, subs};

@@ -1,7 +1,7 @@
 //! The node code of expressions.
 //!
 //! Comes in: expressions whose names are resolved, as plans hold them. Goes out: their code, how many slots it takes, and what has
-//! their values after it. What holds in between: what a function makes stands for what the definition of its name in `lowering` gives,
+//! their values after it. What holds in between: what a function makes stands for what the definition of its name in `program_code` gives,
 //! and an `Err` is want of memory, also where a sum of slots is past 64 bits. A part that stands twice in the code is made twice.
 //!
 //! - `sums`: sums of slots.

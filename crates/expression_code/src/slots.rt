@@ -1,7 +1,7 @@
 //! How many slots the code of an expression takes. A number past 64 bits is answered as want of memory.
 
 ghost use Rattle.std.specs.Prelude.{◌≡◌, ◌+◌, IfOk};
-ghost use Rattle.lowered_expressions.specs.ExpressionCode.{all_parts_slots, all_slots_of, control_slots, one_if, parts_slots, slots_of, subscripts_slots};
+ghost use Rattle.program_code.specs.ExpressionCode.{all_parts_slots, all_slots_of, control_slots, one_if, parts_slots, slots_of, subscripts_slots};
 ghost use Rattle.op_tables.specs.Operators.{can_divide};
 ghost use Rattle.resolved_program.specs.Resolved.{control, subscripts_of, term, terms_of};
 ghost use Rattle.expression_code.specs.Subscripts.{subscript_slots};

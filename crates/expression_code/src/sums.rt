@@ -2,7 +2,7 @@
 
 ghost use Rattle.std.specs.Prelude.{◌≡◌, ◌+◌, IfOk};
 ghost use Rattle.op_tables.specs.Operators.{can_divide};
-ghost use Rattle.lowered_expressions.specs.ExpressionCode.{one_if};
+ghost use Rattle.program_code.specs.ExpressionCode.{one_if};
 
 use hpf_base::OutOfMemory;
 use op_tables::Op;

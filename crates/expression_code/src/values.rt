@@ -1,7 +1,7 @@
 //! What gives the value of an expression after its code. Slots from `b` on are those of the code. An `Err` is want of memory here.
 
 ghost use Rattle.std.specs.Prelude.{◌≡◌, ◌+◌, IfOk};
-ghost use Rattle.lowered_expressions.specs.ExpressionCode.{all_slots_of, flat_of, flats_of, form_of, forms_of, operated_flat, subs_of};
+ghost use Rattle.program_code.specs.ExpressionCode.{all_slots_of, flat_of, flats_of, form_of, forms_of, operated_flat, subs_of};
 ghost use Rattle.node_code.specs.Forms.{OperationForm, SectionForm};
 ghost use Rattle.node_code.specs.Texts.{flat, form, sub, subs};
 ghost use Rattle.node_code.specs.Texts as text;

@@ -1,5 +1,6 @@
 -- What the code of a statement leads to, by the flow with which the statement ends.
-use Rattle.node_code.specs.Instructions.{NewMapping, set_result, Instruction, Set, Jump, JumpIfZero, go_if, ArrayTable, meaning_of}
+use Rattle.node_code.specs.Instructions.{NewMapping, Instruction, Set, Jump, JumpIfZero}
+use Rattle.code_meaning.specs.Instructions.{set_result, go_if, ArrayTable, meaning_of}
 use Rattle.std.proofs.Common.{◌≡◌, ℕ, ◌+◌, ◌<◌, ◌≤◌, List, [], length, ℤ, pos, Bool, Option, Some, Result, Ok, Err, refl, sym, ap, ◌∙◌, subst, arith, slice_get, slice_set, slice_index_or, length-set, get_or-set_same, get_or-set_other, ⊎_elim, ◌++◌, append-nil}
 use Rattle.std.proofs.lemmas.Bool.{cases_eq}
 use Rattle.array_meaning.specs.Faults.{Cause, Fault, ◌>>=◌}
@@ -12,8 +13,9 @@ use Rattle.lowered_expressions.proofs.Terms.{HoldsScalars, HoldsArrays}
 use Rattle.machine_steps.specs.Instr.{Running, Control, Finished}
 use Rattle.machine_steps.specs.Machine.{Machine, steps}
 use Rattle.storage.specs.Storage.{Storage, row_of, write}
-use Rattle.node_code.specs.Flat.{slot, Flat, flat_value}
-use Rattle.node_code.specs.Parallel.{at_line, fault_at}
+use Rattle.code_meaning.specs.Flat.{slot, flat_value}
+use Rattle.node_code.specs.Flat.{Flat}
+use Rattle.code_meaning.specs.Parallel.{at_line, fault_at}
 use Rattle.op_tables.specs.Operators.{is_true}
 use Rattle.array_meaning.specs.Runs as runs
 

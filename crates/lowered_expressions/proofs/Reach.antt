@@ -1,5 +1,6 @@
 -- Runs of the machine over code, piece by piece.
-use Rattle.node_code.specs.Instructions.{NewMapping, Instruction, meaning_of, ArrayTable}
+use Rattle.node_code.specs.Instructions.{NewMapping, Instruction}
+use Rattle.code_meaning.specs.Instructions.{meaning_of, ArrayTable}
 use Rattle.std.proofs.Common.{◌≡◌, ℕ, zero, suc, ◌+◌, ◌<◌, ◌≤◌, List, [], ◌∷◌, ◌++◌, length, ℤ, pos, Some, None, Result, Ok, Err, refl, sym, ap, ◌∙◌, subst, arith, drop, slice_get, slice_set, length-set, get_or-set_same, get_or-set_other, append_assoc, append-nil}
 use Rattle.array_meaning.specs.Faults.{Cause, Fault, ◌>>=◌}
 use Rattle.statement_trail.specs.Trail.{Trail, after_value}
@@ -8,8 +9,8 @@ use Rattle.machine_steps.specs.Instr.{Running, Faulted}
 use Rattle.machine_steps.specs.Layout.{Layout}
 use Rattle.machine_steps.specs.Machine.{Machine, step, step_by, steps, instr_of}
 use Rattle.storage.specs.Storage.{Storage}
-use Rattle.node_code.specs.Flat.{slot}
-use Rattle.node_code.specs.Parallel.{fault_at}
+use Rattle.code_meaning.specs.Flat.{slot}
+use Rattle.code_meaning.specs.Parallel.{fault_at}
 
 -- the instructions stand in the code at this place
 abbrev pub HasAt : List Instruction → ℕ → List Instruction → Type 0

@@ -1,5 +1,6 @@
 -- A parallel statement and its Verdict: the values first and then the stores, or the first fault in the order of tuples.
-use Rattle.node_code.specs.Instructions.{NewMapping, Instruction, ArrayTable}
+use Rattle.node_code.specs.Instructions.{NewMapping, Instruction}
+use Rattle.code_meaning.specs.Instructions.{ArrayTable}
 use Rattle.std.proofs.Common.{◌≡◌, ℕ, zero, suc, ◌+◌, ◌<◌, List, [], ◌∷◌, ◌++◌, map, length, ℤ, pos, nat_le, ◌==◌, ◌||◌, ◌&&◌, Bool, true, false, if◌then◌else◌, Option, Some, None, Result, Ok, Err, refl, sym, ap, ◌∙◌, arith, length-append, append_assoc, append-nil, slice_index_or, option_map}
 use Rattle.std.specs.Bool.{⊤}
 use Rattle.std.proofs.lemmas.Bool.{eqb-true}
@@ -24,7 +25,7 @@ use Rattle.machine_steps.specs.Machine.{effect_by, value_by}
 use Rattle.lowered_expressions.proofs.Keeping.{IsOutcome}
 use Rattle.storage.specs.Effect.{Effect, Skip, Put, Fail, scatter}
 use Rattle.storage.specs.Storage.{Storage, Spot, read, row_of}
-use Rattle.node_code.specs.Parallel.{fault_at, at_line, shape_of, outcome_of, reads_at, all_reads_at, value_by_reads, values_by_reads, spot_of, assigned_value}
+use Rattle.code_meaning.specs.Parallel.{fault_at, at_line, shape_of, outcome_of, reads_at, all_reads_at, value_by_reads, values_by_reads, spot_of, assigned_value}
 
 -- a space_size has as many tuples as its shape says
 pub space-size : (ns : List ℕ) (parts : List (List Selection)) (k : ℕ) → space_size ns parts ≡ Ok k → k ≡ product ns

@@ -1,5 +1,6 @@
 -- The code of a scalar expression evaluates it.
-use Rattle.node_code.specs.Instructions.{NewMapping, set_result, Instruction, Set, Fetch, spot_in, meaning_of, ArrayTable}
+use Rattle.node_code.specs.Instructions.{NewMapping, Instruction, Set, Fetch}
+use Rattle.code_meaning.specs.Instructions.{set_result, spot_in, meaning_of, ArrayTable}
 use Rattle.std.proofs.Common.{◌≡◌, ℕ, ◌+◌, ◌<◌, ◌≤◌, List, [], ◌∷◌, ◌++◌, length, ℤ, pos, Bool, true, false, Some, Result, Ok, Err, refl, sym, ap, ◌∙◌, subst, arith, length-append, slice_get, slice_set, slice_index_or}
 use Rattle.array_meaning.specs.Elementals.{operated}
 use Rattle.array_meaning.specs.Expressions.{value, values}
@@ -9,12 +10,13 @@ use Rattle.array_meaning.specs.Terms.{Apply, Terms}
 use Rattle.expression_rules.specs.declared.dims.Dim.{Dim}
 use Rattle.statement_trail.specs.Trail.{Trail}
 use Rattle.lowered_expressions.proofs.Reach.{still, Idle, HasAt, has-back, SameBelow, same-refl, same-set, slot-set, stands, one, Comes, comes-last, comes-at, comes-but, comes-here}
-use Rattle.lowered_expressions.specs.ExpressionCode.{all_slots_of, flats_of, codes_of, operated_flat, set_if, one_if}
+use Rattle.program_code.specs.ExpressionCode.{all_slots_of, flats_of, codes_of, operated_flat, set_if, one_if}
 use Rattle.machine_steps.specs.Instr.{Running, Control}
 use Rattle.machine_steps.specs.Machine.{fetch_control, faulted, steps}
 use Rattle.storage.specs.Storage.{Storage, row_of, read}
-use Rattle.node_code.specs.Flat.{slot, Flat, Slot, Flats, Operated, flat_value, flat_values}
-use Rattle.node_code.specs.Parallel.{fault_at, at_line, shape_of}
+use Rattle.code_meaning.specs.Flat.{slot, flat_value, flat_values}
+use Rattle.node_code.specs.Flat.{Flat, Slot, Flats, Operated}
+use Rattle.code_meaning.specs.Parallel.{fault_at, at_line, shape_of}
 use Rattle.op_tables.specs.Operators.{can_divide, value_of}
 use Rattle.op_tables.specs.declared.op.Op.{Op}
 

@@ -1,5 +1,3 @@
-pub mod ExpressionCode
-pub mod NestTerms
 pub mod WellFormed
 pub mod NestEvents
 pub mod Passed

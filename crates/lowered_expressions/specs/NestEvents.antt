@@ -8,8 +8,8 @@ use Rattle.node_code.specs.Flat.{Int}
 use Rattle.node_code.specs.Forms.{FlatForm}
 use Rattle.node_code.specs.Parallel.{When}
 use Rattle.node_code.specs.NestStatements.{NestStatement, ElementLeft, CopyLeft}
-use Rattle.lowered_expressions.specs.ExpressionCode.{index_subs, index_form}
-use Rattle.lowered_expressions.specs.NestTerms.{indexed, all_indexed, AllNameFirst, SubscriptsFirst}
+use Rattle.program_code.specs.ExpressionCode.{index_subs, index_form}
+use Rattle.nest_syntax.specs.NestTerms.{indexed, all_indexed, AllNameFirst, SubscriptsFirst}
 use Rattle.lowered_expressions.specs.WellFormed.{IsIndexed, AreSubscripts}
 
 -- n names are declared

@@ -15,12 +15,14 @@ use Rattle.machine_steps.specs.Instr.{Status, Running}
 use Rattle.machine_steps.specs.Machine.{Machine, step}
 use Rattle.node_code.specs.declared.nest.NestRole.{NestRole}
 use Rattle.node_code.specs.declared.nest.NestRole.TheVariants.{SetsMark}
-use Rattle.node_code.specs.Flat.{slot}
-use Rattle.node_code.specs.Forms.{selections_in, elemental_in}
-use Rattle.node_code.specs.Parallel.{When, evaluation_extents}
+use Rattle.code_meaning.specs.Flat.{slot}
+use Rattle.code_meaning.specs.Forms.{selections_in, elemental_in}
+use Rattle.node_code.specs.Parallel.{When}
+use Rattle.code_meaning.specs.Parallel.{evaluation_extents}
 use Rattle.lowered_expressions.specs.WellFormed.{AreSubscripts, IsIndexed}
-use Rattle.node_code.specs.Instructions.{NewMapping, Instruction, ArrayTable, meaning_of, Par, ParForall, ParNest, ParCopy, ParForallCopy, Reduce, Remap}
-use Rattle.lowered_expressions.specs.ExpressionCode.{index_subs, index_form}
+use Rattle.node_code.specs.Instructions.{NewMapping, Instruction, Par, ParForall, ParNest, ParCopy, ParForallCopy, Reduce, Remap}
+use Rattle.code_meaning.specs.Instructions.{ArrayTable, meaning_of}
+use Rattle.program_code.specs.ExpressionCode.{index_subs, index_form}
 use Rattle.lowered_expressions.specs.NestEvents.{whens_for, AreStored, IsPart}
 
 -- an instruction that is passed, and the slots before it

@@ -1,7 +1,7 @@
 //! Where the machine comes over code, and the code of expressions.
 //!
-//! Comes in: programs whose names are resolved, in `array_meaning`'s definitions, and what instructions do on the machine with whole
-//! arrays, in `node_code`'s. Goes out, in `specs/`: the code of expressions; which programs are well formed; and what the machine passes on its
+//! Comes in: programs whose names are resolved, in `array_meaning`'s definitions, the code of expressions, in `program_code`'s, and what instructions
+//! do on the machine with whole arrays, in `code_meaning`'s. Goes out, in `specs/`: which programs are well formed; and what the machine passes on its
 //! way. In `proofs/`, for the laws of statements and of nests: that the machine comes from a place to another one with what a state is. There
 //! is no function here that runs, and no node.
 //!

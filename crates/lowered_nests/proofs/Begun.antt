@@ -19,16 +19,19 @@ use Rattle.array_meaning.specs.NestEntry.{unless_clash}
 use Rattle.array_meaning.specs.NestLimits.{is_nest_in_limits, is_block_in_limits, is_in_limits}
 use Rattle.array_meaning.specs.Clashes.{first_clash}
 use Rattle.array_meaning.specs.Forall.{is_index_in_limits}
-use Rattle.node_code.specs.Flat.{slot}
-use Rattle.node_code.specs.Forms.{Sub, selections_in}
-use Rattle.node_code.specs.Instructions.{Instruction, ArrayTable, NewMapping}
-use Rattle.node_code.specs.NestStatements.{iterations_at, copies_extents}
-use Rattle.nest_order.specs.Copies.{Kind, Shared, has_copies, scalar_at, entry_copies, with_copies}
+use Rattle.code_meaning.specs.Flat.{slot}
+use Rattle.node_code.specs.Forms.{Sub}
+use Rattle.code_meaning.specs.Forms.{selections_in}
+use Rattle.node_code.specs.Instructions.{Instruction, NewMapping}
+use Rattle.code_meaning.specs.Instructions.{ArrayTable}
+use Rattle.code_meaning.specs.NestStatements.{iterations_at, copies_extents}
+use Rattle.nest_syntax.specs.NestKinds.{Kind, Shared, has_copies}
+use Rattle.nest_order.specs.Copies.{scalar_at, entry_copies, with_copies}
 use Rattle.lowered_expressions.proofs.Reach.{Idle}
 use Rattle.nest_items.specs.StateStorage.{storage_of}
 use Rattle.nest_items.specs.Standing.{AreKinds}
 use Rattle.nest_items.specs.NestForm.{IsNest}
-use Rattle.nest_items.specs.NestItems.{ToScalar, ToElement, Assigning}
+use Rattle.nest_syntax.specs.Assigning.{ToScalar, ToElement, Assigning}
 use Rattle.nest_items.specs.Paths.{PathsAssign}
 use Rattle.nest_items.proofs.Storing.{if_so, if_not, row-at, rows-length}
 use Rattle.nest_join.specs.NestParts as whole
@@ -37,21 +40,23 @@ use Rattle.nest_join.proofs.Opening.{condition_rows}
 use Rattle.nest_machine.specs.Body.{count_body}
 use Rattle.nest_machine.specs.Slots.{SameSlots}
 use Rattle.nest_machine.specs.Trace.{Data}
-use Rattle.nest_machine.specs.Finals.{Final, final_slot}
+use Rattle.nest_syntax.specs.Finals.{Final}
+use Rattle.nest_machine.specs.Finals.{final_slot}
 use Rattle.nest_machine.specs.Placed.{PlacedTexts}
 use Rattle.nest_machine.specs.PlacedEnds.{IsPlacedFinal}
 use Rattle.nest_machine.proofs.PlacedCopies.{row-each}
-use Rattle.nest_texts.specs.NestInstructions.{nest_layout}
+use Rattle.nest_texts.specs.NestBodies.{nest_layout}
 use Rattle.statement_trail.specs.NestParts.{index_in}
 use Rattle.nest_join.specs.NestNames.{NestNames}
 use Rattle.nest_join.specs.NestTexts.{NestAction, assignment_text, text_of, test_of, texts_of, HoldsEntry}
 use Rattle.nest_join.specs.CodedBlocks.{IsCodedBlock, coded}
-use Rattle.nest_join.specs.Places.{AreScalars}
+use Rattle.program_code.specs.Places.{AreScalars}
 use Rattle.nest_join.specs.NestRuns.{NestCode, machine_body, HoldsRows, HasFinals}
 use Rattle.nest_join.proofs.RowPlaces.{condition-place, condition-row, marks-off, copies-behind, marks-behind, not-among}
 use Rattle.nest_join.proofs.MadeRows.{names-unmade}
 use Rattle.nest_join.proofs.ListedFinals.{has-final}
-use Rattle.lowered_nests.specs.NestCode.{plain, text_in, test_in, scalars, conditions, kinds_in, stored, finals, along, names_in}
+use Rattle.program_code.specs.NestCode.{plain, text_in, test_in, scalars, conditions, kinds_in, stored, finals, along}
+use Rattle.lowered_nests.specs.NamesIn.{names_in}
 use Rattle.lowered_nests.proofs.NestRuns.{HasCopies, NestStands}
 use Rattle.lowered_nests.proofs.PlainCode.{same-count}
 use Rattle.lowered_nests.proofs.OneKind.{one-kind}

@@ -6,11 +6,12 @@ use Rattle.array_meaning.specs.Elementals.{operated}
 use Rattle.array_meaning.specs.State.{State}
 use Rattle.array_meaning.specs.Statements.{Block, Done, Then, Statement, AssignScalar, AssignElement, AssignSection, If, Do, Unmarked, Outermost, Where, Forall, Print, Stop, Exit, Cycle, Continue, Redistribute, Arms, NoArm, Arm}
 use Rattle.op_tables.specs.Operators.{value_of}
-use Rattle.node_code.specs.Flat.{flat_value, flat_values, or_zero}
-use Rattle.lowered_expressions.specs.ExpressionCode.{index_flat, index_flats}
+use Rattle.code_meaning.specs.Flat.{flat_value, flat_values, or_zero}
+use Rattle.program_code.specs.ExpressionCode.{index_flat, index_flats}
 use Rattle.lowered_expressions.specs.WellFormed.{IsSubscript, AreSubscripts}
 use Rattle.lowered_expressions.proofs.Terms.{total}
-use Rattle.nest_texts.specs.NestInstructions.{NoText, AndText, AndIf, AndLoop, AreSafe, ArmsAreSafe, CantFault}
+use Rattle.program_code.specs.NestInstructions.{NoText, AndText, AndIf, AndLoop}
+use Rattle.nest_texts.specs.NestBodies.{AreSafe, ArmsAreSafe, CantFault}
 use Rattle.nest_join.specs.NestNames.{NestNames}
 use Rattle.nest_join.specs.CodedBlocks.{IsCodedBlock, IsCodedStatement, AreCodedArms, CodedBody, CodedArms, coded, coded_in, coded_arms, else_arm}
 

@@ -4,14 +4,14 @@ use Rattle.std.specs.Prelude.{◌&&◌}
 use Rattle.op_tables.specs.declared.op.Op.{Op}
 use Rattle.op_tables.specs.declared.op.Op.TheVariants as op
 use Rattle.op_tables.specs.Operators.{can_divide}
-use Rattle.nest_order.specs.Copies.{Kind, has_copies}
+use Rattle.nest_syntax.specs.NestKinds.{Kind, has_copies}
 use Rattle.array_meaning.specs.Terms.{Term, Number, Scalar, Index, Element, Section, Apply, Reduce, Terms, NoTerm, More}
 use Rattle.array_meaning.specs.State.{State, scalar}
 use Rattle.array_meaning.specs.Statements.{Loop, Nest, Block, Done, Then, Statement, AssignScalar, AssignElement, AssignSection, If, Do, Where, Forall, Print, Stop, Exit, Cycle, Continue, Redistribute, Mark, Arms, NoArm, Arm}
 use Rattle.array_meaning.specs.Iterations.{is_in, nest_indices}
 use Rattle.array_meaning.specs.Touches.{assigned_in, assigned_by, assigned_in_arms}
 use Rattle.node_code.specs.Forms.{Sub}
-use Rattle.node_code.specs.Instructions.{ArrayTable}
+use Rattle.code_meaning.specs.Instructions.{ArrayTable}
 use Rattle.lowered_expressions.specs.WellFormed.{IsScalar, AreScalar, IsSubscript, AreSubscripts, IsIndexed, AreIndexed, IsWellFormed, IsWellFormedBlock, AreWellFormedArms}
 use Rattle.nest_items.specs.Naming.{IsNaming, AreNaming}
 use Rattle.nest_items.specs.Settled.{without}
@@ -20,13 +20,14 @@ use Rattle.nest_items.specs.NestForm.{is_linear_operator, IsExact, AreExact, IsP
 use Rattle.nest_items.proofs.FormStands.{block_stands}
 use Rattle.nest_items.proofs.NameKinds.{copies_of_kind}
 use Rattle.statement_trail.specs.NestParts.{index_in, scalars_in}
-use Rattle.lowered_expressions.specs.NestTerms.{HasNoIndex, HaveNoIndex}
+use Rattle.nest_syntax.specs.NestTerms.{HasNoIndex, HaveNoIndex}
 use Rattle.nest_join.specs.NestNames.{NestNames, indices_of, IsFixedName, IsTextTerm}
-use Rattle.nest_join.specs.Places.{AreScalars}
+use Rattle.program_code.specs.Places.{AreScalars}
 use Rattle.nest_join.specs.CodedBlocks.{IsBoundName, IsCodedLoop, IsCodedBlock, IsCodedStatement, AreCodedArms}
 use Rattle.nest_join.proofs.Names.{eq-is}
 use Rattle.nest_join.proofs.RowPlaces.{lt-so, name-row, array-place}
-use Rattle.lowered_nests.specs.NestCode.{scalars, conditions, kinds_in, operator_in, names_in}
+use Rattle.program_code.specs.NestCode.{scalars, conditions, kinds_in, operator_in}
+use Rattle.lowered_nests.specs.NamesIn.{names_in}
 use Rattle.lowered_nests.proofs.Listed.{in-some, in-none, is-in, among-is, is-among, among-apart, read-here, not-read, in-either}
 use Rattle.lowered_nests.proofs.FreeIndices.{AreFree, free-is, free-inside, not-hidden}
 use Rattle.lowered_nests.proofs.TextTerms.{text-term, text-subscripts}

@@ -3,12 +3,13 @@ use Rattle.std.proofs.Common.{ℕ, List, Bool, refl}
 use Rattle.array_meaning.specs.State.{State}
 use Rattle.array_meaning.specs.Statements.{Nest, Block, Done, Then, Statement, AssignScalar, AssignElement, AssignSection, If, Do, Unmarked, Outermost, Where, Forall, Print, Stop, Exit, Cycle, Continue, Redistribute, Arms, NoArm, Arm}
 use Rattle.node_code.specs.Forms.{Sub}
-use Rattle.node_code.specs.Instructions.{ArrayTable}
-use Rattle.nest_texts.specs.NestInstructions as forms
+use Rattle.code_meaning.specs.Instructions.{ArrayTable}
+use Rattle.program_code.specs.NestInstructions as forms
 use Rattle.nest_join.specs.NestNames.{NestNames}
 use Rattle.nest_join.specs.NestTexts.{text_of, test_of}
 use Rattle.nest_join.specs.CodedBlocks.{IsCodedBlock, IsCodedStatement, AreCodedArms, CodedBody, CodedArms, else_arm, coded, coded_in, coded_arms}
-use Rattle.lowered_nests.specs.NestCode.{PlainBody, PlainArms, plain, plain_in, plain_arms, plain_else, text_in, test_in, names_in}
+use Rattle.program_code.specs.NestCode.{PlainBody, PlainArms, plain, plain_in, plain_arms, plain_else, text_in, test_in}
+use Rattle.lowered_nests.specs.NamesIn.{names_in}
 use Rattle.lowered_nests.proofs.PlainCode.{AreSame, AreSameArms}
 
 module _ (table : ArrayTable) (n : ℕ) (nest : Nest) (body : Block) (over : List Sub) (is_index : ℕ → Bool) (s : State) where

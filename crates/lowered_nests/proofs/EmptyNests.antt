@@ -3,7 +3,7 @@ use Rattle.std.proofs.Common.{◌≡◌, ℕ, zero, suc, ◌<◌, inl, inr, ⊎_
 use Rattle.std.specs.List.{AllByRecursion}
 use Rattle.std.proofs.lemmas.Bool.{cases_eq}
 use Rattle.op_tables.specs.Operators.{wrapped}
-use Rattle.nest_order.specs.Copies.{Kind}
+use Rattle.nest_syntax.specs.NestKinds.{Kind}
 use Rattle.array_meaning.specs.State.{State, scalar, set_scalar}
 use Rattle.array_meaning.specs.Statements.{Loop, Block, Done}
 use Rattle.array_meaning.specs.Runs.{Run, normal, then_do, with_value, one_step}

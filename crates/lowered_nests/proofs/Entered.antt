@@ -8,26 +8,28 @@ use Rattle.array_meaning.specs.Faults.{Fault}
 use Rattle.array_meaning.specs.State.{State, scalar, array}
 use Rattle.array_meaning.specs.Statements.{Loop, Nest, Block}
 use Rattle.array_meaning.specs.Iterations.{iteration_count}
-use Rattle.node_code.specs.Flat.{slot}
+use Rattle.code_meaning.specs.Flat.{slot}
 use Rattle.node_code.specs.Forms.{Sub}
-use Rattle.node_code.specs.Instructions.{Instruction, ArrayTable, NewMapping}
-use Rattle.node_code.specs.NestStatements.{copies_extents}
-use Rattle.nest_order.specs.Copies.{Kind, Shared, New, Assigned, Reduced, has_copies, entry_copies}
+use Rattle.node_code.specs.Instructions.{Instruction, NewMapping}
+use Rattle.code_meaning.specs.Instructions.{ArrayTable}
+use Rattle.code_meaning.specs.NestStatements.{copies_extents}
+use Rattle.nest_syntax.specs.NestKinds.{Kind, Shared, New, Assigned, Reduced, has_copies}
+use Rattle.nest_order.specs.Copies.{entry_copies}
 use Rattle.nest_order.proofs.Copying.{shared_of}
 use Rattle.lowered_expressions.proofs.Reach.{Idle}
 use Rattle.nest_items.proofs.Storing.{if_so, if_not, by_cases}
 use Rattle.nest_machine.specs.Trace.{Data}
 use Rattle.nest_machine.specs.Entries.{Entry, at_zero, final_entries, nest_entries, NotMade}
 use Rattle.nest_machine.specs.PlacedEntry.{IsPlacedMemory}
-use Rattle.nest_texts.specs.NestInstructions.{nest_layout}
+use Rattle.nest_texts.specs.NestBodies.{nest_layout}
 use Rattle.statement_trail.specs.NestParts.{index_in}
 use Rattle.nest_join.specs.NestNames.{NestNames}
-use Rattle.nest_join.specs.Places.{AreScalars, place_by, final_by}
+use Rattle.program_code.specs.Places.{AreScalars, place_by, final_by}
 use Rattle.nest_join.specs.CodedBlocks.{IsCodedBlock}
 use Rattle.nest_join.specs.NestRuns.{NestCode}
 use Rattle.nest_join.proofs.RowPlaces.{condition-place}
 use Rattle.nest_join.proofs.MadeRows.{made-rows, names-unmade}
-use Rattle.lowered_nests.specs.NestCode.{scalars, conditions, kinds_in, stored, finals, along}
+use Rattle.program_code.specs.NestCode.{scalars, conditions, kinds_in, stored, finals, along}
 use Rattle.lowered_nests.proofs.NestRuns.{HasCopies, NestStands}
 use Rattle.lowered_nests.proofs.CodedBody.{array-row}
 use Rattle.lowered_nests.proofs.Standing.{below-of, entries-below, condition-made, final-made}

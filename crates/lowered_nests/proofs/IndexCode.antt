@@ -9,10 +9,12 @@ use Rattle.array_meaning.specs.declared.sections.Sequence.{Sequence}
 use Rattle.array_meaning.specs.State.{State}
 use Rattle.array_meaning.specs.Statements.{Loop}
 use Rattle.array_meaning.specs.Iterations.{values_of, turn_value}
-use Rattle.node_code.specs.Flat.{slot, Int, Slot, Operated, NoFlat, AndFlat, flat_value}
-use Rattle.node_code.specs.Instructions.{Instruction, ArrayTable, NewMapping}
+use Rattle.code_meaning.specs.Flat.{slot, flat_value}
+use Rattle.node_code.specs.Flat.{Int, Slot, Operated, NoFlat, AndFlat}
+use Rattle.node_code.specs.Instructions.{Instruction, NewMapping}
+use Rattle.code_meaning.specs.Instructions.{ArrayTable}
 use Rattle.lowered_expressions.proofs.Reach.{HasAt}
-use Rattle.lowered_nests.specs.NestCode.{indices_code}
+use Rattle.program_code.specs.NestCode.{indices_code}
 use Rattle.lowered_nests.proofs.IndexValues.{AreOther, AreApart, by_trips, code-last, last-none, last-some, left, left-here, left-past, left-none}
 use Rattle.lowered_nests.proofs.LoopBounds.{sequence-parts, HaveBounds, bounds-kept, set-past, begun}
 use Rattle.lowered_nests.proofs.LoopTrips.{Steps, on, stay, sets, no-trip, some-trips}

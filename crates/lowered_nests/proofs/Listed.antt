@@ -5,7 +5,7 @@ use Rattle.std.proofs.lemmas.Bool.Decides.{nat_tests}
 use Rattle.std.proofs.lemmas.List.Folds.{list_any-append}
 use Rattle.array_meaning.specs.Iterations.{is_in}
 use Rattle.statement_trail.specs.NestParts.{index_in, each_once, among_from, of_these}
-use Rattle.nest_join.specs.Places.{AreDistinct}
+use Rattle.program_code.specs.Places.{AreDistinct}
 use Rattle.nest_join.proofs.Names.{eq-is}
 
 pub turned : (a b : ℕ) → nat_eq a b ≡ nat_eq b a

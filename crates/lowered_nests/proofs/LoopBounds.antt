@@ -11,9 +11,10 @@ use Rattle.array_meaning.specs.Sections.{sequence, value_count}
 use Rattle.array_meaning.specs.State.{State}
 use Rattle.array_meaning.specs.Statements.{Loop}
 use Rattle.array_meaning.specs.Iterations.{values_of}
-use Rattle.node_code.specs.Flat.{slot, flat_value, or_zero}
-use Rattle.node_code.specs.Forms.{Sub, SubAt, SubAlong, sequence_in, selections_in}
-use Rattle.lowered_nests.specs.NestCode.{along}
+use Rattle.code_meaning.specs.Flat.{slot, flat_value, or_zero}
+use Rattle.node_code.specs.Forms.{Sub, SubAt, SubAlong}
+use Rattle.code_meaning.specs.Forms.{sequence_in, selections_in}
+use Rattle.program_code.specs.NestCode.{along}
 
 -- ---- the values of a triplet
 

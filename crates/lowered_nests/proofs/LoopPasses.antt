@@ -8,15 +8,18 @@ use Rattle.array_meaning.specs.Faults.{Fault}
 use Rattle.array_meaning.specs.Iterations.{in_turns}
 use Rattle.statement_trail.specs.Trail.{Trail}
 use Rattle.machine_steps.specs.Instr.{Control, Running}
-use Rattle.node_code.specs.Flat.{Flat, Int, Slot, Operated, NoFlat, AndFlat, slot}
-use Rattle.node_code.specs.Instructions.{Instruction, ArrayTable, NewMapping, Trips, Jump, JumpIfZero, go_if}
+use Rattle.node_code.specs.Flat.{Flat, Int, Slot, Operated, NoFlat, AndFlat}
+use Rattle.code_meaning.specs.Flat.{slot}
+use Rattle.node_code.specs.Instructions.{Instruction, NewMapping, Trips, Jump, JumpIfZero}
+use Rattle.code_meaning.specs.Instructions.{ArrayTable, go_if}
 use Rattle.lowered_expressions.proofs.Reach.{HasAt, has-back}
 use Rattle.nest_machine.specs.Body.{Bounds}
 use Rattle.nest_machine.specs.Counting.{Counting, trips_at, entering}
 use Rattle.nest_machine.specs.Slots.{SameSlots, headed, entered, next_index, advanced, trip_slots, first_trip, left_slots}
 use Rattle.nest_machine.proofs.Slots.{left-over}
 use Rattle.nest_texts.specs.NestLoops.{counting_at}
-use Rattle.nest_texts.specs.NestInstructions.{FlatBounds, CantFault, bounds_of, tail_instructions, loop_instructions}
+use Rattle.program_code.specs.NestInstructions.{FlatBounds, tail_instructions, loop_instructions}
+use Rattle.nest_texts.specs.NestBodies.{CantFault, bounds_of}
 use Rattle.nest_texts.proofs.Counting.{is-counting}
 use Rattle.lowered_nests.proofs.Passing.{Passes, stands, passes-on, passes-last, passes-at, passes-one, passes-set}
 

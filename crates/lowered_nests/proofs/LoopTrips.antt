@@ -4,22 +4,23 @@ use Rattle.std.specs.List.{AllByRecursion}
 use Rattle.op_tables.specs.Operators.{wrapped}
 use Rattle.storage.specs.Storage.{Storage}
 use Rattle.machine_steps.specs.Instr.{Control, Running}
-use Rattle.nest_order.specs.Copies.{Kind}
+use Rattle.nest_syntax.specs.NestKinds.{Kind}
 use Rattle.array_meaning.specs.Faults.{Fault}
 use Rattle.array_meaning.specs.declared.sections.Sequence.{Sequence}
 use Rattle.array_meaning.specs.Sections.{sequence}
 use Rattle.array_meaning.specs.State.{State}
 use Rattle.array_meaning.specs.Statements.{Loop}
 use Rattle.array_meaning.specs.Iterations.{values_of}
-use Rattle.node_code.specs.Flat.{slot, Flat, flat_value}
-use Rattle.node_code.specs.Parallel.{at_line}
-use Rattle.node_code.specs.Instructions.{Instruction, ArrayTable, NewMapping, Set, Trips, begin_trips}
-use Rattle.lowered_expressions.specs.ExpressionCode.{index_flat}
+use Rattle.code_meaning.specs.Flat.{slot, flat_value}
+use Rattle.node_code.specs.Flat.{Flat}
+use Rattle.code_meaning.specs.Parallel.{at_line}
+use Rattle.node_code.specs.Instructions.{Instruction, NewMapping, Set, Trips}
+use Rattle.code_meaning.specs.Instructions.{ArrayTable, begin_trips}
+use Rattle.program_code.specs.ExpressionCode.{index_flat}
 use Rattle.lowered_expressions.proofs.Reach.{HasAt, Reaches, reaches-on, stands, one, still, Place, SameBelow, same-refl, same-on, same-set}
 use Rattle.lowered_expressions.proofs.Terms.{HoldsScalars, holds-same}
 use Rattle.lowered_expressions.proofs.Goes.{set-reaches}
-use Rattle.nest_join.specs.CodedBlocks.{step_flat}
-use Rattle.lowered_nests.specs.NestCode.{bounds_code, trips_code}
+use Rattle.program_code.specs.NestCode.{step_flat, bounds_code, trips_code}
 use Rattle.lowered_nests.proofs.IndexValues.{HaveTurns, IsEmpty}
 use Rattle.lowered_nests.proofs.NestLoops.{has-bounds, fixed-flat, IsLoop}
 use Rattle.lowered_nests.proofs.LoopBounds.{HaveBounds, first-kept, set-past, begun}

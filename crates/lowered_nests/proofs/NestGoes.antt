@@ -6,7 +6,7 @@ use Rattle.std.specs.Result.{result_unwrap_or}
 use Rattle.std.proofs.lemmas.Bool.Decides.{nat_tests}
 use Rattle.std.proofs.lemmas.Option.{none-some}
 use Rattle.storage.specs.Storage.{Storage}
-use Rattle.nest_order.specs.Copies.{Kind}
+use Rattle.nest_syntax.specs.NestKinds.{Kind, kind_of}
 use Rattle.array_meaning.specs.declared.sections.Sequence.{Sequence}
 use Rattle.array_meaning.specs.Sections.{sequence}
 use Rattle.array_meaning.specs.State.{State, Array, no_array, scalar, set_scalar}
@@ -18,18 +18,18 @@ use Rattle.array_meaning.specs.Iterations.{values_of, iteration_count, turn_valu
 use Rattle.statement_trail.specs.NestParts.{entered_nest}
 use Rattle.statement_trail.specs.Trail.{block_parts, nest_trail}
 use Rattle.array_meaning.specs.NestEntry.{check_nest}
-use Rattle.node_code.specs.Flat.{slot}
-use Rattle.node_code.specs.Instructions.{Instruction, ArrayTable, NewMapping}
+use Rattle.code_meaning.specs.Flat.{slot}
+use Rattle.node_code.specs.Instructions.{Instruction, NewMapping}
+use Rattle.code_meaning.specs.Instructions.{ArrayTable}
 use Rattle.lowered_expressions.specs.WellFormed.{IsWellFormedBlock}
 use Rattle.lowered_expressions.proofs.Reach.{HasAt, Place, Reaches, reaches-on, reaches-last, Stops, stops-on, stands, SameBelow}
 use Rattle.lowered_expressions.proofs.Terms.{HoldsArrays}
 use Rattle.lowered_expressions.proofs.Goes.{Holds, Kept, Goes}
 use Rattle.nest_items.specs.BlockForms.{HasForm}
-use Rattle.nest_items.specs.NestKinds.{kind_of}
 use Rattle.nest_items.specs.NestForm.{IsNest}
 use Rattle.nest_items.specs.Settled.{settled_by, without}
-use Rattle.nest_texts.specs.NestInstructions.{slots_of_nest}
-use Rattle.lowered_nests.specs.NestCode.{plain, inner_bounds, nest_rows, nest_slots, nest_code}
+use Rattle.program_code.specs.NestInstructions.{slots_of_nest}
+use Rattle.program_code.specs.NestCode.{plain, inner_bounds, nest_rows, nest_slots, nest_code}
 use Rattle.lowered_nests.proofs.NestRuns.{HasCopies, NestStands, NestDone, StatementsEnd, StatementsFault}
 use Rattle.lowered_nests.proofs.StatementsRuns.{statements-run}
 use Rattle.fitting_states.specs.FittingStates.{StateFits, ControlFits}

@@ -4,7 +4,7 @@ use Rattle.std.specs.List.{AllByRecursion}
 use Rattle.std.specs.Result.{result_unwrap_or}
 use Rattle.std.proofs.lemmas.Bool.{and_parts}
 use Rattle.op_tables.specs.Operators.{wrapped, value_of}
-use Rattle.nest_order.specs.Copies.{Kind}
+use Rattle.nest_syntax.specs.NestKinds.{Kind}
 use Rattle.array_meaning.specs.Terms.{Term, Number, Scalar, Index, Element, Section, Apply, Reduce, Terms, NoTerm, More}
 use Rattle.array_meaning.specs.Statements.{Loop, Block, Unmarked}
 use Rattle.array_meaning.specs.Faults.{◌>>=◌, with_more}
@@ -14,8 +14,8 @@ use Rattle.array_meaning.specs.Sections.{sequence, value_count}
 use Rattle.array_meaning.specs.Expressions.{value, values, index_values}
 use Rattle.array_meaning.specs.Elementals.{operated}
 use Rattle.array_meaning.specs.Iterations.{values_of}
-use Rattle.node_code.specs.Flat.{flat_value, flat_values}
-use Rattle.lowered_expressions.specs.ExpressionCode.{index_flat, index_flats}
+use Rattle.code_meaning.specs.Flat.{flat_value, flat_values}
+use Rattle.program_code.specs.ExpressionCode.{index_flat, index_flats}
 use Rattle.lowered_expressions.specs.WellFormed.{IsScalar, AreScalar, IsControl, IsWellFormedBlock}
 use Rattle.lowered_expressions.proofs.Terms.{HoldsScalars}
 use Rattle.nest_items.specs.Settled.{without}

@@ -16,39 +16,44 @@ use Rattle.statement_trail.specs.NestParts.{EnteredNest, Asked, NestPart, Scalar
 use Rattle.statement_trail.specs.Trail.{Trail, OfNest, reached, block_parts, statement_parts, arms_parts}
 use Rattle.node_code.specs.declared.nest.NestRole.{NestRole}
 use Rattle.node_code.specs.declared.nest.NestRole.TheVariants.{Assigns, Tests}
-use Rattle.node_code.specs.Flat.{Int, slot}
-use Rattle.node_code.specs.Forms.{Sub, selections_in}
+use Rattle.node_code.specs.Flat.{Int}
+use Rattle.code_meaning.specs.Flat.{slot}
+use Rattle.node_code.specs.Forms.{Sub}
+use Rattle.code_meaning.specs.Forms.{selections_in}
 use Rattle.node_code.specs.Parallel.{When}
 use Rattle.node_code.specs.NestStatements.{NestStatement, NestLeft, ElementLeft, CopyLeft}
-use Rattle.node_code.specs.Instructions.{Instruction, ArrayTable, NewMapping, ParNest, MakeCopies}
-use Rattle.lowered_expressions.specs.NestTerms.{all_indexed, indexed, NamesFirst, AllNameFirst, SubscriptsFirst, HasNoIndex, HaveNoIndex}
-use Rattle.lowered_expressions.specs.ExpressionCode.{index_subs, index_form}
+use Rattle.node_code.specs.Instructions.{Instruction, NewMapping, ParNest, MakeCopies}
+use Rattle.code_meaning.specs.Instructions.{ArrayTable}
+use Rattle.nest_syntax.specs.NestTerms.{all_indexed, indexed, NamesFirst, AllNameFirst, SubscriptsFirst, HasNoIndex, HaveNoIndex}
+use Rattle.program_code.specs.ExpressionCode.{index_subs, index_form}
 use Rattle.lowered_expressions.specs.WellFormed.{IsIndexed}
 use Rattle.lowered_expressions.specs.NestEvents.{whens_for, AreStored, IsPart, Evaluates}
 use Rattle.lowered_expressions.specs.Passed.{unless_mark, IsTrail, IsEvent}
 use Rattle.lowered_expressions.proofs.Reach.{HasAt, has-front, has-back}
-use Rattle.nest_order.specs.Copies.{has_copies}
+use Rattle.nest_syntax.specs.NestKinds.{has_copies}
 use Rattle.nest_items.specs.Naming.{IsNaming, AreNaming}
-use Rattle.nest_items.specs.NestItems.{ToScalar, ToElement}
+use Rattle.nest_syntax.specs.Assigning.{ToScalar, ToElement}
 use Rattle.nest_items.specs.Standing.{has_no_loop, have_no_loop, is_no_loop}
-use Rattle.nest_machine.specs.Asked as machine
-use Rattle.nest_machine.specs.Asked.{guard_asked, tested_asked}
+use Rattle.nest_syntax.specs.Asked as machine
+use Rattle.nest_syntax.specs.Asked.{guard_asked, tested_asked}
 use Rattle.nest_machine.specs.Body.{body_slots, arms_slots}
 use Rattle.nest_machine.specs.Counting.{Counting, trips_at}
 use Rattle.nest_machine.specs.Slots.{SameSlots, headed, first_trip, trip_slots, left_slots, slots_after, slots_after_arms}
 use Rattle.nest_machine.proofs.Slots.{same-on, same-headed, same-first, same-trip, same-left, same-again, same-advanced, same-after}
 use Rattle.nest_texts.specs.NestLoops.{counting_at}
-use Rattle.nest_texts.specs.NestInstructions as forms
-use Rattle.nest_texts.specs.NestInstructions.{FlatBounds, bounds_of, body_of, arms_of, count_nest, count_nest_arms, CantFault, whens_of, assigning, testing, setting_else, setting_mark, tail_instructions, mark_instructions, text_instructions, test_instruction, loop_instructions, body_instructions, arms_instructions}
+use Rattle.program_code.specs.NestInstructions as forms
+use Rattle.program_code.specs.NestInstructions.{FlatBounds, count_nest, count_nest_arms, whens_of, assigning, testing, setting_else, setting_mark, tail_instructions, mark_instructions, text_instructions, test_instruction, loop_instructions, body_instructions, arms_instructions}
+use Rattle.nest_texts.specs.NestBodies.{bounds_of, body_of, arms_of, CantFault}
 use Rattle.nest_join.specs.NestNames.{NestNames, indices_of, index_of, IsFixedHere, IsTextTerm}
 use Rattle.nest_join.specs.NestTexts.{NestAction, NestCondition, text_of, test_of, HoldsEntry}
 use Rattle.nest_join.specs.CodedBlocks.{IsBoundName, IsCodedLoop, IsCodedBlock, IsCodedStatement, AreCodedArms, CodedBody, CodedArms, loop_bounds, else_arm, coded, coded_in, coded_arms}
-use Rattle.nest_join.specs.Places.{place_by}
+use Rattle.program_code.specs.Places.{place_by}
 use Rattle.nest_join.proofs.HiddenIndices.{hidden-is}
 use Rattle.nest_join.proofs.Bounds.{step-flat, step-some}
 use Rattle.nest_join.proofs.LoopTurns.{P, values-are, count-is, turns, left-index}
 use Rattle.nest_join.proofs.SameItems.{takes}
-use Rattle.lowered_nests.specs.NestCode.{scalars, conditions, stored, place_in, names_in}
+use Rattle.program_code.specs.NestCode.{scalars, conditions, stored, place_in}
+use Rattle.lowered_nests.specs.NamesIn.{names_in}
 use Rattle.lowered_nests.proofs.CodeLies.{safe-block}
 use Rattle.lowered_nests.proofs.Listed.{in-some, once-in, these-in}
 use Rattle.lowered_nests.proofs.TextTerms.{first-index}

@@ -3,8 +3,8 @@ use Rattle.std.proofs.Common.{◌≡◌, ℕ, suc, ◌+◌, ◌*◌, List, [], �
 use Rattle.array_meaning.specs.Statements.{Loop, Nest, Block}
 use Rattle.node_code.specs.Instructions.{Instruction}
 use Rattle.lowered_expressions.proofs.Reach.{HasAt, has-front, has-back}
-use Rattle.nest_texts.specs.NestInstructions.{nest_instructions}
-use Rattle.lowered_nests.specs.NestCode.{plain, text_in, test_in, stored, finals, along, inner_bounds, trips_code, indices_code, nest_code}
+use Rattle.program_code.specs.NestInstructions.{nest_instructions}
+use Rattle.program_code.specs.NestCode.{plain, text_in, test_in, stored, finals, along, inner_bounds, trips_code, indices_code, nest_code}
 
 trips-length : (line v target : ℕ) (ls : List Loop) → length (trips_code line v target ls) ≡ length ls
 trips-length line v target [] = refl

@@ -13,19 +13,20 @@ use Rattle.array_meaning.specs.Expressions.{index_values}
 use Rattle.array_meaning.specs.Iterations.{values_of, nest_axes, nest_indices, iteration_count}
 use Rattle.array_meaning.specs.NestEntry.{check_nest}
 use Rattle.statement_trail.specs.Trail.{nest_trail}
-use Rattle.node_code.specs.Flat.{slot}
-use Rattle.node_code.specs.Forms.{selections_in}
-use Rattle.node_code.specs.Instructions.{Instruction, ArrayTable, NewMapping}
+use Rattle.code_meaning.specs.Flat.{slot}
+use Rattle.code_meaning.specs.Forms.{selections_in}
+use Rattle.node_code.specs.Instructions.{Instruction, NewMapping}
+use Rattle.code_meaning.specs.Instructions.{ArrayTable}
 use Rattle.lowered_expressions.specs.WellFormed.{IsWellFormedBlock}
 use Rattle.lowered_expressions.proofs.Reach.{HasAt, Reaches, Stops, stands}
 use Rattle.lowered_expressions.proofs.Terms.{HoldsArrays}
 use Rattle.lowered_expressions.proofs.Goes.{Holds}
 use Rattle.nest_items.specs.BlockForms.{HasForm}
 use Rattle.nest_items.specs.Settled.{SameIn, settled_by}
-use Rattle.nest_texts.specs.NestInstructions.{nest_instructions, slots_of_nest}
+use Rattle.program_code.specs.NestInstructions.{nest_instructions, slots_of_nest}
 use Rattle.statement_trail.specs.NestParts.{index_in}
 use Rattle.fitting_states.specs.FittingStates.{StateFits, ControlFits}
-use Rattle.lowered_nests.specs.NestCode.{plain, text_in, test_in, stored, finals, along, nest_rows}
+use Rattle.program_code.specs.NestCode.{plain, text_in, test_in, stored, finals, along, nest_rows}
 
 -- how copies lie: with an element for each position, whatever lies how
 pub record HasCopies (table : ArrayTable) : Type 0 where

@@ -14,25 +14,29 @@ use Rattle.machine_steps.specs.Instr.{Status, Running, Finished, Faulted}
 use Rattle.machine_steps.specs.Machine.{Machine, Kept, step, step_by, step_while, steps, instr_at, instr_of, verdict_control, last_control, last_of, on}
 use Rattle.machine_steps.specs.SameLayouts.{is_same_layout}
 use Rattle.node_run.proofs.Wholes.{same-code}
-use Rattle.node_code.specs.Flat.{slot}
-use Rattle.node_code.specs.Forms.{Sub, selections_in}
-use Rattle.node_code.specs.Instructions.{Instruction, ArrayTable, NewMapping, MakeCopies, Verdict, FoldCopy, LastCopy, meaning_of}
+use Rattle.code_meaning.specs.Flat.{slot}
+use Rattle.node_code.specs.Forms.{Sub}
+use Rattle.code_meaning.specs.Forms.{selections_in}
+use Rattle.node_code.specs.Instructions.{Instruction, NewMapping, MakeCopies, Verdict, FoldCopy, LastCopy}
+use Rattle.code_meaning.specs.Instructions.{ArrayTable, meaning_of}
 use Rattle.lowered_expressions.specs.Passed.{note_at, note_while, passed, passed_now, IsTrail}
 use Rattle.lowered_expressions.proofs.Reach.{HasAt, has-front, has-back, steps-more, passed-more}
-use Rattle.nest_order.specs.Copies.{has_copies}
+use Rattle.nest_syntax.specs.NestKinds.{has_copies}
 use Rattle.nest_machine.specs.Body.{body_slots}
-use Rattle.nest_machine.specs.Finals.{Final, Folds, Lasts}
+use Rattle.nest_syntax.specs.Finals.{Final, Folds, Lasts}
 use Rattle.nest_machine.specs.Slots.{SameSlots, slots_after}
 use Rattle.nest_machine.specs.Stands as places
 use Rattle.nest_machine.specs.Stands.{StaysQuiet}
 use Rattle.nest_machine.proofs.Slots.{same-refl}
 use Rattle.nest_texts.specs.NestLoops.{counting_at}
-use Rattle.nest_texts.specs.NestInstructions.{body_of, count_nest, body_instructions, nest_instructions, finals_makes, conditions_makes, finals_instructions}
+use Rattle.nest_texts.specs.NestBodies.{body_of}
+use Rattle.program_code.specs.NestInstructions.{count_nest, body_instructions, nest_instructions, finals_makes, conditions_makes, finals_instructions}
 use Rattle.nest_join.specs.NestNames.{NestNames}
 use Rattle.nest_join.specs.NestTexts.{text_of, test_of, HoldsEntry}
 use Rattle.nest_join.specs.CodedBlocks.{IsCodedBlock, CodedBody, coded}
 use Rattle.nest_join.proofs.RowPlaces.{lt-so}
-use Rattle.lowered_nests.specs.NestCode.{scalars, stored, names_in}
+use Rattle.program_code.specs.NestCode.{scalars, stored}
+use Rattle.lowered_nests.specs.NamesIn.{names_in}
 use Rattle.lowered_nests.proofs.Passing.{Rest, stands, Passes, passes-none, passes-on, passes-at, passes-one}
 use Rattle.lowered_nests.proofs.NestPasses.{N, count-block, block-passes}
 

@@ -6,20 +6,19 @@ use Rattle.op_tables.specs.declared.join.Join.{Join}
 use Rattle.op_tables.specs.declared.join.Join.TheVariants.{Sum}
 use Rattle.op_tables.specs.declared.op.Op.{Op}
 use Rattle.op_tables.specs.Reductions.{joined_by}
-use Rattle.nest_order.specs.Copies.{Kind, Reduced}
+use Rattle.nest_syntax.specs.NestKinds.{Kind, Reduced, kind_of, reduction_term}
 use Rattle.array_meaning.specs.Terms.{Term}
 use Rattle.array_meaning.specs.Statements.{Loop, Nest, Block, Done, Then, Statement, AssignScalar, If, Do, Arms, NoArm, Arm}
 use Rattle.array_meaning.specs.Iterations.{is_in}
 use Rattle.array_meaning.specs.Touches.{assigned_in, assigned_by, assigned_in_arms}
 use Rattle.nest_items.specs.BlockForms.{HasForm}
 use Rattle.nest_items.specs.NestForm.{BlockKeeps, StatementKeeps, ArmsKeep}
-use Rattle.nest_items.specs.NestKinds.{kind_of, reduction_term}
 use Rattle.nest_items.specs.Settled.{without}
 use Rattle.nest_items.proofs.FormStands.{innermost, inmost}
 use Rattle.nest_items.proofs.NameKinds.{kind_by}
 use Rattle.nest_items.specs.Standing.{RightKind, IsReductionStatement}
 use Rattle.nest_join.proofs.Names.{eq-is}
-use Rattle.lowered_nests.specs.NestCode.{operator_by, operator_in, rights_of, rights_in, rights_in_arms}
+use Rattle.program_code.specs.NestCode.{operator_by, operator_in, rights_of, rights_in, rights_in_arms}
 
 -- ---- right sides that are reduction statements of one operator
 

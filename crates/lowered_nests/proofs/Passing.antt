@@ -7,12 +7,14 @@ use Rattle.statement_trail.specs.Trail.{Trail}
 use Rattle.machine_steps.specs.Layout.{Layout}
 use Rattle.machine_steps.specs.Instr.{Running}
 use Rattle.machine_steps.specs.Machine.{Machine, Kept, steps, step_by, instr_of}
-use Rattle.node_code.specs.Flat.{Flat, slots_value}
-use Rattle.node_code.specs.Parallel.{at_line}
-use Rattle.node_code.specs.Instructions.{Instruction, ArrayTable, NewMapping, Set, set_result, meaning_of}
+use Rattle.node_code.specs.Flat.{Flat}
+use Rattle.code_meaning.specs.Flat.{slots_value}
+use Rattle.code_meaning.specs.Parallel.{at_line}
+use Rattle.node_code.specs.Instructions.{Instruction, NewMapping, Set}
+use Rattle.code_meaning.specs.Instructions.{ArrayTable, set_result, meaning_of}
 use Rattle.lowered_expressions.specs.Passed.{note, note_at, passed, IsTrail}
 use Rattle.lowered_expressions.proofs.Reach.{steps-more, entries-more}
-use Rattle.nest_texts.specs.NestInstructions.{CantFault}
+use Rattle.nest_texts.specs.NestBodies.{CantFault}
 
 -- what of the machine has no say in where it goes
 pub record Rest : Type 0 where

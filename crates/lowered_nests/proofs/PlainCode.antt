@@ -3,10 +3,10 @@ use Rattle.std.proofs.Common.{◌≡◌, ℕ, ◌+◌, max, pos, List, [], ◌�
 use Rattle.node_code.specs.Flat.{Int}
 use Rattle.node_code.specs.Forms.{Sub}
 use Rattle.node_code.specs.Instructions.{Instruction}
-use Rattle.nest_machine.specs.Asked.{guard_asked, tested_asked}
-use Rattle.nest_machine.specs.Finals.{Final}
-use Rattle.nest_texts.specs.NestTexts.{NestText, NestTest}
-use Rattle.nest_texts.specs.NestInstructions.{NestBody, NoText, AndText, AndIf, AndLoop, NestArms, NoArm as NoArmText, AndArm, count_nest, count_nest_arms, slots_of_nest, slots_of_arms, whens_of, assigning, testing, text_instructions, mark_instructions, test_instruction, loop_instructions, body_instructions, arms_instructions, nest_instructions, finals_makes, conditions_makes, finals_instructions}
+use Rattle.nest_syntax.specs.Asked.{guard_asked, tested_asked}
+use Rattle.nest_syntax.specs.Finals.{Final}
+use Rattle.program_code.specs.NestTexts.{NestText, NestTest}
+use Rattle.program_code.specs.NestInstructions.{NestBody, NoText, AndText, AndIf, AndLoop, NestArms, NoArm as NoArmText, AndArm, count_nest, count_nest_arms, slots_of_nest, slots_of_arms, whens_of, assigning, testing, text_instructions, mark_instructions, test_instruction, loop_instructions, body_instructions, arms_instructions, nest_instructions, finals_makes, conditions_makes, finals_instructions}
 use Rattle.node_code.specs.Instructions as code
 
 -- bodies of one shape, whose texts are the same

@@ -1,7 +1,7 @@
 -- A nest that has an iteration leaves each of its indices with its value after the loop.
 use Rattle.std.proofs.Common.{◌≡◌, ℕ, zero, suc, ◌<◌, inl, inr, List, [], ◌∷◌, length, ℤ, pos, Bool, refl, sym, ap, ◌∙◌, subst, arith, length-set, get_or-set_same, get_or-set_other}
 use Rattle.std.specs.List.{AllByRecursion}
-use Rattle.nest_order.specs.Copies.{Kind}
+use Rattle.nest_syntax.specs.NestKinds.{Kind}
 use Rattle.nest_order.specs.Turns.{after_turns}
 use Rattle.array_meaning.specs.State.{State, scalar, set_scalar}
 use Rattle.array_meaning.specs.Statements.{Loop, Block, Done, Then, Statement, Do, Mark, Unmarked}

@@ -13,17 +13,18 @@ use Rattle.op_tables.specs.Operators.{wrapped}
 use Rattle.array_meaning.specs.Sections.{value_count, extents, subscripts_at, positions}
 use Rattle.array_meaning.specs.Forall.{index_extents, indices_at}
 use Rattle.array_meaning.specs.Statements.{Loop}
-use Rattle.node_code.specs.Flat.{slot, flat_value, or_zero}
-use Rattle.node_code.specs.Forms.{Sub, SubAt, SubAlong, sequence_in, selections_in}
-use Rattle.node_code.specs.Parallel.{indices_in}
+use Rattle.code_meaning.specs.Flat.{slot, flat_value, or_zero}
+use Rattle.node_code.specs.Forms.{Sub, SubAt, SubAlong}
+use Rattle.code_meaning.specs.Forms.{sequence_in, selections_in}
+use Rattle.code_meaning.specs.Parallel.{indices_in}
 use Rattle.lowered_expressions.proofs.Indexed.{axes-extents}
-use Rattle.nest_order.specs.Copies.{Kind, Shared, New, Assigned, Reduced}
-use Rattle.nest_machine.specs.Finals.{Final}
+use Rattle.nest_syntax.specs.NestKinds.{Kind, Shared, New, Assigned, Reduced}
+use Rattle.nest_syntax.specs.Finals.{Final}
 use Rattle.nest_machine.specs.Entries.{Entry, at_zero, final_entries, finals_entries, conditions_entries, nest_entries}
 use Rattle.statement_trail.specs.NestParts.{index_in}
-use Rattle.nest_join.specs.Places.{conditions_from, final_by, finals_from, finals_of}
+use Rattle.program_code.specs.Places.{conditions_from, final_by, finals_from, finals_of}
 use Rattle.nest_join.proofs.Names.{eq-is}
-use Rattle.lowered_nests.specs.NestCode.{along}
+use Rattle.program_code.specs.NestCode.{along}
 
 -- ---- the values of the nest's indices
 

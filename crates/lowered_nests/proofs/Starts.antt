@@ -11,12 +11,14 @@ use Rattle.array_meaning.specs.Statements.{Loop, Nest, Block}
 use Rattle.array_meaning.specs.Iterations.{is_in, values_of, iteration_count, at_iteration}
 use Rattle.fitting_states.proofs.Values.{values_of_fit}
 use Rattle.node_code.specs.Forms.{Sub}
-use Rattle.node_code.specs.Instructions.{Instruction, ArrayTable, NewMapping, meaning_of}
-use Rattle.node_code.specs.NestStatements.{iterations_at}
+use Rattle.node_code.specs.Instructions.{Instruction, NewMapping}
+use Rattle.code_meaning.specs.Instructions.{ArrayTable, meaning_of}
+use Rattle.code_meaning.specs.NestStatements.{iterations_at}
 use Rattle.nest_order.specs.Items.{Items}
 use Rattle.nest_order.specs.Nest.{effects, nest_effects}
 use Rattle.nest_order.specs.Parts.{count_items, flat}
-use Rattle.nest_order.specs.Copies.{Kind, Shared, has_copies, InIteration, items_in, copied}
+use Rattle.nest_syntax.specs.NestKinds.{Kind, Shared, has_copies}
+use Rattle.nest_order.specs.Copies.{InIteration, items_in, copied}
 use Rattle.lowered_expressions.proofs.Reach.{Idle}
 use Rattle.nest_items.specs.NestItems.{one, iteration_items, Action, Condition}
 use Rattle.nest_items.proofs.FormStands.{nest_stands}
@@ -26,21 +28,23 @@ use Rattle.nest_machine.specs.Body.{count_body, body_slots}
 use Rattle.nest_machine.specs.ItemsAt.{items_at}
 use Rattle.nest_machine.specs.Stands.{HasAt}
 use Rattle.nest_machine.specs.Trace.{Data}
-use Rattle.nest_machine.specs.Finals.{Final, final_slot}
+use Rattle.nest_syntax.specs.Finals.{Final}
+use Rattle.nest_machine.specs.Finals.{final_slot}
 use Rattle.nest_machine.specs.Entries.{nest_entries}
 use Rattle.nest_machine.specs.PlacedEntry.{IsPlacedMemory}
 use Rattle.nest_machine.proofs.Slots.{same-refl}
 use Rattle.nest_machine.proofs.Counts as counts
 use Rattle.nest_texts.specs.NestLoops.{counting_at}
-use Rattle.nest_texts.specs.NestInstructions.{nest_layout, slots_of_nest}
+use Rattle.nest_texts.specs.NestBodies.{nest_layout}
+use Rattle.program_code.specs.NestInstructions.{slots_of_nest}
 use Rattle.nest_join.specs.NestNames.{NestNames}
 use Rattle.nest_join.specs.NestTexts.{text_of, test_of, texts_of, action_at, condition_at}
 use Rattle.nest_join.specs.CodedBlocks.{IsCodedBlock, coded}
-use Rattle.nest_join.specs.Places.{final_by, finals_from}
+use Rattle.program_code.specs.Places.{final_by, finals_from}
 use Rattle.nest_join.specs.NestRuns.{NestCode, machine_body, code_of, acts_of, IsBegun}
 use Rattle.nest_join.proofs.SameItems.{items-block}
 use Rattle.nest_join.proofs.RowPlaces.{places-apart, scalars-apart, slot-is}
-use Rattle.lowered_nests.specs.NestCode.{plain, text_in, test_in, scalars, conditions, kinds_in, stored, finals, along}
+use Rattle.program_code.specs.NestCode.{plain, text_in, test_in, scalars, conditions, kinds_in, stored, finals, along}
 use Rattle.lowered_nests.proofs.NestRuns.{HasCopies, NestStands}
 use Rattle.lowered_nests.proofs.PlainCode.{same-slots}
 use Rattle.lowered_nests.proofs.CodedTexts.{same-block}

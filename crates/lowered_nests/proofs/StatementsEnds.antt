@@ -13,16 +13,18 @@ use Rattle.array_meaning.specs.Statements.{Loop, Nest, Block}
 use Rattle.array_meaning.specs.Runs as runs
 use Rattle.array_meaning.specs.Runs.{Run, Completion, normal, Normal}
 use Rattle.array_meaning.specs.Iterations.{iteration_count}
-use Rattle.node_code.specs.Flat.{slot}
-use Rattle.node_code.specs.Instructions.{Instruction, ArrayTable, NewMapping, meaning_of}
+use Rattle.code_meaning.specs.Flat.{slot}
+use Rattle.node_code.specs.Instructions.{Instruction, NewMapping}
+use Rattle.code_meaning.specs.Instructions.{ArrayTable, meaning_of}
 use Rattle.lowered_expressions.proofs.Reach.{Idle, Reaches, Stops, stands}
-use Rattle.nest_order.specs.Copies.{has_copies}
+use Rattle.nest_syntax.specs.NestKinds.{has_copies}
 use Rattle.nest_items.proofs.Storing.{state-arrays, state-scalars, by_cases}
 use Rattle.nest_machine.specs.Body.{count_body}
 use Rattle.nest_machine.specs.Trace.{Data}
 use Rattle.nest_machine.specs.Finals.{NotAmong}
 use Rattle.nest_texts.specs.NestLoops.{counting_at}
-use Rattle.nest_texts.specs.NestInstructions.{nest_layout, nest_instructions}
+use Rattle.nest_texts.specs.NestBodies.{nest_layout}
+use Rattle.program_code.specs.NestInstructions.{nest_instructions}
 use Rattle.nest_join.specs.NestNames.{NestNames}
 use Rattle.nest_join.specs.NestTexts.{texts_of}
 use Rattle.nest_join.specs.CodedBlocks.{IsCodedBlock}
@@ -30,8 +32,9 @@ use Rattle.nest_join.specs.NestRuns.{NestCode, machine_body, code_of, IsBegun, E
 use Rattle.nest_join.proofs.NestsEnd.{nests-end}
 use Rattle.nest_join.proofs.Held.{arrays-held, scalar-held}
 use Rattle.nest_join.proofs.HeldIndices.{index-held}
-use Rattle.node_code.specs.NestStatements.{iterations_at}
-use Rattle.lowered_nests.specs.NestCode.{plain, text_in, test_in, stored, finals, along, names_in}
+use Rattle.code_meaning.specs.NestStatements.{iterations_at}
+use Rattle.program_code.specs.NestCode.{plain, text_in, test_in, stored, finals, along}
+use Rattle.lowered_nests.specs.NamesIn.{names_in}
 use Rattle.lowered_nests.proofs.NestRuns.{HasCopies, NestStands, NestDone, StatementsEnd, StatementsFault, behind, nest_run}
 use Rattle.lowered_nests.proofs.SteadyRows.{same-rows}
 use Rattle.lowered_nests.proofs.NestTrails.{is_before}

@@ -15,20 +15,21 @@ use Rattle.machine_steps.specs.Machine.{steps}
 use Rattle.lowered_expressions.specs.Passed.{passed, IsTrail}
 use Rattle.lowered_expressions.proofs.Reach as reach
 use Rattle.lowered_expressions.proofs.Reach.{Idle, HasAt}
-use Rattle.nest_order.specs.Copies.{has_copies}
-use Rattle.node_code.specs.Instructions.{Instruction, ArrayTable, NewMapping, meaning_of}
+use Rattle.nest_syntax.specs.NestKinds.{has_copies}
+use Rattle.node_code.specs.Instructions.{Instruction, NewMapping}
+use Rattle.code_meaning.specs.Instructions.{ArrayTable, meaning_of}
 use Rattle.nest_machine.specs.Stands as stands
 use Rattle.nest_machine.specs.Finals.{NotAmong}
-use Rattle.nest_texts.specs.NestInstructions.{nest_instructions}
+use Rattle.program_code.specs.NestInstructions.{nest_instructions}
 use Rattle.nest_texts.proofs.Codes.{nest-means}
 use Rattle.node_code.specs.Forms.{Sub}
 use Rattle.nest_join.specs.NestNames.{NestNames}
 use Rattle.nest_join.specs.NestTexts.{text_of, test_of}
 use Rattle.nest_join.specs.CodedBlocks.{IsCodedBlock, coded}
 use Rattle.nest_join.specs.NestRuns.{NestCode, IsBegun, code_of}
-use Rattle.nest_join.specs.Places.{AreScalars}
+use Rattle.program_code.specs.Places.{AreScalars}
 use Rattle.nest_join.proofs.RowPlaces.{lt-so, not-among}
-use Rattle.lowered_nests.specs.NestCode.{plain, text_in, test_in, scalars, conditions, kinds_in, stored, finals, along}
+use Rattle.program_code.specs.NestCode.{plain, text_in, test_in, scalars, conditions, kinds_in, stored, finals, along}
 use Rattle.lowered_nests.proofs.NestRuns.{HasCopies, NestStands, StatementsRun, behind}
 use Rattle.lowered_nests.proofs.PlainCode.{same-nest}
 use Rattle.lowered_nests.proofs.CodedTexts.{same-block}

@@ -8,7 +8,7 @@ use Rattle.nest_machine.specs.Counting.{Counting}
 use Rattle.nest_machine.specs.Body.{Body, count_body}
 use Rattle.nest_machine.specs.BodyCode.{Texts, copy_spot}
 use Rattle.nest_machine.specs.Trace.{Traced, Does, Marks, Makes, Data, traced, all_traced, trace}
-use Rattle.nest_machine.specs.Finals.{Final}
+use Rattle.nest_syntax.specs.Finals.{Final}
 use Rattle.nest_machine.specs.Entries.{Entry, made, all_made, nest_entries, rows_after}
 
 module _ {F : Type 0} (layout : List Layout → List ℤ → Layout) (steady : (one other : List Layout) (s : List ℤ) → size_of (layout one s) ≡ size_of (layout other s)) where

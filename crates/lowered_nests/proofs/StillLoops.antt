@@ -12,8 +12,9 @@ use Rattle.array_meaning.specs.Expressions.{value, index_values}
 use Rattle.array_meaning.specs.Execution.{run, run_block}
 use Rattle.array_meaning.specs.Iterations.{iteration_count}
 use Rattle.array_meaning.specs.Runs.{Completion, Normal, Exited, Cycled, Stopped, Faulted, Run}
-use Rattle.nest_order.specs.Copies.{Kind}
-use Rattle.nest_items.specs.NestForm.{IsExact, AreExact, closed_value, closed_values, with_closed, IsKeptLoop, LoopsKeep, IsNest}
+use Rattle.nest_syntax.specs.NestKinds.{Kind}
+use Rattle.nest_items.specs.NestForm.{IsExact, AreExact, IsKeptLoop, LoopsKeep, IsNest}
+use Rattle.nest_syntax.specs.ClosedTerms.{closed_value, closed_values, with_closed}
 use Rattle.nest_items.specs.Settled.{without}
 use Rattle.statement_trail.specs.NestParts.{entered_nest}
 use Rattle.statement_trail.specs.Trail.{Trail, after_value, after_run, after_iteration, value_trail, values_trail, control_trail, iterate_trail, block_trail, block_parts, nest_trail}

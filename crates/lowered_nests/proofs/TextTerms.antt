@@ -1,13 +1,13 @@
 -- What stands in a nest by its form names what its texts may name.
 use Rattle.std.proofs.Common.{◌≡◌, ℕ, ◌+◌, ◌<◌, inl, inr, List, [], ◌∷◌, length, Bool, true, false, Option, Some, None, refl, sym, ◌∙◌, subst, arith}
-use Rattle.nest_order.specs.Copies.{has_copies}
+use Rattle.nest_syntax.specs.NestKinds.{has_copies}
 use Rattle.array_meaning.specs.Terms.{Term, Number, Scalar, Index, Element, Section, Apply, Reduce, Terms, NoTerm, More}
 use Rattle.array_meaning.specs.Iterations.{is_in}
 use Rattle.lowered_expressions.specs.WellFormed.{IsSubscript, AreSubscripts, IsIndexed, AreIndexed}
 use Rattle.nest_items.specs.Naming.{IsNaming, AreNaming}
 use Rattle.nest_items.specs.Standing.{IsFixedTerm, AreFixedTerms, Stands, AllStand}
 use Rattle.nest_items.proofs.Storing.{by_cases}
-use Rattle.lowered_expressions.specs.NestTerms.{scalar_or_index, indexed, all_indexed, NamesFirst, AllNameFirst, SubscriptsFirst, AllSubscriptsFirst, HasNoIndex, HaveNoIndex}
+use Rattle.nest_syntax.specs.NestTerms.{scalar_or_index, indexed, all_indexed, NamesFirst, AllNameFirst, SubscriptsFirst, AllSubscriptsFirst, HasNoIndex, HaveNoIndex}
 use Rattle.statement_trail.specs.NestParts.{index_in, scalars_in, all_scalars_in}
 use Rattle.nest_join.specs.NestNames.{NestNames, indices_of, index_of, IsFixedName, IsFixedHere, IsScalarName, IsArrayName, IsTextTerm, AreTextSubscripts}
 use Rattle.nest_join.proofs.Names.{in-from, in-both-some, in-both-none}

@@ -1,14 +1,13 @@
-//! The code of nests of INDEPENDENT loops, and that it does what the nests mean.
+//! The code of nests of INDEPENDENT loops does what the nests mean.
 //!
-//! Comes in: a nest in resolved form, with what it keeps by its form (`nest_items`); its code as texts over copies, with the law that the machine
-//! with whole arrays ends over it as the meaning says (`nest_join`); and what it is for that machine to come over code to a place
-//! (`lowered_expressions`). Goes out, in `specs/`: the node code of a nest as a function of it. In `proofs/`, for the laws of statements: over that
-//! code the machine goes on as the run of the nest does, and passes the nest's trail. There is no function here that runs, and no node.
+//! Comes in: a nest in resolved form, with what it keeps by its form (`nest_items`); its node code (`program_code`); the law that the machine
+//! with whole arrays ends over texts over copies as the meaning says (`nest_join`); and what it is for that machine to come over code to a place
+//! (`lowered_expressions`). Goes out, in `proofs/`, for the laws of statements: over the code of a nest the machine goes on as the run of the nest
+//! does, and passes the nest's trail. There is no function here that runs, and no node.
 //!
 //! What holds in between, from the bottom up:
 //!
-//! - `NestCode`: which scalars have copies, where these lie, the innermost block as texts, and round it the bounds of the loops and their
-//!   indices.
+//! - `NamesIn`: the names of a nest on the machine, by its code.
 //! - `PlainCode`, `CodedTexts`: that code is the one of which the law of nests speaks.
 //! - `CodedBody`, `Begun`, `Entered`, `Starts`: all that the law of nests asks at the entry holds of a nest that keeps its form and is entered.
 //! - `Passing`, `LoopPasses`, `NestPasses`, `NestTrails`: on its way through the statements the machine passes the parts of the nest, in their order; where it

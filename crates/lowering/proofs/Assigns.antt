@@ -1,5 +1,6 @@
 -- The code of scalar and element assignments, and of an arm's test.
-use Rattle.node_code.specs.Instructions.{NewMapping, TestBounds, go_on_if, Instruction, Set, Store, spot_in, meaning_of, ArrayTable}
+use Rattle.node_code.specs.Instructions.{NewMapping, TestBounds, Instruction, Set, Store}
+use Rattle.code_meaning.specs.Instructions.{go_on_if, spot_in, meaning_of, ArrayTable}
 use Rattle.std.proofs.Common.{◌≡◌, ℕ, ◌+◌, ◌<◌, ◌≤◌, List, [], ◌∷◌, ◌++◌, length, ℤ, pos, Option, Some, Result, Ok, Err, refl, sym, ap, ◌∙◌, subst, arith, length-append, slice_get, slice_set, get_or-set_other}
 use Rattle.std.specs.Bool.{⊤}
 use Rattle.array_meaning.specs.Execution.{assign_scalar, assign_element}
@@ -14,13 +15,14 @@ use Rattle.array_meaning.specs.Statements.{AssignElement}
 use Rattle.statement_trail.specs.Trail.{Trail, after_value, value_trail, values_trail, trail}
 use Rattle.lowered_expressions.proofs.Reach.{still, Idle, HasAt, has-front, has-back, same-refl, same-on, stands, one, Comes, Place}
 use Rattle.lowered_expressions.proofs.Terms.{HoldsArrays, Gives, GiveAll}
-use Rattle.lowered_expressions.specs.ExpressionCode.{slots_of, all_slots_of, flat_of, flats_of, code_of, codes_of}
+use Rattle.program_code.specs.ExpressionCode.{slots_of, all_slots_of, flat_of, flats_of, code_of, codes_of}
 use Rattle.lowered_expressions.specs.WellFormed.{IsScalar, AreScalar}
 use Rattle.machine_steps.specs.Instr.{Running, Control}
 use Rattle.machine_steps.specs.Machine.{store_control, store_in, write_to, faulted, steps}
 use Rattle.storage.specs.Storage.{Storage, Spot, write}
-use Rattle.node_code.specs.Flat.{Flat, Flats, flat_value, flat_values}
-use Rattle.node_code.specs.Parallel.{fault_at, at_line, shape_of}
+use Rattle.node_code.specs.Flat.{Flat, Flats}
+use Rattle.code_meaning.specs.Flat.{flat_value, flat_values}
+use Rattle.code_meaning.specs.Parallel.{fault_at, at_line, shape_of}
 
 pub after-bind : {A B : Type 0} (r : Result A Cause) (f : A → Result B Cause) (F : B → Trail) → after_value (r >>= f) F ≡ after_value r (λ a. after_value (f a) F)
 after-bind (Ok a) f F = refl

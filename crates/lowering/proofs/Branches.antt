@@ -1,5 +1,6 @@
 -- The code of an IF and of the control of a DO.
-use Rattle.node_code.specs.Instructions.{NewMapping, go_if, Instruction, Set, Trips, Jump, JumpIfZero, begin_trips, meaning_of, ArrayTable}
+use Rattle.node_code.specs.Instructions.{NewMapping, Instruction, Set, Trips, Jump, JumpIfZero}
+use Rattle.code_meaning.specs.Instructions.{go_if, begin_trips, meaning_of, ArrayTable}
 use Rattle.std.proofs.Common.{◌≡◌, ℕ, zero, suc, ◌+◌, ◌<◌, ◌≤◌, ◌^◌, List, [], ◌∷◌, ◌++◌, length, ℤ, pos, FitsSigned, w64, Bool, true, false, if◌then◌else◌, Option, Some, Result, Ok, refl, sym, ap, ◌∙◌, subst, arith, length-append, slice_get, slice_set, get_or-set_same, get_or-set_other}
 use Rattle.array_meaning.specs.Execution.{condition, iterate}
 use Rattle.array_meaning.specs.Expressions.{value}
@@ -19,14 +20,15 @@ use Rattle.lowered_expressions.specs.Passed.{passed, IsTrail}
 use Rattle.lowering.proofs.Wheres.{after-made}
 use Rattle.lowered_expressions.proofs.Reach.{still, reaches-last, Idle, HasAt, has-front, has-back, has-drop, same-refl, Reaches, reaches-on, stands, one, Place}
 use Rattle.lowered_expressions.proofs.Terms.{Gives}
-use Rattle.lowered_expressions.specs.ExpressionCode.{slots_of, flat_of, code_of}
+use Rattle.program_code.specs.ExpressionCode.{slots_of, flat_of, code_of}
 use Rattle.lowered_expressions.specs.WellFormed.{IsScalar}
-use Rattle.lowering.specs.StatementCode.{arm_code, loop_code}
+use Rattle.program_code.specs.StatementCode.{arm_code, loop_code}
 use Rattle.machine_steps.specs.Instr.{Running}
 use Rattle.machine_steps.specs.Machine.{steps}
 use Rattle.storage.specs.Storage.{Storage}
-use Rattle.node_code.specs.Flat.{slot, Slot}
-use Rattle.node_code.specs.Parallel.{at_line}
+use Rattle.code_meaning.specs.Flat.{slot}
+use Rattle.node_code.specs.Flat.{Slot}
+use Rattle.code_meaning.specs.Parallel.{at_line}
 use Rattle.op_tables.specs.Operators.{wrapped, is_zero, is_true}
 use Rattle.array_meaning.specs.Runs as runs
 use Rattle.fitting_states.specs.FittingStates.{StateFits}

@@ -1,5 +1,6 @@
 -- The values of a mask into its copy.
-use Rattle.node_code.specs.Instructions.{NewMapping, Instruction, MakeCopy, Verdict, ArrayTable, meaning_of}
+use Rattle.node_code.specs.Instructions.{NewMapping, Instruction, MakeCopy, Verdict}
+use Rattle.code_meaning.specs.Instructions.{ArrayTable, meaning_of}
 use Rattle.std.proofs.Common.{◌≡◌, ℕ, ◌+◌, List, [], ◌∷◌, ◌++◌, length, ℤ, pos, Some, None, Result, Ok, Err, refl, sym, ap, ◌∙◌, subst, arith, append-nil, replicate, slice_set, length-set, get_or-set_same}
 use Rattle.std.proofs.lemmas.List.{length-replicate}
 use Rattle.hpf_base.specs.ElementOrder.{product}
@@ -16,7 +17,8 @@ use Rattle.machine_steps.specs.Instr.{Outcome, Tuples}
 use Rattle.machine_steps.specs.Machine as machine
 use Rattle.machine_steps.specs.Machine.{effect_of, effect_by}
 use Rattle.node_code.specs.Forms.{Sub, ArrayForm}
-use Rattle.node_code.specs.Parallel.{fault_at, at_line, outcome_of, Evaluation, evaluation_extents, copy_spot}
+use Rattle.code_meaning.specs.Parallel.{fault_at, at_line, outcome_of, evaluation_extents, copy_spot}
+use Rattle.node_code.specs.Parallel.{Evaluation}
 use Rattle.statement_trail.specs.Trail.{Trail, after_value}
 use Rattle.lowered_expressions.specs.Passed.{note, IsTrail}
 use Rattle.lowered_expressions.proofs.Reach.{Idle, still, Stops, Place, HasAt, Reaches, reaches-on, stops-on, stands, one}

@@ -1,5 +1,6 @@
 -- Array expressions by themselves: what the machine comes to at a tuple, and reductions.
-use Rattle.node_code.specs.Instructions.{NewMapping, Reduce, Instruction, OwnLimits, ArrayTable, meaning_of, go_on_if}
+use Rattle.node_code.specs.Instructions.{NewMapping, Reduce, Instruction, OwnLimits}
+use Rattle.code_meaning.specs.Instructions.{ArrayTable, meaning_of, go_on_if}
 use Rattle.std.proofs.Common.{◌≡◌, ℕ, zero, suc, ◌+◌, ◌<◌, ◌≤◌, List, [], ◌∷◌, ◌++◌, length, ℤ, Option, Some, None, Result, Ok, Err, refl, sym, ap, ◌∙◌, subst, arith, append-nil, fold, slice_set}
 use Rattle.std.specs.Bool.{⊤}
 use Rattle.statement_trail.specs.Trail.{Trail, Reduced, after_value, over_own_space, reached}
@@ -19,10 +20,12 @@ use Rattle.machine_steps.specs.Instr.{Running, Faulted, Control, Outcome}
 use Rattle.machine_steps.specs.Space.{space_count}
 use Rattle.machine_steps.specs.Machine as machine
 use Rattle.machine_steps.specs.Machine.{Machine, Kept, keep, folded, verdict_control, stay, step, step_by, steps, instr_of}
-use Rattle.node_code.specs.Flat.{slot}
-use Rattle.node_code.specs.Forms.{ArrayForm, elemental_in}
-use Rattle.node_code.specs.Parallel.{at_line, outcome_of, reads_at, value_by_reads, Evaluation, evaluation_extents, evaluation_size, evaluation_tuples, reduction_tuples, made_outcome, fold_of}
-use Rattle.lowered_expressions.specs.ExpressionCode.{own_evaluation, reduce_code}
+use Rattle.code_meaning.specs.Flat.{slot}
+use Rattle.node_code.specs.Forms.{ArrayForm}
+use Rattle.code_meaning.specs.Forms.{elemental_in}
+use Rattle.code_meaning.specs.Parallel.{at_line, outcome_of, reads_at, value_by_reads, evaluation_extents, evaluation_size, evaluation_tuples, reduction_tuples, made_outcome, fold_of}
+use Rattle.node_code.specs.Parallel.{Evaluation}
+use Rattle.program_code.specs.ExpressionCode.{own_evaluation, reduce_code}
 use Rattle.lowered_expressions.proofs.Reach.{still, entries-more, Idle, HasAt, same-refl, same-set, slot-set, stands, one, Comes, comes-on}
 use Rattle.lowered_expressions.proofs.Terms.{HoldsScalars, HoldsArrays}
 use Rattle.lowered_expressions.proofs.Keeping.{IsOutcome, Keeps, keeps}

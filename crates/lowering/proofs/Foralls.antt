@@ -1,5 +1,6 @@
 -- The code of a FORALL does what it means.
-use Rattle.node_code.specs.Instructions.{NewMapping, Instruction, ForallLimits, OneToOne, ParForall, ParForallCopy, ArrayTable, meaning_of, go_on_if}
+use Rattle.node_code.specs.Instructions.{NewMapping, Instruction, ForallLimits, OneToOne, ParForall, ParForallCopy}
+use Rattle.code_meaning.specs.Instructions.{ArrayTable, meaning_of, go_on_if}
 use Rattle.std.proofs.Common.{◌≡◌, ℕ, ◌+◌, ◌<◌, ◌≤◌, ◌==◌, ◌||◌, ◌&&◌, nat_le, List, [], ◌∷◌, ◌++◌, map, length, ℤ, pos, Bool, true, false, if◌then◌else◌, Option, Some, None, option_map, Result, Ok, Err, refl, sym, ap, ◌∙◌, subst, arith, length-append, append-nil, slice_get, slice_index_or}
 use Rattle.std.proofs.lemmas.Bool.Decides.{Decides-eqb}
 use Rattle.std.specs.List.{list_all}
@@ -27,12 +28,14 @@ use Rattle.machine_steps.specs.Layout.{Layout, size_of}
 use Rattle.machine_steps.specs.Instr.{Running, Local, Outcome}
 use Rattle.machine_steps.specs.Machine as machine
 use Rattle.machine_steps.specs.Machine.{step_by, steps}
-use Rattle.node_code.specs.Flat.{slot}
-use Rattle.node_code.specs.Forms.{Sub, selections_at, selections_in, elemental_at}
-use Rattle.node_code.specs.Parallel.{When, at_line, outcome_if, outcome_of, mask_reads, is_asked, spot_of, reads_at, value_by_reads, assigned_value, Assignment, Evaluation, indices_in, forall_tuples, forall_spot, forall_mask_tuples}
-use Rattle.node_code.specs.ForallLimits.{term_of, slots_state, sequences_of, unless_empty, forall_limits, one_to_one}
-use Rattle.lowered_expressions.specs.ExpressionCode.{subscripts_slots, subs_of, subscripts_code, control_slots, index_flat, index_form}
-use Rattle.lowering.specs.StatementCode.{triplets, one_to_one_code, forall_mask_code, forall_assignment, forall_assignments_code, forall_code, where_true}
+use Rattle.code_meaning.specs.Flat.{slot}
+use Rattle.node_code.specs.Forms.{Sub}
+use Rattle.code_meaning.specs.Forms.{selections_at, selections_in, elemental_at}
+use Rattle.node_code.specs.Parallel.{When, Assignment, Evaluation}
+use Rattle.code_meaning.specs.Parallel.{at_line, outcome_if, outcome_of, mask_reads, is_asked, spot_of, reads_at, value_by_reads, assigned_value, indices_in, forall_tuples, forall_spot, forall_mask_tuples}
+use Rattle.code_meaning.specs.ForallLimits.{term_of, slots_state, sequences_of, unless_empty, forall_limits, one_to_one}
+use Rattle.program_code.specs.ExpressionCode.{subscripts_slots, subs_of, subscripts_code, control_slots, index_flat, index_form}
+use Rattle.program_code.specs.StatementCode.{triplets, one_to_one_code, forall_mask_code, forall_assignment, forall_assignments_code, forall_code, where_true}
 use Rattle.lowered_expressions.specs.WellFormed.{AreSubscripts, IsIndexed, AreScalarSubscripts, AreControls, IsIndexedMask, AreIndexedAssignments}
 use Rattle.std.specs.Prelude.{is_some}
 use Rattle.statement_trail.specs.Trail.{Trail, ForallMask, ElementsAssigned, after_value, after_run, reached, value_trail, selections_trail, control_trail, all_controls_trail, forall_trail, forall_parts_trail, if_not_empty, trail}

@@ -1,5 +1,6 @@
 -- An array item of a PRINT.
-use Rattle.node_code.specs.Instructions.{NewMapping, Instruction, OwnLimits, Inside, go_on_if, all_inside, ArrayTable}
+use Rattle.node_code.specs.Instructions.{NewMapping, Instruction, OwnLimits, Inside}
+use Rattle.code_meaning.specs.Instructions.{go_on_if, all_inside, ArrayTable}
 use Rattle.std.proofs.Common.{◌≡◌, ℕ, zero, suc, ◌+◌, ◌<◌, ◌≤◌, List, [], ◌∷◌, ◌++◌, length, ℤ, pos, Option, Some, None, Result, Ok, Err, refl, sym, ap, ◌∙◌, subst, arith, length-append, slice_index_or, option_map}
 use Rattle.array_meaning.specs.Elementals.{ArrayValue, Selected, each, values_over, array_value}
 use Rattle.array_meaning.specs.Execution.{decimals, item_bytes}
@@ -16,15 +17,17 @@ use Rattle.statement_trail.specs.Trail.{selections_trail}
 use Rattle.lowered_expressions.proofs.Reach.{still, comes-last, HasAt, has-front, has-back, SameBelow, same-refl, Reaches, stands, one, Comes, comes-on, comes-at}
 use Rattle.lowered_expressions.proofs.Scatter.{space-size, space-counted}
 use Rattle.lowered_expressions.proofs.Terms.{HoldsScalars, HoldsArrays}
-use Rattle.lowered_expressions.specs.ExpressionCode.{own_evaluation, subscripts_slots, subs_of, subscripts_code}
+use Rattle.program_code.specs.ExpressionCode.{own_evaluation, subscripts_slots, subs_of, subscripts_code}
 use Rattle.lowered_expressions.specs.WellFormed.{AreScalarSubscripts}
-use Rattle.lowering.specs.StatementCode.{item_code}
+use Rattle.program_code.specs.StatementCode.{item_code}
 use Rattle.machine_steps.specs.Instr.{Running}
 use Rattle.machine_steps.specs.Space.{space_count}
 use Rattle.machine_steps.specs.Machine.{element_values, value_or_none}
 use Rattle.storage.specs.Storage.{Storage, read}
-use Rattle.node_code.specs.Forms.{SectionForm, Sub, selections_in}
-use Rattle.node_code.specs.Parallel.{at_line, shape_of, Evaluation, spot_of, evaluation_size}
+use Rattle.node_code.specs.Forms.{SectionForm, Sub}
+use Rattle.code_meaning.specs.Forms.{selections_in}
+use Rattle.code_meaning.specs.Parallel.{at_line, shape_of, spot_of, evaluation_size}
+use Rattle.node_code.specs.Parallel.{Evaluation}
 
 module _ (table : ArrayTable) (row_count : ℕ) (moves : ℕ → List NewMapping) (code : List Instruction) (line n : ℕ) (s : State) (rows : Storage) (out : List ℕ) (arrays : HoldsArrays n table.shapes s rows) where
   -- elements are in bounds, or the first that isn't is the fault

@@ -1,5 +1,6 @@
 -- The code of a loop makes its turns.
-use Rattle.node_code.specs.Instructions.{NewMapping, Instruction, Jump, ArrayTable}
+use Rattle.node_code.specs.Instructions.{NewMapping, Instruction, Jump}
+use Rattle.code_meaning.specs.Instructions.{ArrayTable}
 use Rattle.std.proofs.Common.{◌≡◌, ℕ, zero, suc, ◌+◌, ◌<◌, ◌≤◌, ◌^◌, List, [], ◌∷◌, length, ℤ, pos, ◌+ℤ◌, FitsSigned, w64, true, false, Option, Some, Ok, refl, sym, ap, ◌∙◌, subst, arith, slice_get, slice_set, length-set, get_or-set_same, get_or-set_other, ◌++◌, append-nil}
 use Rattle.array_meaning.specs.Execution.{iterate, after_iteration}
 use Rattle.array_meaning.specs.Runs.{Completion, Normal, Exited, Cycled, Stopped, Run, normal}
@@ -9,9 +10,10 @@ use Rattle.statement_trail.specs.Trail as passed
 use Rattle.statement_trail.specs.Trail.{Trail, iterate_trail}
 use Rattle.lowered_expressions.proofs.Reach.{reaches-last, HasAt, has-back, has-drop, Reaches, reaches-on, stands, Place}
 use Rattle.lowering.proofs.Trips.{left-true, left-less, none-left}
-use Rattle.lowering.specs.StatementCode.{loop_code}
+use Rattle.program_code.specs.StatementCode.{loop_code}
 use Rattle.storage.specs.Storage.{Storage}
-use Rattle.node_code.specs.Flat.{slot, Int, Slot, Operated, NoFlat, AndFlat}
+use Rattle.code_meaning.specs.Flat.{slot}
+use Rattle.node_code.specs.Flat.{Int, Slot, Operated, NoFlat, AndFlat}
 use Rattle.op_tables.specs.Operators.{wrapped, is_true}
 use Rattle.array_meaning.specs.Runs as runs
 use Rattle.fitting_states.specs.FittingStates.{StateFits}

@@ -1,5 +1,6 @@
 -- The values of a mask in a copy.
-use Rattle.node_code.specs.Instructions.{NewMapping, Instruction, ArrayTable}
+use Rattle.node_code.specs.Instructions.{NewMapping, Instruction}
+use Rattle.code_meaning.specs.Instructions.{ArrayTable}
 use Rattle.std.proofs.Common.{◌≡◌, ℕ, zero, suc, ◌+◌, ◌<◌, ◌≤◌, List, [], ◌∷◌, ◌++◌, length, ℤ, Option, Some, None, Result, Ok, Err, refl, sym, ap, ◌∙◌, arith, length-append, slice_set, length-set, get_or-set_same, get_or-set_other, option_map}
 use Rattle.std.specs.Bool.{⊤}
 use Rattle.array_meaning.specs.Elementals.{sections, all_sections, first_extents, each}
@@ -9,12 +10,13 @@ use Rattle.array_meaning.specs.State.{State}
 use Rattle.array_meaning.specs.Terms.{Term, Number, Scalar, Index, Element, Section, Apply, Reduce, Terms, NoTerm, More, SectionSubscripts, NoSubscript, Subscript, Triplet}
 use Rattle.array_meaning.specs.declared.sections.Selection.{Selection}
 use Rattle.lowered_expressions.proofs.Goes.{Holds}
-use Rattle.lowered_expressions.specs.ExpressionCode.{first_subs, first_subs_of, or_no_sub, subscripts_slots, subs_of, parts_slots, all_parts_slots, form_of, forms_of, control_slots, triplet, slots_of}
+use Rattle.program_code.specs.ExpressionCode.{first_subs, first_subs_of, or_no_sub, subscripts_slots, subs_of, parts_slots, all_parts_slots, form_of, forms_of, control_slots, triplet, slots_of}
 use Rattle.storage.specs.Effect.{Effect, Put, Fail, scatter}
 use Rattle.storage.specs.Storage.{Storage, row_of, write}
-use Rattle.node_code.specs.Flat.{slot}
-use Rattle.node_code.specs.Forms.{Sub, SubAt, SubAlong, ArrayForm, FlatForm, SectionForm, OperationForm, Forms, NoForm, AndForm, selections_in, elemental_in, elementals_in}
-use Rattle.node_code.specs.Parallel.{fault_at}
+use Rattle.code_meaning.specs.Flat.{slot}
+use Rattle.node_code.specs.Forms.{Sub, SubAt, SubAlong, ArrayForm, FlatForm, SectionForm, OperationForm, Forms, NoForm, AndForm}
+use Rattle.code_meaning.specs.Forms.{selections_in, elemental_in, elementals_in}
+use Rattle.code_meaning.specs.Parallel.{fault_at}
 use Rattle.std.specs.Option.{option_or}
 
 -- ---- the shape of the first section

@@ -24,11 +24,12 @@ use Rattle.nest_items.proofs.EntryAlike.{Alike, fault_of, same_entry, same_axis,
 use Rattle.machine_steps.specs.Instr.{Running}
 use Rattle.machine_steps.specs.Machine.{steps}
 use Rattle.storage.specs.Storage.{Storage}
-use Rattle.node_code.specs.Flat.{slot}
-use Rattle.node_code.specs.Parallel.{at_line}
-use Rattle.node_code.specs.NestChecks.{entry_state, without_elements}
-use Rattle.node_code.specs.Instructions.{NewMapping, Instruction, TestStride, Check, ArrayTable, go_on_if, meaning_of}
-use Rattle.lowering.specs.StatementCode.{with_bounds, entry_code}
+use Rattle.code_meaning.specs.Flat.{slot}
+use Rattle.code_meaning.specs.Parallel.{at_line}
+use Rattle.code_meaning.specs.NestChecks.{entry_state, without_elements}
+use Rattle.node_code.specs.Instructions.{NewMapping, Instruction, TestStride, Check}
+use Rattle.code_meaning.specs.Instructions.{ArrayTable, go_on_if, meaning_of}
+use Rattle.program_code.specs.StatementCode.{with_bounds, entry_code}
 use Rattle.lowered_expressions.specs.Passed.{passed, IsTrail}
 use Rattle.lowered_expressions.proofs.Reach.{still, Idle, HasAt, Reaches, stands, one, Place}
 use Rattle.lowered_expressions.proofs.Terms.{HoldsScalars, HoldsArrays}

@@ -1,10 +1,9 @@
 -- A nest by its form, in a well-formed program, names scalars and arrays as its entry asks; and its loops and statements hold no further nest.
 use Rattle.std.proofs.Common.{◌≡◌, ℕ, ◌<◌, List, [], ◌∷◌, Bool, Option, Some, None, sym, subst}
 use Rattle.std.specs.List.{AllByRecursion}
-use Rattle.nest_order.specs.Copies.{Kind}
+use Rattle.nest_syntax.specs.NestKinds.{Kind, kind_of}
 use Rattle.array_meaning.specs.Terms.{Term, Number, Scalar, Index, Element, Section, Apply, Reduce, Terms, NoTerm, More}
 use Rattle.array_meaning.specs.Statements.{Loop, Nest, Block, Done, Then, Statement, AssignScalar, AssignElement, AssignSection, If, Do, Where, Forall, Print, Stop, Exit, Cycle, Continue, Redistribute, Mark, Unmarked, Arms, NoArm, Arm}
-use Rattle.nest_items.specs.NestKinds.{kind_of}
 use Rattle.nest_items.specs.Settled.{without}
 use Rattle.nest_items.specs.Standing.{IsFixedTerm, AreFixedTerms, Stands, AllStand}
 use Rattle.nest_items.specs.NestForm.{IsKeptLoop, BlockKeeps, StatementKeeps, ArmsKeep, LoopsKeep}

@@ -8,12 +8,12 @@ use Rattle.node_code.specs.Flat.{Flat, Slot, Int, Axis, Read, Operated, NoFlat, 
 use Rattle.node_code.specs.Forms.{Sub}
 use Rattle.node_code.specs.Parallel.{When}
 use Rattle.node_code.specs.NestStatements.{NestStatement}
-use Rattle.node_code.specs.ValidCode.{CodeTable, IsCopy, IsFlat, IsValue, IsSpace, IsNestForm, IsNestLeft, IsValid}
+use Rattle.code_meaning.specs.ValidCode.{CodeTable, IsCopy, IsFlat, IsValue, IsSpace, IsNestForm, IsNestLeft, IsValid}
 use Rattle.node_code.specs.Instructions.{Instruction, Set, Trips, Jump, JumpIfZero, Verdict, FoldCopy, LastCopy, ParNest, MakeCopies}
-use Rattle.lowered_nests.specs.Asked.{Asked, guard_asked, none_asked, tested_asked}
-use Rattle.lowered_nests.specs.Finals.{Final, Folds, Lasts}
-use Rattle.lowered_nests.specs.NestTexts.{NestText, NestTest}
-use Rattle.lowered_nests.specs.NestInstructions.{FlatBounds, NestBody, NoText, AndText, AndIf, AndLoop, NestArms, NoArm, AndArm, count_nest, count_nest_arms, slots_of_nest, slots_of_arms, whens_of, tail_instructions, text_instructions, mark_instructions, test_instruction, loop_instructions, body_instructions, arms_instructions, nest_instructions, finals_makes, conditions_makes, finals_instructions}
+use Rattle.nest_syntax.specs.Asked.{Asked, guard_asked, none_asked, tested_asked}
+use Rattle.nest_syntax.specs.Finals.{Final, Folds, Lasts}
+use Rattle.program_code.specs.NestTexts.{NestText, NestTest}
+use Rattle.program_code.specs.NestInstructions.{FlatBounds, NestBody, NoText, AndText, AndIf, AndLoop, NestArms, NoArm, AndArm, count_nest, count_nest_arms, slots_of_nest, slots_of_arms, whens_of, tail_instructions, text_instructions, mark_instructions, test_instruction, loop_instructions, body_instructions, arms_instructions, nest_instructions, finals_makes, conditions_makes, finals_instructions}
 
 -- ---- a property of instructions
 

@@ -16,8 +16,9 @@ use Rattle.array_meaning.specs.Serial.{end_of, outcome}
 use Rattle.machine_steps.specs.Instr.{Finished}
 use Rattle.machine_steps.specs.Layout.{Layout}
 use Rattle.machine_steps.specs.Machine.{Machine, steps}
-use Rattle.node_code.specs.Instructions.{Instruction, NewMapping, ArrayTable, meaning_of}
-use Rattle.lowering.specs.StatementCode.{block_copies}
+use Rattle.node_code.specs.Instructions.{Instruction, NewMapping}
+use Rattle.code_meaning.specs.Instructions.{ArrayTable, meaning_of}
+use Rattle.program_code.specs.StatementCode.{block_copies}
 use Rattle.lowered_expressions.specs.WellFormed.{IsWellFormedBlock}
 use Rattle.nest_items.specs.BlockForms.{BlockHasForms}
 use Rattle.fitting_states.specs.FittingStates.{InitialValuesFit, BlockFits}

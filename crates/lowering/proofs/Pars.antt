@@ -1,5 +1,6 @@
 -- A parallel statement and its Verdict on the machine.
-use Rattle.node_code.specs.Instructions.{NewMapping, Instruction, Verdict, ArrayTable, meaning_of}
+use Rattle.node_code.specs.Instructions.{NewMapping, Instruction, Verdict}
+use Rattle.code_meaning.specs.Instructions.{ArrayTable, meaning_of}
 use Rattle.std.proofs.Common.{◌≡◌, ℕ, ◌+◌, ◌<◌, List, ◌∷◌, [], ℤ, Option, Some, None, refl, ap, ◌∙◌, arith, ◌++◌, append-nil, sym, subst}
 use Rattle.storage.specs.Storage.{Storage, Spot, read}
 use Rattle.storage.specs.Effect.{scatter}

@@ -1,6 +1,7 @@
 -- The code of an array expression evaluates its parts once.
 use Rattle.lowering.proofs.Evaluating.{reduce-comes}
-use Rattle.node_code.specs.Instructions.{NewMapping, Instruction, Fetch, Set, TestStride, go_on_if, meaning_of, ArrayTable}
+use Rattle.node_code.specs.Instructions.{NewMapping, Instruction, Fetch, Set, TestStride}
+use Rattle.code_meaning.specs.Instructions.{go_on_if, meaning_of, ArrayTable}
 use Rattle.std.proofs.Common.{◌≡◌, ℕ, ◌+◌, ◌<◌, ◌≤◌, List, [], ◌∷◌, ◌++◌, length, ℤ, pos, Bool, true, false, if◌then◌else◌, Some, None, Result, Ok, Err, append_assoc, append-nil, refl, sym, ap, ◌∙◌, subst, arith, length-append, slice_get, slice_set, length-set}
 use Rattle.array_meaning.specs.Elementals.{reduction, Elemental, Same, Selected, Operation, Elementals, NoOperand, Operand}
 use Rattle.array_meaning.specs.Expressions.{values, value, selections, elemental, elementals}
@@ -17,14 +18,16 @@ use Rattle.statement_trail.specs.Trail.{Trail, Reduced, after_value, over_own_sp
 use Rattle.lowered_expressions.proofs.Reach.{still, comes-as, comes-last, Idle, HasAt, has-front, has-back, SameBelow, same-refl, same-on, same-set, slot-set, Reaches, reaches-on, stands, one, Comes, comes-on, comes-then, comes-at, comes-but, comes-here}
 use Rattle.lowered_expressions.proofs.Scatter.{NamesBelow, AllNameBelow}
 use Rattle.lowered_expressions.proofs.Terms.{HoldsScalars, HoldsArrays, holds-same, Gives, GiveAll, nothing, fetch-comes, apply-comes}
-use Rattle.lowered_expressions.specs.ExpressionCode.{all_slots_of, flats_of, codes_of, set_if, reduce_code, slots_of, flat_of, code_of, control_slots, control_code, triplet, subscripts_slots, subs_of, subscripts_code, parts_slots, all_parts_slots, form_of, forms_of, parts_code, all_parts_code}
+use Rattle.program_code.specs.ExpressionCode.{all_slots_of, flats_of, codes_of, set_if, reduce_code, slots_of, flat_of, code_of, control_slots, control_code, triplet, subscripts_slots, subs_of, subscripts_code, parts_slots, all_parts_slots, form_of, forms_of, parts_code, all_parts_code}
 use Rattle.lowered_expressions.specs.WellFormed.{IsArray, AreArrays, AreScalarSubscripts, IsScalar, AreScalar}
 use Rattle.machine_steps.specs.Instr.{Running}
 use Rattle.machine_steps.specs.Machine.{steps}
 use Rattle.storage.specs.Storage.{Storage}
-use Rattle.node_code.specs.Flat.{slot, Flat, Int, Slot, NoFlat, Operated, flat_values, or_zero}
-use Rattle.node_code.specs.Forms.{Sub, SubAt, SubAlong, ArrayForm, FlatForm, SectionForm, OperationForm, Forms, NoForm, selections_in, elemental_in, elementals_in, sequence_in}
-use Rattle.node_code.specs.Parallel.{at_line}
+use Rattle.code_meaning.specs.Flat.{slot, flat_values, or_zero}
+use Rattle.node_code.specs.Flat.{Flat, Int, Slot, NoFlat, Operated}
+use Rattle.node_code.specs.Forms.{Sub, SubAt, SubAlong, ArrayForm, FlatForm, SectionForm, OperationForm, Forms, NoForm}
+use Rattle.code_meaning.specs.Forms.{selections_in, elemental_in, elementals_in, sequence_in}
+use Rattle.code_meaning.specs.Parallel.{at_line}
 use Rattle.op_tables.specs.Operators.{wrapped, is_zero, can_divide}
 
 -- what comes after a value that is made of another one

@@ -1,5 +1,6 @@
 -- A PRINT on the machine: its items one after another, and then the line.
-use Rattle.node_code.specs.Instructions.{NewMapping, PrintItem, Instruction, Print, ArrayTable, meaning_of, items_of}
+use Rattle.node_code.specs.Instructions.{NewMapping, PrintItem, Instruction, Print}
+use Rattle.code_meaning.specs.Instructions.{ArrayTable, meaning_of, items_of}
 use Rattle.std.proofs.Common.{zero, subst, ◌≡◌, ℕ, suc, ◌+◌, List, [], ◌∷◌, ◌++◌, length, ℤ, Some, None, refl, sym, ap, ◌∙◌, arith, append-nil, append_assoc, length-append, drop, slice_get}
 use Rattle.storage.specs.Storage.{Storage, Spot, read}
 use Rattle.array_meaning.specs.Faults.{Fault}

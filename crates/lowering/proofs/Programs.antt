@@ -14,8 +14,9 @@ use Rattle.array_meaning.specs.Execution.{run_block}
 use Rattle.machine_steps.specs.Layout.{Layout}
 use Rattle.machine_steps.specs.Instr.{Finished}
 use Rattle.machine_steps.specs.Machine.{Machine, steps}
-use Rattle.node_code.specs.Instructions.{Instruction, NewMapping, Jump, Halt, meaning_of, ArrayTable}
-use Rattle.lowering.specs.StatementCode.{block_copies, block_slots, block_code, program_code}
+use Rattle.node_code.specs.Instructions.{Instruction, NewMapping, Jump, Halt}
+use Rattle.code_meaning.specs.Instructions.{meaning_of, ArrayTable}
+use Rattle.program_code.specs.StatementCode.{block_copies, block_slots, block_code, program_code}
 use Rattle.lowered_expressions.specs.WellFormed.{IsWellFormedBlock}
 use Rattle.nest_items.specs.BlockForms.{BlockHasForms}
 use Rattle.fitting_states.specs.FittingStates.{StateFits, BlockFits}

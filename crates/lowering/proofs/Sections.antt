@@ -1,5 +1,6 @@
 -- The code of an array assignment: limits, one parallel statement, its Verdict.
-use Rattle.node_code.specs.Instructions.{NewMapping, Instruction, Limits, Par, Verdict, go_on_if, ArrayTable}
+use Rattle.node_code.specs.Instructions.{NewMapping, Instruction, Limits, Par, Verdict}
+use Rattle.code_meaning.specs.Instructions.{go_on_if, ArrayTable}
 use Rattle.std.proofs.Common.{◌≡◌, ℕ, ◌+◌, ◌<◌, ◌≤◌, List, [], ◌∷◌, ◌++◌, length, ℤ, Bool, true, Option, None, Result, Ok, Err, refl, sym, ap, ◌∙◌, subst, arith, length-append}
 use Rattle.array_meaning.specs.ArrayAssignments.{store_at, if_true, assign_elemental, assign_section}
 use Rattle.array_meaning.specs.Elementals.{Elemental, sections, value_at, each}
@@ -20,16 +21,18 @@ use Rattle.lowered_expressions.specs.Passed.{IsMaskCopy, note, IsTrail}
 use Rattle.lowered_expressions.proofs.Reach.{still, HasAt, has-front, has-back, SameBelow, same-refl, same-on, stands, one, Place}
 use Rattle.lowering.proofs.Storing.{masked-does, stores-go}
 use Rattle.lowered_expressions.proofs.Scatter.{space-size, space-counted, Does, values_of, NamesBelow}
-use Rattle.lowered_expressions.specs.ExpressionCode.{subscripts_slots, subs_of, subscripts_code, parts_slots, parts_code, form_of}
+use Rattle.program_code.specs.ExpressionCode.{subscripts_slots, subs_of, subscripts_code, parts_slots, parts_code, form_of}
 use Rattle.lowered_expressions.specs.WellFormed.{AreScalarSubscripts, IsArray}
-use Rattle.lowering.specs.StatementCode.{assignment, assignment_code}
+use Rattle.program_code.specs.StatementCode.{assignment, assignment_code}
 use Rattle.machine_steps.specs.Instr.{Running, Outcome}
 use Rattle.machine_steps.specs.Space.{space_count}
 use Rattle.machine_steps.specs.Machine as machine
 use Rattle.machine_steps.specs.Machine.{effect_of, value_by}
 use Rattle.storage.specs.Storage.{Storage, read}
-use Rattle.node_code.specs.Forms.{Sub, selections_in, elemental_in}
-use Rattle.node_code.specs.Parallel.{When, assignment_tuples, assigned_spot, at_line, Assignment, assignment_size, mask_reads, is_asked, outcome_if, assigned_value, reads_at, spot_of}
+use Rattle.node_code.specs.Forms.{Sub}
+use Rattle.code_meaning.specs.Forms.{selections_in, elemental_in}
+use Rattle.node_code.specs.Parallel.{When, Assignment}
+use Rattle.code_meaning.specs.Parallel.{assignment_tuples, assigned_spot, at_line, assignment_size, mask_reads, is_asked, outcome_if, assigned_value, reads_at, spot_of}
 
 module _ (table : ArrayTable) (row_count : ℕ) (moves : ℕ → List NewMapping) (code : List Instruction) (n many : ℕ) (copy : Option (List ℤ)) (leave again : ℕ) (p : Assignment) (la : p.array < n) (masks : IsMaskCopy n p.mask) where
   -- what the slots say, and which tuples are chosen

@@ -3,7 +3,7 @@ use Rattle.std.proofs.Common.{◌≡◌, ℕ, zero, suc, List, [], ◌∷◌, �
 use Rattle.std.specs.Prelude.{option_and_then}
 use Rattle.op_tables.specs.declared.op.Op.{Op}
 use Rattle.op_tables.specs.Operators.{operator_value, wrapped}
-use Rattle.nest_order.specs.Copies.{Kind}
+use Rattle.nest_syntax.specs.NestKinds.{Kind, kind_of}
 use Rattle.array_meaning.specs.declared.sections.Sequence.{Sequence}
 use Rattle.array_meaning.specs.Execution.{condition, run, run_block}
 use Rattle.array_meaning.specs.Expressions.{value, values, index_values}
@@ -14,8 +14,8 @@ use Rattle.array_meaning.specs.Statements.{Loop, Nest, Block, Done, Then, Statem
 use Rattle.array_meaning.specs.Terms.{Term, Number, Scalar, Index, Element, Section, Apply, Reduce, Terms, NoTerm, More, Control}
 use Rattle.statement_trail.specs.Trail.{Trail, after_value, after_run, after_iteration, value_trail, values_trail, control_trail, iterate_trail, trail, arms_trail, block_trail}
 use Rattle.nest_items.specs.BlockForms.{HasForm}
-use Rattle.nest_items.specs.NestForm.{IsExact, AreExact, IsPlain, ArePlain, TextsKeep, TextKeeps, ArmsTextsKeep, with_closed, closed_value, closed_values, IsKeptLoop, BlockKeeps, StatementKeeps, ArmsKeep, LoopsKeep}
-use Rattle.nest_items.specs.NestKinds.{kind_of}
+use Rattle.nest_items.specs.NestForm.{IsExact, AreExact, IsPlain, ArePlain, TextsKeep, TextKeeps, ArmsTextsKeep, IsKeptLoop, BlockKeeps, StatementKeeps, ArmsKeep, LoopsKeep}
+use Rattle.nest_syntax.specs.ClosedTerms.{with_closed, closed_value, closed_values}
 use Rattle.nest_items.specs.Settled.{without}
 
 after-none : {A : Type 0} (r : Result A Cause) (next : A → Trail) → ((a : A) → next a ≡ []) → after_value r next ≡ []

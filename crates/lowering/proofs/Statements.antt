@@ -3,7 +3,8 @@ use Rattle.std.proofs.Common.{◌≡◌, ℕ, zero, suc, ◌+◌, ◌<◌, ◌�
 use Rattle.std.specs.Prelude.{◌==◌}
 use Rattle.std.specs.Fmt.{signed_decimal}
 use Rattle.machine_steps.specs.Layout.{Layout}
-use Rattle.node_code.specs.Instructions.{NewMapping, items_of, Instruction, Set, Jump, Halt, Print, PrintItem, PrintBytes, Remap, ArrayTable, remappings}
+use Rattle.node_code.specs.Instructions.{NewMapping, Instruction, Set, Jump, Halt, Print, PrintItem, PrintBytes, Remap}
+use Rattle.code_meaning.specs.Instructions.{items_of, ArrayTable, remappings}
 use Rattle.machine_steps.specs.Instr.{Remapping}
 use Rattle.machine_steps.specs.Machine.{remapped, with_mapping}
 use Rattle.mappings.specs.declared.mapping.Mapping.{Mapping}
@@ -32,7 +33,7 @@ use Rattle.nest_items.specs.BlockForms.{HasForm, BlockHasForms, HasForms, ArmsHa
 use Rattle.fitting_states.specs.FittingStates.{StateFits, ControlFits, BlockFits, StatementFits, ArmsFit}
 use Rattle.fitting_states.proofs.Values.{known_value_fits}
 use Rattle.fitting_states.proofs.Runs.{KeepsFits, run_fits, block_fits}
-use Rattle.lowered_nests.specs.NestCode.{nest_rows, nest_slots, nest_code}
+use Rattle.program_code.specs.NestCode.{nest_rows, nest_slots, nest_code}
 use Rattle.lowered_nests.proofs.NestRuns.{HasCopies}
 use Rattle.lowered_nests.proofs.NestGoes.{nest-goes}
 use Rattle.lowering.proofs.SilentNests.{silent}
@@ -45,10 +46,11 @@ use Rattle.lowered_expressions.proofs.Reach.{Idle, still, comes-last, HasAt, has
 use Rattle.lowering.proofs.Sections.{section-goes}
 use Rattle.lowered_expressions.proofs.Terms.{HoldsArrays, HoldsScalars, holds-same, Gives}
 use Rattle.lowering.proofs.Wheres.{where-goes}
-use Rattle.lowered_expressions.specs.ExpressionCode.{subscripts_slots, subs_of, slots_of, flat_of, code_of, control_slots, control_code}
-use Rattle.lowering.specs.StatementCode.{entry_code, loop_code, statement_slots, arms_slots, block_slots, statement_copies, arms_copies, block_copies, statement_code, arms_code, block_code, items_slots, item_code, items_code, print_items}
+use Rattle.program_code.specs.ExpressionCode.{subscripts_slots, subs_of, slots_of, flat_of, code_of, control_slots, control_code}
+use Rattle.program_code.specs.StatementCode.{entry_code, loop_code, statement_slots, arms_slots, block_slots, statement_copies, arms_copies, block_copies, statement_code, arms_code, block_code, items_slots, item_code, items_code, print_items}
 use Rattle.storage.specs.Storage.{Storage, read}
-use Rattle.node_code.specs.Flat.{slot, Flat}
+use Rattle.code_meaning.specs.Flat.{slot}
+use Rattle.node_code.specs.Flat.{Flat}
 use Rattle.array_meaning.specs.Statements as statements
 
 -- no row is new after a redistribution

@@ -1,5 +1,6 @@
 -- A parallel statement that stores in an array, at the tuples at which a mask is true, and its Verdict.
-use Rattle.node_code.specs.Instructions.{NewMapping, Instruction, Verdict, ArrayTable, meaning_of}
+use Rattle.node_code.specs.Instructions.{NewMapping, Instruction, Verdict}
+use Rattle.code_meaning.specs.Instructions.{ArrayTable, meaning_of}
 use Rattle.std.proofs.Common.{◌≡◌, ℕ, ◌+◌, ◌<◌, List, [], ◌∷◌, ◌++◌, length, ℤ, Bool, true, false, Option, Some, None, Result, Ok, Err, refl, sym, ap, ◌∙◌, subst}
 use Rattle.std.proofs.lemmas.List.{length-map}
 use Rattle.expression_rules.specs.declared.dims.Dim.{Dim}
@@ -17,7 +18,8 @@ use Rattle.machine_steps.specs.Instr as instr
 use Rattle.machine_steps.specs.Instr.{Outcome, Tuples}
 use Rattle.machine_steps.specs.Machine as machine
 use Rattle.machine_steps.specs.Machine.{effect_of, value_by}
-use Rattle.node_code.specs.Parallel.{When, fault_at, at_line, outcome_if, mask_reads, is_asked, spot_of, reads_at, assigned_value}
+use Rattle.node_code.specs.Parallel.{When}
+use Rattle.code_meaning.specs.Parallel.{fault_at, at_line, outcome_if, mask_reads, is_asked, spot_of, reads_at, assigned_value}
 use Rattle.statement_trail.specs.Trail.{Trail}
 use Rattle.lowered_expressions.specs.Passed.{note, IsTrail}
 use Rattle.lowered_expressions.proofs.Reach.{HasAt, Reaches, stands}

@@ -9,25 +9,24 @@ use Rattle.array_meaning.specs.Statements.{Loop, Nest, Block, Done, Then, Statem
 use Rattle.array_meaning.specs.Iterations.{is_in, nest_indices}
 use Rattle.array_meaning.specs.Touches.{assigned_in}
 use Rattle.node_code.specs.Forms.{Sub, SubAlong}
-use Rattle.node_code.specs.Parallel.{shape_of}
+use Rattle.code_meaning.specs.Parallel.{shape_of}
 use Rattle.node_code.specs.Instructions.{Instruction}
-use Rattle.node_code.specs.ValidCode.{CodeTable, IsCopy, IsFlat, AreFlats, IsSub, IsSection, IsSpace, IsNestForm, AreNestForms, IsValid}
-use Rattle.nest_order.specs.Copies.{Kind, Shared, New, Assigned, Reduced, has_copies}
-use Rattle.nest_items.specs.NestKinds.{kind_of}
+use Rattle.code_meaning.specs.ValidCode.{CodeTable, IsCopy, IsFlat, AreFlats, IsSub, IsSection, IsSpace, IsNestForm, AreNestForms, IsValid}
+use Rattle.nest_syntax.specs.NestKinds.{Kind, Shared, New, Assigned, Reduced, has_copies, kind_of}
 use Rattle.nest_items.proofs.NameKinds.{copies_of_kind}
 use Rattle.nest_items.specs.Settled.{without}
 use Rattle.nest_items.specs.Standing.{IsFixedTerm, AreFixedTerms, Stands, AllStand}
 use Rattle.nest_items.specs.NestForm.{IsExact, AreExact, IsPlain, ArePlain, TextsKeep, TextKeeps, ArmsTextsKeep, BlockKeeps, StatementKeeps, ArmsKeep, LoopsKeep}
 use Rattle.nest_items.specs.BlockForms.{HasForm}
-use Rattle.lowered_nests.specs.NestInstructions as forms
-use Rattle.lowered_nests.specs.NestInstructions.{count_nest, slots_of_nest, nest_instructions}
-use Rattle.lowered_expressions.specs.NestTerms.{indexed, all_indexed, scalar_or_index}
+use Rattle.program_code.specs.NestInstructions as forms
+use Rattle.program_code.specs.NestInstructions.{count_nest, slots_of_nest, nest_instructions}
+use Rattle.nest_syntax.specs.NestTerms.{indexed, all_indexed, scalar_or_index}
 use Rattle.statement_trail.specs.NestParts.{index_in, each_once, of_these, among_from, scalars_in}
-use Rattle.lowered_nests.specs.Places.{marks_by, final_by, finals_from, marks_from, place_by}
-use Rattle.lowered_nests.specs.NestCode.{PlainBody, PlainArms, plain, plain_in, plain_arms, plain_else, bounds_in, kinds_in, scalars, conditions, nest_rows, stored, place_in, finals, copied_in, axis_in, text_in, test_in, along, bounds_code, trips_code, indices_code, nest_slots, inner_bounds, nest_code}
+use Rattle.program_code.specs.Places.{marks_by, final_by, finals_from, marks_from, place_by}
+use Rattle.program_code.specs.NestCode.{PlainBody, PlainArms, plain, plain_in, plain_arms, plain_else, bounds_in, kinds_in, scalars, conditions, nest_rows, stored, place_in, finals, copied_in, axis_in, text_in, test_in, along, bounds_code, trips_code, indices_code, nest_slots, inner_bounds, nest_code}
 use Rattle.lowered_nests.proofs.CodedBody.{no-division}
 use Rattle.lowered_nests.proofs.Listed.{in-some, in-none, not-in, among-is, is-among, not-read}
-use Rattle.lowered_expressions.specs.ExpressionCode.{index_flat, index_flats, index_subs, index_form, index_forms}
+use Rattle.program_code.specs.ExpressionCode.{index_flat, index_flats, index_subs, index_form, index_forms}
 use Rattle.lowered_expressions.specs.WellFormed.{IsScalar, AreScalar, IsWellFormed, IsWellFormedBlock, AreWellFormedArms}
 use Rattle.lowering.specs.Ranks.{AreFewDims, IsRanked, AreRanked, KeepsRanks, ArmsKeepRanks, BlockKeepsRanks}
 use Rattle.lowering.proofs.NestValidity.{both, IsOfNests, IsFinalFrom, each-statement, IsMarkRow, AreGoodBounds, IsGoodFinal, AreGood, ArmsAreGood, value-good, statements-good}

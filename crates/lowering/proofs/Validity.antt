@@ -8,7 +8,8 @@ use Rattle.op_tables.specs.Reductions.{reduction_of}
 use Rattle.array_meaning.specs.Terms.{Term, Number, Scalar, Index, Element, Section, Apply, Reduce, Terms, NoTerm, More, SectionSubscripts, NoSubscript, Subscript, Triplet, Control}
 use Rattle.array_meaning.specs.Statements as statements
 use Rattle.array_meaning.specs.Statements.{Mark, Unmarked, Outermost, Item, Text, Value, Elements, SectionAssignment, ElementAssignment, Block, Done, Then, Statement, AssignScalar, AssignElement, AssignSection, If, Do, Where, Forall, Stop, Exit, Cycle, Continue, Redistribute, Arms, NoArm, Arm}
-use Rattle.node_code.specs.Instructions.{NewMapping, Instruction, Remap, ArrayTable, meaning_of}
+use Rattle.node_code.specs.Instructions.{NewMapping, Instruction, Remap}
+use Rattle.code_meaning.specs.Instructions.{ArrayTable, meaning_of}
 use Rattle.machine_steps.specs.Layout.{AreOwned, IsDealt, Layout}
 use Rattle.machine_steps.specs.SameLayouts.{is_same_layout}
 use Rattle.machine_steps.specs.Machine.{instr_of}
@@ -16,10 +17,10 @@ use Rattle.machine_steps.specs.Agrees.{IsValidInstr, IsValidCode}
 use Rattle.node_code.specs.Flat.{Flat}
 use Rattle.node_code.specs.Forms.{Sub}
 use Rattle.node_code.specs.Parallel.{When}
-use Rattle.lowered_expressions.specs.ExpressionCode.{slots_of, parts_slots, subscripts_slots, control_slots, set_if, three_code, code_of, codes_of, subscripts_code, parts_code, all_parts_code, control_code}
-use Rattle.lowering.specs.StatementCode.{marked_code, entry_code, loop_code, item_slots, item_code, items_code, assignment_code, masked_code, triplets, one_to_one_code, forall_mask_code, forall_assignments_code, statement_code, arms_code, block_code, program_code}
+use Rattle.program_code.specs.ExpressionCode.{slots_of, parts_slots, subscripts_slots, control_slots, set_if, three_code, code_of, codes_of, subscripts_code, parts_code, all_parts_code, control_code}
+use Rattle.program_code.specs.StatementCode.{marked_code, entry_code, loop_code, item_slots, item_code, items_code, assignment_code, masked_code, triplets, one_to_one_code, forall_mask_code, forall_assignments_code, statement_code, arms_code, block_code, program_code}
 use Rattle.lowered_expressions.specs.WellFormed.{IsScalar, AreScalar, AreScalarSubscripts, IsArray, AreArrays, IsControl, AreControls, AreMasked, AreItems, IsWellFormed, AreWellFormedArms, IsWellFormedBlock}
-use Rattle.lowered_nests.specs.NestCode.{nest_code}
+use Rattle.program_code.specs.NestCode.{nest_code}
 use Rattle.lowering.proofs.NestValidity.{IsOfNests}
 use Rattle.lowering.proofs.ValidNests.{each-of-nest}
 use Rattle.lowering.proofs.Folding.{fold-is}

@@ -1,12 +1,13 @@
 -- The code of a WHERE does what it means.
-use Rattle.node_code.specs.Instructions.{NewMapping, Instruction, OwnLimits, MakeCopy, ParCopy, Verdict, go_on_if, ArrayTable}
+use Rattle.node_code.specs.Instructions.{NewMapping, Instruction, OwnLimits, MakeCopy, ParCopy, Verdict}
+use Rattle.code_meaning.specs.Instructions.{go_on_if, ArrayTable}
 use Rattle.std.proofs.Common.{max, ◌≡◌, ℕ, ◌+◌, ◌≤◌, List, [], ◌∷◌, ◌++◌, length, ℤ, pos, Bool, true, false, Option, Some, None, Result, Ok, Err, refl, sym, ap, ◌∙◌, subst, arith, length-append, slice_index_or}
 use Rattle.machine_steps.specs.Layout.{Layout, size_of}
 use Rattle.machine_steps.specs.Space.{space_count}
 use Rattle.machine_steps.specs.Instr.{Running}
 use Rattle.lowering.proofs.Evaluating.{own-shape, own-limits, own-outcome}
 use Rattle.lowering.proofs.Copies.{copy-goes}
-use Rattle.lowering.specs.StatementCode.{where_true, assignment_code, masked_slots, masked_code, where_code}
+use Rattle.program_code.specs.StatementCode.{where_true, assignment_code, masked_slots, masked_code, where_code}
 use Rattle.array_meaning.specs.ArrayAssignments.{mask_of, negated_mask, assign_all_where, run_where, assign_elemental}
 use Rattle.array_meaning.specs.Elementals.{ArrayValue, Elemental, sections, value_at, first_extents, array_value, values_over}
 use Rattle.array_meaning.specs.Expressions.{selections, elemental}
@@ -26,11 +27,13 @@ use Rattle.std.proofs.lemmas.Option.{same_Some}
 use Rattle.lowered_expressions.proofs.Reach.{still, HasAt, has-front, has-back, has-drop, same-refl, stands, one, Place}
 use Rattle.lowered_expressions.proofs.Scatter.{NamesBelow, space-size, space-counted}
 use Rattle.lowering.proofs.Sections.{assignment-goes}
-use Rattle.lowered_expressions.specs.ExpressionCode.{own_evaluation, first_subs, or_no_sub, parts_slots, parts_code, form_of}
+use Rattle.program_code.specs.ExpressionCode.{own_evaluation, first_subs, or_no_sub, parts_slots, parts_code, form_of}
 use Rattle.lowered_expressions.specs.WellFormed.{AreMasked, IsArray}
 use Rattle.storage.specs.Storage.{Storage}
-use Rattle.node_code.specs.Forms.{Sub, selections_in, elemental_in}
-use Rattle.node_code.specs.Parallel.{When, evaluation_tuples, at_line, Evaluation, evaluation_extents, as_asked}
+use Rattle.node_code.specs.Forms.{Sub}
+use Rattle.code_meaning.specs.Forms.{selections_in, elemental_in}
+use Rattle.node_code.specs.Parallel.{When, Evaluation}
+use Rattle.code_meaning.specs.Parallel.{evaluation_tuples, at_line, evaluation_extents, as_asked}
 use Rattle.op_tables.specs.Operators.{is_true}
 use Rattle.array_meaning.specs.Runs as runs
 

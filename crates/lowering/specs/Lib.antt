@@ -1,3 +1,2 @@
-pub mod StatementCode
 pub mod Ranks
 pub mod Lowered

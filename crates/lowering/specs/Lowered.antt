@@ -14,9 +14,10 @@ use Rattle.machine_steps.specs.Instr.{Running, Finished, Faulted}
 use Rattle.machine_steps.specs.Machine.{Machine, steps}
 use Rattle.statement_trail.specs.Trail.{Trail}
 use Rattle.lowered_expressions.specs.Passed.{passed, IsTrail}
-use Rattle.node_code.specs.Flat.{slot}
-use Rattle.node_code.specs.Instructions.{NewMapping, Instruction, ArrayTable, meaning_of}
-use Rattle.lowering.specs.StatementCode.{block_slots, program_code}
+use Rattle.code_meaning.specs.Flat.{slot}
+use Rattle.node_code.specs.Instructions.{NewMapping, Instruction}
+use Rattle.code_meaning.specs.Instructions.{ArrayTable, meaning_of}
+use Rattle.program_code.specs.StatementCode.{block_slots, program_code}
 
 -- scalars and arrays have one numbering, by the places of n declared names
 pub record IsState (n : ℕ) (s : State) : Type 0 where

@@ -1,8 +1,8 @@
-//! The compiler as a function of the definitions: the node code of resolved programs, and that it does what they mean.
+//! The node code of a program does what the program means.
 //!
-//! Comes in: programs whose names are resolved, in `array_meaning`'s definitions, and what instructions do on the machine with whole
-//! arrays, in `node_code`'s. Goes out, in `specs/`: the code of expressions, statements and programs, and four laws, the contracts
-//! of functions with empty bodies. There is no function here that runs, and no node.
+//! Comes in: programs whose names are resolved, in `array_meaning`'s definitions, their code, in `program_code`'s, and what instructions do on the
+//! machine with whole arrays, in `code_meaning`'s. Goes out: laws of expressions, statements and programs, five of them the contracts of functions
+//! with empty bodies. There is no function here that runs, and no node.
 //!
 //! What holds in between, from the bottom up:
 //!

@@ -5,7 +5,7 @@ ghost use Rattle.syntax_tree.specs.Statement as syntax;
 ghost use Rattle.name_table.specs.declared.names.Entry.{Entry};
 ghost use Rattle.hpf_base.specs.declared.index.Shape.{Shape};
 ghost use Rattle.machine_steps.specs.Agrees.{IsValidCode, IsValidInstr};
-ghost use Rattle.lowering.specs.StatementCode.{block_copies, block_slots, program_code};
+ghost use Rattle.program_code.specs.StatementCode.{block_copies, block_slots, program_code};
 ghost use Rattle.array_meaning.specs.Resolution.{resolved_block, initial_state};
 ghost use Rattle.array_meaning.specs.Serial.{outcome};
 ghost use Rattle.array_meaning.specs.Execution.{run_block};
@@ -19,8 +19,9 @@ ghost use Rattle.lowered_expressions.specs.WellFormed.{IsWellFormedBlock};
 ghost use Rattle.lowering.specs.Ranks.{AreFewDims, BlockKeepsRanks};
 ghost use Rattle.machine_steps.specs.Layout.{AreOwned, IsDealt, Layout};
 ghost use Rattle.machine_steps.specs.SameLayouts.{is_same_layout};
-ghost use Rattle.node_code.specs.Instructions.{ArrayTable, NewMapping, Remap, meaning_of};
-ghost use Rattle.node_code.specs.ValidCode.{CodeTable, IsValid, IsValidNodeCode};
+ghost use Rattle.code_meaning.specs.Instructions.{ArrayTable, meaning_of};
+ghost use Rattle.node_code.specs.Instructions.{NewMapping, Remap};
+ghost use Rattle.code_meaning.specs.ValidCode.{CodeTable, IsValid, IsValidNodeCode};
 
 /// The machine with whole arrays ends over a program's code as the program does: with the first fault, its line, kind and tuple, and
 /// the bytes that were printed before it, or finished with the program's bytes, scalars and arrays. After the declared names there is

@@ -7,7 +7,7 @@ use Rattle.machine_steps.specs.Layout.{Layout}
 use Rattle.machine_steps.specs.Message.{has_any, remap_message}
 use Rattle.machine_steps.specs.Rounds.{color_of, color_round, moving_pairs, remap_rounds}
 use Rattle.redistribute_rounds.specs.Rounds.{IsBetween}
-use Rattle.comm_sets.proofs.Pairs.{kept-between}
+use Rattle.covering_rounds.proofs.Pairs.{kept-between}
 
 -- each pair goes from a node to another
 pub rounds-between : (nodes : ℕ) (old new : List Layout) → All (All (IsBetween nodes)) (remap_rounds nodes old new)

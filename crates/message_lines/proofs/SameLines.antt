@@ -6,15 +6,18 @@ use Rattle.mappings.specs.declared.mapping.Mapping.{Mapping}
 use Rattle.array_meaning.specs.Sections.{extents}
 use Rattle.machine_steps.specs.Layout.{Layout}
 use Rattle.machine_steps.specs.Message.{Part, par_part, reduce_part}
-use Rattle.node_code.specs.Forms.{Sub, selections_in}
+use Rattle.node_code.specs.Forms.{Sub}
+use Rattle.code_meaning.specs.Forms.{selections_in}
 use Rattle.node_code.specs.Instructions as code
-use Rattle.node_code.specs.Instructions.{ArrayTable, Instruction}
-use Rattle.node_code.specs.Parallel.{assigned_spot, assignment_tuples, copy_spot, evaluation_tuples, forall_mask_tuples, forall_spot, forall_tuples, reduction_tuples}
-use Rattle.node_code.specs.NestStatements.{NestStatement, nest_tuples, nest_spot, copies_extents}
+use Rattle.code_meaning.specs.Instructions.{ArrayTable}
+use Rattle.node_code.specs.Instructions.{Instruction}
+use Rattle.code_meaning.specs.Parallel.{assigned_spot, assignment_tuples, copy_spot, evaluation_tuples, forall_mask_tuples, forall_spot, forall_tuples, reduction_tuples}
+use Rattle.node_code.specs.NestStatements.{NestStatement}
+use Rattle.code_meaning.specs.NestStatements.{nest_tuples, nest_spot, copies_extents}
 use Rattle.node_code.specs.declared.nest.NestRole.{NestRole}
 use Rattle.node_code.specs.declared.nest.NestRole.TheVariants.{Assigns, Tests, SetsElse, SetsMark}
 use Rattle.array_meaning.specs.declared.sections.Selection.{Selection}
-use Rattle.node_code.specs.ProgramText.{table_on}
+use Rattle.code_meaning.specs.ProgramText.{table_on}
 use Rattle.part_steps.specs.Agreement.{agree_on, agree_on_form, agree_on_subs}
 use Rattle.part_steps.proofs.SameParts.{parts_same, selections_same}
 use Rattle.message_text.specs.InstructionLines.{copy_rows, rows_after, nest_lines, instruction_lines}

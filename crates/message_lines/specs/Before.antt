@@ -5,8 +5,10 @@ use Rattle.machine_steps.specs.CopyLayout.{copy_layout}
 use Rattle.machine_steps.specs.Layout.{Layout}
 use Rattle.message_text.specs.InstructionLines.{copy_rows, rows_after}
 use Rattle.message_text.specs.Parts.{Setting, with_copies}
-use Rattle.node_code.specs.NestStatements.{NestStatement, copies_extents}
-use Rattle.node_code.specs.Forms.{Sub, selections_in}
+use Rattle.node_code.specs.NestStatements.{NestStatement}
+use Rattle.code_meaning.specs.NestStatements.{copies_extents}
+use Rattle.node_code.specs.Forms.{Sub}
+use Rattle.code_meaning.specs.Forms.{selections_in}
 use Rattle.message_lines.specs.declared.before.Before.{Before}
 
 -- the nodes, the declared names, and the dimensions of the arrays among them. No line of a message depends on the rest

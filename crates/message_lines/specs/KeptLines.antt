@@ -6,7 +6,7 @@ use Rattle.std.specs.Ordering.{nat_cmp}
 use Rattle.name_table.specs.declared.names.Entry.{Entry}
 use Rattle.machine_steps.specs.Instr.{Remapping}
 use Rattle.node_code.specs.Instructions.{Instruction}
-use Rattle.node_code.specs.ProgramText.{Text}
+use Rattle.code_meaning.specs.ProgramText.{Text}
 use Rattle.owner_tables.specs.Views.{OwnersView}
 use Rattle.part_steps.specs.Agreement.{agree_on}
 use Rattle.message_lines.specs.TextLines.{text_lines}

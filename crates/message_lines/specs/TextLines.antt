@@ -3,7 +3,7 @@ use Rattle.std.specs.Prelude.{ℕ, ℤ, List, [], length, map, take}
 use Rattle.name_table.specs.declared.names.Entry.{Entry}
 use Rattle.machine_steps.specs.Instr.{Remapping}
 use Rattle.machine_steps.specs.Layout.{Layout}
-use Rattle.node_code.specs.ProgramText.{Text}
+use Rattle.code_meaning.specs.ProgramText.{Text}
 use Rattle.message_text.specs.InstructionLines.{instruction_lines}
 
 -- where these names are declared, `moves` says of a line which arrays its REDISTRIBUTE moves, and the rows lie so, by the slots

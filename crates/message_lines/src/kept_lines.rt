@@ -4,7 +4,7 @@ ghost use Rattle.std.specs.Prelude.{◌≡◌, ℕ, List, IfOk, IfSome, IsTrue, 
 ghost use Rattle.std.specs.List.{slice_get};
 ghost use Rattle.name_table.specs.declared.names.Entry.{Entry};
 ghost use Rattle.machine_steps.specs.Instr.{Remapping};
-ghost use Rattle.node_code.specs.ProgramText.{Text};
+ghost use Rattle.code_meaning.specs.ProgramText.{Text};
 ghost use Rattle.node_code.specs.Texts.{instruction};
 ghost use Rattle.message_lines.specs.KeptLines.{AreKeptLines, IsKeptText, Serves};
 ghost use Rattle.message_lines.specs.TextLines.{text_lines};

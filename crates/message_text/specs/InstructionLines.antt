@@ -5,12 +5,14 @@ use Rattle.array_meaning.specs.Sections.{extents}
 use Rattle.machine_steps.specs.Layout.{Layout}
 use Rattle.machine_steps.specs.Machine.{remapped}
 use Rattle.machine_steps.specs.Message.{par_part, reduce_part}
-use Rattle.node_code.specs.Forms.{selections_in}
-use Rattle.node_code.specs.Parallel.{assignment_tuples, assigned_spot, evaluation_tuples, evaluation_extents, copy_spot, reduction_tuples, forall_tuples, forall_spot, forall_mask_tuples}
+use Rattle.code_meaning.specs.Forms.{selections_in}
+use Rattle.code_meaning.specs.Parallel.{assignment_tuples, assigned_spot, evaluation_tuples, evaluation_extents, copy_spot, reduction_tuples, forall_tuples, forall_spot, forall_mask_tuples}
 use Rattle.node_code.specs.declared.nest.NestRole.{NestRole}
 use Rattle.node_code.specs.declared.nest.NestRole.TheVariants.{SetsMark}
-use Rattle.node_code.specs.NestStatements.{NestStatement, NestLeft, ElementLeft, CopyLeft, nest_tuples, nest_spot, copies_extents}
-use Rattle.node_code.specs.Instructions.{Instruction, remappings, Par, ParForall, ParNest, ParCopy, ParForallCopy, Reduce, Remap}
+use Rattle.node_code.specs.NestStatements.{NestStatement, NestLeft, ElementLeft, CopyLeft}
+use Rattle.code_meaning.specs.NestStatements.{nest_tuples, nest_spot, copies_extents}
+use Rattle.node_code.specs.Instructions.{Instruction, Par, ParForall, ParNest, ParCopy, ParForallCopy, Reduce, Remap}
+use Rattle.code_meaning.specs.Instructions.{remappings}
 use Rattle.message_text.specs.Parts.{Setting, with_copy, with_copies, with_copied}
 use Rattle.message_text.specs.MessageText.{part_lines, redistribution_lines}
 

@@ -14,8 +14,8 @@ use Rattle.machine_steps.specs.Layout.{Layout, in_bounds}
 use Rattle.machine_steps.specs.Message.{Part, computes_left, first_read, least_or_zero}
 use Rattle.machine_steps.specs.CopyLayout.{copy_layout}
 use Rattle.machine_steps.specs.Space.{space_count}
-use Rattle.node_code.specs.Parallel.{reads_at, spot_of}
-use Rattle.lowered_expressions.specs.NestTerms.{indexed, all_indexed}
+use Rattle.code_meaning.specs.Parallel.{reads_at, spot_of}
+use Rattle.nest_syntax.specs.NestTerms.{indexed, all_indexed}
 
 -- what is known beside a trail: how many nodes there are; the declared names, by their places, and the dimensions of those that are
 -- arrays; which arrays the REDISTRIBUTE of a line moves, and to which mappings (HPF 2.0, 8.3); and rows of copies, with the scalars whose copies these are

@@ -8,11 +8,12 @@ use Rattle.array_meaning.specs.State.{State}
 use Rattle.array_meaning.specs.Terms.{Term, Number, Scalar, Index, Element, Section, Apply, Reduce, Terms, NoTerm, More}
 use Rattle.array_meaning.specs.declared.sections.Selection.TheVariants.{Along}
 use Rattle.array_meaning.specs.declared.sections.Sequence.{Sequence}
-use Rattle.node_code.specs.Flat.{slot}
-use Rattle.node_code.specs.Forms.{Sub, selections_in, selections_at, elemental_at, elementals_at}
-use Rattle.node_code.specs.Parallel as parallel
-use Rattle.node_code.specs.Parallel.{reads_at, spot_of, indices_in}
-use Rattle.lowered_expressions.specs.ExpressionCode.{index_subs, index_form, index_forms}
+use Rattle.code_meaning.specs.Flat.{slot}
+use Rattle.node_code.specs.Forms.{Sub}
+use Rattle.code_meaning.specs.Forms.{selections_in, selections_at, elemental_at, elementals_at}
+use Rattle.code_meaning.specs.Parallel as parallel
+use Rattle.code_meaning.specs.Parallel.{reads_at, spot_of, indices_in}
+use Rattle.program_code.specs.ExpressionCode.{index_subs, index_form, index_forms}
 use Rattle.lowered_expressions.specs.WellFormed.{AreSubscripts, IsIndexed, AreIndexed}
 use Rattle.lowered_expressions.proofs.Indexed.{axes-extents, subs-are}
 use Rattle.message_text.specs.Parts.{subscripts_in, named_in, all_named_in}

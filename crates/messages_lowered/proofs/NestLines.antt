@@ -17,13 +17,14 @@ use Rattle.machine_steps.specs.Layout.{Layout, in_bounds}
 use Rattle.machine_steps.specs.Message.{computes_left, par_part}
 use Rattle.machine_steps.specs.CopyLayout.{copy_layout}
 use Rattle.machine_steps.specs.Space.{space_count}
-use Rattle.node_code.specs.Flat.{slot}
-use Rattle.node_code.specs.Forms.{selections_in, selections_at, elemental_at}
-use Rattle.node_code.specs.Parallel.{reads_at, spot_of, indices_in}
-use Rattle.node_code.specs.NestStatements.{NestStatement, NestLeft, CopyLeft, when_spots, row_spots, form_reads, nest_tuples, nest_spot, copies_extents}
-use Rattle.lowered_expressions.specs.ExpressionCode.{index_form, index_subs}
+use Rattle.code_meaning.specs.Flat.{slot}
+use Rattle.code_meaning.specs.Forms.{selections_in, selections_at, elemental_at}
+use Rattle.code_meaning.specs.Parallel.{reads_at, spot_of, indices_in}
+use Rattle.node_code.specs.NestStatements.{NestStatement, NestLeft, CopyLeft}
+use Rattle.code_meaning.specs.NestStatements.{when_spots, row_spots, form_reads, nest_tuples, nest_spot, copies_extents}
+use Rattle.program_code.specs.ExpressionCode.{index_form, index_subs}
 use Rattle.lowered_expressions.specs.NestEvents.{whens_for, AreStored, index_for, Evaluates, IsPart}
-use Rattle.lowered_expressions.specs.NestTerms.{scalar_or_index, indexed, all_indexed, NamesFirst, AllNameFirst, SubscriptsFirst, AllSubscriptsFirst}
+use Rattle.nest_syntax.specs.NestTerms.{scalar_or_index, indexed, all_indexed, NamesFirst, AllNameFirst, SubscriptsFirst, AllSubscriptsFirst}
 use Rattle.lowered_expressions.specs.WellFormed.{IsSubscript, AreSubscripts, IsIndexed, AreIndexed}
 use Rattle.message_text.specs.Parts.{Setting, subscripts_in, named_in, all_named_in, copy_at, conditions_read, right_read, part_read, part_assigned, part_of, with_copies, with_copied, copies_of}
 use Rattle.message_text.specs.MessageText.{scalar_of, name_by, row_name, part_lines}

@@ -13,13 +13,15 @@ use Rattle.array_meaning.specs.declared.sections.Sequence.{Sequence}
 use Rattle.machine_steps.specs.Layout.{Layout, in_bounds}
 use Rattle.machine_steps.specs.Machine.{remapped, with_mapping}
 use Rattle.machine_steps.specs.Message.{par_part, computes_left}
-use Rattle.node_code.specs.Flat.{slot}
-use Rattle.node_code.specs.Forms.{selections_in, selections_at, elemental_in, elemental_at}
+use Rattle.code_meaning.specs.Flat.{slot}
+use Rattle.code_meaning.specs.Forms.{selections_in, selections_at, elemental_in, elemental_at}
 use Rattle.node_code.specs.Instructions as code
-use Rattle.node_code.specs.Instructions.{Instruction, NewMapping, remappings, Par, ParForall, ParNest, ParCopy, ParForallCopy, Remap}
-use Rattle.node_code.specs.Parallel as parallel
-use Rattle.node_code.specs.Parallel.{When, Assignment, Evaluation, reads_at, spot_of, indices_in, evaluation_extents, forall_tuples, forall_spot, forall_mask_tuples, copy_spot}
-use Rattle.lowered_expressions.specs.ExpressionCode.{index_subs, index_form}
+use Rattle.node_code.specs.Instructions.{Instruction, NewMapping, Par, ParForall, ParNest, ParCopy, ParForallCopy, Remap}
+use Rattle.code_meaning.specs.Instructions.{remappings}
+use Rattle.code_meaning.specs.Parallel as parallel
+use Rattle.node_code.specs.Parallel.{When, Assignment, Evaluation}
+use Rattle.code_meaning.specs.Parallel.{reads_at, spot_of, indices_in, evaluation_extents, forall_tuples, forall_spot, forall_mask_tuples, copy_spot}
+use Rattle.program_code.specs.ExpressionCode.{index_subs, index_form}
 use Rattle.lowered_expressions.specs.Passed.{Passed, IsMaskCopy, IsEvent, IsTrail}
 use Rattle.lowered_expressions.specs.WellFormed.{AreSubscripts, IsIndexed}
 use Rattle.message_text.specs.Parts.{Setting, subscripts_in, named_in, mask_reads, part_of, with_copy, with_copies, with_copied}
@@ -29,7 +31,8 @@ use Rattle.message_text.specs.InstructionLines.{instruction_lines}
 use Rattle.messages_lowered.specs.PassedText.{setting_by, passed_text}
 use Rattle.machine_steps.specs.Instr.{Remapping}
 use Rattle.statement_trail.specs.NestParts.{EnteredNest, NestPart, ScalarPart, ElementPart, ConditionPart}
-use Rattle.node_code.specs.NestStatements.{NestStatement, nest_tuples, nest_spot, copies_extents}
+use Rattle.node_code.specs.NestStatements.{NestStatement}
+use Rattle.code_meaning.specs.NestStatements.{nest_tuples, nest_spot, copies_extents}
 use Rattle.lowered_expressions.specs.NestEvents.{IsPart}
 use Rattle.message_text.specs.InstructionLines.{rows_after, copy_rows, nest_lines}
 use Rattle.messages_lowered.proofs.NestLines.{nest-lines-same}

@@ -7,7 +7,8 @@ use Rattle.array_meaning.specs.Runs.{Run}
 use Rattle.statement_trail.specs.Trail.{Trail}
 use Rattle.machine_steps.specs.Layout.{Layout}
 use Rattle.machine_steps.specs.Machine.{Machine, steps}
-use Rattle.node_code.specs.Instructions.{Instruction, NewMapping, ArrayTable, meaning_of, remappings}
+use Rattle.node_code.specs.Instructions.{Instruction, NewMapping}
+use Rattle.code_meaning.specs.Instructions.{ArrayTable, meaning_of, remappings}
 use Rattle.well_formed.specs.Lowered.{EndsAs}
 use Rattle.lowered_expressions.specs.Passed.{Passed, passed}
 use Rattle.passed_states.specs.PassedLayouts.{layouts_after}

@@ -9,7 +9,8 @@ use Rattle.storage.specs.Effect.{then_apply}
 use Rattle.nest_order.specs.Items as items
 use Rattle.nest_order.specs.Items.{Items, Branches, exec, exec_branches}
 use Rattle.nest_order.specs.Nest.{evaluated}
-use Rattle.nest_order.specs.Copies.{Kind, has_copies, scalar_at}
+use Rattle.nest_syntax.specs.NestKinds.{Kind, has_copies}
+use Rattle.nest_order.specs.Copies.{scalar_at}
 use Rattle.array_meaning.specs.Terms.{Term, Number, Scalar, Index, Element, Section, Apply, Reduce, Terms, NoTerm, More}
 use Rattle.array_meaning.specs.Statements.{Loop, Block, Done, Then, Statement, AssignScalar, AssignElement, AssignSection, If, Do, Where, Forall, Print, Stop, Exit, Cycle, Continue, Redistribute, Mark, Arms, NoArm, Arm}
 use Rattle.array_meaning.specs.Faults.{Cause, Fault, ◌>>=◌}

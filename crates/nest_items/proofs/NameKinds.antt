@@ -6,11 +6,10 @@ use Rattle.std.proofs.lemmas.List.{reverse-append}
 use Rattle.std.proofs.lemmas.Bool.Decides.{Decides-eqb}
 use Rattle.op_tables.specs.declared.join.Join.{Join}
 use Rattle.op_tables.specs.Joins.{IsOverNumbers}
-use Rattle.nest_order.specs.Copies.{Kind, Shared, New, Assigned, Reduced, has_copies}
+use Rattle.nest_syntax.specs.NestKinds.{Kind, Shared, New, Assigned, Reduced, has_copies, kind_of}
 use Rattle.array_meaning.specs.Statements.{Loop, Nest, Block}
 use Rattle.array_meaning.specs.Iterations.{is_in, nest_indices}
 use Rattle.array_meaning.specs.Touches.{assigned_in}
-use Rattle.nest_items.specs.NestKinds.{kind_of}
 use Rattle.nest_items.specs.Settled.{without}
 use Rattle.nest_items.specs.Standing.{AreKinds}
 use Rattle.nest_items.specs.NestForm.{LoopsKeep, IsNest}

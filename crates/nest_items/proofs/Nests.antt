@@ -5,7 +5,7 @@ use Rattle.hpf_base.specs.ElementOrder.{product}
 use Rattle.nest_order.specs.Turns.{in_turn}
 use Rattle.storage.specs.Storage.{Storage}
 use Rattle.nest_order.specs.Nest.{plain_loops}
-use Rattle.nest_order.specs.Copies.{Kind}
+use Rattle.nest_syntax.specs.NestKinds.{Kind}
 use Rattle.nest_order.proofs.Numbering.{in_turn-same}
 use Rattle.array_meaning.specs.Terms.{Term, Control}
 use Rattle.array_meaning.specs.Statements.{Loop, Nest, Block, Do, Unmarked, Outermost}

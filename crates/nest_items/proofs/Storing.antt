@@ -3,7 +3,8 @@ use Rattle.std.proofs.Common.{◌≡◌, ℕ, zero, suc, ◌+◌, ◌<◌, List,
 use Rattle.std.proofs.lemmas.Bool.{cases_eq, cases_lt}
 use Rattle.std.proofs.lemmas.List.{get_or_past}
 use Rattle.storage.specs.Storage.{Storage, Spot, row_of, read, write}
-use Rattle.nest_order.specs.Copies.{Kind, has_copies, scalar_at}
+use Rattle.nest_syntax.specs.NestKinds.{Kind, has_copies}
+use Rattle.nest_order.specs.Copies.{scalar_at}
 use Rattle.storage.proofs.StorageLemmas.{Alike-write, read-write_at, read-write_other}
 use Rattle.array_meaning.specs.State.{State, Array, no_array, scalar, array, set_scalar, store}
 use Rattle.nest_items.specs.StateStorage.{scalars_in, arrays_in, state_of, rows_from, storage_of}

@@ -1,6 +1,5 @@
 pub mod StateStorage
 pub mod NestItems
-pub mod NestKinds
 pub mod Naming
 pub mod Settled
 pub mod Standing

@@ -1,7 +1,7 @@
 -- How runs end that end as the statements of the law of nests.
 use Rattle.std.specs.Prelude.{◌≡◌, ℕ, length, Bool, true, Result, Ok, Err}
 use Rattle.storage.specs.Storage.{Storage, row_of}
-use Rattle.nest_order.specs.Copies.{Kind, has_copies}
+use Rattle.nest_syntax.specs.NestKinds.{Kind, has_copies}
 use Rattle.array_meaning.specs.Faults.{Fault}
 use Rattle.array_meaning.specs.State.{State}
 use Rattle.array_meaning.specs.Runs.{Run, normal, Faulted}

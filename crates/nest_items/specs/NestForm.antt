@@ -1,12 +1,13 @@
 -- What may stand in a nest by its form alone (HPF 2.0, 5.1): as `Standing`, without a state.
-use Rattle.std.specs.Prelude.{◌≡◌, ℕ, List, [], ◌∷◌, ℤ, Bool, true, false, ◌&&◌, Option, Some, None, option_and_then, FitsSigned}
+use Rattle.std.specs.Prelude.{◌≡◌, ℕ, List, [], ◌∷◌, ℤ, Bool, true, false, ◌&&◌, Some, None, FitsSigned}
 use Rattle.std.specs.Int.{w64}
 use Rattle.op_tables.specs.declared.op.Op.{Op}
 use Rattle.op_tables.specs.declared.op.Op.TheVariants as op
-use Rattle.op_tables.specs.Operators.{operator_value, is_zero}
-use Rattle.nest_order.specs.Copies.{Kind, has_copies}
+use Rattle.op_tables.specs.Operators.{is_zero}
+use Rattle.nest_syntax.specs.NestKinds.{Kind, has_copies}
 use Rattle.array_meaning.specs.Terms.{Term, Number, Scalar, Index, Element, Apply, Reduce, Terms, NoTerm, More}
 use Rattle.array_meaning.specs.Statements.{Loop, Nest, Block, Done, Then, Statement, AssignScalar, AssignElement, If, Do, Continue, Mark, Unmarked, Arms, NoArm, Arm}
+use Rattle.nest_syntax.specs.ClosedTerms.{closed_value}
 use Rattle.nest_items.specs.Naming.{IsNaming}
 use Rattle.nest_items.specs.Standing.{IsFixedTerm, AreFixedTerms, Stands, RightKind, has_no_loop, have_no_loop}
 use Rattle.nest_items.specs.Settled.{without}
@@ -66,21 +67,6 @@ module _ (all : ℕ → Bool) where
     pub ArmsTextsKeep : Arms → Type 0
     ArmsTextsKeep NoArm = Unit {0}
     ArmsTextsKeep (Arm line t body arms) = IsPlain t × TextsKeep body × ArmsTextsKeep arms
-
--- the value of an expression of numbers and operators, where it has one
-abbrev pub with_closed : Option ℤ → Option (List ℤ) → Option (List ℤ)
-with_closed (Some v) (Some vs) = Some (v ∷ vs)
-with_closed a b = None
-
-abbrev mutual
-  pub closed_value : Term → Option ℤ
-  closed_value (Number v) = Some v
-  closed_value (Apply o ts) = option_and_then (operator_value o) (closed_values ts)
-  closed_value t = None
-
-  pub closed_values : Terms → Option (List ℤ)
-  closed_values NoTerm = Some []
-  closed_values (More t ts) = with_closed (closed_value t) (closed_values ts)
 
 -- a constant other than 0
 pub record IsStep (t : Term) : Type 0 where

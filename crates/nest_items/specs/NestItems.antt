@@ -5,21 +5,18 @@ use Rattle.storage.specs.Effect.{Effect, Put, Fail}
 use Rattle.nest_order.specs.Items as items
 use Rattle.nest_order.specs.Items.{Items, Branches, EndIf, Branch, Repeat}
 use Rattle.nest_order.specs.Nest.{Interpretation}
-use Rattle.nest_order.specs.Copies.{Kind, scalar_at}
-use Rattle.array_meaning.specs.Terms.{Term, Terms}
+use Rattle.nest_syntax.specs.NestKinds.{Kind}
+use Rattle.nest_order.specs.Copies.{scalar_at}
+use Rattle.array_meaning.specs.Terms.{Term}
 use Rattle.array_meaning.specs.Statements.{Nest, Block, Done, Then, Statement, AssignScalar, AssignElement, If, Do, Arms, NoArm, Arm}
 use Rattle.array_meaning.specs.Faults.{Cause, Fault, ◌>>=◌}
 use Rattle.array_meaning.specs.State.{State, set_scalar, place_in}
 use Rattle.array_meaning.specs.Expressions.{value, values}
 use Rattle.array_meaning.specs.Iterations.{values_of, turn_value, at_iteration}
+use Rattle.nest_syntax.specs.Assigning.{Assigning, ToScalar, ToElement}
 use Rattle.nest_items.specs.StateStorage.{state_of}
 
 -- ---- texts
-
--- an assignment to a scalar, or to an element by its subscripts
-pub data Assigning : Type 0 where
-  ToScalar : ℕ → Term → Assigning
-  ToElement : ℕ → Terms → Term → Assigning
 
 -- a text of a line in an iteration: the state at the entry, with the values of the indices that are round it. A scalar that no row of the
 -- storage has, as an index, is read there

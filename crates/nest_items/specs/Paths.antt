@@ -1,6 +1,6 @@
 -- What every path through a block has assigned: a path takes one branch of an IF, and may take no turn of a DO (HPF 2.0, 5.1).
 use Rattle.std.specs.Prelude.{◌≡◌, ℕ, Bool, true, ◌&&◌, ◌||◌, nat_eq}
-use Rattle.nest_order.specs.Copies.{Kind, New}
+use Rattle.nest_syntax.specs.NestKinds.{Kind, New}
 use Rattle.array_meaning.specs.Terms.{Term, Scalar, Apply, Terms, NoTerm, More}
 use Rattle.array_meaning.specs.Statements.{Block, Done, Then, Statement, AssignScalar, AssignElement, If, Do, Arms, NoArm, Arm}
 

@@ -6,14 +6,13 @@ use Rattle.op_tables.specs.declared.op.Op.{Op}
 use Rattle.op_tables.specs.Joins.{IsOverNumbers}
 use Rattle.op_tables.specs.Operators.{wrapped}
 use Rattle.op_tables.specs.Reductions.{joined_by}
-use Rattle.nest_order.specs.Copies.{Kind, Shared, New, Assigned, Reduced, has_copies}
+use Rattle.nest_syntax.specs.NestKinds.{Kind, Shared, New, Assigned, Reduced, has_copies, is_read, is_difference, reduction_term}
 use Rattle.array_meaning.specs.Terms.{Term, Number, Scalar, Index, Element, Section, Apply, Reduce, Terms, NoTerm, More}
 use Rattle.array_meaning.specs.Statements.{Loop, Nest, Block, Done, Then, Statement, AssignScalar, AssignElement, If, Do, Continue, Mark, Unmarked, Arms, NoArm, Arm}
 use Rattle.array_meaning.specs.State.{State, set_scalar}
 use Rattle.array_meaning.specs.Expressions.{index_values}
 use Rattle.array_meaning.specs.Iterations.{is_in, values_of, turn_value, iteration_count, at_iteration}
 use Rattle.array_meaning.specs.Touches.{assigned_in, hidden_scalars}
-use Rattle.nest_items.specs.NestKinds.{is_read, is_difference, reduction_term}
 use Rattle.nest_items.specs.Naming.{IsNaming, AreNaming}
 use Rattle.nest_items.specs.Settled.{without}
 

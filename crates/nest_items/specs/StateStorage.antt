@@ -2,7 +2,8 @@
 -- the name with place k.
 use Rattle.std.specs.Prelude.{ℕ, suc, List, [], ◌∷◌, ℤ, if◌then◌else◌}
 use Rattle.storage.specs.Storage.{Storage, row_of, read}
-use Rattle.nest_order.specs.Copies.{Kind, has_copies, scalar_at}
+use Rattle.nest_syntax.specs.NestKinds.{Kind, has_copies}
+use Rattle.nest_order.specs.Copies.{scalar_at}
 use Rattle.array_meaning.specs.State.{State, Array, scalar}
 
 -- `kinds` says what each name is to the nest

@@ -2,7 +2,7 @@
 
 ghost use Rattle.std.specs.Prelude.{◌≡◌, ℕ, Bool, Ok};
 ghost use Rattle.storage.specs.Storage.{Storage};
-ghost use Rattle.nest_order.specs.Copies.{Kind};
+ghost use Rattle.nest_syntax.specs.NestKinds.{Kind};
 ghost use Rattle.nest_order.specs.Nest.{plain_loops};
 ghost use Rattle.array_meaning.specs.State.{State};
 ghost use Rattle.array_meaning.specs.Statements.{Loop, Nest, Block, Do, Outermost};

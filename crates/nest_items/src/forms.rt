@@ -3,7 +3,7 @@
 ghost use Rattle.std.specs.Prelude.{◌≡◌, ℕ, Bool, Ok, FitsSigned};
 ghost use Rattle.std.specs.Int.{w64};
 ghost use Rattle.op_tables.specs.Operators.{wrapped};
-ghost use Rattle.nest_order.specs.Copies.{Kind};
+ghost use Rattle.nest_syntax.specs.NestKinds.{Kind};
 ghost use Rattle.array_meaning.specs.State.{State, scalar};
 ghost use Rattle.array_meaning.specs.Statements.{Loop, Nest, Block};
 ghost use Rattle.array_meaning.specs.Expressions.{index_values};

@@ -8,7 +8,7 @@
 //!
 //! - `StateStorage`, `NestItems`: a state over a storage of rows. What a text does to a storage is what the meaning does to that state, so
 //!   expressions have no second meaning.
-//! - `NestKinds`, `Naming`, `Standing`, `Paths`: what each name is to a nest, and what may stand in one, by rules over resolved statements.
+//! - `Naming`, `Standing`, `Paths`: what may stand in a nest, by what each name is to it (`nest_syntax`) and by rules over resolved statements.
 //! - `Settled`, `NestEnds`: which state is left: the indices of loops are as the loops leave them, and all else as the storage has it.
 //! - `NestForm`, `BlockForms` and `keeping_nests_stand`: the same rules without a state, of a nest and of all nests in a block, with what its texts are and
 //!   how many loops it has at most. What keeps them stands in each state whose scalars are numbers of 64 bits.

@@ -10,14 +10,14 @@ use Rattle.array_meaning.specs.declared.sections.Sequence.{Sequence}
 use Rattle.array_meaning.specs.Sections.{sequence_of, value_count}
 use Rattle.array_meaning.specs.Elementals.{operated}
 use Rattle.array_meaning.specs.Expressions.{value, values}
-use Rattle.node_code.specs.Flat.{slot, flat_value, flat_values, slots_value}
-use Rattle.lowered_expressions.specs.ExpressionCode.{index_flat, index_flats}
+use Rattle.code_meaning.specs.Flat.{slot, flat_value, flat_values, slots_value}
+use Rattle.program_code.specs.ExpressionCode.{index_flat, index_flats}
 use Rattle.lowered_expressions.specs.WellFormed.{IsSubscript, AreSubscripts}
 use Rattle.lowered_expressions.proofs.Terms.{total}
 use Rattle.nest_items.specs.Naming.{IsNaming, AreNaming}
 use Rattle.nest_items.specs.NestForm.{IsStep}
 use Rattle.nest_items.proofs.FormStands.{closed_is}
-use Rattle.nest_join.specs.CodedBlocks.{step_flat}
+use Rattle.program_code.specs.NestCode.{step_flat}
 
 -- a bound has no fault, and is its value by the names in it
 module _ (n : ℕ) where

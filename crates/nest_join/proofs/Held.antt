@@ -1,7 +1,8 @@
 -- After a nest the rows hold the arrays of the state that it leaves, and the slots its scalars, but for indices.
 use Rattle.std.proofs.Common.{◌≡◌, ℕ, ◌<◌, List, [], length, slice_index_or, ℤ, pos, Bool, true, false, true≢false, Some, if◌then◌else◌, refl, sym, ap, ◌∙◌, subst, arith, ext_get_or}
 use Rattle.storage.specs.Storage.{Storage, row_of, read}
-use Rattle.nest_order.specs.Copies.{has_copies, scalar_at}
+use Rattle.nest_syntax.specs.NestKinds.{has_copies}
+use Rattle.nest_order.specs.Copies.{scalar_at}
 use Rattle.nest_order.proofs.Copying.{shared_of}
 use Rattle.array_meaning.specs.Statements.{Loop, Block}
 use Rattle.array_meaning.specs.Faults.{Fault}
@@ -9,19 +10,19 @@ use Rattle.array_meaning.specs.State.{State, Array, no_array, array, scalar, ele
 use Rattle.array_meaning.specs.Sections.{subscripts_at}
 use Rattle.array_meaning.specs.Runs.{Run}
 use Rattle.machine_steps.specs.Instr.{Instr}
-use Rattle.node_code.specs.Flat.{slot}
-use Rattle.node_code.specs.Forms.{selections_at}
-use Rattle.node_code.specs.Parallel.{shape_of, indices_in}
-use Rattle.lowered_expressions.specs.ExpressionCode.{index_subs}
+use Rattle.code_meaning.specs.Flat.{slot}
+use Rattle.code_meaning.specs.Forms.{selections_at}
+use Rattle.code_meaning.specs.Parallel.{shape_of, indices_in}
+use Rattle.program_code.specs.ExpressionCode.{index_subs}
 use Rattle.lowered_expressions.proofs.Terms.{HoldsArrays}
-use Rattle.nest_items.specs.NestItems.{Assigning, ToScalar, ToElement}
+use Rattle.nest_syntax.specs.Assigning.{Assigning, ToScalar, ToElement}
 use Rattle.nest_items.specs.StateStorage.{state_of}
 use Rattle.nest_items.proofs.Storing.{scalar-at, array-at, fixed-scalar, state-scalars, if_so, if_not, by_cases}
 use Rattle.nest_machine.specs.Body.{count_body}
 use Rattle.nest_machine.specs.Trace.{Data}
 use Rattle.nest_machine.specs.PlacedEnds.{OffRow}
 use Rattle.nest_texts.specs.NestTexts.{left_spot}
-use Rattle.lowered_expressions.specs.NestTerms.{all_indexed}
+use Rattle.nest_syntax.specs.NestTerms.{all_indexed}
 use Rattle.nest_join.specs.NestNames.{NestNames, index_of, IsText}
 use Rattle.nest_join.specs.NestTexts.{NestAction, assignment_text, texts_of, HoldsEntry}
 use Rattle.nest_join.specs.CodedBlocks.{IsCodedBlock}

@@ -1,14 +1,14 @@
 -- After a nest that has an iteration the index of each loop in it has its value in its slot.
 use Rattle.std.proofs.Common.{◌≡◌, ℕ, ◌<◌, List, [], ℤ, Bool, true, None, refl, sym, ◌∙◌, arith, true≢false}
 use Rattle.storage.specs.Storage.{Storage}
-use Rattle.nest_order.specs.Copies.{has_copies}
+use Rattle.nest_syntax.specs.NestKinds.{has_copies}
 use Rattle.array_meaning.specs.Statements.{Loop, Block}
 use Rattle.array_meaning.specs.Faults.{Fault}
 use Rattle.array_meaning.specs.State.{State, scalar}
 use Rattle.array_meaning.specs.Runs.{Run}
 use Rattle.array_meaning.specs.Iterations.{iteration_count, at_iteration}
 use Rattle.machine_steps.specs.Instr.{Instr}
-use Rattle.node_code.specs.Flat.{slot}
+use Rattle.code_meaning.specs.Flat.{slot}
 use Rattle.nest_items.proofs.Storing.{by_cases}
 use Rattle.nest_machine.specs.Trace.{Data}
 use Rattle.nest_machine.specs.Finals.{NotAmong}

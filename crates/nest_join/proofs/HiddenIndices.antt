@@ -1,7 +1,7 @@
 -- Indices of loops but for those of the loops round a place.
 use Rattle.std.proofs.Common.{◌≡◌, ℕ, ◌<◌, ◌≤◌, nat_eq, List, [], ◌∷◌, map, ℤ, Bool, true, false, if◌then◌else◌, refl, sym, ap, arith}
 use Rattle.std.proofs.lemmas.Bool.Decides.{nat_tests}
-use Rattle.node_code.specs.Flat.{slot}
+use Rattle.code_meaning.specs.Flat.{slot}
 use Rattle.nest_machine.specs.Slots.{SameSlots}
 use Rattle.nest_join.specs.CodedBlocks.{hidden_in}
 

@@ -8,7 +8,7 @@ use Rattle.array_meaning.specs.State.{State, scalar, set_scalar}
 use Rattle.array_meaning.specs.Statements.{Block, Done, Then, Statement, AssignScalar, AssignElement, AssignSection, If, Do, Unmarked, Outermost, Where, Forall, Print, Stop, Exit, Cycle, Continue, Redistribute, Arms, NoArm, Arm}
 use Rattle.array_meaning.specs.declared.sections.Sequence.{Sequence}
 use Rattle.array_meaning.specs.Iterations.{values_of, turn_value}
-use Rattle.node_code.specs.Flat.{slot}
+use Rattle.code_meaning.specs.Flat.{slot}
 use Rattle.nest_items.specs.Standing.{has_no_loop, is_no_loop, have_no_loop}
 use Rattle.nest_items.specs.Settled.{settled, settled_by}
 use Rattle.nest_machine.specs.Counting.{Counting, trips_at}
@@ -16,8 +16,8 @@ use Rattle.nest_machine.specs.Body.{body_slots}
 use Rattle.nest_machine.specs.Slots.{headed, first_trip, trip_slots, left_slots, slots_after, slots_after_arms}
 use Rattle.nest_machine.proofs.Slots.{same-on, same-headed, same-first, same-trip, same-left, same-after}
 use Rattle.nest_texts.specs.NestLoops.{counting_at}
-use Rattle.nest_texts.specs.NestInstructions as forms
-use Rattle.nest_texts.specs.NestInstructions.{bounds_of, body_of, arms_of}
+use Rattle.program_code.specs.NestInstructions as forms
+use Rattle.nest_texts.specs.NestBodies.{bounds_of, body_of, arms_of}
 use Rattle.nest_join.specs.NestNames.{NestNames}
 use Rattle.nest_join.specs.NestTexts.{HoldsEntry}
 use Rattle.nest_join.specs.CodedBlocks.{hidden_in, IsCodedBlock, IsCodedStatement, AreCodedArms, CodedBody, CodedArms, loop_bounds, else_arm, coded, coded_in, coded_arms}

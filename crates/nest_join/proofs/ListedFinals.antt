@@ -2,14 +2,16 @@
 use Rattle.std.proofs.Common.{◌≡◌, ℕ, suc, ◌+◌, ◌<◌, ◌≤◌, ◌⊎◌, inl, inr, nat_eq, List, [], ◌∷◌, ℤ, Bool, true, false, Some, if◌then◌else◌, refl, sym, ◌∙◌, arith}
 use Rattle.std.specs.List.{Contains}
 use Rattle.storage.specs.Storage.{Storage, read}
-use Rattle.nest_order.specs.Copies.{Kind, Shared, New, Assigned, Reduced, has_copies, scalar_at}
-use Rattle.node_code.specs.Flat.{slot}
-use Rattle.nest_machine.specs.Finals.{Final, final_slot}
+use Rattle.nest_syntax.specs.NestKinds.{Kind, Shared, New, Assigned, Reduced, has_copies}
+use Rattle.nest_order.specs.Copies.{scalar_at}
+use Rattle.code_meaning.specs.Flat.{slot}
+use Rattle.nest_syntax.specs.Finals.{Final}
+use Rattle.nest_machine.specs.Finals.{final_slot}
 use Rattle.nest_machine.specs.PlacedEnds.{OfScalar, OfMarks, IsPlacedFinal}
 use Rattle.statement_trail.specs.NestParts.{index_in}
 use Rattle.nest_join.specs.NestNames.{NestNames}
 use Rattle.nest_join.specs.NestTexts.{texts_of}
-use Rattle.nest_join.specs.Places.{conditions_from, marks_from, place_of, is_nest_row, marks_of, final_by, finals_from, finals_of, AreScalars}
+use Rattle.program_code.specs.Places.{conditions_from, marks_from, place_of, is_nest_row, marks_of, final_by, finals_from, finals_of, AreScalars}
 use Rattle.nest_join.proofs.Names.{eq-is}
 use Rattle.nest_join.proofs.RowPlaces.{rows-before, name-row, slot-is}
 use Rattle.nest_join.proofs.PairedTexts.{are-paired, place-here}

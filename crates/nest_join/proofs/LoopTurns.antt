@@ -10,15 +10,15 @@ use Rattle.array_meaning.specs.Sections.{value_count}
 use Rattle.array_meaning.specs.Expressions.{value}
 use Rattle.array_meaning.specs.Forall.{indices_at}
 use Rattle.array_meaning.specs.Iterations.{values_of, turn_value, nest_axes, at_iteration}
-use Rattle.node_code.specs.Flat.{slot, or_zero, slots_value}
-use Rattle.lowered_expressions.specs.ExpressionCode.{index_flat}
+use Rattle.code_meaning.specs.Flat.{slot, or_zero, slots_value}
+use Rattle.program_code.specs.ExpressionCode.{index_flat}
 use Rattle.nest_items.proofs.Turns.{next_value, first_value}
 use Rattle.nest_machine.specs.Counting.{Counting, trips_at}
 use Rattle.nest_machine.specs.Body.{Bounds}
 use Rattle.nest_machine.specs.Slots.{SameSlots, headed, first_trip, trip_slots, left_slots, again, next_index, advanced}
 use Rattle.nest_machine.proofs.Slots.{same-on, same-set}
 use Rattle.nest_texts.specs.NestLoops.{counting_at}
-use Rattle.nest_texts.specs.NestInstructions.{bounds_of}
+use Rattle.nest_texts.specs.NestBodies.{bounds_of}
 use Rattle.nest_join.specs.NestNames.{NestNames, indices_of}
 use Rattle.nest_join.specs.NestTexts.{state_at, HoldsEntry}
 use Rattle.nest_join.specs.CodedBlocks.{IsBoundName, IsBound, IsCodedLoop, loop_bounds}

@@ -1,8 +1,8 @@
 -- The copies of a nest are made in rows of their own, each once.
 use Rattle.std.proofs.Common.{◌≡◌, ℕ, zero, suc, ◌+◌, ◌<◌, ◌≤◌, List, [], ◌∷◌, ◌++◌, length, sym, arith}
-use Rattle.nest_order.specs.Copies.{Kind, Shared, New, Assigned, Reduced}
+use Rattle.nest_syntax.specs.NestKinds.{Kind, Shared, New, Assigned, Reduced}
 use Rattle.nest_machine.specs.Entries.{Entry, at_zero, final_entries, finals_entries, conditions_entries, nest_entries, NotMade, AreRows}
-use Rattle.nest_join.specs.Places.{conditions_from, marks_from, final_by, finals_from, finals_of}
+use Rattle.program_code.specs.Places.{conditions_from, marks_from, final_by, finals_from, finals_of}
 
 not-append : (r : ℕ) (xs ys : List Entry) → NotMade r xs → NotMade r ys → NotMade r (xs ++ ys)
 not-append r [] ys h g = g

@@ -5,7 +5,7 @@ use Rattle.expression_rules.specs.declared.dims.Dim.{Dim}
 use Rattle.storage.specs.Storage.{Storage}
 use Rattle.array_meaning.specs.State.{State, Array, no_array, array, scalar}
 use Rattle.array_meaning.specs.Iterations.{with_indices}
-use Rattle.node_code.specs.Flat.{slot}
+use Rattle.code_meaning.specs.Flat.{slot}
 use Rattle.lowered_expressions.proofs.Terms.{HoldsScalars, HoldsArrays}
 use Rattle.statement_trail.specs.NestParts.{index_in}
 use Rattle.nest_join.specs.MachineState.{listed_from, machine_array, machine_state}

@@ -30,9 +30,9 @@ use Rattle.nest_machine.proofs.Slots.{same-refl}
 use Rattle.nest_machine.proofs.KeptFaults.{faults, no_left}
 use Rattle.nest_machine.proofs.PlacedActs.{act_number}
 use Rattle.nest_machine.proofs.Nests.{nest-runs}
-use Rattle.node_code.specs.NestStatements.{iterations_at}
+use Rattle.code_meaning.specs.NestStatements.{iterations_at}
 use Rattle.nest_texts.specs.NestLoops.{counting_at}
-use Rattle.nest_texts.specs.NestInstructions.{nest_layout}
+use Rattle.nest_texts.specs.NestBodies.{nest_layout}
 use Rattle.nest_texts.proofs.Counting.{is-counting}
 use Rattle.nest_join.specs.NestNames.{NestNames}
 use Rattle.nest_join.specs.NestTexts.{NestAction, NestCondition, texts_of, action_at, condition_at}

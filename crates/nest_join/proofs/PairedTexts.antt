@@ -1,25 +1,25 @@
 -- A text of a nest assigns the copies of a scalar and sets its marks, or does neither.
 use Rattle.std.proofs.Common.{◌≡◌, ℕ, ◌+◌, ◌<◌, ◌⊎◌, inl, inr, ⊎_elim, List, length, slice_index_or, ℤ, true, Option, Some, None, option_map, Result, Ok, Err, sym, ap, ◌∙◌, subst, arith}
 use Rattle.std.proofs.lemmas.Bool.{cases_eq}
-use Rattle.nest_order.specs.Copies.{Kind, Shared, New, Assigned, Reduced, has_copies}
+use Rattle.nest_syntax.specs.NestKinds.{Kind, Shared, New, Assigned, Reduced, has_copies}
 use Rattle.array_meaning.specs.Terms.{Term}
 use Rattle.array_meaning.specs.Faults.{Fault, ◌>>=◌}
 use Rattle.array_meaning.specs.State.{element_place, if_in_bounds}
 use Rattle.array_meaning.specs.Sections.{subscripts_at}
 use Rattle.machine_steps.specs.Instr.{Nothing}
-use Rattle.node_code.specs.Forms.{selections_at}
-use Rattle.node_code.specs.Parallel.{at_line, outcome_of, shape_of, indices_in}
-use Rattle.lowered_expressions.specs.ExpressionCode.{index_subs}
-use Rattle.node_code.specs.NestStatements.{form_value, nest_place}
+use Rattle.code_meaning.specs.Forms.{selections_at}
+use Rattle.code_meaning.specs.Parallel.{at_line, outcome_of, shape_of, indices_in}
+use Rattle.program_code.specs.ExpressionCode.{index_subs}
+use Rattle.code_meaning.specs.NestStatements.{form_value, nest_place}
 use Rattle.nest_texts.specs.NestTexts.{left_spot, text_outcome}
-use Rattle.lowered_expressions.specs.NestTerms.{all_indexed}
-use Rattle.nest_items.specs.NestItems.{Assigning, ToScalar, ToElement}
+use Rattle.nest_syntax.specs.NestTerms.{all_indexed}
+use Rattle.nest_syntax.specs.Assigning.{Assigning, ToScalar, ToElement}
 use Rattle.nest_machine.specs.BodyCode.{copy_spot}
 use Rattle.nest_machine.specs.PlacedEnds.{OffRow, PairedTexts}
 use Rattle.statement_trail.specs.NestParts.{index_in}
 use Rattle.nest_join.specs.NestNames.{NestNames, index_of, IsText}
 use Rattle.nest_join.specs.NestTexts.{assignment_text, texts_of}
-use Rattle.nest_join.specs.Places.{conditions_from, marks_from, place_by, place_of, marks_by, marks_of, AreScalars}
+use Rattle.program_code.specs.Places.{conditions_from, marks_from, place_by, place_of, marks_by, marks_of, AreScalars}
 use Rattle.nest_join.proofs.Names.{in-from}
 
 pub no-mark : (q : ℕ) → None ≡ Some q → ⊥

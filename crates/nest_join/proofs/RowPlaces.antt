@@ -1,11 +1,11 @@
 -- No two rows of a nest lie at one place, and no marks lie where a row of the nest does.
 use Rattle.std.proofs.Common.{◌≡◌, ℕ, suc, ◌+◌, ◌<◌, ◌≤◌, nat_eq, nat_lt, List, [], ◌∷◌, length, slice_index_or, Bool, true, false, Option, Some, None, if◌then◌else◌, refl, sym, ap, ◌∙◌, subst, arith}
 use Rattle.std.proofs.lemmas.Bool.Decides.{nat_tests}
-use Rattle.nest_order.specs.Copies.{Kind, Shared, New, Assigned, Reduced}
+use Rattle.nest_syntax.specs.NestKinds.{Kind, Shared, New, Assigned, Reduced}
 use Rattle.nest_machine.specs.Finals.{final_slot, NotAmong, AreApart}
 use Rattle.nest_machine.specs.Placed.{IsPlace}
 use Rattle.statement_trail.specs.NestParts.{index_in}
-use Rattle.nest_join.specs.Places.{AreDistinct, conditions_from, marks_from, place_by, place_of, is_nest_row, marks_by, marks_of, final_by, finals_from, finals_of, AreScalars}
+use Rattle.program_code.specs.Places.{AreDistinct, conditions_from, marks_from, place_by, place_of, is_nest_row, marks_by, marks_of, final_by, finals_from, finals_of, AreScalars}
 use Rattle.nest_join.proofs.Names.{in-from}
 
 lt-is : (a b : ℕ) → nat_lt a b ≡ true → a < b

@@ -3,7 +3,8 @@ use Rattle.std.proofs.Common.{◌≡◌, ℕ, suc, ◌+◌, ◌/◌, ◌<◌, �
 use Rattle.std.proofs.lemmas.Bool.{cases_lt}
 use Rattle.std.proofs.lemmas.List.{length-map, length-reverse, get_or_append_left, get_or-append-add}
 use Rattle.storage.specs.Storage.{Storage, row_of, read}
-use Rattle.nest_order.specs.Copies.{has_copies, scalar_at, seen_by}
+use Rattle.nest_syntax.specs.NestKinds.{has_copies}
+use Rattle.nest_order.specs.Copies.{scalar_at, seen_by}
 use Rattle.nest_order.proofs.Copying.{seen-copy}
 use Rattle.array_meaning.specs.Terms.{Term, Number, Scalar, Index, Element, Section, Apply, Reduce, Terms, NoTerm, More}
 use Rattle.array_meaning.specs.State.{State, Array, no_array, array, scalar}
@@ -13,8 +14,8 @@ use Rattle.array_meaning.specs.declared.sections.Sequence.{Sequence}
 use Rattle.array_meaning.specs.Forall.{indices_at}
 use Rattle.array_meaning.specs.Iterations.{values_of, nest_axes, nest_indices, at_iteration}
 use Rattle.machine_steps.specs.Machine.{value_by}
-use Rattle.node_code.specs.Flat.{slot}
-use Rattle.node_code.specs.Parallel.{shape_of}
+use Rattle.code_meaning.specs.Flat.{slot}
+use Rattle.code_meaning.specs.Parallel.{shape_of}
 use Rattle.nest_items.specs.Naming.{IsNaming, AreNaming}
 use Rattle.nest_items.specs.StateStorage.{state_of}
 use Rattle.nest_items.proofs.Storing.{scalar-at, array-at, fixed-scalar, if_so, if_not}
@@ -22,8 +23,8 @@ use Rattle.nest_machine.specs.Slots.{SameSlots}
 use Rattle.nest_machine.specs.Placed.{Placed}
 use Rattle.nest_machine.proofs.PlacedCopies.{row-each, length-each}
 use Rattle.nest_machine.proofs.Rows.{row-beyond}
-use Rattle.node_code.specs.NestStatements.{row_spots}
-use Rattle.lowered_expressions.specs.NestTerms.{scalar_or_index, HasNoIndex, HaveNoIndex}
+use Rattle.code_meaning.specs.NestStatements.{row_spots}
+use Rattle.nest_syntax.specs.NestTerms.{scalar_or_index, HasNoIndex, HaveNoIndex}
 use Rattle.nest_values.specs.NestTerms.{IsAlike, AreAlike}
 use Rattle.statement_trail.specs.NestParts.{index_in}
 use Rattle.nest_join.specs.NestNames.{NestNames, indices_of, index_of, IsFixedHere, IsCopyName, IsScalarName, IsArrayName}

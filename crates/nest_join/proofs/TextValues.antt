@@ -4,7 +4,8 @@ use Rattle.op_tables.specs.Operators.{is_true}
 use Rattle.storage.specs.Storage.{Storage, Spot, read}
 use Rattle.storage.specs.Effect.{Put}
 use Rattle.nest_order.specs.LastValue.{copy_at}
-use Rattle.nest_order.specs.Copies.{has_copies, scalar_at, seen_by, own_effect, copied}
+use Rattle.nest_syntax.specs.NestKinds.{has_copies}
+use Rattle.nest_order.specs.Copies.{scalar_at, seen_by, own_effect, copied}
 use Rattle.array_meaning.specs.Terms.{Term, Terms}
 use Rattle.array_meaning.specs.Faults.{Cause, ◌>>=◌}
 use Rattle.array_meaning.specs.State.{State, Array, array, element_place, if_in_bounds, place_in}
@@ -13,17 +14,18 @@ use Rattle.array_meaning.specs.Expressions.{value, values}
 use Rattle.array_meaning.specs.Forall.{indices_at}
 use Rattle.array_meaning.specs.Iterations.{nest_axes}
 use Rattle.machine_steps.specs.Machine.{effect_by, value_by}
-use Rattle.node_code.specs.Forms.{selections_at}
-use Rattle.node_code.specs.Parallel.{at_line, shape_of, spot_of, outcome_of, indices_in}
-use Rattle.lowered_expressions.specs.ExpressionCode.{index_form, index_subs}
+use Rattle.code_meaning.specs.Forms.{selections_at}
+use Rattle.code_meaning.specs.Parallel.{at_line, shape_of, spot_of, outcome_of, indices_in}
+use Rattle.program_code.specs.ExpressionCode.{index_form, index_subs}
 use Rattle.nest_items.specs.StateStorage.{state_of}
-use Rattle.nest_items.specs.NestItems.{Assigning, ToScalar, ToElement, one, effect_in, scalar_effect, element_effect, truth_or_fault}
+use Rattle.nest_syntax.specs.Assigning.{Assigning, ToScalar, ToElement}
+use Rattle.nest_items.specs.NestItems.{one, effect_in, scalar_effect, element_effect, truth_or_fault}
 use Rattle.nest_machine.specs.Slots.{SameSlots}
 use Rattle.nest_machine.specs.ItemsAt.{truth_outcome}
 use Rattle.nest_machine.specs.Placed.{Placed, placed_spot, placed_effect, IsOfRow, PlacedMean}
-use Rattle.node_code.specs.NestStatements.{form_reads, form_value}
+use Rattle.code_meaning.specs.NestStatements.{form_reads, form_value}
 use Rattle.nest_texts.specs.NestTexts.{left_spot, text_outcome, test_outcome}
-use Rattle.lowered_expressions.specs.NestTerms.{scalar_or_index, indexed, all_indexed, SubscriptsFirst}
+use Rattle.nest_syntax.specs.NestTerms.{scalar_or_index, indexed, all_indexed, SubscriptsFirst}
 use Rattle.nest_values.proofs.Values.{nest-value, nest-subs}
 use Rattle.nest_join.specs.NestNames.{NestNames, indices_of, index_of, IsFixedHere, IsScalarName, IsArrayName, IsTextTerm, AreTextSubscripts, IsText}
 use Rattle.nest_join.specs.NestTexts.{NestAction, NestCondition, assignment_text, text_of, test_of, texts_of, state_at, action_at, condition_at, HoldsEntry}

@@ -1,20 +1,20 @@
 -- The innermost block of a nest as a body of texts for the machine.
-use Rattle.std.specs.Prelude.{◌≡◌, ℕ, ◌<◌, nat_eq, List, [], ◌∷◌, pos, Bool, true, false, ◌&&◌, Some, None, unwrap_or, if◌then◌else◌}
+use Rattle.std.specs.Prelude.{◌≡◌, ℕ, ◌<◌, nat_eq, List, [], ◌∷◌, Bool, true, false, ◌&&◌, Some, None, if◌then◌else◌}
 use Rattle.op_tables.specs.Operators.{wrapped}
 use Rattle.array_meaning.specs.Terms.{Term}
 use Rattle.array_meaning.specs.State.{State}
 use Rattle.array_meaning.specs.Statements.{Loop, Block, Done, Then, Statement, AssignScalar, AssignElement, If, Do, Unmarked, Continue, Arms, NoArm, Arm}
 use Rattle.array_meaning.specs.Iterations.{values_of}
-use Rattle.node_code.specs.Flat.{Flat, Int}
-use Rattle.lowered_expressions.specs.ExpressionCode.{index_flat}
+use Rattle.program_code.specs.ExpressionCode.{index_flat}
 use Rattle.lowered_expressions.specs.WellFormed.{IsSubscript}
-use Rattle.nest_items.specs.NestItems.{ToScalar, ToElement}
+use Rattle.nest_syntax.specs.Assigning.{ToScalar, ToElement}
 use Rattle.nest_items.specs.Naming.{IsNaming}
 use Rattle.nest_items.specs.Standing.{has_no_loop, have_no_loop}
-use Rattle.nest_items.specs.NestForm.{closed_value, IsStep}
-use Rattle.nest_texts.specs.NestInstructions as forms
-use Rattle.nest_texts.specs.NestInstructions.{FlatBounds, NestBody, NestArms}
+use Rattle.nest_items.specs.NestForm.{IsStep}
+use Rattle.program_code.specs.NestInstructions as forms
+use Rattle.program_code.specs.NestInstructions.{FlatBounds, NestBody, NestArms}
 use Rattle.statement_trail.specs.NestParts.{index_in}
+use Rattle.program_code.specs.NestCode.{step_flat}
 use Rattle.nest_join.specs.NestNames.{NestNames, indices_of, IsTextTerm, IsText}
 use Rattle.nest_join.specs.NestTexts.{NestAction, NestCondition}
 
@@ -22,10 +22,6 @@ use Rattle.nest_join.specs.NestTexts.{NestAction, NestCondition}
 abbrev pub hidden_in : (ℕ → Bool) → List ℕ → ℕ → Bool
 hidden_in is_index [] k = is_index k
 hidden_in is_index (x ∷ round) k = if nat_eq x k then false else hidden_in is_index round k
-
--- a step, which is a constant
-abbrev pub step_flat : Term → Flat
-step_flat t = Int (unwrap_or (closed_value t) (pos 0))
 
 module _ (w : NestNames) where
   -- ---- which blocks have code

@@ -3,5 +3,4 @@ pub mod NestTexts
 pub mod CodedBlocks
 pub mod MachineState
 pub mod NestRuns
-pub mod Places
 pub use Rattle.nest_parts.specs.NestParts

@@ -3,8 +3,8 @@ use Rattle.std.specs.Prelude.{ℕ, zero, suc, List, [], ◌∷◌, ℤ}
 use Rattle.expression_rules.specs.declared.dims.Dim.{Dim}
 use Rattle.storage.specs.Storage.{Storage, row_of}
 use Rattle.array_meaning.specs.State.{State, Array}
-use Rattle.node_code.specs.Flat.{slot}
-use Rattle.node_code.specs.Parallel.{shape_of}
+use Rattle.code_meaning.specs.Flat.{slot}
+use Rattle.code_meaning.specs.Parallel.{shape_of}
 
 -- the list of so many values by their places, from a place on
 abbrev pub listed_from : {A : Type 0} → (ℕ → A) → ℕ → ℕ → List A

@@ -1,16 +1,16 @@
 -- The names of a nest on the machine, and what its texts may name.
 use Rattle.std.specs.Prelude.{◌≡◌, ℕ, ◌<◌, ◌⊎◌, List, ◌++◌, length, Bool, true, false, Option, Some, None}
-use Rattle.nest_order.specs.Copies.{Kind, has_copies}
+use Rattle.nest_syntax.specs.NestKinds.{Kind, has_copies}
 use Rattle.array_meaning.specs.Terms.{Term, Terms}
 use Rattle.array_meaning.specs.Statements.{Nest}
 use Rattle.array_meaning.specs.Iterations.{nest_indices}
 use Rattle.node_code.specs.Forms.{Sub}
-use Rattle.node_code.specs.Instructions.{ArrayTable}
+use Rattle.code_meaning.specs.Instructions.{ArrayTable}
 use Rattle.lowered_expressions.specs.WellFormed.{IsIndexed, AreSubscripts}
 use Rattle.statement_trail.specs.NestParts.{index_in}
-use Rattle.lowered_expressions.specs.NestTerms.{HasNoIndex, HaveNoIndex, indexed, all_indexed, SubscriptsFirst}
+use Rattle.nest_syntax.specs.NestTerms.{HasNoIndex, HaveNoIndex, indexed, all_indexed, SubscriptsFirst}
 use Rattle.nest_items.specs.Naming.{IsNaming, AreNaming}
-use Rattle.nest_items.specs.NestItems.{Assigning, ToScalar, ToElement}
+use Rattle.nest_syntax.specs.Assigning.{Assigning, ToScalar, ToElement}
 
 -- How the names of a program stand on the machine for one of its nests. There are so many names, and each has a slot of its number. `kinds` says
 -- what each is to the nest; `is_row` which rows the nest's storage has, and `place` where among the machine's rows such a row lies; `marks` in

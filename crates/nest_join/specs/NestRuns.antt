@@ -2,7 +2,7 @@
 use Rattle.std.specs.Prelude.{◌≡◌, ℕ, ◌+◌, ◌<◌, ◌≤◌, List, [], length, ℤ, Bool, true, false, Some, None}
 use Rattle.std.specs.List.{Contains}
 use Rattle.storage.specs.Storage.{Storage, row_of, Alike}
-use Rattle.nest_order.specs.Copies.{has_copies}
+use Rattle.nest_syntax.specs.NestKinds.{has_copies}
 use Rattle.array_meaning.specs.Statements.{Loop, Block, Do, Outermost}
 use Rattle.array_meaning.specs.Faults.{Fault}
 use Rattle.array_meaning.specs.State.{State, array}
@@ -17,14 +17,15 @@ use Rattle.nest_machine.specs.Body.{Body, count_body, body_slots}
 use Rattle.nest_machine.specs.Slots.{slots_after}
 use Rattle.nest_machine.specs.Trace.{Data, acts, trace}
 use Rattle.nest_machine.specs.Stands.{HasAt}
-use Rattle.nest_machine.specs.Finals.{Final, final_slot, NotAmong, AreApart, EndsFaulted}
+use Rattle.nest_syntax.specs.Finals.{Final}
+use Rattle.nest_machine.specs.Finals.{final_slot, NotAmong, AreApart, EndsFaulted}
 use Rattle.nest_machine.specs.Entries.{NotMade, nest_entries, nest_code, rows_after}
 use Rattle.nest_machine.specs.Placed.{IsPlace, PlacedTexts}
 use Rattle.nest_machine.specs.PlacedEntry.{IsPlacedMemory}
 use Rattle.nest_machine.specs.PlacedEnds.{IsPlacedFinal, PlacedAfter}
-use Rattle.node_code.specs.NestStatements.{iterations_at}
+use Rattle.code_meaning.specs.NestStatements.{iterations_at}
 use Rattle.nest_texts.specs.NestLoops.{counting_at}
-use Rattle.nest_texts.specs.NestInstructions.{nest_layout, body_of}
+use Rattle.nest_texts.specs.NestBodies.{nest_layout, body_of}
 use Rattle.nest_join.specs.NestNames.{NestNames}
 use Rattle.nest_join.specs.NestTexts.{NestAction, NestCondition, texts_of, HoldsEntry}
 use Rattle.nest_join.specs.CodedBlocks.{IsCodedBlock, coded}

@@ -5,16 +5,18 @@ use Rattle.array_meaning.specs.Faults.{Fault}
 use Rattle.array_meaning.specs.State.{State, array, scalar}
 use Rattle.array_meaning.specs.Forall.{indices_at}
 use Rattle.array_meaning.specs.Iterations.{nest_axes, at_iteration, with_indices}
-use Rattle.node_code.specs.Flat.{slot}
-use Rattle.node_code.specs.Parallel.{shape_of, indices_in}
-use Rattle.lowered_expressions.specs.ExpressionCode.{index_form, index_subs}
+use Rattle.code_meaning.specs.Flat.{slot}
+use Rattle.code_meaning.specs.Parallel.{shape_of, indices_in}
+use Rattle.program_code.specs.ExpressionCode.{index_form, index_subs}
 use Rattle.nest_order.specs.Copies.{InIteration, in_iteration}
-use Rattle.nest_items.specs.NestItems.{Assigning, ToScalar, ToElement, Action, Condition, text_at}
+use Rattle.nest_syntax.specs.Assigning.{Assigning, ToScalar, ToElement}
+use Rattle.nest_items.specs.NestItems.{Action, Condition, text_at}
 use Rattle.nest_machine.specs.BodyCode.{Texts}
 use Rattle.nest_machine.specs.Slots.{SameSlots}
 use Rattle.node_code.specs.NestStatements.{ElementLeft, CopyLeft}
-use Rattle.nest_texts.specs.NestTexts.{NestText, NestTest, nest_texts}
-use Rattle.lowered_expressions.specs.NestTerms.{indexed, all_indexed}
+use Rattle.program_code.specs.NestTexts.{NestText, NestTest}
+use Rattle.nest_texts.specs.NestTexts.{nest_texts}
+use Rattle.nest_syntax.specs.NestTerms.{indexed, all_indexed}
 use Rattle.nest_join.specs.NestNames.{NestNames, index_of, IsTextTerm, IsText}
 
 -- an assignment or a condition where it stands: its line, the indices of the inner loops round it, the innermost first, and the scalars whose

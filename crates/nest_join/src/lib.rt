@@ -16,7 +16,7 @@
 //! - `InnerIndices`: what the code of the block leaves in the slots of inner indices is what the meaning says of it (`inner_indices`). A block
 //!   leaves each scalar as it was or with one value, in whatever iteration (`IndexSettles`), so that is also what the whole nest leaves in them
 //!   (`indices_held`).
-//! - `Places`: where the rows of a nest lie as numbers, and that nothing lies where another does (`rows_apart`, `copies_apart`);
+//! - `places`: of the rows of a nest (`Places`, program_code) none lies where another does (`rows_apart`, `copies_apart`);
 //!   each scalar with copies has its final (`finals_listed`).
 #![tactic(auto)]
 

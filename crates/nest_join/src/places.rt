@@ -3,16 +3,18 @@
 ghost use Rattle.std.specs.Prelude.{◌≡◌, ℕ, ◌+◌, ◌<◌, ◌≤◌, List, ℤ, Option, Some, None, Bool, true, false};
 ghost use Rattle.std.specs.List.{Contains};
 ghost use Rattle.storage.specs.Storage.{Storage, read};
-ghost use Rattle.nest_order.specs.Copies.{Kind, has_copies, scalar_at};
-ghost use Rattle.node_code.specs.Flat.{slot};
+ghost use Rattle.nest_syntax.specs.NestKinds.{Kind, has_copies};
+ghost use Rattle.nest_order.specs.Copies.{scalar_at};
+ghost use Rattle.code_meaning.specs.Flat.{slot};
 ghost use Rattle.nest_machine.specs.Placed.{IsPlace};
-ghost use Rattle.nest_machine.specs.Finals.{Final, final_slot, AreApart};
+ghost use Rattle.nest_syntax.specs.Finals.{Final};
+ghost use Rattle.nest_machine.specs.Finals.{final_slot, AreApart};
 ghost use Rattle.nest_machine.specs.PlacedEnds.{IsPlacedFinal};
 ghost use Rattle.nest_machine.specs.Entries.{nest_entries, NotMade, AreRows};
 ghost use Rattle.statement_trail.specs.NestParts.{index_in};
 ghost use Rattle.nest_join.specs.NestNames.{NestNames};
 ghost use Rattle.nest_join.specs.NestTexts.{texts_of};
-ghost use Rattle.nest_join.specs.Places.{conditions_from, place_of, is_nest_row, marks_of, finals_of, AreScalars};
+ghost use Rattle.program_code.specs.Places.{conditions_from, place_of, is_nest_row, marks_of, finals_of, AreScalars};
 
 /// No two rows of a nest lie at one place: not its names, nor its stored conditions, which lie one after another. An array lies at its own
 /// place, and marks lie where no row of the nest does.

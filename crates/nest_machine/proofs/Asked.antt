@@ -4,7 +4,8 @@ use Rattle.storage.specs.Storage.{Storage, Spot, read}
 use Rattle.storage.specs.Truth.{is_set}
 use Rattle.nest_order.specs.Parts.{IsBelow, guard_holds, none_holds, is_tested}
 use Rattle.machine_steps.specs.Machine.{value_by}
-use Rattle.nest_machine.specs.Asked.{Asked, as_asked, asked_spots, are_asked, after_asked, guard_asked, none_asked, tested_asked}
+use Rattle.nest_syntax.specs.Asked.{Asked, guard_asked, none_asked, tested_asked}
+use Rattle.nest_machine.specs.Asked.{as_asked, asked_spots, are_asked, after_asked}
 
 module _ (row i : ℕ) (m : Storage) where
   abbrev pub asked_in : List Asked → Bool

@@ -11,7 +11,8 @@ use Rattle.storage.specs.Parted.{parted, kept, NoneKept, IsLeastKept}
 use Rattle.nest_order.specs.Nest.{nest_act}
 use Rattle.nest_order.specs.LastValue.{last_value}
 use Rattle.nest_order.specs.Reduction.{folded}
-use Rattle.nest_order.specs.Copies.{Shared, New, Assigned, Reduced, scalar_at, entry_copies, with_copies}
+use Rattle.nest_syntax.specs.NestKinds.{Shared, New, Assigned, Reduced}
+use Rattle.nest_order.specs.Copies.{scalar_at, entry_copies, with_copies}
 use Rattle.nest_order.specs.Scalars.{PartedAgrees}
 use Rattle.machine_steps.specs.Layout.{size_of}
 use Rattle.machine_steps.specs.Instr.{Outcome, Nothing, Value, Instr}
@@ -23,7 +24,8 @@ use Rattle.nest_machine.specs.Slots.{slots_after}
 use Rattle.nest_machine.specs.Trace.{Data, trace}
 use Rattle.nest_machine.specs.Stands.{stands, HasAt}
 use Rattle.nest_machine.specs.ItemsAt.{items_at}
-use Rattle.nest_machine.specs.Finals.{Final, Lasts, final_slot, EndsFaulted}
+use Rattle.nest_syntax.specs.Finals.{Final, Lasts}
+use Rattle.nest_machine.specs.Finals.{final_slot, EndsFaulted}
 use Rattle.nest_machine.specs.Entries.{Entry, NotMade, nest_entries, rows_after}
 use Rattle.nest_machine.specs.Placed.{IsPlace, PlacedMean, PlacedTexts}
 use Rattle.nest_machine.specs.PlacedEntry.{IsPlacedMemory}

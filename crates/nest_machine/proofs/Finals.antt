@@ -11,7 +11,8 @@ use Rattle.machine_steps.specs.Machine.{Machine, last_control, last_passing, las
 use Rattle.nest_machine.specs.Counting.{slot}
 use Rattle.nest_machine.specs.Trace.{Data}
 use Rattle.nest_machine.specs.Stands.{stands, HasAt}
-use Rattle.nest_machine.specs.Finals.{Final, Folds, Lasts, final_slot, final_code, finals_code, set_last, final_slots, finals_slots, NotAmong, AreApart}
+use Rattle.nest_syntax.specs.Finals.{Final, Folds, Lasts}
+use Rattle.nest_machine.specs.Finals.{final_slot, final_code, finals_code, set_last, final_slots, finals_slots, NotAmong, AreApart}
 use Rattle.nest_machine.proofs.Runs.{Reaches, reaches-on, one, first-quiet, none-quiet}
 
 -- ---- last values

@@ -7,7 +7,7 @@ use Rattle.machine_steps.specs.Layout.{Layout, size_of}
 use Rattle.machine_steps.specs.Instr.{Instr, MakeCopy}
 use Rattle.nest_machine.specs.Trace.{Data}
 use Rattle.nest_machine.specs.Stands.{stands, HasAt}
-use Rattle.nest_machine.specs.Finals.{Final}
+use Rattle.nest_syntax.specs.Finals.{Final}
 use Rattle.nest_machine.specs.Entries.{Entry, final_entries, finals_entries, entries_code, made, all_made, NotMade, AreRows}
 use Rattle.nest_machine.proofs.Runs.{Reaches, reaches-on, one, first-quiet, none-quiet}
 use Rattle.nest_machine.proofs.Unmade.{get-other}

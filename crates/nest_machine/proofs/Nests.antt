@@ -7,7 +7,8 @@ use Rattle.storage.specs.Storage.{Storage, row_of, read}
 use Rattle.storage.specs.Effect.{Effect}
 use Rattle.storage.specs.Parted.{parted, kept, NoneKept, IsLeastKept}
 use Rattle.nest_order.specs.Nest.{Interpretation, nest_effects, nest_act}
-use Rattle.nest_order.specs.Copies.{Kind, scalar_at, with_copies}
+use Rattle.nest_syntax.specs.NestKinds.{Kind}
+use Rattle.nest_order.specs.Copies.{scalar_at, with_copies}
 use Rattle.nest_order.specs.Scalars.{PartedAgrees}
 use Rattle.machine_steps.specs.Layout.{Layout, size_of}
 use Rattle.machine_steps.specs.Instr.{Running, Instr, Verdict}
@@ -20,7 +21,8 @@ use Rattle.nest_machine.specs.Slots.{SameSlots, slots_after}
 use Rattle.nest_machine.specs.Trace.{Traced, Data, all_traced, acts, trace}
 use Rattle.nest_machine.specs.Stands.{stands, HasAt}
 use Rattle.nest_machine.specs.ItemsAt.{items_at}
-use Rattle.nest_machine.specs.Finals.{Final, Folds, Lasts, final_slot, finals_code, finals_slots, AreApart, EndsFaulted}
+use Rattle.nest_syntax.specs.Finals.{Final, Folds, Lasts}
+use Rattle.nest_machine.specs.Finals.{final_slot, finals_code, finals_slots, AreApart, EndsFaulted}
 use Rattle.nest_machine.specs.Entries.{Entry, NotMade, nest_entries, entries_code, all_made, nest_code}
 use Rattle.nest_machine.specs.Placed.{IsPlace, PlacedMean, PlacedTexts}
 use Rattle.nest_machine.specs.PlacedEntry.{IsPlacedMemory}

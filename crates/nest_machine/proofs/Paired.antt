@@ -8,7 +8,8 @@ use Rattle.machine_steps.specs.Instr.{Outcome, Nothing, Value, Breaks, Tuples}
 use Rattle.machine_steps.specs.Machine.{outcome_of, value_by}
 use Rattle.nest_machine.specs.Counting.{Counting, trips_at}
 use Rattle.nest_machine.specs.Body.{Body, NoText, AndText, AndIf, AndLoop, Arms, NoArm, AndArm, count_body, count_arms}
-use Rattle.nest_machine.specs.Asked.{Asked, as_asked, asked_spots, are_asked, after_asked, guard_asked, outcome_where}
+use Rattle.nest_syntax.specs.Asked.{Asked, guard_asked}
+use Rattle.nest_machine.specs.Asked.{as_asked, asked_spots, are_asked, after_asked, outcome_where}
 use Rattle.nest_machine.specs.BodyCode.{Texts, copy_spot, text_tuples, mark_tuples}
 use Rattle.nest_machine.specs.Slots.{headed, trip_slots, first_trip, left_slots, slots_after, slots_after_arms}
 use Rattle.nest_machine.specs.Trace.{Traced, Does, Marks, Makes, mark_trace, trace, trace_arms}

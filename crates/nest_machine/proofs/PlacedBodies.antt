@@ -12,7 +12,8 @@ use Rattle.machine_steps.specs.Instr.{Nothing, Value, Tuples}
 use Rattle.machine_steps.specs.Machine.{effect_of}
 use Rattle.nest_machine.specs.Counting.{Counting, trips_at}
 use Rattle.nest_machine.specs.Body.{Body, NoText, AndText, AndIf, AndLoop, Arms, NoArm, AndArm, count_body, count_arms, TakeSteps, ArmsTakeSteps}
-use Rattle.nest_machine.specs.Asked.{are_asked, guard_asked, outcome_where}
+use Rattle.nest_machine.specs.Asked.{are_asked, outcome_where}
+use Rattle.nest_syntax.specs.Asked.{guard_asked}
 use Rattle.nest_machine.specs.BodyCode.{Texts, copy_spot, text_tuples, test_tuples}
 use Rattle.nest_machine.specs.Slots.{SameSlots, headed, trip_slots, first_trip, left_slots, slots_after, slots_after_arms}
 use Rattle.nest_machine.specs.Trace.{Traced, acts, mark_trace, trace, trace_arms}

@@ -4,12 +4,13 @@ use Rattle.std.specs.List.{Contains}
 use Rattle.std.proofs.lemmas.List.{length-replicate}
 use Rattle.std.proofs.lemmas.List.Elements.{Contains-append_left}
 use Rattle.storage.specs.Storage.{Storage, row_of, read}
-use Rattle.nest_order.specs.Copies.{Kind, each_row, entry_copies, with_copies}
+use Rattle.nest_syntax.specs.NestKinds.{Kind}
+use Rattle.nest_order.specs.Copies.{each_row, entry_copies, with_copies}
 use Rattle.machine_steps.specs.Layout.{Layout, size_of}
 use Rattle.machine_steps.specs.Machine.{lie_alike, is_one}
 use Rattle.nest_machine.specs.Counting.{slot}
 use Rattle.nest_machine.specs.Trace.{Data}
-use Rattle.nest_machine.specs.Finals.{Final, Lasts}
+use Rattle.nest_syntax.specs.Finals.{Final, Lasts}
 use Rattle.nest_machine.specs.Entries.{Entry, at_zero, finals_entries, conditions_entries, nest_entries, all_made, NotMade}
 use Rattle.nest_machine.specs.Placed.{Placed}
 use Rattle.nest_machine.specs.PlacedEntry.{IsPlacedMemory}

@@ -10,7 +10,8 @@ use Rattle.machine_steps.specs.Layout.{Layout}
 use Rattle.machine_steps.specs.Instr.{Outcome, Value}
 use Rattle.machine_steps.specs.Machine.{effect_by, effect_of, value_by}
 use Rattle.nest_machine.specs.Counting.{Counting}
-use Rattle.nest_machine.specs.Asked.{Asked, as_asked, guard_asked, tested_asked, outcome_where}
+use Rattle.nest_syntax.specs.Asked.{Asked, guard_asked, tested_asked}
+use Rattle.nest_machine.specs.Asked.{as_asked, outcome_where}
 use Rattle.nest_machine.specs.BodyCode.{Texts, copy_spot, text_tuples, test_tuples}
 use Rattle.nest_machine.specs.Slots.{SameSlots}
 use Rattle.nest_machine.specs.ItemsAt.{test_at, truth_outcome}

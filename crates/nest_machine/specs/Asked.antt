@@ -1,32 +1,14 @@
 -- What is evaluated at those iterations alone at which stored conditions are as asked.
-use Rattle.std.specs.Prelude.{ℕ, ◌+◌, ◌&&◌, List, [], ◌∷◌, ◌++◌, drop, slice_index_or, ℤ, pos, Bool, true, false, not, Option, Some, None}
+use Rattle.std.specs.Prelude.{ℕ, ◌+◌, ◌&&◌, List, [], ◌∷◌, ◌++◌, drop, slice_index_or, ℤ, pos, Bool, true, false, not, Option, Some}
 use Rattle.storage.specs.Storage.{Spot}
 use Rattle.storage.specs.Truth.{is_set}
+use Rattle.nest_syntax.specs.Asked.{Asked}
 use Rattle.machine_steps.specs.Instr.{Outcome, Nothing, Tuples}
-
--- a stored condition, and whether it has to hold or not to hold
-pub record Asked : Type 0 where
-  pub number : ℕ
-  pub value : Bool
 
 -- whether it is so
 abbrev pub as_asked : Bool → Bool → Bool
 as_asked true b = b
 as_asked false b = not b
-
--- the guard of an arm's body: its condition holds
-abbrev pub guard_asked : Option ℕ → List Asked
-guard_asked None = []
-guard_asked (Some k) = record { number = k; value = true } ∷ []
-
--- none of these conditions holds
-abbrev pub none_asked : List ℕ → List Asked
-none_asked [] = []
-none_asked (k ∷ ks) = record { number = k; value = false } ∷ none_asked ks
-
--- where an arm's condition is evaluated: the guard of the IF holds, and no condition of an earlier arm
-abbrev pub tested_asked : Option ℕ → List ℕ → List Asked
-tested_asked guard earlier = guard_asked guard ++ none_asked earlier
 
 -- conditions are read at the iteration, from the rows from `stored` on
 abbrev pub asked_spots : ℕ → List Asked → ℕ → List (Option Spot)

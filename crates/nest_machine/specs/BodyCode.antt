@@ -6,7 +6,8 @@ use Rattle.machine_steps.specs.Instr.{Outcome, Value, Tuples, Instr, Local, Par,
 use Rattle.machine_steps.specs.Machine.{on, set_slot}
 use Rattle.nest_machine.specs.Counting.{slot, Counting}
 use Rattle.nest_machine.specs.Body.{Bounds, Body, NoText, AndText, AndIf, AndLoop, Arms, NoArm, AndArm, count_body, count_arms}
-use Rattle.nest_machine.specs.Asked.{guard_asked, tested_asked, tuples_where}
+use Rattle.nest_syntax.specs.Asked.{guard_asked, tested_asked}
+use Rattle.nest_machine.specs.Asked.{tuples_where}
 
 -- What texts read, come to and assign at an iteration, by the slots. A condition comes to 1 or 0. An assignment to a scalar that has marks
 -- sets its mark, in a row of marks

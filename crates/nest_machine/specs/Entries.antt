@@ -8,7 +8,8 @@ use Rattle.nest_machine.specs.Counting.{slot, Counting}
 use Rattle.nest_machine.specs.Body.{Body, count_body}
 use Rattle.nest_machine.specs.BodyCode.{Texts, body_code}
 use Rattle.nest_machine.specs.Trace.{Data, trace, all_traced}
-use Rattle.nest_machine.specs.Finals.{Final, Folds, Lasts, finals_code}
+use Rattle.nest_syntax.specs.Finals.{Final, Folds, Lasts}
+use Rattle.nest_machine.specs.Finals.{finals_code}
 
 -- a copy that is made at the entry, and its value there
 pub record Entry : Type 0 where

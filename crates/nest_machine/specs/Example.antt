@@ -14,14 +14,15 @@ use Rattle.storage.specs.Storage.{Storage}
 use Rattle.storage.specs.Effect.{Put}
 use Rattle.storage.specs.Truth.{is_set, number_for}
 use Rattle.nest_order.specs.Nest.{Interpretation}
-use Rattle.nest_order.specs.Copies.{Kind, Shared, Assigned, scalar_at, InIteration, in_iteration, copied}
+use Rattle.nest_syntax.specs.NestKinds.{Kind, Shared, Assigned}
+use Rattle.nest_order.specs.Copies.{scalar_at, InIteration, in_iteration, copied}
 use Rattle.machine_steps.specs.Layout.{Layout}
 use Rattle.machine_steps.specs.Instr.{Value, Instr}
 use Rattle.nest_machine.specs.Counting.{Counting}
 use Rattle.nest_machine.specs.Body.{Body, NoText, AndText, AndIf, AndLoop, NoArm, AndArm}
 use Rattle.nest_machine.specs.BodyCode.{Texts, copy_spot}
 use Rattle.nest_machine.specs.Trace.{Data}
-use Rattle.nest_machine.specs.Finals.{Final, Lasts}
+use Rattle.nest_syntax.specs.Finals.{Final, Lasts}
 use Rattle.nest_machine.specs.Entries.{nest_code}
 
 -- the first iteration has the number 0

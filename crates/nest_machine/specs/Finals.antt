@@ -1,19 +1,14 @@
 -- How a nest ends: its Verdict, and its scalars by their copies.
 use Rattle.std.specs.Prelude.{◌≡◌, ℕ, List, [], ◌∷◌, fold, slice_set, ℤ, Option, Some, None, Bool}
-use Rattle.op_tables.specs.declared.join.Join.{Join}
 use Rattle.op_tables.specs.Joins.{join, unit}
 use Rattle.storage.specs.Storage.{Storage, row_of}
 use Rattle.machine_steps.specs.Layout.{Layout}
 use Rattle.machine_steps.specs.Instr.{Faulted, Instr, FoldCopy, LastCopy}
 use Rattle.machine_steps.specs.Machine.{Machine, steps, last_of}
+use Rattle.nest_syntax.specs.Finals.{Final, Folds, Lasts}
 use Rattle.nest_machine.specs.Counting.{slot}
 use Rattle.nest_machine.specs.Trace.{Data}
 use Rattle.nest_machine.specs.Stands.{stands, StaysQuiet}
-
--- a REDUCTION variable with copies in a row, and another scalar with copies in a row and marks in another one; both with their slot
-pub data Final : Type 0 where
-  Folds : Join → (row slot : ℕ) → Final
-  Lasts : (row mark slot : ℕ) → Final
 
 -- the slot that the scalar has
 abbrev pub final_slot : Final → ℕ

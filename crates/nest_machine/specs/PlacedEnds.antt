@@ -2,14 +2,16 @@
 use Rattle.std.specs.Prelude.{◌≡◌, ℕ, ◌+◌, ◌<◌, ◌⊎◌, List, length, ℤ, Bool, true, false, Option, Some, None}
 use Rattle.std.specs.List.{Contains, slice_get}
 use Rattle.storage.specs.Storage.{Storage, Spot, row_of, read}
-use Rattle.nest_order.specs.Copies.{Kind, Shared, New, Assigned, Reduced, scalar_at}
+use Rattle.nest_syntax.specs.NestKinds.{Kind, Shared, New, Assigned, Reduced}
+use Rattle.nest_order.specs.Copies.{scalar_at}
 use Rattle.machine_steps.specs.Instr.{Nothing, Instr}
 use Rattle.machine_steps.specs.Machine.{steps}
 use Rattle.nest_machine.specs.Counting.{slot}
 use Rattle.nest_machine.specs.BodyCode.{Texts, copy_spot}
 use Rattle.nest_machine.specs.Trace.{Data}
 use Rattle.nest_machine.specs.Stands.{stands, StaysQuiet}
-use Rattle.nest_machine.specs.Finals.{Final, Folds, Lasts, final_slot, NotAmong}
+use Rattle.nest_syntax.specs.Finals.{Final, Folds, Lasts}
+use Rattle.nest_machine.specs.Finals.{final_slot, NotAmong}
 use Rattle.nest_machine.specs.Entries.{NotMade, nest_entries}
 use Rattle.nest_machine.specs.Placed.{placed_spot}
 

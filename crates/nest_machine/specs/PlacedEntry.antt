@@ -2,7 +2,8 @@
 use Rattle.std.specs.Prelude.{◌≡◌, ℕ, ◌<◌, ◌⊎◌, List, length, replicate, ℤ, Bool, true}
 use Rattle.std.specs.List.{Contains, slice_get}
 use Rattle.storage.specs.Storage.{Storage, row_of}
-use Rattle.nest_order.specs.Copies.{Kind, entry_copies}
+use Rattle.nest_syntax.specs.NestKinds.{Kind}
+use Rattle.nest_order.specs.Copies.{entry_copies}
 use Rattle.machine_steps.specs.Layout.{Layout}
 use Rattle.nest_machine.specs.Trace.{Data}
 use Rattle.nest_machine.specs.Entries.{Entry, NotMade, AreRows}

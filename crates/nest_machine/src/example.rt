@@ -11,7 +11,7 @@ ghost use Rattle.nest_machine.specs.Entries.{nest_entries};
 ghost use Rattle.nest_machine.specs.Placed.{IsPlace, PlacedMean, PlacedTexts};
 ghost use Rattle.nest_machine.specs.PlacedEntry.{IsPlacedMemory};
 ghost use Rattle.nest_machine.specs.PlacedEnds.{IsPlacedFinal};
-ghost use Rattle.nest_machine.specs.Finals.{Lasts};
+ghost use Rattle.nest_syntax.specs.Finals.{Lasts};
 ghost use Rattle.nest_machine.specs.Example.{everywhere, example_texts, example_counting, example_body, example_finals, example_size, example_layout, example_code, as_it_is};
 ghost use Rattle.nest_machine.specs.Example.{example_slots, example_data, example_kinds, example_start, example_place, example_rows, example_indices};
 ghost use Rattle.nest_machine.specs.Example.{example_interpretation, example_action, example_condition};

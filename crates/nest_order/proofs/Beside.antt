@@ -20,7 +20,8 @@ use Rattle.op_tables.specs.declared.join.Join.TheVariants.{Or}
 use Rattle.op_tables.specs.Joins.{IsJoin, IsOverNumbers, join, unit}
 use Rattle.op_tables.proofs.Joins.{joins, numbers_join}
 use Rattle.nest_order.specs.Reduction.{Statement, assigned}
-use Rattle.nest_order.specs.Copies.{Kind, Shared, New, Assigned, Reduced, has_copies, scalar_at, InIteration, in_iteration, items_in, branches_in, seen_by, own_spot, own_effect, with_copies, copied}
+use Rattle.nest_syntax.specs.NestKinds.{Kind, Shared, New, Assigned, Reduced, has_copies}
+use Rattle.nest_order.specs.Copies.{scalar_at, InIteration, in_iteration, items_in, branches_in, seen_by, own_spot, own_effect, with_copies, copied}
 use Rattle.nest_order.specs.Scalars.{assigns_row, assigned_by, assigned_by_branches, AreAssigned, ReadsLate, ReadsLateBranches, MayName, MayNameAll, AllFit, Reducing, reduced_effect, IsPlain, IsReduction, IsPlainOr, IsAction, IsCondition, Touches, MayCopy, CopiesAgree}
 use Rattle.storage.proofs.StorageLemmas.{Alike-trans, Alike-refl, Alike-write, spots, read-write_other, read-write_rows, read-write_at}
 use Rattle.nest_order.proofs.Reducing.{numbers_reduce}

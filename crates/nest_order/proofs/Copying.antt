@@ -5,7 +5,8 @@ use Rattle.std.proofs.lemmas.List.{get_or_past, get_or-replicate, length-replica
 use Rattle.storage.specs.Storage.{Storage, Spot, row_of, read, Alike}
 use Rattle.nest_order.specs.LastValue.{copy_at}
 use Rattle.op_tables.specs.Joins.{unit}
-use Rattle.nest_order.specs.Copies.{Kind, Shared, New, Assigned, Reduced, has_copies, scalar_at, each_row, entry_copies, seen_by, own_spot, with_copies}
+use Rattle.nest_syntax.specs.NestKinds.{Kind, Shared, New, Assigned, Reduced, has_copies}
+use Rattle.nest_order.specs.Copies.{scalar_at, each_row, entry_copies, seen_by, own_spot, with_copies}
 
 pub shared_of : (k : Kind) → has_copies k ≡ false → k ≡ Shared
 shared_of Shared e = refl

@@ -14,7 +14,8 @@ use Rattle.op_tables.specs.declared.join.Join.{Join}
 use Rattle.op_tables.specs.declared.join.Join.TheVariants.{Sum}
 use Rattle.op_tables.specs.Joins.{IsOverNumbers}
 use Rattle.nest_order.specs.Reduction.{OnRight, IsOf, value_in}
-use Rattle.nest_order.specs.Copies.{Shared, New, Assigned, Reduced, has_copies, scalar_at}
+use Rattle.nest_syntax.specs.NestKinds.{Shared, New, Assigned, Reduced, has_copies}
+use Rattle.nest_order.specs.Copies.{scalar_at}
 use Rattle.nest_order.specs.Scalars.{AllFit, MayName, MayNameAll, ReadsLate, IsAction, IsCondition, MayCopy}
 use Rattle.nest_order.specs.Example.{Set, Add, Divide, Exceeds, interpretation, spots_written, a_at, b_at, kinds, body_of_scalars, reads, reducing, fine_scalars}
 

@@ -13,7 +13,8 @@ use Rattle.nest_order.specs.LastValue.{copy_at, note_scalar}
 use Rattle.storage.specs.Storage.{is_same_spot}
 use Rattle.nest_order.specs.Stores.{noted, Observed, observed, observed_loops}
 use Rattle.op_tables.specs.declared.join.Join.{Join}
-use Rattle.nest_order.specs.Copies.{Kind, Shared, New, Assigned, Reduced, has_copies, scalar_at, items_in, own_spot, with_copies, copied}
+use Rattle.nest_syntax.specs.NestKinds.{Kind, Shared, New, Assigned, Reduced, has_copies}
+use Rattle.nest_order.specs.Copies.{scalar_at, items_in, own_spot, with_copies, copied}
 use Rattle.nest_order.specs.Scalars.{MayName, Reducing, MayCopy, CopiesAgree, EndWithCopies}
 use Rattle.storage.proofs.StorageLemmas.{read-write_other, read-write_at}
 use Rattle.nest_order.proofs.Copying.{own-shared, own-copy}

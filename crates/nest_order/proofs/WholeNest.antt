@@ -11,7 +11,8 @@ use Rattle.nest_order.specs.LastValue.{note_scalar, last_value}
 use Rattle.nest_order.specs.Stores.{Observed}
 use Rattle.op_tables.specs.Joins.{join, unit}
 use Rattle.nest_order.specs.Reduction.{folded}
-use Rattle.nest_order.specs.Copies.{Kind, New, Assigned, has_copies, scalar_at, InIteration, items_in, with_copies, copied}
+use Rattle.nest_syntax.specs.NestKinds.{Kind, New, Assigned, has_copies}
+use Rattle.nest_order.specs.Copies.{scalar_at, InIteration, items_in, with_copies, copied}
 use Rattle.nest_order.specs.Scalars.{Reducing, MayCopy, CopiesAgree, EndWithCopies, PartedAgrees}
 use Rattle.nest_order.proofs.Acting.{parts_apart}
 use Rattle.nest_order.proofs.Copying.{copies-length}

@@ -1,28 +1,13 @@
 -- Scalars that a nest assigns: each is one object in Fortran's loops, and has a copy for each iteration where the nest is taken
 -- apart (HPF 2.0, section 5.1).
-use Rattle.std.specs.Prelude.{ℕ, suc, List, [], ◌∷◌, slice_index_or, replicate, ℤ, pos, Option, Some, None, Bool, true, false, if◌then◌else◌}
-use Rattle.op_tables.specs.declared.join.Join.{Join}
+use Rattle.std.specs.Prelude.{ℕ, suc, List, [], ◌∷◌, slice_index_or, replicate, ℤ, pos, Option, Some, None, if◌then◌else◌}
 use Rattle.op_tables.specs.Joins.{unit}
 use Rattle.storage.specs.Storage.{Storage, Spot}
 use Rattle.storage.specs.Effect.{Effect, Skip, Put, Fail}
+use Rattle.nest_syntax.specs.NestKinds.{Kind, Shared, New, Assigned, Reduced, has_copies}
 use Rattle.nest_order.specs.Items.{Items, Done, Then, If, Repeat, Branches, EndIf, Branch}
 use Rattle.nest_order.specs.Nest.{Interpretation}
 use Rattle.nest_order.specs.LastValue.{copy_at}
-
--- what a row of the storage is to a nest: an array, or a scalar that the nest doesn't assign; a NEW variable; another scalar
--- that the nest assigns; a REDUCTION variable with its operator
-pub data Kind : Type 0 where
-  Shared : Kind
-  New : Kind
-  Assigned : Kind
-  Reduced : Join → Kind
-
--- iterations have copies of what the nest assigns, and share the rest
-abbrev pub has_copies : Kind → Bool
-has_copies Shared = false
-has_copies New = true
-has_copies Assigned = true
-has_copies (Reduced op) = true
 
 -- a scalar as one object: a row of one element
 abbrev pub scalar_at : ℕ → Spot

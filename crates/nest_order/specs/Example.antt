@@ -23,7 +23,8 @@ use Rattle.nest_order.specs.Nest.{Interpretation}
 use Rattle.storage.specs.Truth.{is_set}
 use Rattle.op_tables.specs.declared.join.Join.TheVariants.{Sum}
 use Rattle.nest_order.specs.Reduction.{Statement, OnRight}
-use Rattle.nest_order.specs.Copies.{Kind, Shared, New, Reduced, scalar_at}
+use Rattle.nest_syntax.specs.NestKinds.{Kind, Shared, New, Reduced}
+use Rattle.nest_order.specs.Copies.{scalar_at}
 use Rattle.nest_order.specs.Scalars.{Reducing}
 
 -- `to = from`, `to = to + from`, and `to = to / from`, which faults with its line where the divisor is 0

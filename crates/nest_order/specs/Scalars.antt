@@ -12,7 +12,8 @@ use Rattle.nest_order.specs.Listed.{Names, names_in, listed, AreKnown}
 use Rattle.nest_order.specs.Nest.{Interpretation, evaluated, writes, AgreeOn}
 use Rattle.nest_order.specs.LastValue.{last_value}
 use Rattle.nest_order.specs.Reduction.{Statement, IsOf, value_in, assigned, folded}
-use Rattle.nest_order.specs.Copies.{Kind, Shared, New, Assigned, Reduced, has_copies, scalar_at}
+use Rattle.nest_syntax.specs.NestKinds.{Kind, Shared, New, Assigned, Reduced, has_copies}
+use Rattle.nest_order.specs.Copies.{scalar_at}
 
 -- `reads` is what assignments and conditions read, and `written` what an assignment may write
 module _ {A C : Type 0} (kinds : ℕ → Kind) (reads : Names A C Spot) (written : A → List Spot) where

@@ -8,7 +8,8 @@ ghost use Rattle.nest_order.specs.LastValue.{note_scalar};
 ghost use Rattle.storage.specs.Parted.{parted, kept, NoneKept, IsLeastKept};
 ghost use Rattle.nest_order.specs.Nest.{Interpretation, nest_effects, nest_act, plain_loops, IsParallel};
 ghost use Rattle.nest_order.specs.Stores.{observed_loops};
-ghost use Rattle.nest_order.specs.Copies.{Kind, New, Assigned, scalar_at, InIteration, with_copies, copied, items_in};
+ghost use Rattle.nest_syntax.specs.NestKinds.{Kind, New, Assigned};
+ghost use Rattle.nest_order.specs.Copies.{scalar_at, InIteration, with_copies, copied, items_in};
 ghost use Rattle.nest_order.specs.Scalars.{Reducing, MayCopy, CopiesAgree, EndWithCopies, PartedAgrees};
 
 /// One scalar against its copies. In Fortran's loops each scalar is one object through all iterations. Let each NEW

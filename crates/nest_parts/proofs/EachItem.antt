@@ -2,14 +2,16 @@
 use Rattle.std.proofs.Common.{ℕ, Bool, Option, Some, None, IfSome}
 use Rattle.nest_order.specs.Items as items
 use Rattle.nest_order.specs.Items.{Items, Branches, EndIf, Branch, EachIn, EachInBranches}
-use Rattle.nest_order.specs.Copies.{Kind, InIteration, in_iteration, condition_in, items_in, branches_in}
+use Rattle.nest_syntax.specs.NestKinds.{Kind}
+use Rattle.nest_order.specs.Copies.{InIteration, in_iteration, condition_in, items_in, branches_in}
 use Rattle.array_meaning.specs.Terms.{Term}
 use Rattle.array_meaning.specs.Statements.{Block, Done, Then, Statement, AssignScalar, AssignElement, AssignSection, If, Do, Where, Forall, Print, Stop, Exit, Cycle, Continue, Redistribute, Arms, NoArm, Arm}
 use Rattle.array_meaning.specs.State.{State, set_scalar}
 use Rattle.array_meaning.specs.declared.sections.Sequence.{Sequence}
 use Rattle.array_meaning.specs.Iterations.{values_of, turn_value}
 use Rattle.nest_items.specs.NestItems as made
-use Rattle.nest_items.specs.NestItems.{Action, Condition, Assigning, ToScalar, ToElement, text_at, items_of, branches_of, else_of}
+use Rattle.nest_items.specs.NestItems.{Action, Condition, text_at, items_of, branches_of, else_of}
+use Rattle.nest_syntax.specs.Assigning.{Assigning, ToScalar, ToElement}
 use Rattle.nest_items.specs.Settled.{without}
 use Rattle.nest_items.specs.Standing.{Stands, BlockStands, StatementStands, ArmsStand}
 use Rattle.nest_parts.proofs.Nearness.{AssigningStands}

@@ -5,7 +5,7 @@ use Rattle.std.proofs.lemmas.Bool.Decides.{nat_tests}
 use Rattle.std.proofs.Math.Facts.{sfits_lit}
 use Rattle.op_tables.specs.declared.op.Op.TheVariants as op
 use Rattle.op_tables.specs.declared.join.Join.TheVariants.{Sum}
-use Rattle.nest_order.specs.Copies.{Kind, Shared, New, Assigned, Reduced, has_copies}
+use Rattle.nest_syntax.specs.NestKinds.{Kind, Shared, New, Assigned, Reduced, has_copies, kind_of}
 use Rattle.array_meaning.specs.Terms.{Number, Scalar, Element, Apply, NoTerm, More}
 use Rattle.array_meaning.specs.Statements.{Loop, Nest, Block, Done, Then, AssignScalar, AssignElement}
 use Rattle.array_meaning.specs.State.{State, scalar, array, no_array}
@@ -14,7 +14,6 @@ use Rattle.nest_items.proofs.NameKinds.{kinds_of_nest}
 use Rattle.nest_parts.proofs.Opening.{opening, opened_fits}
 use Rattle.array_meaning.specs.Iterations.{is_in}
 use Rattle.array_meaning.specs.NestEntry.{check_nest}
-use Rattle.nest_items.specs.NestKinds.{kind_of}
 use Rattle.nest_items.specs.Settled.{without}
 use Rattle.nest_items.specs.Standing.{BlockStands, NestStands}
 

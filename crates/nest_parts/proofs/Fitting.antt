@@ -6,7 +6,8 @@ use Rattle.std.proofs.lemmas.List.{get_or_past}
 use Rattle.op_tables.specs.declared.op.Op.{Op}
 use Rattle.op_tables.specs.Operators.{operator_value}
 use Rattle.storage.specs.Storage.{Storage, row_of, read}
-use Rattle.nest_order.specs.Copies.{Kind, has_copies, scalar_at}
+use Rattle.nest_syntax.specs.NestKinds.{Kind, has_copies}
+use Rattle.nest_order.specs.Copies.{scalar_at}
 use Rattle.nest_order.specs.Scalars.{AllFit}
 use Rattle.array_meaning.specs.Terms.{Term, Number, Scalar, Index, Element, Section, Apply, Reduce, Terms, NoTerm, More}
 use Rattle.array_meaning.specs.Faults.{Cause, ◌>>=◌, with_more}

@@ -7,7 +7,8 @@ use Rattle.nest_order.specs.Turns.{after_turns}
 use Rattle.storage.specs.Storage.{Spot}
 use Rattle.nest_order.specs.Items as items
 use Rattle.nest_order.specs.Items.{Items, Branches, EndIf, Branch}
-use Rattle.nest_order.specs.Copies.{Kind, New, has_copies, scalar_at}
+use Rattle.nest_syntax.specs.NestKinds.{Kind, New, has_copies, is_read}
+use Rattle.nest_order.specs.Copies.{scalar_at}
 use Rattle.nest_order.specs.Scalars.{assigns_row, assigned_by, assigned_by_branches, AreAssigned, ReadsLate, ReadsLateBranches}
 use Rattle.array_meaning.specs.Terms.{Term, Number, Scalar, Index, Element, Section, Apply, Reduce, Terms, NoTerm, More}
 use Rattle.array_meaning.specs.Statements.{Block, Done, Then, Statement, AssignScalar, AssignElement, AssignSection, If, Do, Where, Forall, Print, Stop, Exit, Cycle, Continue, Redistribute, Arms, NoArm, Arm}
@@ -17,7 +18,6 @@ use Rattle.array_meaning.specs.Expressions.{values}
 use Rattle.array_meaning.specs.Iterations.{values_of, turn_value}
 use Rattle.nest_items.specs.NestItems as made
 use Rattle.nest_items.specs.NestItems.{Action, Condition, items_of, branches_of, else_of}
-use Rattle.nest_items.specs.NestKinds.{is_read}
 use Rattle.nest_parts.specs.NestSpots.{spots_in, all_spots, element_spot, reads, written_by}
 use Rattle.nest_items.specs.Settled.{without}
 use Rattle.nest_items.specs.Standing.{Stands, AllStand, BlockStands, StatementStands, ArmsStand}

@@ -9,7 +9,8 @@ use Rattle.nest_order.specs.Items as items
 use Rattle.nest_order.specs.Items.{Items, Branches, EndIf, Branch}
 use Rattle.nest_order.specs.Listed as listing
 use Rattle.nest_order.specs.Listed.{Names, names_in, known_in, listed, listed_branches}
-use Rattle.nest_order.specs.Copies.{Kind, Shared, New, Assigned, Reduced, has_copies, scalar_at, InIteration, in_iteration, condition_in, items_in, branches_in}
+use Rattle.nest_syntax.specs.NestKinds.{Kind, Shared, New, Assigned, Reduced, has_copies, is_read}
+use Rattle.nest_order.specs.Copies.{scalar_at, InIteration, in_iteration, condition_in, items_in, branches_in}
 use Rattle.array_meaning.specs.Terms.{Term, Number, Scalar, Index, Element, Section, Apply, Reduce, Terms, NoTerm, More}
 use Rattle.array_meaning.specs.Statements.{Block, Done, Then, Statement, AssignScalar, AssignElement, AssignSection, If, Do, Where, Forall, Print, Stop, Exit, Cycle, Continue, Redistribute, Arms, NoArm, Arm}
 use Rattle.array_meaning.specs.Faults.{Cause, ◌>>=◌}
@@ -20,7 +21,6 @@ use Rattle.array_meaning.specs.Touches.{Touch, reads, all_reads, scalar_touch, e
 use Rattle.array_meaning.specs.Iterations.{is_in, in_turns, values_of, turn_value}
 use Rattle.nest_items.specs.NestItems.{Action, Condition, items_of, branches_of, else_of}
 use Rattle.nest_items.specs.NestItems as made
-use Rattle.nest_items.specs.NestKinds.{is_read}
 use Rattle.nest_parts.specs.NestSpots.{spots_in, all_spots, element_spot, names_of}
 use Rattle.nest_items.specs.Settled.{without}
 use Rattle.nest_items.specs.Standing.{BlockStands, StatementStands, ArmsStand}

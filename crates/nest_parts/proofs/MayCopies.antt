@@ -18,7 +18,8 @@ use Rattle.nest_order.specs.Nest.{AgreeOn}
 use Rattle.op_tables.specs.declared.join.Join.{Join}
 use Rattle.op_tables.specs.declared.join.Join.TheVariants.{Sum, Product, Greatest, Least, And, Or, ExclusiveOr}
 use Rattle.nest_order.specs.Reduction.{Statement, OnRight, OnLeft, IsOf, value_in, assigned}
-use Rattle.nest_order.specs.Copies.{Kind, Shared, New, Assigned, Reduced, has_copies, scalar_at}
+use Rattle.nest_syntax.specs.NestKinds.{Kind, Shared, New, Assigned, Reduced, has_copies, is_read, is_difference, reduction_term}
+use Rattle.nest_order.specs.Copies.{scalar_at}
 use Rattle.nest_order.specs.Scalars.{AllFit, MayName, MayNameAll, reduced_effect, IsPlain, IsReduction, IsPlainOr, IsAction, IsCondition, ReadsLate, MayCopy}
 use Rattle.array_meaning.specs.Terms.{Term, Number, Scalar, Index, Element, Section, Apply, Reduce, Terms, NoTerm, More}
 use Rattle.array_meaning.specs.Statements.{Loop, Nest, Block}
@@ -29,9 +30,9 @@ use Rattle.array_meaning.specs.Elementals.{operated}
 use Rattle.array_meaning.specs.Iterations.{iteration_count, at_iteration}
 use Rattle.array_meaning.specs.Touches.{assigned_in}
 use Rattle.array_meaning.specs.NestEntry.{check_nest}
-use Rattle.nest_items.specs.NestItems.{Action, Condition, Assigning, ToScalar, ToElement, text_at, one, scalar_effect, element_effect, truth_or_fault, iteration_items}
+use Rattle.nest_items.specs.NestItems.{Action, Condition, text_at, one, scalar_effect, element_effect, truth_or_fault, iteration_items}
+use Rattle.nest_syntax.specs.Assigning.{Assigning, ToScalar, ToElement}
 use Rattle.nest_items.specs.StateStorage.{state_of}
-use Rattle.nest_items.specs.NestKinds.{is_read, is_difference, reduction_term}
 use Rattle.nest_parts.specs.NestSpots.{spots_in, all_spots, spots_read, written_by, element_spot, is_scalar, on_right, statement_of, reduction_statement, reducing_by, reducing, reads, names_of}
 use Rattle.op_tables.specs.Reductions.{joined_by}
 use Rattle.nest_items.specs.Standing.{Stands, AllStand, IsReductionStatement, RightKind, NestStands, AreKinds}

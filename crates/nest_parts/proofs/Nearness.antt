@@ -6,14 +6,16 @@ use Rattle.std.proofs.lemmas.List.Elements.{Contains-append_left, Contains-appen
 use Rattle.storage.specs.Storage.{Storage, Spot, row_of, read}
 use Rattle.storage.specs.Effect.{Put}
 use Rattle.nest_order.specs.Nest.{AgreeOn}
-use Rattle.nest_order.specs.Copies.{Kind, has_copies, scalar_at}
+use Rattle.nest_syntax.specs.NestKinds.{Kind, has_copies}
+use Rattle.nest_order.specs.Copies.{scalar_at}
 use Rattle.array_meaning.specs.Terms.{Term, Number, Scalar, Index, Element, Section, Apply, Reduce, Terms, NoTerm, More}
 use Rattle.array_meaning.specs.Faults.{Cause, ◌>>=◌, with_more}
 use Rattle.array_meaning.specs.State.{State, no_array, scalar, array, place_in, if_in_bounds, element_place}
 use Rattle.array_meaning.specs.Expressions.{value, values}
 use Rattle.array_meaning.specs.Elementals.{operated}
 use Rattle.nest_items.specs.StateStorage.{state_of}
-use Rattle.nest_items.specs.NestItems.{Assigning, ToScalar, ToElement, effect_in, scalar_effect, element_effect}
+use Rattle.nest_syntax.specs.Assigning.{Assigning, ToScalar, ToElement}
+use Rattle.nest_items.specs.NestItems.{effect_in, scalar_effect, element_effect}
 use Rattle.nest_parts.specs.NestSpots.{spots_in, all_spots, spots_read, spots_written, element_spot}
 use Rattle.nest_items.specs.Standing.{IsFixed, AreFixedTerms, MayStand, Stands, AllStand, RightKind}
 use Rattle.nest_items.proofs.Values.{values_near, then_same}

@@ -3,7 +3,7 @@ use Rattle.std.proofs.Common.{◌≡◌, ℕ, zero, suc, ◌+◌, ◌-◌, ◌<�
 use Rattle.std.proofs.lemmas.Bool.{cases_lt}
 use Rattle.std.proofs.lemmas.List.{get_or_past, get_or-append-add, get_or_append_left, get_or-replicate, length-replicate}
 use Rattle.storage.specs.Storage.{Storage, row_of}
-use Rattle.nest_order.specs.Copies.{Kind, Shared, has_copies}
+use Rattle.nest_syntax.specs.NestKinds.{Kind, Shared, has_copies}
 use Rattle.nest_order.specs.Scalars.{AllFit}
 use Rattle.nest_order.proofs.Copying.{shared_of}
 use Rattle.array_meaning.specs.State.{State, scalar, array}

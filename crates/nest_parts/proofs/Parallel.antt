@@ -9,7 +9,8 @@ use Rattle.nest_order.specs.Items.{Items, EachIn}
 use Rattle.nest_order.specs.Listed.{listed, AreKnown}
 use Rattle.nest_order.specs.Nest.{AgreeOn, IsNamed, IsNear, IsParallel, writes, evaluated}
 use Rattle.nest_order.specs.LastValue.{copy_at}
-use Rattle.nest_order.specs.Copies.{Kind, has_copies, scalar_at, in_iteration, items_in, seen_by, own_spot, own_effect, with_copies, copied}
+use Rattle.nest_syntax.specs.NestKinds.{Kind, has_copies, is_read}
+use Rattle.nest_order.specs.Copies.{scalar_at, in_iteration, items_in, seen_by, own_spot, own_effect, with_copies, copied}
 use Rattle.nest_order.proofs.Copying.{shared_of, seen-shared, seen-copy, own-shared, own-copy, copies-shared}
 use Rattle.array_meaning.specs.Terms.{Term, Number, Scalar, Index, Element, Section, Apply, Reduce, Terms, NoTerm, More}
 use Rattle.array_meaning.specs.Statements.{Loop, Nest, Block}
@@ -19,9 +20,9 @@ use Rattle.array_meaning.specs.Expressions.{value, values}
 use Rattle.array_meaning.specs.Touches.{is_known, are_known, known_truth, truth_of, assigned_in, iteration_touches, hidden_scalars}
 use Rattle.array_meaning.specs.Iterations.{is_in, iteration_count, at_iteration}
 use Rattle.array_meaning.specs.NestEntry.{check_nest}
-use Rattle.nest_items.specs.NestItems.{Action, Condition, Assigning, ToScalar, ToElement, text_at, one, effect_in, truth_or_fault, items_of, iteration_items}
+use Rattle.nest_items.specs.NestItems.{Action, Condition, text_at, one, effect_in, truth_or_fault, items_of, iteration_items}
+use Rattle.nest_syntax.specs.Assigning.{Assigning, ToScalar, ToElement}
 use Rattle.nest_items.specs.StateStorage.{state_of}
-use Rattle.nest_items.specs.NestKinds.{is_read}
 use Rattle.nest_parts.specs.NestSpots.{spots_in, all_spots, spots_read, spots_written, element_spot, touched_in, written_in, names_of}
 use Rattle.nest_items.specs.Naming.{IsNaming, AreNaming}
 use Rattle.nest_items.specs.Standing.{Stands, AllStand, BlockStands, NestStands, AreKinds}

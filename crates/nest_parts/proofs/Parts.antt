@@ -2,7 +2,7 @@
 use Rattle.std.proofs.Common.{◌≡◌, ℕ, ◌<◌, subst, Bool, false}
 use Rattle.storage.specs.Storage.{Storage}
 use Rattle.storage.specs.Parted.{NoneKept, IsLeastKept}
-use Rattle.nest_order.specs.Copies.{Kind}
+use Rattle.nest_syntax.specs.NestKinds.{Kind}
 use Rattle.nest_order.specs.Scalars.{ReadsLate, MayCopy}
 use Rattle.nest_order.proofs.WholeNest.{whole_finishes, whole_faults}
 use Rattle.array_meaning.specs.Statements.{Loop, Nest, Block, Do, Outermost}

@@ -5,7 +5,8 @@ use Rattle.nest_order.specs.Turns.{joined_up_to}
 use Rattle.storage.specs.Storage.{Spot}
 use Rattle.nest_order.specs.Items.{Items}
 use Rattle.nest_order.specs.Listed.{counted, listed, listed_branches}
-use Rattle.nest_order.specs.Copies.{Kind, scalar_at}
+use Rattle.nest_syntax.specs.NestKinds.{Kind, is_read}
+use Rattle.nest_order.specs.Copies.{scalar_at}
 use Rattle.array_meaning.specs.Terms.{Term, Number, Scalar, Index, Element, Section, Apply, Reduce, Terms, NoTerm, More}
 use Rattle.array_meaning.specs.Statements.{Block, Done, Then, Statement, AssignScalar, AssignElement, AssignSection, If, Do, Where, Forall, Print, Stop, Exit, Cycle, Continue, Redistribute, Arms, NoArm, Arm}
 use Rattle.array_meaning.specs.Faults.{Cause, ◌>>=◌}
@@ -15,7 +16,6 @@ use Rattle.array_meaning.specs.Iterations.{values_of, turn_value}
 use Rattle.array_meaning.specs.Touches.{known_truth}
 use Rattle.nest_items.specs.NestItems as made
 use Rattle.nest_items.specs.NestItems.{Action, Condition, items_of, branches_of}
-use Rattle.nest_items.specs.NestKinds.{is_read}
 use Rattle.nest_parts.specs.NestSpots.{spots_in, all_spots, element_spot, names_of}
 use Rattle.nest_items.specs.Naming.{AreNaming, TermBelow, BlockBelow, StatementBelow, ArmsBelow}
 use Rattle.nest_parts.proofs.Listings.{nothing_in, only_in, else_listed}

@@ -6,7 +6,8 @@ use Rattle.storage.specs.Effect.{Effect}
 use Rattle.storage.specs.Parted.{parted, kept}
 use Rattle.nest_order.specs.Parts.{count_items}
 use Rattle.nest_order.specs.Nest.{nest_act, nest_effects}
-use Rattle.nest_order.specs.Copies.{Kind, Shared, has_copies, items_in, with_copies, copied}
+use Rattle.nest_syntax.specs.NestKinds.{Kind, Shared, has_copies}
+use Rattle.nest_order.specs.Copies.{items_in, with_copies, copied}
 use Rattle.nest_order.specs.Scalars.{AllFit, PartedAgrees}
 use Rattle.array_meaning.specs.Statements.{Loop, Nest, Block, Do, Outermost}
 use Rattle.array_meaning.specs.Faults.{Fault}

@@ -7,15 +7,16 @@ use Rattle.nest_order.specs.Listed.{Names}
 use Rattle.nest_order.specs.Reduction as reduction
 use Rattle.nest_order.specs.Reduction.{OnRight, OnLeft, Subtracted}
 use Rattle.nest_order.specs.Scalars.{Reducing}
-use Rattle.nest_order.specs.Copies.{Kind, Reduced, scalar_at, InIteration, own_spot}
+use Rattle.nest_syntax.specs.NestKinds.{Kind, Reduced, is_read}
+use Rattle.nest_order.specs.Copies.{scalar_at, InIteration, own_spot}
 use Rattle.array_meaning.specs.Terms.{Term, Number, Scalar, Index, Element, Section, Apply, Reduce, Terms, NoTerm, More}
 use Rattle.array_meaning.specs.Faults.{Cause, Fault, ◌>>=◌}
 use Rattle.array_meaning.specs.State.{State, place_in}
 use Rattle.array_meaning.specs.Expressions.{value, values}
 use Rattle.array_meaning.specs.Touches.{known_truth}
 use Rattle.nest_items.specs.StateStorage.{state_of}
-use Rattle.nest_items.specs.NestItems.{fault_of, Assigning, ToScalar, ToElement, Action, Condition}
-use Rattle.nest_items.specs.NestKinds.{is_read}
+use Rattle.nest_items.specs.NestItems.{fault_of, Action, Condition}
+use Rattle.nest_syntax.specs.Assigning.{Assigning, ToScalar, ToElement}
 
 -- ---- reduction statements
 

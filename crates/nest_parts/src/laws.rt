@@ -3,7 +3,8 @@
 ghost use Rattle.std.specs.Prelude.{◌≡◌, ℕ, Bool, Ok};
 ghost use Rattle.storage.specs.Storage.{Storage};
 ghost use Rattle.storage.specs.Parted.{NoneKept, IsLeastKept};
-ghost use Rattle.nest_order.specs.Copies.{Kind, copied, items_in};
+ghost use Rattle.nest_syntax.specs.NestKinds.{Kind};
+ghost use Rattle.nest_order.specs.Copies.{copied, items_in};
 ghost use Rattle.nest_order.specs.Nest.{IsParallel};
 ghost use Rattle.nest_order.specs.Scalars.{MayCopy};
 ghost use Rattle.array_meaning.specs.Faults.{Fault};

@@ -22,13 +22,12 @@ use Rattle.op_tables.specs.Reductions.{joined_by}
 use Rattle.nest_check.specs.ReductionStatements.{is_alone, refers_to, is_without, is_joined, are_operands_of, operator_between, operator_in}
 use Rattle.nest_check.specs.ReductionStatements as by_name
 use Rattle.op_tables.specs.declared.join.Join.{Join}
-use Rattle.nest_order.specs.Copies.{Kind}
+use Rattle.nest_syntax.specs.NestKinds.{Kind, is_difference}
 use Rattle.array_meaning.specs.Terms.{Term, Number, Scalar, Element, Section, Apply, Reduce, Terms, NoTerm, More}
 use Rattle.array_meaning.specs.Terms as term
 use Rattle.array_meaning.specs.Resolution.{place_of, alone, assignment, called, left_of, term_of, terms_of, resolved, resolved_block, resolved_arms, resolved_otherwise}
 use Rattle.fitting_states.specs.FittingStates.{TermFits, TermsFit}
 use Rattle.well_formed.proofs.Lists.{all_split, both, pass_split}
-use Rattle.nest_items.specs.NestKinds.{is_difference}
 use Rattle.nest_items.specs.Standing.{Stands, IsReductionStatement, has_no_loop, is_no_loop, have_no_loop}
 use Rattle.nest_standing.specs.Named.{Names, is_array_in}
 use Rattle.nest_standing.proofs.Ruled.{IsReached, Tied, IsFree}

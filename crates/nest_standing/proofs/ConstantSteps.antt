@@ -24,7 +24,8 @@ use Rattle.nest_check.specs.NestRules.{is_nonzero}
 use Rattle.array_meaning.specs.Terms.{Term, Number, Scalar, Index, Element, Section, Apply, Reduce, Terms, NoTerm, More}
 use Rattle.array_meaning.specs.Resolution.{place_of, dims_of, alone, constant, constants, or_zero, inquiry, first_named, first_term, term_of, terms_of}
 use Rattle.well_formed.proofs.Dimensions.{declared_found}
-use Rattle.nest_items.specs.NestForm.{with_closed, closed_value, closed_values, IsStep}
+use Rattle.nest_syntax.specs.ClosedTerms.{with_closed, closed_value, closed_values}
+use Rattle.nest_items.specs.NestForm.{IsStep}
 use Rattle.nest_standing.specs.KeptNests.{StepsAre}
 use Rattle.nest_standing.proofs.DistinctNames.{NoRepeat, found_other, found_self}
 

@@ -18,7 +18,7 @@ use Rattle.body_forms.specs.Subexpressions.{subexpressions, subexpressions_in_pa
 use Rattle.body_forms.specs.Subscripts.{both as both_indices, in_product, in_operation, indices_in, is_at_most_one, is_empty, is_linear, has_linear_subscripts, is_sign, items}
 use Rattle.nest_check.specs.NestNames.{NestNames}
 use Rattle.nest_check.specs.NestRules.{body_names, may_be_named, may_stand_in_nest, is_own, is_unassigned, may_be_read}
-use Rattle.nest_order.specs.Copies.{Kind, New}
+use Rattle.nest_syntax.specs.NestKinds.{Kind, New}
 use Rattle.array_meaning.specs.Terms.{Term, Element, Section, Apply, Reduce}
 use Rattle.array_meaning.specs.Resolution.{place_of, dims_of, alone, inquiry, is_element, first_term, first_named, term_of, terms_of, section_subscripts}
 use Rattle.fitting_states.specs.FittingStates.{TermFits, TermsFit}

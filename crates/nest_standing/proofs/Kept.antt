@@ -25,7 +25,7 @@ use Rattle.nest_check.specs.NestRules.{body_names, is_linear_inside, may_be_name
 use Rattle.nest_check.specs.Paths.{reached_heads, reached_in, reached_in_arms, reached_in_rest, assigned_by}
 use Rattle.nest_check.specs.ReductionStatements.{operator_in}
 use Rattle.op_tables.specs.declared.join.Join.{Join}
-use Rattle.nest_order.specs.Copies.{Kind, Shared, New, Assigned, Reduced, has_copies}
+use Rattle.nest_syntax.specs.NestKinds.{Kind, Shared, New, Assigned, Reduced, has_copies}
 use Rattle.array_meaning.specs.Terms.{Term, Number, Scalar, Element, Section, Apply, Reduce, Terms, NoTerm, More}
 use Rattle.array_meaning.specs.Terms as term
 use Rattle.array_meaning.specs.Statements.{Unmarked}
@@ -36,7 +36,8 @@ use Rattle.well_formed.proofs.Heads.{placed_all}
 use Rattle.nest_items.specs.Naming.{IsNaming, AreNaming}
 use Rattle.nest_items.specs.Standing.{IsFixed, IsFixedTerm, Stands, IsReductionStatement, RightKind, has_no_loop, have_no_loop}
 use Rattle.nest_items.specs.Settled.{without}
-use Rattle.nest_items.specs.NestForm.{with_closed, closed_value, closed_values, IsStep, IsKeptLoop, BlockKeeps, StatementKeeps, ArmsKeep}
+use Rattle.nest_syntax.specs.ClosedTerms.{with_closed, closed_value, closed_values}
+use Rattle.nest_items.specs.NestForm.{IsStep, IsKeptLoop, BlockKeeps, StatementKeeps, ArmsKeep}
 use Rattle.nest_standing.specs.Named.{Declared, Names, names_arrays, IsNamed}
 use Rattle.nest_standing.proofs.Ruled.{IsKept, IsReached, IsGathered, Tied, IsFree}
 use Rattle.nest_standing.proofs.PlacesOf.{place_eq}

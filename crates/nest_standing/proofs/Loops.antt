@@ -14,7 +14,7 @@ use Rattle.statement_walk.specs.Nests.{nest_in}
 use Rattle.nest_check.specs.NestNames.{NestNames, inner_heads}
 use Rattle.nest_check.specs.NestRules.{is_inner_axis, is_step}
 use Rattle.nest_check.specs.Paths.{reached_heads}
-use Rattle.nest_order.specs.Copies.{Kind, has_copies}
+use Rattle.nest_syntax.specs.NestKinds.{Kind, has_copies}
 use Rattle.array_meaning.specs.Terms.{Term, Number, Scalar, Index, Element, Section, Apply, Reduce}
 use Rattle.array_meaning.specs.Statements.{Loop, Nest, Block, Then}
 use Rattle.array_meaning.specs.Resolution.{control_of, place_of, assignment, left_of, term_of, loop_of, with_inner_unmarked, resolved_block}

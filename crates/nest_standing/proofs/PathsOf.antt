@@ -18,7 +18,7 @@ use Rattle.nest_check.specs.NestNames.{NestNames, added, all_added, reduction_op
 use Rattle.nest_check.specs.NestRules.{is_unassigned, may_be_read, subexpressions_after, is_readable, is_allowed_in_nest, is_assignable, has_one_operator, own_variable}
 use Rattle.nest_check.specs.Paths as by_name
 use Rattle.nest_check.specs.Paths.{common, reached_heads, reached_in, reached_in_arms, reached_in_rest}
-use Rattle.nest_order.specs.Copies.{Kind, New, has_copies}
+use Rattle.nest_syntax.specs.NestKinds.{Kind, New, has_copies}
 use Rattle.array_meaning.specs.Terms.{Term, Number, Scalar, Element, Section, Apply, Reduce}
 use Rattle.array_meaning.specs.Terms as term
 use Rattle.array_meaning.specs.Resolution.{place_of, dims_of, is_element, alone, assignment, left_of, term_of, terms_of, section_subscripts, resolved, resolved_block, resolved_arms, resolved_otherwise}

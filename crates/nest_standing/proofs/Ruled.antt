@@ -12,9 +12,8 @@ use Rattle.body_forms.specs.Names.{is_scalar}
 use Rattle.nest_check.specs.NestNames.{NestNames, reduction_operator, alone}
 use Rattle.nest_check.specs.Paths.{ReachedHead}
 use Rattle.nest_check.specs.NestRules.{has_one_operator, are_linear_inside, head_expressions, keeps_nest_rules, keeps_path_rules}
-use Rattle.nest_order.specs.Copies.{Kind, New, Reduced, has_copies}
+use Rattle.nest_syntax.specs.NestKinds.{Kind, New, Reduced, has_copies, is_read}
 use Rattle.array_meaning.specs.Resolution.{place_of}
-use Rattle.nest_items.specs.NestKinds.{is_read}
 use Rattle.nest_standing.specs.Named.{Declared}
 
 -- the rules of nests on a statement

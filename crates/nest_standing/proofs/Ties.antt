@@ -16,11 +16,10 @@ use Rattle.name_table.specs.declared.names.Entry.{Entry}
 use Rattle.name_table.specs.Entries.{declared_as}
 use Rattle.body_forms.specs.Names.{is_scalar}
 use Rattle.nest_check.specs.NestNames.{NestNames, added, all_added}
-use Rattle.nest_order.specs.Copies.{New, Reduced, has_copies}
+use Rattle.nest_syntax.specs.NestKinds.{New, Reduced, has_copies, kind_of, is_read}
 use Rattle.array_meaning.specs.Resolution.{place_of, union}
 use Rattle.array_meaning.specs.Iterations.{is_in}
 use Rattle.array_meaning.specs.Touches.{assigned_in}
-use Rattle.nest_items.specs.NestKinds.{kind_of, is_read}
 use Rattle.nest_items.proofs.NameKinds.{kind_by, copies_of_kind}
 use Rattle.array_meaning.specs.Statements.{Nest, Block}
 use Rattle.nest_standing.specs.Named.{Declared, AreDeclared}

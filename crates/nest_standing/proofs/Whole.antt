@@ -22,13 +22,12 @@ use Rattle.body_forms.specs.Names.{is_scalar}
 use Rattle.nest_check.specs.NestNames.{NestNames, all_added, distinct, do_variable_of, scalar_assigned, inner_heads}
 use Rattle.nest_check.specs.NestRules.{is_well_listed, are_well_listed, is_step, is_inner_axis, list_breaches, axis_breaches, inner_loop_breaches, loop_breaches, body_part_breaches, nest_breaches, nest_breaches_at, path_breaches_at}
 use Rattle.nest_check.specs.Paths.{reached_heads}
-use Rattle.nest_order.specs.Copies.{Kind, has_copies}
+use Rattle.nest_syntax.specs.NestKinds.{Kind, has_copies, kind_of}
 use Rattle.array_meaning.specs.Statements.{Block, Do}
 use Rattle.array_meaning.specs.Resolution.{control_of, place_of, term_of, loop_of, with_inner_unmarked, resolved_block}
 use Rattle.fitting_states.specs.FittingStates.{ControlFits, BlockFits}
 use Rattle.well_formed.proofs.Lists.{all_split, both, empties, fails, holds, no_reason}
 use Rattle.array_meaning.specs.Iterations.{is_in}
-use Rattle.nest_items.specs.NestKinds.{kind_of}
 use Rattle.nest_items.specs.Standing.{AreKinds}
 use Rattle.nest_items.specs.Paths.{PathsAssign}
 use Rattle.nest_items.specs.NestForm.{IsStep, IsNest, TextsKeep}

@@ -10,20 +10,25 @@ use Rattle.machine_steps.specs.Instr as machine
 use Rattle.machine_steps.specs.Instr.{Control, Instr, Local, Par}
 use Rattle.machine_steps.specs.Machine.{on, set_slot}
 use Rattle.machine_steps.specs.SameLayouts.{is_same_layout}
-use Rattle.node_code.specs.Flat.{Flat, Int, Slot, Operated, NoFlat, AndFlat, slot, slots_value}
+use Rattle.node_code.specs.Flat.{Flat, Int, Slot, Operated, NoFlat, AndFlat}
+use Rattle.code_meaning.specs.Flat.{slot, slots_value}
 use Rattle.node_code.specs.Forms.{Sub}
-use Rattle.node_code.specs.Parallel.{at_line}
-use Rattle.node_code.specs.NestStatements.{iterations_at}
-use Rattle.node_code.specs.Instructions.{ArrayTable, Instruction, MakeCopies, set_result, go_if, Set, Jump, Verdict, FoldCopy, LastCopy, meaning_of}
+use Rattle.code_meaning.specs.Parallel.{at_line}
+use Rattle.code_meaning.specs.NestStatements.{iterations_at}
+use Rattle.code_meaning.specs.Instructions.{ArrayTable, set_result, go_if, meaning_of}
+use Rattle.node_code.specs.Instructions.{Instruction, MakeCopies, Set, Jump, Verdict, FoldCopy, LastCopy}
 use Rattle.nest_machine.specs.Body.{count_body, count_arms}
-use Rattle.nest_machine.specs.Asked.{guard_asked, tested_asked}
+use Rattle.nest_syntax.specs.Asked.{guard_asked, tested_asked}
 use Rattle.nest_machine.specs.BodyCode.{Texts, copy_spot, mark_code, text_code, test_tuples, loop_code, body_code, arms_code}
-use Rattle.nest_machine.specs.Finals.{Final, Folds, Lasts, finals_code}
+use Rattle.nest_syntax.specs.Finals.{Final, Folds, Lasts}
+use Rattle.nest_machine.specs.Finals.{finals_code}
 use Rattle.nest_machine.specs.Entries.{Entry, finals_entries, conditions_entries, nest_entries, entries_code, nest_code}
-use Rattle.nest_texts.specs.NestTexts.{NestText, NestTest, nest_texts}
+use Rattle.program_code.specs.NestTexts.{NestText, NestTest}
+use Rattle.nest_texts.specs.NestTexts.{nest_texts}
 use Rattle.nest_texts.proofs.Statements.{assigning-means, testing-means, setting-else, setting-mark}
 use Rattle.nest_texts.specs.NestLoops.{counting_at}
-use Rattle.nest_texts.specs.NestInstructions.{nest_layout, FlatBounds, NestBody, NoText, AndText, AndIf, AndLoop, NestArms, NoArm, AndArm, bounds_of, body_of, arms_of, count_nest, count_nest_arms, CantFault, AreSafe, ArmsAreSafe, tail_instructions, loop_instructions, finals_instructions, finals_makes, conditions_makes, mark_instructions, text_instructions, test_instruction, body_instructions, arms_instructions, nest_instructions}
+use Rattle.nest_texts.specs.NestBodies.{nest_layout, bounds_of, body_of, arms_of, CantFault, AreSafe, ArmsAreSafe}
+use Rattle.program_code.specs.NestInstructions.{FlatBounds, NestBody, NoText, AndText, AndIf, AndLoop, NestArms, NoArm, AndArm, count_nest, count_nest_arms, tail_instructions, loop_instructions, finals_instructions, finals_makes, conditions_makes, mark_instructions, text_instructions, test_instruction, body_instructions, arms_instructions, nest_instructions}
 
 set-safe : (line x : ℕ) (f : Flat) → CantFault f → (table : ArrayTable) → meaning_of table (Set line x f) ≡ Local (λ c. set_slot c x (slots_value c.slots f))
 set-safe line x f safe table = λ i. Local (λ (c : Control Fault). set_result (at_line line (safe c.slots i)) x c)

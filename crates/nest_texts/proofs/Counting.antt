@@ -11,9 +11,9 @@ use Rattle.array_meaning.specs.declared.faults.FaultKind.TheVariants.{ZeroStride
 use Rattle.array_meaning.specs.declared.sections.Sequence.{Sequence}
 use Rattle.array_meaning.specs.Sections.{value_count}
 use Rattle.machine_steps.specs.Instr.{Control}
-use Rattle.node_code.specs.Flat.{slot}
-use Rattle.node_code.specs.Parallel.{at_line}
-use Rattle.node_code.specs.Instructions.{begin_trips}
+use Rattle.code_meaning.specs.Flat.{slot}
+use Rattle.code_meaning.specs.Parallel.{at_line}
+use Rattle.code_meaning.specs.Instructions.{begin_trips}
 use Rattle.nest_machine.specs.Counting.{entering, IsCounting}
 use Rattle.nest_texts.specs.NestLoops.{counting_at}
 

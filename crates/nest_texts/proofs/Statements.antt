@@ -11,14 +11,17 @@ use Rattle.array_meaning.specs.State.{if_in_bounds}
 use Rattle.machine_steps.specs.Instr as machine
 use Rattle.machine_steps.specs.Instr.{Outcome, Instr, Tuples, Nothing, Breaks, Par}
 use Rattle.node_code.specs.Forms.{Sub}
-use Rattle.node_code.specs.Parallel.{as_asked, at_line, made_outcome, outcome_if, outcome_of}
-use Rattle.node_code.specs.NestStatements.{NestStatement, are_asked, when_spots, form_reads, form_value, iterations_at, nest_tuples, nest_spot, nest_place}
+use Rattle.code_meaning.specs.Parallel.{as_asked, at_line, made_outcome, outcome_if, outcome_of}
+use Rattle.node_code.specs.NestStatements.{NestStatement}
+use Rattle.code_meaning.specs.NestStatements.{are_asked, when_spots, form_reads, form_value, iterations_at, nest_tuples, nest_spot, nest_place}
 use Rattle.nest_machine.specs.Asked as nest
-use Rattle.nest_machine.specs.Asked.{Asked, asked_spots, after_asked, outcome_where, tuples_where}
+use Rattle.nest_syntax.specs.Asked.{Asked}
+use Rattle.nest_machine.specs.Asked.{asked_spots, after_asked, outcome_where, tuples_where}
 use Rattle.nest_machine.specs.BodyCode.{copy_spot}
 use Rattle.nest_machine.specs.ItemsAt.{truth_outcome}
-use Rattle.nest_texts.specs.NestTexts.{NestText, NestTest, text_outcome, test_outcome, left_spot}
-use Rattle.nest_texts.specs.NestInstructions.{whens_of, assigning, testing, setting_else, setting_mark}
+use Rattle.program_code.specs.NestTexts.{NestText, NestTest}
+use Rattle.nest_texts.specs.NestTexts.{text_outcome, test_outcome, left_spot}
+use Rattle.program_code.specs.NestInstructions.{whens_of, assigning, testing, setting_else, setting_mark}
 
 -- ---- stored conditions
 

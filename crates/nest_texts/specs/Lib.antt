@@ -1,3 +1,3 @@
 pub mod NestTexts
 pub mod NestLoops
-pub mod NestInstructions
+pub mod NestBodies

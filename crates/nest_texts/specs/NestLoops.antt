@@ -3,9 +3,9 @@ use Rattle.std.specs.Prelude.{ℕ, ◌+◌, pos, ◌+ℤ◌, ◌-ℤ◌, not}
 use Rattle.op_tables.specs.Operators.{wrapped, is_zero, is_true}
 use Rattle.array_meaning.specs.Faults.{Fault}
 use Rattle.array_meaning.specs.Sections.{sequence, value_count}
-use Rattle.node_code.specs.Flat.{slot}
-use Rattle.node_code.specs.Parallel.{at_line}
-use Rattle.node_code.specs.Instructions.{begin_trips}
+use Rattle.code_meaning.specs.Flat.{slot}
+use Rattle.code_meaning.specs.Parallel.{at_line}
+use Rattle.code_meaning.specs.Instructions.{begin_trips}
 use Rattle.nest_machine.specs.Counting.{Counting}
 
 -- Trips begins them, and their steps aren't 0

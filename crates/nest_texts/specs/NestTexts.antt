@@ -1,5 +1,4 @@
--- The texts of a nest as FORALL's: a form at an index tuple, which is the values of the nest's indices, and outside of subscripts also those of
--- the copies that the text reads.
+-- What the texts of a nest come to at an iteration.
 use Rattle.std.specs.Prelude.{ℕ, List, ℤ, Option, option_map, Ok}
 use Rattle.op_tables.specs.Operators.{is_true}
 use Rattle.expression_rules.specs.declared.dims.Dim.{Dim}
@@ -7,28 +6,13 @@ use Rattle.storage.specs.Storage.{Spot}
 use Rattle.array_meaning.specs.Faults.{Fault, ◌>>=◌}
 use Rattle.array_meaning.specs.State.{if_in_bounds}
 use Rattle.machine_steps.specs.Instr.{Outcome}
-use Rattle.node_code.specs.Forms.{Sub, ArrayForm}
-use Rattle.node_code.specs.Parallel.{at_line, outcome_of}
-use Rattle.node_code.specs.NestStatements.{NestLeft, nest_place, left_row, form_reads, form_value}
+use Rattle.node_code.specs.Forms.{Sub}
+use Rattle.code_meaning.specs.Parallel.{at_line, outcome_of}
+use Rattle.node_code.specs.NestStatements.{NestLeft}
+use Rattle.code_meaning.specs.NestStatements.{nest_place, left_row, form_reads, form_value}
+use Rattle.program_code.specs.NestTexts.{NestText, NestTest}
 use Rattle.nest_machine.specs.BodyCode.{Texts}
 use Rattle.nest_machine.specs.ItemsAt.{truth_outcome}
-
--- an assignment: its line, the rows of the copies that it reads and the scalars whose copies these are, the left side, the right side, and the row of
--- the scalar's marks if it has some
-pub record NestText : Type 0 where
-  pub line : ℕ
-  pub copies : List ℕ
-  pub names : List ℕ
-  pub left : NestLeft
-  pub right : ArrayForm
-  pub mark : Option ℕ
-
--- a condition: its line, the rows of the copies that it reads and the scalars whose copies these are, and its form
-pub record NestTest : Type 0 where
-  pub line : ℕ
-  pub copies : List ℕ
-  pub names : List ℕ
-  pub form : ArrayForm
 
 -- `over` are the indices of the nest, and `shapes` the dimensions of the arrays
 module _ (shapes : List (List Dim)) (over : List Sub) where

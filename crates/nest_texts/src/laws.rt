@@ -3,14 +3,16 @@
 ghost use Rattle.std.specs.Prelude.{◌≡◌, ℕ, List, map};
 ghost use Rattle.machine_steps.specs.SameLayouts.{is_same_layout};
 ghost use Rattle.node_code.specs.Forms.{Sub};
-ghost use Rattle.node_code.specs.Instructions.{ArrayTable, meaning_of};
-ghost use Rattle.node_code.specs.NestStatements.{iterations_at};
+ghost use Rattle.code_meaning.specs.Instructions.{ArrayTable, meaning_of};
+ghost use Rattle.code_meaning.specs.NestStatements.{iterations_at};
 ghost use Rattle.nest_machine.specs.Counting.{IsCounting};
-ghost use Rattle.nest_machine.specs.Finals.{Final};
+ghost use Rattle.nest_syntax.specs.Finals.{Final};
 ghost use Rattle.nest_machine.specs.Entries.{nest_code};
-ghost use Rattle.nest_texts.specs.NestTexts.{NestText, NestTest, nest_texts};
+ghost use Rattle.program_code.specs.NestTexts.{NestText, NestTest};
+ghost use Rattle.nest_texts.specs.NestTexts.{nest_texts};
 ghost use Rattle.nest_texts.specs.NestLoops.{counting_at};
-ghost use Rattle.nest_texts.specs.NestInstructions.{nest_layout, NestBody, body_of, AreSafe, nest_instructions};
+ghost use Rattle.nest_texts.specs.NestBodies.{nest_layout, body_of, AreSafe};
+ghost use Rattle.program_code.specs.NestInstructions.{NestBody, nest_instructions};
 
 /// Inner loops count right, in 64 bits.
 pub fn inner_loops_count()

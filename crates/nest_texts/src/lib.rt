@@ -1,8 +1,8 @@
-//! The texts of INDEPENDENT nests, and their code as instructions.
+//! What the texts of INDEPENDENT nests and their instructions mean.
 //!
-//! Comes in: node code, with its forms over slots and index tuples (`node_code`), and the code of a nest by what its instructions mean
-//! (`nest_machine`). Goes out, in `specs/`: assignments and conditions of a nest as forms at index tuples; how its inner loops count; and its
-//! code as a list of instructions of node code. And two laws, each the contract of a function that does nothing: inner loops count right (`inner_loops_count`), and the
+//! Comes in: the texts of a nest and its code as a list of instructions (`program_code`), what node code means (`code_meaning`), and the code of a nest
+//! by what its instructions mean (`nest_machine`). Goes out, in `specs/`: what assignments and conditions of a nest come to at index tuples; how its
+//! inner loops count; and its body as the machine's. And two laws, each the contract of a function that does nothing: inner loops count right (`inner_loops_count`), and the
 //! instructions of a nest mean what its code is (`nests_coded`).
 //!
 //! What holds in between: an expression of a nest is one of FORALL, at an index tuple that has the values of the nest's indices and then those

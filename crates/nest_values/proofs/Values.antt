@@ -11,16 +11,17 @@ use Rattle.array_meaning.specs.Sections.{subscripts_at}
 use Rattle.array_meaning.specs.Elementals.{operated}
 use Rattle.array_meaning.specs.Expressions.{value, values}
 use Rattle.machine_steps.specs.Machine.{value_by}
-use Rattle.node_code.specs.Flat.{flat_value, flat_values, or_zero}
-use Rattle.node_code.specs.Forms.{Sub, ArrayForm, selections_at, elemental_at, elementals_at}
-use Rattle.node_code.specs.Parallel.{spot_of, shape_of, indices_in, reads_at, all_reads_at, value_by_reads, values_by_reads}
-use Rattle.node_code.specs.NestStatements.{row_spots, nest_elemental, nest_elementals, form_reads, form_value}
-use Rattle.lowered_expressions.specs.ExpressionCode.{index_flat, index_flats, index_subs, index_form, index_forms}
+use Rattle.code_meaning.specs.Flat.{flat_value, flat_values, or_zero}
+use Rattle.node_code.specs.Forms.{Sub, ArrayForm}
+use Rattle.code_meaning.specs.Forms.{selections_at, elemental_at, elementals_at}
+use Rattle.code_meaning.specs.Parallel.{spot_of, shape_of, indices_in, reads_at, all_reads_at, value_by_reads, values_by_reads}
+use Rattle.code_meaning.specs.NestStatements.{row_spots, nest_elemental, nest_elementals, form_reads, form_value}
+use Rattle.program_code.specs.ExpressionCode.{index_flat, index_flats, index_subs, index_form, index_forms}
 use Rattle.lowered_expressions.specs.WellFormed.{IsIndexed, AreSubscripts}
 use Rattle.lowered_expressions.proofs.Terms.{HoldsScalars, HoldsArrays}
 use Rattle.lowered_expressions.proofs.Scatter.{value-of-reads}
 use Rattle.lowered_expressions.proofs.Indexed.{subs-are, indexed-value, indexed-names}
-use Rattle.lowered_expressions.specs.NestTerms.{indexed, all_indexed, NamesFirst, AllNameFirst, SubscriptsFirst, AllSubscriptsFirst}
+use Rattle.nest_syntax.specs.NestTerms.{indexed, all_indexed, NamesFirst, AllNameFirst, SubscriptsFirst, AllSubscriptsFirst}
 use Rattle.nest_values.specs.NestTerms.{IsAlike, AreAlike}
 
 -- ---- the state of an iteration

@@ -3,7 +3,7 @@ use Rattle.std.specs.Prelude.{◌≡◌, ℕ, List, ℤ, Option, Ok}
 use Rattle.array_meaning.specs.State.{State, scalar, array}
 use Rattle.array_meaning.specs.Terms.{Term, Number, Scalar, Index, Element, Section, Apply, Reduce, Terms, NoTerm, More}
 use Rattle.array_meaning.specs.Expressions.{value}
-use Rattle.lowered_expressions.specs.NestTerms.{scalar_or_index}
+use Rattle.nest_syntax.specs.NestTerms.{scalar_or_index}
 
 -- `index_of` says which index a scalar is, if it is one
 module _ (index_of : ℕ → Option ℕ) where

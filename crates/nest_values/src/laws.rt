@@ -8,13 +8,14 @@ ghost use Rattle.array_meaning.specs.Terms.{Term, Terms};
 ghost use Rattle.array_meaning.specs.Expressions.{value, values};
 ghost use Rattle.array_meaning.specs.Sections.{subscripts_at};
 ghost use Rattle.machine_steps.specs.Machine.{value_by};
-ghost use Rattle.node_code.specs.Flat.{slot};
-ghost use Rattle.node_code.specs.Forms.{Sub, selections_at};
-ghost use Rattle.node_code.specs.NestStatements.{form_reads, form_value, row_spots};
-ghost use Rattle.node_code.specs.Parallel.{indices_in, shape_of};
-ghost use Rattle.lowered_expressions.specs.ExpressionCode.{index_form, index_subs};
+ghost use Rattle.code_meaning.specs.Flat.{slot};
+ghost use Rattle.node_code.specs.Forms.{Sub};
+ghost use Rattle.code_meaning.specs.Forms.{selections_at};
+ghost use Rattle.code_meaning.specs.NestStatements.{form_reads, form_value, row_spots};
+ghost use Rattle.code_meaning.specs.Parallel.{indices_in, shape_of};
+ghost use Rattle.program_code.specs.ExpressionCode.{index_form, index_subs};
 ghost use Rattle.lowered_expressions.specs.WellFormed.{IsIndexed, AreSubscripts};
-ghost use Rattle.lowered_expressions.specs.NestTerms.{indexed, all_indexed, SubscriptsFirst};
+ghost use Rattle.nest_syntax.specs.NestTerms.{indexed, all_indexed, SubscriptsFirst};
 ghost use Rattle.nest_values.specs.NestTerms.{IsAlike, AreAlike};
 
 /// Over slots and rows that hold the state at a nest's entry the form of an expression has the value that the expression has in the state

@@ -4,7 +4,7 @@ use crate::driver::{Order, Progress, Run};
 use crate::opening::nodes_on;
 use crate::outcome::outcome_of;
 use crate::show::{write_end, write_shown};
-use crate::words::line_of;
+use case_code::line_of;
 use std::alloc::{AllocError, Global};
 use std::fmt::Write;
 

@@ -9,7 +9,7 @@
 //! - `copies`: how many further rows there are, for copies; they have the next letters.
 //! - `slots`: the values of the slots at the start.
 //! - `grids`: the grids of nodes on which the code runs, as `4` or `2x2`; without such a line 1, 2, 3, 4 and 64 nodes.
-//! - A line that begins with a number is the instruction with that place, written as `instructions` says. Places ascend.
+//! - A line that begins with a number is the instruction with that place, written as `case_code` says. Places ascend.
 //! - `show`, a grid, and words: letters for what each node holds of these rows, `slots` for the last slots of node 0, `letters` for
 //!   each letter, with its phase, source, target, number and values.
 //!
@@ -20,15 +20,11 @@
 mod answer;
 mod arrays;
 mod driver;
-mod expressions;
 mod fitting;
-mod instructions;
 mod layouts;
-mod nests;
 mod opening;
 mod outcome;
 mod show;
-mod words;
 
 use crate::answer::answer_to;
 use std::io;

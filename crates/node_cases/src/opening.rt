@@ -6,10 +6,9 @@ ghost use Rattle.array_maps.specs.Maps.{AreMaps};
 
 use crate::arrays::{grid_of, shapes_of, starts_of};
 use crate::fitting::fits;
-use crate::instructions::read_code;
 use crate::layouts::{Moves, moves_of, owners_of};
-use crate::words::line_of;
 use array_maps::Maps;
+use case_code::{line_of, read_code};
 use case_texts::text_of;
 use directive_check::check_mapping;
 use hpf_reader::read_program;

@@ -1,7 +1,7 @@
 //! What cases ask to see, in lines.
 
 use crate::driver::{Run, Sent};
-use crate::words::row_of;
+use case_code::row_of;
 use case_texts::write_text;
 use node_machine::Node;
 use slot_values::{Fault, Status};

@@ -6,8 +6,8 @@ use Rattle.array_meaning.specs.Terms.{Term}
 use Rattle.node_code.specs.declared.instruction.Instruction.{Instruction as HeldInstruction}
 use Rattle.node_code.specs.Instructions.{Instruction, Jump, JumpIfZero, Set}
 use Rattle.node_code.specs.Texts.{instruction, instructions}
-use Rattle.lowered_expressions.specs.ExpressionCode.{code_of, flat_of, slots_of}
-use Rattle.lowering.specs.StatementCode.{arm_code}
+use Rattle.program_code.specs.ExpressionCode.{code_of, flat_of, slots_of}
+use Rattle.program_code.specs.StatementCode.{arm_code}
 use Rattle.node_codegen.specs.Arms.{arms_before, codes, jump_over, jumping_to}
 
 -- an arm, by the code of its condition and that of its body

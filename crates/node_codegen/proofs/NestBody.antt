@@ -7,10 +7,10 @@ use Rattle.node_code.specs.declared.instruction.Instruction.{Instruction as Held
 use Rattle.node_code.specs.Flat.{Int}
 use Rattle.node_code.specs.Instructions.{Instruction, MakeCopies}
 use Rattle.node_code.specs.Texts.{instruction, instructions}
-use Rattle.nest_machine.specs.Asked.{tested_asked}
-use Rattle.nest_texts.specs.NestInstructions as forms
-use Rattle.nest_texts.specs.NestInstructions.{test_instruction, count_nest}
-use Rattle.lowered_nests.specs.NestCode.{Lined, PlainBody, plain_else}
+use Rattle.nest_syntax.specs.Asked.{tested_asked}
+use Rattle.program_code.specs.NestInstructions as forms
+use Rattle.program_code.specs.NestInstructions.{test_instruction, count_nest}
+use Rattle.program_code.specs.NestCode.{Lined, PlainBody, plain_else}
 use Rattle.node_codegen.specs.declared.nest_names.NestNames.{NestNames}
 use Rattle.node_codegen.specs.NestNames.{arms_by, body_by, over_by, test_by, text_by}
 use Rattle.node_codegen.specs.NestTexts.{IsArmCode, is_bare}

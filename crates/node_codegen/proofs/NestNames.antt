@@ -6,12 +6,12 @@ use Rattle.op_tables.specs.declared.join.Join.{Join}
 use Rattle.array_meaning.specs.Statements.{Nest, Block}
 use Rattle.array_meaning.specs.Iterations.{is_in, nest_indices}
 use Rattle.array_meaning.specs.Touches.{assigned_in}
-use Rattle.nest_order.specs.Copies.{Kind, Shared, New, Assigned, Reduced}
-use Rattle.nest_items.specs.NestItems.{Assigning, ToScalar, ToElement}
-use Rattle.nest_machine.specs.Finals.{Folds, Lasts}
+use Rattle.nest_syntax.specs.NestKinds.{Kind, Shared, New, Assigned, Reduced}
+use Rattle.nest_syntax.specs.Assigning.{Assigning, ToScalar, ToElement}
+use Rattle.nest_syntax.specs.Finals.{Folds, Lasts}
 use Rattle.statement_trail.specs.NestParts.{among_from, index_in}
-use Rattle.lowered_nests.specs.Places.{final_by, finals_from, marks_by, marks_from, marks_of}
-use Rattle.lowered_nests.specs.NestCode.{conditions, finals, kinds_in, operator_in, scalars, text_in}
+use Rattle.program_code.specs.Places.{final_by, finals_from, marks_by, marks_from, marks_of}
+use Rattle.program_code.specs.NestCode.{conditions, finals, kinds_in, operator_in, scalars, text_in}
 use Rattle.node_codegen.specs.NestNames.{mark_at, text_at}
 use Rattle.node_codegen.specs.NestFinals.{finals_at}
 

@@ -8,7 +8,7 @@ use Rattle.std.specs.Option.{option_or}
 use Rattle.op_tables.specs.declared.join.Join.{Join}
 use Rattle.op_tables.specs.declared.join.Join.TheVariants.{Sum}
 use Rattle.array_meaning.specs.Terms.{Term, Apply}
-use Rattle.lowered_nests.specs.NestCode.{operator_by}
+use Rattle.program_code.specs.NestCode.{operator_by}
 use Rattle.node_codegen.specs.NestScalars.{first_operator}
 
 pub first_of_both : (xs ys : List Term) → option_or (first_operator xs) (first_operator ys) ≡ first_operator (xs ++ ys)

@@ -8,9 +8,9 @@ use Rattle.node_code.specs.Forms.{SubAlong}
 use Rattle.node_code.specs.declared.instruction.Instruction.{Instruction as HeldInstruction}
 use Rattle.node_code.specs.Instructions.{Instruction}
 use Rattle.node_code.specs.Texts.{instruction, instructions}
-use Rattle.nest_texts.specs.NestInstructions.{nest_instructions}
-use Rattle.lowered_nests.specs.NestCode.{along, finals, indices_code, inner_bounds, nest_code, nest_rows, nest_slots, plain, stored, test_in, text_in, trips_code}
-use Rattle.lowering.specs.StatementCode.{marked_code, marked_copies, marked_slots}
+use Rattle.program_code.specs.NestInstructions.{nest_instructions}
+use Rattle.program_code.specs.NestCode.{along, finals, indices_code, inner_bounds, nest_code, nest_rows, nest_slots, plain, stored, test_in, text_in, trips_code}
+use Rattle.program_code.specs.StatementCode.{marked_code, marked_copies, marked_slots}
 use Rattle.node_codegen.specs.declared.nest_names.NestNames.{NestNames}
 use Rattle.node_codegen.specs.NestNames.{AreNamesOf, over_by, test_at, test_by, text_at, text_by, with_index}
 use Rattle.node_codegen.specs.NestFinals.{finals_at, finals_by}

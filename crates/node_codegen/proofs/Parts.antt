@@ -12,8 +12,8 @@ use Rattle.resolved_program.specs.declared.statements.Nest.{Nest}
 use Rattle.resolved_program.specs.declared.statements.Statement.{Statement}
 use Rattle.resolved_program.specs.Resolved.{arms_of, block_of, loop_of, mark, statement}
 use Rattle.resolved_program.proofs.Rows.{do_vec, if_vec}
-use Rattle.lowered_expressions.specs.ExpressionCode.{control_code, control_slots}
-use Rattle.lowering.specs.StatementCode.{block_code, entry_code, loop_code, marked_code, statement_code}
+use Rattle.program_code.specs.ExpressionCode.{control_code, control_slots}
+use Rattle.program_code.specs.StatementCode.{block_code, entry_code, loop_code, marked_code, statement_code}
 use Rattle.node_codegen.specs.Arms.{AreArms, arms_before}
 
 -- an IF, by the codes of its arms

@@ -8,7 +8,7 @@ use Rattle.node_code.specs.Instructions.{Instruction, Jump, NewMapping}
 use Rattle.node_code.specs.Texts.{instructions}
 use Rattle.resolved_program.specs.declared.statements.Arm.{Arm as HeldArm}
 use Rattle.resolved_program.specs.Resolved.{with_arm}
-use Rattle.lowering.specs.StatementCode.{arms_code}
+use Rattle.program_code.specs.StatementCode.{arms_code}
 
 abbrev pub codes : List (Vec HeldInstruction Global) → List (List Instruction)
 codes = map (λ c. instructions c.items)

@@ -2,8 +2,8 @@
 use Rattle.std.specs.Prelude.{ℕ, suc, ◌+◌, List, [], ◌∷◌, if◌then◌else◌}
 use Rattle.array_meaning.specs.Statements.{Block}
 use Rattle.array_meaning.specs.Iterations.{is_in}
-use Rattle.nest_machine.specs.Finals.{Final, Folds, Lasts}
-use Rattle.lowered_nests.specs.NestCode.{operator_in}
+use Rattle.nest_syntax.specs.Finals.{Final, Folds, Lasts}
+use Rattle.program_code.specs.NestCode.{operator_in}
 use Rattle.node_codegen.specs.declared.nest_finals.Final.{Final as HeldFinal}
 use Rattle.node_codegen.specs.declared.nest_finals.Final.TheVariants as held
 use Rattle.node_codegen.specs.declared.nest_names.NestNames.{NestNames}

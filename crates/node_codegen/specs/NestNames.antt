@@ -8,14 +8,14 @@ use Rattle.resolved_program.specs.Resolved.{inner_loops}
 use Rattle.node_code.specs.Forms.{Sub, SubAlong}
 use Rattle.node_code.specs.NestStatements.{ElementLeft, CopyLeft}
 use Rattle.node_code.specs.Instructions.{Instruction}
-use Rattle.lowered_expressions.specs.ExpressionCode.{index_subs, index_form}
-use Rattle.nest_items.specs.NestItems.{Assigning, ToScalar, ToElement}
-use Rattle.nest_texts.specs.NestTexts.{NestText, NestTest}
-use Rattle.nest_texts.specs.NestInstructions.{arms_instructions, body_instructions, text_instructions}
-use Rattle.lowered_expressions.specs.NestTerms.{all_indexed, indexed}
+use Rattle.program_code.specs.ExpressionCode.{index_subs, index_form}
+use Rattle.nest_syntax.specs.Assigning.{Assigning, ToScalar, ToElement}
+use Rattle.program_code.specs.NestTexts.{NestText, NestTest}
+use Rattle.program_code.specs.NestInstructions.{arms_instructions, body_instructions, text_instructions}
+use Rattle.nest_syntax.specs.NestTerms.{all_indexed, indexed}
 use Rattle.statement_trail.specs.NestParts.{each_once, index_in, of_these, scalars_in}
-use Rattle.lowered_nests.specs.Places.{marks_from, place_of}
-use Rattle.lowered_nests.specs.NestCode.{Lined, PlainBody, PlainArms, along, conditions, scalars, stored}
+use Rattle.program_code.specs.Places.{marks_from, place_of}
+use Rattle.program_code.specs.NestCode.{Lined, PlainBody, PlainArms, along, conditions, scalars, stored}
 use Rattle.node_codegen.specs.declared.nest_names.NestNames.{NestNames}
 
 -- the nest whose outermost loop has this body

@@ -2,7 +2,7 @@
 use Rattle.std.specs.Prelude.{List, [], ◌∷◌, Option, Some, None}
 use Rattle.op_tables.specs.declared.join.Join.{Join}
 use Rattle.array_meaning.specs.Terms.{Term}
-use Rattle.lowered_nests.specs.NestCode.{operator_by}
+use Rattle.program_code.specs.NestCode.{operator_by}
 
 abbrev pub first_operator : List Term → Option Join
 first_operator [] = None

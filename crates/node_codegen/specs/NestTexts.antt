@@ -5,9 +5,9 @@ use Rattle.array_meaning.specs.Statements.{Statement, If, Do}
 use Rattle.resolved_program.specs.declared.statements.Arm.{Arm as HeldArm, out-Arm}
 use Rattle.resolved_program.specs.Resolved.{block_of, term}
 use Rattle.node_code.specs.Instructions.{Instruction}
-use Rattle.nest_texts.specs.NestInstructions.{NoText, count_nest, count_nest_arms}
-use Rattle.nest_texts.specs.NestInstructions as forms
-use Rattle.lowered_nests.specs.NestCode.{Lined, PlainBody, PlainArms, plain, plain_arms, plain_else, plain_in}
+use Rattle.program_code.specs.NestInstructions.{NoText, count_nest, count_nest_arms}
+use Rattle.program_code.specs.NestInstructions as forms
+use Rattle.program_code.specs.NestCode.{Lined, PlainBody, PlainArms, plain, plain_arms, plain_else, plain_in}
 use Rattle.node_codegen.specs.declared.nest_names.NestNames.{NestNames}
 use Rattle.node_codegen.specs.NestNames.{arms_by, body_by}
 

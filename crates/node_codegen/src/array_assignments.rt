@@ -5,8 +5,8 @@ ghost use Rattle.node_code.specs.Instructions.{Limits, Par, Verdict};
 ghost use Rattle.node_code.specs.Texts as text;
 ghost use Rattle.node_code.specs.Texts.{instructions, when};
 ghost use Rattle.resolved_program.specs.Resolved.{subscripts_of, term};
-ghost use Rattle.lowered_expressions.specs.ExpressionCode.{first_subs, form_of, or_no_sub, parts_code, subscripts_code, subscripts_slots};
-ghost use Rattle.lowering.specs.StatementCode.{assignment, assignment_code};
+ghost use Rattle.program_code.specs.ExpressionCode.{first_subs, form_of, or_no_sub, parts_code, subscripts_code, subscripts_slots};
+ghost use Rattle.program_code.specs.StatementCode.{assignment, assignment_code};
 
 use crate::sequences::{with_last, with_more};
 use expression_code::{

@@ -2,7 +2,7 @@
 
 ghost use Rattle.std.specs.Prelude.{◌≡◌, IfOk, max};
 ghost use Rattle.array_meaning.specs.Statements.{Arms};
-ghost use Rattle.lowering.specs.StatementCode.{arms_copies, block_copies, statement_copies};
+ghost use Rattle.program_code.specs.StatementCode.{arms_copies, block_copies, statement_copies};
 ghost use Rattle.resolved_program.specs.Resolved.{arms_of, block_of, statement, with_arm};
 
 use crate::nest_code::marked_copies;

@@ -4,7 +4,7 @@ ghost use Rattle.std.specs.Prelude.{◌≡◌, ◌+◌, [], ◌∷◌, ◌++◌,
 ghost use Rattle.node_code.specs.Instructions.{Set, Store, TestBounds};
 ghost use Rattle.node_code.specs.Texts.{instructions};
 ghost use Rattle.resolved_program.specs.Resolved.{term, terms_of};
-ghost use Rattle.lowered_expressions.specs.ExpressionCode.{all_slots_of, code_of, codes_of, flat_of, flats_of};
+ghost use Rattle.program_code.specs.ExpressionCode.{all_slots_of, code_of, codes_of, flat_of, flats_of};
 
 use crate::sequences::{with_last, with_more};
 use expression_code::{all_slots_of, code_of, codes_of, flat_of, flats_of, plus};

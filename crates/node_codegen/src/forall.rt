@@ -6,9 +6,9 @@ ghost use Rattle.node_code.specs.Instructions.{ForallLimits};
 ghost use Rattle.node_code.specs.Texts as text;
 ghost use Rattle.node_code.specs.Texts.{instructions, when};
 ghost use Rattle.resolved_program.specs.Resolved.{control, element_assignment, term};
-ghost use Rattle.lowered_expressions.specs.ExpressionCode.{index_flat, index_form, subs_of};
-ghost use Rattle.lowering.specs.StatementCode as definition;
-ghost use Rattle.lowering.specs.StatementCode.{forall_assignments_code, forall_code, forall_mask_code, one_to_one_code, triplets, where_true};
+ghost use Rattle.program_code.specs.ExpressionCode.{index_flat, index_form, subs_of};
+ghost use Rattle.program_code.specs.StatementCode as definition;
+ghost use Rattle.program_code.specs.StatementCode.{forall_assignments_code, forall_code, forall_mask_code, one_to_one_code, triplets, where_true};
 
 use crate::forall_header::{header_code, header_subs};
 use crate::forall_subscripts::all_subscripts;

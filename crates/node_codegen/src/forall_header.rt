@@ -4,8 +4,8 @@ ghost use Rattle.std.specs.Prelude.{◌≡◌, ◌+◌, [], ◌∷◌, ◌++◌,
 ghost use Rattle.node_code.specs.Instructions.{TestStride};
 ghost use Rattle.node_code.specs.Texts.{instructions, subs};
 ghost use Rattle.resolved_program.specs.Resolved.{control};
-ghost use Rattle.lowered_expressions.specs.ExpressionCode.{control_code, control_slots, subs_of, subscripts_code, subscripts_slots};
-ghost use Rattle.lowering.specs.StatementCode.{triplets};
+ghost use Rattle.program_code.specs.ExpressionCode.{control_code, control_slots, subs_of, subscripts_code, subscripts_slots};
+ghost use Rattle.program_code.specs.StatementCode.{triplets};
 
 use crate::sequences::with_last;
 use expression_code::{control_code, control_slots, joined, plus};

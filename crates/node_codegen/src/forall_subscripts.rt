@@ -5,7 +5,7 @@ ghost use Rattle.array_meaning.specs.Terms.{list_of};
 ghost use Rattle.array_meaning.specs.Forall.{all_subscripts, body_subscripts, mask_subscripts, subscripts_in, subscripts_in_all};
 ghost use Rattle.node_code.specs.Texts.{flat};
 ghost use Rattle.resolved_program.specs.Resolved.{element_assignment, term, terms_of};
-ghost use Rattle.lowered_expressions.specs.ExpressionCode.{index_flat};
+ghost use Rattle.program_code.specs.ExpressionCode.{index_flat};
 
 use expression_code::all_index_flats;
 use hpf_base::OutOfMemory;

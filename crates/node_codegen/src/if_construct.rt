@@ -4,7 +4,7 @@ ghost use Rattle.std.specs.Prelude.{◌≡◌, ◌+◌, [], ◌∷◌, ◌++◌,
 ghost use Rattle.node_code.specs.Instructions.{JumpIfZero, Set};
 ghost use Rattle.node_code.specs.Texts.{instructions};
 ghost use Rattle.resolved_program.specs.Resolved.{term};
-ghost use Rattle.lowered_expressions.specs.ExpressionCode.{code_of, flat_of, slots_of};
+ghost use Rattle.program_code.specs.ExpressionCode.{code_of, flat_of, slots_of};
 ghost use Rattle.node_codegen.specs.Arms.{arms_before, codes, jumping_to};
 
 use crate::sequences::{place_after, with_last, with_more};

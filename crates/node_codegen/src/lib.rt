@@ -2,7 +2,7 @@
 //!
 //! Comes in: a plan, the program with its names resolved, and which arrays the REDISTRIBUTE of each line moves. Goes out: its node code,
 //! how many slots this takes, and how many rows after those of the declared names. What holds in between: each function answers what the
-//! function of its name in `lowering` does, or below it in `lowered_nests` and `nest_texts`, and wants of memory alone; a place or a sum of
+//! function of its name in `program_code` does, and wants of memory alone; a place or a sum of
 //! slots past 64 bits is one. Places are absolute, so a body's code is made apart, at places that are known, and nothing is patched: what
 //! jumps over it or to its end is put down once its length is known. A part that stands twice in the code is made twice.
 //!

@@ -6,7 +6,7 @@ ghost use Rattle.node_code.specs.Flat.{AndFlat, Int, NoFlat, Operated, Slot};
 ghost use Rattle.node_code.specs.Instructions.{JumpIfZero, Set, Trips};
 ghost use Rattle.node_code.specs.Texts as text;
 ghost use Rattle.node_code.specs.Texts.{instruction, instructions};
-ghost use Rattle.lowering.specs.StatementCode.{loop_code};
+ghost use Rattle.program_code.specs.StatementCode.{loop_code};
 
 use crate::sequences::{place_after, with_last};
 use expression_code::{joined, plus};

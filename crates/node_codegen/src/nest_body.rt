@@ -1,8 +1,8 @@
 //! The statements of the innermost block of a nest, one after the other.
 
 ghost use Rattle.std.specs.Prelude.{◌≡◌, ◌+◌, [], ◌∷◌, ◌++◌, None, Some, IfOk, pos};
-ghost use Rattle.lowered_nests.specs.NestCode.{PlainArms, bounds_in, plain, plain_arms, plain_else};
-ghost use Rattle.nest_texts.specs.NestInstructions.{loop_instructions};
+ghost use Rattle.program_code.specs.NestCode.{PlainArms, bounds_in, plain, plain_arms, plain_else};
+ghost use Rattle.program_code.specs.NestInstructions.{loop_instructions};
 ghost use Rattle.node_code.specs.Flat.{Int};
 ghost use Rattle.node_code.specs.Instructions.{MakeCopies};
 ghost use Rattle.node_code.specs.Texts.{instruction, instructions};

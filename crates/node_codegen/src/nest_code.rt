@@ -2,9 +2,9 @@
 
 ghost use Rattle.std.specs.Prelude.{◌≡◌, ◌+◌, ◌*◌, [], ◌∷◌, ℕ, List, map, pos, unwrap_or, IfOk};
 ghost use Rattle.array_meaning.specs.Statements.{Loop as LoopMeaning, Nest as NestMeaning};
-ghost use Rattle.lowered_nests.specs.NestCode.{indices_code, nest_code, nest_rows, nest_slots, plain, trips_code};
-ghost use Rattle.lowering.specs.StatementCode.{marked_code, marked_copies, marked_slots};
-ghost use Rattle.nest_texts.specs.NestInstructions.{nest_instructions};
+ghost use Rattle.program_code.specs.NestCode.{indices_code, nest_code, nest_rows, nest_slots, plain, trips_code};
+ghost use Rattle.program_code.specs.StatementCode.{marked_code, marked_copies, marked_slots};
+ghost use Rattle.program_code.specs.NestInstructions.{nest_instructions};
 ghost use Rattle.node_code.specs.Flat.{AndFlat, Int, NoFlat, Operated, Slot};
 ghost use Rattle.node_code.specs.Instructions.{Instruction as Code, Trips};
 ghost use Rattle.node_code.specs.Texts.{flat, instruction, instructions};

@@ -1,8 +1,8 @@
 //! How many stored conditions the innermost block of a nest has, and how many slots its inner loops take.
 
 ghost use Rattle.std.specs.Prelude.{◌≡◌, ◌+◌, ◌&&◌, ℕ, IfOk, max, not};
-ghost use Rattle.lowered_nests.specs.NestCode.{PlainArms, PlainBody, plain, plain_arms, plain_else, plain_in};
-ghost use Rattle.nest_texts.specs.NestInstructions.{count_nest, count_nest_arms, slots_of_arms, slots_of_nest};
+ghost use Rattle.program_code.specs.NestCode.{PlainArms, PlainBody, plain, plain_arms, plain_else, plain_in};
+ghost use Rattle.program_code.specs.NestInstructions.{count_nest, count_nest_arms, slots_of_arms, slots_of_nest};
 ghost use Rattle.resolved_program.specs.Resolved.{arms_of, block_of, statement};
 ghost use Rattle.node_codegen.specs.NestTexts.{is_bare, statement_conditions};
 

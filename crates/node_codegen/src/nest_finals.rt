@@ -1,7 +1,7 @@
 //! The copies of a nest before its statements and after them.
 
 ghost use Rattle.std.specs.Prelude.{◌≡◌, ◌++◌, ℕ, map, IfOk};
-ghost use Rattle.nest_texts.specs.NestInstructions.{conditions_makes, final_instruction, final_makes, finals_instructions, finals_makes};
+ghost use Rattle.program_code.specs.NestInstructions.{conditions_makes, final_instruction, final_makes, finals_instructions, finals_makes};
 ghost use Rattle.node_code.specs.Texts.{instruction, instructions};
 ghost use Rattle.resolved_program.specs.Resolved.{block_of};
 ghost use Rattle.node_codegen.specs.NestFinals.{final, final_of, finals_by};

@@ -2,7 +2,7 @@
 
 ghost use Rattle.std.specs.Prelude.{◌≡◌, ◌++◌, ◌*◌, [], ◌∷◌, ℕ, suc, length, map, IfOk, OnOk};
 ghost use Rattle.array_meaning.specs.Statements.{Block};
-ghost use Rattle.lowered_nests.specs.NestCode.{bounds_code};
+ghost use Rattle.program_code.specs.NestCode.{bounds_code};
 ghost use Rattle.node_code.specs.Texts.{instructions};
 ghost use Rattle.resolved_program.specs.Resolved.{block_of, inner_loops, innermost, loop_of, statement};
 ghost use Rattle.node_codegen.specs.NestLoops.{innermost_from, innermost_in, loops_from, loops_of};

@@ -1,7 +1,7 @@
 //! The names of a nest of INDEPENDENT loops on the machine.
 
 ghost use Rattle.std.specs.Prelude.{◌≡◌, ◌∷◌, map, IfOk};
-ghost use Rattle.lowered_nests.specs.NestCode.{along};
+ghost use Rattle.program_code.specs.NestCode.{along};
 ghost use Rattle.statement_trail.specs.NestParts.{index_in};
 ghost use Rattle.node_code.specs.Forms.{SubAlong};
 ghost use Rattle.node_code.specs.Texts.{subs};

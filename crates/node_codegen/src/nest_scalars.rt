@@ -5,7 +5,7 @@ ghost use Rattle.std.specs.Option.{option_or};
 ghost use Rattle.array_meaning.specs.Iterations.{is_in};
 ghost use Rattle.array_meaning.specs.Touches.{assigned_by, assigned_in, assigned_in_arms};
 ghost use Rattle.statement_trail.specs.NestParts.{among_from};
-ghost use Rattle.lowered_nests.specs.NestCode.{operator_by, operator_in, rights_in, rights_in_arms, rights_of};
+ghost use Rattle.program_code.specs.NestCode.{operator_by, operator_in, rights_in, rights_in_arms, rights_of};
 ghost use Rattle.resolved_program.specs.Resolved.{arms_of, block_of, statement, term};
 ghost use Rattle.node_codegen.specs.NestScalars.{first_operator};
 

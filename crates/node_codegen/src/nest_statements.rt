@@ -1,9 +1,9 @@
 //! The parallel statements of a nest of INDEPENDENT loops.
 
 ghost use Rattle.std.specs.Prelude.{◌≡◌, ◌+◌, [], false, map, IfOk, pos};
-ghost use Rattle.nest_items.specs.NestItems.{ToElement, ToScalar};
-ghost use Rattle.nest_machine.specs.Asked.{guard_asked, tested_asked};
-ghost use Rattle.nest_texts.specs.NestInstructions.{setting_else, setting_mark, testing, whens_of};
+ghost use Rattle.nest_syntax.specs.Assigning.{ToElement, ToScalar};
+ghost use Rattle.nest_syntax.specs.Asked.{guard_asked, tested_asked};
+ghost use Rattle.program_code.specs.NestInstructions.{setting_else, setting_mark, testing, whens_of};
 ghost use Rattle.node_code.specs.declared.nest.NestRole.TheVariants.{Assigns};
 ghost use Rattle.node_code.specs.Flat.{Int};
 ghost use Rattle.node_code.specs.Forms.{FlatForm};

@@ -1,8 +1,8 @@
 //! The steps of the loops of a nest, which are constants.
 
 ghost use Rattle.std.specs.Prelude.{◌≡◌, option_and_then, option_map, IfOk};
-ghost use Rattle.nest_items.specs.NestForm.{closed_value, closed_values};
-ghost use Rattle.lowered_nests.specs.CodedBlocks.{step_flat};
+ghost use Rattle.nest_syntax.specs.ClosedTerms.{closed_value, closed_values};
+ghost use Rattle.program_code.specs.NestCode.{step_flat};
 ghost use Rattle.node_code.specs.Texts.{flat};
 ghost use Rattle.op_tables.specs.Operators.{operator_value};
 ghost use Rattle.resolved_program.specs.Resolved.{term, terms_of};

@@ -1,8 +1,8 @@
 //! The expressions of a nest's texts: an index of the nest, or a scalar whose copy is read, is an index of the form.
 
 ghost use Rattle.std.specs.Prelude.{◌≡◌, [], ◌∷◌, ◌++◌, map, IfOk, OnOk};
-ghost use Rattle.lowered_expressions.specs.ExpressionCode.{index_flat, index_flats, index_form, index_forms, index_subs};
-ghost use Rattle.lowered_expressions.specs.NestTerms.{all_indexed, indexed, scalar_or_index};
+ghost use Rattle.program_code.specs.ExpressionCode.{index_flat, index_flats, index_form, index_forms, index_subs};
+ghost use Rattle.nest_syntax.specs.NestTerms.{all_indexed, indexed, scalar_or_index};
 ghost use Rattle.statement_trail.specs.NestParts.{all_scalars_in, each_once, index_in, of_these, scalars_in};
 ghost use Rattle.node_code.specs.Flat.{Operated};
 ghost use Rattle.node_code.specs.Forms.{OperationForm, SectionForm};

@@ -4,8 +4,8 @@ ghost use Rattle.std.specs.Prelude.{◌≡◌, ◌+◌, ◌++◌, Some, IfOk};
 ghost use Rattle.array_meaning.specs.Terms.{Scalar};
 ghost use Rattle.node_code.specs.Texts.{instructions};
 ghost use Rattle.resolved_program.specs.Resolved.{block_of, loop_of, mark};
-ghost use Rattle.lowered_expressions.specs.ExpressionCode.{control_code};
-ghost use Rattle.lowering.specs.StatementCode.{entry_code};
+ghost use Rattle.program_code.specs.ExpressionCode.{control_code};
+ghost use Rattle.program_code.specs.StatementCode.{entry_code};
 
 use crate::sequences::with_more;
 use expression_code::{control_code, plus};

@@ -5,11 +5,11 @@ ghost use Rattle.node_code.specs.Instructions.{Print};
 ghost use Rattle.node_code.specs.Texts as text;
 ghost use Rattle.node_code.specs.Texts.{instructions};
 ghost use Rattle.resolved_program.specs.Resolved.{item, subscripts_of};
-ghost use Rattle.lowered_expressions.specs.ExpressionCode.{subs_of, subscripts_code, own_evaluation};
+ghost use Rattle.program_code.specs.ExpressionCode.{subs_of, subscripts_code, own_evaluation};
 ghost use Rattle.node_code.specs.Forms.{SectionForm};
 ghost use Rattle.array_meaning.specs.Statements.{Elements};
-ghost use Rattle.lowering.specs.StatementCode as definition;
-ghost use Rattle.lowering.specs.StatementCode.{item_code, items_code, items_slots, print_items};
+ghost use Rattle.program_code.specs.StatementCode as definition;
+ghost use Rattle.program_code.specs.StatementCode.{item_code, items_code, items_slots, print_items};
 
 use crate::sequences::with_last;
 use expression_code::{

@@ -3,7 +3,7 @@
 ghost use Rattle.std.specs.Prelude.{◌≡◌, IfOk};
 ghost use Rattle.node_code.specs.Texts.{instructions};
 ghost use Rattle.resolved_program.specs.Resolved.{block_of};
-ghost use Rattle.lowering.specs.StatementCode.{block_copies, block_slots, program_code};
+ghost use Rattle.program_code.specs.StatementCode.{block_copies, block_slots, program_code};
 ghost use Rattle.node_codegen.specs.Moves.{moves_by};
 
 use crate::copies::block_copies;

@@ -2,7 +2,7 @@
 
 ghost use Rattle.std.specs.Prelude.{◌≡◌, IfOk, max};
 ghost use Rattle.resolved_program.specs.Resolved.{arms_of, block_of, statement, with_arm};
-ghost use Rattle.lowering.specs.StatementCode.{arms_slots, block_slots, statement_slots};
+ghost use Rattle.program_code.specs.StatementCode.{arms_slots, block_slots, statement_slots};
 ghost use Rattle.array_meaning.specs.Statements.{Arms};
 
 use crate::forall_header::header_slots;

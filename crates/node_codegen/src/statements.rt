@@ -3,7 +3,7 @@
 ghost use Rattle.std.specs.Prelude.{◌≡◌, ◌+◌, IfOk};
 ghost use Rattle.node_code.specs.Texts.{instructions};
 ghost use Rattle.resolved_program.specs.Resolved.{arms_of, block_of, statement};
-ghost use Rattle.lowering.specs.StatementCode.{block_code, statement_code};
+ghost use Rattle.program_code.specs.StatementCode.{block_code, statement_code};
 ghost use Rattle.node_codegen.specs.Arms.{AreArms, IsArm, codes};
 ghost use Rattle.node_codegen.specs.Moves.{moves_by};
 

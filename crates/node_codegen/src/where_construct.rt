@@ -4,8 +4,8 @@ ghost use Rattle.std.specs.Prelude.{◌≡◌, [], ◌∷◌, ◌++◌, IfOk, ma
 ghost use Rattle.node_code.specs.Instructions.{MakeCopy, OwnLimits, ParCopy, Verdict};
 ghost use Rattle.node_code.specs.Texts.{instructions, when};
 ghost use Rattle.resolved_program.specs.Resolved.{section_assignment, term};
-ghost use Rattle.lowered_expressions.specs.ExpressionCode.{first_subs, form_of, or_no_sub, own_evaluation, parts_code, parts_slots};
-ghost use Rattle.lowering.specs.StatementCode.{masked_code, masked_slots, where_code};
+ghost use Rattle.program_code.specs.ExpressionCode.{first_subs, form_of, or_no_sub, own_evaluation, parts_code, parts_slots};
+ghost use Rattle.program_code.specs.StatementCode.{masked_code, masked_slots, where_code};
 
 use crate::array_assignments::masked_assignment_code;
 use crate::sequences::with_more;

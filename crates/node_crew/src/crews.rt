@@ -22,7 +22,7 @@ impl Model for Crew {
     ghost use Rattle.std.specs.Prelude.{List, map};
     ghost use Rattle.array_meaning.specs.Faults.{Fault};
     ghost use Rattle.machine_steps.specs.Node.{Node as NodeState};
-    ghost use Rattle.node_code.specs.ProgramText.{Text};
+    ghost use Rattle.code_meaning.specs.ProgramText.{Text};
     ghost use Rattle.sendable_nodes.specs.contracts.Node as n;
     ghost use Rattle.std.specs.Coded.{codes};
     ghost use Rattle.stations.specs.Stations.{Fixed, fixed};

@@ -2,8 +2,8 @@
 
 ghost use Rattle.std.specs.Prelude.{◌≡◌, ◌*◌, ◌<◌, ◌^◌, ℕ, Some, length, slice_get, IfOk};
 ghost use Rattle.machine_steps.specs.Node.{node_steps};
-ghost use Rattle.node_code.specs.FaultValues.{fault_values};
-ghost use Rattle.node_code.specs.ProgramText.{text_meaning};
+ghost use Rattle.code_meaning.specs.FaultValues.{fault_values};
+ghost use Rattle.code_meaning.specs.ProgramText.{text_meaning};
 ghost use Rattle.node_law.specs.Cores.{start};
 ghost use Rattle.node_law.specs.Phases.{Lockstep};
 ghost use Rattle.node_law.specs.Reached.{EndsInLockstep};

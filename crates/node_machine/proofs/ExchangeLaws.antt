@@ -8,9 +8,9 @@ use Rattle.machine_steps.specs.Machine.{instr_at}
 use Rattle.machine_steps.specs.Node.{Node, begun_by, part_opened, reduce_begun}
 use Rattle.comm_sets.specs.declared.exchanged.Exchange.{Exchange}
 use Rattle.comm_sets.specs.Exchanges.{AreExchanged}
-use Rattle.node_code.specs.FaultValues.{fault_values}
-use Rattle.node_code.specs.Parallel.{fold_of}
-use Rattle.node_code.specs.ProgramText.{Text, text_meaning}
+use Rattle.code_meaning.specs.FaultValues.{fault_values}
+use Rattle.code_meaning.specs.Parallel.{fold_of}
+use Rattle.code_meaning.specs.ProgramText.{Text, text_meaning}
 use Rattle.op_tables.specs.declared.join.Join.{Join}
 use Rattle.tuple_values.specs.Statements.{Statement, no_left}
 use Rattle.part_steps.specs.Exchanged.{IsExchange}
@@ -22,7 +22,7 @@ use Rattle.part_steps.specs.InstructionExchange.{HasLists, IsExchangeOf}
 use Rattle.part_steps.specs.InstructionParts.{instruction_part}
 use Rattle.node_machine.specs.Exchanges.{IsExchangeBy, owners_of, part_on}
 use Rattle.node_machine.specs.Parts.{OpensPart}
-use Rattle.part_steps.specs.InstructionParts.{IsParallel}
+use Rattle.tuple_values.specs.Statements.{IsParallel}
 use Rattle.node_machine.specs.Reductions.{IsReduced}
 
 -- of parts that are one

@@ -13,9 +13,9 @@ use Rattle.letters.specs.declared.letter.Letter.{Letter}
 use Rattle.machine_steps.specs.Instr.{Control, Local}
 use Rattle.machine_steps.specs.Machine.{instr_at, instr_of}
 use Rattle.machine_steps.specs.Node.{Node, Ready, act_of, begun_by, node_steps, worked_by}
-use Rattle.node_code.specs.FaultValues.{fault_values}
+use Rattle.code_meaning.specs.FaultValues.{fault_values}
 use Rattle.node_code.specs.Instructions.{Instruction}
-use Rattle.node_code.specs.ProgramText.{Text, table_on, text, text_meaning, texts}
+use Rattle.code_meaning.specs.ProgramText.{Text, table_on, text, text_meaning, texts}
 use Rattle.slot_runs.specs.Runs.{AreRun, IsRunOne}
 use Rattle.slot_values.specs.LocalInstructions.{local_control}
 use Rattle.slot_values.proofs.LocalInstructions.{local_meaning}

@@ -3,7 +3,8 @@ use Rattle.std.proofs.Common.{◌≡◌, ℕ, zero, suc, ◌<◌, ◌≤◌, ◌
 use Rattle.std.specs.List.{slice_get}
 use Rattle.expression_rules.specs.declared.dims.Dim.{Dim}
 use Rattle.machine_steps.specs.Node.{at_root}
-use Rattle.node_code.specs.Instructions.{Instruction, item_of, items_of}
+use Rattle.node_code.specs.Instructions.{Instruction}
+use Rattle.code_meaning.specs.Instructions.{item_of, items_of}
 use Rattle.node_code.specs.Texts.{print_item}
 use Rattle.node_code.specs.declared.instruction.PrintItem.{PrintItem}
 use Rattle.node_program.specs.PrintedLines.{printed}

@@ -8,8 +8,8 @@ use Rattle.machine_steps.specs.Instr.{Instr, Remapping}
 use Rattle.machine_steps.specs.Layout.{Layout, size_of, sizes}
 use Rattle.machine_steps.specs.Machine.{remapped, with_mapping}
 use Rattle.machine_steps.specs.Node.{Node, begun_by, done_by, no_values, pieces_by}
-use Rattle.node_code.specs.FaultValues.{fault_values}
-use Rattle.node_code.specs.ProgramText.{Text}
+use Rattle.code_meaning.specs.FaultValues.{fault_values}
+use Rattle.code_meaning.specs.ProgramText.{Text}
 use Rattle.remap_steps.specs.Redistributions.{Redistribution, all_rounds, moved_pieces, value_after}
 use Rattle.node_machine.specs.Remaps.{IsRemap, remap_ended, round_next, round_opened}
 

@@ -5,9 +5,9 @@ use Rattle.machine_steps.specs.Instr.{Instr, FoldCopy, LastCopy, Reduce, Tuples,
 use Rattle.machine_steps.specs.Machine.{on, stay}
 use Rattle.machine_steps.specs.Node.{Node, begun_by, done_by, fold_ended, join_options, kept_values, last_ended, opened, option_values, own_fold, own_last, positioned_values, reduce_begun, reduce_done, reduce_ended, tree_absorbed, tree_next, values_option, verdict_done}
 use Rattle.machine_steps.specs.Tree.{levels_of, tree_sends}
-use Rattle.node_code.specs.FaultValues.{fault_values}
-use Rattle.node_code.specs.Parallel.{fold_of}
-use Rattle.node_code.specs.ProgramText.{Text}
+use Rattle.code_meaning.specs.FaultValues.{fault_values}
+use Rattle.code_meaning.specs.Parallel.{fold_of}
+use Rattle.code_meaning.specs.ProgramText.{Text}
 use Rattle.machine_steps.specs.SameLayouts.{is_same_layout}
 use Rattle.tree_steps.specs.Absorbed.{absorbed_values, joined_values}
 use Rattle.tree_steps.specs.declared.joining.Joining.TheVariants.{Kept, Later, Options}

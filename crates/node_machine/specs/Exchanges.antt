@@ -3,7 +3,7 @@ use Rattle.array_meaning.specs.Faults.{Fault}
 use Rattle.machine_steps.specs.Machine.{instr_at}
 use Rattle.machine_steps.specs.Node.{Node}
 use Rattle.comm_sets.specs.declared.exchanged.Exchange.{Exchange}
-use Rattle.node_code.specs.ProgramText.{Text, text_meaning}
+use Rattle.code_meaning.specs.ProgramText.{Text, text_meaning}
 use Rattle.owner_tables.specs.Views.{OwnersView}
 use Rattle.tuple_values.specs.Statements.{Statement}
 use Rattle.part_steps.specs.Exchanged.{IsExchange}

@@ -4,7 +4,7 @@ use Rattle.array_meaning.specs.Faults.{Fault}
 use Rattle.machine_steps.specs.Agrees.{first_own, standing}
 use Rattle.machine_steps.specs.Layout.{Layout}
 use Rattle.machine_steps.specs.Node.{Node}
-use Rattle.node_code.specs.ProgramText.{Text}
+use Rattle.code_meaning.specs.ProgramText.{Text}
 use Rattle.node_program.specs.Openings.{opening_machine}
 
 -- one of so many nodes at the beginning

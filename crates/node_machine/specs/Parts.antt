@@ -8,11 +8,12 @@ use Rattle.machine_steps.specs.Machine.{earlier, effect_by, instr_at, keep}
 use Rattle.machine_steps.specs.Message.{Part, par_part}
 use Rattle.machine_steps.specs.Node.{Node, begun_by, local_outcome, local_scatter, no_values, part_opened, settled}
 use Rattle.expression_rules.specs.declared.dims.Dim.{Dim}
-use Rattle.node_code.specs.FaultValues.{fault_values}
-use Rattle.node_code.specs.Instructions.{ArrayTable, Instruction, meaning_of}
-use Rattle.node_code.specs.NestStatements.{nest_spot, nest_tuples}
-use Rattle.node_code.specs.Parallel.{assigned_spot, assignment_tuples, copy_spot, evaluation_tuples, forall_mask_tuples, forall_spot, forall_tuples}
-use Rattle.node_code.specs.ProgramText.{Text, text_meaning}
+use Rattle.code_meaning.specs.FaultValues.{fault_values}
+use Rattle.code_meaning.specs.Instructions.{ArrayTable, meaning_of}
+use Rattle.node_code.specs.Instructions.{Instruction}
+use Rattle.code_meaning.specs.NestStatements.{nest_spot, nest_tuples}
+use Rattle.code_meaning.specs.Parallel.{assigned_spot, assignment_tuples, copy_spot, evaluation_tuples, forall_mask_tuples, forall_spot, forall_tuples}
+use Rattle.code_meaning.specs.ProgramText.{Text, text_meaning}
 use Rattle.node_code.specs.Texts.{assignment, evaluation, instruction, nest_statement}
 use Rattle.slot_values.specs.KeptFaults.{kepts}
 use Rattle.part_steps.specs.Stores.{stored}

@@ -7,8 +7,9 @@ use Rattle.array_meaning.specs.Execution.{decimals}
 use Rattle.array_meaning.specs.Faults.{Fault}
 use Rattle.machine_steps.specs.Instr.{Instr, Item, Elements, Print}
 use Rattle.machine_steps.specs.Instr as machine
-use Rattle.node_code.specs.Flat.{slots_value}
-use Rattle.node_code.specs.Instructions.{PrintSection, item_of}
+use Rattle.code_meaning.specs.Flat.{slots_value}
+use Rattle.node_code.specs.Instructions.{PrintSection}
+use Rattle.code_meaning.specs.Instructions.{item_of}
 use Rattle.node_code.specs.Texts.{flat, subs}
 use Rattle.node_program.specs.PrintedLines.{line_of}
 use Rattle.node_machine.specs.declared.prints.PrintedText.{PrintedText}

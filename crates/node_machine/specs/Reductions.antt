@@ -7,9 +7,9 @@ use Rattle.machine_steps.specs.Instr.{Instr, Reduce, Tuples}
 use Rattle.machine_steps.specs.Machine.{earlier, keep}
 use Rattle.machine_steps.specs.Message.{reduce_part}
 use Rattle.machine_steps.specs.Node.{Node, join_below, local_outcome, outcome_value}
-use Rattle.node_code.specs.Parallel.{fold_of, reduction_tuples}
+use Rattle.code_meaning.specs.Parallel.{fold_of, reduction_tuples}
 use Rattle.node_code.specs.Texts.{evaluation, instruction}
-use Rattle.node_code.specs.ProgramText.{Text}
+use Rattle.code_meaning.specs.ProgramText.{Text}
 use Rattle.tuple_values.specs.Statements.{IsStatement, Statement, no_left}
 use Rattle.slot_values.specs.KeptFaults.{kepts}
 use Rattle.part_steps.specs.declared.reductions.ReduceValues.{ReduceValues}

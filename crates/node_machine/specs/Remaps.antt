@@ -7,8 +7,8 @@ use Rattle.machine_steps.specs.Instr.{Instr, Remap, Remapping}
 use Rattle.machine_steps.specs.Machine.{on, remapped}
 use Rattle.machine_steps.specs.Node.{Node, ready, settled}
 use Rattle.machine_steps.specs.Rounds.{rounds_on}
-use Rattle.node_code.specs.Instructions.{remappings}
-use Rattle.node_code.specs.ProgramText.{Text}
+use Rattle.code_meaning.specs.Instructions.{remappings}
+use Rattle.code_meaning.specs.ProgramText.{Text}
 use Rattle.node_code.specs.Texts.{new_mapping}
 use Rattle.owner_tables.specs.Views.{OwnersView}
 use Rattle.remap_steps.specs.Redistributions.{Redistribution, all_rounds, moved_pieces, round_inbox, round_outbox}

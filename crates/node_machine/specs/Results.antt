@@ -3,9 +3,9 @@ use Rattle.std.specs.Prelude.{◌≡◌, ℤ, List, [], Result}
 use Rattle.storage.specs.Storage.{Spot}
 use Rattle.array_meaning.specs.Faults.{Fault}
 use Rattle.machine_steps.specs.Instr.{Instr, Fetch, Store}
-use Rattle.node_code.specs.Flat.{flat_value}
-use Rattle.node_code.specs.Instructions.{element_in}
-use Rattle.node_code.specs.Parallel.{at_line}
+use Rattle.code_meaning.specs.Flat.{flat_value}
+use Rattle.code_meaning.specs.Instructions.{element_in}
+use Rattle.code_meaning.specs.Parallel.{at_line}
 use Rattle.node_code.specs.Texts.{flat, flats_of}
 use Rattle.node_program.specs.Results.{spot_result, value_result}
 use Rattle.node_machine.specs.declared.elements.Fetching.{Fetching}

@@ -6,7 +6,7 @@ use Rattle.machine_steps.specs.Instr.{Instr}
 use Rattle.machine_steps.specs.Machine.{element_values}
 use Rattle.machine_steps.specs.Message.{gather_part}
 use Rattle.machine_steps.specs.Node.{Node, gathered}
-use Rattle.node_code.specs.ProgramText.{Text}
+use Rattle.code_meaning.specs.ProgramText.{Text}
 use Rattle.tuple_values.specs.Statements.{Statement, tuple_count, tuple_reads}
 use Rattle.node_machine.specs.Parts.{IsOpening}
 use Rattle.node_machine.specs.Prints.{PrintsSection}

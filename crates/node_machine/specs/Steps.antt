@@ -9,12 +9,13 @@ use Rattle.machine_steps.specs.Instr as machine
 use Rattle.machine_steps.specs.Machine.{finish, instr_at}
 use Rattle.machine_steps.specs.Node.{Node, begun_by, done_by}
 use Rattle.machine_steps.specs.Rounds.{rounds_on}
-use Rattle.node_code.specs.FaultValues.{fault_values}
-use Rattle.node_code.specs.Instructions.{Instruction, PrintSection, item_of}
-use Rattle.node_code.specs.Flat.{slots_value}
-use Rattle.node_code.specs.NestStatements.{copies_extents}
-use Rattle.node_code.specs.Parallel.{evaluation_extents, fold_of}
-use Rattle.node_code.specs.ProgramText.{Text, text_meaning}
+use Rattle.code_meaning.specs.FaultValues.{fault_values}
+use Rattle.node_code.specs.Instructions.{Instruction, PrintSection}
+use Rattle.code_meaning.specs.Instructions.{item_of}
+use Rattle.code_meaning.specs.Flat.{slots_value}
+use Rattle.code_meaning.specs.NestStatements.{copies_extents}
+use Rattle.code_meaning.specs.Parallel.{evaluation_extents, fold_of}
+use Rattle.code_meaning.specs.ProgramText.{Text, text_meaning}
 use Rattle.node_code.specs.Texts.{evaluation, flat, subs}
 use Rattle.machine_steps.specs.CopyLayout.{copy_layout}
 use Rattle.machine_steps.specs.SameLayouts.{is_same_layout}

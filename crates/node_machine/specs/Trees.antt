@@ -4,7 +4,7 @@ use Rattle.array_meaning.specs.Faults.{Fault}
 use Rattle.machine_steps.specs.Instr.{Control, Instr, Tuples, Reduce}
 use Rattle.machine_steps.specs.Machine.{on, stay}
 use Rattle.op_tables.specs.declared.join.Join.{Join}
-use Rattle.node_code.specs.Parallel.{fold_of}
+use Rattle.code_meaning.specs.Parallel.{fold_of}
 use Rattle.node_machine.specs.declared.trees.Reduction.{Reduction}
 
 -- where the run goes on after a verdict: that of a reduction is a step of it

@@ -5,7 +5,7 @@ use Rattle.hpf_base.specs.declared.limits.TheConstants.{MAX_NODES}
 use Rattle.array_meaning.specs.Faults.{Fault}
 use Rattle.machine_steps.specs.Node.{Node, Stage, Ready, Passing, Passed, settled}
 use Rattle.letters.specs.Parcel.{Parcel}
-use Rattle.node_code.specs.ProgramText.{Text}
+use Rattle.code_meaning.specs.ProgramText.{Text}
 use Rattle.slot_values.specs.Controls.{control_of}
 use Rattle.slot_values.specs.KeptFaults.{kepts}
 use Rattle.part_steps.specs.KeptExchanges.{AreKeptExchanges}

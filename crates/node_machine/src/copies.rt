@@ -4,9 +4,9 @@ ghost use Rattle.std.specs.Prelude.{◌≡◌, ◌<◌, ◌≤◌, ◌^◌, All,
 ghost use Rattle.machine_steps.specs.Instr.{MakeCopy};
 ghost use Rattle.machine_steps.specs.Layout.{owned_by, piece, size_of};
 ghost use Rattle.machine_steps.specs.Machine.{on};
-ghost use Rattle.node_code.specs.Flat.{slots_value};
-ghost use Rattle.node_code.specs.NestStatements.{copies_extents};
-ghost use Rattle.node_code.specs.Parallel.{evaluation_extents};
+ghost use Rattle.code_meaning.specs.Flat.{slots_value};
+ghost use Rattle.code_meaning.specs.NestStatements.{copies_extents};
+ghost use Rattle.code_meaning.specs.Parallel.{evaluation_extents};
 ghost use Rattle.node_code.specs.Texts.{evaluation, flat, subs};
 ghost use Rattle.hpf_base.specs.declared.limits.TheConstants.{MAX_ELEMENTS, MAX_RANK};
 ghost use Rattle.hpf_base.specs.ElementOrder.{product};

@@ -1,9 +1,9 @@
 //! The elements that instructions fetch and store.
 
 ghost use Rattle.std.specs.Prelude.{◌≡◌, [], IfOk};
-ghost use Rattle.node_code.specs.Flat.{flat_value};
-ghost use Rattle.node_code.specs.Instructions.{element_in};
-ghost use Rattle.node_code.specs.Parallel.{at_line};
+ghost use Rattle.code_meaning.specs.Flat.{flat_value};
+ghost use Rattle.code_meaning.specs.Instructions.{element_in};
+ghost use Rattle.code_meaning.specs.Parallel.{at_line};
 ghost use Rattle.node_code.specs.Texts.{flat, flats_of};
 ghost use Rattle.node_machine.specs.Results.{IsFetched, IsFetching, IsStored, IsStoring};
 ghost use Rattle.node_program.specs.Results.{spot_result, value_result};

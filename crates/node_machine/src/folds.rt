@@ -5,7 +5,7 @@ ghost use Rattle.machine_steps.specs.Instr.{FoldCopy};
 ghost use Rattle.machine_steps.specs.Layout.{sizes};
 ghost use Rattle.machine_steps.specs.Machine.{slot_of};
 ghost use Rattle.machine_steps.specs.Node.{fold_ended, join_after, join_options, option_values, own_fold, tree_next, values_option};
-ghost use Rattle.node_code.specs.Parallel.{fold_of};
+ghost use Rattle.code_meaning.specs.Parallel.{fold_of};
 ghost use Rattle.op_tables.specs.Joins.{join};
 ghost use Rattle.storage.specs.Spots.{spot_of};
 ghost use Rattle.node_machine.specs.Folds.{own_element, own_elements};

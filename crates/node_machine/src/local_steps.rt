@@ -5,8 +5,8 @@ ghost use Rattle.local_runs.specs.LocalSteps.{AreLocalSteps};
 ghost use Rattle.machine_steps.specs.Instr.{Local, Running};
 ghost use Rattle.machine_steps.specs.Machine.{finish};
 ghost use Rattle.machine_steps.specs.Node.{Ready, node_steps};
-ghost use Rattle.node_code.specs.FaultValues.{fault_values};
-ghost use Rattle.node_code.specs.ProgramText.{text_meaning};
+ghost use Rattle.code_meaning.specs.FaultValues.{fault_values};
+ghost use Rattle.code_meaning.specs.ProgramText.{text_meaning};
 ghost use Rattle.node_machine.specs.Steps.{IsLocalAt, begun, instr_here};
 
 use crate::node::Node;

@@ -4,8 +4,8 @@ ghost use Rattle.std.specs.Prelude.{◌≡◌, ◌<◌, [], All, length, OnOk, O
 ghost use Rattle.array_meaning.specs.Faults.{Fault};
 ghost use Rattle.machine_steps.specs.Instr.{Running};
 ghost use Rattle.machine_steps.specs.Node.{node_steps, act_of, ready, settled};
-ghost use Rattle.node_code.specs.FaultValues.{fault_values};
-ghost use Rattle.node_code.specs.ProgramText.{text_meaning};
+ghost use Rattle.code_meaning.specs.FaultValues.{fault_values};
+ghost use Rattle.code_meaning.specs.ProgramText.{text_meaning};
 ghost use Rattle.node_machine.specs.Views.{closed};
 
 use crate::post::Post;
@@ -51,7 +51,7 @@ pub struct Node {
 impl Model for Node {
     ghost use Rattle.array_meaning.specs.Faults.{Fault};
     ghost use Rattle.machine_steps.specs.Node.{Node as NodeState};
-    ghost use Rattle.node_code.specs.ProgramText.{Text};
+    ghost use Rattle.code_meaning.specs.ProgramText.{Text, text_meaning};
     ghost use Rattle.node_machine.specs.Views.{node_of, IsNode};
     ghost use Rattle.std.specs.Coded.{codes};
     ghost use Rattle.node_program.specs.Codes.{flat_code, flats_code, form_code};
@@ -68,8 +68,7 @@ impl Model for Node {
 
 impl PhasedNode for Node {
     ghost use Rattle.machine_steps.specs.Node.{node_steps};
-    ghost use Rattle.node_code.specs.FaultValues.{fault_values};
-    ghost use Rattle.node_code.specs.ProgramText.{text_meaning};
+    ghost use Rattle.code_meaning.specs.FaultValues.{fault_values};
 
     type Mail = Letter;
 

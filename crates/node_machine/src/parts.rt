@@ -7,7 +7,7 @@ ghost use Rattle.part_steps.specs.Stores.{stored};
 ghost use Rattle.slot_values.specs.KeptFaults.{kepts};
 ghost use Rattle.tuple_values.specs.Views.{statement as statement_of};
 ghost use Rattle.node_machine.specs.Parts.{IsPar, IsParResult, IsPhase, par_instr};
-ghost use Rattle.part_steps.specs.InstructionParts.{IsParallel};
+ghost use Rattle.tuple_values.specs.Statements.{IsParallel};
 ghost use Rattle.node_machine.specs.Steps.{done, instr_here};
 
 use crate::copies::Copying;

@@ -4,7 +4,8 @@ ghost use Rattle.std.specs.Prelude.{◌≡◌, ◌<◌, ◌+◌, ◌^◌, ◌++�
 ghost use Rattle.std.specs.Fmt.{signed_decimal};
 ghost use Rattle.machine_steps.specs.Machine.{on};
 ghost use Rattle.machine_steps.specs.Node.{at_root};
-ghost use Rattle.node_code.specs.Instructions.{Print, item_of};
+ghost use Rattle.node_code.specs.Instructions.{Print};
+ghost use Rattle.code_meaning.specs.Instructions.{item_of};
 ghost use Rattle.node_code.specs.Texts.{print_item};
 ghost use Rattle.node_machine.specs.Prints.{text_of};
 ghost use Rattle.node_program.specs.PrintedLines.{printed};

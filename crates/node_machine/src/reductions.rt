@@ -4,7 +4,7 @@ ghost use Rattle.std.specs.Prelude.{◌≡◌, IfOk, OnOk, OnErr};
 ghost use Rattle.machine_steps.specs.Instr.{Reduce};
 ghost use Rattle.machine_steps.specs.Machine.{earlier};
 ghost use Rattle.machine_steps.specs.Node.{ready};
-ghost use Rattle.node_code.specs.Parallel.{fold_of, reduction_tuples};
+ghost use Rattle.code_meaning.specs.Parallel.{fold_of, reduction_tuples};
 ghost use Rattle.node_code.specs.Texts.{evaluation as evaluation_of};
 ghost use Rattle.slot_values.specs.KeptFaults.{kepts};
 ghost use Rattle.tuple_values.specs.Views.{statement as statement_of};

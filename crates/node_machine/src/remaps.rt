@@ -6,7 +6,7 @@ ghost use Rattle.machine_steps.specs.Instr.{Remap};
 ghost use Rattle.machine_steps.specs.Machine.{on, remapped};
 ghost use Rattle.machine_steps.specs.Node.{no_values, ready};
 ghost use Rattle.machine_steps.specs.Rounds.{rounds_on};
-ghost use Rattle.node_code.specs.Instructions.{remappings};
+ghost use Rattle.code_meaning.specs.Instructions.{remappings};
 ghost use Rattle.node_code.specs.Texts.{new_mapping};
 ghost use Rattle.remap_steps.specs.Redistributions.{moved_pieces};
 ghost use Rattle.node_program.specs.Fits.{fits_row, shapes_of};

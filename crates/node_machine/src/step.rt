@@ -3,8 +3,8 @@
 ghost use Rattle.std.specs.Prelude.{◌≡◌, ◌==◌, List, length, true};
 ghost use Rattle.std.specs.List.{list_all};
 ghost use Rattle.hpf_base.specs.declared.index.Shape.{Shape};
-ghost use Rattle.node_code.specs.Instructions.{meaning_of};
-ghost use Rattle.node_code.specs.ProgramText.{table_on};
+ghost use Rattle.code_meaning.specs.Instructions.{meaning_of};
+ghost use Rattle.code_meaning.specs.ProgramText.{table_on};
 ghost use Rattle.node_code.specs.Texts.{instruction, instructions};
 ghost use Rattle.node_program.specs.Fits.{fits_rows};
 ghost use Rattle.node_program.specs.Programs.{code_of, mappings_of};

@@ -14,9 +14,11 @@ use Rattle.machine_steps.specs.Instr.{Instr, Remapping}
 use Rattle.machine_steps.specs.Instr as machine
 use Rattle.machine_steps.specs.Layout.{Layout, size_of, sizes}
 use Rattle.machine_steps.specs.Machine.{instr_at, remapped, with_mapping}
-use Rattle.node_code.specs.Forms.{Sub, SubAt, SubAlong, selections_at}
-use Rattle.node_code.specs.Instructions.{Instruction, NewMapping, Par, ParForall, ParNest, MakeCopies, ParCopy, ParForallCopy, Reduce, MakeCopy, Remap, meaning_of}
-use Rattle.node_code.specs.ProgramText.{table_on, text_meaning, texts}
+use Rattle.node_code.specs.Forms.{Sub, SubAt, SubAlong}
+use Rattle.code_meaning.specs.Forms.{selections_at}
+use Rattle.node_code.specs.Instructions.{Instruction, NewMapping, Par, ParForall, ParNest, MakeCopies, ParCopy, ParForallCopy, Reduce, MakeCopy, Remap}
+use Rattle.code_meaning.specs.Instructions.{meaning_of}
+use Rattle.code_meaning.specs.ProgramText.{table_on, text_meaning, texts}
 use Rattle.node_code.specs.Texts.{instructions, new_mapping}
 use Rattle.node_code.specs.declared.instruction.NewMapping.{NewMapping as HeldMapping}
 use Rattle.owner_tables.specs.Views.{TableView}

@@ -7,7 +7,7 @@ use Rattle.machine_steps.specs.Instr.{Remapping}
 use Rattle.machine_steps.specs.Layout.{Layout}
 use Rattle.machine_steps.specs.Machine.{remapped}
 use Rattle.owner_tables.specs.Views.{TableView}
-use Rattle.node_code.specs.Instructions.{remapping_by, remappings}
+use Rattle.code_meaning.specs.Instructions.{remapping_by, remappings}
 use Rattle.node_code.specs.Texts.{new_mapping}
 use Rattle.node_code.specs.declared.instruction.NewMapping.{NewMapping as HeldMapping}
 use Rattle.node_program.specs.Programs.{mappings_of}

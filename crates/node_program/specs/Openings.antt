@@ -5,7 +5,7 @@ use Rattle.storage.specs.Storage.{Storage}
 use Rattle.machine_steps.specs.Instr.{Running}
 use Rattle.machine_steps.specs.Layout.{Layout, size_of}
 use Rattle.machine_steps.specs.Machine.{Machine}
-use Rattle.node_code.specs.ProgramText.{Text}
+use Rattle.code_meaning.specs.ProgramText.{Text}
 
 -- rows of these layouts, the elements of each with one value
 abbrev pub start_rows : List Layout → (starts : List ℤ) → Storage

@@ -3,7 +3,7 @@ use Rattle.std.specs.Prelude.{ℕ, List, [], ◌∷◌, ◌++◌, drop, map}
 use Rattle.expression_rules.specs.declared.dims.Dim.{Dim}
 use Rattle.array_meaning.specs.Faults.{Fault}
 use Rattle.machine_steps.specs.Instr.{Instr, Print}
-use Rattle.node_code.specs.Instructions.{items_of}
+use Rattle.code_meaning.specs.Instructions.{items_of}
 use Rattle.node_code.specs.Texts.{print_item}
 use Rattle.node_code.specs.declared.instruction.PrintItem.{PrintItem}
 

@@ -2,7 +2,7 @@
 use Rattle.std.specs.Prelude.{List, map}
 use Rattle.mappings.specs.declared.mapping.Mapping.{Mapping}
 use Rattle.owner_tables.specs.Views.{TableView}
-use Rattle.node_code.specs.ProgramText.{Text, texts}
+use Rattle.code_meaning.specs.ProgramText.{Text, texts}
 use Rattle.node_code.specs.Texts.{instructions}
 use Rattle.node_program.specs.declared.program.NodeProgram.{NodeProgram}
 

@@ -3,7 +3,7 @@
 ghost use Rattle.std.specs.Prelude.{◌≡◌, ◌==◌, ◌∷◌, [], IfOk, OnOk, map, true};
 ghost use Rattle.std.specs.List.{list_all};
 ghost use Rattle.machine_steps.specs.Machine.{remapped};
-ghost use Rattle.node_code.specs.Instructions.{remappings};
+ghost use Rattle.code_meaning.specs.Instructions.{remappings};
 ghost use Rattle.node_code.specs.Texts.{new_mapping};
 ghost use Rattle.node_program.specs.Fits.{fits_row, shapes_of};
 ghost use Rattle.node_program.specs.Programs.{mappings_of};

@@ -3,6 +3,7 @@ mod Exchange
 mod Goes
 mod JoinedValues
 pub mod Keeping
+pub mod KeptFaults
 pub mod CodedSteps
 pub mod Openings
 pub mod OwnedPieces

@@ -23,8 +23,9 @@ use Rattle.machine_steps.specs.Layout.{Layout, least_owner_of, owned_in, piece, 
 use Rattle.machine_steps.specs.Machine.{Machine}
 use Rattle.machine_steps.specs.Node.{Node, at_root, local_read}
 use Rattle.machine_steps.specs.Agrees.{IsWhole, Own, by_number, standing}
-use Rattle.node_code.specs.Instructions.{Instruction, NewMapping, remappings}
-use Rattle.node_code.specs.ProgramText.{Text, text, texts}
+use Rattle.node_code.specs.Instructions.{Instruction, NewMapping}
+use Rattle.code_meaning.specs.Instructions.{remappings}
+use Rattle.code_meaning.specs.ProgramText.{Text, text, texts}
 use Rattle.nest_standing.specs.Lowered.{EndsAs, IsLeft}
 use Rattle.nest_standing.specs.StatementCode.{program_code}
 use Rattle.node_run.specs.Coded.{with_code}

@@ -8,7 +8,8 @@ use Rattle.array_maps.specs.declared.maps.NewMap.{NewMap}
 use Rattle.array_maps.specs.declared.maps.Redistribution.{Redistribution}
 use Rattle.array_maps.specs.Lines.{moves_at}
 use Rattle.machine_steps.specs.Instr.{Remapping}
-use Rattle.node_code.specs.Instructions.{NewMapping, remapping_by, remappings}
+use Rattle.node_code.specs.Instructions.{NewMapping}
+use Rattle.code_meaning.specs.Instructions.{remapping_by, remappings}
 use Rattle.nodes_lowered.specs.NewMappings.{array_place, new_mappings, numbered, numbered_at, remapping}
 
 abbrev mapping_of : NewMap → Mapping

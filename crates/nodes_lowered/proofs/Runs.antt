@@ -23,10 +23,11 @@ use Rattle.machine_steps.specs.Machine.{Machine, steps}
 use Rattle.machine_steps.specs.Agrees.{IsOver, IsValidCode, IsWhole, NodesSegment, by_number, first_own, standing}
 use Rattle.owner_tables.proofs.CopyLaws.{copy-dealt, copy-size}
 use Rattle.owner_tables.proofs.SameLayouts.{same_layouts}
-use Rattle.comm_sets.proofs.Covering.{rounds-cover}
-use Rattle.node_code.specs.Instructions.{ArrayTable, Instruction, NewMapping, meaning_of, remappings}
-use Rattle.node_code.specs.FaultValues.{fault_values}
-use Rattle.node_code.specs.ProgramText.{Text, table_on, text, text_meaning}
+use Rattle.covering_rounds.proofs.Covering.{rounds-cover}
+use Rattle.code_meaning.specs.Instructions.{ArrayTable, meaning_of, remappings}
+use Rattle.node_code.specs.Instructions.{Instruction, NewMapping}
+use Rattle.code_meaning.specs.FaultValues.{fault_values}
+use Rattle.code_meaning.specs.ProgramText.{Text, table_on, text, text_meaning}
 use Rattle.nest_standing.proofs.ValidPrograms.{trail_lowered, valid}
 use Rattle.array_meaning.specs.Resolution.{resolved_block}
 use Rattle.nest_items.specs.BlockForms.{BlockHasForms}

@@ -5,7 +5,7 @@ use Rattle.syntax_tree.specs.MainProgram.{MainProgram}
 use Rattle.array_meaning.specs.Faults.{Fault}
 use Rattle.machine_steps.specs.Machine.{Machine}
 use Rattle.machine_steps.specs.Node.{Node}
-use Rattle.node_code.specs.ProgramText.{Text}
+use Rattle.code_meaning.specs.ProgramText.{Text}
 use Rattle.nodes_lowered.specs.NewMappings.{program_mappings, program_remaps}
 use Rattle.nodes_lowered.specs.ProgramLayouts.{start_layouts}
 use Rattle.nodes_lowered.specs.ProgramRuns.{AreLastNodes, RunOnNodes, program_nodes, text_opening}

@@ -8,9 +8,9 @@ use Rattle.node_law.specs.Phases.{Lockstep, all_moves}
 use Rattle.machine_steps.specs.Agrees.{IsOver}
 use Rattle.machine_steps.specs.Layout.{Layout}
 use Rattle.machine_steps.specs.Machine.{steps}
-use Rattle.node_code.specs.FaultValues.{fault_values}
+use Rattle.code_meaning.specs.FaultValues.{fault_values}
 use Rattle.node_code.specs.Instructions.{NewMapping}
-use Rattle.node_code.specs.ProgramText.{text_meaning}
+use Rattle.code_meaning.specs.ProgramText.{text_meaning}
 use Rattle.node_run.specs.Letters.{holds_nothing, pair_letters, run_exchanges}
 use Rattle.nodes_lowered.specs.ProgramRuns.{program_nodes, program_steps, text_opening}
 

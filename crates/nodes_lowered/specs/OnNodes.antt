@@ -15,7 +15,8 @@ use Rattle.mappings.specs.declared.mapping.Mapping.{Mapping}
 use Rattle.machine_steps.specs.Agrees.{AreDealt}
 use Rattle.machine_steps.specs.Layout.{IsDealt, Layout, size_of}
 use Rattle.machine_steps.specs.Machine.{Machine}
-use Rattle.node_code.specs.Instructions.{Instruction, NewMapping, remappings}
+use Rattle.node_code.specs.Instructions.{Instruction, NewMapping}
+use Rattle.code_meaning.specs.Instructions.{remappings}
 use Rattle.nest_standing.specs.Lowered.{opening}
 use Rattle.nest_standing.specs.StatementCode.{block_copies}
 

@@ -23,10 +23,11 @@ use Rattle.machine_steps.specs.Machine.{Machine}
 use Rattle.machine_steps.specs.Node.{Node, at_root, local_read, node_steps}
 use Rattle.letters.specs.declared.letter.Letter.{Letter}
 use Rattle.machine_steps.specs.Agrees.{openings}
-use Rattle.node_code.specs.FaultValues.{fault_values}
-use Rattle.node_code.specs.Flat.{slot}
-use Rattle.node_code.specs.Instructions.{NewMapping, remappings}
-use Rattle.node_code.specs.ProgramText.{Text, text, text_meaning, texts}
+use Rattle.code_meaning.specs.FaultValues.{fault_values}
+use Rattle.code_meaning.specs.Flat.{slot}
+use Rattle.node_code.specs.Instructions.{NewMapping}
+use Rattle.code_meaning.specs.Instructions.{remappings}
+use Rattle.code_meaning.specs.ProgramText.{Text, text, text_meaning, texts}
 use Rattle.nest_standing.specs.StatementCode.{program_code}
 use Rattle.node_run.specs.Coded.{with_code}
 use Rattle.nodes_lowered.specs.OnNodes.{program_opening, program_run}

@@ -10,9 +10,10 @@ use Rattle.passed_states.specs.TrailLayouts.{trail_layouts}
 use Rattle.machine_steps.specs.Agrees.{NodesSegment, first_own}
 use Rattle.machine_steps.specs.Layout.{Layout}
 use Rattle.machine_steps.specs.Machine.{Machine}
-use Rattle.node_code.specs.FaultValues.{fault_values}
-use Rattle.node_code.specs.Instructions.{Instruction, NewMapping, remappings}
-use Rattle.node_code.specs.ProgramText.{text, text_meaning}
+use Rattle.code_meaning.specs.FaultValues.{fault_values}
+use Rattle.node_code.specs.Instructions.{Instruction, NewMapping}
+use Rattle.code_meaning.specs.Instructions.{remappings}
+use Rattle.code_meaning.specs.ProgramText.{text, text_meaning}
 use Rattle.lowered_expressions.specs.Passed.{Passed, IsTrailEntry, passed_now}
 use Rattle.node_run.specs.Coded.{with_code}
 use Rattle.nodes_lowered.specs.ProgramRuns.{program_shapes, text_opening}

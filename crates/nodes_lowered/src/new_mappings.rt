@@ -9,7 +9,7 @@ ghost use Rattle.array_maps.specs.declared.maps.Redistribution.{Redistribution};
 ghost use Rattle.array_maps.specs.Lines.{moves_at};
 ghost use Rattle.array_maps.specs.Maps.{AreNewMaps, IsArrayMap};
 ghost use Rattle.directive_check.specs.ProgramMaps.{program_moves, start_maps};
-ghost use Rattle.node_code.specs.Instructions.{remappings};
+ghost use Rattle.code_meaning.specs.Instructions.{remappings};
 ghost use Rattle.nodes_lowered.specs.NewMappings.{new_mappings, numbered_at, program_mappings, program_remaps, remapping};
 ghost use Rattle.nodes_lowered.specs.OnNodes.{MovesDealt};
 ghost use Rattle.nodes_lowered.specs.ProgramLayouts.{program_layouts};

@@ -16,7 +16,7 @@ use Rattle.part_steps.specs.declared.who.Who.TheVariants.{Left, First, Root}
 use Rattle.part_steps.specs.After.{After, after, value_of, outcome_of, stored_below, fault_below, joined_below, elements_below, tuples as tuples_of}
 use Rattle.part_steps.specs.Openings.{outbox_on, inbox_on}
 use Rattle.part_steps.specs.Parts.{PartView, part_of}
-use Rattle.part_steps.proofs.KeptFaults.{kept-apart}
+use Rattle.node_run.proofs.KeptFaults.{kept-apart}
 
 -- ---- which part it is
 

@@ -2,8 +2,9 @@
 use Rattle.std.proofs.Common.{◌≡◌, ℕ, List, ℤ, ap, sym, ◌∙◌, subst}
 use Rattle.std.specs.Arc.{arc_value}
 use Rattle.machine_steps.specs.Machine.{instr_at}
-use Rattle.node_code.specs.Instructions.{ArrayTable, Instruction, meaning_of}
-use Rattle.node_code.specs.ProgramText.{Text, text_meaning}
+use Rattle.code_meaning.specs.Instructions.{ArrayTable, meaning_of}
+use Rattle.node_code.specs.Instructions.{Instruction}
+use Rattle.code_meaning.specs.ProgramText.{Text, text_meaning}
 use Rattle.owner_tables.specs.Views.{OwnersView}
 use Rattle.part_steps.specs.declared.kept_exchange.KeptExchange.{KeptExchange}
 use Rattle.part_steps.specs.InstructionExchange.{IsExchangeOf}

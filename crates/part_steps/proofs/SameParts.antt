@@ -11,12 +11,17 @@ use Rattle.array_meaning.specs.Faults.{◌>>=◌, with_more}
 use Rattle.array_meaning.specs.Sections.{extents, subscripts_at, positions, value_count}
 use Rattle.machine_steps.specs.Layout.{Layout, in_bounds}
 use Rattle.machine_steps.specs.Message.{computes_left, first_read, least_or_zero}
-use Rattle.node_code.specs.Flat.{Flat, Int, Slot, Axis, Read, Operated, Flats, NoFlat, AndFlat, slot, flat_value, flat_values, or_zero}
-use Rattle.node_code.specs.Forms.{Sub, SubAt, SubAlong, ArrayForm, FlatForm, SectionForm, OperationForm, Forms, NoForm, AndForm, sequence_in, selections_at, elemental_at, elementals_at}
+use Rattle.node_code.specs.Flat.{Flat, Int, Slot, Axis, Read, Operated, Flats, NoFlat, AndFlat}
+use Rattle.code_meaning.specs.Flat.{slot, flat_value, flat_values, or_zero}
+use Rattle.node_code.specs.Forms.{Sub, SubAt, SubAlong, ArrayForm, FlatForm, SectionForm, OperationForm, Forms, NoForm, AndForm}
+use Rattle.code_meaning.specs.Forms.{sequence_in, selections_at, elemental_at, elementals_at}
 use Rattle.node_code.specs.Instructions as code
-use Rattle.node_code.specs.Instructions.{ArrayTable, Instruction, meaning_of}
-use Rattle.node_code.specs.NestStatements.{NestLeft, ElementLeft, CopyLeft, NestStatement, left_row, nest_place, row_spots, when_spots}
-use Rattle.node_code.specs.Parallel.{Assignment, Evaluation, indices_in, mask_reads, reads_at, shape_of, spot_of}
+use Rattle.code_meaning.specs.Instructions.{ArrayTable, meaning_of}
+use Rattle.node_code.specs.Instructions.{Instruction}
+use Rattle.node_code.specs.NestStatements.{NestLeft, ElementLeft, CopyLeft, NestStatement}
+use Rattle.code_meaning.specs.NestStatements.{left_row, nest_place, row_spots, when_spots}
+use Rattle.node_code.specs.Parallel.{Assignment, Evaluation}
+use Rattle.code_meaning.specs.Parallel.{indices_in, mask_reads, reads_at, shape_of, spot_of}
 use Rattle.part_steps.specs.Agreement.{agree_at, agree_on_flat, agree_on_flats, agree_on_subs, agree_on_form, agree_on_forms, agree_on_assignment, agree_on_evaluation, agree_on_left, agree_on_nest, agree_on}
 use Rattle.part_steps.specs.InstructionParts.{instruction_part}
 

@@ -5,7 +5,7 @@ use Rattle.std.specs.BTreeMap.{get}
 use Rattle.std.specs.Ordering.{nat_cmp}
 use Rattle.machine_steps.specs.Machine.{instr_at}
 use Rattle.node_code.specs.Instructions.{Instruction}
-use Rattle.node_code.specs.ProgramText.{Text, text_meaning}
+use Rattle.code_meaning.specs.ProgramText.{Text, text_meaning}
 use Rattle.owner_tables.specs.Views.{OwnersView}
 use Rattle.part_steps.specs.Agreement.{agree_on}
 use Rattle.part_steps.specs.InstructionExchange.{IsExchangeOf}

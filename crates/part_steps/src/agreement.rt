@@ -1,7 +1,7 @@
 //! Slots that are mentioned.
 
 ghost use Rattle.std.specs.Prelude.{◌≡◌, ◌≤◌, ◌+◌};
-ghost use Rattle.node_code.specs.Flat.{slot};
+ghost use Rattle.code_meaning.specs.Flat.{slot};
 ghost use Rattle.node_code.specs.Texts.{assignment, evaluation, flat, flats_of, form, forms_of, instruction, nest_left, nest_statement, sub, subs};
 ghost use Rattle.part_steps.specs.Agreement.{agree_at, agree_on, agree_on_assignment, agree_on_evaluation, agree_on_flat, agree_on_flats, agree_on_form, agree_on_forms, agree_on_left, agree_on_nest, agree_on_sub, agree_on_subs};
 

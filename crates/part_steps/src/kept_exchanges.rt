@@ -3,8 +3,8 @@
 ghost use Rattle.std.specs.Prelude.{◌≡◌, ℕ, List, IfSome};
 ghost use Rattle.std.specs.Arc.{arc_value};
 ghost use Rattle.machine_steps.specs.Machine.{instr_at};
-ghost use Rattle.node_code.specs.Instructions.{ArrayTable, meaning_of};
-ghost use Rattle.node_code.specs.ProgramText.{Text, text_meaning};
+ghost use Rattle.code_meaning.specs.Instructions.{ArrayTable, meaning_of};
+ghost use Rattle.code_meaning.specs.ProgramText.{Text, text_meaning};
 ghost use Rattle.node_code.specs.Texts.{instruction};
 ghost use Rattle.part_steps.specs.InstructionExchange.{HasLists, IsExchangeOf};
 ghost use Rattle.part_steps.specs.KeptExchanges.{AreKeptExchanges, IsKeptExchange};

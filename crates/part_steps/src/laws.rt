@@ -2,7 +2,8 @@
 
 ghost use Rattle.std.specs.Prelude.{◌≡◌, ℕ, ℤ, List, true};
 ghost use Rattle.machine_steps.specs.Layout.{Layout};
-ghost use Rattle.node_code.specs.Instructions.{ArrayTable, Instruction, meaning_of};
+ghost use Rattle.code_meaning.specs.Instructions.{ArrayTable, meaning_of};
+ghost use Rattle.node_code.specs.Instructions.{Instruction};
 ghost use Rattle.part_steps.specs.Agreement.{agree_on};
 ghost use Rattle.part_steps.specs.InstructionParts.{instruction_part};
 

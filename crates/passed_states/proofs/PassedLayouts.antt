@@ -12,7 +12,8 @@ use Rattle.machine_steps.specs.Machine.{Machine, Kept, instr_at, instr_of, print
 use Rattle.machine_steps.specs.Agrees.{IsValidCode, IsValidInstr}
 use Rattle.node_run.proofs.Wholes.{same-code}
 use Rattle.node_code.specs.Instructions as code
-use Rattle.node_code.specs.Instructions.{Instruction, ArrayTable, meaning_of, remappings}
+use Rattle.node_code.specs.Instructions.{Instruction}
+use Rattle.code_meaning.specs.Instructions.{ArrayTable, meaning_of, remappings}
 use Rattle.node_code.specs.declared.nest.NestRole.{NestRole}
 use Rattle.node_code.specs.declared.nest.NestRole.TheVariants.{Assigns, Tests, SetsElse, SetsMark}
 use Rattle.lowered_expressions.specs.Passed.{Passed, unless_mark, note_at, note_while, passed, passed_now}

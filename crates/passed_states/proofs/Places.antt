@@ -6,7 +6,8 @@ use Rattle.array_meaning.specs.Faults.{Fault}
 use Rattle.statement_trail.specs.Trail.{Trail, TrailEntry}
 use Rattle.machine_steps.specs.Instr.{Status, Running, Finished, Faulted}
 use Rattle.machine_steps.specs.Machine.{Machine, step}
-use Rattle.node_code.specs.Instructions.{Instruction, NewMapping, ArrayTable, meaning_of, Par, ParForall, ParNest, ParCopy, ParForallCopy, Reduce, Remap}
+use Rattle.node_code.specs.Instructions.{Instruction, NewMapping, Par, ParForall, ParNest, ParCopy, ParForallCopy, Reduce, Remap}
+use Rattle.code_meaning.specs.Instructions.{ArrayTable, meaning_of}
 use Rattle.node_code.specs.declared.nest.NestRole.{NestRole}
 use Rattle.node_code.specs.declared.nest.NestRole.TheVariants.{Assigns, Tests, SetsElse, SetsMark}
 use Rattle.passed_states.specs.Places.{IsPassed}

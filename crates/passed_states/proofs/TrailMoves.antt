@@ -3,7 +3,8 @@ use Rattle.std.proofs.Common.{◌≡◌, ℕ, List, [], ◌∷◌, ℤ, refl, sy
 use Rattle.mappings.specs.declared.mapping.Mapping.{Mapping}
 use Rattle.machine_steps.specs.Layout.{Layout}
 use Rattle.machine_steps.specs.Machine.{remapped}
-use Rattle.node_code.specs.Instructions.{Instruction, NewMapping, Par, ParForall, ParNest, ParCopy, ParForallCopy, Reduce, Remap, remappings}
+use Rattle.node_code.specs.Instructions.{Instruction, NewMapping, Par, ParForall, ParNest, ParCopy, ParForallCopy, Reduce, Remap}
+use Rattle.code_meaning.specs.Instructions.{remappings}
 use Rattle.statement_trail.specs.Trail.{Event, Trail}
 use Rattle.passed_states.specs.TrailLayouts as trail
 use Rattle.passed_states.specs.TrailLayouts.{trail_layouts}

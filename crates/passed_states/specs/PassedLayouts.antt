@@ -3,7 +3,8 @@ use Rattle.std.specs.Prelude.{List, [], ◌∷◌}
 use Rattle.mappings.specs.declared.mapping.Mapping.{Mapping}
 use Rattle.machine_steps.specs.Layout.{Layout}
 use Rattle.machine_steps.specs.Machine.{remapped}
-use Rattle.node_code.specs.Instructions.{Instruction, Remap, remappings}
+use Rattle.node_code.specs.Instructions.{Instruction, Remap}
+use Rattle.code_meaning.specs.Instructions.{remappings}
 use Rattle.lowered_expressions.specs.Passed.{Passed}
 
 -- with these mappings of the program

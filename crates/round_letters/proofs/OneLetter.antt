@@ -13,7 +13,7 @@ use Rattle.letters.specs.declared.pair.Pair.{Pair}
 use Rattle.redistribute_rounds.specs.Rounds.{AreLegal}
 use Rattle.redistribute_rounds.proofs.Legal.{colors-legal}
 use Rattle.machine_steps.specs.Rounds.{is_pair, moving_pairs, remap_rounds}
-use Rattle.comm_sets.proofs.Pairs.{kept-between, kept-distinct}
+use Rattle.covering_rounds.proofs.Pairs.{kept-between, kept-distinct}
 
 found-at : (P : Pair → Bool) (xs : List Pair) (d : Pair) → list_any P xs ≡ true → (i : ℕ) × (i < length xs) × (P (get_or xs i d) ≡ true)
 found-at P xs d h =

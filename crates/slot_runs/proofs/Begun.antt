@@ -6,8 +6,8 @@ use Rattle.array_meaning.specs.declared.faults.FaultKind.TheVariants.{ZeroStride
 use Rattle.array_meaning.specs.Faults.{Fault, fails}
 use Rattle.array_meaning.specs.Sections.{sequence, value_count}
 use Rattle.machine_steps.specs.Instr.{Control}
-use Rattle.node_code.specs.Instructions.{begin_trips}
-use Rattle.node_code.specs.Parallel.{at_line}
+use Rattle.code_meaning.specs.Instructions.{begin_trips}
+use Rattle.code_meaning.specs.Parallel.{at_line}
 
 module _ (left target line : ℕ) (c : Control Fault) where
   begun : (first step : ℤ) (count : ℕ) → (begin_trips left target (Ok (record { first = first; step = step; count = count })) c).status ≡ c.status

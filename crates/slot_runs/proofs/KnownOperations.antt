@@ -5,7 +5,7 @@ use Rattle.op_tables.specs.declared.op.Op.{Op}
 use Rattle.array_meaning.specs.Elementals.{operated}
 use Rattle.array_meaning.specs.Faults.{◌>>=◌, with_more}
 use Rattle.node_code.specs.declared.flat.Flat.{Flat as HeldFlat}
-use Rattle.node_code.specs.Flat.{flat_value}
+use Rattle.code_meaning.specs.Flat.{flat_value}
 use Rattle.node_code.specs.Texts.{flat, flats_of}
 use Rattle.slot_values.specs.Operations.{operation_value}
 use Rattle.slot_values.proofs.Pairs.{pair_values}

@@ -1,7 +1,7 @@
 //! The values of expressions over slots, where they are known without memory and without a fault.
 
 ghost use Rattle.std.specs.Prelude.{[]};
-ghost use Rattle.node_code.specs.Flat.{flat_value};
+ghost use Rattle.code_meaning.specs.Flat.{flat_value};
 ghost use Rattle.node_code.specs.Texts.{flat, flats_of};
 ghost use Rattle.scalar_values.specs.Known.{IsKnown};
 ghost use Rattle.slot_values.specs.Operations.{operation_value};

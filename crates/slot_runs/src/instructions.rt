@@ -4,9 +4,9 @@ ghost use Rattle.std.specs.Prelude.{◌≡◌, ◌<◌, ◌^◌, ℕ, List, [], 
 ghost use Rattle.array_meaning.specs.Sections.{sequence};
 ghost use Rattle.expression_rules.specs.declared.dims.Dim.{Dim};
 ghost use Rattle.machine_steps.specs.Machine.{set_slot};
-ghost use Rattle.node_code.specs.Flat.{flat_value, slot};
-ghost use Rattle.node_code.specs.Instructions.{begin_trips, set_result};
-ghost use Rattle.node_code.specs.Parallel.{at_line};
+ghost use Rattle.code_meaning.specs.Flat.{flat_value, slot};
+ghost use Rattle.code_meaning.specs.Instructions.{begin_trips, set_result};
+ghost use Rattle.code_meaning.specs.Parallel.{at_line};
 ghost use Rattle.node_code.specs.Texts.{flat, instruction};
 ghost use Rattle.slot_values.specs.Controls.{control_of};
 ghost use Rattle.slot_values.specs.LocalInstructions.{is_local, local_control};

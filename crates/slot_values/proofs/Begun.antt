@@ -6,7 +6,7 @@ use Rattle.array_meaning.specs.declared.sections.Sequence.{Sequence}
 use Rattle.array_meaning.specs.Faults.{Fault}
 use Rattle.machine_steps.specs.Instr.{Control}
 use Rattle.machine_steps.specs.Machine.{set_slot}
-use Rattle.node_code.specs.Instructions.{begin_trips}
+use Rattle.code_meaning.specs.Instructions.{begin_trips}
 
 pub begins : (left target : ℕ) (p : Sequence) (c : Control Fault) → 1 ≤ p.count → set_slot c left (wrapped (pos (p.count - 1))) ≡ begin_trips left target (Ok p) c
 begins left target p c some = by p.count refl some where

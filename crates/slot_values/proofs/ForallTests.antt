@@ -11,7 +11,7 @@ use Rattle.array_meaning.specs.Sections.{extents}
 use Rattle.array_meaning.specs.State.{State}
 use Rattle.array_meaning.specs.Terms.{Term, list_of}
 use Rattle.node_code.specs.declared.flat.Flat.{Flat as HeldFlat}
-use Rattle.node_code.specs.ForallLimits.{sequences_of, term_of, terms_of}
+use Rattle.code_meaning.specs.ForallLimits.{sequences_of, term_of, terms_of}
 use Rattle.node_code.specs.Texts.{flat, flats_of}
 
 pub same_extents : (ds : List Selection) → extents ds ≡ index_extents (sequences_of ds)

@@ -2,7 +2,8 @@
 use Rattle.std.proofs.Common.{◌≡◌, true, refl}
 use Rattle.std.proofs.lemmas.Bool.{false≢true}
 use Rattle.machine_steps.specs.Instr.{Local}
-use Rattle.node_code.specs.Instructions.{ArrayTable, Instruction, Set, Fetch, Store, TestBounds, TestStride, Trips, Jump, JumpIfZero, Halt, Limits, OwnLimits, ForallLimits, OneToOne, Check, Par, ParForall, ParNest, MakeCopies, MakeCopy, ParCopy, ParForallCopy, Verdict, Reduce, Inside, Print, FoldCopy, LastCopy, Remap, meaning_of}
+use Rattle.code_meaning.specs.Instructions.{ArrayTable, meaning_of}
+use Rattle.node_code.specs.Instructions.{Instruction, Set, Fetch, Store, TestBounds, TestStride, Trips, Jump, JumpIfZero, Halt, Limits, OwnLimits, ForallLimits, OneToOne, Check, Par, ParForall, ParNest, MakeCopies, MakeCopy, ParCopy, ParForallCopy, Verdict, Reduce, Inside, Print, FoldCopy, LastCopy, Remap}
 use Rattle.slot_values.specs.LocalInstructions.{is_local, local_control}
 
 pub local_meaning : (table : ArrayTable) (i : Instruction) → is_local i ≡ true → meaning_of table i ≡ Local (local_control table.shapes i)

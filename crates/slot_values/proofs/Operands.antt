@@ -8,9 +8,9 @@ use Rattle.node_code.specs.declared.flat.Flat.{Flat as HeldFlat}
 use Rattle.node_code.specs.declared.flat.Flat.TheVariants as held
 use Rattle.node_code.specs.declared.form.ArrayForm.{ArrayForm as HeldForm}
 use Rattle.node_code.specs.declared.form.ArrayForm.TheVariants as held_form
-use Rattle.node_code.specs.Flat.{flat_value}
-use Rattle.node_code.specs.ForallLimits.{term_of, terms_of as terms_of_flats}
-use Rattle.node_code.specs.Forms.{elemental_at, elementals_at}
+use Rattle.code_meaning.specs.Flat.{flat_value}
+use Rattle.code_meaning.specs.ForallLimits.{term_of, terms_of as terms_of_flats}
+use Rattle.code_meaning.specs.Forms.{elemental_at, elementals_at}
 use Rattle.node_code.specs.Texts.{flat, flats_of, form, forms_of}
 use Rattle.node_code.proofs.Rows.{operated_vec, operation_vec}
 use Rattle.resolved_program.specs.declared.terms.Term.{Term as HeldTerm}

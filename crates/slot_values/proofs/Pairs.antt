@@ -3,7 +3,7 @@ use Rattle.std.proofs.Common.{◌≡◌, ◌∙◌, List, [], ◌∷◌, length,
 use Rattle.std.specs.Prelude.{slice_index_or}
 use Rattle.array_meaning.specs.Faults.{with_more}
 use Rattle.node_code.specs.declared.flat.Flat.{Flat as HeldFlat}
-use Rattle.node_code.specs.Flat.{flat_value, flat_values}
+use Rattle.code_meaning.specs.Flat.{flat_value, flat_values}
 use Rattle.node_code.specs.Texts.{flat, flats_of}
 use Rattle.term_values.specs.declared.stops.Stop.{Stop}
 use Rattle.term_values.specs.declared.stops.Stop.TheVariants.{Fault, Memory}

@@ -4,8 +4,8 @@ use Rattle.std.proofs.lemmas.Bool.{false≢true}
 use Rattle.array_meaning.specs.Faults.{Cause, Fault}
 use Rattle.machine_steps.specs.Instr.{Control}
 use Rattle.machine_steps.specs.Machine.{faulted}
-use Rattle.node_code.specs.Instructions.{go_on_if}
-use Rattle.node_code.specs.Parallel.{at_line, fault_at}
+use Rattle.code_meaning.specs.Instructions.{go_on_if}
+use Rattle.code_meaning.specs.Parallel.{at_line, fault_at}
 use Rattle.slot_values.specs.Tested.{IsStopped, IsTest, IsTested}
 use Rattle.term_values.specs.declared.stops.Stop.{Stop}
 use Rattle.term_values.specs.declared.stops.Stop.TheVariants as stop

@@ -7,9 +7,10 @@ use Rattle.array_meaning.specs.Elementals.{each}
 use Rattle.array_meaning.specs.Faults.{Cause, ◌>>=◌}
 use Rattle.array_meaning.specs.Sections.{positions, subscripts_at}
 use Rattle.array_meaning.specs.State.{element_place, if_in_bounds}
-use Rattle.node_code.specs.Flat.{Flats, flat_values}
-use Rattle.node_code.specs.Instructions.{spot_in}
-use Rattle.node_code.specs.Parallel.{shape_of}
+use Rattle.node_code.specs.Flat.{Flats}
+use Rattle.code_meaning.specs.Flat.{flat_values}
+use Rattle.code_meaning.specs.Instructions.{spot_in}
+use Rattle.code_meaning.specs.Parallel.{shape_of}
 
 -- Bounds where there is no place
 abbrev pub element_of : ℕ → Option ℕ → Result Spot Cause

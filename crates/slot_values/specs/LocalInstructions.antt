@@ -3,8 +3,9 @@ use Rattle.std.specs.Prelude.{Bool, true, false, List, []}
 use Rattle.expression_rules.specs.declared.dims.Dim.{Dim}
 use Rattle.array_meaning.specs.Faults.{Fault}
 use Rattle.machine_steps.specs.Instr.{Control, Instr, Local}
-use Rattle.node_code.specs.Instructions.{Instruction, meaning_of}
-use Rattle.node_code.specs.ProgramText.{table_on}
+use Rattle.node_code.specs.Instructions.{Instruction}
+use Rattle.code_meaning.specs.Instructions.{meaning_of}
+use Rattle.code_meaning.specs.ProgramText.{table_on}
 
 abbrev pub control_by : Instr Fault → Control Fault → Control Fault
 control_by (Local f) c = f c

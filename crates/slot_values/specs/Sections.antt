@@ -2,8 +2,9 @@
 use Rattle.std.specs.Prelude.{List, [], ℤ}
 use Rattle.array_meaning.specs.declared.sections.Selection.{Selection}
 use Rattle.array_meaning.specs.declared.sections.Selection.TheVariants.{At, Along}
-use Rattle.node_code.specs.Flat.{flat_value, or_zero}
-use Rattle.node_code.specs.Forms.{Sub, SubAt, SubAlong, sequence_in}
+use Rattle.code_meaning.specs.Flat.{flat_value, or_zero}
+use Rattle.node_code.specs.Forms.{Sub, SubAt, SubAlong}
+use Rattle.code_meaning.specs.Forms.{sequence_in}
 
 abbrev pub selection_at : List ℤ → List ℤ → Sub → Selection
 selection_at slots axes (SubAt f) = At (or_zero (flat_value slots axes [] f))

@@ -4,7 +4,7 @@ use Rattle.array_meaning.specs.declared.faults.FaultKind.{FaultKind}
 use Rattle.array_meaning.specs.Faults.{Cause, Fault, fails}
 use Rattle.machine_steps.specs.Instr.{Control}
 use Rattle.machine_steps.specs.Machine.{on, faulted}
-use Rattle.node_code.specs.Parallel.{fault_at}
+use Rattle.code_meaning.specs.Parallel.{fault_at}
 use Rattle.term_values.specs.declared.stops.Stop.{Stop}
 use Rattle.term_values.specs.declared.stops.Stop.TheVariants as stop
 use Rattle.term_values.specs.Stops.{cause, IsStop}

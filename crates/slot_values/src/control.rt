@@ -4,7 +4,7 @@ ghost use Rattle.std.specs.Prelude.{◌≡◌, ◌<◌, ◌^◌, OnOk, OnErr};
 ghost use Rattle.op_tables.specs.Operators.{is_true};
 ghost use Rattle.machine_steps.specs.Instr.{Finished};
 ghost use Rattle.machine_steps.specs.Machine.{on, set_slot, slot_of};
-ghost use Rattle.node_code.specs.Instructions.{go_if};
+ghost use Rattle.code_meaning.specs.Instructions.{go_if};
 ghost use Rattle.slot_values.specs.Controls.{control_of};
 ghost use Rattle.slot_values.specs.Tested.{IsStopped, IsTested};
 

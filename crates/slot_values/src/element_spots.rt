@@ -3,7 +3,7 @@
 ghost use Rattle.std.specs.Prelude.{◌≡◌, length, IfOk, IfErr, Ok, [], ◌∷◌};
 ghost use Rattle.array_meaning.specs.State.{element_place};
 ghost use Rattle.node_code.specs.Flat.{AndFlat, NoFlat};
-ghost use Rattle.node_code.specs.Parallel.{shape_of};
+ghost use Rattle.code_meaning.specs.Parallel.{shape_of};
 ghost use Rattle.node_code.specs.Texts.{flat, flats_of};
 ghost use Rattle.storage.specs.Spots.{spot_of};
 ghost use Rattle.slot_values.specs.Elements.{element_of, element_spot};

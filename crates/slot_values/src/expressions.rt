@@ -1,7 +1,7 @@
 //! The values of expressions over slots.
 
 ghost use Rattle.std.specs.Prelude.{◌≡◌, length, IfOk, IfErr, Ok, [], ◌∷◌};
-ghost use Rattle.node_code.specs.Flat.{flat_value, flat_values, or_zero, slot};
+ghost use Rattle.code_meaning.specs.Flat.{flat_value, flat_values, or_zero, slot};
 ghost use Rattle.node_code.specs.Texts.{flat, flats_of};
 ghost use Rattle.slot_values.specs.Operations.{operation_value};
 ghost use Rattle.term_values.specs.Stops.{IsStop};

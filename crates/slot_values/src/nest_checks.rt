@@ -2,9 +2,9 @@
 
 ghost use Rattle.std.specs.Prelude.{◌≡◌, ◌<◌, ◌^◌, Some, map, IfOk, OnOk, OnErr};
 ghost use Rattle.array_meaning.specs.NestEntry.{entered};
-ghost use Rattle.node_code.specs.Instructions.{go_on_if};
-ghost use Rattle.node_code.specs.NestChecks.{entry_state, without_elements};
-ghost use Rattle.node_code.specs.Parallel.{at_line};
+ghost use Rattle.code_meaning.specs.Instructions.{go_on_if};
+ghost use Rattle.code_meaning.specs.NestChecks.{entry_state, without_elements};
+ghost use Rattle.code_meaning.specs.Parallel.{at_line};
 ghost use Rattle.resolved_program.specs.Resolved.{block_of, loop_of, mark};
 ghost use Rattle.slot_values.specs.Controls.{control_of};
 ghost use Rattle.slot_values.specs.Tested.{IsTest};

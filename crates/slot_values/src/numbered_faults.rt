@@ -1,7 +1,7 @@
 //! Faults as numbers, as a letter holds them.
 
 ghost use Rattle.std.specs.Prelude.{◌≡◌, ◌≤◌, ◌++◌, ℕ, suc, pos, unsigned_abs, take, drop, option_map, box_value, IfOk, OnOk};
-ghost use Rattle.node_code.specs.FaultNumbers.{between, fault_numbers, fault_of, kind_at, kind_number, location_by, location_numbers, location_of, subscript_numbers, subscripts_of};
+ghost use Rattle.code_meaning.specs.FaultNumbers.{between, fault_numbers, fault_of, kind_at, kind_number, location_by, location_numbers, location_of, subscript_numbers, subscripts_of};
 ghost use Rattle.term_values.specs.Faults.{fault};
 ghost use Rattle.term_values.specs.Stops.{interference, location};
 

@@ -4,9 +4,9 @@ ghost use Rattle.std.specs.Prelude.{◌≡◌, ◌<◌, ◌≤◌, ◌-◌, ◌^
 ghost use Rattle.op_tables.specs.Operators.{wrapped};
 ghost use Rattle.array_meaning.specs.Sections.{sequence};
 ghost use Rattle.machine_steps.specs.Machine.{slot_of};
-ghost use Rattle.node_code.specs.Flat.{flat_value};
-ghost use Rattle.node_code.specs.Instructions.{begin_trips, element_in, go_on_if, set_result, stride_at};
-ghost use Rattle.node_code.specs.Parallel.{at_line};
+ghost use Rattle.code_meaning.specs.Flat.{flat_value};
+ghost use Rattle.code_meaning.specs.Instructions.{begin_trips, element_in, go_on_if, set_result, stride_at};
+ghost use Rattle.code_meaning.specs.Parallel.{at_line};
 ghost use Rattle.node_code.specs.Texts.{flat, flats_of};
 ghost use Rattle.slot_values.specs.Controls.{control_of};
 ghost use Rattle.slot_values.specs.Elements.{element_spot};

@@ -3,9 +3,9 @@
 ghost use Rattle.std.specs.Prelude.{◌≡◌, ◌<◌, ◌^◌, OnOk, OnErr};
 ghost use Rattle.array_meaning.specs.Faults.{at_tuple};
 ghost use Rattle.array_meaning.specs.Sections.{positions};
-ghost use Rattle.node_code.specs.Forms.{selections_in};
-ghost use Rattle.node_code.specs.Instructions.{all_inside, go_on_if};
-ghost use Rattle.node_code.specs.Parallel.{at_line};
+ghost use Rattle.code_meaning.specs.Forms.{selections_in};
+ghost use Rattle.code_meaning.specs.Instructions.{all_inside, go_on_if};
+ghost use Rattle.code_meaning.specs.Parallel.{at_line};
 ghost use Rattle.node_code.specs.Texts.{subs};
 ghost use Rattle.slot_values.specs.Controls.{control_of};
 ghost use Rattle.slot_values.specs.Elements.{inside_to, place_at};

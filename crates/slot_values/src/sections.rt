@@ -1,8 +1,8 @@
 //! Sections and elemental expressions, by the slots.
 
 ghost use Rattle.std.specs.Prelude.{◌≡◌, ◌+◌, ◌≤◌, IfOk};
-ghost use Rattle.node_code.specs.Flat.{slot};
-ghost use Rattle.node_code.specs.Forms.{elemental_at, elementals_at, selections_at, sequence_in};
+ghost use Rattle.code_meaning.specs.Flat.{slot};
+ghost use Rattle.code_meaning.specs.Forms.{elemental_at, elementals_at, selections_at, sequence_in};
 ghost use Rattle.node_code.specs.Texts.{form, forms_of, sub, subs};
 ghost use Rattle.slot_values.specs.Sections.{selection_at};
 ghost use Rattle.term_values.specs.Views.{elemental, elementals_of};

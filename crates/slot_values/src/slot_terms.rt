@@ -1,7 +1,7 @@
 //! Expressions over slots as terms over scalars, in a state that has the slots as its scalars.
 
 ghost use Rattle.std.specs.Prelude.{◌≡◌, IfOk};
-ghost use Rattle.node_code.specs.ForallLimits.{sequences_of, slots_state, term_of, terms_of};
+ghost use Rattle.code_meaning.specs.ForallLimits.{sequences_of, slots_state, term_of, terms_of};
 ghost use Rattle.node_code.specs.Texts.{flat, flats_of};
 ghost use Rattle.resolved_program.specs.Resolved.{term, terms_of as plan_terms_of};
 ghost use Rattle.term_values.specs.States.{state_of};

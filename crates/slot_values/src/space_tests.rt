@@ -1,8 +1,8 @@
 //! The tests of the spaces of array statements.
 
 ghost use Rattle.std.specs.Prelude.{◌≡◌, ◌<◌, ◌^◌, IfOk, IfErr, Ok, OnOk, OnErr};
-ghost use Rattle.node_code.specs.Instructions.{go_on_if};
-ghost use Rattle.node_code.specs.Parallel.{assignment_size, at_line, evaluation_size};
+ghost use Rattle.code_meaning.specs.Instructions.{go_on_if};
+ghost use Rattle.code_meaning.specs.Parallel.{assignment_size, at_line, evaluation_size};
 ghost use Rattle.node_code.specs.Texts.{assignment, evaluation};
 ghost use Rattle.slot_values.specs.Controls.{control_of};
 ghost use Rattle.slot_values.specs.Tested.{IsTest};

@@ -9,7 +9,7 @@ use Rattle.std.specs.declared.cmp.Ordering.TheVariants.{Less, Equal, Greater}
 use Rattle.array_meaning.specs.Faults.{Fault}
 use Rattle.machine_steps.specs.Machine.{Kept, is_before, earlier}
 use Rattle.machine_steps.specs.Node.{kept_values, values_kept}
-use Rattle.node_code.specs.FaultValues.{fault_values}
+use Rattle.code_meaning.specs.FaultValues.{fault_values}
 use Rattle.reduction_tree.specs.FaultOrder.{fault_order}
 use Rattle.reduction_tree.specs.FirstOf.{first_of}
 use Rattle.tree_folds.specs.FaultKeys.{fault_key, fault_keys, HaveOwnKeys}

@@ -8,7 +8,7 @@ use Rattle.array_meaning.specs.Faults.{Fault}
 use Rattle.machine_steps.specs.Machine.{Kept as Held, earlier, is_before, picked}
 use Rattle.machine_steps.specs.Node.{Positioned, is_after, kept_values, values_kept, later, positioned_values, values_positioned, option_values, values_option, join_options}
 use Rattle.machine_steps.specs.Tree.{levels_of, sends_up}
-use Rattle.node_code.specs.FaultValues.{fault_values}
+use Rattle.code_meaning.specs.FaultValues.{fault_values}
 use Rattle.node_run.proofs.TreeActs.{same-levels, takes-is, is-takes}
 use Rattle.op_tables.specs.declared.join.Join.{Join}
 use Rattle.op_tables.specs.Joins.{join}

@@ -5,7 +5,7 @@ ghost use Rattle.std.specs.List.{range_with_len};
 ghost use Rattle.array_meaning.specs.Faults.{Fault};
 ghost use Rattle.machine_steps.specs.Machine.{Kept, earlier};
 ghost use Rattle.machine_steps.specs.Node.{Positioned, join_after, kept_values, values_kept, later, option_values, positioned_values, values_option, values_positioned};
-ghost use Rattle.node_code.specs.FaultValues.{fault_values};
+ghost use Rattle.code_meaning.specs.FaultValues.{fault_values};
 ghost use Rattle.op_tables.specs.Joins.{join, unit};
 ghost use Rattle.op_tables.specs.Operators.{is_true};
 ghost use Rattle.reduction_tree.specs.Tree.{levels, after_rounds};

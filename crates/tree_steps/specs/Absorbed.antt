@@ -2,7 +2,7 @@
 use Rattle.std.specs.Prelude.{ℕ, ◌+◌, ◌-◌, ◌*◌, ◌%◌, ◌^◌, ◌==◌, ℤ, List, [], slice_index_or, nat_lt, if◌then◌else◌}
 use Rattle.machine_steps.specs.Machine.{earlier}
 use Rattle.machine_steps.specs.Node.{kept_values, values_kept, join_options, option_values, values_option, later, positioned_values, values_positioned}
-use Rattle.node_code.specs.FaultValues.{fault_values}
+use Rattle.code_meaning.specs.FaultValues.{fault_values}
 use Rattle.op_tables.specs.Joins.{join}
 use Rattle.tree_steps.specs.Rounds.{up_round}
 use Rattle.tree_steps.specs.declared.joining.Joining.{Joining}

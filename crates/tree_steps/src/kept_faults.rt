@@ -2,7 +2,7 @@
 
 ghost use Rattle.std.specs.Prelude.{◌≡◌, pos, Some, IfOk};
 ghost use Rattle.machine_steps.specs.Node.{kept_values, values_kept};
-ghost use Rattle.node_code.specs.FaultValues.{fault_values};
+ghost use Rattle.code_meaning.specs.FaultValues.{fault_values};
 ghost use Rattle.slot_values.specs.KeptFaults.{kepts};
 
 use hpf_base::OutOfMemory;

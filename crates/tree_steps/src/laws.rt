@@ -5,8 +5,8 @@ ghost use Rattle.array_meaning.specs.Faults.{Fault};
 ghost use Rattle.machine_steps.specs.Machine.{earlier};
 ghost use Rattle.machine_steps.specs.Node.{Node, kept_values, values_kept, join_options, option_values, values_option, later, positioned_values, values_positioned, tree_absorbed};
 ghost use Rattle.machine_steps.specs.Tree.{levels_of};
-ghost use Rattle.node_code.specs.FaultValues.{fault_values};
-ghost use Rattle.node_code.specs.Parallel.{fold_of};
+ghost use Rattle.code_meaning.specs.FaultValues.{fault_values};
+ghost use Rattle.code_meaning.specs.Parallel.{fold_of};
 ghost use Rattle.tree_steps.specs.Absorbed.{absorbed_values, joined_values};
 
 use crate::joining::Joining;

@@ -2,7 +2,7 @@
 
 ghost use Rattle.std.specs.Prelude.{◌≡◌, IfOk};
 ghost use Rattle.machine_steps.specs.Node.{join_after, join_options, option_values, values_option};
-ghost use Rattle.node_code.specs.Parallel.{fold_of};
+ghost use Rattle.code_meaning.specs.Parallel.{fold_of};
 ghost use Rattle.op_tables.specs.Joins.{join};
 
 use hpf_base::OutOfMemory;

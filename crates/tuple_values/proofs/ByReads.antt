@@ -10,9 +10,11 @@ use Rattle.array_meaning.specs.State.{element_place, if_in_bounds}
 use Rattle.array_meaning.specs.Sections.{subscripts_at}
 use Rattle.machine_steps.specs.Instr.{Outcome, Nothing, Value, Breaks}
 use Rattle.machine_steps.specs.Machine.{value_by}
-use Rattle.node_code.specs.Forms.{ArrayForm, elemental_at}
-use Rattle.node_code.specs.NestStatements.{are_asked, nest_elemental, row_spots, when_spots}
-use Rattle.node_code.specs.Parallel.{When, at_line, outcome_if, shape_of, reads_at, all_reads_at, value_by_reads, values_by_reads}
+use Rattle.node_code.specs.Forms.{ArrayForm}
+use Rattle.code_meaning.specs.Forms.{elemental_at}
+use Rattle.code_meaning.specs.NestStatements.{are_asked, nest_elemental, row_spots, when_spots}
+use Rattle.node_code.specs.Parallel.{When}
+use Rattle.code_meaning.specs.Parallel.{at_line, outcome_if, shape_of, reads_at, all_reads_at, value_by_reads, values_by_reads}
 use Rattle.term_values.specs.declared.stops.Stop.{Stop}
 use Rattle.term_values.specs.declared.stops.Stop.TheVariants as stop
 use Rattle.term_values.specs.Stops.{IsStop, cause}

@@ -8,7 +8,8 @@ use Rattle.op_tables.specs.declared.op.Op.{Op}
 use Rattle.storage.specs.Storage.{Spot}
 use Rattle.array_meaning.specs.Elementals.{operated}
 use Rattle.array_meaning.specs.Faults.{Cause, ◌>>=◌, with_more}
-use Rattle.node_code.specs.Flat.{Flat, Int, Slot, Axis, Read, Operated, Flats, NoFlat, AndFlat, flat_value, flat_values}
+use Rattle.node_code.specs.Flat.{Flat, Int, Slot, Axis, Read, Operated, Flats, NoFlat, AndFlat}
+use Rattle.code_meaning.specs.Flat.{flat_value, flat_values}
 use Rattle.array_meaning.specs.declared.sections.Selection.{Selection}
 use Rattle.array_meaning.specs.declared.sections.Selection.TheVariants.{At, Along}
 use Rattle.array_meaning.specs.Sections.{positions, subscripts_at}

@@ -13,11 +13,13 @@ use Rattle.array_meaning.specs.Elementals.{operated}
 use Rattle.array_meaning.specs.Faults.{Cause, ◌>>=◌, with_more}
 use Rattle.array_meaning.specs.Sections.{subscripts_at}
 use Rattle.array_meaning.specs.State.{element_place, if_in_bounds}
-use Rattle.node_code.specs.Flat.{Flat, or_zero}
-use Rattle.node_code.specs.Forms.{ArrayForm, FlatForm, SectionForm, OperationForm, Forms, NoForm, AndForm, Sub, elemental_at, elementals_at, selections_at}
+use Rattle.node_code.specs.Flat.{Flat}
+use Rattle.code_meaning.specs.Flat.{or_zero}
+use Rattle.node_code.specs.Forms.{ArrayForm, FlatForm, SectionForm, OperationForm, Forms, NoForm, AndForm, Sub}
+use Rattle.code_meaning.specs.Forms.{elemental_at, elementals_at, selections_at}
 use Rattle.node_code.specs.declared.form.ArrayForm.{ArrayForm as HeldForm}
 use Rattle.node_code.specs.Texts.{form, subs}
-use Rattle.node_code.specs.Parallel.{reads_at, all_reads_at, shape_of}
+use Rattle.code_meaning.specs.Parallel.{reads_at, all_reads_at, shape_of}
 use Rattle.courses.specs.Entries.{axes_in}
 use Rattle.strip_operators.specs.Operated.{AreOfOne, AreOfTwo, AreWithNumber}
 use Rattle.strip_operators.specs.Strips.{IsStrip}

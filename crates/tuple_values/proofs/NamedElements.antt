@@ -5,7 +5,8 @@ use Rattle.hpf_base.specs.ElementOrder.{product}
 use Rattle.expression_rules.specs.declared.dims.Dim.{Dim}
 use Rattle.array_meaning.specs.declared.sections.Selection.{Selection}
 use Rattle.array_meaning.specs.Sections.{subscripts_at, positions}
-use Rattle.node_code.specs.Forms.{Sub, selections_at}
+use Rattle.node_code.specs.Forms.{Sub}
+use Rattle.code_meaning.specs.Forms.{selections_at}
 use Rattle.courses.specs.Courses.{Course}
 use Rattle.courses.specs.Entries.{axes_in, entries_in}
 use Rattle.courses.specs.References.{IsAlongAxes, Named, all_names, index_courses, named_element, selected_courses, subs_courses}

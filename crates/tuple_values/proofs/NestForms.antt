@@ -2,9 +2,10 @@
 use Rattle.std.proofs.Common.{◌≡◌, List, ◌++◌, ℤ, refl, ap}
 use Rattle.expression_rules.specs.declared.dims.Dim.{Dim}
 use Rattle.array_meaning.specs.Elementals.{Operand, Operation}
-use Rattle.node_code.specs.Forms.{ArrayForm, FlatForm, SectionForm, OperationForm, Forms, NoForm, AndForm, elemental_at, elementals_at}
-use Rattle.node_code.specs.NestStatements.{nest_elemental, nest_elementals}
-use Rattle.node_code.specs.Parallel.{reads_at, all_reads_at}
+use Rattle.node_code.specs.Forms.{ArrayForm, FlatForm, SectionForm, OperationForm, Forms, NoForm, AndForm}
+use Rattle.code_meaning.specs.Forms.{elemental_at, elementals_at}
+use Rattle.code_meaning.specs.NestStatements.{nest_elemental, nest_elementals}
+use Rattle.code_meaning.specs.Parallel.{reads_at, all_reads_at}
 
 -- whatever they see, they read the same
 module _ (shapes : List (List Dim)) (x slots axes seen : List ℤ) where

@@ -10,9 +10,12 @@ use Rattle.array_meaning.specs.State.{element_place, if_in_bounds}
 use Rattle.array_meaning.specs.declared.sections.Selection.{Selection}
 use Rattle.array_meaning.specs.Sections.{extents, subscripts_at}
 use Rattle.machine_steps.specs.Instr.{Outcome}
-use Rattle.node_code.specs.Forms.{ArrayForm, selections_in, elemental_at}
-use Rattle.node_code.specs.NestStatements.{NestLeft, ElementLeft, CopyLeft, NestStatement, are_asked, form_value, left_row, nest_elemental, nest_place, nest_spot, nest_tuples, role_made, when_spots}
-use Rattle.node_code.specs.Parallel.{Assignment, Evaluation, When, as_asked, at_line, is_asked, made_outcome, outcome_if, outcome_of, mask_reads, shape_of, reads_at, value_by_reads, values_by_reads, assigned_spot, assignment_tuples, copy_spot, evaluation_tuples, forall_mask_tuples, forall_spot, forall_tuples, reduction_tuples}
+use Rattle.node_code.specs.Forms.{ArrayForm}
+use Rattle.code_meaning.specs.Forms.{selections_in, elemental_at}
+use Rattle.node_code.specs.NestStatements.{NestLeft, ElementLeft, CopyLeft, NestStatement}
+use Rattle.code_meaning.specs.NestStatements.{are_asked, form_value, left_row, nest_elemental, nest_place, nest_spot, nest_tuples, role_made, when_spots}
+use Rattle.node_code.specs.Parallel.{Assignment, Evaluation, When}
+use Rattle.code_meaning.specs.Parallel.{as_asked, at_line, is_asked, made_outcome, outcome_if, outcome_of, mask_reads, shape_of, reads_at, value_by_reads, values_by_reads, assigned_spot, assignment_tuples, copy_spot, evaluation_tuples, forall_mask_tuples, forall_spot, forall_tuples, reduction_tuples}
 use Rattle.courses.specs.Entries.{axes_in, entries_in}
 use Rattle.tuple_values.specs.Statements.{Statement, Target, Nowhere, InCopy, InSection, ByIndices, IsStatement, left_in, no_left, outcome_made_by, place_in, tuple_outcome, tuple_value}
 use Rattle.tuple_values.specs.Targets.{nest_target}

@@ -1,7 +1,8 @@
 -- The subscripts of a section's element, one after the other.
 use Rattle.std.proofs.Common.{◌≡◌, List, [], ◌∷◌, ◌++◌, ℤ, refl, ap, sym, ◌∙◌, append_assoc}
 use Rattle.array_meaning.specs.Sections.{subscripts_at}
-use Rattle.node_code.specs.Forms.{Sub, SubAt, SubAlong, selections_at}
+use Rattle.node_code.specs.Forms.{Sub, SubAt, SubAlong}
+use Rattle.code_meaning.specs.Forms.{selections_at}
 use Rattle.array_meaning.specs.declared.sections.Selection.{Selection}
 use Rattle.slot_values.specs.Sections.{selection_at}
 use Rattle.term_values.proofs.SectionSubscripts.{two_is}

@@ -8,9 +8,9 @@ use Rattle.array_meaning.specs.Faults.{Cause, ◌>>=◌}
 use Rattle.array_meaning.specs.State.{if_in_bounds}
 use Rattle.machine_steps.specs.Instr.{Outcome, Value}
 use Rattle.machine_steps.specs.Machine.{value_by}
-use Rattle.node_code.specs.Forms.{elemental_at}
-use Rattle.node_code.specs.NestStatements.{row_spots, when_spots}
-use Rattle.node_code.specs.Parallel.{reads_at}
+use Rattle.code_meaning.specs.Forms.{elemental_at}
+use Rattle.code_meaning.specs.NestStatements.{row_spots, when_spots}
+use Rattle.code_meaning.specs.Parallel.{reads_at}
 use Rattle.courses.specs.Entries.{axes_in}
 use Rattle.tuple_values.specs.declared.strips.ElementLine.{ElementLine}
 use Rattle.tuple_values.specs.declared.strips.Strip.{Strip}

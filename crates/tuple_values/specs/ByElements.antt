@@ -6,7 +6,7 @@ use Rattle.array_meaning.specs.Faults.{Cause, ◌>>=◌, with_more}
 use Rattle.array_meaning.specs.State.{element_place, if_in_bounds}
 use Rattle.array_meaning.specs.Sections.{subscripts_at}
 use Rattle.array_meaning.specs.Elementals.{Elemental, Same, Selected, Operation, Elementals, NoOperand, Operand, operated}
-use Rattle.node_code.specs.Parallel.{shape_of}
+use Rattle.code_meaning.specs.Parallel.{shape_of}
 
 module _ (shapes : List (List Dim)) (get : Spot → ℤ) (x : List ℤ) where
   abbrev mutual

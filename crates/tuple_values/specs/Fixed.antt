@@ -1,10 +1,11 @@
 -- Expressions that have one value at all tuples. Private contracts alone cite this.
 use Rattle.std.specs.Prelude.{◌≡◌, Bool, true, false, ◌&&◌, List, [], ℕ, ℤ, Ok}
-use Rattle.node_code.specs.Flat.{Flat, Int, Slot, Axis, Read, Operated, Flats, NoFlat, AndFlat, flat_value}
+use Rattle.node_code.specs.Flat.{Flat, Int, Slot, Axis, Read, Operated, Flats, NoFlat, AndFlat}
+use Rattle.code_meaning.specs.Flat.{flat_value}
 use Rattle.expression_rules.specs.declared.dims.Dim.{Dim}
 use Rattle.storage.specs.Storage.{Spot}
 use Rattle.node_code.specs.Forms.{ArrayForm}
-use Rattle.node_code.specs.NestStatements.{nest_elemental}
+use Rattle.code_meaning.specs.NestStatements.{nest_elemental}
 use Rattle.tuple_values.specs.ByElements.{value_by_elements}
 
 -- they see no axis, and no copy

@@ -5,10 +5,12 @@ use Rattle.op_tables.specs.declared.reductions.Made.{Made}
 use Rattle.storage.specs.Storage.{Spot}
 use Rattle.array_meaning.specs.Faults.{Cause}
 use Rattle.array_meaning.specs.Elementals.{Elemental}
-use Rattle.node_code.specs.Flat.{Flat, flat_value}
-use Rattle.node_code.specs.Forms.{ArrayForm, FlatForm, SectionForm, OperationForm, Forms, NoForm, AndForm, elemental_at}
-use Rattle.node_code.specs.NestStatements.{nest_elemental}
-use Rattle.node_code.specs.Parallel.{reads_at}
+use Rattle.node_code.specs.Flat.{Flat}
+use Rattle.code_meaning.specs.Flat.{flat_value}
+use Rattle.node_code.specs.Forms.{ArrayForm, FlatForm, SectionForm, OperationForm, Forms, NoForm, AndForm}
+use Rattle.code_meaning.specs.Forms.{elemental_at}
+use Rattle.code_meaning.specs.NestStatements.{nest_elemental}
+use Rattle.code_meaning.specs.Parallel.{reads_at}
 use Rattle.courses.specs.Entries.{axes_in}
 use Rattle.strip_operators.specs.Strips.{IsStrip}
 use Rattle.tuple_values.specs.ByElements.{value_by_elements}

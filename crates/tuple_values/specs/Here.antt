@@ -6,9 +6,10 @@ use Rattle.array_meaning.specs.Elementals.{operated}
 use Rattle.array_meaning.specs.Faults.{Cause, ◌>>=◌}
 use Rattle.array_meaning.specs.State.{element_place}
 use Rattle.array_meaning.specs.Sections.{subscripts_at}
-use Rattle.node_code.specs.Forms.{Sub, ArrayForm, Forms, selections_at, elemental_at, elementals_at}
-use Rattle.node_code.specs.NestStatements.{nest_elemental, nest_elementals}
-use Rattle.node_code.specs.Parallel.{shape_of, reads_at, all_reads_at}
+use Rattle.node_code.specs.Forms.{Sub, ArrayForm, Forms}
+use Rattle.code_meaning.specs.Forms.{selections_at, elemental_at, elementals_at}
+use Rattle.code_meaning.specs.NestStatements.{nest_elemental, nest_elementals}
+use Rattle.code_meaning.specs.Parallel.{shape_of, reads_at, all_reads_at}
 use Rattle.tuple_values.specs.declared.here.Here.{Here}
 use Rattle.tuple_values.specs.ByElements.{value_by_elements, values_by_elements}
 

@@ -11,11 +11,13 @@ use Rattle.array_meaning.specs.State.{element_place, if_in_bounds}
 use Rattle.array_meaning.specs.declared.sections.Selection.{Selection}
 use Rattle.array_meaning.specs.Sections.{subscripts_at, positions}
 use Rattle.array_meaning.specs.Elementals.{Elemental}
-use Rattle.machine_steps.specs.Instr.{Outcome, Tuples}
+use Rattle.machine_steps.specs.Instr.{Instr, Outcome, Par, Tuples}
 use Rattle.machine_steps.specs.Space.{space_count}
-use Rattle.node_code.specs.Forms.{Sub, ArrayForm, selections_at, elemental_at}
-use Rattle.node_code.specs.NestStatements.{are_asked, nest_elemental, row_spots, when_spots}
-use Rattle.node_code.specs.Parallel.{When, at_line, as_asked, outcome_of, outcome_if, shape_of, reads_at, value_by_reads, made_outcome}
+use Rattle.node_code.specs.Forms.{Sub, ArrayForm}
+use Rattle.code_meaning.specs.Forms.{selections_at, elemental_at}
+use Rattle.code_meaning.specs.NestStatements.{are_asked, nest_elemental, row_spots, when_spots}
+use Rattle.node_code.specs.Parallel.{When}
+use Rattle.code_meaning.specs.Parallel.{at_line, as_asked, outcome_of, outcome_if, shape_of, reads_at, value_by_reads, made_outcome}
 use Rattle.courses.specs.Entries.{axes_in, entries_in}
 use Rattle.tuple_values.specs.ByElements.{value_by_elements}
 
@@ -154,3 +156,10 @@ module _ (w : Statement) where
 -- where nothing is assigned
 abbrev pub no_left : List ℤ → ℕ → Option Spot
 no_left slots t = None
+
+-- the instruction is this parallel statement, by these slots
+pub record IsParallel (i : Instr Fault) (slots : List ℤ) (w : Statement) : Type 0 where
+  pub tuples : Tuples Fault
+  pub left : List ℤ → ℕ → Option Spot
+  pub is : i ≡ Par tuples left
+  pub statement : IsStatement w slots tuples left

@@ -3,7 +3,7 @@
 ghost use Rattle.std.specs.Prelude.{◌≡◌, ◌<◌, ◌++◌, map, IfErr, IfOk, Ok, OnOk};
 ghost use Rattle.machine_steps.specs.Instr.{Value};
 ghost use Rattle.machine_steps.specs.Machine.{value_by};
-ghost use Rattle.node_code.specs.Parallel.{as_asked, reads_at};
+ghost use Rattle.code_meaning.specs.Parallel.{as_asked, reads_at};
 ghost use Rattle.node_code.specs.Texts.{subs, when};
 ghost use Rattle.op_tables.specs.Operators.{is_true};
 ghost use Rattle.term_values.specs.Stops.{IsStop};

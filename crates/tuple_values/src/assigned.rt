@@ -4,7 +4,7 @@ ghost use Rattle.std.specs.Prelude.{◌≡◌, ◌≤◌, ◌∷◌, [], pos, su
 ghost use Rattle.hpf_base.specs.declared.limits.TheConstants.{MAX_TUPLES};
 ghost use Rattle.array_meaning.specs.State.{element_place};
 ghost use Rattle.array_meaning.specs.Sections.{positions, subscripts_at};
-ghost use Rattle.node_code.specs.Parallel.{shape_of};
+ghost use Rattle.code_meaning.specs.Parallel.{shape_of};
 ghost use Rattle.term_values.specs.SectionSubscripts.{positions_after, subscript_at};
 
 use array_meaning::Selection;

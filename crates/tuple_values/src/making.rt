@@ -3,10 +3,10 @@
 ghost use Rattle.std.specs.Prelude.{◌≡◌, ◌∷◌, [], ℕ, map, option_map, option_to_list, IfOk, None, true};
 ghost use Rattle.array_meaning.specs.Sections.{extents};
 ghost use Rattle.machine_steps.specs.Space.{space_count};
-ghost use Rattle.node_code.specs.Forms.{selections_in};
-ghost use Rattle.node_code.specs.Instructions.{section_spot};
-ghost use Rattle.node_code.specs.NestStatements.{nest_spot, nest_tuples, role_made};
-ghost use Rattle.node_code.specs.Parallel.{assigned_spot, assignment_tuples, copy_spot, evaluation_tuples, forall_mask_tuples, forall_spot, forall_tuples, reduction_tuples};
+ghost use Rattle.code_meaning.specs.Forms.{selections_in};
+ghost use Rattle.code_meaning.specs.Instructions.{section_spot};
+ghost use Rattle.code_meaning.specs.NestStatements.{nest_spot, nest_tuples, role_made};
+ghost use Rattle.code_meaning.specs.Parallel.{assigned_spot, assignment_tuples, copy_spot, evaluation_tuples, forall_mask_tuples, forall_spot, forall_tuples, reduction_tuples};
 ghost use Rattle.node_code.specs.Texts.{assignment, evaluation, form, nest_left, nest_statement, subs, when};
 ghost use Rattle.tuple_values.specs.Statements.{no_left, tuple_count, tuple_reads, IsStatement};
 ghost use Rattle.tuple_values.specs.Targets.{nest_target, target as target_of};

@@ -1,8 +1,8 @@
 //! The elements that are read at a tuple.
 
 ghost use Rattle.std.specs.Prelude.{◌≡◌, ◌++◌, ◌∷◌, [], OnOk, map, option_map};
-ghost use Rattle.node_code.specs.NestStatements.{row_spots, when_spots};
-ghost use Rattle.node_code.specs.Parallel.{spot_of};
+ghost use Rattle.code_meaning.specs.NestStatements.{row_spots, when_spots};
+ghost use Rattle.code_meaning.specs.Parallel.{spot_of};
 ghost use Rattle.node_code.specs.Texts.{form, forms_of, subs, when};
 ghost use Rattle.tuple_values.specs.Here.{all_reads_here, reads_here, subscripts_here};
 ghost use Rattle.tuple_values.specs.Spots.{read_of, reads_of};

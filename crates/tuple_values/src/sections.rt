@@ -2,8 +2,8 @@
 
 ghost use Rattle.std.specs.Prelude.{◌≡◌, ◌+◌, ◌∷◌, [], ℤ, List, IfOk};
 ghost use Rattle.array_meaning.specs.declared.sections.Selection.TheVariants.{Along};
-ghost use Rattle.node_code.specs.Flat.{slot};
-ghost use Rattle.node_code.specs.Forms.{sequence_in};
+ghost use Rattle.code_meaning.specs.Flat.{slot};
+ghost use Rattle.code_meaning.specs.Forms.{sequence_in};
 ghost use Rattle.node_code.specs.Texts.{sub, subs};
 ghost use Rattle.slot_values.specs.Sections.{selection_at};
 ghost use Rattle.term_values.specs.SectionSubscripts.{positions_after, subscript_at};

@@ -4,7 +4,7 @@ ghost use Rattle.std.specs.Prelude.{◌≡◌, ◌<◌, ◌≤◌, option_map, I
 ghost use Rattle.hpf_base.specs.declared.limits.TheConstants.{MAX_TUPLES};
 ghost use Rattle.array_meaning.specs.Sections.{extents};
 ghost use Rattle.machine_steps.specs.Space.{space_count};
-ghost use Rattle.node_code.specs.Forms.{selections_in};
+ghost use Rattle.code_meaning.specs.Forms.{selections_in};
 ghost use Rattle.node_code.specs.Texts.{subs};
 ghost use Rattle.courses.specs.Entries.{axes_in, entries_in};
 

@@ -1,7 +1,7 @@
 //! The value of an array expression at a tuple, by the elements that it reads.
 
 ghost use Rattle.std.specs.Prelude.{◌≡◌, ◌∷◌, [], length, IfErr, IfOk, Ok};
-ghost use Rattle.node_code.specs.Flat.{flat_value, or_zero};
+ghost use Rattle.code_meaning.specs.Flat.{flat_value, or_zero};
 ghost use Rattle.node_code.specs.Forms.{SectionForm};
 ghost use Rattle.node_code.specs.Texts.{flat, form, forms_of, subs};
 ghost use Rattle.storage.specs.Spots.{spot_of};

@@ -18,7 +18,7 @@ use Rattle.name_table.specs.Entries.{entry, declared_as, what_is}
 use Rattle.name_table.specs.KnownSymbols.{is_known}
 use Rattle.name_table.specs.declared.names.Entry.{Entry}
 use Rattle.name_table.specs.declared.names.What.{What}
-use Rattle.node_code.specs.Parallel.{shape_of}
+use Rattle.code_meaning.specs.Parallel.{shape_of}
 use Rattle.array_meaning.specs.Resolution.{place_of, initial_array, initial_state}
 use Rattle.lowering.specs.Ranks.{declared_shapes}
 use Rattle.well_formed.proofs.Lists.{both, neither}

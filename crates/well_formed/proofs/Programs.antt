@@ -24,11 +24,12 @@ use Rattle.statement_trail.specs.Trail.{serial_trail}
 use Rattle.machine_steps.specs.Agrees.{IsValidCode, IsValidInstr}
 use Rattle.machine_steps.specs.Layout.{AreOwned, IsDealt, Layout}
 use Rattle.machine_steps.specs.SameLayouts.{is_same_layout}
-use Rattle.node_code.specs.Instructions.{ArrayTable, NewMapping, Remap, meaning_of}
+use Rattle.code_meaning.specs.Instructions.{ArrayTable, meaning_of}
+use Rattle.node_code.specs.Instructions.{NewMapping, Remap}
 use Rattle.lowering.specs.Lowered.{IsState, IsTable, MachineEnds, MachinePasses, opening}
-use Rattle.node_code.specs.ValidCode.{CodeTable, IsValid, IsValidNodeCode}
+use Rattle.code_meaning.specs.ValidCode.{CodeTable, IsValid, IsValidNodeCode}
 use Rattle.lowering.specs.Ranks.{AreFewDims, BlockKeepsRanks, declared_shapes}
-use Rattle.lowering.specs.StatementCode.{block_copies, block_slots, program_code}
+use Rattle.program_code.specs.StatementCode.{block_copies, block_slots, program_code}
 use Rattle.lowered_expressions.specs.WellFormed.{IsWellFormedBlock}
 use Rattle.nest_items.specs.BlockForms.{BlockHasForms}
 use Rattle.fitting_states.specs.FittingStates.{ProgramFits}

@@ -22,7 +22,7 @@ use Rattle.name_table.specs.declared.names.What.{What}
 use Rattle.name_table.specs.declared.names.What.TheVariants as what
 use Rattle.array_meaning.specs.Terms.{Element, Section, Apply, Reduce, Terms, NoTerm, More, list_of, SectionSubscripts}
 use Rattle.array_meaning.specs.Resolution.{alone, dims_of, first_named, first_term, initial_array, inquiry, is_element, no_dim, place_of, section_subscript, section_subscripts, term_of, term_or, terms_of, whole}
-use Rattle.node_code.specs.Parallel.{shape_of}
+use Rattle.code_meaning.specs.Parallel.{shape_of}
 use Rattle.lowering.specs.Ranks.{AreRanked, AreRankedSubscripts, IsRanked, subscript_count}
 use Rattle.well_formed.proofs.Lists.{both}
 use Rattle.well_formed.proofs.Expressions.{either}

@@ -1,3 +1,3 @@
 pub use Rattle.lowering.specs.Lowered
-pub use Rattle.lowering.specs.StatementCode
+pub use Rattle.program_code.specs.StatementCode
 pub use Rattle.lowering.specs.Ranks

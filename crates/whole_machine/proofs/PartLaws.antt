@@ -6,10 +6,10 @@ use Rattle.storage.specs.Effect.{scatter}
 use Rattle.array_meaning.specs.Faults.{Fault}
 use Rattle.machine_steps.specs.Instr.{Fold, Tuples}
 use Rattle.machine_steps.specs.Machine.{Machine, earlier, effect_by, effect_of, folded, keep, outcome_of, reduce_step, set_slot, value_by}
-use Rattle.node_code.specs.Parallel.{fold_of}
-use Rattle.node_code.specs.ProgramText.{Text}
+use Rattle.code_meaning.specs.Parallel.{fold_of}
+use Rattle.code_meaning.specs.ProgramText.{Text}
 use Rattle.tuple_values.specs.Statements.{IsStatement, Statement, tuple_count, tuple_reads}
-use Rattle.part_steps.proofs.KeptFaults.{kept-apart}
+use Rattle.node_run.proofs.KeptFaults.{kept-apart}
 use Rattle.whole_machine.specs.Parts.{effect_at, outcome_at}
 
 module _ (m : Machine Text Fault) (w : Statement) (tuples : Tuples Fault) (left : List ℤ → ℕ → Option Spot) (is : IsStatement w m.control.slots tuples left) where

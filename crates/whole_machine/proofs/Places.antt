@@ -6,8 +6,9 @@ use Rattle.mappings.specs.declared.mapping.Mapping.{Mapping}
 use Rattle.expression_rules.specs.declared.dims.Dim.{Dim}
 use Rattle.machine_steps.specs.Instr.{Local}
 use Rattle.machine_steps.specs.Machine.{finish, instr_at, instr_of}
-use Rattle.node_code.specs.Instructions.{Instruction, Fetch, Store, Par, ParForall, ParNest, MakeCopies, MakeCopy, ParCopy, ParForallCopy, Verdict, Reduce, Print, FoldCopy, LastCopy, Remap, meaning_of}
-use Rattle.node_code.specs.ProgramText.{Text, table_on, text, text_meaning, texts}
+use Rattle.node_code.specs.Instructions.{Instruction, Fetch, Store, Par, ParForall, ParNest, MakeCopies, MakeCopy, ParCopy, ParForallCopy, Verdict, Reduce, Print, FoldCopy, LastCopy, Remap}
+use Rattle.code_meaning.specs.Instructions.{meaning_of}
+use Rattle.code_meaning.specs.ProgramText.{Text, table_on, text, text_meaning, texts}
 use Rattle.node_code.specs.Texts.{instruction, instructions}
 use Rattle.node_code.specs.declared.instruction.Instruction.{Instruction as HeldInstruction}
 use Rattle.slot_values.specs.LocalInstructions.{is_local, local_control}

@@ -4,10 +4,12 @@ use Rattle.array_meaning.specs.Faults.{Fault}
 use Rattle.machine_steps.specs.CopyLayout.{copy_layout}
 use Rattle.machine_steps.specs.Instr.{Instr, MakeCopy}
 use Rattle.machine_steps.specs.Layout.{Layout}
-use Rattle.node_code.specs.Flat.{Flat, slots_value}
+use Rattle.node_code.specs.Flat.{Flat}
+use Rattle.code_meaning.specs.Flat.{slots_value}
 use Rattle.node_code.specs.Forms.{Sub}
-use Rattle.node_code.specs.NestStatements.{copies_extents}
-use Rattle.node_code.specs.Parallel.{Evaluation, evaluation_extents}
+use Rattle.code_meaning.specs.NestStatements.{copies_extents}
+use Rattle.node_code.specs.Parallel.{Evaluation}
+use Rattle.code_meaning.specs.Parallel.{evaluation_extents}
 
 -- a copy of the extents of an array expression on so many nodes, with 0 everywhere
 abbrev pub copying : (nodes copy : ℕ) → Evaluation → Instr Fault

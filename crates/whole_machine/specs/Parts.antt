@@ -7,9 +7,9 @@ use Rattle.expression_rules.specs.declared.dims.Dim.{Dim}
 use Rattle.array_meaning.specs.Faults.{Fault}
 use Rattle.machine_steps.specs.Instr.{Instr, Outcome, Par, Tuples}
 use Rattle.machine_steps.specs.Machine.{Machine, earlier, effect_by, effect_of, folded, keep, outcome_of, value_by}
-use Rattle.node_code.specs.NestStatements.{nest_spot, nest_tuples}
-use Rattle.node_code.specs.Parallel.{assigned_spot, assignment_tuples, copy_spot, evaluation_tuples, fold_of, forall_mask_tuples, forall_spot, forall_tuples}
-use Rattle.node_code.specs.ProgramText.{Text}
+use Rattle.code_meaning.specs.NestStatements.{nest_spot, nest_tuples}
+use Rattle.code_meaning.specs.Parallel.{assigned_spot, assignment_tuples, copy_spot, evaluation_tuples, fold_of, forall_mask_tuples, forall_spot, forall_tuples}
+use Rattle.code_meaning.specs.ProgramText.{Text}
 use Rattle.node_code.specs.Texts.{assignment, evaluation, nest_statement}
 use Rattle.slot_values.specs.KeptFaults.{kepts}
 use Rattle.tuple_values.specs.Statements.{Statement, tuple_left, tuple_outcome, tuple_reads}

@@ -3,8 +3,8 @@ use Rattle.std.specs.Prelude.{◌≡◌, ◌==◌, ℕ, List, Some, true}
 use Rattle.std.specs.List.{list_all, slice_get}
 use Rattle.array_meaning.specs.Faults.{Fault}
 use Rattle.machine_steps.specs.Instr.{Instr}
-use Rattle.node_code.specs.Instructions.{meaning_of}
-use Rattle.node_code.specs.ProgramText.{Text, table_on}
+use Rattle.code_meaning.specs.Instructions.{meaning_of}
+use Rattle.code_meaning.specs.ProgramText.{Text, table_on}
 use Rattle.node_code.specs.Texts.{instruction}
 use Rattle.node_code.specs.declared.instruction.Instruction.{Instruction}
 use Rattle.owner_tables.specs.Views.{TableView}

@@ -4,9 +4,9 @@ ghost use Rattle.std.specs.Prelude.{◌≡◌, ◌<◌, ◌^◌, [], IfOk, OnOk,
 ghost use Rattle.storage.specs.Storage.{read};
 ghost use Rattle.machine_steps.specs.Instr.{Fetch, Store};
 ghost use Rattle.machine_steps.specs.Machine.{fetch_control, step_by, store_control, store_in, write_to};
-ghost use Rattle.node_code.specs.Flat.{flat_value};
-ghost use Rattle.node_code.specs.Instructions.{element_in};
-ghost use Rattle.node_code.specs.Parallel.{at_line};
+ghost use Rattle.code_meaning.specs.Flat.{flat_value};
+ghost use Rattle.code_meaning.specs.Instructions.{element_in};
+ghost use Rattle.code_meaning.specs.Parallel.{at_line};
 ghost use Rattle.node_code.specs.Texts.{flat, flats_of};
 ghost use Rattle.node_program.specs.Results.{spot_result, value_result};
 

@@ -7,7 +7,7 @@ ghost use Rattle.storage.specs.Storage.{read, row_of};
 ghost use Rattle.machine_steps.specs.Instr.{FoldCopy, LastCopy};
 ghost use Rattle.machine_steps.specs.Machine.{is_one, last_of, last_passing, lie_alike, step_by};
 ghost use Rattle.machine_steps.specs.SameLayouts.{is_same_layout};
-ghost use Rattle.node_code.specs.Parallel.{fold_of};
+ghost use Rattle.code_meaning.specs.Parallel.{fold_of};
 
 use crate::machine::WholeMachine;
 use crate::rows::{read, row_of};

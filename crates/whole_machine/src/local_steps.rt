@@ -2,7 +2,7 @@
 
 ghost use Rattle.std.specs.Prelude.{◌≡◌, ◌<◌, ◌^◌, OnOk, OnErr, true};
 ghost use Rattle.machine_steps.specs.Machine.{finish, step_by};
-ghost use Rattle.node_code.specs.ProgramText.{text_meaning};
+ghost use Rattle.code_meaning.specs.ProgramText.{text_meaning};
 ghost use Rattle.node_code.specs.Texts.{instruction};
 ghost use Rattle.slot_values.specs.LocalInstructions.{is_local};
 ghost use Rattle.whole_machine.specs.Places.{instr_of};

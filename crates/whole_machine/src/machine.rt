@@ -31,7 +31,7 @@ pub struct WholeMachine {
 impl Model for WholeMachine {
     ghost use Rattle.array_meaning.specs.Faults.{Fault};
     ghost use Rattle.machine_steps.specs.Machine.{Machine};
-    ghost use Rattle.node_code.specs.ProgramText.{Text};
+    ghost use Rattle.code_meaning.specs.ProgramText.{Text};
     ghost use Rattle.node_program.specs.Codes.{flat_code, flats_code, form_code};
     ghost use Rattle.node_program.specs.NestCodes.{mark_code};
     ghost use Rattle.std.specs.Coded.{codes};

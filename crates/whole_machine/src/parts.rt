@@ -2,7 +2,7 @@
 
 ghost use Rattle.std.specs.Prelude.{◌≡◌, ◌<◌, ◌^◌, IfOk, OnOk, OnErr};
 ghost use Rattle.machine_steps.specs.Machine.{earlier, on, step_by};
-ghost use Rattle.part_steps.specs.InstructionParts.{IsParallel};
+ghost use Rattle.tuple_values.specs.Statements.{IsParallel};
 ghost use Rattle.slot_values.specs.KeptFaults.{kepts};
 ghost use Rattle.tuple_values.specs.Views.{statement as statement_of};
 ghost use Rattle.whole_machine.specs.Parts.{IsParResult, par_instr};

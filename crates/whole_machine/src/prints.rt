@@ -4,7 +4,7 @@ ghost use Rattle.std.specs.Prelude.{◌≡◌, ◌<◌, ◌^◌, ◌++◌, ◌�
 ghost use Rattle.std.specs.Fmt.{signed_decimal};
 ghost use Rattle.storage.specs.Storage.{read};
 ghost use Rattle.machine_steps.specs.Machine.{item_bytes, on, step_by};
-ghost use Rattle.node_code.specs.Instructions.{item_of};
+ghost use Rattle.code_meaning.specs.Instructions.{item_of};
 ghost use Rattle.node_code.specs.Texts.{print_item};
 ghost use Rattle.node_program.specs.PrintedLines.{line_of, printed};
 

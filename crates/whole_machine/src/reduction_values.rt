@@ -2,7 +2,7 @@
 
 ghost use Rattle.std.specs.Prelude.{◌≡◌, ◌<◌, None, IfOk, OnOk};
 ghost use Rattle.machine_steps.specs.Machine.{earlier, folded, join_outcome, keep, kept_of};
-ghost use Rattle.node_code.specs.Parallel.{fold_of};
+ghost use Rattle.code_meaning.specs.Parallel.{fold_of};
 ghost use Rattle.slot_values.specs.KeptFaults.{kepts};
 ghost use Rattle.tuple_values.specs.Statements.{tuple_count};
 ghost use Rattle.tuple_values.specs.Views.{statement as statement_of};

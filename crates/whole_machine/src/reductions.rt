@@ -3,7 +3,7 @@
 ghost use Rattle.std.specs.Prelude.{◌≡◌, ◌<◌, ◌^◌, IfOk, OnOk, OnErr};
 ghost use Rattle.machine_steps.specs.Instr.{Reduce};
 ghost use Rattle.machine_steps.specs.Machine.{earlier, reduce_step, set_slot, step_by};
-ghost use Rattle.node_code.specs.Parallel.{fold_of, reduction_tuples};
+ghost use Rattle.code_meaning.specs.Parallel.{fold_of, reduction_tuples};
 ghost use Rattle.node_code.specs.Texts.{evaluation};
 ghost use Rattle.slot_values.specs.KeptFaults.{kepts};
 ghost use Rattle.whole_machine.specs.Parts.{IsReduceResult};

@@ -3,7 +3,7 @@
 ghost use Rattle.std.specs.Prelude.{◌≡◌, ◌==◌, ◌<◌, ◌^◌, OnOk, OnErr, length, true};
 ghost use Rattle.std.specs.List.{list_all};
 ghost use Rattle.machine_steps.specs.Machine.{instr_at, step, step_by};
-ghost use Rattle.node_code.specs.ProgramText.{text_meaning};
+ghost use Rattle.code_meaning.specs.ProgramText.{text_meaning};
 ghost use Rattle.node_code.specs.Texts.{instruction};
 ghost use Rattle.node_program.specs.Fits.{fits_rows, shapes_of};
 ghost use Rattle.whole_machine.specs.Places.{IsFor, instr_of};

@@ -2,7 +2,7 @@ use Rattle.std.proofs.Common.{◌≡◌, ℕ, ◌<◌, nat_eq, not, ◌&&◌, Li
 use Rattle.std.specs.List.{list_any, range_with_len}
 use Rattle.machine_steps.specs.Layout.{least_owner_of, owns_spot}
 use Rattle.storage.specs.Spots.{spot_of}
-use Rattle.comm_sets.specs.Moves.{is_moved}
+use Rattle.covering_rounds.specs.Moved.{is_moved}
 use Rattle.comm_sets.proofs.Computing.{are-nodes}
 use Rattle.comm_sets.proofs.Marking.{at-element, marked-same}
 use Rattle.comm_sets.proofs.marks.mark_element.Goals as goal

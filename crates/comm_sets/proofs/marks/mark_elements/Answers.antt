@@ -4,7 +4,7 @@ use Rattle.std.specs.List.{range_with_len}
 use Rattle.machine_steps.specs.Layout.{owned_in, sizes}
 use Rattle.owner_tables.specs.Samples.{AreSamples, owners_by}
 use Rattle.comm_sets.specs.Marks.{any_moved}
-use Rattle.comm_sets.specs.Moves.{is_moved}
+use Rattle.covering_rounds.specs.Moved.{is_moved}
 use Rattle.comm_sets.proofs.Marking.{in_row, marked-more, marked-same}
 use Rattle.comm_sets.proofs.Sampled.{any-more, any-moved-samples}
 use Rattle.comm_sets.proofs.marks.mark_elements.Goals as goal

@@ -3,7 +3,7 @@ use Rattle.std.proofs.lemmas.List.{length-map}
 use Rattle.machine_steps.specs.Layout.{size_of, sizes}
 use Rattle.machine_steps.specs.Message.{spots_from}
 use Rattle.comm_sets.specs.Marks.{any_moved}
-use Rattle.comm_sets.specs.Moves.{is_moved}
+use Rattle.covering_rounds.specs.Moved.{is_moved}
 use Rattle.comm_sets.proofs.Marking.{any-row, marked-more}
 use Rattle.comm_sets.proofs.marks.mark_rows.Goals as goal
 

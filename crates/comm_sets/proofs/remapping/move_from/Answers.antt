@@ -4,7 +4,7 @@ use Rattle.storage.specs.Storage.{Spot}
 use Rattle.storage.specs.Storage.{is_same_spot}
 use Rattle.machine_steps.specs.Layout.{owns_spot, least_owner_of}
 use Rattle.storage.specs.Spots.{spot_of}
-use Rattle.comm_sets.specs.Moves.{is_moved}
+use Rattle.covering_rounds.specs.Moved.{is_moved}
 use Rattle.message_elements.proofs.Ascending.{same-true}
 use Rattle.comm_sets.proofs.Computing.{are-nodes, computes-it}
 use Rattle.comm_sets.proofs.Noting.{noted-same}

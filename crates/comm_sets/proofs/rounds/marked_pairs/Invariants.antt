@@ -1,6 +1,6 @@
 use Rattle.std.proofs.Common.{◌≡◌, filter}
 use Rattle.comm_sets.specs.Marks.{is_marked_pair}
-use Rattle.comm_sets.proofs.Pairs.{pairs_from}
+use Rattle.covering_rounds.proofs.Pairs.{pairs_from}
 use Rattle.comm_sets.proofs.rounds.marked_pairs.Given as goal
 
 abbrev pub invariant-loop-from : goal.invariant-loop-from

@@ -4,7 +4,8 @@ use Rattle.letters.specs.declared.pair.Pair.{Pair}
 use Rattle.redistribute_rounds.specs.Rounds.{IsBetween}
 use Rattle.comm_sets.specs.Marks.{is_marked, is_marked_pair}
 use Rattle.machine_steps.specs.Rounds.{all_pairs, color_rounds, moving_pairs}
-use Rattle.comm_sets.proofs.Pairs.{kept-between, kept-distinct, marked-moving}
+use Rattle.comm_sets.proofs.Pairs.{marked-moving}
+use Rattle.covering_rounds.proofs.Pairs.{kept-between, kept-distinct}
 use Rattle.comm_sets.proofs.rounds.remap_rounds.Goals as goal
 
 pub rounds-requires-clause-between : goal.rounds-requires-clause-between

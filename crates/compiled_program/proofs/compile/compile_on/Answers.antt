@@ -13,7 +13,7 @@ use Rattle.array_meaning.specs.Resolution.{initial_array, resolved_block}
 use Rattle.fitting_states.specs.FittingStates.{InitialValuesFit, BlockFits}
 use Rattle.nodes_lowered.proofs.Programs.{program_forms}
 use Rattle.node_code.specs.Instructions.{Instruction, NewMapping}
-use Rattle.node_code.specs.ProgramText.{texts}
+use Rattle.code_meaning.specs.ProgramText.{texts}
 use Rattle.node_code.specs.Texts.{instructions}
 use Rattle.nodes_lowered.specs.StatementCode.{block_copies, program_code}
 use Rattle.node_codegen.specs.Moves.{moves_by}

@@ -2,7 +2,7 @@ use Rattle.std.proofs.Common.{◌≡◌, ◌++◌, ℕ, All, List, IfSome, lengt
 use Rattle.std.proofs.lemmas.Option.{same_Some}
 use Rattle.machine_steps.specs.Instr.{Remapping}
 use Rattle.machine_steps.specs.Layout.{Layout}
-use Rattle.node_code.specs.ProgramText.{Text, text}
+use Rattle.code_meaning.specs.ProgramText.{Text, text}
 use Rattle.node_code.specs.Texts.{instruction}
 use Rattle.node_program.specs.Fits.{fits_rows, shapes_of}
 use Rattle.node_program.specs.Programs.{mappings_of}

@@ -3,7 +3,7 @@ use Rattle.array_meaning.specs.Faults.{Fault}
 use Rattle.syntax_tree.specs.MainProgram.{main_program}
 use Rattle.machine_steps.specs.Agrees.{IsOver}
 use Rattle.machine_steps.specs.Machine.{Machine, steps}
-use Rattle.node_code.specs.ProgramText.{Text, text_meaning}
+use Rattle.code_meaning.specs.ProgramText.{Text, text_meaning}
 use Rattle.message_lines.specs.KeptLines.{AreKeptLines}
 use Rattle.distributed_run.proofs.OverRuns.{left, left-falls, over-next, over-tested, same-code}
 use Rattle.distributed_run.proofs.ProgramLines.{ends}

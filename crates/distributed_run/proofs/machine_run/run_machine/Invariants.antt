@@ -1,7 +1,7 @@
 use Rattle.syntax_tree.specs.MainProgram.{main_program}
 use Rattle.machine_steps.specs.Agrees.{IsOver}
 use Rattle.machine_steps.specs.Machine.{steps}
-use Rattle.node_code.specs.ProgramText.{text_meaning}
+use Rattle.code_meaning.specs.ProgramText.{text_meaning}
 use Rattle.message_lines.specs.KeptLines.{AreKeptLines}
 use Rattle.distributed_run.specs.StepLines.{IsListed}
 use Rattle.distributed_run.proofs.OverRuns.{left}

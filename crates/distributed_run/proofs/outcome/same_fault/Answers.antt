@@ -1,6 +1,6 @@
 use Rattle.std.proofs.Common.{ap, ◌∙◌}
-use Rattle.node_code.specs.FaultNumbers.{fault_of}
-use Rattle.node_code.specs.FaultValues.{fault_back}
+use Rattle.code_meaning.specs.FaultNumbers.{fault_of}
+use Rattle.code_meaning.specs.FaultValues.{fault_back}
 use Rattle.term_values.specs.Faults.{fault}
 use Rattle.distributed_run.proofs.outcome.same_fault.Goals as goal
 

@@ -1,5 +1,5 @@
 use Rattle.std.proofs.Common.{◌≡◌, IfOk, subst}
-use Rattle.lowered_expressions.specs.ExpressionCode.{code_of, parts_code}
+use Rattle.program_code.specs.ExpressionCode.{code_of, parts_code}
 use Rattle.node_code.specs.Texts.{instructions}
 use Rattle.resolved_program.proofs.Forms.{apply_is, element_is, section_is}
 use Rattle.expression_code.proofs.code.+code.Goals as goal

@@ -1,5 +1,5 @@
 use Rattle.std.proofs.Common.{◌≡◌, ◌++◌, drop}
-use Rattle.lowered_expressions.specs.ExpressionCode.{all_parts_code, codes_of, subscripts_code}
+use Rattle.program_code.specs.ExpressionCode.{all_parts_code, codes_of, subscripts_code}
 use Rattle.node_code.specs.Texts.{instructions}
 use Rattle.resolved_program.specs.Resolved.{subscripts_of, terms_of}
 use Rattle.expression_code.proofs.code.+code.Given as goal

@@ -1,6 +1,6 @@
 use Rattle.std.proofs.Common.{◌≡◌, IfOk, Some, ap, ◌∙◌, subst}
 use Rattle.std.specs.Prelude.{option_map}
-use Rattle.lowered_expressions.specs.ExpressionCode.{first_subs, form_of}
+use Rattle.program_code.specs.ExpressionCode.{first_subs, form_of}
 use Rattle.node_code.specs.Texts.{subs}
 use Rattle.resolved_program.proofs.Forms.{apply_is, section_is}
 use Rattle.expression_code.proofs.evaluations.+space.Goals as goal

@@ -1,5 +1,5 @@
 use Rattle.std.proofs.Common.{◌≡◌, drop}
-use Rattle.lowered_expressions.specs.ExpressionCode.{first_subs_of, forms_of}
+use Rattle.program_code.specs.ExpressionCode.{first_subs_of, forms_of}
 use Rattle.resolved_program.specs.Resolved.{terms_of}
 use Rattle.expression_code.proofs.evaluations.+space.Given as goal
 

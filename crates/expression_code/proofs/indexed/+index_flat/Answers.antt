@@ -1,6 +1,6 @@
 use Rattle.std.proofs.Common.{◌≡◌, IfOk, ap, ◌∙◌, subst}
 use Rattle.std.proofs.lemmas.List.{at_drop_all}
-use Rattle.lowered_expressions.specs.ExpressionCode.{index_flat, index_flats}
+use Rattle.program_code.specs.ExpressionCode.{index_flat, index_flats}
 use Rattle.node_code.specs.Flat.{Operated}
 use Rattle.node_code.specs.Texts.{flat}
 use Rattle.resolved_program.proofs.Forms.{apply_is}

@@ -1,5 +1,5 @@
 use Rattle.std.proofs.Common.{◌≡◌, ◌++◌, drop, map}
-use Rattle.lowered_expressions.specs.ExpressionCode.{index_flats}
+use Rattle.program_code.specs.ExpressionCode.{index_flats}
 use Rattle.node_code.specs.Texts.{flat}
 use Rattle.resolved_program.specs.Resolved.{terms_of}
 use Rattle.expression_code.proofs.Lists.{flat_list}

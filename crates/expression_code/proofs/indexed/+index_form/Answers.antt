@@ -1,6 +1,6 @@
 use Rattle.std.proofs.Common.{◌≡◌, IfOk, ap, ◌∙◌, subst}
 use Rattle.std.proofs.lemmas.List.{at_drop_all}
-use Rattle.lowered_expressions.specs.ExpressionCode.{index_form, index_forms}
+use Rattle.program_code.specs.ExpressionCode.{index_form, index_forms}
 use Rattle.node_code.specs.Forms.{OperationForm}
 use Rattle.node_code.specs.Texts.{form}
 use Rattle.resolved_program.proofs.Forms.{apply_is, element_is}

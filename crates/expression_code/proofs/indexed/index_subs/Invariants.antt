@@ -1,5 +1,5 @@
 use Rattle.std.proofs.Common.{◌≡◌, ◌++◌, drop}
-use Rattle.lowered_expressions.specs.ExpressionCode.{index_subs}
+use Rattle.program_code.specs.ExpressionCode.{index_subs}
 use Rattle.node_code.specs.Texts.{subs}
 use Rattle.resolved_program.specs.Resolved.{terms_of}
 use Rattle.expression_code.proofs.indexed.index_subs.Given as goal

@@ -1,5 +1,5 @@
 use Rattle.std.proofs.Common.{◌≡◌, IfOk, subst}
-use Rattle.lowered_expressions.specs.ExpressionCode.{parts_slots, slots_of}
+use Rattle.program_code.specs.ExpressionCode.{parts_slots, slots_of}
 use Rattle.resolved_program.proofs.Forms.{apply_is, element_is, section_is}
 use Rattle.expression_code.proofs.slots.+slots.Goals as goal
 

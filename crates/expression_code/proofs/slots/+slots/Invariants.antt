@@ -1,5 +1,5 @@
 use Rattle.std.proofs.Common.{◌≡◌, ◌+◌, drop}
-use Rattle.lowered_expressions.specs.ExpressionCode.{all_parts_slots, all_slots_of, subscripts_slots}
+use Rattle.program_code.specs.ExpressionCode.{all_parts_slots, all_slots_of, subscripts_slots}
 use Rattle.resolved_program.specs.Resolved.{subscripts_of, terms_of}
 use Rattle.expression_code.proofs.slots.+slots.Given as goal
 

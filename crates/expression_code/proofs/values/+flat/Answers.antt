@@ -1,6 +1,6 @@
 use Rattle.std.proofs.Common.{◌≡◌, ◌+◌, IfOk, sym, ap, ◌∙◌, subst}
 use Rattle.std.proofs.lemmas.List.{at_drop_all}
-use Rattle.lowered_expressions.specs.ExpressionCode.{all_slots_of, flat_of, flats_of, operated_flat}
+use Rattle.program_code.specs.ExpressionCode.{all_slots_of, flat_of, flats_of, operated_flat}
 use Rattle.node_code.specs.Flat.{Operated, Slot}
 use Rattle.node_code.specs.Texts.{flat}
 use Rattle.resolved_program.proofs.Forms.{apply_is, element_is}

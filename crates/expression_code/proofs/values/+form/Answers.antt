@@ -1,6 +1,6 @@
 use Rattle.std.proofs.Common.{◌≡◌, IfOk, ap, ◌∙◌, subst}
 use Rattle.std.proofs.lemmas.List.{at_drop_all}
-use Rattle.lowered_expressions.specs.ExpressionCode.{form_of, forms_of}
+use Rattle.program_code.specs.ExpressionCode.{form_of, forms_of}
 use Rattle.node_code.specs.Forms.{OperationForm}
 use Rattle.node_code.specs.Texts.{form}
 use Rattle.resolved_program.proofs.Forms.{apply_is, section_is}

@@ -1,5 +1,5 @@
 use Rattle.std.proofs.Common.{◌≡◌, ◌++◌, drop, map}
-use Rattle.lowered_expressions.specs.ExpressionCode.{forms_of}
+use Rattle.program_code.specs.ExpressionCode.{forms_of}
 use Rattle.node_code.specs.Texts.{form}
 use Rattle.resolved_program.specs.Resolved.{terms_of}
 use Rattle.expression_code.proofs.Lists.{form_list}

@@ -1,5 +1,5 @@
 use Rattle.std.proofs.Common.{◌≡◌, ◌++◌, drop}
-use Rattle.lowered_expressions.specs.ExpressionCode.{subs_of}
+use Rattle.program_code.specs.ExpressionCode.{subs_of}
 use Rattle.node_code.specs.Texts.{subs}
 use Rattle.resolved_program.specs.Resolved.{subscripts_of}
 use Rattle.expression_code.proofs.values.subs_of.Given as goal

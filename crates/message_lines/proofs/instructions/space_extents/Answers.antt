@@ -2,7 +2,7 @@ use Rattle.std.proofs.Common.{◌≡◌, ◌≤◌, [], length, arith, rules}
 use Rattle.std.proofs.lemmas.Bool.{leb-true}
 use Rattle.hpf_base.specs.declared.limits.TheConstants.{MAX_RANK}
 use Rattle.array_meaning.specs.Sections.{extents}
-use Rattle.node_code.specs.Forms.{selections_at}
+use Rattle.code_meaning.specs.Forms.{selections_at}
 use Rattle.node_code.specs.Texts.{subs}
 use Rattle.node_program.proofs.FitLaws.{extents-few}
 use Rattle.message_lines.proofs.instructions.space_extents.Goals as goal

@@ -2,7 +2,7 @@ use Rattle.std.proofs.Common.{max, sym, ap, ◌∙◌}
 use Rattle.std.specs.Prelude.{unwrap_or}
 use Rattle.resolved_program.specs.Resolved.{arms_of, block_of, loop_of, statement}
 use Rattle.resolved_program.proofs.Rows.{arm_parts, do_vec, if_vec}
-use Rattle.lowering.specs.StatementCode.{arms_copies, block_copies, statement_copies}
+use Rattle.program_code.specs.StatementCode.{arms_copies, block_copies, statement_copies}
 use Rattle.node_codegen.proofs.copies.+copies.Goals as goal
 
 pub arm_copies-returns : goal.arm_copies-returns

@@ -1,5 +1,5 @@
 use Rattle.std.proofs.Common.{◌≡◌, drop, max}
-use Rattle.lowering.specs.StatementCode.{arms_copies, block_copies}
+use Rattle.program_code.specs.StatementCode.{arms_copies, block_copies}
 use Rattle.resolved_program.specs.Resolved.{arms_of, block_of}
 use Rattle.node_codegen.proofs.copies.+copies.Given as goal
 

@@ -1,8 +1,8 @@
 use Rattle.std.proofs.Common.{◌≡◌, ◌++◌, drop, map}
 use Rattle.node_code.specs.Texts.{instructions}
 use Rattle.resolved_program.specs.Resolved.{control, element_assignment}
-use Rattle.lowered_expressions.specs.ExpressionCode.{subs_of}
-use Rattle.lowering.specs.StatementCode.{one_to_one_code, triplets}
+use Rattle.program_code.specs.ExpressionCode.{subs_of}
+use Rattle.program_code.specs.StatementCode.{one_to_one_code, triplets}
 use Rattle.node_codegen.proofs.forall.one_to_one_code.Given as goal
 
 -- the code so far, before that of the assignments that are left, is all

@@ -1,8 +1,8 @@
 use Rattle.std.proofs.Common.{◌≡◌, ◌++◌, drop, map}
 use Rattle.node_code.specs.Texts.{instructions}
 use Rattle.resolved_program.specs.Resolved.{control}
-use Rattle.lowered_expressions.specs.ExpressionCode.{subscripts_code}
-use Rattle.lowering.specs.StatementCode.{triplets}
+use Rattle.program_code.specs.ExpressionCode.{subscripts_code}
+use Rattle.program_code.specs.StatementCode.{triplets}
 use Rattle.node_codegen.proofs.forall_header.header_code.Given as goal
 
 -- the code so far, before that of the indices that are left, is all

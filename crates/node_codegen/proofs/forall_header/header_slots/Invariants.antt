@@ -1,7 +1,7 @@
 use Rattle.std.proofs.Common.{◌≡◌, ◌+◌, drop, map}
 use Rattle.resolved_program.specs.Resolved.{control}
-use Rattle.lowered_expressions.specs.ExpressionCode.{subscripts_slots}
-use Rattle.lowering.specs.StatementCode.{triplets}
+use Rattle.program_code.specs.ExpressionCode.{subscripts_slots}
+use Rattle.program_code.specs.StatementCode.{triplets}
 use Rattle.node_codegen.proofs.forall_header.header_slots.Given as goal
 
 -- the slots so far, and those of the indices that are left, are all

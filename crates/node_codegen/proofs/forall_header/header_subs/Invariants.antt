@@ -1,8 +1,8 @@
 use Rattle.std.proofs.Common.{◌≡◌, ◌++◌, drop, map}
 use Rattle.node_code.specs.Texts.{subs}
 use Rattle.resolved_program.specs.Resolved.{control}
-use Rattle.lowered_expressions.specs.ExpressionCode.{subs_of}
-use Rattle.lowering.specs.StatementCode.{triplets}
+use Rattle.program_code.specs.ExpressionCode.{subs_of}
+use Rattle.program_code.specs.StatementCode.{triplets}
 use Rattle.node_codegen.proofs.forall_header.header_subs.Given as goal
 
 -- what is made so far, before what the rest makes, is all

@@ -1,7 +1,7 @@
 use Rattle.std.proofs.Common.{◌≡◌, IfOk, map, subst}
 use Rattle.array_meaning.specs.Forall.{subscripts_in}
 use Rattle.node_code.specs.Texts.{flat}
-use Rattle.lowered_expressions.specs.ExpressionCode.{index_flat}
+use Rattle.program_code.specs.ExpressionCode.{index_flat}
 use Rattle.resolved_program.proofs.Forms.{apply_is, element_is}
 use Rattle.node_codegen.proofs.forall_subscripts.+subscripts.Goals as goal
 

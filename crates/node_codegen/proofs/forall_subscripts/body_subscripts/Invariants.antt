@@ -2,7 +2,7 @@ use Rattle.std.proofs.Common.{◌≡◌, ◌++◌, drop, map}
 use Rattle.array_meaning.specs.Forall.{body_subscripts}
 use Rattle.node_code.specs.Texts.{flat}
 use Rattle.resolved_program.specs.Resolved.{element_assignment}
-use Rattle.lowered_expressions.specs.ExpressionCode.{index_flat}
+use Rattle.program_code.specs.ExpressionCode.{index_flat}
 use Rattle.node_codegen.proofs.forall_subscripts.body_subscripts.Given as goal
 
 -- the subscripts so far, before those of the assignments that are left, are all

@@ -3,12 +3,12 @@ use Rattle.std.proofs.lemmas.List.{append-nil, length-map}
 use Rattle.std.proofs.Math.ListN.{drop_of_length-le}
 use Rattle.expression_rules.proofs.Lists.{drop_item}
 use Rattle.array_meaning.specs.Statements.{If}
-use Rattle.nest_items.specs.NestItems.{ToElement}
-use Rattle.nest_texts.specs.NestInstructions.{AndArm, NoArm, count_nest, loop_instructions}
+use Rattle.nest_syntax.specs.Assigning.{ToElement}
+use Rattle.program_code.specs.NestInstructions.{AndArm, NoArm, count_nest, loop_instructions}
 use Rattle.node_code.specs.Texts.{instruction, instructions}
 use Rattle.resolved_program.specs.Resolved.{arms_of, block_of, loop_of, statement, term, terms_of}
 use Rattle.resolved_program.proofs.Rows.{arm_parts, do_vec, if_vec}
-use Rattle.lowered_nests.specs.NestCode.{bounds_in, plain, plain_arms, plain_else}
+use Rattle.program_code.specs.NestCode.{bounds_in, plain, plain_arms, plain_else}
 use Rattle.node_codegen.specs.NestNames.{arms_by, body_by, texts_by}
 use Rattle.node_codegen.specs.NestTexts.{IsTextCode, arm_body, arm_test, statement_conditions}
 use Rattle.node_codegen.proofs.NestBody.{arm_is, bare_else, put_after, some_else, with_code}

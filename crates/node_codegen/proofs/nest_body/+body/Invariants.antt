@@ -1,5 +1,5 @@
 use Rattle.std.proofs.Common.{◌≡◌, [], ◌++◌, drop}
-use Rattle.lowered_nests.specs.NestCode.{PlainArms, plain, plain_arms}
+use Rattle.program_code.specs.NestCode.{PlainArms, plain, plain_arms}
 use Rattle.node_code.specs.Texts.{instructions}
 use Rattle.resolved_program.specs.Resolved.{arms_of, block_of}
 use Rattle.node_codegen.specs.NestNames.{arms_by, body_by}

@@ -1,5 +1,5 @@
 use Rattle.std.proofs.Common.{◌++◌, drop, drop-cons, add-one, map, sym, ap, ◌∙◌}
-use Rattle.lowered_nests.specs.NestCode.{indices_code}
+use Rattle.program_code.specs.NestCode.{indices_code}
 use Rattle.node_codegen.specs.NestNames.{with_index}
 use Rattle.node_codegen.proofs.NestBody.{put_after}
 use Rattle.node_codegen.proofs.nest_code.indices_code.Goals as goal

@@ -1,7 +1,7 @@
 use Rattle.std.proofs.Common.{sym, ap, ◌∙◌}
 use Rattle.array_meaning.specs.Statements.{Outermost}
 use Rattle.resolved_program.specs.Resolved.{block_of, mark}
-use Rattle.lowering.specs.StatementCode.{marked_slots}
+use Rattle.program_code.specs.StatementCode.{marked_slots}
 use Rattle.node_codegen.specs.NestNames.{nest_of}
 use Rattle.node_codegen.proofs.NestWhole.{slots_marked}
 use Rattle.node_codegen.proofs.nest_code.marked_slots.Goals as goal

@@ -2,7 +2,7 @@ use Rattle.std.proofs.Common.{◌≡◌, ℕ, suc, ◌+◌, ◌*◌, length, map
 use Rattle.std.proofs.lemmas.List.{length-map}
 use Rattle.resolved_program.specs.Resolved.{block_of, inner_loops, loop_of}
 use Rattle.node_code.specs.Texts.{instruction, instructions}
-use Rattle.lowered_nests.specs.NestCode.{bounds_code, indices_code, nest_code, trips_code}
+use Rattle.program_code.specs.NestCode.{bounds_code, indices_code, nest_code, trips_code}
 use Rattle.node_codegen.specs.NestNames.{AreNamesOf, nest_of, with_index}
 use Rattle.node_codegen.proofs.NestWhole.{indices_indices, joined_thrice, nest_is, trips_indices}
 use Rattle.node_codegen.proofs.nest_code.nest_code.Goals as goal

@@ -1,5 +1,5 @@
 use Rattle.std.proofs.Common.{◌≡◌, ℕ, ◌+◌, ◌<◌, List, ◌∷◌, drop, drop-cons, add-one, length, map, sym, ap, ◌∙◌}
-use Rattle.lowered_nests.specs.NestCode.{trips_code}
+use Rattle.program_code.specs.NestCode.{trips_code}
 use Rattle.node_code.specs.Instructions.{Trips}
 use Rattle.node_code.specs.Texts.{instruction}
 use Rattle.node_codegen.specs.NestNames.{with_index}

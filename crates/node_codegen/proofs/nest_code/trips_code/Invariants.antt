@@ -1,5 +1,5 @@
 use Rattle.std.proofs.Common.{◌≡◌, ◌++◌, drop, map}
-use Rattle.lowered_nests.specs.NestCode.{trips_code}
+use Rattle.program_code.specs.NestCode.{trips_code}
 use Rattle.node_code.specs.Texts.{instructions}
 use Rattle.node_codegen.specs.NestNames.{with_index}
 use Rattle.node_codegen.proofs.nest_code.trips_code.Given as goal

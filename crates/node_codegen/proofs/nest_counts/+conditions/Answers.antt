@@ -1,9 +1,9 @@
 use Rattle.std.proofs.Common.{◌≡◌, ◌+◌, ℕ, drop, arith, sym, ap, ◌∙◌}
 use Rattle.expression_rules.proofs.Lists.{drop_item}
-use Rattle.nest_texts.specs.NestInstructions.{count_nest, count_nest_arms}
+use Rattle.program_code.specs.NestInstructions.{count_nest, count_nest_arms}
 use Rattle.resolved_program.specs.Resolved.{arms_of, block_of, statement}
 use Rattle.resolved_program.proofs.Rows.{arm_parts, do_vec, if_vec}
-use Rattle.lowered_nests.specs.NestCode.{plain, plain_arms, plain_else}
+use Rattle.program_code.specs.NestCode.{plain, plain_arms, plain_else}
 use Rattle.node_codegen.specs.NestTexts.{statement_conditions}
 use Rattle.node_codegen.proofs.NestBody.{some_else}
 use Rattle.node_codegen.proofs.nest_counts.+conditions.Goals as goal

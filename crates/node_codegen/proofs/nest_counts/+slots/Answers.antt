@@ -1,10 +1,10 @@
 use Rattle.std.proofs.Common.{◌≡◌, ◌+◌, ℕ, drop, max, arith, refl, sym, ap, ◌∙◌}
 use Rattle.expression_rules.proofs.Lists.{drop_item}
-use Rattle.nest_texts.specs.NestInstructions as forms
-use Rattle.nest_texts.specs.NestInstructions.{slots_of_arms, slots_of_nest}
+use Rattle.program_code.specs.NestInstructions as forms
+use Rattle.program_code.specs.NestInstructions.{slots_of_arms, slots_of_nest}
 use Rattle.resolved_program.specs.Resolved.{arms_of, block_of, statement}
 use Rattle.resolved_program.proofs.Rows.{arm_parts, do_vec, if_vec}
-use Rattle.lowered_nests.specs.NestCode.{PlainBody, plain, plain_arms, plain_else, plain_in}
+use Rattle.program_code.specs.NestCode.{PlainBody, plain, plain_arms, plain_else, plain_in}
 use Rattle.node_codegen.proofs.nest_counts.+slots.Goals as goal
 
 more_of : (most here n rest : ℕ) → n ≡ max most here → max n rest ≡ max most (max here rest)

@@ -1,6 +1,6 @@
 use Rattle.std.proofs.Common.{◌≡◌, drop, max}
-use Rattle.lowered_nests.specs.NestCode.{PlainArms, plain, plain_arms}
-use Rattle.nest_texts.specs.NestInstructions.{slots_of_arms, slots_of_nest}
+use Rattle.program_code.specs.NestCode.{PlainArms, plain, plain_arms}
+use Rattle.program_code.specs.NestInstructions.{slots_of_arms, slots_of_nest}
 use Rattle.resolved_program.specs.Resolved.{arms_of, block_of}
 use Rattle.node_codegen.proofs.nest_counts.+slots.Given as goal
 

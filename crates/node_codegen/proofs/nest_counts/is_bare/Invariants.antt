@@ -1,5 +1,5 @@
 use Rattle.std.proofs.Common.{◌≡◌, drop}
-use Rattle.lowered_nests.specs.NestCode.{plain}
+use Rattle.program_code.specs.NestCode.{plain}
 use Rattle.resolved_program.specs.Resolved.{block_of}
 use Rattle.node_codegen.specs.NestTexts.{is_bare}
 use Rattle.node_codegen.proofs.nest_counts.is_bare.Given as goal

@@ -1,5 +1,5 @@
 use Rattle.std.proofs.Common.{◌≡◌}
-use Rattle.nest_texts.specs.NestInstructions.{conditions_makes}
+use Rattle.program_code.specs.NestInstructions.{conditions_makes}
 use Rattle.node_code.specs.Texts.{instructions}
 use Rattle.node_codegen.specs.NestNames.{over_by}
 use Rattle.node_codegen.proofs.nest_finals.conditions_makes.Given as goal

@@ -1,5 +1,5 @@
 use Rattle.std.proofs.Common.{◌≡◌, ℕ, ◌+◌, ◌<◌, List, ◌∷◌, drop, drop-cons, add-one, get_or, length, map, sym, ap, ◌∙◌}
-use Rattle.nest_texts.specs.NestInstructions.{final_instruction, finals_instructions}
+use Rattle.program_code.specs.NestInstructions.{final_instruction, finals_instructions}
 use Rattle.node_code.specs.Texts.{instruction}
 use Rattle.node_codegen.specs.declared.nest_finals.Final.{Final}
 use Rattle.node_codegen.specs.NestFinals.{final}

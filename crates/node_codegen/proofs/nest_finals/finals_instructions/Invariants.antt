@@ -1,5 +1,5 @@
 use Rattle.std.proofs.Common.{◌≡◌, ◌++◌, drop, map}
-use Rattle.nest_texts.specs.NestInstructions.{finals_instructions}
+use Rattle.program_code.specs.NestInstructions.{finals_instructions}
 use Rattle.node_code.specs.Texts.{instructions}
 use Rattle.node_codegen.specs.NestFinals.{final}
 use Rattle.node_codegen.proofs.nest_finals.finals_instructions.Given as goal

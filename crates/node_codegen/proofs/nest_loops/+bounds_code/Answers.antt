@@ -1,7 +1,7 @@
 use Rattle.std.proofs.Common.{◌≡◌, ◌-◌, ◌++◌, IfOk, sym, ap, ◌∙◌, subst}
 use Rattle.node_code.specs.Texts.{instructions}
 use Rattle.resolved_program.specs.Resolved.{block_of, inner_loops, loop_of}
-use Rattle.lowered_nests.specs.NestCode.{bounds_code}
+use Rattle.program_code.specs.NestCode.{bounds_code}
 use Rattle.node_codegen.proofs.InnerLoops.{loops_more}
 use Rattle.node_codegen.proofs.nest_loops.+bounds_code.Goals as goal
 

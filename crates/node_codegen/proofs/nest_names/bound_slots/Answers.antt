@@ -1,7 +1,7 @@
 use Rattle.std.proofs.Common.{◌≡◌, ℕ, ◌+◌, ◌<◌, List, [], ◌∷◌, ◌++◌, append_assoc, drop, drop-cons, add-one, length, map, reverse, sym, ap, ◌∙◌}
 use Rattle.std.proofs.lemmas.List.{reverse-append}
 use Rattle.node_code.specs.Forms.{Sub, SubAlong}
-use Rattle.lowered_nests.specs.NestCode.{along}
+use Rattle.program_code.specs.NestCode.{along}
 use Rattle.node_codegen.specs.NestNames.{with_index}
 use Rattle.node_codegen.proofs.nest_names.bound_slots.Goals as goal
 

@@ -1,6 +1,6 @@
 use Rattle.std.proofs.Common.{◌≡◌, ◌++◌, drop, map, reverse}
 use Rattle.node_code.specs.Forms.{SubAlong}
-use Rattle.lowered_nests.specs.NestCode.{along}
+use Rattle.program_code.specs.NestCode.{along}
 use Rattle.node_codegen.specs.NestNames.{with_index}
 use Rattle.node_codegen.proofs.nest_names.bound_slots.Given as goal
 

@@ -1,7 +1,7 @@
 use Rattle.std.proofs.Common.{◌≡◌, ◌+◌, ◌++◌, length, map, reverse, refl, ap, ◌∙◌}
 use Rattle.resolved_program.specs.Resolved.{block_of, loop_of}
-use Rattle.nest_texts.specs.NestInstructions.{count_nest}
-use Rattle.lowered_nests.specs.NestCode.{along, plain, stored}
+use Rattle.program_code.specs.NestInstructions.{count_nest}
+use Rattle.program_code.specs.NestCode.{along, plain, stored}
 use Rattle.node_codegen.specs.NestNames.{nest_of, with_index}
 use Rattle.node_codegen.proofs.NestWhole.{along_indices}
 use Rattle.node_codegen.proofs.nest_names.nest_names.Goals as goal

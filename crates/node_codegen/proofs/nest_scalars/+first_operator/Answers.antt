@@ -8,7 +8,7 @@ use Rattle.array_meaning.specs.Touches.{assigned_by, assigned_in, assigned_in_ar
 use Rattle.resolved_program.specs.declared.statements.Arm.{out-Arm}
 use Rattle.resolved_program.specs.Resolved.{arms_of, block_of, statement}
 use Rattle.resolved_program.proofs.Rows.{arm_parts, do_vec, if_vec}
-use Rattle.lowered_nests.specs.NestCode.{rights_in, rights_in_arms, rights_of}
+use Rattle.program_code.specs.NestCode.{rights_in, rights_in_arms, rights_of}
 use Rattle.node_codegen.specs.NestScalars.{first_operator}
 use Rattle.node_codegen.proofs.NestOperators.{first_here, first_later, first_of_both, in_here, in_later, some_of_both}
 use Rattle.node_codegen.proofs.nest_scalars.+first_operator.Goals as goal

@@ -1,7 +1,7 @@
 use Rattle.std.proofs.Common.{◌≡◌, drop}
 use Rattle.array_meaning.specs.Iterations.{is_in}
 use Rattle.array_meaning.specs.Touches.{assigned_in, assigned_in_arms}
-use Rattle.lowered_nests.specs.NestCode.{rights_in_arms, rights_of}
+use Rattle.program_code.specs.NestCode.{rights_in_arms, rights_of}
 use Rattle.resolved_program.specs.Resolved.{arms_of, block_of}
 use Rattle.node_codegen.specs.NestScalars.{first_operator}
 use Rattle.node_codegen.proofs.nest_scalars.+first_operator.Given as goal

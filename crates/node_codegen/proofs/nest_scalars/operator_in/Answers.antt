@@ -2,7 +2,7 @@ use Rattle.std.proofs.Common.{ap, ◌∙◌}
 use Rattle.std.specs.Prelude.{unwrap_or}
 use Rattle.op_tables.specs.declared.join.Join.TheVariants.{Sum}
 use Rattle.resolved_program.specs.Resolved.{block_of}
-use Rattle.lowered_nests.specs.NestCode.{rights_of}
+use Rattle.program_code.specs.NestCode.{rights_of}
 use Rattle.node_codegen.specs.NestScalars.{first_operator}
 use Rattle.node_codegen.proofs.NestOperators.{operator_first}
 use Rattle.node_codegen.proofs.nest_scalars.operator_in.Goals as goal

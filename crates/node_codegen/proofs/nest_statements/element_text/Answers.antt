@@ -1,9 +1,9 @@
 use Rattle.std.proofs.Common.{◌≡◌, [], ◌∷◌, IfOk, ap, ◌∙◌, subst}
-use Rattle.lowered_expressions.specs.ExpressionCode.{index_subs}
-use Rattle.lowered_expressions.specs.NestTerms.{all_indexed}
+use Rattle.program_code.specs.ExpressionCode.{index_subs}
+use Rattle.nest_syntax.specs.NestTerms.{all_indexed}
 use Rattle.statement_trail.specs.NestParts.{index_in}
-use Rattle.nest_machine.specs.Asked.{guard_asked}
-use Rattle.nest_texts.specs.NestInstructions.{whens_of}
+use Rattle.nest_syntax.specs.Asked.{guard_asked}
+use Rattle.program_code.specs.NestInstructions.{whens_of}
 use Rattle.node_code.specs.declared.nest.NestRole.TheVariants.{Assigns}
 use Rattle.node_code.specs.Instructions.{ParNest}
 use Rattle.node_code.specs.NestStatements.{ElementLeft}

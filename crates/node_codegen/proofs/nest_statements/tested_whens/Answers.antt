@@ -1,6 +1,6 @@
 use Rattle.std.proofs.Common.{◌≡◌, ℕ, ◌+◌, ◌<◌, List, [], ◌∷◌, ◌++◌, drop, drop-cons, add-one, get_or, length, refl, sym, ap, ◌∙◌}
-use Rattle.nest_machine.specs.Asked.{Asked, guard_asked, none_asked}
-use Rattle.nest_texts.specs.NestInstructions.{whens_of}
+use Rattle.nest_syntax.specs.Asked.{Asked, guard_asked, none_asked}
+use Rattle.program_code.specs.NestInstructions.{whens_of}
 use Rattle.node_code.specs.Texts.{when}
 use Rattle.node_codegen.proofs.NestBody.{push_after}
 use Rattle.node_codegen.proofs.nest_statements.tested_whens.Goals as goal

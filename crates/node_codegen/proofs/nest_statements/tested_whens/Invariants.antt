@@ -1,6 +1,6 @@
 use Rattle.std.proofs.Common.{◌≡◌, ◌++◌, drop, map}
-use Rattle.nest_machine.specs.Asked.{none_asked, tested_asked}
-use Rattle.nest_texts.specs.NestInstructions.{whens_of}
+use Rattle.nest_syntax.specs.Asked.{none_asked, tested_asked}
+use Rattle.program_code.specs.NestInstructions.{whens_of}
 use Rattle.node_code.specs.Texts.{when}
 use Rattle.node_codegen.proofs.nest_statements.tested_whens.Given as goal
 

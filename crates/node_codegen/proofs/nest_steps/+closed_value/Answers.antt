@@ -2,7 +2,7 @@ use Rattle.std.proofs.Common.{◌≡◌, ◌+◌, ℤ, List, [], ◌∷◌, ◌+
 use Rattle.std.specs.Prelude.{option_map}
 use Rattle.std.proofs.lemmas.Int.{to_z-of_z}
 use Rattle.expression_rules.proofs.Lists.{drop_item}
-use Rattle.nest_items.specs.NestForm.{closed_value, closed_values, with_closed}
+use Rattle.nest_syntax.specs.ClosedTerms.{closed_value, closed_values, with_closed}
 use Rattle.resolved_program.specs.Resolved.{terms_of}
 use Rattle.resolved_program.proofs.Forms.{apply_is}
 use Rattle.node_codegen.proofs.nest_steps.+closed_value.Goals as goal

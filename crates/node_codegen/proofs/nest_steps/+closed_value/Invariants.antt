@@ -1,6 +1,6 @@
 use Rattle.std.proofs.Common.{◌≡◌, ◌++◌, drop}
 use Rattle.std.specs.Prelude.{option_map}
-use Rattle.nest_items.specs.NestForm.{closed_values}
+use Rattle.nest_syntax.specs.ClosedTerms.{closed_values}
 use Rattle.resolved_program.specs.Resolved.{terms_of}
 use Rattle.node_codegen.proofs.nest_steps.+closed_value.Given as goal
 

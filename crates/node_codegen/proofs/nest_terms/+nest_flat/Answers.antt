@@ -1,7 +1,7 @@
 use Rattle.std.proofs.Common.{◌≡◌, IfOk, ap, ◌∙◌, subst}
 use Rattle.std.proofs.lemmas.List.{at_drop_all}
-use Rattle.lowered_expressions.specs.ExpressionCode.{index_flat, index_flats}
-use Rattle.lowered_expressions.specs.NestTerms.{all_indexed, indexed}
+use Rattle.program_code.specs.ExpressionCode.{index_flat, index_flats}
+use Rattle.nest_syntax.specs.NestTerms.{all_indexed, indexed}
 use Rattle.statement_trail.specs.NestParts.{index_in}
 use Rattle.node_code.specs.Flat.{Operated}
 use Rattle.node_code.specs.Texts.{flat}

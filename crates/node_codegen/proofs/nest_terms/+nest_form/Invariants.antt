@@ -1,6 +1,6 @@
 use Rattle.std.proofs.Common.{◌≡◌, ◌++◌, drop, map}
-use Rattle.lowered_expressions.specs.ExpressionCode.{index_forms}
-use Rattle.lowered_expressions.specs.NestTerms.{all_indexed}
+use Rattle.program_code.specs.ExpressionCode.{index_forms}
+use Rattle.nest_syntax.specs.NestTerms.{all_indexed}
 use Rattle.statement_trail.specs.NestParts.{index_in}
 use Rattle.node_code.specs.Texts.{form}
 use Rattle.resolved_program.specs.Resolved.{terms_of}

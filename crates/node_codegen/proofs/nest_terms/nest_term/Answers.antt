@@ -1,6 +1,6 @@
 use Rattle.std.proofs.Common.{◌++◌, ap, ◌∙◌}
-use Rattle.lowered_expressions.specs.ExpressionCode.{index_form}
-use Rattle.lowered_expressions.specs.NestTerms.{indexed}
+use Rattle.program_code.specs.ExpressionCode.{index_form}
+use Rattle.nest_syntax.specs.NestTerms.{indexed}
 use Rattle.statement_trail.specs.NestParts.{each_once, index_in, of_these, scalars_in}
 use Rattle.resolved_program.specs.Resolved.{term}
 use Rattle.node_codegen.proofs.nest_terms.nest_term.Goals as goal

@@ -1,7 +1,7 @@
 use Rattle.std.proofs.Common.{◌≡◌, ◌++◌, drop, map}
 use Rattle.node_code.specs.Texts.{instructions}
 use Rattle.resolved_program.specs.Resolved.{item}
-use Rattle.lowering.specs.StatementCode.{items_code}
+use Rattle.program_code.specs.StatementCode.{items_code}
 use Rattle.node_codegen.proofs.print.items_code.Given as goal
 
 -- the code so far, before that of the items that are left, is all

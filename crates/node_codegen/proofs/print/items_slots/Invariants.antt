@@ -1,6 +1,6 @@
 use Rattle.std.proofs.Common.{◌≡◌, ◌+◌, drop, map}
 use Rattle.resolved_program.specs.Resolved.{item}
-use Rattle.lowering.specs.StatementCode.{items_slots}
+use Rattle.program_code.specs.StatementCode.{items_slots}
 use Rattle.node_codegen.proofs.print.items_slots.Given as goal
 
 -- the slots so far, and those of the items that are left, are all

@@ -1,7 +1,7 @@
 use Rattle.std.proofs.Common.{◌≡◌, ◌++◌, drop, map}
 use Rattle.node_code.specs.Texts.{print_item}
 use Rattle.resolved_program.specs.Resolved.{item}
-use Rattle.lowering.specs.StatementCode.{print_items}
+use Rattle.program_code.specs.StatementCode.{print_items}
 use Rattle.node_codegen.proofs.print.print_items.Given as goal
 
 -- what is made so far, before what the rest makes, is all

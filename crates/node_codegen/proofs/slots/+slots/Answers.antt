@@ -2,7 +2,7 @@ use Rattle.std.proofs.Common.{◌≡◌, ◌+◌, ℕ, max, arith, sym, ap, ◌�
 use Rattle.std.specs.Prelude.{unwrap_or}
 use Rattle.resolved_program.specs.Resolved.{arms_of, block_of, loop_of, statement}
 use Rattle.resolved_program.proofs.Rows.{arm_parts, do_vec, if_vec}
-use Rattle.lowering.specs.StatementCode.{arms_slots, block_slots, statement_slots}
+use Rattle.program_code.specs.StatementCode.{arms_slots, block_slots, statement_slots}
 use Rattle.node_codegen.proofs.slots.+slots.Goals as goal
 
 more_of : (test body n rest : ℕ) → n ≡ max test body → max n rest ≡ max test (max body rest)

@@ -1,6 +1,6 @@
 use Rattle.std.proofs.Common.{◌≡◌, drop, max}
 use Rattle.resolved_program.specs.Resolved.{arms_of, block_of}
-use Rattle.lowering.specs.StatementCode.{arms_slots, block_slots}
+use Rattle.program_code.specs.StatementCode.{arms_slots, block_slots}
 use Rattle.node_codegen.proofs.slots.+slots.Given as goal
 
 -- the most so far, or of what is left, is the most of all

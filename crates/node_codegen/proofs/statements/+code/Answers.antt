@@ -7,7 +7,7 @@ use Rattle.node_code.specs.Texts.{instruction, instructions}
 use Rattle.resolved_program.specs.declared.statements.Arm.{out-Arm}
 use Rattle.resolved_program.specs.Resolved.{arms_of, block_of, term}
 use Rattle.resolved_program.proofs.Rows.{arm_parts}
-use Rattle.lowering.specs.StatementCode.{arms_code, block_code, loop_code}
+use Rattle.program_code.specs.StatementCode.{arms_code, block_code, loop_code}
 use Rattle.node_codegen.specs.Arms.{AreArms, arms_before, codes, jumping_to}
 use Rattle.node_codegen.specs.Moves.{moves_by}
 use Rattle.node_codegen.specs.NestCodes.{or_loops}

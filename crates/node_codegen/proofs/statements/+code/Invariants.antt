@@ -2,7 +2,7 @@ use Rattle.std.proofs.Common.{◌≡◌, ◌++◌, ℕ, List, drop}
 use Rattle.node_code.specs.Instructions.{Instruction}
 use Rattle.node_code.specs.Texts.{instructions}
 use Rattle.resolved_program.specs.Resolved.{arms_of, block_of}
-use Rattle.lowering.specs.StatementCode.{arms_code, block_code}
+use Rattle.program_code.specs.StatementCode.{arms_code, block_code}
 use Rattle.node_codegen.specs.Arms.{arms_before, codes}
 use Rattle.node_codegen.specs.Moves.{moves_by}
 use Rattle.node_codegen.proofs.statements.+code.Given as goal

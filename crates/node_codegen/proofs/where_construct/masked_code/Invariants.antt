@@ -1,8 +1,8 @@
 use Rattle.std.proofs.Common.{◌≡◌, ◌++◌, drop, map}
 use Rattle.node_code.specs.Texts.{instructions, when}
 use Rattle.resolved_program.specs.Resolved.{section_assignment, term}
-use Rattle.lowered_expressions.specs.ExpressionCode.{first_subs, form_of, or_no_sub}
-use Rattle.lowering.specs.StatementCode.{masked_code}
+use Rattle.program_code.specs.ExpressionCode.{first_subs, form_of, or_no_sub}
+use Rattle.program_code.specs.StatementCode.{masked_code}
 use Rattle.node_codegen.proofs.where_construct.masked_code.Given as goal
 
 -- the code so far, before that of the assignments that are left, is all

@@ -1,5 +1,6 @@
 use Rattle.std.proofs.Common.{map, refl, arith}
-use Rattle.node_code.specs.Instructions.{Print, items_of}
+use Rattle.node_code.specs.Instructions.{Print}
+use Rattle.code_meaning.specs.Instructions.{items_of}
 use Rattle.node_code.specs.Texts.{print_item}
 use Rattle.node_machine.proofs.PrintLaws.{item-there, items-over, next-step}
 use Rattle.node_machine.proofs.prints.print_step.Goals as goal

@@ -1,5 +1,5 @@
 use Rattle.std.proofs.Common.{drop, map, sym, ◌∙◌, ap}
-use Rattle.node_code.specs.Instructions.{remappings}
+use Rattle.code_meaning.specs.Instructions.{remappings}
 use Rattle.node_code.specs.Texts.{new_mapping}
 use Rattle.node_program.specs.Fits.{shapes_of}
 use Rattle.node_program.specs.Programs.{mappings_of}

@@ -1,6 +1,6 @@
 use Rattle.std.proofs.Common.{◌≡◌, drop, map}
 use Rattle.machine_steps.specs.Machine.{remapped}
-use Rattle.node_code.specs.Instructions.{remappings}
+use Rattle.code_meaning.specs.Instructions.{remappings}
 use Rattle.node_code.specs.Texts.{new_mapping}
 use Rattle.node_program.specs.Programs.{mappings_of}
 use Rattle.node_program.proofs.remaps.owners_after.Given as goal

@@ -1,6 +1,6 @@
 use Rattle.std.proofs.Common.{[], refl, sym, ◌∙◌, ap, arith}
 use Rattle.machine_steps.specs.Machine.{remapped}
-use Rattle.node_code.specs.Instructions.{remapping_by}
+use Rattle.code_meaning.specs.Instructions.{remapping_by}
 use Rattle.node_code.specs.Texts.{new_mapping}
 use Rattle.node_program.proofs.FitLaws.{mapping-there, row-shaped}
 use Rattle.node_program.proofs.remaps.set_mapping.Goals as goal

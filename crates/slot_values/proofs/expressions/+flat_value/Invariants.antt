@@ -1,5 +1,5 @@
 use Rattle.std.proofs.Common.{◌≡◌, drop, []}
-use Rattle.node_code.specs.Flat.{flat_values}
+use Rattle.code_meaning.specs.Flat.{flat_values}
 use Rattle.node_code.specs.Texts.{flats_of}
 use Rattle.term_values.proofs.InOrder.{prefixed}
 use Rattle.slot_values.proofs.expressions.+flat_value.Given as goal

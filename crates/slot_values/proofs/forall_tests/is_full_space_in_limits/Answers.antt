@@ -3,7 +3,7 @@ use Rattle.hpf_base.specs.declared.limits.TheConstants.{MAX_TUPLES}
 use Rattle.hpf_base.specs.ElementOrder.{product}
 use Rattle.array_meaning.specs.Forall.{index_extents, is_forall_in_limits}
 use Rattle.array_meaning.specs.Terms.{list_of}
-use Rattle.node_code.specs.ForallLimits.{sequences_of, slots_state}
+use Rattle.code_meaning.specs.ForallLimits.{sequences_of, slots_state}
 use Rattle.resolved_program.specs.Resolved.{terms_of}
 use Rattle.slot_values.proofs.ForallTests.{listed_terms, same_extents}
 use Rattle.slot_values.proofs.forall_tests.is_full_space_in_limits.Goals as goal

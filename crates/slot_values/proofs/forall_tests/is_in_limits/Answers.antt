@@ -2,8 +2,8 @@ use Rattle.std.proofs.Common.{◌∙◌, ◌<◌, map, ap, subst}
 use Rattle.hpf_base.specs.declared.limits.TheConstants.{MAX_TUPLES}
 use Rattle.hpf_base.specs.ElementOrder.{product}
 use Rattle.array_meaning.specs.Sections.{extents}
-use Rattle.node_code.specs.ForallLimits.{slots_state, term_of}
-use Rattle.node_code.specs.Forms.{selections_in}
+use Rattle.code_meaning.specs.ForallLimits.{slots_state, term_of}
+use Rattle.code_meaning.specs.Forms.{selections_in}
 use Rattle.node_code.specs.Texts.{flat, subs}
 use Rattle.slot_values.proofs.ForallTests.{too_many}
 use Rattle.slot_values.proofs.forall_tests.is_in_limits.Goals as goal

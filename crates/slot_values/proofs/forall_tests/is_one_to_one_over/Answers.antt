@@ -1,7 +1,7 @@
 use Rattle.std.proofs.Common.{◌≡◌, ◌∙◌, IfOk, ap, subst}
 use Rattle.array_meaning.specs.Forall.{is_one_to_one}
 use Rattle.array_meaning.specs.Terms.{list_of}
-use Rattle.node_code.specs.ForallLimits.{slots_state}
+use Rattle.code_meaning.specs.ForallLimits.{slots_state}
 use Rattle.resolved_program.specs.Resolved.{terms_of}
 use Rattle.slot_values.proofs.ForallTests.{listed_terms}
 use Rattle.slot_values.proofs.forall_tests.is_one_to_one_over.Goals as goal

@@ -1,5 +1,5 @@
 use Rattle.std.proofs.Common.{◌≡◌, ◌++◌, drop, map}
-use Rattle.node_code.specs.NestChecks.{without_elements}
+use Rattle.code_meaning.specs.NestChecks.{without_elements}
 use Rattle.slot_values.proofs.nest_checks.without_elements.Given as goal
 
 -- the arrays so far, before those that are left

@@ -1,5 +1,5 @@
 use Rattle.std.proofs.Common.{◌≡◌, suc, ◌-◌, IfOk, subst, arith}
-use Rattle.node_code.specs.FaultNumbers.{location_by}
+use Rattle.code_meaning.specs.FaultNumbers.{location_by}
 use Rattle.term_values.specs.Stops.{location}
 use Rattle.slot_values.proofs.numbered_faults.place_past_one.Goals as goal
 

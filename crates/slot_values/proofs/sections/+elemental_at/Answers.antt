@@ -2,7 +2,7 @@ use Rattle.std.proofs.Common.{◌∙◌, ◌+◌, ap, sym, drop}
 use Rattle.std.proofs.lemmas.List.{drop_all}
 use Rattle.expression_rules.proofs.Lists.{drop_item}
 use Rattle.array_meaning.specs.Elementals.{Operand, Operation}
-use Rattle.node_code.specs.Forms.{elementals_at}
+use Rattle.code_meaning.specs.Forms.{elementals_at}
 use Rattle.node_code.specs.Texts.{forms_of}
 use Rattle.term_values.specs.Views.{elemental}
 use Rattle.resolved_program.specs.Made.{before}

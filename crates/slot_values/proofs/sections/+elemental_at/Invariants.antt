@@ -1,5 +1,5 @@
 use Rattle.std.proofs.Common.{◌≡◌, drop}
-use Rattle.node_code.specs.Forms.{elementals_at}
+use Rattle.code_meaning.specs.Forms.{elementals_at}
 use Rattle.node_code.specs.Texts.{forms_of}
 use Rattle.array_meaning.specs.Elementals.{Operand}
 use Rattle.resolved_program.specs.Made.{before}

@@ -1,5 +1,5 @@
 use Rattle.std.proofs.Common.{◌≡◌, ◌++◌, drop}
-use Rattle.node_code.specs.Forms.{selections_at}
+use Rattle.code_meaning.specs.Forms.{selections_at}
 use Rattle.node_code.specs.Texts.{subs}
 use Rattle.slot_values.proofs.sections.selections_at.Given as goal
 

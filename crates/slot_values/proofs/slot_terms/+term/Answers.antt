@@ -2,7 +2,7 @@ use Rattle.std.proofs.Common.{◌∙◌, ◌+◌, ap, sym, drop}
 use Rattle.std.proofs.lemmas.List.{drop_all}
 use Rattle.expression_rules.proofs.Lists.{drop_item}
 use Rattle.array_meaning.specs.Terms.{More}
-use Rattle.node_code.specs.ForallLimits.{terms_of}
+use Rattle.code_meaning.specs.ForallLimits.{terms_of}
 use Rattle.node_code.specs.Texts.{flats_of}
 use Rattle.resolved_program.specs.Made.{before}
 use Rattle.resolved_program.specs.Resolved.{term}

@@ -1,6 +1,6 @@
 use Rattle.std.proofs.Common.{◌≡◌, drop}
 use Rattle.array_meaning.specs.Terms.{More}
-use Rattle.node_code.specs.ForallLimits.{terms_of}
+use Rattle.code_meaning.specs.ForallLimits.{terms_of}
 use Rattle.node_code.specs.Texts.{flats_of}
 use Rattle.resolved_program.specs.Made.{before}
 use Rattle.resolved_program.specs.Resolved.{term}

@@ -1,5 +1,5 @@
 use Rattle.std.proofs.Common.{◌≡◌, ◌++◌, drop}
-use Rattle.node_code.specs.ForallLimits.{sequences_of}
+use Rattle.code_meaning.specs.ForallLimits.{sequences_of}
 use Rattle.slot_values.proofs.slot_terms.sequences_of.Given as goal
 
 -- the triplets so far, before those that are left

@@ -1,7 +1,7 @@
 use Rattle.std.proofs.Common.{◌∙◌, IfErr, ap, subst}
 use Rattle.array_meaning.specs.Elementals.{sections}
 use Rattle.array_meaning.specs.Sections.{extents, space_size}
-use Rattle.node_code.specs.Forms.{selections_in}
+use Rattle.code_meaning.specs.Forms.{selections_in}
 use Rattle.node_code.specs.Texts.{subs}
 use Rattle.term_values.specs.Stops.{IsStop}
 use Rattle.term_values.specs.Views.{elemental}

@@ -1,6 +1,6 @@
 use Rattle.std.proofs.Common.{subst}
 use Rattle.std.proofs.lemmas.Result.{on_ok_weaker}
-use Rattle.node_code.specs.Parallel.{evaluation_size}
+use Rattle.code_meaning.specs.Parallel.{evaluation_size}
 use Rattle.node_code.specs.Texts.{evaluation}
 use Rattle.slot_values.specs.Controls.{control_of}
 use Rattle.slot_values.specs.Tested.{IsTest}

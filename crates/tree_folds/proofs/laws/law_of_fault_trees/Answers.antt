@@ -1,6 +1,6 @@
 use Rattle.machine_steps.specs.Machine.{is_before}
 use Rattle.machine_steps.specs.Node.{kept_values, values_kept}
-use Rattle.node_code.specs.FaultValues.{fault_values}
+use Rattle.code_meaning.specs.FaultValues.{fault_values}
 use Rattle.reduction_tree.specs.FaultJoins.{faults_join}
 use Rattle.reduction_tree.specs.FaultOrder.{fault_order}
 use Rattle.tree_folds.proofs.Faults.{faults-back, keys-joined}

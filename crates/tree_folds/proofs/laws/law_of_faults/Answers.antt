@@ -1,6 +1,6 @@
 use Rattle.machine_steps.specs.Machine.{is_before}
 use Rattle.machine_steps.specs.Node.{kept_values, values_kept}
-use Rattle.node_code.specs.FaultValues.{fault_values}
+use Rattle.code_meaning.specs.FaultValues.{fault_values}
 use Rattle.std.proofs.Common.{None}
 use Rattle.tree_folds.proofs.Faults.{faults-back, first-kept, keys-joined}
 use Rattle.tree_folds.proofs.Picked.{values-joined}

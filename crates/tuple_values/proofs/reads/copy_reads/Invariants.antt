@@ -1,5 +1,5 @@
 use Rattle.std.proofs.Common.{◌≡◌, ◌++◌, drop}
-use Rattle.node_code.specs.NestStatements.{row_spots}
+use Rattle.code_meaning.specs.NestStatements.{row_spots}
 use Rattle.tuple_values.specs.Spots.{reads_of}
 use Rattle.tuple_values.proofs.reads.copy_reads.Given as goal
 

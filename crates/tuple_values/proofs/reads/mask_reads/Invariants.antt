@@ -1,5 +1,5 @@
 use Rattle.std.proofs.Common.{◌≡◌, ◌++◌, drop, map}
-use Rattle.node_code.specs.NestStatements.{when_spots}
+use Rattle.code_meaning.specs.NestStatements.{when_spots}
 use Rattle.node_code.specs.Texts.{when}
 use Rattle.tuple_values.specs.Spots.{reads_of}
 use Rattle.tuple_values.proofs.reads.mask_reads.Given as goal

@@ -1,6 +1,6 @@
 use Rattle.std.proofs.Common.{◌≡◌, ◌++◌, drop}
 use Rattle.array_meaning.specs.Sections.{subscripts_at}
-use Rattle.node_code.specs.Forms.{selections_at}
+use Rattle.code_meaning.specs.Forms.{selections_at}
 use Rattle.node_code.specs.Texts.{subs}
 use Rattle.tuple_values.specs.Here.{subscripts_here}
 use Rattle.tuple_values.proofs.sections.subscripts.Given as goal

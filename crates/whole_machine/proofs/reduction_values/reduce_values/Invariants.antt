@@ -1,6 +1,6 @@
 use Rattle.std.proofs.Common.{◌≡◌, None}
 use Rattle.machine_steps.specs.Machine.{folded, keep}
-use Rattle.node_code.specs.Parallel.{fold_of}
+use Rattle.code_meaning.specs.Parallel.{fold_of}
 use Rattle.slot_values.specs.KeptFaults.{kepts}
 use Rattle.tuple_values.specs.Views.{statement as statement_of}
 use Rattle.whole_machine.specs.Parts.{outcome_at}

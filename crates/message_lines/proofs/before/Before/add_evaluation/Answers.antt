@@ -1,6 +1,6 @@
 use Rattle.std.proofs.Common.{◌≡◌, ℕ, List, ◌++◌, OnOk, refl, ◌∙◌, subst}
 use Rattle.expression_rules.specs.declared.dims.Dim.{Dim}
-use Rattle.node_code.specs.Parallel.{copy_spot, evaluation_tuples}
+use Rattle.code_meaning.specs.Parallel.{copy_spot, evaluation_tuples}
 use Rattle.node_code.specs.Texts.{evaluation, subs}
 use Rattle.part_steps.specs.declared.who.Who.TheVariants.{Left}
 use Rattle.part_steps.proofs.Instructions.{par-is}

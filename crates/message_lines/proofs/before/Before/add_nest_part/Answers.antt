@@ -4,8 +4,8 @@ use Rattle.array_meaning.specs.Sections.{extents}
 use Rattle.machine_steps.specs.CopyLayout.{copy_extents, layout_of}
 use Rattle.message_text.specs.InstructionLines.{copy_rows}
 use Rattle.message_text.specs.Parts.{with_copied}
-use Rattle.node_code.specs.Forms.{selections_in}
-use Rattle.node_code.specs.NestStatements.{nest_spot, nest_tuples}
+use Rattle.code_meaning.specs.Forms.{selections_in}
+use Rattle.code_meaning.specs.NestStatements.{nest_spot, nest_tuples}
 use Rattle.node_code.specs.Texts.{nest_statement, subs}
 use Rattle.owner_tables.specs.Views.{OwnersView}
 use Rattle.part_steps.specs.declared.who.Who.TheVariants.{Left}

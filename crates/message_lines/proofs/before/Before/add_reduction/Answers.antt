@@ -1,6 +1,6 @@
 use Rattle.std.proofs.Common.{◌≡◌, ℕ, List, ◌++◌, OnOk, refl, ◌∙◌, subst}
 use Rattle.expression_rules.specs.declared.dims.Dim.{Dim}
-use Rattle.node_code.specs.Parallel.{reduction_tuples}
+use Rattle.code_meaning.specs.Parallel.{reduction_tuples}
 use Rattle.node_code.specs.Texts.{evaluation, subs}
 use Rattle.part_steps.specs.declared.who.Who.TheVariants.{First}
 use Rattle.part_steps.proofs.Instructions.{reduce-is}

@@ -2,7 +2,7 @@ use Rattle.std.proofs.Common.{◌≡◌, ℕ, ◌==◌, List, ◌++◌, OnOk, le
 use Rattle.std.specs.List.{list_all}
 use Rattle.machine_steps.specs.Layout.{sizes}
 use Rattle.machine_steps.specs.Machine.{remapped}
-use Rattle.node_code.specs.Instructions.{remappings}
+use Rattle.code_meaning.specs.Instructions.{remappings}
 use Rattle.node_code.specs.Texts.{new_mapping}
 use Rattle.node_program.specs.Fits.{fits_row, shapes_of}
 use Rattle.node_program.specs.Programs.{mappings_of}

@@ -1,7 +1,7 @@
 use Rattle.std.proofs.Common.{◌≡◌, ℕ, List, [], ◌∷◌, ◌++◌, IfOk, ◌∙◌, subst}
 use Rattle.array_meaning.specs.Sections.{extents}
 use Rattle.machine_steps.specs.CopyLayout.{copy_extents, layout_of}
-use Rattle.node_code.specs.Forms.{selections_in}
+use Rattle.code_meaning.specs.Forms.{selections_in}
 use Rattle.node_code.specs.Texts.{subs}
 use Rattle.message_lines.specs.Before.{names_layouts}
 use Rattle.message_lines.proofs.before.Before.rows.Goals as goal

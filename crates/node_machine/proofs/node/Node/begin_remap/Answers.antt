@@ -1,8 +1,8 @@
 use Rattle.std.proofs.Common.{◌≡◌, OnOk, subst}
 use Rattle.machine_steps.specs.Machine.{instr_at}
 use Rattle.machine_steps.specs.Node.{begun_by}
-use Rattle.node_code.specs.FaultValues.{fault_values}
-use Rattle.node_code.specs.ProgramText.{text_meaning}
+use Rattle.code_meaning.specs.FaultValues.{fault_values}
+use Rattle.code_meaning.specs.ProgramText.{text_meaning}
 use Rattle.node_machine.proofs.node.Node.begin_remap.Goals as goal
 
 pub returns-clause-ok : goal.returns-clause-ok

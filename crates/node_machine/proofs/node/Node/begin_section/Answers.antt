@@ -1,6 +1,6 @@
 use Rattle.std.proofs.Common.{sym, ◌∙◌, ap}
 use Rattle.machine_steps.specs.Node.{begun_by, print_begun, settled}
-use Rattle.node_code.specs.FaultValues.{fault_values}
+use Rattle.code_meaning.specs.FaultValues.{fault_values}
 use Rattle.node_program.specs.PrintedLines.{line_of}
 use Rattle.node_machine.proofs.node.Node.begin_section.Goals as goal
 

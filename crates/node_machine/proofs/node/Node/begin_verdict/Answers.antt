@@ -1,7 +1,7 @@
 use Rattle.std.proofs.Common.{◌≡◌, OnOk, subst, rules}
 use Rattle.machine_steps.specs.Instr.{Verdict}
 use Rattle.machine_steps.specs.Machine.{instr_at}
-use Rattle.node_code.specs.ProgramText.{text_meaning}
+use Rattle.code_meaning.specs.ProgramText.{text_meaning}
 use Rattle.node_machine.proofs.TreeSteps.{verdict-begun}
 use Rattle.node_machine.proofs.node.Node.begin_verdict.Goals as goal
 

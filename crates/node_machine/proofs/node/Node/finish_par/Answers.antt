@@ -1,7 +1,7 @@
 use Rattle.std.proofs.Common.{sym, ◌∙◌, ap}
 use Rattle.machine_steps.specs.Machine.{on}
 use Rattle.machine_steps.specs.Node.{done_by, ready}
-use Rattle.node_code.specs.FaultValues.{fault_values}
+use Rattle.code_meaning.specs.FaultValues.{fault_values}
 use Rattle.node_machine.proofs.node.Node.finish_par.Goals as goal
 
 pub returns-clause-ok : goal.returns-clause-ok

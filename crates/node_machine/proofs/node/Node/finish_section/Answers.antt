@@ -1,6 +1,6 @@
 use Rattle.std.proofs.Common.{suc, sym, ◌∙◌, ap}
 use Rattle.machine_steps.specs.Node.{done_by, print_done, ready}
-use Rattle.node_code.specs.FaultValues.{fault_values}
+use Rattle.code_meaning.specs.FaultValues.{fault_values}
 use Rattle.node_machine.proofs.PrintLaws.{same-at-root}
 use Rattle.node_machine.proofs.node.Node.finish_section.Goals as goal
 

@@ -1,6 +1,6 @@
 use Rattle.std.proofs.Common.{◌≡◌, [], length, arith, rules}
 use Rattle.array_meaning.specs.Sections.{extents}
-use Rattle.node_code.specs.Forms.{selections_at}
+use Rattle.code_meaning.specs.Forms.{selections_at}
 use Rattle.node_code.specs.Texts.{subs}
 use Rattle.node_program.proofs.FitLaws.{extents-few}
 use Rattle.node_machine.proofs.node.Node.made_extents.Goals as goal

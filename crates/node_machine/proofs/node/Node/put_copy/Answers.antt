@@ -3,7 +3,7 @@ use Rattle.std.proofs.lemmas.List.{length-set}
 use Rattle.std.specs.Arc.{arc_value}
 use Rattle.machine_steps.specs.Instr.{MakeCopy}
 use Rattle.machine_steps.specs.Machine.{instr_at}
-use Rattle.node_code.specs.ProgramText.{text_meaning}
+use Rattle.code_meaning.specs.ProgramText.{text_meaning}
 use Rattle.owner_tables.specs.Views.{OwnersView}
 use Rattle.node_program.specs.Fits.{FitsRows}
 use Rattle.node_program.specs.Programs.{code_of}

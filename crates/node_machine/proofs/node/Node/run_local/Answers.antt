@@ -1,7 +1,7 @@
 use Rattle.std.proofs.Common.{◌≡◌, sym, ◌∙◌, ap, subst, rules}
 use Rattle.std.specs.Arc.{arc_value}
 use Rattle.machine_steps.specs.Machine.{instr_at}
-use Rattle.node_code.specs.ProgramText.{text_meaning}
+use Rattle.code_meaning.specs.ProgramText.{text_meaning}
 use Rattle.node_code.specs.Texts.{instruction}
 use Rattle.slot_values.specs.Controls.{control_of}
 use Rattle.slot_values.specs.LocalInstructions.{local_control}

@@ -1,8 +1,8 @@
 use Rattle.std.proofs.Common.{[], ◌∷◌, ◌∙◌}
 use Rattle.machine_steps.specs.Space.{space_count}
 use Rattle.array_meaning.specs.Sections.{extents}
-use Rattle.node_code.specs.Forms.{selections_in}
-use Rattle.node_code.specs.Instructions.{section_spot}
+use Rattle.code_meaning.specs.Forms.{selections_in}
+use Rattle.code_meaning.specs.Instructions.{section_spot}
 use Rattle.node_code.specs.Texts.{subs}
 use Rattle.node_machine.proofs.node.Node.section.Goals as goal
 

@@ -1,6 +1,6 @@
 use Rattle.std.proofs.Common.{◌≡◌, ◌∙◌, Some, option_map, rules}
 use Rattle.array_meaning.specs.Sections.{extents}
-use Rattle.node_code.specs.Forms.{selections_in}
+use Rattle.code_meaning.specs.Forms.{selections_in}
 use Rattle.node_code.specs.Texts.{assignment, subs}
 use Rattle.tuple_values.specs.Statements.{ByIndices}
 use Rattle.tuple_values.specs.Views.{statement}

@@ -1,6 +1,6 @@
 use Rattle.std.proofs.Common.{◌≡◌, ℕ, List, All, sym, subst}
 use Rattle.std.specs.Arc.{arc_value}
-use Rattle.node_code.specs.ProgramText.{Text, texts}
+use Rattle.code_meaning.specs.ProgramText.{Text, texts}
 use Rattle.node_code.specs.Texts.{instructions}
 use Rattle.node_program.specs.Programs.{mappings_of}
 use Rattle.whole_machine.proofs.Places.{all-for}

@@ -1,7 +1,7 @@
 use Rattle.std.proofs.Common.{suc, ◌++◌, map, sym, ◌∙◌, ap, arith}
 use Rattle.std.specs.List.{slice_get}
 use Rattle.machine_steps.specs.Machine.{print_step}
-use Rattle.node_code.specs.Instructions.{items_of}
+use Rattle.code_meaning.specs.Instructions.{items_of}
 use Rattle.node_code.specs.Texts.{print_item}
 use Rattle.node_program.specs.PrintedLines.{line_of}
 use Rattle.whole_machine.proofs.PrintLaws.{item-there, items-over}

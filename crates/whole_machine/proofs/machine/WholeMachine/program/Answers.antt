@@ -1,7 +1,7 @@
 use Rattle.std.proofs.Common.{◌≡◌, List, All, subst, rules}
 use Rattle.std.specs.Arc.{arc_value}
 use Rattle.machine_steps.specs.Layout.{Layout}
-use Rattle.node_code.specs.ProgramText.{Text}
+use Rattle.code_meaning.specs.ProgramText.{Text}
 use Rattle.node_program.specs.Fits.{FitsRows}
 use Rattle.node_program.specs.Programs.{mappings_of}
 use Rattle.node_program.specs.declared.program.NodeProgram.{NodeProgram}

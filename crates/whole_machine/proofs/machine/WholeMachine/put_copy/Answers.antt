@@ -5,7 +5,7 @@ use Rattle.machine_steps.specs.CopyLayout.{layout_of}
 use Rattle.machine_steps.specs.Instr.{MakeCopy}
 use Rattle.machine_steps.specs.Layout.{size_of}
 use Rattle.machine_steps.specs.Machine.{instr_at, on}
-use Rattle.node_code.specs.ProgramText.{text_meaning}
+use Rattle.code_meaning.specs.ProgramText.{text_meaning}
 use Rattle.owner_tables.specs.Views.{OwnersView}
 use Rattle.node_program.specs.Fits.{FitsRows}
 use Rattle.node_program.specs.Programs.{code_of, mappings_of}

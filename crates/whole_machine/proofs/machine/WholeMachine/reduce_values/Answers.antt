@@ -1,6 +1,6 @@
 use Rattle.std.proofs.Common.{None, ◌∙◌, ap, subst}
 use Rattle.machine_steps.specs.Machine.{earlier, folded, keep}
-use Rattle.node_code.specs.Parallel.{fold_of, reduction_tuples}
+use Rattle.code_meaning.specs.Parallel.{fold_of, reduction_tuples}
 use Rattle.node_code.specs.Texts.{evaluation}
 use Rattle.tuple_values.specs.Statements.{IsStatement, no_left, tuple_count}
 use Rattle.tuple_values.specs.Views.{statement as statement_of}

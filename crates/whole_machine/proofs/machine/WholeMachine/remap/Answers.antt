@@ -1,7 +1,7 @@
 use Rattle.std.proofs.Common.{◌≡◌, ◌==◌, map, sym, ◌∙◌, ap, subst}
 use Rattle.std.specs.Arc.{arc_value}
 use Rattle.std.specs.List.{list_all}
-use Rattle.node_code.specs.Instructions.{remappings}
+use Rattle.code_meaning.specs.Instructions.{remappings}
 use Rattle.node_code.specs.Texts.{new_mapping}
 use Rattle.node_program.specs.Fits.{shapes_of}
 use Rattle.node_program.specs.Programs.{mappings_of}

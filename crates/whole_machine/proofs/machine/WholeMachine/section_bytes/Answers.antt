@@ -5,8 +5,8 @@ use Rattle.array_meaning.specs.Sections.{extents}
 use Rattle.machine_steps.specs.Machine.{element_values}
 use Rattle.machine_steps.specs.Message.{first_read}
 use Rattle.machine_steps.specs.Space.{space_count}
-use Rattle.node_code.specs.Forms.{selections_in}
-use Rattle.node_code.specs.Instructions.{section_spot}
+use Rattle.code_meaning.specs.Forms.{selections_in}
+use Rattle.code_meaning.specs.Instructions.{section_spot}
 use Rattle.node_code.specs.Texts.{subs}
 use Rattle.tuple_values.specs.Views.{statement as statement_of}
 use Rattle.whole_machine.proofs.machine.WholeMachine.section_bytes.Goals as goal

@@ -3,7 +3,7 @@ use Rattle.std.specs.Arc.{arc_value}
 use Rattle.std.specs.List.{list_all}
 use Rattle.machine_steps.specs.Layout.{Layout}
 use Rattle.machine_steps.specs.Machine.{instr_at, step_by}
-use Rattle.node_code.specs.ProgramText.{text_meaning}
+use Rattle.code_meaning.specs.ProgramText.{text_meaning}
 use Rattle.node_code.specs.Texts.{instruction}
 use Rattle.node_program.specs.Fits.{fits_rows, shapes_of}
 use Rattle.node_program.specs.Programs.{code_of, mappings_of}

@@ -1,0 +1,11 @@
+pub mod Flat
+pub mod Forms
+pub mod Parallel
+pub mod ForallLimits
+pub mod NestStatements
+pub mod NestChecks
+pub mod Instructions
+pub mod ValidCode
+pub mod FaultNumbers
+pub mod FaultValues
+pub mod ProgramText

@@ -1,0 +1,6 @@
+pub mod ExpressionCode
+pub mod NestTexts
+pub mod NestInstructions
+pub mod Places
+pub mod NestCode
+pub mod StatementCode
