@@ -10,7 +10,8 @@ use Rattle.array_meaning.specs.Terms.{Term, Number, Scalar, Element, Apply, NoTe
 use Rattle.array_meaning.specs.declared.sections.Sequence.{Sequence}
 use Rattle.array_meaning.specs.declared.sections.Selection.TheVariants.{Along}
 use Rattle.array_meaning.specs.Elementals.{Selected}
-use Rattle.statement_trail.specs.NestParts.{EnteredNest, Asked, NestPart, ScalarPart, ElementPart, ConditionPart}
+use Rattle.statement_trail.specs.NestParts.{EnteredNest, NestPart, ScalarPart, ElementPart, ConditionPart}
+use Rattle.nest_syntax.specs.Asked.{Asked}
 use Rattle.statement_trail.specs.Trail.{TrailEntry, Reduced, OfNest, trail_of}
 use Rattle.computed_programs.proofs.Shorthands.{A, B, I, J, scalar, vector, n, v, add, div, sub, gt, call, element, variable, element_at, axis, at, set, block, loop, nest}
 

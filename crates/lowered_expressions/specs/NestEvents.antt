@@ -2,7 +2,8 @@
 use Rattle.std.specs.Prelude.{◌≡◌, ℕ, ◌+◌, ◌<◌, List, [], ◌∷◌, ◌++◌, length, map, pos, true, Option, Some, None}
 use Rattle.array_meaning.specs.Terms.{Term}
 use Rattle.array_meaning.specs.Iterations.{is_in}
-use Rattle.statement_trail.specs.NestParts.{EnteredNest, Asked, NestPart, ScalarPart, ElementPart, ConditionPart, index_in, copied_in, scalar_copy, condition_copy}
+use Rattle.statement_trail.specs.NestParts.{EnteredNest, NestPart, ScalarPart, ElementPart, ConditionPart, index_in, copied_in, scalar_copy, condition_copy}
+use Rattle.nest_syntax.specs.Asked.{Asked}
 use Rattle.node_code.specs.declared.nest.NestRole.TheVariants.{Assigns, Tests, SetsElse}
 use Rattle.node_code.specs.Flat.{Int}
 use Rattle.node_code.specs.Forms.{FlatForm}

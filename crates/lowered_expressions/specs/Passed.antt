@@ -8,7 +8,8 @@ use Rattle.array_meaning.specs.Faults.{Fault}
 use Rattle.array_meaning.specs.Sections.{extents}
 use Rattle.array_meaning.specs.Terms.{Term, Terms}
 use Rattle.statement_trail.specs.Trail.{Event, Trail, TrailEntry, SectionAssigned, WhereMask, Reduced, ForallMask, ElementsAssigned, OfNest, Redistributed}
-use Rattle.statement_trail.specs.NestParts.{EnteredNest, Asked, NestPart}
+use Rattle.statement_trail.specs.NestParts.{EnteredNest, NestPart}
+use Rattle.nest_syntax.specs.Asked.{Asked}
 use Rattle.array_meaning.specs.declared.sections.Sequence.{Sequence}
 use Rattle.array_meaning.specs.declared.sections.Selection.TheVariants.{Along}
 use Rattle.machine_steps.specs.Instr.{Status, Running}

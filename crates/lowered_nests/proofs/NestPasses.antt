@@ -12,7 +12,8 @@ use Rattle.array_meaning.specs.State.{State, scalar, set_scalar}
 use Rattle.array_meaning.specs.Terms.{Term, Number, Scalar, Index, Element, Section, Apply, Reduce, Terms, NoTerm, More}
 use Rattle.array_meaning.specs.Statements.{Loop, Nest, Block, Done, Then, Statement, AssignScalar, AssignElement, AssignSection, If, Do, Unmarked, Outermost, Where, Forall, Print, Stop, Exit, Cycle, Continue, Redistribute, Arms, NoArm, Arm}
 use Rattle.array_meaning.specs.Iterations.{is_in, values_of, nest_axes, nest_indices, turn_value, in_turns}
-use Rattle.statement_trail.specs.NestParts.{EnteredNest, Asked, NestPart, ScalarPart, ElementPart, ConditionPart, index_in, of_these, scalars_in, has_statement, conditions_in, conditions_by, conditions_in_arms, branch_asked, none_asked, arm_asked, scalar_copy, condition_copy, in_trip, indices_after, indices_by}
+use Rattle.statement_trail.specs.NestParts.{EnteredNest, NestPart, ScalarPart, ElementPart, ConditionPart, index_in, of_these, scalars_in, has_statement, conditions_in, conditions_by, conditions_in_arms, scalar_copy, condition_copy, in_trip, indices_after, indices_by}
+use Rattle.nest_syntax.specs.Asked.{Asked, guard_asked, none_asked, tested_asked}
 use Rattle.statement_trail.specs.Trail.{Trail, OfNest, reached, block_parts, statement_parts, arms_parts}
 use Rattle.node_code.specs.declared.nest.NestRole.{NestRole}
 use Rattle.node_code.specs.declared.nest.NestRole.TheVariants.{Assigns, Tests}
@@ -34,8 +35,6 @@ use Rattle.nest_syntax.specs.NestKinds.{has_copies}
 use Rattle.nest_items.specs.Naming.{IsNaming, AreNaming}
 use Rattle.nest_syntax.specs.Assigning.{ToScalar, ToElement}
 use Rattle.nest_items.specs.Standing.{has_no_loop, have_no_loop, is_no_loop}
-use Rattle.nest_syntax.specs.Asked as machine
-use Rattle.nest_syntax.specs.Asked.{guard_asked, tested_asked}
 use Rattle.nest_machine.specs.Body.{body_slots, arms_slots}
 use Rattle.nest_machine.specs.Counting.{Counting, trips_at}
 use Rattle.nest_machine.specs.Slots.{SameSlots, headed, first_trip, trip_slots, left_slots, slots_after, slots_after_arms}
@@ -148,17 +147,9 @@ module _ (table : ArrayTable) (moves : ℕ → List NewMapping) (code : List Ins
   when-row : (k : ℕ) → from_row + k ≡ n + condition_copy N k
   when-row k = omega arith
 
-  whens-guard : (guard : Option ℕ) → whens_of from_row (guard_asked guard) ≡ whens_for n N (branch_asked guard)
-  whens-guard None = refl
-  whens-guard (Some k) = λ i. record { copy = when-row k i; value = true } ∷ []
-
-  whens-none : (ks : List ℕ) → whens_of from_row (machine.none_asked ks) ≡ whens_for n N (none_asked ks)
-  whens-none [] = refl
-  whens-none (k ∷ ks) = λ i. record { copy = when-row k i; value = false } ∷ whens-none ks i
-
-  whens-tested : (guard : Option ℕ) (earlier : List ℕ) → whens_of from_row (tested_asked guard earlier) ≡ whens_for n N (arm_asked guard earlier)
-  whens-tested None earlier = whens-none earlier
-  whens-tested (Some k) earlier = λ i. record { copy = when-row k i; value = true } ∷ whens-none earlier i
+  whens-are : (ws : List Asked) → whens_of from_row ws ≡ whens_for n N ws
+  whens-are [] = refl
+  whens-are (w ∷ ws) = λ i. record { copy = when-row w.number i; value = w.value } ∷ whens-are ws i
 
   -- guards and earlier conditions are conditions of the nest
   abbrev IsGuard : Option ℕ → Type 0
@@ -169,7 +160,7 @@ module _ (table : ArrayTable) (moves : ℕ → List NewMapping) (code : List Ins
   AreEarlier [] = Unit {0}
   AreEarlier (k ∷ ks) = (k < count) × AreEarlier ks
 
-  guard-stored : (guard : Option ℕ) → IsGuard guard → AreStored n N (branch_asked guard)
+  guard-stored : (guard : Option ℕ) → IsGuard guard → AreStored n N (guard_asked guard)
   guard-stored None h = tt
   guard-stored (Some k) h = (h, tt)
 
@@ -177,7 +168,7 @@ module _ (table : ArrayTable) (moves : ℕ → List NewMapping) (code : List Ins
   none-stored [] h = tt
   none-stored (k ∷ ks) h = (h.0, none-stored ks h.1)
 
-  arm-stored : (guard : Option ℕ) (earlier : List ℕ) → IsGuard guard → AreEarlier earlier → AreStored n N (arm_asked guard earlier)
+  arm-stored : (guard : Option ℕ) (earlier : List ℕ) → IsGuard guard → AreEarlier earlier → AreStored n N (tested_asked guard earlier)
   arm-stored None earlier h g = none-stored earlier g
   arm-stored (Some k) earlier h g = (h, none-stored earlier g)
 
@@ -439,15 +430,15 @@ module _ (table : ArrayTable) (moves : ℕ → List NewMapping) (code : List Ins
 
   test-passes : (c : Option (NestCondition w)) (l : ℕ) (o : Option Term) → IsTest c l o → (guard : Option ℕ) (earlier : List ℕ) (k pc : ℕ) (s : List ℤ) (st : State)
       → slice_get code pc ≡ Some (test_instruction line over (text_of w) (test_of w) from_row (tested_asked guard earlier) c (from_row + k)) → pc < last → Held st s → IsGuard guard → AreEarlier earlier
-      → k < count → Go (reached l st (OfNest N (arm_asked guard earlier) (ConditionPart k o))) pc s (pc + 1) s
+      → k < count → Go (reached l st (OfNest N (tested_asked guard earlier) (ConditionPart k o))) pc s (pc + 1) s
   test-passes None l None is guard earlier k pc s st has lt held guards are_earlier less =
-      part-passes (setting_else over (whens_of from_row (tested_asked guard earlier)) (from_row + k)) pc s st l (arm_asked guard earlier) (ConditionPart k None) has lt held refl (sym is) refl
-      (whens-tested guard earlier) (arm-stored guard earlier guards are_earlier) (less, refl, ap CopyLeft (when-row k), refl, refl, refl)
+      part-passes (setting_else over (whens_of from_row (tested_asked guard earlier)) (from_row + k)) pc s st l (tested_asked guard earlier) (ConditionPart k None) has lt held refl (sym is) refl
+      (whens-are (tested_asked guard earlier)) (arm-stored guard earlier guards are_earlier) (less, refl, ap CopyLeft (when-row k), refl, refl, refl)
   test-passes None l (Some t) is guard earlier k pc s st has lt held guards are_earlier less = absurd is
   test-passes (Some c) l None is guard earlier k pc s st has lt held guards are_earlier less = absurd is
   test-passes (Some c) l (Some t) is guard earlier k pc s st has lt held guards are_earlier less =
-      part-passes (testing over (whens_of from_row (tested_asked guard earlier)) (test_of w c) (from_row + k)) pc s st l (arm_asked guard earlier) (ConditionPart k (Some t)) has lt held refl is.0 refl
-      (whens-tested guard earlier) (arm-stored guard earlier guards are_earlier) (
+      part-passes (testing over (whens_of from_row (tested_asked guard earlier)) (test_of w c) (from_row + k)) pc s st l (tested_asked guard earlier) (ConditionPart k (Some t)) has lt held refl is.0 refl
+      (whens-are (tested_asked guard earlier)) (arm-stored guard earlier guards are_earlier) (
         less,
         refl,
         ap CopyLeft (when-row k),
@@ -477,9 +468,9 @@ module _ (table : ArrayTable) (moves : ℕ → List NewMapping) (code : List Ins
   -- a condition is made anew, and then it is stored
   head-passes : (c : Option (NestCondition w)) (l : ℕ) (o : Option Term) → IsTest c l o → (guard : Option ℕ) (earlier : List ℕ) (k pc : ℕ) (s : List ℤ) (st : State) (rest : List Instruction)
       → HasAt code pc (MakeCopies (from_row + k) over (Int (pos 0)) ∷ test_instruction line over (text_of w) (test_of w) from_row (tested_asked guard earlier) c (from_row + k) ∷ rest) → pc + 2 ≤ last
-      → Held st s → IsGuard guard → AreEarlier earlier → k < count → Go (reached l st (OfNest N (arm_asked guard earlier) (ConditionPart k o))) pc s (pc + 2) s
+      → Held st s → IsGuard guard → AreEarlier earlier → k < count → Go (reached l st (OfNest N (tested_asked guard earlier) (ConditionPart k o))) pc s (pc + 2) s
   head-passes c l o is guard earlier k pc s st rest has under held guards are_earlier less =
-      let T = reached l st (OfNest N (arm_asked guard earlier) (ConditionPart k o)) in
+      let T = reached l st (OfNest N (tested_asked guard earlier) (ConditionPart k o)) in
       let e : pc + 1 + 1 ≡ pc + 2 = omega arith in
       passes-on table moves code last [] T pc (pc + 1) (pc + 2) s s s
       (passes-one table moves code last [] pc (pc + 1) s s (MakeCopies (from_row + k) over (Int (pos 0))) has.0 (omega (arith, under)) (λ r. refl) tt)
@@ -497,14 +488,14 @@ module _ (table : ArrayTable) (moves : ℕ → List NewMapping) (code : List Ins
   text-passes : (a : NestAction w) (guard : Option ℕ) (pc : ℕ) (s : List ℤ) (st : State) (l : ℕ) (part : NestPart)
       → HasAt code pc (text_instructions line over (text_of w) (test_of w) from_row guard a) → pc + length (text_instructions line over (text_of w) (test_of w) from_row guard a) ≤ last
       → Held st s → IsGuard guard → (text_of w a).line ≡ l → IsPart n N (assigning over (whens_of from_row (guard_asked guard)) (text_of w a)) part
-      → Go (reached l st (OfNest N (branch_asked guard) part)) pc s (pc + length (text_instructions line over (text_of w) (test_of w) from_row guard a)) s
+      → Go (reached l st (OfNest N (guard_asked guard) part)) pc s (pc + length (text_instructions line over (text_of w) (test_of w) from_row guard a)) s
   text-passes a guard pc s st l part has under held guards at_line is =
-      let T = reached l st (OfNest N (branch_asked guard) part) in
+      let T = reached l st (OfNest N (guard_asked guard) part) in
       let m = mark_instructions line over (text_of w) (test_of w) from_row guard (text_of w a).mark in
       let e : pc + 1 + length m ≡ pc + suc (length m) = omega arith in
       passes-last table moves code last T pc (pc + 1) (pc + suc (length m)) s s s
-      (part-passes (assigning over (whens_of from_row (guard_asked guard)) (text_of w a)) pc s st l (branch_asked guard) part has.0 (omega (arith, under)) held refl at_line refl
-      (whens-guard guard) (guard-stored guard guards) is)
+      (part-passes (assigning over (whens_of from_row (guard_asked guard)) (text_of w a)) pc s st l (guard_asked guard) part has.0 (omega (arith, under)) held refl at_line refl
+      (whens-are (guard_asked guard)) (guard-stored guard guards) is)
       (passes-at table moves code last [] (pc + 1) (pc + 1 + length m) (pc + suc (length m)) s s e (mark-passes guard (text_of w a).mark (pc + 1) s has.1 (omega (arith, under))))
 
   -- what stands after some code
@@ -527,7 +518,7 @@ module _ (table : ArrayTable) (moves : ℕ → List NewMapping) (code : List Ins
       → k + count_nest_arms (else_arm w x) ≤ count → HasAt code pc (ArmsIs (else_arm w x) guard earlier k b pc) → pc + length (ArmsIs (else_arm w x) guard earlier k b pc) ≤ last
       → (k < count → k + 1 + count_nest x ≤ count → HasAt code (pc + 2) (Is x (Some k) (k + 1) b (pc + 2)) → pc + 2 + length (Is x (Some k) (k + 1) b (pc + 2)) ≤ last
       → Done' (T (k + 1)) (pc + 2) s (pc + 2 + length (Is x (Some k) (k + 1) b (pc + 2))) (After x b s) st)
-      → Done' (if t then reached 0 st (OfNest N (arm_asked guard earlier) (ConditionPart k None)) ++ T (k + 1) else []) pc s (pc + length (ArmsIs (else_arm w x) guard earlier k b pc))
+      → Done' (if t then reached 0 st (OfNest N (tested_asked guard earlier) (ConditionPart k None)) ++ T (k + 1) else []) pc s (pc + length (ArmsIs (else_arm w x) guard earlier k b pc))
       (AfterArms (else_arm w x) b s) st
   else-passes x true is T guard earlier k b pc s st held guards are_earlier enough has under next = by_shape x is enough has under next
     where
@@ -536,13 +527,13 @@ module _ (table : ArrayTable) (moves : ℕ → List NewMapping) (code : List Ins
           → pc + length (ArmsIs (forms.AndArm None x forms.NoArm) guard earlier k b pc) ≤ last
           → (k < count → k + 1 + count_nest x ≤ count → HasAt code (pc + 2) (Is x (Some k) (k + 1) b (pc + 2)) → pc + 2 + length (Is x (Some k) (k + 1) b (pc + 2)) ≤ last
           → Done' (T (k + 1)) (pc + 2) s (pc + 2 + length (Is x (Some k) (k + 1) b (pc + 2))) (After x b s) st)
-          → Done' (reached 0 st (OfNest N (arm_asked guard earlier) (ConditionPart k None)) ++ T (k + 1)) pc s (pc + length (ArmsIs (forms.AndArm None x forms.NoArm) guard earlier k b pc)) (After x b s) st
+          → Done' (reached 0 st (OfNest N (tested_asked guard earlier) (ConditionPart k None)) ++ T (k + 1)) pc s (pc + length (ArmsIs (forms.AndArm None x forms.NoArm) guard earlier k b pc)) (After x b s) st
       branch x enough has under next =
           let c = Is x (Some k) (k + 1) b (pc + 2) in
           let l : length (c ++ []) ≡ length c + 0 = length-append c [] in
           let e : pc + 1 + 1 ≡ pc + 2 = omega arith in
           let here = subst (λ z. HasAt code z (c ++ [])) e has.1.1 in
-          let H = reached 0 st (OfNest N (arm_asked guard earlier) (ConditionPart k None)) in
+          let H = reached 0 st (OfNest N (tested_asked guard earlier) (ConditionPart k None)) in
           let d = next (omega (arith, enough)) (omega (arith, enough)) (has-front code (pc + 2) c [] here) (omega (arith, under, l)) in (
             passes-on table moves code last H (T (k + 1)) pc (pc + 2) (pc + suc (suc (length (c ++ [])))) s s (After x b s)
                 (head-passes None 0 None refl guard earlier k pc s st (c ++ []) has (omega (arith, under)) held guards are_earlier (omega (arith, enough)))
@@ -554,7 +545,7 @@ module _ (table : ArrayTable) (moves : ℕ → List NewMapping) (code : List Ins
           → pc + length (ArmsIs (else_arm w x) guard earlier k b pc) ≤ last
           → (k < count → k + 1 + count_nest x ≤ count → HasAt code (pc + 2) (Is x (Some k) (k + 1) b (pc + 2)) → pc + 2 + length (Is x (Some k) (k + 1) b (pc + 2)) ≤ last
           → Done' (T (k + 1)) (pc + 2) s (pc + 2 + length (Is x (Some k) (k + 1) b (pc + 2))) (After x b s) st)
-          → Done' (reached 0 st (OfNest N (arm_asked guard earlier) (ConditionPart k None)) ++ T (k + 1)) pc s (pc + length (ArmsIs (else_arm w x) guard earlier k b pc)) (AfterArms (else_arm w x) b s) st
+          → Done' (reached 0 st (OfNest N (tested_asked guard earlier) (ConditionPart k None)) ++ T (k + 1)) pc s (pc + length (ArmsIs (else_arm w x) guard earlier k b pc)) (AfterArms (else_arm w x) b s) st
       by_shape forms.NoText is enough has under next = absurd is
       by_shape (forms.AndText a r) is enough has under next = branch (forms.AndText a r) enough has under next
       by_shape (forms.AndIf arms r) is enough has under next = branch (forms.AndIf arms r) enough has under next
@@ -602,7 +593,7 @@ module _ (table : ArrayTable) (moves : ℕ → List NewMapping) (code : List Ins
         let c = text_instructions line over (text_of w) (test_of w) from_row guard a in
         let r = Is rest guard k b (pc + length c) in
         let len : length (c ++ r) ≡ length c + length r = length-append c r in
-        let T = reached l st (OfNest N (branch_asked guard) (ScalarPart x t)) in
+        let T = reached l st (OfNest N (guard_asked guard) (ScalarPart x t)) in
         let whens = whens_of from_row (guard_asked guard) in
         let zero_more : k ≡ 0 + k = omega arith in
         subst (λ j. Done' (T ++ U j st) pc s (pc + length (c ++ r)) (After rest b s) (later st)) zero_more
@@ -615,7 +606,7 @@ module _ (table : ArrayTable) (moves : ℕ → List NewMapping) (code : List Ins
         let c = text_instructions line over (text_of w) (test_of w) from_row guard a in
         let r = Is rest guard k b (pc + length c) in
         let len : length (c ++ r) ≡ length c + length r = length-append c r in
-        let T = reached l st (OfNest N (branch_asked guard) (ElementPart y ts t)) in
+        let T = reached l st (OfNest N (guard_asked guard) (ElementPart y ts t)) in
         let whens = whens_of from_row (guard_asked guard) in
         let zero_more : k ≡ 0 + k = omega arith in
         subst (λ j. Done' (T ++ U j st) pc s (pc + length (c ++ r)) (After rest b s) (later st)) zero_more
@@ -637,7 +628,7 @@ module _ (table : ArrayTable) (moves : ℕ → List NewMapping) (code : List Ins
         let len : length (c ++ r) ≡ length c + length r = length-append c r in
         let both = both-true (have_no_loop arms) (has_no_loop other) ok.2 in
         let else_parts = λ (earlier : List ℕ) (k : ℕ). if has_statement other
-        then reached 0 st (OfNest N (arm_asked guard earlier) (ConditionPart k None)) ++ block_parts N (Some k) (k + 1) other st else [] in
+        then reached 0 st (OfNest N (tested_asked guard earlier) (ConditionPart k None)) ++ block_parts N (Some k) (k + 1) other st else [] in
         let T = arms_parts N guard [] k arms else_parts st in
         let counted : count_nest_arms as' ≡ conditions_by (If arms other) =
         count-arms round arms ok.0 (else_arm w x) (if has_statement other then 1 + conditions_in other else 0)
@@ -711,7 +702,7 @@ module _ (table : ArrayTable) (moves : ℕ → List NewMapping) (code : List Ins
         let e : pc + 1 + 1 ≡ pc + 2 = omega arith in
         let here = subst (λ z. HasAt code z (c ++ r)) e has.1.1 in
         let cond : NestCondition w = record { condition = record { line = l; text = t; round = round; copies = w.copied_in t }; named = ok.0 } in
-        let H = reached l st (OfNest N (arm_asked guard earlier) (ConditionPart k (Some t))) in
+        let H = reached l st (OfNest N (tested_asked guard earlier) (ConditionPart k (Some t))) in
         let B = block_parts N (Some k) (k + 1) y st in
         let less : k < count = omega (arith, enough) in
         let d = block-passes round y ok.1 (Some k) (k + 1) b (pc + 2) s st le held less (omega (arith, few)) (omega (arith, enough)) (has-front code (pc + 2) c r here) (omega (arith, under, len)) in

@@ -7,7 +7,8 @@ use Rattle.array_meaning.specs.Terms.{Term, Element, Apply, Terms, NoTerm, More}
 use Rattle.array_meaning.specs.Sections.{positions, subscripts_at}
 use Rattle.array_meaning.specs.Expressions.{values}
 use Rattle.array_meaning.specs.Forall.{index_extents, indices_at}
-use Rattle.statement_trail.specs.NestParts.{EnteredNest, Asked, NestPart, ScalarPart, ElementPart, ConditionPart, index_in, copied_in, scalar_copy, condition_copy}
+use Rattle.statement_trail.specs.NestParts.{EnteredNest, NestPart, ScalarPart, ElementPart, ConditionPart, index_in, copied_in, scalar_copy, condition_copy}
+use Rattle.nest_syntax.specs.Asked.{Asked}
 use Rattle.statement_trail.specs.Trail.{Event, SectionAssigned, WhereMask, Reduced, ForallMask, ElementsAssigned, OfNest, Redistributed}
 use Rattle.machine_steps.specs.Instr.{Remapping}
 use Rattle.machine_steps.specs.Layout.{Layout, in_bounds}

@@ -11,7 +11,8 @@ use Rattle.array_meaning.specs.Iterations.{is_in}
 use Rattle.array_meaning.specs.Sections.{extents, subscripts_at}
 use Rattle.array_meaning.specs.Terms.{Term, Number, Scalar, Index, Element, Section, Apply, Reduce, Terms, NoTerm, More}
 use Rattle.array_meaning.specs.declared.sections.Selection.TheVariants.{Along}
-use Rattle.statement_trail.specs.NestParts.{EnteredNest, Asked, NestPart, ScalarPart, ElementPart, ConditionPart, index_in, of_these, scalars_in, copied_in, scalar_copy, condition_copy}
+use Rattle.statement_trail.specs.NestParts.{EnteredNest, NestPart, ScalarPart, ElementPart, ConditionPart, index_in, of_these, scalars_in, copied_in, scalar_copy, condition_copy}
+use Rattle.nest_syntax.specs.Asked.{Asked}
 use Rattle.statement_trail.specs.Trail.{OfNest}
 use Rattle.machine_steps.specs.Layout.{Layout, in_bounds}
 use Rattle.machine_steps.specs.Message.{computes_left, par_part}

@@ -27,7 +27,8 @@ use Rattle.array_meaning.specs.NestEntry.{unless_clash, entered}
 use Rattle.array_meaning.specs.Execution as meaning
 use Rattle.array_meaning.specs.Execution.{assign_scalar, assign_element, item_bytes, all_item_bytes, print, iterate, condition, run, run_arms, run_block}
 use Rattle.statement_trail.specs.Trail.{Event, Trail, Reduced, WhereMask, SectionAssigned, ForallMask, OfNest, reached, after_value, after_run, over_own_space, value_trail, values_trail, elemental_trail, elementals_trail, selections_trail, control_trail, all_controls_trail, section_trail, where_trail, forall_trail, forall_mask_trail, forall_parts_trail, if_not_empty, item_trail, all_items_trail, block_parts, statement_parts, arms_parts, nest_trail, marked_trail, after_iteration, iterate_trail, trail, arms_trail, block_trail}
-use Rattle.statement_trail.specs.NestParts.{EnteredNest, ConditionPart, has_statement, conditions_in, conditions_by, arm_asked, in_trip, indices_after, indices_by, entered_nest}
+use Rattle.statement_trail.specs.NestParts.{EnteredNest, ConditionPart, has_statement, conditions_in, conditions_by, in_trip, indices_after, indices_by, entered_nest}
+use Rattle.nest_syntax.specs.Asked.{tested_asked}
 
 -- each entry has so many scalars
 abbrev pub HavePlaces : ℕ → Trail → Type 0
@@ -420,8 +421,8 @@ module _ (n : ℕ) where
       statement-parts-tell (AssignElement a ts t) guard k line s h = (h, tt)
       statement-parts-tell (If arms other) guard k line s h =
           let last : List ℕ → ℕ → Trail = λ earlier k. if has_statement other
-          then reached 0 s (OfNest nest (arm_asked guard earlier) (ConditionPart k None)) ++ block_parts nest (Some k) (k + 1) other s else [] in
-          arms-parts-tell arms guard [] k last s h (λ earlier k. by (has_statement other) (reached 0 s (OfNest nest (arm_asked guard earlier) (ConditionPart k None)) ++ block_parts nest (Some k) (k + 1) other s)
+          then reached 0 s (OfNest nest (tested_asked guard earlier) (ConditionPart k None)) ++ block_parts nest (Some k) (k + 1) other s else [] in
+          arms-parts-tell arms guard [] k last s h (λ earlier k. by (has_statement other) (reached 0 s (OfNest nest (tested_asked guard earlier) (ConditionPart k None)) ++ block_parts nest (Some k) (k + 1) other s)
           (h, block-parts-tell other (Some k) (k + 1) s h))
         where
           by : (b : Bool) (T : Trail) → HavePlaces n T → HavePlaces n (if b then T else [])

@@ -16,11 +16,6 @@ pub record EnteredNest : Type 0 where
   pub assigned : List ℕ
   pub conditions : ℕ
 
--- a stored condition by its number, and whether it has to hold or not to hold
-pub record Asked : Type 0 where
-  pub number : ℕ
-  pub value : Bool
-
 -- an assignment to a scalar, or to an element of an array; or a condition that is stored under a number: that of an arm, or, for ELSE, that it is reached
 pub data NestPart : Type 0 where
   ScalarPart : ℕ → Term → NestPart
@@ -90,19 +85,6 @@ abbrev mutual
   pub conditions_in_arms : Arms → ℕ → ℕ
   conditions_in_arms NoArm other = other
   conditions_in_arms (Arm line t body arms) other = 1 + conditions_in body + conditions_in_arms arms other
-
--- the conditions of a statement in a branch: that of the branch holds
-abbrev pub branch_asked : Option ℕ → List Asked
-branch_asked None = []
-branch_asked (Some k) = record { number = k; value = true } ∷ []
-
-abbrev pub none_asked : List ℕ → List Asked
-none_asked [] = []
-none_asked (k ∷ ks) = record { number = k; value = false } ∷ none_asked ks
-
--- those of a branch of an IF: that of the branch in which the IF stands holds, and none of the IF's earlier branches, of which the last is the first here
-abbrev pub arm_asked : Option ℕ → List ℕ → List Asked
-arm_asked guard earlier = branch_asked guard ++ none_asked earlier
 
 -- ---- inner loops
 

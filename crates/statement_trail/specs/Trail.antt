@@ -24,7 +24,8 @@ use Rattle.array_meaning.specs.Iterations.{values_of, iteration_count, in_turns}
 use Rattle.array_meaning.specs.NestEntry.{entered}
 use Rattle.array_meaning.specs.Execution.{condition, item_bytes, run, run_block}
 use Rattle.array_meaning.specs.Resolution.{resolved_block, initial_state}
-use Rattle.statement_trail.specs.NestParts.{EnteredNest, Asked, NestPart, ScalarPart, ElementPart, ConditionPart, has_statement, conditions_in, conditions_by, branch_asked, arm_asked, in_trip, indices_after, indices_by, entered_nest}
+use Rattle.statement_trail.specs.NestParts.{EnteredNest, NestPart, ScalarPart, ElementPart, ConditionPart, has_statement, conditions_in, conditions_by, in_trip, indices_after, indices_by, entered_nest}
+use Rattle.nest_syntax.specs.Asked.{Asked, guard_asked, tested_asked}
 
 pub data Event : Type 0 where
   -- an assignment to a section: whether a mask is over it, the extents of its space, its left side and its right side
@@ -166,11 +167,11 @@ module _ (nest : EnteredNest) where
         statement_parts guard k line statement s ++ block_parts guard (conditions_by statement + k) rest (indices_by statement s)
 
     pub statement_parts : Option ℕ → ℕ → ℕ → Statement → State → Trail
-    statement_parts guard k line (AssignScalar x t) s = reached line s (OfNest nest (branch_asked guard) (ScalarPart x t))
-    statement_parts guard k line (AssignElement a ts t) s = reached line s (OfNest nest (branch_asked guard) (ElementPart a ts t))
+    statement_parts guard k line (AssignScalar x t) s = reached line s (OfNest nest (guard_asked guard) (ScalarPart x t))
+    statement_parts guard k line (AssignElement a ts t) s = reached line s (OfNest nest (guard_asked guard) (ElementPart a ts t))
     statement_parts guard k line (If arms other) s =
         arms_parts guard [] k arms (λ earlier k. if has_statement other
-        then reached 0 s (OfNest nest (arm_asked guard earlier) (ConditionPart k None)) ++ block_parts (Some k) (k + 1) other s else []) s
+        then reached 0 s (OfNest nest (tested_asked guard earlier) (ConditionPart k None)) ++ block_parts (Some k) (k + 1) other s else []) s
     statement_parts guard k line (Do mark loop body) s =
         in_turns (values_of s loop).count (λ x. block_parts guard k body (in_trip (indices_after body) loop.index (values_of s loop) s x))
     statement_parts guard k line statement s = []
@@ -179,7 +180,7 @@ module _ (nest : EnteredNest) where
     pub arms_parts : Option ℕ → List ℕ → ℕ → Arms → (List ℕ → ℕ → Trail) → State → Trail
     arms_parts guard earlier k NoArm other s = other earlier k
     arms_parts guard earlier k (Arm line t body arms) other s =
-        reached line s (OfNest nest (arm_asked guard earlier) (ConditionPart k (Some t)))
+        reached line s (OfNest nest (tested_asked guard earlier) (ConditionPart k (Some t)))
         ++ (block_parts (Some k) (k + 1) body s ++ arms_parts guard (k ∷ earlier) (k + 1 + conditions_in body) arms other s)
 
 -- a nest without an iteration has no part
