@@ -1,10 +1,10 @@
 //! The answers to cases.
 
-use crate::case::{Case, Tried};
 use crate::chance::write_chance;
 use crate::faults::write_faults;
 use crate::prefixes::write_prefixes;
 use case_texts::{TextError, text_of};
+use fault_texts::{Case, Tried};
 use std::alloc::{AllocError, Global};
 use std::sync::Wait;
 use std::thread::Threads;

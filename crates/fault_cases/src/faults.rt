@@ -1,8 +1,8 @@
 //! Runs in which one call of a stream fails, the first in the first run, and so on.
 
 use crate::call::{Answer, Stream, Streams, call};
-use crate::case::{Case, Tried};
 use crate::show::write_answer;
+use fault_texts::{Case, Tried};
 use std::alloc::{AllocError, Global};
 use std::fmt::Write;
 use std::sync::Wait;

@@ -41,15 +41,13 @@
 
 mod answer;
 mod call;
-mod case;
 mod chance;
 mod faults;
-mod lines;
 mod prefixes;
 mod show;
 
 use crate::answer::answer_to;
-use crate::case::Case;
+use fault_texts::Case;
 use std::io;
 use std::io::{BufRead, BufReader};
 use std::sync::Wait;

@@ -1,8 +1,8 @@
 //! Runs on each prefix of a text.
 
 use crate::call::{Answer, Streams, call};
-use crate::lines::is_refusal;
 use crate::show::write_answer;
+use fault_texts::is_refusal;
 use std::alloc::{AllocError, Global};
 use std::fmt::Write;
 use std::sync::Wait;
