@@ -5,9 +5,9 @@ use Rattle.std.specs.List.{flat_map, list_any}
 use Rattle.hpf_base.specs.ElementOrder.{product}
 use Rattle.axis_products.specs.Products.{each, passing, places_at}
 
--- each of the places before each of the tuples on the axes behind
-abbrev pub rows : (extent : ℕ) → (behind places : List ℕ) → List ℕ
-rows extent behind places = flat_map (λ n. map (λ p. n * extent + p) places) behind
+-- each of the places before each of the tuples on the axes after
+abbrev pub rows : (extent : ℕ) → (after places : List ℕ) → List ℕ
+rows extent after places = flat_map (λ n. map (λ p. n * extent + p) places) after
 
 abbrev pub both : Bool → Bool → Bool
 both x y = x && y

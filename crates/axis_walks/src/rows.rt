@@ -14,40 +14,40 @@ pub(crate) fn has_empty(lists: &[Vec<u32>]) -> bool
     lists.iter().any(|list| list.len() == 0)
 }
 
-/// The tuples with one of the places on an axis and the places of one of the tuples on the axes behind it.
+/// The tuples with one of the places on an axis and the places of one of the tuples on the axes after it.
 pub(crate) fn rows(
     alloc: Global,
-    behind: &[u32],
+    after: &[u32],
     extent: u64,
     places: &[u32],
 ) -> Result<Vec<u32>, OutOfMemory>
-    requires behind { All (λ n. (n + 1) * extent ≤ 2 ^ 32) behind.now }
+    requires after { All (λ n. (n + 1) * extent ≤ 2 ^ 32) after.now }
     requires places { All (λ p. p < extent) places.now }
-    ensures { IfOk result (λ tuples. tuples.items ≡ rows extent behind.now places.now) }
+    ensures { IfOk result (λ tuples. tuples.items ≡ rows extent after.now places.now) }
 {
     let mut tuples = Vec::new(alloc);
-    push_rows(&mut tuples, behind, extent, places)?;
+    push_rows(&mut tuples, after, extent, places)?;
     Ok(tuples)
 }
 
 /// The same, after other tuples.
 pub(crate) fn push_rows(
     tuples: &mut Vec<u32>,
-    behind: &[u32],
+    after: &[u32],
     extent: u64,
     places: &[u32],
 ) -> Result<(), OutOfMemory>
-    requires behind { All (λ n. (n + 1) * extent ≤ 2 ^ 32) behind.now }
+    requires after { All (λ n. (n + 1) * extent ≤ 2 ^ 32) after.now }
     requires places { All (λ p. p < extent) places.now }
-    ensures { IfOk result (λ _. tuples.new.items ≡ tuples.old.items ++ rows extent behind.now places.now) }
+    ensures { IfOk result (λ _. tuples.new.items ≡ tuples.old.items ++ rows extent after.now places.now) }
 {
-    for number in behind {
+    for number in after {
         push_row(tuples, *number as u64 * extent, places)?;
     }
     Ok(())
 }
 
-/// The tuples with one of the places on an axis, where this is the number of the first tuple with these places on the axes behind it.
+/// The tuples with one of the places on an axis, where this is the number of the first tuple with these places on the axes after it.
 fn push_row(tuples: &mut Vec<u32>, first: u64, places: &[u32]) -> Result<(), OutOfMemory>
     requires { All (λ p. first + p < 2 ^ 32) places.now }
     ensures { IfOk result (λ _. tuples.new.items ≡ tuples.old.items ++ map (λ p. first + p) places.now) }

@@ -52,7 +52,7 @@ use Rattle.nest_join.specs.NestTexts.{NestAction, assignment_text, text_of, test
 use Rattle.nest_join.specs.CodedBlocks.{IsCodedBlock, coded}
 use Rattle.program_code.specs.Places.{AreScalars}
 use Rattle.nest_join.specs.NestRuns.{NestCode, machine_body, HoldsRows, HasFinals}
-use Rattle.nest_join.proofs.RowPlaces.{condition-place, condition-row, marks-off, copies-behind, marks-behind, not-among}
+use Rattle.nest_join.proofs.RowPlaces.{condition-place, condition-row, marks-off, copies-after, marks-after, not-among}
 use Rattle.nest_join.proofs.MadeRows.{names-unmade}
 use Rattle.nest_join.proofs.ListedFinals.{has-final}
 use Rattle.program_code.specs.NestCode.{plain, text_in, test_in, scalars, conditions, kinds_in, stored, finals, along}
@@ -240,8 +240,8 @@ module _ (table : ArrayTable) (row_count : ℕ) (moves : ℕ → List NewMapping
     names = omega arith;
     stored = omega arith;
     unmade = names-unmade n ks conds kinds;
-    copies = λ k e. let z = listed k e in copies-behind n ks conds are k z.0 z.1;
-    marks = λ k r e. marks-behind n ks conds are kinds k r e;
+    copies = λ k e. let z = listed k e in copies-after n ks conds are k z.0 z.1;
+    marks = λ k r e. marks-after n ks conds are kinds k r e;
     arrays = λ a lt e.
         let z = array-row table n nest body over all s h.fits.scalars formed.quiet inside.named a lt e in
         (z.0, z.1, row-is a lt ∙ if_not (has_copies (kinds a)) (scalar s a ∷ []) (array s a).elements e);

@@ -155,7 +155,7 @@ read-here ss xs k h g = in-some (each_once (of_these ss xs)) 0 k (once-in (of_th
 pub not-read : (ss xs : List ℕ) (k : ℕ) → is_in k ss ≡ false → index_in (each_once (of_these ss xs)) 0 k ≡ None
 not-read ss xs k g = in-none (each_once (of_these ss xs)) 0 k (once-in (of_these ss xs) k ∙ these-in ss xs k ∙ ap (λ b. is_in k xs && b) g ∙ and-off (is_in k xs))
 
--- ---- lists one behind the other
+-- ---- lists one after the other
 
 pub in-front : (xs ys : List ℕ) (k : ℕ) → is_in k xs ≡ true → is_in k (xs ++ ys) ≡ true
 in-front xs ys k h = list_any-append (nat_eq k) xs ys ∙ ap (λ b. b || is_in k ys) h

@@ -34,8 +34,8 @@ pub record HasCopies (table : ArrayTable) : Type 0 where
   pub steady : (one other : List Layout) (ns : List ℕ) → table.copies one ns ≡ table.copies other ns
 
 -- the place after the statements of the nest of a line at a place
-abbrev pub behind : (n line pc v : ℕ) → Nest → Block → ℕ
-behind n line pc v nest body =
+abbrev pub place_after : (n line pc v : ℕ) → Nest → Block → ℕ
+place_after n line pc v nest body =
     pc + length (nest_instructions line (along v nest.loops) (text_in n nest body) (test_in n nest body) (stored n nest body) (finals n nest body) (plain body) (v + 4 * length nest.loops) pc)
 
 module _ (table : ArrayTable) (row_count : ℕ) (moves : ℕ → List NewMapping) (code : List Instruction) (n many : ℕ) where
@@ -81,7 +81,7 @@ module _ (table : ArrayTable) (row_count : ℕ) (moves : ℕ → List NewMapping
       pub slots' : List ℤ
       pub rows' : Storage
       pub ends : nest_run ≡ normal state
-      pub reach : Reaches table row_count moves code (nest_trail nest body s) (stands table row_count moves code pc slots rows s.printed) (stands table row_count moves code (behind n line pc v nest body) slots' rows' s.printed)
+      pub reach : Reaches table row_count moves code (nest_trail nest body s) (stands table row_count moves code pc slots rows s.printed) (stands table row_count moves code (place_after n line pc v nest body) slots' rows' s.printed)
       pub done : NestDone v nest loop block body form s state slots slots' rows'
 
     -- or both with one fault, and all parts are passed, too

@@ -194,8 +194,8 @@ module _ (table : ArrayTable) (moves : ℕ → List NewMapping) (code : List Ins
   instructions = nest_instructions line over (text_of w) (test_of w) (stored n nest body) fs x b pc
 
   module _ (room : b + body_slots (body_of x) ≤ length entry) (has : HasAt code pc instructions) where
-    behind : HasAt code (pc + length makes) (statements ++ ending)
-    behind = has-back code pc makes (statements ++ ending) has
+    has_after : HasAt code (pc + length makes) (statements ++ ending)
+    has_after = has-back code pc makes (statements ++ ending) has
 
     count : count_nest x ≡ conditions_in body
     count = count-block table moves code last line n nest body over is_index b (conditions_in body) entry s holds outside assigned tuples [] body ok
@@ -207,7 +207,7 @@ module _ (table : ArrayTable) (moves : ℕ → List NewMapping) (code : List Ins
         (makes-both (finals_makes line over fs) (conditions_makes line over (stored n nest body) (count_nest x)) (finals-make line over fs) (conditions-make line over (stored n nest body) (count_nest x)))
         (has-front code pc makes (statements ++ ending) has) (omega arith))
         (block-passes table moves code last line n nest body over is_index b (conditions_in body) entry s holds outside assigned tuples [] body ok None 0 b (pc + length makes) entry s (omega arith)
-        (record { same = same-refl is_index b entry; scalars = slots; long = holds.scalars }) tt room (let c = count in omega (arith, c)) (has-front code (pc + length makes) statements ending behind)
+        (record { same = same-refl is_index b entry; scalars = slots; long = holds.scalars }) tt room (let c = count in omega (arith, c)) (has-front code (pc + length makes) statements ending has_after)
         (omega arith)).0
 
     long : length instructions ≡ length makes + length statements + length ending
@@ -226,7 +226,7 @@ module _ (table : ArrayTable) (moves : ℕ → List NewMapping) (code : List Ins
         let d : ℕ = k - run.0 in
         let all : d + run.0 ≡ k = omega (arith, le) in
         let none : passed table d m1 ≡ [] =
-        none-passed table code ending last (has-back code (pc + length makes) statements ending behind) (tt, finals-end line fs) d m1 refl (omega arith)
+        none-passed table code ending last (has-back code (pc + length makes) statements ending has_after) (tt, finals-end line fs) d m1 refl (omega arith)
         (λ j less. inside j (run.0) m1 m (sym run.2) (quiet (j + run.0) (omega (arith, less, all)))) in
         subst (λ j. IsTrail moves (passed table j m) T) all
         (subst (λ ps. IsTrail moves ps T)

@@ -35,7 +35,7 @@ use Rattle.nest_join.proofs.HeldIndices.{index-held}
 use Rattle.code_meaning.specs.NestStatements.{iterations_at}
 use Rattle.program_code.specs.NestCode.{plain, text_in, test_in, stored, finals, along}
 use Rattle.lowered_nests.specs.NamesIn.{names_in}
-use Rattle.lowered_nests.proofs.NestRuns.{HasCopies, NestStands, NestDone, StatementsEnd, StatementsFault, behind, nest_run}
+use Rattle.lowered_nests.proofs.NestRuns.{HasCopies, NestStands, NestDone, StatementsEnd, StatementsFault, place_after, nest_run}
 use Rattle.lowered_nests.proofs.SteadyRows.{same-rows}
 use Rattle.lowered_nests.proofs.NestTrails.{is_before}
 use Rattle.statement_trail.specs.Trail.{nest_trail}
@@ -67,7 +67,7 @@ module _ (table : ArrayTable) (row_count : ℕ) (moves : ℕ → List NewMapping
     pub no_index : (k : ℕ) → n ≤ k → is_index k ≡ false
     pub ok : IsCodedBlock (names_in table n nest body (along v nest.loops) is_index) s [] body
     pub start : Storage
-    pub begun : (i : Idle row_count) → IsBegun (meaning_of table) code (is_before (behind n line pc v nest body)) (names_in table n nest body (along v nest.loops) is_index) (code_in n line pc v nest body) h.form.all s loop
+    pub begun : (i : Idle row_count) → IsBegun (meaning_of table) code (is_before (place_after n line pc v nest body)) (names_in table n nest body (along v nest.loops) is_index) (code_in n line pc v nest body) h.form.all s loop
         block body ok start slots (data_in rows i)
     pub held : (i : Idle row_count) → HoldsRows (names_in table n nest body (along v nest.loops) is_index) (code_in n line pc v nest body) s
         (count_body (machine_body (names_in table n nest body (along v nest.loops) is_index) (code_in n line pc v nest body) s body ok)) start (data_in rows i)
@@ -75,8 +75,8 @@ module _ (table : ArrayTable) (row_count : ℕ) (moves : ℕ → List NewMapping
     pub free : (k : ℕ) → has_copies ((names_in table n nest body (along v nest.loops) is_index).kinds k) ≡ true → h.form.all k ≡ false
     pub named : (x : ℕ) → n ≤ x → NotAmong x (finals n nest body)
     -- a run over the code that ends after it or with a fault passes the nest's parts
-    pub trail : (i : Idle row_count) (k : ℕ) → StaysQuiet (meaning_of table) (is_before (behind n line pc v nest body)) k (stands table row_count moves code pc slots rows s.printed i)
-        → ((steps (meaning_of table) k (stands table row_count moves code pc slots rows s.printed i)).control.at ≡ behind n line pc v nest body)
+    pub trail : (i : Idle row_count) (k : ℕ) → StaysQuiet (meaning_of table) (is_before (place_after n line pc v nest body)) k (stands table row_count moves code pc slots rows s.printed i)
+        → ((steps (meaning_of table) k (stands table row_count moves code pc slots rows s.printed i)).control.at ≡ place_after n line pc v nest body)
         ⊎ ((f : Fault) × ((steps (meaning_of table) k (stands table row_count moves code pc slots rows s.printed i)).control.status ≡ machine.Faulted f))
         → IsTrail moves (passed table k (stands table row_count moves code pc slots rows s.printed i)) (nest_trail nest body s)
     pub long : length (code_of (names_in table n nest body (along v nest.loops) is_index) (code_in n line pc v nest body) s body ok)
@@ -95,7 +95,7 @@ module _ (table : ArrayTable) (row_count : ℕ) (moves : ℕ → List NewMapping
     r = nest_run table row_count moves code n many line pc v nest loop block body h.form s slots rows
 
     abbrev end : ℕ
-    end = behind n line pc v nest body
+    end = place_after n line pc v nest body
 
     abbrev Ends : Idle row_count → Type 0
     Ends i = EndsAsMeant (meaning_of table) code (is_before end) i.joined [] s.printed w c h.form.all s loop block body b.ok b.start slots (data_in rows i) r

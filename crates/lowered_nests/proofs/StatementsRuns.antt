@@ -30,7 +30,7 @@ use Rattle.nest_join.specs.NestRuns.{NestCode, IsBegun, code_of}
 use Rattle.program_code.specs.Places.{AreScalars}
 use Rattle.nest_join.proofs.RowPlaces.{lt-so, not-among}
 use Rattle.program_code.specs.NestCode.{plain, text_in, test_in, scalars, conditions, kinds_in, stored, finals, along}
-use Rattle.lowered_nests.proofs.NestRuns.{HasCopies, NestStands, StatementsRun, behind}
+use Rattle.lowered_nests.proofs.NestRuns.{HasCopies, NestStands, StatementsRun, place_after}
 use Rattle.lowered_nests.proofs.PlainCode.{same-nest}
 use Rattle.lowered_nests.proofs.CodedTexts.{same-block}
 use Rattle.lowered_nests.proofs.CodeLies.{safe-block}
@@ -71,7 +71,7 @@ module _ (table : ArrayTable) (row_count : ℕ) (moves : ℕ → List NewMapping
       ∙ nest-means table line over (text_of w) (test_of w) (stored n nest body) (finals n nest body) (coded w s [] body ok) b pc (safe-block w s [] body ok)
 
   abbrev end : ℕ
-  end = behind n line pc v nest body
+  end = place_after n line pc v nest body
 
   has-code : stands.HasAt (meaning_of table) code (is_before end) pc (code_of w c s body ok)
   has-code = subst (stands.HasAt (meaning_of table) code (is_before end) pc) means (has-meant table code end pc instructions (omega arith) h.has)

@@ -520,11 +520,11 @@ module _ (table : ArrayTable) (row_count : ℕ) (moves : ℕ → List NewMapping
               by_tests false true w x e f = cc
               by_tests false false w x e f = cc
 
-          behind_limits : State → Trail
-          behind_limits s = after_run (all_one_to_one (count == 0) (index_extents axes) body s) (forall_parts_trail line axes mask body)
+          after_limits : State → Trail
+          after_limits s = after_run (all_one_to_one (count == 0) (index_extents axes) body s) (forall_parts_trail line axes mask body)
 
           tested : Bool → Trail
-          tested t = after_run (one_step line s (check t SpaceLimit s)) behind_limits
+          tested t = after_run (one_step line s (check t SpaceLimit s)) after_limits
 
           tests : Goes table row_count moves code n many None leave again [] (pc1 + 1) b1 slots1 (stands table row_count moves code pc1 slots1 rows s.printed) (one_step line s (check test SpaceLimit s))
           tests =
@@ -535,7 +535,7 @@ module _ (table : ArrayTable) (row_count : ℕ) (moves : ℕ → List NewMapping
               → Goes table row_count moves code n many None leave again (tested test) to b1 slots1 (stands table row_count moves code pc1 slots1 rows s.printed)
               (then_do (one_step line s (check test SpaceLimit s)) rest)
           by_test true is =
-              goes-then-kept table row_count moves code n many None leave again [] behind_limits (pc1 + 1) to b1 slots1 (stands table row_count moves code pc1 slots1 rows s.printed)
+              goes-then-kept table row_count moves code n many None leave again [] after_limits (pc1 + 1) to b1 slots1 (stands table row_count moves code pc1 slots1 rows s.printed)
               (one_step line s (check test SpaceLimit s)) rest
               tests
               (λ slots2 rows2 s2 kept2 holds2.

@@ -139,7 +139,7 @@ module _ (nodes : ℕ) (tuples : ℕ) (reads : ℕ → List (Option Spot)) (R : 
         ap (λ part. message nodes (ls ++ more) part p q) part-same
         ∙ ap (filter test) (ap (spots_from 0) (map-append size_of ls more) ∙ spots-both 0 (sizes ls) (sizes more))
         ∙ filter-append test (spots_from 0 (sizes ls)) (spots_from (0 + length (sizes ls)) (sizes more))
-        ∙ ap (λ l. filter test (spots_from 0 (sizes ls)) ++ l) (filter-none (λ row. length ls ≤ row) test (spots_from (0 + length (sizes ls)) (sizes more)) behind none)
+        ∙ ap (λ l. filter test (spots_from 0 (sizes ls)) ++ l) (filter-none (λ row. length ls ≤ row) test (spots_from (0 + length (sizes ls)) (sizes more)) beyond none)
         ∙ append-nil (filter test (spots_from 0 (sizes ls)))
         ∙ filter-same (λ row. row < length ls) test own (spots_from 0 (sizes ls)) before same
       where
@@ -155,8 +155,8 @@ module _ (nodes : ℕ) (tuples : ℕ) (reads : ℕ → List (Option Spot)) (R : 
         long : length (sizes ls) ≡ length ls
         long = length-map ls size_of
 
-        behind : AllRows (λ row. length ls ≤ row) (spots_from (0 + length (sizes ls)) (sizes more))
-        behind =
+        beyond : AllRows (λ row. length ls ≤ row) (spots_from (0 + length (sizes ls)) (sizes more))
+        beyond =
             all-but (Between (0 + length (sizes ls)) (0 + length (sizes ls) + length (sizes more))) (λ row. length ls ≤ row) (spots_from (0 + length (sizes ls)) (sizes more))
             (λ row h. let l = long in let a = h.0 in omega (arith, l, a)) (spots-in (0 + length (sizes ls)) (sizes more))
 

@@ -373,19 +373,19 @@ module _ (s : Setting) (layouts : List Layout) (line : ℕ) (scalars slots : Lis
   right-few : (e : Term) → Evaluates n N p e → (r : ℕ) → IsAmong r p.copies → r < n + (length N.assigned + N.conditions)
   right-few e h r a = copies-few p.names (λ k b. copied-assigned N.assigned e k (subst (IsAmong k) h.names b)) r (subst (IsAmong r) h.copies a)
 
-  behind-few : (q : NestPart) → IsPart n N p q → (r : ℕ) → IsAmong r (p.copies ++ left_rows p.left) → r < n + (length N.assigned + N.conditions)
-  behind-few (ScalarPart k e) h = both-few p.copies (left_rows p.left) _ (right-few e h.3) (left-few p.left (n + scalar_copy N k) h.2 (let lt = copy-below N k h.0 in omega (arith, lt)))
-  behind-few (ElementPart a ts e) h =
+  rows-few : (q : NestPart) → IsPart n N p q → (r : ℕ) → IsAmong r (p.copies ++ left_rows p.left) → r < n + (length N.assigned + N.conditions)
+  rows-few (ScalarPart k e) h = both-few p.copies (left_rows p.left) _ (right-few e h.3) (left-few p.left (n + scalar_copy N k) h.2 (let lt = copy-below N k h.0 in omega (arith, lt)))
+  rows-few (ElementPart a ts e) h =
       both-few p.copies (left_rows p.left) _ (right-few e h.3) (λ r z. absurd (subst (λ l. IsAmong r (left_rows l)) h.2 z))
-  behind-few (ConditionPart k (Some e)) h = both-few p.copies (left_rows p.left) _ (right-few e h.3) (left-few p.left (n + condition_copy N k) h.2 (let lt = h.0 in omega (arith, lt)))
-  behind-few (ConditionPart k None) h =
+  rows-few (ConditionPart k (Some e)) h = both-few p.copies (left_rows p.left) _ (right-few e h.3) (left-few p.left (n + condition_copy N k) h.2 (let lt = h.0 in omega (arith, lt)))
+  rows-few (ConditionPart k None) h =
       both-few p.copies (left_rows p.left) _ (λ r z. absurd (subst (IsAmong r) h.4 z)) (left-few p.left (n + condition_copy N k) h.2 (let lt = h.0 in omega (arith, lt)))
 
   few : count ≤ length N.assigned + N.conditions
   few =
       few-after (length layouts) (length N.assigned + N.conditions) rows (λ r h. subst (λ m. r < m + (length N.assigned + N.conditions)) (sym laid)
       (both-few (map (λ w. w.copy) p.whens) (p.copies ++ left_rows p.left) (n + (length N.assigned + N.conditions))
-      (λ j a. whens-few asked stored j (subst (λ ws. IsAmong j (map (λ w. w.copy) ws)) whens a)) (behind-few part is) r h))
+      (λ j a. whens-few asked stored j (subst (λ ws. IsAmong j (map (λ w. w.copy) ws)) whens a)) (rows-few part is) r h))
 
   -- ---- names
 

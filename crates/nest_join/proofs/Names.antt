@@ -68,7 +68,7 @@ in-values f (x ∷ xs) i k j h = by_test (nat_eq x k) refl h (in-values f xs (su
     by_test true e h g = let x_is : x ≡ k = eq-is x k e in (0, (let z : i ≡ j = cc in let y : j ≡ i + 0 = omega (arith, z) in y), ap f x_is)
     by_test false e h g = let r = g h in (suc r.0, (let z = r.1 in let y : j ≡ i + suc r.0 = omega (arith, z) in y), r.2)
 
--- in two lists one behind the other
+-- in two lists one after the other
 pub in-both-none : (xs ys : List ℕ) (i k : ℕ) → index_in xs i k ≡ None → index_in (xs ++ ys) i k ≡ index_in ys (i + length xs) k
 in-both-none [] ys i k h = let e : i ≡ i + 0 = omega arith in ap (λ z. index_in ys z k) e
 in-both-none (x ∷ xs) ys i k h = by_test (nat_eq x k) h (in-both-none xs ys (suc i) k)

@@ -110,12 +110,12 @@ module _ (n : ℕ) (scalars : List ℕ) (conditions : ℕ) (are : AreScalars n s
       let before = rows-before r of_row in
       omega (arith, beyond, before, at)
 
-  -- copies and marks lie behind the names
-  pub copies-behind : (k j : ℕ) → index_in scalars 0 k ≡ Some j → n ≤ place k
-  copies-behind k j e = let is : place k ≡ n + j = ap (λ o. place_by n scalars conditions o k) e in omega (arith, is)
+  -- copies and marks lie after the names
+  pub copies-after : (k j : ℕ) → index_in scalars 0 k ≡ Some j → n ≤ place k
+  copies-after k j e = let is : place k ≡ n + j = ap (λ o. place_by n scalars conditions o k) e in omega (arith, is)
 
-  pub marks-behind : (kinds : ℕ → Kind) (k q : ℕ) → marks_of n scalars conditions kinds k ≡ Some q → n ≤ q
-  marks-behind kinds k q e = let beyond = marks-beyond (kinds k) (index_in scalars 0 k) q e in omega (arith, beyond)
+  pub marks-after : (kinds : ℕ → Kind) (k q : ℕ) → marks_of n scalars conditions kinds k ≡ Some q → n ≤ q
+  marks-after kinds k q e = let beyond = marks-beyond (kinds k) (index_in scalars 0 k) q e in omega (arith, beyond)
 
   -- ---- scalars
 

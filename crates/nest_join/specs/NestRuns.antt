@@ -98,7 +98,7 @@ module _ {I : Type 0} (meaning : I → Instr Fault) (code : List I) (is_quiet : 
 
 -- ---- the arrays and the scalars of a state on the machine
 
--- the machine's rows hold the arrays of the state at the entry. The nest makes no row of a name; its copies and its marks lie behind those; and an array
+-- the machine's rows hold the arrays of the state at the entry. The nest makes no row of a name; its copies and its marks lie after those; and an array
 -- lies at its own place
 pub record HoldsRows (w : NestNames) (c : NestCode) (s : State) (count : ℕ) (start : Storage) (d : Data Fault) : Type 0 where
   pub elements : (a : ℕ) → a < w.count → row_of d.rows a ≡ (array s a).elements

@@ -15,10 +15,10 @@ use Rattle.nodes_lowered.specs.NewMappings.{array_place, new_mappings, numbered,
 abbrev mapping_of : NewMap → Mapping
 mapping_of new = new.map
 
--- what stands behind so many others has their number
-behind : {A : Type 0} (before : List A) (x : A) (after : List A) → slice_get (before ++ x ∷ after) (length before) ≡ Some x
-behind [] x after = refl
-behind (y ∷ before) x after = behind before x after
+-- what stands after so many others has their number
+has-number : {A : Type 0} (before : List A) (x : A) (after : List A) → slice_get (before ++ x ∷ after) (length before) ≡ Some x
+has-number [] x after = refl
+has-number (y ∷ before) x after = has-number before x after
 
 by_append : (row : ℕ) (o : Option Mapping) (rest more : List Remapping) → remapping_by row o (rest ++ more) ≡ remapping_by row o rest ++ more
 by_append row None rest more = refl
@@ -41,7 +41,7 @@ module _ (places : List ℕ) where
       let all : List Mapping = before ++ new.map ∷ (map mapping_of news ++ after) in
       let next : suc (length before) ≡ length more = omega arith ∙ sym (length-append before (new.map ∷ [])) in
       let same : all ≡ more ++ (map mapping_of news ++ after) = sym (append_assoc before (new.map ∷ []) (map mapping_of news ++ after)) in
-      ap (λ o. remapping_by row o (remappings all (numbered places (suc (length before)) news))) (behind before new.map (map mapping_of news ++ after))
+      ap (λ o. remapping_by row o (remappings all (numbered places (suc (length before)) news))) (has-number before new.map (map mapping_of news ++ after))
       ∙ ap (λ l. remapping places new ∷ l)
       ((λ i. remappings (same i) (numbered places (next i) news)) ∙ one-moves more news after)
 

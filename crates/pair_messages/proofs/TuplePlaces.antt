@@ -13,7 +13,7 @@ length-places (n ∷ ns) t = ap suc (length-places ns (t / n))
 pub no-axis : (ns : List ℕ) (t axis : ℕ) → length ns ≤ axis → get_or (places_at ns t) axis 0 ≡ 0
 no-axis ns t axis past = get_or_past (places_at ns t) axis 0 (omega (arith, past, length-places ns t))
 
--- what is left of a tuple's number behind some axes
+-- what is left of a tuple's number after some axes
 pub below-axis : (ns : List ℕ) (k rest : ℕ) → k < length ns → rest < product (drop k ns) → rest < get_or ns k 0 * product (drop (k + 1) ns)
 below-axis ns k rest within below = subst (λ n. rest < n) (at_drop_more product ns k 0 within) below
 

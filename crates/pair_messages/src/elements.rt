@@ -92,8 +92,8 @@ fn wrapped_place(dims: &[Dim], courses: &[Course], extents: &[u64], tuple: u32) 
     let mut place = 0;
     for k in (0..dims.len()).rev() {
         let subscript = course_at(&courses[k], extents, tuple);
-        let behind = offset(&dims[k], subscript)?;
-        place = behind.wrapping_add(extent(dims[k]).wrapping_mul(place));
+        let above = offset(&dims[k], subscript)?;
+        place = above.wrapping_add(extent(dims[k]).wrapping_mul(place));
     }
     Some(place)
 }

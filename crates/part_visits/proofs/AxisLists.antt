@@ -28,7 +28,7 @@ get-list test ns axis within =
     let e : 0 + axis ≡ axis = omega arith in
     get-passing test 0 ns axis within ∙ ap (λ j. filter (test j) (range_with_len 0 (get_or ns axis 0))) e
 
--- those from an axis on are that of the axis and those behind it
+-- those from an axis on are that of the axis and those after it
 pub passing-from : (test : ℕ → ℕ → Bool) (axis : ℕ) (ns : List ℕ) → axis < length ns
     → passing test axis (drop axis ns) ≡ filter (test axis) (range_with_len 0 (get_or ns axis 0)) ∷ passing test (axis + 1) (drop (axis + 1) ns)
 passing-from test axis ns within = from axis ns within

@@ -5,7 +5,7 @@ ghost use Rattle.std.specs.Prelude.{◌<◌};
 use case_texts::{Numbers, spoil};
 use std::alloc::{AllocError, Global};
 
-/// A statement that may stand behind declarations, by a number.
+/// A statement that may stand after declarations, by a number.
 fn statement_of(number: u64) -> &'static str {
     match number % 28 {
         0 => "S = S + I",

@@ -81,14 +81,14 @@ below-product test ns =
 
 -- ---- what the places of further axes add
 
-pub behind-below : (m : ℕ) (ps behind : List ℕ) → 0 < length ps → All (λ n. n < m) (rows behind ps) → All (λ n. n ≤ m) behind
-behind-below m ps behind some all k d within =
-    let long = length-rows ps behind in
-    let inside : k * length ps + 0 < length ps * length behind = at-row (length ps) (length behind) k some within in
+pub after-below : (m : ℕ) (ps after : List ℕ) → 0 < length ps → All (λ n. n < m) (rows after ps) → All (λ n. n ≤ m) after
+after-below m ps after some all k d within =
+    let long = length-rows ps after in
+    let inside : k * length ps + 0 < length ps * length after = at-row (length ps) (length after) k some within in
     let here = all (k * length ps + 0) 0 (omega (arith, long, inside)) in
-    let is = element-of ps behind k 0 within some in
-    let same : get_or behind k d ≡ get_or behind k 0 = get_or_default behind k d 0 within in
-    let less : get_or behind k 0 + get_or ps 0 0 < m = subst (λ x. x < m) is here in
+    let is = element-of ps after k 0 within some in
+    let same : get_or after k d ≡ get_or after k 0 = get_or_default after k d 0 within in
+    let less : get_or after k 0 + get_or ps 0 0 < m = subst (λ x. x < m) is here in
     omega (arith, less, same)
   where
     at-row : (w rows k : ℕ) → 0 < w → k < rows → k * w + 0 < w * rows
@@ -189,7 +189,7 @@ pub is-product : (test : ℕ → ℕ → Bool) (ns near : List ℕ) (lists far :
 is-product test ns near lists far inside filled most are first rest = record {
   some = subst (All (λ ps. 0 < length ps)) (sym rest) (scaled-some (get_or ns 0 0) (drop 1 ns) (drop 1 lists) (All-drop (λ ps. 0 < length ps) 1 lists filled));
   few = (let as-many : length (sums (near ∷ far)) ≡ length (map (number_at ns) (combined (passing test 0 ns))) = ap length passes in let fewer = few-tuples test ns in omega (arith, as-many, fewer, most));
-  small = λ k d lt. let less = behind-below (product ns) near (sums far) place below k d lt in omega (arith, less, most);
+  small = λ k d lt. let less = after-below (product ns) near (sums far) place below k d lt in omega (arith, less, most);
   value = value;
 }
   where

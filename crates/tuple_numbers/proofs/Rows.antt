@@ -12,22 +12,22 @@ use Rattle.axis_products.proofs.Products.{some_factor}
 use Rattle.tuple_numbers.specs.Runs.{reach}
 use Rattle.tuple_numbers.specs.Sums.{rows, sums}
 
-pub length-rows : (ps behind : List ℕ) → length (rows behind ps) ≡ length ps * length behind
+pub length-rows : (ps after : List ℕ) → length (rows after ps) ≡ length ps * length after
 length-rows ps [] = let none : List ℕ = [] in let e : length none ≡ 0 = refl in omega (arith, e)
-length-rows ps (n ∷ behind) =
-    let a = length-append (map (λ p. n + p) ps) (rows behind ps) in
+length-rows ps (n ∷ after) =
+    let a = length-append (map (λ p. n + p) ps) (rows after ps) in
     let b = length-map ps (λ p. n + p) in
-    let c = length-rows ps behind in
-    let d : length ps * suc (length behind) ≡ length ps + length ps * length behind = omega arith in
+    let c = length-rows ps after in
+    let d : length ps * suc (length after) ≡ length ps + length ps * length after = omega arith in
     a ∙ (λ i. b i + c i) ∙ sym d
 
 -- the rest of a row
-pub row-of : (ps behind : List ℕ) (row skip : ℕ) → row < length behind → skip ≤ length ps
-    → take (length ps - skip) (drop (row * length ps + skip) (rows behind ps)) ≡ map (λ p. get_or behind row 0 + p) (drop skip ps)
+pub row-of : (ps after : List ℕ) (row skip : ℕ) → row < length after → skip ≤ length ps
+    → take (length ps - skip) (drop (row * length ps + skip) (rows after ps)) ≡ map (λ p. get_or after row 0 + p) (drop skip ps)
 row-of ps [] row skip lt le = let none : List ℕ = [] in let e : length none ≡ 0 = refl in absurd (omega (arith, e, lt))
-row-of ps (n ∷ behind) zero skip lt le =
+row-of ps (n ∷ after) zero skip lt le =
     let front = map (λ p. n + p) ps in
-    let rest = rows behind ps in
+    let rest = rows after ps in
     let long : length front ≡ length ps = length-map ps (λ p. n + p) in
     let at : zero * length ps + skip ≡ skip = omega arith in
     let left : length ps - skip ≡ length (drop skip front) = (let d = length-drop skip front in omega (arith, d, long)) in
@@ -36,44 +36,44 @@ row-of ps (n ∷ behind) zero skip lt le =
     ∙ ap (λ k. take k (drop skip front ++ rest)) left
     ∙ take-append_seam (drop skip front) rest
     ∙ drop-map (λ p. n + p) skip ps
-row-of ps (n ∷ behind) (suc row) skip lt le =
+row-of ps (n ∷ after) (suc row) skip lt le =
     let front = map (λ p. n + p) ps in
-    let rest = rows behind ps in
+    let rest = rows after ps in
     let long : length front ≡ length ps = length-map ps (λ p. n + p) in
     let at : suc row * length ps + skip ≡ length front + (row * length ps + skip) = omega (arith, long) in
     ap (λ k. take (length ps - skip) (drop k (front ++ rest))) at
     ∙ ap (take (length ps - skip)) (drop-append-add front rest (row * length ps + skip))
-    ∙ row-of ps behind row skip (let m : suc row < suc (length behind) = lt in omega (arith, m)) le
+    ∙ row-of ps after row skip (let m : suc row < suc (length after) = lt in omega (arith, m)) le
 
 -- one number
-pub element-of : (ps behind : List ℕ) (q r : ℕ) → q < length behind → r < length ps → get_or (rows behind ps) (q * length ps + r) 0 ≡ get_or behind q 0 + get_or ps r 0
+pub element-of : (ps after : List ℕ) (q r : ℕ) → q < length after → r < length ps → get_or (rows after ps) (q * length ps + r) 0 ≡ get_or after q 0 + get_or ps r 0
 element-of ps [] q r lt within = let none : List ℕ = [] in let e : length none ≡ 0 = refl in absurd (omega (arith, e, lt))
-element-of ps (n ∷ behind) zero r lt within =
+element-of ps (n ∷ after) zero r lt within =
     let front = map (λ p. n + p) ps in
     let long : length front ≡ length ps = length-map ps (λ p. n + p) in
     let at : zero * length ps + r ≡ r = omega arith in
-    ap (λ k. get_or (front ++ rows behind ps) k 0) at ∙ get_or_append_left front (rows behind ps) 0 r (omega (arith, long, within))
+    ap (λ k. get_or (front ++ rows after ps) k 0) at ∙ get_or_append_left front (rows after ps) 0 r (omega (arith, long, within))
     ∙ get_or-map (λ p. n + p) ps r 0 0 within
-element-of ps (n ∷ behind) (suc q) r lt within =
+element-of ps (n ∷ after) (suc q) r lt within =
     let front = map (λ p. n + p) ps in
     let long : length front ≡ length ps = length-map ps (λ p. n + p) in
     let at : suc q * length ps + r ≡ length front + (q * length ps + r) = omega (arith, long) in
-    ap (λ k. get_or (front ++ rows behind ps) k 0) at ∙ get_or-append-add front (rows behind ps) (q * length ps + r) 0
-    ∙ element-of ps behind q r (let m : suc q < suc (length behind) = lt in omega (arith, m)) within
+    ap (λ k. get_or (front ++ rows after ps) k 0) at ∙ get_or-append-add front (rows after ps) (q * length ps + r) 0
+    ∙ element-of ps after q r (let m : suc q < suc (length after) = lt in omega (arith, m)) within
 
-pub record IsAt (ps behind : List ℕ) (i : ℕ) : Type 0 where
+pub record IsAt (ps after : List ℕ) (i : ℕ) : Type 0 where
   pub some : 0 < length ps
-  pub row : i / length ps < length behind
+  pub row : i / length ps < length after
   pub place : i % length ps < length ps
   pub split : i / length ps * length ps + i % length ps ≡ i
-  pub value : get_or (rows behind ps) i 0 ≡ get_or behind (i / length ps) 0 + get_or ps (i % length ps) 0
+  pub value : get_or (rows after ps) i 0 ≡ get_or after (i / length ps) 0 + get_or ps (i % length ps) 0
 
-pub is-at : (ps behind : List ℕ) (i : ℕ) → i < length (rows behind ps) → IsAt ps behind i
-is-at ps behind i lt =
-    let long = length-rows ps behind in
-    let below : i < length behind * length ps = omega (arith, lt, long) in
-    let some : 0 < length ps = some_factor (length ps) (length behind) i (omega (arith, below)) in
-    let row : i / length ps < length behind = div_below i (length ps) (length behind) some below in
+pub is-at : (ps after : List ℕ) (i : ℕ) → i < length (rows after ps) → IsAt ps after i
+is-at ps after i lt =
+    let long = length-rows ps after in
+    let below : i < length after * length ps = omega (arith, lt, long) in
+    let some : 0 < length ps = some_factor (length ps) (length after) i (omega (arith, below)) in
+    let row : i / length ps < length after = div_below i (length ps) (length after) some below in
     let place : i % length ps < length ps = mod_below i (length ps) some in
     let split : i / length ps * length ps + i % length ps ≡ i = (let h = mod-add-div i (length ps) in omega (arith, h)) in
     record {
@@ -81,7 +81,7 @@ is-at ps behind i lt =
       row = row;
       place = place;
       split = split;
-      value = ap (λ k. get_or (rows behind ps) k 0) (sym split) ∙ element-of ps behind (i / length ps) (i % length ps) row place;
+      value = ap (λ k. get_or (rows after ps) k 0) (sym split) ∙ element-of ps after (i / length ps) (i % length ps) row place;
     }
 
 -- the numbers of one list alone
@@ -151,25 +151,25 @@ range-rest first start skip width le =
     ∙ ap (map (λ p. first + p)) (drop-append_seam (range_with_len start skip) (range_with_len (start + skip) (width - skip)))
     ∙ map-range_shifted (start + skip) (first + start + skip) (width - skip) (λ p. first + p) (λ j low high. omega arith)
 
-pub record IsNear (ps behind : List ℕ) (width from : ℕ) : Type 0 where
+pub record IsNear (ps after : List ℕ) (width from : ℕ) : Type 0 where
   pub some : 0 < width
-  pub row : from / width < length behind
+  pub row : from / width < length after
   pub place : from % width < width
-  pub rest : map (λ p. get_or behind (from / width) 0 + p) (drop (from % width) ps) ≡ take (width - from % width) (drop from (rows behind ps))
+  pub rest : map (λ p. get_or after (from / width) 0 + p) (drop (from % width) ps) ≡ take (width - from % width) (drop from (rows after ps))
 
-pub is-near : (ps behind : List ℕ) (width from : ℕ) → width ≡ length ps → from < length (rows behind ps) → IsNear ps behind width from
-is-near ps behind width from long lt = subst (λ w. IsNear ps behind w from) (sym long) near
+pub is-near : (ps after : List ℕ) (width from : ℕ) → width ≡ length ps → from < length (rows after ps) → IsNear ps after width from
+is-near ps after width from long lt = subst (λ w. IsNear ps after w from) (sym long) near
   where
-    at : IsAt ps behind from
-    at = is-at ps behind from lt
+    at : IsAt ps after from
+    at = is-at ps after from lt
 
-    near : IsNear ps behind (length ps) from
+    near : IsNear ps after (length ps) from
     near = record {
       some = at.some;
       row = at.row;
       place = at.place;
-      rest = sym (ap (λ k. take (length ps - from % length ps) (drop k (rows behind ps))) (sym at.split)
-          ∙ row-of ps behind (from / length ps) (from % length ps) at.row (let a = at.place in omega (arith, a)));
+      rest = sym (ap (λ k. take (length ps - from % length ps) (drop k (rows after ps))) (sym at.split)
+          ∙ row-of ps after (from / length ps) (from % length ps) at.row (let a = at.place in omega (arith, a)));
     }
 
 pub reach-some : (near : Option (List ℕ)) (start width : ℕ) → 0 < width → 0 < reach near start width

@@ -1,5 +1,5 @@
 -- No public clause cites this file.
--- Numbers one behind the other, as code keeps them.
+-- Numbers one after the other, as code keeps them.
 use Rattle.std.specs.Prelude.{ℕ, ◌+◌, ◌^◌, List, map, Option, Some, None}
 use Rattle.std.specs.List.{range_with_len}
 

@@ -4,8 +4,8 @@ use Rattle.std.specs.Prelude.{ℕ, ◌+◌, ◌*◌, ◌^◌, ◌<◌, ◌≤◌
 use Rattle.std.specs.List.{flat_map}
 
 -- each of the places added to each of the numbers, the places fastest
-abbrev pub rows : (behind places : List ℕ) → List ℕ
-rows behind places = flat_map (λ n. map (λ p. n + p) places) behind
+abbrev pub rows : (after places : List ℕ) → List ℕ
+rows after places = flat_map (λ n. map (λ p. n + p) places) after
 
 -- the sums of one number of each list, the first list fastest
 abbrev pub sums : List (List ℕ) → List ℕ

@@ -1,4 +1,4 @@
-//! Tuples one behind the other.
+//! Tuples one after the other.
 
 ghost use Rattle.std.specs.Prelude.{◌≡◌, ◌+◌, ◌<◌, ◌≤◌, ◌^◌, length, map, slice_index, option_map};
 ghost use Rattle.tuple_numbers.specs.Runs.{reach, run_of};

@@ -41,7 +41,7 @@ owns-named ns layouts r layout node t spot laid named =
     ∙ owned-named ns layouts r layout laid node t h.0 h.1
     ∙ sym (ap (λ o. holds (owns_in o node r) places) laid.row ∙ holds-and B O places ∙ ap (λ b. b && holds O places) inside)
 
--- the element is named by the first read, or by one behind it
+-- the element is named by the first read, or by one after it
 pub named-first : (o : Option Spot) (reads : List (Option Spot)) (spot : Spot) → names_spot (o ∷ reads) spot ≡ true
     → (o ≡ Some spot) ⊎ (names_spot reads spot ≡ true)
 named-first None reads spot e = inr e

@@ -11,8 +11,8 @@ returns-then-has_empty c =
     ∙ ap (map (number_at c.args.extents.now)) (sym (combined-none (map (λ v. v.items) c.args.lists.now)
     (any-map (λ v. v.items) is_empty c.args.lists.now ∙ sym c.has_empty.ensures ∙ c.if-has_empty.true)))
 
-pub rows-requires-clause-behind : goal.rows-requires-clause-behind
-rows-requires-clause-behind c =
+pub rows-requires-clause-after : goal.rows-requires-clause-after
+rows-requires-clause-after c =
     let extents = c.args.extents.now in
     let positive = some-extents extents (map (λ v. v.items) c.args.lists.now) (length-map c.args.lists.now (λ v. v.items) ∙ c.requires.axes) c.requires.places
     (any-map (λ v. v.items) is_empty c.args.lists.now ∙ sym c.has_empty.ensures ∙ c.if-has_empty.false) in

@@ -21,8 +21,8 @@ returns-then-dims-courses c =
     sym (ap in_64_bits (uneven c.args.dims.now (courses_at places (courses_of c.args.courses.now))
     (λ same. c.if-dims-courses.true (same ∙ as-many places c.args.courses.now))))
 
-pub returns-in_err-behind : goal.returns-in_err-behind
-returns-in_err-behind c =
+pub returns-in_err-above : goal.returns-in_err-above
+returns-in_err-above c =
     let places = places_at c.args.extents.now c.args.tuple in
     let subscripts = courses_at places (courses_of c.args.courses.now) in
     let l = c.loop-k.k in
@@ -33,7 +33,7 @@ returns-in_err-behind c =
     ∙ sym (ap in_64_bits (stop_in c.args.dims.now subscripts l zero_dim (pos 0) c.loop-k-test.true c.loop-k.invariant.0 long
     (ap (offset (get_or c.args.dims.now (l - 1) zero_dim)) (subscript-at places c.args.courses.now (l - 1) (Fixed (pos 0)) (pos 0) within ∙ sym c.course_at-subscript.ensures
     ∙ sym (to_z-of_z w128 c.course_at-subscript.result fits))
-    ∙ sym c.in_err-behind.ensures)))
+    ∙ sym c.in_err-above.ensures)))
 
 pub loop-k-preserved : goal.loop-k-preserved
 loop-k-preserved c =
@@ -44,9 +44,9 @@ loop-k-preserved c =
     let within : l - 1 < length c.args.courses.now = omega (arith, c.loop-k-test.true, c.loop-k.invariant.0, c.if-dims-courses.false) in
     let fits : FitsSigned w128 c.course_at-subscript.result = search rules in (
       let f : l - 1 ≤ length c.args.dims.now = omega (arith, c.loop-k.invariant.0) in f,
-      step_in c.args.dims.now subscripts l c.in_ok-behind.behind c.loop-k.place c.extent.result zero_dim (pos 0) c.loop-k-test.true c.loop-k.invariant.0 long
+      step_in c.args.dims.now subscripts l c.in_ok-above.above c.loop-k.place c.extent.result zero_dim (pos 0) c.loop-k-test.true c.loop-k.invariant.0 long
           (ap (offset (get_or c.args.dims.now (l - 1) zero_dim)) (subscript-at places c.args.courses.now (l - 1) (Fixed (pos 0)) (pos 0) within ∙ sym c.course_at-subscript.ensures
           ∙ sym (to_z-of_z w128 c.course_at-subscript.result fits))
-          ∙ sym c.in_ok-behind.ensures)
+          ∙ sym c.in_ok-above.ensures)
           c.loop-k.invariant.1 c.extent.ensures.value,
     )
