@@ -18,7 +18,6 @@
 #![tactic(auto)]
 
 mod answer;
-mod arrays;
 mod driver;
 mod fitting;
 mod layouts;

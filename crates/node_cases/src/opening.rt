@@ -4,15 +4,13 @@ ghost use Rattle.std.specs.Prelude.{◌≤◌};
 ghost use Rattle.hpf_base.specs.declared.limits.TheConstants.{MAX_NODES};
 ghost use Rattle.array_maps.specs.Maps.{AreMaps};
 
-use crate::arrays::{grid_of, shapes_of, starts_of};
 use crate::fitting::fits;
 use crate::layouts::{Moves, moves_of, owners_of};
 use array_maps::Maps;
+use case_arrays::{Arrays, arrays_of, grid_of};
 use case_code::{line_of, read_code};
 use case_texts::text_of;
-use directive_check::check_mapping;
-use hpf_reader::read_program;
-use name_table::{Program, resolve};
+use expression_rules::Dims;
 use node_machine::Node;
 use node_program::NodeProgram;
 use owner_tables::Owners;
@@ -27,42 +25,42 @@ pub fn nodes_on(alloc: Global, case: &[String], grid: &str) -> Option<Vec<Node>>
         return None;
     }
     let text = text_of(alloc, line_of(case, "text")).ok()?;
-    match read_program(alloc, &text) {
-        Ok(tree) => match resolve(alloc, tree) {
-            Ok(program) => match check_mapping(alloc, &program, &grid) {
-                Ok(maps) => nodes_over(alloc, case, &program, &maps, nodes),
-                Err(_) => None,
-            },
-            Err(_) => None,
-        },
-        Err(_) => None,
-    }
+    let arrays = arrays_of(alloc, &text, &grid)?;
+    nodes_over(alloc, case, arrays, nodes)
 }
 
-/// The nodes, so many, over which the arrays lie as these mappings say.
-fn nodes_over(
-    alloc: Global,
-    case: &[String],
-    program: &Program,
-    maps: &Maps,
-    nodes: u32,
-) -> Option<Vec<Node>>
+/// The nodes, so many, over which the arrays lie as their mappings say.
+fn nodes_over(alloc: Global, case: &[String], arrays: Arrays, nodes: u32) -> Option<Vec<Node>>
     requires some { 1 ≤ nodes }
     requires few { nodes ≤ MAX_NODES }
-    requires valid { AreMaps nodes maps.now }
+    requires valid { AreMaps nodes arrays.maps }
 {
-    let code = node_program(alloc, case, program, maps, nodes)?;
+    let Arrays {
+        shapes,
+        starts,
+        maps,
+    } = arrays;
+    let code = node_program(alloc, case, shapes, &maps, nodes)?;
     let copies = line_of(case, "copies").parse::<usize>().unwrap_or(0);
     let owners = owners_of(alloc, maps.arrays.as_slice(), copies, nodes).ok()?;
-    let starts = starts_of(alloc, program, copies)?;
+    let starts = with_copies(starts, copies)?;
     openings(alloc, case, &code, &owners, &starts)
+}
+
+/// These values, and 0 for each of so many copies.
+fn with_copies(starts: Vec<i64>, copies: usize) -> Option<Vec<i64>> {
+    let mut starts = starts;
+    for _ in 0..copies {
+        starts.push(0).ok()?;
+    }
+    Some(starts)
 }
 
 /// What the nodes run: the case's code, over the arrays and redistributions of its text.
 fn node_program(
     alloc: Global,
     case: &[String],
-    program: &Program,
+    shapes: Vec<Dims>,
     maps: &Maps,
     nodes: u32,
 ) -> Option<Arc<NodeProgram>>
@@ -73,7 +71,6 @@ fn node_program(
     let Moves { moves, tables } = moves_of(alloc, maps, nodes).ok()?;
     let mut moves = moves;
     let code = read_code(alloc, case, &mut moves)?;
-    let shapes = shapes_of(alloc, program)?;
     let program = NodeProgram {
         nodes,
         shapes,
