@@ -1,7 +1,7 @@
 -- What the dimensions of an align target are given for an element of the alignee (HPF 2.0, 3.4).
 use Rattle.std.specs.Prelude.{ℕ, zero, suc, Bool, true, false, ◌||◌, nat_lt, bytes_eq, unsigned_abs, List, [], ◌∷◌, length, drop, ℤ, ◌-ℤ◌, ◌*ℤ◌, Option, Some, None, if◌then◌else◌}
 use Rattle.std.specs.List.{list_any}
-use Rattle.hpf_base.specs.declared.limits.TheConstants.{MAX_ALIGN_FACTOR, MAX_ALIGN_OFFSET}
+use Rattle.alignment_rules.specs.declared.limits.TheConstants.{MAX_ALIGN_FACTOR, MAX_ALIGN_OFFSET}
 use Rattle.mappings.specs.declared.mapping.AlignDim.{AlignDim}
 use Rattle.mappings.specs.declared.mapping.AlignDim.TheVariants.{Linear, At, Every}
 use Rattle.syntax_tree.specs.Directive as directive

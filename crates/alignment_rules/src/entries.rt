@@ -8,7 +8,8 @@ ghost use Rattle.alignment_rules.specs.WideEntries.{IsNear, align_dim};
 
 use crate::alignment_values::{Pair, TargetValue};
 use expression_rules::Dim;
-use hpf_base::{MAX_ALIGN_FACTOR, MAX_ALIGN_OFFSET, Name};
+use crate::limits::{MAX_ALIGN_FACTOR, MAX_ALIGN_OFFSET};
+use hpf_base::Name;
 use linear_subscripts::LinearForm;
 
 /// What a dimension of the target is given: `a * i + b` of the subscript i of a dimension, one subscript, or every one.

@@ -2,7 +2,7 @@
 use Rattle.std.specs.Prelude.{ℕ, ◌*◌, nat_le, List, [], ◌∷◌, ◌++◌, ℤ, pos, ◌-ℤ◌, Bool, true, ◌&&◌, ◌||◌, ◌==◌}
 use Rattle.std.specs.List.{list_all}
 use Rattle.std.specs.Result.{result_unwrap_or}
-use Rattle.name_table.specs.TheConstants.{MAX_TUPLES}
+use Rattle.array_meaning.specs.declared.limits.TheConstants.{MAX_TUPLES}
 use Rattle.name_table.specs.Operators.{wrapped}
 use Rattle.array_meaning.specs.Terms.{Term, list_of}
 use Rattle.array_meaning.specs.Statements.{Nest, Block, Done, Then, Statement, AssignScalar, AssignElement, If, Do, Arms, NoArm, Arm}

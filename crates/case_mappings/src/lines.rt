@@ -5,7 +5,8 @@ ghost use Rattle.mappings.specs.Mapping.{IsForm, IsLine};
 ghost use Rattle.mappings.specs.declared.mapping.Form.TheVariants.{Whole};
 
 use case_texts::TextError;
-use hpf_base::{MAX_BLOCK, MAX_BOUND, MAX_CYCLIC, MAX_NODES, MAX_TEMPLATE_EXTENT};
+use hpf_base::{MAX_BOUND, MAX_NODES};
+use mappings::{MAX_BLOCK, MAX_CYCLIC, MAX_TEMPLATE_EXTENT};
 use mappings::{BlockSizes, Form, Line};
 use std::alloc::Global;
 

@@ -6,6 +6,7 @@
 #![tactic(auto)]
 
 mod breaches;
+mod limits;
 mod nest_state;
 mod open_constructs;
 mod program_line;
@@ -14,6 +15,7 @@ mod roles;
 mod rules;
 
 pub use breaches::first_breach;
+pub use limits::MAX_NESTING;
 pub use program_line::{LineContent, ProgramLine};
 pub use role::{Clauses, Construct, Role};
 pub use roles::role_of;

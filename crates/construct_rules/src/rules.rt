@@ -8,7 +8,8 @@ ghost use Rattle.construct_rules.specs.NestState.{is_statement};
 use crate::nest_state::{NestState, is_passed};
 use crate::open_constructs::{Opens, is_where_or_forall};
 use crate::role::{Clauses, Construct, Role};
-use hpf_base::{MAX_NESTING, Reason};
+use crate::limits::MAX_NESTING;
+use hpf_base::Reason;
 
 /// An END part that doesn't close the innermost open construct, or an ELSE part out of place.
 fn closes_wrongly(opens: &Opens, role: Role) -> bool

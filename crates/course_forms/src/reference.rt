@@ -1,7 +1,7 @@
 //! References by the courses of their subscripts.
 
 ghost use Rattle.std.specs.Prelude.{◌≡◌, ◌≤◌, ◌<◌, ◌++◌, IfOk, IfSome, Some, map};
-ghost use Rattle.hpf_base.specs.declared.limits.TheConstants.{MAX_TUPLES};
+ghost use Rattle.array_meaning.specs.declared.limits.TheConstants.{MAX_TUPLES};
 ghost use Rattle.hpf_base.specs.ElementOrder.{product};
 ghost use Rattle.courses.specs.References.{Named, copy_dims, named_copy, named_element, own_courses};
 ghost use Rattle.course_forms.specs.Views.{courses_of, named_of};

@@ -5,7 +5,8 @@ use Rattle.std.specs.List.{list_any}
 use Rattle.std.proofs.Math.Nat.{mul_assoc, mul-le-mul_left, mul_comm}
 use Rattle.std.proofs.lemmas.Bool.Decides.{nat_tests}
 use Rattle.std.proofs.lemmas.List.Elements.{All-cons, All-nil}
-use Rattle.hpf_base.specs.declared.limits.TheConstants.{MAX_BOUND, MAX_RANK, MAX_ELEMENTS, MAX_TOTAL_ELEMENTS}
+use Rattle.hpf_base.specs.declared.limits.TheConstants.{MAX_BOUND, MAX_RANK, MAX_ELEMENTS}
+use Rattle.declarations.specs.declared.limits.TheConstants.{MAX_TOTAL_ELEMENTS}
 use Rattle.syntax_tree.specs.Directive.{Bound}
 use Rattle.expression_rules.specs.declared.dims.Dim.{Dim}
 use Rattle.expression_rules.specs.Dims.{AreDims, IsDim, elements, extent}

@@ -2,7 +2,8 @@
 -- the reason.
 use Rattle.std.specs.Prelude.{Bool, true, false, ◌&&◌, not, nat_lt, nat_le, List, [], ◌∷◌, ◌++◌, length, ℤ, Option, Some, None}
 use Rattle.std.specs.List.{list_any, list_all, flat_map}
-use Rattle.hpf_base.specs.declared.limits.TheConstants.{MAX_NAMES, MAX_RANK}
+use Rattle.hpf_base.specs.declared.limits.TheConstants.{MAX_RANK}
+use Rattle.declarations.specs.declared.limits.TheConstants.{MAX_NAMES}
 use Rattle.hpf_base.specs.declared.refusal.Reason.{Reason}
 use Rattle.hpf_base.specs.declared.refusal.Reason.TheVariants as reason
 use Rattle.hpf_base.specs.declared.refusal.Refusal.{Refusal}

@@ -2,7 +2,8 @@
 -- 3.6 and 3.7).
 use Rattle.std.specs.Prelude.{ℕ, ◌+◌, Bool, true, false, ◌||◌, nat_lt, unsigned_abs, List, [], ◌∷◌, ◌++◌, map, length, ℤ, pos, Option, Some, None, if◌then◌else◌}
 use Rattle.std.specs.List.{list_any, flat_map}
-use Rattle.hpf_base.specs.declared.limits.TheConstants.{MAX_BOUND, MAX_ELEMENTS, MAX_TOTAL_ELEMENTS, MAX_RANK}
+use Rattle.hpf_base.specs.declared.limits.TheConstants.{MAX_BOUND, MAX_ELEMENTS, MAX_RANK}
+use Rattle.declarations.specs.declared.limits.TheConstants.{MAX_TOTAL_ELEMENTS}
 use Rattle.syntax_tree.specs.Expression.{Expression}
 use Rattle.syntax_tree.specs.Directive.{Bound, Entity, Processors, Template as TemplateDirective}
 use Rattle.syntax_tree.specs.MainProgram.{NamedConstant, Declared, Integer, Parameter, Directed, Declaration}

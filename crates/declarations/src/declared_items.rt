@@ -12,9 +12,9 @@ ghost use Rattle.declarations.specs.DeclarationRules.{declared_again, item_reaso
 use crate::constant_reasons::{dims_reason, expression_reason, option_reason};
 use crate::declared_names::{DeclaredNames, is_declared, is_uninitialized};
 use crate::least_reason::{lesser, reason_if};
-use crate::limits::{is_past_limits, known_dims, number, number_or};
+use crate::limits::{MAX_NAMES, is_past_limits, known_dims, number, number_or};
 use expression_rules::{Scope, Symbol};
-use hpf_base::{MAX_NAMES, MAX_RANK, Name, Reason};
+use hpf_base::{MAX_RANK, Name, Reason};
 use std::alloc::{AllocError, Global};
 use syntax_tree::{Bound, ConstDef, Entity, Expr};
 

@@ -1,7 +1,7 @@
 //! The names that are declared so far.
 
 ghost use Rattle.std.specs.Prelude.{◌≡◌, ◌≤◌, ◌+◌, [], if◌then◌else◌, option_copied, OnOk};
-ghost use Rattle.hpf_base.specs.declared.limits.TheConstants.{MAX_TOTAL_ELEMENTS};
+ghost use Rattle.declarations.specs.declared.limits.TheConstants.{MAX_TOTAL_ELEMENTS};
 ghost use Rattle.expression_rules.specs.declared.symbols.Symbol.TheVariants.{Constant};
 ghost use Rattle.expression_rules.specs.Symbols.{added, all_elements, changed, elements_of, find, is_declared, is_uninitialized, satisfies};
 
@@ -19,7 +19,7 @@ pub(crate) struct DeclaredNames {
 
 impl Model for DeclaredNames {
     ghost use Rattle.std.specs.Prelude.{◌≡◌, ◌≤◌, List, ℕ};
-    ghost use Rattle.hpf_base.specs.declared.limits.TheConstants.{MAX_TOTAL_ELEMENTS};
+    ghost use Rattle.declarations.specs.declared.limits.TheConstants.{MAX_TOTAL_ELEMENTS};
     ghost use Rattle.expression_rules.specs.Symbols.{all_elements};
     ghost use Rattle.expression_rules.specs.declared.symbols.Symbol.{Symbol};
 

@@ -13,3 +13,4 @@ mod least_reason;
 mod limits;
 
 pub use declaring::{Declarations, declare};
+pub use limits::{MAX_NAMES, MAX_TOTAL_ELEMENTS};

@@ -1,8 +1,8 @@
-//! The dimensions of arrays, and the limits of arrays (Fortran 95, 5.1.2.4.1).
+//! The limits of what a program declares, the dimensions of arrays, and the limits of arrays (Fortran 95, 5.1.2.4.1).
 
 ghost use Rattle.std.specs.Prelude.{◌≡◌, ◌≤◌, map, option_map, All, IfOk};
 ghost use Rattle.std.specs.List.{list_any};
-ghost use Rattle.hpf_base.specs.declared.limits.TheConstants.{MAX_TOTAL_ELEMENTS};
+ghost use Rattle.declarations.specs.declared.limits.TheConstants.{MAX_TOTAL_ELEMENTS};
 ghost use Rattle.syntax_tree.specs.Directive.{bound};
 ghost use Rattle.syntax_tree.specs.Expression.{expression};
 ghost use Rattle.expression_rules.specs.Dims.{IsDim};
@@ -11,9 +11,15 @@ ghost use Rattle.declarations.specs.Declaring.{and_dim, capped_elements};
 
 use crate::declared_names::DeclaredNames;
 use expression_rules::{Dim, Dims, Evaluated, Scope, extent, value};
-use hpf_base::{MAX_BOUND, MAX_ELEMENTS, MAX_RANK, MAX_TOTAL_ELEMENTS};
+use hpf_base::{MAX_BOUND, MAX_ELEMENTS, MAX_RANK};
 use std::alloc::{AllocError, Global};
 use syntax_tree::{Bound, Expr};
+
+/// The greatest number of names that a program declares.
+pub const MAX_NAMES: usize = 256;
+
+/// The greatest number of elements of all arrays of a program together.
+pub const MAX_TOTAL_ELEMENTS: u64 = 4_194_304;
 
 /// The value, where it is known.
 fn if_known(found: Evaluated<i64>) -> Option<i64>

@@ -8,7 +8,7 @@ use Rattle.std.proofs.lemmas.Option.{same_Some, slice_get-get_or, slice_get_with
 use Rattle.indexmap.specs.IndexMap.{insert_entry}
 use Rattle.hpf_base.specs.FirstBreach.{Among}
 use Rattle.hpf_base.specs.Refusal.{NoBreach}
-use Rattle.hpf_base.specs.declared.limits.TheConstants.{MAX_NAMES}
+use Rattle.declarations.specs.declared.limits.TheConstants.{MAX_NAMES}
 use Rattle.hpf_base.specs.declared.refusal.Reason.TheVariants as reason
 use Rattle.syntax_tree.specs.MainProgram.{MainProgram}
 use Rattle.expression_rules.specs.Symbols.{Name, SymbolTable, added, changed, find, is_declared, is_uninitialized, satisfies}

@@ -19,7 +19,7 @@ use Rattle.alignment_rules.specs.AlignmentEntries.{alignment_of, is_past_limits}
 use Rattle.directive_check.specs.MappedObjects.{How, Aligned, Distributed, MappedObject, how_mapped}
 use Rattle.directive_check.specs.Chains.{chain_entries_from, composed_entries, entries_in, is_refused, known_entries, known_or_past, limited, own_entries, root_from, target_in, target_of, through_target, within_limits}
 use Rattle.std.specs.Prelude.{if◌then◌else◌, Bool, true, false, nat_lt, unsigned_abs}
-use Rattle.hpf_base.specs.declared.limits.TheConstants.{MAX_ALIGN_OFFSET}
+use Rattle.alignment_rules.specs.declared.limits.TheConstants.{MAX_ALIGN_OFFSET}
 
 -- ---- alignments of alignments
 

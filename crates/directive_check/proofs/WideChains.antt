@@ -9,7 +9,7 @@ use Rattle.std.proofs.lemmas.List.Elements.{All-head, All-tail}
 use lib.Dec.{T}
 use lib.Signed.{le_z_yes}
 use Rattle.hpf_base.proofs.Integers.{linear_of_linear, within_magnitude}
-use Rattle.hpf_base.specs.declared.limits.TheConstants.{MAX_ALIGN_FACTOR, MAX_ALIGN_OFFSET}
+use Rattle.alignment_rules.specs.declared.limits.TheConstants.{MAX_ALIGN_FACTOR, MAX_ALIGN_OFFSET}
 use Rattle.hpf_base.specs.declared.refusal.Reason.{Reason}
 use Rattle.hpf_base.specs.declared.refusal.Reason.TheVariants as reason
 use Rattle.declarations.specs.Declaring.{least_reason}

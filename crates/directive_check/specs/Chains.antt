@@ -1,7 +1,7 @@
 -- Alignments one after the other (HPF 2.0, 3.4): where an object's alignment leads, through the targets that are aligned themselves.
 use Rattle.std.specs.Prelude.{ℕ, zero, suc, Bool, true, false, ◌&&◌, ◌||◌, nat_lt, bytes_eq, unsigned_abs, is_some, List, [], ◌∷◌, length, map, Option, Some, None, if◌then◌else◌}
 use Rattle.mappings.specs.Alignment.{composed_align}
-use Rattle.hpf_base.specs.declared.limits.TheConstants.{MAX_ALIGN_OFFSET}
+use Rattle.alignment_rules.specs.declared.limits.TheConstants.{MAX_ALIGN_OFFSET}
 use Rattle.hpf_base.specs.declared.refusal.Reason.{Reason}
 use Rattle.mappings.specs.declared.mapping.AlignDim.{AlignDim}
 use Rattle.mappings.specs.declared.mapping.AlignDim.TheVariants.{Linear, At, Every}

@@ -2,7 +2,7 @@
 
 ghost use Rattle.std.specs.Prelude.{◌≡◌, ◌≤◌, ◌++◌, length, All, IfOk};
 ghost use Rattle.hpf_base.specs.FirstBreach.{least};
-ghost use Rattle.hpf_base.specs.declared.limits.TheConstants.{MAX_NAMES};
+ghost use Rattle.declarations.specs.declared.limits.TheConstants.{MAX_NAMES};
 ghost use Rattle.hpf_base.specs.declared.refusal.Reason.TheVariants as reason;
 ghost use Rattle.declarations.specs.Declaring.{least_reason};
 ghost use Rattle.declarations.specs.Reasons.{when};

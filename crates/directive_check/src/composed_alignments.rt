@@ -12,7 +12,7 @@ use crate::subscripts::linear;
 use crate::wide_numbers::advanced;
 use alignment_rules::{AlignDims, Alignment};
 use expression_rules::Dim;
-use hpf_base::{MAX_ALIGN_FACTOR, MAX_ALIGN_OFFSET};
+use alignment_rules::{MAX_ALIGN_FACTOR, MAX_ALIGN_OFFSET};
 use mappings::AlignDim;
 use std::alloc::{AllocError, Global};
 use std::marker::Model;

@@ -1,7 +1,7 @@
 //! The mappings that DISTRIBUTE and REDISTRIBUTE give, and those of what is aligned with their objects (HPF 2.0, 3.3 and 3.4).
 
 ghost use Rattle.std.specs.Prelude.{◌≡◌, ◌≤◌, length, All, IfOk, IfSome, Some};
-ghost use Rattle.hpf_base.specs.declared.limits.TheConstants.{MAX_NAMES};
+ghost use Rattle.declarations.specs.declared.limits.TheConstants.{MAX_NAMES};
 ghost use Rattle.mappings.specs.Alignment.{composed, composed_align};
 ghost use Rattle.syntax_tree.specs.Directive.{distribution};
 ghost use Rattle.directive_check.specs.ChainSteps.{IsJudged};

@@ -4,7 +4,7 @@ ghost use Rattle.std.specs.Prelude.{◌≡◌, ◌≤◌, length, map, All, IfEr
 ghost use Rattle.hpf_base.specs.ElementOrder.{product};
 ghost use Rattle.hpf_base.specs.FirstBreach.{Among, least};
 ghost use Rattle.hpf_base.specs.Refusal.{IsRefusalBy, NoBreach};
-ghost use Rattle.hpf_base.specs.declared.limits.TheConstants.{MAX_NAMES};
+ghost use Rattle.declarations.specs.declared.limits.TheConstants.{MAX_NAMES};
 ghost use Rattle.syntax_tree.specs.MainProgram.{declaration, main_program};
 ghost use Rattle.expression_rules.specs.Symbols.{Name};
 ghost use Rattle.declarations.specs.Declarations.{symbol_table};

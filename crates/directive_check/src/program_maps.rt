@@ -1,7 +1,8 @@
 //! The arrays of a program at the start, and those that each REDISTRIBUTE moves (HPF 2.0, 3 and 8.3).
 
 ghost use Rattle.std.specs.Prelude.{◌≡◌, ◌≤◌, ◌++◌, ◌+◌, length, map, unwrap_or, All, IfOk, OnOk};
-ghost use Rattle.hpf_base.specs.declared.limits.TheConstants.{MAX_NAMES, MAX_RANK};
+ghost use Rattle.hpf_base.specs.declared.limits.TheConstants.{MAX_RANK};
+ghost use Rattle.declarations.specs.declared.limits.TheConstants.{MAX_NAMES};
 ghost use Rattle.expression_rules.specs.Symbols.{is_among};
 ghost use Rattle.syntax_tree.specs.Directive.{distribution};
 ghost use Rattle.syntax_tree.specs.Statement.{block_of};

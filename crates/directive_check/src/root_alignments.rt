@@ -1,7 +1,7 @@
 //! The alignment of an object with what its alignments end at (HPF 2.0, 3.4).
 
 ghost use Rattle.std.specs.Prelude.{◌≡◌, ◌≤◌, length, map, All, None, Some, IfOk, if◌then◌else◌};
-ghost use Rattle.hpf_base.specs.declared.limits.TheConstants.{MAX_NAMES};
+ghost use Rattle.declarations.specs.declared.limits.TheConstants.{MAX_NAMES};
 ghost use Rattle.directive_check.specs.Chains.{entries_in, is_on_cycle, known_entries, own_entries, root_alignment, root_of, target_of};
 ghost use Rattle.distribution_rules.specs.Setting.{dims_of};
 ghost use Rattle.syntax_tree.specs.Directive.{alignment as directive_alignment};

@@ -1,7 +1,8 @@
 //! How many positions a processor owns.
 
 ghost use Rattle.std.specs.Prelude.{◌≡◌, ◌<◌, ◌≤◌, ◌==◌, ◌*◌, ◌+◌, ◌-◌, filter, length, min};
-ghost use Rattle.hpf_base.specs.declared.limits.TheConstants.{MAX_BLOCK, MAX_CYCLIC, MAX_NODES, MAX_TEMPLATE_EXTENT};
+ghost use Rattle.hpf_base.specs.declared.limits.TheConstants.{MAX_NODES};
+ghost use Rattle.mappings.specs.declared.limits.TheConstants.{MAX_BLOCK, MAX_CYCLIC, MAX_TEMPLATE_EXTENT};
 ghost use Rattle.mappings.specs.declared.mapping.Form.TheVariants.{Block, Cyclic};
 ghost use Rattle.mappings.specs.Mapping.{IsLine};
 ghost use Rattle.mappings.specs.Owner.{coordinate, coordinate_under};

@@ -11,7 +11,7 @@ use Rattle.std.proofs.lemmas.Option.{same_Some, slice_get_within, slice_get-get_
 use Rattle.std.specs.Int.{div_ceil}
 use Rattle.mappings.specs.Mapping.{IsForm}
 use Rattle.mappings.specs.Owner.{default_block}
-use Rattle.hpf_base.specs.declared.limits.TheConstants.{MAX_BLOCK, MAX_CYCLIC, MAX_TEMPLATE_EXTENT}
+use Rattle.mappings.specs.declared.limits.TheConstants.{MAX_BLOCK, MAX_CYCLIC, MAX_TEMPLATE_EXTENT}
 use Rattle.mappings.specs.declared.mapping.Form.{Form}
 use Rattle.mappings.specs.declared.mapping.Form.TheVariants as form
 use Rattle.hpf_base.specs.declared.refusal.Reason.{Reason}

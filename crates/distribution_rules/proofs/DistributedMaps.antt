@@ -9,7 +9,8 @@ use Rattle.std.proofs.lemmas.Option.{same_Some, slice_get_within}
 use Rattle.hpf_base.specs.ElementOrder.{product}
 use Rattle.hpf_base.specs.Grid.{IsGrid}
 use Rattle.mappings.specs.Mapping.{IsAlign, IsForm, MoveApart, moves_along}
-use Rattle.hpf_base.specs.declared.limits.TheConstants.{MAX_BOUND, MAX_NODES, MAX_TEMPLATE_EXTENT}
+use Rattle.hpf_base.specs.declared.limits.TheConstants.{MAX_BOUND, MAX_NODES}
+use Rattle.mappings.specs.declared.limits.TheConstants.{MAX_TEMPLATE_EXTENT}
 use Rattle.mappings.specs.declared.mapping.AlignDim.TheVariants.{Linear}
 use Rattle.mappings.specs.declared.mapping.Form.{Form}
 use Rattle.mappings.specs.declared.mapping.Form.TheVariants.{Whole}

@@ -1,6 +1,6 @@
 -- The bounds of dimensions in directives (HPF 2.0, 3.6 and 3.7), each dimension where both of its bounds are known.
 use Rattle.std.specs.Prelude.{ℕ, Bool, false, nat_lt, List, [], ◌∷◌, ℤ, pos, Option, Some, None}
-use Rattle.hpf_base.specs.declared.limits.TheConstants.{MAX_TEMPLATE_EXTENT}
+use Rattle.mappings.specs.declared.limits.TheConstants.{MAX_TEMPLATE_EXTENT}
 use Rattle.syntax_tree.specs.Expression.{Expression}
 use Rattle.syntax_tree.specs.Directive.{Bound}
 use Rattle.expression_rules.specs.Constants.{value}

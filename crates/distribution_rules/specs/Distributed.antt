@@ -3,7 +3,8 @@ use Rattle.std.specs.Prelude.{ℕ, ◌==◌, Bool, ◌&&◌, nat_le, unsigned_ab
 use Rattle.std.specs.List.{list_all}
 use Rattle.hpf_base.specs.ElementOrder.{product}
 use Rattle.mappings.specs.Owner.{default_block}
-use Rattle.hpf_base.specs.declared.limits.TheConstants.{MAX_BLOCK, MAX_RANK}
+use Rattle.hpf_base.specs.declared.limits.TheConstants.{MAX_RANK}
+use Rattle.mappings.specs.declared.limits.TheConstants.{MAX_BLOCK}
 use Rattle.mappings.specs.declared.mapping.AlignDim.TheVariants.{Linear}
 use Rattle.mappings.specs.declared.mapping.Form.{Form}
 use Rattle.mappings.specs.declared.mapping.Form.TheVariants as form

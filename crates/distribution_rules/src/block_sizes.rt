@@ -2,7 +2,8 @@
 
 ghost use Rattle.std.specs.Prelude.{◌≡◌, ◌≤◌, length, nat_le, nat_lt, option_and_then, option_map, sum, IfOk};
 ghost use Rattle.std.specs.List.{list_all};
-ghost use Rattle.hpf_base.specs.declared.limits.TheConstants.{MAX_BLOCK, MAX_NODES};
+ghost use Rattle.hpf_base.specs.declared.limits.TheConstants.{MAX_NODES};
+ghost use Rattle.mappings.specs.declared.limits.TheConstants.{MAX_BLOCK};
 ghost use Rattle.distribution_rules.specs.Dimensions.{passes};
 ghost use Rattle.distribution_rules.specs.Distributed.{gen_block};
 ghost use Rattle.distribution_rules.specs.DistributedSteps.{size_list};
@@ -11,7 +12,7 @@ ghost use Rattle.distribution_rules.specs.DistributionRules.{has_small_sum, have
 use crate::dimensions::position_count;
 use crate::evaluated_formats::FormatValue;
 use expression_rules::{Dim, Evaluated};
-use hpf_base::MAX_BLOCK;
+use mappings::MAX_BLOCK;
 use mappings::{BlockSizes, Form};
 use std::alloc::{AllocError, Global};
 

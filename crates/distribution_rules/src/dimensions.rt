@@ -7,7 +7,8 @@ ghost use Rattle.syntax_tree.specs.Expression.{expression};
 ghost use Rattle.distribution_rules.specs.Dimensions.{directive_value, directive_value_or, dim_if, dim_of, is_empty_dim, is_too_wide, lower_value, upper_value};
 
 use expression_rules::{Dim, Evaluated, Scope, SymbolTable, value};
-use hpf_base::{Grid, MAX_TEMPLATE_EXTENT};
+use hpf_base::Grid;
+use mappings::MAX_TEMPLATE_EXTENT;
 use std::alloc::{AllocError, Global};
 use syntax_tree::{Bound, Expr};
 

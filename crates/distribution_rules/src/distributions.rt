@@ -5,7 +5,7 @@ ghost use Rattle.std.specs.List.{flat_map, list_any};
 ghost use Rattle.syntax_tree.specs.Directive.{distribution, format_of};
 ghost use Rattle.syntax_tree.specs.Expression.{expression};
 ghost use Rattle.declarations.specs.Declaring.{least_reason};
-ghost use Rattle.hpf_base.specs.declared.limits.TheConstants.{MAX_BLOCK};
+ghost use Rattle.mappings.specs.declared.limits.TheConstants.{MAX_BLOCK};
 ghost use Rattle.distribution_rules.specs.DistributionRules.{distributed_count, distributed_dims, distributee_reasons, distribution_reasons, distribution_values, format_reasons, format_value, have_small_sum, is_unfit, processors_of, processors_reasons, size_reasons};
 ghost use Rattle.distribution_rules.specs.Setting.{is_array_kind, is_mapped_kind, value_in};
 
@@ -20,7 +20,8 @@ use crate::processors::{on_grid, onto_object};
 use crate::setting::{Setting, value_in};
 use crate::spaces::has_wide;
 use expression_rules::{Dim, Evaluated};
-use hpf_base::{MAX_BLOCK, MAX_CYCLIC, Name, Reason};
+use hpf_base::{Name, Reason};
+use mappings::{MAX_BLOCK, MAX_CYCLIC};
 use std::alloc::{AllocError, Global};
 use syntax_tree::{DistSpec, Expr, Format};
 

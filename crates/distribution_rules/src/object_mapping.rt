@@ -2,7 +2,8 @@
 
 ghost use Rattle.std.specs.Prelude.{◌≡◌, ◌<◌, ◌≤◌, ◌^◌, All, Some, length, option_and_then, option_map, IfOk, IfSome};
 ghost use Rattle.hpf_base.specs.Grid.{IsGrid};
-ghost use Rattle.hpf_base.specs.declared.limits.TheConstants.{MAX_NODES, MAX_RANK, MAX_TEMPLATE_EXTENT};
+ghost use Rattle.hpf_base.specs.declared.limits.TheConstants.{MAX_NODES, MAX_RANK};
+ghost use Rattle.mappings.specs.declared.limits.TheConstants.{MAX_TEMPLATE_EXTENT};
 ghost use Rattle.distribution_rules.specs.Distributed.{all_or_none, distributed, form_of, has_all_nodes, map_dim, mapping_onto};
 ghost use Rattle.distribution_rules.specs.DistributedSteps.{and_entries, distributed_dim, entry_if, entry_list};
 ghost use Rattle.distribution_rules.specs.DistributionRules.{distributed_from};

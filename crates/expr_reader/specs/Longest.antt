@@ -1,6 +1,6 @@
 -- The longest expression that begins at a token (Fortran 95, 7.1).
 use Rattle.std.specs.Prelude.{◌≡◌, ◌≤◌, ◌<◌, ℕ, ◌-◌, List, ◌++◌, length, drop}
-use Rattle.hpf_base.specs.declared.limits.TheConstants.{MAX_DEPTH}
+use Rattle.expr_reader.specs.declared.limits.TheConstants.{MAX_DEPTH}
 use Rattle.hpf_base.specs.declared.refusal.Reason.{Reason}
 use Rattle.hpf_base.specs.declared.refusal.Reason.TheVariants.{NotAStatement, Limit}
 use Rattle.hpf_base.specs.declared.refusal.StaticError.{StaticError}

@@ -10,9 +10,11 @@
 
 mod depth;
 mod laws;
+mod limits;
 mod reading;
 mod signs;
 
 pub use depth::fits;
 pub use laws::{front_exact, one_expression};
+pub use limits::MAX_DEPTH;
 pub use reading::{front_expr, read_expr};

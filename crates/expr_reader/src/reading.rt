@@ -13,7 +13,8 @@ ghost use Rattle.expr_reader.specs.TokenReading.{ahead, AreExpressions, EndsWith
 
 use crate::depth::fits;
 use crate::signs::{closes, opens, ranges, separates, sign_at, skip, steps};
-use hpf_base::{MAX_DEPTH, Name, Reason, StaticError};
+use crate::limits::MAX_DEPTH;
+use hpf_base::{Name, Reason, StaticError};
 use op_tables::{Op, is_reserved};
 use source_lines::{Token, TokenKind};
 use std::alloc::{AllocError, Global};

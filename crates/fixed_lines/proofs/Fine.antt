@@ -6,7 +6,7 @@ use Rattle.std.specs.Cmp.Lexicographic.{same_text}
 use Rattle.std.proofs.lemmas.Bool.{false≢true, false_from_ne_true, ltb-true}
 use Rattle.std.proofs.lemmas.List.{length-append, length-drop, length-take, take-append-drop}
 use Rattle.std.proofs.lemmas.List.Folds.{list_any-append}
-use Rattle.hpf_base.specs.declared.limits.TheConstants.{MAX_LINE_BYTES}
+use Rattle.source_lines.specs.declared.limits.TheConstants.{MAX_LINE_BYTES}
 use Rattle.source_lines.specs.declared.line.LineKind.{LineKind}
 use Rattle.source_lines.specs.declared.line.LineKind.TheVariants as logical
 use Rattle.source_lines.specs.Cut.{cut}

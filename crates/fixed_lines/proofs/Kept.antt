@@ -4,7 +4,7 @@ use Rattle.std.specs.Prelude.{not}
 use Rattle.std.specs.List.{enumerate_from}
 use Rattle.std.proofs.lemmas.Bool.{false≢true}
 use Rattle.hpf_base.specs.Refusal.{NoBreach}
-use Rattle.hpf_base.specs.declared.limits.TheConstants.{MAX_LINES}
+use Rattle.source_lines.specs.declared.limits.TheConstants.{MAX_LINES}
 use Rattle.hpf_base.specs.declared.refusal.Reason.TheVariants.{Limit}
 use Rattle.fixed_lines.specs.declared.kind.FixedKind.{FixedKind}
 use Rattle.fixed_lines.specs.declared.kind.FixedKind.TheVariants.{Passed, Statement, Directive}

@@ -8,7 +8,7 @@ use Rattle.hpf_base.specs.Refusal.{NoBreach}
 use Rattle.hpf_base.specs.declared.refusal.Reason.TheVariants.{Limit}
 use Rattle.fixed_lines.specs.FixedLines.{FixedLine}
 use Rattle.fixed_lines.specs.declared.kind.FixedKind.TheVariants.{Directive}
-use Rattle.hpf_base.specs.declared.limits.TheConstants.{MAX_FIXED_CONTINUATIONS}
+use Rattle.fixed_lines.specs.declared.limits.TheConstants.{MAX_FIXED_CONTINUATIONS}
 use Rattle.fixed_lines.specs.FixedBreaches.{continues, is_directive, is_passed, standing, IsBreachIn}
 use Rattle.fixed_lines.specs.FixedLogicalLines.{is_blank_directive}
 use Rattle.fixed_lines.specs.FreeText.{blank_left, continues_directive, with_code}

@@ -1,7 +1,7 @@
 -- Linear subscripts as the code has them.
 use Rattle.std.specs.Prelude.{ℕ, nat_le, Bool, ◌&&◌, ◌||◌, List, Option, Some, None}
 use Rattle.std.specs.List.{list_all, list_any}
-use Rattle.hpf_base.specs.declared.limits.TheConstants.{MAX_TUPLES}
+use Rattle.array_meaning.specs.declared.limits.TheConstants.{MAX_TUPLES}
 use Rattle.array_meaning.specs.Terms.{Term}
 use Rattle.array_meaning.specs.State.{State}
 use Rattle.array_meaning.specs.declared.sections.Sequence.{Sequence}

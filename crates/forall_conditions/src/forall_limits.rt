@@ -12,7 +12,7 @@ ghost use Rattle.forall_conditions.specs.Linears.{are_in_limits, is_short_in_lim
 
 use crate::linear::{LinearForm, linear};
 use array_meaning::Sequence;
-use hpf_base::{MAX_FACTOR, MAX_INDEX_VALUE, MAX_OFFSET, MAX_TUPLES};
+use array_meaning::{MAX_FACTOR, MAX_INDEX_VALUE, MAX_OFFSET, MAX_TUPLES};
 use resolved_program::{ElementAssignment, Term};
 use std::alloc::AllocError;
 use term_values::State;

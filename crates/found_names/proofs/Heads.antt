@@ -2,7 +2,7 @@
 use Rattle.std.proofs.Common.{◌≡◌, Bool, true, List, [], ◌∷◌}
 use Rattle.std.specs.Prelude.{◌&&◌, ◌||◌, not, length, nat_lt}
 use Rattle.std.specs.List.{AllByRecursion, flat_map, list_all}
-use Rattle.hpf_base.specs.declared.limits.TheConstants.{MAX_INDICES}
+use Rattle.name_table.specs.declared.limits.TheConstants.{MAX_INDICES}
 use Rattle.hpf_base.specs.declared.refusal.Reason.TheVariants as reason
 use Rattle.syntax_tree.specs.MainProgram.{MainProgram}
 use Rattle.expression_rules.specs.Operands.{are_operands}

@@ -11,7 +11,7 @@ use Rattle.std.proofs.lemmas.List.{get_or-append_right}
 use Rattle.std.specs.Prelude.{filter}
 use Rattle.std.specs.List.{range_with_len}
 use Rattle.std.specs.List.Sorted.{IsPartitionPoint}
-use Rattle.hpf_base.specs.declared.limits.TheConstants.{MAX_CYCLIC, MAX_TEMPLATE_EXTENT}
+use Rattle.mappings.specs.declared.limits.TheConstants.{MAX_CYCLIC, MAX_TEMPLATE_EXTENT}
 use Rattle.mappings.specs.declared.mapping.Form.TheVariants.{Cyclic}
 use Rattle.mappings.specs.Owner.{coordinate_under}
 use Rattle.distribution.proofs.Cycles.{same_coordinate}

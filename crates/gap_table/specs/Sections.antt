@@ -1,6 +1,6 @@
 -- Regular sections as private functions take them. Only private contracts cite this.
 use Rattle.std.specs.Prelude.{ℕ, ◌<◌, ◌≤◌, ◌≢◌, pos, ◌≤ℤ◌}
-use Rattle.hpf_base.specs.declared.limits.TheConstants.{MAX_TEMPLATE_EXTENT}
+use Rattle.mappings.specs.declared.limits.TheConstants.{MAX_TEMPLATE_EXTENT}
 use Rattle.gap_table.specs.declared.sections.Section.{Section}
 use Rattle.gap_table.specs.OwnedSequence.{position_of}
 

@@ -2,7 +2,8 @@
 
 ghost use Rattle.std.specs.Prelude.{◌≡◌, ◌≢◌, ◌+◌, ◌*◌, ◌≤◌, ◌<◌, ◌==◌, pos, ◌≤ℤ◌, IfOk, filter, length, ℕ};
 ghost use Rattle.std.specs.List.{range_with_len};
-ghost use Rattle.hpf_base.specs.declared.limits.TheConstants.{MAX_CYCLIC, MAX_NODES, MAX_TEMPLATE_EXTENT};
+ghost use Rattle.hpf_base.specs.declared.limits.TheConstants.{MAX_NODES};
+ghost use Rattle.mappings.specs.declared.limits.TheConstants.{MAX_CYCLIC, MAX_TEMPLATE_EXTENT};
 ghost use Rattle.mappings.specs.declared.mapping.Form.TheVariants.{Cyclic};
 ghost use Rattle.mappings.specs.Owner.{coordinate_under};
 ghost use Rattle.gap_table.specs.GapTable.{places_of};

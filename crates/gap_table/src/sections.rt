@@ -2,7 +2,8 @@
 
 ghost use Rattle.std.specs.Prelude.{◌≡◌, ◌≢◌, ◌+◌, ◌*◌, ◌≤◌, ◌<◌, pos, ◌≤ℤ◌, IfOk, filter, length, ℕ, unsigned_abs, nat_le, nat_lt, ◌&&◌};
 ghost use Rattle.std.specs.List.{range_with_len};
-ghost use Rattle.hpf_base.specs.declared.limits.TheConstants.{MAX_BLOCK, MAX_NODES};
+ghost use Rattle.hpf_base.specs.declared.limits.TheConstants.{MAX_NODES};
+ghost use Rattle.mappings.specs.declared.limits.TheConstants.{MAX_BLOCK};
 ghost use Rattle.mappings.specs.Positions.{in_section};
 ghost use Rattle.gap_table.specs.GapTable.{places_of};
 ghost use Rattle.gap_table.specs.OwnedSequence.{position_of};

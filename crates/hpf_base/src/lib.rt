@@ -21,15 +21,9 @@ pub use array_id::ArrayId;
 pub use first_breach::{at_line, earlier};
 pub use grid::Grid;
 pub use index::{Index, Shape};
-pub use limits::{
-    MAX_ALIGN_FACTOR, MAX_ALIGN_OFFSET, MAX_BLOCK, MAX_BOUND, MAX_CONTINUATIONS, MAX_CYCLIC,
-    MAX_DEPTH, MAX_ELEMENTS, MAX_FACTOR, MAX_FIXED_CONTINUATIONS, MAX_INDEX_VALUE, MAX_INDICES,
-    MAX_LINE_BYTES, MAX_LINES, MAX_LOGICAL_LINE_BYTES, MAX_NAME_BYTES, MAX_NAMES, MAX_NESTING,
-    MAX_NODES, MAX_OFFSET, MAX_RANK, MAX_SOURCE_BYTES, MAX_TEMPLATE_EXTENT, MAX_TOTAL_ELEMENTS,
-    MAX_TUPLES,
-};
+pub use limits::{MAX_BOUND, MAX_ELEMENTS, MAX_NODES, MAX_RANK};
 pub use memory::OutOfMemory;
-pub use name::Name;
+pub use name::{NAME_CAPACITY, Name};
 pub use node::NodeId;
 pub use refusal::{Reason, Refusal, StaticError};
 pub use status::Status;

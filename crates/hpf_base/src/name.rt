@@ -9,14 +9,16 @@ ghost use Rattle.std.specs.Cmp.Rules.{hashing};
 ghost use Rattle.std.specs.Hash as fed;
 ghost use Rattle.hpf_base.specs.Name.{IsName, is_name_byte};
 
-use crate::limits::MAX_NAME_BYTES;
 use std::hash::{Hash, Hasher};
 use std::marker::Model;
+
+/// The most bytes that a name has room for.
+pub const NAME_CAPACITY: usize = 31;
 
 /// A name in upper case. Contracts see the list of its bytes: 1 to 31 of `A` to `Z`, `0` to `9` and `_`.
 #[derive(Clone, Copy, Debug)]
 pub struct Name {
-    bytes: [u8; MAX_NAME_BYTES],
+    bytes: [u8; NAME_CAPACITY],
     len: u8,
 }
 
@@ -43,10 +45,10 @@ impl Name {
         ensures some { IsSome result ↔ IsName bytes.now }
         ensures value { IfSome result (λ name. name ≡ bytes.now) }
     {
-        if bytes.is_empty() || bytes.len() > MAX_NAME_BYTES || !are_name_bytes(bytes) {
+        if bytes.is_empty() || bytes.len() > NAME_CAPACITY || !are_name_bytes(bytes) {
             return None;
         }
-        let mut held = [0; MAX_NAME_BYTES];
+        let mut held = [0; NAME_CAPACITY];
         held[..bytes.len()].copy_from_slice(bytes);
         Some(Name {
             bytes: held,

@@ -7,6 +7,7 @@
 #![tactic(auto)]
 
 mod gate;
+mod limits;
 mod meet;
 mod mem;
 mod read;
@@ -16,6 +17,7 @@ mod standard;
 mod write;
 
 pub use gate::{Gate, OpenGate};
+pub use limits::MAX_SOURCE_BYTES;
 pub use meet::{MEET_TURNS, MeetGate};
 pub use mem::{MemSink, MemSource};
 pub use read::{ReadAll, read_all};

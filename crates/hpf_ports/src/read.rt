@@ -4,7 +4,7 @@ ghost use Rattle.std.specs.Prelude.{◌≡◌, ◌≢◌, ◌+◌, ◌<◌, ◌�
 ghost use Rattle.hpf_ports.specs.Ports.{Gave, IsAtEnd, Rose};
 
 use crate::source::{Failed, Source};
-use hpf_base::MAX_SOURCE_BYTES;
+use crate::limits::MAX_SOURCE_BYTES;
 use std::alloc::{AllocError, Global};
 use thiserror::Error;
 

@@ -1,7 +1,7 @@
 //! Reading a text as a program.
 
 ghost use Rattle.std.specs.Prelude.{◌≡◌, ◌≤◌, All, IfOk, IfErr, OnOk, length};
-ghost use Rattle.hpf_base.specs.declared.limits.TheConstants.{MAX_LOGICAL_LINE_BYTES};
+ghost use Rattle.source_lines.specs.declared.limits.TheConstants.{MAX_LOGICAL_LINE_BYTES};
 ghost use Rattle.hpf_base.specs.Refusal.{IsRefusalBy, NoBreach};
 ghost use Rattle.source_lines.specs.PhysicalLines.{physical_lines};
 ghost use Rattle.syntax_tree.specs.MainProgram.{main_program};

@@ -1,7 +1,7 @@
 //! The tokens of all lines.
 
 ghost use Rattle.std.specs.Prelude.{◌≡◌, ◌≤◌, All, IfErr, IfNone, IfOk, OnOk, length, map};
-ghost use Rattle.hpf_base.specs.declared.limits.TheConstants.{MAX_LOGICAL_LINE_BYTES};
+ghost use Rattle.source_lines.specs.declared.limits.TheConstants.{MAX_LOGICAL_LINE_BYTES};
 ghost use Rattle.hpf_base.specs.FirstBreach.{IsFirstOrNone};
 ghost use Rattle.hpf_base.specs.Refusal.{IsRefusalBy, NoBreach};
 ghost use Rattle.syntax_tree.specs.Lexeme.{lexemes};

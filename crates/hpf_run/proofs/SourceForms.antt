@@ -1,7 +1,7 @@
 -- Texts that are read alike come to the same, whatever their source forms.
 use Rattle.std.proofs.Common.{◌≡◌, ℕ, ◌≤◌, Bool, true, false, true≢false, List, length, Some, sym, ◌∙◌, ap, subst, arith}
 use Rattle.std.proofs.lemmas.Option.{none-some, same_Some}
-use Rattle.hpf_base.specs.declared.limits.TheConstants.{MAX_SOURCE_BYTES}
+use Rattle.hpf_ports.specs.declared.limits.TheConstants.{MAX_SOURCE_BYTES}
 use Rattle.hpf_base.specs.declared.refusal.Refusal.{Refusal}
 use Rattle.syntax_tree.specs.MainProgram.{MainProgram}
 use Rattle.hpf_reader.specs.ProgramText as reader

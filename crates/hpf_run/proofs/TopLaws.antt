@@ -5,7 +5,7 @@ use Rattle.std.proofs.lemmas.Option.{same_Some}
 use Rattle.hpf_base.specs.declared.refusal.Refusal.{Refusal}
 use Rattle.hpf_base.specs.declared.status.Status.TheVariants.{Done, Fault, Refused, TooLong, Usage, WriteFault}
 use Rattle.hpf_base.specs.declared.status.Status.{Status}
-use Rattle.hpf_base.specs.declared.limits.TheConstants.{MAX_SOURCE_BYTES}
+use Rattle.hpf_ports.specs.declared.limits.TheConstants.{MAX_SOURCE_BYTES}
 use Rattle.hpf_ports.specs.Ports.{Gave, IsAtEnd, Rose, AreAppended}
 use Rattle.syntax_tree.specs.MainProgram.{MainProgram}
 use Rattle.hpf_words.specs.declared.job.Action.{Action}

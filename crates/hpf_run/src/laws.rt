@@ -1,7 +1,7 @@
 //! A law of the two source forms.
 
 ghost use Rattle.std.specs.Prelude.{◌≡◌, ◌≤◌, ◌↔◌, ℕ, List, false, length, true};
-ghost use Rattle.hpf_base.specs.declared.limits.TheConstants.{MAX_SOURCE_BYTES};
+ghost use Rattle.hpf_ports.specs.declared.limits.TheConstants.{MAX_SOURCE_BYTES};
 ghost use Rattle.hpf_base.specs.Refusal.{NoBreach};
 ghost use Rattle.fixed_lines.specs.FixedBreaches.{IsFixedBreach};
 ghost use Rattle.fixed_lines.specs.FreeText.{free_text};

@@ -1,7 +1,7 @@
 //! The text that a source has.
 
 ghost use Rattle.std.specs.Prelude.{◌≡◌, ◌≤◌, ℕ, List, true, length, IfOk, IfErr};
-ghost use Rattle.hpf_base.specs.declared.limits.TheConstants.{MAX_SOURCE_BYTES};
+ghost use Rattle.hpf_ports.specs.declared.limits.TheConstants.{MAX_SOURCE_BYTES};
 ghost use Rattle.hpf_ports.specs.Ports.{Gave, IsAtEnd};
 ghost use Rattle.hpf_words.specs.declared.job.Job.{Job};
 ghost use Rattle.hpf_run.specs.Command.{IsCommand, reads_source};

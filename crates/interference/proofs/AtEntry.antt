@@ -5,7 +5,7 @@ use Rattle.std.specs.List.{list_all}
 use Rattle.std.specs.Option.{option_or}
 use Rattle.std.proofs.lemmas.Bool.{and_parts}
 use Rattle.std.proofs.lemmas.Bool.Decides.{nat_tests}
-use Rattle.hpf_base.specs.declared.limits.TheConstants.{MAX_TUPLES}
+use Rattle.array_meaning.specs.declared.limits.TheConstants.{MAX_TUPLES}
 use Rattle.hpf_base.specs.ElementOrder.{product}
 use Rattle.resolved_program.specs.declared.statements.Loop.{Loop as HeldLoop}
 use Rattle.resolved_program.specs.declared.statements.Nest.{Nest as HeldNest}

@@ -1,7 +1,7 @@
 //! The first clash of the iterations of a nest (HPF 2.0, 5.1).
 
 ghost use Rattle.std.specs.Prelude.{◌≡◌, ◌≤◌, ◌<◌, ◌^◌, [], IfOk, IfSome, None, OnOk, map, option_map};
-ghost use Rattle.hpf_base.specs.declared.limits.TheConstants.{MAX_TUPLES};
+ghost use Rattle.array_meaning.specs.declared.limits.TheConstants.{MAX_TUPLES};
 ghost use Rattle.array_meaning.specs.Clashes.{first_clash};
 ghost use Rattle.array_meaning.specs.State.{scalar};
 ghost use Rattle.nest_clash.specs.Scan.{better};

@@ -2,7 +2,7 @@
 
 ghost use Rattle.std.specs.Prelude.{◌≡◌, ◌≤◌, ◌^◌, ◌||◌, ◌==◌, ◌++◌, ◌∷◌, IfOk, pos, ◌+ℤ◌, ◌-ℤ◌, ◌*ℤ◌, ◌≤ℤ◌, unsigned_abs};
 ghost use Rattle.std.specs.List.{list_all};
-ghost use Rattle.hpf_base.specs.declared.limits.TheConstants.{MAX_INDEX_VALUE};
+ghost use Rattle.array_meaning.specs.declared.limits.TheConstants.{MAX_INDEX_VALUE};
 ghost use Rattle.hpf_base.specs.ElementOrder.{product};
 ghost use Rattle.op_tables.specs.Operators.{wrapped};
 ghost use Rattle.array_meaning.specs.Terms.{list_of};
@@ -16,7 +16,7 @@ ghost use Rattle.interference.specs.Limits.{is_arm_in_limits, is_space_in_limits
 
 use crate::indices::{IterationSpace, kept, set_all, set_back, values_of};
 use array_meaning::Sequence;
-use hpf_base::{MAX_FACTOR, MAX_INDEX_VALUE, MAX_OFFSET, MAX_TUPLES};
+use array_meaning::{MAX_FACTOR, MAX_INDEX_VALUE, MAX_OFFSET, MAX_TUPLES};
 use resolved_program::{Action, Arm, Loop, Statement, Term};
 use smallvec::SmallVec;
 use std::alloc::{AllocError, Global};

@@ -8,7 +8,8 @@ use Rattle.std.proofs.lemmas.Bool.Decides.{nat_tests}
 use Rattle.std.proofs.lemmas.Int.{ints}
 use lib.Dec.{T}
 use lib.Signed.{le_z_yes}
-use Rattle.hpf_base.specs.declared.limits.TheConstants.{MAX_ALIGN_OFFSET, MAX_BOUND}
+use Rattle.hpf_base.specs.declared.limits.TheConstants.{MAX_BOUND}
+use Rattle.alignment_rules.specs.declared.limits.TheConstants.{MAX_ALIGN_OFFSET}
 use Rattle.hpf_base.specs.declared.refusal.Reason.TheVariants as reason
 use Rattle.mappings.specs.declared.mapping.AlignDim.{AlignDim}
 use Rattle.mappings.specs.declared.mapping.AlignDim.TheVariants.{Linear, At, Every}

@@ -3,7 +3,7 @@ use Rattle.std.proofs.Common.{◌≡◌, ℕ, zero, suc, ℤ, Bool, true, false,
 use Rattle.std.specs.Prelude.{slice_index_or, unsigned_abs, if◌then◌else◌}
 use Rattle.std.specs.List.{AllByRecursion}
 use Rattle.std.proofs.lemmas.List.{length-map}
-use Rattle.hpf_base.specs.declared.limits.TheConstants.{MAX_ALIGN_OFFSET}
+use Rattle.alignment_rules.specs.declared.limits.TheConstants.{MAX_ALIGN_OFFSET}
 use Rattle.mappings.specs.Alignment.{align_through, composed_align}
 use Rattle.mappings.specs.Mapping.{IsAlign}
 use Rattle.mappings.specs.declared.mapping.AlignDim.{AlignDim}

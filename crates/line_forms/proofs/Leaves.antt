@@ -2,7 +2,7 @@
 use Rattle.std.proofs.Common.{◌≡◌, ◌≤◌, ◌<◌, ℕ, Bool, true, false, List, ◌∷◌, ◌++◌, drop, Option, Some, None, refl, sym, ap, ◌∙◌, subst, arith, rules, tests}
 use Rattle.std.specs.Prelude.{if◌then◌else◌, not, nat_le}
 use Rattle.std.proofs.lemmas.Bool.{cond-false, cond-true}
-use Rattle.hpf_base.specs.declared.limits.TheConstants.{MAX_DEPTH}
+use Rattle.expr_reader.specs.declared.limits.TheConstants.{MAX_DEPTH}
 use Rattle.syntax_tree.specs.declared.sign.Sign.TheVariants as sign
 use Rattle.syntax_tree.specs.Lexeme.{Lexeme, Text, Fixed}
 use Rattle.syntax_tree.specs.Expression.{Expression, Part, One, Range, Glued, Maybe, Absent, Present, kept, part_kept, maybe_kept}

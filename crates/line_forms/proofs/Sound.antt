@@ -5,7 +5,7 @@ use Rattle.std.proofs.lemmas.Slice.Eq.{bytes_eq-Decides}
 use Rattle.std.proofs.lemmas.List.Elements.{All-nil, All-cons}
 use Rattle.std.proofs.lemmas.Bool.{and_parts}
 use denote.Enum.Bare.{same_true}
-use Rattle.hpf_base.specs.declared.limits.TheConstants.{MAX_DEPTH}
+use Rattle.expr_reader.specs.declared.limits.TheConstants.{MAX_DEPTH}
 use Rattle.op_tables.specs.Words.{is_reserved}
 use Rattle.syntax_tree.specs.declared.sign.Sign.{Sign}
 use Rattle.syntax_tree.specs.contracts.sign.Sign.{the_type}

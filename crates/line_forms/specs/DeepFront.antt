@@ -1,7 +1,7 @@
 -- What stands of a part of a line up to and with its first expression that is too deep.
 use Rattle.std.specs.Prelude.{◌≡◌, Bool, false, List, [], ◌∷◌, ◌++◌, map, Option, Some, None, nat_le, not, if◌then◌else◌}
 use Rattle.std.proofs.Common.{inl, inr}
-use Rattle.hpf_base.specs.declared.limits.TheConstants.{MAX_DEPTH}
+use Rattle.expr_reader.specs.declared.limits.TheConstants.{MAX_DEPTH}
 use Rattle.syntax_tree.specs.Lexeme.{Lexeme}
 use Rattle.syntax_tree.specs.Expression.{Expression, Part, One, Range, Glued, Maybe, Absent, Present}
 use Rattle.syntax_tree.specs.Spelling.{spelling, maybe_spelling, depth}

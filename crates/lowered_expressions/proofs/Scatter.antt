@@ -15,7 +15,7 @@ use Rattle.array_meaning.specs.declared.faults.FaultKind.TheVariants.{Shape, Spa
 use Rattle.array_meaning.specs.declared.sections.Selection.{Selection}
 use Rattle.array_meaning.specs.declared.sections.Store.{Store}
 use Rattle.expression_rules.specs.declared.dims.Dim.{Dim}
-use Rattle.hpf_base.specs.declared.limits.TheConstants.{MAX_TUPLES}
+use Rattle.array_meaning.specs.declared.limits.TheConstants.{MAX_TUPLES}
 use Rattle.hpf_base.specs.ElementOrder.{product}
 use Rattle.lowered_expressions.proofs.Goes.{Holds, holds-store}
 use Rattle.lowered_expressions.proofs.Terms.{HoldsArrays}

@@ -4,7 +4,7 @@ use Rattle.code_meaning.specs.Instructions.{ArrayTable, meaning_of, go_on_if}
 use Rattle.std.proofs.Common.{◌≡◌, ℕ, ◌+◌, ◌<◌, ◌≤◌, ◌==◌, ◌||◌, ◌&&◌, nat_le, List, [], ◌∷◌, ◌++◌, map, length, ℤ, pos, Bool, true, false, if◌then◌else◌, Option, Some, None, option_map, Result, Ok, Err, refl, sym, ap, ◌∙◌, subst, arith, length-append, append-nil, slice_get, slice_index_or}
 use Rattle.std.proofs.lemmas.Bool.Decides.{Decides-eqb}
 use Rattle.std.specs.List.{list_all}
-use Rattle.hpf_base.specs.declared.limits.TheConstants.{MAX_TUPLES}
+use Rattle.array_meaning.specs.declared.limits.TheConstants.{MAX_TUPLES}
 use Rattle.hpf_base.specs.ElementOrder.{product}
 use Rattle.machine_steps.specs.Space.{space_count}
 use Rattle.op_tables.specs.Operators.{is_true}

@@ -2,7 +2,8 @@
 -- its header, which has 7 at most. So it is in every program that breaks no rule.
 use Rattle.std.specs.Prelude.{◌≡◌, ℕ, ◌+◌, ◌<◌, ◌≤◌, List, length, map, Option, Some, None, ⊤}
 use Rattle.std.specs.List.{AllByRecursion}
-use Rattle.hpf_base.specs.declared.limits.TheConstants.{MAX_INDICES, MAX_RANK}
+use Rattle.hpf_base.specs.declared.limits.TheConstants.{MAX_RANK}
+use Rattle.name_table.specs.declared.limits.TheConstants.{MAX_INDICES}
 use Rattle.expression_rules.specs.declared.dims.Dim.{Dim}
 use Rattle.array_meaning.specs.Terms.{Term, Number, Scalar, Index, Element, Section, Apply, Reduce, Terms, NoTerm, More, list_of, SectionSubscripts, NoSubscript, Subscript, Triplet, Control}
 use Rattle.array_meaning.specs.Statements.{Item, Text, Value, Elements, SectionAssignment, ElementAssignment, Block, Done, Then, Statement, AssignScalar, AssignElement, AssignSection, If, Do, Where, Forall, Print, Stop, Exit, Cycle, Continue, Redistribute, Arms, NoArm, Arm}

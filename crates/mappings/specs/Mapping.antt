@@ -2,7 +2,8 @@
 use Rattle.std.specs.Prelude.{◌≡◌, ◌≢◌, ℕ, ◌*◌, ◌≤◌, ◌<◌, ℤ, pos, ◌≤ℤ◌, FitsSigned, unsigned_abs, cond, ⊤, List, length, map, sum, All, AllPairs, slice_get, Option, Some, None}
 use Rattle.std.specs.Int.{w64}
 use Rattle.std.specs.Ordering.{int_eq}
-use Rattle.hpf_base.specs.declared.limits.TheConstants.{MAX_BLOCK, MAX_BOUND, MAX_CYCLIC, MAX_NODES, MAX_TEMPLATE_EXTENT}
+use Rattle.hpf_base.specs.declared.limits.TheConstants.{MAX_BOUND, MAX_NODES}
+use Rattle.mappings.specs.declared.limits.TheConstants.{MAX_BLOCK, MAX_CYCLIC, MAX_TEMPLATE_EXTENT}
 use Rattle.mappings.specs.declared.mapping.AlignDim.{AlignDim}
 use Rattle.mappings.specs.declared.mapping.AlignDim.TheVariants.{Linear, At, Every}
 use Rattle.mappings.specs.declared.mapping.Form.{Form}

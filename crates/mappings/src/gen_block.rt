@@ -2,7 +2,8 @@
 
 ghost use Rattle.std.specs.Prelude.{◌≡◌, ◌+◌, ◌*◌, ◌<◌, ◌≤◌, All, IfOk, length, nat_le};
 ghost use Rattle.std.specs.List.{position_or_len};
-ghost use Rattle.hpf_base.specs.declared.limits.TheConstants.{MAX_BLOCK, MAX_NODES};
+ghost use Rattle.hpf_base.specs.declared.limits.TheConstants.{MAX_NODES};
+ghost use Rattle.mappings.specs.declared.limits.TheConstants.{MAX_BLOCK};
 ghost use Rattle.mappings.specs.GenBlock.{block_ends, size_before};
 
 use std::alloc::{AllocError, Global};
@@ -19,7 +20,8 @@ pub struct BlockSizes {
 
 impl Model for BlockSizes {
     ghost use Rattle.std.specs.Prelude.{◌≡◌, ◌≤◌, ℕ, All, List, length};
-    ghost use Rattle.hpf_base.specs.declared.limits.TheConstants.{MAX_BLOCK, MAX_NODES};
+    ghost use Rattle.hpf_base.specs.declared.limits.TheConstants.{MAX_NODES};
+ghost use Rattle.mappings.specs.declared.limits.TheConstants.{MAX_BLOCK};
     ghost use Rattle.mappings.specs.GenBlock.{block_ends};
 
     ghost Value = { List ℕ };

@@ -7,7 +7,9 @@
 #![tactic(auto)]
 
 mod gen_block;
+mod limits;
 mod mapping;
 
 pub use gen_block::BlockSizes;
+pub use limits::{MAX_BLOCK, MAX_CYCLIC, MAX_TEMPLATE_EXTENT};
 pub use mapping::{AlignDim, Form, Line, MapDim, MapDims, Mapping};

@@ -22,4 +22,3 @@ pub use Rattle.op_tables.specs.Operators
 pub use Rattle.op_tables.specs.Reductions
 pub use Rattle.op_tables.specs.declared.op.Op
 pub use Rattle.hpf_base.specs.ElementOrder
-pub use Rattle.hpf_base.specs.declared.limits.TheConstants

@@ -1,7 +1,7 @@
 -- The least reason for which a statement breaks a rule of names. No public clause cites this file.
 use Rattle.std.specs.Prelude.{◌&&◌, ◌||◌, not, nat_lt, List, length, Option, Some, None, if◌then◌else◌}
 use Rattle.std.specs.List.{list_all}
-use Rattle.hpf_base.specs.declared.limits.TheConstants.{MAX_INDICES}
+use Rattle.name_table.specs.declared.limits.TheConstants.{MAX_INDICES}
 use Rattle.hpf_base.specs.declared.refusal.Reason.{Reason}
 use Rattle.hpf_base.specs.declared.refusal.Reason.TheVariants as reason
 use Rattle.expression_rules.specs.Symbols.{Name, SymbolTable}

@@ -13,6 +13,7 @@ mod expressions;
 mod head_operands;
 mod integer_scalars;
 mod laws;
+mod limits;
 mod listed_names;
 mod name_judge;
 mod names;
@@ -23,5 +24,6 @@ mod refused;
 mod resolution;
 
 pub use laws::all_are_known;
+pub use limits::MAX_INDICES;
 pub use names::{Entry, Names, What};
 pub use resolution::{Program, resolve};

@@ -8,7 +8,8 @@ ghost use Rattle.syntax_tree.specs.Statement.{Done, Then, arms_of, block_of, do_
 ghost use Rattle.name_table.specs.NameRules.{nest_breaches};
 ghost use Rattle.statement_walk.specs.Nests.{arm_nests, nest_in, nests, statement_nests};
 
-use hpf_base::{MAX_INDICES, Reason, Refusal, earlier};
+use crate::limits::MAX_INDICES;
+use hpf_base::{Reason, Refusal, earlier};
 use syntax_tree::{Arm, DoLoop, StatementKind, Stmt};
 
 /// The first nest with a loop too many, where there is one: the line of the first such loop. It takes no memory.

@@ -1,6 +1,6 @@
 -- Blocks in which each nest is one by its form.
 use Rattle.std.specs.Prelude.{ℕ, ◌≤◌, length, Bool, false}
-use Rattle.hpf_base.specs.declared.limits.TheConstants.{MAX_INDICES}
+use Rattle.array_meaning.specs.TheConstants.{MAX_INDICES}
 use Rattle.op_tables.specs.declared.join.Join.{Join}
 use Rattle.array_meaning.specs.Statements.{Loop, Nest, Block, Done, Then, Statement, If, Do, Unmarked, Outermost, Arms, NoArm, Arm}
 use Rattle.nest_syntax.specs.NestKinds.{kind_of}

@@ -4,7 +4,7 @@ use Rattle.std.proofs.lemmas.Int.{fits_signed_from_abs, ints, unsigned_abs-mul}
 use Rattle.std.proofs.Math.IntN.{*ℤ-zero, negsuc-*ℤ-pos, pos-*ℤ-pos}
 use Rattle.std.proofs.Math.Nat.{mul-le-mul}
 use Rattle.std.specs.Int.{w64}
-use Rattle.hpf_base.specs.declared.limits.TheConstants.{MAX_TEMPLATE_EXTENT}
+use Rattle.mappings.specs.declared.limits.TheConstants.{MAX_TEMPLATE_EXTENT}
 use Rattle.hpf_base.specs.ElementOrder.{product}
 use Rattle.hpf_base.specs.Grid.{node_coordinates}
 use Rattle.hpf_base.proofs.Integers.{linear_of_linear}

@@ -8,7 +8,7 @@ use Rattle.std.proofs.lemmas.List.{get_or_default, length-map}
 use Rattle.std.proofs.lemmas.List.Elements.{All-cons, All-head, All-map, All-nil, All-tail}
 use Rattle.std.proofs.lemmas.Nat.{mod_below}
 use Rattle.std.specs.Option.{option_map}
-use Rattle.hpf_base.specs.declared.limits.TheConstants.{MAX_BOUND, MAX_ELEMENTS, MAX_NODES, MAX_TUPLES}
+use Rattle.hpf_base.specs.declared.limits.TheConstants.{MAX_BOUND, MAX_ELEMENTS, MAX_NODES}
 use Rattle.mappings.specs.declared.mapping.AlignDim.TheVariants.{Linear}
 use Rattle.mappings.specs.declared.mapping.Line.{Line}
 use Rattle.mappings.specs.declared.mapping.MapDim.{MapDim}
@@ -38,13 +38,13 @@ zeros-product [] other = absurd (other refl)
 zeros-product (n ∷ ns) other = zero-mul (product (map (λ n. 0) ns))
 
 copy_extents-product : (extents : List ℕ) → product (copy_extents extents) ≡ space_count extents
-copy_extents-product extents = by_limit (nat_le (product extents) MAX_TUPLES) refl
+copy_extents-product extents = by_limit (nat_le (product extents) MAX_ELEMENTS) refl
   where
     by_test : (b : Bool) → (product extents == 0) ≡ b → product (if b then map (λ n. 0) extents else extents) ≡ product extents
     by_test true is = let none : product extents ≡ 0 = eqb-true _ _ is in zeros-product extents (λ e. omega (arith, none, e)) ∙ sym none
     by_test false is = refl
 
-    by_limit : (b : Bool) → nat_le (product extents) MAX_TUPLES ≡ b
+    by_limit : (b : Bool) → nat_le (product extents) MAX_ELEMENTS ≡ b
         → product (if (if b then product extents else 0) == 0 then map (λ n. 0) extents else extents) ≡ (if b then product extents else 0)
     by_limit true is = by_test (product extents == 0) refl
     by_limit false is = zeros-product extents (λ one. cc)

@@ -1,7 +1,7 @@
 //! FORALL (Fortran 95, 7.5.4).
 
 ghost use Rattle.std.specs.Prelude.{◌≡◌, ◌≤◌, IfErr, IfOk, Ok, OnOk, map, option_map};
-ghost use Rattle.hpf_base.specs.declared.limits.TheConstants.{MAX_TUPLES};
+ghost use Rattle.array_meaning.specs.declared.limits.TheConstants.{MAX_TUPLES};
 ghost use Rattle.hpf_base.specs.ElementOrder.{product};
 ghost use Rattle.array_meaning.specs.Expressions.{all_index_values};
 ghost use Rattle.array_meaning.specs.Forall.{assign_all_forall, assign_forall, index_extents, mask_over, run_forall};

@@ -2,7 +2,7 @@
 //! stored.
 
 ghost use Rattle.std.specs.Prelude.{◌≡◌, ◌≤◌, IfErr, IfOk, Ok, OnOk, Some, true};
-ghost use Rattle.hpf_base.specs.declared.limits.TheConstants.{MAX_TUPLES};
+ghost use Rattle.array_meaning.specs.declared.limits.TheConstants.{MAX_TUPLES};
 ghost use Rattle.array_meaning.specs.Elementals.{each};
 ghost use Rattle.array_meaning.specs.Expressions.{value};
 ghost use Rattle.array_meaning.specs.Faults.{at_tuple};

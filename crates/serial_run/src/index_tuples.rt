@@ -1,7 +1,7 @@
 //! The values of the indices of a FORALL, tuple by tuple.
 
 ghost use Rattle.std.specs.Prelude.{◌≡◌, ◌+◌, ◌≤◌, ◌<◌, IfOk, IsTrue, OnOk, suc, pos};
-ghost use Rattle.hpf_base.specs.declared.limits.TheConstants.{MAX_TUPLES};
+ghost use Rattle.array_meaning.specs.declared.limits.TheConstants.{MAX_TUPLES};
 ghost use Rattle.array_meaning.specs.Sections.{nth};
 ghost use Rattle.array_meaning.specs.Forall.{indices_at};
 ghost use Rattle.op_tables.specs.Operators.{wrapped};

@@ -1,7 +1,7 @@
 //! The tuples of positions of a space, one after the other.
 
 ghost use Rattle.std.specs.Prelude.{◌≡◌, ◌+◌, ◌≤◌, ◌<◌, IfOk, IsTrue, OnOk, pos, suc};
-ghost use Rattle.hpf_base.specs.declared.limits.TheConstants.{MAX_TUPLES};
+ghost use Rattle.array_meaning.specs.declared.limits.TheConstants.{MAX_TUPLES};
 ghost use Rattle.array_meaning.specs.Sections.{positions};
 ghost use Rattle.serial_run.specs.PositionTuples.{ArePositions, first_position, has_next};
 

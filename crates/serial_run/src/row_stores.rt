@@ -1,7 +1,7 @@
 //! What assignments to sections store, by rows of their space where the places in each row follow one another.
 
 ghost use Rattle.std.specs.Prelude.{◌≡◌, ◌≤◌, suc, length, min, slice_index_or, true, IfOk, IfSome, Ok};
-ghost use Rattle.hpf_base.specs.declared.limits.TheConstants.{MAX_TUPLES};
+ghost use Rattle.array_meaning.specs.declared.limits.TheConstants.{MAX_TUPLES};
 ghost use Rattle.array_meaning.specs.Elementals.{each};
 ghost use Rattle.array_meaning.specs.Sections.{positions};
 ghost use Rattle.strips.specs.Places.{row_length};
@@ -13,7 +13,7 @@ ghost use Rattle.serial_run.specs.SectionStores.{branch_mask, kept_of, masked_st
 use crate::section_assignments::store_each;
 use crate::section_stores::{Branch, Sides, Space};
 use array_meaning::Store;
-use hpf_base::MAX_TUPLES;
+use array_meaning::MAX_TUPLES;
 use std::alloc::AllocError;
 use strips::{strip_places, strip_values};
 use term_values::State;

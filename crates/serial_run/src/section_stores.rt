@@ -1,7 +1,7 @@
 //! What assignments to sections store (Fortran 95, 7.5.1.5 and 7.5.3). All of it is evaluated before anything is stored.
 
 ghost use Rattle.std.specs.Prelude.{◌≡◌, ◌≤◌, IfErr, IfOk, Ok, OnOk, Some};
-ghost use Rattle.hpf_base.specs.declared.limits.TheConstants.{MAX_TUPLES};
+ghost use Rattle.array_meaning.specs.declared.limits.TheConstants.{MAX_TUPLES};
 ghost use Rattle.array_meaning.specs.Elementals.{each};
 ghost use Rattle.array_meaning.specs.ArrayAssignments.{if_true, mask_of};
 ghost use Rattle.array_meaning.specs.Sections.{positions, subscripts_at};

@@ -4,7 +4,8 @@ use Rattle.std.proofs.Math.Nat.{mul-le-mul_left, zero-mul}
 use Rattle.std.proofs.lemmas.Bool.{leb-true, ne_eqb, true≢false}
 use Rattle.std.proofs.lemmas.Nat.{mul-le}
 use Rattle.std.proofs.lemmas.Simd.{splat_is_map}
-use Rattle.hpf_base.specs.declared.limits.TheConstants.{MAX_ELEMENTS, MAX_TUPLES}
+use Rattle.hpf_base.specs.declared.limits.TheConstants.{MAX_ELEMENTS}
+use Rattle.array_meaning.specs.declared.limits.TheConstants.{MAX_TUPLES}
 use Rattle.hpf_base.specs.ElementOrder.{product}
 use Rattle.hpf_base.proofs.ElementOrder.{factor_some}
 use Rattle.machine_steps.specs.CopyLayout.{copy_extents}

@@ -1,7 +1,7 @@
 //! The tests of a FORALL (Fortran 95, 7.5.4).
 
 ghost use Rattle.std.specs.Prelude.{◌≡◌, ◌<◌, ◌≤◌, ◌^◌, ◌==◌, ◌||◌, map, IfOk, OnOk, OnErr};
-ghost use Rattle.hpf_base.specs.declared.limits.TheConstants.{MAX_TUPLES};
+ghost use Rattle.array_meaning.specs.declared.limits.TheConstants.{MAX_TUPLES};
 ghost use Rattle.hpf_base.specs.ElementOrder.{product};
 ghost use Rattle.array_meaning.specs.Forall.{is_forall_in_limits, is_one_to_one};
 ghost use Rattle.array_meaning.specs.Sections.{extents};

@@ -1,12 +1,14 @@
 //! The spaces of parallel statements, and the copies that hold a value for each of their tuples.
 
 ghost use Rattle.std.specs.Prelude.{◌≡◌, ◌≢◌, ◌≤◌, All, IfOk, length, replicate};
-ghost use Rattle.hpf_base.specs.declared.limits.TheConstants.{MAX_ELEMENTS, MAX_TUPLES};
+ghost use Rattle.hpf_base.specs.declared.limits.TheConstants.{MAX_ELEMENTS};
+ghost use Rattle.array_meaning.specs.declared.limits.TheConstants.{MAX_TUPLES};
 ghost use Rattle.hpf_base.specs.ElementOrder.{product};
 ghost use Rattle.machine_steps.specs.CopyLayout.{copy_extents};
 ghost use Rattle.machine_steps.specs.Space.{space_count};
 
-use hpf_base::{MAX_TUPLES, OutOfMemory};
+use array_meaning::MAX_TUPLES;
+use hpf_base::OutOfMemory;
 use std::alloc::Global;
 use term_values::size;
 

@@ -6,7 +6,7 @@ use Rattle.std.proofs.lemmas.Bool.{cases_lt, cases_order}
 use Rattle.std.proofs.lemmas.List.{get_or_default, take-append-drop, drop_more, length-map, length-take}
 use Rattle.std.proofs.lemmas.List.FromFn.{length-enumerate_from}
 use Rattle.hpf_base.specs.Refusal.{IsFirstBreach, NoBreach, number_of}
-use Rattle.hpf_base.specs.declared.limits.TheConstants.{MAX_LINES}
+use Rattle.source_lines.specs.declared.limits.TheConstants.{MAX_LINES}
 use Rattle.hpf_base.specs.declared.refusal.Reason.{Reason}
 use Rattle.hpf_base.specs.declared.refusal.Reason.TheVariants.{Limit}
 use Rattle.source_lines.specs.declared.physical_lines.PhysicalKind.TheVariants.{Passed, Statement}

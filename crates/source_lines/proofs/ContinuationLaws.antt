@@ -5,7 +5,7 @@ use Rattle.std.specs.List.{prefix_len, suffix_len}
 use Rattle.std.proofs.lemmas.Bool.{not-true, cases_lt}
 use Rattle.std.proofs.lemmas.List.{reverse-append, length-take, length-append}
 use Rattle.std.proofs.lemmas.List.Elements.{All-cons, All-nil}
-use Rattle.hpf_base.specs.declared.limits.TheConstants.{MAX_CONTINUATIONS}
+use Rattle.source_lines.specs.declared.limits.TheConstants.{MAX_CONTINUATIONS}
 use Rattle.hpf_base.specs.declared.refusal.Reason.TheVariants.{Limit}
 use Rattle.source_lines.specs.Cut.{cut_after}
 use Rattle.source_lines.specs.PhysicalLines.{PhysicalLine}

@@ -6,7 +6,7 @@ use Rattle.std.proofs.lemmas.Bool.{false_from_ne_true, ltb-false, false≢true}
 use Rattle.std.proofs.lemmas.List.{length-take, length-drop, length-append, get_or_default}
 use Rattle.std.proofs.lemmas.List.Elements.{All-append, All-cons, All-filter, All-head, All-map, All-nil, All-tail, All-take}
 use Rattle.hpf_base.specs.Refusal.{NoBreach}
-use Rattle.hpf_base.specs.declared.limits.TheConstants.{MAX_CONTINUATIONS, MAX_LINE_BYTES, MAX_LOGICAL_LINE_BYTES}
+use Rattle.source_lines.specs.declared.limits.TheConstants.{MAX_CONTINUATIONS, MAX_LINE_BYTES, MAX_LOGICAL_LINE_BYTES}
 use Rattle.hpf_base.specs.declared.refusal.Reason.TheVariants.{BadLine}
 use Rattle.source_lines.specs.declared.line.LogicalLine.{LogicalLine}
 use Rattle.source_lines.specs.declared.line.LineKind.TheVariants as logical

@@ -2,7 +2,7 @@
 use Rattle.std.specs.Prelude.{◌≡◌, ℕ, ◌⊎◌, Bool, not, false, true, IsTrue, IsFalse, nat_eq, ◌+◌, ◌≤◌, List, [], ◌∷◌, ◌++◌, filter, Option, Some, None}
 use Rattle.std.specs.List.{ends_with, suffix_len}
 use Rattle.hpf_base.specs.Refusal.{number_of}
-use Rattle.hpf_base.specs.declared.limits.TheConstants.{MAX_CONTINUATIONS, MAX_LINES}
+use Rattle.source_lines.specs.declared.limits.TheConstants.{MAX_CONTINUATIONS, MAX_LINES}
 use Rattle.hpf_base.specs.declared.refusal.Reason.{Reason}
 use Rattle.hpf_base.specs.declared.refusal.Reason.TheVariants.{BadLine, Limit}
 use Rattle.source_lines.specs.declared.physical_lines.PhysicalKind.{PhysicalKind}

@@ -3,7 +3,7 @@ use Rattle.std.specs.Prelude.{ℕ, ◌+◌, ◌-◌, ◌==◌, nat_eq, nat_lt, n
 use Rattle.std.specs.Char.{is_ascii_control, to_ascii_uppercase}
 use Rattle.std.specs.List.{concat, ends_with, enumerate_from, list_all, list_any, prefix_len, starts_with, suffix_len}
 use Rattle.hpf_base.specs.Text.{lines_of}
-use Rattle.hpf_base.specs.declared.limits.TheConstants.{MAX_LINE_BYTES}
+use Rattle.source_lines.specs.declared.limits.TheConstants.{MAX_LINE_BYTES}
 use Rattle.source_lines.specs.declared.line.LineKind.{LineKind}
 use Rattle.source_lines.specs.declared.line.LineKind.TheVariants as logical
 use Rattle.source_lines.specs.declared.physical_lines.PhysicalKind.{PhysicalKind}

@@ -9,7 +9,8 @@ ghost use Rattle.source_lines.specs.Steps.{IsCounted};
 
 use crate::marks;
 use crate::physical_lines::{PhysicalKind, PhysicalLine};
-use hpf_base::{MAX_CONTINUATIONS, MAX_LINES, Reason, Refusal};
+use crate::limits::{MAX_CONTINUATIONS, MAX_LINES};
+use hpf_base::{Reason, Refusal};
 
 /// The line goes on with another.
 pub(crate) fn is_continued(line: &PhysicalLine<'_>) -> bool

@@ -10,6 +10,7 @@ mod breach;
 mod bytes;
 mod groups;
 mod joined_bytes;
+mod limits;
 mod line;
 mod line_split;
 mod marks;
@@ -21,6 +22,7 @@ mod token;
 
 pub use blanks::{all_blank, is_blank, without_blanks};
 pub use bytes::Bytes;
+pub use limits::{MAX_CONTINUATIONS, MAX_LINES, MAX_LINE_BYTES, MAX_LOGICAL_LINE_BYTES};
 pub use line::{LineKind, LogicalLine, LogicalLines};
 pub use line_split::{first_line, next_line};
 pub use parts::{is_bad_part, is_control, next_part};

@@ -9,7 +9,7 @@ use crate::line::LineKind;
 use crate::line_split::next_line;
 use crate::marks::{content, is_lone_ampersand, line_kind};
 use crate::parts::code_of;
-use hpf_base::MAX_LINE_BYTES;
+use crate::limits::MAX_LINE_BYTES;
 use std::alloc::{AllocError, Global};
 use std::marker::Model;
 

@@ -10,7 +10,8 @@ use crate::breach::first_breach;
 use crate::groups::{lines_in, standing};
 use crate::line::LogicalLines;
 use crate::physical_lines::numbered_lines;
-use hpf_base::{MAX_LOGICAL_LINE_BYTES, StaticError};
+use crate::limits::MAX_LOGICAL_LINE_BYTES;
+use hpf_base::StaticError;
 use std::alloc::Global;
 
 /// The statements and directives of a text in the free form (Fortran 95, 3.3.1; HPF 2.0, 2.3), in order, each with

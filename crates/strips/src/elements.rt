@@ -1,7 +1,7 @@
 //! Elements of sections over strips, and values that are the same at each tuple.
 
 ghost use Rattle.std.specs.Prelude.{◌≡◌, ◌≤◌, ◌+◌, IfOk, IfSome, Ok};
-ghost use Rattle.hpf_base.specs.declared.limits.TheConstants.{MAX_TUPLES};
+ghost use Rattle.array_meaning.specs.declared.limits.TheConstants.{MAX_TUPLES};
 ghost use Rattle.array_meaning.specs.Elementals.{Same, Selected};
 ghost use Rattle.array_meaning.specs.State.{array};
 ghost use Rattle.term_values.specs.States.{state_of};

@@ -1,7 +1,7 @@
 //! The values of an array expression at a strip of tuples: each operator is taken over the whole strip before the next one.
 
 ghost use Rattle.std.specs.Prelude.{◌≡◌, ◌≤◌, ◌+◌, length, IfOk, IfSome};
-ghost use Rattle.hpf_base.specs.declared.limits.TheConstants.{MAX_TUPLES};
+ghost use Rattle.array_meaning.specs.declared.limits.TheConstants.{MAX_TUPLES};
 ghost use Rattle.array_meaning.specs.Elementals.{NoOperand, Operand, Operation, Same};
 ghost use Rattle.term_values.specs.States.{state_of};
 ghost use Rattle.term_values.specs.Views.{elemental, elementals_of};

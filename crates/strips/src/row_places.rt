@@ -1,14 +1,14 @@
 //! The places of a section at all tuples of a space, by the first place of each row.
 
 ghost use Rattle.std.specs.Prelude.{◌≡◌, ◌≤◌, ◌<◌, ◌*◌, ◌∷◌, IfOk, IfSome};
-ghost use Rattle.hpf_base.specs.declared.limits.TheConstants.{MAX_TUPLES};
+ghost use Rattle.array_meaning.specs.declared.limits.TheConstants.{MAX_TUPLES};
 ghost use Rattle.term_values.specs.States.{state_of};
 ghost use Rattle.strips.specs.Places.{AreRuns, IsRun};
 
 use crate::rows::row_count;
 use crate::tuples::run_at;
 use array_meaning::Selection;
-use hpf_base::MAX_TUPLES;
+use array_meaning::MAX_TUPLES;
 use std::alloc::AllocError;
 use term_values::{State, positions};
 

@@ -1,7 +1,7 @@
 //! The values of an array expression at all tuples of a space, row by row.
 
 ghost use Rattle.std.specs.Prelude.{◌≡◌, ◌≤◌, ◌<◌, ◌+◌, ◌*◌, ◌∷◌, true, IfOk, IfSome};
-ghost use Rattle.hpf_base.specs.declared.limits.TheConstants.{MAX_TUPLES};
+ghost use Rattle.array_meaning.specs.declared.limits.TheConstants.{MAX_TUPLES};
 ghost use Rattle.array_meaning.specs.Sections.{positions};
 ghost use Rattle.term_values.specs.States.{state_of};
 ghost use Rattle.term_values.specs.Views.{elemental};
@@ -9,7 +9,7 @@ ghost use Rattle.strip_operators.specs.Strips.{IsStrip};
 ghost use Rattle.strips.specs.Strips.{space_value};
 
 use crate::expression_strips::strip;
-use hpf_base::MAX_TUPLES;
+use array_meaning::MAX_TUPLES;
 use std::alloc::AllocError;
 use term_values::{Elemental, State, positions};
 

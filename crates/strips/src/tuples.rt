@@ -2,7 +2,7 @@
 
 ghost use Rattle.std.specs.Prelude.{◌≡◌, ◌<◌, ◌≤◌, ◌+◌, ◌∷◌, suc, pos, true, IfOk, IfSome, Ok};
 ghost use Rattle.std.specs.List.{list_all};
-ghost use Rattle.hpf_base.specs.declared.limits.TheConstants.{MAX_TUPLES};
+ghost use Rattle.array_meaning.specs.declared.limits.TheConstants.{MAX_TUPLES};
 ghost use Rattle.term_values.specs.States.{state_of};
 ghost use Rattle.strips.specs.Places.{IsRun, tuple_place};
 ghost use Rattle.strips.specs.SlowSections.{is_slow};

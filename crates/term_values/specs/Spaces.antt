@@ -1,6 +1,6 @@
 -- The space of an array expression, by what is known of its sections.
 use Rattle.std.specs.Prelude.{ℕ, nat_le, List, [], ◌∷◌, Bool, ◌&&◌, ◌||◌, ◌==◌, Option, Some, None, if◌then◌else◌, Result, Ok}
-use Rattle.hpf_base.specs.declared.limits.TheConstants.{MAX_TUPLES}
+use Rattle.array_meaning.specs.declared.limits.TheConstants.{MAX_TUPLES}
 use Rattle.hpf_base.specs.ElementOrder.{product}
 use Rattle.array_meaning.specs.declared.faults.FaultKind.TheVariants.{Shape, SpaceLimit}
 use Rattle.array_meaning.specs.declared.sections.Selection.{Selection}

@@ -18,7 +18,7 @@ use crate::stops::{Stop, at_tuple};
 use crate::subscripts::positions;
 use crate::wrapping::Pair;
 use array_meaning::Selection;
-use hpf_base::MAX_TUPLES;
+use array_meaning::MAX_TUPLES;
 use op_tables::Op;
 use smallvec::SmallVec;
 

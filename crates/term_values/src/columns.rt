@@ -1,7 +1,7 @@
 //! The values of an array expression over a space of one or two dimensions, part by part: no tuple is formed, and nothing is divided.
 
 ghost use Rattle.std.specs.Prelude.{◌≡◌, ◌≤◌, ◌+◌, ◌*◌, pos, ◌∷◌, [], IfOk, IfSome, Ok};
-ghost use Rattle.hpf_base.specs.declared.limits.TheConstants.{MAX_TUPLES};
+ghost use Rattle.array_meaning.specs.declared.limits.TheConstants.{MAX_TUPLES};
 ghost use Rattle.array_meaning.specs.Elementals.{NoOperand, Operand, Operation, Same, Selected, values_over};
 ghost use Rattle.array_meaning.specs.declared.sections.Selection.TheVariants.{Along};
 ghost use Rattle.term_values.specs.States.{state_of};
@@ -13,7 +13,7 @@ use crate::state::State;
 use crate::subscripts::nth;
 use crate::wrapping::Number;
 use array_meaning::{Selection, Sequence};
-use hpf_base::MAX_TUPLES;
+use array_meaning::MAX_TUPLES;
 use op_tables::Op;
 use std::alloc::AllocError;
 

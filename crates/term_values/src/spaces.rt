@@ -2,7 +2,7 @@
 
 ghost use Rattle.std.specs.Prelude.{◌≡◌, ◌<◌, ◌≤◌, ◌∷◌, IfOk, IfErr, IfSome, IfNone, Ok, option_map};
 ghost use Rattle.std.specs.List.{list_all};
-ghost use Rattle.hpf_base.specs.declared.limits.TheConstants.{MAX_TUPLES};
+ghost use Rattle.array_meaning.specs.declared.limits.TheConstants.{MAX_TUPLES};
 ghost use Rattle.hpf_base.specs.ElementOrder.{product};
 ghost use Rattle.array_meaning.specs.Elementals.{all_sections, own_extents, own_size, sections};
 ghost use Rattle.array_meaning.specs.Sections.{extents, is_at_most, is_conformable, is_selection_in_limits, space_size};
@@ -14,7 +14,7 @@ use crate::array_values::Elemental;
 use crate::stops::{Stop, fault};
 use crate::wrapping::difference;
 use array_meaning::{FaultKind, Selection};
-use hpf_base::{MAX_FACTOR, MAX_OFFSET, MAX_TUPLES};
+use array_meaning::{MAX_FACTOR, MAX_OFFSET, MAX_TUPLES};
 use std::alloc::{AllocError, Global};
 
 /// The extents of a section, one for each triplet.

@@ -9,7 +9,7 @@ use Rattle.std.proofs.lemmas.Bool.Decides.{nat_tests}
 use Rattle.std.proofs.lemmas.List.{length-map}
 use Rattle.std.proofs.lemmas.List.Sums.{prefix_len-le-length}
 use Rattle.hpf_base.specs.Name.{IsName, is_name_byte}
-use Rattle.hpf_base.specs.declared.limits.TheConstants.{MAX_NAME_BYTES}
+use Rattle.token_scan.specs.declared.limits.TheConstants.{MAX_NAME_BYTES}
 use Rattle.source_lines.specs.declared.token.TokenKind.{TokenKind}
 use Rattle.source_lines.specs.declared.token.TokenKind.TheVariants.{Integer, Word}
 use Rattle.token_scan.specs.Tokens.{class_of, first_byte, first_class, is_word_byte, spelled, upper}
@@ -70,7 +70,7 @@ word_long word some all no_name = step (nat_lt MAX_NAME_BYTES (length (upper wor
   where
     step : (t : Bool) → nat_lt MAX_NAME_BYTES (length (upper word)) ≡ t → t ≡ true
     step true e = refl
-    step false e = absurd (no_name (record { some = omega (arith, some, length-upper word); few = ltb-false _ _ e; each = word_bytes-upper word all }))
+    step false e = absurd (no_name (record { some = omega (arith, some, length-upper word); few = omega (arith, ltb-false _ _ e); each = word_bytes-upper word all }))
 
 pub word_front : (bytes : List ℕ) (len : ℕ) → first_class bytes ≡ Letter → len ≡ prefix_len is_word_byte bytes → IsToken bytes len (Word (upper (take len bytes)))
 word_front bytes len is e =

@@ -4,7 +4,7 @@ use Rattle.std.specs.Prelude.{zero, suc, Option, Some, None, is_some, is_none, o
 use Rattle.std.specs.Char.{is_ascii_alphabetic, is_ascii_alphanumeric, is_ascii_digit, to_ascii_uppercase}
 use Rattle.std.specs.List.{list_all, list_any}
 use Rattle.std.specs.Str.Parse.{digits_value}
-use Rattle.hpf_base.specs.declared.limits.TheConstants.{MAX_NAME_BYTES}
+use Rattle.token_scan.specs.declared.limits.TheConstants.{MAX_NAME_BYTES}
 use Rattle.hpf_base.specs.declared.refusal.Reason.{Reason}
 use Rattle.hpf_base.specs.declared.refusal.Reason.TheVariants.{BadLine, Limit}
 use Rattle.op_tables.specs.Words.{code_in, dot_words, symbols}

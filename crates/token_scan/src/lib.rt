@@ -7,6 +7,7 @@
 
 mod byte_class;
 mod case;
+mod limits;
 mod line_tokens;
 mod number;
 mod piece;
@@ -14,4 +15,5 @@ mod quoted;
 mod run;
 mod table_word;
 
+pub use limits::MAX_NAME_BYTES;
 pub use line_tokens::tokens;

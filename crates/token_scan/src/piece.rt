@@ -6,6 +6,7 @@ ghost use Rattle.token_scan.specs.Tokens.{first_class};
 
 use crate::byte_class::{ByteClass, class_of};
 use crate::case::upper_case;
+use crate::limits::MAX_NAME_BYTES;
 use crate::number::value_of;
 use crate::quoted::quoted;
 use crate::run::{Run, run_len};
@@ -32,6 +33,9 @@ fn word(alloc: Global, bytes: &[u8]) -> Result<Piece, AllocError>
     ensures { IfOk result (IsPiece bytes.now) }
 {
     let len = run_len(Run::Word, bytes);
+    if len > MAX_NAME_BYTES {
+        return Ok(Piece::PastLimit(len));
+    }
     let upper = upper_case(alloc, &bytes[..len])?;
     match Name::new(&upper) {
         Some(name) => Ok(Piece::Token(len, TokenKind::Word(name))),

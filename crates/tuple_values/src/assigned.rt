@@ -1,7 +1,7 @@
 //! The places of what is assigned, by the number of a tuple.
 
 ghost use Rattle.std.specs.Prelude.{◌≡◌, ◌≤◌, ◌∷◌, [], pos, suc, IfOk};
-ghost use Rattle.hpf_base.specs.declared.limits.TheConstants.{MAX_TUPLES};
+ghost use Rattle.array_meaning.specs.declared.limits.TheConstants.{MAX_TUPLES};
 ghost use Rattle.array_meaning.specs.State.{element_place};
 ghost use Rattle.array_meaning.specs.Sections.{positions, subscripts_at};
 ghost use Rattle.code_meaning.specs.Parallel.{shape_of};

@@ -1,7 +1,7 @@
 //! What parallel statements name at the tuples of their spaces.
 
 ghost use Rattle.std.specs.Prelude.{◌≡◌, ◌<◌, ◌≤◌, option_map, IfOk, IfSome, Some};
-ghost use Rattle.hpf_base.specs.declared.limits.TheConstants.{MAX_TUPLES};
+ghost use Rattle.array_meaning.specs.declared.limits.TheConstants.{MAX_TUPLES};
 ghost use Rattle.hpf_base.specs.ElementOrder.{product};
 ghost use Rattle.courses.specs.References.{all_names};
 ghost use Rattle.course_forms.specs.Views.{named_of, names_of};

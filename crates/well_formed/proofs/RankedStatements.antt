@@ -4,7 +4,7 @@ use Rattle.std.proofs.lemmas.List.{length-map}
 use Rattle.std.specs.Prelude.{◌&&◌, ◌||◌, not, option_map}
 use Rattle.std.specs.List.{AllByRecursion, flat_map, list_all}
 use Rattle.std.proofs.lemmas.Bool.Decides.{nat_tests}
-use Rattle.hpf_base.specs.declared.limits.TheConstants.{MAX_INDICES}
+use Rattle.name_table.specs.declared.limits.TheConstants.{MAX_INDICES}
 use Rattle.hpf_base.specs.declared.refusal.Reason.TheVariants as reason
 use Rattle.syntax_tree.specs.Expression.{Expression}
 use Rattle.syntax_tree.specs.Statement as syntax

@@ -1,5 +1,5 @@
 use Rattle.std.proofs.Common.{◌≡◌, ◌≤◌, length, All}
-use Rattle.hpf_base.specs.declared.limits.TheConstants.{MAX_BLOCK}
+use Rattle.mappings.specs.declared.limits.TheConstants.{MAX_BLOCK}
 use Rattle.case_mappings.proofs.lines.sizes_of.Given as goal
 
 -- as many sizes as numbers so far, each of which may be one

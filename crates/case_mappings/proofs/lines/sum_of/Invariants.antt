@@ -1,5 +1,5 @@
 use Rattle.std.proofs.Common.{◌≡◌, ◌≤◌, ◌+◌, ◌*◌, sum, drop}
-use Rattle.hpf_base.specs.declared.limits.TheConstants.{MAX_BLOCK}
+use Rattle.mappings.specs.declared.limits.TheConstants.{MAX_BLOCK}
 use Rattle.case_mappings.proofs.lines.sum_of.Given as goal
 
 -- the sizes so far and those that are left come to the sum of all; no size is great

@@ -1,7 +1,7 @@
 use Rattle.std.proofs.Common.{◌≤◌, All, length, None, Some, sym, ap, subst, ◌∙◌}
 use Rattle.hpf_base.specs.ElementOrder.{product}
 use Rattle.hpf_base.specs.FirstBreach.{least}
-use Rattle.hpf_base.specs.declared.limits.TheConstants.{MAX_NAMES}
+use Rattle.declarations.specs.declared.limits.TheConstants.{MAX_NAMES}
 use Rattle.syntax_tree.specs.MainProgram.{main_program}
 use Rattle.array_maps.specs.Maps.{AreMaps}
 use Rattle.name_table.specs.Entries.{entries}

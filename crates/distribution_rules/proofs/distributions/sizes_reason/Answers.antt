@@ -1,5 +1,5 @@
 use Rattle.std.specs.List.{flat_map}
-use Rattle.hpf_base.specs.declared.limits.TheConstants.{MAX_BLOCK}
+use Rattle.mappings.specs.declared.limits.TheConstants.{MAX_BLOCK}
 use Rattle.declarations.specs.Declaring.{least_reason}
 use Rattle.distribution_rules.proofs.LeastReasons.{least_reason_append, lesser_turn}
 use Rattle.distribution_rules.specs.DistributionRules.{size_reasons}

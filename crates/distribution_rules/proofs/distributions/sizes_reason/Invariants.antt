@@ -1,6 +1,6 @@
 use Rattle.std.proofs.Common.{◌≡◌, drop}
 use Rattle.std.specs.List.{flat_map}
-use Rattle.hpf_base.specs.declared.limits.TheConstants.{MAX_BLOCK}
+use Rattle.mappings.specs.declared.limits.TheConstants.{MAX_BLOCK}
 use Rattle.declarations.specs.Declaring.{least_reason, lesser}
 use Rattle.distribution_rules.specs.DistributionRules.{size_reasons}
 use Rattle.distribution_rules.proofs.distributions.sizes_reason.Given as goal

@@ -7,7 +7,8 @@ use Rattle.std.proofs.lemmas.Map.Keys.{IsStrictlyIncreasing-dedup}
 use Rattle.std.proofs.lemmas.List.Filters.{dedup_is}
 use Rattle.std.proofs.lemmas.List.FromFn.{length-map-range_with_len}
 use Rattle.std.proofs.lemmas.List.Sorted.{length_permutation}
-use Rattle.hpf_base.specs.declared.limits.TheConstants.{MAX_CYCLIC, MAX_NODES}
+use Rattle.hpf_base.specs.declared.limits.TheConstants.{MAX_NODES}
+use Rattle.mappings.specs.declared.limits.TheConstants.{MAX_CYCLIC}
 use Rattle.hpf_base.proofs.Ranges.{map-range_push}
 use Rattle.congruences.proofs.Solutions.{factor_times}
 use Rattle.gap_table.proofs.Offsets.{first_offset, next_offset, offsets_filtered, in_sorted, sorted_in}

@@ -1,5 +1,5 @@
 use Rattle.std.proofs.Common.{◌+◌, ◌-◌, ◌≤◌, ◌<◌, vec_len}
-use Rattle.hpf_base.specs.declared.limits.TheConstants.{MAX_SOURCE_BYTES}
+use Rattle.hpf_ports.specs.declared.limits.TheConstants.{MAX_SOURCE_BYTES}
 use Rattle.hpf_ports.specs.Ports.{Gave}
 use Rattle.hpf_ports.proofs.read.read_all.Given as goal
 

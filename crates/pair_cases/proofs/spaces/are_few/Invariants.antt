@@ -1,6 +1,6 @@
 use Rattle.std.proofs.Common.{◌≡◌, ◌≤◌, ◌*◌, drop}
 use Rattle.hpf_base.specs.ElementOrder.{product}
-use Rattle.hpf_base.specs.declared.limits.TheConstants.{MAX_TUPLES}
+use Rattle.array_meaning.specs.declared.limits.TheConstants.{MAX_TUPLES}
 use Rattle.pair_cases.proofs.spaces.are_few.Given as goal
 
 abbrev pub invariant-loop-extent : goal.invariant-loop-extent

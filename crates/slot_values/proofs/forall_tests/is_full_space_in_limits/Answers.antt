@@ -1,5 +1,5 @@
 use Rattle.std.proofs.Common.{◌≡◌, ◌∙◌, ◌<◌, ◌≤◌, IfOk, ap, sym, subst}
-use Rattle.hpf_base.specs.declared.limits.TheConstants.{MAX_TUPLES}
+use Rattle.array_meaning.specs.declared.limits.TheConstants.{MAX_TUPLES}
 use Rattle.hpf_base.specs.ElementOrder.{product}
 use Rattle.array_meaning.specs.Forall.{index_extents, is_forall_in_limits}
 use Rattle.array_meaning.specs.Terms.{list_of}

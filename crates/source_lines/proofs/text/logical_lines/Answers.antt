@@ -3,7 +3,7 @@ use Rattle.std.specs.Prelude.{All, not}
 use Rattle.std.specs.List.{flat_map}
 use Rattle.std.proofs.lemmas.List.Elements.{All-filter}
 use Rattle.hpf_base.specs.Refusal.{IsFirstBreach, NoBreach}
-use Rattle.hpf_base.specs.declared.limits.TheConstants.{MAX_LOGICAL_LINE_BYTES}
+use Rattle.source_lines.specs.declared.limits.TheConstants.{MAX_LOGICAL_LINE_BYTES}
 use Rattle.source_lines.specs.PhysicalLines.{PhysicalLine}
 use Rattle.source_lines.specs.Breaches.{IsBreachIn, IsLineBreach, is_passed, standing}
 use Rattle.source_lines.specs.LogicalLines.{groups, lines_of_group, logical_lines}

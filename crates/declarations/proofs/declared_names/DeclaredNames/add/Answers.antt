@@ -1,5 +1,5 @@
 use Rattle.std.proofs.Common.{◌≡◌, ◌+◌, ◌≤◌, sym, ap, ◌∙◌, arith}
-use Rattle.hpf_base.specs.declared.limits.TheConstants.{MAX_TOTAL_ELEMENTS}
+use Rattle.declarations.specs.declared.limits.TheConstants.{MAX_TOTAL_ELEMENTS}
 use Rattle.expression_rules.specs.Symbols.{all_elements, elements_of}
 use Rattle.declarations.proofs.ElementTotals.{elements_new}
 use Rattle.declarations.proofs.declared_names.DeclaredNames.add.Goals as goal

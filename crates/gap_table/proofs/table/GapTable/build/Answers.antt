@@ -6,7 +6,8 @@ use Rattle.std.specs.Prelude.{unsigned_abs, filter}
 use Rattle.mappings.specs.declared.mapping.Form.TheVariants.{Cyclic, Gen}
 use Rattle.mappings.specs.GenBlock.{size_before}
 use Rattle.mappings.proofs.GenBlocks.{size_before-small}
-use Rattle.hpf_base.specs.declared.limits.TheConstants.{MAX_BLOCK, MAX_NODES}
+use Rattle.hpf_base.specs.declared.limits.TheConstants.{MAX_NODES}
+use Rattle.mappings.specs.declared.limits.TheConstants.{MAX_BLOCK}
 use Rattle.std.proofs.Math.Nat.{mul-le-mul_right}
 use Rattle.mappings.specs.Positions.{in_section}
 use Rattle.mappings.specs.Mapping.{IsForm}

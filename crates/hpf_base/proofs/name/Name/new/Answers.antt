@@ -17,4 +17,4 @@ name_over_zeros name written e is =
 
 pub invariant_of-result : goal.invariant_of-result
 invariant_of-result c =
-    name_over_zeros c.args.bytes.now c.copy_from_slice.new.self (search rules) (record { some = search rules; few = c.if-bytes-gt-MAX_NAME_BYTES.false; each = search rules })
+    name_over_zeros c.args.bytes.now c.copy_from_slice.new.self (search rules) (record { some = search rules; few = c.if-bytes-gt-NAME_CAPACITY.false; each = search rules })

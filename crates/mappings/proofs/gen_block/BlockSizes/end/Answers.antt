@@ -1,6 +1,7 @@
 use Rattle.std.proofs.Common.{◌≡◌, ◌+◌, ◌*◌, ◌≤◌, length, get_or, ◌∙◌, ap, arith}
 use Rattle.std.proofs.Math.Nat.{mul-le-mul_right}
-use Rattle.hpf_base.specs.declared.limits.TheConstants.{MAX_BLOCK, MAX_NODES}
+use Rattle.hpf_base.specs.declared.limits.TheConstants.{MAX_NODES}
+use Rattle.mappings.specs.declared.limits.TheConstants.{MAX_BLOCK}
 use Rattle.mappings.specs.GenBlock.{size_before}
 use Rattle.mappings.proofs.GenBlocks.{size_before-small, length-block_ends, get-block_ends}
 use Rattle.mappings.proofs.gen_block.BlockSizes.end.Goals as goal

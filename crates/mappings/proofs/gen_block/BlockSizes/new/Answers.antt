@@ -2,7 +2,8 @@ use Rattle.std.proofs.Common.{◌≡◌, ℕ, List, ◌+◌, ◌*◌, ◌<◌, �
 use Rattle.std.proofs.Math.Nat.{mul-le-mul_right}
 use Rattle.std.proofs.lemmas.List.FromFn.{map-range_with_len_more}
 use Rattle.std.specs.List.{range_with_len}
-use Rattle.hpf_base.specs.declared.limits.TheConstants.{MAX_BLOCK, MAX_NODES}
+use Rattle.hpf_base.specs.declared.limits.TheConstants.{MAX_NODES}
+use Rattle.mappings.specs.declared.limits.TheConstants.{MAX_BLOCK}
 use Rattle.mappings.specs.GenBlock.{size_before}
 use Rattle.mappings.proofs.GenBlocks.{size_before-more, size_before-small}
 use Rattle.mappings.proofs.gen_block.BlockSizes.new.Goals as goal
