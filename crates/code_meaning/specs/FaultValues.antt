@@ -1,9 +1,9 @@
 -- Faults as values of letters: they are read back from their numbers.
 use Rattle.std.proofs.Common.{◌≡◌, ℤ, List, ◌++◌, length, take, drop, Option, Some, None, refl, ap, ◌∙◌}
 use Rattle.std.proofs.Math.Seq.{take-append_seam, drop-append_seam}
-use Rattle.resolved_program.specs.FaultKind.{FaultKind}
-use Rattle.resolved_program.specs.FaultKind.TheVariants.{Bounds, DivZero, Shape, ZeroStride, NotOneToOne, SpaceLimit, Interfere}
-use Rattle.resolved_program.specs.Faults.{Object, Location, Nowhere, AtTuple, Between, Fault}
+use Rattle.node_code.specs.FaultKind.{FaultKind}
+use Rattle.node_code.specs.FaultKind.TheVariants.{Bounds, DivZero, Shape, ZeroStride, NotOneToOne, SpaceLimit, Interfere}
+use Rattle.node_code.specs.Faults.{Object, Location, Nowhere, AtTuple, Between, Fault}
 use Rattle.machine_steps.specs.Node.{FaultValues}
 use Rattle.code_meaning.specs.FaultNumbers.{between, fault_numbers, fault_of, kind_at, kind_number, location_numbers, location_of, subscript_numbers, subscripts_of}
 

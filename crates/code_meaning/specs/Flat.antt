@@ -1,7 +1,7 @@
 -- The values of expressions over the slots.
 use Rattle.std.specs.Prelude.{ℕ, List, [], slice_index_or, ℤ, pos, Result, Ok, Err}
-use Rattle.resolved_program.specs.Faults.{Cause, ◌>>=◌, with_more}
-use Rattle.resolved_program.specs.Elementals.{operated}
+use Rattle.node_code.specs.Faults.{Cause, ◌>>=◌, with_more}
+use Rattle.node_code.specs.Elementals.{operated}
 use Rattle.node_code.specs.Flat.{Flat, Int, Slot, Axis, Read, Operated, Flats, NoFlat, AndFlat}
 
 abbrev pub slot : List ℤ → ℕ → ℤ

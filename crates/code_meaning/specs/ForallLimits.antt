@@ -1,16 +1,16 @@
 -- The limits of a FORALL, and assignments of it that meet, by the slots.
 use Rattle.std.specs.Prelude.{ℕ, ◌==◌, List, [], ◌∷◌, map, ℤ, pos, Bool, ◌||◌, Result, Ok, if◌then◌else◌}
 use Rattle.hpf_base.specs.ElementOrder.{product}
-use Rattle.resolved_program.specs.FaultKind.{FaultKind}
-use Rattle.resolved_program.specs.FaultKind.TheVariants.{NotOneToOne, SpaceLimit}
-use Rattle.resolved_program.specs.Sequence.{Sequence}
-use Rattle.resolved_program.specs.Selection.{Selection}
-use Rattle.resolved_program.specs.Selection.TheVariants.{At, Along}
-use Rattle.resolved_program.specs.Terms.{Term, Number, Scalar, Index, Apply, Terms, NoTerm, More}
-use Rattle.resolved_program.specs.Faults.{Cause, fails}
-use Rattle.resolved_program.specs.State.{State}
-use Rattle.resolved_program.specs.Sections.{extents}
-use Rattle.resolved_program.specs.Forall.{is_forall_in_limits, is_one_to_one}
+use Rattle.node_code.specs.FaultKind.{FaultKind}
+use Rattle.node_code.specs.FaultKind.TheVariants.{NotOneToOne, SpaceLimit}
+use Rattle.node_code.specs.Sequence.{Sequence}
+use Rattle.node_code.specs.Selection.{Selection}
+use Rattle.node_code.specs.Selection.TheVariants.{At, Along}
+use Rattle.node_code.specs.Terms.{Term, Number, Scalar, Index, Apply, Terms, NoTerm, More}
+use Rattle.node_code.specs.Faults.{Cause, fails}
+use Rattle.node_code.specs.State.{State}
+use Rattle.node_code.specs.Sections.{extents}
+use Rattle.node_code.specs.Forall.{is_forall_in_limits, is_one_to_one}
 use Rattle.node_code.specs.Flat.{Flat, Int, Slot, Axis, Read, Operated, Flats, NoFlat, AndFlat}
 use Rattle.node_code.specs.Forms.{Sub}
 use Rattle.code_meaning.specs.Forms.{selections_in}

@@ -1,11 +1,11 @@
 -- What subscripts and array expressions over the slots are in the meaning, by the slots.
 use Rattle.std.specs.Prelude.{ℕ, ◌+◌, List, [], ◌∷◌, ℤ}
 use Rattle.op_tables.specs.Operators.{wrapped}
-use Rattle.resolved_program.specs.Sequence.{Sequence}
-use Rattle.resolved_program.specs.Selection.{Selection}
-use Rattle.resolved_program.specs.Selection.TheVariants.{At, Along}
-use Rattle.resolved_program.specs.Sections.{value_count}
-use Rattle.resolved_program.specs.Elementals.{Elemental, Same, Selected, Operation, Elementals, NoOperand, Operand}
+use Rattle.node_code.specs.Sequence.{Sequence}
+use Rattle.node_code.specs.Selection.{Selection}
+use Rattle.node_code.specs.Selection.TheVariants.{At, Along}
+use Rattle.node_code.specs.Sections.{value_count}
+use Rattle.node_code.specs.Elementals.{Elemental, Same, Selected, Operation, Elementals, NoOperand, Operand}
 use Rattle.code_meaning.specs.Flat.{slot, flat_value, or_zero}
 use Rattle.node_code.specs.Forms.{Sub, SubAt, SubAlong, ArrayForm, FlatForm, SectionForm, OperationForm, Forms, NoForm, AndForm}
 

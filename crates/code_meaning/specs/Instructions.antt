@@ -2,17 +2,17 @@
 use Rattle.std.specs.Prelude.{ℕ, zero, suc, ◌+◌, List, [], ◌∷◌, ◌++◌, drop, slice_get, slice_set, ℤ, pos, Bool, true, false, Option, Some, None, Result, Ok, Err, if◌then◌else◌}
 use Rattle.std.specs.Fmt.{signed_decimal}
 use Rattle.op_tables.specs.Operators.{wrapped, is_zero, is_true}
-use Rattle.resolved_program.specs.Dim.{Dim}
+use Rattle.node_code.specs.Dim.{Dim}
 use Rattle.storage.specs.Storage.{Spot}
-use Rattle.resolved_program.specs.FaultKind.TheVariants.{ZeroStride}
-use Rattle.resolved_program.specs.Faults.{Cause, Fault, ◌>>=◌, fails}
-use Rattle.resolved_program.specs.State.{element_place, if_in_bounds}
-use Rattle.resolved_program.specs.Sequence.{Sequence}
-use Rattle.resolved_program.specs.Selection.{Selection}
-use Rattle.resolved_program.specs.Sections.{sequence, extents, subscripts_at, positions}
-use Rattle.resolved_program.specs.Elementals.{each}
-use Rattle.resolved_program.specs.NestEntry.{entered}
-use Rattle.resolved_program.specs.Execution.{decimals}
+use Rattle.node_code.specs.FaultKind.TheVariants.{ZeroStride}
+use Rattle.node_code.specs.Faults.{Cause, Fault, ◌>>=◌, fails}
+use Rattle.node_code.specs.State.{element_place, if_in_bounds}
+use Rattle.node_code.specs.Sequence.{Sequence}
+use Rattle.node_code.specs.Selection.{Selection}
+use Rattle.node_code.specs.Sections.{sequence, extents, subscripts_at, positions}
+use Rattle.node_code.specs.Elementals.{each}
+use Rattle.node_code.specs.NestEntry.{entered}
+use Rattle.node_code.specs.Execution.{decimals}
 use Rattle.mappings.specs.declared.mapping.Mapping.{Mapping}
 use Rattle.machine_steps.specs.Layout.{Layout}
 use Rattle.machine_steps.specs.Instr as machine

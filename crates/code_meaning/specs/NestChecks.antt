@@ -1,7 +1,7 @@
 -- The check of a nest of INDEPENDENT loops at its entry (HPF 2.0, 5.1), over the slots.
 use Rattle.std.specs.Prelude.{List, [], map, ℤ}
-use Rattle.resolved_program.specs.Dim.{Dim}
-use Rattle.resolved_program.specs.State.{State, Array}
+use Rattle.node_code.specs.Dim.{Dim}
+use Rattle.node_code.specs.State.{State, Array}
 
 -- an array without its elements: of what the check evaluates, only the bounds of the outermost loop may name one, and these stand in slots
 abbrev pub without_elements : List Dim → Array

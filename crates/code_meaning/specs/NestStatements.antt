@@ -3,12 +3,12 @@ use Rattle.std.specs.Prelude.{ℕ, ◌+◌, List, [], ◌∷◌, ◌++◌, lengt
 use Rattle.op_tables.specs.declared.reductions.Made.{Made}
 use Rattle.op_tables.specs.declared.reductions.Made.TheVariants as made
 use Rattle.op_tables.specs.Operators.{is_true}
-use Rattle.resolved_program.specs.Dim.{Dim}
+use Rattle.node_code.specs.Dim.{Dim}
 use Rattle.storage.specs.Storage.{Spot}
-use Rattle.resolved_program.specs.Faults.{Cause, Fault, ◌>>=◌}
-use Rattle.resolved_program.specs.State.{element_place, if_in_bounds}
-use Rattle.resolved_program.specs.Sections.{extents, subscripts_at}
-use Rattle.resolved_program.specs.Elementals.{Elemental, Same, Selected, Operation, Elementals, NoOperand, Operand}
+use Rattle.node_code.specs.Faults.{Cause, Fault, ◌>>=◌}
+use Rattle.node_code.specs.State.{element_place, if_in_bounds}
+use Rattle.node_code.specs.Sections.{extents, subscripts_at}
+use Rattle.node_code.specs.Elementals.{Elemental, Same, Selected, Operation, Elementals, NoOperand, Operand}
 use Rattle.machine_steps.specs.Instr.{Tuples}
 use Rattle.machine_steps.specs.Space.{space_count}
 use Rattle.node_code.specs.declared.nest.NestRole.{NestRole}

@@ -5,13 +5,13 @@ use Rattle.op_tables.specs.declared.reductions.Made.{Made}
 use Rattle.op_tables.specs.Joins.{join, unit}
 use Rattle.op_tables.specs.Operators.{is_true}
 use Rattle.op_tables.specs.Reductions.{made}
-use Rattle.resolved_program.specs.Dim.{Dim}
+use Rattle.node_code.specs.Dim.{Dim}
 use Rattle.storage.specs.Storage.{Spot}
-use Rattle.resolved_program.specs.Faults.{Cause, Fault, ◌>>=◌, with_more, at_tuple}
-use Rattle.resolved_program.specs.State.{element_place, if_in_bounds}
-use Rattle.resolved_program.specs.Selection.{Selection}
-use Rattle.resolved_program.specs.Sections.{extents, subscripts_at, positions, space_size}
-use Rattle.resolved_program.specs.Elementals.{Elemental, Same, Selected, Operation, Elementals, NoOperand, Operand, sections, operated}
+use Rattle.node_code.specs.Faults.{Cause, Fault, ◌>>=◌, with_more, at_tuple}
+use Rattle.node_code.specs.State.{element_place, if_in_bounds}
+use Rattle.node_code.specs.Selection.{Selection}
+use Rattle.node_code.specs.Sections.{extents, subscripts_at, positions, space_size}
+use Rattle.node_code.specs.Elementals.{Elemental, Same, Selected, Operation, Elementals, NoOperand, Operand, sections, operated}
 use Rattle.machine_steps.specs.Instr.{Outcome, Nothing, Value, Breaks, Tuples, Fold}
 use Rattle.machine_steps.specs.Space.{space_count}
 use Rattle.node_code.specs.Forms.{Sub}

@@ -2,8 +2,8 @@
 -- nothing else.
 use Rattle.std.specs.Prelude.{ℕ, List, map}
 use Rattle.mappings.specs.declared.mapping.Mapping.{Mapping}
-use Rattle.resolved_program.specs.Dim.{Dim}
-use Rattle.resolved_program.specs.Faults.{Fault}
+use Rattle.node_code.specs.Dim.{Dim}
+use Rattle.node_code.specs.Faults.{Fault}
 use Rattle.machine_steps.specs.CopyLayout.{copy_layout}
 use Rattle.machine_steps.specs.Instr.{Instr}
 use Rattle.machine_steps.specs.Rounds.{rounds_on}

@@ -4,7 +4,7 @@ use Rattle.std.specs.Prelude.{◌≡◌, ℕ, ◌+◌, ◌<◌, ◌≤◌, nat_e
 use Rattle.std.specs.List.{AllByRecursion, IsDistinct}
 use Rattle.hpf_base.specs.declared.limits.TheConstants.{MAX_RANK}
 use Rattle.op_tables.specs.Operators.{can_divide}
-use Rattle.resolved_program.specs.Dim.{Dim}
+use Rattle.node_code.specs.Dim.{Dim}
 use Rattle.node_code.specs.Flat.{Flat, Int, Slot, Axis, Read, Operated, Flats, NoFlat, AndFlat}
 use Rattle.node_code.specs.Forms.{Sub, SubAt, SubAlong, ArrayForm, FlatForm, SectionForm, OperationForm, Forms, NoForm, AndForm}
 use Rattle.node_code.specs.Parallel.{When, Assignment, Evaluation}

@@ -3,7 +3,7 @@ use Rattle.std.proofs.Common.{◌≡◌, ℕ, List, [], ◌∷◌, drop, length,
 use Rattle.syntax_tree.specs.declared.expr.Expr.{Expr}
 use Rattle.std.specs.Prelude.{Vec}
 use Rattle.std.proofs.Common.{Global}
-use Rattle.op_tables.specs.declared.op.Op.{Op}
+use Rattle.syntax_tree.specs.Op.{Op}
 use Rattle.syntax_tree.specs.declared.expr.Expr as Expr
 use Rattle.syntax_tree.specs.Expression.{Call, expression}
 use Rattle.expression_rules.specs.Constants.{called_value, named_first}

@@ -2,7 +2,7 @@
 use Rattle.std.proofs.Common.{◌≡◌, ℕ, zero, suc, ◌+◌, ◌<◌, Bool, true, false, List, drop, length, get_or, Option, Some, None, Global, refl, sym, ap, ◌∙◌, arith}
 use Rattle.std.specs.Prelude.{Vec, if◌then◌else◌, nat_eq}
 use Rattle.std.proofs.lemmas.Bool.Decides.{nat_tests}
-use Rattle.op_tables.specs.declared.op.Op.{Op}
+use Rattle.syntax_tree.specs.Op.{Op}
 use Rattle.syntax_tree.specs.declared.expr.Expr as Expr
 use Rattle.syntax_tree.specs.declared.expr.Subscript.{Subscript}
 use Rattle.syntax_tree.specs.declared.expr.Expr.TheBlock.{back-Ref-subs}

@@ -1,13 +1,13 @@
 -- Constant expressions (Fortran 95, 7.1.6.1), and the expressions of directives that must be constant (HPF 2.0, 3).
 use Rattle.std.specs.Prelude.{ℕ, suc, nat_eq, List, [], ◌∷◌, length, slice_get, ℤ, pos, Option, Some, None, if◌then◌else◌}
 use Rattle.hpf_base.specs.ElementOrder.{product}
-use Rattle.op_tables.specs.declared.op.Op.{Op}
-use Rattle.op_tables.specs.declared.op.Op.TheVariants as op
+use Rattle.syntax_tree.specs.Op.{Op}
+use Rattle.syntax_tree.specs.Op.TheVariants as op
 use Rattle.syntax_tree.specs.Expression.{Expression, Number, Truth, Name as Alone, Element, Call, Unary, Binary, Closed, Part, One, Parts, End, More}
 use Rattle.expression_rules.specs.declared.evaluated.Evaluated.{Evaluated}
 use Rattle.expression_rules.specs.declared.evaluated.Evaluated.TheVariants.{Invalid, Unknown, Known}
-use Rattle.op_tables.specs.Arguments.{takes, is_reduction, is_inquiry, is_processor_count}
-use Rattle.op_tables.specs.Operators.{truth, operator_value}
+use Rattle.syntax_tree.specs.Arguments.{takes, is_reduction, is_inquiry, is_processor_count}
+use Rattle.syntax_tree.specs.OperatorValues.{truth, operator_value}
 use Rattle.expression_rules.specs.Dims.{extent, elements}
 use Rattle.expression_rules.specs.Symbols.{SymbolTable, find}
 use Rattle.expression_rules.specs.declared.dims.Dim.{Dim}

@@ -1,15 +1,15 @@
 -- The type and the rank of an expression (Fortran 95, 7.1.4, 7.1.5 and 13.14).
 use Rattle.std.specs.Prelude.{ℕ, zero, suc, Bool, true, false, ◌&&◌, ◌||◌, not, nat_eq, nat_le, is_some, List, [], ◌∷◌, ℤ, pos, Option, Some, None, if◌then◌else◌}
 use Rattle.std.specs.List.{list_all}
-use Rattle.op_tables.specs.declared.op.Op.{Op}
-use Rattle.op_tables.specs.declared.op.Op.TheVariants as op
+use Rattle.syntax_tree.specs.Op.{Op}
+use Rattle.syntax_tree.specs.Op.TheVariants as op
 use Rattle.syntax_tree.specs.Expression.{Expression, Number, Truth, Name as Alone, Element, Call, Unary, Binary, Closed, Part, One, Range, Glued, Parts, End, More, Maybe, Absent, Present}
 use Rattle.expression_rules.specs.declared.types.Context.{Context}
 use Rattle.expression_rules.specs.declared.types.Context.TheVariants.{Statement, Directive}
 use Rattle.expression_rules.specs.declared.types.DataType.{DataType}
 use Rattle.expression_rules.specs.declared.types.DataType.TheVariants.{Integer, Logical}
 use Rattle.expression_rules.specs.declared.types.TypeAndRank.{TypeAndRank}
-use Rattle.op_tables.specs.Arguments.{takes, is_reduction, is_inquiry, is_processor_count}
+use Rattle.syntax_tree.specs.Arguments.{takes, is_reduction, is_inquiry, is_processor_count}
 use Rattle.expression_rules.specs.Symbols.{SymbolTable, rank_of, find, satisfies, is_array}
 use Rattle.expression_rules.specs.declared.evaluated.Evaluated.{Evaluated}
 use Rattle.expression_rules.specs.declared.evaluated.Evaluated.TheVariants.{Known}

@@ -3,7 +3,7 @@
 ghost use Rattle.std.specs.Prelude.{◌≡◌, ◌∷◌, [], None, drop, option_copied, IfOk};
 ghost use Rattle.expression_rules.specs.Dims.{AreDims, IsDim};
 ghost use Rattle.syntax_tree.specs.Expression.{expression};
-ghost use Rattle.op_tables.specs.Operators.{truth};
+ghost use Rattle.syntax_tree.specs.OperatorValues.{truth};
 ghost use Rattle.expression_rules.specs.Constants.{bound_of, called_value, inquired, lower_bound, value_of_symbol, named_first, no_dimension, processor_count, processor_count_in, numbered, of_array, of_dimensions, elemental_value, operated, upper_bound, value, values, values_after, with_more};
 ghost use Rattle.expression_rules.specs.Partial.{and_one};
 ghost use Rattle.syntax_tree.specs.Expression.{arguments_of};
@@ -14,9 +14,8 @@ use crate::evaluated::{Evaluated, Numbers};
 use crate::scope::Scope;
 use crate::symbols::Symbol;
 use hpf_base::Grid;
-use op_tables::{DivZero, Op, apply, is_inquiry, is_processor_count, is_reduction, takes};
 use std::alloc::{AllocError, Global};
-use syntax_tree::Expr;
+use syntax_tree::{DivZero, Expr, Op, apply, is_inquiry, is_processor_count, is_reduction, takes};
 
 /// The value of an expression that must be constant, over the names that are declared. `grid` is given in a directive.
 #[cycle(constants)]

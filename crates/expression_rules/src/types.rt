@@ -3,7 +3,7 @@
 ghost use Rattle.std.specs.Prelude.{◌≡◌};
 ghost use Rattle.expression_rules.specs.Types.{conforming, if_typed, is_directive, is_logical_scalar, is_integer_scalar, common, common_rank, integer_scalar_if, of_type, operand_type, rank_in, reduction_of, same_type, subscripted, result_type};
 
-use op_tables::Op;
+use syntax_tree::Op;
 
 /// Where an expression stands: in a directive, or in a declaration or a statement.
 #[derive(Clone, Copy, Debug)]

@@ -16,9 +16,8 @@ use crate::types::{
     Context, DataType, TypeAndRank, common, integer_scalar_if, is_directive, is_integer_scalar,
     of_type, operand_type, rank_in, reduction_of, result_type, subscripted,
 };
-use op_tables::{Op, is_inquiry, is_processor_count, is_reduction, takes};
 use std::alloc::{AllocError, Global};
-use syntax_tree::{Expr, Ref, Subscript};
+use syntax_tree::{Expr, Op, Ref, Subscript, is_inquiry, is_processor_count, is_reduction, takes};
 
 /// What an expression is; None where a part of it isn't what its place asks.
 #[cycle(typing)]

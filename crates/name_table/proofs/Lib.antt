@@ -8,4 +8,4 @@ mod ProgramBreaches
 mod Reasons
 mod Repeats
 mod Scalars
-pub use Rattle.expression_rules.proofs.Lists
+pub use Rattle.statement_walk.proofs.Lists

@@ -10,3 +10,4 @@ mod PrintLaws
 mod RemapSteps
 mod StoredPieces
 mod TreeSteps
+pub use Rattle.part_steps.proofs.kept_exchanges.KeptExchanges

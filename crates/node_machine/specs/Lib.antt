@@ -13,3 +13,4 @@ pub mod Sections
 pub mod Steps
 pub mod Trees
 pub mod Views
+pub use Rattle.part_steps.specs.contracts.kept_exchanges.KeptExchanges

@@ -8,8 +8,8 @@ use Rattle.node_machine.specs.contracts.post.Post as Post
 use Rattle.owner_tables.proofs.owners.Owners.TheSendSync as owners
 use Rattle.owner_tables.specs.contracts.owners.Owners as Owners
 use Rattle.owner_tables.specs.contracts.row.Row as Row
-use Rattle.part_steps.proofs.kept_exchanges.KeptExchanges.TheSendSync as exchanges
-use Rattle.part_steps.specs.contracts.kept_exchanges.KeptExchanges as KeptExchanges
+use Rattle.node_machine.proofs.KeptExchanges.TheSendSync as exchanges
+use Rattle.node_machine.specs.KeptExchanges as KeptExchanges
 use Rattle.remap_steps.proofs.redistribution.Redistribution.TheSendSync as redistributions
 use Rattle.remap_steps.specs.contracts.redistribution.Redistribution as Redistribution
 use Rattle.slot_values.proofs.control.Control.TheSendSync as controls

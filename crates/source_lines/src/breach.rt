@@ -7,9 +7,9 @@ ghost use Rattle.source_lines.specs.PhysicalLines as spec;
 ghost use Rattle.source_lines.specs.PhysicalLines.{numbered_lines};
 ghost use Rattle.source_lines.specs.Steps.{IsCounted};
 
+use crate::limits::{MAX_CONTINUATIONS, MAX_LINES};
 use crate::marks;
 use crate::physical_lines::{PhysicalKind, PhysicalLine};
-use crate::limits::{MAX_CONTINUATIONS, MAX_LINES};
 use hpf_base::{Reason, Refusal};
 
 /// The line goes on with another.

@@ -22,7 +22,8 @@ mod token;
 
 pub use blanks::{all_blank, is_blank, without_blanks};
 pub use bytes::Bytes;
-pub use limits::{MAX_CONTINUATIONS, MAX_LINES, MAX_LINE_BYTES, MAX_LOGICAL_LINE_BYTES};
+pub use hpf_base::Name;
+pub use limits::{MAX_CONTINUATIONS, MAX_LINE_BYTES, MAX_LINES, MAX_LOGICAL_LINE_BYTES};
 pub use line::{LineKind, LogicalLine, LogicalLines};
 pub use line_split::{first_line, next_line};
 pub use parts::{is_bad_part, is_control, next_part};

@@ -5,11 +5,11 @@ ghost use Rattle.source_lines.specs.PhysicalLines as spec;
 ghost use Rattle.source_lines.specs.PhysicalLines.{physical_kind, numbered_lines, physical_line};
 
 use crate::blanks::all_blank;
+use crate::limits::MAX_LINE_BYTES;
 use crate::line::LineKind;
 use crate::line_split::next_line;
 use crate::marks::{content, is_lone_ampersand, line_kind};
 use crate::parts::code_of;
-use crate::limits::MAX_LINE_BYTES;
 use std::alloc::{AllocError, Global};
 use std::marker::Model;
 

@@ -8,9 +8,9 @@ ghost use Rattle.source_lines.specs.PhysicalLines.{physical_lines};
 
 use crate::breach::first_breach;
 use crate::groups::{lines_in, standing};
+use crate::limits::MAX_LOGICAL_LINE_BYTES;
 use crate::line::LogicalLines;
 use crate::physical_lines::numbered_lines;
-use crate::limits::MAX_LOGICAL_LINE_BYTES;
 use hpf_base::StaticError;
 use std::alloc::Global;
 

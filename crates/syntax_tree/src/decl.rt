@@ -3,7 +3,7 @@
 use crate::directive::Directive;
 use crate::expr::Expr;
 use crate::stmt::Stmt;
-use hpf_base::Name;
+use source_lines::Name;
 
 /// A program.
 #[derive(Debug, Drop)]

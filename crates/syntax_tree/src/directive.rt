@@ -3,7 +3,7 @@
 use crate::decl::Entity;
 use crate::expr::{Expr, Subscript};
 use crate::names::NameList;
-use hpf_base::Name;
+use source_lines::Name;
 
 /// A directive among the declarations.
 #[derive(Debug, Drop)]

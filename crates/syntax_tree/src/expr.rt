@@ -1,7 +1,7 @@
 //! Expressions (Fortran 95, 7.1).
 
-use hpf_base::Name;
 use op_tables::Op;
+use source_lines::Name;
 
 /// An expression.
 #[derive(Debug, Drop)]

@@ -2,7 +2,7 @@
 
 ghost use Rattle.std.specs.Prelude.{◌≡◌};
 
-use hpf_base::Name;
+use source_lines::Name;
 use std::marker::Model;
 
 /// Names, as they stand. Contracts see their list.

@@ -3,8 +3,7 @@
 use crate::directive::DistSpec;
 use crate::expr::{Expr, Ref};
 use crate::names::NameList;
-use hpf_base::Name;
-use source_lines::Bytes;
+use source_lines::{Bytes, Name};
 
 /// A statement, and the number of the line on which it begins.
 #[derive(Debug, Drop)]
