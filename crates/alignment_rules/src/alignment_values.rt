@@ -9,7 +9,7 @@ use mappings::AlignDim;
 use std::marker::Model;
 
 /// What stands for a dimension of the target.
-#[derive(Clone, Copy, Debug)]
+#[derive(Clone, Copy)]
 pub enum TargetValue {
     /// `*`.
     Every,
@@ -21,7 +21,7 @@ pub enum TargetValue {
 
 /// A dimension of the target: what stands for it, its bounds, and the dimension of the alignee, from 0, along which its subscript moves,
 /// with its bounds. Bounds are None where they aren't known.
-#[derive(Clone, Copy, Debug)]
+#[derive(Clone, Copy)]
 pub struct Pair {
     pub value: TargetValue,
     pub bounds: Option<Dim>,
@@ -30,7 +30,7 @@ pub struct Pair {
 }
 
 /// What stands for the dimensions of the target, the first one first. Contracts see the list.
-#[derive(Debug, Drop)]
+#[derive(Drop)]
 pub struct TargetValues {
     values: Vec<TargetValue>,
 }
@@ -61,7 +61,7 @@ impl TargetValues {
 }
 
 /// What the dimensions of the target are given for an element of the alignee, the first one first. Contracts see the list.
-#[derive(Debug, Drop)]
+#[derive(Drop)]
 pub struct AlignDims {
     entries: Vec<AlignDim>,
 }
@@ -99,7 +99,7 @@ impl AlignDims {
 }
 
 /// The alignment of an object.
-#[derive(Debug, Drop)]
+#[derive(Drop)]
 pub enum Alignment {
     /// What each dimension of the target is given, within the limits.
     Known(AlignDims),

@@ -7,8 +7,8 @@ ghost use Rattle.alignment_rules.specs.AlignmentRules.{has_extent, is_unpaired, 
 ghost use Rattle.alignment_rules.specs.WideEntries.{IsNear, align_dim};
 
 use crate::alignment_values::{Pair, TargetValue};
-use expression_rules::Dim;
 use crate::limits::{MAX_ALIGN_FACTOR, MAX_ALIGN_OFFSET};
+use expression_rules::Dim;
 use hpf_base::Name;
 use linear_subscripts::LinearForm;
 

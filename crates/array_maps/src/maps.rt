@@ -9,7 +9,7 @@ use std::alloc::{AllocError, Global};
 use std::marker::Model;
 
 /// An array with the mapping that it has when the program starts.
-#[derive(Debug, Drop)]
+#[derive(Drop)]
 pub struct ArrayMap {
     pub name: Name,
     pub shape: Shape,
@@ -17,14 +17,14 @@ pub struct ArrayMap {
 }
 
 /// A mapping that an array is given while the program runs.
-#[derive(Debug, Drop)]
+#[derive(Drop)]
 pub struct NewMap {
     pub array: ArrayId,
     pub map: Mapping,
 }
 
 /// The arrays of a program, in the order of their declarations. An `ArrayId` is a place in this list, from 0. Contracts see the list.
-#[derive(Debug, Drop)]
+#[derive(Drop)]
 pub struct ArrayMaps {
     entries: Vec<ArrayMap>,
 }
@@ -56,7 +56,7 @@ impl ArrayMaps {
 
 /// What a REDISTRIBUTE does: each array that it moves, once, in the order of the declarations, with its new mapping (HPF 2.0, REDISTRIBUTE).
 /// Contracts see the list.
-#[derive(Debug, Drop)]
+#[derive(Drop)]
 pub struct NewMaps {
     entries: Vec<NewMap>,
 }
@@ -87,14 +87,14 @@ impl NewMaps {
 }
 
 /// A REDISTRIBUTE with the number of its line, from 1, by which it is known: a directive line holds one directive.
-#[derive(Debug, Drop)]
+#[derive(Drop)]
 pub struct Redistribution {
     pub line: u32,
     pub maps: NewMaps,
 }
 
 /// What each REDISTRIBUTE of a program does, in the order of the text. Contracts see the list.
-#[derive(Debug, Drop)]
+#[derive(Drop)]
 pub struct Redistributions {
     entries: Vec<Redistribution>,
 }
@@ -161,7 +161,7 @@ fn push_all<'a>(maps: &'a [NewMap], found: &mut Vec<&'a NewMap>) -> Result<(), A
 }
 
 /// The mappings of a program: those with which its arrays start, and those that its redistributions give.
-#[derive(Debug, Drop)]
+#[derive(Drop)]
 pub struct Maps {
     pub arrays: ArrayMaps,
     pub moves: Redistributions,

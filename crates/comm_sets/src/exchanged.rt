@@ -4,7 +4,7 @@ use crate::messages::Messages;
 use tuple_numbers::Tuples;
 
 /// What a node exchanges in the phase of a part, and which tuples it computes. Contracts see it by `AreExchanged`.
-#[derive(Debug, Drop)]
+#[derive(Drop)]
 pub struct Exchange {
     /// The messages from the node to each node, node 0 first.
     pub outgoing: Messages,

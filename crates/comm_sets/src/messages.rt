@@ -15,7 +15,7 @@ use storage::Spot;
 
 /// The messages between one node and each node, by the number of the other node: of each the elements, row by row, each in
 /// array-element order. Contracts see the list of these lists.
-#[derive(Debug, Drop)]
+#[derive(Drop)]
 pub struct Messages {
     lists: Vec<Vec<Spot>>,
 }

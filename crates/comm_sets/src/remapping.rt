@@ -18,7 +18,7 @@ use owner_tables::{Owners, Spot};
 use std::alloc::Global;
 
 /// One end of the messages, a node.
-#[derive(Clone, Copy, Debug, PartialEq, Eq)]
+#[derive(Clone, Copy, PartialEq, Eq)]
 pub(crate) enum End {
     Source(u32),
     Target(u32),

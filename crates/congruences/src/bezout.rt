@@ -8,7 +8,7 @@ use crate::inverse::{Inverse, inverse_of};
 use crate::residues::residue_of;
 
 /// The greatest common divisor g of two numbers a and b, with `a * x + b * y = g`.
-#[derive(Clone, Copy, Debug, PartialEq, Eq)]
+#[derive(Clone, Copy, PartialEq, Eq)]
 pub struct Bezout {
     pub g: i128,
     pub x: i128,

@@ -8,7 +8,7 @@ ghost use Rattle.congruences.specs.Naturals.{IsInverse};
 
 /// The greatest common divisor of a factor and a modulus, the modulus without it, and what the factor is multiplied by to
 /// give the divisor.
-#[derive(Clone, Copy, Debug, PartialEq, Eq)]
+#[derive(Clone, Copy, PartialEq, Eq)]
 pub struct Inverse {
     pub divisor: u128,
     pub period: u128,

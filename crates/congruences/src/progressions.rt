@@ -12,7 +12,7 @@ use crate::least_strides::least_common_members;
 use crate::natural_meeting::NaturalProgression;
 
 /// The numbers `first + stride * n` for n from 0 to `count - 1`, ascending.
-#[derive(Clone, Copy, Debug, PartialEq, Eq)]
+#[derive(Clone, Copy, PartialEq, Eq)]
 pub struct Progression {
     pub first: i128,
     pub stride: i128,

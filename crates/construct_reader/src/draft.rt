@@ -4,7 +4,7 @@ use statement_reader::{DoHead, ForallHead};
 use syntax_tree::{Arm, EndForm, Expr, Mark, Stmt};
 
 /// The statements and parts of constructs up to a line.
-#[derive(Debug, Drop)]
+#[derive(Drop)]
 pub(crate) struct Draft {
     /// The constructs that are open, the outermost one first.
     pub(crate) opens: Vec<Open>,
@@ -16,14 +16,14 @@ pub(crate) struct Draft {
 }
 
 /// A construct that is open, and the statements before it in the block round it.
-#[derive(Debug, Drop)]
+#[derive(Drop)]
 pub(crate) struct Open {
     pub(crate) before: Vec<Stmt>,
     pub(crate) what: Opened,
 }
 
 /// What the lines of an open construct said, but for those of its innermost block.
-#[derive(Debug, Drop)]
+#[derive(Drop)]
 pub(crate) enum Opened {
     If {
         line: u32,

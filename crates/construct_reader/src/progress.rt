@@ -23,7 +23,7 @@ use std::alloc::{AllocError, Global};
 use syntax_tree::{Decl, DeclKind, Tree};
 
 /// A program up to a line.
-#[derive(Debug, Drop)]
+#[derive(Drop)]
 pub(crate) struct Progress {
     name: Option<Name>,
     decls: Vec<Decl>,
@@ -33,7 +33,7 @@ pub(crate) struct Progress {
 }
 
 /// What a line is to a program.
-#[derive(Debug, Drop)]
+#[derive(Drop)]
 enum LineClass {
     Name(Name),
     /// A declaration, or a directive that is passed over.

@@ -1,7 +1,7 @@
 //! What lines are to the nest.
 
 /// A construct, which several lines make (Fortran 95, 7.5.3, 7.5.4, 8.1).
-#[derive(Clone, Copy, Debug, PartialEq, Eq)]
+#[derive(Clone, Copy, PartialEq, Eq)]
 pub enum Construct {
     If,
     Do,
@@ -10,14 +10,14 @@ pub enum Construct {
 }
 
 /// Whether an INDEPENDENT has a NEW or a REDUCTION clause (HPF 2.0, 5.1).
-#[derive(Clone, Copy, Debug, PartialEq, Eq)]
+#[derive(Clone, Copy, PartialEq, Eq)]
 pub enum Clauses {
     Absent,
     Given,
 }
 
 /// What a line is to the lines round it.
-#[derive(Clone, Copy, Debug, PartialEq, Eq)]
+#[derive(Clone, Copy, PartialEq, Eq)]
 pub enum Role {
     Program,
     /// IMPLICIT NONE, INTEGER or PARAMETER.

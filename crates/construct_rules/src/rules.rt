@@ -5,10 +5,10 @@ ghost use Rattle.construct_rules.specs.Rules.{comes_late, declaration_comes, fit
 ghost use Rattle.construct_rules.specs.Found.{least_reason};
 ghost use Rattle.construct_rules.specs.NestState.{is_statement};
 
+use crate::limits::MAX_NESTING;
 use crate::nest_state::{NestState, is_passed};
 use crate::open_constructs::{Opens, is_where_or_forall};
 use crate::role::{Clauses, Construct, Role};
-use crate::limits::MAX_NESTING;
 use hpf_base::Reason;
 
 /// An END part that doesn't close the innermost open construct, or an ELSE part out of place.

@@ -3,7 +3,7 @@
 use syntax_tree::{Directive, DistSpec, NameList};
 
 /// A directive (HPF 2.0, 3, 5.1 and 8.5).
-#[derive(Debug, Drop)]
+#[derive(Drop)]
 pub enum DirectiveLine {
     /// One that maps, or one that is passed over.
     Mapping(Directive),

@@ -12,8 +12,7 @@ ghost use Rattle.distribution_rules.specs.DistributionRules.{has_small_sum, have
 use crate::dimensions::position_count;
 use crate::evaluated_formats::FormatValue;
 use expression_rules::{Dim, Evaluated};
-use mappings::MAX_BLOCK;
-use mappings::{BlockSizes, Form};
+use mappings::{BlockSizes, Form, MAX_BLOCK};
 use std::alloc::{AllocError, Global};
 
 /// The sizes of GEN_BLOCK for one of these dimensions are known, and their sum is below its extent.

@@ -8,7 +8,7 @@ use std::alloc::{AllocError, Global};
 use std::marker::Model;
 
 /// A format of a dimension, with the values of the expressions after it. CYCLIC alone is CYCLIC(1).
-#[derive(Debug, Drop)]
+#[derive(Drop)]
 pub enum FormatValue {
     Undistributed,
     /// BLOCK alone.
@@ -19,7 +19,7 @@ pub enum FormatValue {
 }
 
 /// The sizes of GEN_BLOCK, that of the first block first. Contracts see their list.
-#[derive(Debug, Drop)]
+#[derive(Drop)]
 pub struct SizeValues {
     sizes: Vec<Evaluated<i64>>,
 }
@@ -50,7 +50,7 @@ impl SizeValues {
 }
 
 /// Formats, that of the first dimension first. Contracts see their list.
-#[derive(Debug, Drop)]
+#[derive(Drop)]
 pub struct FormatValues {
     formats: Vec<FormatValue>,
 }
@@ -81,7 +81,7 @@ impl FormatValues {
 }
 
 /// The extents of an arrangement of processors, that of the first dimension first. Contracts see their list.
-#[derive(Debug, Drop)]
+#[derive(Drop)]
 pub struct ProcessorExtents {
     extents: Vec<u128>,
 }
@@ -127,7 +127,7 @@ impl ProcessorExtents {
 }
 
 /// The processors over which dimensions are distributed.
-#[derive(Debug, Drop)]
+#[derive(Drop)]
 pub enum Processors {
     /// An arrangement of these extents.
     Extents(ProcessorExtents),
@@ -138,7 +138,7 @@ pub enum Processors {
 }
 
 /// A DISTRIBUTE or REDISTRIBUTE: a format for each dimension, and the processors.
-#[derive(Debug, Drop)]
+#[derive(Drop)]
 pub struct DistributionValues {
     pub formats: FormatValues,
     pub processors: Processors,

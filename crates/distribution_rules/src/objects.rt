@@ -7,7 +7,7 @@ use hpf_base::Name;
 use std::marker::Model;
 
 /// What an object of a directive is.
-#[derive(Clone, Copy, Debug, PartialEq, Eq)]
+#[derive(Clone, Copy, PartialEq, Eq)]
 pub enum ObjectKind {
     Array,
     Template,
@@ -16,7 +16,7 @@ pub enum ObjectKind {
 }
 
 /// The dimensions of an object, the first one first; None stands for one of which a bound isn't known. Contracts see their list.
-#[derive(Debug, Drop)]
+#[derive(Drop)]
 pub struct ObjectDims {
     dims: Vec<Option<Dim>>,
 }
@@ -47,7 +47,7 @@ impl ObjectDims {
 }
 
 /// An array, a template or a processor arrangement, with its dimensions.
-#[derive(Debug, Drop)]
+#[derive(Drop)]
 pub struct Object {
     pub name: Name,
     pub kind: ObjectKind,

@@ -11,14 +11,14 @@ use std::marker::Model;
 
 /// The lower and the upper bound of a dimension, as they are declared (Fortran 95, 5.1.2.4.1). Where the upper one is below the
 /// lower one, the dimension is empty.
-#[derive(Clone, Copy, Debug)]
+#[derive(Clone, Copy)]
 pub struct Dim {
     pub lower: i64,
     pub upper: i64,
 }
 
 /// The dimensions of an array, the first one first, all within the limits. Contracts see their list.
-#[derive(Debug, Drop)]
+#[derive(Drop)]
 pub struct Dims {
     dims: Vec<Dim>,
 }

@@ -6,7 +6,7 @@ use std::alloc::{AllocError, Global};
 use std::marker::Model;
 
 /// What is known of the value of an expression that must be constant.
-#[derive(Debug, Drop)]
+#[derive(Drop)]
 pub enum Evaluated<T> {
     /// The expression isn't constant, or divides by zero.
     Invalid,
@@ -16,7 +16,7 @@ pub enum Evaluated<T> {
 }
 
 /// Numbers, in order. Contracts see their list.
-#[derive(Debug, Drop)]
+#[derive(Drop)]
 pub struct Numbers {
     numbers: Vec<i64>,
 }

@@ -13,7 +13,7 @@ use std::alloc::{AllocError, Global};
 use std::marker::Model;
 
 /// What a declared name stands for. A number, or the dimensions, are None where they are unknown, since a rule is broken.
-#[derive(Debug, Drop)]
+#[derive(Drop)]
 pub enum Symbol {
     /// A scalar variable without an initial value.
     Uninitialized,

@@ -6,21 +6,21 @@ ghost use Rattle.expression_rules.specs.Types.{conforming, if_typed, is_directiv
 use syntax_tree::Op;
 
 /// Where an expression stands: in a directive, or in a declaration or a statement.
-#[derive(Clone, Copy, Debug)]
+#[derive(Clone, Copy)]
 pub enum Context {
     Statement,
     Directive,
 }
 
 /// The type of an expression.
-#[derive(Clone, Copy, Debug)]
+#[derive(Clone, Copy)]
 pub enum DataType {
     Integer,
     Logical,
 }
 
 /// What an expression is: its type and its rank, which is 0 for a scalar.
-#[derive(Clone, Copy, Debug)]
+#[derive(Clone, Copy)]
 pub struct TypeAndRank {
     pub data_type: DataType,
     pub rank: usize,

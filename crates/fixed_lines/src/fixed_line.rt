@@ -10,8 +10,7 @@ ghost use Rattle.fixed_lines.specs.FixedLines.{begins_comment, columns, fixed_ki
 
 use crate::kind::FixedKind;
 use crate::parts::code_of;
-use source_lines::MAX_LINE_BYTES;
-use source_lines::{all_blank, is_blank, is_control, next_line, without_blanks};
+use source_lines::{MAX_LINE_BYTES, all_blank, is_blank, is_control, next_line, without_blanks};
 use std::alloc::{AllocError, Global};
 use std::marker::Model;
 

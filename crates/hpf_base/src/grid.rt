@@ -11,7 +11,7 @@ use std::marker::Model;
 
 /// A rectangular arrangement of nodes (HPF 2.0, PROCESSORS): its extents, the first dimension first. Contracts
 /// see their list: 1 to 7 numbers, none of them 0, whose product, the number of nodes, is at most 64.
-#[derive(Debug, Drop)]
+#[derive(Drop)]
 pub struct Grid {
     dims: SmallVec<u32, MAX_RANK>,
 }

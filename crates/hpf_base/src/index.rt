@@ -8,7 +8,7 @@ use std::alloc::Global;
 use std::marker::Model;
 
 /// The subscripts of an element, the first dimension first. It needs no memory. Contracts see the list.
-#[derive(Debug, Drop)]
+#[derive(Drop)]
 pub struct Index {
     numbers: SmallVec<i64, MAX_RANK>,
 }
@@ -59,7 +59,7 @@ impl Index {
 }
 
 /// The bounds of an array: in each dimension its lower bound and its extent, the first dimension first.
-#[derive(Debug, Drop)]
+#[derive(Drop)]
 pub struct Shape {
     pub lower: Index,
     pub extent: Index,

@@ -16,7 +16,7 @@ use std::marker::Model;
 pub const NAME_CAPACITY: usize = 31;
 
 /// A name in upper case. Contracts see the list of its bytes: 1 to 31 of `A` to `Z`, `0` to `9` and `_`.
-#[derive(Clone, Copy, Debug)]
+#[derive(Clone, Copy)]
 pub struct Name {
     bytes: [u8; NAME_CAPACITY],
     len: u8,

@@ -16,7 +16,7 @@ use std::marker::Model;
 use token_scan::tokens;
 
 /// A logical line as its tokens. Contracts see its lexemes.
-#[derive(Debug, Drop)]
+#[derive(Drop)]
 pub(crate) struct TokenLine {
     pub number: u32,
     pub kind: LineKind,

@@ -1,7 +1,7 @@
 //! The two ways to write a text.
 
 /// How the lines of a text are read (Fortran 95, 3.3).
-#[derive(Clone, Copy, Debug, PartialEq, Eq)]
+#[derive(Clone, Copy, PartialEq, Eq)]
 pub enum SourceForm {
     /// The free source form: a statement stands anywhere on its lines, and goes on after a `&` at the end of a line (3.3.1).
     Free,

@@ -40,7 +40,7 @@ pub enum WordsError {
 
 /// What the words ask for: the action and, for it, the arrangement of the nodes, the number of threads, the size of the bulk
 /// work, whether the last arrays are printed too, and the source form. What isn't given is at its default.
-#[derive(Debug, Drop)]
+#[derive(Drop)]
 pub struct Job {
     pub action: Action,
     pub grid: Grid,

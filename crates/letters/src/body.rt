@@ -6,7 +6,7 @@ use std::alloc::Global;
 use std::marker::Model;
 
 /// The values in a letter, in order. Contracts see their list.
-#[derive(Debug, Drop)]
+#[derive(Drop)]
 pub struct Body {
     values: Vec<i64>,
 }

@@ -4,7 +4,7 @@ use crate::body::Body;
 use hpf_base::NodeId;
 
 /// What one node sends to another in one phase of one run.
-#[derive(Debug, Drop)]
+#[derive(Drop)]
 pub struct Letter {
     /// The run.
     pub run: u64,

@@ -4,7 +4,7 @@ use crate::body::Body;
 use std::marker::Model;
 
 /// The values that a node is to send to another.
-#[derive(Debug, Drop)]
+#[derive(Drop)]
 pub struct Parcel {
     /// The number of the target, from 0.
     pub to: u32,

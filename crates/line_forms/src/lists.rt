@@ -17,7 +17,7 @@ use std::alloc::Global;
 use syntax_tree::{Expr, Sign};
 
 /// What the elements of a list are.
-#[derive(Clone, Copy, Debug, PartialEq, Eq)]
+#[derive(Clone, Copy, PartialEq, Eq)]
 enum ListKind {
     /// Any: a comma goes on with the list.
     Plain,

@@ -11,8 +11,7 @@ ghost use Rattle.line_forms.specs.Read.{expr, name, optional_expr, stepped, subs
 use crate::depths::Depths;
 use crate::read_error::ReadError;
 use crate::signs::{is_sign, skip};
-use expr_reader::{fits, front_expr};
-use expr_reader::MAX_DEPTH;
+use expr_reader::{MAX_DEPTH, fits, front_expr};
 use hpf_base::Name;
 use op_tables::is_reserved;
 use source_lines::{Token, TokenKind};

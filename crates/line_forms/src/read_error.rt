@@ -6,7 +6,7 @@ ghost use Rattle.line_forms.specs.declared.read_error.ReadError.TheVariants.{Mem
 use std::alloc::{AllocError, AllocFailed};
 
 /// Why a part of a line isn't read.
-#[derive(Clone, Copy, Debug, PartialEq, Eq)]
+#[derive(Clone, Copy, PartialEq, Eq)]
 pub enum ReadError {
     /// What stands there isn't of the form.
     Malformed,

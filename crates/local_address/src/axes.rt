@@ -13,7 +13,7 @@ use mappings::{AlignDim, Line, MapDim, Mapping};
 use std::alloc::{AllocError, Global};
 
 /// An entry of a mapping that moves along a dimension of the array: what has the subscript i there has `factor * i + offset` in the line.
-#[derive(Debug, Drop)]
+#[derive(Drop)]
 pub struct Axis {
     pub line: Line,
     pub grid_dim: u32,

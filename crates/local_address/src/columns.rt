@@ -16,7 +16,7 @@ use std::alloc::Global;
 use std::marker::Model;
 
 /// What each node owns along a dimension, node 0 first. Contracts see the list.
-#[derive(Debug, Drop)]
+#[derive(Drop)]
 pub struct Column {
     runs: Vec<Run>,
 }

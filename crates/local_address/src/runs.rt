@@ -10,7 +10,7 @@ use hpf_base::OutOfMemory;
 use std::alloc::Global;
 
 /// How many subscripts, the first and the last; zeros where there are none.
-#[derive(Clone, Copy, Debug)]
+#[derive(Clone, Copy)]
 pub struct Run {
     pub count: u32,
     pub first: i64,

@@ -19,7 +19,7 @@ use std::alloc::Global;
 
 /// How many elements of an array a node owns, at least one, and the first and the last of them in array-element order
 /// (Fortran 95, 6.2.2.2).
-#[derive(Debug, Drop)]
+#[derive(Drop)]
 pub struct Span {
     pub count: u32,
     pub first: Index,

@@ -11,7 +11,7 @@ use std::marker::Model;
 
 /// The sizes of blocks, one a processor, that of the first processor first (HPF 2.0, approved extensions, GEN_BLOCK): at most one for
 /// each of 64 nodes, and none above the greatest m of BLOCK(m). Contracts see the list.
-#[derive(Debug, Drop)]
+#[derive(Drop)]
 pub struct BlockSizes {
     sizes: Vec<u64>,
     /// The last position of each block.
@@ -21,7 +21,7 @@ pub struct BlockSizes {
 impl Model for BlockSizes {
     ghost use Rattle.std.specs.Prelude.{◌≡◌, ◌≤◌, ℕ, All, List, length};
     ghost use Rattle.hpf_base.specs.declared.limits.TheConstants.{MAX_NODES};
-ghost use Rattle.mappings.specs.declared.limits.TheConstants.{MAX_BLOCK};
+    ghost use Rattle.mappings.specs.declared.limits.TheConstants.{MAX_BLOCK};
     ghost use Rattle.mappings.specs.GenBlock.{block_ends};
 
     ghost Value = { List ℕ };

@@ -8,7 +8,7 @@ use std::alloc::{AllocError, Global};
 use std::marker::Model;
 
 /// The distribution format of a dimension (HPF 2.0, DISTRIBUTE).
-#[derive(Debug, Drop)]
+#[derive(Drop)]
 pub enum Form {
     /// The dimension isn't distributed.
     Whole,
@@ -35,7 +35,7 @@ impl Form {
 }
 
 /// A dimension with its distribution. Its positions are 1 to `extent`; position 1 is index `lower`.
-#[derive(Debug, Drop)]
+#[derive(Drop)]
 pub struct Line {
     pub lower: i64,
     pub extent: u64,
@@ -59,7 +59,7 @@ impl Line {
 }
 
 /// What a dimension of the template is given for an element with subscripts `i` (HPF 2.0, ALIGN).
-#[derive(Clone, Copy, Debug, PartialEq, Eq)]
+#[derive(Clone, Copy, PartialEq, Eq)]
 pub enum AlignDim {
     /// The subscript `a * i[dim] + b`; dimensions count from 0.
     Linear { dim: u32, a: i64, b: i64 },
@@ -71,7 +71,7 @@ pub enum AlignDim {
 
 /// One distributed dimension of the template: its line, the dimension of the grid on which it lies, counted from
 /// 0, and what it is given for an element.
-#[derive(Debug, Drop)]
+#[derive(Drop)]
 pub struct MapDim {
     pub line: Line,
     pub grid_dim: u32,
@@ -93,7 +93,7 @@ impl MapDim {
 }
 
 /// The distributed dimensions of a mapping. Contracts see the list.
-#[derive(Debug, Drop)]
+#[derive(Drop)]
 pub struct MapDims {
     entries: Vec<MapDim>,
 }
@@ -144,7 +144,7 @@ impl MapDims {
 /// Where the elements of an array lie: a node owns an element where, in every entry that is given a subscript for
 /// it, the node's coordinate in `grid_dim` is the coordinate of that subscript's position (HPF 2.0, DISTRIBUTE
 /// and ALIGN).
-#[derive(Debug, Drop)]
+#[derive(Drop)]
 pub struct Mapping {
     pub grid: Grid,
     pub dims: MapDims,

@@ -4,7 +4,7 @@ use tuple_numbers::Tuples;
 
 /// The tuples of a part that a node computes, and those at which it may exchange an element with another node. At all others it exchanges
 /// nothing. Contracts see it by `AreVisits`.
-#[derive(Debug, Drop)]
+#[derive(Drop)]
 pub struct Visits {
     /// The numbers of the tuples that the node computes, from 0, ascending.
     pub computed: Tuples,

@@ -11,7 +11,7 @@ use std::alloc::{AllocError, Global};
 use std::marker::Model;
 
 /// What a declared name is.
-#[derive(Debug, Drop)]
+#[derive(Drop)]
 pub enum What {
     /// A scalar variable with its initial value, which is 0 where none is given.
     Scalar(i64),
@@ -25,7 +25,7 @@ pub enum What {
 }
 
 /// A declared name.
-#[derive(Debug, Drop)]
+#[derive(Drop)]
 pub struct Entry {
     pub name: Name,
     pub what: What,

@@ -13,7 +13,7 @@ pub enum NestLeft {
 }
 
 /// What a parallel statement of a nest is in the text.
-#[derive(Clone, Copy, Debug, PartialEq, Eq)]
+#[derive(Clone, Copy, PartialEq, Eq)]
 pub enum NestRole {
     /// An assignment.
     Assigns,

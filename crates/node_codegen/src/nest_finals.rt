@@ -19,7 +19,7 @@ use resolved_program::Statement;
 use std::alloc::Global;
 
 /// How a scalar that a nest assigns gets its value after it.
-#[derive(Clone, Copy, Debug, PartialEq, Eq)]
+#[derive(Clone, Copy, PartialEq, Eq)]
 pub(crate) enum Final {
     /// Its copies in a row are folded into its slot.
     Folds {

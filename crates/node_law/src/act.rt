@@ -3,7 +3,7 @@
 use hpf_base::NodeId;
 
 /// The next atomic step of a node.
-#[derive(Clone, Copy, Debug, PartialEq, Eq)]
+#[derive(Clone, Copy, PartialEq, Eq)]
 pub enum Act {
     /// A step within the node. It alone may want memory.
     Local,

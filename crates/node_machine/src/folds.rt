@@ -19,7 +19,7 @@ use owner_tables::{Owners, Row, Spot, local_value};
 use tree_steps::{Joining, option_numbers, options_joined, reduced};
 
 /// A copy that is folded: how its elements are joined, and the slot that they are joined with.
-#[derive(Clone, Copy, Debug)]
+#[derive(Clone, Copy)]
 pub(crate) struct Folding {
     pub(crate) copy: usize,
     pub(crate) op: Join,

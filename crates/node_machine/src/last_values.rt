@@ -17,7 +17,7 @@ use owner_tables::{Owners, Row, Spot, local_value};
 use tree_steps::{Joining, Positioned, last_value, positioned_numbers};
 
 /// Two copies, of which the first has values and the second tells where they are set, and the slot that gets the last value.
-#[derive(Clone, Copy, Debug)]
+#[derive(Clone, Copy)]
 pub(crate) struct LastValue {
     pub(crate) copy: usize,
     pub(crate) set: usize,

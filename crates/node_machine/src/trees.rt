@@ -25,7 +25,7 @@ use tree_steps::{
 };
 
 /// A reduction: how its values are joined, and the slot that gets them.
-#[derive(Clone, Copy, Debug)]
+#[derive(Clone, Copy)]
 pub(crate) struct Reduction {
     pub(crate) op: Join,
     pub(crate) slot: usize,

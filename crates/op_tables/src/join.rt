@@ -9,7 +9,7 @@ use crate::operators::truth;
 
 /// A way to join two numbers of 64 bits to one: that of a reduction (Fortran 95, 13.14), or of the variable of a REDUCTION clause
 /// (HPF 2.0, 5.1.2).
-#[derive(Clone, Copy, Debug, PartialEq, Eq)]
+#[derive(Clone, Copy, PartialEq, Eq)]
 pub enum Join {
     /// The sum, which wraps: SUM and COUNT; `+` and `-`.
     Sum,

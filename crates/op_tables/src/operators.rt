@@ -8,7 +8,7 @@ ghost use Rattle.op_tables.specs.Operators.{modulo, operator_value, power, quoti
 use crate::op::Op;
 
 /// Division by zero, or a power below 0 of 0.
-#[derive(Clone, Copy, Debug, PartialEq, Eq)]
+#[derive(Clone, Copy, PartialEq, Eq)]
 pub struct DivZero;
 
 /// The value of an operator or elemental procedure (Fortran 95, 7.1.5, 7.2 and 13.14), over numbers of 64 bits that

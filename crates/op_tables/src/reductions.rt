@@ -9,7 +9,7 @@ use crate::op::Op;
 use crate::operators::truth;
 
 /// What a reduction makes of an element, before it is joined.
-#[derive(Clone, Copy, Debug, PartialEq, Eq)]
+#[derive(Clone, Copy, PartialEq, Eq)]
 pub enum Made {
     /// The element itself.
     Value,
@@ -30,7 +30,7 @@ impl Made {
 }
 
 /// A reduction (Fortran 95, 13.14): what joins its elements, and what it makes of each before.
-#[derive(Clone, Copy, Debug, PartialEq, Eq)]
+#[derive(Clone, Copy, PartialEq, Eq)]
 pub struct Reduction {
     /// What joins them.
     pub join: Join,

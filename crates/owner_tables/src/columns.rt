@@ -15,7 +15,7 @@ use std::alloc::Global;
 use std::marker::Model;
 
 /// A place on a dimension.
-#[derive(Clone, Copy, Debug)]
+#[derive(Clone, Copy)]
 pub(crate) struct Place {
     /// What it adds to the number of the least owner.
     pub(crate) part: u32,
@@ -226,7 +226,7 @@ pub(crate) fn weight(grid: &Grid, dim: u32) -> u32
 }
 
 /// A number by a dimension: the place on it, and what is left for the others.
-#[derive(Clone, Copy, Debug)]
+#[derive(Clone, Copy)]
 pub(crate) struct Split {
     pub(crate) place: u32,
     pub(crate) rest: u32,
@@ -268,7 +268,7 @@ pub(crate) fn parts_at(columns: &[Column], at: u32) -> u32
 }
 
 /// What the places of an element add up to.
-#[derive(Clone, Copy, Debug)]
+#[derive(Clone, Copy)]
 pub(crate) struct Found {
     /// To the number of its least owner.
     pub(crate) parts: u32,

@@ -8,7 +8,7 @@ ghost use Rattle.owner_tables.specs.Stretches.{AreEven, IsStretch};
 use crate::columns::{Column, Place, split_by};
 
 /// How many elements at the front of a line the node owns, and where they lie in its piece.
-#[derive(Clone, Copy, Debug)]
+#[derive(Clone, Copy)]
 pub struct HeldLine {
     /// How many they are.
     pub count: usize,
@@ -32,7 +32,7 @@ impl HeldLine {
 }
 
 /// How many of a line's elements after the first have its owners, and how far apart one and the next lie in the piece of a node.
-#[derive(Clone, Copy, Debug)]
+#[derive(Clone, Copy)]
 pub(crate) struct Stretch {
     /// How many they are.
     pub(crate) others: usize,
@@ -123,7 +123,7 @@ fn quotient(number: u32, by: u32) -> u32
 }
 
 /// How many places at equal distances after a first one add the same as it, and how far apart their ranks lie.
-#[derive(Clone, Copy, Debug)]
+#[derive(Clone, Copy)]
 struct EvenPlaces {
     others: usize,
     apart: u32,

@@ -8,7 +8,7 @@ use std::alloc::Global;
 use std::marker::Model;
 
 /// The values of a row that lie on one node. Contracts see their list.
-#[derive(Debug, Drop)]
+#[derive(Drop)]
 pub struct Row {
     values: Vec<i64>,
 }

@@ -3,7 +3,7 @@
 use hpf_base::NodeId;
 
 /// A run, and an ordered pair of nodes.
-#[derive(Clone, Copy, Debug, PartialEq, Eq)]
+#[derive(Clone, Copy, PartialEq, Eq)]
 pub struct Route {
     /// The run.
     pub run: u64,

@@ -16,7 +16,7 @@ use std::mem;
 use tuple_values::ElementLine;
 
 /// A value for a place of the node's pieces.
-#[derive(Clone, Copy, Debug)]
+#[derive(Clone, Copy)]
 pub struct Store {
     pub spot: Spot,
     pub value: i64,

@@ -1,7 +1,7 @@
 //! Who computes tuples.
 
 /// Which nodes compute a tuple.
-#[derive(Clone, Copy, Debug, PartialEq, Eq)]
+#[derive(Clone, Copy, PartialEq, Eq)]
 pub enum Who {
     /// The owners of the element that is assigned; node 0 where that is none.
     Left,

@@ -7,7 +7,7 @@ ghost use Rattle.reduction_tree.specs.FaultOrder.{fault_order};
 use crate::fold::Fold;
 
 /// A fault that is kept with its key: the number of its tuple, then the place of its part, and then its own number.
-#[derive(Clone, Copy, Debug, PartialEq, Eq)]
+#[derive(Clone, Copy, PartialEq, Eq)]
 pub struct KeptFault {
     /// The number of the tuple at which it happened.
     pub tuple: u64,

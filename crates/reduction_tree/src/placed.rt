@@ -7,7 +7,7 @@ ghost use Rattle.reduction_tree.specs.LastOrder.{last_order};
 use crate::fold::Fold;
 
 /// A value at a position.
-#[derive(Clone, Copy, Debug, PartialEq, Eq)]
+#[derive(Clone, Copy, PartialEq, Eq)]
 pub struct Placed {
     /// The position.
     pub position: u64,

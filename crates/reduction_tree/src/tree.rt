@@ -6,7 +6,7 @@ ghost use Rattle.reduction_tree.specs.Tree.{levels, up_act, exchanged, act_of};
 use hpf_base::NodeId;
 
 /// What a node does in a round of the tree.
-#[derive(Clone, Copy, Debug, PartialEq, Eq)]
+#[derive(Clone, Copy, PartialEq, Eq)]
 pub enum TreeAct {
     /// Nothing.
     Idle,

@@ -4,7 +4,7 @@ use crate::bytes::Bytes;
 use hpf_base::Name;
 
 /// A token of a logical line: its bytes are those from the place `from`, counted from 0, to the place before `to`.
-#[derive(Debug, Drop)]
+#[derive(Drop)]
 pub struct Token {
     pub from: u32,
     pub to: u32,
@@ -12,7 +12,7 @@ pub struct Token {
 }
 
 /// What a token is.
-#[derive(Debug, Drop)]
+#[derive(Drop)]
 pub enum TokenKind {
     /// A keyword or a name, in upper case.
     Word(Name),

@@ -2,7 +2,7 @@
 
 /// What kind of statement a line is, by the words that begin it. `ELSEIF` and its like are one word where the field is
 /// true.
-#[derive(Clone, Copy, Debug, PartialEq, Eq)]
+#[derive(Clone, Copy, PartialEq, Eq)]
 pub enum Kind {
     Program,
     ImplicitNone,

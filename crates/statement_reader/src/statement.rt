@@ -5,7 +5,7 @@ use syntax_tree::{ConstDef, Expr, Header, IntegerDecl, Item, Ref};
 
 /// A statement: a whole one, or a part of a construct that has a line of its own (Fortran 95, 2.1, 5, 7.5, 8, 9.4 and
 /// 11.1).
-#[derive(Debug, Drop)]
+#[derive(Drop)]
 pub enum Statement {
     /// PROGRAM and the name.
     Program(Name),
@@ -35,7 +35,7 @@ pub enum Statement {
 }
 
 /// A statement that is whole and may be the action of an IF (Fortran 95, R216).
-#[derive(Debug, Drop)]
+#[derive(Drop)]
 pub enum Action {
     Assign(Assignment),
     /// WHERE with one assignment.
@@ -50,14 +50,14 @@ pub enum Action {
 }
 
 /// `left = right`.
-#[derive(Debug, Drop)]
+#[derive(Drop)]
 pub struct Assignment {
     pub left: Ref,
     pub right: Expr,
 }
 
 /// DO with its index and the values that it takes.
-#[derive(Debug, Drop)]
+#[derive(Drop)]
 pub struct DoHead {
     pub index: Name,
     pub first: Expr,
@@ -66,7 +66,7 @@ pub struct DoHead {
 }
 
 /// FORALL with its indices and its mask.
-#[derive(Debug, Drop)]
+#[derive(Drop)]
 pub struct ForallHead {
     pub axes: Vec<Header>,
     pub mask: Option<Expr>,

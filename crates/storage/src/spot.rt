@@ -1,7 +1,7 @@
 //! Elements by their row and position.
 
 /// An element of an array or of a copy.
-#[derive(Clone, Copy, Debug, PartialEq, Eq, PartialOrd, Ord)]
+#[derive(Clone, Copy, PartialEq, Eq, PartialOrd, Ord)]
 pub struct Spot {
     /// The row: the number of the array or of the copy, from 0.
     pub row: usize,

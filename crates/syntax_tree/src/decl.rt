@@ -6,7 +6,7 @@ use crate::stmt::Stmt;
 use source_lines::Name;
 
 /// A program.
-#[derive(Debug, Drop)]
+#[derive(Drop)]
 pub struct Tree {
     /// The name after PROGRAM, where there is that statement.
     pub name: Option<Name>,
@@ -16,7 +16,7 @@ pub struct Tree {
 }
 
 /// The END of a program: whether PROGRAM stands after it, the name after that, and the number of its line.
-#[derive(Debug, Drop)]
+#[derive(Drop)]
 pub struct EndForm {
     pub word: bool,
     pub name: Option<Name>,
@@ -24,14 +24,14 @@ pub struct EndForm {
 }
 
 /// A declaration, and the number of its line.
-#[derive(Debug, Drop)]
+#[derive(Drop)]
 pub struct Decl {
     pub line: u32,
     pub what: DeclKind,
 }
 
 /// What a declaration is.
-#[derive(Debug, Drop)]
+#[derive(Drop)]
 pub enum DeclKind {
     ImplicitNone,
     Integer(IntegerDecl),
@@ -40,7 +40,7 @@ pub enum DeclKind {
 }
 
 /// INTEGER, with its attributes and entities.
-#[derive(Debug, Drop)]
+#[derive(Drop)]
 pub struct IntegerDecl {
     /// PARAMETER stands among the attributes.
     pub constant: bool,
@@ -52,7 +52,7 @@ pub struct IntegerDecl {
 }
 
 /// A declared name, with its own bounds and its initial value.
-#[derive(Debug, Drop)]
+#[derive(Drop)]
 pub struct Entity {
     pub name: Name,
     pub dims: Option<Vec<Bound>>,
@@ -60,14 +60,14 @@ pub struct Entity {
 }
 
 /// The bounds of a dimension; the lower one is 1 where it is left out.
-#[derive(Debug, Drop)]
+#[derive(Drop)]
 pub struct Bound {
     pub lower: Option<Expr>,
     pub upper: Expr,
 }
 
 /// A constant of a PARAMETER statement.
-#[derive(Debug, Drop)]
+#[derive(Drop)]
 pub struct ConstDef {
     pub name: Name,
     pub value: Expr,

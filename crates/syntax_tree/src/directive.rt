@@ -6,7 +6,7 @@ use crate::names::NameList;
 use source_lines::Name;
 
 /// A directive among the declarations.
-#[derive(Debug, Drop)]
+#[derive(Drop)]
 pub enum Directive {
     /// Arrangements of processors, each with its extents.
     Processors(Vec<Entity>),
@@ -20,7 +20,7 @@ pub enum Directive {
 }
 
 /// DISTRIBUTE or REDISTRIBUTE: how the named arrays or templates are dealt out.
-#[derive(Debug, Drop)]
+#[derive(Drop)]
 pub struct DistSpec {
     pub names: NameList,
     /// One a dimension, the first dimension first.
@@ -32,7 +32,7 @@ pub struct DistSpec {
 }
 
 /// The format of a dimension.
-#[derive(Debug, Drop)]
+#[derive(Drop)]
 pub enum Format {
     /// `*`.
     Star,
@@ -43,7 +43,7 @@ pub enum Format {
 }
 
 /// ALIGN: how the named arrays lie on a target.
-#[derive(Debug, Drop)]
+#[derive(Drop)]
 pub struct AlignSpec {
     pub names: NameList,
     /// One a dimension of the alignees.
@@ -56,7 +56,7 @@ pub struct AlignSpec {
 }
 
 /// What stands for a dimension of the alignee.
-#[derive(Debug, Drop)]
+#[derive(Drop)]
 pub enum Source {
     Dummy(Name),
     Colon,
@@ -64,7 +64,7 @@ pub enum Source {
 }
 
 /// What stands for a dimension of the target.
-#[derive(Debug, Drop)]
+#[derive(Drop)]
 pub enum Target {
     Sub(Subscript),
     Star,

@@ -4,7 +4,7 @@ use op_tables::Op;
 use source_lines::Name;
 
 /// An expression.
-#[derive(Debug, Drop)]
+#[derive(Drop)]
 #[cycle(expression)]
 pub enum Expr {
     /// An integer constant.
@@ -23,7 +23,7 @@ pub enum Expr {
 }
 
 /// A name, and the subscripts that stand after it, the first dimension first (Fortran 95, 6.2.2).
-#[derive(Debug, Drop)]
+#[derive(Drop)]
 #[cycle(expression)]
 pub struct Ref {
     pub name: Name,
@@ -31,7 +31,7 @@ pub struct Ref {
 }
 
 /// A subscript: one expression, or a subscript triplet (Fortran 95, 6.2.2.3).
-#[derive(Debug, Drop)]
+#[derive(Drop)]
 #[cycle(expression)]
 pub enum Subscript {
     One(Expr),

@@ -6,7 +6,7 @@ use source_lines::Name;
 use std::marker::Model;
 
 /// Names, as they stand. Contracts see their list.
-#[derive(Debug, Drop)]
+#[derive(Drop)]
 pub struct NameList {
     names: Vec<Name>,
 }

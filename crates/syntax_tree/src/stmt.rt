@@ -6,7 +6,7 @@ use crate::names::NameList;
 use source_lines::{Bytes, Name};
 
 /// A statement, and the number of the line on which it begins.
-#[derive(Debug, Drop)]
+#[derive(Drop)]
 #[cycle(statement)]
 pub struct Stmt {
     pub line: u32,
@@ -14,7 +14,7 @@ pub struct Stmt {
 }
 
 /// What a statement is.
-#[derive(Debug, Drop)]
+#[derive(Drop)]
 #[cycle(statement)]
 pub enum StatementKind {
     Assign {
@@ -64,7 +64,7 @@ pub enum StatementKind {
 }
 
 /// An arm of an IF construct, and the number of its line.
-#[derive(Debug, Drop)]
+#[derive(Drop)]
 #[cycle(statement)]
 pub struct Arm {
     pub line: u32,
@@ -75,7 +75,7 @@ pub struct Arm {
 }
 
 /// A DO construct.
-#[derive(Debug, Drop)]
+#[derive(Drop)]
 #[cycle(statement)]
 pub struct DoLoop {
     pub index: Name,
@@ -90,7 +90,7 @@ pub struct DoLoop {
 }
 
 /// INDEPENDENT, the number of its line, and the names of its lists.
-#[derive(Debug, Drop)]
+#[derive(Drop)]
 pub struct Mark {
     pub line: u32,
     pub new: NameList,
@@ -98,7 +98,7 @@ pub struct Mark {
 }
 
 /// An index of a FORALL with its triplet.
-#[derive(Debug, Drop)]
+#[derive(Drop)]
 pub struct Header {
     pub name: Name,
     pub first: Expr,
@@ -107,7 +107,7 @@ pub struct Header {
 }
 
 /// An item of a PRINT.
-#[derive(Debug, Drop)]
+#[derive(Drop)]
 pub enum Item {
     Value(Expr),
     Text(Bytes),

@@ -12,7 +12,7 @@ use slot_values::earlier;
 use std::alloc::Global;
 
 /// What goes round a tree, and so how two are joined.
-#[derive(Clone, Copy, Debug, PartialEq, Eq)]
+#[derive(Clone, Copy, PartialEq, Eq)]
 pub enum Joining {
     /// Kept faults, of which the one with the lower key is kept.
     Kept,

@@ -9,7 +9,7 @@ use hpf_base::OutOfMemory;
 use std::alloc::Global;
 
 /// A value with its position, from 0.
-#[derive(Clone, Copy, Debug, PartialEq, Eq)]
+#[derive(Clone, Copy, PartialEq, Eq)]
 pub struct Positioned {
     pub at: u64,
     pub value: i64,

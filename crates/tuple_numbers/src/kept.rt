@@ -11,7 +11,7 @@ use std::alloc::Global;
 use std::marker::Model;
 
 /// Numbers of tuples, in order. Contracts see the list of them; what is kept is shorter where they are all numbers below a count, or a product of places of axes.
-#[derive(Debug, Drop)]
+#[derive(Drop)]
 pub struct Tuples {
     /// The numbers of the first list; None for those from `start` on.
     near: Option<Vec<u32>>,

@@ -17,7 +17,7 @@ use std::alloc::Global;
 use storage::Spot;
 
 /// The first two tuples of a strip and the last, which has a place in it.
-#[derive(Clone, Copy, Debug)]
+#[derive(Clone, Copy)]
 struct Ends {
     first: usize,
     second: usize,
@@ -26,7 +26,7 @@ struct Ends {
 }
 
 /// What is assigned at the tuples of a strip, where something is.
-#[derive(Clone, Copy, Debug)]
+#[derive(Clone, Copy)]
 struct LeftLine {
     line: Option<ElementLine>,
 }

@@ -3,7 +3,7 @@
 use storage::Spot;
 
 /// So many tuples by their numbers, each so many after the one before.
-#[derive(Clone, Copy, Debug)]
+#[derive(Clone, Copy)]
 pub struct Strip {
     pub first: usize,
     pub step: usize,
@@ -11,7 +11,7 @@ pub struct Strip {
 }
 
 /// Elements of a row, each so many positions after the one before.
-#[derive(Clone, Copy, Debug)]
+#[derive(Clone, Copy)]
 pub struct ElementLine {
     pub first: Spot,
     pub step: usize,
