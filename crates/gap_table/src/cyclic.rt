@@ -37,6 +37,7 @@ pub(crate) fn cyclic_table<L: Ledger>(
     ensures places { IfOk result (λ t. places_of t ≡ owned_under (Cyclic block) procs node section.start section.stride section.count) }
     ensures offsets { IfOk result (λ t. length t.offsets ≤ block) }
     ensures steps { steps.new ≤ steps.old + 2 * block }
+    ensures counted { IfOk result (λ t. steps.old + length t.offsets ≤ steps.new) }
 {
     // What remains of the stride leads to the same residues by the cycle, and isn't negative.
     let factor = residue_of(section.stride as i128, (block * procs) as u128) as u64;
@@ -87,6 +88,7 @@ fn cyclic_offsets<L: Ledger>(
     requires factor { factor < block * procs }
     ensures offsets { IfOk result (λ o. AreOffsets block procs node start factor o.offsets.items o.period) }
     ensures steps { steps.new ≤ steps.old + 2 * block }
+    ensures counted { IfOk result (λ o. steps.old + length o.offsets.items ≤ steps.new) }
 {
     let cycle = block * procs;
     let found = inverse_of(factor as u128, cycle as u128);

@@ -38,6 +38,7 @@ pub(crate) fn section_table<L: Ledger>(
         ≡ filter (λ j. in_section first last (unsigned_abs (position_of section.start section.stride j))) (range_with_len 0 section.count)) }
     ensures offsets { IfOk result (λ t. length t.offsets ≤ 1) }
     ensures steps { steps.new ≤ steps.old + 1 }
+    ensures counted { IfOk result (λ t. steps.old + length t.offsets ≤ steps.new) }
 {
     let Span { begin, end } = span_of(first, last, section);
     let mut offsets = Vec::new(alloc);

@@ -58,6 +58,7 @@ impl GapTable {
         ensures places { IfOk result (λ t. places_of t ≡ owned_sequence line.now node start stride count) }
         ensures offsets { IfOk result (λ t. length t.offsets ≤ most_offsets line.now.form) }
         ensures steps { steps.new ≤ steps.old + most_steps line.now.form }
+        ensures counted { IfOk result (λ t. steps.old + length t.offsets ≤ steps.new) }
     {
         if count == 0 {
             return Ok(empty_table(alloc));

@@ -105,3 +105,10 @@ returns-clause-offsets g c =
           (λ j i. sorted_in tried sorted numbers permutation is j
           (subst (λ l. In j l) (sym inv.offsets) i));
     }
+
+pub returns-clause-counted : goal.returns-clause-counted
+returns-clause-counted g c =
+    let inv = c.loop-residue.invariant.1 in
+    let long : length c.loop-residue.offsets.items ≡ c.loop-residue.invariant.0 = ap length inv.offsets ∙ length-map-range_with_len _ 0 c.loop-residue.invariant.0 in
+    let long' : length c.sort_unstable.new.self.items ≡ length c.loop-residue.offsets.items = length_permutation _ _ c.sort_unstable.ensures.permutation in
+    omega (arith, inv.steps, long, long', c.dedup.ensures.bound, c.dedup.new.self.ok, c.sort_unstable.new.self.ok)
