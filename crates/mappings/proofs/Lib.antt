@@ -2,3 +2,4 @@ pub mod Sections
 pub mod Blocks
 pub mod GenBlocks
 pub mod Lines
+mod Examples
