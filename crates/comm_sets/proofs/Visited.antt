@@ -11,7 +11,7 @@ use Rattle.machine_steps.specs.Layout.{Layout}
 use Rattle.machine_steps.specs.Message.{Part, any_below, message, names_spot}
 use Rattle.message_elements.specs.Elements.{is_sent}
 use Rattle.comm_sets.specs.Noted.{Arranged, Lists, Noted}
-use Rattle.message_elements.specs.Visits.{IsVisited, is_sent_at, is_visited, sends_at, takes_at}
+use Rattle.message_elements.specs.Candidates.{IsVisited, is_sent_at, is_visited, sends_at, takes_at}
 use Rattle.message_elements.proofs.AllSpots.{both-tests}
 use Rattle.comm_sets.proofs.Noting.{noted-same}
 use Rattle.comm_sets.proofs.Sent.{is_sent_below, messages-from, messages-to}

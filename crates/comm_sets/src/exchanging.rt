@@ -8,7 +8,7 @@ use crate::messages::Messages;
 use crate::reads::Reads;
 use crate::receiving::receive_tuple;
 use crate::sending::send_reads;
-use crate::visiting::by_visits;
+use crate::visiting::by_candidates;
 use hpf_base::OutOfMemory;
 use owner_tables::Owners;
 use std::alloc::Global;
@@ -31,8 +31,8 @@ pub fn exchange<P: Reads>(
     if owners.nodes() == 1 {
         return alone(alloc, owners, part, id);
     }
-    match part.visits(alloc, id)? {
-        Some(visits) => by_visits(alloc, owners, part, id, visits),
+    match part.candidates(alloc, id)? {
+        Some(candidates) => by_candidates(alloc, owners, part, id, candidates),
         None => among_nodes(alloc, owners, part, id),
     }
 }

@@ -5,10 +5,10 @@ ghost use Rattle.std.specs.List.{range_with_len};
 ghost use Rattle.machine_steps.specs.Message.{Part};
 ghost use Rattle.owner_tables.specs.Views.{OwnersView};
 ghost use Rattle.storage.specs.Spots.{spot_of};
-ghost use Rattle.message_elements.specs.Visits.{AreVisits};
+ghost use Rattle.message_elements.specs.Candidates.{AreCandidates};
 
 use hpf_base::OutOfMemory;
-use message_elements::Visits;
+use message_elements::Candidates;
 use std::alloc::Global;
 use storage::Spot;
 
@@ -36,9 +36,9 @@ pub trait Reads {
 
     /// The tuples that the node computes, and those at which it may exchange an element with another node, where this is known without a
     /// pass over all tuples.
-    fn visits(&self, alloc: Global, id: u32) -> Result<Option<Visits>, OutOfMemory>
+    fn candidates(&self, alloc: Global, id: u32) -> Result<Option<Candidates>, OutOfMemory>
         requires { id < (owners self.now).nodes }
-        ensures { IfOk result (λ found. IfSome found (AreVisits (owners self.now).nodes (owners self.now).layouts (part self.now) id)) };
+        ensures { IfOk result (λ found. IfSome found (AreCandidates (owners self.now).nodes (owners self.now).layouts (part self.now) id)) };
 
     /// Where there is one node, it computes each tuple. It does nothing.
     fn alone(&self)

@@ -4,7 +4,7 @@ ghost use Rattle.std.specs.Prelude.{◌≡◌, ◌<◌, All, IfOk, map, true};
 ghost use Rattle.std.specs.List.{range_with_len};
 ghost use Rattle.machine_steps.specs.Message.{message};
 ghost use Rattle.comm_sets.specs.Exchanges.{AreExchanged};
-ghost use Rattle.message_elements.specs.Visits.{AreVisits, IsVisited, sends_at, takes_at};
+ghost use Rattle.message_elements.specs.Candidates.{AreCandidates, IsVisited, sends_at, takes_at};
 
 use crate::exchanged::Exchange;
 use crate::messages::Messages;
@@ -12,29 +12,29 @@ use crate::reads::Reads;
 use crate::receiving::receive_reads;
 use crate::sending::send_reads;
 use hpf_base::OutOfMemory;
-use message_elements::Visits;
+use message_elements::Candidates;
 use owner_tables::Owners;
 use std::alloc::Global;
 
 /// What a node exchanges, found at these tuples alone.
-pub(crate) fn by_visits<P: Reads>(
+pub(crate) fn by_candidates<P: Reads>(
     alloc: Global,
     owners: &Owners,
     part: &P,
     id: u32,
-    visits: Visits,
+    candidates: Candidates,
 ) -> Result<Exchange, OutOfMemory>
     requires owners { P.owners part.now ≡ owners.now }
     requires id { id < owners.now.nodes }
-    requires visits { AreVisits owners.now.nodes owners.now.layouts (P.part part.now) id visits }
+    requires candidates { AreCandidates owners.now.nodes owners.now.layouts (P.part part.now) id candidates }
     ensures { IfOk result (AreExchanged owners.now.nodes owners.now.layouts (P.part part.now) id) }
 {
-    let outgoing = sent_at(alloc, owners, part, id, visits.sending.as_slice())?;
-    let incoming = taken_at(alloc, owners, part, id, visits.taking.as_slice())?;
+    let outgoing = sent_at(alloc, owners, part, id, candidates.sending.as_slice())?;
+    let incoming = taken_at(alloc, owners, part, id, candidates.taking.as_slice())?;
     Ok(Exchange {
         outgoing,
         incoming,
-        computed: visits.computed,
+        computed: candidates.computed,
     })
 }
 

@@ -1,3 +1,3 @@
 pub mod Ascending
+pub mod Candidates
 pub mod Elements
-pub mod Visits

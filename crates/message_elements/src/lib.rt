@@ -2,13 +2,13 @@
 //!
 //! Comes in: elements of rows, one after the other. Goes out: the same elements, each once, row by row and each row in array-element order, as a message
 //! has them. What holds in between: repetitions are dropped before a list grows, so that its memory goes with its elements, however often they are
-//! added. `Visits` are the tuples of a part that concern one node.
+//! added. `Candidates` are the tuples of a part that concern one node.
 #![tactic(auto)]
 
+mod candidates;
 mod gathering;
-mod visits;
 
+pub use candidates::Candidates;
 pub use gathering::{arrange_list, note};
 pub use hpf_base::OutOfMemory;
 pub use storage::Spot;
-pub use visits::Visits;

@@ -11,7 +11,7 @@ use crate::visiting::part_visits;
 use crate::who::Who;
 use comm_sets::{Owners, Reads, Spot};
 use hpf_base::OutOfMemory;
-use message_elements::Visits;
+use message_elements::Candidates;
 use std::alloc::Global;
 
 impl<'a> Reads for Part<'a> {
@@ -41,7 +41,7 @@ impl<'a> Reads for Part<'a> {
         }
     }
 
-    fn visits(&self, alloc: Global, id: u32) -> Result<Option<Visits>, OutOfMemory> {
+    fn candidates(&self, alloc: Global, id: u32) -> Result<Option<Candidates>, OutOfMemory> {
         part_visits(alloc, self, id)
     }
 

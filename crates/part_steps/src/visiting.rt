@@ -2,7 +2,7 @@
 
 ghost use Rattle.std.specs.Prelude.{◌≡◌, ◌<◌, ◌≤◌, ◌^◌, All, IfOk, IfSome, Some, length, option_map};
 ghost use Rattle.hpf_base.specs.ElementOrder.{product};
-ghost use Rattle.message_elements.specs.Visits.{AreVisits};
+ghost use Rattle.message_elements.specs.Candidates.{AreCandidates};
 ghost use Rattle.courses.specs.References.{IsAlongAxes};
 ghost use Rattle.course_forms.specs.Views.{named_of, names_of};
 ghost use Rattle.tuple_values.specs.NamedElements.{AreReferences};
@@ -13,7 +13,7 @@ ghost use Rattle.part_steps.specs.Views.{part_view};
 use crate::part::Part;
 use crate::who::Who;
 use hpf_base::OutOfMemory;
-use message_elements::Visits;
+use message_elements::Candidates;
 use part_visits::{assigned_visits, read_visits, root_visits};
 use std::alloc::Global;
 use tuple_values::References;
@@ -23,9 +23,9 @@ pub(crate) fn part_visits(
     alloc: Global,
     part: &Part<'_>,
     id: u32,
-) -> Result<Option<Visits>, OutOfMemory>
+) -> Result<Option<Candidates>, OutOfMemory>
     requires { id < part.now.owners.now.nodes }
-    ensures { IfOk result (λ found. IfSome found (AreVisits part.now.owners.now.nodes part.now.owners.now.layouts (part_of (part_view part.now)) id)) }
+    ensures { IfOk result (λ found. IfSome found (AreCandidates part.now.owners.now.nodes part.now.owners.now.layouts (part_of (part_view part.now)) id)) }
 {
     if part.statement.count() > 1 << 32 {
         return Ok(None);
@@ -42,11 +42,11 @@ fn visits_by(
     part: &Part<'_>,
     references: &References,
     id: u32,
-) -> Result<Option<Visits>, OutOfMemory>
+) -> Result<Option<Candidates>, OutOfMemory>
     requires id { id < part.now.owners.now.nodes }
     requires references { AreReferences (statement_of part.now.statement.now) references.now.extents.items (option_map named_of references.now.left) (names_of references.now.reads.items) }
     requires few { product references.now.extents.items ≤ 2 ^ 32 }
-    ensures { IfOk result (λ found. IfSome found (AreVisits part.now.owners.now.nodes part.now.owners.now.layouts (part_of (part_view part.now)) id)) }
+    ensures { IfOk result (λ found. IfSome found (AreCandidates part.now.owners.now.nodes part.now.owners.now.layouts (part_of (part_view part.now)) id)) }
 {
     let extents = references.extents.as_slice();
     let reads = references.reads.as_slice();

@@ -4,7 +4,7 @@ ghost use Rattle.std.specs.Prelude.{◌≡◌, ℕ, ◌<◌, ◌≤◌, ◌==◌
 ghost use Rattle.hpf_base.specs.ElementOrder.{product};
 ghost use Rattle.machine_steps.specs.Layout.{in_bounds};
 ghost use Rattle.machine_steps.specs.Message.{Part, computes_left, first_read, least_or_zero};
-ghost use Rattle.message_elements.specs.Visits.{AreVisits};
+ghost use Rattle.message_elements.specs.Candidates.{AreCandidates};
 ghost use Rattle.courses.specs.References.{IsAlongAxes, Named, named_spot};
 ghost use Rattle.course_forms.specs.Views.{named_of, names_of};
 ghost use Rattle.visited_tuples.specs.Own.{IsOwn};
@@ -16,7 +16,7 @@ use crate::own::Own;
 use crate::visitor::Visitor;
 use course_forms::Reference;
 use hpf_base::OutOfMemory;
-use message_elements::Visits;
+use message_elements::Candidates;
 use owner_tables::Owners;
 use std::alloc::Global;
 
@@ -28,14 +28,14 @@ pub fn assigned_visits(
     left: &Reference,
     reads: &[Reference],
     id: u32,
-) -> Result<Option<Visits>, OutOfMemory>
+) -> Result<Option<Candidates>, OutOfMemory>
     requires id { id < owners.now.nodes }
     requires tuples { product extents.now ≤ 2 ^ 32 }
     requires left { IsAlongAxes (length extents.now) (named_of left.now) }
     requires reads { All (IsAlongAxes (length extents.now)) (names_of reads.now) }
     ensures { IfOk result (λ v. IfSome v (λ v. (part : Part)
         → IsPartOf extents.now (names_of reads.now) (λ node t. computes_left owners.now.layouts node (in_bounds owners.now.layouts (named_spot extents.now t (named_of left.now)))) part
-        → AreVisits owners.now.nodes owners.now.layouts part id v)) }
+        → AreCandidates owners.now.nodes owners.now.layouts part id v)) }
 {
     if !are_few(extents) {
         return Ok(None);
@@ -62,14 +62,14 @@ pub fn read_visits(
     extents: &[u64],
     reads: &[Reference],
     id: u32,
-) -> Result<Option<Visits>, OutOfMemory>
+) -> Result<Option<Candidates>, OutOfMemory>
     requires id { id < owners.now.nodes }
     requires tuples { product extents.now ≤ 2 ^ 32 }
     requires reads { All (IsAlongAxes (length extents.now)) (names_of reads.now) }
     ensures { IfOk result (λ v. IfSome v (λ v. (part : Part)
         → IsPartOf extents.now (names_of reads.now)
         (λ node t. least_or_zero owners.now.nodes owners.now.layouts (in_bounds owners.now.layouts (first_read (map (named_spot extents.now t) (names_of reads.now)))) == node) part
-        → AreVisits owners.now.nodes owners.now.layouts part id v)) }
+        → AreCandidates owners.now.nodes owners.now.layouts part id v)) }
 {
     if !are_few(extents) {
         return Ok(None);
@@ -96,12 +96,12 @@ pub fn root_visits(
     extents: &[u64],
     reads: &[Reference],
     id: u32,
-) -> Result<Option<Visits>, OutOfMemory>
+) -> Result<Option<Candidates>, OutOfMemory>
     requires id { id < owners.now.nodes }
     requires tuples { product extents.now ≤ 2 ^ 32 }
     requires reads { All (IsAlongAxes (length extents.now)) (names_of reads.now) }
     ensures { IfOk result (λ v. IfSome v (λ v. (part : Part)
-        → IsPartOf extents.now (names_of reads.now) (λ node t. node == 0) part → AreVisits owners.now.nodes owners.now.layouts part id v)) }
+        → IsPartOf extents.now (names_of reads.now) (λ node t. node == 0) part → AreCandidates owners.now.nodes owners.now.layouts part id v)) }
 {
     if !are_few(extents) {
         return Ok(None);
@@ -134,7 +134,7 @@ impl<'a> Visitor<'a> {
         alloc: Global,
         reads: &[Reference],
         own: Own,
-    ) -> Result<Option<Visits>, OutOfMemory>
+    ) -> Result<Option<Candidates>, OutOfMemory>
         requires reads { All (IsAlongAxes (length self.now.extents.now)) (names_of reads.now) }
         requires own { (who : (node tuple : ℕ) → Bool) × IsOwn who self.now.owners.now.nodes self.now.extents.now self.now.id
             (option_map (λ lists. map (λ v. v.items) lists.items) own.lists) own.beside.items }
@@ -142,7 +142,7 @@ impl<'a> Visitor<'a> {
             → IsOwn who self.now.owners.now.nodes self.now.extents.now self.now.id (option_map (λ lists. map (λ v. v.items) lists.items) own.lists) own.beside.items
             → (rs : List Named) → Suffice who self.now.owners.now.layouts self.now.extents.now rs (names_of reads.now)
             → IfOk result (λ v. IfSome v (λ v. (part : Part) → IsPartOf self.now.extents.now rs who part
-            → AreVisits self.now.owners.now.nodes self.now.owners.now.layouts part self.now.id v)) }
+            → AreCandidates self.now.owners.now.nodes self.now.owners.now.layouts part self.now.id v)) }
     {
         if !self.all_lie(reads) {
             return Ok(None);
@@ -150,7 +150,7 @@ impl<'a> Visitor<'a> {
         let taking = self.taking(alloc, reads, &own)?;
         let sending = self.sending(alloc, reads, &own)?;
         let computed = self.short_tuples(alloc, &own.lists)?;
-        Ok(Some(Visits {
+        Ok(Some(Candidates {
             computed,
             taking,
             sending,

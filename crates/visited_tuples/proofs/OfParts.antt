@@ -5,9 +5,9 @@ use Rattle.hpf_base.specs.ElementOrder.{product}
 use Rattle.storage.specs.Storage.{Spot}
 use Rattle.machine_steps.specs.Layout.{Layout, least_owner_of, owns_spot, sizes}
 use Rattle.machine_steps.specs.Message.{Part, names_spot}
-use Rattle.message_elements.specs.declared.visits.Visits.{Visits}
+use Rattle.message_elements.specs.declared.candidates.Candidates.{Candidates}
 use Rattle.message_elements.specs.Elements.{is_sent}
-use Rattle.message_elements.specs.Visits.{AreVisits, is_sent_at}
+use Rattle.message_elements.specs.Candidates.{AreCandidates, is_sent_at}
 use Rattle.courses.specs.References.{Named}
 use Rattle.courses.proofs.Sections.{both}
 use Rattle.visited_tuples.specs.Own.{IsOwn, listed_tuples}
@@ -18,8 +18,8 @@ use Rattle.visited_tuples.proofs.Sent.{not-true}
 use Rattle.visited_tuples.proofs.Taken.{computed}
 
 pub visits : (who : (node tuple : ℕ) → Bool) (nodes : ℕ) (layouts : List Layout) (ns : List ℕ) (rs : List Named) (id : ℕ) (lists : Option (List (List ℕ))) (beside : List ℕ)
-    (v : Visits) (part : Part) → IsOwn who nodes ns id lists beside → v.computed ≡ listed_tuples ns lists → IsTaking who layouts ns rs id v.taking.items
-    → IsSending who nodes layouts ns rs id v.sending.items → IsPartOf ns rs who part → AreVisits nodes layouts part id v
+    (v : Candidates) (part : Part) → IsOwn who nodes ns id lists beside → v.computed ≡ listed_tuples ns lists → IsTaking who layouts ns rs id v.taking.items
+    → IsSending who nodes layouts ns rs id v.sending.items → IsPartOf ns rs who part → AreCandidates nodes layouts part id v
 visits who nodes layouts ns rs id lists beside v part own is taking sending of = record {
   computed =
       is ∙ sym (computed who nodes ns id lists beside own)

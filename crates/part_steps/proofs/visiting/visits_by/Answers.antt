@@ -1,6 +1,6 @@
 use Rattle.std.proofs.Common.{ap, subst, sym}
 use Rattle.std.specs.Option.{IfSome, option_map}
-use Rattle.message_elements.specs.Visits.{AreVisits}
+use Rattle.message_elements.specs.Candidates.{AreCandidates}
 use Rattle.course_forms.specs.Views.{named_of, names_of}
 use Rattle.tuple_values.specs.NamedElements.{AreReferences}
 use Rattle.tuple_values.specs.Views.{statement}
@@ -19,7 +19,7 @@ returns-in_ok-found-in-Left c =
     let are : AreReferences w ns l rs =
     subst (λ ns. AreReferences w ns l rs) (sym c.as_slice-extents.ensures.value)
     (subst (λ rs. AreReferences w c.args.references.now.extents.items l (names_of rs)) (sym c.as_slice-reads.ensures.value) c.requires.references) in
-    subst (λ who. IfSome c.in_ok-found-in-Left.found (AreVisits owners.nodes owners.layouts (part_of (record { who = who; nodes = owners.nodes; layouts = owners.layouts; statement = w })) c.args.id))
+    subst (λ who. IfSome c.in_ok-found-in-Left.found (AreCandidates owners.nodes owners.layouts (part_of (record { who = who; nodes = owners.nodes; layouts = owners.layouts; statement = w })) c.args.id))
     (sym c.in-Left.is)
     (if-some-map c.in_ok-found-in-Left.found
     (λ v visits. visits (part_of (record { who = Left; nodes = owners.nodes; layouts = owners.layouts; statement = w })) (left-part owners.nodes owners.layouts w ns l rs are (named_of c.in-Some.left) (ap (option_map named_of) c.in-Some.is)))
@@ -35,7 +35,7 @@ returns-in_ok-found-in-First c =
     let are : AreReferences w ns l rs =
     subst (λ ns. AreReferences w ns l rs) (sym c.as_slice-extents.ensures.value)
     (subst (λ rs. AreReferences w c.args.references.now.extents.items l (names_of rs)) (sym c.as_slice-reads.ensures.value) c.requires.references) in
-    subst (λ who. IfSome c.in_ok-found-in-First.found (AreVisits owners.nodes owners.layouts (part_of (record { who = who; nodes = owners.nodes; layouts = owners.layouts; statement = w })) c.args.id))
+    subst (λ who. IfSome c.in_ok-found-in-First.found (AreCandidates owners.nodes owners.layouts (part_of (record { who = who; nodes = owners.nodes; layouts = owners.layouts; statement = w })) c.args.id))
     (sym c.in-First.is)
     (if-some-map c.in_ok-found-in-First.found
     (λ v visits. visits (part_of (record { who = First; nodes = owners.nodes; layouts = owners.layouts; statement = w })) (first-part owners.nodes owners.layouts w ns l rs are))
@@ -51,7 +51,7 @@ returns-in_ok-found-in-Root c =
     let are : AreReferences w ns l rs =
     subst (λ ns. AreReferences w ns l rs) (sym c.as_slice-extents.ensures.value)
     (subst (λ rs. AreReferences w c.args.references.now.extents.items l (names_of rs)) (sym c.as_slice-reads.ensures.value) c.requires.references) in
-    subst (λ who. IfSome c.in_ok-found-in-Root.found (AreVisits owners.nodes owners.layouts (part_of (record { who = who; nodes = owners.nodes; layouts = owners.layouts; statement = w })) c.args.id))
+    subst (λ who. IfSome c.in_ok-found-in-Root.found (AreCandidates owners.nodes owners.layouts (part_of (record { who = who; nodes = owners.nodes; layouts = owners.layouts; statement = w })) c.args.id))
     (sym c.in-Root.is)
     (if-some-map c.in_ok-found-in-Root.found
     (λ v visits. visits (part_of (record { who = Root; nodes = owners.nodes; layouts = owners.layouts; statement = w })) (root-part owners.nodes owners.layouts w ns l rs are))

@@ -5,7 +5,7 @@ use Rattle.storage.specs.Storage.{Spot}
 use Rattle.machine_steps.specs.Layout.{Layout}
 use Rattle.machine_steps.specs.Message.{Part, names_spot}
 use Rattle.message_elements.specs.Elements.{is_sent}
-use Rattle.message_elements.specs.declared.visits.Visits.{Visits}
+use Rattle.message_elements.specs.declared.candidates.Candidates.{Candidates}
 
 -- the target computes the tuple, the element is read there, and the source sends it
 abbrev pub is_sent_at : ℕ → List Layout → Part → (tuple from to : ℕ) → Spot → Bool
@@ -28,7 +28,7 @@ pub record IsVisited (nodes tuples : ℕ) (test : (tuple other : ℕ) → Spot �
   pub every : (t other : ℕ) (spot : Spot) → t < tuples → other < nodes → test t other spot ≡ true → is_visited visited t ≡ true
 
 -- the tuples that the node computes, ascending; of these the ones at which it takes something are among some, and the tuples at which it sends something among others
-pub record AreVisits (nodes : ℕ) (layouts : List Layout) (part : Part) (id : ℕ) (v : Visits) : Type 0 where
+pub record AreCandidates (nodes : ℕ) (layouts : List Layout) (part : Part) (id : ℕ) (v : Candidates) : Type 0 where
   pub computed : v.computed ≡ filter (part.computes id) (range_with_len 0 part.tuples)
   pub own : All (λ t. part.computes id t ≡ true) v.taking.items
   pub taking : IsVisited nodes part.tuples (takes_at nodes layouts part id) v.taking.items
