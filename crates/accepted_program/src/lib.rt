@@ -6,6 +6,11 @@
 //!
 //! What holds in between: an `AcceptedProgram` is the witness that the rules are kept. Who is given one needs no rule checked again: that its
 //! names and mappings are those of its tree, and that each mapping is valid on its grid, is kept by the type.
+//!
+//! *Proved:* A tree is accepted on a grid exactly where it keeps all rules: of names, constants, types and ranks, of
+//! mapping directives on the grid, and of bodies; else the answer is the first breach of the first stage that has one:
+//! `accept_program`. An `AcceptedProgram` keeps that the rules are kept, that its names and mappings are those of its
+//! tree, and that the mappings are valid on its grid.
 #![tactic(auto)]
 
 mod accepted;

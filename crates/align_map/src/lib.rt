@@ -5,6 +5,9 @@
 //! number, and the mapping of an array that is aligned with a mapped one. What holds in between: a node owns an
 //! element where its coordinate agrees in every distributed dimension, and a replicated dimension takes any
 //! coordinate; so each element has an owner, and to compose and then to own is to own through both.
+//!
+//! *Proved:* Owners are those of the definition: `owns`, `least_owner`. To compose alignments and then to own is to own
+//! through both: `compose`, `composed_owners`.
 #![tactic(auto)]
 
 mod composition;

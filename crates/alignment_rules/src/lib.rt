@@ -3,6 +3,10 @@
 //! Comes in: the setting of a program and its ALIGN directives one by one. Goes out: the least reason for which an ALIGN or one of its
 //! alignees breaks a rule, and the alignment of each alignee. What holds in between: the subscripts and triplets of a target are judged by
 //! their values, which don't depend on the alignee; numbers are wide until they are within the limits.
+//!
+//! *Proved:* What an ALIGN and each of its alignees say is right, or the least reason why not; the alignment, an entry
+//! for each dimension of the target; and that an alignment without a breach leads every element inside the target:
+//! `bad_alignment`, `bad_alignee`, `alignment_of`, `aligned_entries`.
 #![tactic(auto)]
 
 mod alignees;

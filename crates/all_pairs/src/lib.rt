@@ -6,6 +6,9 @@
 //! the target in row q at p are of one queue, and no step of an end changes of which queue it is. That is all that closing
 //! asks for. A call fails where memory for a queue, a row or the list of the closed queues was refused, and then all
 //! ends that it has are dropped.
+//!
+//! *Proved:* The queues between all ordered pairs of nodes are opened as rows of ends, one queue a pair, and closed
+//! again, each end with its other; what was taken on a queue is a front of what was sent: `open_pairs`, `close_pairs`.
 #![tactic(auto)]
 
 mod closing;

@@ -16,4 +16,7 @@
 //! - `ValidCode`: code whose slots, rows, mappings and targets there are.
 //! - `FaultNumbers`, `FaultValues`: faults as values of letters, which are read back with their line, kind, tuples and object.
 //! - `ProgramText`: an instruction with what it knows of arrays and nodes, so that what it means depends on nothing else.
+//!
+//! *Proved:* Definitions alone: what each instruction of node code means, as a function of the slots, and which code is
+//! valid.
 #![tactic(auto)]

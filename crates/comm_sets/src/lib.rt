@@ -1,4 +1,4 @@
-//! Who sends which elements to whom.
+//! Who sends which elements to whom: communication sets.
 //!
 //! Comes in: who owns each element of arrays and copies; and which elements are read at which tuples and which nodes compute each
 //! tuple, or who owns each element after a redistribution. Goes out: all messages from and to one node, each the list of its
@@ -7,6 +7,13 @@
 //! message. Where a part knows at which tuples a node exchanges something, the pass is over these alone, and else over all of them. The time
 //! of a part goes with the tuples of the pass, and its memory with what is sent and computed; there is no table of all elements. Between
 //! which nodes a redistribution moves something is seen at a few of its elements, found by the places of each dimension.
+//!
+//! *Proved:* The elements of a message are exactly those that its taker needs and doesn't own and whose least owner
+//! sends, in order, for all messages from and to a node at once, and the tuples that it computes with them: `exchange`,
+//! whether or not a part tells which tuples a node computes, and some among which are all at which it exchanges
+//! anything (`Candidates`). So are those of a redistribution: `remap_outgoing`, `remap_incoming`. The value of an
+//! element of a message is the one at its place: `value_in`. The rounds of a redistribution are those of the
+//! definitions: `remap_rounds`.
 #![tactic(auto)]
 
 mod exchanged;

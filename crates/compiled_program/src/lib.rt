@@ -5,6 +5,10 @@
 //!
 //! What holds in between: new mappings get numbers, in the order of the text; the code is that of the program's statements with all names
 //! resolved; and so the machine with whole arrays over it, before its first instruction, is the one of which the laws of `nodes_lowered` speak.
+//!
+//! *Proved:* An accepted program compiled for the nodes of its grid: its code, with the tables of all mappings, who
+//! owns what, the slots and the values of the arrays at the start. The machine with whole arrays before its first
+//! instruction is the one of which `nodes_lowered` speaks, and the program fits its rows: `compile_program`.
 #![tactic(auto)]
 
 mod compile;

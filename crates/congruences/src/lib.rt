@@ -6,6 +6,10 @@
 //! congruence, and the common members of two progressions as one. What holds in between: all of it goes by one inverse
 //! of natural numbers below a modulus, found by Euclid's algorithm with remainders alone, so no number is negative and
 //! no product passes 128 bits. No call takes memory or refuses; None is an answer.
+//!
+//! *Proved:* The greatest common divisor as a sum of multiples, the least solution of a congruence, exactly where it
+//! has one, and the common members of two progressions: `gcd_ext`, `solve`, `meet`. Of the program `gap_table` alone
+//! uses it.
 #![tactic(auto)]
 
 mod bezout;

@@ -3,6 +3,8 @@
 //! Comes in: the lines of a text as statements and directives, in order. Goes out: the first breach of the rules of
 //! constructs, declarations and directives, if there is one. What holds in between: a rule speaks of a line, of what the
 //! lines before it have opened, and of the lines after it.
+//!
+//! *Proved:* The first line that stands where it may not is found, exactly where there is one: `first_breach`.
 #![tactic(auto)]
 
 mod breaches;

@@ -5,6 +5,10 @@
 //!
 //! What holds in between: what is found is what the definitions of `courses` say. None says nothing: a subscript that may wrap or that isn't
 //! linear in one index has no course, and neither has one that goes past 128 bits on the way, or an operator of three operands.
+//!
+//! *Proved:* The courses of subscripts, and references by them, are those of these definitions, where they are given:
+//! `straight_form`, `flat_course`, `indexed_courses`, `section_courses`, `named_element`. None says nothing: that there
+//! is a course, and that it is found, is never promised. The reference to a copy is always given: `named_copy`.
 #![tactic(auto)]
 
 mod course;

@@ -8,6 +8,9 @@
 //! A line is read as the kind that its first words say. In DISTRIBUTE and REDISTRIBUTE the names stand after `::` where
 //! a list comes first. In ALIGN they do where a list comes first, or WITH that is neither followed by a list nor by WITH
 //! and a word.
+//!
+//! *Proved:* A line is read as the directive that it spells, or refused for its first reason: `read_directive`. No two
+//! directives have one spelling: `one_directive`.
 #![tactic(auto)]
 
 mod directive;

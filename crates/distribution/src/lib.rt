@@ -5,6 +5,9 @@
 //! same owner. What holds in between: a processor owns one section under BLOCK and GEN_BLOCK and one section of each cycle under
 //! CYCLIC(k), so both counts are closed forms of how many positions up to a last one a processor owns, and no call
 //! asks for the owner of each position. No call takes memory or refuses.
+//!
+//! *Proved:* The owner of a position is that of the table of formats, and positions are counted as by filters of it:
+//! `owner`, `owned_count`, `rank`.
 #![tactic(auto)]
 
 mod counts;

@@ -4,6 +4,10 @@
 //! TEMPLATE, PROCESSORS, DISTRIBUTE or REDISTRIBUTE breaks a rule, and the mapping that a distribution gives its object. What holds in
 //! between: the setting has each array, template and arrangement with its dimensions, each dimension where both of its bounds are known,
 //! and a distribution is judged by the values of its expressions.
+//!
+//! *Proved:* What PROCESSORS, TEMPLATE, DISTRIBUTE and REDISTRIBUTE say by themselves is right, or the least reason why
+//! not; the mapping that a distribution gives; and that a distribution without a breach gives a valid one: `bad_space`,
+//! `bad_distribution`, `bad_distributee`, `distributed`, `distributed_maps`.
 #![tactic(auto)]
 
 mod block_sizes;

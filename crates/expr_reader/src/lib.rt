@@ -6,6 +6,9 @@
 //!
 //! The reader's calls nest as deeply as the tokens do, and no proof bounds the stack. Measured on x86-64, the deepest
 //! nest that 5,280 characters hold, of names and parentheses, takes less than 7 MiB of it.
+//!
+//! *Proved:* The longest expression at a token is read, and nothing else: `read_expr`. Two expressions with one
+//! spelling are one: `one_expression`.
 #![tactic(auto)]
 
 mod depth;

@@ -12,6 +12,10 @@
 //! - `controls`: the three values of a control or of a triplet.
 //! - `code`: the code that evaluates an expression.
 //! - `indexed`: expressions of a FORALL, at an index tuple.
+//!
+//! *Proved:* The code of an expression whose names are resolved, the slots that it takes, and what has the expression's
+//! value after it, are those of the definitions: `code_of`, `slots_of`, `flat_of`, `form_of`, and at an index tuple of
+//! a FORALL `index_form`.
 #![tactic(auto)]
 
 mod code;

@@ -10,6 +10,9 @@
 //! - `assignments`: those in the parts of WHERE and FORALL.
 //! - `statements`: those in statements. What PRINT evaluates isn't asked.
 //! - `values`: the initial values.
+//!
+//! *Proved:* The numbers in the statements of a resolved program are of 64 bits, PRINT aside: `numbers_fit`. So are the
+//! initial values of the names that it declares: `initial_values_fit`.
 #![tactic(auto)]
 
 mod assignments;

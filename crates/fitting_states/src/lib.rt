@@ -11,6 +11,9 @@
 //! - `Storing`, `Runs`, `Starts`: what is stored keeps the state so, turn by turn in a loop, and the state at the start is so.
 //!
 //! The lemmas are for other crates too, which go by a part of a statement, as a turn of a loop.
+//!
+//! *Proved:* By laws alone: a program whose numbers are of 64 bits keeps its state of 64 bits, with each statement and
+//! to its end; and the state at the start is so where the initial values are: `states_fit`.
 #![tactic(auto)]
 
 mod laws;

@@ -3,6 +3,9 @@
 //! Comes in: the state before a FORALL, and its indices, mask and assignments with their names resolved. Goes out: whether its
 //! indices and subscripts are in the limits, and whether no assignment assigns an element at two tuples (Fortran 95, 7.5.4.3). What
 //! holds in between: each answer is that of the definitions of the meaning, from the linear form of each subscript.
+//!
+//! *Proved:* Whether the indices and subscripts of a FORALL are in the limits, and whether no assignment assigns an
+//! element at two tuples, are those of the meaning: `is_forall_in_limits`, `are_subscripts_in_limits`, `is_one_to_one`.
 #![tactic(auto)]
 
 mod forall_limits;

@@ -11,6 +11,12 @@
 //! - A constant expression that has a value has it as a term too, since no index of a FORALL is a constant.
 //! - A reference with subscripts is an element where its rank is 0, and else a section.
 //! - Operands that are together of rank 0 are each of rank 0; only under a reduction may they have another.
+//!
+//! *Proved:* By laws alone: in a program that breaks no rule each name of a statement is found, as what its place asks,
+//! and each left side is a variable, so no assignment is left out: `names_are_found`. SIZE, LBOUND and UBOUND have a
+//! value wherever they stand: `inquiries_have_values`. Where one value must stand no section stands but under a
+//! reduction, and an index only in its FORALL, given that each array has a dimension; that this is so in each text that
+//! is read no law says: `scalars_stand_alone`.
 #![tactic(auto)]
 
 mod resolved_names;

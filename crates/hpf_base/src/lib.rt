@@ -4,6 +4,11 @@
 //! order of the elements of an array, what the lines of a text are, and which of a set of breaches is the first. What holds
 //! in between: each definition is a filter, a table, a relation or a whole list in the words of the standards, and no crate
 //! states it a second time.
+//!
+//! *Proved:* Grids, indices and names are made exactly where they are valid: `Grid::new`, `Index::new`, `Name::new`.
+//! Refusals and statuses have the numbers and names of their tables: `Reason::number`, `Reason::name`,
+//! `Status::exit_code`. It has the limits by name, and the definitions of the order of elements and of the lines of a
+//! text, with their laws.
 #![tactic(auto)]
 
 mod array_id;

@@ -4,6 +4,10 @@
 //! written, or the fault with its cause. What holds in between: a source tells the bytes that it has left
 //! and a sink those that it holds, where they can, and each counts its faults. A failure is answered only
 //! where that count rose.
+//!
+//! *Proved:* Reading gives all that was left, and a failure has a counted cause: `read_all`. Writing writes all, or a
+//! proper prefix where the count rose: `write_all`. The sources and sinks in memory also say when they fail:
+//! `MemSource`, `MemSink`. Gates have no clause: `OpenGate`, `MeetGate`.
 #![tactic(auto)]
 
 mod gate;

@@ -4,6 +4,11 @@
 //! a text is read exactly where it is spelled as the language asks, and is refused at the stated line, for the stated
 //! reason, exactly where it isn't; it spells one program at most, and the abstract syntax of its tree is the one program
 //! that it means.
+//!
+//! *Proved:* A text is read exactly where no stage has a breach, else the first breach of the first stage that has one:
+//! `read_program` in free form, `read_fixed` in fixed form. A text reads as one tree at most and means one program at
+//! most, in each form: `one_tree`, `one_program`. A text in fixed form whose lines break no rule means what its text in
+//! free form means, and is refused for the same: `fixed_as_free`.
 #![tactic(auto)]
 
 mod forms;

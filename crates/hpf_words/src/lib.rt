@@ -17,6 +17,9 @@
 //! | `--fixed` | every action but `bulk` | none | the free source form |
 //!
 //! Words that break a rule are no job: [`WordsError::Usage`].
+//!
+//! *Proved:* The words of a command line are read as the job that they are, with its grid, its threads and its source
+//! form among others, and `Usage` comes only for words that are none: `read_words`.
 #![tactic(auto)]
 
 mod job;

@@ -11,6 +11,12 @@
 //! - A distribution that breaks no rule gives its objects a mapping, and an ALIGN that breaks none gives each alignee an alignment.
 //! - Where no object is aligned with itself, alignments end within as many as there are names.
 //! - No entry is left out: a mapping has one for each distributed dimension, an alignment one for each dimension of its target.
+//!
+//! *Proved:* By laws alone: the mappings of a program that breaks no rule are known. Each array starts as its own
+//! DISTRIBUTE says, with an entry for each dimension that this distributes, or through known alignments with what they
+//! end at, which have an entry for each dimension of that; only what no directive maps is replicated, and what is
+//! aligned with such: `start_mappings_are_known`. Each array that a REDISTRIBUTE moves gets the mapping that it says:
+//! `new_mappings_are_known`.
 #![tactic(auto)]
 
 mod mappings_known;

@@ -10,6 +10,9 @@
 //!
 //! A form of a line is a grammar, a value of the definitions. The functions here are the readings that several forms
 //! share, and `Element` is what stands between the commas of a list.
+//!
+//! *Proved:* What a grammar of lines reads is spelled so, and what is spelled so is read: `printed_exact`. The code of
+//! names, expressions, subscripts, lists and headers computes these readings.
 #![tactic(auto)]
 
 mod bounds;

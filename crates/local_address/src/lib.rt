@@ -8,6 +8,10 @@
 //! `address` and `element` go between a tuple and its number in the two directions, so each is the other's inverse. What moves along one
 //! dimension is `axis_along`, `coordinate_on` and `own_on` are its coordinates of a subscript and of a node, and `fixed_agree` says whether a
 //! node has what all elements are given alike.
+//!
+//! *Proved:* A local section is the list of the elements that its node owns, in array-element order, and local
+//! addresses are read both ways, each the other's inverse: `Piece::new`, `address`, `element`. How many elements each
+//! node owns, the first and the last: `owned_spans`.
 #![tactic(auto)]
 
 mod axes;

@@ -21,4 +21,8 @@
 //! What is asked of a nest is its form (`nest_items`), that its names are declared, that it has statements, since one without is compiled as its loops
 //! are, and that the numbers in the control of its outermost loop are of 64 bits; of the state at its entry, that its values are of 64 bits, and that the
 //! check of the entry is passed.
+//!
+//! *Proved:* Nothing by contracts. In `proofs/`, as lemmas: over its code a nest with statements goes on the machine
+//! with whole arrays as its loops do, where it keeps its form, its state at the entry is of 64 bits, and the check of
+//! the entry is passed. On its way it passes the nest's parts, in their order.
 #![tactic(auto)]

@@ -4,6 +4,10 @@
 //! and mappings. In `specs/`: which mappings are valid, who owns an element, and which elements a node holds, in which order.
 //! What holds in between: a mapping says who owns an element and nothing else; how that is found in little time is for the
 //! crates above. Blocks of given sizes alone keep their running sums beside the sizes.
+//!
+//! *Proved:* Formats, alignments and mappings, which are valid, who owns an element and which elements a node holds, as
+//! definitions with their laws. The sizes of GEN_BLOCK keep their running sums, and they tell the owner of a position:
+//! `BlockSizes`.
 #![tactic(auto)]
 
 mod gen_block;

@@ -6,6 +6,10 @@
 //! names and one copy after them, which has the extents of the part's own space, or the copies that a statement of a nest names, which have
 //! the extents of the nest's trips. A text only grows at its end. What was
 //! listed for an instruction is kept for its next run (`KeptLines`): by slots that agree on all that it mentions, and where the rows lie alike, it is the same.
+//!
+//! *Proved:* The lines of the messages that nodes send for an instruction are those of the definitions: `push_lines`.
+//! Lines that were listed before are found again only where they are the instruction's by these slots and as the rows
+//! lie; that any are found is never promised: `KeptLines::keep`, `KeptLines::find`.
 #![tactic(auto)]
 
 mod before;

@@ -7,6 +7,9 @@
 //! - `MessageText`: a line for each message of a part, by source and then by target, with the elements that it holds; and for each of a
 //!   redistribution, by round and then by source.
 //! - `Examples`: small programs, whose lines the check computes.
+//!
+//! *Proved:* Definitions alone: the lines of the messages that nodes send for the parts of a trail, those of nests
+//! among them, and for its redistributions. Six small programs are computed by the check: `lines_of_examples`.
 #![tactic(auto)]
 
 mod examples;

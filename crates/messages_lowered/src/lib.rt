@@ -5,6 +5,10 @@
 //! breaks no rule. So who runs that machine can list the messages.
 //!
 //! What holds in between: of each instruction that is passed the part, by its slots, is the part of the entry that it is.
+//!
+//! *Proved:* What the machine with whole arrays passes over the code of a program has the lines of the program's trail,
+//! for any number of nodes and any mappings: `texts_lowered`, and for every program that breaks no rule
+//! `accepted_texts_lowered`.
 #![tactic(auto)]
 
 mod lines;

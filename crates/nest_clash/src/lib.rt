@@ -9,6 +9,9 @@
 //! - `least_pairs`: a `Visit` for an object, brought up to date at each touch, tells its first pair of iterations that interfere. So there is no list of
 //!   touches to keep.
 //! - `scans_find`: a pass over the objects in order then finds the first clash.
+//!
+//! *Proved:* The first clash of a nest is the least of all: `first_clashes`. It is found by one table: `least_pairs`,
+//! `scans_find`.
 #![tactic(auto)]
 
 mod laws;

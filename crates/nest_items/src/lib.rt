@@ -14,6 +14,9 @@
 //!   how many loops it has at most. What keeps them stands in each state whose scalars are numbers of 64 bits.
 //! - `nests_end`: a nest that keeps the rules and that is entered ends as plain loops over its iterations do.
 //! - `EntryAlike`, among the proofs: whether a nest is entered depends on scalars and on the dimensions of arrays alone.
+//!
+//! *Proved:* A nest that keeps the rules and is entered ends as plain loops over its statements as items do:
+//! `nests_end`. What keeps them by its form keeps them in each state: `keeping_nests_stand`.
 #![tactic(auto)]
 
 mod ends;

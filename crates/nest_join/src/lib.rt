@@ -18,6 +18,11 @@
 //!   (`indices_held`).
 //! - `places`: of the rows of a nest (`Places`, program_code) none lies where another does (`rows_apart`, `copies_apart`);
 //!   each scalar with copies has its final (`finals_listed`).
+//!
+//! *Proved:* By laws alone. The code of a nest taken apart, over copies, as the machine with whole arrays runs it, ends
+//! as the nest does, with its fault or with its arrays, scalars and inner indices: `nests_end`, `arrays_held`,
+//! `scalars_held`, `inner_indices`, `indices_held`. In its places among the machine's rows, as numbers, nothing lies
+//! where another does: `rows_apart`, `copies_apart`, `finals_listed`.
 #![tactic(auto)]
 
 mod laws;

@@ -21,6 +21,11 @@
 //!   (`bodies_are_parted`).
 //! - `PlacedEnds`: the same with the copies before and the scalars after it (`nests_run`).
 //! - `example`: a small nest that meets the premises, and what the law says of it.
+//!
+//! *Proved:* By laws alone. The machine over the code of a nest's body does what its trace says: `bodies_run`. A body
+//! over the machine's rows is the parted order of its items over the nest's rows, each at its place:
+//! `bodies_are_parted`. So the machine over the code of a nest comes after it with the values of the parted order, or
+//! ends with the fault of the least key: `nests_run`. A small nest meets the premises: `example_meets`, `example_runs`.
 #![tactic(auto)]
 
 mod example;

@@ -12,6 +12,12 @@
 //! - `nests_as_parts`: so the nest ends as its parts do, each at all iterations before the next. `Example` has a small nest that meets all premises.
 //!
 //! That the nest is entered stands among the premises: one that isn't ends with the fault of its entry, before its first iteration.
+//!
+//! Words of the field: to take a nest apart is *loop distribution*, or loop fission, and a copy for each iteration of a
+//! scalar is *scalar expansion*, which makes it private to its iteration.
+//!
+//! *Proved:* A nest of INDEPENDENT loops that keeps the rules and is entered ends as its parts over copies do, with its
+//! fault or with its arrays, scalars and indices: `nests_are_parallel`, `nests_may_copy`, `nests_as_parts`.
 #![tactic(auto)]
 
 mod laws;

@@ -7,4 +7,7 @@
 //! - `Assigning`: its assignments. `ClosedTerms`: the value of an expression without names, as a step has it.
 //! - `NestTerms`: its expressions as FORALL's, where indices and copies that are read are indices.
 //! - `Asked`: under which stored conditions something is evaluated. `Finals`: how a scalar gets its value after the nest.
+//!
+//! *Proved:* Definitions alone: what stands in the text of a nest of INDEPENDENT loops, as what each name is to it, its
+//! assignments, and how its scalars get their values after it.
 #![tactic(auto)]

@@ -7,6 +7,10 @@
 //!
 //! What holds in between: the indices of the nest and the scalars that it assigns are indices, with the values of the iteration's copies after
 //! those of the nest's indices. Subscripts name the nest's indices alone, so which elements are read doesn't depend on copies.
+//!
+//! *Proved:* By laws alone. Over slots and rows that hold the state at a nest's entry the form of an expression has the
+//! value that the expression has in the state of its iteration, faults included: `nest_values`. So have the subscripts
+//! of a left side: `nest_subscripts`.
 #![tactic(auto)]
 
 mod laws;

@@ -14,6 +14,9 @@
 //! - `nest_terms`, `nest_statements`: expressions, and parallel statements.
 //! - `nest_body`, `nest_finals`: the statements one after the other, and the copies before and after them.
 //! - `nest_code`: the whole nest.
+//!
+//! *Proved:* The node code of a plan is that of the definitions, instruction by instruction, nests taken apart, and so
+//! are the numbers of slots and rows that it takes: `compile`.
 #![tactic(auto)]
 
 mod array_assignments;

@@ -5,6 +5,10 @@
 //! steps, so whatever the order of the steps, each node makes the moves of the one lockstep run, no letter is
 //! lost or changed, and the core is never stuck. A queue holds at most four letters, and its room is taken when
 //! the core is made, so only a node's own local steps want memory.
+//!
+//! *Proved:* No code of the program uses it, which runs nodes on crews: a core of phased nodes with queues of four
+//! letters is stepped as the definitions say, and ends in the last nodes of the lockstep run: `Core::step`,
+//! `run_choices`, `run_rotation`, `run_lockstep`.
 #![tactic(auto)]
 
 mod cores;

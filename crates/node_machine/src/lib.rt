@@ -5,6 +5,10 @@
 //!
 //! What holds in between: a step prepares all that may want memory before it changes anything, so that a node that answers want of memory is
 //! as before; the letters of a phase stand in `Post`; every array access goes by the tables of owners.
+//!
+//! *Proved:* A node in code makes the steps of the definitions, with letters, and begins as they say: `Node` as a
+//! `PhasedNode`, `Node::opening`. Its program has to fit the rows, as compiled programs do (`FitsRows`): copies have 7
+//! dimensions at most and rows after the declared names, and new mappings the shapes of the arrays' rows.
 #![tactic(auto)]
 
 mod copies;

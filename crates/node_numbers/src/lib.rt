@@ -5,6 +5,10 @@
 //!
 //! What holds in between: the law asks nothing of code, layouts or owners, nor that a letter which was taken was the awaited one. So it
 //! holds in every order of steps, and of a node whose letters come from anywhere.
+//!
+//! *Proved:* Each node at the beginning of a run numbers its letters, whatever moves it makes and whatever it takes in
+//! them: what it is to send is its pair's next letter, and it awaits its pair's next letter where it is to take one:
+//! `nodes_number_letters`.
 #![tactic(auto)]
 
 mod numbers;

@@ -6,6 +6,10 @@
 //!
 //! What holds in between: where a program fits rows, copies stand after the declared names and have seven dimensions at most, and each new mapping
 //! has the shape of its array's row; so nothing of that is tested while it runs.
+//!
+//! *Proved:* A program of node code fits rows (`FitsRows`) where its copies stand after the declared names and have 7
+//! dimensions at most, and its new mappings have the shapes of the arrays' rows; rows after new mappings lie as the
+//! definitions say: `owners_after`.
 #![tactic(auto)]
 
 mod program;

@@ -17,6 +17,15 @@
 //! instruction (`proofs/`): an instruction without a phase is a local step, a message phase is one exchange, a tree and a
 //! redistribution are rounds of exchanges, and segments of a lockstep run are put together. Each lemma says too what its phases carry, and
 //! what the nodes have for themselves after it, by the whole arrays. The numbers of letters come from the moves of each node alone.
+//!
+//! *Proved:* Nodes that agree with the machine with whole arrays run each instruction as it does; where its run ends
+//! they are phased, and their last nodes agree with its last state: `nodes_step`, `nodes_pass`, `nodes_run`,
+//! `openings_agree`, `openings_run`. The machine over other texts that mean the same does the same: `other_texts`. All
+//! letters of a pair in a whole run are those of the phases that the machine's steps say, each with its phase, its
+//! number and the values of the whole arrays, and there are no others: `letters_exact`; so are those of so many steps
+//! from any nodes that agree with the machine: `phases_carried`. A message holds exactly the elements that its taker
+//! needs and doesn't own and whose least owner sends, each once: `message_exact`. What a node receives gives it each
+//! value that it needs: `message_read`. Parallel statements in a row are the parted order of a nest: `parts_in_a_row`.
 #![tactic(auto)]
 
 mod coded;

@@ -6,6 +6,14 @@
 //! code is its place; a look-up gives that code, and None exactly where the word isn't in the table. An operator's value
 //! is that of `specs/Operators.antt`, over numbers of 64 bits that wrap. What joins numbers (`specs/Joins.antt`) does so in any order and
 //! grouping.
+//!
+//! *Proved:* A word of the language is found exactly where it stands in its table: `Table::find`, `left_out_word` and
+//! the other look-ups. The tables are the lists of the definitions, distinct and ascending. `apply`: the value of each
+//! operator and elemental procedure on numbers of 64 bits that wrap is that of its definition, and division by zero is
+//! answered exactly where it has none. What joins numbers (sum, product, greatest, least, the bits in common, in either
+//! and in just one, any and all) is associative and commutative on its values, with a unit: `Join`, `law_of_joins`. A
+//! reduction is such a join and what it makes of each element: `reduction_of`. What joins the variable of a reduction
+//! statement: `joined_by`.
 #![tactic(auto)]
 
 mod arguments;

@@ -8,6 +8,10 @@
 //! its place on each axis. Not all places are asked: where a dimension moves along an axis these are the places at which it is in bounds, and where an
 //! entry of the mapping moves along the dimension, those of a gap table. These are taken as they are where one dimension alone leaves places out, and one
 //! entry at most moves along it. So the time goes by the places that one dimension leaves the node, and by k under CYCLIC(k), and not by the length of the axis.
+//!
+//! *Proved:* The places of each axis at which what a reference names is in bounds and a node's, ascending; None only
+//! where no tuple names such an element: `owned_places`. Where it is said that a reference is in bounds at all tuples,
+//! or that a row lies as it takes it, that is so: `is_inside`, `is_laid_out`.
 #![tactic(auto)]
 
 mod candidates;

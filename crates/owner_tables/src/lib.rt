@@ -1,4 +1,4 @@
-//! Who owns each element of an array or of a copy, and where it lies there, as tables.
+//! Who owns each element of an array or of a copy, and where it lies there, as tables: *distributed array descriptors*.
 //!
 //! Comes in: the shape of an array and the mapping by which its elements lie on the nodes, or the extents of a copy. Goes out: for each
 //! element its owners, the owner with the least number, and the local address, each by a look-up; of each node how many elements it owns,
@@ -12,6 +12,15 @@
 //! local address: its number, from 0, among the elements with its least owner. Each element of a copy has an owner, whatever its extents.
 //! Both come from one table a dimension, so they take memory by the sum of the extents: each place adds its part to the number of the least
 //! owner, and its rank among the places with its coordinate, times what the owner owns on the dimensions before, to the local address.
+//!
+//! *Proved:* Who owns each element of a row and where it lies there, by look-ups in tables of its dimensions:
+//! `Owners::owners`, `owns`, `least_owner`, `address`, `held`. Tables compare as alike exactly where they are the same:
+//! `lies_as`. Nobody owns an element that isn't there. The nodes that share what a node owns, and the positions of what
+//! it owns: `OwnerTable::sharers`, `owned_positions`. Elements among which each element of a row has one with the same
+//! owners in two tables: `samples`. A copy lies in blocks over all nodes on its last index: `OwnerTable::of_copy`. The
+//! value of an element that a node owns, by its pieces: `local_value`. Of elements at equal distances a front that a
+//! node owns and that lies at equal distances in its piece: `held_line`; the values of such a front: `push_held`.
+//! Values put at equal distances: `Row::set_line`.
 #![tactic(auto)]
 
 mod alike;

@@ -6,6 +6,9 @@
 //! number. There are seven kinds of step: to open a queue, to split its two ends, a push, a push that found the queue
 //! full, a pop, a pop that found it empty, and to join the ends at closing. Each keeps this rule, whatever the others do.
 //! A call may wait, since a step of the queue may spin.
+//!
+//! *Proved:* The queue of a pair of nodes gives its letters in order, and holds four at most: `open_pair`,
+//! `OutEnd::send`, `InEnd::take`, `close_pair`.
 #![tactic(auto)]
 
 mod closed;

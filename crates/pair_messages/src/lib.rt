@@ -12,6 +12,11 @@
 //!
 //! A redistribution is a statement of this kind for each row: its tuples are the elements of the row, the taker computes those that it owns after, and each is read as it
 //! lies before. Where the dimensions of a row change, the elements that the sender owns before are asked one by one.
+//!
+//! *Proved:* The message of one pair of nodes for a parallel statement whose tuples the owners of what is assigned
+//! compute: exactly the elements that the taker needs and doesn't own and whose least owner sends, row by row:
+//! `message`. So is the message of one pair at a redistribution: `remap_message`. Nodes find all their messages at once
+//! (`comm_sets`), and don't ask it.
 #![tactic(auto)]
 
 mod classes;

@@ -10,6 +10,17 @@
 //! memory leaves a node as it was; what is stored at last takes no memory. What a node exchanges for an instruction is kept from one run of
 //! it to the next (`KeptExchanges`): it depends on the slots that the instruction mentions and on no others, so where these are the same and
 //! the rows lie alike, it is the same.
+//!
+//! Words of the field: tuples are iterations, and which node computes an iteration is told by the *owner-computes*
+//! rule: in an assignment the owners of the element that is assigned, in a reduction the least owner of the first
+//! element that is read (`Who`). `exchange_of` is the *inspector* of a part, which finds what to send and to take, and
+//! what goes by its answer is the *executor*; `KeptExchanges` keeps what the inspector found.
+//!
+//! *Proved:* What a node sends and takes in a message phase, what it stores, which fault it keeps, and what it joins:
+//! `exchange_of`, `outbox`, `inbox`, `par_values`, `reduce_values`, `section_values`. What it exchanges for an
+//! instruction is what it exchanged before, where the slots agree on all that the instruction mentions and the rows lie
+//! as before; so it may be kept, and what is found is right; that anything is found is never promised: `same_parts`,
+//! `agrees`, `KeptExchanges::keep`, `KeptExchanges::find`.
 #![tactic(auto)]
 
 mod agreement;

@@ -8,6 +8,14 @@
 //! tuples that haven't the places at which it owns all that is read, and sends something only at tuples with the places at which it owns what is read and that
 //! it doesn't compute itself. So the time is that of the places and of the tuples at the border of what the node computes, not that of all tuples.
 //! Reads that lie as what is assigned, at the same subscripts, concern no tuple, and are left out before.
+//!
+//! Words of the field: what a node takes at the border of what it computes is its *halo*. No array has room for it: it
+//! comes in messages, and is looked up there.
+//!
+//! *Proved:* The tuples of a part that a node computes, and some among which are all at which it takes or sends
+//! something, where the owners of what is assigned compute, the least owner of what is read first, or node 0:
+//! `assigned_visits`, `read_visits`, `root_visits`. None says nothing: that they are given, and how few they are, is
+//! never promised.
 #![tactic(auto)]
 
 mod alike;

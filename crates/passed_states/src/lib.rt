@@ -7,6 +7,10 @@
 //!   instruction that is this entry.
 //! - `maps_now`: at each state the declared names lie as at the first, with the redistributions that were passed so far.
 //! - `trails_move`: what is passed moves arrays as the trail that it is.
+//!
+//! *Proved:* Over any code, each entry of a trail that the machine passes is passed at one of its states, which comes
+//! after the entries before it: `entries_passed`. The arrays lie at each state as at the first, with the
+//! redistributions that were passed so far: `maps_now`, `trails_move`.
 #![tactic(auto)]
 
 mod states;

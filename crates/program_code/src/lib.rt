@@ -11,4 +11,8 @@
 //!   rows, and the innermost block as parallel statements over all iterations; round it the bounds of the loops and their indices.
 //! - `StatementCode`: all statements, and whole programs. Targets are places of the whole code. Slots from `b` on are free for a statement; a DO
 //!   keeps four from its body. Rows are the declared names, by their places, and then the copies that the code names: `block_copies` of them.
+//!
+//! *Proved:* Definitions alone: the node code of a program, as a function of it. Each statement of a nest of
+//! INDEPENDENT loops is one instruction for all iterations, over copies with a value for each. A nest without
+//! statements runs as plain loops. After the arrays there is room for as many copies as the code names, or more.
 #![tactic(auto)]

@@ -2,6 +2,9 @@
 //!
 //! Comes in: a program that keeps the rules, with its declared names. Goes out: its statements with their names resolved (`plan`). What
 //! holds in between: what they stand for is the resolved program of the definitions.
+//!
+//! *Proved:* The statements of a program with its names resolved are those of the definitions, for every program:
+//! `plan`.
 #![tactic(auto)]
 
 mod array_statements;

@@ -4,6 +4,10 @@
 //! pairs in rounds, and the node that needs so many. What holds in between: each pair stands in exactly one round, in a
 //! round a node sends at most one letter and takes at most one, and no rounds of which this holds are fewer. The pairs of
 //! a round are those of one colour, by the colours of `round_color`.
+//!
+//! *Proved:* Pairs of nodes are put into rounds, in which each node sends once at most and takes once at most. There
+//! are as many as the busiest node sends, or takes, which is named: `rounds`. No such rounds are fewer:
+//! `law_of_fewest_rounds`. None is empty: `law_of_full_rounds`.
 #![tactic(auto)]
 
 mod color_rounds;

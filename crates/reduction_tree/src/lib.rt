@@ -5,6 +5,10 @@
 //! again, and in each round one node sends exactly where another takes from it. Whatever is joined, as long as the
 //! join is associative with a unit, node 0 has the items of all nodes in their order after the rounds up, and every node
 //! has them after the rounds down.
+//!
+//! *Proved:* The rounds of a tree send and take in pairs, and leave every node with all items joined in the order of
+//! the nodes: `tree_act`, `levels`, `law_of_acts`, `law_of_trees`. The plain fold, and the joins of nine kinds of items
+//! with their laws: `fold_tree`, `Fold`.
 #![tactic(auto)]
 
 mod fold;

@@ -6,6 +6,9 @@
 //! What holds in between: the messages of a node are found once, by one pass over the elements that it owns, and the rounds by the places of
 //! each dimension (`Redistribution`), and a round looks them up; nothing is changed, so want of memory leaves a node as it was. A row that
 //! lies as before is sent by no one, and its pieces are copied.
+//!
+//! *Proved:* What a node sends and takes in each round of a redistribution, and its pieces of all rows after the last:
+//! `Redistribution::outbox`, `inbox`, `moved_pieces`.
 #![tactic(auto)]
 
 mod moving;

@@ -5,6 +5,9 @@
 //!
 //! What holds in between: the pairs with a message are distinct and each goes from a node to another (`comm_sets`), so in a round their
 //! sources differ, and so do their targets.
+//!
+//! *Proved:* In each round of a redistribution a node sends to one node at most and takes from one at most:
+//! `one_letter_a_round`.
 #![tactic(auto)]
 
 mod rounds;

@@ -4,6 +4,10 @@
 //! line of the fault, or a line for each array with its elements, or a line for each array and each node, with what the node owns of the
 //! array. What holds in between: a text is made whole before any of it is written, and holds only names, numbers in decimal and the words of
 //! `specs/`.
+//!
+//! *Proved:* The line of a fault (at no place, at a tuple, or between two iterations on an object by its name), the
+//! lines of the last arrays, and those of a map are those of their definitions: `fault_line`, `arrays_text`,
+//! `map_text`.
 #![tactic(auto)]
 
 mod array_lines;

@@ -4,6 +4,10 @@
 //! the value or the place, in two registers, or that it isn't known; then the caller evaluates by `term_values`, which finds the fault. What
 //! holds in between: what is known is what the definitions give. That a value is known is never promised: it isn't where there is a fault, and
 //! in the forms that are rare, as reductions, elements of more than two subscripts and operators of more than two operands.
+//!
+//! *Proved:* The value of a scalar expression and the place of an element, where they are known, are those of the
+//! meaning, which then has no fault: `known_value`, `known_place`, and at a tuple of a FORALL `known_value_at`,
+//! `known_place_at`. That they are known is never promised.
 #![tactic(auto)]
 
 mod elements;

@@ -12,6 +12,8 @@
 //!
 //! The check finds by itself that small types may be sent. It gives up at those that hold a type which holds itself, as expressions do, and
 //! at those with many parts.
+//!
+//! *Proved:* A node may be sent to a thread, with all that it holds and shares: `nodes_may_be_sent`.
 #![tactic(auto)]
 
 mod nodes;

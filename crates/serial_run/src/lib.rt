@@ -3,6 +3,9 @@
 //! Comes in: a program that keeps the rules of names, constants, types and ranks. Goes out: what it prints, how it ends and its last
 //! arrays, which are those of the sequential meaning (`run_serial`). What holds in between: each statement leaves the state that it
 //! means, and completes as it means, also where it has a fault; want of memory alone keeps a run from its end.
+//!
+//! *Proved:* A program prints, ends and leaves its arrays as the sequential meaning says, for every program and with
+//! every fault's line, kind and tuple: `run_serial`. Nests of INDEPENDENT loops are checked at their entry.
 #![tactic(auto)]
 
 mod assignments;

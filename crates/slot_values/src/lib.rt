@@ -7,6 +7,10 @@
 //! What holds in between: an evaluation changes nothing; want of memory leaves the control as it was, so the instruction can be run
 //! again; tests either go on to the next instruction or end the run with a fault at their line, and change nothing else. The limits of a
 //! FORALL and the entry of a nest are those of the sequential run, asked of a state that has the slots as its scalars.
+//!
+//! *Proved:* The value of an expression over slots, and what each instruction without arrays does to place and slots,
+//! faults included: `flat_value`, `elemental_at`, `run_local`. A fault goes as numbers and comes back with its line,
+//! its kind, and its tuple or its two iterations and their object: `fault_numbers`, `fault_of_numbers`.
 #![tactic(auto)]
 
 mod control;

@@ -3,6 +3,9 @@
 //! Comes in: any bytes. Goes out: the statements and directives of the text, each with its line's number, and how many
 //! lines the text has, or the first line that breaks a rule of the source form (Fortran 95, 3.3). What holds in between:
 //! the lines are those of the definition, which splits whole lists; a text is refused exactly where it has a breach.
+//!
+//! *Proved:* The logical lines of a text are given exactly where its lines have no breach, else the first breach:
+//! `logical_lines`.
 #![tactic(auto)]
 
 mod blanks;

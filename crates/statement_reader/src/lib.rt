@@ -6,6 +6,9 @@
 //! the same of any other that has this spelling. A line is refused exactly where a definition names a breach: it is
 //! left out of the language, a front of it is that of a statement up to and with its first expression deeper than
 //! `MAX_DEPTH`, or no statement spells it. Whether a statement stands in its place is no matter of this crate.
+//!
+//! *Proved:* A line is read as the statement that it spells, or refused for its first reason: `read_statement`. No two
+//! statements have one spelling: `one_form`.
 #![tactic(auto)]
 
 mod constant_array;

@@ -1,4 +1,5 @@
-//! Stations: the nodes of a run, each with the ends of its queues, stepped one at a time in any order.
+//! Stations: the nodes of a run, each with the ends of its queues (*process endpoints*), stepped one at a time in any
+//! order.
 //!
 //! Comes in: nodes at their openings, which number their letters. `open_stations` gives each of them its ends of the queues between all
 //! ordered pairs. A step of a station is one local step of its node, one push of a letter, one pop of a letter, or nothing where the
@@ -13,6 +14,14 @@
 //! nothing else, and the order of the steps has no effect: that is the law of stations.
 //!
 //! Nothing here starts a thread. A step may wait, since a step of a queue may spin, and no clause says that a step ever moves.
+//!
+//! *Proved:* A station is a node with its ends and at most one letter that is made and not sent yet. Its type keeps,
+//! whoever steps the others: the node is where some moves lead from its opening with the letters that its ends have
+//! taken, and the letters that these moves made are those that its ends have sent, and then the one that is kept. A
+//! step is one local step, one push or one pop, or none where a push or a pop was refused: `Station::step`. Several
+//! local steps in one call are moves like others: `Station::run_local`. Stations of phased nodes that have all ended
+//! have the last nodes of the lockstep run, and on each queue exactly the letters of that run were sent, in order, and
+//! taken: `law_of_stations`, `open_stations`, `close_stations`. Not that a step ever moves, nor that a run ends.
 #![tactic(auto)]
 
 mod closing;

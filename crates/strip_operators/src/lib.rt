@@ -5,6 +5,10 @@
 //! somewhere, as where it divides by zero.
 //! What holds in between: each operator that has a value for all operands is a type (`OfTwo`), so that its loop has no test, and the compiler
 //! can make vectors of it. Others go number by number. No memory is taken.
+//!
+//! *Proved:* An operator over a whole strip of numbers, one or two operands at each place, or the same second one at
+//! all: where it is taken, the number at each place is the operator's value there: `take_of_one`, `take_of_two`,
+//! `take_with_number`. False says nothing: that it is taken is never promised.
 #![tactic(auto)]
 
 mod kernels;

@@ -4,6 +4,10 @@
 //! `specs/` the abstract syntax of all of these, of which every rule and every meaning speaks, and the lexemes that spell
 //! an expression. What holds in between: every name and every choice of spelling that a tree keeps is a field of it, and a
 //! tree is one program of the abstract syntax (`main_program`), in which choices of spelling that change nothing are gone.
+//!
+//! *Proved:* The types of trees, the abstract syntax of programs that a tree stands for (`main_program`), and what
+//! spells an expression, as definitions. Tables of operators: `sign_of`, `binary`, `unary`, `intrinsic`, `level`,
+//! `left_place`, `right_place`.
 #![tactic(auto)]
 
 mod codes;

@@ -3,6 +3,10 @@
 //! Comes in: a state, and an expression whose names are resolved. Goes out: its value or its first fault, where there is memory for
 //! it; and the few changes of a state. What holds in between: an evaluation changes nothing; all operands are evaluated, from left to
 //! right; of an array expression what is evaluated once is a value of its own (`Elemental`), and the rest is done tuple by tuple.
+//!
+//! *Proved:* The value of an expression, what an array expression evaluates once, and its values over its space, are
+//! those of the meaning, or its first fault with kind and place: `value`, `values`, `selections`, `index_values`,
+//! `elemental_of`, `array_value`, `space_size`, `element_place`.
 #![tactic(auto)]
 
 mod array_values;

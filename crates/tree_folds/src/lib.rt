@@ -12,6 +12,12 @@
 //! - Kept faults: of two the one that is first by tuple and then by part. The faults' own numbers, by which `LeastFault` would go on, are never
 //!   asked.
 //! - Values with positions: of two the one at the later position. The values, by which `LastValue` would go on, are never asked.
+//!
+//! *Proved:* By laws alone: what nodes join in the rounds of a tree are the folds of `reduction_tree`. For each join,
+//! numbers of which some are missing; kept faults, by tuple and part, where each of these has one fault; values with
+//! positions, where each position has one value. So after the rounds up node 0 has the plain fold of the items of all
+//! nodes, and after the rounds down every node has it: `law_of_number_trees`, `law_of_fault_trees`,
+//! `law_of_position_trees`, `law_of_passing`.
 #![tactic(auto)]
 
 mod laws;

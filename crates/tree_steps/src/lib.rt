@@ -6,6 +6,10 @@
 //!
 //! What holds in between: a node sends to one node at most in a round, and takes from one at most; what goes round is a list of numbers,
 //! and how two are joined is told by a `Joining` alone; nothing is changed, so want of memory leaves a node as it was.
+//!
+//! *Proved:* What a node sends, takes and has after each round of the tree of a verdict, of a reduction or a folded
+//! copy, or of a last value, and the fault or value that comes of it: `outbox`, `inbox`, `law_of_absorbed`,
+//! `kept_numbers`, `kept_of_numbers`, `reduced`, `positioned_numbers`, `last_value`.
 #![tactic(auto)]
 
 mod joining;

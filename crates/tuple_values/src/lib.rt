@@ -8,6 +8,11 @@
 //! What holds in between: all of it is what node_code's definitions say of the instruction, whatever the elements are: they are asked for
 //! one by one (`Elements`), and only where the definitions' evaluation comes to them. A tuple of at most seven entries needs no memory of its
 //! own, nor do these and the copies that it reads where they are sixteen at most, and nothing is kept of the tuples.
+//!
+//! *Proved:* What a parallel statement of node code reads, assigns and comes to at each tuple: `ParallelStatement`.
+//! What it names at all tuples at once, by courses, where this is given: `references`. What the tuples of a strip read
+//! and assign, where that goes by equal steps, and their values, where each has one: `strip_lines`, `strip_values`;
+//! that they are found is never promised.
 #![tactic(auto)]
 
 mod asking;

@@ -13,6 +13,11 @@
 //!   signs, `+`, `-` and `*`.
 //! - An array whose dimensions are known has as many as its rank, and 7 at most; in a program that breaks no rule all are known. An
 //!   expression that has a type and a rank has a subscript for each of them in every reference.
+//!
+//! *Proved:* A program that breaks no rule is one for which the laws of `lowering` hold, with its nests of INDEPENDENT
+//! loops taken apart: `programs_are_well_formed`, `accepted_programs_lowered`, `accepted_trails_lowered`,
+//! `accepted_code_is_valid`. It keeps the ranks of its arrays, none of which has more than 7 dimensions, so its code is
+//! valid: `programs_keep_ranks`, `accepted_programs_have_valid_code`.
 #![tactic(auto)]
 
 mod accepted;
