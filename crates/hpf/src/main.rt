@@ -3,7 +3,7 @@
 //! Comes in: the words of the command line and standard input. Goes out: standard output, standard error and the
 //! exit status, all by `hpf_run`'s top call.
 //!
-//! *Proved:* The program is safe. That it ends isn't proved under `run` and `bulk`, which wait for threads.
+//! *Proved:* The program is safe. That it ends isn't proved of `hpf run` and `hpf bulk`, which wait for threads.
 #![tactic(auto)]
 
 use hpf_base::Status;
