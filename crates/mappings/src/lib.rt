@@ -13,7 +13,9 @@
 mod gen_block;
 mod limits;
 mod mapping;
+mod promises;
 
 pub use gen_block::BlockSizes;
 pub use limits::{MAX_BLOCK, MAX_CYCLIC, MAX_TEMPLATE_EXTENT};
 pub use mapping::{AlignDim, Form, Line, MapDim, MapDims, Mapping};
+pub use promises::equal_sizes_are_blocks;
