@@ -11,11 +11,11 @@
 #![tactic(auto)]
 
 mod composition;
-mod laws;
 mod owners;
+mod promises;
 mod subscripts;
 
 pub use composition::compose;
-pub use laws::composed_owners;
 pub use owners::{coordinate_of, least_owner, node_coordinate, owns, position};
+pub use promises::composed_owners;
 pub use subscripts::linear;

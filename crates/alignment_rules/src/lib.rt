@@ -15,9 +15,9 @@ mod alignments;
 mod entries;
 mod fits;
 mod inside;
-mod laws;
 mod limits;
 mod pairs;
+mod promises;
 mod repetitions;
 mod sources;
 mod target_parts;
@@ -27,6 +27,6 @@ pub use alignment_values::{AlignDims, Alignment, Pair, TargetValue, TargetValues
 pub use alignments::bad_alignment;
 pub use fits::align_fits;
 pub use inside::{has_elements, is_inside};
-pub use laws::aligned_entries;
 pub use limits::{MAX_ALIGN_FACTOR, MAX_ALIGN_OFFSET};
+pub use promises::aligned_entries;
 pub use target_parts::target_values;

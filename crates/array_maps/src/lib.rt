@@ -9,8 +9,8 @@
 //! so is each of these: `line_moves_are_valid`.
 #![tactic(auto)]
 
-mod laws;
 mod maps;
+mod promises;
 
-pub use laws::line_moves_are_valid;
 pub use maps::{ArrayMap, ArrayMaps, Maps, NewMap, NewMaps, Redistribution, Redistributions};
+pub use promises::line_moves_are_valid;

@@ -12,6 +12,6 @@
 //! number is that of its places: `numbers_and_places`.
 #![tactic(auto)]
 
-mod laws;
+mod promises;
 
-pub use laws::{held_tuples, numbers_and_places, passing_before, passing_tuples};
+pub use promises::{held_tuples, numbers_and_places, passing_before, passing_tuples};

@@ -12,12 +12,12 @@
 #![tactic(auto)]
 
 mod beyond;
-mod laws;
 mod places;
+mod promises;
 mod rows;
 mod tuples;
 
 pub use beyond::tuples_beyond;
-pub use laws::passing_below;
 pub use places::{common_places, places_beyond};
+pub use promises::passing_below;
 pub use tuples::tuples_of;

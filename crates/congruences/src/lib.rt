@@ -15,7 +15,6 @@
 mod bezout;
 mod equations;
 mod inverse;
-mod laws;
 mod least_strides;
 mod natural_meeting;
 mod progressions;
@@ -24,6 +23,5 @@ mod residues;
 pub use bezout::{Bezout, gcd_ext};
 pub use equations::solve;
 pub use inverse::{Inverse, inverse_of};
-pub use laws::{solved_by, solved_by_remainders};
 pub use progressions::{Progression, meet};
 pub use residues::residue_of;

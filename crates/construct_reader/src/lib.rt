@@ -13,9 +13,9 @@ mod build;
 mod construct_end;
 mod draft;
 mod draft_step;
-mod laws;
 mod next_line;
 mod progress;
+mod promises;
 
-pub use laws::{one_meaning, one_program};
 pub use progress::read_nest;
+pub use promises::{one_meaning, one_program};

@@ -16,16 +16,16 @@ mod declared_rules;
 mod dims;
 mod direct_mappings;
 mod dynamic_names;
-mod laws;
 mod mapped_object;
 mod mapped_objects;
 mod mapping_check;
 mod program_maps;
+mod promises;
 mod redistribute_judge;
 mod redistributes;
 mod root_alignments;
 mod subscripts;
 mod wide_numbers;
 
-pub use laws::starts_of_arrays;
 pub use mapping_check::check_mapping;
+pub use promises::starts_of_arrays;

@@ -17,12 +17,12 @@ mod directive;
 mod elements;
 mod first_words;
 mod kind;
-mod laws;
+mod promises;
 mod read;
 mod refusal;
 mod specifications;
 
 pub use directive::DirectiveLine;
 pub use kind::Kind;
-pub use laws::one_directive;
+pub use promises::one_directive;
 pub use read::read_directive;

@@ -15,12 +15,12 @@ mod blocks;
 mod dimensions;
 mod distributions;
 mod evaluated_formats;
-mod laws;
 mod least_reason;
 mod object_mapping;
 mod objects;
 mod processors;
 mod program_objects;
+mod promises;
 mod setting;
 mod spaces;
 
@@ -28,9 +28,9 @@ pub use distributions::{bad_distributee, bad_distribution, distribution_values};
 pub use evaluated_formats::{
     DistributionValues, FormatValue, FormatValues, ProcessorExtents, Processors, SizeValues,
 };
-pub use laws::distributed_maps;
 pub use least_reason::{lesser, reason_if};
 pub use object_mapping::distributed;
 pub use objects::{Object, ObjectDims, ObjectKind};
+pub use promises::distributed_maps;
 pub use setting::{Setting, dims_of, value_in};
 pub use spaces::bad_space;

@@ -8,6 +8,6 @@
 //! the places of the elements are told by those of the first two: `elements_on_a_line`.
 #![tactic(auto)]
 
-mod laws;
+mod promises;
 
-pub use laws::elements_on_a_line;
+pub use promises::elements_on_a_line;

@@ -12,12 +12,12 @@
 #![tactic(auto)]
 
 mod depth;
-mod laws;
 mod limits;
+mod promises;
 mod reading;
 mod signs;
 
 pub use depth::fits;
-pub use laws::{front_exact, one_expression};
 pub use limits::MAX_DEPTH;
+pub use promises::one_expression;
 pub use reading::{front_expr, read_expr};

@@ -16,6 +16,6 @@
 //! to its end; and the state at the start is so where the initial values are: `states_fit`.
 #![tactic(auto)]
 
-mod laws;
+mod promises;
 
-pub use laws::states_fit;
+pub use promises::states_fit;

@@ -12,11 +12,11 @@
 #![tactic(auto)]
 
 mod forms;
-mod laws;
 mod program;
+mod promises;
 mod scan;
 mod source_form;
 
-pub use laws::{fixed_as_free, one_program, one_tree};
 pub use program::{read_fixed, read_in_form, read_program};
+pub use promises::{fixed_as_free, one_program, one_tree};
 pub use source_form::SourceForm;

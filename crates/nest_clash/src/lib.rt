@@ -14,6 +14,6 @@
 //! `scans_find`.
 #![tactic(auto)]
 
-mod laws;
+mod promises;
 
-pub use laws::{first_clashes, least_pairs, scans_find};
+pub use promises::{first_clashes, least_pairs, scans_find};

@@ -1,8 +1,8 @@
 //! What joins two numbers to one.
 
-ghost use Rattle.std.specs.Prelude.{◌≡◌, ℤ, FitsSigned};
+ghost use Rattle.std.specs.Prelude.{◌≡◌};
 ghost use Rattle.std.specs.Int.{int_bit_and, int_bit_or, int_bit_xor, w64};
-ghost use Rattle.op_tables.specs.Joins.{IsJoin, IsOverNumbers, IsValue, join, unit};
+ghost use Rattle.op_tables.specs.Joins.{join, unit};
 ghost use Rattle.op_tables.specs.Operators.{wrapped};
 
 use crate::operators::truth;
@@ -87,11 +87,3 @@ fn bits_apart(a: i64, b: i64) -> i64
 {
     a ^ b
 }
-
-/// Each way to join gives a value of its own values, is associative and commutative on them, and has a unit there. Its values are all numbers
-/// of 64 bits, or 1 and 0 where it joins what is true. Order and grouping make no difference to numbers of more bits either.
-pub fn law_of_joins()
-    ensures joins { (j : Join) → IsJoin (IsValue j) (join j) (unit j) }
-    ensures numbers { (j : Join) → IsOverNumbers j → IsJoin (FitsSigned w64) (join j) (unit j) }
-    ensures associative { (j : Join) (a b c : ℤ) → join j (join j a b) c ≡ join j a (join j b c) }
-{}

@@ -1,7 +1,6 @@
 //! Reductions, and what joins the variables of REDUCTION clauses.
 
 ghost use Rattle.std.specs.Prelude.{◌≡◌, Some};
-ghost use Rattle.op_tables.specs.Joins.{IsOverNumbers};
 ghost use Rattle.op_tables.specs.Reductions.{combined, joined_by, made, of_truths, of_values, reduction_of};
 
 use crate::join::Join;
@@ -98,8 +97,3 @@ pub fn joined_by(op: Op) -> Option<Join>
         _ => None,
     }
 }
-
-/// The variable of a reduction statement is joined over all numbers of 64 bits.
-pub fn law_of_reduction_variables()
-    ensures { (o : Op) (j : Join) → joined_by o ≡ Some j → IsOverNumbers j }
-{}

@@ -16,11 +16,11 @@
 
 mod elements;
 mod expression_strips;
-mod laws;
+mod promises;
 mod row_places;
 mod rows;
 mod tuples;
 
-pub use laws::{law_of_strips, law_of_values};
+pub use promises::{law_of_strips, law_of_values};
 pub use row_places::strip_places;
 pub use rows::strip_values;

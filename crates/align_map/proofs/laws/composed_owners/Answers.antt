@@ -1,5 +1,0 @@
-use Rattle.align_map.proofs.ComposedLaws.{owns_at-composed}
-use Rattle.align_map.proofs.laws.composed_owners.Goals as goal
-
-pub returns : goal.returns
-returns c = owns_at-composed

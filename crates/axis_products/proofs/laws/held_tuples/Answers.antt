@@ -1,5 +1,0 @@
-use Rattle.axis_products.proofs.Products.{held}
-use Rattle.axis_products.proofs.laws.held_tuples.Goals as goal
-
-pub returns : goal.returns
-returns c = held

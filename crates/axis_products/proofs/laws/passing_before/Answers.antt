@@ -1,5 +1,0 @@
-use Rattle.axis_products.proofs.Ranks.{before}
-use Rattle.axis_products.proofs.laws.passing_before.Goals as goal
-
-pub returns : goal.returns
-returns c = before

@@ -1,5 +1,0 @@
-use Rattle.axis_products.proofs.Products.{tuples}
-use Rattle.axis_products.proofs.laws.passing_tuples.Goals as goal
-
-pub returns : goal.returns
-returns c = tuples

@@ -1,5 +1,0 @@
-use Rattle.axis_walks.proofs.Tests.{passing-below}
-use Rattle.axis_walks.proofs.laws.passing_below.Goals as goal
-
-pub returns : goal.returns
-returns c = passing-below

@@ -1,5 +1,0 @@
-use Rattle.directive_reader.proofs.Verdicts.{one_directive}
-use Rattle.directive_reader.proofs.laws.one_directive.Goals as goal
-
-pub returns : goal.returns
-returns c = one_directive

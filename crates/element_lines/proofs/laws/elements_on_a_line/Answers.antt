@@ -1,5 +1,0 @@
-use Rattle.element_lines.proofs.Lines.{on_a_line}
-use Rattle.element_lines.proofs.laws.elements_on_a_line.Goals as goal
-
-pub returns : goal.returns
-returns c = on_a_line

@@ -1,5 +1,0 @@
-use Rattle.expr_reader.proofs.Theorem.{one_expression}
-use Rattle.expr_reader.proofs.laws.one_expression.Goals as goal
-
-pub returns : goal.returns
-returns c = one_expression

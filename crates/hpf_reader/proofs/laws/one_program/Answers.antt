@@ -1,5 +1,0 @@
-use Rattle.hpf_reader.proofs.Programs.{one_program}
-use Rattle.hpf_reader.proofs.laws.one_program.Goals as goal
-
-pub returns : goal.returns
-returns c = one_program

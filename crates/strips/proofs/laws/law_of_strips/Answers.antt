@@ -1,5 +1,0 @@
-use Rattle.strips.proofs.InOrder.{strip_each}
-use Rattle.strips.proofs.laws.law_of_strips.Goals as goal
-
-pub returns : goal.returns
-returns c = strip_each
