@@ -51,17 +51,6 @@ pub record Merged (keep : Bool → Bool) (one other : List ℕ) (i from : ℕ) (
   pub within : (n : ℕ) → All (λ p. p < n) one → All (λ p. p < n) places
   pub value : Rising 0 one → Rising 0 other → places ≡ filter (λ x. keep (is_one x other)) (take i one)
 
-pub merged-none : (keep : Bool → Bool) (one other : List ℕ) → Merged keep one other 0 0 []
-merged-none keep one other = record {
-  inside = omega arith;
-  less = λ rising some k below. absurd (omega (arith, below));
-  within = λ n all k d below. absurd (let long : length none ≡ 0 = refl in omega (arith, below, long));
-  value = λ rising other-rising. refl;
-}
-  where
-    none : List ℕ
-    none = []
-
 pushed : (b : Bool) (x : ℕ) (n : ℕ) (places : List ℕ) → x < n → All (λ p. p < n) places → All (λ p. p < n) (places ++ cond b (x ∷ []) [])
 pushed true x n places below all = All-push (λ p. p < n) places x all below
 pushed false x n places below all = subst (λ ps. All (λ p. p < n) ps) (sym (append-nil places)) all

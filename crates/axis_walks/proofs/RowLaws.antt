@@ -194,22 +194,6 @@ abbrev pub IsMerge : (keep : Bool → Bool) → (outer inner places : List ℕ) 
 IsMerge keep outer inner places = (p q : ℕ → Bool) (n : ℕ) → outer ≡ filter p (range_with_len 0 n) → inner ≡ filter q (range_with_len 0 n)
     → places ≡ filter (λ x. p x && keep (q x)) (range_with_len 0 n)
 
-pub start-both : (ts : List ℕ) → ts ≡ 0 ∷ [] → ArePicked both [] [] [] ts
-start-both ts is = record {
-  below = subst (All (λ t. t < 1)) (sym is) (λ k d below. at k d (omega (arith, below)));
-  each = λ axis a b outer inner t below. ap (is_one t) is ∙ ap (λ b. b || false) (eq-eqb 0 t (let c : t < 1 = below in omega (arith, c)));
-}
-  where
-    at : (k d : ℕ) → k < 1 → get_or (0 ∷ []) k d < 1
-    at zero d below = omega arith
-    at (suc k) d below = absurd (omega (arith, below))
-
-pub start-alone : (ts : List ℕ) → ts ≡ [] → ArePicked first_alone [] [] [] ts
-start-alone ts is = record {
-  below = subst (All (λ t. t < 1)) (sym is) (All-nil (λ t. t < 1));
-  each = λ axis a b outer inner t below. ap (is_one t) is;
-}
-
 pub both-rows : (es : List ℕ) (os is : List (List ℕ)) (ns : List ℕ) (e : ℕ) (outer inner common : List ℕ) → ArePicked both es os is ns
     → All (λ p. p < e) common → IsMerge (λ b. b) outer inner common
     → ArePicked both (e ∷ es) (outer ∷ os) (inner ∷ is) (rows e ns common)

@@ -2,15 +2,12 @@
 use Rattle.std.proofs.Common.{◌≡◌, false, List, [], ◌∷◌, ◌++◌, None, refl, sym, ap, ◌∙◌, subst, append_assoc, append-nil, Global}
 use Rattle.std.specs.Prelude.{Vec}
 use Rattle.syntax_tree.specs.declared.stmt.Stmt.{Stmt}
-use Rattle.construct_rules.specs.ProgramLine.{ProgramLine}
-use Rattle.construct_rules.specs.Roles.{role_of}
-use Rattle.construct_reader.specs.declared.draft.Draft.{Draft}
 use Rattle.construct_reader.specs.declared.draft.Open.{Open as HeldOpen}
 use Rattle.construct_reader.specs.Views.{spelled_block, spelled_statement}
 use Rattle.construct_reader.specs.Formed.{IsBlock, IsStatement}
-use Rattle.construct_reader.specs.ProgramLines.{Entry, IsEntryOf, AreEntriesOf, block_lines, statement_lines}
-use Rattle.construct_reader.specs.Draft.{AreOpen, IsAppended, IsAfter, IsDraft, IsNested, IsOpened, draft_lines, opened_lines, opens_lines, shape, status, status_after}
-use Rattle.construct_reader.proofs.Lists.{are_push, block_push, block_sound, open_sound, opens_push, shape_push}
+use Rattle.construct_reader.specs.ProgramLines.{block_lines, statement_lines}
+use Rattle.construct_reader.specs.Draft.{AreOpen, IsAppended, IsNested, IsOpened, opened_lines, opens_lines, shape}
+use Rattle.construct_reader.proofs.Lists.{block_push, block_sound, open_sound, opens_push, shape_push}
 
 pub nested_is : (os : List HeldOpen) (o : HeldOpen) (v : Vec HeldOpen Global) (b : Vec Stmt Global) → v.items ≡ os ++ o ∷ [] → b.items ≡ []
     → AreOpen os → IsBlock (spelled_block o.before.items) → IsOpened o.what
@@ -38,13 +35,4 @@ appended_is os ss s b e h g w = record {
       ∙ sym (append_assoc (opens_lines os.items) (block_lines (spelled_block ss)) (statement_lines (spelled_statement s)));
   sound = (h, subst (λ ss. IsBlock (spelled_block ss)) (sym e) (block_sound ss s g w), tt);
   stands = refl;
-}
-
--- a line more, said by the draft
-pub after : (d b : Draft) (l : ProgramLine) (e : Entry) → draft_lines b ≡ draft_lines d ++ e ∷ [] → IsEntryOf e l → IsDraft b
-    → status b ≡ status_after (status d) (role_of l.what) → IsAfter d l b
-after d b l e h is s t = record {
-  lines = λ ls are. subst (λ es. AreEntriesOf es (ls ++ l ∷ [])) (sym h) (are_push (draft_lines d) e ls l are is);
-  sound = s;
-  stands = t;
 }

@@ -1,5 +1,5 @@
 -- Rows of statements and arms, as they lie in memory, are the lists of their items.
-use Rattle.std.proofs.Common.{◌≡◌, ℕ, true, false, not, ◌&&◌, Some, option_map, refl, ap, ◌∙◌, Global, eq-eqb}
+use Rattle.std.proofs.Common.{◌≡◌, ℕ, true, false, Some, option_map, refl, ap, ◌∙◌, Global}
 use Rattle.std.specs.Prelude.{Vec}
 use Rattle.syntax_tree.specs.declared.stmt.Arm.{Arm as HeldArm, Arm-F, roll-Arm, rolls-Arm'}
 use Rattle.syntax_tree.specs.declared.stmt.DoLoop.{DoLoop, DoLoop-F, roll-DoLoop, rolls-DoLoop'}
@@ -10,7 +10,7 @@ use Rattle.syntax_tree.specs.declared.stmt.StatementKind.TheBlock.{Assign, IfOne
 use Rattle.statement_reader.specs.Views.{IsOfKind}
 use Rattle.construct_reader.specs.SpelledProgram.{StatementThen, IfBlocks, IfBlock, Else, DoConstruct}
 use Rattle.construct_reader.specs.Views.{action_in, arm_before, spelled_if_blocks, spelled_arms, assignment_in, begins, spelled_block, spelled_kind, spelled_do, spelled_independent, spelled_else, spelled_row, single}
-use Rattle.construct_reader.specs.Build.{are_begun, arm_begins, one_assignment, single_of}
+use Rattle.construct_reader.specs.Build.{are_begun, one_assignment, single_of}
 
 row_items : {m : _} (row : Row_of-Stmt m) → spelled_row row ≡ spelled_block (items-the_row-Stmt m row)
 row_items end_of-Stmt = refl
@@ -86,6 +86,3 @@ pub arm_rolled : (x : PlainArm) (arms : IfBlocks) → arm_before (roll-Arm x) ar
 arm_rolled x arms =
     ap (λ a. arm_before a arms) (rolls-Arm' x)
     ∙ ap (λ b. IfBlock x.line (expression x.cond) b x.glued arms) (row_hidden x.body)
-
-pub arm_begun : (x : PlainArm) → arm_begins x.line (roll-Arm x) ≡ not x.glued
-arm_begun x = ap (arm_begins x.line) (rolls-Arm' x) ∙ ap (λ b. b && not x.glued) (eq-eqb x.line x.line refl)

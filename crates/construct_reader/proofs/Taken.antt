@@ -7,17 +7,15 @@ use Rattle.syntax_tree.specs.declared.stmt.Mark.{Mark as HeldMark}
 use Rattle.syntax_tree.specs.declared.stmt.Stmt.{Stmt}
 use Rattle.directive_reader.specs.Forms as directives
 use Rattle.directive_reader.specs.declared.kind.Kind.TheVariants as directive
-use Rattle.directive_reader.specs.Views.{mapping_of, names_in}
+use Rattle.directive_reader.specs.Views.{names_in}
 use Rattle.syntax_tree.specs.declared.expr.Expr.{Expr}
-use Rattle.syntax_tree.specs.Expression.{Expression, expression}
+use Rattle.syntax_tree.specs.Expression.{Expression}
 use Rattle.statement_reader.specs.declared.statement.Action.{Action}
 use Rattle.statement_reader.specs.declared.statement.Action.TheVariants as action
 use Rattle.statement_reader.specs.declared.statement.Statement.{Statement}
 use Rattle.statement_reader.specs.declared.statement.Statement.TheVariants as statement
 use Rattle.statement_reader.specs.Forms as statements
 use Rattle.statement_reader.specs.Views.{form_of}
-use Rattle.syntax_tree.specs.declared.directive.Directive.{Directive}
-use Rattle.syntax_tree.specs.declared.directive.Directive.TheVariants as mapping
 use Rattle.construct_rules.specs.declared.role.Construct.{Construct}
 use Rattle.construct_rules.specs.declared.role.Construct.TheVariants as construct
 use Rattle.construct_rules.specs.declared.role.Clauses.{Clauses}
@@ -35,7 +33,7 @@ use Rattle.construct_reader.specs.declared.draft.Opened.TheVariants as opened
 use Rattle.construct_reader.specs.Views.{spelled_block, spelled_end, spelled_statement}
 use Rattle.construct_reader.specs.Formed.{IsBlock, IsStatement, is_whole}
 use Rattle.construct_reader.specs.ProgramLines.{Entry, IsEntryOf, AreEntriesOf, bare_independent_lines, block_lines, else_if, end_line, numbered, unnumbered, statement_lines}
-use Rattle.construct_reader.specs.Draft.{AreOpen, IsAppended, IsAfter, IsDraft, IsEnded, IsNested, IsOpened, Status, Takes, base_lines, draft_lines, end_lines, end_part, fits_mark, clauses_in, innermost, is_inner, opened_lines, opens_lines, open_of, shape, status, status_after, mark_lines}
+use Rattle.construct_reader.specs.Draft.{AreOpen, IsAppended, IsAfter, IsDraft, IsEnded, IsNested, IsOpened, Status, Takes, base_lines, draft_lines, end_lines, end_part, fits_mark, clauses_in, innermost, opened_lines, opens_lines, open_of, shape, status, status_after, mark_lines}
 use Rattle.construct_reader.specs.NextLine.{action_line, finish_line, if_line, independent_line, statement_line, single_or_marked}
 use Rattle.construct_reader.proofs.Lists.{are_push, opens_push, open_front, open_last, shape_push}
 
@@ -171,10 +169,6 @@ pub takes_if : (w : Opened) → takes_else construct.If (open_of w ∷ []) ≡ t
 takes_if (opened.If n cond) h = refl
 takes_if (opened.ElseIf first arms n cond glued) h = refl
 takes_if w h = absurd cc
-
-pub takes_where : (w : Opened) → takes_else construct.Where (open_of w ∷ []) ≡ true → open_of w ≡ record { construct = construct.Where; otherwise = false }
-takes_where (opened.Where n mask) h = refl
-takes_where w h = absurd cc
 
 pub end_role : (c : Construct) (glued : Bool) → role_of (OfStatement (end_part c glued)) ≡ role.Closes c
 end_role construct.If true = refl
@@ -344,11 +338,6 @@ closes (o ∷ os) c h = same c o.construct h
     same construct.Forall construct.Forall h = refl
     same c d h = absurd cc
 
-pub close_takes : (s : Status) (f : statements.StatementForm) (c : Construct) (glued : Bool) → end_part c glued ≡ f → Takes s (statement_role f) → Takes s (role.Closes (innermost s.opens))
-close_takes s f c glued e h =
-    let t : Takes s (role.Closes c) = subst (Takes s) (sym (ap statement_role e) ∙ end_role c glued) h in
-    subst (λ c. Takes s (role.Closes c)) (sym (closes s.opens c t.placed)) t
-
 pub close_form : (s : Status) (f : statements.StatementForm) (c : Construct) (glued : Bool) → end_part c glued ≡ f → Takes s (statement_role f) → end_part (innermost s.opens) glued ≡ f
 close_form s f c glued e h =
     let t : Takes s (role.Closes c) = subst (Takes s) (sym (ap statement_role e) ∙ end_role c glued) h in
@@ -369,18 +358,6 @@ end_where_form false = refl
 pub end_forall_form : (glued : Bool) → end_part construct.Forall glued ≡ form_of (statement.EndForall glued)
 end_forall_form true = refl
 end_forall_form false = refl
-
-pub else_if_form : (cond : Expr) (glued : Bool) → else_if glued (expression cond) ≡ form_of (statement.ElseIf cond glued)
-else_if_form cond true = refl
-else_if_form cond false = refl
-
-pub mapping_outer : (d : Directive) → is_inner (role_of (OfDirective (mapping_of d))) ≡ false
-mapping_outer (mapping.Processors es) = refl
-mapping_outer (mapping.Template es) = refl
-mapping_outer (mapping.Dynamic names) = refl
-mapping_outer (mapping.Distribute d) = refl
-mapping_outer (mapping.Align a) = refl
-mapping_outer mapping.Passed = refl
 
 pub close_is : (s : Status) (w v : Statement) (c : Construct) (glued : Bool) → w ≡ v → end_part c glued ≡ form_of v
     → Takes s (statement_role (form_of w)) → end_part (innermost s.opens) glued ≡ form_of w

@@ -48,20 +48,6 @@ found_item P test (y ∷ ys) x all is = by (test y) (found_item P test ys x (All
 abbrev pub prepended : {A : Type 0} → List A → Option (List A) → Option (List A)
 prepended made rest = option_map (λ l. made ++ l) rest
 
-prepended_more : {A : Type 0} (made : List A) (a : A) (rest : Option (List A)) → prepended made (and_more (Some a) rest) ≡ prepended (made ++ a ∷ []) rest
-prepended_more made a None = refl
-prepended_more made a (Some l) = ap Some (sym (append_assoc made (a ∷ []) l))
-
-pub made_next : {X A : Type 0} (f : X → Option A) (xs : List X) (n : ℕ) (z : X) (made after : List A) (a : A) → n < length xs →
-    Some a ≡ f (get_or xs n z) → after ≡ made ++ a ∷ [] → prepended made (all_or_none f (drop n xs)) ≡ all_or_none f xs →
-    prepended after (all_or_none f (drop (n + 1) xs)) ≡ all_or_none f xs
-made_next f xs n z made after a within is more so_far =
-    let rest = all_or_none f (drop (n + 1) xs) in
-    ap (λ l. prepended l rest) more
-    ∙ sym (prepended_more made a rest)
-    ∙ ap (prepended made) (ap (λ o. and_more o rest) is ∙ ap (all_or_none f) (sym (drop_at xs n z within)))
-    ∙ so_far
-
 nothing_more : {A : Type 0} (made : List A) (rest : Option (List A)) → prepended made (and_more None rest) ≡ None
 nothing_more made None = refl
 nothing_more made (Some l) = refl

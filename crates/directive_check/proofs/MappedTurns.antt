@@ -2,7 +2,7 @@
 use Rattle.std.proofs.Common.{◌≡◌, ℕ, ◌+◌, ◌<◌, Bool, true, false, cond, List, [], ◌∷◌, ◌++◌, append_assoc, drop, length, get_or, Option, Some, None, bytes_eq, refl, sym, ap, ◌∙◌}
 use Rattle.std.specs.Prelude.{◌||◌, not, find, option_map}
 use Rattle.std.specs.Option.{option_or}
-use Rattle.std.proofs.lemmas.List.Folds.{find-append, list_any-append}
+use Rattle.std.proofs.lemmas.List.Folds.{find-append}
 use Rattle.std.proofs.lemmas.List.{map-append}
 use Rattle.std.proofs.lemmas.Slice.Eq.{bytes_eq-Decides}
 use Rattle.hpf_base.specs.declared.refusal.Reason.TheVariants.{BadDirective}
@@ -111,23 +111,6 @@ again_next F f name step respects xs n x seen more first found after within is o
     ∙ earlier_assoc first (least (f seen x)) (least (F (name x ∷ seen) rest))
     ∙ ap (earlier first) (sym (least_append (f seen x) (F (name x ∷ seen) rest)) ∙ ap least (sym (step seen x rest) ∙ ap (F seen) (sym (drop_item xs n x within is))))
     ∙ so_far
-
--- a name that is new, and one that isn't
-pub among_added : (names more : List Name) (x : Name) → more ≡ names ++ x ∷ [] → (y : Name) → is_among y more ≡ (bytes_eq y x || is_among y names)
-among_added names more x is y = ap (is_among y) is ∙ list_any-append (bytes_eq y) names (x ∷ []) ∙ swap (is_among y names) (bytes_eq y x)
-  where
-    swap : (p q : Bool) → (p || (q || false)) ≡ (q || p)
-    swap true true = refl
-    swap true false = refl
-    swap false true = refl
-    swap false false = refl
-
-pub among_kept : (names : List Name) (x : Name) → is_among x names ≡ true → (y : Name) → is_among y names ≡ (bytes_eq y x || is_among y names)
-among_kept names x is y = by (bytes_eq y x) refl
-  where
-    by : (t : Bool) → bytes_eq y x ≡ t → is_among y names ≡ (bytes_eq y x || is_among y names)
-    by false e = ap (λ t. t || is_among y names) (sym e)
-    by true e = ap (λ z. is_among z names) ((bytes_eq-Decides y x).0 e) ∙ is ∙ ap (λ t. t || is_among y names) (sym e)
 
 -- a turn of the loop that keeps each name once
 pub distinct_next : {X : Type 0} (names : List X → List Name) (name : X → Name) → ((x : X) (xs : List X) → names (x ∷ xs) ≡ name x ∷ names xs) →

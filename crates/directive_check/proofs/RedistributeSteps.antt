@@ -1,6 +1,6 @@
 -- The REDISTRIBUTEs of statements, statement by statement.
 use Rattle.std.proofs.Common.{◌≡◌, ℕ, Bool, List, [], ◌∷◌, ◌++◌, append_assoc, Option, Some, None, Global, map, refl, sym, ap, ◌∙◌}
-use Rattle.std.specs.Prelude.{Vec, Box, option_map}
+use Rattle.std.specs.Prelude.{Vec, option_map}
 use Rattle.std.proofs.lemmas.List.{append-nil}
 use Rattle.std.proofs.lemmas.Grind.{flat_map-append}
 use Rattle.syntax_tree.specs.declared.expr.Expr.{Expr}
@@ -18,7 +18,7 @@ use Rattle.expression_rules.specs.Symbols.{Name}
 use Rattle.statement_walk.specs.Head as head
 use Rattle.statement_walk.specs.Heads.{PlacedHead, arm_heads, heads, independent_heads, indexed, masked, placed, statement_heads}
 use Rattle.statement_walk.specs.Views.{arm_alone, elsewhere_of}
-use Rattle.statement_walk.proofs.WalkSteps.{arm_step, axis_in, forall_heads, if_alone_heads, if_heads, if_one_heads, where_heads}
+use Rattle.statement_walk.proofs.WalkSteps.{arm_step, axis_in, forall_heads, if_alone_heads, if_heads, where_heads}
 use Rattle.directive_check.specs.Redistributes.{redistribute_of, redistributes}
 
 both : (a b : List PlacedHead) → redistributes (a ++ b) ≡ redistributes a ++ redistributes b
@@ -52,11 +52,6 @@ in_do xs line k d is =
     sym (ap (λ k. redistributes (statement_heads xs line (statement line k))) is
     ∙ ap (λ s. redistributes (statement_heads xs line s)) (do_parts d)
     ∙ past_mark xs line (option_map independent (out-DoLoop d).mark) (axis_in d) (block_of (out-DoLoop d).body.items))
-
--- of an IF with one action
-pub in_if_one : (xs : List Name) (line : ℕ) (k : StatementKind.StatementKind) (cond : Expr) (b : Box Stmt Global) (s : Stmt) → k ≡ StatementKind.IfOne cond b → s ≡ b.value →
-    redistributes (statement_heads xs s.line (statement s.line s.what)) ≡ redistributes (statement_heads xs line (statement line k))
-in_if_one xs line k cond b s is same = ap redistributes (if_one_heads xs line k cond b s is same)
 
 -- of an IF without ELSE, and with it
 pub in_if_alone : (xs : List Name) (line : ℕ) (k : StatementKind.StatementKind) (as' : Vec Arm Global) (rest : Option (Vec Stmt Global)) (glued : Bool) →

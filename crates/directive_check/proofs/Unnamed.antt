@@ -9,10 +9,6 @@ pub has_bytes : (x : Name) → IsName x → bytes_eq [] x ≡ false
 has_bytes [] h = absurd (omega (arith, h.some))
 has_bytes (b ∷ bs) h = refl
 
-pub not_bytes : (x : Name) → IsName x → bytes_eq x [] ≡ false
-not_bytes [] h = absurd (omega (arith, h.some))
-not_bytes (b ∷ bs) h = refl
-
 -- a turn of the loop over names
 pub unnamed_next : (xs : List Name) (n : ℕ) (x : Name) → n < length xs → x ≡ get_or xs n x → IsName x → is_among [] (drop n xs) ≡ is_among [] xs →
     is_among [] (drop (n + 1) xs) ≡ is_among [] xs

@@ -43,10 +43,6 @@ lesser_assoc a b c =
     ∙ ap (earlier (at_line 0 a)) (earlier_at 0 b c) ∙ earlier_at 0 a (lesser b c))
     ∙ reason_at (lesser a (lesser b c))
 
-pub lesser_none : (a : Option Reason) → lesser a None ≡ a
-lesser_none None = refl
-lesser_none (Some a) = refl
-
 -- of two lists together
 pub least_reason_append : (xs ys : List Reason) → least_reason (xs ++ ys) ≡ lesser (least_reason xs) (least_reason ys)
 least_reason_append [] ys = refl

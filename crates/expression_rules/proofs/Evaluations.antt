@@ -14,7 +14,6 @@ use Rattle.expression_rules.specs.Constants.{Site, with_more, value, values, val
 use Rattle.expression_rules.specs.Partial.{and_one, and_all}
 use Rattle.syntax_tree.specs.Expression.{arguments_of}
 use Rattle.expression_rules.specs.Symbols.{SymbolTable}
-use Rattle.std.proofs.lemmas.List.{append-nil}
 use Rattle.expression_rules.proofs.Lists.{drop_item}
 
 -- one value more, and the others after it
@@ -34,11 +33,6 @@ and_one-with_more (Known ms) Unknown (Known ns) = refl
 and_one-with_more (Known ms) (Known n) Invalid = refl
 and_one-with_more (Known ms) (Known n) Unknown = refl
 and_one-with_more (Known ms) (Known n) (Known ns) = ap Known (append_assoc ms (n ∷ []) ns)
-
-pub and_none : (found : Evaluated (List ℤ)) → and_all found (Known []) ≡ found
-and_none Invalid = refl
-and_none Unknown = refl
-and_none (Known ns) = ap Known (append-nil ns)
 
 pub none_and : (f : Evaluated (List ℤ)) → and_all (Known []) f ≡ f
 none_and Invalid = refl

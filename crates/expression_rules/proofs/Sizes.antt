@@ -1,12 +1,11 @@
 -- How many elements there are.
-use Rattle.std.proofs.Common.{◌≡◌, ℕ, zero, suc, ◌+◌, ◌*◌, ◌<◌, ◌≤◌, Bool, true, false, List, [], ◌∷◌, drop, length, get_or, refl, sym, ap, ◌∙◌, arith, ◌^◌, Fits, w64}
+use Rattle.std.proofs.Common.{◌≡◌, ℕ, zero, suc, ◌+◌, ◌*◌, ◌≤◌, Bool, true, false, List, [], ◌∷◌, drop, refl, ap, arith, ◌^◌, Fits, w64}
 use Rattle.std.specs.Prelude.{◌==◌, ◌||◌}
 use Rattle.std.specs.List.{list_any}
 use Rattle.std.proofs.lemmas.Bool.Decides.{nat_tests}
-use Rattle.std.proofs.Math.Nat.{mul_assoc, mul_comm, mul-le-mul_left}
+use Rattle.std.proofs.Math.Nat.{mul_comm, mul-le-mul_left}
 use Rattle.expression_rules.specs.declared.dims.Dim.{Dim}
 use Rattle.expression_rules.specs.Dims.{extent, elements, is_empty}
-use Rattle.expression_rules.proofs.Lists.{drop_item}
 
 none_times : (a b : ℕ) → a ≡ 0 → 0 ≡ a * b
 none_times a b z = omega (arith, ap (λ k. k * b) z)
@@ -49,12 +48,6 @@ pub none_after : (ds : List Dim) (n : ℕ) → list_any is_empty ds ≡ false �
 none_after ds zero h = h
 none_after [] (suc n) h = h
 none_after (d ∷ ds) (suc n) h = none_after ds n (rest_case (extent d == 0) (list_any is_empty ds) h)
-
--- a turn of the loop
-pub size_next : (ds : List Dim) (n size : ℕ) (d : Dim) → n < length ds → d ≡ get_or ds n d → size * elements (drop n ds) ≡ elements ds →
-    (size * extent d) * elements (drop (n + 1) ds) ≡ elements ds
-size_next ds n size d within is so_far =
-    mul_assoc size (extent d) (elements (drop (n + 1) ds)) ∙ ap (λ l. size * elements l) (sym (drop_item ds n d within is)) ∙ so_far
 
 -- what is multiplied stays within all
 pub size_fits : (ds : List Dim) (n size more : ℕ) → list_any is_empty ds ≡ false → size * elements (drop n ds) ≡ elements ds → elements ds ≤ more → size ≤ more

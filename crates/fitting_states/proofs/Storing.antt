@@ -1,14 +1,10 @@
 -- A state of 64 bits stays one where a value of 64 bits is stored.
 use Rattle.std.proofs.Common.{ℕ, zero, suc, List, [], ◌∷◌, get_or, set, Option, Some, None, ℤ, pos, FitsSigned, w64}
 use Rattle.std.specs.List.{AllByRecursion}
-use Rattle.array_meaning.specs.Statements.{Nest}
 use Rattle.array_meaning.specs.State.{State, Array, no_array, array, set_scalar, store, stored, store_all}
 use Rattle.array_meaning.specs.declared.sections.Store.{Store}
-use Rattle.array_meaning.specs.Forall.{indices_at}
-use Rattle.array_meaning.specs.Iterations.{with_indices, nest_axes, nest_indices, at_iteration}
 use Rattle.fitting_states.specs.FittingStates.{StateFits}
 use Rattle.fitting_states.proofs.OperatorRanges.{zero_fits}
-use Rattle.fitting_states.proofs.Values.{ValuesFit, indices_fit}
 
 -- each element of a list, also past its end
 module _ {A : Type 0} (P : A → Type 0) (none : A) where
@@ -46,13 +42,3 @@ stored_fits a s (Some st) h f = store_fits s a st.place st.value h f
 pub store_all_fits : (a : ℕ) (s : State) (stores : List (Option Store)) → StateFits s → AllByRecursion StoreFits stores → StateFits (store_all s a stores)
 store_all_fits a s [] h f = h
 store_all_fits a s (st ∷ stores) h f = store_all_fits a (stored a s st) stores (stored_fits a s st h f.0) f.1
-
--- the state in an iteration of a nest
-pub with_indices_fit : (xs : List ℕ) (vs : List ℤ) (s : State) → StateFits s → ValuesFit vs → StateFits (with_indices xs vs s)
-with_indices_fit [] vs s h f = h
-with_indices_fit (x ∷ xs) [] s h f = h
-with_indices_fit (x ∷ xs) (v ∷ vs) s h f = set_scalar_fits (with_indices xs vs s) x v (with_indices_fit xs vs s h f.1) f.0
-
-pub iteration_fits : (nest : Nest) (s : State) (i : ℕ) → StateFits s → StateFits (at_iteration nest s i)
-iteration_fits nest s i h =
-    with_indices_fit (nest_indices nest) (indices_at (nest_axes s nest) i) s h (indices_fit (nest_axes s nest) i)

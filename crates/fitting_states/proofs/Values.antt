@@ -158,17 +158,11 @@ module _ (s : State) (fits : StateFits s) where
     pub known_value_fits : (t : Term) (v : ℤ) → TermFits t → value indices s t ≡ Ok v → FitsSigned w64 v
     known_value_fits t v h e = subst (λ r. IfOk r Fits) e (value_fits t h)
 
-    pub known_values_fit : (ts : Terms) (vs : List ℤ) → TermsFit ts → values indices s ts ≡ Ok vs → ValuesFit vs
-    known_values_fit ts vs h e = subst (λ r. IfOk r ValuesFit) e (values_fit ts h)
-
   -- ---- the values of an index
 
   pub index_values_fit : (c : Control) → ControlFits c → IfOk (index_values s c) SequenceFits
   index_values_fit c h =
       sequence_fits (value [] s c.first) (value [] s c.last) (value [] s c.step) (value_fits [] tt c.first h.0) (value_fits [] tt c.step h.2)
-
-  pub known_index_values_fit : (c : Control) (p : Sequence) → ControlFits c → index_values s c ≡ Ok p → SequenceFits p
-  known_index_values_fit c p h e = subst (λ r. IfOk r SequenceFits) e (index_values_fit c h)
 
   pub values_of_fit : (l : Loop) → ControlFits l.control → SequenceFits (values_of s l)
   values_of_fit l h = by (index_values s l.control) (index_values_fit l.control h) where

@@ -30,11 +30,6 @@ use Rattle.fixed_lines.proofs.Groups.{physical, sample}
 use Rattle.fixed_lines.proofs.Kept.{AreNumbered, AreTight, sound}
 use Rattle.fixed_lines.proofs.Whole.{all_freed, are_numbered, are_tight, free_numbered, passed_alike, they_flow}
 
-passed_is : (k : FixedKind) → is_passed k ≡ true → k ≡ Passed
-passed_is Passed e = refl
-passed_is Statement e = absurd (false≢true e)
-passed_is Directive e = absurd (false≢true e)
-
 -- a statement goes on with free lines where it goes on with the fixed ones
 free_follows : (lines : List FixedLine) → AreTight lines → follows lines ≡ true → goes_on (physical_line 1 (sample Statement)).kind (all_freed lines) ≡ true
 free_follows [] tight goes = absurd (false≢true goes)

@@ -147,10 +147,6 @@ pub record IsSound (code : List ℕ) : Type 0 where
   pub good : AreGood ps
   pub whole : code ≡ concat ps
 
-abbrev mark : Bool → ℕ
-mark true = 38
-mark false = 59
-
 pub statement_code : (continues : Bool) (ps : List (List ℕ)) (continued : Bool) → AreGood ps
     → code_of (free_statement continues (concat ps) continued) ≡ free_statement continues (concat ps) continued
 statement_code true ps true good = code-both 38 ps 38 plain_ampersand good plain_ampersand

@@ -95,8 +95,3 @@ filter-periodic-step P T repeats (suc q) r below os is =
         let whole = length-append (filter P (range_with_len 0 r)) (filter P (range_with_len (0 + r) (T - r))) in
         let long : length os ≡ length (filter P (range_with_len 0 r) ++ filter P (range_with_len (0 + r) (T - r))) = ap length (is ∙ split P r T below) in
         rw e (omega (arith, whole, long, e))
-
-pub filter-periodic : (P : ℕ → Bool) (T : ℕ) → ((j : ℕ) → P (j + T) ≡ P j) → (q r : ℕ) → r ≤ T →
-    filter P (range_with_len 0 (q * T + r)) ≡ map (place_at 0 T (filter P (range_with_len 0 T)))
-    (range_with_len 0 (q * length (filter P (range_with_len 0 T)) + length (filter P (range_with_len 0 r))))
-filter-periodic P T repeats q r below = filter-periodic-step P T repeats q r below (filter P (range_with_len 0 T)) refl

@@ -57,12 +57,3 @@ line_without (b ∷ text) ne e = last_line b text (step (nat_lt (break (b ∷ te
     step : (t : Bool) → nat_lt (break (b ∷ text)) (length (b ∷ text)) ≡ t → None ≡ (if t then Some (break (b ∷ text)) else None) → length (b ∷ text) ≤ break (b ∷ text)
     step true t e = absurd cc
     step false t e = ltb-false _ _ t
-
-pub lines_remain : (text : List ℕ) → length text ≢ 0 → length (lines_of text) ≢ 0
-lines_remain [] ne = ne
-lines_remain (b ∷ text) ne = step (b == 10) (lines_of text)
-  where
-    step : (t : Bool) (lines : List (List ℕ)) → length (if t then [] ∷ lines_of text else longer_first b lines) ≢ 0
-    step true lines h = absurd (omega arith)
-    step false [] h = absurd (omega arith)
-    step false (line ∷ lines) h = absurd (omega arith)

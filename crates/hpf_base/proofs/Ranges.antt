@@ -1,13 +1,9 @@
 -- Laws on ranges of numbers.
-use Rattle.std.proofs.Common.{◌≡◌, ℕ, zero, suc, ◌+◌, ◌-◌, ◌<◌, ◌≤◌, ◌⊎◌, inl, inr, Bool, true, false, cond, List, [], ◌∷◌, ◌++◌, refl, sym, ◌∙◌, ap, subst, arith, length, map, min, max}
-use Rattle.std.proofs.lemmas.List.{append-nil, same_lists}
+use Rattle.std.proofs.Common.{◌≡◌, ℕ, zero, suc, ◌+◌, ◌-◌, ◌<◌, ◌≤◌, List, [], ◌∷◌, ◌++◌, refl, sym, ◌∙◌, ap, subst, arith, map}
+use Rattle.std.proofs.lemmas.List.{same_lists}
 use Rattle.std.proofs.lemmas.List.Elements.{All-head, All-tail}
 use Rattle.std.proofs.lemmas.List.FromFn.{length-range_with_len, get_or-range_with_len, length-map-range_with_len, get_or-map-range_with_len, map-range_with_len_more}
-use Rattle.std.proofs.lemmas.Bool.{cases_lt}
-use Rattle.std.proofs.lemmas.Bool.Decides.{nat_tests}
-use Rattle.std.proofs.lemmas.Option.{slice_get-map, slice_get-get_or}
-use Rattle.std.specs.Prelude.{All, Some, filter, slice_get}
-use Rattle.std.specs.Option.{option_map}
+use Rattle.std.specs.Prelude.{All}
 use Rattle.std.specs.List.{range_with_len}
 
 -- a list of numbers in two parts
@@ -63,11 +59,3 @@ pub map-range_push : {Y : Type 0} (f : ℕ → Y) (xs ys : List Y) (y : Y) (n : 
 map-range_push f xs ys y n pushed made value =
     let at : 0 + n ≡ n = omega arith in
     pushed ∙ ap (λ l. l ++ y ∷ []) made ∙ ap (λ v. map f (range_with_len 0 n) ++ v ∷ []) value ∙ sym (map-range_with_len_more f 0 n n at)
-
--- an element of a list that is made of a function of the place
-pub slice_get-map-range : {Y : Type 0} (f : ℕ → Y) (n k : ℕ) → k < n → slice_get (map f (range_with_len 0 n)) k ≡ Some (f k)
-slice_get-map-range f n k below =
-    let inside : k < length (range_with_len 0 n) = omega (arith, length-range_with_len 0 n) in
-    let at : 0 + k ≡ k = omega arith in
-    slice_get-map f (range_with_len 0 n) k
-    ∙ ap (option_map f) (slice_get-get_or (range_with_len 0 n) k 0 inside ∙ ap Some (get_or-range_with_len 0 n k 0 below ∙ at))

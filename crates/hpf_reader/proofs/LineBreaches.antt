@@ -1,11 +1,10 @@
 -- Breaches of lines.
-use Rattle.std.proofs.Common.{◌≡◌, ◌<◌, ℕ, zero, suc, ◌+◌, List, [], ◌∷◌, ◌++◌, length, get_or, take, map, Option, Some, None, Bool, true, false, ◌⊎◌, inl, inr, refl, sym, ap, ◌∙◌, subst, arith, ⊎_elim}
+use Rattle.std.proofs.Common.{◌≡◌, ◌<◌, ℕ, ◌+◌, List, [], ◌∷◌, ◌++◌, length, get_or, take, map, Option, Some, None, Bool, true, false, ◌⊎◌, inl, inr, refl, sym, ap, ◌∙◌, subst, ⊎_elim}
 use Rattle.std.specs.Prelude.{if◌then◌else◌, IfNone}
 use Rattle.std.proofs.lemmas.List.{take_more}
 use Rattle.hpf_base.specs.declared.refusal.Reason.{Reason}
 use Rattle.hpf_base.specs.declared.refusal.Refusal.{Refusal}
 use Rattle.hpf_base.specs.declared.refusal.StaticError.{StaticError}
-use Rattle.hpf_base.specs.declared.refusal.StaticError.TheVariants.{Refused, Memory}
 use Rattle.hpf_base.specs.Refusal.{IsRefusalBy, NoBreach}
 use Rattle.source_lines.specs.declared.line.LogicalLine.{LogicalLine}
 use Rattle.source_lines.specs.declared.line.LineKind.TheVariants as line
@@ -18,11 +17,6 @@ use Rattle.construct_rules.specs.ProgramLine.{line_of, lines_of}
 use Rattle.hpf_base.proofs.FirstBreaches.{first_both, first_same}
 use Rattle.hpf_reader.specs.ProgramText.{LexemeLine, lexeme_line, OneBreaks, IsLineOf, AreLinesOf, FormBreaks, IsWrong}
 use Rattle.hpf_reader.specs.OneMore.{IsRead, IsScanned}
-
--- an error of lines without a breach is want of memory
-pub no_refusal : (breach other : ℕ → Reason → Type 0) (e : StaticError) → NoBreach breach → IsRefusalBy breach e → IsRefusalBy other e
-no_refusal breach other (Refused r) clean h = absurd (clean r.line r.reason h.stands)
-no_refusal breach other Memory clean h = tt
 
 module _ {A : Type 0} (breach : A → ℕ → Reason → Type 0) where
   more_to : (ls : List A) (l : A) (line : ℕ) (reason : Reason) → OneBreaks breach ls line reason ⊎ breach l line reason → OneBreaks breach (ls ++ l ∷ []) line reason
@@ -44,12 +38,6 @@ module _ {A : Type 0} (breach : A → ℕ → Reason → Type 0) where
   first_more ls i l a b lt is h k =
       subst (λ ls. IsFirstOrNone (OneBreaks breach ls) (earlier a b)) (sym (take_more ls i l lt ∙ ap (λ l. take i ls ++ l ∷ []) (sym is)))
       (first_same _ _ (earlier a b) (more_to (take i ls) l) (more_from (take i ls) l) (first_both (OneBreaks breach (take i ls)) (breach l) a b h k))
-
-  -- where no line has a breach, one of them hasn't
-  pub one_clean : (ls : List A) (i : ℕ) (l : A) → i < length ls → l ≡ get_or ls i l → NoBreach (OneBreaks breach ls) → NoBreach (breach l)
-  one_clean [] i l lt is h line reason x = absurd (omega (arith, lt))
-  one_clean (k ∷ ls) zero l lt is h line reason x = h line reason (inl (subst (λ l. breach l line reason) is x))
-  one_clean (k ∷ ls) (suc i) l lt is h line reason x = one_clean ls i l (omega (arith, lt)) is (λ line reason y. h line reason (inr y)) line reason x
 
 lines_more : (ls : List LexemeLine) (l : LexemeLine) (ss : List HeldLine) (s : HeldLine) → AreLinesOf ls (lines_of ss) → IsLineOf l (line_of s)
     → AreLinesOf (ls ++ l ∷ []) (lines_of (ss ++ s ∷ []))
@@ -103,12 +91,6 @@ pub directive_wrong : (l : LexemeLine) (ts : List Lexeme) (e : StaticError) → 
 directive_wrong l ts e same kind h =
     subst (λ k. IsRefusalBy (λ n reason. (n ≡ l.number) × IsWrong k l.lexemes reason) e) (sym kind)
     (subst (λ ts. IsRefusalBy (λ n reason. (n ≡ l.number) × IsDirectiveBreach ts reason) e) same h)
-
--- a line of a kind in which nothing is wrong
-pub statement_fine : (l : LexemeLine) (ts : List Lexeme) → ts ≡ l.lexemes → l.kind ≡ line.Statement
-    → ((reason : Reason) → IsStatementBreach ts reason → ⊥) → NoBreach (FormBreaks l)
-statement_fine l ts same kind h n reason b =
-    h reason (subst (λ ts. IsStatementBreach ts reason) (sym same) (subst (λ k. IsWrong k l.lexemes reason) kind b.1))
 
 pub directive_fine : (l : LexemeLine) (ts : List Lexeme) → ts ≡ l.lexemes → l.kind ≡ line.Directive
     → ((reason : Reason) → IsDirectiveBreach ts reason → ⊥) → NoBreach (FormBreaks l)

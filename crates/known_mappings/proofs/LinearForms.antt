@@ -52,10 +52,6 @@ after : (a b : Bool) → (a && b) ≡ false → a ≡ true → b ≡ false
 after true b h is = h
 after false b h is = absurd (no_value is)
 
-among : (b : Bool) → not (b || false) ≡ true → b ≡ false
-among true h = absurd (no_value h)
-among false h = refl
-
 not_among : (b : Bool) → b ≡ false → not (b || false) ≡ true
 not_among true h = absurd (true≢false h)
 not_among false h = refl

@@ -19,7 +19,6 @@ use Rattle.line_forms.specs.Printed.{with_commas, after_comma, printed, IfFormed
 use Rattle.line_forms.specs.DeepFront.{is_too_deep, preceded, list_front, expr_front, mask_front, deep_front, IsTooDeep}
 use Rattle.line_forms.specs.Read.{after_marks, name, expr, is_index, index_next, comma_list, mask, read}
 use Rattle.line_forms.specs.Ll1.{FirstItem, Finish, Exactly, begins, Begins, first_set, are_marks, disjoint, ends_expression, is_finish, is_filled, is_indexed, is_ll1}
-use Rattle.line_forms.proofs.Shallow.{any_shallow}
 use Rattle.line_forms.proofs.Begins.{starts_all, disjoint_starts, ends_all, finish_all, filled_all, no_index, subscript_all}
 use Rattle.line_forms.proofs.Leaves.{expr_reads, item_reads, subscript_reads}
 use Rattle.line_forms.proofs.Standing.{StandsAs, Stands, stands_whole, stands_deep, after_prefix, then_reads, then_begins, unmapped, followed, mapped}
@@ -271,11 +270,3 @@ module _ (depths : Depths) where
   -- the reading stops where such a front stands
   pub deep_found : (g : Grammar) (fs : List FirstItem) → is_ll1 g fs ≡ true → (ts : List Lexeme) → IsTooDeep depths g ts → read depths g ts ≡ Stopped TooDeep
   deep_found g fs l ts d = complete g fs l d.written d.well ts (Stopped TooDeep) (stands_deep depths g d.written fs d.front d.rest ts d.deep d.parts)
-
-found_is : {A : Type 0} (x y : A × List Lexeme) → Found x ≡ Found y → x ≡ y
-found_is x y h = cc
-
--- a tree keeps the same of any two that have one spelling
-pub no_other : (g : Grammar) → is_ll1 g (Finish ∷ []) ≡ true → (v w : Value g) → IsWell g v → IsWell g w → printed g v ≡ printed g w → value_kept g v ≡ value_kept g w
-no_other g l v w a b is =
-    ap (λ x. x.0) (found_is (value_kept g v, []) (value_kept g w, []) (sym (whole Any g l v a (any_shallow g v)) ∙ ap (read Any g) is ∙ whole Any g l w b (any_shallow g w)))

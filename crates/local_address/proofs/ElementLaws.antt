@@ -1,11 +1,11 @@
 -- The number of elements of a shape, and an element by its number, one dimension after another.
-use Rattle.std.proofs.Common.{◌≡◌, inl, inr, ℕ, zero, suc, ◌+◌, ◌*◌, ◌<◌, ◌≤◌, ℤ, pos, negsuc, ◌+ℤ◌, ◌≤ℤ◌, unsigned_abs, true, false, List, [], ◌∷◌, ◌++◌, refl, sym, ◌∙◌, ap, arith, length, map, get_or, set, take, All, Some, slice_get}
+use Rattle.std.proofs.Common.{◌≡◌, inl, inr, ℕ, zero, suc, ◌+◌, ◌*◌, ◌<◌, ◌≤◌, ℤ, pos, negsuc, ◌+ℤ◌, ◌≤ℤ◌, unsigned_abs, true, List, [], ◌∷◌, ◌++◌, refl, sym, ◌∙◌, ap, arith, length, map, get_or, set, take, All, Some, slice_get}
 use Rattle.std.proofs.Math.Nat.{mul_comm, mul-zero, zero-mul}
-use Rattle.std.proofs.lemmas.Bool.{both_ways, or_cases, or_parts}
+use Rattle.std.proofs.lemmas.Bool.{or_cases}
 use Rattle.std.proofs.lemmas.Bool.Decides.{Decides-int_eq}
 use Rattle.std.proofs.lemmas.Int.{ints}
 use Rattle.std.proofs.lemmas.List.{length-map, take_all, take_more, take_more_set}
-use Rattle.std.proofs.lemmas.List.Elements.{All-cons, All-head, All-map, All-tail}
+use Rattle.std.proofs.lemmas.List.Elements.{All-cons, All-map}
 use Rattle.std.proofs.lemmas.Option.{slice_get-get_or}
 use Rattle.std.specs.List.{list_any}
 use Rattle.std.specs.Ordering.{int_eq}
@@ -32,19 +32,6 @@ none_extent (e ∷ es) found =
           ap (λ x. unsigned_abs x * product (map unsigned_abs es)) ((Decides-int_eq e (pos 0)).0 here) ∙ zero-mul (product (map unsigned_abs es))
       | inr later ↦ ap (λ n. unsigned_abs e * n) (none_extent es later) ∙ mul-zero (unsigned_abs e)
     ]
-
-above_zero : (e : ℤ) → pos 0 ≤ℤ e → int_eq e (pos 0) ≡ false → pos 1 ≤ℤ e
-above_zero (pos zero) positive other = absurd (both_ways (int_eq (pos 0) (pos 0)) other ((Decides-int_eq (pos 0) (pos 0)).1 refl))
-above_zero (pos (suc n)) positive other = omega (arith, ints)
-above_zero (negsuc n) positive other = absurd (omega (arith, ints))
-
-pub each_extent : (extents : List ℤ) → All (λ e. pos 0 ≤ℤ e) extents → list_any (λ e. int_eq e (pos 0)) extents ≡ false
-    → All (λ e. pos 1 ≤ℤ e) extents
-each_extent [] positive none = λ k d within. absurd (omega arith)
-each_extent (e ∷ es) positive none =
-    let parts = or_parts (int_eq e (pos 0)) (list_any (λ x. int_eq x (pos 0)) es) none in
-    All-cons (λ x. pos 1 ≤ℤ x) e es (above_zero e (All-head (λ x. pos 0 ≤ℤ x) e es positive) parts.0)
-    (each_extent es (All-tail (λ x. pos 0 ≤ℤ x) e es positive) parts.1)
 
 -- where there is an element no extent is 0
 pub factors_some : (extents : List ℕ) → 1 ≤ product extents → All (λ e. 1 ≤ e) extents

@@ -1,10 +1,10 @@
 -- What a node owns of an array, from what it owns along each dimension.
-use Rattle.std.proofs.Common.{◌≡◌, ℕ, zero, suc, ◌+◌, ◌*◌, ◌/◌, ◌<◌, ◌≤◌, ◌⊎◌, inl, inr, ℤ, pos, negsuc, ◌+ℤ◌, ◌≤ℤ◌, ◌<ℤ◌, unsigned_abs, Bool, true, false, cond, ◌&&◌, ◌==◌, List, [], ◌∷◌, ◌++◌, refl, sym, ◌∙◌, ap, append_assoc, option_map, ◌*ℤ◌, subst, arith, length, map, filter, get_or, set, take, drop, eq-eqb, All, Option, Some, None, slice_get}
+use Rattle.std.proofs.Common.{◌≡◌, ℕ, zero, suc, ◌+◌, ◌*◌, ◌/◌, ◌<◌, ◌≤◌, ◌⊎◌, inl, inr, ℤ, pos, negsuc, ◌+ℤ◌, ◌≤ℤ◌, ◌<ℤ◌, unsigned_abs, Bool, true, false, cond, ◌&&◌, ◌==◌, List, [], ◌∷◌, ◌++◌, refl, sym, ◌∙◌, ap, option_map, ◌*ℤ◌, subst, arith, length, map, filter, get_or, set, take, eq-eqb, All, Option, Some, None, slice_get}
 use Rattle.std.proofs.Math.IntN.{zero-*ℤ}
 use Rattle.std.proofs.lemmas.Bool.{cases_eq, eqb-true, ne_eqb, or_cases, or_parts}
 use Rattle.std.proofs.lemmas.Bool.Decides.{Decides-int_eq}
 use Rattle.std.proofs.lemmas.Int.{ints}
-use Rattle.std.proofs.lemmas.List.{append-nil, drop_more, get_or-map, get_or-set_other, get_or-set_same, length-append, length-map, length-set, map-append, take_more}
+use Rattle.std.proofs.lemmas.List.{append-nil, get_or-map, get_or-set_other, get_or-set_same, length-append, length-map, length-set, map-append, take_more}
 use Rattle.std.proofs.lemmas.List.Elements.{All-cons, All-head, All-tail}
 use Rattle.std.proofs.lemmas.List.FromFn.{filter_of_map_range_with_len_more, get_or-map-range_with_len, length-map-range_with_len}
 use Rattle.std.proofs.lemmas.List.Sums.{count_by-le-length, length-filter}
@@ -280,17 +280,6 @@ owned-empty mapping shape node none = ap (filter (λ index. owns mapping index n
     nothing : (xs : List (List ℤ)) → length xs ≡ 0 → xs ≡ []
     nothing [] is = refl
     nothing (x ∷ xs) is = absurd (omega arith)
-
--- the columns that are left, with one more
-pub columns-more : (mapping : Mapping) (dim : ℕ) (lowers : List ℤ) (extents : List ℕ) (column : List Run) (done : List (List Run)) → dim < length lowers
-    → length lowers ≡ length extents → column ≡ column_of mapping dim (get_or lowers dim (pos 0)) (get_or extents dim 0)
-    → (done ++ column ∷ []) ++ columns_of mapping (dim + 1) (drop (dim + 1) lowers) (drop (dim + 1) extents)
-    ≡ done ++ columns_of mapping dim (drop dim lowers) (drop dim extents)
-columns-more mapping dim lowers extents column done within same is =
-    append_assoc done (column ∷ []) (columns_of mapping (dim + 1) (drop (dim + 1) lowers) (drop (dim + 1) extents))
-    ∙ ap (λ c. done ++ c ∷ columns_of mapping (dim + 1) (drop (dim + 1) lowers) (drop (dim + 1) extents)) is
-    ∙ sym (ap (λ ls. done ++ columns_of mapping dim ls (drop dim extents)) (drop_more lowers dim (pos 0) within)
-    ∙ ap (λ es. done ++ columns_of mapping dim (get_or lowers dim (pos 0) ∷ drop (dim + 1) lowers) es) (drop_more extents dim 0 (omega arith)))
 
 -- each column has a run a node
 pub column-long : (mapping : Mapping) (node k : ℕ) (lowers : List ℤ) (extents : List ℕ) → node < product mapping.grid

@@ -1,12 +1,9 @@
 -- Laws on sections of positions.
-use Rattle.std.proofs.Common.{◌≡◌, ℕ, zero, suc, ◌+◌, ◌-◌, ◌<◌, ◌≤◌, ◌⊎◌, inl, inr, Bool, true, false, cond, List, ◌∷◌, ◌++◌, refl, sym, ◌∙◌, ap, arith, min, max}
-use Rattle.std.proofs.lemmas.List.{append-nil}
-use Rattle.std.proofs.lemmas.Bool.{cases_lt}
+use Rattle.std.proofs.Common.{◌≡◌, ℕ, zero, suc, ◌+◌, ◌-◌, ◌<◌, ◌≤◌, ◌⊎◌, inl, inr, Bool, true, false, cond, List, ◌∷◌, refl, sym, ◌∙◌, ap, arith, min, max}
 use Rattle.std.proofs.lemmas.Bool.Decides.{nat_tests}
 use Rattle.std.specs.Prelude.{filter}
 use Rattle.std.specs.List.{range_with_len}
-use Rattle.hpf_base.proofs.Ranges.{range_with_len-add}
-use Rattle.mappings.specs.Positions.{in_section, positions, section}
+use Rattle.mappings.specs.Positions.{in_section}
 
 -- two tests that are true together are one
 pub same_test : (a b : Bool) → (a ≡ true → b ≡ true) → (b ≡ true → a ≡ true) → a ≡ b
@@ -55,33 +52,3 @@ filter-range P lo (suc n) a b same =
     ap (λ t. cond t (lo ∷ filter P (range_with_len (lo + 1) n)) (filter P (range_with_len (lo + 1) n))) (same lo (omega arith) (omega arith))
     ∙ filter-range_front (in_section a b lo) lo n a b (filter P (range_with_len (lo + 1) n)) refl
     (filter-range P (lo + 1) n a b (λ j l u. same j (omega arith) (omega arith)))
-
--- a test that is true in a section of the positions keeps that section
-pub filter-positions : (P : ℕ → Bool) (extent a b : ℕ) → 1 ≤ a → b ≤ extent
-    → ((j : ℕ) → 1 ≤ j → j ≤ extent → P j ≡ in_section a b j) → filter P (positions extent) ≡ section a b
-filter-positions P extent a b begins ends same =
-    let at : max 1 a ≡ a = omega arith in
-    let count : min (1 + (extent + 1 - 1)) (b + 1) - max 1 a ≡ b + 1 - a = omega arith in
-    filter-range P 1 (extent + 1 - 1) a b (λ j l u. same j l (omega arith))
-    ∙ ap (range_with_len (max 1 a)) count ∙ ap (λ k. range_with_len k (b + 1 - a)) at
-
--- the part of a section up to one place, and then that up to a further place
-pub section-join : (a b k k' : ℕ) → k ≤ k' → section a (min b k) ++ section (max a (k + 1)) (min b k') ≡ section a (min b k')
-section-join a b k k' order = cases (cases_lt k a) (cases_lt b k)
-  where
-    cases : (k < a) ⊎ (a ≤ k) → (b < k) ⊎ (k ≤ b)
-        → section a (min b k) ++ section (max a (k + 1)) (min b k') ≡ section a (min b k')
-    cases (inl before) _ =
-        let none : min b k + 1 - a ≡ 0 = omega arith in
-        let at : max a (k + 1) ≡ a = omega arith in
-        rw (none, at) refl
-    cases (inr within) (inl all) =
-        let none : min b k' + 1 - max a (k + 1) ≡ 0 = omega arith in
-        let same : min b k ≡ min b k' = omega arith in
-        rw (none, same) (append-nil _)
-    cases (inr within) (inr some) =
-        let first : min b k + 1 - a ≡ k + 1 - a = omega arith in
-        let at : max a (k + 1) ≡ a + (k + 1 - a) = omega arith in
-        let last : min b k' + 1 - (a + (k + 1 - a)) ≡ min b k' - k = omega arith in
-        let whole : min b k' + 1 - a ≡ k + 1 - a + (min b k' - k) = omega arith in
-        rw (first, at, last, whole) (sym (range_with_len-add a (k + 1 - a) (min b k' - k)))

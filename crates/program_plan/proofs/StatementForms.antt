@@ -12,16 +12,9 @@ use Rattle.syntax_tree.specs.Expression.{expression}
 use Rattle.syntax_tree.specs.Statement as syntax
 use Rattle.syntax_tree.specs.Statement.{assignments_of, axis}
 use Rattle.syntax_tree.proofs.Rows.{arms_vec, assignments_vec, block_vec}
-use Rattle.array_meaning.specs.Statements.{Arm, Arms, Do, Done, If, NoArm, Statement, Then, Unmarked, Where}
+use Rattle.array_meaning.specs.Statements.{Arm, Done, If, Unmarked, Where}
 use Rattle.array_meaning.specs.Resolution.{inner_mark, resolved, resolved_arms, resolved_block, section_assignments, term_of, with_inner_unmarked}
-use Rattle.resolved_program.specs.declared.statements.Statement.{Statement as HeldStatement}
-use Rattle.resolved_program.specs.declared.terms.Term.{Term as HeldTerm}
-use Rattle.resolved_program.specs.declared.statements.Arm.{Arm as PlannedArm}
-use Rattle.resolved_program.specs.declared.statements.Action.TheViews.{roll-Arm, rolls-struct-Arm}
-use Rattle.resolved_program.specs.Made.{before}
-use Rattle.program_plan.specs.Nests.{with_nest}
-use Rattle.resolved_program.specs.Resolved.{arms_of, block_of, statement, term, with_arm}
-use Rattle.resolved_program.proofs.Rows as plan
+use Rattle.resolved_program.specs.Resolved.{arms_of, block_of, statement}
 use Rattle.program_plan.proofs.NestLaws.{two}
 
 -- ---- statements of a tree
@@ -68,11 +61,6 @@ resolved_arm names a as' =
     ∙ ap (λ b. Arm (out-Arm a).line (term_of names [] (expression (out-Arm a).cond)) (resolved_block names b) (resolved_arms names (syntax.arms_of as'))) (block_vec (out-Arm a).body)
 
 -- ---- loops that aren't marked
-
--- a block of one statement
-pub unmarked_one : (line : ℕ) (s : Statement) → Then line (with_nest None s) Done ≡ with_inner_unmarked (Then line s Done)
-unmarked_one line (Do m l b) = refl
-unmarked_one line s = refl
 
 -- a block that isn't one statement
 pub other_count : (names : List Entry) (ss : List Stmt) → (length ss ≡ 1 → ⊥) →

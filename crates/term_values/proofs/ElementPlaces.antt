@@ -112,14 +112,6 @@ place_is ds is dims = cases (element_place ds is) (place_below ds is) where
 
 -- ---- one subscript
 
-pub one_place : (ds : List Dim) (i : ℤ) (d : Dim) → length ds ≡ 1 → offset (slice_index_or ds 0 d) i ≡ element_place ds (i ∷ [])
-one_place [] i d h = let f : ⊥ = omega (arith, h) in absurd f
-one_place (x ∷ []) i d h = joined_none (extent x) (offset x i) where
-  joined_none : (e : ℕ) (first : Option ℕ) → first ≡ joined e first (Some 0)
-  joined_none e None = refl
-  joined_none e (Some k) = ap Some (omega arith)
-one_place (x ∷ y ∷ ds) i d h = let f : ⊥ = omega (arith, h) in absurd f
-
 -- ---- two subscripts
 
 pub first_out : (ds : List Dim) (i j : ℤ) (d : Dim) → length ds ≡ 2 → offset (slice_index_or ds 0 d) i ≡ None → element_place ds (i ∷ j ∷ []) ≡ None

@@ -8,11 +8,8 @@ use Rattle.array_meaning.specs.State.{State}
 use Rattle.term_values.specs.declared.array_values.Elemental.{Elemental as HeldElemental}
 use Rattle.term_values.specs.declared.array_values.Elemental.TheVariants as held
 use Rattle.term_values.specs.declared.array_values.Elemental.TheBlock.{Row_of-Elemental, end_of-Elemental, more_of-Elemental, items-the_row-Elemental, hidden-the_row-Elemental-0, items_hidden-the_row-Elemental-0}
-use Rattle.term_values.specs.declared.stops.Stop.{Stop}
 use Rattle.term_values.specs.Parts.{operation_at}
-use Rattle.term_values.specs.Stops.{IsStop}
 use Rattle.term_values.specs.Views.{elemental, elementals, elementals_of}
-use Rattle.term_values.proofs.InOrder.{stop_stays}
 
 elementals_items : {m : _} (row : Row_of-Elemental m) → elementals row ≡ elementals_of (items-the_row-Elemental m row)
 elementals_items end_of-Elemental = refl
@@ -32,10 +29,6 @@ before_operands xs r = r >>= (λ ys. Ok (operands_before xs ys))
 abbrev one_more : Result Elemental Cause → Result Elementals Cause → Result Elementals Cause
 one_more r rs = r >>= (λ x. rs >>= (λ xs. Ok (Operand x xs)))
 
-pub no_operand : (r : Result Elementals Cause) → r ≡ before_operands [] r
-no_operand (Ok xs) = refl
-no_operand (Err e) = refl
-
 joined : (xs : List HeldElemental) (x : HeldElemental) (ys : Elementals) → operands_before xs (Operand (elemental x) ys) ≡ operands_before (xs ++ x ∷ []) ys
 joined [] x ys = refl
 joined (y ∷ xs) x ys = ap (Operand (elemental y)) (joined xs x ys)
@@ -47,10 +40,6 @@ operand_after xs r rs x h = ap (λ r. before_operands xs (one_more r rs)) h ∙ 
   cases : (rs : Result Elementals Cause) → before_operands xs (one_more (Ok (elemental x)) rs) ≡ before_operands (xs ++ x ∷ []) rs
   cases (Ok ys) = ap Ok (joined xs x ys)
   cases (Err e) = refl
-
-pub operand_stop : (xs : List HeldElemental) (r : Result Elemental Cause) (rs : Result Elementals Cause) (e : Stop) → IsStop r e →
-    IsStop (before_operands xs (r >>= (λ x. rs >>= (λ xs. Ok (Operand x xs))))) e
-operand_stop xs r rs e h = stop_stays (one_more r rs) (λ ys. Ok (operands_before xs ys)) e (stop_stays r (λ x. rs >>= (λ xs. Ok (Operand x xs))) e h)
 
 -- no operand is left
 pub all_operands : (xs : List HeldElemental) → before_operands xs (Ok NoOperand) ≡ Ok (elementals_of xs)

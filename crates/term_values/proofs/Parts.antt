@@ -1,17 +1,15 @@
 -- The parts of an evaluation are those of an expression.
-use Rattle.std.proofs.Common.{◌≡◌, ℕ, List, ◌∷◌, ℤ, refl, ap, sym, ◌∙◌, Global}
+use Rattle.std.proofs.Common.{◌≡◌, ℕ, List, ℤ, ap, sym, ◌∙◌, Global}
 use Rattle.std.specs.Prelude.{Vec}
 use Rattle.op_tables.specs.declared.op.Op.{Op}
 use Rattle.resolved_program.specs.declared.terms.Term.{Term as HeldTerm}
 use Rattle.resolved_program.specs.declared.terms.Term.TheVariants as held
 use Rattle.resolved_program.specs.declared.terms.SectionSubscript.{SectionSubscript as HeldSubscript}
-use Rattle.resolved_program.specs.declared.terms.SectionSubscript.TheBlock.{Subscript as Subscript', Triplet as Triplet'}
 use Rattle.resolved_program.specs.Resolved.{term, terms_of, subscripts_of}
 use Rattle.resolved_program.proofs.Rows.{element_vec, section_vec, apply_vec}
-use Rattle.array_meaning.specs.Faults.{with_more}
-use Rattle.array_meaning.specs.Expressions.{value, elemental, selections}
+use Rattle.array_meaning.specs.Expressions.{value, elemental}
 use Rattle.array_meaning.specs.State.{State}
-use Rattle.term_values.specs.Parts.{element_value, operation, operation_value, same, selected, selection}
+use Rattle.term_values.specs.Parts.{element_value, operation, operation_value, same, selected}
 
 module _ (indices : List ℤ) (s : State) where
   pub element_value_is : (t : HeldTerm) (a : ℕ) (ts : Vec HeldTerm Global) → t ≡ held.Element a ts → element_value indices s a (terms_of ts.items) ≡ value indices s (term t)
@@ -28,8 +26,3 @@ module _ (indices : List ℤ) (s : State) where
 
   pub operation_is : (t : HeldTerm) (o : Op) (ts : Vec HeldTerm Global) → t ≡ held.Apply o ts → operation indices s o (terms_of ts.items) ≡ elemental indices s (term t)
   operation_is t o ts is = ap (elemental indices s) (sym (apply_vec o ts) ∙ ap term (sym is))
-
-  -- one subscript of a section, and those after it
-  pub one_selection : (d : HeldSubscript) (ds : List HeldSubscript) → selections indices s (subscripts_of (d ∷ ds)) ≡ with_more (selection indices s d) (selections indices s (subscripts_of ds))
-  one_selection (Subscript' t) ds = refl
-  one_selection (Triplet' a b c) ds = refl

@@ -1,5 +1,5 @@
 -- The tokens of a line, one piece after another.
-use Rattle.std.proofs.Common.{◌≡◌, ℕ, ◌+◌, ◌-◌, ◌≤◌, Bool, false, ◌||◌, List, [], ◌∷◌, ◌++◌, length, take, drop, refl, ap, subst, ◌∙◌, arith}
+use Rattle.std.proofs.Common.{◌≡◌, ℕ, ◌+◌, ◌-◌, ◌≤◌, Bool, false, ◌||◌, List, ◌∷◌, ◌++◌, length, take, drop, refl, ap, subst, ◌∙◌, arith}
 use Rattle.std.specs.List.{list_any}
 use Rattle.std.proofs.lemmas.List.{take_rest, drop-drop, length-take, length-drop}
 use Rattle.source_lines.specs.declared.token.Token.{Token}
@@ -19,9 +19,6 @@ pub record IsScanned (bytes : List ℕ) (place : ℕ) (found : List Token) (past
   pub bad : any_after is_no_token bytes 0 ≡ any_after is_no_token bytes place
   pub limit : any_after is_past_limit bytes 0 ≡ (past_limit || any_after is_past_limit bytes place)
   pub given : past_limit ≡ false → tokens bytes ≡ found ++ tokens_from place (pieces (drop place bytes))
-
-pub scanned_none : (bytes : List ℕ) → IsScanned bytes 0 [] false
-scanned_none bytes = record { within = omega arith; bad = refl; limit = refl; given = λ h. refl }
 
 -- a blank more, as it is read of the bytes after the place
 pub scanned_blank : (bytes all : List ℕ) (place : ℕ) (found : List Token) (past_limit : Bool) (read : Piece) → IsScanned all place found past_limit

@@ -96,9 +96,6 @@ after-below m ps after some all k d within =
         let most : w * (k + 1) ≤ w * rows = mul-le-mul_left w (let a : k + 1 ≤ rows = omega (arith, lt) in a) in
         omega (arith, most, some)
 
-abbrev pub is_empty : List ℕ → Bool
-is_empty ps = length ps == 0
-
 pub all-some : {V : Type 0} (items : V → List ℕ) (vs : List V) → list_any (λ v. length (items v) == 0) vs ≡ false → All (λ ps. 0 < length ps) (map items vs)
 all-some items [] none = All-nil (λ ps. 0 < length ps)
 all-some items (v ∷ vs) none =
