@@ -1,3 +1,4 @@
+-- Of the claim.
 -- Which programs keep the rules, and what the others are refused for.
 use Rattle.std.specs.Prelude.{ℕ, List}
 use Rattle.hpf_base.specs.declared.refusal.Refusal.{Refusal}

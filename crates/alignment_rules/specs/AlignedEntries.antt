@@ -1,3 +1,4 @@
+-- Of a promise.
 -- The alignment of an alignee whose ALIGN breaks no rule.
 use Rattle.std.specs.Prelude.{◌≡◌, ℕ, ℤ, ◌≤ℤ◌, ⊤, All, AllPairs, List, [], ◌∷◌, length, map, Option, Some}
 use Rattle.mappings.specs.Alignment.{aligned}

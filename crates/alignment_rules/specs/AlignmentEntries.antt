@@ -1,3 +1,4 @@
+-- Of the claim.
 -- What the dimensions of an align target are given for an element of the alignee (HPF 2.0, 3.4).
 use Rattle.std.specs.Prelude.{ℕ, zero, suc, Bool, true, false, ◌||◌, nat_lt, bytes_eq, unsigned_abs, List, [], ◌∷◌, length, drop, ℤ, ◌-ℤ◌, ◌*ℤ◌, Option, Some, None, if◌then◌else◌}
 use Rattle.std.specs.List.{list_any}

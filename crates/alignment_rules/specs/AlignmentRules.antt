@@ -1,3 +1,4 @@
+-- Of the claim.
 -- The rules of ALIGN (HPF 2.0, 3.4).
 use Rattle.std.specs.Prelude.{ℕ, ◌==◌, Bool, true, false, ◌&&◌, ◌||◌, not, int_le, int_div, List, [], ◌∷◌, ◌++◌, map, filter, length, ℤ, ◌+ℤ◌, ◌-ℤ◌, ◌*ℤ◌, Option, Some, None, if◌then◌else◌}
 use Rattle.std.specs.List.{list_any, list_all, flat_map}

@@ -1,3 +1,4 @@
+-- Of the claim.
 -- What an ALIGN says, with the values of its expressions (HPF 2.0, 3.4).
 use Rattle.std.specs.Prelude.{ℕ, List, [], ◌∷◌, length, replicate, drop, ℤ, pos, Option, Some, None, option_map}
 use Rattle.syntax_tree.specs.Expression.{Part, One, Range, Glued, Maybe, Absent, Present}

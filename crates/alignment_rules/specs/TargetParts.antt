@@ -1,3 +1,4 @@
+-- Of private clauses.
 -- What private contracts see of align targets. No public clause cites this file.
 use Rattle.std.specs.Prelude.{pos, Option, Some}
 use Rattle.expression_rules.specs.declared.dims.Dim.{Dim}

@@ -1,3 +1,4 @@
+-- Of private clauses.
 -- What private contracts see of the entries of alignments, whose numbers are wide until they are within the limits. No public clause cites
 -- this file.
 use Rattle.std.specs.Prelude.{◌+◌, ◌^◌, ◌≤ℤ◌, ⊤, pos, neg_ℤ, ◌∷◌, [], ◌++◌, Option, Some, None, if◌then◌else◌}

@@ -1,3 +1,4 @@
+-- Of the claim.
 -- Which letters pass between two nodes.
 use Rattle.std.specs.Prelude.{ℕ}
 use Rattle.pair_mailbox.specs.declared.route.Route.{Route}

@@ -1,3 +1,4 @@
+-- Of private clauses.
 -- One row of ends at a time, and rows transposed. Only private contracts cite this file.
 use Rattle.std.specs.Prelude.{◌≡◌, ℕ, List, [], ◌∷◌, ◌++◌, length, map, Some}
 use Rattle.std.specs.List.{slice_get}

@@ -1,3 +1,4 @@
+-- Of a promise.
 -- Rows of ends: the queues between all ordered pairs of so many nodes. The ends of sources stand by the source and then by the target, those of targets by the target and then by
 -- the source.
 use Rattle.std.specs.Prelude.{◌≡◌, ℕ, ◌+◌, ◌*◌, List, [], ◌++◌, length, map, Option, Some, None}

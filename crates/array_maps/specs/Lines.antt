@@ -1,3 +1,4 @@
+-- Of the claim.
 -- What the redistributions of a line do. A directive line holds one directive, and so a redistribution is known by its line (HPF 2.0, 8.3).
 use Rattle.std.specs.Prelude.{ℕ, nat_eq, List, [], if◌then◌else◌}
 use Rattle.std.specs.List.{flat_map}

@@ -1,3 +1,4 @@
+-- Of a promise.
 -- Which mappings serve a program that runs on so many nodes.
 use Rattle.std.specs.Prelude.{◌≡◌, ℕ, ◌<◌, List, length, All, AllPairs, Some, slice_get}
 use Rattle.hpf_base.specs.declared.index.Shape.{Shape}

@@ -1,3 +1,4 @@
+-- Of the claim.
 -- Whether iterations interfere (HPF 2.0, 5.1): two of them touch one object, and one of them writes it.
 use Rattle.std.specs.Prelude.{ℕ, zero, suc, nat_eq, nat_lt, List, [], ◌∷◌, Bool, ◌&&◌, ◌||◌, if◌then◌else◌, Option, Some, None, option_map}
 use Rattle.std.specs.List.{list_any, filter}

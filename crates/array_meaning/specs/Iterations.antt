@@ -1,3 +1,4 @@
+-- Of the claim.
 -- The iterations of a nest of INDEPENDENT loops (HPF 2.0, 5.1): the values of its indices, and the state in an iteration.
 use Rattle.std.specs.Prelude.{ℕ, zero, suc, nat_eq, List, [], ◌∷◌, ◌++◌, map, reverse, ℤ, pos, Bool}
 use Rattle.std.specs.List.{list_any}

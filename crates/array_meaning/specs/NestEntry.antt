@@ -1,3 +1,4 @@
+-- Of the claim.
 -- The entry of a nest of INDEPENDENT loops (HPF 2.0, 5.1): its limits, and whether two of its iterations interfere.
 use Rattle.std.specs.Prelude.{ℕ, ◌%◌, ◌/◌, List, [], ◌∷◌, ℤ, pos, ◌+ℤ◌, ◌==◌, if◌then◌else◌, Option, Some, None, Result, Ok, Err}
 use Rattle.name_table.specs.Dim.{Dim}

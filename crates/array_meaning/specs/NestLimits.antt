@@ -1,3 +1,4 @@
+-- Of the claim.
 -- The limits of a nest: its indices, its subscripts, and how many tuples each statement has.
 use Rattle.std.specs.Prelude.{ℕ, ◌*◌, nat_le, List, [], ◌∷◌, ◌++◌, ℤ, pos, ◌-ℤ◌, Bool, true, ◌&&◌, ◌||◌, ◌==◌}
 use Rattle.std.specs.List.{list_all}

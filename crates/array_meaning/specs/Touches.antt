@@ -1,3 +1,4 @@
+-- Of the claim.
 -- What an iteration of a nest touches (HPF 2.0, 5.1): the scalars and the elements that it reads or writes, but for those that each iteration
 -- has of its own.
 use Rattle.std.specs.Prelude.{ℕ, List, [], ◌∷◌, ◌++◌, ℤ, Bool, true, false, ◌&&◌, not, if◌then◌else◌, Option, Some, None, Result, Ok, Err}

@@ -1,3 +1,4 @@
+-- Of a promise.
 -- How many places of each axis pass a test.
 use Rattle.std.specs.Prelude.{ℕ, ◌+◌, Bool, List, [], ◌∷◌, filter, length}
 use Rattle.std.specs.List.{range_with_len}

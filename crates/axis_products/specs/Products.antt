@@ -1,3 +1,4 @@
+-- Of a promise.
 -- Tuples of a space by their places on its axes. Places count from 0, and the first axis is the fastest.
 use Rattle.std.specs.Prelude.{ℕ, ◌+◌, ◌*◌, ◌/◌, ◌%◌, Bool, true, ◌&&◌, List, [], ◌∷◌, filter, map}
 use Rattle.std.specs.List.{flat_map, range_with_len}

@@ -1,3 +1,4 @@
+-- Of a promise.
 -- Tests of tuples that ask each axis by itself, beside something that is the same at all tuples.
 use Rattle.std.specs.Prelude.{◌≡◌, ℕ, Bool, true, false, ◌&&◌, if◌then◌else◌, List, [], Option, Some, None}
 use Rattle.axis_products.specs.Products.{combined, each, passing, places_at}

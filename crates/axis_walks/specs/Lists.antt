@@ -1,3 +1,4 @@
+-- Of a promise.
 -- Lists of places, one an axis.
 use Rattle.std.specs.Prelude.{ℕ, ◌<◌, ⊤, All, List, [], ◌∷◌}
 

@@ -1,3 +1,4 @@
+-- Of private clauses.
 -- No public clause cites this file.
 -- Tuples with one axis more, by their numbers.
 use Rattle.std.specs.Prelude.{◌≡◌, ℕ, ◌+◌, ◌*◌, ◌<◌, ◌==◌, Bool, ◌&&◌, not, All, List, map}

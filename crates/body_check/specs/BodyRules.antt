@@ -1,3 +1,4 @@
+-- Of the claim.
 -- The rules of bodies over all statements of a program.
 use Rattle.std.specs.Prelude.{List, ◌++◌}
 use Rattle.std.specs.List.{flat_map}

@@ -1,3 +1,4 @@
+-- Of the claim.
 -- The rules of FORALL (Fortran 95, 7.5.4): its header names none of its indices, and its subscripts are linear. That no reduction stands
 -- in it is a restriction of this language.
 use Rattle.std.specs.Prelude.{Bool, true, false, ◌&&◌, not, List, []}

@@ -1,3 +1,4 @@
+-- Of a promise.
 -- What private contracts see of the bounds and the step of an index. Of public clauses only that of `axis_passes` cites this file.
 use Rattle.std.specs.Prelude.{[], Option, option_map}
 use Rattle.syntax_tree.specs.declared.expr.Expr.{Expr}

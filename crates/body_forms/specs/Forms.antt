@@ -1,3 +1,4 @@
+-- Of private clauses.
 -- What private contracts see of a subscript that is taken apart. No public clause cites this file.
 use Rattle.std.specs.Prelude.{Bool, true, false, bytes_eq, List, [], ◌∷◌, Option, Some, None, if◌then◌else◌}
 use Rattle.std.specs.List.{list_all}

@@ -1,3 +1,4 @@
+-- Of the claim.
 -- What the names in a body stand for.
 use Rattle.std.specs.Prelude.{Bool, true, false, ◌||◌, ◌&&◌, not, List, Option, Some}
 use Rattle.expression_rules.specs.Symbols.{Name, is_among}

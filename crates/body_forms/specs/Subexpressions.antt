@@ -1,3 +1,4 @@
+-- Of the claim.
 -- The expressions inside an expression (Fortran 95, 7.1.1).
 use Rattle.std.specs.Prelude.{Bool, List, [], ◌∷◌, ◌++◌}
 use Rattle.std.specs.List.{list_all}

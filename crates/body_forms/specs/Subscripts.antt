@@ -1,3 +1,4 @@
+-- Of the claim.
 -- The subscripts that the bodies of FORALL and of INDEPENDENT loops may have, a restriction of this language: `a*x + c` in one index x,
 -- where a and c don't depend on an index.
 use Rattle.std.specs.Prelude.{Bool, true, false, bytes_eq, List, [], ◌∷◌, ◌++◌, Option, Some, None, if◌then◌else◌}

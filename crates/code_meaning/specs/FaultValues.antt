@@ -1,3 +1,4 @@
+-- Of the claim.
 -- Faults as values of letters: they are read back from their numbers.
 use Rattle.std.proofs.Common.{◌≡◌, ℤ, List, ◌++◌, length, take, drop, Option, Some, None, refl, ap, ◌∙◌}
 use Rattle.std.proofs.Math.Seq.{take-append_seam, drop-append_seam}

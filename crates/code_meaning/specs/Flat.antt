@@ -1,3 +1,4 @@
+-- Of the claim.
 -- The values of expressions over the slots.
 use Rattle.std.specs.Prelude.{ℕ, List, [], slice_index_or, ℤ, pos, Result, Ok, Err}
 use Rattle.node_code.specs.Faults.{Cause, ◌>>=◌, with_more}

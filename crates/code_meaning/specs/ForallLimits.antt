@@ -1,3 +1,4 @@
+-- Of the claim.
 -- The limits of a FORALL, and assignments of it that meet, by the slots.
 use Rattle.std.specs.Prelude.{ℕ, ◌==◌, List, [], ◌∷◌, map, ℤ, pos, Bool, ◌||◌, Result, Ok, if◌then◌else◌}
 use Rattle.hpf_base.specs.ElementOrder.{product}

@@ -1,3 +1,4 @@
+-- Of the claim.
 -- What subscripts and array expressions over the slots are in the meaning, by the slots.
 use Rattle.std.specs.Prelude.{ℕ, ◌+◌, List, [], ◌∷◌, ℤ}
 use Rattle.op_tables.specs.Operators.{wrapped}

@@ -1,3 +1,4 @@
+-- Of the claim.
 -- The check of a nest of INDEPENDENT loops at its entry (HPF 2.0, 5.1), over the slots.
 use Rattle.std.specs.Prelude.{List, [], map, ℤ}
 use Rattle.node_code.specs.Dim.{Dim}

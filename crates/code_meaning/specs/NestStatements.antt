@@ -1,3 +1,4 @@
+-- Of the claim.
 -- What a parallel statement of a nest of INDEPENDENT loops (HPF 2.0, 5.1) does at an iteration, by the values of the elements and copies that it reads.
 use Rattle.std.specs.Prelude.{ℕ, ◌+◌, List, [], ◌∷◌, ◌++◌, length, take, drop, slice_index_or, ℤ, pos, Bool, true, ◌&&◌, Option, Some, option_map, Result}
 use Rattle.op_tables.specs.declared.reductions.Made.{Made}

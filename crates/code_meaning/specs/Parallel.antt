@@ -1,3 +1,4 @@
+-- Of the claim.
 -- Parallel statements of node code: what is done at each tuple of a space, by the slots and the values of the elements that are read.
 use Rattle.std.specs.Prelude.{ℕ, ◌+◌, List, [], ◌∷◌, ◌++◌, length, slice_index_or, ℤ, pos, Bool, true, false, not, Option, Some, None, option_map, Result, Ok, Err}
 use Rattle.op_tables.specs.declared.join.Join.{Join}

@@ -1,3 +1,4 @@
+-- Of the claim.
 -- The text of a program on nodes: instructions, each with what it knows of arrays and nodes, so that what a text means depends on
 -- nothing else.
 use Rattle.std.specs.Prelude.{ℕ, List, map}

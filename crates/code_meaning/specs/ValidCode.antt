@@ -1,3 +1,4 @@
+-- Of a promise.
 -- Valid node code: all that an instruction names is there, each array has a subscript for each of its dimensions, and operators that
 -- divide stand where a fault has a line.
 use Rattle.std.specs.Prelude.{◌≡◌, ℕ, ◌+◌, ◌<◌, ◌≤◌, nat_eq, List, [], ◌∷◌, map, length, slice_get, Bool, true, false, Option, Some, None, ⊤}

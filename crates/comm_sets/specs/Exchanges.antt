@@ -1,3 +1,4 @@
+-- Of a promise.
 -- What a node exchanges in the phase of a part.
 use Rattle.std.specs.Prelude.{◌≡◌, ℕ, List, filter, map}
 use Rattle.std.specs.List.{range_with_len}

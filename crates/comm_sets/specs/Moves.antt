@@ -1,3 +1,4 @@
+-- Of private clauses.
 -- What a redistribution sends, at one end.
 use Rattle.std.specs.Prelude.{ℕ, Bool, List}
 use Rattle.storage.specs.Storage.{Spot}

@@ -1,3 +1,4 @@
+-- Of a promise.
 -- Lists of elements, one for each node.
 use Rattle.std.specs.Prelude.{◌≡◌, ℕ, ◌<◌, ◌||◌, Bool, List, [], length, slice_index_or}
 use Rattle.storage.specs.Storage.{Spot}

@@ -1,3 +1,4 @@
+-- Of private clauses.
 -- No public clause cites this file. The tables of the mappings that arrays get.
 use Rattle.std.specs.Prelude.{ℕ, List, [], map, slice_index_or}
 use Rattle.std.specs.List.{flat_map}

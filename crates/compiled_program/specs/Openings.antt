@@ -1,3 +1,4 @@
+-- Of a promise.
 -- What contracts see of a compiled program.
 use Rattle.std.specs.Arc.{arc_value}
 use Rattle.array_meaning.specs.Faults.{Fault}

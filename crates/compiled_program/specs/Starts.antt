@@ -1,3 +1,4 @@
+-- Of private clauses.
 -- No public clause cites this file.
 -- What a run begins with.
 use Rattle.std.specs.Prelude.{ℕ, List, [], ◌∷◌, ℤ, pos}

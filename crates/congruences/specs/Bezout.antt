@@ -1,3 +1,4 @@
+-- Of a promise.
 -- The greatest common divisor of two integers, as a sum of multiples of them.
 use Rattle.std.specs.Int.{IsGcd}
 use Rattle.std.specs.Prelude.{unsigned_abs, ◌≡◌, ℕ, pos, ℤ, ◌+ℤ◌, ◌*ℤ◌}

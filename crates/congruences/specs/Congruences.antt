@@ -1,3 +1,4 @@
+-- Of a promise.
 -- Congruences of integers, and the greatest common divisor of two.
 use Rattle.std.specs.Int.{int_rem_euclid, IsGcd}
 use Rattle.std.specs.Prelude.{unsigned_abs, ◌/◌, ◌%◌, ◌≡◌, ℕ, ◌*◌, ◌<◌, ◌≤◌, ℤ, pos, ◌+ℤ◌, ◌*ℤ◌, Option, Some, None}

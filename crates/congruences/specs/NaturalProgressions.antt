@@ -1,3 +1,4 @@
+-- Of private clauses.
 -- Arithmetic progressions of natural numbers. Only private contracts cite this file.
 use Rattle.std.specs.Prelude.{◌≡◌, ℕ, ◌+◌, ◌*◌, ◌<◌, ◌≤◌, Option, Some, None}
 use Rattle.congruences.specs.declared.natural_meeting.NaturalProgression.{NaturalProgression}

@@ -1,3 +1,4 @@
+-- Of a promise.
 -- Congruences of natural numbers, which the calls work with.
 use Rattle.std.specs.Prelude.{◌≡◌, ℕ, ◌+◌, ◌*◌, ◌/◌, ◌%◌, ◌<◌}
 

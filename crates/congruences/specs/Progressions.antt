@@ -1,3 +1,4 @@
+-- Of a promise.
 -- Arithmetic progressions of integers.
 use Rattle.std.specs.Prelude.{◌≡◌, ℕ, ◌-◌, ◌<◌, ◌≤◌, ℤ, pos, neg_ℤ, ◌+ℤ◌, ◌*ℤ◌, ◌≤ℤ◌, Option, Some, None}
 use Rattle.congruences.specs.declared.progressions.Progression.{Progression}

@@ -1,3 +1,4 @@
+-- Of private clauses.
 -- Progressions seen from a number at or before their first members. Only private contracts cite this file.
 use Rattle.std.specs.Prelude.{◌≡◌, ℕ, ◌+◌, ◌-◌, ◌*◌, ◌≤◌, ℤ, pos, ◌+ℤ◌}
 use Rattle.congruences.specs.declared.natural_meeting.NaturalProgression.{NaturalProgression}

@@ -1,3 +1,4 @@
+-- Of private clauses.
 -- No public clause cites this file. Blocks, arms and single statements of trees, as lines spell them.
 use Rattle.std.specs.Prelude.{ℕ, nat_eq, Bool, true, false, not, ◌&&◌, List, [], ◌∷◌, Option, Some, None, Vec}
 use Rattle.std.proofs.Common.{Global}

@@ -1,3 +1,4 @@
+-- Of private clauses.
 -- No public clause cites this file. The lines of a draft, and what may stand after them.
 use Rattle.std.specs.Prelude.{◌≡◌, ℕ, Bool, true, false, ◌||◌, List, [], ◌∷◌, ◌++◌, Option, Some, None, IfSome, is_some, option_map}
 use Rattle.syntax_tree.specs.declared.decl.EndForm.{EndForm}

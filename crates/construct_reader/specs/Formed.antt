@@ -1,3 +1,4 @@
+-- Of the claim.
 -- Which programs are ones that their lines can spell.
 use Rattle.std.specs.Prelude.{◌≡◌, Bool, true, false, List, [], ◌∷◌}
 use Rattle.construct_rules.specs.declared.role.Construct.TheVariants as construct

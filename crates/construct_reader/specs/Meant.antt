@@ -1,3 +1,4 @@
+-- Of the claim.
 -- What the lines of a program mean: its abstract syntax.
 use Rattle.std.specs.Prelude.{ℕ, Bool, true, false, List, [], ◌∷◌, map, Option, Some, None, option_map}
 use Rattle.std.proofs.Common.{inl, inr}

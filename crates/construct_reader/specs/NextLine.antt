@@ -1,3 +1,4 @@
+-- Of private clauses.
 -- No public clause cites this file. The lines of which a draft gets one more.
 use Rattle.std.specs.Prelude.{ℕ, Bool, true, false}
 use Rattle.syntax_tree.specs.declared.decl.EndForm.{EndForm}

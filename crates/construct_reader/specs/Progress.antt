@@ -1,3 +1,4 @@
+-- Of private clauses.
 -- No public clause cites this file. How far a program has been read.
 use Rattle.std.specs.Prelude.{◌≡◌, ℕ, true, false, List, [], ◌∷◌, ◌++◌, map, Option, Some, None, ◌⊎◌, if◌then◌else◌}
 use Rattle.hpf_base.specs.Refusal.{NoBreach}

@@ -1,3 +1,4 @@
+-- Of a promise.
 -- Which lines are said by lexemes.
 use Rattle.std.specs.Prelude.{◌≡◌, List, [], ◌∷◌}
 use Rattle.statement_reader.specs.Forms as statements

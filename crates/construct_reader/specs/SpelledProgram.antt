@@ -1,3 +1,4 @@
+-- Of the claim.
 -- Programs as their lines spell them, with each choice of spelling that a tree keeps (Fortran 95, 2.1, 7.5, 8.1 and 11.1;
 -- HPF 2.0, 5.1). What a program says is its abstract syntax, which `meant` gives.
 use Rattle.std.specs.Prelude.{ℕ, Bool, List, Option}

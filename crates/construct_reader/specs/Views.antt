@@ -1,3 +1,4 @@
+-- Of a promise.
 -- The program that the lines of a tree spell.
 use Rattle.std.specs.Prelude.{ℕ, nat_eq, Bool, true, false, not, ◌&&◌, if◌then◌else◌, List, [], ◌∷◌, map, Option, Some, None, option_map}
 use Rattle.syntax_tree.specs.declared.decl.Decl.{Decl}

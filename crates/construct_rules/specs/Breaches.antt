@@ -1,3 +1,4 @@
+-- Of the claim.
 -- The breaches of the rules of constructs, declarations and directives in a program's lines.
 use Rattle.std.specs.Prelude.{◌≡◌, ℕ, max, false, List, [], ◌∷◌, map, ◌⊎◌}
 use Rattle.hpf_base.specs.declared.refusal.Reason.{Reason}

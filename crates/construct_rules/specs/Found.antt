@@ -1,3 +1,4 @@
+-- Of private clauses.
 -- No public clause cites this file. How the first breach is found, one line after the other.
 use Rattle.std.specs.Prelude.{ℕ, zero, suc, ◌+◌, max, Bool, true, false, List, [], ◌∷◌, Option, Some, None, if◌then◌else◌}
 use Rattle.hpf_base.specs.declared.refusal.Reason.{Reason}

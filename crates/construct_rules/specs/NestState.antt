@@ -1,3 +1,4 @@
+-- Of the claim.
 -- The nest where a line stands: what the lines before it have opened and begun.
 use Rattle.std.specs.Prelude.{Bool, true, false, ◌||◌, ◌&&◌, not, List, [], ◌∷◌, if◌then◌else◌}
 use Rattle.std.specs.List.{list_any}

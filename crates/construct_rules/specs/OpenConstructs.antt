@@ -1,3 +1,4 @@
+-- Of private clauses.
 -- No public clause cites this file. Open constructs as they are held, with what is open round each of them.
 use Rattle.std.specs.Prelude.{◌≡◌, false, List, [], ◌∷◌, ◌++◌, map, reverse, Option, option_to_list}
 use Rattle.construct_rules.specs.declared.role.Construct.{Construct}

@@ -1,3 +1,4 @@
+-- Of the claim.
 -- The lines of a program as statements and directives.
 use Rattle.std.specs.Prelude.{ℕ, List, map}
 use Rattle.statement_reader.specs.Forms as statements

@@ -1,3 +1,4 @@
+-- Of the claim.
 -- What lines are to the lines round them.
 use Rattle.std.specs.Prelude.{Bool, true, false, ◌||◌, is_some}
 use Rattle.line_forms.specs.Grammar.{Value}

@@ -1,3 +1,4 @@
+-- Of the claim.
 -- The rules of constructs, declarations and directives, for one line (Fortran 95, 2.3, 7.5 and 8; HPF 2.0, 3 and 5.1).
 use Rattle.std.specs.Prelude.{◌≡◌, Bool, true, false, ◌||◌, ◌&&◌, not, List, [], ◌∷◌, length, nat_le}
 use Rattle.construct_rules.specs.declared.limits.TheConstants.{MAX_NESTING}

@@ -1,3 +1,4 @@
+-- Of a promise.
 -- What contracts see of courses, of linear forms and of references.
 use Rattle.std.specs.Prelude.{List, map}
 use Rattle.courses.specs.Courses.{Course, Fixed, Moving}

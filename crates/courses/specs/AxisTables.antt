@@ -1,3 +1,4 @@
+-- Of a promise.
 -- One axis of a space as a section of a line.
 use Rattle.std.specs.Prelude.{◌≡◌, ℕ, ◌+◌, ◌<◌, ◌≤◌, ◌&&◌, nat_le, nat_lt, filter, map, ℤ, pos, ◌+ℤ◌, ◌*ℤ◌, Some}
 use Rattle.std.specs.List.{range_with_len}

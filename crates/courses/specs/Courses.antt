@@ -1,3 +1,4 @@
+-- Of a promise.
 -- Subscripts that move along one axis of a space each.
 use Rattle.std.specs.Prelude.{ℕ, ◌+◌, ◌-◌, nat_le, List, [], ◌∷◌, slice_index_or, map, ℤ, pos, ◌+ℤ◌, ◌*ℤ◌, Bool, true, ◌&&◌, ◌||◌, if◌then◌else◌}
 use Rattle.op_tables.specs.Operators.{is_zero}

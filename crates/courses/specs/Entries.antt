@@ -1,3 +1,4 @@
+-- Of a promise.
 -- What a tuple of a space has for entries.
 use Rattle.std.specs.Prelude.{ℕ, List, [], ℤ, Option, Some, None}
 use Rattle.array_meaning.specs.declared.sections.Selection.{Selection}

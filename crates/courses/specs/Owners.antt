@@ -1,3 +1,4 @@
+-- Of a promise.
 -- Which node owns what is named at a tuple, as tests of each axis by itself.
 use Rattle.std.specs.Prelude.{◌≡◌, ℕ, ◌<◌, ◌==◌, true, ◌&&◌, List, length, All, slice_get, Some}
 use Rattle.mappings.specs.declared.mapping.Mapping.{Mapping}

@@ -1,3 +1,4 @@
+-- Of a promise.
 -- What is read and assigned at the tuples of a parallel statement, by the courses of the subscripts.
 use Rattle.std.specs.Prelude.{◌≡◌, ℕ, ◌+◌, ◌==◌, List, [], ◌∷◌, ◌++◌, length, map, ℤ, pos, Option, Some, None, option_map, if◌then◌else◌}
 use Rattle.expression_rules.specs.declared.dims.Dim.{Dim}

@@ -1,3 +1,4 @@
+-- Of a promise.
 -- Subscripts of a FORALL or a nest that are linear in one index.
 use Rattle.std.specs.Prelude.{◌≡◌, ℕ, ◌==◌, List, [], ◌∷◌, slice_index_or, ℤ, pos, ◌+ℤ◌, ◌-ℤ◌, ◌*ℤ◌, Option, Some, None, if◌then◌else◌}
 use Rattle.op_tables.specs.declared.op.Op.{Op}

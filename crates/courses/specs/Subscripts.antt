@@ -1,3 +1,4 @@
+-- Of a promise.
 -- Tests of subscripts, a dimension at a time, as tests of places, an axis at a time.
 use Rattle.std.specs.Prelude.{ℕ, ◌+◌, ◌<◌, ◌==◌, Bool, true, ◌&&◌, ◌||◌, not, List, [], ◌∷◌, slice_index, slice_index_or, map, ℤ, pos, ◌+ℤ◌, ◌*ℤ◌, ⊤, Some}
 use Rattle.std.specs.List.{list_all}

@@ -1,3 +1,4 @@
+-- Of private clauses.
 -- What a redistribution sends.
 use Rattle.std.specs.Prelude.{ℕ, ◌==◌, ◌&&◌, not, Bool, List}
 use Rattle.storage.specs.Storage.{Spot}

@@ -1,3 +1,4 @@
+-- Of the claim.
 -- The rules of names and constants in declarations (Fortran 95, 5 and 7.1.6): what each item breaks of them, with its line and
 -- the reason.
 use Rattle.std.specs.Prelude.{Bool, true, false, ◌&&◌, not, nat_lt, nat_le, List, [], ◌∷◌, ◌++◌, length, ℤ, Option, Some, None}

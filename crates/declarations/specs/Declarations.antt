@@ -1,3 +1,4 @@
+-- Of the claim.
 -- What declarations say of one name after the other, and the symbol table after them (Fortran 95, 5.1, 5.1.2.5 and 5.2.9; HPF 2.0,
 -- 3.6 and 3.7).
 use Rattle.std.specs.Prelude.{ℕ, ◌+◌, Bool, true, false, ◌||◌, nat_lt, unsigned_abs, List, [], ◌∷◌, ◌++◌, map, length, ℤ, pos, Option, Some, None, if◌then◌else◌}

@@ -1,3 +1,4 @@
+-- Of a promise.
 -- What private contracts see of declarations, which are taken one item after the other. No public clause cites this file.
 use Rattle.std.specs.Prelude.{ℕ, Bool, true, false, ◌+◌, ◌++◌, not, min, nat_lt, List, [], ◌∷◌, map, ℤ, Option, Some, None, option_map, Vec, if◌then◌else◌}
 use Rattle.std.specs.List.{list_all, list_any}

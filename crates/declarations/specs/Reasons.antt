@@ -1,3 +1,4 @@
+-- Of the claim.
 -- Reasons that hold, and breaches at a line.
 use Rattle.std.specs.Prelude.{ℕ, Bool, true, false, List, [], ◌∷◌, map}
 use Rattle.hpf_base.specs.declared.refusal.Reason.{Reason}

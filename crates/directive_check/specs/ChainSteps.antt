@@ -1,3 +1,4 @@
+-- Of private clauses.
 -- What private contracts see of alignments one after the other. No public clause cites this file.
 use Rattle.std.specs.Prelude.{◌≡◌, Bool, false, List}
 use Rattle.std.specs.List.{flat_map}

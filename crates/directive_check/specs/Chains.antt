@@ -1,3 +1,4 @@
+-- Of the claim.
 -- Alignments one after the other (HPF 2.0, 3.4): where an object's alignment leads, through the targets that are aligned themselves.
 use Rattle.std.specs.Prelude.{ℕ, zero, suc, Bool, true, false, ◌&&◌, ◌||◌, nat_lt, bytes_eq, unsigned_abs, is_some, List, [], ◌∷◌, length, map, Option, Some, None, if◌then◌else◌}
 use Rattle.mappings.specs.Alignment.{composed_align}

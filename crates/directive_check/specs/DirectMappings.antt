@@ -1,3 +1,4 @@
+-- Of private clauses.
 -- What private contracts see of the mappings that DISTRIBUTE gives. No public clause cites this file.
 use Rattle.std.specs.Prelude.{◌≡◌, ⊤, All, List, pos, unwrap_or}
 use Rattle.mappings.specs.declared.mapping.AlignDim.{AlignDim}

@@ -1,3 +1,4 @@
+-- Of private clauses.
 -- What private contracts see of the limits of declared names. No public clause cites this file.
 use Rattle.std.specs.Prelude.{⊤, ◌≤◌, length}
 use Rattle.hpf_base.specs.declared.limits.TheConstants.{MAX_RANK}

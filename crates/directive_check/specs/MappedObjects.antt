@@ -1,3 +1,4 @@
+-- Of the claim.
 -- The objects that DISTRIBUTE and ALIGN map, and those of DYNAMIC, one by one (HPF 2.0, 3.3, 3.4 and 8.5).
 use Rattle.std.specs.Prelude.{ℕ, ◌||◌, not, bytes_eq, find, List, [], ◌∷◌, ◌++◌, map, Option, option_map}
 use Rattle.std.specs.List.{flat_map}

@@ -1,3 +1,4 @@
+-- Of private clauses.
 -- What private contracts see of mapped objects, which are taken one after the other. No public clause cites this file.
 use Rattle.std.specs.Prelude.{◌≡◌, ⊤, ℕ, Bool, List, [], map, None}
 use Rattle.syntax_tree.specs.declared.decl.Decl.{Decl}

@@ -1,3 +1,4 @@
+-- Of the claim.
 -- The rules of mapping directives over a whole program (HPF 2.0, 3 and 8): what each part of it breaks of them, with its line and
 -- the reason.
 use Rattle.std.specs.Prelude.{ℕ, Bool, true, false, ◌&&◌, ◌||◌, not, List, [], ◌++◌, Option, Some, None}

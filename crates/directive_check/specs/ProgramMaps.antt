@@ -1,3 +1,4 @@
+-- Of the claim.
 -- The mappings of a program's arrays: at the start, and after each REDISTRIBUTE (HPF 2.0, 3 and 8.3). Where a rule is broken so that a
 -- mapping isn't known, the array counts as replicated; in a program that keeps the rules each mapping is known.
 use Rattle.std.specs.Prelude.{ℕ, suc, List, [], ◌∷◌, ◌++◌, map, pos, Option, Some, None, unwrap_or, if◌then◌else◌}

@@ -1,3 +1,4 @@
+-- Of private clauses.
 -- What private contracts see of the REDISTRIBUTEs among statements. No public clause cites this file.
 use Rattle.std.specs.Prelude.{ℕ, List, [], ◌∷◌, map}
 use Rattle.std.specs.List.{flat_map}

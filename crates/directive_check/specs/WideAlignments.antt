@@ -1,3 +1,4 @@
+-- Of private clauses.
 -- What private contracts see of alignments one after the other, in numbers of a limited size. No public clause cites this file.
 use Rattle.std.specs.Prelude.{ℕ, zero, suc, Bool, true, false, ◌&&◌, ◌||◌, not, nat_lt, unsigned_abs, ℤ, pos, ◌+ℤ◌, ◌*ℤ◌, List, ◌∷◌, map, slice_index_or, Option, Some, None, IfSome, FitsSigned, if◌then◌else◌}
 use Rattle.std.specs.Int.{w64}

@@ -1,3 +1,4 @@
+-- Of the claim.
 -- The directive that a line is, and why it is none.
 use Rattle.std.specs.Prelude.{◌≡◌, ◌≢◌, ℕ, Bool, true, false, ◌||◌, List, [], ◌++◌, codes, Option, Some, None}
 use Rattle.hpf_base.specs.declared.refusal.Reason.{Reason}

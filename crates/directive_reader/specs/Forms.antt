@@ -1,3 +1,4 @@
+-- Of the claim.
 -- The directives of the language, each by the grammar of its kind (HPF 2.0, 3, 5.1 and 8.5).
 use Rattle.std.specs.Prelude.{◌≡◌, ℕ, Bool, true, false, List, [], ◌∷◌, Option, None, codes}
 use Rattle.std.specs.List.{list_any}

@@ -1,3 +1,4 @@
+-- Of private clauses.
 -- Reading a directive as the kind that its first lexemes say.
 use Rattle.std.specs.Prelude.{Bool, true, false, ◌&&◌, ◌||◌, not, if◌then◌else◌, List, [], ◌∷◌, drop, Option, Some, None, codes}
 use Rattle.syntax_tree.specs.Lexeme.{Lexeme, Word}

@@ -1,3 +1,4 @@
+-- Of a promise.
 -- A list of the messages of a program, against the definitions.
 use Rattle.std.specs.Prelude.{◌≡◌, ℕ, List}
 use Rattle.syntax_tree.specs.MainProgram.{MainProgram}

@@ -1,3 +1,4 @@
+-- Of a promise.
 -- What a run on nodes comes to, against the outcome of the definitions.
 use Rattle.std.specs.Prelude.{◌≡◌, map}
 use Rattle.array_meaning.specs.Serial as serial

@@ -1,3 +1,4 @@
+-- Of the claim.
 -- The text of `messages` of a program on a grid.
 use Rattle.std.specs.Prelude.{ℕ, List, [], map}
 use Rattle.hpf_base.specs.ElementOrder.{product}

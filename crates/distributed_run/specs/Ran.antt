@@ -1,3 +1,4 @@
+-- Of the claim.
 -- What a run on nodes leaves.
 use Rattle.std.specs.Prelude.{◌≡◌, ◌*◌, ℕ, List, length}
 use Rattle.std.specs.Arc.{arc_value}

@@ -1,3 +1,4 @@
+-- Of private clauses.
 -- No public clause cites this file. The lines of what the machine passes.
 use Rattle.std.specs.Prelude.{◌≡◌, ℕ, zero, suc, ◌++◌, ℤ, List, [], Option, Some, None}
 use Rattle.std.specs.List.{slice_get}

@@ -1,3 +1,4 @@
+-- Of private clauses.
 -- No public clause cites this file.
 -- The last values of the elements, as the least owner of each has it.
 use Rattle.std.specs.Prelude.{ℕ, ℤ, pos, List, length, map, Option, Some, None, slice_index_or}

@@ -1,3 +1,4 @@
+-- Of a promise.
 -- How many positions of a line are owned (HPF 2.0, DISTRIBUTE).
 use Rattle.std.specs.Prelude.{ℕ, ◌-◌, ◌==◌, filter, length}
 use Rattle.mappings.specs.declared.mapping.Line.{Line}

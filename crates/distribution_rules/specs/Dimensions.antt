@@ -1,3 +1,4 @@
+-- Of the claim.
 -- The bounds of dimensions in directives (HPF 2.0, 3.6 and 3.7), each dimension where both of its bounds are known.
 use Rattle.std.specs.Prelude.{ℕ, Bool, false, nat_lt, List, [], ◌∷◌, ℤ, pos, Option, Some, None}
 use Rattle.mappings.specs.declared.limits.TheConstants.{MAX_TEMPLATE_EXTENT}

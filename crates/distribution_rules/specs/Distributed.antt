@@ -1,3 +1,4 @@
+-- Of the claim.
 -- The mapping that DISTRIBUTE gives its object (HPF 2.0, 3.3).
 use Rattle.std.specs.Prelude.{ℕ, ◌==◌, Bool, ◌&&◌, nat_le, unsigned_abs, List, [], ◌∷◌, length, pos, Option, Some, None, option_map, option_and_then, if◌then◌else◌}
 use Rattle.std.specs.List.{list_all}

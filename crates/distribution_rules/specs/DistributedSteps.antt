@@ -1,3 +1,4 @@
+-- Of private clauses.
 -- What private contracts see of distributed dimensions, one after the other. No public clause cites this file.
 use Rattle.std.specs.Prelude.{ℕ, ◌+◌, Bool, false, List, [], ◌∷◌, ◌++◌, sum, Option, Some, None, option_map, Vec}
 use Rattle.std.specs.declared.alloc.Global.{Global}

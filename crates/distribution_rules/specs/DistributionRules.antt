@@ -1,3 +1,4 @@
+-- Of the claim.
 -- The rules of DISTRIBUTE and REDISTRIBUTE (HPF 2.0, 3.3 and 8.3) and of GEN_BLOCK (approved extensions).
 use Rattle.std.specs.Prelude.{ℕ, suc, ◌==◌, ◌*◌, Bool, true, false, ◌&&◌, ◌||◌, not, nat_lt, int_lt, unsigned_abs, List, [], ◌∷◌, ◌++◌, filter, map, length, sum, ℤ, pos, Option, Some, None, option_map, if◌then◌else◌}
 use Rattle.std.specs.List.{list_any, flat_map}

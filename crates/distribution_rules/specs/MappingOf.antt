@@ -1,3 +1,4 @@
+-- Of a promise.
 -- What a distribution that breaks no rule gives its object (HPF 2.0, 3.3).
 use Rattle.std.specs.Prelude.{◌≡◌, ℕ, pos, List, [], All, length, slice_get, Option, Some, IfSome}
 use Rattle.hpf_base.specs.ElementOrder.{product}

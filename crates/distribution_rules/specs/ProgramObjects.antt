@@ -1,3 +1,4 @@
+-- Of private clauses.
 -- What private contracts see of the objects of a program and of extents. No public clause cites this file.
 use Rattle.std.specs.Prelude.{ℕ, List, [], ◌∷◌, ◌++◌, Option, Some, None}
 use Rattle.std.specs.List.{flat_map}

@@ -1,3 +1,4 @@
+-- Of the claim.
 -- What mapping directives are judged by (HPF 2.0, 3): the processor grid, the declared names, and the arrays, templates and processor
 -- arrangements with their dimensions.
 use Rattle.std.specs.Prelude.{ℕ, Bool, true, false, bytes_eq, find, List, [], ◌∷◌, ◌++◌, map, ℤ, Option, Some, None}

@@ -1,3 +1,4 @@
+-- Of the claim.
 -- The rules of templates and processor arrangements (HPF 2.0, 3.6 and 3.7).
 use Rattle.std.specs.Prelude.{ℕ, ◌==◌, Bool, ◌||◌, not, List, [], ◌++◌, map, length}
 use Rattle.std.specs.List.{list_any, flat_map}

@@ -1,3 +1,4 @@
+-- Of a promise.
 -- Subscripts that go by equal steps.
 use Rattle.std.specs.Prelude.{ℕ, List, map, ℤ, pos, ◌+ℤ◌, ◌*ℤ◌}
 

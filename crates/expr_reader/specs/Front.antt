@@ -1,3 +1,4 @@
+-- Of a promise.
 -- The longest expression at the front, and the lexemes after it.
 use Rattle.std.specs.Prelude.{◌≡◌, List, [], ◌∷◌, ◌++◌, ◌≤◌, drop, Option, Some, None, false}
 use Rattle.syntax_tree.specs.Lexeme.{Lexeme, sign_of}

@@ -1,3 +1,4 @@
+-- Of a promise.
 -- The longest expression that begins at a token (Fortran 95, 7.1).
 use Rattle.std.specs.Prelude.{◌≡◌, ◌≤◌, ◌<◌, ℕ, ◌-◌, List, ◌++◌, length, drop}
 use Rattle.expr_reader.specs.declared.limits.TheConstants.{MAX_DEPTH}

@@ -1,3 +1,4 @@
+-- Of a promise.
 -- Reading an expression from left to right, as a function on lists of lexemes.
 use Rattle.std.specs.Prelude.{ℕ, zero, suc, ◌+◌, List, [], ◌∷◌, drop, Option, Some, None, Bool, true, false, ◌&&◌, nat_le, if◌then◌else◌}
 use Rattle.op_tables.specs.declared.op.Op.{Op}

@@ -1,3 +1,4 @@
+-- Of a promise.
 -- That lexemes are taken, and that a reading is right.
 use Rattle.std.specs.Prelude.{◌≡◌, ◌≤◌, ℕ, List, ◌++◌, length, drop, Option, Some, None}
 use Rattle.syntax_tree.specs.Lexeme.{Lexeme}

@@ -1,3 +1,4 @@
+-- Of private clauses.
 -- One subscript of a section, as a plan holds it.
 use Rattle.std.specs.Prelude.{ℕ, ◌+◌, List, [], ◌∷◌, ◌++◌}
 use Rattle.resolved_program.specs.declared.terms.SectionSubscript.{SectionSubscript as HeldSubscript}

@@ -1,3 +1,4 @@
+-- Of the claim.
 -- Constant expressions (Fortran 95, 7.1.6.1), and the expressions of directives that must be constant (HPF 2.0, 3).
 use Rattle.std.specs.Prelude.{ℕ, suc, nat_eq, List, [], ◌∷◌, length, slice_get, ℤ, pos, Option, Some, None, if◌then◌else◌}
 use Rattle.hpf_base.specs.ElementOrder.{product}

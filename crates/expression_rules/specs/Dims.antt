@@ -1,3 +1,4 @@
+-- Of the claim.
 -- The dimensions of an array (Fortran 95, 5.1.2.4.1).
 use Rattle.std.specs.Prelude.{ℕ, Bool, ◌==◌, ◌*◌, ◌≤◌, All, unsigned_abs, List, [], ◌∷◌, ℤ, pos, negsuc, ◌+ℤ◌, ◌-ℤ◌}
 use Rattle.hpf_base.specs.declared.limits.TheConstants.{MAX_BOUND, MAX_ELEMENTS}

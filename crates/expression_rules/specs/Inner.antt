@@ -1,3 +1,4 @@
+-- Of the claim.
 -- The expressions inside bounds, indices, items of PRINT and formats.
 use Rattle.std.specs.Prelude.{List, [], ◌∷◌, ◌++◌, Option, Some, None}
 use Rattle.syntax_tree.specs.Expression.{Expression}

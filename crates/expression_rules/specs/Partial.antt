@@ -1,3 +1,4 @@
+-- Of private clauses.
 -- What private contracts see of an optional expression, and of values that are put together one after the other. No public
 -- clause cites this file.
 use Rattle.std.specs.Prelude.{List, [], ◌∷◌, ◌++◌, ℤ, Option, Some, None}

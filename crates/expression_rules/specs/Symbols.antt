@@ -1,3 +1,4 @@
+-- Of the claim.
 -- The symbol table: the declared names, in the order of their declarations, each with what it stands for (Fortran 95, 5;
 -- HPF 2.0, 3.6 and 3.7).
 use Rattle.std.specs.Prelude.{ℕ, ◌+◌, Bool, true, false, is_some, bytes_eq, List, [], ◌∷◌, ◌++◌, map, Option, Some, None, if◌then◌else◌}

@@ -1,3 +1,4 @@
+-- Of the claim.
 -- The type and the rank of an expression (Fortran 95, 7.1.4, 7.1.5 and 13.14).
 use Rattle.std.specs.Prelude.{ℕ, zero, suc, Bool, true, false, ◌&&◌, ◌||◌, not, nat_eq, nat_le, is_some, List, [], ◌∷◌, ℤ, pos, Option, Some, None, if◌then◌else◌}
 use Rattle.std.specs.List.{list_all}

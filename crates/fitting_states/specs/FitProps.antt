@@ -1,3 +1,4 @@
+-- Of private clauses.
 -- That the numbers of a program are of 64 bits has one proof at most, so a type may keep it.
 use Rattle.std.specs.Prelude.{List, [], ◌∷◌, Option, Some, None}
 use Rattle.std.proofs.Props.{props}

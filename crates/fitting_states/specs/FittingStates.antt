@@ -1,3 +1,4 @@
+-- Of a promise.
 -- Programs all of whose numbers are of 64 bits, and states all of whose values are. The abstract syntax and the states of the meaning have integers
 -- of any size.
 use Rattle.std.specs.Prelude.{ℕ, List, Option, Some, None, slice_index_or, pos, FitsSigned}

@@ -1,3 +1,4 @@
+-- Of private clauses.
 -- Linear subscripts as the code has them.
 use Rattle.std.specs.Prelude.{ℕ, nat_le, Bool, ◌&&◌, ◌||◌, List, Option, Some, None}
 use Rattle.std.specs.List.{list_all, list_any}

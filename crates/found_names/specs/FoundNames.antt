@@ -1,3 +1,4 @@
+-- Of a promise.
 -- Programs of which each name is found among the declared ones, and each left side is a variable (Fortran 95, 5, 6 and 7.5): where
 -- `Resolution` has an answer for a name that isn't there, or for a left side that is none, it never gives it.
 use Rattle.std.specs.Prelude.{◌≡◌, ⊤, bytes_eq, position, List, [], Option, Some}

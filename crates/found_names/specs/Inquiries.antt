@@ -1,3 +1,4 @@
+-- Of a promise.
 -- Programs in which SIZE, LBOUND and UBOUND of an array have a value (Fortran 95, 13.14): where `Resolution` has the value 0 for what isn't
 -- a constant, or for a dimension that isn't there, it never gives it.
 use Rattle.std.specs.Prelude.{◌≡◌, ⊤, ℤ, true, drop, List, [], None}

@@ -1,3 +1,4 @@
+-- Of a promise.
 -- Programs in which an expression that must have one value has one: no section stands in it but under a reduction, and an index of a
 -- FORALL only in that FORALL (Fortran 95, 6.2, 7.5 and 8.1).
 use Rattle.std.specs.Prelude.{◌<◌, ◌≤◌, ⊤, ℕ, List, length, Option, Some, None}

@@ -1,3 +1,4 @@
+-- Of a promise.
 -- Ascending lists of places by the offsets of one period (S. Chatterjee and others, Generating local addresses and
 -- communication sets for data-parallel programs, 1995).
 use Rattle.std.specs.Prelude.{ℕ, ◌+◌, ◌*◌, ◌/◌, ◌%◌, ◌≤◌, ◌<◌, nat_lt, List, All, find, length, map, slice_index_or, Option}

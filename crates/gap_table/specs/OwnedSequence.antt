@@ -1,3 +1,4 @@
+-- Of a promise.
 -- Which places of a regular section of a line a node owns (HPF 2.0, 3.3). Positions are counted from 1, places from 0.
 use Rattle.std.specs.Prelude.{ℕ, ◌<◌, ◌==◌, ℤ, pos, ◌+ℤ◌, ◌*ℤ◌, ◌≤ℤ◌, unsigned_abs, List, filter}
 use Rattle.std.specs.List.{range_with_len}

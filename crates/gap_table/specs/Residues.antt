@@ -1,3 +1,4 @@
+-- Of private clauses.
 -- The places of a period that a processor owns under CYCLIC(k). Only private contracts cite this.
 use Rattle.std.specs.Prelude.{◌≡◌, ℕ, ◌+◌, ◌*◌, ◌<◌, ◌≤◌, ◌==◌, List, filter, length}
 use Rattle.std.specs.List.{range_with_len}

@@ -1,3 +1,4 @@
+-- Of private clauses.
 -- Regular sections as private functions take them. Only private contracts cite this.
 use Rattle.std.specs.Prelude.{ℕ, ◌<◌, ◌≤◌, ◌≢◌, pos, ◌≤ℤ◌}
 use Rattle.mappings.specs.declared.limits.TheConstants.{MAX_TEMPLATE_EXTENT}

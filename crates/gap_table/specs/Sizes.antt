@@ -1,3 +1,4 @@
+-- Of a promise.
 -- How large a table is, and in how many steps it is built, whatever the extent, the stride and the count.
 use Rattle.std.specs.Prelude.{ℕ, ◌+◌, ◌*◌}
 use Rattle.mappings.specs.declared.mapping.Form.{Form}

@@ -1,3 +1,4 @@
+-- Of the claim.
 -- Array-element order: the elements of an array in the order of their subscripts, the first fastest (Fortran 95, 6.2.2.2).
 use Rattle.std.specs.Prelude.{◌≡◌, ℕ, ◌*◌, ◌<◌, ℤ, pos, ◌+ℤ◌, ◌≤ℤ◌, ◌<ℤ◌, unsigned_abs, length, slice_index_or, List, [], ◌∷◌, map}
 use Rattle.std.specs.List.{flat_map, range_with_len}

@@ -1,3 +1,4 @@
+-- Of the claim.
 -- The first of a set of breaches, where there may be none.
 use Rattle.std.specs.Prelude.{ℕ, Bool, ◌==◌, ◌||◌, ◌&&◌, nat_lt, List, [], ◌∷◌, ◌≡◌, ◌⊎◌, Option, Some, None, if◌then◌else◌}
 use Rattle.hpf_base.specs.declared.refusal.Reason.{Reason}

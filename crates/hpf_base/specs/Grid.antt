@@ -1,3 +1,4 @@
+-- Of the claim.
 -- Grids of nodes (HPF 2.0, PROCESSORS).
 use Rattle.std.specs.Prelude.{ℕ, ◌≤◌, List, [], All, length, slice_index_or}
 use Rattle.hpf_base.specs.declared.limits.TheConstants.{MAX_NODES, MAX_RANK}

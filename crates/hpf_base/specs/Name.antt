@@ -1,3 +1,4 @@
+-- Of a promise.
 -- Names (Fortran 95, 3.2.1).
 use Rattle.std.specs.Prelude.{◌≡◌, ℕ, ◌-◌, ◌==◌, ◌≤◌, ◌||◌, Bool, IsTrue, List, ◌++◌, length, take, replicate}
 use Rattle.std.specs.Char.{is_ascii_digit, is_ascii_uppercase}

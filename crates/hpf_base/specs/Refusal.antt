@@ -1,3 +1,4 @@
+-- Of the claim.
 -- Reasons, and which breach of a text is its refusal.
 use Rattle.std.specs.Prelude.{◌≡◌, ℕ, ◌<◌, ◌≤◌, ◌⊎◌, List, codes}
 use Rattle.hpf_base.specs.declared.refusal.Reason.{Reason}

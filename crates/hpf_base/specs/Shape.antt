@@ -1,3 +1,4 @@
+-- Of a promise.
 -- Which shapes are valid.
 use Rattle.std.specs.Prelude.{◌≡◌, ◌+◌, ◌*◌, ◌≤◌, pos, ◌≤ℤ◌, unsigned_abs, length, All}
 use Rattle.hpf_base.specs.declared.limits.TheConstants.{MAX_BOUND, MAX_ELEMENTS}

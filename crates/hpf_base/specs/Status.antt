@@ -1,3 +1,4 @@
+-- Of a promise.
 use Rattle.std.specs.Prelude.{ℕ}
 use Rattle.hpf_base.specs.declared.status.Status.{Status}
 use Rattle.hpf_base.specs.declared.status.Status.TheVariants.{Done, Refused, Usage, Fault, ReadFault, WriteFault, Memory, TooLong}

@@ -1,3 +1,4 @@
+-- Of the claim.
 -- The lines of a text.
 use Rattle.std.specs.Prelude.{ℕ, ◌==◌, List, [], ◌∷◌, if◌then◌else◌}
 

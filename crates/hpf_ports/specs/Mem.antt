@@ -1,3 +1,4 @@
+-- Of a promise.
 -- Sources and sinks over memory: what a caller sees of them, and what their next call does.
 use Rattle.std.specs.Prelude.{ℕ, ◌-◌, ◌==◌, nat_le, ◌||◌, min, Bool, List, length}
 use Rattle.std.specs.List.{list_any}

@@ -1,3 +1,4 @@
+-- Of the claim.
 -- What a call of a source or a sink does, as far as the object tells its bytes.
 use Rattle.std.specs.Prelude.{◌≡◌, ℕ, ◌+◌, ◌-◌, ◌^◌, ◌<◌, ◌⊎◌, min, List, [], ◌++◌, Option, None, Some}
 

@@ -1,3 +1,4 @@
+-- Of a promise.
 -- Sources and sinks over the standard library, as a caller sees them.
 use Rattle.std.specs.Prelude.{ℕ, List, Option}
 

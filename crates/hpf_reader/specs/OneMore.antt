@@ -1,3 +1,4 @@
+-- Of private clauses.
 -- No public clause cites this file. What one line more adds.
 use Rattle.std.specs.Prelude.{◌≡◌, List, [], ◌∷◌, ◌++◌}
 use Rattle.source_lines.specs.declared.line.LogicalLine.{LogicalLine}

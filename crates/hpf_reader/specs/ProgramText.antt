@@ -1,3 +1,4 @@
+-- Of the claim.
 -- Which programs a text spells, what it means, and what is wrong with other texts (Fortran 95, 2, 3 and 11.1; HPF 2.0, 2.3).
 use Rattle.std.specs.Prelude.{◌≡◌, ℕ, ◌⊎◌, List, [], ◌∷◌, length, map}
 use Rattle.hpf_base.specs.declared.refusal.Reason.{Reason}

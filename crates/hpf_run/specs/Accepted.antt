@@ -1,3 +1,4 @@
+-- Of the claim.
 -- Which texts are accepted, and what the others are refused for.
 use Rattle.std.specs.Prelude.{ℕ, List}
 use Rattle.hpf_base.specs.declared.refusal.Refusal.{Refusal}

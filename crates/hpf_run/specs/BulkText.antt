@@ -1,3 +1,4 @@
+-- Of the claim.
 -- The program of bulk work: two sweeps over a square array whose rows lie in blocks, and whose columns are dealt out after the first.
 use Rattle.std.specs.Prelude.{ℕ, List, ◌++◌, codes, decimal}
 

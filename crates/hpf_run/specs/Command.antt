@@ -1,3 +1,4 @@
+-- Of the claim.
 -- The words that the program is called with.
 use Rattle.std.specs.Prelude.{◌≡◌, Bool, true, false, if◌then◌else◌, List, Option, Some, None}
 use Rattle.hpf_words.specs.Parts.{Text}

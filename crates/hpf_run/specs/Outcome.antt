@@ -1,3 +1,4 @@
+-- Of the claim.
 -- What a call of the program means to answer.
 use Rattle.std.specs.Prelude.{◌≡◌, ℕ, ◌+◌, ◌<◌, ◌≤◌, Bool, true, false, ℤ, List, [], ◌++◌, length, take, codes, Option, None, Some, decimal}
 use Rattle.hpf_base.specs.declared.refusal.Refusal.{Refusal}

@@ -1,3 +1,4 @@
+-- Of private clauses.
 -- No public clause cites this file.
 -- What a reply says, and what a text, an accepted one and a refusal are answered by.
 use Rattle.std.specs.Prelude.{◌≡◌, ℕ, Bool, List, [], Option}

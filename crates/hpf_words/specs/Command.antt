@@ -1,3 +1,4 @@
+-- Of private clauses.
 -- No public clause cites this file.
 -- The command that is given to `clap`, as its contracts see it.
 use Rattle.std.specs.Prelude.{true, Some, codes}

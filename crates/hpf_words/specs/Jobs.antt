@@ -1,3 +1,4 @@
+-- Of the claim.
 -- The job that the words are.
 use Rattle.std.specs.Prelude.{ℕ, Bool, true, false, not, ◌&&◌, ◌||◌, ◌==◌, if◌then◌else◌, List, [], ◌∷◌, Option, Some, None, codes}
 use Rattle.std.specs.Prelude.{option_map, option_and_then, find, nat_le, length, is_some}

@@ -1,3 +1,4 @@
+-- Of the claim.
 -- What the words of a command line give, from left to right.
 use Rattle.std.specs.Prelude.{ℕ, Bool, false, ◌==◌, if◌then◌else◌, List, [], ◌∷◌, map, find, Option, Some, None, codes}
 use Rattle.std.specs.Prelude.{option_map}

@@ -1,3 +1,4 @@
+-- Of private clauses.
 -- How all objects were visited by iterations, one after the other.
 use Rattle.std.specs.Prelude.{◌≡◌, ℕ, zero, suc, List, [], ◌++◌, fold}
 use Rattle.resolved_program.specs.declared.statements.Nest.{Nest as HeldNest}

@@ -1,3 +1,4 @@
+-- Of private clauses.
 -- A clash in code as the definitions have it.
 use Rattle.array_meaning.specs.Clashes.{Clash}
 use Rattle.interference.specs.declared.clashes.Clash.{Clash as HeldClash}

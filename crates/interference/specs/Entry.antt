@@ -1,3 +1,4 @@
+-- Of private clauses.
 -- The check of a nest at its entry, by its iterations in code.
 use Rattle.std.specs.Prelude.{if◌then◌else◌, Result}
 use Rattle.resolved_program.specs.declared.statements.Nest.{Nest as HeldNest}

@@ -1,3 +1,4 @@
+-- Of private clauses.
 -- The iterations of a nest in code (HPF 2.0, 5.1), by the definitions.
 use Rattle.std.specs.Prelude.{◌≡◌, ℕ, List, [], ◌∷◌, ◌++◌, Option, Some, None}
 use Rattle.hpf_base.specs.ElementOrder.{product}

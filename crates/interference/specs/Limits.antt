@@ -1,3 +1,4 @@
+-- Of private clauses.
 -- The limits of a nest, by its iterations in code.
 use Rattle.std.specs.Prelude.{ℕ, ◌-◌, ◌^◌, min, List, Bool, ◌&&◌}
 use Rattle.std.specs.List.{list_all}

@@ -1,3 +1,4 @@
+-- Of private clauses.
 -- The first clash by how the objects were visited, row by row.
 use Rattle.std.specs.Prelude.{ℕ, suc, List, [], ◌∷◌, Option}
 use Rattle.array_meaning.specs.Clashes.{Clash}

@@ -1,3 +1,4 @@
+-- Of private clauses.
 -- How all objects were visited, by name and place.
 use Rattle.std.specs.Prelude.{ℕ, nat_eq, List, [], slice_index_or, Bool, ◌&&◌, if◌then◌else◌}
 use Rattle.array_meaning.specs.Touches.{Touch}

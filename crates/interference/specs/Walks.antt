@@ -1,3 +1,4 @@
+-- Of private clauses.
 -- The walk of iterations of a nest: what it knows of the nest, and how the objects were visited so far.
 use Rattle.std.specs.Prelude.{◌≡◌, ℕ, List, ◌∷◌, ◌++◌, drop, fold, reverse, Bool, if◌then◌else◌}
 use Rattle.resolved_program.specs.declared.statements.Arm.{Arm}

@@ -1,3 +1,4 @@
+-- Of a promise.
 -- Where an array lies after a REDISTRIBUTE (HPF 2.0, 3.3 and 3.4): as it says of the array, or of what the array's alignments end at.
 use Rattle.std.specs.Prelude.{◌≡◌, ℕ, ⊤, true, false, length, slice_get, List, [], ◌∷◌, Some}
 use Rattle.std.specs.List.{AllByRecursion, flat_map}

@@ -1,3 +1,4 @@
+-- Of a promise.
 -- Where an object lies at the start (HPF 2.0, 3): as its DISTRIBUTE says; where it is aligned, as what its alignments end at lies; and
 -- where no directive maps it, as the compiler chooses, which here is on every node.
 use Rattle.std.specs.Prelude.{◌≡◌, ℕ, true, false, List, length, Some, None}

@@ -1,3 +1,4 @@
+-- Of the claim.
 -- What is still to be sent.
 use Rattle.std.specs.Prelude.{ℕ, List, ℤ}
 

@@ -1,3 +1,4 @@
+-- Of the claim.
 -- What stands of a part of a line up to and with its first expression that is too deep.
 use Rattle.std.specs.Prelude.{◌≡◌, Bool, false, List, [], ◌∷◌, ◌++◌, map, Option, Some, None, nat_le, not, if◌then◌else◌}
 use Rattle.std.proofs.Common.{inl, inr}

@@ -1,3 +1,4 @@
+-- Of a promise.
 -- What the functions of the code gave.
 use Rattle.std.specs.Prelude.{◌≡◌, ◌≢◌, suc, Bool, List, ◌++◌, length, Result, Ok, Err}
 use Rattle.syntax_tree.specs.Lexeme.{Lexeme}

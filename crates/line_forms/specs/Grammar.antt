@@ -1,3 +1,4 @@
+-- Of the claim.
 -- Grammars of lines: what stands in them one after the other.
 use Rattle.std.specs.Prelude.{ℕ, Bool, List, Option, ◌⊎◌}
 use Rattle.syntax_tree.specs.Lexeme.{Lexeme}

@@ -1,3 +1,4 @@
+-- Of a promise.
 -- What was read, and why nothing was.
 use Rattle.std.specs.Prelude.{◌≡◌, List, ◌++◌, None}
 use Rattle.syntax_tree.specs.Lexeme.{Lexeme}

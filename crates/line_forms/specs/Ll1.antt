@@ -1,3 +1,4 @@
+-- Of a promise.
 -- How the rest of a line may begin, and grammars that are read without looking back.
 use Rattle.std.specs.Prelude.{◌≡◌, Bool, true, false, not, ◌&&◌, ◌||◌, List, [], ◌∷◌, ◌++◌, is_none}
 use Rattle.std.specs.List.{list_all, list_any}

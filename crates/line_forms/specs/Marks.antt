@@ -1,3 +1,4 @@
+-- Of the claim.
 -- The lexemes that a form fixes, and whether they stand at the front.
 use Rattle.std.specs.Prelude.{ℕ, Bool, true, false, ◌&&◌, List, [], ◌∷◌, bytes_eq}
 use Rattle.syntax_tree.specs.declared.sign.Sign.{Sign}

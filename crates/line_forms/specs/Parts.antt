@@ -1,3 +1,4 @@
+-- Of the claim.
 -- The parts that several forms share.
 use Rattle.std.specs.Prelude.{map, Option, Some, None, option_map}
 use Rattle.syntax_tree.specs.declared.decl.Bound.{Bound}

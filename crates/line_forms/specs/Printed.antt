@@ -1,3 +1,4 @@
+-- Of the claim.
 -- What spells the parts of a line, and which are well formed.
 use Rattle.std.specs.Prelude.{◌≡◌, true, false, List, [], ◌∷◌, ◌++◌, map, All, Option, Some, None, option_map}
 use Rattle.std.proofs.Common.{inl, inr}

@@ -1,3 +1,4 @@
+-- Of a promise.
 -- Reading the parts of a line from left to right, as functions on lists of lexemes.
 use Rattle.std.specs.Prelude.{ℕ, zero, suc, Bool, false, ◌&&◌, List, [], ◌∷◌, length, drop, Option, Some, None, if◌then◌else◌}
 use Rattle.std.proofs.Common.{inl, inr}

@@ -1,3 +1,4 @@
+-- Of a promise.
 -- What reading from left to right comes to.
 use Rattle.std.specs.Prelude.{List}
 use Rattle.syntax_tree.specs.Lexeme.{Lexeme}

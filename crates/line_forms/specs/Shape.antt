@@ -1,3 +1,4 @@
+-- Of the claim.
 -- The intrinsic procedure that the language leaves out wherever it is named.
 use Rattle.std.specs.Prelude.{Bool, List, codes}
 use Rattle.std.specs.List.{list_any}

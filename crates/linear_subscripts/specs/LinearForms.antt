@@ -1,3 +1,4 @@
+-- Of the claim.
 -- Subscripts of an align target that are linear in one align dummy (HPF 2.0, 3.4).
 use Rattle.std.specs.Prelude.{Bool, true, false, ◌&&◌, ◌||◌, not, bytes_eq, neg_ℤ, filter, List, [], ◌∷◌, ℤ, pos, ◌+ℤ◌, ◌-ℤ◌, ◌*ℤ◌, Option, Some, None, option_map, if◌then◌else◌}
 use Rattle.std.specs.List.{list_any, list_all}

@@ -1,3 +1,4 @@
+-- Of a promise.
 -- No public clause cites this file.
 -- What a node owns along each dimension of an array, as its piece keeps it.
 use Rattle.std.specs.Prelude.{◌≢◌, ℕ, ◌+◌, ◌≤◌, ◌<◌, ℤ, pos, ◌+ℤ◌, unsigned_abs, Bool, cond, List, [], ◌∷◌, All, AllPairs, filter, length, map, take}

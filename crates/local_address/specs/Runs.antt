@@ -1,3 +1,4 @@
+-- Of a promise.
 -- What a node owns along one dimension of an array.
 use Rattle.std.specs.Prelude.{◌≡◌, ◌≢◌, ℕ, ◌+◌, ◌<◌, ℤ, pos, ◌+ℤ◌, ◌*ℤ◌, unsigned_abs, Bool, ◌&&◌, ◌==◌, not, cond, List, [], ◌∷◌, length, map, filter, slice_get, slice_index, Option, Some, None}
 use Rattle.std.specs.List.{flat_map, range_with_len}

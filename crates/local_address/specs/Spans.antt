@@ -1,3 +1,4 @@
+-- Of the claim.
 -- What a node owns of an array, told by how many elements and by the first and the last of them.
 use Rattle.std.specs.Prelude.{ℤ, List, [], ◌∷◌, length, map, Option, Some, None}
 use Rattle.std.specs.List.{range_with_len}

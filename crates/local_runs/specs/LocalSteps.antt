@@ -1,3 +1,4 @@
+-- Of a promise.
 -- Local steps of a node, one after another.
 use Rattle.std.specs.Prelude.{◌≡◌, ℕ, zero, suc, ◌<◌}
 use Rattle.node_law.specs.declared.act.Act.TheVariants.{Local}

@@ -1,3 +1,4 @@
+-- Of a promise.
 -- When a parallel statement of a nest of INDEPENDENT loops (HPF 2.0, 5.1) is a part of a nest that is entered. The copies stand after the declared names.
 use Rattle.std.specs.Prelude.{◌≡◌, ℕ, ◌+◌, ◌<◌, List, [], ◌∷◌, ◌++◌, length, map, pos, true, Option, Some, None}
 use Rattle.array_meaning.specs.Terms.{Term}

@@ -1,3 +1,4 @@
+-- Of a promise.
 -- What the machine with whole arrays passes: parallel statements, reductions and redistributions, each with the slots before it; and when these
 -- are the entries of a trail.
 use Rattle.std.specs.Prelude.{◌≡◌, ℕ, zero, suc, ◌<◌, List, [], ◌∷◌, ◌++◌, map, length, slice_index_or, is_some, ℤ, pos, Option, Some, None, ⊤}

@@ -1,3 +1,4 @@
+-- Of proofs.
 -- The names of a nest on the machine, by its code.
 use Rattle.std.specs.Prelude.{ℕ, List, Bool}
 use Rattle.array_meaning.specs.Statements.{Nest, Block}

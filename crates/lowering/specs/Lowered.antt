@@ -1,3 +1,4 @@
+-- Of the claim.
 -- What it is for a program to be lowered: the machine over its code ends as it does.
 use Rattle.std.specs.Prelude.{◌≡◌, ℕ, ◌<◌, List, [], ◌++◌, length, map, replicate, slice_index_or, ℤ, pos, None}
 use Rattle.storage.specs.Storage.{row_of}

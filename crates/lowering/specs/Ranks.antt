@@ -1,3 +1,4 @@
+-- Of a promise.
 -- Programs that keep the ranks of their arrays: each reference has a subscript for each dimension, and each index of a FORALL is one of
 -- its header, which has 7 at most. So it is in every program that breaks no rule.
 use Rattle.std.specs.Prelude.{◌≡◌, ℕ, ◌+◌, ◌<◌, ◌≤◌, List, length, map, Option, Some, None, ⊤}

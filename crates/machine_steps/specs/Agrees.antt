@@ -1,3 +1,4 @@
+-- Of the claim.
 -- Nodes that agree with a state of the machine with whole arrays, and what code and machine are asked for.
 use Rattle.std.specs.Prelude.{◌≡◌, ℤ, ◌*◌, ◌∷◌, ℕ, ◌<◌, ◌≤◌, ◌⊎◌, Bool, true, List, [], map, length, replicate, Result, Ok, Err, Option, Some, None, nat_lt, slice_get, slice_index_or, if◌then◌else◌, suc, zero, ⊤}
 use Rattle.std.specs.List.{range_with_len}

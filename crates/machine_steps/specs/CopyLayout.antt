@@ -1,3 +1,4 @@
+-- Of the claim.
 -- How the elements of a copy lie on the nodes.
 use Rattle.std.specs.Prelude.{ℕ, ◌==◌, pos, List, [], ◌∷◌, length, map, slice_index_or, if◌then◌else◌}
 use Rattle.hpf_base.specs.declared.index.Shape.{Shape}

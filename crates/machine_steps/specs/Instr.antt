@@ -1,3 +1,4 @@
+-- Of the claim.
 -- What an instruction of node code means. All nodes run the same code, and what an instruction means is a function of numbers that
 -- all of them have alike: the slots.
 use Rattle.std.specs.Prelude.{ℕ, Bool, ℤ, List, Option, Result}

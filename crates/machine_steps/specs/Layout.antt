@@ -1,3 +1,4 @@
+-- Of the claim.
 -- How the elements of an array or of a copy lie on the nodes, and what a node holds of them.
 use Rattle.std.specs.Prelude.{ℕ, zero, suc, ◌+◌, ◌<◌, ◌≡◌, Bool, true, false, ◌&&◌, List, [], ◌∷◌, map, if◌then◌else◌, ℤ, Option, Some, None, nat_lt, slice_index_or}
 use Rattle.hpf_base.specs.declared.index.Shape.{Shape}

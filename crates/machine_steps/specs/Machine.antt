@@ -1,3 +1,4 @@
+-- Of the claim.
 -- The machine with whole arrays: one state, no nodes and no letters. A step is one instruction, or one step of a Reduce or a Print.
 use Rattle.std.specs.Prelude.{ℕ, zero, suc, ◌+◌, ◌==◌, ◌&&◌, ◌||◌, Bool, false, ℤ, pos, List, [], ◌∷◌, ◌++◌, map, length, replicate, Option, Some, None, Result, Ok, Err, slice_index_or, slice_set, nat_lt, if◌then◌else◌}
 use Rattle.std.specs.List.{slice_get, fold}

@@ -1,3 +1,4 @@
+-- Of the claim.
 -- Who sends which elements to whom.
 use Rattle.std.specs.Prelude.{ℕ, zero, suc, ◌+◌, ◌==◌, Bool, true, false, ◌&&◌, ◌||◌, not, List, [], ◌∷◌, ◌++◌, map, filter, Option, Some, None, ℤ, pos, if◌then◌else◌}
 use Rattle.std.specs.List.{range_with_len}

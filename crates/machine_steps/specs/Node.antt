@@ -1,3 +1,4 @@
+-- Of the claim.
 -- A node of a distributed run as plain data, and its steps.
 use Rattle.std.specs.Prelude.{ℕ, zero, suc, ◌+◌, ◌-◌, ◌*◌, ◌%◌, ◌^◌, ◌==◌, ◌&&◌, ◌≡◌, Bool, false, ℤ, pos, List, [], ◌∷◌, ◌++◌, map, filter, replicate, Option, Some, None, Result, Ok, Err, slice_index_or, slice_set, nat_lt, unsigned_abs, if◌then◌else◌}
 use Rattle.std.specs.List.{range_with_len, slice_get}

@@ -1,3 +1,4 @@
+-- Of a promise.
 -- Parallel statements one after the other: they are the parted order of a nest.
 use Rattle.std.specs.Prelude.{◌≡◌, ℕ, zero, suc, ◌+◌, ◌<◌, ℤ, List, Option, None}
 use Rattle.storage.specs.Storage.{Storage, Spot, read}

@@ -1,3 +1,4 @@
+-- Of the claim.
 -- The rounds of a redistribution (HPF 2.0, 8.3).
 use Rattle.std.specs.Prelude.{ℕ, ◌==◌, ◌&&◌, not, Bool, List, [], length, map, filter, slice_index_or, unwrap_or}
 use Rattle.std.specs.List.{flat_map, list_any, range_with_len}

@@ -1,3 +1,4 @@
+-- Of the claim.
 -- Layouts that are the same.
 use Rattle.std.specs.Prelude.{◌==◌, ◌&&◌, Bool, true, false}
 use Rattle.std.specs.Cmp.Lexicographic.{pointwise}

@@ -1,3 +1,4 @@
+-- Of the claim.
 -- The spaces of parallel statements.
 use Rattle.std.specs.Prelude.{ℕ, nat_le, List, if◌then◌else◌}
 use Rattle.hpf_base.specs.declared.limits.TheConstants.{MAX_ELEMENTS}

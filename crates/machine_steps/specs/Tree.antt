@@ -1,3 +1,4 @@
+-- Of the claim.
 -- Trees of rounds: who sends to whom, up to node 0 and down again.
 use Rattle.std.specs.Prelude.{ℕ, ◌+◌, ◌-◌, ◌*◌, ◌%◌, ◌^◌, ◌==◌, ◌&&◌, Bool, nat_lt, nat_le, if◌then◌else◌}
 use Rattle.machine_steps.specs.Layout.{first}

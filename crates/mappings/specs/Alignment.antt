@@ -1,3 +1,4 @@
+-- Of the claim.
 -- Owners of the elements of a mapped array (HPF 2.0, 3.3 and 3.4). Elements that lie outside the template and nodes past
 -- the grid have answers by these definitions too; each public call asks for elements inside and nodes of the grid.
 use Rattle.std.specs.Prelude.{ℕ, ℤ, pos, ◌+ℤ◌, ◌-ℤ◌, ◌*ℤ◌, unsigned_abs, Bool, true, ◌==◌, List, map, find, slice_index, slice_index_or, Option, Some, None, option_map}

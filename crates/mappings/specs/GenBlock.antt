@@ -1,3 +1,4 @@
+-- Of the claim.
 -- Blocks of given sizes, one a processor, in their order (HPF 2.0, approved extensions, GEN_BLOCK).
 use Rattle.std.specs.Prelude.{ℕ, ◌+◌, List, length, map, sum, take}
 use Rattle.std.specs.List.{range_with_len}

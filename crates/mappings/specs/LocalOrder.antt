@@ -1,3 +1,4 @@
+-- Of the claim.
 -- What a node holds of an array, and in which order.
 use Rattle.std.specs.Prelude.{ℕ, ℤ, List, ◌==◌, filter}
 use Rattle.hpf_base.specs.declared.index.Shape.{Shape}

@@ -1,3 +1,4 @@
+-- Of the claim.
 -- Who owns a position of a distributed dimension (HPF 2.0, 3.3). Positions past the extent have a coordinate by this
 -- definition too; each public call asks for a position from 1 to the extent.
 use Rattle.std.specs.Prelude.{ℕ, ◌-◌, ◌%◌, max, pos, nat_le}

@@ -1,3 +1,4 @@
+-- Of a promise.
 -- Positions of a dimension, and the elements that stand there.
 use Rattle.std.specs.Prelude.{ℕ, ◌+◌, ◌-◌, Bool, ◌&&◌, nat_le, List}
 use Rattle.std.specs.List.{range_with_len}

@@ -1,3 +1,4 @@
+-- Of a promise.
 -- Lists of elements in order.
 use Rattle.std.specs.List.Sorted.{IsStrictlySortedBy}
 use Rattle.std.specs.declared.cmp.Ordering.{Ordering}

@@ -1,3 +1,4 @@
+-- Of a promise.
 -- Tuples at which a node exchanges something, where nothing is exchanged at others.
 use Rattle.std.specs.Prelude.{◌≡◌, ℕ, ◌<◌, ◌==◌, ◌&&◌, All, Bool, List, filter, true}
 use Rattle.std.specs.List.{list_any, range_with_len}

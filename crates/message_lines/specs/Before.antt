@@ -1,3 +1,4 @@
+-- Of private clauses.
 -- No public clause cites this file. What is known before an instruction.
 use Rattle.std.specs.Prelude.{List, [], ◌∷◌, ◌++◌, length, map, take}
 use Rattle.array_meaning.specs.Sections.{extents}

@@ -1,3 +1,4 @@
+-- Of private clauses.
 -- No public clause cites this file. Copies after rows, up to rows that are named.
 use Rattle.std.specs.Prelude.{ℕ, ◌+◌, ◌-◌, List, [], ◌∷◌, ◌++◌, length, replicate}
 use Rattle.machine_steps.specs.Layout.{Layout}

@@ -1,3 +1,4 @@
+-- Of a promise.
 -- Lines that are kept of the instructions of a program.
 use Rattle.std.specs.Prelude.{◌≡◌, ℕ, ℤ, List, IfSome, Some, true}
 use Rattle.std.specs.BTreeMap.{get}

@@ -1,3 +1,4 @@
+-- Of private clauses.
 -- No public clause cites this file. The messages of a redistribution.
 use Rattle.std.specs.Prelude.{ℕ, List, map}
 use Rattle.std.specs.List.{range_with_len}

@@ -1,3 +1,4 @@
+-- Of private clauses.
 -- No public clause cites this file. Lines of messages of rows, each after the words that it begins with.
 use Rattle.std.specs.Prelude.{ℕ, List}
 use Rattle.std.specs.List.{flat_map, range_with_len}

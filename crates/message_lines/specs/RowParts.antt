@@ -1,3 +1,4 @@
+-- Of private clauses.
 -- No public clause cites this file. Parts over rows.
 use Rattle.tuple_values.specs.Statements.{Statement}
 use Rattle.part_steps.specs.Parts.{PartView}

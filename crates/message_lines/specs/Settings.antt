@@ -1,3 +1,4 @@
+-- Of private clauses.
 -- No public clause cites this file. What the text of messages is told by.
 use Rattle.std.specs.Prelude.{[], map}
 use Rattle.message_text.specs.Parts.{Setting}

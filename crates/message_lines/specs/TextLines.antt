@@ -1,3 +1,4 @@
+-- Of a promise.
 -- The lines of a text of a program's code.
 use Rattle.std.specs.Prelude.{ℕ, ℤ, List, [], length, map, take}
 use Rattle.name_table.specs.declared.names.Entry.{Entry}

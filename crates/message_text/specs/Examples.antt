@@ -1,3 +1,4 @@
+-- Of a promise.
 -- Small programs on nodes, and the text of their messages.
 use Rattle.std.specs.Prelude.{ℕ, codes, List, [], ◌∷◌, pos, negsuc, Some, None, if◌then◌else◌, nat_eq}
 use Rattle.mappings.specs.declared.mapping.Form.{Form}

@@ -1,3 +1,4 @@
+-- Of a promise.
 -- The lines of an instruction of node code: those of the part that it is by the slots, or of its redistribution.
 use Rattle.std.specs.Prelude.{ℕ, ◌+◌, ◌-◌, max, List, [], ◌∷◌, ◌++◌, length, map, ℤ}
 use Rattle.mappings.specs.declared.mapping.Mapping.{Mapping}

@@ -1,3 +1,4 @@
+-- Of the claim.
 -- The text of `messages`: what nodes send for the parts of array statements and of nests, and for redistributions.
 use Rattle.std.specs.Prelude.{ℕ, ◌+◌, suc, nat_eq, if◌then◌else◌, List, [], ◌∷◌, ◌++◌, length, codes, decimal, slice_index_or, slice_get, ℤ, Option, Some, None}
 use Rattle.std.specs.List.{flat_map, range_with_len}

@@ -1,3 +1,4 @@
+-- Of the claim.
 -- The parts of a trail on nodes: what each reads at a tuple, and who computes it. The owners of the element that is assigned compute it.
 use Rattle.std.specs.Prelude.{ℕ, ◌+◌, ◌==◌, Bool, true, false, List, [], ◌∷◌, ◌++◌, length, map, replicate, ℤ, Option, Some, None}
 use Rattle.std.specs.Result.{result_unwrap_or}

@@ -1,3 +1,4 @@
+-- Of a promise.
 -- The text of `messages`, from what the machine with whole arrays passes.
 use Rattle.std.specs.Prelude.{◌≡◌, ℕ, List, [], ◌∷◌, ◌++◌}
 use Rattle.expression_rules.specs.declared.dims.Dim.{Dim}

@@ -1,3 +1,4 @@
+-- Of the claim.
 -- The names and the expressions in mapping directives (HPF 2.0, 3).
 use Rattle.std.specs.Prelude.{List, [], ◌∷◌, ◌++◌, Option, Some, None}
 use Rattle.std.specs.List.{flat_map}

@@ -1,3 +1,4 @@
+-- Of the claim.
 -- What a program declares (Fortran 95, 5; HPF 2.0, 3.6 and 3.7): its names in the order of their declarations, each with what it is.
 use Rattle.std.specs.Prelude.{ℤ, pos, List, [], map, bytes_eq, position, slice_get, Option, Some, None, option_map, option_and_then}
 use Rattle.statement_walk.specs.MainProgram.{MainProgram}

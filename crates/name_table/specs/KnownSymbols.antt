@@ -1,3 +1,4 @@
+-- Of a promise.
 -- What a program that breaks no rule declares is known.
 use Rattle.std.specs.Prelude.{◌≡◌, Bool, true, ◌&&◌, is_some}
 use Rattle.std.specs.List.{list_all}

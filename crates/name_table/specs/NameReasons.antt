@@ -1,3 +1,4 @@
+-- Of private clauses.
 -- The least reason for which a statement breaks a rule of names. No public clause cites this file.
 use Rattle.std.specs.Prelude.{◌&&◌, ◌||◌, not, nat_lt, List, length, Option, Some, None, if◌then◌else◌}
 use Rattle.std.specs.List.{list_all}

@@ -1,3 +1,4 @@
+-- Of the claim.
 -- The rules of names and constants (Fortran 95, 5, 7 and 14.1.2; HPF 2.0, 3): what each part of a program breaks of them, with
 -- its line and the reason.
 use Rattle.std.specs.Prelude.{◌&&◌, ◌||◌, not, nat_lt, bytes_eq, Bool, false, List, [], ◌∷◌, ◌++◌, map, length, slice_get, Option, Some, None}

@@ -1,3 +1,4 @@
+-- Of private clauses.
 -- What private contracts see of names that are put together one after the other. No public clause cites this file.
 use Rattle.std.specs.Prelude.{◌≡◌, false, bytes_eq, List}
 use Rattle.std.specs.List.{list_any}

@@ -1,3 +1,4 @@
+-- Of the claim.
 -- The expressions of statements, each with what its place asks of its type and rank (Fortran 95, 7.4.1.4, 7.5.1.1, 7.5.3, 7.5.4,
 -- 8.1.2, 8.1.4 and 9.4.2).
 use Rattle.std.specs.Prelude.{Bool, true, false, ◌&&◌, ◌||◌, nat_eq, nat_le, is_some, List, [], ◌∷◌, ◌++◌, map}

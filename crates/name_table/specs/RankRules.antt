@@ -1,3 +1,4 @@
+-- Of the claim.
 -- The rules of types and ranks (Fortran 95, 6.2, 7.1, 7.4, 7.5, 8.1, 9.4 and 13.11; HPF 2.0, 3): each expression is what its
 -- place asks.
 use Rattle.std.specs.Prelude.{Bool, true, not, List, ◌++◌, map}

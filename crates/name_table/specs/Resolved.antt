@@ -1,3 +1,4 @@
+-- Of the claim.
 -- What a program is refused for, and what holds of one that isn't.
 use Rattle.std.specs.Prelude.{Option, Some, None}
 use Rattle.hpf_base.specs.FirstBreach.{Among}

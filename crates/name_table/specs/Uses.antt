@@ -1,3 +1,4 @@
+-- Of the claim.
 -- The names that statements and directives use, beside those in their expressions, and what each must stand for (Fortran 95, 7.5.1.1,
 -- 7.5.4.1 and 8.1.4; HPF 2.0, 3 and 5.1).
 use Rattle.std.specs.Prelude.{Bool, false, ◌&&◌, ◌||◌, not, List, [], ◌∷◌}

@@ -1,3 +1,4 @@
+-- Of private clauses.
 -- What private contracts see of the names of a nest while they are gathered, and of a nest after its outermost loop. No public clause cites
 -- this file.
 use Rattle.std.specs.Prelude.{ℕ, Bool, true, false, List, [], ◌∷◌, ◌++◌, map, Some}

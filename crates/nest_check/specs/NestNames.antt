@@ -1,3 +1,4 @@
+-- Of the claim.
 -- What the names in a nest of INDEPENDENT loops stand for (HPF 2.0, 5.1).
 use Rattle.std.specs.Prelude.{bytes_eq, List, [], ◌∷◌, ◌++◌, map, length, Option, Some, None, if◌then◌else◌}
 use Rattle.std.specs.List.{list_any, flat_map}

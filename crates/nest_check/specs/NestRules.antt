@@ -1,3 +1,4 @@
+-- Of the claim.
 -- The rules of nests of INDEPENDENT loops (HPF 2.0, 5.1), many of them restrictions of this language.
 use Rattle.std.specs.Prelude.{ℕ, ℤ, Bool, true, false, ◌&&◌, ◌||◌, not, bytes_eq, List, [], ◌∷◌, ◌++◌, Option, Some, None, option_map}
 use Rattle.std.specs.List.{list_all, flat_map}

@@ -1,3 +1,4 @@
+-- Of the claim.
 -- What every path through the body of a nest has assigned (HPF 2.0, 5.1). A path takes one branch of an IF, and may take no turn of a DO.
 use Rattle.std.specs.Prelude.{ℕ, Bool, true, List, [], ◌∷◌, ◌++◌}
 use Rattle.std.specs.List.{filter}

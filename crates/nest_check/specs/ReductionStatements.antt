@@ -1,3 +1,4 @@
+-- Of the claim.
 -- Reduction statements (HPF 2.0, 5.1.2): `S = S + e` and its like, where e doesn't name S. `S = S + a + b` is none, since its left operand is
 -- `S + a`.
 use Rattle.std.specs.Prelude.{Bool, true, false, ◌&&◌, ◌||◌, not, bytes_eq, Option, None, if◌then◌else◌}

@@ -1,3 +1,4 @@
+-- Of a promise.
 -- The first clash of a nest's iterations, by what it is (HPF 2.0, 5.1).
 use Rattle.std.specs.Prelude.{◌≡◌, ℕ, ◌<◌, ◌≤◌, ◌⊎◌, List, true, ◌||◌, Option, Some, None}
 use Rattle.std.specs.List.{Contains}

@@ -1,3 +1,4 @@
+-- Of a promise.
 -- The first clash from how each object was visited: one pass over the objects, in the order of declarations and then of elements.
 use Rattle.std.specs.Prelude.{ℕ, zero, suc, nat_eq, nat_lt, nat_le, List, map, Bool, ◌&&◌, ◌||◌, if◌then◌else◌, Option, Some, None}
 use Rattle.std.specs.List.{filter}

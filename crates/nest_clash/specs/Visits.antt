@@ -1,3 +1,4 @@
+-- Of a promise.
 -- How one object is visited by iterations, one after the other, and what that tells of the first two that interfere.
 use Rattle.std.specs.Prelude.{◌≡◌, ℕ, zero, suc, ◌<◌, ◌≤◌, ◌⊎◌, nat_eq, List, [], ◌∷◌, fold, Bool, true, false, ◌||◌, if◌then◌else◌}
 

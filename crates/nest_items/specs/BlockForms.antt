@@ -1,3 +1,4 @@
+-- Of a promise.
 -- Blocks in which each nest is one by its form.
 use Rattle.std.specs.Prelude.{ℕ, ◌≤◌, length, Bool, false}
 use Rattle.array_meaning.specs.TheConstants.{MAX_INDICES}

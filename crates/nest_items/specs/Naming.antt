@@ -1,3 +1,4 @@
+-- Of a promise.
 -- The names in expressions and statements.
 use Rattle.std.specs.Prelude.{ℕ, ◌<◌}
 use Rattle.array_meaning.specs.Terms.{Term, Number, Scalar, Index, Element, Section, Apply, Reduce, Terms, NoTerm, More}

@@ -1,3 +1,4 @@
+-- Of a promise.
 -- How runs end that end as the statements of the law of nests.
 use Rattle.std.specs.Prelude.{◌≡◌, ℕ, length, Bool, true, Result, Ok, Err}
 use Rattle.storage.specs.Storage.{Storage, row_of}

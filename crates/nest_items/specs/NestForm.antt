@@ -1,3 +1,4 @@
+-- Of a promise.
 -- What may stand in a nest by its form alone (HPF 2.0, 5.1): as `Standing`, without a state.
 use Rattle.std.specs.Prelude.{◌≡◌, ℕ, List, [], ◌∷◌, ℤ, Bool, true, false, ◌&&◌, Some, None, FitsSigned}
 use Rattle.std.specs.Int.{w64}

@@ -1,3 +1,4 @@
+-- Of a promise.
 -- The statements of a nest as those of the law of nests (`nest_order`), over the storage of a state.
 use Rattle.std.specs.Prelude.{ℕ, [], ℤ, Bool, Some, None, Result, Ok, Err}
 use Rattle.op_tables.specs.Operators.{is_true}

@@ -1,3 +1,4 @@
+-- Of a promise.
 -- What every path through a block has assigned: a path takes one branch of an IF, and may take no turn of a DO (HPF 2.0, 5.1).
 use Rattle.std.specs.Prelude.{◌≡◌, ℕ, Bool, true, ◌&&◌, ◌||◌, nat_eq}
 use Rattle.nest_syntax.specs.NestKinds.{Kind, New}

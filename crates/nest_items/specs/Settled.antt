@@ -1,3 +1,4 @@
+-- Of a promise.
 -- States that differ in some scalars alone, and the values of indices after their loops.
 use Rattle.std.specs.Prelude.{◌≡◌, ℕ, nat_eq, length, Bool, true, false, ◌&&◌, not}
 use Rattle.nest_order.specs.Turns.{after_turns}

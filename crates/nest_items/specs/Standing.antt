@@ -1,3 +1,4 @@
+-- Of a promise.
 -- What may stand in a nest, in a state at its entry (HPF 2.0, 5.1).
 use Rattle.std.specs.Prelude.{◌≡◌, ℕ, ◌<◌, List, [], ◌∷◌, ◌⊎◌, Option, Some, None, Bool, true, false, ◌&&◌, ◌||◌, not, Ok, FitsSigned}
 use Rattle.std.specs.Int.{w64}

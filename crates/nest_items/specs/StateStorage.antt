@@ -1,3 +1,4 @@
+-- Of a promise.
 -- A state over a storage: each scalar that a nest assigns is a row of one element, and each array is the row of its elements. Row k is that of
 -- the name with place k.
 use Rattle.std.specs.Prelude.{ℕ, suc, List, [], ◌∷◌, ℤ, if◌then◌else◌}

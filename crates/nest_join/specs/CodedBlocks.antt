@@ -1,3 +1,4 @@
+-- Of a promise.
 -- The innermost block of a nest as a body of texts for the machine.
 use Rattle.std.specs.Prelude.{◌≡◌, ℕ, ◌<◌, nat_eq, List, [], ◌∷◌, Bool, true, false, ◌&&◌, Some, None, if◌then◌else◌}
 use Rattle.op_tables.specs.Operators.{wrapped}

@@ -1,3 +1,4 @@
+-- Of proofs.
 -- The slots and rows of the machine as a state.
 use Rattle.std.specs.Prelude.{ℕ, zero, suc, List, [], ◌∷◌, ℤ}
 use Rattle.expression_rules.specs.declared.dims.Dim.{Dim}

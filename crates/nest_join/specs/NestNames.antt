@@ -1,3 +1,4 @@
+-- Of a promise.
 -- The names of a nest on the machine, and what its texts may name.
 use Rattle.std.specs.Prelude.{◌≡◌, ℕ, ◌<◌, ◌⊎◌, List, ◌++◌, length, Bool, true, false, Option, Some, None}
 use Rattle.nest_syntax.specs.NestKinds.{Kind, has_copies}

@@ -1,3 +1,4 @@
+-- Of a promise.
 -- How a nest of the meaning and its code on the machine end.
 use Rattle.std.specs.Prelude.{◌≡◌, ℕ, ◌+◌, ◌<◌, ◌≤◌, List, [], length, ℤ, Bool, true, false, Some, None}
 use Rattle.std.specs.List.{Contains}

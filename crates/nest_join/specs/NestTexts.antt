@@ -1,3 +1,4 @@
+-- Of a promise.
 -- The texts of a nest as texts of the machine, and as texts of the meaning in an iteration.
 use Rattle.std.specs.Prelude.{◌≡◌, ℕ, ◌<◌, ◌≤◌, List, map, length, ℤ, false, None}
 use Rattle.array_meaning.specs.Terms.{Term}

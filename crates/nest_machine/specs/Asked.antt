@@ -1,3 +1,4 @@
+-- Of a promise.
 -- What is evaluated at those iterations alone at which stored conditions are as asked.
 use Rattle.std.specs.Prelude.{ℕ, ◌+◌, ◌&&◌, List, [], ◌∷◌, ◌++◌, drop, slice_index_or, ℤ, pos, Bool, true, false, not, Option, Some}
 use Rattle.storage.specs.Storage.{Spot}

@@ -1,3 +1,4 @@
+-- Of a promise.
 -- The body of a nest: texts of assignments and of conditions, with inner loops that make the same trips at all iterations.
 use Rattle.std.specs.Prelude.{◌≡◌, ℕ, ◌+◌, max, List, ℤ, Bool, true, Option}
 use Rattle.nest_machine.specs.Counting.{Counting}

@@ -1,3 +1,4 @@
+-- Of a promise.
 -- The code of a nest's body, by what its instructions mean. It is over any texts.
 use Rattle.std.specs.Prelude.{ℕ, ◌+◌, List, [], ◌∷◌, ◌++◌, length, ℤ, pos, Bool, Option, Some, None, if◌then◌else◌}
 use Rattle.storage.specs.Storage.{Spot}

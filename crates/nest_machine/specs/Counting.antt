@@ -1,3 +1,4 @@
+-- Of a promise.
 -- How inner loops count their trips, by the numbers in their slots.
 use Rattle.std.specs.Prelude.{◌≡◌, ℕ, zero, suc, ◌+◌, ◌<◌, ◌≤◌, List, slice_index_or, slice_set, ℤ, pos, Bool, true, false}
 use Rattle.machine_steps.specs.Instr.{Control}

@@ -1,3 +1,4 @@
+-- Of a promise.
 -- The code of a nest: copies are made, then the body runs, and then the Verdict and the scalars.
 use Rattle.std.specs.Prelude.{◌≡◌, ℕ, zero, suc, ◌+◌, List, [], ◌∷◌, ◌++◌, length, replicate, slice_set, ℤ, pos, Bool, None}
 use Rattle.op_tables.specs.Joins.{unit}

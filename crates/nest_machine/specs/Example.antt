@@ -1,3 +1,4 @@
+-- Of a promise.
 -- A small nest, on which the law of nests is seen to be met. In Fortran, where T is 5 before:
 --
 --   !HPF$ INDEPENDENT

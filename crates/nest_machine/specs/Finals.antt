@@ -1,3 +1,4 @@
+-- Of a promise.
 -- How a nest ends: its Verdict, and its scalars by their copies.
 use Rattle.std.specs.Prelude.{◌≡◌, ℕ, List, [], ◌∷◌, fold, slice_set, ℤ, Option, Some, None, Bool}
 use Rattle.op_tables.specs.Joins.{join, unit}

@@ -1,3 +1,4 @@
+-- Of a promise.
 -- The statements of an iteration, by the slots at the nest's entry.
 use Rattle.std.specs.Prelude.{ℕ, ◌+◌, List, ℤ, Option, Some, None, Result, Ok, Err, Bool}
 use Rattle.storage.specs.Truth.{number_for}

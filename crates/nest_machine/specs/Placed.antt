@@ -1,3 +1,4 @@
+-- Of a promise.
 -- A nest's storage, whose rows lie elsewhere among the machine's rows.
 use Rattle.std.specs.Prelude.{◌≡◌, ℕ, ◌+◌, ◌<◌, List, length, map, ℤ, Bool, true, Some}
 use Rattle.storage.specs.Storage.{Storage, Spot, row_of, read}

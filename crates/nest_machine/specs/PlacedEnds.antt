@@ -1,3 +1,4 @@
+-- Of a promise.
 -- How a nest ends whose rows lie elsewhere among the machine's.
 use Rattle.std.specs.Prelude.{◌≡◌, ℕ, ◌+◌, ◌<◌, ◌⊎◌, List, length, ℤ, Bool, true, false, Option, Some, None}
 use Rattle.std.specs.List.{Contains, slice_get}

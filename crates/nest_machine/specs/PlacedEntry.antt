@@ -1,3 +1,4 @@
+-- Of a promise.
 -- The entry of a nest whose rows lie elsewhere among the machine's.
 use Rattle.std.specs.Prelude.{◌≡◌, ℕ, ◌<◌, ◌⊎◌, List, length, replicate, ℤ, Bool, true}
 use Rattle.std.specs.List.{Contains, slice_get}

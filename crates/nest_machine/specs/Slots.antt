@@ -1,3 +1,4 @@
+-- Of a promise.
 -- The slots that the code of a nest's body leaves. They are the same whatever the rows hold.
 use Rattle.std.specs.Prelude.{◌≡◌, ℕ, zero, suc, ◌+◌, ◌<◌, List, length, slice_set, ℤ, Bool, false}
 use Rattle.nest_machine.specs.Counting.{slot, Counting, trips_at}

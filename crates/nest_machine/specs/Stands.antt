@@ -1,3 +1,4 @@
+-- Of a promise.
 -- The machine between two instructions of a nest, and code at a place.
 use Rattle.std.specs.Prelude.{◌≡◌, ℕ, ◌+◌, ◌<◌, List, [], ◌∷◌, ℤ, Bool, true}
 use Rattle.machine_steps.specs.Instr.{Running, Instr}

@@ -1,3 +1,4 @@
+-- Of a promise.
 -- What the code of a nest's body does to rows, one instruction after another, with the slots that each then has.
 use Rattle.std.specs.Prelude.{ℕ, ◌+◌, List, [], ◌∷◌, ◌++◌, slice_set, replicate, ℤ, pos, Option, Some, None}
 use Rattle.storage.specs.Storage.{Storage, Spot, read}

@@ -1,3 +1,4 @@
+-- Of a promise.
 -- Scalars that a nest assigns: each is one object in Fortran's loops, and has a copy for each iteration where the nest is taken
 -- apart (HPF 2.0, section 5.1).
 use Rattle.std.specs.Prelude.{ℕ, suc, List, [], ◌∷◌, slice_index_or, replicate, ℤ, pos, Option, Some, None, if◌then◌else◌}

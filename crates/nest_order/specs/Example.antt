@@ -1,3 +1,4 @@
+-- Of a promise.
 -- A small nest, on which the laws are seen to be met. In Fortran, with A and B arrays and B of one element more:
 --
 --   !HPF$ INDEPENDENT, NEW(X), REDUCTION(S)

@@ -1,3 +1,4 @@
+-- Of a promise.
 -- The statements of one iteration, with conditions and inner loops, and what they do.
 use Rattle.std.specs.Prelude.{ℕ, ◌<◌, Option, Some, None, Result, Ok, Bool, true, if◌then◌else◌, IfSome}
 use Rattle.nest_order.specs.Turns.{◌>>=◌, in_turn}

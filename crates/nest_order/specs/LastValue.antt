@@ -1,3 +1,4 @@
+-- Of a promise.
 -- A scalar that the iterations of a nest assign, each in a copy of its own.
 use Rattle.std.specs.Prelude.{ℕ, zero, suc, ℤ, Bool, false, ◌||◌, if◌then◌else◌}
 use Rattle.storage.specs.Storage.{Storage, Spot, is_same_spot, read}

@@ -1,3 +1,4 @@
+-- Of a promise.
 -- What an iteration touches while it goes on past its faults, and what is listed for it.
 use Rattle.std.specs.Prelude.{◌≡◌, List, [], ◌∷◌, ◌++◌, Option, Some, None, Result, Ok, Err, Bool, true, false, if◌then◌else◌}
 use Rattle.nest_order.specs.Turns.{joined_up_to}

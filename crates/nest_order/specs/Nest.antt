@@ -1,3 +1,4 @@
+-- Of a promise.
 -- A nest of statements as acts of parts on one storage, with the stored conditions in rows of their own.
 use Rattle.std.specs.Prelude.{◌≡◌, ℕ, zero, suc, ◌+◌, ◌<◌, List, [], ◌∷◌, ◌++◌, length, slice_get, ℤ, pos, Option, Some, None, Result, Ok, Err, Bool, if◌then◌else◌}
 use Rattle.std.specs.List.{Contains}

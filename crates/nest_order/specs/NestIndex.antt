@@ -1,3 +1,4 @@
+-- Of a promise.
 -- The iterations of nested loops, numbered in execution order: innermost loop first.
 use Rattle.std.specs.Prelude.{ℕ, ◌+◌, ◌*◌, ◌/◌, ◌%◌, ◌<◌, List, [], ◌∷◌, Result}
 use Rattle.nest_order.specs.Turns.{in_turn}

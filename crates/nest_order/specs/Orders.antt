@@ -1,3 +1,4 @@
+-- Of a promise.
 -- The orders of the parts of a nest: iteration by iteration, part by part, and each iteration alone.
 use Rattle.std.specs.Prelude.{◌≡◌, ℕ, zero, suc, ◌<◌, List, ℤ, Result}
 use Rattle.std.specs.List.{Contains}

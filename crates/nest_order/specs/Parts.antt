@@ -1,3 +1,4 @@
+-- Of a promise.
 -- The guarded parts that statements flatten to, and the conditions that they store.
 use Rattle.std.specs.Prelude.{◌≡◌, ℕ, zero, suc, ◌+◌, ◌<◌, nat_eq, List, [], ◌∷◌, ◌++◌, Option, Some, None, Result, Ok, Err, Bool, true, false, ◌&&◌, not, max, if◌then◌else◌}
 use Rattle.nest_order.specs.Turns.{◌>>=◌, joined_up_to}

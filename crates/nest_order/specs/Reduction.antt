@@ -1,3 +1,4 @@
+-- Of a promise.
 -- A REDUCTION variable: its entry value joined with the fold of its copies (HPF 2.0, REDUCTION).
 use Rattle.std.specs.Prelude.{◌≡◌, ℤ, ◌-ℤ◌, List, map, fold}
 use Rattle.op_tables.specs.declared.join.Join.{Join}

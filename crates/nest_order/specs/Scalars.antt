@@ -1,3 +1,4 @@
+-- Of a promise.
 -- What has to hold for the copies of a nest's scalars to do what the scalars do.
 use Rattle.std.specs.Prelude.{◌≡◌, ℕ, ◌<◌, ◌⊎◌, List, length, nat_eq, ℤ, Option, Some, None, Result, Ok, Err, Bool, true, false, ◌&&◌, ◌||◌, FitsSigned}
 use Rattle.std.specs.Int.{w64}

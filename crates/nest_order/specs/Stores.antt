@@ -1,3 +1,4 @@
+-- Of a promise.
 -- What is noted of the stores of a nest, in the order of its plain loops.
 use Rattle.std.specs.Prelude.{ℕ, zero, suc, ℤ, Result, Ok}
 use Rattle.nest_order.specs.Turns.{◌>>=◌, in_turn}

@@ -1,3 +1,4 @@
+-- Of a promise.
 -- Actions one after another, up to the first fault.
 use Rattle.std.specs.Prelude.{ℕ, zero, suc, List, [], ◌++◌, Result, Ok, Err}
 

@@ -1,3 +1,4 @@
+-- Of a promise.
 -- A nest against its parts over copies: what has to hold at its entry, and the storage from which it begins.
 use Rattle.std.specs.Prelude.{◌≡◌, ℕ, ◌+◌, ◌<◌, ◌≤◌, ◌++◌, replicate, pos, length, Bool, true, false, Ok, FitsSigned}
 use Rattle.std.specs.Int.{w64}

@@ -1,3 +1,4 @@
+-- Of a promise.
 -- What the texts of a nest read and write in the storage, and its reduction statements.
 use Rattle.std.specs.Prelude.{ℕ, nat_eq, List, [], ◌∷◌, ◌++◌, map, ℤ, pos, Bool, false, if◌then◌else◌, Option, Some, None, Result, Ok, Err}
 use Rattle.op_tables.specs.declared.op.Op.{Op}

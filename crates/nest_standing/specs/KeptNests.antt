@@ -1,3 +1,4 @@
+-- Of a promise.
 -- A nest of a program that breaks no rule, resolved: by its form it is a nest.
 use Rattle.std.specs.Prelude.{◌≡◌, ℕ, List, [], true, Some, None}
 use Rattle.std.specs.List.{AllByRecursion}

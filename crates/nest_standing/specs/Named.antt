@@ -1,3 +1,4 @@
+-- Of a promise.
 -- What the rules of names and of types say of the statements in a nest of a program.
 use Rattle.std.specs.Prelude.{◌≡◌, bytes_eq, position, List, Bool, true, false, ◌||◌, not, is_some}
 use Rattle.std.specs.List.{AllByRecursion, list_all}

@@ -1,3 +1,4 @@
+-- Of the claim.
 -- At which iterations of a nest something is evaluated: where stored conditions are as asked.
 use Rattle.std.specs.Prelude.{ℕ, List, [], ◌∷◌, ◌++◌, Bool, true, false, Option, Some, None}
 

@@ -1,3 +1,4 @@
+-- Of the claim.
 -- The assignments in the text of a nest of INDEPENDENT loops.
 use Rattle.std.specs.Prelude.{ℕ}
 use Rattle.array_meaning.specs.Terms.{Term, Terms}

@@ -1,3 +1,4 @@
+-- Of the claim.
 -- Expressions in which no name stands.
 use Rattle.std.specs.Prelude.{List, [], ◌∷◌, ℤ, Option, Some, None, option_and_then}
 use Rattle.op_tables.specs.Operators.{operator_value}

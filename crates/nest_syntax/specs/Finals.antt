@@ -1,3 +1,4 @@
+-- Of the claim.
 -- How the scalars that a nest assigns get their values after it.
 use Rattle.std.specs.Prelude.{ℕ}
 use Rattle.op_tables.specs.declared.join.Join.{Join}

@@ -1,3 +1,4 @@
+-- Of the claim.
 -- What a name is to a nest (HPF 2.0, 5.1), and the form of its reduction statements.
 use Rattle.std.specs.Prelude.{ℕ, Bool, true, false, if◌then◌else◌}
 use Rattle.op_tables.specs.declared.join.Join.{Join}

@@ -1,3 +1,4 @@
+-- Of the claim.
 -- A nest's expressions as FORALL's: a scalar that is an index of the nest, or that the nest assigns, is an index.
 use Rattle.std.specs.Prelude.{ℕ, ◌<◌, Option, Some, None}
 use Rattle.array_meaning.specs.Terms.{Term, Number, Scalar, Index, Element, Section, Apply, Reduce, Terms, NoTerm, More}

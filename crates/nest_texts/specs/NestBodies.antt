@@ -1,3 +1,4 @@
+-- Of a promise.
 -- The bodies of nests as the machine's, and how their copies lie.
 use Rattle.std.specs.Prelude.{◌≡◌, List, [], ℤ, Ok}
 use Rattle.machine_steps.specs.Layout.{Layout}

@@ -1,3 +1,4 @@
+-- Of a promise.
 -- How the inner loops of a nest count: in 64 bits, as any DO.
 use Rattle.std.specs.Prelude.{ℕ, ◌+◌, pos, ◌+ℤ◌, ◌-ℤ◌, not}
 use Rattle.op_tables.specs.Operators.{wrapped, is_zero, is_true}

@@ -1,3 +1,4 @@
+-- Of a promise.
 -- What the texts of a nest come to at an iteration.
 use Rattle.std.specs.Prelude.{ℕ, List, ℤ, Option, option_map, Ok}
 use Rattle.op_tables.specs.Operators.{is_true}

@@ -1,3 +1,4 @@
+-- Of the claim.
 -- The instructions of node code.
 use Rattle.std.specs.Prelude.{ℕ, List}
 use Rattle.op_tables.specs.declared.join.Join.{Join}

@@ -1,3 +1,4 @@
+-- Of the claim.
 -- Parallel statements of nests of INDEPENDENT loops (HPF 2.0, 5.1): an assignment, or the condition of an IF, at all iterations. A scalar that the
 -- nest assigns is read and written in the iteration's copy.
 use Rattle.std.specs.Prelude.{ℕ, List}

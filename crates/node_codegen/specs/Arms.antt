@@ -1,3 +1,4 @@
+-- Of private clauses.
 -- IF and its ELSE IFs, before it is known where the IF ends.
 use Rattle.std.specs.Prelude.{◌≡◌, ℕ, ◌+◌, List, [], ◌∷◌, ◌++◌, Vec, length, map}
 use Rattle.std.specs.Global.{Global}

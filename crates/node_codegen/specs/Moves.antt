@@ -1,3 +1,4 @@
+-- Of a promise.
 -- What the REDISTRIBUTEs of each line move. A directive line holds one directive, and so a REDISTRIBUTE is known by its line (HPF 2.0, 8.3).
 use Rattle.std.specs.Prelude.{ℕ, nat_eq, List, [], map, if◌then◌else◌}
 use Rattle.std.specs.List.{flat_map}

@@ -1,3 +1,4 @@
+-- Of private clauses.
 -- No public clause cites this file. What takes the place of the loops of a nest, if it has statements.
 use Rattle.std.specs.Prelude.{List, Option, Some, None, Vec}
 use Rattle.std.specs.Global.{Global}

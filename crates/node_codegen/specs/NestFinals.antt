@@ -1,3 +1,4 @@
+-- Of private clauses.
 -- No public clause cites this file. How scalars get their values after a nest, as code holds it.
 use Rattle.std.specs.Prelude.{ℕ, suc, ◌+◌, List, [], ◌∷◌, if◌then◌else◌}
 use Rattle.array_meaning.specs.Statements.{Block}

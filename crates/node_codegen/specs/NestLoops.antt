@@ -1,3 +1,4 @@
+-- Of private clauses.
 -- No public clause cites this file. A statement that is all of a body, where it is a loop of a nest (HPF 2.0, 5.1).
 use Rattle.std.specs.Prelude.{ℕ, List, [], ◌∷◌, Option, Some, None}
 use Rattle.array_meaning.specs.Statements.{Loop, Block, Statement, Do}

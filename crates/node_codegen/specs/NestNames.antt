@@ -1,3 +1,4 @@
+-- Of private clauses.
 -- No public clause cites this file. What the code of a nest's statements is made over, as code holds it.
 use Rattle.std.specs.Prelude.{◌≡◌, ℕ, ◌+◌, List, ◌∷◌, ◌++◌, map, pos, Option, None, option_map, if◌then◌else◌}
 use Rattle.array_meaning.specs.Terms.{Term, Number}

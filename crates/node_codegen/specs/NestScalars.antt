@@ -1,3 +1,4 @@
+-- Of private clauses.
 -- No public clause cites this file. What joins by the first of the right sides of a scalar's assignments, if there is one.
 use Rattle.std.specs.Prelude.{List, [], ◌∷◌, Option, Some, None}
 use Rattle.op_tables.specs.declared.join.Join.{Join}

@@ -1,3 +1,4 @@
+-- Of private clauses.
 -- No public clause cites this file. The statements of a nest one by one.
 use Rattle.std.specs.Prelude.{◌≡◌, ℕ, ◌+◌, List, ◌∷◌, ◌++◌, length, Bool, true, false, Option, Some}
 use Rattle.array_meaning.specs.Terms.{Term}

@@ -1,3 +1,4 @@
+-- Of a promise.
 -- Cores as their fields hold them: lists of nodes and of queues.
 use Rattle.std.specs.Prelude.{◌≡◌, ℕ, ◌+◌, ◌*◌, ◌<◌, ◌^◌, List, [], length, slice_index_or, if◌then◌else◌, nat_lt}
 use Rattle.node_law.specs.NodeSteps.{NodeSteps}

@@ -1,3 +1,4 @@
+-- Of a promise.
 -- Cores as contracts see them.
 use Rattle.std.specs.Prelude.{◌≡◌, ℕ, ◌<◌, List, length, take, slice_index_or}
 use Rattle.std.specs.List.{slice_get}

@@ -1,3 +1,4 @@
+-- Of private clauses.
 -- No public clause cites this file.
 -- The stages of a phase, and what a core does in it.
 use Rattle.std.specs.Prelude.{◌≡◌, ℕ, ◌<◌, ◌⊎◌, Some}

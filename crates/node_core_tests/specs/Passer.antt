@@ -1,3 +1,4 @@
+-- Of a promise.
 -- What a node of the ring does.
 use Rattle.std.specs.Prelude.{ℕ, ◌+◌, ◌==◌, true, if◌then◌else◌}
 use Rattle.node_law.specs.declared.act.Act.{Act}

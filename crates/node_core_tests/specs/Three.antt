@@ -1,3 +1,4 @@
+-- Of a promise.
 -- The three nodes at the beginning.
 use Rattle.std.specs.Prelude.{ℕ, List, [], ◌∷◌}
 use Rattle.node_core_tests.specs.declared.passer.Passer.{Passer}

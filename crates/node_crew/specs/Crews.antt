@@ -1,3 +1,4 @@
+-- Of private clauses.
 -- Crews.
 use Rattle.std.specs.Prelude.{List, flat_map}
 

@@ -1,3 +1,4 @@
+-- Of the claim.
 -- Cores: nodes with a queue of letters for each ordered pair of them, and the steps of a core.
 use Rattle.std.specs.Prelude.{◌≡◌, ℕ, zero, suc, ◌==◌, ◌&&◌, List, [], ◌∷◌, ◌++◌, length, Option, Some, None, IsSome, if◌then◌else◌, nat_lt}
 use Rattle.std.specs.List.{slice_get, All}

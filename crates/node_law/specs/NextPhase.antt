@@ -1,3 +1,4 @@
+-- Of private clauses.
 -- No public clause cites this file.
 -- Which phase comes next, where nodes pass their phases one after another.
 use Rattle.std.specs.Prelude.{◌≡◌, ◌≢◌, ◌⊎◌, ℕ, List, [], Option, Some}

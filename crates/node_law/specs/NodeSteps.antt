@@ -1,3 +1,4 @@
+-- Of the claim.
 -- The steps of nodes that pass letters: functions of the node, and of the letter that it takes.
 use Rattle.std.specs.Prelude.{◌≡◌, ℕ, ◌==◌, Bool, List, [], ◌∷◌, Option, Some, None, if◌then◌else◌}
 use Rattle.node_law.specs.declared.act.Act.{Act}

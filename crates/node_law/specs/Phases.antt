@@ -1,3 +1,4 @@
+-- Of the claim.
 -- Phases, and the lockstep run of nodes. `ns p` is the node at the number p, or None past the last node.
 use Rattle.std.specs.Prelude.{◌≡◌, ℕ, ◌+◌, ◌%◌, ◌^◌, ◌≤◌, IsTrue, List, [], ◌∷◌, ◌++◌, Option, Some, None}
 use Rattle.node_law.specs.NodeSteps.{NodeSteps, Move, Worked, Sent, Taken, node_after, AreMovesOf, after_at, IsDoneAt, sent, taken}

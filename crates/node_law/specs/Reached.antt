@@ -1,3 +1,4 @@
+-- Of the claim.
 -- Cores that are reached from phased nodes, what one step of them answers, and where they end.
 use Rattle.std.specs.Prelude.{◌≡◌, ℕ, zero, suc, ◌-◌, ◌+◌, ◌⊎◌, List, [], length, Option, Some, None}
 use Rattle.std.specs.List.{slice_get}

@@ -1,3 +1,4 @@
+-- Of private clauses.
 -- No public clause cites this file. Copies that are made.
 use Rattle.std.specs.Prelude.{◌≡◌, ◌≤◌, All, ℕ, ℤ, List, length}
 use Rattle.hpf_base.specs.declared.limits.TheConstants.{MAX_ELEMENTS, MAX_RANK}

@@ -1,3 +1,4 @@
+-- Of private clauses.
 -- No public clause cites this file. What a node exchanges for the instruction at its place.
 use Rattle.array_meaning.specs.Faults.{Fault}
 use Rattle.machine_steps.specs.Machine.{instr_at}

@@ -1,3 +1,4 @@
+-- Of private clauses.
 -- No public clause cites this file. Who sends the value of an element that all nodes fetch.
 use Rattle.std.specs.Prelude.{ℕ, ◌==◌, ◌&&◌, Bool, not, List}
 use Rattle.storage.specs.Storage.{Spot}

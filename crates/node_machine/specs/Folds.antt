@@ -1,3 +1,4 @@
+-- Of private clauses.
 -- No public clause cites this file. Copies that are folded, and last values of copies.
 use Rattle.std.specs.Prelude.{ℕ, ◌==◌, ◌&&◌, Bool, ℤ, List, Option, Some, None, if◌then◌else◌}
 use Rattle.storage.specs.Storage.{Spot, Storage}

@@ -1,3 +1,4 @@
+-- Of a promise.
 -- Nodes at the beginning of a run.
 use Rattle.std.specs.Prelude.{ℕ, ℤ, List}
 use Rattle.array_meaning.specs.Faults.{Fault}

@@ -1,3 +1,4 @@
+-- Of private clauses.
 -- No public clause cites this file. Parallel statements on a node.
 use Rattle.std.specs.Prelude.{◌≡◌, ◌<◌, ℕ, ℤ, All, List, Option, Some}
 use Rattle.std.specs.Arc.{arc_value}

@@ -1,3 +1,4 @@
+-- Of private clauses.
 -- No public clause cites this file. What of a phase is still to be sent and to be taken.
 use Rattle.std.specs.Prelude.{ℕ, ℤ, List, [], ◌∷◌, slice_index_or, slice_set, Option, Some, None, Bool, true, false}
 use Rattle.node_law.specs.Phases.{next_number}

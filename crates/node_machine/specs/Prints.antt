@@ -1,3 +1,4 @@
+-- Of private clauses.
 -- No public clause cites this file. Steps of a PRINT.
 use Rattle.std.specs.Prelude.{◌≡◌, ℕ, ℤ, List, ◌∷◌, Option, Some, None}
 use Rattle.std.specs.List.{slice_get}

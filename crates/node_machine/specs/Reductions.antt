@@ -1,3 +1,4 @@
+-- Of private clauses.
 -- No public clause cites this file. The first step of reductions on a node.
 use Rattle.std.specs.Prelude.{◌≡◌, ℕ, ℤ, List}
 use Rattle.op_tables.specs.declared.join.Join.{Join}

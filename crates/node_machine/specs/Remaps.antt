@@ -1,3 +1,4 @@
+-- Of private clauses.
 -- No public clause cites this file. New mappings on a node.
 use Rattle.std.specs.Prelude.{◌≡◌, ◌==◌, ℕ, true, List, length, map, nat_lt, if◌then◌else◌}
 use Rattle.std.specs.List.{list_all}

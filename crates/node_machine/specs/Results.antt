@@ -1,3 +1,4 @@
+-- Of private clauses.
 -- No public clause cites this file. Elements that are fetched and stored.
 use Rattle.std.specs.Prelude.{◌≡◌, ℤ, List, [], Result}
 use Rattle.storage.specs.Storage.{Spot}

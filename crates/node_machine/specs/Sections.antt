@@ -1,3 +1,4 @@
+-- Of private clauses.
 -- No public clause cites this file. Sections that are printed.
 use Rattle.std.specs.Prelude.{◌≡◌, ℕ, ℤ, List, [], ◌∷◌}
 use Rattle.array_meaning.specs.Execution.{decimals}

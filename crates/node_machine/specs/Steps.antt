@@ -1,3 +1,4 @@
+-- Of private clauses.
 -- No public clause cites this file. What the instruction at a node's place has it do.
 use Rattle.std.specs.Prelude.{◌≡◌, ◌<◌, ◌≤◌, ◌^◌, ℕ, pos, List, Some, length, true, ⊤}
 use Rattle.std.specs.List.{slice_get}

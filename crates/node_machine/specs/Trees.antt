@@ -1,3 +1,4 @@
+-- Of private clauses.
 -- No public clause cites this file. Instructions whose values go round a tree.
 use Rattle.std.specs.Prelude.{◌≡◌, ◌≤◌, ℕ, Bool, true, false}
 use Rattle.array_meaning.specs.Faults.{Fault}

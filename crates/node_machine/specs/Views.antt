@@ -1,3 +1,4 @@
+-- Of a promise.
 -- What contracts see of a node's program and fields.
 use Rattle.std.specs.Prelude.{◌≡◌, ℕ, ◌<◌, ◌≤◌, List, length}
 use Rattle.std.specs.Arc.{arc_value}

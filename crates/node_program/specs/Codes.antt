@@ -1,3 +1,4 @@
+-- Of a promise.
 -- Codes of the expressions of node code, which hold themselves: each goes as the tokens of its postfix form.
 use Rattle.std.specs.Prelude.{◌≡◌, ℕ, ℤ, pos, List, [], ◌∷◌}
 use Rattle.std.specs.Coded.{Coded, code_by, codes}

@@ -1,3 +1,4 @@
+-- Of a promise.
 -- Programs that fit rows.
 use Rattle.std.specs.Prelude.{◌≡◌, ℕ, ◌==◌, ◌&&◌, nat_le, nat_lt, Bool, true, List, length, map, Option, Some, None}
 use Rattle.std.specs.List.{list_all, slice_get}

@@ -1,3 +1,4 @@
+-- Of a promise.
 -- Codes of the nests that node code checks: resolved expressions and statements, which hold themselves, go as the tokens of their postfix forms.
 use Rattle.std.specs.Prelude.{◌≡◌, ℕ, ℤ, pos, List, [], ◌∷◌, Option}
 use Rattle.std.specs.Coded.{Coded, code_by, codes}

@@ -1,3 +1,4 @@
+-- Of a promise.
 -- The machine with whole arrays at the beginning of a run.
 use Rattle.std.specs.Prelude.{ℕ, ℤ, pos, List, [], ◌∷◌, replicate, None}
 use Rattle.array_meaning.specs.Faults.{Fault}

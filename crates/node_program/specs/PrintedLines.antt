@@ -1,3 +1,4 @@
+-- Of private clauses.
 -- No public clause cites this file. Lines that a PRINT prints.
 use Rattle.std.specs.Prelude.{ℕ, List, [], ◌∷◌, ◌++◌, drop, map}
 use Rattle.expression_rules.specs.declared.dims.Dim.{Dim}

@@ -1,3 +1,4 @@
+-- Of the claim.
 -- What contracts see of a program.
 use Rattle.std.specs.Prelude.{List, map}
 use Rattle.mappings.specs.declared.mapping.Mapping.{Mapping}

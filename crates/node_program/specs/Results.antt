@@ -1,3 +1,4 @@
+-- Of private clauses.
 -- No public clause cites this file. Results of evaluations in code, as those of the definitions.
 use Rattle.std.specs.Prelude.{ℤ, Result, Ok, Err}
 use Rattle.storage.specs.Storage.{Spot}

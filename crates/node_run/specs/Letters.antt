@@ -1,3 +1,4 @@
+-- Of a promise.
 -- The letters of a whole run, by the machine with whole arrays.
 use Rattle.std.specs.Prelude.{◌≡◌, ℤ, ◌*◌, ℕ, zero, suc, ◌==◌, ◌&&◌, Bool, List, [], ◌∷◌, ◌++◌, map, length, Option, Some, None, if◌then◌else◌, slice_get}
 use Rattle.std.specs.List.{range_with_len}

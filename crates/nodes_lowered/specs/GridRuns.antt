@@ -1,3 +1,4 @@
+-- Of the claim.
 -- A program on the nodes of a grid, where its arrays lie as they are mapped on it.
 use Rattle.std.specs.Prelude.{ℕ, List}
 use Rattle.hpf_base.specs.ElementOrder.{product}

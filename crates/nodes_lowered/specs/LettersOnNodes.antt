@@ -1,3 +1,4 @@
+-- Of a promise.
 -- What it is to know all letters of the nodes of a program.
 use Rattle.std.specs.Prelude.{◌≡◌, ◌⊎◌, ℕ, ◌<◌, ◌≤◌, List, []}
 use Rattle.std.specs.List.{slice_get}

@@ -1,3 +1,4 @@
+-- Of the claim.
 -- The mappings that a program gives arrays while it runs (HPF 2.0, 8.3), by their numbers. Instructions name arrays by the places of their
 -- names, and mappings by these numbers.
 use Rattle.std.specs.Prelude.{ℕ, suc, ◌+◌, nat_eq, List, [], ◌∷◌, ◌++◌, length, map, slice_index_or, if◌then◌else◌}

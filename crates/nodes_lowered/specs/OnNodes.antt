@@ -1,3 +1,4 @@
+-- Of the claim.
 -- What it is for the arrays of a program to lie on nodes.
 use Rattle.std.specs.Prelude.{◌≡◌, ℕ, zero, suc, List, [], ◌∷◌, length, map, take, ⊤}
 use Rattle.hpf_base.specs.declared.index.Shape.{Shape}

@@ -1,3 +1,4 @@
+-- Of the claim.
 -- What it is for nodes to run a program: how they begin, and how their run ends.
 use Rattle.std.specs.Prelude.{◌≡◌, ℕ, ◌<◌, List, length, map, take, slice_index_or, Option, Some, None, []}
 use Rattle.std.specs.List.{slice_get}

@@ -1,3 +1,4 @@
+-- Of a promise.
 -- What it is for nodes to pass the trail of a program.
 use Rattle.std.specs.Prelude.{◌≡◌, ℕ, List, [], ◌∷◌, length, take, Some}
 use Rattle.std.specs.List.{slice_get}

@@ -1,3 +1,4 @@
+-- Of the claim.
 -- What operators and intrinsic procedures take, and which of them are more than elemental (Fortran 95, 7.1.2 and 13.11; HPF 2.0,
 -- 7.1).
 use Rattle.std.specs.Prelude.{ℕ, Bool, true, false, ◌&&◌, nat_le}

@@ -1,3 +1,4 @@
+-- Of the claim.
 -- What joins two numbers to one: what a reduction joins its elements by (Fortran 95, 13.14), and a variable of a REDUCTION clause its values
 -- (HPF 2.0, 5.1.2).
 use Rattle.std.specs.Prelude.{◌≡◌, ◌^◌, ◌-◌, ◌&&◌, ◌||◌, ℤ, pos, negsuc, ◌+ℤ◌, ◌*ℤ◌, FitsSigned}

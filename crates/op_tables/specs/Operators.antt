@@ -1,3 +1,4 @@
+-- Of the claim.
 -- The values of operators and of elemental intrinsic procedures, over integers of 64 bits that wrap (Fortran 95, 7.1.5, 7.2 and
 -- 13.14). A logical value is 1 or 0; as a logical operand any number but 0 is true.
 use Rattle.std.specs.Prelude.{ℕ, zero, suc, ◌==◌, ◌%◌, Bool, true, false, ◌&&◌, ◌||◌, not, List, [], ◌∷◌, fold, ℤ, pos, negsuc, ◌+ℤ◌, ◌-ℤ◌, ◌*ℤ◌, neg_ℤ, int_lt, int_le, int_div, int_rem, unsigned_abs, Option, Some, None, if◌then◌else◌}

@@ -1,3 +1,4 @@
+-- Of the claim.
 -- The values of reductions (Fortran 95, 13.14), and what joins the variables of REDUCTION clauses (HPF 2.0, 5.1.2).
 use Rattle.std.specs.Prelude.{List, fold, ℤ, Option, Some, None}
 use Rattle.op_tables.specs.declared.join.Join.{Join}

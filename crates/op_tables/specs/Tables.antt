@@ -1,3 +1,4 @@
+-- Of a promise.
 -- Tables of words: the row that a word finds, and what a table of a list of words is.
 use Rattle.std.specs.Prelude.{◌≡◌, ℕ, ◌&&◌, Bool, true, IsTrue, bytes_eq, List, [], ◌∷◌, map, length, Option}
 use Rattle.std.specs.List.{find, list_all, range_with_len}

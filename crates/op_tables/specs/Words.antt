@@ -1,3 +1,4 @@
+-- Of the claim.
 -- The words of the language, in five tables, each in ascending order of its bytes. A word's code is its place in its
 -- table, from 0.
 use Rattle.std.specs.Prelude.{ℕ, ◌||◌, Bool, bytes_eq, is_some, List, [], ◌∷◌, Option, position, codes}

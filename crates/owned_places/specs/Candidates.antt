@@ -1,3 +1,4 @@
+-- Of a promise.
 -- Places of an axis among which are all that pass a test.
 use Rattle.std.specs.Prelude.{◌≡◌, ℕ, ◌+◌, ◌<◌, Bool, true, List, filter, length, map, min, IfSome, Option, Some, None}
 use Rattle.std.specs.List.{range_with_len}

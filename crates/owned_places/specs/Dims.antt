@@ -1,3 +1,4 @@
+-- Of a promise.
 -- No public clause cites this file.
 -- Tests of one dimension of an array.
 use Rattle.std.specs.Prelude.{◌≡◌, ℕ, ◌+◌, ◌<◌, ◌≤◌, ◌==◌, Bool, true, false, ◌&&◌, cond, ⊤, List, [], ◌∷◌, length, slice_index_or, All, ℤ, ◌+ℤ◌, ◌*ℤ◌, Option, Some, None}

@@ -1,3 +1,4 @@
+-- Of a promise.
 -- That elements lie inside a template has one proof at most, as a ghost field asks. No public clause cites this file.
 use Rattle.std.specs.Prelude.{ℕ, ℤ, List, Option, Some, None}
 use Rattle.std.proofs.Props.{props}

@@ -1,3 +1,4 @@
+-- Of a promise.
 -- What a node owns of what a reference names.
 use Rattle.std.specs.Prelude.{ℕ, List}
 use Rattle.mappings.specs.declared.mapping.Mapping.{Mapping}

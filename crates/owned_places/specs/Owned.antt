@@ -1,3 +1,4 @@
+-- Of a promise.
 -- Rows that lie as references take them.
 use Rattle.std.specs.Prelude.{◌≡◌, length, All}
 use Rattle.mappings.specs.Mapping.{IsAlign}

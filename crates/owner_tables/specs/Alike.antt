@@ -1,3 +1,4 @@
+-- Of private clauses.
 -- Nodes that own the same elements.
 use Rattle.std.specs.Prelude.{ℕ, ◌==◌, Bool, true, List, filter, slice_index}
 use Rattle.std.specs.List.{list_all, range_with_len}

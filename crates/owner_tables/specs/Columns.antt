@@ -1,3 +1,4 @@
+-- Of private clauses.
 -- What the dimensions of an array say of its elements: the number of the least owner, and the local address.
 use Rattle.std.specs.Prelude.{◌≡◌, ℕ, ◌+◌, ◌*◌, ◌/◌, ◌%◌, ◌<◌, ◌≤◌, ◌==◌, ℤ, pos, ◌+ℤ◌, unsigned_abs, List, [], ◌∷◌, map, filter, take, length, slice_index_or, Option, Some, None}
 use Rattle.std.specs.List.{range_with_len}

@@ -1,3 +1,4 @@
+-- Of a promise.
 -- Layouts that are valid for a number of nodes.
 use Rattle.std.specs.Prelude.{◌≡◌, ℕ, length, All}
 use Rattle.hpf_base.specs.ElementOrder.{elements, product}

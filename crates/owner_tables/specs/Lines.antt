@@ -1,3 +1,4 @@
+-- Of a promise.
 -- Elements of a row at equal distances, and values put at equal distances.
 use Rattle.std.specs.Prelude.{ℕ, ◌+◌, ◌*◌, ℤ, List, [], ◌∷◌, slice_set}
 use Rattle.storage.specs.Storage.{Spot}

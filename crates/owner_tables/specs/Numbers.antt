@@ -1,3 +1,4 @@
+-- Of private clauses.
 -- The least owners of elements.
 use Rattle.std.specs.Prelude.{ℕ}
 use Rattle.machine_steps.specs.Layout.{Layout, first, owned_by}

@@ -1,3 +1,4 @@
+-- Of a promise.
 -- Elements among which each one has a like.
 use Rattle.std.specs.Prelude.{◌≡◌, ℕ, ◌<◌, All, Bool, List, filter, length, slice_index_or}
 use Rattle.std.specs.List.{range_with_len}

@@ -1,3 +1,4 @@
+-- Of private clauses.
 -- Elements at equal distances that have the same owners, by the dimensions of the array. Only private contracts cite it.
 use Rattle.std.specs.Prelude.{◌≡◌, ℕ, ◌+◌, ◌*◌, ◌<◌, ◌≤◌, List}
 use Rattle.hpf_base.specs.ElementOrder.{product}

@@ -1,3 +1,4 @@
+-- Of private clauses.
 -- What the tables of a row hold.
 use Rattle.std.specs.Prelude.{◌≡◌, ◌≤◌, map, replicate}
 use Rattle.std.specs.List.{range_with_len}

@@ -1,3 +1,4 @@
+-- Of the claim.
 -- What contracts see of the tables.
 use Rattle.std.specs.Prelude.{ℕ, List}
 use Rattle.machine_steps.specs.Layout.{Layout}

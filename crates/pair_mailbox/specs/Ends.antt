@@ -1,3 +1,4 @@
+-- Of the claim.
 -- What contracts see of the ends of a pair's queue, and of a closed one.
 use Rattle.std.specs.Prelude.{ℕ, List}
 use Rattle.atomic_table.specs.Seated.{TableId}

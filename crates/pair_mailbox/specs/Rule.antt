@@ -1,3 +1,4 @@
+-- Of a promise.
 -- The rule of a pair's queue, over what it holds and over the views of its passes.
 use Rattle.std.specs.Prelude.{◌≡◌, ℕ, ◌+◌, ◌%◌, ◌^◌, ◌≤◌, true, false, List, [], ◌++◌, length, Some, slice_get}
 use mathlib.Core.Option.{some}

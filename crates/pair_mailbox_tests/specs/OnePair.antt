@@ -1,3 +1,4 @@
+-- Of a promise.
 -- The route of the letters.
 use Rattle.pair_mailbox.specs.declared.route.Route.{Route}
 

@@ -1,3 +1,4 @@
+-- Of private clauses.
 -- No public clause cites this file.
 -- Places of an axis by classes: those of a class follow one another by one step.
 use Rattle.std.specs.Prelude.{◌≡◌, ℕ, ◌+◌, ◌*◌, ◌%◌, ◌<◌, ◌≤◌, ◌⊎◌, ⊤, All, true, List, [], ◌∷◌, Option, Some, None}

@@ -1,3 +1,4 @@
+-- Of private clauses.
 -- No public clause cites this file.
 -- Numbers that end at the greatest of 64 bits.
 use Rattle.std.specs.Prelude.{ℕ, ◌-◌, ◌^◌, min}

@@ -1,3 +1,4 @@
+-- Of private clauses.
 -- No public clause cites this file.
 -- Lists of places, one an axis, that are enough for what a reference names: on an axis along which none of its subscripts moves one place does as well as all.
 use Rattle.std.specs.Prelude.{◌≡◌, ℕ, ◌+◌, ◌<◌, ◌==◌, ◌⊎◌, ⊤, Bool, true, false, List, [], ◌∷◌, filter, Option, Some, None}

@@ -1,3 +1,4 @@
+-- Of a promise.
 -- What a node makes of a part after its phase.
 use Rattle.std.specs.Prelude.{ℕ, ℤ, List, [], map, slice_index_or, Option, None, if◌then◌else◌}
 use Rattle.storage.specs.Storage.{Storage, Spot}

@@ -1,3 +1,4 @@
+-- Of a promise.
 -- When two lists of slots agree on the slots that are mentioned.
 use Rattle.std.specs.Prelude.{ℕ, ◌+◌, ◌&&◌, Bool, true, false, List, ℤ}
 use Rattle.std.specs.List.{list_all}

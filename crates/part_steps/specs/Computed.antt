@@ -1,3 +1,4 @@
+-- Of private clauses.
 -- No public clause cites this file.
 -- What the tuples that a node computes come to, one after the other.
 use Rattle.std.specs.Prelude.{ℕ, ℤ, List, [], ◌∷◌, Option}

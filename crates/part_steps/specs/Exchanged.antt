@@ -1,3 +1,4 @@
+-- Of a promise.
 -- What a node exchanges in the phase of a part, and the tuples that it computes.
 use Rattle.std.specs.Prelude.{◌≡◌, ◌<◌, ℕ, List, filter, true}
 use Rattle.std.specs.List.{range_with_len}

@@ -1,3 +1,4 @@
+-- Of private clauses.
 -- What contracts see of the values on a node.
 use Rattle.part_steps.specs.declared.gathered.Gathered.{Gathered}
 use Rattle.part_steps.specs.After.{After}

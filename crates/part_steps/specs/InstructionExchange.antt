@@ -1,3 +1,4 @@
+-- Of a promise.
 -- What a node exchanges for an instruction.
 use Rattle.std.specs.Prelude.{◌≡◌, ℕ, List, ℤ, Some, length}
 use Rattle.array_meaning.specs.Faults.{Fault}

@@ -1,3 +1,4 @@
+-- Of a promise.
 -- The part that an instruction is, by the slots.
 use Rattle.std.specs.Prelude.{ℕ, List, ℤ, Option, Some, None}
 use Rattle.array_meaning.specs.Faults.{Fault}

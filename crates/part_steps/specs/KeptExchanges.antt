@@ -1,3 +1,4 @@
+-- Of a promise.
 -- What a node with a number keeps of exchanges, over the texts of a program.
 use Rattle.std.specs.Prelude.{◌≡◌, ℕ, List, ℤ, IfSome, true}
 use Rattle.std.specs.Arc.{arc_value}

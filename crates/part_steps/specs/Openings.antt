@@ -1,3 +1,4 @@
+-- Of a promise.
 -- What a node sends and takes in the phase of a part.
 use Rattle.std.specs.Prelude.{ℕ, List, map, filter}
 use Rattle.std.specs.List.{range_with_len}

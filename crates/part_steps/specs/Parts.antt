@@ -1,3 +1,4 @@
+-- Of a promise.
 -- Parts: statements with who computes their tuples.
 use Rattle.std.specs.Prelude.{ℕ, ◌==◌, Bool, List}
 use Rattle.machine_steps.specs.Layout.{Layout, in_bounds}

@@ -1,3 +1,4 @@
+-- Of a promise.
 -- Values that are to be stored in a node's pieces.
 use Rattle.std.specs.Prelude.{ℕ, ◌+◌, List, [], ◌∷◌, ℤ}
 use Rattle.storage.specs.Storage.{Storage, write}

@@ -1,3 +1,4 @@
+-- Of private clauses.
 -- What a part comes to at a strip of the tuples that a node computes. Private contracts alone cite this.
 use Rattle.std.specs.Prelude.{◌≡◌, ℕ, ◌+◌, ◌-◌, ◌*◌, ◌^◌, ◌<◌, ◌≤◌, List, [], ◌∷◌, IfSome, length, map, slice_index, slice_index_or, ℤ, pos, Option, Some, option_map}
 use Rattle.std.specs.List.{range_with_len}

@@ -1,3 +1,4 @@
+-- Of a promise.
 -- What contracts see of parts.
 use Rattle.tuple_values.specs.Views.{statement}
 use Rattle.part_steps.specs.declared.part.Part.{Part}

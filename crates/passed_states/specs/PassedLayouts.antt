@@ -1,3 +1,4 @@
+-- Of a promise.
 -- How the declared names lie after what is passed.
 use Rattle.std.specs.Prelude.{List, [], ◌∷◌}
 use Rattle.mappings.specs.declared.mapping.Mapping.{Mapping}

@@ -1,3 +1,4 @@
+-- Of a promise.
 -- Where entries of a trail are passed.
 use Rattle.std.specs.Prelude.{◌≡◌, ℕ, ◌<◌, List, [], ◌∷◌, take}
 use Rattle.array_meaning.specs.Faults.{Fault}

@@ -1,3 +1,4 @@
+-- Of the claim.
 -- How the declared names lie on nodes after a trail.
 use Rattle.std.specs.Prelude.{ℕ, List, [], ◌∷◌}
 use Rattle.machine_steps.specs.Instr.{Remapping}

@@ -1,3 +1,4 @@
+-- Of the claim.
 -- The code of nests of INDEPENDENT loops (HPF 2.0, 5.1): each statement at all iterations, over copies of the scalars that the nest assigns.
 use Rattle.std.specs.Prelude.{ℕ, ◌+◌, ◌*◌, List, [], ◌∷◌, ◌++◌, length, map, pos, Option, Some, None, if◌then◌else◌, unwrap_or}
 use Rattle.op_tables.specs.declared.join.Join.{Join}

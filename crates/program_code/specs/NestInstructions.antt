@@ -1,3 +1,4 @@
+-- Of the claim.
 -- The code of the statements of a nest of INDEPENDENT loops (HPF 2.0, 5.1), as instructions of node code.
 use Rattle.std.specs.Prelude.{ℕ, zero, suc, ◌+◌, max, List, [], ◌∷◌, ◌++◌, length, pos, Option, Some, None}
 use Rattle.op_tables.specs.declared.op.Op.TheVariants as op

@@ -1,3 +1,4 @@
+-- Of the claim.
 -- The texts of a nest as FORALL's: a form at an index tuple, which is the values of the nest's indices, and outside of subscripts also those of
 -- the copies that the text reads.
 use Rattle.std.specs.Prelude.{ℕ, List, Option}

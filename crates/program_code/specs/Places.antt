@@ -1,3 +1,4 @@
+-- Of the claim.
 -- Where the rows of a nest lie among the machine's rows, as numbers. The nest's storage has a row for each name, and after those its stored conditions.
 -- The machine has a row for each name, after those the copies of each scalar that the nest assigns, then the stored conditions, and then the marks.
 use Rattle.std.specs.Prelude.{◌≡◌, ℕ, suc, ◌+◌, ◌<◌, nat_lt, List, [], ◌∷◌, length, Bool, Option, Some, None, if◌then◌else◌}

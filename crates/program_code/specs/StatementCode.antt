@@ -1,3 +1,4 @@
+-- Of the claim.
 -- The code of statements and of programs. Each statement takes slots from `b` on anew, and keeps those below.
 use Rattle.std.specs.Prelude.{ℕ, ◌+◌, List, [], ◌∷◌, ◌++◌, length, map, max, pos, Bool, true, false, Option, Some, None, option_map}
 use Rattle.op_tables.specs.declared.op.Op.TheVariants as op

@@ -1,3 +1,4 @@
+-- Of private clauses.
 -- Nests of INDEPENDENT loops, while they are put together.
 use Rattle.std.specs.Prelude.{◌≡◌, ℕ, suc, List, Option, None, Some}
 use Rattle.array_meaning.specs.Statements.{Block, Done, Statement, Do, Mark, Unmarked, Outermost}

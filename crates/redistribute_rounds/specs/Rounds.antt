@@ -1,3 +1,4 @@
+-- Of a promise.
 -- What is asked of the rounds of a redistribution.
 use Rattle.std.specs.Prelude.{◌≡◌, ◌≢◌, ℕ, ◌<◌, List, All, map}
 use Rattle.std.specs.List.{AllPairs, flat_map}

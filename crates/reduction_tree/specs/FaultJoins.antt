@@ -1,3 +1,4 @@
+-- Of a promise.
 -- Kept faults join.
 use Rattle.std.proofs.Common.{◌≡◌, None}
 use Rattle.std.proofs.lemmas.Cmp.{then_total, on_total, nat_cmp_total}

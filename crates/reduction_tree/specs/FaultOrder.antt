@@ -1,3 +1,4 @@
+-- Of a promise.
 -- The order of kept faults.
 use Rattle.std.specs.Ordering.{nat_cmp, on, then_cmp}
 use Rattle.std.specs.declared.cmp.Ordering.{Ordering}

@@ -1,3 +1,4 @@
+-- Of a promise.
 -- The first of two items joins, in a total order that tells all items apart.
 use Rattle.std.proofs.Common.{◌≡◌, ℕ, ℤ, Bool, true, false, if◌then◌else◌, Option, Some, None, refl, sym, ◌∙◌, ap}
 use Rattle.std.proofs.lemmas.Bool.{true≢false}

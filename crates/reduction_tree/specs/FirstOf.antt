@@ -1,3 +1,4 @@
+-- Of a promise.
 -- The first of items in an order.
 use Rattle.std.specs.Prelude.{Option, Some, None, if◌then◌else◌}
 use Rattle.std.specs.Ordering.{is_gt}

@@ -1,3 +1,4 @@
+-- Of a promise.
 -- Values at positions join.
 use Rattle.std.proofs.Common.{◌≡◌, None, sym}
 use Rattle.std.proofs.lemmas.Cmp.{then_total, on_total, back_total, nat_cmp_total, int_cmp_total}

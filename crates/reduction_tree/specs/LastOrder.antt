@@ -1,3 +1,4 @@
+-- Of a promise.
 -- The order of values at positions, the last position first.
 use Rattle.std.specs.Ordering.{nat_cmp, int_cmp, on, then_cmp, flip_args}
 use Rattle.std.specs.declared.cmp.Ordering.{Ordering}

@@ -1,3 +1,4 @@
+-- Of a promise.
 -- Trees of rounds: who sends to whom, up to node 0 and down again, and what the nodes have after them.
 use Rattle.std.specs.Prelude.{ℕ, zero, suc, ◌+◌, ◌-◌, ◌*◌, ◌%◌, ◌^◌, ◌==◌, ◌&&◌, Bool, nat_lt, nat_le, if◌then◌else◌}
 use Rattle.std.specs.List.{range_with_len, position_or_len}

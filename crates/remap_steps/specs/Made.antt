@@ -1,3 +1,4 @@
+-- Of a promise.
 -- What a redistribution on a node holds.
 use Rattle.std.specs.Prelude.{◌≡◌, ◌<◌, map}
 use Rattle.std.specs.List.{range_with_len}

@@ -1,3 +1,4 @@
+-- Of a promise.
 -- What a node sends, takes and has in a redistribution (HPF 2.0, 8.3).
 use Rattle.std.specs.Prelude.{ℕ, ℤ, ◌&&◌, Bool, List, [], map, filter, slice_index_or}
 use Rattle.std.specs.List.{list_any, range_with_len}

@@ -1,3 +1,4 @@
+-- Of private clauses.
 -- What is made item by item, in order.
 use Rattle.std.specs.Prelude.{List, [], ◌∷◌}
 use Rattle.resolved_program.specs.declared.terms.Term.{Term as HeldTerm}

@@ -1,3 +1,4 @@
+-- Of the claim.
 -- What a program with its names resolved stands for, apart from where it lies in memory.
 use Rattle.std.specs.Prelude.{ℕ, suc, List, [], ◌∷◌, map, Option, Some, None, option_map}
 use Rattle.resolved_program.specs.declared.terms.Term.{Term as HeldTerm}

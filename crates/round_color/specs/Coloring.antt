@@ -1,3 +1,4 @@
+-- Of the claim.
 -- The colours of the edges between nodes, by the method of D. König (1916).
 --
 -- An edge is the pair of the numbers of two nodes, its source and its target. A node as a source and the same node as a target are two different ends. Colours are numbers from 0,

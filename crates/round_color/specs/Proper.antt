@@ -1,3 +1,4 @@
+-- Of a promise.
 -- What a colouring of edges is, and what an exchange of colours leaves of it.
 use Rattle.std.specs.Prelude.{◌≡◌, ◌≢◌, ℕ, ◌<◌, true, false, List, length, zip, All, AllPairs, Contains, is_some}
 use Rattle.round_color.specs.Coloring.{Colors, is_color, turned}

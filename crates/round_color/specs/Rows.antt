@@ -1,3 +1,4 @@
+-- Of a promise.
 -- Colours of small lists of edges between four nodes.
 use Rattle.std.specs.Prelude.{◌≡◌, [], ◌∷◌}
 use Rattle.round_color.specs.Coloring.{coloring, degree, busiest_node}

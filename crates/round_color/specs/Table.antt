@@ -1,3 +1,4 @@
+-- Of the claim.
 -- A colouring as a table, with a row for each source. Beside `ends` only private contracts cite it.
 use Rattle.std.specs.Prelude.{ℕ, ◌+◌, ◌*◌, nat_lt, Bool, true, false, if◌then◌else◌, List, get_or, Option, None}
 use Rattle.letters.specs.declared.pair.Pair.{Pair}

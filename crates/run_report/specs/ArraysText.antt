@@ -1,3 +1,4 @@
+-- Of the claim.
 -- The text of a program's last arrays.
 use Rattle.std.specs.Prelude.{ℕ, List, [], ◌∷◌, ◌++◌, length, codes, ℤ, Option, Some, None, slice_get, slice_index_or}
 use Rattle.std.specs.Fmt.{signed_decimal}

@@ -1,3 +1,4 @@
+-- Of the claim.
 -- The line that a fault is reported by.
 use Rattle.std.specs.Prelude.{ℕ, List, [], ◌++◌, codes, decimal, ℤ, Option, Some, None, slice_get}
 use Rattle.name_table.specs.declared.names.Entry.{Entry}

@@ -1,3 +1,4 @@
+-- Of the claim.
 -- The text of a program's start mappings.
 use Rattle.std.specs.Prelude.{ℕ, List, ◌++◌, codes, decimal, Option, Some, None}
 use Rattle.std.specs.List.{flat_map, range_with_len}

@@ -1,3 +1,4 @@
+-- Of a promise.
 -- What it says that a value or a place is known.
 use Rattle.std.specs.Prelude.{◌≡◌, ℕ, ℤ, true, Result, Ok}
 use Rattle.array_meaning.specs.Faults.{Cause}

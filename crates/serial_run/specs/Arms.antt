@@ -1,3 +1,4 @@
+-- Of private clauses.
 -- What the arms of an IF come to.
 use Rattle.std.specs.Prelude.{◌≡◌, Option, Some, None}
 use Rattle.array_meaning.specs.Statements.{Arms}

@@ -1,3 +1,4 @@
+-- Of private clauses.
 -- The run of the definitions that a statement's completion in code belongs to.
 use Rattle.std.specs.Prelude.{◌≡◌, ℕ, Result, Ok, Err}
 use Rattle.array_meaning.specs.Faults.{Cause}

@@ -1,3 +1,4 @@
+-- Of private clauses.
 -- The parts of a FORALL.
 use Rattle.std.specs.Prelude.{◌≡◌, ℕ, ◌+◌, ◌%◌, ◌==◌, nat_lt, Bool, false, List, [], ◌∷◌, ℤ, Option, Result, if◌then◌else◌}
 use Rattle.hpf_base.specs.ElementOrder.{product}

@@ -1,3 +1,4 @@
+-- Of private clauses.
 -- The initial values of a name that there may be.
 use Rattle.std.specs.Prelude.{ℤ, pos, Option, Some, None}
 use Rattle.name_table.specs.declared.names.Entry.{Entry}

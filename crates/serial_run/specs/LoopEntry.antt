@@ -1,3 +1,4 @@
+-- Of private clauses.
 -- What comes before the iterations of a loop.
 use Rattle.std.specs.Prelude.{Result, Ok}
 use Rattle.array_meaning.specs.Faults.{Cause, ◌>>=◌}

@@ -1,3 +1,4 @@
+-- Of a promise.
 -- The outcome of the definitions that an outcome in code is.
 use Rattle.std.specs.Prelude.{map}
 use Rattle.array_meaning.specs.Serial.{End, Finished, Faulted, Outcome}

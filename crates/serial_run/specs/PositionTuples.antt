@@ -1,3 +1,4 @@
+-- Of private clauses.
 -- The tuples of positions of a space, one after the other.
 use Rattle.std.specs.Prelude.{◌≡◌, ℕ, ◌+◌, ◌%◌, nat_lt, Bool, false, List, [], ◌∷◌}
 use Rattle.array_meaning.specs.Sections.{positions}

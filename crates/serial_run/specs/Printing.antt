@@ -1,3 +1,4 @@
+-- Of private clauses.
 -- The bytes that PRINT puts one after the other.
 use Rattle.std.specs.Prelude.{◌≡◌, ℕ, ℤ, List, [], ◌++◌, Result, Ok}
 use Rattle.array_meaning.specs.Terms.{SectionSubscripts}

@@ -1,3 +1,4 @@
+-- Of private clauses.
 -- Stores by rows of a space: in each row the places follow one another. Private contracts alone cite this.
 use Rattle.std.specs.Prelude.{ℕ, suc, ◌+◌, ◌/◌, ◌%◌, List, length, map, slice_index_or, ℤ, pos}
 use Rattle.std.specs.List.{range_with_len}

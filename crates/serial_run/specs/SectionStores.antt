@@ -1,3 +1,4 @@
+-- Of private clauses.
 -- What assignments to sections store, before anything is stored.
 use Rattle.std.specs.Prelude.{◌≡◌, ℕ, ℤ, List, [], ◌∷◌, ◌++◌, fold, true, Option, Some, None, Result, Ok}
 use Rattle.array_meaning.specs.Terms.{Term, SectionSubscripts}

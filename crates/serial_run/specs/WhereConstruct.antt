@@ -1,3 +1,4 @@
+-- Of private clauses.
 -- The parts of a WHERE.
 use Rattle.std.specs.Prelude.{List, [], Result}
 use Rattle.array_meaning.specs.Terms.{Term}

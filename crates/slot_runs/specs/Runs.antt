@@ -1,3 +1,4 @@
+-- Of a promise.
 -- Instructions that were run one after another, none of which touches an array.
 use Rattle.std.specs.Prelude.{◌≡◌, ℕ, zero, suc, true, List, Some}
 use Rattle.std.specs.List.{slice_get}

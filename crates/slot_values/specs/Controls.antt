@@ -1,3 +1,4 @@
+-- Of a promise.
 -- The place of the next instruction, the slots, and how a run stands, apart from where they lie in memory.
 use Rattle.array_meaning.specs.Faults.{Fault}
 use Rattle.machine_steps.specs.Instr.{Status, Running, Finished, Faulted, Control}

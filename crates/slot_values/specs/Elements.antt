@@ -1,3 +1,4 @@
+-- Of a promise.
 -- Elements by their places in an array.
 use Rattle.std.specs.Prelude.{ℕ, List, [], ℤ, Option, Result, Ok}
 use Rattle.expression_rules.specs.declared.dims.Dim.{Dim}

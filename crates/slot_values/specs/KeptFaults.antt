@@ -1,3 +1,4 @@
+-- Of a promise.
 -- Faults that are kept.
 use Rattle.std.specs.Prelude.{Option, option_map}
 use Rattle.array_meaning.specs.Faults.{Fault}

@@ -1,3 +1,4 @@
+-- Of a promise.
 -- The instructions that touch no array.
 use Rattle.std.specs.Prelude.{Bool, true, false, List, []}
 use Rattle.expression_rules.specs.declared.dims.Dim.{Dim}

@@ -1,3 +1,4 @@
+-- Of private clauses.
 -- The value of an operator over slots.
 use Rattle.std.specs.Prelude.{List, [], ℤ, Result}
 use Rattle.op_tables.specs.declared.op.Op.{Op}

@@ -1,3 +1,4 @@
+-- Of private clauses.
 -- What one section subscript selects, by the slots.
 use Rattle.std.specs.Prelude.{List, [], ℤ}
 use Rattle.array_meaning.specs.declared.sections.Selection.{Selection}

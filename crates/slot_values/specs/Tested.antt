@@ -1,3 +1,4 @@
+-- Of private clauses.
 -- How a run stands after a test, which changes nothing but that the run goes on or stops.
 use Rattle.std.specs.Prelude.{◌≡◌, ℕ, Bool, true, false, Result, Ok, Err, if◌then◌else◌}
 use Rattle.array_meaning.specs.declared.faults.FaultKind.{FaultKind}

@@ -1,3 +1,4 @@
+-- Of the claim.
 -- What a text may not have in its lines (Fortran 95, 3.3.1; HPF 2.0, 2.3).
 use Rattle.std.specs.Prelude.{◌≡◌, ℕ, ◌⊎◌, Bool, not, false, true, IsTrue, IsFalse, nat_eq, ◌+◌, ◌≤◌, List, [], ◌∷◌, ◌++◌, filter, Option, Some, None}
 use Rattle.std.specs.List.{ends_with, suffix_len}

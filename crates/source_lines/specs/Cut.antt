@@ -1,3 +1,4 @@
+-- Of the claim.
 -- A list cut into pieces that stand one after the other.
 use Rattle.std.specs.Prelude.{ℕ, zero, suc, ◌-◌, List, [], ◌∷◌, take}
 

@@ -1,3 +1,4 @@
+-- Of the claim.
 -- The logical lines of a text (Fortran 95, 3.3.1; HPF 2.0, 2.3).
 use Rattle.std.specs.Prelude.{ℕ, ◌+◌, ◌-◌, not, nat_eq, List, [], ◌∷◌, ◌++◌, map, filter, flat_map, length, take, drop, if◌then◌else◌, bytes_eq}
 use Rattle.std.specs.List.{join_with_byte, list_all, prefix_len, starts_with}

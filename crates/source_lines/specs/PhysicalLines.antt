@@ -1,3 +1,4 @@
+-- Of the claim.
 -- The lines of a text, each alone (Fortran 95, 3.3.1; HPF 2.0, 2.3).
 use Rattle.std.specs.Prelude.{ℕ, ◌+◌, ◌-◌, ◌==◌, nat_eq, nat_lt, nat_le, min, bytes_eq, Bool, false, not, ◌&&◌, ◌||◌, List, [], ◌∷◌, map, filter, length, take, drop, codes, if◌then◌else◌}
 use Rattle.std.specs.Char.{is_ascii_control, to_ascii_uppercase}

@@ -1,3 +1,4 @@
+-- Of a promise.
 -- Who computes the tuples of an assignment.
 use Rattle.machine_steps.specs.Message.{Part}
 use Rattle.owner_tables.specs.Views.{OwnersView}

@@ -1,3 +1,4 @@
+-- Of the claim.
 -- Which lines are statements, and what is wrong with the others.
 use Rattle.std.specs.Prelude.{◌≡◌, ℕ, List, ◌++◌, Some, None}
 use Rattle.hpf_base.specs.declared.refusal.Reason.{Reason}

@@ -1,3 +1,4 @@
+-- Of private clauses.
 -- The kind of a line by its first words.
 use Rattle.std.specs.Prelude.{ℕ, true, false, List, [], ◌∷◌, drop, codes, if◌then◌else◌}
 use Rattle.syntax_tree.specs.Lexeme.{Lexeme}

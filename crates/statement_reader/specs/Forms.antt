@@ -1,3 +1,4 @@
+-- Of the claim.
 -- The statements of the language, each by the grammar of its kind (Fortran 95, 5, 7.5, 8, 9.4 and 11.1).
 use Rattle.std.specs.Prelude.{◌≡◌, ℕ, Bool, true, false, List, ◌++◌, Option, is_some, codes}
 use Rattle.syntax_tree.specs.Lexeme.{Lexeme}

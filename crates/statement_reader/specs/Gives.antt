@@ -1,3 +1,4 @@
+-- Of private clauses.
 -- No public clause cites this file.
 -- What the functions of the code gave.
 use Rattle.std.specs.Prelude.{◌≡◌, ◌≢◌, Bool, true, false, List, [], Result, Ok, Err}

@@ -1,3 +1,4 @@
+-- Of the claim.
 -- Lines that the language leaves out.
 use Rattle.std.specs.Prelude.{◌≡◌, Bool, true, false, ◌&&◌, ◌||◌, is_some, List, [], ◌∷◌, ◌⊎◌, codes, bytes_eq}
 use Rattle.op_tables.specs.Words.{left_out_words, code_in}

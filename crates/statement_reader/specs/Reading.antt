@@ -1,3 +1,4 @@
+-- Of the claim.
 -- The reading of a whole line from left to right.
 use Rattle.std.specs.Prelude.{ℕ, Bool, true, false, ◌||◌, List, [], ◌∷◌, drop, codes, is_some, Option, Some, if◌then◌else◌}
 use Rattle.std.specs.List.{list_any}

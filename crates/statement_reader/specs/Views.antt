@@ -1,3 +1,4 @@
+-- Of a promise.
 -- What the values of statements are, apart from where they lie in memory.
 use Rattle.std.specs.Prelude.{ℕ, Bool, true, false, List, [], ◌∷◌, map, Option, Some, None, option_map}
 use Rattle.syntax_tree.specs.declared.decl.Entity.{Entity}

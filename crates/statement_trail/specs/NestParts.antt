@@ -1,3 +1,4 @@
+-- Of the claim.
 -- The parts of a nest of INDEPENDENT loops (HPF 2.0, 5.1): each is done at all iterations before the next one. An iteration has copies of its own of the scalars
 -- that the nest assigns, and its own stored conditions.
 use Rattle.std.specs.Prelude.{ℕ, zero, suc, ◌+◌, nat_eq, List, [], ◌∷◌, ◌++◌, Bool, true, false, if◌then◌else◌, Option, Some, None, unwrap_or, length}

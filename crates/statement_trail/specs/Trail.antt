@@ -1,3 +1,4 @@
+-- Of the claim.
 -- The trail of a run: the parts of array statements and of nests, and the REDISTRIBUTEs, that are reached, in order, each with the scalars at that
 -- moment and with what is evaluated once for it. It is told beside the meaning, which doesn't know of it.
 use Rattle.std.specs.Prelude.{ℕ, zero, suc, ◌+◌, List, [], ◌∷◌, ◌++◌, ℤ, ◌+ℤ◌, Bool, ◌==◌, if◌then◌else◌, is_some, Option, Some, None, unwrap_or, Result, Ok, Err}

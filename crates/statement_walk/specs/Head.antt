@@ -1,3 +1,4 @@
+-- Of the claim.
 -- What a statement says by itself, without the statements inside it (Fortran 95, 2.3 and 8.1; HPF 2.0, 5.1).
 use Rattle.std.specs.Prelude.{List, Option}
 use Rattle.expression_rules.specs.Expression.{Expression}

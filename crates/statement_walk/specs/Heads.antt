@@ -1,3 +1,4 @@
+-- Of the claim.
 -- What a program's statements say one by one, in the order of the text (Fortran 95, 2.3 and 8.1; HPF 2.0, 5.1): each with its
 -- line and with the indices of the DO loops round it.
 use Rattle.std.specs.Prelude.{ℕ, List, [], ◌∷◌, ◌++◌, map, Option, Some, None}

@@ -1,3 +1,4 @@
+-- Of the claim.
 -- Nests of INDEPENDENT loops (HPF 2.0, 5.1): an INDEPENDENT DO, and within it, as long as the whole body is one further
 -- INDEPENDENT DO, that loop too.
 use Rattle.std.specs.Prelude.{ℕ, List, [], ◌∷◌, ◌++◌, Some, None}

@@ -1,3 +1,4 @@
+-- Of a promise.
 -- What contracts see of the statements of a tree, as a walk meets them. Of public clauses only that of `Judge` cites this file, for
 -- `head_of`.
 use Rattle.std.specs.Prelude.{List, [], ◌∷◌, map, Option, Some, None, option_map, Vec}

@@ -1,3 +1,4 @@
+-- Of the claim.
 -- How stations end.
 use Rattle.std.specs.Prelude.{◌≡◌, ℕ, ◌<◌, ◌+◌, ◌*◌, List, ◌++◌, length, map, Some, None}
 use Rattle.std.specs.List.{slice_get}

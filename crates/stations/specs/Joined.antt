@@ -1,3 +1,4 @@
+-- Of a promise.
 -- Stations whose ends belong together.
 use Rattle.std.specs.Prelude.{◌≡◌, ℕ, List, length, map, Some}
 use Rattle.std.specs.List.{slice_get}

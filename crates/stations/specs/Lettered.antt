@@ -1,3 +1,4 @@
+-- Of a promise.
 -- Nodes that number their letters.
 use Rattle.std.specs.Prelude.{◌≡◌, ℕ, ◌<◌, IsTrue, List, length}
 use Rattle.node_law.specs.declared.act.Act.TheVariants.{Send, Take}

@@ -1,3 +1,4 @@
+-- Of a promise.
 -- A station: one node with the ends of its queues, and what it has done.
 use Rattle.std.specs.Prelude.{◌≡◌, ℕ, ◌<◌, ◌==◌, List, [], ◌∷◌, ◌++◌, length, map, Option, Some, None, if◌then◌else◌}
 use Rattle.std.specs.List.{slice_get}

@@ -1,3 +1,4 @@
+-- Of a promise.
 -- What the answer of a station's step says.
 use Rattle.std.specs.Prelude.{◌≡◌, ℕ, ◌⊎◌, List, ◌++◌, ◌∷◌, [], Option, Some, None, slice_set}
 use Rattle.std.specs.List.{slice_get}

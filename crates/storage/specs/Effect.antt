@@ -1,3 +1,4 @@
+-- Of the claim.
 -- What a part does at an iteration.
 use Rattle.std.specs.Prelude.{ℕ, zero, suc, ℤ, Result, Ok, Err}
 use Rattle.storage.specs.Storage.{Storage, Spot, write}

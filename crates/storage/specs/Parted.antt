@@ -1,3 +1,4 @@
+-- Of a promise.
 -- Parts one after another, each at all iterations before the next, and the faults that are kept meanwhile.
 use Rattle.std.specs.Prelude.{◌≡◌, ℕ, zero, suc, ◌<◌, ◌⊎◌}
 use Rattle.storage.specs.Storage.{Storage}

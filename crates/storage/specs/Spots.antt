@@ -1,3 +1,4 @@
+-- Of a promise.
 -- What contracts see of an element that code holds.
 use Rattle.storage.specs.Storage.{Spot}
 use Rattle.storage.specs.declared.spot.Spot as code

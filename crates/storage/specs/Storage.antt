@@ -1,3 +1,4 @@
+-- Of the claim.
 -- Whole arrays and copies, by row and position.
 use Rattle.std.specs.Prelude.{◌≡◌, ℕ, nat_eq, List, [], length, slice_index_or, slice_set, ℤ, pos, Bool, ◌&&◌}
 

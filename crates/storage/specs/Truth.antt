@@ -1,3 +1,4 @@
+-- Of a promise.
 -- Conditions that are stored as numbers.
 use Rattle.std.specs.Prelude.{ℤ, zero, suc, pos, negsuc, Bool, true, false}
 

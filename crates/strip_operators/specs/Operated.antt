@@ -1,3 +1,4 @@
+-- Of a promise.
 -- What an operator makes of strips.
 use Rattle.std.specs.Prelude.{◌≡◌, ℕ, ◌<◌, List, [], ◌∷◌, length, slice_index_or, ℤ, pos, Ok}
 use Rattle.op_tables.specs.declared.op.Op.{Op}

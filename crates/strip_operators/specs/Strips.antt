@@ -1,3 +1,4 @@
+-- Of a promise.
 -- Values at tuples that follow one another.
 use Rattle.std.specs.Prelude.{◌≡◌, ℕ, ◌<◌, List, length, slice_index_or, ℤ, pos, Result, Ok}
 use Rattle.array_meaning.specs.Faults.{Cause}

@@ -1,3 +1,4 @@
+-- Of a promise.
 -- Places of a section's elements that follow one another.
 use Rattle.std.specs.Prelude.{◌≡◌, ℕ, ◌+◌, ◌/◌, ◌%◌, ◌<◌, List, [], ◌∷◌, slice_index_or, ℤ, Result, Ok}
 use Rattle.array_meaning.specs.Faults.{Cause}

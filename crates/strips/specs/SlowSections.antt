@@ -1,3 +1,4 @@
+-- Of private clauses.
 -- Sections whose subscripts don't wrap in a space of any size that is allowed. Private contracts alone cite this.
 use Rattle.std.specs.Prelude.{Bool, true, ◌&&◌, ◌^◌, nat_le, unsigned_abs}
 use Rattle.array_meaning.specs.declared.sections.Selection.{Selection}

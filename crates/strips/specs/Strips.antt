@@ -1,3 +1,4 @@
+-- Of a promise.
 -- Values of an array expression at tuples that follow one another: a strip of one row, or all tuples of a space.
 use Rattle.std.specs.Prelude.{ℕ, suc, ◌+◌, List, ◌∷◌, ℤ, pos, Result}
 use Rattle.array_meaning.specs.Elementals.{Elemental, value_at}

@@ -1,3 +1,4 @@
+-- Of the claim.
 -- The abstract syntax of mapping directives (HPF 2.0, 3), and what it is of a tree: what they say, apart from where they lie
 -- in memory and from spellings that change nothing.
 use Rattle.std.specs.Prelude.{ℕ, Bool, true, false, List, [], ◌∷◌, map, Option, Some, None, option_map}

@@ -1,3 +1,4 @@
+-- Of the claim.
 -- Expressions as they are written, apart from where they lie in memory (Fortran 95, 7.1).
 use Rattle.std.specs.Prelude.{ℕ, ℤ, Bool, List, [], ◌∷◌}
 use Rattle.op_tables.specs.declared.op.Op.{Op}

@@ -1,3 +1,4 @@
+-- Of the claim.
 -- What tokens are to the grammar (Fortran 95, 3.2).
 use Rattle.std.specs.Prelude.{ℕ, ℤ, List, [], ◌∷◌, map, slice_get, Option, Some, None}
 use Rattle.source_lines.specs.declared.token.Token.{Token}

@@ -1,3 +1,4 @@
+-- Of the claim.
 -- The abstract syntax of programs (Fortran 95, 5 and 11.1), and what it is of a tree: what a program says, apart from where
 -- it lies in memory and from spellings that change nothing. All rules of programs, and their meaning, speak of it.
 use Rattle.std.specs.Prelude.{ℕ, Bool, true, false, List, [], map, Option, Some, None, option_map}

@@ -1,3 +1,4 @@
+-- Of the claim.
 -- Operators and intrinsic procedures, and how tightly an operator binds (Fortran 95, 7.1.1 and 7.3).
 use Rattle.std.specs.Prelude.{ℕ, ◌+◌, List, [], ◌∷◌, slice_get, Option, Some, None, codes}
 use Rattle.op_tables.specs.declared.op.Op.{Op}

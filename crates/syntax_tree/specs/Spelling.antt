@@ -1,3 +1,4 @@
+-- Of the claim.
 -- What spells an expression, and which expressions are well formed (Fortran 95, 7.1).
 use Rattle.std.specs.Prelude.{◌≡◌, ℕ, ◌+◌, ◌≤◌, max, true, false, List, [], ◌∷◌, ◌++◌, Some}
 use Rattle.op_tables.specs.Words.{is_reserved}

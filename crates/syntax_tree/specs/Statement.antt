@@ -1,3 +1,4 @@
+-- Of the claim.
 -- The abstract syntax of statements (Fortran 95, 7.5, 8.1 and 9.4; HPF 2.0, 5.1), and what it is of a tree: what they say,
 -- apart from where they lie in memory and from spellings that change nothing. IF, WHERE or FORALL in one line, with an action
 -- or an assignment after it, is the construct with that alone.

@@ -1,3 +1,4 @@
+-- Of a promise.
 -- What evaluations at tuples end with.
 use Rattle.std.specs.Prelude.{◌≡◌, List, ℤ}
 use Rattle.array_meaning.specs.Faults.{AtTuple}

@@ -1,3 +1,4 @@
+-- Of a promise.
 -- The fault of the definitions that one in code stands for.
 use Rattle.array_meaning.specs.Faults.{Fault}
 use Rattle.term_values.specs.declared.faults.Fault.{Fault as HeldFault}

@@ -1,3 +1,4 @@
+-- Of a promise.
 -- The parts of an evaluation, each as a call answers it.
 use Rattle.std.specs.Prelude.{ℕ, List, ℤ, Result, Ok}
 use Rattle.op_tables.specs.declared.op.Op.{Op}

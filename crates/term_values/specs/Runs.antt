@@ -1,3 +1,4 @@
+-- Of a promise.
 -- Values stored at places of an array that follow one another.
 use Rattle.std.specs.Prelude.{ℕ, ◌+◌, ℤ, List, [], ◌∷◌, slice_set}
 use Rattle.array_meaning.specs.State.{State, store}

@@ -1,3 +1,4 @@
+-- Of private clauses.
 -- The subscripts of a section's element, one after the other.
 use Rattle.std.specs.Prelude.{List, [], ◌∷◌, ℤ}
 use Rattle.op_tables.specs.Operators.{wrapped}

@@ -1,3 +1,4 @@
+-- Of private clauses.
 -- The space of an array expression, by what is known of its sections.
 use Rattle.std.specs.Prelude.{ℕ, nat_le, List, [], ◌∷◌, Bool, ◌&&◌, ◌||◌, ◌==◌, Option, Some, None, if◌then◌else◌, Result, Ok}
 use Rattle.array_meaning.specs.declared.limits.TheConstants.{MAX_TUPLES}

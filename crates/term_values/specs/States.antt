@@ -1,3 +1,4 @@
+-- Of a promise.
 -- The state of the definitions that a state in code is.
 use Rattle.array_meaning.specs.State.{State}
 use Rattle.term_values.specs.declared.state.State.{State as HeldState}

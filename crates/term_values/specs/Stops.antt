@@ -1,3 +1,4 @@
+-- Of a promise.
 -- What an evaluation ends with where it has no value.
 use Rattle.std.specs.Prelude.{◌≡◌, ℤ, option_map, box_value, Vec, Result, Err}
 use Rattle.std.specs.declared.alloc.Global.{Global}

@@ -1,3 +1,4 @@
+-- Of a promise.
 -- What array expressions and their values are, apart from where they lie in memory.
 use Rattle.std.specs.Prelude.{List, [], ◌∷◌}
 use Rattle.array_meaning.specs.Elementals.{Elemental, Same, Selected, Operation, Elementals, NoOperand, Operand, ArrayValue}

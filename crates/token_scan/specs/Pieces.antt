@@ -1,3 +1,4 @@
+-- Of private clauses.
 -- No public clause cites this file.
 -- What stands at the front of bytes, as it is read.
 use Rattle.std.specs.Prelude.{◌≡◌, ℕ, ◌+◌, ℤ, pos, ◌<◌, ◌≤◌, ◌==◌, ◌^◌, Bool, not, IsTrue, IsFalse, List, [], ◌∷◌, length, take, drop, Option, Some, None, if◌then◌else◌}

@@ -1,3 +1,4 @@
+-- Of the claim.
 -- The tokens of a logical line (Fortran 95, 3.2 and 3.3.1).
 use Rattle.std.specs.Prelude.{◌≡◌, ℕ, ◌+◌, ◌==◌, ◌^◌, ◌++◌, ◌||◌, ◌&&◌, nat_le, nat_lt, pos, Bool, false, not, IsTrue, List, [], ◌∷◌, map, length, get_or, take}
 use Rattle.std.specs.Prelude.{zero, suc, Option, Some, None, is_some, is_none, option_map, option_to_list, if◌then◌else◌}

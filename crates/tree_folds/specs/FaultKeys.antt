@@ -1,3 +1,4 @@
+-- Of a promise.
 -- Kept faults by their keys.
 use Rattle.std.specs.Prelude.{◌≡◌, ℕ, Option, Some, None, option_map}
 use Rattle.reduction_tree.specs.declared.kept_fault.KeptFault.{KeptFault}

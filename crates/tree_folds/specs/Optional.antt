@@ -1,3 +1,4 @@
+-- Of a promise.
 -- Items that may be missing.
 use Rattle.std.specs.Prelude.{Option, Some, None}
 

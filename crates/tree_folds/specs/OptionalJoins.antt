@@ -1,3 +1,4 @@
+-- Of a promise.
 -- What joins items joins items that may be missing. Nothing is neutral, so the unit of the join isn't asked for.
 use Rattle.std.proofs.Common.{◌≡◌, Option, Some, None, refl, ap}
 use Rattle.op_tables.specs.Joins.{IsJoin}

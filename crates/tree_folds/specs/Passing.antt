@@ -1,3 +1,4 @@
+-- Of a promise.
 -- What the nodes have after the rounds of a tree, as each is told of its round by what it receives.
 use Rattle.std.specs.Prelude.{◌≡◌, ℕ, zero, suc, ℤ, List, [], map, if◌then◌else◌}
 use Rattle.std.specs.List.{range_with_len}

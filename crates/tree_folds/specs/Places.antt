@@ -1,3 +1,4 @@
+-- Of a promise.
 -- Values with their positions, as a fold takes them.
 use Rattle.std.specs.Prelude.{◌≡◌, Option, Some, None, option_map}
 use Rattle.reduction_tree.specs.declared.placed.Placed.{Placed}

@@ -1,3 +1,4 @@
+-- Of a promise.
 -- "Or" and "and" join truths.
 use Rattle.std.proofs.Common.{◌≡◌, ◌&&◌, ◌||◌, Bool, true, false, refl}
 use Rattle.op_tables.specs.Joins.{IsJoin}

@@ -1,3 +1,4 @@
+-- Of a promise.
 -- What a node has after a round of a tree.
 use Rattle.std.specs.Prelude.{ℕ, ◌+◌, ◌-◌, ◌*◌, ◌%◌, ◌^◌, ◌==◌, ℤ, List, [], slice_index_or, nat_lt, if◌then◌else◌}
 use Rattle.machine_steps.specs.Machine.{earlier}

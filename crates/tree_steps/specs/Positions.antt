@@ -1,3 +1,4 @@
+-- Of a promise.
 -- Values with their positions.
 use Rattle.std.specs.Prelude.{Option, option_map}
 use Rattle.machine_steps.specs.Node.{Positioned}

@@ -1,3 +1,4 @@
+-- Of a promise.
 -- The rounds down of a tree, by the rounds up.
 use Rattle.std.specs.Prelude.{ℕ, ◌-◌, ◌*◌}
 

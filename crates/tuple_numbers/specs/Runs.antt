@@ -1,3 +1,4 @@
+-- Of a promise.
 -- No public clause cites this file.
 -- Numbers one after the other, as code keeps them.
 use Rattle.std.specs.Prelude.{ℕ, ◌+◌, ◌^◌, List, map, Option, Some, None}

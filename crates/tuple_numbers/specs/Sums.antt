@@ -1,3 +1,4 @@
+-- Of a promise.
 -- No public clause cites this file.
 -- Numbers of tuples as sums of one number of each axis.
 use Rattle.std.specs.Prelude.{ℕ, ◌+◌, ◌*◌, ◌^◌, ◌<◌, ◌≤◌, All, List, [], ◌∷◌, map}

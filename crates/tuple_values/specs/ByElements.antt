@@ -1,3 +1,4 @@
+-- Of private clauses.
 -- Elemental expressions at a tuple, by the elements where they read them.
 use Rattle.std.specs.Prelude.{List, [], ℤ, Result, Ok}
 use Rattle.expression_rules.specs.declared.dims.Dim.{Dim}

@@ -1,3 +1,4 @@
+-- Of private clauses.
 -- Expressions that have one value at all tuples. Private contracts alone cite this.
 use Rattle.std.specs.Prelude.{◌≡◌, Bool, true, false, ◌&&◌, List, [], ℕ, ℤ, Ok}
 use Rattle.node_code.specs.Flat.{Flat, Int, Slot, Axis, Read, Operated, Flats, NoFlat, AndFlat}

@@ -1,3 +1,4 @@
+-- Of private clauses.
 -- What a part of an array expression comes to at the tuples of a strip. Private contracts alone cite this.
 use Rattle.std.specs.Prelude.{◌≡◌, ℕ, ◌+◌, ◌<◌, List, [], ◌++◌, length, slice_index_or, ℤ, pos, true, Option, Result}
 use Rattle.std.specs.Option.{is_some}

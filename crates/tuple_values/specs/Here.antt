@@ -1,3 +1,4 @@
+-- Of private clauses.
 -- What stands at a tuple: the places of sections, reads and values.
 use Rattle.std.specs.Prelude.{ℕ, List, ℤ, Option, Result}
 use Rattle.storage.specs.Storage.{Spot}

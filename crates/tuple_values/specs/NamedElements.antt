@@ -1,3 +1,4 @@
+-- Of a promise.
 -- What a parallel statement names at the tuples of its space, by courses.
 use Rattle.std.specs.Prelude.{◌≡◌, ℕ, ◌<◌, List, length, map, All, Option, Some, None, IfSome}
 use Rattle.hpf_base.specs.ElementOrder.{product}

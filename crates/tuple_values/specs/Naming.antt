@@ -1,3 +1,4 @@
+-- Of private clauses.
 -- How references are put together; private contracts alone cite this.
 use Rattle.std.specs.Prelude.{ℕ, List, ◌++◌, ℤ, Option, Some, None, option_map}
 use Rattle.expression_rules.specs.declared.dims.Dim.{Dim}

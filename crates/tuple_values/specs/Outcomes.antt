@@ -1,3 +1,4 @@
+-- Of a promise.
 -- What contracts see of outcomes.
 use Rattle.std.specs.Prelude.{◌≡◌, ℕ, List, ℤ, Bool, true, false}
 use Rattle.array_meaning.specs.Faults.{Fault, Location, AtTuple}

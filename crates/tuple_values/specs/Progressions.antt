@@ -1,3 +1,4 @@
+-- Of private clauses.
 -- Numbers of 64 bits at equal distances. Private contracts alone cite this.
 use Rattle.std.specs.Prelude.{ℕ, zero, suc, List, [], ◌∷◌, ℤ, ◌+ℤ◌}
 use Rattle.op_tables.specs.Operators.{wrapped}

@@ -1,3 +1,4 @@
+-- Of private clauses.
 -- Lines that an operand reads, and those after them. Private contracts alone cite this.
 use Rattle.std.specs.Prelude.{◌≡◌, List, take, drop}
 use Rattle.node_code.specs.declared.form.ArrayForm.{ArrayForm}

@@ -1,3 +1,4 @@
+-- Of a promise.
 -- What contracts see of elements that are read.
 use Rattle.std.specs.Prelude.{List, map, Option, option_map}
 use Rattle.storage.specs.Storage.{Spot}

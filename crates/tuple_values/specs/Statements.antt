@@ -1,3 +1,4 @@
+-- Of a promise.
 -- What parallel statements are, once the slots are known.
 use Rattle.std.specs.Prelude.{◌≡◌, ℕ, List, ◌++◌, length, map, take, drop, ℤ, Bool, true, false, Option, Some, None, option_map, Result}
 use Rattle.std.specs.List.{list_all}

@@ -1,3 +1,4 @@
+-- Of private clauses.
 -- The tuples by which the lines of a strip are found. Private contracts alone cite this.
 use Rattle.std.specs.Prelude.{◌≡◌, ℕ, ◌-◌, ◌<◌, List, Option, Some}
 use Rattle.storage.specs.Storage.{Spot}

@@ -1,3 +1,4 @@
+-- Of a promise.
 -- What a statement does at tuples at equal distances.
 use Rattle.std.specs.Prelude.{◌≡◌, ℕ, ◌+◌, ◌-◌, ◌*◌, ◌%◌, ◌<◌, List, [], ◌∷◌, length, map, slice_index_or, ℤ, pos, Option, Some, option_map, Result, Ok}
 use Rattle.storage.specs.Storage.{Spot}

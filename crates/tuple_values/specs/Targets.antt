@@ -1,3 +1,4 @@
+-- Of a promise.
 -- What targets in code stand for.
 use Rattle.node_code.specs.Forms.{ArrayForm, SectionForm}
 use Rattle.node_code.specs.NestStatements.{NestLeft, ElementLeft, CopyLeft}

@@ -1,3 +1,4 @@
+-- Of a promise.
 -- What parallel statements in code are, apart from where they lie.
 use Rattle.std.specs.Prelude.{map, option_map}
 use Rattle.node_code.specs.Texts.{when}

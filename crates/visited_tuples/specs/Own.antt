@@ -1,3 +1,4 @@
+-- Of a promise.
 -- The tuples that a node computes, by the places of each axis.
 use Rattle.std.specs.Prelude.{◌≡◌, ℕ, ◌<◌, ◌==◌, Bool, true, List, [], map, Option, Some, None}
 use Rattle.std.specs.List.{list_any}

@@ -1,3 +1,4 @@
+-- Of a promise.
 -- Where a node owns what a reference names, by how the rows lie.
 use Rattle.std.specs.Prelude.{◌≡◌, ℕ, ◌<◌, true, false, List, Option, Some, None, slice_get}
 use Rattle.machine_steps.specs.Layout.{Layout, owned_by, size_of}

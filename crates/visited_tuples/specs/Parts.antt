@@ -1,3 +1,4 @@
+-- Of a promise.
 -- Parts whose reads are named by the places of a tuple.
 use Rattle.std.specs.Prelude.{◌≡◌, ℕ, ◌<◌, Bool, List, map}
 use Rattle.hpf_base.specs.ElementOrder.{product}

@@ -1,3 +1,4 @@
+-- Of a promise.
 -- The tuples at which a node takes or sends what references name.
 use Rattle.std.specs.Prelude.{◌≡◌, ℕ, ◌<◌, ◌==◌, ◌⊎◌, All, Bool, true, false, List, map, Some, slice_get}
 use Rattle.std.specs.List.{list_any}

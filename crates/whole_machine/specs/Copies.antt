@@ -1,3 +1,4 @@
+-- Of private clauses.
 -- No public clause cites this file. Copies that are made.
 use Rattle.std.specs.Prelude.{◌≡◌, ℕ, ℤ, pos, List}
 use Rattle.array_meaning.specs.Faults.{Fault}

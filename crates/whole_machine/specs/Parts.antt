@@ -1,3 +1,4 @@
+-- Of private clauses.
 -- No public clause cites this file. Parallel statements and reductions over whole arrays.
 use Rattle.std.specs.Prelude.{◌≡◌, ℕ, ℤ, List, map, Option}
 use Rattle.op_tables.specs.declared.join.Join.{Join}

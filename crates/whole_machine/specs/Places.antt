@@ -1,3 +1,4 @@
+-- Of private clauses.
 -- No public clause cites this file. What instructions of a program mean.
 use Rattle.std.specs.Prelude.{◌≡◌, ◌==◌, ℕ, List, Some, true}
 use Rattle.std.specs.List.{list_all, slice_get}

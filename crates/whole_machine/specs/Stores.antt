@@ -1,3 +1,4 @@
+-- Of private clauses.
 -- No public clause cites this file. Values that are to be stored.
 use Rattle.std.specs.Prelude.{List, [], ◌∷◌}
 use Rattle.storage.specs.Storage.{Storage, write}

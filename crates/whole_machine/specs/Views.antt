@@ -1,3 +1,4 @@
+-- Of a promise.
 -- What contracts see of the machine with whole arrays.
 use Rattle.std.specs.Prelude.{◌≡◌}
 use Rattle.std.specs.Arc.{arc_value}
