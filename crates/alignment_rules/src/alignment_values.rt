@@ -91,7 +91,7 @@ impl AlignDims {
     }
 
     /// The entries in order. It takes no memory.
-    pub fn into_vec(self) -> Vec<AlignDim>
+    pub(crate) fn into_vec(self) -> Vec<AlignDim>
         ensures { result.items ≡ self }
     {
         self.entries

@@ -44,7 +44,7 @@ impl<'a> BodyNames<'a> {
     }
 
     /// It keeps its value in the body.
-    pub fn is_fixed(&self, name: &Name) -> bool
+    pub(crate) fn is_fixed(&self, name: &Name) -> bool
         ensures { result ≡ is_fixed self.now name.now }
     {
         match self.declared.declared_as(name) {

@@ -39,7 +39,7 @@ pub fn all_pass<T: ExpressionTest>(test: &T, e: &Expr) -> bool
 
 /// A name with the subscripts after it, and all expressions inside these, pass.
 #[cycle(subexpressions)]
-pub fn all_pass_reference<T: ExpressionTest>(test: &T, reference: &Ref) -> bool
+pub(crate) fn all_pass_reference<T: ExpressionTest>(test: &T, reference: &Ref) -> bool
     ensures { result ≡ list_all (T.passes test.now) (subexpressions (expression (Expr.Ref reference.now))) }
 {
     if !test.test_reference(reference) {

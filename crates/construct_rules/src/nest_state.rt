@@ -92,7 +92,7 @@ impl NestState {
     }
 
     /// This line has stood too.
-    pub fn go_after(&mut self, role: Role) -> Result<(), AllocError>
+    pub(crate) fn go_after(&mut self, role: Role) -> Result<(), AllocError>
         ensures { IfOk result (λ _. self.new ≡ state_after self.old role) }
     {
         go_after(&mut self.opens, role)?;

@@ -70,7 +70,7 @@ impl Opens {
     }
 
     /// The innermost one is of this kind.
-    pub fn is_innermost(&self, c: Construct) -> bool
+    pub(crate) fn is_innermost(&self, c: Construct) -> bool
         ensures { result ≡ is_innermost c self.now }
     {
         match self.innermost {
@@ -90,7 +90,7 @@ impl Opens {
     }
 
     /// A WHERE or FORALL construct is open.
-    pub fn in_where_or_forall(&self) -> bool
+    pub(crate) fn in_where_or_forall(&self) -> bool
         ensures { result ≡ in_where_or_forall self.now }
     {
         match self.innermost {
@@ -100,7 +100,7 @@ impl Opens {
     }
 
     /// A DO is open.
-    pub fn in_do(&self) -> bool
+    pub(crate) fn in_do(&self) -> bool
         ensures { result ≡ in_do self.now }
     {
         match self.innermost {
@@ -110,7 +110,7 @@ impl Opens {
     }
 
     /// How many are open.
-    pub fn depth(&self) -> usize
+    pub(crate) fn depth(&self) -> usize
         ensures { result ≡ length self.now }
     {
         match self.innermost {
@@ -144,7 +144,7 @@ impl Opens {
     }
 
     /// The ELSE or ELSEWHERE of the innermost one has stood.
-    pub fn tell_else(&mut self)
+    pub(crate) fn tell_else(&mut self)
         ensures { self.new ≡ with_else self.old }
     {
         if let Some(level) = self.innermost {

@@ -112,7 +112,7 @@ fn size(
 }
 
 /// The arrangement that may be named after ONTO.
-pub fn onto(tokens: &[Token]) -> Result<(Option<Name>, &[Token]), ReadError>
+pub(crate) fn onto(tokens: &[Token]) -> Result<(Option<Name>, &[Token]), ReadError>
     ensures { Gives (λ x. (x.0, lexemes x.1.now)) result (read Limited onto (lexemes tokens.now)) }
 {
     if !is_word(tokens, b"ONTO") {

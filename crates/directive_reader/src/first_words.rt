@@ -11,7 +11,7 @@ use source_lines::{Token, TokenKind};
 use syntax_tree::Sign;
 
 /// The kind of the directive that may stand there.
-pub fn directive_kind(tokens: &[Token]) -> Option<Kind>
+pub(crate) fn directive_kind(tokens: &[Token]) -> Option<Kind>
     ensures { result ≡ directive_kind (lexemes tokens.now) }
 {
     if is_word(tokens, b"PROCESSORS") {

@@ -16,7 +16,7 @@ use source_lines::Token;
 use std::alloc::Global;
 
 /// Whether the line begins with REALIGN or names PROCESSORS_SHAPE.
-pub fn is_left_out(tokens: &[Token]) -> bool
+pub(crate) fn is_left_out(tokens: &[Token]) -> bool
     ensures { result ≡ is_left_out (lexemes tokens.now) }
 {
     is_word(tokens, b"REALIGN") || names_shape(tokens)
@@ -33,7 +33,7 @@ fn why_not_read(alloc: Global, depths: Depths, tokens: &[Token]) -> Option<ReadE
 }
 
 /// The refusal of a directive that is left out.
-pub fn left_out(alloc: Global, line: u32, tokens: &[Token]) -> StaticError
+pub(crate) fn left_out(alloc: Global, line: u32, tokens: &[Token]) -> StaticError
     requires { is_left_out (lexemes tokens.now) ≡ true }
     ensures { IsRefusalBy (IsBreachAt line (lexemes tokens.now)) result }
 {
@@ -46,7 +46,7 @@ pub fn left_out(alloc: Global, line: u32, tokens: &[Token]) -> StaticError
 }
 
 /// The refusal of a line that isn't read as a directive.
-pub fn not_read(alloc: Global, line: u32, why: ReadError, tokens: &[Token]) -> StaticError
+pub(crate) fn not_read(alloc: Global, line: u32, why: ReadError, tokens: &[Token]) -> StaticError
     requires known { is_left_out (lexemes tokens.now) ≡ false }
     requires why { why ≢ Memory → directive Limited (lexemes tokens.now) ≡ Stopped why }
     ensures { IsRefusalBy (IsBreachAt line (lexemes tokens.now)) result }

@@ -22,7 +22,7 @@ use std::alloc::{AllocError, Global};
 use syntax_tree::{AlignSpec, DistSpec, NameList, Sign};
 
 /// The elements of a list that `::` may stand before, and the tokens after them.
-pub fn listed<T: Element>(
+pub(crate) fn listed<T: Element>(
     alloc: Global,
     depths: Depths,
     tokens: &[Token],
@@ -45,7 +45,7 @@ fn only(alloc: Global, name: Name) -> Result<NameList, AllocError>
 }
 
 /// What DISTRIBUTE or REDISTRIBUTE says, after its word.
-pub fn distribution_spec(
+pub(crate) fn distribution_spec(
     alloc: Global,
     depths: Depths,
     many: bool,
@@ -116,7 +116,7 @@ fn many_distribution_spec(
 }
 
 /// What ALIGN says, after its word.
-pub fn alignment_spec(
+pub(crate) fn alignment_spec(
     alloc: Global,
     depths: Depths,
     many: bool,
@@ -193,7 +193,7 @@ fn many_alignment_spec(
 }
 
 /// The names in parentheses after a comma and a word, where these stand; else none.
-pub fn names_after<'a>(
+pub(crate) fn names_after<'a>(
     alloc: Global,
     depths: Depths,
     word: &[u8],

@@ -40,7 +40,7 @@ impl<L: Ledger> Steps<L> {
     }
 
     /// Counts one step. It takes no memory.
-    pub fn tick(&mut self)
+    pub(crate) fn tick(&mut self)
         ensures { self.new ≡ self.old + 1 }
     {
         self.book.add(&mut self.share, 1);

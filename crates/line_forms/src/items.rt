@@ -34,7 +34,11 @@ impl Element for ListedItems {
 }
 
 /// The item in front, a text or else an expression, and the tokens after it.
-pub fn item(alloc: Global, depths: Depths, tokens: &[Token]) -> Result<(Item, &[Token]), ReadError>
+pub(crate) fn item(
+    alloc: Global,
+    depths: Depths,
+    tokens: &[Token],
+) -> Result<(Item, &[Token]), ReadError>
     ensures { Gives (λ x. (output_of x.0, lexemes x.1.now)) result (item depths (lexemes tokens.now)) }
 {
     let Some((first, rest)) = tokens.split_first() else {

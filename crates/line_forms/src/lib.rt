@@ -29,10 +29,10 @@ mod variables;
 
 pub use bounds::Bounds;
 pub use depths::Depths;
-pub use items::{ListedItems, item};
+pub use items::ListedItems;
 pub use lists::{Element, comma_list, enclosed, header, optional_enclosed};
 pub use names::ListedNames;
-pub use parts::{expr, name, optional_expr, subscript};
+pub use parts::{expr, name, subscript};
 pub use promises::{printed_exact, too_deep_exact};
 pub use read_error::ReadError;
 pub use shape::names_shape;

@@ -58,7 +58,7 @@ fn is_too_deep(depths: Depths, tree: &Expr) -> bool
 }
 
 /// An expression that may be in front, and the tokens after it.
-pub fn optional_expr(
+pub(crate) fn optional_expr(
     alloc: Global,
     depths: Depths,
     tokens: &[Token],

@@ -100,7 +100,11 @@ pub fn lower_of(lower: &[i64], dim: usize) -> i64
 }
 
 /// What a node owns along each dimension.
-pub fn runs_of_node(alloc: Global, columns: &[Column], node: u32) -> Result<Vec<Run>, OutOfMemory>
+pub(crate) fn runs_of_node(
+    alloc: Global,
+    columns: &[Column],
+    node: u32,
+) -> Result<Vec<Run>, OutOfMemory>
     requires { All (λ column. node < length column) columns.now }
     ensures { IfOk result (λ runs. runs.items ≡ map (λ column. slice_index_or column node (run_of [])) columns.now) }
 {

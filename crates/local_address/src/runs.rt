@@ -18,7 +18,7 @@ pub struct Run {
 }
 
 /// For each coordinate on an axis, from 0, which subscripts of a dimension have it. The dimension begins at `lower`.
-pub fn runs_on(
+pub(crate) fn runs_on(
     alloc: Global,
     axis: &Option<Axis>,
     lower: i64,
@@ -81,7 +81,7 @@ fn more(run: Run, i: i64) -> Run
 }
 
 /// Whether some run has no subscript.
-pub fn has_empty(runs: &[Run]) -> bool
+pub(crate) fn has_empty(runs: &[Run]) -> bool
     ensures { result ≡ list_any (λ run. run.count == 0) runs.now }
 {
     runs.iter().any(|run| run.count == 0)
@@ -96,7 +96,7 @@ pub fn firsts(alloc: Global, runs: &[Run]) -> Result<Vec<i64>, OutOfMemory>
 }
 
 /// The last subscript of each run.
-pub fn lasts(alloc: Global, runs: &[Run]) -> Result<Vec<i64>, OutOfMemory>
+pub(crate) fn lasts(alloc: Global, runs: &[Run]) -> Result<Vec<i64>, OutOfMemory>
     ensures { IfOk result (λ lasts. lasts.items ≡ map (λ run. run.last) runs.now) }
 {
     let lasts = runs.iter().map(|run| run.last).collect(alloc)?;
@@ -104,7 +104,7 @@ pub fn lasts(alloc: Global, runs: &[Run]) -> Result<Vec<i64>, OutOfMemory>
 }
 
 /// How many tuples have a subscript of each run.
-pub fn tuple_count(runs: &[Run]) -> u32
+pub(crate) fn tuple_count(runs: &[Run]) -> u32
     requires some { All (λ run. 1 ≤ run.count) runs.now }
     requires few { product (map (λ run. run.count) runs.now) ≤ 2 ^ 20 }
     ensures { result ≡ product (map (λ run. run.count) runs.now) }

@@ -11,7 +11,7 @@ use hpf_base::Index;
 use std::alloc::Global;
 
 /// How many tuples there are.
-pub fn tuple_number(dims: &[OwnedSubscripts]) -> u64
+pub(crate) fn tuple_number(dims: &[OwnedSubscripts]) -> u64
     requires { (k : ℕ) → product (map length (take k dims.now)) ≤ MAX_ELEMENTS }
     ensures { result ≡ length (tuples dims.now) }
 {
@@ -40,7 +40,7 @@ pub fn number_of(dims: &[OwnedSubscripts], tuple: &[i64]) -> Option<u64>
 }
 
 /// The tuple with this number, from 0.
-pub fn nth_tuple(alloc: Global, dims: &[OwnedSubscripts], number: u64) -> Index
+pub(crate) fn nth_tuple(alloc: Global, dims: &[OwnedSubscripts], number: u64) -> Index
     requires rank { length dims.now ≤ MAX_RANK }
     requires number { number < length (tuples dims.now) }
     ensures { slice_get (tuples dims.now) number ≡ Some result }

@@ -23,7 +23,7 @@ static ROWS: [Row; 13] = rows![
 ];
 
 /// The table of the words between periods. It takes no memory.
-pub fn dot_words() -> Table
+pub(crate) fn dot_words() -> Table
     ensures { IsTableOf dot_words result.rows.now }
 {
     Table { rows: &ROWS }

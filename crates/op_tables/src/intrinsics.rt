@@ -33,7 +33,7 @@ static ROWS: [Row; 23] = rows![
 ];
 
 /// The table of the names of intrinsic procedures. It takes no memory.
-pub fn intrinsic_words() -> Table
+pub(crate) fn intrinsic_words() -> Table
     ensures { IsTableOf intrinsic_words result.rows.now }
 {
     Table { rows: &ROWS }

@@ -57,7 +57,7 @@ static ROWS: [Row; 47] = rows![
 ];
 
 /// The table of the keywords of statements that are left out. It takes no memory.
-pub fn left_out_words() -> Table
+pub(crate) fn left_out_words() -> Table
     ensures { IsTableOf left_out_words result.rows.now }
 {
     Table { rows: &ROWS }

@@ -31,15 +31,14 @@ mod statements;
 mod table;
 
 pub use arguments::{is_inquiry, is_processor_count, is_reduction, takes};
-pub use dots::{dot_word, dot_words};
-pub use intrinsics::{intrinsic_word, intrinsic_words};
+pub use dots::dot_word;
+pub use intrinsics::intrinsic_word;
 pub use join::Join;
-pub use left_out::{left_out_word, left_out_words};
+pub use left_out::left_out_word;
 pub use marks::{symbol, symbols};
 pub use op::Op;
 pub use operators::{DivZero, apply};
 pub use promises::law_of_joins;
 pub use reductions::{Made, Reduction, joined_by, reduction_of};
 pub use reserved::is_reserved;
-pub use statements::{statement_word, statement_words};
 pub use table::{Row, Table};

@@ -34,14 +34,14 @@ static ROWS: [Row; 24] = rows![
 ];
 
 /// The table of the keywords of the language's statements. It takes no memory.
-pub fn statement_words() -> Table
+pub(crate) fn statement_words() -> Table
     ensures { IsTableOf statement_words result.rows.now }
 {
     Table { rows: &ROWS }
 }
 
 /// The code of the keyword that is spelled so; None exactly where there is none. It takes no memory.
-pub fn statement_word(word: &[u8]) -> Option<u16>
+pub(crate) fn statement_word(word: &[u8]) -> Option<u16>
     ensures { result ≡ code_in statement_words word.now }
 {
     statement_words().code(word)

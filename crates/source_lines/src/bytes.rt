@@ -32,11 +32,4 @@ impl Bytes {
     {
         &self.bytes
     }
-
-    /// The bytes, given back.
-    pub fn into_vec(self) -> Vec<u8>
-        ensures { result.items ≡ self }
-    {
-        self.bytes
-    }
 }

@@ -28,7 +28,7 @@ pub use bytes::Bytes;
 pub use hpf_base::Name;
 pub use limits::{MAX_CONTINUATIONS, MAX_LINE_BYTES, MAX_LINES, MAX_LOGICAL_LINE_BYTES};
 pub use line::{LineKind, LogicalLine, LogicalLines};
-pub use line_split::{first_line, next_line};
+pub use line_split::next_line;
 pub use parts::{is_bad_part, is_control, next_part};
 pub use text::logical_lines;
 pub use token::{Token, TokenKind};

@@ -15,7 +15,7 @@ fn line_feed(text: &[u8]) -> Option<usize>
 
 /// The first line of a text, without the line feed at its end, and the text of the lines after it; None exactly where
 /// the text is empty. It takes no memory.
-pub fn first_line(text: &[u8]) -> Option<(&[u8], &[u8])>
+pub(crate) fn first_line(text: &[u8]) -> Option<(&[u8], &[u8])>
     ensures lines { MatchOption result (lines_of text.now ≡ []) (λ x. lines_of text.now ≡ x.0.now ∷ lines_of x.1.now) }
     ensures shorter { MatchOption result ⊤ (λ x. length x.1.now < length text.now) }
 {
