@@ -6,7 +6,7 @@
 //! crates above. Blocks of given sizes alone keep their running sums beside the sizes.
 //!
 //! *Proved:* Formats, alignments and mappings, which are valid, who owns an element and which elements a node holds, as
-//! definitions with their laws. The sizes of GEN_BLOCK keep their running sums, and they tell the owner of a position:
+//! definitions with their laws. The sizes of GEN_BLOCK give the owner of a position, and where each block ends:
 //! `BlockSizes`.
 #![tactic(auto)]
 
