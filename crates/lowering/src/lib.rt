@@ -16,11 +16,12 @@
 //! - Rows are the declared names, by their places, and then the copies that the code names: `block_copies` of them.
 //!
 //! *Proved:* The machine with whole arrays ends over the node code of a well-formed program as the program does, faults
-//! with line, kind and tuple included: `programs_lowered`, `outcomes_lowered`. On its way it passes just the parts and
-//! redistributions of the program's trail, in order: `trails_lowered`. The code is code that nodes can run:
-//! `code_is_valid`. It is valid: each slot, place, array, copy and mapping that it names is there, but for the names in
-//! the nest of a check, of which validity says nothing, each array has one subscript for each dimension, 7 at most, and
-//! the last instruction is Halt or Jump: `programs_have_valid_code`.
+//! with line, kind and tuple included: `programs_lowered`, `outcomes_lowered`. After the declared names there is room
+//! for as many copies as the code names, or more. On its way it passes just the parts and redistributions of the
+//! program's trail, in order: `trails_lowered`. The code is code that nodes can run: `code_is_valid`. It is valid: each
+//! slot, place, array, copy and mapping that it names is there, but for the names in the nest of a check, of which
+//! validity says nothing, each array has one subscript for each dimension, 7 at most, and the last instruction is Halt
+//! or Jump: `programs_have_valid_code`.
 #![tactic(auto)]
 
 mod lowered;

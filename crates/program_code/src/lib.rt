@@ -14,5 +14,6 @@
 //!
 //! *Proved:* Definitions alone: the node code of a program, as a function of it. Each statement of a nest of
 //! INDEPENDENT loops is one instruction for all iterations, over copies with a value for each. A nest without
-//! statements runs as plain loops. After the arrays there is room for as many copies as the code names, or more.
+//! statements runs as plain loops. Rows are the declared names, and then as many copies as the code names:
+//! `block_copies`.
 #![tactic(auto)]
