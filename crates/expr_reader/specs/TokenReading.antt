@@ -1,4 +1,4 @@
--- Of a promise.
+-- Of private clauses.
 -- What is read at tokens, and the trees that a function gives, apart from where they lie in memory. No public clause cites
 -- this file.
 use Rattle.std.specs.Prelude.{◌≡◌, ◌≤◌, ℕ, ◌+◌, List, drop, Option, Some, None, Vec, true, false}

@@ -12,8 +12,8 @@ ghost use Rattle.expr_reader.specs.Reading.{apart, arguments_at, call_at, closed
 ghost use Rattle.expr_reader.specs.TokenReading.{ahead, AreExpressions, EndsWithin, expression_of, maybe_in, read, viewed};
 
 use crate::depth::fits;
-use crate::signs::{closes, opens, ranges, separates, sign_at, skip, steps};
 use crate::limits::MAX_DEPTH;
+use crate::signs::{closes, opens, ranges, separates, sign_at, skip, steps};
 use hpf_base::{Name, Reason, StaticError};
 use op_tables::{Op, is_reserved};
 use source_lines::{Token, TokenKind};
