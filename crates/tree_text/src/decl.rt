@@ -3,69 +3,69 @@
 use crate::directive::write_directive;
 use crate::expr::{write_expr, write_optional};
 use crate::list::{write_comma, write_name};
-use std::alloc::AllocError;
-use std::fmt::Write;
+use crate::writer::Writer;
 use syntax_tree::{Bound, ConstDef, Decl, DeclKind, Entity, IntegerDecl};
 
 /// Writes a declaration on a line of its own, its number first.
-pub fn write_decl(out: &mut String, decl: &Decl) -> Result<(), AllocError> {
-    write!(out, "  {}: ", decl.line)?;
+pub fn write_decl(out: &mut Writer<'_>, decl: &Decl) {
+    out.text("  ");
+    out.number(i64::from(decl.line));
+    out.text(": ");
     match &decl.what {
-        DeclKind::ImplicitNone => out.push_str("IMPLICIT NONE")?,
-        DeclKind::Integer(integer) => write_integer(out, integer)?,
-        DeclKind::Parameter(constants) => write_parameter(out, constants)?,
-        DeclKind::Directive(directive) => write_directive(out, directive)?,
+        DeclKind::ImplicitNone => out.text("IMPLICIT NONE"),
+        DeclKind::Integer(integer) => write_integer(out, integer),
+        DeclKind::Parameter(constants) => write_parameter(out, constants),
+        DeclKind::Directive(directive) => write_directive(out, directive),
     }
-    out.push_str("\n")
+    out.text("\n");
 }
 
-fn write_integer(out: &mut String, decl: &IntegerDecl) -> Result<(), AllocError> {
-    out.push_str("INTEGER")?;
+fn write_integer(out: &mut Writer<'_>, decl: &IntegerDecl) {
+    out.text("INTEGER");
     if decl.constant {
-        out.push_str(", PARAMETER")?;
+        out.text(", PARAMETER");
     }
     if let Some(dims) = &decl.dims {
-        out.push_str(", DIMENSION")?;
-        write_bounds(out, dims)?;
+        out.text(", DIMENSION");
+        write_bounds(out, dims);
     }
-    out.push_str(if decl.colons { " :: " } else { " " })?;
-    write_entities(out, &decl.entities)
+    out.text(if decl.colons { " :: " } else { " " });
+    write_entities(out, &decl.entities);
 }
 
-fn write_parameter(out: &mut String, constants: &[ConstDef]) -> Result<(), AllocError> {
-    out.push_str("PARAMETER (")?;
+fn write_parameter(out: &mut Writer<'_>, constants: &[ConstDef]) {
+    out.text("PARAMETER (");
     for (place, constant) in constants.iter().enumerate() {
-        write_comma(out, place)?;
-        write_name(out, &constant.name)?;
-        out.push_str(" = ")?;
-        write_expr(out, &constant.value)?;
+        write_comma(out, place);
+        write_name(out, &constant.name);
+        out.text(" = ");
+        write_expr(out, &constant.value);
     }
-    out.push_str(")")
+    out.text(")");
 }
 
-pub fn write_entities(out: &mut String, entities: &[Entity]) -> Result<(), AllocError> {
+pub fn write_entities(out: &mut Writer<'_>, entities: &[Entity]) {
     for (place, entity) in entities.iter().enumerate() {
-        write_comma(out, place)?;
-        write_name(out, &entity.name)?;
+        write_comma(out, place);
+        write_name(out, &entity.name);
         if let Some(dims) = &entity.dims {
-            write_bounds(out, dims)?;
+            write_bounds(out, dims);
         }
         if entity.start.is_some() {
-            write_optional(out, " = ", &entity.start)?;
+            write_optional(out, " = ", &entity.start);
         }
     }
-    Ok(())
 }
 
-fn write_bounds(out: &mut String, bounds: &[Bound]) -> Result<(), AllocError> {
-    out.push_str("(")?;
+fn write_bounds(out: &mut Writer<'_>, bounds: &[Bound]) {
+    out.text("(");
     for (place, bound) in bounds.iter().enumerate() {
-        write_comma(out, place)?;
+        write_comma(out, place);
         if let Some(lower) = &bound.lower {
-            write_expr(out, lower)?;
-            out.push_str(":")?;
+            write_expr(out, lower);
+            out.text(":");
         }
-        write_expr(out, &bound.upper)?;
+        write_expr(out, &bound.upper);
     }
-    out.push_str(")")
+    out.text(")");
 }

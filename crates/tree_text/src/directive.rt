@@ -3,132 +3,131 @@
 use crate::decl::write_entities;
 use crate::expr::{write_expr, write_subscript};
 use crate::list::{write_comma, write_name, write_names};
+use crate::writer::Writer;
 use hpf_base::Name;
-use std::alloc::AllocError;
 use syntax_tree::{AlignSpec, Directive, DistSpec, Expr, Format, Source, Target};
 
 /// Writes a directive of the declarations.
-pub fn write_directive(out: &mut String, directive: &Directive) -> Result<(), AllocError> {
+pub fn write_directive(out: &mut Writer<'_>, directive: &Directive) {
     match directive {
         Directive::Processors(entities) => {
-            out.push_str("PROCESSORS ")?;
-            write_entities(out, entities)
+            out.text("PROCESSORS ");
+            write_entities(out, entities);
         }
         Directive::Template(entities) => {
-            out.push_str("TEMPLATE ")?;
-            write_entities(out, entities)
+            out.text("TEMPLATE ");
+            write_entities(out, entities);
         }
         Directive::Dynamic(names) => {
-            out.push_str("DYNAMIC ")?;
-            write_names(out, names.as_slice())
+            out.text("DYNAMIC ");
+            write_names(out, names.as_slice());
         }
         Directive::Distribute(spec) => {
-            out.push_str("DISTRIBUTE ")?;
-            write_distribution(out, spec)
+            out.text("DISTRIBUTE ");
+            write_distribution(out, spec);
         }
         Directive::Align(spec) => {
-            out.push_str("ALIGN ")?;
-            write_alignment(out, spec)
+            out.text("ALIGN ");
+            write_alignment(out, spec);
         }
-        Directive::Passed => out.push_str("passed over"),
+        Directive::Passed => out.text("passed over"),
     }
 }
 
 /// Writes what stands after DISTRIBUTE or REDISTRIBUTE.
-pub fn write_distribution(out: &mut String, spec: &DistSpec) -> Result<(), AllocError> {
+pub fn write_distribution(out: &mut Writer<'_>, spec: &DistSpec) {
     if !spec.colons {
-        write_names(out, spec.names.as_slice())?;
+        write_names(out, spec.names.as_slice());
     }
-    out.push_str("(")?;
+    out.text("(");
     for (place, format) in spec.formats.iter().enumerate() {
-        write_comma(out, place)?;
-        write_format(out, format)?;
+        write_comma(out, place);
+        write_format(out, format);
     }
-    out.push_str(")")?;
+    out.text(")");
     if let Some(name) = &spec.onto {
-        out.push_str(" ONTO ")?;
-        write_name(out, name)?;
+        out.text(" ONTO ");
+        write_name(out, name);
     }
-    write_named_after(out, spec.colons, spec.names.as_slice())
+    write_named_after(out, spec.colons, spec.names.as_slice());
 }
 
-fn write_format(out: &mut String, format: &Format) -> Result<(), AllocError> {
+fn write_format(out: &mut Writer<'_>, format: &Format) {
     match format {
-        Format::Star => out.push_str("*"),
+        Format::Star => out.text("*"),
         Format::Block(size) => {
-            out.push_str("BLOCK")?;
-            write_size(out, size)
+            out.text("BLOCK");
+            write_size(out, size);
         }
         Format::Cyclic(size) => {
-            out.push_str("CYCLIC")?;
-            write_size(out, size)
+            out.text("CYCLIC");
+            write_size(out, size);
         }
         Format::GenBlock(sizes) => {
-            out.push_str("GEN_BLOCK(")?;
+            out.text("GEN_BLOCK(");
             for (place, size) in sizes.iter().enumerate() {
-                write_comma(out, place)?;
-                write_expr(out, size)?;
+                write_comma(out, place);
+                write_expr(out, size);
             }
-            out.push_str(")")
+            out.text(")");
         }
     }
 }
 
-fn write_size(out: &mut String, size: &Option<Expr>) -> Result<(), AllocError> {
+fn write_size(out: &mut Writer<'_>, size: &Option<Expr>) {
     let Some(size) = size else {
-        return Ok(());
+        return;
     };
-    out.push_str("(")?;
-    write_expr(out, size)?;
-    out.push_str(")")
+    out.text("(");
+    write_expr(out, size);
+    out.text(")");
 }
 
 /// Writes what stands after ALIGN.
-fn write_alignment(out: &mut String, spec: &AlignSpec) -> Result<(), AllocError> {
+fn write_alignment(out: &mut Writer<'_>, spec: &AlignSpec) {
     if !spec.colons {
-        write_names(out, spec.names.as_slice())?;
+        write_names(out, spec.names.as_slice());
     }
     if let Some(sources) = &spec.source {
-        write_sources(out, sources)?;
+        write_sources(out, sources);
     }
-    out.push_str(" WITH ")?;
-    write_name(out, &spec.target)?;
+    out.text(" WITH ");
+    write_name(out, &spec.target);
     if let Some(targets) = &spec.subs {
-        write_targets(out, targets)?;
+        write_targets(out, targets);
     }
-    write_named_after(out, spec.colons, spec.names.as_slice())
+    write_named_after(out, spec.colons, spec.names.as_slice());
 }
 
-fn write_sources(out: &mut String, sources: &[Source]) -> Result<(), AllocError> {
-    out.push_str("(")?;
+fn write_sources(out: &mut Writer<'_>, sources: &[Source]) {
+    out.text("(");
     for (place, source) in sources.iter().enumerate() {
-        write_comma(out, place)?;
+        write_comma(out, place);
         match source {
-            Source::Dummy(name) => write_name(out, name)?,
-            Source::Colon => out.push_str(":")?,
-            Source::Star => out.push_str("*")?,
+            Source::Dummy(name) => write_name(out, name),
+            Source::Colon => out.text(":"),
+            Source::Star => out.text("*"),
         }
     }
-    out.push_str(")")
+    out.text(")");
 }
 
-fn write_targets(out: &mut String, targets: &[Target]) -> Result<(), AllocError> {
-    out.push_str("(")?;
+fn write_targets(out: &mut Writer<'_>, targets: &[Target]) {
+    out.text("(");
     for (place, target) in targets.iter().enumerate() {
-        write_comma(out, place)?;
+        write_comma(out, place);
         match target {
-            Target::Sub(sub) => write_subscript(out, sub)?,
-            Target::Star => out.push_str("*")?,
+            Target::Sub(sub) => write_subscript(out, sub),
+            Target::Star => out.text("*"),
         }
     }
-    out.push_str(")")
+    out.text(")");
 }
 
 /// Writes the names that stand after two colons, where they do.
-fn write_named_after(out: &mut String, colons: bool, names: &[Name]) -> Result<(), AllocError> {
+fn write_named_after(out: &mut Writer<'_>, colons: bool, names: &[Name]) {
     if colons {
-        out.push_str(" :: ")?;
-        write_names(out, names)?;
+        out.text(" :: ");
+        write_names(out, names);
     }
-    Ok(())
 }

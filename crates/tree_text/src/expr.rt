@@ -1,83 +1,84 @@
 //! Expressions, with each operation in parentheses; the parentheses of the text are brackets.
 
 use crate::list::{write_comma, write_name};
+use crate::writer::Writer;
 use op_tables::Op;
-use std::alloc::AllocError;
-use std::fmt::Write;
 use syntax_tree::{Expr, Ref, Subscript};
 
 /// Writes an expression, as `((-A) + [B(1, 2:N:3)])`.
 #[cycle(expression)]
-pub fn write_expr(out: &mut String, expr: &Expr) -> Result<(), AllocError> {
+pub fn write_expr(out: &mut Writer<'_>, expr: &Expr) {
     match expr {
-        Expr::Int(value) => write!(out, "{value}"),
-        Expr::Bool(value) => out.push_str(if *value { ".TRUE." } else { ".FALSE." }),
+        Expr::Int(value) => out.number(*value),
+        Expr::Bool(value) => out.text(if *value { ".TRUE." } else { ".FALSE." }),
         Expr::Ref(reference) => write_ref(out, reference),
         Expr::Unary(op, operand) => {
-            write!(out, "({}", spelling(*op))?;
-            write_expr(out, operand)?;
-            out.push_str(")")
+            out.text("(");
+            out.text(spelling(*op));
+            write_expr(out, operand);
+            out.text(")");
         }
         Expr::Binary(op, left, right) => {
-            out.push_str("(")?;
-            write_expr(out, left)?;
-            write!(out, " {} ", spelling(*op))?;
-            write_expr(out, right)?;
-            out.push_str(")")
+            out.text("(");
+            write_expr(out, left);
+            out.text(" ");
+            out.text(spelling(*op));
+            out.text(" ");
+            write_expr(out, right);
+            out.text(")");
         }
         Expr::Call(op, arguments) => {
-            write!(out, "{}(", spelling(*op))?;
+            out.text(spelling(*op));
+            out.text("(");
             for (place, argument) in arguments.iter().enumerate() {
-                write_comma(out, place)?;
-                write_expr(out, argument)?;
+                write_comma(out, place);
+                write_expr(out, argument);
             }
-            out.push_str(")")
+            out.text(")");
         }
         Expr::Paren(inner) => {
-            out.push_str("[")?;
-            write_expr(out, inner)?;
-            out.push_str("]")
+            out.text("[");
+            write_expr(out, inner);
+            out.text("]");
         }
     }
 }
 
 /// Writes a name with its subscripts.
 #[cycle(expression)]
-pub fn write_ref(out: &mut String, reference: &Ref) -> Result<(), AllocError> {
-    write_name(out, &reference.name)?;
+pub fn write_ref(out: &mut Writer<'_>, reference: &Ref) {
+    write_name(out, &reference.name);
     let Some(subs) = &reference.subs else {
-        return Ok(());
+        return;
     };
-    out.push_str("(")?;
+    out.text("(");
     for (place, sub) in subs.iter().enumerate() {
-        write_comma(out, place)?;
-        write_subscript(out, sub)?;
+        write_comma(out, place);
+        write_subscript(out, sub);
     }
-    out.push_str(")")
+    out.text(")");
 }
 
 #[cycle(expression)]
-pub fn write_subscript(out: &mut String, sub: &Subscript) -> Result<(), AllocError> {
+pub fn write_subscript(out: &mut Writer<'_>, sub: &Subscript) {
     match sub {
         Subscript::One(expr) => write_expr(out, expr),
         Subscript::Triplet { first, last, step } => {
-            write_optional(out, "", first)?;
-            write_optional(out, ":", last)?;
+            write_optional(out, "", first);
+            write_optional(out, ":", last);
             if step.is_some() {
-                write_optional(out, ":", step)?;
+                write_optional(out, ":", step);
             }
-            Ok(())
         }
     }
 }
 
 /// Writes a sign, and the expression after it where there is one.
 #[cycle(expression)]
-pub fn write_optional(out: &mut String, sign: &str, expr: &Option<Expr>) -> Result<(), AllocError> {
-    out.push_str(sign)?;
-    match expr {
-        Some(expr) => write_expr(out, expr),
-        None => Ok(()),
+pub fn write_optional(out: &mut Writer<'_>, sign: &str, expr: &Option<Expr>) {
+    out.text(sign);
+    if let Some(expr) = expr {
+        write_expr(out, expr);
     }
 }
 

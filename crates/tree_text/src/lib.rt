@@ -11,5 +11,6 @@ mod expr;
 mod list;
 mod program;
 mod stmt;
+mod writer;
 
 pub use program::write_program;

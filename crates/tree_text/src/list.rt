@@ -1,27 +1,22 @@
 //! The parts that written lists share.
 
+use crate::writer::Writer;
 use hpf_base::Name;
-use std::alloc::AllocError;
 
 /// Writes what stands before the part of a list at this place, counted from 0.
-pub fn write_comma(out: &mut String, place: usize) -> Result<(), AllocError> {
+pub fn write_comma(out: &mut Writer<'_>, place: usize) {
     if place > 0 {
-        out.push_str(", ")?;
+        out.text(", ");
     }
-    Ok(())
 }
 
-pub fn write_name(out: &mut String, name: &Name) -> Result<(), AllocError> {
-    for byte in name.bytes() {
-        out.push(char::from(*byte))?;
-    }
-    Ok(())
+pub fn write_name(out: &mut Writer<'_>, name: &Name) {
+    out.bytes(name.bytes());
 }
 
-pub fn write_names(out: &mut String, names: &[Name]) -> Result<(), AllocError> {
+pub fn write_names(out: &mut Writer<'_>, names: &[Name]) {
     for (place, name) in names.iter().enumerate() {
-        write_comma(out, place)?;
-        write_name(out, name)?;
+        write_comma(out, place);
+        write_name(out, name);
     }
-    Ok(())
 }
