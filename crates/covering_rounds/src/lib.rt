@@ -5,7 +5,8 @@
 //! holds in between: where each element has an owner a node sends nothing to itself, so all pairs with a message are pairs of different nodes.
 //!
 //! *Proved:* By laws alone: where each element has an owner, each pair of nodes between which a redistribution moves
-//! something stands in one of its rounds: `rounds_cover`.
+//! something stands in one of its rounds: `rounds_cover`. For any layouts, in the rounds of a redistribution each such
+//! pair stands once, a node sends one letter and takes one at most, and no such rounds are fewer: `rounds_are_fewest`.
 #![tactic(auto)]
 
 mod laws;

@@ -17,9 +17,10 @@
 //! positions needs its bounds alone.
 //!
 //! *Proved:* The places of a section of a line that one processor owns, as a table with at most k offsets under
-//! CYCLIC(k) and one otherwise, built in at most 2k + 4 steps, or 4, as the body counts them, its sort aside:
-//! `GapTable::build`, and without a count `of_section`; its places are those of a filter by the owner, and so are their
-//! number, the n-th, the first after a place, and how many are up to one: `len`, `nth`, `next`, `up_to`.
+//! CYCLIC(k) and one otherwise, built in at least one step an offset and at most 2k + 4, or 4, as the body counts them,
+//! its sort aside: `GapTable::build`, and without a count `of_section`; its places are those of a filter by the owner,
+//! and so are their number, the n-th, the first after a place, and how many are up to one: `len`, `nth`, `next`,
+//! `up_to`.
 #![tactic(auto)]
 
 mod ascending;
