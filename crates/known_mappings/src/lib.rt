@@ -19,6 +19,6 @@
 //! `new_mappings_are_known`.
 #![tactic(auto)]
 
-mod mappings_known;
+mod promises;
 
-pub use mappings_known::{new_mappings_are_known, start_mappings_are_known};
+pub use promises::{new_mappings_are_known, start_mappings_are_known};
