@@ -1,7 +1,7 @@
 //! Each pair of nodes between which a redistribution moves something stands in one of its rounds.
 //!
 //! Comes in: who owns each element before a redistribution and after it (`machine_steps`), and that the colours of pairs are legal rounds
-//! (`redistribute_rounds`). Goes out: one law, the contract of a function that does nothing; it speaks of no table and of no list of messages. What
+//! (`redistribute_rounds`). Goes out: two laws, the contracts of functions that do nothing; they speak of no table and of no list of messages. What
 //! holds in between: where each element has an owner a node sends nothing to itself, so all pairs with a message are pairs of different nodes.
 //!
 //! *Proved:* By laws alone: where each element has an owner, each pair of nodes between which a redistribution moves
@@ -11,4 +11,4 @@
 
 mod laws;
 
-pub use laws::rounds_cover;
+pub use laws::{rounds_are_fewest, rounds_cover};
