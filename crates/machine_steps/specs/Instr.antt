@@ -68,7 +68,7 @@ pub data Instr (F : Type 0) : Type 0 where
   MakeCopy : (copy : ℕ) → (layout : List Layout → List ℤ → Layout) → (start : List ℤ → ℤ) → Instr F
   -- the slot is joined with the elements of a copy, joined
   FoldCopy : (copy : ℕ) → Fold → (slot : ℕ) → Instr F
-  -- the slot gets the element of a copy at the last position where the other copy isn't 0. It stays where there is none, or where
+  -- the slot gets the element of a copy at the last position where the other copy is 1. It stays where there is none, or where
   -- the two don't lie alike
   LastCopy : (copy set : ℕ) → (alike : Layout → Layout → Bool) → (slot : ℕ) → Instr F
   -- REDISTRIBUTE (HPF 2.0, 8.3)
