@@ -10,6 +10,6 @@
 //! and the second isn't before the first: `named_on_a_line`.
 #![tactic(auto)]
 
-mod laws;
+mod promises;
 
-pub use laws::named_on_a_line;
+pub use promises::named_on_a_line;

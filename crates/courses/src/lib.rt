@@ -16,9 +16,9 @@
 //! `inside_between`, `axis_table`.
 #![tactic(auto)]
 
-mod laws;
+mod promises;
 
-pub use laws::{
+pub use promises::{
     axis_table, copy_laid_out, copy_places, in_bounds_by_axes, inside_between, least_by_axes,
     left_by_axes, names_along_axes, owned_by_courses, reads_by_courses, subs_courses,
 };

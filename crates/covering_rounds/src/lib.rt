@@ -9,6 +9,6 @@
 //! pair stands once, a node sends one letter and takes one at most, and no such rounds are fewer: `rounds_are_fewest`.
 #![tactic(auto)]
 
-mod laws;
+mod promises;
 
-pub use laws::{rounds_are_fewest, rounds_cover};
+pub use promises::{rounds_are_fewest, rounds_cover};

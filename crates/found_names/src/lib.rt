@@ -19,6 +19,6 @@
 //! is read no law says: `scalars_stand_alone`.
 #![tactic(auto)]
 
-mod resolved_names;
+mod promises;
 
-pub use resolved_names::{inquiries_have_values, names_are_found, scalars_stand_alone};
+pub use promises::{inquiries_have_values, names_are_found, scalars_stand_alone};

@@ -24,8 +24,8 @@
 //! or Jump: `programs_have_valid_code`.
 #![tactic(auto)]
 
-mod lowered;
+mod promises;
 
-pub use lowered::{
+pub use promises::{
     code_is_valid, outcomes_lowered, programs_have_valid_code, programs_lowered, trails_lowered,
 };

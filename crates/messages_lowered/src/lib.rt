@@ -11,6 +11,6 @@
 //! `accepted_texts_lowered`.
 #![tactic(auto)]
 
-mod lines;
+mod promises;
 
-pub use lines::{accepted_texts_lowered, texts_lowered};
+pub use promises::{accepted_texts_lowered, texts_lowered};

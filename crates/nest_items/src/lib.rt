@@ -19,8 +19,6 @@
 //! `nests_end`. What keeps them by its form keeps them in each state: `keeping_nests_stand`.
 #![tactic(auto)]
 
-mod ends;
-mod forms;
+mod promises;
 
-pub use ends::nests_end;
-pub use forms::keeping_nests_stand;
+pub use promises::{keeping_nests_stand, nests_end};

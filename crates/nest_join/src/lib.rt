@@ -25,8 +25,9 @@
 //! where another does: `rows_apart`, `copies_apart`, `finals_listed`.
 #![tactic(auto)]
 
-mod laws;
-mod places;
+mod promises;
 
-pub use laws::{arrays_held, indices_held, inner_indices, nests_end, scalars_held};
-pub use places::{copies_apart, finals_listed, rows_apart};
+pub use promises::{
+    arrays_held, copies_apart, finals_listed, indices_held, inner_indices, nests_end, rows_apart,
+    scalars_held,
+};

@@ -29,7 +29,7 @@
 #![tactic(auto)]
 
 mod example;
-mod laws;
+mod promises;
 
 pub use example::{example_meets, example_runs};
-pub use laws::{bodies_are_parted, bodies_run, nests_run};
+pub use promises::{bodies_are_parted, bodies_run, nests_run};

@@ -47,8 +47,8 @@ pub use example::{
 };
 pub use items::{flattened_items, listed_items};
 pub use last_value::{last_value_in_nest, last_value_of_scalar};
-pub use nest::{fault_keys, law_of_nests, parallel_nest, plain_nest, stores_of_nest};
+pub use nest::{fault_keys, law_of_nests, stores_of_nest};
 pub use nest_index::{nested_loops, numbered_tuples};
 pub use orders::{law_of_fission, parts_agree};
-pub use reduction::{reduction_by_join, reduction_variable};
+pub use reduction::reduction_variable;
 pub use scalars::{law_of_fortran_nests, one_scalar_or_copies, scalar_by_its_copies};

@@ -3,34 +3,13 @@
 ghost use Rattle.std.specs.Prelude.{◌≡◌, ℕ, ◌<◌, ◌≤◌, ℤ, List, length, Ok, Err, None};
 ghost use Rattle.storage.specs.Storage.{Storage, Spot};
 ghost use Rattle.storage.specs.Effect.{Fail};
-ghost use Rattle.nest_order.specs.Orders.{plain, Apart};
 ghost use Rattle.storage.specs.Parted.{parted, kept, NoneKept, IsLeastKept};
 ghost use Rattle.nest_order.specs.Items.{Items};
 ghost use Rattle.nest_order.specs.Parts.{flat};
 ghost use Rattle.nest_order.specs.Listed.{Names};
 ghost use Rattle.nest_order.specs.Nest.{Interpretation, nest_effects, nest_act, part_of};
-ghost use Rattle.nest_order.specs.Nest.{plain_loops, EndAlike, SameBelow, IsParallel, touches_of};
+ghost use Rattle.nest_order.specs.Nest.{plain_loops, EndAlike, SameBelow, IsParallel};
 ghost use Rattle.nest_order.specs.Stores.{noted_by_all, observed_loops};
-
-/// The parts of a nest are apart, as the law of fission asks, where no iteration writes what is listed for another one.
-pub fn parallel_nest<A, C, F>()
-    ensures { (interpretation : Interpretation A C F) (names : Names A C Spot)
-        (written : A → List Spot) (start : Storage) (row n parts : ℕ) (items : ℕ → Items A C)
-        → IsParallel interpretation names written start row n items
-        → Apart (nest_act interpretation row items) start n parts
-        (touches_of interpretation names written start row n items) }
-{}
-
-/// The plain order of a nest's parts follows its plain loops: both end with one fault, or with storages that differ in
-/// the stored conditions alone. The parts are as many as the iteration with most has; another one skips the last ones.
-pub fn plain_nest<A, C, F>()
-    ensures { (interpretation : Interpretation A C F) (names : Names A C Spot)
-        (written : A → List Spot) (start : Storage) (row n parts : ℕ) (items : ℕ → Items A C)
-        → IsParallel interpretation names written start row n items
-        → ((i : ℕ) → i < n → length (nest_effects interpretation row items i) ≤ parts)
-        → EndAlike row (plain_loops interpretation items start n)
-        (plain (nest_act interpretation row items) start parts n) }
-{}
 
 /// The law of fission for nests. Let no iteration write what is listed for another one. Where the parted order keeps no
 /// fault, the plain loops end with its storage, but for the stored conditions. Else they end with the fault of the least

@@ -20,6 +20,6 @@
 //! fault or with its arrays, scalars and indices: `nests_are_parallel`, `nests_may_copy`, `nests_as_parts`.
 #![tactic(auto)]
 
-mod laws;
+mod promises;
 
-pub use laws::{nests_are_parallel, nests_as_parts, nests_may_copy};
+pub use promises::{nests_are_parallel, nests_as_parts, nests_may_copy};

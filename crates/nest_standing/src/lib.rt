@@ -21,7 +21,7 @@
 //! `kept_nests`, `programs_have_forms`.
 #![tactic(auto)]
 
-mod laws;
+mod promises;
 
-pub use laws::{kept_nests, programs_have_forms};
+pub use promises::{kept_nests, programs_have_forms};
 pub use well_formed::accepted_programs_have_valid_code;

@@ -11,7 +11,3 @@
 //! *Proved:* By laws alone. The inner loops of a nest count right, in 64 bits: `inner_loops_count`. The instructions of
 //! a nest mean what its code is, where the bounds of its inner loops can't fault: `nests_coded`.
 #![tactic(auto)]
-
-mod laws;
-
-pub use laws::{inner_loops_count, nests_coded};

@@ -12,7 +12,3 @@
 //! value that the expression has in the state of its iteration, faults included: `nest_values`. So have the subscripts
 //! of a left side: `nest_subscripts`.
 #![tactic(auto)]
-
-mod laws;
-
-pub use laws::{nest_subscripts, nest_values};

@@ -15,16 +15,14 @@
 #![tactic(auto)]
 
 mod act;
-mod laws;
 mod node;
-mod segments;
+mod promises;
 mod stepped;
 
 pub use act::Act;
 pub use hpf_base::NodeId;
-pub use laws::{
+pub use node::PhasedNode;
+pub use promises::{
     confluence, law_of_ends, law_of_prefixes, letters_to_others, never_stuck, one_lockstep,
 };
-pub use node::PhasedNode;
-pub use segments::{lockstep_of_segments, segments_joined};
 pub use stepped::Stepped;

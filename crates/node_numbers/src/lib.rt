@@ -11,6 +11,6 @@
 //! `nodes_number_letters`.
 #![tactic(auto)]
 
-mod numbers;
+mod promises;
 
-pub use numbers::nodes_number_letters;
+pub use promises::nodes_number_letters;

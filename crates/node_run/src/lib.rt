@@ -28,18 +28,10 @@
 //! value that it needs: `message_read`. Parallel statements in a row are the parted order of a nest: `parts_in_a_row`.
 #![tactic(auto)]
 
-mod coded;
-mod joining;
-mod letter_laws;
-mod parted;
-mod pieces;
-mod runs;
-mod trees;
+mod promises;
 
-pub use coded::other_texts;
-pub use joining::{folded_from_unit, values_regrouped};
-pub use letter_laws::{letters_exact, message_exact, message_read, phases_carried};
-pub use parted::{least_of_parts, parts_in_a_row};
-pub use pieces::{elements_have_owners, owners_by_mapping, pieces_by_elements};
-pub use runs::{nodes_pass, nodes_run, nodes_step, openings_agree, openings_run};
-pub use trees::trees_by_acts;
+pub use promises::{
+    least_of_parts, letters_exact, message_exact, message_read, nodes_pass, nodes_run, nodes_step,
+    openings_agree, openings_run, other_texts, owners_by_mapping, parts_in_a_row, phases_carried,
+    pieces_by_elements,
+};

@@ -27,7 +27,6 @@ mod alike;
 mod columns;
 mod copies;
 mod held_values;
-mod laws;
 mod lines;
 mod numbers;
 mod owner_table;
@@ -39,7 +38,6 @@ mod samples;
 mod tables;
 
 pub use held_values::{held_value, local_value, local_values, push_held};
-pub use laws::{copies_are_dealt, copies_have_sizes, pieces_of_one_value};
 pub use lines::HeldLine;
 pub use owner_table::OwnerTable;
 pub use owners::Owners;

@@ -13,6 +13,6 @@
 //! redistributions that were passed so far: `maps_now`, `trails_move`.
 #![tactic(auto)]
 
-mod states;
+mod promises;
 
-pub use states::{entries_passed, maps_now, trails_move};
+pub use promises::{entries_passed, maps_now, trails_move};

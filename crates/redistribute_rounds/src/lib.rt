@@ -11,11 +11,11 @@
 #![tactic(auto)]
 
 mod color_rounds;
-mod laws;
+mod promises;
 mod round_list;
 
 pub use color_rounds::rounds;
 pub use hpf_base::{NodeId, OutOfMemory};
-pub use laws::{law_of_fewest_rounds, law_of_full_rounds, law_of_legal_rounds};
 pub use letters::Pair;
+pub use promises::{law_of_fewest_rounds, law_of_full_rounds, law_of_legal_rounds};
 pub use round_list::Rounds;

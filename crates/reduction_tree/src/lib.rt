@@ -13,15 +13,15 @@
 
 mod fold;
 mod kept_fault;
-mod laws;
 mod numbers;
 mod placed;
+mod promises;
 mod tree;
 
 pub use fold::{Fold, fold_tree};
 pub use hpf_base::NodeId;
 pub use kept_fault::{KeptFault, LeastFault};
-pub use laws::{law_of_acts, law_of_owners, law_of_trees};
 pub use numbers::{BitAnd, BitOr, BitXor, Greatest, Least, Product, Sum};
 pub use placed::{LastValue, Placed};
+pub use promises::{law_of_acts, law_of_owners, law_of_trees};
 pub use tree::{TreeAct, levels, tree_act};

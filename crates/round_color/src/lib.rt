@@ -14,12 +14,12 @@
 
 mod coloring;
 mod free_colors;
-mod laws;
 mod loads;
+mod promises;
 mod table;
 
 pub use coloring::color;
 pub use hpf_base::{NodeId, OutOfMemory};
-pub use laws::{law_of_coloring, law_of_exchange, law_of_fewest, law_of_rows};
 pub use letters::Pair;
 pub use loads::{busiest_node, degree};
+pub use promises::{law_of_coloring, law_of_exchange, law_of_fewest, law_of_rows};

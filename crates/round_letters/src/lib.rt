@@ -10,6 +10,6 @@
 //! `one_letter_a_round`.
 #![tactic(auto)]
 
-mod rounds;
+mod promises;
 
-pub use rounds::one_letter_a_round;
+pub use promises::one_letter_a_round;

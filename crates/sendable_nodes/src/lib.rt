@@ -16,7 +16,7 @@
 //! *Proved:* A node may be sent to a thread, with all that it holds and shares: `nodes_may_be_sent`.
 #![tactic(auto)]
 
-mod nodes;
+mod promises;
 
 pub use node_machine::Node;
-pub use nodes::nodes_may_be_sent;
+pub use promises::nodes_may_be_sent;

@@ -25,16 +25,16 @@
 #![tactic(auto)]
 
 mod closing;
-mod laws;
 mod opening;
+mod promises;
 mod station;
 
 pub use closing::{all_ended, close_stations};
 pub use hpf_base::{NodeId, OutOfMemory};
-pub use laws::{law_of_last_nodes, law_of_stations};
 pub use letters::{Body, Letter};
 pub use local_runs::LocalRuns;
 pub use node_law::{Act, PhasedNode, Stepped};
 pub use opening::open_stations;
 pub use pair_mailbox::{Closed, InEnd, OutEnd};
+pub use promises::law_of_stations;
 pub use station::{Kept, Station};

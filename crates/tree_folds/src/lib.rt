@@ -20,13 +20,13 @@
 //! `law_of_position_trees`, `law_of_passing`.
 #![tactic(auto)]
 
-mod laws;
 mod optional;
+mod promises;
 mod truths;
 
-pub use laws::{
+pub use optional::Optional;
+pub use promises::{
     law_of_fault_trees, law_of_faults, law_of_number_trees, law_of_numbers, law_of_passing,
     law_of_position_trees, law_of_positions, law_of_truths,
 };
-pub use optional::Optional;
 pub use truths::{AllTruths, AnyTruth};

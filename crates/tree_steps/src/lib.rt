@@ -14,21 +14,21 @@
 
 mod joining;
 mod kept_faults;
-mod laws;
 mod openings;
 mod optional_values;
 mod positioned_values;
+mod promises;
 mod rounds;
 mod tree_values;
 
 pub use hpf_base::OutOfMemory;
 pub use joining::Joining;
 pub use kept_faults::{kept_numbers, kept_of_numbers};
-pub use laws::law_of_absorbed;
 pub use letters::Parcel;
 pub use openings::{inbox, outbox};
 pub use optional_values::{option_numbers, options_joined, reduced};
 pub use positioned_values::{Positioned, last_value, positioned_numbers};
+pub use promises::law_of_absorbed;
 pub use rounds::{levels_of, source_of, target_of};
 pub use slot_values::Kept;
 pub use tree_values::absorbed;

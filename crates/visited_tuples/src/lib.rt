@@ -20,14 +20,10 @@
 //! together: `visits_of_part`.
 #![tactic(auto)]
 
-mod computing;
-mod laws;
-mod parts;
-mod sending;
+mod promises;
 
-pub use computing::{alike_held, assigned_own, read_own, root_own, unread_own};
-pub use laws::{
-    nothing_taken, own_tuples, owned_by_places, owned_reads, taken_beyond, taken_of_few,
+pub use promises::{
+    alike_held, all_own, assigned_own, least_alone, own_tuples, owned_by_places, owned_reads,
+    read_own, root_own, sent_beyond, sent_of_few, sent_where_owned, taken_beyond, taken_of_few,
+    unread_own, visits_of_part,
 };
-pub use parts::visits_of_part;
-pub use sending::{all_own, least_alone, sent_beyond, sent_of_few, sent_where_owned};

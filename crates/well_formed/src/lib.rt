@@ -20,9 +20,9 @@
 //! valid: `programs_keep_ranks`, `accepted_programs_have_valid_code`.
 #![tactic(auto)]
 
-mod accepted;
+mod promises;
 
-pub use accepted::{
+pub use promises::{
     accepted_code_is_valid, accepted_programs_have_valid_code, accepted_programs_lowered,
     accepted_trails_lowered, programs_are_well_formed, programs_keep_ranks,
 };

@@ -1,5 +1,0 @@
-use Rattle.courses.proofs.CopyLayouts.{laid}
-use Rattle.courses.proofs.laws.copy_laid_out.Goals as goal
-
-pub returns : goal.returns
-returns c = laid

@@ -1,5 +1,0 @@
-use Rattle.courses.proofs.Owners.{bounded}
-use Rattle.courses.proofs.laws.in_bounds_by_axes.Goals as goal
-
-pub returns : goal.returns
-returns c = bounded

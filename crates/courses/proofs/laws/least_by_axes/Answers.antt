@@ -1,5 +1,0 @@
-use Rattle.courses.proofs.Owners.{least}
-use Rattle.courses.proofs.laws.least_by_axes.Goals as goal
-
-pub returns : goal.returns
-returns c = least

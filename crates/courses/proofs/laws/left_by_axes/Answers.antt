@@ -1,5 +1,0 @@
-use Rattle.courses.proofs.Owners.{left}
-use Rattle.courses.proofs.laws.left_by_axes.Goals as goal
-
-pub returns : goal.returns
-returns c = left

@@ -1,5 +1,0 @@
-use Rattle.courses.proofs.References.{reads}
-use Rattle.courses.proofs.laws.reads_by_courses.Goals as goal
-
-pub returns : goal.returns
-returns c = reads

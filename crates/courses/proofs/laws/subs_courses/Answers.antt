@@ -1,9 +1,0 @@
-use Rattle.courses.proofs.Axes.{axes}
-use Rattle.courses.proofs.References.{subs}
-use Rattle.courses.proofs.laws.subs_courses.Goals as goal
-
-pub returns-clause-values : goal.returns-clause-values
-returns-clause-values c = subs
-
-pub returns-clause-axes : goal.returns-clause-axes
-returns-clause-axes c = axes

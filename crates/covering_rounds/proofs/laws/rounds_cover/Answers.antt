@@ -1,5 +1,0 @@
-use Rattle.covering_rounds.proofs.Covering.{rounds-cover}
-use Rattle.covering_rounds.proofs.laws.rounds_cover.Goals as goal
-
-pub returns : goal.returns
-returns c nodes new layouts owned = rounds-cover nodes new layouts owned

@@ -1,5 +1,0 @@
-use Rattle.found_names.proofs.Programs.{all_found}
-use Rattle.found_names.proofs.resolved_names.names_are_found.Goals as goal
-
-pub returns : goal.returns
-returns c = all_found

@@ -1,5 +1,0 @@
-use Rattle.nest_standing.proofs.Whole.{kept_nest}
-use Rattle.nest_standing.proofs.laws.kept_nests.Goals as goal
-
-pub returns : goal.returns
-returns c = kept_nest

@@ -1,5 +1,0 @@
-use Rattle.nest_standing.proofs.Programs.{program_forms}
-use Rattle.nest_standing.proofs.laws.programs_have_forms.Goals as goal
-
-pub returns : goal.returns
-returns c = program_forms

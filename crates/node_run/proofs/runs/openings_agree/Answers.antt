@@ -1,5 +1,0 @@
-use Rattle.node_run.proofs.Openings.{opening-agree}
-use Rattle.node_run.proofs.runs.openings_agree.Goals as goal
-
-pub returns : goal.returns
-returns g c faults meaning count m none first = opening-agree faults meaning count m none first

@@ -1,5 +1,0 @@
-use Rattle.nodes_lowered.proofs.NewMappings.{moves-numbered}
-use Rattle.nodes_lowered.proofs.new_mappings.moves_by_number.Goals as goal
-
-pub returns : goal.returns
-returns c = moves-numbered

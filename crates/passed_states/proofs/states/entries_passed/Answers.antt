@@ -1,5 +1,0 @@
-use Rattle.passed_states.proofs.Places.{entry-passed}
-use Rattle.passed_states.proofs.states.entries_passed.Goals as goal
-
-pub returns : goal.returns
-returns c = λ table moves k m entries those i e at. entry-passed table moves k m entries those i e at

@@ -1,5 +1,0 @@
-use Rattle.redistribute_rounds.proofs.Fewest.{none-fewer}
-use Rattle.redistribute_rounds.proofs.laws.law_of_fewest_rounds.Goals as goal
-
-pub returns : goal.returns
-returns c = none-fewer

@@ -1,5 +1,0 @@
-use Rattle.redistribute_rounds.proofs.Full.{colors-full}
-use Rattle.redistribute_rounds.proofs.laws.law_of_full_rounds.Goals as goal
-
-pub returns : goal.returns
-returns c = colors-full

@@ -1,5 +1,0 @@
-use Rattle.round_color.proofs.Whole.{is-colored}
-use Rattle.round_color.proofs.laws.law_of_coloring.Goals as goal
-
-pub returns : goal.returns
-returns c = is-colored

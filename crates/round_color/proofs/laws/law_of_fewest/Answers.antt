@@ -1,5 +1,0 @@
-use Rattle.round_color.proofs.Fewest.{degree-few}
-use Rattle.round_color.proofs.laws.law_of_fewest.Goals as goal
-
-pub returns : goal.returns
-returns c = degree-few

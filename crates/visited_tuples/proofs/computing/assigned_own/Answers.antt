@@ -1,5 +1,0 @@
-use Rattle.visited_tuples.proofs.Owning.{assigned}
-use Rattle.visited_tuples.proofs.computing.assigned_own.Goals as goal
-
-pub returns : goal.returns
-returns c = assigned

@@ -1,5 +1,0 @@
-use Rattle.visited_tuples.proofs.Owning.{read}
-use Rattle.visited_tuples.proofs.computing.read_own.Goals as goal
-
-pub returns : goal.returns
-returns c = read

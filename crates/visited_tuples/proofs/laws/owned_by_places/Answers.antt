@@ -1,5 +1,0 @@
-use Rattle.visited_tuples.proofs.Reading.{owns-named}
-use Rattle.visited_tuples.proofs.laws.owned_by_places.Goals as goal
-
-pub returns : goal.returns
-returns c = owns-named

@@ -1,5 +1,0 @@
-use Rattle.visited_tuples.proofs.Taken.{taking-beyond}
-use Rattle.visited_tuples.proofs.laws.taken_beyond.Goals as goal
-
-pub returns : goal.returns
-returns c = taking-beyond

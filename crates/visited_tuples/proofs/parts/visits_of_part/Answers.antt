@@ -1,5 +1,0 @@
-use Rattle.visited_tuples.proofs.OfParts.{visits}
-use Rattle.visited_tuples.proofs.parts.visits_of_part.Goals as goal
-
-pub returns : goal.returns
-returns c = visits

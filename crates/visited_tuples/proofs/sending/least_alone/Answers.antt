@@ -1,5 +1,0 @@
-use Rattle.visited_tuples.proofs.Sent.{least-alone}
-use Rattle.visited_tuples.proofs.sending.least_alone.Goals as goal
-
-pub returns : goal.returns
-returns c = least-alone

@@ -1,5 +1,0 @@
-use Rattle.visited_tuples.proofs.Sent.{own-beyond}
-use Rattle.visited_tuples.proofs.sending.sent_beyond.Goals as goal
-
-pub returns : goal.returns
-returns c = own-beyond

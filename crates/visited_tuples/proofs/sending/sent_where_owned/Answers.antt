@@ -1,5 +1,0 @@
-use Rattle.visited_tuples.proofs.Sent.{own-listed}
-use Rattle.visited_tuples.proofs.sending.sent_where_owned.Goals as goal
-
-pub returns : goal.returns
-returns c = own-listed

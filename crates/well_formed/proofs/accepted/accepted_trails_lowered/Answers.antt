@@ -1,5 +1,0 @@
-use Rattle.well_formed.proofs.Programs.{trail_lowered}
-use Rattle.well_formed.proofs.accepted.accepted_trails_lowered.Goals as goal
-
-pub returns : goal.returns
-returns c = trail_lowered
