@@ -6,8 +6,7 @@ ghost use Rattle.mappings.specs.declared.mapping.Form.TheVariants.{Whole};
 
 use case_texts::TextError;
 use hpf_base::{MAX_BOUND, MAX_NODES};
-use mappings::{MAX_BLOCK, MAX_CYCLIC, MAX_TEMPLATE_EXTENT};
-use mappings::{BlockSizes, Form, Line};
+use mappings::{BlockSizes, Form, Line, MAX_BLOCK, MAX_CYCLIC, MAX_TEMPLATE_EXTENT};
 use std::alloc::Global;
 
 /// The line of this format; None where the numbers aren't those of a line.

@@ -10,9 +10,8 @@ ghost use Rattle.directive_check.specs.WideAlignments.{narrow_alignment, narrowe
 use crate::dims::dim_at;
 use crate::subscripts::linear;
 use crate::wide_numbers::advanced;
-use alignment_rules::{AlignDims, Alignment};
+use alignment_rules::{AlignDims, Alignment, MAX_ALIGN_FACTOR, MAX_ALIGN_OFFSET};
 use expression_rules::Dim;
-use alignment_rules::{MAX_ALIGN_FACTOR, MAX_ALIGN_OFFSET};
 use mappings::AlignDim;
 use std::alloc::{AllocError, Global};
 use std::marker::Model;

@@ -11,8 +11,7 @@ ghost use Rattle.term_values.specs.States.{state_of};
 ghost use Rattle.forall_conditions.specs.Linears.{are_in_limits, is_short_in_limits, linear_of};
 
 use crate::linear::{LinearForm, linear};
-use array_meaning::Sequence;
-use array_meaning::{MAX_FACTOR, MAX_INDEX_VALUE, MAX_OFFSET, MAX_TUPLES};
+use array_meaning::{MAX_FACTOR, MAX_INDEX_VALUE, MAX_OFFSET, MAX_TUPLES, Sequence};
 use resolved_program::{ElementAssignment, Term};
 use std::alloc::AllocError;
 use term_values::State;

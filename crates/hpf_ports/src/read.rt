@@ -3,8 +3,8 @@
 ghost use Rattle.std.specs.Prelude.{◌≡◌, ◌≢◌, ◌+◌, ◌<◌, ◌≤◌, List, ◌++◌, ℕ, length, take, IfOk, IsErrOf, OnErr, vec_len};
 ghost use Rattle.hpf_ports.specs.Ports.{Gave, IsAtEnd, Rose};
 
-use crate::source::{Failed, Source};
 use crate::limits::MAX_SOURCE_BYTES;
+use crate::source::{Failed, Source};
 use std::alloc::{AllocError, Global};
 use thiserror::Error;
 

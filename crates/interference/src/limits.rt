@@ -15,8 +15,7 @@ ghost use Rattle.term_values.specs.States.{state_of};
 ghost use Rattle.interference.specs.Limits.{is_arm_in_limits, is_space_in_limits, saturated};
 
 use crate::indices::{IterationSpace, kept, set_all, set_back, values_of};
-use array_meaning::Sequence;
-use array_meaning::{MAX_FACTOR, MAX_INDEX_VALUE, MAX_OFFSET, MAX_TUPLES};
+use array_meaning::{MAX_FACTOR, MAX_INDEX_VALUE, MAX_OFFSET, MAX_TUPLES, Sequence};
 use resolved_program::{Action, Arm, Loop, Statement, Term};
 use smallvec::SmallVec;
 use std::alloc::{AllocError, Global};

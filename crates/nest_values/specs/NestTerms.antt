@@ -1,4 +1,4 @@
--- Of a promise.
+-- Of proofs.
 -- When a nest's expressions as FORALL's have the values that they have in an iteration.
 use Rattle.std.specs.Prelude.{◌≡◌, ℕ, List, ℤ, Option, Ok}
 use Rattle.array_meaning.specs.State.{State, scalar, array}

@@ -2,6 +2,7 @@
 
 ghost use Rattle.std.specs.Prelude.{◌≡◌, ℤ, FitsSigned};
 ghost use Rattle.std.specs.Int.{w64};
+ghost use Rattle.op_tables.specs.declared.join.Join.{Join};
 ghost use Rattle.op_tables.specs.Joins.{IsJoin, IsOverNumbers, IsValue, join, unit};
 
 /// Each way to join gives a value of its own values, is associative and commutative on them, and has a unit there. Its values are all numbers

@@ -6,8 +6,8 @@ ghost use Rattle.courses.specs.References.{IsAlongAxes};
 ghost use Rattle.courses.specs.Subscripts.{AxesBelow, AxisBelow};
 ghost use Rattle.course_forms.specs.Views.{course_of, courses_of, named_of, names_of};
 
-use course_forms::{Course, Reference};
 use array_meaning::MAX_TUPLES;
+use course_forms::{Course, Reference};
 
 /// Whether a space of these extents has no more tuples than the limit.
 pub fn are_few(extents: &[u64]) -> bool

@@ -12,8 +12,7 @@ ghost use Rattle.serial_run.specs.SectionStores.{branch_mask, kept_of, masked_st
 
 use crate::section_assignments::store_each;
 use crate::section_stores::{Branch, Sides, Space};
-use array_meaning::Store;
-use array_meaning::MAX_TUPLES;
+use array_meaning::{MAX_TUPLES, Store};
 use std::alloc::AllocError;
 use strips::{strip_places, strip_values};
 use term_values::State;

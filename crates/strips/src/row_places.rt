@@ -7,8 +7,7 @@ ghost use Rattle.strips.specs.Places.{AreRuns, IsRun};
 
 use crate::rows::row_count;
 use crate::tuples::run_at;
-use array_meaning::Selection;
-use array_meaning::MAX_TUPLES;
+use array_meaning::{MAX_TUPLES, Selection};
 use std::alloc::AllocError;
 use term_values::{State, positions};
 

@@ -17,8 +17,7 @@ use crate::state::State;
 use crate::stops::{Stop, at_tuple};
 use crate::subscripts::positions;
 use crate::wrapping::Pair;
-use array_meaning::Selection;
-use array_meaning::MAX_TUPLES;
+use array_meaning::{MAX_TUPLES, Selection};
 use op_tables::Op;
 use smallvec::SmallVec;
 

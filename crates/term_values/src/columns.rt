@@ -12,8 +12,7 @@ use crate::elements::{element_of_one, element_of_two, operated_of_two};
 use crate::state::State;
 use crate::subscripts::nth;
 use crate::wrapping::Number;
-use array_meaning::{Selection, Sequence};
-use array_meaning::MAX_TUPLES;
+use array_meaning::{MAX_TUPLES, Selection, Sequence};
 use op_tables::Op;
 use std::alloc::AllocError;
 

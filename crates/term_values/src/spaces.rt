@@ -13,8 +13,7 @@ ghost use Rattle.term_values.specs.Views.{elemental, elementals_of};
 use crate::array_values::Elemental;
 use crate::stops::{Stop, fault};
 use crate::wrapping::difference;
-use array_meaning::{FaultKind, Selection};
-use array_meaning::{MAX_FACTOR, MAX_OFFSET, MAX_TUPLES};
+use array_meaning::{FaultKind, MAX_FACTOR, MAX_OFFSET, MAX_TUPLES, Selection};
 use std::alloc::{AllocError, Global};
 
 /// The extents of a section, one for each triplet.

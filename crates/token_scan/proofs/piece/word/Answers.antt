@@ -22,7 +22,7 @@ pub returns-in-Some : goal.returns-in-Some
 returns-in-Some c =
     let spelled : c.deref.result.now ≡ upper (take c.run_len-len.result c.args.bytes.now) = c.deref.ensures.value ∙ c.in_ok-upper.ensures in
     let few : length (upper (take c.run_len-len.result c.args.bytes.now)) ≤ MAX_NAME_BYTES =
-        omega (arith, c.if-len-gt-MAX_NAME_BYTES.false, length-upper (take c.run_len-len.result c.args.bytes.now), length-take c.run_len-len.result c.args.bytes.now) in
+    omega (arith, c.if-len-gt-MAX_NAME_BYTES.false, length-upper (take c.run_len-len.result c.args.bytes.now), length-take c.run_len-len.result c.args.bytes.now) in
     subst (λ (name : List ℕ). IsPiece c.args.bytes.now (Token c.run_len-len.result (Word name))) (sym (c.in-Some.ensures.value ∙ spelled))
     (word_front c.args.bytes.now c.run_len-len.result c.requires c.run_len-len.ensures.count, le-ltb MAX_NAME_BYTES _ few)
 
