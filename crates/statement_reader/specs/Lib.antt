@@ -1,5 +1,6 @@
 pub mod Forms
 pub mod Views
+pub mod Words
 pub mod FirstWords
 pub mod Reading
 pub mod LeftOut

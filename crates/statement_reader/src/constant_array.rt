@@ -13,7 +13,7 @@ ghost use Rattle.syntax_tree.specs.Lexeme.{lexemes};
 
 use crate::declaration::constants;
 use crate::lists::Entities;
-use crate::word_lines::finish;
+use crate::word_lines::is_end;
 use line_forms::{Depths, ReadError, after_word, attribute, skip};
 use source_lines::Token;
 use std::alloc::Global;
@@ -26,7 +26,9 @@ pub(crate) fn constant_array(alloc: Global, tokens: &[Token]) -> Result<bool, Re
     let rest = after_word(tokens, b"INTEGER")?;
     let rest = after_parameter(rest)?;
     let ((dims, entities), rest) = constants::<Entities>(alloc, Depths::Any, rest)?;
-    finish(rest)?;
+    if !is_end(rest) {
+        return Err(ReadError::Malformed);
+    }
     Ok(has_bounds(&dims, &entities))
 }
 

@@ -4,8 +4,8 @@ ghost use Rattle.std.specs.Prelude.{◌≡◌, false, map, option_map};
 ghost use Rattle.syntax_tree.specs.Lexeme.{lexemes};
 ghost use Rattle.line_forms.specs.declared.depths.Depths.TheVariants.{Limited};
 ghost use Rattle.line_forms.specs.Gives.{Gives};
-ghost use Rattle.line_forms.specs.Grammar.{Optional};
-ghost use Rattle.line_forms.specs.Marks.{starts};
+ghost use Rattle.line_forms.specs.Grammar.{CommaList, Optional, Prefixed};
+ghost use Rattle.line_forms.specs.Marks.{colons, starts};
 ghost use Rattle.line_forms.specs.Parts.{bound, bound_of, enclosed};
 ghost use Rattle.line_forms.specs.Read.{read};
 ghost use Rattle.statement_reader.specs.Forms.{constants, declaration, dimension_key, parameter_key};
@@ -52,8 +52,7 @@ fn variables(alloc: Global, tokens: &[Token]) -> Result<(IntegerDecl, &[Token]),
 {
     if attribute(tokens, b"DIMENSION") {
         let (bounds, rest) = enclosed::<Bounds>(alloc, Depths::Limited, skip(tokens, 2))?;
-        let rest = after_sign(rest, Sign::Colons)?;
-        let (entities, rest) = comma_list::<Entities>(alloc, Depths::Limited, rest)?;
+        let (entities, rest) = after_colons::<Entities>(alloc, Depths::Limited, rest)?;
         return Ok((typed(Some(bounds), true, entities), rest));
     }
     if is_sign(tokens, Sign::Colons) {
@@ -86,9 +85,20 @@ pub(crate) fn constants<T: Element>(
         (read depths (constants T.grammar) (lexemes tokens.now)) }
 {
     let (dims, rest) = dimension(alloc, depths, tokens)?;
-    let rest = after_sign(rest, Sign::Colons)?;
-    let (entities, rest) = comma_list::<T>(alloc, depths, rest)?;
+    let (entities, rest) = after_colons::<T>(alloc, depths, rest)?;
     Ok(((dims, entities), rest))
+}
+
+/// The entities after `::`.
+fn after_colons<T: Element>(
+    alloc: Global,
+    depths: Depths,
+    tokens: &[Token],
+) -> Result<(Vec<T::Part>, &[Token]), ReadError>
+    ensures { Gives (λ x. (map T.view x.0.items, lexemes x.1.now)) result (read depths (Prefixed colons (CommaList T.grammar)) (lexemes tokens.now)) }
+{
+    let rest = after_sign(tokens, Sign::Colons)?;
+    comma_list::<T>(alloc, depths, rest)
 }
 
 /// The bounds of the attribute DIMENSION, where it is there.

@@ -13,7 +13,7 @@ ghost use Rattle.statement_reader.specs.Views.{assignment_of, do_of, forall_of};
 use crate::lists::Axes;
 use crate::parts::{condition, if_assignment, values};
 use crate::statement::{Assignment, DoHead, ForallHead};
-use line_forms::{Depths, ReadError, after_sign, header, name};
+use line_forms::{Depths, ReadError, after_sign, header, is_sign, name, skip};
 use source_lines::Token;
 use std::alloc::Global;
 use syntax_tree::{Expr, Sign};
@@ -47,8 +47,10 @@ pub(crate) fn forall_head(
 {
     let rest = after_sign(tokens, Sign::Open)?;
     let ((axes, mask), rest) = header::<Axes>(alloc, Depths::Limited, rest)?;
-    let rest = after_sign(rest, Sign::Close)?;
-    Ok((ForallHead { axes, mask }, rest))
+    if !is_sign(rest, Sign::Close) {
+        return Err(ReadError::Malformed);
+    }
+    Ok((ForallHead { axes, mask }, skip(rest, 1)))
 }
 
 /// A WHERE after its keyword, with its assignment if it has one.

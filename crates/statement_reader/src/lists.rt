@@ -2,22 +2,21 @@
 
 ghost use Rattle.statement_reader.specs.Forms.{axis, constant, constant_entity, entity, plain_entity};
 ghost use Rattle.statement_reader.specs.Views.{axis_of, constant_entity_of, constant_of, entity_of, items_of, plain_entity_of};
-ghost use Rattle.line_forms.specs.Grammar.{CommaList, Expr as OneExpr, Item as OneItem, Optional, Prefixed};
-ghost use Rattle.syntax_tree.specs.Expression.{expression};
+ghost use Rattle.line_forms.specs.Grammar.{CommaList, Item as OneItem, Optional};
 ghost use Rattle.syntax_tree.specs.Lexeme.{lexemes};
 ghost use Rattle.line_forms.specs.declared.depths.Depths.TheVariants.{Limited};
-ghost use Rattle.line_forms.specs.Marks.{comma, equals};
+ghost use Rattle.line_forms.specs.Marks.{comma};
 ghost use Rattle.line_forms.specs.Read.{read};
 ghost use Rattle.line_forms.specs.Gives.{Gives};
 
-use crate::parts::{optional_after, values};
+use crate::parts::{optional_after, value, values};
 use line_forms::{
-    Bounds, Depths, Element, ListedItems, ReadError, after_sign, comma_list, expr, is_sign, name,
+    Bounds, Depths, Element, ListedItems, ReadError, after_sign, comma_list, is_sign, name,
     optional_enclosed, skip,
 };
 use source_lines::Token;
 use std::alloc::Global;
-use syntax_tree::{ConstDef, Entity, Expr, Header, Item, Sign};
+use syntax_tree::{ConstDef, Entity, Header, Item, Sign};
 
 /// Entities of a declaration that may have values.
 pub(crate) struct Entities {}
@@ -63,21 +62,13 @@ impl Element for ConstantEntities {
         match name(tokens) {
             Ok((name, rest)) => {
                 let (dims, rest) = optional_enclosed::<Bounds>(alloc, depths, rest)?;
-                let (value, rest) = value(alloc, depths, rest)?;
+                let (value, rest) = value(alloc, depths, rest, Sign::Equals)?;
                 let start = Some(value);
                 Ok((Entity { name, dims, start }, rest))
             }
             Err(error) => Err(error),
         }
     }
-}
-
-/// A value after `=`.
-fn value(alloc: Global, depths: Depths, tokens: &[Token]) -> Result<(Expr, &[Token]), ReadError>
-    ensures { Gives (λ x. (expression x.0, lexemes x.1.now)) result (read depths (Prefixed equals OneExpr) (lexemes tokens.now)) }
-{
-    let rest = after_sign(tokens, Sign::Equals)?;
-    expr(alloc, depths, rest)
 }
 
 /// Entities of a declaration without `::`, which have no values.
@@ -123,8 +114,7 @@ impl Element for Constants {
     ) -> Result<(ConstDef, &[Token]), ReadError> {
         match name(tokens) {
             Ok((name, rest)) => {
-                let rest = after_sign(rest, Sign::Equals)?;
-                let (value, rest) = expr(alloc, depths, rest)?;
+                let (value, rest) = value(alloc, depths, rest, Sign::Equals)?;
                 Ok((ConstDef { name, value }, rest))
             }
             Err(error) => Err(error),

@@ -4,7 +4,7 @@ ghost use Rattle.std.specs.Prelude.{[], ◌∷◌, option_map};
 ghost use Rattle.syntax_tree.specs.Lexeme.{Fixed, lexemes};
 ghost use Rattle.syntax_tree.specs.Expression.{expression};
 ghost use Rattle.line_forms.specs.declared.depths.Depths.TheVariants.{Limited};
-ghost use Rattle.line_forms.specs.Grammar.{Expr as OneExpr, Optional, OptionalToEnd};
+ghost use Rattle.line_forms.specs.Grammar.{Expr as OneExpr, Optional, OptionalToEnd, Prefixed, Sequence};
 ghost use Rattle.line_forms.specs.Read.{read};
 ghost use Rattle.line_forms.specs.Gives.{Gives};
 ghost use Rattle.statement_reader.specs.Forms.{assignment, condition, values};
@@ -43,10 +43,36 @@ pub(crate) fn values(
         (read depths (values (Fixed sign ∷ [])) (lexemes tokens.now)) }
 {
     let (first, rest) = expr(alloc, depths, tokens)?;
-    let rest = after_sign(rest, sign)?;
-    let (last, rest) = expr(alloc, depths, rest)?;
-    let (step, rest) = optional_after(alloc, depths, rest, sign)?;
+    let ((last, step), rest) = later_values(alloc, depths, rest, sign)?;
     Ok(((first, last, step), rest))
+}
+
+/// The second and the third of these, after a sign.
+fn later_values(
+    alloc: Global,
+    depths: Depths,
+    tokens: &[Token],
+    sign: Sign,
+) -> Result<((Expr, Option<Expr>), &[Token]), ReadError>
+    ensures { Gives (λ x. ((expression x.0.0, option_map expression x.0.1), lexemes x.1.now)) result
+        (read depths (Prefixed (Fixed sign ∷ []) (Sequence OneExpr (Optional (Fixed sign ∷ []) OneExpr))) (lexemes tokens.now)) }
+{
+    let (last, rest) = value(alloc, depths, tokens, sign)?;
+    let (step, rest) = optional_after(alloc, depths, rest, sign)?;
+    Ok(((last, step), rest))
+}
+
+/// An expression after a sign.
+pub(crate) fn value(
+    alloc: Global,
+    depths: Depths,
+    tokens: &[Token],
+    sign: Sign,
+) -> Result<(Expr, &[Token]), ReadError>
+    ensures { Gives (λ x. (expression x.0, lexemes x.1.now)) result (read depths (Prefixed (Fixed sign ∷ []) OneExpr) (lexemes tokens.now)) }
+{
+    let rest = after_sign(tokens, sign)?;
+    expr(alloc, depths, rest)
 }
 
 /// An expression in parentheses.
@@ -55,8 +81,10 @@ pub(crate) fn condition(alloc: Global, tokens: &[Token]) -> Result<(Expr, &[Toke
 {
     let rest = after_sign(tokens, Sign::Open)?;
     let (cond, rest) = expr(alloc, Depths::Limited, rest)?;
-    let rest = after_sign(rest, Sign::Close)?;
-    Ok((cond, rest))
+    if !is_sign(rest, Sign::Close) {
+        return Err(ReadError::Malformed);
+    }
+    Ok((cond, skip(rest, 1)))
 }
 
 /// An assignment.
@@ -67,8 +95,7 @@ pub(crate) fn assignment(
     ensures { Gives (λ x. (assignment_of x.0, lexemes x.1.now)) result (read Limited assignment (lexemes tokens.now)) }
 {
     let (left, rest) = variable(alloc, Depths::Limited, tokens)?;
-    let rest = after_sign(rest, Sign::Equals)?;
-    let (right, rest) = expr(alloc, Depths::Limited, rest)?;
+    let (right, rest) = value(alloc, Depths::Limited, rest, Sign::Equals)?;
     Ok((Assignment { left, right }, rest))
 }
 

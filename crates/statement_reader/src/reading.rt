@@ -2,14 +2,16 @@
 
 ghost use Rattle.std.specs.Prelude.{true, false, codes};
 ghost use Rattle.syntax_tree.specs.Lexeme.{lexemes};
+ghost use Rattle.syntax_tree.specs.Expression.{expression};
 ghost use Rattle.statement_reader.specs.FirstWords.{statement_kind};
-ghost use Rattle.statement_reader.specs.Reading.{acted, acting, if_line, line, said, statement};
+ghost use Rattle.statement_reader.specs.Reading.{acted, acting, if_line, if_rest, line, said, statement};
 ghost use Rattle.line_forms.specs.declared.depths.Depths.TheVariants.{Limited};
 ghost use Rattle.line_forms.specs.Grammar.{Prefixed, Nothing};
 ghost use Rattle.line_forms.specs.Marks.{key};
 ghost use Rattle.statement_reader.specs.declared.kind.Kind.TheVariants.{Assign, ElseIf, End, Forall, Print, Where};
 ghost use Rattle.statement_reader.specs.Gives.{GivesWhole};
 ghost use Rattle.statement_reader.specs.Views.{action_of, form_of};
+ghost use Rattle.statement_reader.specs.Words.{worded, worded_action};
 
 use crate::first_words::statement_kind;
 use crate::kind::Kind;
@@ -19,10 +21,11 @@ use crate::whole_lines::{
     assign, do_line, else_if, else_if_glued, end, forall_line, integer, parameter, print, program,
     where_line,
 };
-use crate::word_lines::{alone, finish, pair};
+use crate::word_lines::{alone, finish, is_end, pair, worded_action};
 use line_forms::{ReadError, after_word, is_word, skip};
 use source_lines::Token;
 use std::alloc::Global;
+use syntax_tree::Expr;
 
 /// The statement that a line is.
 pub(crate) fn statement(alloc: Global, tokens: &[Token]) -> Result<Statement, ReadError>
@@ -30,41 +33,41 @@ pub(crate) fn statement(alloc: Global, tokens: &[Token]) -> Result<Statement, Re
 {
     match statement_kind(tokens) {
         Kind::Program => Ok(Statement::Program(program(tokens)?)),
-        Kind::ImplicitNone => pair(tokens, b"IMPLICIT", b"NONE", Statement::ImplicitNone),
+        Kind::ImplicitNone => pair(tokens, b"IMPLICIT", b"NONE", Kind::ImplicitNone),
         Kind::Integer => Ok(Statement::Integer(integer(alloc, tokens)?)),
         Kind::Parameter => Ok(Statement::Parameter(parameter(alloc, tokens)?)),
         Kind::Assign => Ok(Statement::Action(Action::Assign(assign(alloc, tokens)?))),
         Kind::IfThen => if_line(alloc, tokens),
         Kind::ElseIf(true) => one_word_else_if(alloc, tokens),
         Kind::ElseIf(false) => two_word_else_if(alloc, tokens),
-        Kind::Else => alone(tokens, b"ELSE", Statement::Else),
-        Kind::EndIf(true) => alone(tokens, b"ENDIF", Statement::EndIf { glued: true }),
-        Kind::EndIf(false) => end_of(tokens, b"IF", Statement::EndIf { glued: false }),
+        Kind::Else => alone(tokens, b"ELSE", Kind::Else),
+        Kind::EndIf(true) => alone(tokens, b"ENDIF", Kind::EndIf(true)),
+        Kind::EndIf(false) => end_of(tokens, b"IF", Kind::EndIf(false)),
         Kind::Do => Ok(Statement::Do(do_line(alloc, tokens)?)),
-        Kind::EndDo(true) => alone(tokens, b"ENDDO", Statement::EndDo { glued: true }),
-        Kind::EndDo(false) => end_of(tokens, b"DO", Statement::EndDo { glued: false }),
+        Kind::EndDo(true) => alone(tokens, b"ENDDO", Kind::EndDo(true)),
+        Kind::EndDo(false) => end_of(tokens, b"DO", Kind::EndDo(false)),
         Kind::Where => where_statement(alloc, tokens),
-        Kind::ElseWhere(true) => alone(tokens, b"ELSEWHERE", Statement::ElseWhere),
-        Kind::ElseWhere(false) => pair(tokens, b"ELSE", b"WHERE", Statement::ElseWhere),
-        Kind::EndWhere(true) => alone(tokens, b"ENDWHERE", Statement::EndWhere { glued: true }),
-        Kind::EndWhere(false) => end_of(tokens, b"WHERE", Statement::EndWhere { glued: false }),
+        Kind::ElseWhere(true) => alone(tokens, b"ELSEWHERE", Kind::ElseWhere(true)),
+        Kind::ElseWhere(false) => pair(tokens, b"ELSE", b"WHERE", Kind::ElseWhere(false)),
+        Kind::EndWhere(true) => alone(tokens, b"ENDWHERE", Kind::EndWhere(true)),
+        Kind::EndWhere(false) => end_of(tokens, b"WHERE", Kind::EndWhere(false)),
         Kind::Forall => forall_statement(alloc, tokens),
-        Kind::EndForall(true) => alone(tokens, b"ENDFORALL", Statement::EndForall { glued: true }),
-        Kind::EndForall(false) => end_of(tokens, b"FORALL", Statement::EndForall { glued: false }),
+        Kind::EndForall(true) => alone(tokens, b"ENDFORALL", Kind::EndForall(true)),
+        Kind::EndForall(false) => end_of(tokens, b"FORALL", Kind::EndForall(false)),
         Kind::Print => Ok(Statement::Action(Action::Print(print(alloc, tokens)?))),
-        Kind::Stop => alone(tokens, b"STOP", Statement::Action(Action::Stop)),
-        Kind::Exit => alone(tokens, b"EXIT", Statement::Action(Action::Exit)),
-        Kind::Cycle => alone(tokens, b"CYCLE", Statement::Action(Action::Cycle)),
-        Kind::Continue => alone(tokens, b"CONTINUE", Statement::Action(Action::Continue)),
+        Kind::Stop => alone(tokens, b"STOP", Kind::Stop),
+        Kind::Exit => alone(tokens, b"EXIT", Kind::Exit),
+        Kind::Cycle => alone(tokens, b"CYCLE", Kind::Cycle),
+        Kind::Continue => alone(tokens, b"CONTINUE", Kind::Continue),
         Kind::End => end_statement(tokens),
     }
 }
 
-/// A line of END and another word, which is this statement.
-fn end_of(tokens: &[Token], word: &[u8], value: Statement) -> Result<Statement, ReadError>
-    ensures { GivesWhole form_of result (said (Prefixed (key (codes "END")) (Prefixed (key word.now) Nothing)) (form_of value) (lexemes tokens.now)) }
+/// A line of END and another word, which is the statement of this kind.
+fn end_of(tokens: &[Token], word: &[u8], kind: Kind) -> Result<Statement, ReadError>
+    ensures { GivesWhole form_of result (said (Prefixed (key (codes "END")) (Prefixed (key word.now) Nothing)) (form_of (worded kind)) (lexemes tokens.now)) }
 {
-    pair(tokens, b"END", word, value)
+    pair(tokens, b"END", word, kind)
 }
 
 /// An ELSEIF.
@@ -119,11 +122,20 @@ fn if_line(alloc: Global, tokens: &[Token]) -> Result<Statement, ReadError>
 {
     let rest = after_word(tokens, b"IF")?;
     let (cond, rest) = condition(alloc, rest)?;
-    if is_word(rest, b"THEN") {
-        finish(skip(rest, 1))?;
+    if_rest(alloc, cond, rest)
+}
+
+/// An IF after its condition.
+fn if_rest(alloc: Global, cond: Expr, tokens: &[Token]) -> Result<Statement, ReadError>
+    ensures { GivesWhole form_of result (if_rest Limited (expression cond) (lexemes tokens.now)) }
+{
+    if is_word(tokens, b"THEN") {
+        if !is_end(skip(tokens, 1)) {
+            return Err(ReadError::Malformed);
+        }
         return Ok(Statement::IfThen(cond));
     }
-    let action = action(alloc, rest)?;
+    let action = action(alloc, tokens)?;
     Ok(Statement::IfOne { cond, action })
 }
 
@@ -136,10 +148,10 @@ fn action(alloc: Global, tokens: &[Token]) -> Result<Action, ReadError>
         Kind::Where => where_action(alloc, tokens),
         Kind::Forall => forall_action(alloc, tokens),
         Kind::Print => print_action(alloc, tokens),
-        Kind::Stop => word_action(tokens, b"STOP", Action::Stop),
-        Kind::Exit => word_action(tokens, b"EXIT", Action::Exit),
-        Kind::Cycle => word_action(tokens, b"CYCLE", Action::Cycle),
-        Kind::Continue => word_action(tokens, b"CONTINUE", Action::Continue),
+        Kind::Stop => word_action(tokens, b"STOP", Kind::Stop),
+        Kind::Exit => word_action(tokens, b"EXIT", Kind::Exit),
+        Kind::Cycle => word_action(tokens, b"CYCLE", Kind::Cycle),
+        Kind::Continue => word_action(tokens, b"CONTINUE", Kind::Continue),
         _ => Err(ReadError::Malformed),
     }
 }
@@ -182,11 +194,11 @@ fn forall_action(alloc: Global, tokens: &[Token]) -> Result<Action, ReadError>
     }
 }
 
-/// An action of one word.
-fn word_action(tokens: &[Token], word: &[u8], value: Action) -> Result<Action, ReadError>
-    ensures { GivesWhole action_of result (acted (Prefixed (key word.now) Nothing) (action_of value) (lexemes tokens.now)) }
+/// The action of this kind, which is one word.
+fn word_action(tokens: &[Token], word: &[u8], kind: Kind) -> Result<Action, ReadError>
+    ensures { GivesWhole action_of result (acted (Prefixed (key word.now) Nothing) (action_of (worded_action kind)) (lexemes tokens.now)) }
 {
     let rest = after_word(tokens, word)?;
     finish(rest)?;
-    Ok(value)
+    Ok(worded_action(kind))
 }

@@ -17,7 +17,7 @@ use crate::headers::{do_head, forall_parts, where_parts};
 use crate::lists::{Constants, optional_items};
 use crate::parts::{assignment, condition};
 use crate::statement::{Assignment, DoHead, ForallHead};
-use crate::word_lines::finish;
+use crate::word_lines::{finish, is_end};
 use hpf_base::Name;
 use line_forms::{Depths, ReadError, after_sign, after_word, enclosed, is_word, name, skip};
 use source_lines::Token;
@@ -44,7 +44,9 @@ pub(crate) fn integer(alloc: Global, tokens: &[Token]) -> Result<IntegerDecl, Re
 {
     let rest = after_word(tokens, b"INTEGER")?;
     let (declared, rest) = declaration(alloc, rest)?;
-    finish(rest)?;
+    if !is_end(rest) {
+        return Err(ReadError::Malformed);
+    }
     Ok(declared)
 }
 
@@ -54,7 +56,9 @@ pub(crate) fn parameter(alloc: Global, tokens: &[Token]) -> Result<Vec<ConstDef>
 {
     let rest = after_word(tokens, b"PARAMETER")?;
     let (constants, rest) = enclosed::<Constants>(alloc, Depths::Limited, rest)?;
-    finish(rest)?;
+    if !is_end(rest) {
+        return Err(ReadError::Malformed);
+    }
     Ok(constants)
 }
 
@@ -63,7 +67,9 @@ pub(crate) fn assign(alloc: Global, tokens: &[Token]) -> Result<Assignment, Read
     ensures { GivesWhole assignment_of result (whole Limited Assign (lexemes tokens.now)) }
 {
     let (one, rest) = assignment(alloc, tokens)?;
-    finish(rest)?;
+    if !is_end(rest) {
+        return Err(ReadError::Malformed);
+    }
     Ok(one)
 }
 
@@ -73,7 +79,9 @@ fn then(alloc: Global, tokens: &[Token]) -> Result<Expr, ReadError>
 {
     let (cond, rest) = condition(alloc, tokens)?;
     let rest = after_word(rest, b"THEN")?;
-    finish(rest)?;
+    if !is_end(rest) {
+        return Err(ReadError::Malformed);
+    }
     Ok(cond)
 }
 
@@ -100,7 +108,9 @@ pub(crate) fn do_line(alloc: Global, tokens: &[Token]) -> Result<DoHead, ReadErr
 {
     let rest = after_word(tokens, b"DO")?;
     let (head, rest) = do_head(alloc, rest)?;
-    finish(rest)?;
+    if !is_end(rest) {
+        return Err(ReadError::Malformed);
+    }
     Ok(head)
 }
 
@@ -113,7 +123,9 @@ pub(crate) fn where_line(
 {
     let rest = after_word(tokens, b"WHERE")?;
     let (parts, rest) = where_parts(alloc, rest)?;
-    finish(rest)?;
+    if !is_end(rest) {
+        return Err(ReadError::Malformed);
+    }
     Ok(parts)
 }
 
@@ -126,7 +138,9 @@ pub(crate) fn forall_line(
 {
     let rest = after_word(tokens, b"FORALL")?;
     let (parts, rest) = forall_parts(alloc, rest)?;
-    finish(rest)?;
+    if !is_end(rest) {
+        return Err(ReadError::Malformed);
+    }
     Ok(parts)
 }
 
@@ -137,7 +151,9 @@ pub(crate) fn print(alloc: Global, tokens: &[Token]) -> Result<Vec<Item>, ReadEr
     let rest = after_word(tokens, b"PRINT")?;
     let rest = after_sign(rest, Sign::Star)?;
     let (items, rest) = optional_items(alloc, rest)?;
-    finish(rest)?;
+    if !is_end(rest) {
+        return Err(ReadError::Malformed);
+    }
     Ok(items)
 }
 
