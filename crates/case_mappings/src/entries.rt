@@ -7,7 +7,7 @@ use crate::lines::{form_of, is_distributed, is_line, read_line};
 use crate::parts::{first_part, numbers};
 use case_texts::TextError;
 use hpf_base::Grid;
-use mappings::{AlignDim, MapDim, MapDims, Mapping};
+use mappings::{AlignDim, Form, MapDim, MapDims, Mapping};
 use std::alloc::Global;
 
 /// The mapping that is written so, of an array of so many dimensions.
@@ -28,13 +28,13 @@ pub fn mapping_of(alloc: Global, rank: usize, written: &str) -> Result<Mapping, 
 fn dims_of(alloc: Global, grid: &Grid, rank: usize, entries: &str) -> Result<Vec<MapDim>, TextError>
     ensures { IfOk result (λ dims. IsMapping rank (record { grid = grid.now; dims = dims.items })) }
 {
-    let mut dims = Vec::new(alloc);
     let (first, second) = first_part(entries);
     if first.is_empty() {
-        return Ok(dims);
+        return Ok(Vec::new(alloc));
     }
     let entry = entry_of(alloc, grid, rank, first)?;
     if second.is_empty() {
+        let mut dims = Vec::new(alloc);
         dims.push(entry)?;
         return Ok(dims);
     }
@@ -42,6 +42,7 @@ fn dims_of(alloc: Global, grid: &Grid, rank: usize, entries: &str) -> Result<Vec
     if !are_apart(&entry, &next) {
         return Err(TextError::Malformed);
     }
+    let mut dims = Vec::new(alloc);
     dims.push(entry)?;
     dims.push(next)?;
     Ok(dims)
@@ -49,8 +50,14 @@ fn dims_of(alloc: Global, grid: &Grid, rank: usize, entries: &str) -> Result<Vec
 
 /// The grid with these extents.
 fn grid_of(alloc: Global, text: &str) -> Result<Grid, TextError> {
+    let numbers = numbers(alloc, text)?;
+    grid_with(alloc, &numbers)
+}
+
+/// The grid with these numbers as its extents.
+fn grid_with(alloc: Global, numbers: &[i64]) -> Result<Grid, TextError> {
     let mut extents = Vec::new(alloc);
-    for number in &numbers(alloc, text)? {
+    for number in numbers {
         match u32::try_from(*number) {
             Ok(extent) => extents.push(extent)?,
             Err(_) => return Err(TextError::Malformed),
@@ -75,22 +82,50 @@ fn entry_of(alloc: Global, grid: &Grid, rank: usize, text: &str) -> Result<MapDi
 fn read_entry(alloc: Global, grid: &Grid, rank: usize, text: &str) -> Result<MapDim, TextError> {
     let numbers = numbers(alloc, text)?;
     let (form, rest) = form_of(alloc, text, &numbers)?;
-    match rest {
-        [lower, extent, dim, align @ ..] => {
-            let grid_dim = u32::try_from(*dim).ok().ok_or(TextError::Malformed)?;
-            let procs = *grid
-                .dims()
-                .get(grid_dim as usize)
-                .ok_or(TextError::Malformed)?;
-            let line = read_line(form, *lower, *extent, procs).ok_or(TextError::Malformed)?;
-            let align = align_of(rank, align)?;
-            Ok(MapDim {
-                line,
-                grid_dim,
-                align,
-            })
-        }
-        _ => Err(TextError::Malformed),
+    match place_of(grid, rank, rest) {
+        Ok(place) => entry_at(form, place),
+        Err(error) => Err(error),
+    }
+}
+
+/// What the numbers after a format say of an entry.
+#[derive(Clone, Copy)]
+struct Place {
+    lower: i64,
+    extent: i64,
+    procs: u32,
+    grid_dim: u32,
+    align: AlignDim,
+}
+
+/// What these numbers say.
+fn place_of(grid: &Grid, rank: usize, numbers: &[i64]) -> Result<Place, TextError> {
+    let [lower, extent, dim, align @ ..] = numbers else {
+        return Err(TextError::Malformed);
+    };
+    let grid_dim = u32::try_from(*dim).ok().ok_or(TextError::Malformed)?;
+    let procs = *grid
+        .dims()
+        .get(grid_dim as usize)
+        .ok_or(TextError::Malformed)?;
+    Ok(Place {
+        lower: *lower,
+        extent: *extent,
+        procs,
+        grid_dim,
+        align: align_of(rank, align)?,
+    })
+}
+
+/// The entry with this format.
+fn entry_at(form: Form, place: Place) -> Result<MapDim, TextError> {
+    match read_line(form, place.lower, place.extent, place.procs) {
+        Some(line) => Ok(MapDim {
+            line,
+            grid_dim: place.grid_dim,
+            align: place.align,
+        }),
+        None => Err(TextError::Malformed),
     }
 }
 

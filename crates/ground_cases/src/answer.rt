@@ -26,32 +26,46 @@ impl Answers for GroundAnswers {
 fn write_answer(alloc: Global, out: &mut String, case: &Case) -> Result<(), TextError> {
     let written = case.written.as_str();
     match case.word.as_str() {
-        "grid" => write_grid(alloc, out, written)?,
-        "index" => write_index(alloc, out, written)?,
-        "names" => write_names(alloc, out, written)?,
-        "word" => write_word(out, written.as_bytes())?,
-        "dot" => write_dot(out, written)?,
-        "symbol" => write_symbol(out, written)?,
-        "broken" => write_broken(alloc, out)?,
-        "gate" => write_passed(out)?,
-        word => write_text_answer(alloc, out, word, written)?,
+        "tokens" => write_places(alloc, out, text_of(alloc, written)?),
+        "expression" => write_left(alloc, out, text_of(alloc, written)?),
+        "reader" | "writer" | "source" => {
+            let text = text_of(alloc, written)?;
+            Ok(write_ports(alloc, out, case.word.as_str(), text)?)
+        }
+        word => Ok(write_plain(alloc, out, word, written)?),
     }
-    Ok(())
 }
 
-/// Writes what a case with a text asks for.
-fn write_text_answer(
+/// Writes what comes of the bytes of a case in a reader, a writer or a source.
+fn write_ports(
+    alloc: Global,
+    out: &mut String,
+    word: &str,
+    bytes: Vec<u8>,
+) -> Result<(), AllocError> {
+    match word {
+        "reader" => write_read(alloc, out, &bytes),
+        "writer" => write_written(out, &bytes),
+        _ => write_source(alloc, out, bytes),
+    }
+}
+
+/// Writes what a case asks for that has no text.
+fn write_plain(
     alloc: Global,
     out: &mut String,
     word: &str,
     written: &str,
-) -> Result<(), TextError> {
+) -> Result<(), AllocError> {
     match word {
-        "tokens" => write_places(alloc, out, text_of(alloc, written)?),
-        "expression" => write_left(alloc, out, text_of(alloc, written)?),
-        "reader" => Ok(write_read(alloc, out, &text_of(alloc, written)?)?),
-        "writer" => Ok(write_written(out, &text_of(alloc, written)?)?),
-        "source" => Ok(write_source(alloc, out, text_of(alloc, written)?)?),
+        "grid" => write_grid(alloc, out, written),
+        "index" => write_index(alloc, out, written),
+        "names" => write_names(alloc, out, written),
+        "word" => write_word(out, written.as_bytes()),
+        "dot" => write_dot(out, written),
+        "symbol" => write_symbol(out, written),
+        "broken" => write_broken(alloc, out),
+        "gate" => write_passed(out),
         _ => Ok(()),
     }
 }

@@ -20,10 +20,10 @@ impl Read for Broken {
 }
 
 /// Writes what comes of reading a source to its end.
-fn write_all_of(out: &mut String, outcome: Result<Vec<u8>, ReadAll>) -> Result<(), AllocError> {
+fn write_all_of(out: &mut String, outcome: &Result<Vec<u8>, ReadAll>) -> Result<(), AllocError> {
     out.push_str("  ")?;
     match outcome {
-        Ok(text) => write_text(out, &text)?,
+        Ok(text) => write_text(out, text)?,
         Err(ReadAll::Fault) => out.push_str("read fault")?,
         Err(ReadAll::TooLong) => out.push_str("too long")?,
         Err(ReadAll::Memory) => out.push_str("out of memory")?,
@@ -34,13 +34,13 @@ fn write_all_of(out: &mut String, outcome: Result<Vec<u8>, ReadAll>) -> Result<(
 /// Writes what is read of a reader over these bytes.
 pub fn write_read(alloc: Global, out: &mut String, bytes: &[u8]) -> Result<(), AllocError> {
     let mut source = StdSource::new(bytes);
-    write_all_of(out, read_all(alloc, &mut source))
+    write_all_of(out, &read_all(alloc, &mut source))
 }
 
 /// Writes what is read of a reader that fails.
 pub fn write_broken(alloc: Global, out: &mut String) -> Result<(), AllocError> {
     let mut source = StdSource::new(Broken);
-    write_all_of(out, read_all(alloc, &mut source))
+    write_all_of(out, &read_all(alloc, &mut source))
 }
 
 /// Writes what comes of it where the bytes, and then `HI`, are written to a writer with room for eight.
@@ -57,10 +57,21 @@ pub fn write_written(out: &mut String, bytes: &[u8]) -> Result<(), AllocError> {
 /// Writes what a source over these bytes gives that fails at its third call, and what two more calls give.
 pub fn write_source(alloc: Global, out: &mut String, bytes: Vec<u8>) -> Result<(), AllocError> {
     let mut source = MemSource::new(bytes, 7, vec![in alloc; 3]?);
-    write_all_of(out, read_all(alloc, &mut source))?;
+    let outcome = read_all(alloc, &mut source);
     let mut buf = [0; 1];
-    let third: Result<usize, Failed> = source.read(&mut buf);
+    let third = source.read(&mut buf);
     let fourth = source.read(&mut buf);
+    write_calls(out, &outcome, third, fourth)
+}
+
+/// Writes what is read, and what two more calls give.
+fn write_calls(
+    out: &mut String,
+    outcome: &Result<Vec<u8>, ReadAll>,
+    third: Result<usize, Failed>,
+    fourth: Result<usize, Failed>,
+) -> Result<(), AllocError> {
+    write_all_of(out, outcome)?;
     writeln!(out, "  {third:?} {fourth:?}")
 }
 

@@ -32,8 +32,12 @@ fn tokens_of(alloc: Global, text: Vec<u8>) -> Result<Vec<Token>, TextError> {
 /// Writes where each token begins and ends, from 0.
 pub fn write_places(alloc: Global, out: &mut String, text: Vec<u8>) -> Result<(), TextError> {
     let tokens = tokens_of(alloc, text)?;
+    write_places_of(out, &tokens)
+}
+
+fn write_places_of(out: &mut String, tokens: &[Token]) -> Result<(), TextError> {
     out.push_str(" ")?;
-    for token in &tokens {
+    for token in tokens {
         write!(out, " {}-{}", token.from, token.to)?;
     }
     out.push_str("\n")?;
@@ -43,7 +47,12 @@ pub fn write_places(alloc: Global, out: &mut String, text: Vec<u8>) -> Result<()
 /// Writes how many tokens stand after the expression in front.
 pub fn write_left(alloc: Global, out: &mut String, text: Vec<u8>) -> Result<(), TextError> {
     let tokens = tokens_of(alloc, text)?;
-    write_rest(out, left_after(alloc, &tokens)?)?;
+    write_left_after(alloc, out, &tokens)
+}
+
+fn write_left_after(alloc: Global, out: &mut String, tokens: &[Token]) -> Result<(), TextError> {
+    let rest = left_after(alloc, tokens)?;
+    write_rest(out, rest)?;
     Ok(())
 }
 

@@ -9,26 +9,37 @@ use crate::show::write_align;
 use align_map::{compose, linear};
 use case_mappings::{align_of, first_part, mapping_of, numbers};
 use case_texts::TextError;
-use mappings::{AlignDim, Mapping};
+use mappings::{AlignDim, MapDim, Mapping};
 use std::alloc::Global;
 
 /// Writes the alignments of the mapping of a vector that is aligned with a mapped vector, an entry a line.
 pub fn write_composed(alloc: Global, out: &mut String, written: &str) -> Result<(), TextError> {
     let (align, rest) = first_part(written);
-    let align = align_of(1, &numbers(alloc, align)?)?;
+    let align = vector_align(alloc, align)?;
     let target = mapping_of(alloc, 1, rest)?;
     if !all_fit(&target, &align) {
         return Err(TextError::Malformed);
     }
     match compose(alloc, &target, &[align]) {
-        Ok(map) => {
-            for entry in &map.dims.into_vec() {
-                write_align(out, &entry.align)?;
-            }
-            Ok(())
-        }
+        Ok(map) => write_entries(out, map.dims.as_slice()),
         Err(_) => Err(TextError::Memory),
     }
+}
+
+/// The alignment of a vector that is written so.
+fn vector_align(alloc: Global, text: &str) -> Result<AlignDim, TextError>
+    ensures { IfOk result (IsAlign 1) }
+{
+    let numbers = numbers(alloc, text)?;
+    align_of(1, &numbers)
+}
+
+/// Writes the alignment of each entry of a mapping.
+fn write_entries(out: &mut String, entries: &[MapDim]) -> Result<(), TextError> {
+    for entry in entries {
+        write_align(out, &entry.align)?;
+    }
+    Ok(())
 }
 
 /// Whether the numbers of each composed entry fit 64 bits.

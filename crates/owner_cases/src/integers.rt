@@ -13,7 +13,12 @@ use std::fmt::Write;
 /// Writes the greatest common divisor of two integers, and what the sum of multiples comes to.
 pub fn write_divisor(alloc: Global, out: &mut String, written: &str) -> Result<(), TextError> {
     let numbers = numbers(alloc, written)?;
-    match numbers.as_slice() {
+    write_divisor_of(out, &numbers)
+}
+
+/// Writes the same of these numbers.
+fn write_divisor_of(out: &mut String, numbers: &[i64]) -> Result<(), TextError> {
+    match numbers {
         [a, b] if is_small(*a) && is_small(*b) && (*a != 0 || *b != 0) => {
             let (a, b) = (*a as i128, *b as i128);
             let found = gcd_ext(a, b);
@@ -30,7 +35,12 @@ pub fn write_divisor(alloc: Global, out: &mut String, written: &str) -> Result<(
 /// Writes the least solution of a congruence, by its factor, its right side and its modulus.
 pub fn write_solution(alloc: Global, out: &mut String, written: &str) -> Result<(), TextError> {
     let numbers = numbers(alloc, written)?;
-    match numbers.as_slice() {
+    write_solution_of(out, &numbers)
+}
+
+/// Writes the same of these numbers.
+fn write_solution_of(out: &mut String, numbers: &[i64]) -> Result<(), TextError> {
+    match numbers {
         [a, b, m] if is_small(*a) && is_small(*b) && is_small(*m) && 1 <= *m => {
             match solve(*a as i128, *b as i128, *m as i128) {
                 Some(x) => writeln!(out, "  {x}")?,
@@ -59,7 +69,14 @@ fn progression_of(alloc: Global, text: &str) -> Result<Progression, TextError>
     ensures { IfOk result IsProgression }
 {
     let numbers = numbers(alloc, text)?;
-    let [first, stride, count] = numbers.as_slice() else {
+    numbered_progression(&numbers)
+}
+
+/// The progression with these numbers.
+fn numbered_progression(numbers: &[i64]) -> Result<Progression, TextError>
+    ensures { IfOk result IsProgression }
+{
+    let [first, stride, count] = numbers else {
         return Err(TextError::Malformed);
     };
     let progression = Progression {

@@ -26,10 +26,25 @@ pub fn write_positions(
     written: &str,
 ) -> Result<(), TextError> {
     let (line, rest) = first_part(written);
-    let line = written_line(alloc, line)?.ok_or(TextError::Malformed)?;
+    let numbers = numbers(alloc, rest)?;
+    match written_line(alloc, line)? {
+        Some(line) => write_values(out, asked, &line, &numbers),
+        None => Err(TextError::Malformed),
+    }
+}
+
+/// Writes what is asked of each of these numbers.
+fn write_values(
+    out: &mut String,
+    asked: Asked,
+    line: &Line,
+    numbers: &[i64],
+) -> Result<(), TextError>
+    requires { IsLine line.now }
+{
     out.push_str(" ")?;
-    for number in &numbers(alloc, rest)? {
-        match asked_of(asked, &line, *number) {
+    for number in numbers {
+        match asked_of(asked, line, *number) {
             Some(value) => write!(out, " {value}")?,
             None => out.push_str(" -")?,
         }

@@ -22,23 +22,49 @@ enum Asked {
 /// Writes how many places of a section a node owns, and what is asked of its table.
 pub fn write_table(alloc: Global, out: &mut String, written: &str) -> Result<(), TextError> {
     let (line, rest) = first_part(written);
-    let line = written_line(alloc, line)?.ok_or(TextError::Malformed)?;
-    let (section, rest) = first_part(rest);
-    let table = table_of(alloc, &line, section)?;
-    writeln!(out, "  len {}", table.len())?;
-    let (nth, rest) = first_part(rest);
-    let (next, up_to) = first_part(rest);
-    write_asked(alloc, out, &table, Asked::Nth, nth)?;
-    write_asked(alloc, out, &table, Asked::Next, next)?;
-    write_asked(alloc, out, &table, Asked::UpTo, up_to)
+    match written_line(alloc, line)? {
+        Some(line) => write_section(alloc, out, &line, rest),
+        None => Err(TextError::Malformed),
+    }
 }
 
-/// The table of the section that is written so.
-fn table_of(alloc: Global, line: &Line, text: &str) -> Result<GapTable, TextError>
+/// Writes the same of a section of this line.
+fn write_section(
+    alloc: Global,
+    out: &mut String,
+    line: &Line,
+    written: &str,
+) -> Result<(), TextError>
     requires { IsLine line.now }
 {
-    let numbers = numbers(alloc, text)?;
-    let [node, start, stride, count] = numbers.as_slice() else {
+    let (section, rest) = first_part(written);
+    let section = numbers(alloc, section)?;
+    match table_of(alloc, line, &section) {
+        Ok(table) => write_answers(alloc, out, &table, rest),
+        Err(error) => Err(error),
+    }
+}
+
+/// Writes how many places there are, and what is asked of the table.
+fn write_answers(
+    alloc: Global,
+    out: &mut String,
+    table: &GapTable,
+    written: &str,
+) -> Result<(), TextError> {
+    writeln!(out, "  len {}", table.len())?;
+    let (nth, rest) = first_part(written);
+    let (next, up_to) = first_part(rest);
+    write_asked(alloc, out, table, Asked::Nth, nth)?;
+    write_asked(alloc, out, table, Asked::Next, next)?;
+    write_asked(alloc, out, table, Asked::UpTo, up_to)
+}
+
+/// The table of the section with these numbers.
+fn table_of(alloc: Global, line: &Line, numbers: &[i64]) -> Result<GapTable, TextError>
+    requires { IsLine line.now }
+{
+    let [node, start, stride, count] = numbers else {
         return Err(TextError::Malformed);
     };
     let node = u32::try_from(*node).ok().ok_or(TextError::Malformed)?;
@@ -61,8 +87,19 @@ fn write_asked(
     asked: Asked,
     text: &str,
 ) -> Result<(), TextError> {
+    let numbers = numbers(alloc, text)?;
+    write_values(out, table, asked, &numbers)
+}
+
+/// Writes what is asked of each of these numbers.
+fn write_values(
+    out: &mut String,
+    table: &GapTable,
+    asked: Asked,
+    numbers: &[i64],
+) -> Result<(), TextError> {
     out.push_str(name_of(asked))?;
-    for number in &numbers(alloc, text)? {
+    for number in numbers {
         match asked_of(table, asked, *number) {
             Some(value) => write!(out, " {value}")?,
             None => out.push_str(" -")?,
