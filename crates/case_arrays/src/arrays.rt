@@ -39,21 +39,27 @@ pub fn arrays_of(alloc: Global, text: &[u8], grid: &Grid) -> Option<Arrays>
     match read_program(alloc, text) {
         Ok(tree) => match resolve(alloc, tree) {
             Ok(program) => match check_mapping(alloc, &program, grid) {
-                Ok(maps) => {
-                    let shapes = shapes_of(alloc, &program)?;
-                    let starts = starts_of(alloc, &program)?;
-                    Some(Arrays {
+                Ok(maps) => match held_by(alloc, &program) {
+                    Some((shapes, starts)) => Some(Arrays {
                         shapes,
                         starts,
                         maps,
-                    })
-                }
+                    }),
+                    None => None,
+                },
                 Err(_) => None,
             },
             Err(_) => None,
         },
         Err(_) => None,
     }
+}
+
+/// The dimensions and the values of the arrays of a program.
+fn held_by(alloc: Global, program: &Program) -> Option<(Vec<Dims>, Vec<i64>)> {
+    let shapes = shapes_of(alloc, program)?;
+    let starts = starts_of(alloc, program)?;
+    Some((shapes, starts))
 }
 
 fn shapes_of(alloc: Global, program: &Program) -> Option<Vec<Dims>> {

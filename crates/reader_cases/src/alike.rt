@@ -74,41 +74,53 @@ fn write_unlike(out: &mut String, text: &[u8]) -> Result<(), AllocError> {
 /// What a text comes to, where it is read in fixed form as its free text is in free form, and refused as that can't be made.
 fn tried(alloc: Global, text: &[u8]) -> Result<Option<End>, AllocError> {
     let fixed = read_fixed(alloc, text);
-    let free = match free_text(alloc, text) {
-        Ok(free) => free,
-        Err(error) => {
-            let lines = Err(error);
-            return Ok(if is_same(alloc, fixed, lines)? {
-                Some(End::BadLines)
-            } else {
-                None
-            });
-        }
-    };
-    let program = read_program(alloc, &free);
+    match free_text(alloc, text) {
+        Ok(free) => tried_free(alloc, &fixed, &free),
+        Err(error) => end_of(alloc, &fixed, &Err(error), End::BadLines),
+    }
+}
+
+/// What a text comes to that has a free text.
+fn tried_free(
+    alloc: Global,
+    fixed: &Result<Tree, StaticError>,
+    free: &[u8],
+) -> Result<Option<End>, AllocError> {
+    let program = read_program(alloc, free);
     let end = if program.is_ok() {
         End::Read
     } else {
         End::BadProgram
     };
-    Ok(if is_same(alloc, fixed, program)? {
-        Some(end)
-    } else {
-        None
-    })
+    end_of(alloc, fixed, &program, end)
+}
+
+/// This end, where two texts have the same tree, or are refused alike.
+fn end_of(
+    alloc: Global,
+    one: &Result<Tree, StaticError>,
+    other: &Result<Tree, StaticError>,
+    end: End,
+) -> Result<Option<End>, AllocError> {
+    if is_same(alloc, one, other)? {
+        return Ok(Some(end));
+    }
+    Ok(None)
 }
 
 /// Whether two texts have the same tree, or are refused alike.
 fn is_same(
     alloc: Global,
-    one: Result<Tree, StaticError>,
-    other: Result<Tree, StaticError>,
+    one: &Result<Tree, StaticError>,
+    other: &Result<Tree, StaticError>,
 ) -> Result<bool, AllocError> {
-    Ok(written(alloc, one)? == written(alloc, other)?)
+    let one = written(alloc, one)?;
+    let other = written(alloc, other)?;
+    Ok(one == other)
 }
 
 /// The tree of a text, or its refusal, as it is written.
-fn written(alloc: Global, read: Result<Tree, StaticError>) -> Result<String, AllocError> {
+fn written(alloc: Global, read: &Result<Tree, StaticError>) -> Result<String, AllocError> {
     if let Err(StaticError::Memory) = read {
         return Err(AllocError);
     }

@@ -63,11 +63,11 @@ fn write_answer(
     text: &[u8],
 ) -> Result<(), AllocError> {
     match wanted {
-        Wanted::Verdict => write_verdict(out, read_program(alloc, text)),
-        Wanted::Tree => write_tree(out, read_program(alloc, text)),
+        Wanted::Verdict => write_verdict(out, &read_program(alloc, text)),
+        Wanted::Tree => write_tree(out, &read_program(alloc, text)),
         Wanted::Fronts => write_fronts(alloc, out, text),
-        Wanted::FixedVerdict => write_verdict(out, read_fixed(alloc, text)),
-        Wanted::FixedTree => write_tree(out, read_fixed(alloc, text)),
-        Wanted::FreeText => write_free(out, free_text(alloc, text)),
+        Wanted::FixedVerdict => write_verdict(out, &read_fixed(alloc, text)),
+        Wanted::FixedTree => write_tree(out, &read_fixed(alloc, text)),
+        Wanted::FreeText => write_free(out, &free_text(alloc, text)),
     }
 }
