@@ -7,3 +7,4 @@ pub mod Rules
 pub mod Steps
 pub mod Walks
 pub mod Words
+mod Examples
