@@ -1,3 +1,4 @@
+-- Of private clauses.
 -- No public clause cites this file.
 -- The statements of lines that are words alone, by their kinds.
 use Rattle.statement_reader.specs.declared.kind.Kind.{Kind}
