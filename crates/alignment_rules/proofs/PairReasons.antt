@@ -6,7 +6,7 @@ use Rattle.std.proofs.lemmas.List.{append-nil}
 use Rattle.hpf_base.specs.declared.refusal.Reason.{Reason}
 use Rattle.declarations.specs.Declaring.{least_reason, lesser, reason_if}
 use Rattle.declarations.specs.Reasons.{when}
-use Rattle.distribution_rules.proofs.LeastReasons.{least_reason_append, least_reason_when}
+use Rattle.declarations.proofs.LeastReasons.{least_reason_append, least_reason_when}
 
 -- a list of reasons, and one more that a test gives
 pub least_with_test : (whys : List Reason) (test : Bool) (why : Reason) → least_reason (whys ++ when test why) ≡ lesser (least_reason whys) (reason_if test why)

@@ -4,4 +4,4 @@ mod ElementTotals
 mod HeldItems
 mod ItemReasons
 mod ItemTurns
-mod LeastReasons
+pub mod LeastReasons

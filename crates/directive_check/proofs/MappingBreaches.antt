@@ -11,7 +11,7 @@ use Rattle.hpf_base.proofs.FirstBreaches.{earlier_assoc, least_append, least_fir
 use Rattle.syntax_tree.specs.Directive.{Distribution}
 use Rattle.declarations.specs.Declaring.{least_reason, lesser}
 use Rattle.declarations.specs.Reasons.{at}
-use Rattle.distribution_rules.proofs.LeastReasons.{least_at, least_reason_append}
+use Rattle.declarations.proofs.LeastReasons.{least_at, least_reason_append}
 use Rattle.distribution_rules.specs.declared.evaluated_formats.DistributionValues.{DistributionValues}
 use Rattle.distribution_rules.specs.DistributionRules.{distribute_reasons, distributee_reasons, distribution_reasons, distribution_values}
 use Rattle.distribution_rules.specs.Setting.{Setting, object}

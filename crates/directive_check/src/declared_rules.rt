@@ -71,7 +71,7 @@ fn directive_reason(
 }
 
 /// The least reason for which a DISTRIBUTE or REDISTRIBUTE breaks a rule.
-#[tactic(auto, using(distribution_rules::proofs::LeastReasons::least_reason_append))]
+#[tactic(auto, using(declarations::proofs::LeastReasons::least_reason_append))]
 pub(crate) fn distribute_reason(
     alloc: Global,
     setting: &Setting<'_>,
@@ -152,7 +152,7 @@ pub(crate) fn unnamed(names: &[Name])
 }
 
 /// The least reason for which an ALIGN breaks a rule.
-#[tactic(auto, using(distribution_rules::proofs::LeastReasons::least_reason_append))]
+#[tactic(auto, using(declarations::proofs::LeastReasons::least_reason_append))]
 pub(crate) fn align_reason(
     alloc: Global,
     setting: &Setting<'_>,

@@ -83,7 +83,7 @@ fn head_reason(
 }
 
 /// The least reason for which a REDISTRIBUTE breaks a rule.
-#[tactic(auto, using(distribution_rules::proofs::LeastReasons::least_reason_append))]
+#[tactic(auto, using(declarations::proofs::LeastReasons::least_reason_append))]
 fn redistribute_reason(
     alloc: Global,
     setting: &Setting<'_>,
@@ -136,7 +136,7 @@ fn listed_redistributees_reason(
 }
 
 /// The reason for which an object isn't redistributed.
-#[tactic(auto, using(distribution_rules::proofs::LeastReasons::least_reason_when))]
+#[tactic(auto, using(declarations::proofs::LeastReasons::least_reason_when))]
 fn redistributee_reason(
     objects: &[MappedObject<'_>],
     dynamic: &[Name],

@@ -140,7 +140,7 @@ fn processors_of(
 
 /// The least reason for which a distribution breaks a rule, whatever its distributees are; None exactly where it breaks none. It takes no
 /// memory.
-#[tactic(auto, using(crate::proofs::LeastReasons::least_reason_append))]
+#[tactic(auto, using(declarations::proofs::LeastReasons::least_reason_append))]
 pub fn bad_distribution(values: &DistributionValues) -> Option<Reason>
     ensures { result ≡ least_reason (distribution_reasons values.now) }
 {

@@ -1,6 +1,6 @@
 use Rattle.std.specs.List.{flat_map}
 use Rattle.declarations.specs.Declaring.{least_reason}
-use Rattle.distribution_rules.proofs.LeastReasons.{least_reason_append, lesser_next}
+use Rattle.declarations.proofs.LeastReasons.{least_reason_append, lesser_next}
 use Rattle.alignment_rules.specs.AlignmentRules.{pair_reasons}
 use Rattle.alignment_rules.proofs.alignees.pairs_reason.Goals as goal
 

@@ -2,7 +2,7 @@ use Rattle.std.proofs.Common.{map}
 use Rattle.std.specs.List.{flat_map}
 use Rattle.syntax_tree.specs.Directive.{target_of}
 use Rattle.declarations.specs.Declaring.{least_reason}
-use Rattle.distribution_rules.proofs.LeastReasons.{least_reason_append, lesser_next}
+use Rattle.declarations.proofs.LeastReasons.{least_reason_append, lesser_next}
 use Rattle.alignment_rules.specs.AlignmentRules.{target_reasons}
 use Rattle.alignment_rules.proofs.alignments.targets_reason.Goals as goal
 

@@ -1,7 +1,7 @@
 use Rattle.std.specs.List.{flat_map}
 use Rattle.syntax_tree.specs.Directive.{alignment}
 use Rattle.declarations.specs.Declaring.{least_reason}
-use Rattle.distribution_rules.proofs.LeastReasons.{least_reason_append, lesser_next}
+use Rattle.declarations.proofs.LeastReasons.{least_reason_append, lesser_next}
 use Rattle.alignment_rules.specs.AlignmentRules.{alignee_reasons}
 use Rattle.directive_check.proofs.declared_rules.listed_alignees_reason.Goals as goal
 

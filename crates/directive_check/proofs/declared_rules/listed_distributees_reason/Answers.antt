@@ -3,7 +3,7 @@ use Rattle.std.specs.List.{flat_map}
 use Rattle.hpf_base.specs.declared.refusal.Reason.{Reason}
 use Rattle.expression_rules.specs.Symbols.{Name}
 use Rattle.declarations.specs.Declaring.{least_reason}
-use Rattle.distribution_rules.proofs.LeastReasons.{least_reason_append, lesser_next}
+use Rattle.declarations.proofs.LeastReasons.{least_reason_append, lesser_next}
 use Rattle.distribution_rules.specs.DistributionRules.{distributee_reasons}
 use Rattle.distribution_rules.specs.Setting.{object}
 use Rattle.directive_check.proofs.declared_rules.listed_distributees_reason.Goals as goal

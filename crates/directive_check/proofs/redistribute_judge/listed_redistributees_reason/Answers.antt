@@ -1,6 +1,6 @@
 use Rattle.std.specs.List.{flat_map}
 use Rattle.declarations.specs.Declaring.{least_reason}
-use Rattle.distribution_rules.proofs.LeastReasons.{least_reason_append, lesser_next}
+use Rattle.declarations.proofs.LeastReasons.{least_reason_append, lesser_next}
 use Rattle.directive_check.specs.MappedSteps.{mapped}
 use Rattle.directive_check.specs.MappingRules.{redistributee_reasons}
 use Rattle.directive_check.proofs.redistribute_judge.listed_redistributees_reason.Goals as goal

@@ -1,6 +1,6 @@
 use Rattle.std.specs.List.{flat_map}
 use Rattle.declarations.specs.Declaring.{least_reason}
-use Rattle.distribution_rules.proofs.LeastReasons.{least_reason_append, lesser_next}
+use Rattle.declarations.proofs.LeastReasons.{least_reason_append, lesser_next}
 use Rattle.distribution_rules.specs.DistributionRules.{format_reasons}
 use Rattle.distribution_rules.proofs.distributions.formats_reason.Goals as goal
 

@@ -1,7 +1,8 @@
 use Rattle.std.specs.List.{flat_map}
 use Rattle.mappings.specs.declared.limits.TheConstants.{MAX_BLOCK}
 use Rattle.declarations.specs.Declaring.{least_reason}
-use Rattle.distribution_rules.proofs.LeastReasons.{least_reason_append, lesser_turn}
+use Rattle.declarations.proofs.LeastReasons.{least_reason_append}
+use Rattle.distribution_rules.proofs.LeastReasons.{lesser_turn}
 use Rattle.distribution_rules.specs.DistributionRules.{size_reasons}
 use Rattle.distribution_rules.proofs.distributions.sizes_reason.Goals as goal
 

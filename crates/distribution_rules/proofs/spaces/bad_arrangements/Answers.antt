@@ -6,7 +6,7 @@ use Rattle.declarations.specs.Declaring.{least_reason}
 use Rattle.hpf_base.specs.declared.refusal.Reason.{Reason}
 use Rattle.std.specs.Prelude.{List}
 use Rattle.distribution_rules.specs.SpaceRules.{arrangement_reasons}
-use Rattle.distribution_rules.proofs.LeastReasons.{least_reason_append, lesser_next}
+use Rattle.declarations.proofs.LeastReasons.{least_reason_append, lesser_next}
 use Rattle.distribution_rules.proofs.spaces.bad_arrangements.Goals as goal
 
 pub loop-entity-preserved : goal.loop-entity-preserved

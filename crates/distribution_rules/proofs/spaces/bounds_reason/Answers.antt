@@ -3,7 +3,7 @@ use Rattle.std.specs.List.{flat_map}
 use Rattle.syntax_tree.specs.Directive.{bound}
 use Rattle.declarations.specs.Declaring.{least_reason}
 use Rattle.distribution_rules.specs.SpaceRules.{bound_reasons}
-use Rattle.distribution_rules.proofs.LeastReasons.{least_reason_append, lesser_next}
+use Rattle.declarations.proofs.LeastReasons.{least_reason_append, lesser_next}
 use Rattle.distribution_rules.proofs.spaces.bounds_reason.Goals as goal
 
 pub loop-dimension-preserved : goal.loop-dimension-preserved

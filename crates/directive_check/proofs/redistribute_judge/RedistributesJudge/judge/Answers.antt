@@ -1,7 +1,7 @@
 use Rattle.std.proofs.Common.{sym, ap, ◌∙◌}
 use Rattle.hpf_base.specs.FirstBreach.{at_line}
 use Rattle.statement_walk.specs.Views.{head_of}
-use Rattle.distribution_rules.proofs.LeastReasons.{least_at}
+use Rattle.declarations.proofs.LeastReasons.{least_at}
 use Rattle.directive_check.specs.MappedSteps.{mapped}
 use Rattle.directive_check.specs.MappingRules.{head_reasons}
 use Rattle.directive_check.proofs.redistribute_judge.RedistributesJudge.judge.Goals as goal
