@@ -6,8 +6,9 @@ import sys
 import tempfile
 
 from explaining.words import FAULTS, FIXED_SECTIONS, REASONS, RESERVED
-from explaining.program import Answer, Questions, TOP, own_words
+from explaining.program import Answer, Questions, own_words
 from explaining.explanations import explained
+from under_test import TOP
 
 
 class Case:

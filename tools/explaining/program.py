@@ -1,11 +1,7 @@
 """The program hpf: what it answers, and questions to it about a text that is changed a little."""
-import os
 import re
-import shutil
 import subprocess
 import sys
-
-TOP = os.path.dirname(os.path.dirname(os.path.dirname(os.path.realpath(__file__))))
 
 
 class Answer:
@@ -92,19 +88,6 @@ class Questions:
             at = front.end() if front else 0
             text = text[:at] + "".join(f"{line}\n" for line in declarations(declared, fixed)).encode() + text[at:]
         return self.program.answer(["check", "--grid", grid] + ["--fixed"] * fixed, text)
-
-
-def find_program():
-    named = os.environ.get("HPF")
-    if named:
-        return named
-    if os.access(f"{TOP}/hpf", os.X_OK):
-        return f"{TOP}/hpf"
-    found = shutil.which("hpf")
-    if not found:
-        print("explain: no program hpf is found: name it by the environment variable HPF", file=sys.stderr)
-        sys.exit(125)
-    return found
 
 
 def own_words(words):

@@ -11,8 +11,8 @@ use Rattle.token_scan.proofs.Fronts.{past_front}
 use Rattle.token_scan.proofs.Runs.{length-upper, run-within, word_front, word_long}
 use Rattle.token_scan.proofs.piece.word.Goals as goal
 
-pub returns-if-len-gt-MAX_NAME_BYTES : goal.returns-if-len-gt-MAX_NAME_BYTES
-returns-if-len-gt-MAX_NAME_BYTES c =
+pub returns-then-len-gt-MAX_NAME_BYTES : goal.returns-then-len-gt-MAX_NAME_BYTES
+returns-then-len-gt-MAX_NAME_BYTES c =
     let len = c.run_len-len.result in
     let bytes = c.args.bytes.now in
     let front : IsToken bytes len (Word (upper (take len bytes))) = word_front bytes len c.requires c.run_len-len.ensures.count in
