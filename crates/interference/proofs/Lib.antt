@@ -1,6 +1,5 @@
 mod Arms
 mod AtEntry
-mod InnerLoops
 mod Saturated
 mod Turns
 pub mod SetBack

@@ -6,7 +6,7 @@ use Rattle.resolved_program.specs.declared.statements.Loop.{Loop as HeldLoop}
 use Rattle.resolved_program.specs.declared.statements.Nest.{Nest as HeldNest}
 use Rattle.resolved_program.specs.declared.statements.Statement.{Statement as HeldStatement}
 use Rattle.resolved_program.specs.Resolved.{block_of, inner_loops, innermost, loop_of}
-use Rattle.array_meaning.specs.Statements.{Loop, Nest, Block, Statement, Do}
+use Rattle.array_meaning.specs.Statements.{Loop, Nest, Block}
 use Rattle.array_meaning.specs.State.{State}
 use Rattle.array_meaning.specs.Forall.{index_extents, indices_at}
 use Rattle.array_meaning.specs.Iterations.{nest_axes, nest_indices, with_indices}
@@ -22,16 +22,7 @@ nest_of nest l body = record { line = nest.line; loops = loop_of l ∷ inner_loo
 abbrev pub innermost_of : HeldNest → List HeldStatement → Block
 innermost_of nest body = innermost nest.inner_loops (block_of body)
 
--- a statement that is all of a body: where it is a loop, this one and so many inside it; and what stands in the last of them
-abbrev pub loops_of : ℕ → Statement → List Loop
-loops_of n (Do mark loop body) = loop ∷ inner_loops n body
-loops_of n statement = []
-
-abbrev pub innermost_in : ℕ → Statement → Block → Block
-innermost_in n (Do mark loop body) block = innermost n body
-innermost_in n statement block = block
-
--- the same of a loop in code
+-- a loop in code, where there is one, and so many inside it; and what stands in the last of them
 abbrev pub loops_from : Option InnerLoop → ℕ → List Loop
 loops_from None n = []
 loops_from (Some inner) n = loop_of inner.head.now ∷ inner_loops n (block_of inner.body.now.items)

@@ -7,9 +7,10 @@ ghost use Rattle.array_meaning.specs.Forall.{indices_at};
 ghost use Rattle.array_meaning.specs.Iterations.{turn_value, values_of, with_indices};
 ghost use Rattle.array_meaning.specs.NestLimits.{with_all};
 ghost use Rattle.resolved_program.specs.Resolved.{block_of, inner_loops, innermost, loop_of, statement};
+ghost use Rattle.resolved_program.specs.InnerLoops.{innermost_in, loops_of};
 ghost use Rattle.array_meaning.specs.Statements.{Block};
 ghost use Rattle.term_values.specs.States.{state_of};
-ghost use Rattle.interference.specs.IterationSpaces.{IsSpaceOf, at_number, innermost_from, innermost_in, innermost_of, loops_from, loops_of, nest_of};
+ghost use Rattle.interference.specs.IterationSpaces.{IsSpaceOf, at_number, innermost_from, innermost_of, loops_from, nest_of};
 
 use array_meaning::Sequence;
 use resolved_program::{Action, Loop, Nest, Statement};
@@ -109,7 +110,7 @@ fn inside<'a>(n: usize, body: &'a Vec<Statement>) -> &'a Vec<Statement>
 }
 
 /// The loop that is all of a body, if there is one.
-#[tactic(auto, using(crate::proofs::InnerLoops::one_loops, crate::proofs::InnerLoops::one_innermost, crate::proofs::InnerLoops::no_loops, crate::proofs::InnerLoops::no_innermost))]
+#[tactic(auto, using(resolved_program::proofs::InnerLoops::one_loops, resolved_program::proofs::InnerLoops::one_innermost, resolved_program::proofs::InnerLoops::no_loops, resolved_program::proofs::InnerLoops::no_innermost))]
 fn inner_loop<'a>(body: &'a Vec<Statement>) -> Option<InnerLoop<'a>>
     ensures loops { (n : ℕ) → inner_loops (suc n) (block_of body.now.items) ≡ loops_from result n }
     ensures inside { (n : ℕ) → innermost (suc n) (block_of body.now.items) ≡ innermost_from result n (block_of body.now.items) }

@@ -5,7 +5,8 @@ ghost use Rattle.array_meaning.specs.Statements.{Block};
 ghost use Rattle.program_code.specs.NestCode.{bounds_code};
 ghost use Rattle.node_code.specs.Texts.{instructions};
 ghost use Rattle.resolved_program.specs.Resolved.{block_of, inner_loops, innermost, loop_of, statement};
-ghost use Rattle.node_codegen.specs.NestLoops.{innermost_from, innermost_in, loops_from, loops_of};
+ghost use Rattle.resolved_program.specs.InnerLoops.{innermost_in, loops_of};
+ghost use Rattle.node_codegen.specs.NestLoops.{innermost_from, loops_from};
 
 use crate::nest_steps::step_flat;
 use crate::sequences::with_more;
@@ -23,7 +24,7 @@ pub(crate) struct InnerLoop<'a> {
 }
 
 /// The loop that is all of a body, if there is one.
-#[tactic(auto, using(crate::proofs::InnerLoops::one_loops, crate::proofs::InnerLoops::one_innermost, crate::proofs::InnerLoops::no_loops, crate::proofs::InnerLoops::no_innermost))]
+#[tactic(auto, using(resolved_program::proofs::InnerLoops::one_loops, resolved_program::proofs::InnerLoops::one_innermost, resolved_program::proofs::InnerLoops::no_loops, resolved_program::proofs::InnerLoops::no_innermost))]
 fn inner_loop<'a>(body: &'a Vec<Statement>) -> Option<InnerLoop<'a>>
     ensures loops { (n : ℕ) → inner_loops (suc n) (block_of body.now.items) ≡ loops_from result n }
     ensures inside { (n : ℕ) → innermost (suc n) (block_of body.now.items) ≡ innermost_from result n (block_of body.now.items) }

@@ -1,3 +1,4 @@
 pub mod Rows
 pub mod Made
 pub mod Forms
+pub mod InnerLoops

@@ -1,5 +1,6 @@
 pub mod Resolved
 pub mod Made
+pub mod InnerLoops
 pub use Rattle.array_meaning.specs.Elementals
 pub use Rattle.array_meaning.specs.Execution
 pub use Rattle.array_meaning.specs.Faults

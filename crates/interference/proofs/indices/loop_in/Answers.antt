@@ -1,7 +1,7 @@
 use Rattle.std.proofs.Common.{ap, ◌∙◌}
 use Rattle.resolved_program.specs.Resolved.{statement}
 use Rattle.resolved_program.proofs.Rows.{do_vec}
-use Rattle.interference.specs.IterationSpaces.{innermost_in, loops_of}
+use Rattle.resolved_program.specs.InnerLoops.{innermost_in, loops_of}
 use Rattle.interference.proofs.indices.loop_in.Goals as goal
 
 pub returns-in-Do-clause-loops : goal.returns-in-Do-clause-loops

@@ -1,7 +1,7 @@
 use Rattle.std.proofs.Common.{ap, ◌∙◌}
 use Rattle.resolved_program.specs.Resolved.{statement}
 use Rattle.resolved_program.proofs.Rows.{do_vec}
-use Rattle.node_codegen.specs.NestLoops.{innermost_in, loops_of}
+use Rattle.resolved_program.specs.InnerLoops.{innermost_in, loops_of}
 use Rattle.node_codegen.proofs.nest_loops.loop_in.Goals as goal
 
 pub returns-in-Do-clause-loops : goal.returns-in-Do-clause-loops

@@ -3,7 +3,7 @@ use Rattle.std.proofs.Common.{◌≡◌, ℕ, suc, List, [], ◌∷◌, length, 
 use Rattle.resolved_program.specs.declared.statements.Statement.{Statement as HeldStatement}
 use Rattle.resolved_program.specs.Resolved.{block_of, inner_loops, innermost, statement}
 use Rattle.array_meaning.specs.Statements.{Block, Done, Then, Statement, Do}
-use Rattle.interference.specs.IterationSpaces.{innermost_in, loops_of}
+use Rattle.resolved_program.specs.InnerLoops.{innermost_in, loops_of}
 
 -- by the only statement
 only_loops : (n line : ℕ) (st : Statement) → inner_loops (suc n) (Then line st Done) ≡ loops_of n st
