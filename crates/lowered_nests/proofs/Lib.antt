@@ -32,3 +32,4 @@ mod NestPieces
 pub mod NestGoes
 pub mod StillLoops
 pub use Rattle.nest_join.proofs.Names as JoinedNames
+pub use Rattle.nest_texts.proofs.Counting

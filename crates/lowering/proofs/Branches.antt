@@ -11,7 +11,7 @@ use Rattle.array_meaning.specs.State.{State, set_scalar}
 use Rattle.array_meaning.specs.Terms.{Term}
 use Rattle.array_meaning.specs.declared.faults.FaultKind.TheVariants.{ZeroStride}
 use Rattle.array_meaning.specs.declared.sections.Sequence.{Sequence}
-use Rattle.lowering.proofs.Counts.{count-small}
+use Rattle.lowered_nests.proofs.Counting.{count-small}
 use Rattle.lowered_expressions.proofs.Goes.{Holds, kept-refl, Goes, Flows, goes-on, goes-at, goes-value, value-bind, set-reaches, jump-reaches, test-reaches, holds-slot, holds-scalar, goes-as}
 use Rattle.lowering.proofs.Loops.{leave_at, inside, after, Body, ends-loop, from-inside, from-again}
 use Rattle.lowering.proofs.Parts.{term-comes}

@@ -9,7 +9,7 @@ use Rattle.lowered_expressions.proofs.Goes.{Holds, Kept, kept-refl, Goes, goes-o
 use Rattle.statement_trail.specs.Trail as passed
 use Rattle.statement_trail.specs.Trail.{Trail, iterate_trail}
 use Rattle.lowered_expressions.proofs.Reach.{reaches-last, HasAt, has-back, has-drop, Reaches, reaches-on, stands, Place}
-use Rattle.lowering.proofs.Trips.{left-true, left-less, none-left}
+use Rattle.lowered_nests.proofs.Counting.{left-true, left-less, none-left}
 use Rattle.program_code.specs.StatementCode.{loop_code}
 use Rattle.storage.specs.Storage.{Storage}
 use Rattle.code_meaning.specs.Flat.{slot}
