@@ -41,7 +41,7 @@ def declare_hint(trouble, statement, names):
     names = [name for name in names if name not in OTHER_INTRINSICS]
     if not names:
         return hints
-    hints.append(f"not declared: {', '.join(names)}")
+    hints.append(f"every name has to be declared, and this text declares no {', '.join(names)}")
     for name in names:
         meant = nearest(name, source.names)
         if meant:
