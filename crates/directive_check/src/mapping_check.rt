@@ -111,12 +111,12 @@ fn first_breach(
     requires few { length setting.now.names ≤ MAX_NAMES }
     ensures { IfOk result (λ r. r ≡ least (breaches_in setting.now (main_program tree.now))) }
 {
-    let names = dynamic_names(alloc, &tree.decls)?;
-    let dynamic = distinct_names(alloc, &names)?;
     let declared = first_bad_directive(alloc, setting, &tree.decls)?;
     let twice = first_mapped_twice(alloc, objects)?;
     let chained = first_bad_chain(alloc, setting, firsts, objects)?;
+    let names = dynamic_names(alloc, &tree.decls)?;
     let named = first_bad_dynamic(alloc, setting, &names)?;
+    let dynamic = distinct_names(alloc, &names)?;
     let moved = first_bad_redistribute(alloc, setting, firsts, &dynamic, &tree.body)?;
     let after = earlier(chained, earlier(named, moved));
     Ok(earlier(declared, earlier(twice, after)))

@@ -74,7 +74,7 @@ fn in_types<T: ExpressionTest>(test: &T, types: &IntegerDecl) -> Result<bool, Al
 {
     let shared = in_bounds_if_any(test, &types.dims)?;
     let own = in_entities(test, &types.entities)?;
-    Ok(shared && own)
+    Ok(shared & own)
 }
 
 /// Whether the expressions in an entity of INTEGER pass a test: its bounds, and its initial value.
@@ -84,7 +84,7 @@ fn in_entity<T: ExpressionTest>(test: &T, one: &Entity) -> Result<bool, AllocErr
 {
     let bounds = in_bounds_if_any(test, &one.dims)?;
     let start = in_option(test, &one.start)?;
-    Ok(bounds && start)
+    Ok(bounds & start)
 }
 
 /// Whether the expressions in all entities of INTEGER pass a test.

@@ -66,7 +66,7 @@ fn names_stand(
     let dummies = dummies(alloc, directive)?;
     let scope = Scope::with_dummies(table, &dummies);
     let good = in_directive(&Operands { scope: &scope }, directive)?;
-    Ok(are_listed_declared(table, directive) && good)
+    Ok(are_listed_declared(table, directive) & good)
 }
 
 /// Whether the names in the lists of a directive are declared.

@@ -44,7 +44,7 @@ pub(crate) fn in_axis<T: ExpressionTest>(
     let first = test.test(first)?;
     let last = test.test(last)?;
     let step = in_option(test, step)?;
-    Ok(first && last && step)
+    Ok(first & last & step)
 }
 
 /// Whether the first and the last value of an index of a FORALL pass, and its step where there is one.
@@ -139,7 +139,7 @@ fn in_bound<T: ExpressionTest>(test: &T, dimension: &Bound) -> Result<bool, Allo
 {
     let lower = in_option(test, &dimension.lower)?;
     let upper = test.test(&dimension.upper)?;
-    Ok(lower && upper)
+    Ok(lower & upper)
 }
 
 /// Whether the bounds of all dimensions pass.
@@ -246,7 +246,7 @@ fn in_part<T: ExpressionTest>(test: &T, part: &Subscript) -> Result<bool, AllocE
             let first = in_option(test, first)?;
             let last = in_option(test, last)?;
             let step = in_option(test, step)?;
-            Ok(first && last && step)
+            Ok(first & last & step)
         }
     }
 }

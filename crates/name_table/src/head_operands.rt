@@ -21,7 +21,7 @@ pub(crate) fn all_are_operands(scope: &Scope<'_>, head: Head<'_>) -> Result<bool
         Head::Assignment(left, right)
         | Head::MaskedAssignment(_, left, right)
         | Head::ForallAssignment(_, left, right) => {
-            Ok(is_operand_reference(scope, left) && are_operands(scope, right))
+            Ok(is_operand_reference(scope, left) & are_operands(scope, right))
         }
         Head::Condition(e) | Head::Where(e) => Ok(are_operands(scope, e)),
         Head::Independent(_) | Head::Transfer => Ok(true),
@@ -29,7 +29,7 @@ pub(crate) fn all_are_operands(scope: &Scope<'_>, head: Head<'_>) -> Result<bool
         Head::Forall(axes, mask) => {
             let axes = in_headers(&test, axes)?;
             let mask = in_option(&test, mask)?;
-            Ok(axes && mask)
+            Ok(axes & mask)
         }
         Head::Print(items) => in_items(&test, items),
         Head::Redistribute(spec) => in_formats(&test, &spec.formats),

@@ -69,7 +69,7 @@ fn name_reason(
 {
     let scope = Scope::new(table);
     let operands = all_are_operands(&scope, head)?;
-    let good = own_stand(table, do_variables, head) && operands;
+    let good = own_stand(table, do_variables, head) & operands;
     let twice = has_repeats(alloc, head)?;
     if !good || twice {
         Ok(Some(Reason::BadName))

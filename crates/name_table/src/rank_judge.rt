@@ -122,7 +122,7 @@ fn all_meet(alloc: Global, scope: &Scope<'_>, head: Head<'_>) -> Result<bool, Al
         Head::Forall(axes, mask) => {
             let axes = in_headers(&scalars, axes)?;
             let mask = in_option(&LogicalScalars { alloc, scope }, mask)?;
-            Ok(axes && mask)
+            Ok(axes & mask)
         }
         Head::Print(items) => in_items(&PrintItems { alloc, scope }, items),
         Head::Redistribute(spec) => {
@@ -218,7 +218,7 @@ fn is_masked_assignment(
     let mask = type_and_rank(alloc, Context::Statement, scope, mask)?;
     let left = variable_type(alloc, scope, left)?;
     let right = type_and_rank(alloc, Context::Statement, scope, right)?;
-    Ok(is_masked_by(mask, left) && is_right_of(left, right))
+    Ok(is_masked_by(mask, left) & is_right_of(left, right))
 }
 
 /// Whether the sides of an assignment of a FORALL are an integer element of an array and an integer scalar.
@@ -233,7 +233,7 @@ fn is_forall_assignment(
     let element = is_element(left);
     let left = variable_type(alloc, scope, left)?;
     let right = type_and_rank(alloc, Context::Statement, scope, right)?;
-    Ok(element && is_integer_scalar(left) && is_integer_scalar(right))
+    Ok(element & is_integer_scalar(left) & is_integer_scalar(right))
 }
 
 /// Whether it is an array of logical values.

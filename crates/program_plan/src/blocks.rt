@@ -1,13 +1,14 @@
 //! Statements with their names resolved. An `Err` is want of memory here.
 
-ghost use Rattle.std.specs.Prelude.{◌≡◌, None, IfOk};
+ghost use Rattle.std.specs.Prelude.{◌≡◌, [], None, IfOk};
+ghost use Rattle.syntax_tree.specs.Expression.{expression};
 ghost use Rattle.syntax_tree.specs.MainProgram.{main_program};
 ghost use Rattle.syntax_tree.specs.Statement as syntax;
 ghost use Rattle.array_meaning.specs.Statements as meaning;
 ghost use Rattle.array_meaning.specs.Statements.{Done, If, NoArm, Then};
-ghost use Rattle.array_meaning.specs.Resolution.{resolved, resolved_arms, resolved_block, with_inner_unmarked};
+ghost use Rattle.array_meaning.specs.Resolution.{resolved, resolved_arms, resolved_block, term_of, with_inner_unmarked};
 ghost use Rattle.program_plan.specs.Nests.{body_in, with_nest};
-ghost use Rattle.resolved_program.specs.Resolved.{arms_of, block_of, statement, term};
+ghost use Rattle.resolved_program.specs.Resolved.{arms_of, block_of, statement};
 
 use crate::array_statements::{forall, where_alone, where_else};
 use crate::assignments::assignment;
@@ -18,9 +19,9 @@ use crate::named::place_of;
 use crate::nests::nest_of;
 use hpf_base::OutOfMemory;
 use name_table::{Names, Program};
-use resolved_program::{Action, Arm, Loop, Nest, ResolvedProgram, Statement, Term};
+use resolved_program::{Action, Arm, Loop, Nest, ResolvedProgram, Statement};
 use std::alloc::Global;
-use syntax_tree::{DoLoop, StatementKind, Stmt};
+use syntax_tree::{DoLoop, Expr, StatementKind, Stmt};
 
 /// The plan of a program, whether it keeps the rules or not: its statements in order, with its names resolved. A variable goes by its
 /// place among `program.names` and an index of a FORALL by its place in the header, both from 0. A named constant, SIZE, LBOUND and
@@ -61,9 +62,8 @@ fn action(alloc: Global, names: &Names, stmt: &Stmt) -> Result<Action, OutOfMemo
     match &stmt.what {
         StatementKind::Assign { left, right } => assignment(alloc, names, left, right),
         StatementKind::IfOne { cond, body } => {
-            let condition = term(alloc, names, &[], cond)?;
             let what = action(alloc, names, body)?;
-            if_one(alloc, stmt.line, condition, body.line, what)
+            if_one(alloc, names, stmt.line, cond, body.line, what)
         }
         StatementKind::If { arms, rest, .. } => {
             let arms = arms_of(alloc, names, arms)?;
@@ -110,14 +110,16 @@ fn one(alloc: Global, line: u32, what: Action) -> Result<Vec<Statement>, OutOfMe
 /// IF with its one action, which stands on a line of its own number.
 fn if_one(
     alloc: Global,
+    names: &Names,
     line: u32,
-    condition: Term,
+    cond: &Expr,
     action_line: u32,
     what: Action,
 ) -> Result<Action, OutOfMemory>
-    ensures { IfOk result (λ a. statement a ≡ If (meaning.Arm line (term condition) (Then action_line (statement what) Done) NoArm) Done) }
+    ensures { IfOk result (λ a. statement a ≡ If (meaning.Arm line (term_of names.now [] (expression cond.now)) (Then action_line (statement what) Done) NoArm) Done) }
 {
     let body = one(alloc, action_line, what)?;
+    let condition = term(alloc, names, &[], cond)?;
     let arms = vec![in alloc;
         Arm {
             line,

@@ -27,7 +27,7 @@ pub(crate) fn nest_of(
         None => Ok(None),
         Some(mark) => {
             let within = nest_in(alloc, names, &inner.body)?;
-            let nest = nest_round(alloc, names, mark, within)?;
+            let nest = nest_round(alloc, names, mark, &within)?;
             Ok(Some(nest))
         }
     }
@@ -61,35 +61,71 @@ fn nest_round(
     alloc: Global,
     names: &Names,
     mark: &Mark,
-    within: Option<Nest>,
+    within: &Option<Nest>,
 ) -> Result<Nest, OutOfMemory>
     ensures line { IfOk result (λ n. n.line ≡ mark.now.line) }
-    ensures count { IfOk result (λ n. n.inner_loops ≡ count_round within) }
-    ensures new { IfOk result (λ n. n.new.items ≡ new_round (map (place_of names.now) mark.now.new) within) }
-    ensures reduction { IfOk result (λ n. n.reduction.items ≡ reduction_round (map (place_of names.now) mark.now.reduction) within) }
+    ensures count { IfOk result (λ n. n.inner_loops ≡ count_round within.now) }
+    ensures new { IfOk result (λ n. n.new.items ≡ new_round (map (place_of names.now) mark.now.new) within.now) }
+    ensures reduction { IfOk result (λ n. n.reduction.items ≡ reduction_round (map (place_of names.now) mark.now.reduction) within.now) }
 {
-    let line = mark.line;
+    match within {
+        None => one_loop(alloc, names, mark),
+        Some(within) => loops_round(alloc, names, mark, within),
+    }
+}
+
+/// The nest of an INDEPENDENT loop alone.
+fn one_loop(alloc: Global, names: &Names, mark: &Mark) -> Result<Nest, OutOfMemory>
+    ensures line { IfOk result (λ n. n.line ≡ mark.now.line) }
+    ensures count { IfOk result (λ n. n.inner_loops ≡ 0) }
+    ensures new { IfOk result (λ n. n.new.items ≡ map (place_of names.now) mark.now.new) }
+    ensures reduction { IfOk result (λ n. n.reduction.items ≡ map (place_of names.now) mark.now.reduction) }
+{
     let new = places(alloc, names, mark.new.as_slice())?;
     let reduction = places(alloc, names, mark.reduction.as_slice())?;
-    match within {
-        None => Ok(Nest {
-            line,
-            inner_loops: 0,
-            new,
-            reduction,
-        }),
-        Some(within) => {
-            let inner_loops = one_more(within.inner_loops)?;
-            let new = union(alloc, new, &within.new)?;
-            let reduction = union(alloc, reduction, &within.reduction)?;
-            Ok(Nest {
-                line,
-                inner_loops,
-                new,
-                reduction,
-            })
-        }
-    }
+    Ok(Nest {
+        line: mark.line,
+        inner_loops: 0,
+        new,
+        reduction,
+    })
+}
+
+/// The nest of an INDEPENDENT loop whose whole body is a nest.
+fn loops_round(
+    alloc: Global,
+    names: &Names,
+    mark: &Mark,
+    within: &Nest,
+) -> Result<Nest, OutOfMemory>
+    ensures line { IfOk result (λ n. n.line ≡ mark.now.line) }
+    ensures count { IfOk result (λ n. n.inner_loops ≡ within.now.inner_loops + 1) }
+    ensures new { IfOk result (λ n. n.new.items ≡ union (map (place_of names.now) mark.now.new) within.now.new.items) }
+    ensures reduction { IfOk result (λ n. n.reduction.items ≡ union (map (place_of names.now) mark.now.reduction) within.now.reduction.items) }
+{
+    let inner_loops = one_more(within.inner_loops)?;
+    let new = places_with(alloc, names, mark.new.as_slice(), &within.new)?;
+    let reduction = places_with(alloc, names, mark.reduction.as_slice(), &within.reduction)?;
+    Ok(Nest {
+        line: mark.line,
+        inner_loops,
+        new,
+        reduction,
+    })
+}
+
+/// The places of names and these others, each once.
+fn places_with(
+    alloc: Global,
+    names: &Names,
+    listed: &[Name],
+    others: &[usize],
+) -> Result<Vec<usize>, OutOfMemory>
+    ensures { IfOk result (λ all. all.items ≡ union (map (place_of names.now) listed.now) others.now) }
+{
+    let own = places(alloc, names, listed)?;
+    let all = union(alloc, own, others)?;
+    Ok(all)
 }
 
 /// The places of names.
