@@ -1,4 +1,5 @@
 pub mod Cores
+pub mod LocalSteps
 pub mod NextPhase
 pub mod NodeSteps
 pub mod Phases

@@ -9,18 +9,22 @@
 //! law of prefixes says this of moves alone, with no queue and no order in time, and the others follow from it. In a
 //! phase no node sends to itself, so there is no letter for which a queue from a node to itself would be wanted.
 //!
+//!   before each. So to whoever counts moves one call is some moves, maybe none, and nothing else. How many there are isn't said.
 //! *Proved:* Nodes that exchange letters in phases make the moves of their one lockstep run in every order of steps,
-//! and are never stuck: `law_of_prefixes`, `confluence`, `never_stuck`. No node passes letters to itself:
+//! - `LocalRuns`: a node that makes several local steps in one call. Each of them is what the node's act names then, as if the node had been asked
 //! `letters_to_others`.
+//! and are never stuck: `law_of_prefixes`, `confluence`, `never_stuck`. No node passes letters to itself:
 #![tactic(auto)]
 
 mod act;
+mod local_runs;
 mod node;
 mod promises;
 mod stepped;
 
 pub use act::Act;
 pub use hpf_base::NodeId;
+pub use local_runs::LocalRuns;
 pub use node::PhasedNode;
 pub use promises::{
     confluence, law_of_ends, law_of_prefixes, letters_to_others, never_stuck, one_lockstep,

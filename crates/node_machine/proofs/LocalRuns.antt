@@ -6,7 +6,7 @@ use Rattle.std.proofs.lemmas.Option.{slice_get-map}
 use Rattle.mappings.specs.declared.mapping.Mapping.{Mapping}
 use Rattle.expression_rules.specs.declared.dims.Dim.{Dim}
 use Rattle.array_meaning.specs.Faults.{Fault}
-use Rattle.local_runs.specs.LocalSteps.{AreLocalSteps, after_locals}
+use Rattle.node_law.specs.LocalSteps.{AreLocalSteps, after_locals}
 use Rattle.node_law.specs.declared.act.Act.TheVariants.{Local as LocalAct}
 use Rattle.node_law.specs.NodeSteps.{NodeSteps}
 use Rattle.letters.specs.declared.letter.Letter.{Letter}

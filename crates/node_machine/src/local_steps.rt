@@ -1,7 +1,7 @@
 //! Instructions without arrays, one or several in a call, and the end of the code.
 
 ghost use Rattle.std.specs.Prelude.{◌≡◌, ◌<◌, ◌^◌, OnOk, OnErr};
-ghost use Rattle.local_runs.specs.LocalSteps.{AreLocalSteps};
+ghost use Rattle.node_law.specs.LocalSteps.{AreLocalSteps};
 ghost use Rattle.machine_steps.specs.Instr.{Local, Running};
 ghost use Rattle.machine_steps.specs.Machine.{finish};
 ghost use Rattle.machine_steps.specs.Node.{Ready, node_steps};
@@ -12,7 +12,7 @@ ghost use Rattle.node_machine.specs.Steps.{IsLocalAt, begun, instr_here};
 use crate::node::Node;
 use crate::stage::Stage;
 use hpf_base::OutOfMemory;
-use local_runs::LocalRuns;
+use node_law::LocalRuns;
 use slot_runs::run_known;
 use slot_values::{Status, halt, run_local};
 

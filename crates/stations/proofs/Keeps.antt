@@ -8,7 +8,7 @@ use Rattle.node_law.specs.declared.act.Act.TheVariants.{Local, Send, Take}
 use Rattle.node_law.specs.declared.stepped.Stepped.{Stepped}
 use Rattle.node_law.specs.NodeSteps.{NodeSteps, Move, Worked, Sent, Taken, IsMoveOf, node_after, AreMovesOf, after_all, sent, taken}
 use Rattle.node_law.proofs.Prefixes.{sent-append, taken-append, moves-append, after_all-append}
-use Rattle.local_runs.specs.LocalSteps.{after_locals, AreLocalSteps}
+use Rattle.node_law.specs.LocalSteps.{after_locals, AreLocalSteps}
 use Rattle.letters.specs.declared.letter.Letter.{Letter}
 use Rattle.pair_mailbox.specs.declared.route.Route.{Route}
 use Rattle.pair_mailbox.specs.Rule.{IsNextLetter}

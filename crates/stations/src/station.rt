@@ -1,7 +1,7 @@
 //! One node with the ends of its queues, and a letter that it made and that isn't sent yet.
 
 ghost use Rattle.std.specs.Prelude.{◌≡◌, ◌<◌, ◌↔◌, length, Some, None, IfOk, IfSome, OnErr, IsTrue, slice_get, slice_set};
-ghost use Rattle.local_runs.specs.LocalSteps.{AreLocalSteps};
+ghost use Rattle.node_law.specs.LocalSteps.{AreLocalSteps};
 ghost use Rattle.pair_mailbox.specs.Rule.{IsNextLetter};
 ghost use Rattle.pair_mailbox.specs.Ends.{Incoming};
 ghost use Rattle.stations.specs.Lettered.{IsLettered};
@@ -10,8 +10,7 @@ ghost use Rattle.stations.specs.Steps.{IsPushed, IsPushedAt, IsPopped, IsStation
 
 use hpf_base::OutOfMemory;
 use letters::Letter;
-use local_runs::LocalRuns;
-use node_law::{Act, PhasedNode, Stepped};
+use node_law::{Act, LocalRuns, PhasedNode, Stepped};
 use pair_mailbox::{InEnd, OutEnd};
 use std::marker::Model;
 use std::snapshot::Snapshot;

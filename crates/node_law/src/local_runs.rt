@@ -1,8 +1,8 @@
 //! What a node that makes several local steps in one call is to whoever steps it.
 
-ghost use Rattle.local_runs.specs.LocalSteps.{AreLocalSteps};
+ghost use Rattle.node_law.specs.LocalSteps.{AreLocalSteps};
 
-use node_law::PhasedNode;
+use crate::node::PhasedNode;
 
 /// A node that makes several local steps in one call.
 pub trait LocalRuns: PhasedNode {
