@@ -1,3 +1,4 @@
 pub mod Pairs
 pub mod Covering
 pub mod Fewest
+mod OneLetter
