@@ -25,7 +25,7 @@ use Rattle.nest_machine.proofs.PlacedCopies.{row-each, length-each}
 use Rattle.nest_machine.proofs.Rows.{row-beyond}
 use Rattle.code_meaning.specs.NestStatements.{row_spots}
 use Rattle.nest_syntax.specs.NestTerms.{scalar_or_index, HasNoIndex, HaveNoIndex}
-use Rattle.nest_values.specs.NestTerms.{IsAlike, AreAlike}
+use Rattle.nest_texts.specs.NestTerms.{IsAlike, AreAlike}
 use Rattle.statement_trail.specs.NestParts.{index_in}
 use Rattle.nest_join.specs.NestNames.{NestNames, indices_of, index_of, IsFixedHere, IsCopyName, IsScalarName, IsArrayName}
 use Rattle.nest_join.specs.MachineState.{machine_state}

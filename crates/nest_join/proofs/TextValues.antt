@@ -26,7 +26,7 @@ use Rattle.nest_machine.specs.Placed.{Placed, placed_spot, placed_effect, IsOfRo
 use Rattle.code_meaning.specs.NestStatements.{form_reads, form_value}
 use Rattle.nest_texts.specs.NestTexts.{left_spot, text_outcome, test_outcome}
 use Rattle.nest_syntax.specs.NestTerms.{scalar_or_index, indexed, all_indexed, SubscriptsFirst}
-use Rattle.nest_values.proofs.Values.{nest-value, nest-subs}
+use Rattle.nest_texts.proofs.Values.{nest-value, nest-subs}
 use Rattle.nest_join.specs.NestNames.{NestNames, indices_of, index_of, IsFixedHere, IsScalarName, IsArrayName, IsTextTerm, AreTextSubscripts, IsText}
 use Rattle.nest_join.specs.NestTexts.{NestAction, NestCondition, assignment_text, text_of, test_of, texts_of, state_at, action_at, condition_at, HoldsEntry}
 use Rattle.nest_join.proofs.Names.{machine-scalars, machine-arrays}

@@ -2,7 +2,7 @@
 //!
 //! Comes in: a nest in the meaning, which is entered and keeps the rules, against its parts over copies (`nest_parts`); the code of a nest on the
 //! machine with whole arrays, over texts of any kind, against the same parts (`nest_machine`); and texts as forms of FORALL with their values
-//! (`nest_texts`, `nest_values`). Goes out, in `specs/`: what a nest's texts and blocks may name, their code, and what is asked at the entry; and
+//! (`nest_texts`). Goes out, in `specs/`: what a nest's texts and blocks may name, their code, and what is asked at the entry; and
 //! laws, each the contract of a function that does nothing. No program is here, and no code that runs.
 //!
 //! What holds in between, from the bottom up:

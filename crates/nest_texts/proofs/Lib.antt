@@ -1,3 +1,4 @@
 pub mod Statements
 pub mod Counting
 pub mod Codes
+pub mod Values

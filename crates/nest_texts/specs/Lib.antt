@@ -1,3 +1,4 @@
 pub mod NestTexts
 pub mod NestLoops
 pub mod NestBodies
+pub mod NestTerms

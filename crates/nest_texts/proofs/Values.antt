@@ -22,7 +22,7 @@ use Rattle.lowered_expressions.proofs.Terms.{HoldsScalars, HoldsArrays}
 use Rattle.lowered_expressions.proofs.Scatter.{value-of-reads}
 use Rattle.lowered_expressions.proofs.Indexed.{subs-are, indexed-value, indexed-names}
 use Rattle.nest_syntax.specs.NestTerms.{indexed, all_indexed, NamesFirst, AllNameFirst, SubscriptsFirst, AllSubscriptsFirst}
-use Rattle.nest_values.specs.NestTerms.{IsAlike, AreAlike}
+use Rattle.nest_texts.specs.NestTerms.{IsAlike, AreAlike}
 
 -- ---- the state of an iteration
 
