@@ -49,10 +49,6 @@ module _ {A B C D : Type 0} (f : A → C) (g : B → C) (join : A → B → List
       → IsWalk before ys xs xs_left ys_left all → xs_left ≡ x ∷ xs' → ys_left ≡ y ∷ ys' → map f (x ∷ xs') ≡ map g (y ∷ ys')
   lefts before all xs xs_left xs' ys ys_left ys' x y h ex ey = ap (map f) (sym ex) ∙ h.left ∙ ap (map g) ey
 
-  pub walk_key : (before all : List D) (xs xs_left xs' : List A) (ys ys_left ys' : List B) (x : A) (y : B)
-      → IsWalk before ys xs xs_left ys_left all → xs_left ≡ x ∷ xs' → ys_left ≡ y ∷ ys' → f x ≡ g y
-  walk_key before all xs xs_left xs' ys ys_left ys' x y h ex ey = head_key x xs' y ys' (lefts before all xs xs_left xs' ys ys_left ys' x y h ex ey)
-
   pub walk_goes : (before all all' : List D) (xs xs_left xs' : List A) (ys ys_left ys' : List B) (x : A) (y : B)
       → IsWalk before ys xs xs_left ys_left all → xs_left ≡ x ∷ xs' → ys_left ≡ y ∷ ys' → all' ≡ all ++ join x y → Tied x y → IsWalk before ys (xs ++ x ∷ []) xs' ys' all'
   walk_goes before all all' xs xs_left xs' ys ys_left ys' x y h ex ey ea new =

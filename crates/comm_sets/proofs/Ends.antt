@@ -35,9 +35,6 @@ module _ (nodes : ℕ) (old new : List Layout) (owned : AreOwned nodes old) wher
   both false true from = from refl
   both false false from = refl
 
-  neither : (a b : Bool) → a ≡ false → (a && b) ≡ false
-  neither a b is = ap (λ t. t && b) is
-
   -- an element that is sent is one of those that the end has
   pub end-elements : (end : End) (row n other : ℕ) (s : Spot) → n ≡ get_or (sizes old) row 0
       → ((nat_eq row s.row && list_any (λ at. nat_eq at s.at) (filter (has_at old new end row) (range_with_len 0 n))) && moves nodes old new end other s)

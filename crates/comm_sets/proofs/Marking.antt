@@ -1,12 +1,11 @@
 -- What is marked by one step after another.
 use Rattle.std.proofs.Common.{◌≡◌, ℕ, zero, suc, ◌+◌, ◌*◌, ◌<◌, ◌≤◌, nat_eq, ◌==◌, not, ◌&&◌, ◌||◌, Bool, true, false, Some, List, [], ◌∷◌, ◌++◌, length, map, filter, get_or, take, replicate, refl, sym, ◌∙◌, ap, arith, eqb-true}
-use Rattle.std.proofs.lemmas.List.{append_assoc, get_or-replicate, map-append}
+use Rattle.std.proofs.lemmas.List.{append_assoc, get_or-replicate}
 use Rattle.std.proofs.lemmas.List.Folds.{list_any-append}
 use mathlib.Core.Bool.{true≢false}
 use Rattle.std.proofs.lemmas.Option.{same_Some}
 use Rattle.std.specs.Option.{is_some}
 use Rattle.std.specs.List.{list_any, range_with_len, slice_get}
-use Rattle.hpf_base.proofs.Ranges.{range_with_len-add}
 use Rattle.storage.specs.Storage.{Spot}
 use Rattle.machine_steps.specs.Layout.{Layout, owned_by, owned_in, owns_spot, least_owner_of}
 use Rattle.machine_steps.specs.Message.{spots_from}
@@ -15,7 +14,6 @@ use Rattle.comm_sets.specs.declared.remapping.End.{End}
 use Rattle.comm_sets.specs.declared.remapping.End.TheVariants.{Source, Target}
 use Rattle.comm_sets.specs.Moves.{moves}
 use Rattle.covering_rounds.specs.Moved.{is_moved}
-use Rattle.message_elements.proofs.AllSpots.{or_false}
 use Rattle.comm_sets.proofs.Computing.{computes-it}
 
 -- nothing
@@ -76,16 +74,6 @@ or_turned false false = refl
 -- those of two lists are those of both together
 any-both : (P : Spot → Bool) (xs ys : List Spot) → (list_any P ys || list_any P xs) ≡ list_any P (xs ++ ys)
 any-both P xs ys = or_turned (list_any P ys) (list_any P xs) ∙ sym (list_any-append P xs ys)
-
--- one element more of a row
-pub any-element : (P : Spot → Bool) (row at : ℕ) → (P (in_row row at) || list_any P (map (in_row row) (range_with_len 0 at))) ≡ list_any P (map (in_row row) (range_with_len 0 (at + 1)))
-any-element P row at =
-    let here : 0 + at ≡ at = omega arith in
-    let next : map (in_row row) (range_with_len 0 (at + 1)) ≡ map (in_row row) (range_with_len 0 at) ++ in_row row at ∷ [] =
-    ap (map (in_row row)) (range_with_len-add 0 at 1) ∙ map-append (in_row row) (range_with_len 0 at) ((0 + at) ∷ [])
-    ∙ ap (λ n. map (in_row row) (range_with_len 0 at) ++ in_row row n ∷ []) here in
-    ap (λ b. b || list_any P (map (in_row row) (range_with_len 0 at))) (sym (or_false (P (in_row row at))))
-    ∙ any-both P (map (in_row row) (range_with_len 0 at)) (in_row row at ∷ []) ∙ ap (list_any P) (sym next)
 
 spots-more : (first row : ℕ) (ns : List ℕ) → row < length ns
     → spots_from first (take (row + 1) ns) ≡ spots_from first (take row ns) ++ map (in_row (first + row)) (range_with_len 0 (get_or ns row 0))

@@ -64,14 +64,6 @@ module _ (nodes : ℕ) (layouts : List Layout) (part : Part) (n : ℕ) where
 
 -- ---- element by element
 
--- one element more of a row
-pub positions-more : (row at : ℕ) (s : Spot) → ((nat_eq row s.row && nat_eq at s.at) || (nat_eq row s.row && nat_lt s.at at)) ≡ (nat_eq row s.row && nat_lt s.at (at + 1))
-positions-more row at s = by_row (nat_eq row s.row)
-  where
-    by_row : (b : Bool) → ((b && nat_eq at s.at) || (b && nat_lt s.at at)) ≡ (b && nat_lt s.at (at + 1))
-    by_row true = grind (arith, nat_tests)
-    by_row false = refl
-
 -- one row more
 pub rows-more : (ns : List ℕ) (row : ℕ) (s : Spot)
     → ((nat_eq row s.row && nat_lt s.at (get_or ns row 0)) || (nat_lt s.row row && nat_lt s.at (get_or ns s.row 0))) ≡ (nat_lt s.row (row + 1) && nat_lt s.at (get_or ns s.row 0))

@@ -1,5 +1,5 @@
 -- The lines of the instruction at the place.
-use Rattle.std.proofs.Common.{◌≡◌, ℕ, zero, suc, ◌+◌, ◌<◌, ◌≤◌, ◌++◌, ℤ, List, [], ◌∷◌, All, length, map, get_or, take, Option, Some, None, append-nil, refl, sym, ap, ◌∙◌, arith}
+use Rattle.std.proofs.Common.{◌≡◌, ℕ, zero, suc, ◌+◌, ◌<◌, ◌≤◌, ◌++◌, ℤ, List, [], ◌∷◌, All, length, map, get_or, take, Some, None, append-nil, refl, sym, ap, ◌∙◌, arith}
 use Rattle.std.specs.List.{slice_get}
 use Rattle.std.proofs.lemmas.List.{length-map}
 use Rattle.std.proofs.lemmas.Option.{slice_get_past}
@@ -45,12 +45,6 @@ module _ (nodes : ℕ) (maps : List Mapping) (dims : List (List Dim)) where
 
 -- where these names are declared, over so many nodes with mappings and arrays of the program
 module _ (es : List Entry) (nodes : ℕ) (maps : List Mapping) (dims : List (List Dim)) (moves : ℕ → List Remapping) where
-  within : (s : Status Fault) (k : ℕ) (o : Option Text) (layouts : List Layout) (slots : List ℤ) → 0 < k → lines_while es moves s k o layouts slots ≡ []
-  within Running zero o layouts slots lt = absurd (omega (arith, lt))
-  within Running (suc k) o layouts slots lt = refl
-  within Finished k o layouts slots lt = refl
-  within (Faulted f) k o layouts slots lt = refl
-
   past : (s : Status Fault) (k : ℕ) (layouts : List Layout) (slots : List ℤ) → lines_while es moves s k None layouts slots ≡ []
   past Running zero layouts slots = refl
   past Running (suc k) layouts slots = refl
@@ -59,10 +53,6 @@ module _ (es : List Entry) (nodes : ℕ) (maps : List Mapping) (dims : List (Lis
 
   no-more : (before : List ℕ) (m : Machine Text Fault) → lines_now es moves m ≡ [] → before ≡ before ++ lines_now es moves m
   no-more before m e = sym (append-nil before) ∙ ap (λ l. before ++ l) (sym e)
-
-  -- there are none after the first step of an instruction
-  pub none-within : (before : List ℕ) (m : Machine Text Fault) → 0 < m.substep → before ≡ before ++ lines_now es moves m
-  none-within before m lt = no-more before m (within m.control.status m.substep (slice_get m.code m.control.at) m.layouts m.control.slots lt)
 
   -- and none past the code's end
   pub none-past : (before : List ℕ) (xs : List HeldInstruction) (m : Machine Text Fault) → m.code ≡ texts nodes maps dims (instructions xs) → length xs ≤ m.control.at

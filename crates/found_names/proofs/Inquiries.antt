@@ -125,11 +125,6 @@ inquired_value op.LBound l (d ∷ e ∷ ns) i w h = absurd (too_many (length ns)
 inquired_value op.UBound l (d ∷ e ∷ ns) i w h = absurd (too_many (length ns) (both _ _ w).1)
 inquired_value o l ns i w h = absurd (true≢false (sym i))
 
--- what the type of an inquiry says
-inquiry_counts_no : (o : Op) → is_inquiry o ≡ true → is_processor_count o ≡ false
-inquiry_counts_no op.Nodes h = absurd (not_true h)
-inquiry_counts_no o h = refl
-
 if_scalar : (b : Bool) → HasValue (integer_scalar_if b) → b ≡ true
 if_scalar true h = refl
 if_scalar false h = absurd (not_true h)

@@ -22,9 +22,6 @@ R = map rule fields
 abbrev pub S : Shape
 S = (built hpf_app).top
 
-rules_are : S.rules ≡ R
-rules_are = refl
-
 pub is_free : is_simple_and_free hpf_app ≡ true
 is_free = refl
 

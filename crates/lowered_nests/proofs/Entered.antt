@@ -25,8 +25,6 @@ use Rattle.nest_texts.specs.NestBodies.{nest_layout}
 use Rattle.statement_trail.specs.NestParts.{index_in}
 use Rattle.nest_join.specs.NestNames.{NestNames}
 use Rattle.program_code.specs.Places.{AreScalars, place_by, final_by}
-use Rattle.nest_join.specs.CodedBlocks.{IsCodedBlock}
-use Rattle.nest_join.specs.NestRuns.{NestCode}
 use Rattle.nest_join.proofs.RowPlaces.{condition-place}
 use Rattle.nest_join.proofs.MadeRows.{made-rows, names-unmade}
 use Rattle.program_code.specs.NestCode.{scalars, conditions, kinds_in, stored, finals, along}
@@ -56,9 +54,6 @@ module _ (table : ArrayTable) (row_count : ℕ) (moves : ℕ → List NewMapping
   abbrev w : NestNames
   w = begun.w table row_count moves code n many lie line pc v nest loop block body s slots rows h some
 
-  abbrev c : NestCode
-  c = begun.c table row_count moves code n many lie line pc v nest loop block body s slots rows h some
-
   abbrev start : Storage
   start = begun.start table row_count moves code n many lie line pc v nest loop block body s slots rows h some
 
@@ -67,9 +62,6 @@ module _ (table : ArrayTable) (row_count : ℕ) (moves : ℕ → List NewMapping
 
   abbrev es : List Entry
   es = nest_entries (finals n nest body) (stored n nest body) conds
-
-  abbrev ok : IsCodedBlock w s [] body
-  ok = begun.ok table row_count moves code n many lie line pc v nest loop block body s slots rows h some
 
   row-is : (k : ℕ) → k < n → row_of start k ≡ (if has_copies (kinds k) then scalar s k ∷ [] else (array s k).elements)
   row-is = begun.row-is table row_count moves code n many lie line pc v nest loop block body s slots rows h some

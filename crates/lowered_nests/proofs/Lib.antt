@@ -30,6 +30,5 @@ mod LoopTrips
 mod IndexCode
 mod NestPieces
 pub mod NestGoes
-pub mod StillLoops
 pub use Rattle.nest_join.proofs.Names as JoinedNames
 pub use Rattle.nest_texts.proofs.Counting

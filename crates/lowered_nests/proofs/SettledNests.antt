@@ -34,12 +34,6 @@ mutual
   by-length st statement z = refl
 
 module _ (n : ℕ) (kinds : ℕ → Kind) (all : ℕ → Bool) (s : State) (k : ℕ) (v : ℤ) where
-  abbrev Near : State → Type 0
-  Near = IsNear n kinds all s
-
-  abbrev Long : State → Type 0
-  Long z = length z.scalars ≡ n
-
   pub loop-settles : (mark : Mark) (l : Loop) (ls : List Loop) (inner : Block) (st z : State) → l.index < n → values_of st l ≡ values_of s l → HaveTurns s (l ∷ ls) → length z.scalars ≡ n
       → IsIndexOf k (l ∷ ls)
       → (IsIndexOf k ls → (x : ℕ) (y : State) → length y.scalars ≡ n → scalar (settled (set_scalar st l.index (turn_value (values_of st l) x)) inner y) k ≡ left s ls k v)

@@ -16,7 +16,7 @@
 //!   depend on how the rows lie (`SteadyRows`).
 //! - `LoopBounds`, `LoopTrips`, `IndexCode`: the code round the statements. `EmptyNests`, `SettledNests`: what the meaning leaves in the indices
 //!   of a nest, without an iteration and with one.
-//! - `NestGoes`: all of it together. `StillLoops`: the loops of a nest without statements pass nothing, as the nest doesn't.
+//! - `NestGoes`: all of it together.
 //!
 //! What is asked of a nest is its form (`nest_items`), that its names are declared, that it has statements, since one without is compiled as its loops
 //! are, and that the numbers in the control of its outermost loop are of 64 bits; of the state at its entry, that its values are of 64 bits, and that the

@@ -14,7 +14,7 @@ use Rattle.array_meaning.specs.declared.sections.Sequence.{Sequence}
 use Rattle.array_meaning.specs.Sections.{sequence, value_count}
 use Rattle.array_meaning.specs.Faults.{Cause, fails}
 use Rattle.array_meaning.specs.State.{Array, State, array, no_array}
-use Rattle.array_meaning.specs.Statements.{Loop, Nest, Block, Do, Mark, Unmarked, Outermost}
+use Rattle.array_meaning.specs.Statements.{Loop, Nest, Block, Mark, Unmarked, Outermost}
 use Rattle.array_meaning.specs.Runs.{Run, then_do, with_value, one_step}
 use Rattle.array_meaning.specs.Expressions.{index_values}
 use Rattle.array_meaning.specs.Iterations.{values_of, nest_axes, nest_indices}
@@ -34,18 +34,12 @@ use Rattle.lowered_expressions.specs.Passed.{passed, IsTrail}
 use Rattle.lowered_expressions.proofs.Reach.{still, Idle, HasAt, Reaches, stands, one, Place}
 use Rattle.lowered_expressions.proofs.Terms.{HoldsScalars, HoldsArrays}
 use Rattle.lowered_expressions.proofs.Goes.{Holds, kept-refl, Goes, goes-on}
-use Rattle.lowering.proofs.NestNames.{IsFormedNest, formed_nest}
-use Rattle.nest_items.specs.BlockForms.{BlockHasForms, HasForms}
-use Rattle.lowered_expressions.specs.WellFormed.{IsWellFormedBlock}
+use Rattle.lowering.proofs.NestNames.{IsFormedNest}
 
 -- what is asked of a mark: the outermost loop of a nest names what may stand in one
 abbrev pub IsFormedMark : ℕ → Mark → Loop → Block → Type 0
 IsFormedMark n Unmarked loop block = Unit {0}
 IsFormedMark n (Outermost nest body) loop block = IsFormedNest n nest loop block body
-
-pub formed_mark : (n : ℕ) (mark : Mark) (loop : Loop) (block : Block) → HasForms (Do mark loop block) → IsWellFormedBlock n block → IsFormedMark n mark loop block × BlockHasForms block
-formed_mark n Unmarked loop block forms ok = (tt, forms)
-formed_mark n (Outermost nest body) loop block forms ok = let formed = formed_nest n nest loop block body forms ok in (formed, formed.forms)
 
 -- ---- the state that the check sees
 

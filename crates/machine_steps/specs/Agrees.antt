@@ -1,6 +1,6 @@
 -- Of the claim.
 -- Nodes that agree with a state of the machine with whole arrays, and what code and machine are asked for.
-use Rattle.std.specs.Prelude.{◌≡◌, ℤ, ◌*◌, ◌∷◌, ℕ, ◌<◌, ◌≤◌, ◌⊎◌, Bool, true, List, [], map, length, replicate, Result, Ok, Err, Option, Some, None, nat_lt, slice_get, slice_index_or, if◌then◌else◌, suc, zero, ⊤}
+use Rattle.std.specs.Prelude.{◌≡◌, ℤ, ◌∷◌, ℕ, ◌<◌, ◌≤◌, ◌⊎◌, Bool, true, List, [], map, length, replicate, Result, Ok, Err, Option, Some, None, nat_lt, slice_get, slice_index_or, if◌then◌else◌, suc, zero, ⊤}
 use Rattle.std.specs.List.{range_with_len}
 use Rattle.hpf_base.specs.declared.index.Shape.{Shape}
 use Rattle.node_law.specs.NodeSteps.{Move, after_at, sent}
@@ -209,19 +209,6 @@ part_of count m (Par tuples left) = Some (par_part m.layouts tuples left m.contr
 part_of count m (Reduce tuples f slot) = reduced_part count m.layouts m.substep tuples m.control.slots
 part_of count m (Print items line) = item_part (slice_get items m.substep) m.control.slots
 part_of count m i = None
-
-module _ {C F : Type 0} (faults : FaultValues F) (meaning : C → Instr F) where
-  -- a segment with one phase, that carries the exchange
-  pub record CarryingSegment (count n : ℕ) (m : Machine C F) (own : Own F) (m' : Machine C F) (exchange : Exchange) : Type 0 where
-    pub segment : NodesSegment faults meaning count n m own m'
-    pub shares : ℕ → PhaseShare Letter
-    pub one : segment.phases ≡ shares ∷ []
-    pub carries : Carries count n own.next_to shares exchange
-
-  -- a segment that carries the rounds of a tree, where `body k p` is what the node p has after k rounds
-  abbrev pub CarryingTree : (count n : ℕ) (m : Machine C F) (own : Own F) (m' : Machine C F) (body : ℕ → ℕ → List ℤ) → Type 0
-  CarryingTree count n m own m' body =
-      (segment : NodesSegment faults meaning count n m own m') × AreCarried count n segment.phases (tree_exchanges count body 0 (2 * levels_of count))
 
 -- ---- the beginning of a run
 

@@ -240,8 +240,5 @@ module _ (kinds : ℕ → Kind) where
     arrays = ext_get_or no_array (arrays_in kinds m 0 s.arrays) s.arrays (arrays-length m 0 s.arrays)
         (λ i lt. of_array i (omega (arith, lt, arrays-length m 0 s.arrays)))
 
-  pub entry-rows : (s : State) → ((k : ℕ) → has_copies (kinds k) ≡ true → k < length s.arrays) → HasRows kinds (storage_of kinds s)
-  entry-rows s below k t = ap length (row-at s k (below k t) ∙ if_so (has_copies (kinds k)) (scalar s k ∷ []) (array s k).elements t)
-
   pub rows-kept : (m : Storage) (l : Spot) (v : ℤ) → HasRows kinds m → HasRows kinds (write m l v)
   rows-kept m l v h k t = (Alike-write m l v).extent k ∙ h k t

@@ -127,9 +127,6 @@ module _ (w : NestNames) (l b0 : ℕ) (entry : List ℤ) (s0 : State) (holds : H
       same1 : SameSlots w.is_index b0 entry s1
       same1 = same-on is_index b0 b0 b0 entry s s1 (omega arith) (omega arith) same (same-set is_index b0 b s (bounds.first s) (omega (arith, le)))
 
-      same2 : SameSlots w.is_index b0 entry s2
-      same2 = same-on is_index b0 b0 b0 entry s1 s2 (omega arith) (omega arith) same1 (same-set is_index b0 (b + 1) s1 (bounds.last s1) (omega (arith, le)))
-
       under : x < b
       under = let a = ok.below in let c = holds.below in omega (arith, a, c, le)
 

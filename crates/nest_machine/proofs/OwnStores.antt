@@ -1,5 +1,5 @@
 -- Stores elsewhere, and stores to an iteration's own position of a row.
-use Rattle.std.proofs.Common.{◌≡◌, ℕ, zero, suc, ◌<◌, ◌≤◌, ◌⊎◌, inl, inr, length, ℤ, pos, true, false, Option, Some, None, refl, sym, ap, ◌∙◌, arith, slice_index_or, get_or-set_same, get_or-set_other, ⊎_elim, ◌&&◌}
+use Rattle.std.proofs.Common.{◌≡◌, ℕ, zero, suc, ◌<◌, ◌⊎◌, inl, inr, length, ℤ, pos, true, false, Option, Some, None, refl, sym, ap, ◌∙◌, arith, slice_index_or, get_or-set_same, get_or-set_other, ⊎_elim, ◌&&◌}
 use Rattle.std.specs.Prelude.{nat_eq}
 use Rattle.std.proofs.lemmas.Bool.Decides.{nat_tests}
 use Rattle.std.proofs.lemmas.Bool.{cases_eq}
@@ -54,10 +54,6 @@ module _ {F : Type 0} where
   apply-at e q t i m (inl is) ne = ap (λ x. read (apply x m) (record { row = q; at = i })) is
   apply-at e q t i m (inr w) ne = ap (λ x. read (apply x m) (record { row = q; at = i })) w.1
       ∙ ap (λ xs. slice_index_or xs i (pos 0)) (write-here m q t w.0) ∙ get_or-set_other (row_of m q) t i w.0 (pos 0) ne
-
-  own-later : (e : ℕ → Effect F) (q t i : ℕ) (m : Storage) → OwnPuts q e → t ≤ i → read (scatter e t m) (record { row = q; at = i }) ≡ read m (record { row = q; at = i })
-  own-later e q zero i m own le = refl
-  own-later e q (suc t) i m own le = apply-at (e t) q t i (scatter e t m) (own t) (λ z. absurd (omega (arith, z, le))) ∙ own-later e q t i m own (omega (arith, le))
 
   pub own-skip : (e : ℕ → Effect F) (q t i : ℕ) (m : Storage) → OwnPuts q e → e i ≡ Skip → read (scatter e t m) (record { row = q; at = i }) ≡ read m (record { row = q; at = i })
   own-skip e q zero i m own is = refl

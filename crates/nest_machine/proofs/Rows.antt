@@ -49,10 +49,6 @@ module _ {F : Type 0} where
   scatter-extent e zero m q = refl
   scatter-extent e (suc t) m q = apply-extent (e t) (scatter e t m) q ∙ scatter-extent e t m q
 
-  pub parted-length : (act : ℕ → ℕ → Storage → Effect F) (start : Storage) (n j : ℕ) → length (parted act start n j) ≡ length start
-  parted-length act start n zero = refl
-  parted-length act start n (suc j) = scatter-length (λ i. act i j (parted act start n j)) n (parted act start n j) ∙ parted-length act start n j
-
   pub parted-extent : (act : ℕ → ℕ → Storage → Effect F) (start : Storage) (n j q : ℕ) → length (row_of (parted act start n j) q) ≡ length (row_of start q)
   parted-extent act start n zero q = refl
   parted-extent act start n (suc j) q = scatter-extent (λ i. act i j (parted act start n j)) n (parted act start n j) q ∙ parted-extent act start n j q

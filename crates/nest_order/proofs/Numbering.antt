@@ -30,9 +30,6 @@ back_to_tuple (c ∷ cs) (t ∷ ts) h =
     let others = ap (tuple_of cs) (outer_of c t (number_of cs ts) h.0) ∙ back_to_tuple cs ts h.1 in
     λ i. first i ∷ others i
 
-none_below : (n : ℕ) → n < 0 * n → ⊥
-none_below n h = omega arith
-
 some_turn : (c n k : ℕ) → k < c * n → 0 < c
 some_turn zero n k lt = omega arith
 some_turn (suc c) n k lt = omega arith

@@ -331,9 +331,6 @@ module _ (kinds : ℕ → Kind) (assigned_names : List ℕ) (start : Storage) wh
 
 module _ (kinds : ℕ → Kind) (all : ℕ → Bool) (s : State) (nest : Nest) (loop : Loop) (block body : Block)
     (h : NestStands kinds all s nest loop block body) (are : AreKinds kinds nest body) (passed : check_nest nest body s ≡ Ok s) where
-  names : List ℕ
-  names = assigned_in body
-
   all_listed : (xs : Items Action Condition) (spot : Spot) → Contains (listed (reads kinds (assigned_in body)) xs) spot → Contains (listed (names_of kinds (assigned_in body) false) xs) spot
   all_listed xs spot c = listed_more (reads kinds (assigned_in body)) (names_of kinds (assigned_in body) false) spot
       (λ x d. Contains-append_left (spots_read kinds x.entry x.text) (written_by kinds x) spot d) (λ x d. d) (λ x. refl) xs c

@@ -2,7 +2,7 @@
 use Rattle.std.proofs.Common.{◌≡◌, ℕ, zero, suc, ◌+◌, ◌-◌, ◌<◌, ◌≤◌, [], ◌∷◌, length, get_or, replicate, true, ap, sym, ◌∙◌, subst, ℤ, pos, arith, ⊎_elim, FitsSigned, w64}
 use Rattle.std.proofs.lemmas.Bool.{cases_lt}
 use Rattle.std.proofs.lemmas.List.{get_or_past, get_or-append-add, get_or_append_left, get_or-replicate, length-replicate}
-use Rattle.storage.specs.Storage.{Storage, row_of}
+use Rattle.storage.specs.Storage.{row_of}
 use Rattle.nest_syntax.specs.NestKinds.{Kind, Shared, has_copies}
 use Rattle.nest_order.specs.Scalars.{AllFit}
 use Rattle.nest_order.proofs.Copying.{shared_of}
@@ -14,9 +14,6 @@ use Rattle.nest_items.proofs.Storing.{entry-state, row-at, rows-length, if_so, i
 use Rattle.nest_items.proofs.IndexFits.{zero_fits}
 
 module _ (kinds : ℕ → Kind) (s : State) (even : length s.scalars ≡ length s.arrays) (below : (k : ℕ) → has_copies (kinds k) ≡ true → k < length s.arrays) (conditions n : ℕ) where
-  after_those : Storage
-  after_those = replicate conditions (replicate n (pos 0))
-
   first_rows : (i : ℕ) → i < length s.arrays → row_of (opened kinds s conditions n) i ≡ row_of (storage_of kinds s) i
   first_rows i lt = get_or_append_left (storage_of kinds s) (replicate conditions (replicate n (pos 0))) [] i (omega (arith, lt, rows-length kinds s 0 s.arrays))
 

@@ -19,9 +19,6 @@ other_name x y e = by (bytes_eq y x) refl where
   by true f = absurd (true≢false (sym ((bytes_eq-Decides x y).1 (sym ((bytes_eq-Decides y x).0 f))) ∙ e))
   by false f = refl
 
-pub same_name : (x : Name) → bytes_eq x x ≡ true
-same_name x = (bytes_eq-Decides x x).1 refl
-
 -- what another name stands for stays
 pub found_other : (x y : Name) (s : Symbol) (t : SymbolTable) → bytes_eq x y ≡ false → find x (changed y s t) ≡ find x t
 found_other x y s [] e = ap (λ b. cond b (Some s) None) e

@@ -30,10 +30,6 @@ typed_some test (Some s) h = refl
 abbrev AllSome : List (Option TypeAndRank) → Type 0
 AllSome ss = list_all (λ s. is_some s) ss ≡ true
 
-rank_some : (k : DataType) (s : Option TypeAndRank) → is_some (rank_in k s) ≡ true → is_some s ≡ true
-rank_some k None h = absurd (true≢false (sym h))
-rank_some k (Some s) h = refl
-
 common_some : (a b : Option ℕ) → is_some (common a b) ≡ true → is_some a ≡ true → is_some b ≡ true
 common_some None b h g = absurd (true≢false (sym g))
 common_some (Some q) None h g = absurd (true≢false (sym h))

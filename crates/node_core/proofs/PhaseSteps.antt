@@ -1,14 +1,12 @@
 -- The steps of one phase, in the words of the code that makes them.
-use Rattle.std.proofs.Common.{◌≡◌, ℕ, suc, ◌<◌, ◌≢◌, ◌⊎◌, inl, inr, true, is_some, IsSome, List, length, get_or, Option, Some, None, refl, sym, ◌∙◌, ap, subst, arith}
+use Rattle.std.proofs.Common.{◌≡◌, ℕ, suc, ◌<◌, ◌≢◌, ◌⊎◌, inl, inr, true, is_some, IsSome, Option, Some, None, refl, sym, ◌∙◌, ap, subst, arith}
 use Rattle.std.specs.List.{slice_get}
-use Rattle.std.proofs.lemmas.Option.{slice_get_within, slice_get-get_or}
 use Rattle.node_law.specs.declared.act.Act.{Act}
 use Rattle.node_law.specs.declared.act.Act.TheVariants.{Local, Send, Take, Done}
 use Rattle.node_law.specs.declared.stepped.Stepped.{Stepped}
 use Rattle.node_law.specs.declared.stepped.Stepped.TheVariants.{Moved}
 use Rattle.node_law.specs.NodeSteps.{NodeSteps, Move, IsDoneAt}
 use Rattle.node_law.specs.NextPhase.{UnfinishedAt, IsNextPhase}
-use Rattle.node_law.specs.Phases.{next_number}
 use Rattle.node_law.specs.Cores.{CoreState, start, core_move, core_run, IsEnabled}
 use Rattle.node_law.specs.Reached.{RunsTo, IsStep, answer_by}
 use Rattle.node_law.proofs.PhaseAlone.{only_phase}
@@ -21,15 +19,6 @@ use Rattle.node_core.specs.Stage.{CanStep, CanPass, Advances}
 use Rattle.node_core.proofs.Rounds.{runs-on}
 
 module _ {N M : Type 0} (S : NodeSteps N M) where
-  -- no unfinished node has the number before
-  pub none-before : (ns : List N) (first : ℕ)
-      → ((k : ℕ) (d : N) → k < length ns → S.act (get_or ns k d) ≢ Done → next_number (S.phase (get_or ns k d)) ≢ first) → (m : ℕ)
-      → UnfinishedAt S ns m → next_number m ≢ first
-  none-before ns first h m (p, a, is, d, e) =
-      let g : get_or ns p a ≡ a = (let k = slice_get-get_or ns p a (slice_get_within ns p a is) in cc) in
-      let k = h p a (slice_get_within ns p a is) in
-      rw (← e) (rw g at k d)
-
   moved-by : (o : Option N) (m : Option (Move M)) (stepped : Stepped) → IsSome m → stepped ≡ answer_by S o m → stepped ≡ Moved
   moved-by o None stepped h e = cc
   moved-by o (Some x) stepped h e = e

@@ -46,9 +46,6 @@ module _ {N M : Type 0} (S : NodeSteps N M) where
   pub runs-trans : (c d e : CoreState N M) → RunsTo S c d → RunsTo S d e → RunsTo S c e
   runs-trans c d e r t = (r.0 ++ t.0, t.1 ∙ ap (λ (x : CoreState N M). core_run S x t.0) r.1 ∙ sym (run-append S r.0 t.0 c))
 
-  pub runs-none : (c d : CoreState N M) → d ≡ c → RunsTo S c d
-  runs-none c d e = ([], e)
-
   -- one more choice
   pub choices-go : (i a b : CoreState N M) (choices : List NodeId) (k : ℕ) (d : NodeId) (stepped : Stepped) → k < length choices
       → a ≡ core_run S i (map (λ (n : NodeId). n.0) (take k choices)) → IsStep S a (get_or choices k d).0 stepped b
@@ -85,13 +82,6 @@ module _ {N M : Type 0} (S : NodeSteps N M) where
     pub same_length : length a.lists.nodes ≡ length i.lists.nodes
     pub runs : RunsTo S (state i) (state a)
     pub nearer : ((a ≡ i) × ((k : ℕ) → k < index → core_move S (state i) k ≡ None)) ⊎ (a.left < i.left)
-
-  pub round-prefix : (i : CoreView N M) → Round i i 0
-  round-prefix i = record {
-    same_length = refl;
-    runs = ([], refl);
-    nearer = inl (refl, λ k lt. absurd (omega arith));
-  }
 
   nearer-stays : (i a b : CoreView N M) (p : ℕ) (stepped : Stepped) → stepped ≢ Moved → b ≡ a → IsStep S (state a) p stepped (state b)
       → ((a ≡ i) × ((k : ℕ) → k < p → core_move S (state i) k ≡ None)) ⊎ (a.left < i.left)

@@ -37,9 +37,6 @@ module _ {N M : Type 0} {S : NodeSteps N M} {K : CoreLists N M} {self : CoreStat
   letters-at k l lt e = get_or_default K.queues k [] l lt ∙ sym e
 
   module _ (a : N) (at : a ≡ get_or K.nodes p a) where
-    pub acts : (act : Act) → S.act a ≡ act → ActsAt S self.nodes p act
-    acts act e = (a, rw (← v) (is-node a at), e)
-
     pub target-fits : (n : ℕ) (q : NodeId) → n ≡ length K.nodes → S.act a ≡ Send q → p * n + q.0 < length K.queues
     target-fits n q e act = rw e (target-index S K ok p a (is-node a at) q act)
 

@@ -2,7 +2,7 @@
 use Rattle.std.proofs.Common.{◌≡◌, ℕ, List, [], ◌∷◌, ◌++◌, Option, Some, None, refl, sym, ◌∙◌, ap, subst, append_assoc, append-nil}
 use Rattle.std.proofs.Math.Path.{fun_ext}
 use Rattle.node_law.specs.NodeSteps.{NodeSteps, Move, Worked, Sent, Taken, node_after, after_all, after_at, IsDoneAt, sent}
-use Rattle.node_law.specs.Phases.{PhaseShare, moves, AreLocal, IsFront, next_number, TurnsNumber, KeepsNumber, IsShare, IsShareAt, IsPhase, IsEndAt, IsLockstep, all_moves, StaysAt, IsBetween, LeadsTo, number_after, begun_by, joined_phases, joined_last}
+use Rattle.node_law.specs.Phases.{PhaseShare, moves, AreLocal, IsFront, next_number, TurnsNumber, KeepsNumber, IsShare, IsShareAt, IsPhase, IsEndAt, IsLockstep, StaysAt, IsBetween, LeadsTo, number_after, begun_by, joined_phases, joined_last}
 use Rattle.node_law.proofs.Prefixes.{sent-append, moves-append, after_all-append}
 use Rattle.node_law.proofs.LawOfPrefixes.{local-sent}
 use Rattle.node_law.proofs.NextMove.{local-awaited, awaited-append}
@@ -19,14 +19,6 @@ module _ {M : Type 0} where
   local-front (Worked ∷ xs) ys h k = local-front xs ys h k
   local-front (Sent q m ∷ xs) ys h k = absurd h
   local-front (Taken q m ∷ xs) ys h k = absurd h
-
-  -- the moves of two segments one after the other
-  pub moves-joined : (first second : List (ℕ → PhaseShare M)) (between last : ℕ → List (Move M)) (p : ℕ)
-      → all_moves (joined_phases first between second) (joined_last between second last) p ≡ all_moves first between p ++ all_moves second last p
-  moves-joined [] [] between last p = refl
-  moves-joined [] (shares ∷ rest) between last p = simp append_assoc refl
-  moves-joined (shares ∷ first) second between last p =
-      rw (moves-joined first second between last p) (sym (append_assoc (moves (shares p)) (all_moves first between p) (all_moves second last p)))
 
 module _ {N M : Type 0} (S : NodeSteps N M) where
   stays-first : (n : ℕ) (a : N) (xs : List (Move M)) → StaysAt S n a xs → S.phase a ≡ n
@@ -82,16 +74,6 @@ module _ {N M : Type 0} (S : NodeSteps N M) where
         e.3 ∙ ap Some (sym (after_all-append S a xs ys)),
       )
 
-  end-after : (n : ℕ) (o middle : Option N) (xs ys : List (Move M)) → IsBetween S n o xs middle → IsEndAt S middle ys → IsEndAt S o (xs ++ ys)
-  end-after n None middle xs ys h k = let e = rw h.1 at k in rw (h.0, e) refl
-  end-after n (Some a) middle xs ys h k =
-      let e = rw h.3 at k in (
-        moves-append S a xs ys h.0 e.0,
-        local-append xs ys h.1 e.1,
-        keeps-append n a xs ys h.2 e.2,
-        rw (after_all-append S a xs ys) e.3,
-      )
-
   end-done : (n : ℕ) (o new : Option N) (xs : List (Move M)) → IsBetween S n o xs new → IsDoneAt S new → IsEndAt S o xs
   end-done n None new xs h d = h.0
   end-done n (Some a) new xs h d = (h.0, h.1, rw append-nil at (keeps-append n a xs [] h.2 tt), rw h.3 at d)
@@ -122,17 +104,6 @@ module _ {N M : Type 0} (S : NodeSteps N M) where
   )
   leads-joined (shares ∷ first) n ns middle new second between last h k =
       (h.0, leads-joined first (next_number n) (λ p. after_at S (ns p) (moves (shares p))) middle new second between last h.1 k)
-
-  pub lockstep-joined : (first : List (ℕ → PhaseShare M)) (n : ℕ) (ns middle : ℕ → Option N) (second : List (ℕ → PhaseShare M))
-      (between last : ℕ → List (Move M)) → LeadsTo S n ns first between middle → IsLockstep S (number_after n first) middle second last
-      → IsLockstep S n ns (joined_phases first between second) (joined_last between second last)
-  lockstep-joined [] n ns middle [] between last h k = λ p. end-after n (ns p) (middle p) (between p) (last p) (h p) (k p)
-  lockstep-joined [] n ns middle (shares ∷ rest) between last h k = (
-    phase-after n ns middle between h shares k.0,
-    subst (λ (K : ℕ → Option N). IsLockstep S (next_number n) K rest last) (nodes-after n ns middle between h shares) k.1,
-  )
-  lockstep-joined (shares ∷ first) n ns middle second between last h k =
-      (h.0, lockstep-joined first (next_number n) (λ p. after_at S (ns p) (moves (shares p))) middle second between last h.1 k)
 
   -- a segment that leads to nodes that are all Done
   pub lockstep-ended : (phases : List (ℕ → PhaseShare M)) (n : ℕ) (ns new : ℕ → Option N) (last : ℕ → List (Move M)) → LeadsTo S n ns phases last new

@@ -39,10 +39,6 @@ pub comparable-rest : {A : Type 0} (b : Bool) (x y : A) (xs ys : List A) → Are
 comparable-rest true x y xs ys h = h.1
 comparable-rest false x y xs ys h = h
 
-pub comparable-refl : {A : Type 0} (xs : List A) → AreComparable xs xs
-comparable-refl [] = tt
-comparable-refl (x ∷ xs) = (refl, comparable-refl xs)
-
 pub if-append : {A : Type 0} (b : Bool) (x : A) (xs ys : List A) → (if b then x ∷ (xs ++ ys) else (xs ++ ys)) ≡ (if b then x ∷ xs else xs) ++ ys
 if-append true x xs ys = refl
 if-append false x xs ys = refl

@@ -1,10 +1,10 @@
 -- The steps of instructions whose values go round a tree.
-use Rattle.std.proofs.Common.{◌≡◌, ℕ, zero, suc, ◌≤◌, ◌*◌, ◌+◌, Bool, true, false, if◌then◌else◌, not, nat_lt, List, ℤ, refl, sym, ◌∙◌, ap, arith}
+use Rattle.std.proofs.Common.{◌≡◌, ℕ, zero, suc, ◌≤◌, ◌+◌, List, ℤ, refl, sym, ◌∙◌, ap, arith}
 use Rattle.array_meaning.specs.Faults.{Fault}
 use Rattle.machine_steps.specs.Instr.{Instr, FoldCopy, LastCopy, Reduce, Tuples, Verdict}
 use Rattle.machine_steps.specs.Machine.{on, stay}
-use Rattle.machine_steps.specs.Node.{Node, begun_by, done_by, fold_ended, join_options, kept_values, last_ended, opened, option_values, own_fold, own_last, positioned_values, reduce_begun, reduce_done, reduce_ended, tree_absorbed, tree_next, values_option, verdict_done}
-use Rattle.machine_steps.specs.Tree.{levels_of, tree_sends}
+use Rattle.machine_steps.specs.Node.{Node, begun_by, done_by, fold_ended, join_options, kept_values, last_ended, option_values, own_fold, own_last, positioned_values, reduce_begun, reduce_done, reduce_ended, tree_absorbed, tree_next, values_option, verdict_done}
+use Rattle.machine_steps.specs.Tree.{levels_of}
 use Rattle.code_meaning.specs.FaultValues.{fault_values}
 use Rattle.code_meaning.specs.Parallel.{fold_of}
 use Rattle.code_meaning.specs.ProgramText.{Text}
@@ -17,25 +17,6 @@ module _ (count : ℕ) (a : Node Text Fault) where
   -- the node with these numbers in a round
   abbrev pub with_round : ℕ → List ℤ → Node Text Fault
   with_round round folded = record a { round = round; folded = folded }
-
-  module _ (finish : Node Text Fault → Node Text Fault) (round : ℕ) (folded : List ℤ) where
-    pub past-next : not (nat_lt round (2 * levels_of count)) ≡ true → finish (with_round round folded) ≡ tree_next count finish (with_round round folded)
-    past-next e = by_case (nat_lt round (2 * levels_of count)) e
-      where
-        by_case : (b : Bool) → not b ≡ true
-            → finish (with_round round folded) ≡ (if b then opened count (tree_sends (levels_of count) round) (λ q. folded) (with_round round folded) else finish (with_round round folded))
-        by_case true e = cc
-        by_case false e = refl
-
-    pub open-next : not (nat_lt round (2 * levels_of count)) ≡ false
-        → opened count (tree_sends (levels_of count) round) (λ q. folded) (with_round round folded) ≡ tree_next count finish (with_round round folded)
-    open-next e = by_case (nat_lt round (2 * levels_of count)) e
-      where
-        by_case : (b : Bool) → not b ≡ false
-            → opened count (tree_sends (levels_of count) round) (λ q. folded) (with_round round folded)
-            ≡ (if b then opened count (tree_sends (levels_of count) round) (λ q. folded) (with_round round folded) else finish (with_round round folded))
-        by_case true e = refl
-        by_case false e = cc
 
   -- ---- verdicts
 

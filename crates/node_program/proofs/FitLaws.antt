@@ -1,6 +1,6 @@
 -- Programs that fit rows, and what keeps them so.
-use Rattle.std.proofs.Common.{◌≡◌, ℕ, zero, suc, ℤ, ◌<◌, ◌≤◌, ◌==◌, Bool, true, nat_le, nat_lt, List, [], ◌∷◌, length, map, get_or, set, Some, option_map, IfSome, refl, sym, ◌∙◌, ap, subst, arith}
-use Rattle.std.proofs.lemmas.Bool.{and_from, and_parts, eqb-true, leb-true, ltb-true}
+use Rattle.std.proofs.Common.{◌≡◌, ℕ, zero, suc, ℤ, ◌<◌, ◌≤◌, Bool, true, nat_le, nat_lt, List, [], ◌∷◌, length, map, get_or, set, Some, option_map, IfSome, refl, sym, ◌∙◌, ap, subst, arith}
+use Rattle.std.proofs.lemmas.Bool.{and_from, and_parts, leb-true, ltb-true}
 use Rattle.std.proofs.lemmas.List.{map-set}
 use Rattle.std.proofs.lemmas.Option.{slice_get-map}
 use Rattle.std.specs.List.{list_all, slice_get}
@@ -29,11 +29,6 @@ use Rattle.node_program.specs.declared.program.NodeProgram.{NodeProgram}
 
 -- ---- one of a list
 
-all-at : {X : Type 0} (p : X → Bool) (xs : List X) (k : ℕ) (d : X) → k < length xs → list_all p xs ≡ true → p (get_or xs k d) ≡ true
-all-at p [] k d lt h = absurd (omega (arith, lt))
-all-at p (x ∷ xs) zero d lt h = (and_parts (p x) (list_all p xs) h).0
-all-at p (x ∷ xs) (suc k) d lt h = all-at p xs k d (omega (arith, lt)) (and_parts (p x) (list_all p xs) h).1
-
 -- one of a list, seen by a map
 all-mapped-at : {X Y : Type 0} (p : Y → Bool) (v : X → Y) (xs : List X) (k : ℕ) (d : X) → k < length xs → list_all p (map v xs) ≡ true → p (v (get_or xs k d)) ≡ true
 all-mapped-at p v [] k d lt h = absurd (omega (arith, lt))
@@ -47,9 +42,6 @@ all-mapped p v xs k x lt e h = ap (λ y. p (v y)) e ∙ all-mapped-at p v xs k x
 -- ---- the table of a new mapping
 
 module _ (tables : List TableView) (k : ℕ) (t : TableView) (lt : k < length tables) (e : t ≡ get_or tables k t) where
-  pub table-nodes : (nodes : ℕ) → list_all (λ t. t.nodes == nodes) tables ≡ true → t.nodes ≡ nodes
-  table-nodes nodes h = eqb-true t.nodes nodes (ap (λ (t : TableView). t.nodes == nodes) e ∙ all-at (λ t. t.nodes == nodes) tables k t lt h)
-
   table-there : slice_get tables k ≡ Some t
   table-there = got tables k lt e
     where

@@ -1,5 +1,5 @@
 -- What a mapping gives a subscript that is in bounds lies inside its lines.
-use Rattle.std.proofs.Common.{◌≡◌, ℕ, zero, suc, ◌<◌, ◌≤◌, ◌==◌, ◌+◌, ◌*◌, ◌||◌, not, nat_lt, Bool, true, false, cond, if◌then◌else◌, ℤ, pos, negsuc, neg_ℤ, ◌+ℤ◌, ◌-ℤ◌, ◌*ℤ◌, ◌≤ℤ◌, unsigned_abs, FitsSigned, List, length, map, get_or, set, All, Some, None, option_map, refl, sym, ◌∙◌, ap, subst, arith, eqb-true, ltb-true}
+use Rattle.std.proofs.Common.{◌≡◌, ℕ, zero, suc, ◌<◌, ◌≤◌, ◌==◌, ◌+◌, ◌*◌, nat_lt, Bool, true, false, cond, if◌then◌else◌, ℤ, pos, negsuc, neg_ℤ, ◌+ℤ◌, ◌-ℤ◌, ◌*ℤ◌, ◌≤ℤ◌, unsigned_abs, FitsSigned, List, length, map, get_or, set, All, Some, None, option_map, refl, sym, ◌∙◌, ap, subst, arith, eqb-true, ltb-true}
 use Rattle.std.proofs.lemmas.Int.{fits_signed_from_abs, ints}
 use Rattle.std.specs.Int.{w64}
 use Rattle.hpf_base.specs.declared.limits.TheConstants.{MAX_BOUND}
@@ -14,7 +14,7 @@ use Rattle.mappings.specs.declared.mapping.AlignDim.{AlignDim}
 use Rattle.mappings.specs.declared.mapping.AlignDim.TheVariants.{Linear, At, Every}
 use Rattle.mappings.specs.declared.mapping.Line.{Line}
 use Rattle.mappings.specs.declared.mapping.Mapping.{Mapping}
-use Rattle.mappings.specs.Alignment.{agrees_at, aligned}
+use Rattle.mappings.specs.Alignment.{aligned}
 use Rattle.mappings.specs.Mapping.{InLine, IsMapping, MapsInside}
 use Rattle.expression_rules.specs.declared.dims.Dim.{Dim}
 use Rattle.expression_rules.specs.Dims.{extent}
@@ -23,7 +23,7 @@ use Rattle.machine_steps.specs.Layout.{Layout, size_of}
 use Rattle.local_address.specs.Runs.{fixed_subscript}
 use Rattle.local_address.proofs.SpanLaws.{fixed-inside, inside_element, moved-inside}
 use Rattle.owner_tables.specs.Layouts.{IsLaid}
-use Rattle.courses.specs.Subscripts.{agrees_along, agrees_alone, in_dim, no_dim, shape_of_dims}
+use Rattle.courses.specs.Subscripts.{in_dim, no_dim, shape_of_dims}
 use Rattle.owned_places.specs.Dims.{LieInside, given_along, given_alone}
 
 -- where a subscript that is in bounds stands
@@ -118,21 +118,6 @@ alone-inside ds m lie =
     by_align line (Linear dim a b) given = tt {0}
     by_align line (At v) given = given
     by_align line Every given = tt {0}
-
--- what an entry tells, by what it gives
-pub agrees-along : (line : Line) (own : ℕ) (align : AlignDim) (k : ℕ) (i : ℤ) → agrees_at line own (given_along k i align) ≡ agrees_along line own align k i
-agrees-along line own (Linear dim a b) k i = by_test (dim == k)
-  where
-    by_test : (t : Bool) → agrees_at line own (cond t (Some ((a *ℤ i) +ℤ b)) None) ≡ (not t || agrees_at line own (Some ((a *ℤ i) +ℤ b)))
-    by_test true = refl
-    by_test false = refl
-agrees-along line own (At v) k i = refl
-agrees-along line own Every k i = refl
-
-pub agrees-alone : (line : Line) (own : ℕ) (align : AlignDim) → agrees_at line own (given_alone align) ≡ agrees_alone line own align
-agrees-alone line own (Linear dim a b) = refl
-agrees-alone line own (At v) = refl
-agrees-alone line own Every = refl
 
 -- from a table
 pub lie-inside : (nodes : ℕ) (layout : Layout) (ds : List Dim) → IsLaid nodes layout → layout.shape ≡ shape_of_dims ds → ((size_of layout ≡ 0) → ⊥) → LieInside ds layout.mapping

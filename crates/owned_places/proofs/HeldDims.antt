@@ -1,7 +1,6 @@
 -- What passes of the subscripts, dimension by dimension.
-use Rattle.std.proofs.Common.{◌≡◌, ℕ, suc, ◌+◌, ◌<◌, ◌==◌, ◌&&◌, ◌||◌, not, Bool, true, false, ℤ, pos, ◌+ℤ◌, ◌*ℤ◌, List, [], ◌∷◌, ◌++◌, length, map, filter, get_or, drop, take, Option, Some, None, refl, sym, ◌∙◌, ap, arith, eq-eqb, ne_eqb}
+use Rattle.std.proofs.Common.{◌≡◌, ℕ, suc, ◌+◌, ◌<◌, ◌==◌, ◌&&◌, ◌||◌, not, Bool, true, false, ℤ, pos, ◌+ℤ◌, ◌*ℤ◌, List, [], ◌∷◌, ◌++◌, length, map, get_or, drop, take, Option, Some, None, refl, sym, ◌∙◌, ap, arith, eq-eqb, ne_eqb}
 use Rattle.std.proofs.lemmas.List.{at_drop_more, drop-map, length-map, length-take-le, map_more}
-use Rattle.std.specs.List.{range_with_len}
 use Rattle.std.specs.Option.{is_some}
 use Rattle.hpf_base.specs.ElementOrder.{extents_of, product}
 use Rattle.hpf_base.specs.Grid.{node_coordinates}
@@ -150,8 +149,3 @@ pub next-course : {H X : Type 0} (f : H → Course) (F : List Course → X) (hs 
     → F (drop k (map f hs)) ≡ F (f (get_or hs k d) ∷ drop (k + 1) (map f hs))
 next-course f F hs k d within =
     ap F (drop-map f k hs ∙ at_drop_more (map f) hs k d within) ∙ ap (λ cs. F (f (get_or hs k d) ∷ cs)) (sym (drop-map f (k + 1) hs))
-
--- one axis more
-pub next-passing : (test : ℕ → ℕ → Bool) (axis : ℕ) (extents : List ℕ) → axis < length extents
-    → passing test axis (drop axis extents) ≡ filter (test axis) (range_with_len 0 (get_or extents axis 0)) ∷ passing test (axis + 1) (drop (axis + 1) extents)
-next-passing test axis extents within = at_drop_more (passing test axis) extents axis 0 within

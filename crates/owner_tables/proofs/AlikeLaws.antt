@@ -112,11 +112,6 @@ module _ (nodes : ℕ) (layout : Layout) (laid : IsLaid nodes layout) where
   leader-of-owner : (node at : ℕ) → at < size_of layout → owned_by layout node at ≡ true → least_at nodes layout at ≡ leader layout.mapping nodes node
   leader-of-owner node at below h = first-agree _ _ 0 nodes (λ k from upto. alike-owned at node k below h)
 
-  pub leader-below : (node : ℕ) → node < nodes → leader layout.mapping nodes node < nodes
-  leader-below node within =
-      let lead = first-passes (is_alike layout.mapping node) 0 nodes node (omega arith) (omega arith) (alike-self layout.mapping node) in
-      omega (arith, lead.1)
-
   module _ (dealt : (at : ℕ) → at < size_of layout → owned_by layout (least_at nodes layout at) at ≡ true) where
     -- the nodes alike to the least owner are the owners
     pub owners-alike : (at : ℕ) → at < size_of layout

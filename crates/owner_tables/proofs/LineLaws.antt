@@ -15,17 +15,6 @@ with_line-past row at step [] past = refl
 with_line-past row at step (value ∷ values) past =
     ap (λ r. with_line r (at + step) step values) (set_past row at value past) ∙ with_line-past row (at + step) step values (omega (arith, past))
 
--- a value after the others is put at their end
-pub with_line-more : (row : List ℤ) (at step : ℕ) (values : List ℤ) (value : ℤ)
-    → with_line row at step (values ++ value ∷ []) ≡ set (with_line row at step values) (at + length values * step) value
-with_line-more row at step [] value = let here : at ≡ at + 0 * step = omega arith in ap (λ n. set row n value) here
-with_line-more row at step (v ∷ values) value =
-    with_line-more (set row at v) (at + step) step values value
-    ∙ ap (λ n. set (with_line (set row at v) (at + step) step values) n value) (further (length values))
-  where
-    further : (n : ℕ) → at + step + n * step ≡ at + suc n * step
-    further n = omega arith
-
 -- ---- one place after the other
 
 with_line-append : (row : List ℤ) (at step : ℕ) (one other : List ℤ)

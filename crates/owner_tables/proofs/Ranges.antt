@@ -1,7 +1,6 @@
 -- The first number of a range that passes, and how many of its numbers pass.
-use Rattle.std.proofs.Common.{◌≡◌, ℕ, zero, suc, ◌+◌, ◌<◌, ◌≤◌, ◌⊎◌, inl, inr, length, Bool, true, false, if◌then◌else◌, ℤ, List, [], ◌∷◌, ◌++◌, Some, get_or, set, replicate, map, filter, find, refl, sym, ◌∙◌, ap, arith}
+use Rattle.std.proofs.Common.{◌≡◌, ℕ, zero, suc, ◌+◌, ◌<◌, ◌≤◌, ◌⊎◌, inl, inr, length, Bool, true, false, if◌then◌else◌, ℤ, List, [], ◌∷◌, ◌++◌, get_or, set, replicate, map, filter, refl, sym, ◌∙◌, ap, arith}
 use Rattle.std.proofs.lemmas.Bool.{cases_eq}
-use Rattle.std.proofs.lemmas.Option.{same_Some}
 use Rattle.std.proofs.lemmas.List.Elements.{filter-append}
 use Rattle.std.specs.List.{range_with_len}
 use Rattle.hpf_base.proofs.Ranges.{range_with_len-add}
@@ -37,15 +36,6 @@ filter-range_push P xs ys n pushed made =
     ∙ ap (λ k. filter P (range_with_len 0 n ++ k ∷ [])) at ∙ ap (filter P) (sym (range_with_len-add 0 n 1))
 
 -- ---- the first number that passes
-
-pub first-found : (P : ℕ → Bool) (lo len n : ℕ) → find P (range_with_len lo len) ≡ Some n → first P lo len ≡ n
-first-found P lo zero n is = cc
-first-found P lo (suc len) n is = by_test (P lo) (first-found P (lo + 1) len n) is
-  where
-    by_test : (b : Bool) → (find P (range_with_len (lo + 1) len) ≡ Some n → first P (lo + 1) len ≡ n)
-        → (if b then Some lo else find P (range_with_len (lo + 1) len)) ≡ Some n → (if b then lo else first P (lo + 1) len) ≡ n
-    by_test true ih e = same_Some lo n e
-    by_test false ih e = ih e
 
 pub first-passes : (P : ℕ → Bool) (lo len n : ℕ) → lo ≤ n → n < lo + len → P n ≡ true → (P (first P lo len) ≡ true) × (first P lo len < lo + len)
 first-passes P lo zero n from below passes = absurd (omega arith)

@@ -14,19 +14,7 @@ use Rattle.owner_tables.specs.Columns.{ColumnView, address_at, extents_along, pa
 use Rattle.owner_tables.specs.Stretches.{AreEven, IsStretch}
 use Rattle.owner_tables.proofs.TableLaws.{AreLooked}
 
-nothing : (n k step : ℕ) → k ≡ 0 → n + k * step ≡ n
-nothing n k step none = let no_steps : k * step ≡ 0 * step = ap (λ j. j * step) none in omega (arith, no_steps)
-
 -- ---- places
-
--- the first alone
-pub even-none : (places : List Place) (number step others apart : ℕ) → others ≡ 0 → AreEven places number step others apart
-even-none places number step others apart none k few =
-    let first : k ≡ 0 = omega (arith, few, none) in
-    let here = nothing number k step first in (
-      ap (λ n. (place_of places n).part) here,
-      ap (λ n. (place_of places n).rank) here ∙ sym (nothing (place_of places number).rank k apart first),
-    )
 
 -- one more
 pub even-more : (places : List Place) (number step done apart : ℕ) → AreEven places number step done apart
@@ -46,15 +34,6 @@ even-more places number step done apart so part rank k few = by_case (cases_lt d
     by_case (inr before) = so k before
 
 -- ---- elements
-
--- the first alone
-pub stretch-none : (columns : List ColumnView) (node at step apart : ℕ) → at < product (extents_along columns) → IsStretch columns node at step 0 apart
-stretch-none columns node at step apart inside = record {
-  inside = λ k few. let here = nothing at k step (omega (arith, few)) in omega (arith, here, inside);
-  parts = λ k few. ap (parts_at columns) (nothing at k step (omega (arith, few)));
-  addresses = λ k few.
-      ap (address_at node columns) (nothing at k step (omega (arith, few))) ∙ sym (nothing (address_at node columns at) k apart (omega (arith, few)));
-}
 
 module _ (column : ColumnView) (columns : List ColumnView) (node at : ℕ) (some : 1 ≤ column.extent) (within : at < product (extents_along (column ∷ columns))) where
   pub rest-inside : at / column.extent < product (extents_along columns)

@@ -1,7 +1,7 @@
 -- Columns with one dimension more.
-use Rattle.std.proofs.Common.{◌≡◌, ℕ, ◌+◌, ◌*◌, ◌<◌, ◌≤◌, ℤ, pos, ◌+ℤ◌, ◌==◌, Option, map, List, [], ◌∷◌, ◌++◌, sym, ◌∙◌, ap, append_assoc, subst, arith, length, get_or, replicate, drop, All, unsigned_abs}
+use Rattle.std.proofs.Common.{◌≡◌, ℕ, ◌+◌, ◌*◌, ◌<◌, ◌≤◌, ℤ, pos, ◌+ℤ◌, ◌==◌, Option, map, List, [], ◌∷◌, ◌++◌, sym, ◌∙◌, ap, append_assoc, subst, arith, length, get_or, drop, All, unsigned_abs}
 use Rattle.std.proofs.Math.Nat.{mul-le-mul_left, mul-le-mul_right}
-use Rattle.std.proofs.lemmas.List.{drop_more, get_or-replicate, length-map, length-replicate}
+use Rattle.std.proofs.lemmas.List.{drop_more, length-map}
 use Rattle.std.proofs.lemmas.List.Elements.{All-drop}
 use Rattle.std.proofs.lemmas.List.FromFn.{get_or-map-range_with_len, length-map-range_with_len}
 use Rattle.std.specs.List.{range_with_len}
@@ -59,11 +59,6 @@ next-few mapping lower es dim most strides same within few k d below =
     count-few (λ place. coordinate_on axis (lower +ℤ pos place) == own_on (node_coordinates mapping.grid k) axis) extent in
     let grows : s * owned k * rest ≤ s * extent * rest = mul-le-mul_right rest (mul-le-mul_left s count) in
     subst (λ n. n * rest ≤ most) (sym is) (omega (arith, grows, product-drop_more es s dim within, few k 0 (omega (arith, inside, same))))
-
-pub ones-few : (es : List ℕ) (nodes most : ℕ) → product es ≤ most → All (λ s. s * product (drop 0 es) ≤ most) (replicate nodes 1)
-ones-few es nodes most few k d below =
-    let one : get_or (replicate nodes 1) k d ≡ 1 = get_or-replicate nodes k 1 d (omega (arith, below, length-replicate {A = ℕ} nodes 1)) in
-    subst (λ s. s * product es ≤ most) (sym one) (omega (arith, few))
 
 module _ (mapping : Mapping) (lower : List ℤ) (es : List ℕ) (dim : ℕ) (within : dim < length es) where
   -- the columns that are left, with one more

@@ -8,7 +8,7 @@ use Rattle.crossbeam_queue.proofs.Lists.{at_set, at_snoc}
 use Rattle.pair_mailbox.specs.declared.route.Route.{Route}
 use Rattle.letters.specs.declared.letter.Letter.{Letter}
 use Rattle.pair_mailbox.specs.declared.rule.View.{View}
-use Rattle.pair_mailbox.specs.Rule.{whole, sender, taker, idle, no_route, IsNextLetter, AreNumbered, IsAfter, Knows, Carries}
+use Rattle.pair_mailbox.specs.Rule.{whole, sender, taker, idle, no_route, IsNextLetter, AreNumbered, Knows, Carries}
 
 abbrev All : (ℕ → View → Type 0) → List View → Type 0
 All F views = (seat : ℕ) (v : View) → get_elem? views seat ≡ some v → F seat v
@@ -158,9 +158,3 @@ closes seat v other u a b items views h at two at' = let w : View = whole v.rout
       knows = all_set (Knows h.writer seat h.route h.sent h.taken) vs other idle ((λ p. absurd (true≢false (sym p))), λ p. absurd (true≢false (sym p)))
           (λ j y apart e. now j y e apart);
     }
-
-pub totals : (seat : ℕ) (v : View) → v.sends ≡ true → v.takes ≡ true → Learns Carries seat v (λ items. IsAfter v.taken v.sent items × AreNumbered v.route v.sent)
-totals seat v a b items views h at = let m = h.knows seat v at in (
-  subst (λ (y : List Letter × List Letter). IsAfter y.0 y.1 items) (λ i. (sym (m.1 b).2 i, sym (m.0 a).2 i)) h.after,
-  subst (λ (y : Route × List Letter). AreNumbered y.0 y.1) (λ i. (sym (m.0 a).1 i, sym (m.0 a).2 i)) h.numbered,
-)

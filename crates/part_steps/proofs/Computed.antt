@@ -1,7 +1,7 @@
 -- The tuples that a node computes, one after the other.
 use Rattle.std.proofs.Common.{◌≡◌, ℕ, zero, suc, ◌+◌, ◌<◌, ℤ, Bool, true, false, List, [], ◌∷◌, ◌++◌, All, ◌≤◌, length, map, take, drop, filter, get_or, Option, Some, None, if◌then◌else◌, refl, sym, ◌∙◌, ap, arith, subst}
 use Rattle.std.proofs.Math.Nat.{min-le_right}
-use Rattle.std.proofs.lemmas.List.{drop_more, drop-drop, length-drop, length-take, take-append-drop}
+use Rattle.std.proofs.lemmas.List.{drop-drop, length-drop, length-take, take-append-drop}
 use Rattle.std.proofs.lemmas.List.Elements.{All-drop, All-take, filter_passes}
 use Rattle.std.specs.List.{range_with_len}
 use Rattle.storage.specs.Storage.{Storage}
@@ -25,11 +25,6 @@ module _ {S : Type 0} (step : ℕ → S → S) where
   pub over-append : (xs ys : List ℕ) (s : S) → over step (xs ++ ys) s ≡ over step ys (over step xs s)
   over-append [] ys s = refl
   over-append (x ∷ xs) ys s = over-append xs ys (step x s)
-
-  -- one item more
-  pub over-next : (xs : List ℕ) (i x : ℕ) (before after whole : S) → i < length xs → x ≡ get_or xs i x → after ≡ step x before → over step (drop i xs) before ≡ whole → over step (drop (i + 1) xs) after ≡ whole
-  over-next xs i x before after whole lt is stepped so_far =
-      ap (over step (drop (i + 1) xs)) stepped ∙ ap (λ y. over step (drop (i + 1) xs) (step y before)) is ∙ ap (λ l. over step l before) (sym (drop_more xs i x lt)) ∙ so_far
 
   -- a run of items more
   pub over-run : (xs : List ℕ) (done : ℕ) (run : List ℕ) (before after whole : S) → run ≡ take (length run) (drop done xs) → after ≡ over step run before

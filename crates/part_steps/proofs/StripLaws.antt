@@ -1,9 +1,8 @@
 -- Strips of the tuples that a node computes, and what is written to lines.
-use Rattle.std.proofs.Common.{◌≡◌, ℕ, zero, suc, ◌+◌, ◌-◌, ◌*◌, ◌<◌, ◌≤◌, ◌⊎◌, inl, inr, true, List, [], ◌∷◌, ◌++◌, length, map, take, drop, get_or, set, ℤ, pos, Option, Some, None, if◌then◌else◌, refl, sym, ◌∙◌, ap, subst, arith, add-one, get_or-set_same, Result, Ok, Err, OnOk}
+use Rattle.std.proofs.Common.{◌≡◌, ℕ, zero, suc, ◌+◌, ◌-◌, ◌*◌, ◌<◌, ◌≤◌, true, List, [], ◌∷◌, ◌++◌, length, map, take, drop, get_or, set, ℤ, pos, Option, Some, None, if◌then◌else◌, refl, sym, ◌∙◌, ap, subst, arith, add-one, get_or-set_same, Result, Ok, Err, OnOk}
 use Rattle.std.specs.List.{range_with_len}
 use Rattle.std.specs.Prelude.{option_map, slice_index_or}
 use Rattle.std.proofs.Math.Seq.{take-suc}
-use Rattle.std.proofs.lemmas.Bool.{cases_lt}
 use Rattle.std.proofs.lemmas.List.{drop-drop, drop_all, drop_more, get_or-drop, length-drop, length-set, length-take-le, set-get_or, set-set, set_past, take-append-drop}
 use Rattle.std.proofs.lemmas.List.FromFn.{map-range_with_len_more}
 use Rattle.storage.specs.Storage.{Storage, Spot, row_of, write}
@@ -200,23 +199,6 @@ module _ (row step : ℕ) where
   no-row-stored (v ∷ vs) at m le = no-row-stored vs (at + step) m le ∙ ap (line_stored row (at + step) step vs) (sym (set_past m row (set (row_of m row) at v) le))
 
 -- ---- tuples at equal distances
-
-pub times-next : (c s : ℕ) → 1 ≤ c → (c - 1) * s + s ≡ c * s
-times-next c s some =
-    let is : c ≡ (c - 1) + 1 = omega (arith, some) in
-    let more : ((c - 1) + 1) * s ≡ (c - 1) * s + s = omega arith in
-    sym more ∙ ap (λ c. c * s) (sym is)
-
--- one tuple more
-pub one-more : (f : ℕ → ℕ) (from first step count last next : ℕ) → 1 ≤ count → last ≡ first + (count - 1) * step → next ≡ f (from + count) → last ≤ next → next - last ≡ step
-    → ((k : ℕ) → k < count → f (from + k) ≡ first + k * step) → (k : ℕ) → k < count + 1 → f (from + k) ≡ first + k * step
-one-more f from first step count last next some is here up apart before k lt = by (cases_lt k count) where
-  by : (k < count) ⊎ (count ≤ k) → f (from + k) ≡ first + k * step
-  by (inl low) = before k low
-  by (inr high) =
-      let e : k ≡ count = omega (arith, lt, high) in
-      let more = times-next count step some in
-      ap (λ k. f (from + k)) e ∙ sym here ∙ omega (arith, is, up, apart, more) ∙ ap (λ k. first + k * step) (sym e)
 
 -- ---- results
 

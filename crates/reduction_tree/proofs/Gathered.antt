@@ -136,10 +136,6 @@ module _ {T : Type 0} (IsValue : T → Type 0) (join : T → T → T) (unit : T)
   pub fold-both : (xs ys : List T) → Values xs → Values ys → fold join unit (xs ++ ys) ≡ join (fold join unit xs) (fold join unit ys)
   fold-both xs ys f g = fold-append join unit xs ys ∙ fold-from (fold join unit xs) ys (folded-value unit xs joins.unit_in f) g
 
-  pub values-of : (items : ℕ → T) (lo len : ℕ) → ((p : ℕ) → p < lo + len → IsValue (items p)) → Values (map items (range_with_len lo len))
-  values-of items lo zero each = tt
-  values-of items lo (suc len) each = (each lo (omega arith), values-of items (lo + 1) len (λ p lt. each p (omega arith)))
-
   module _ (nodes : ℕ) (items : ℕ → T) (each : (p : ℕ) → p < nodes → IsValue (items p)) where
     -- a node has its items joined
     pub record Has (k p : ℕ) : Type 0 where

@@ -54,9 +54,6 @@ same-side false f = refl
 
 -- ---- an exchange
 
-pub exchange-none : (nodes n : ℕ) (f : Colors) (x a b : ℕ) → n ≡ 0 → exchange nodes n f x a b ≡ f
-exchange-none nodes n f x a b is = ap (λ k. exchange nodes k f x a b) is
-
 pub exchange-end : (nodes n m : ℕ) (f : Colors) (x a b y : ℕ) → n ≡ suc m → y ≡ mate nodes f x a → nodes ≤ y → exchange nodes n f x a b ≡ f
 exchange-end nodes n m f x a b y is found above =
     ap (λ k. exchange nodes k f x a b) is
@@ -70,11 +67,6 @@ exchange-next nodes n m f x a b y is found below =
     ∙ ap (λ z. exchange_edge (λ g. exchange nodes m g z b a) f x z b) (sym found)
 
 -- ---- one edge more
-
-pub color_edge-shared : (nodes n d : ℕ) (f : Colors) (x y c : ℕ) → c ≡ free_at_both nodes d f x y → c < d → color_edge nodes n d f (x, y) ≡ put f x y (Some c)
-color_edge-shared nodes n d f x y c is below =
-    ap (λ t. if t then put f x y (Some (free_at_both nodes d f x y)) else color_by_exchange nodes n d f x y) (lt-ltb (free_at_both nodes d f x y) d (omega arith))
-    ∙ ap (λ k. put f x y (Some k)) (sym is)
 
 pub color_edge-by_exchange : (nodes n d : ℕ) (f : Colors) (x y c : ℕ) → c ≡ free_at_both nodes d f x y → d ≤ c → color_edge nodes n d f (x, y) ≡ color_by_exchange nodes n d f x y
 color_edge-by_exchange nodes n d f x y c is above =

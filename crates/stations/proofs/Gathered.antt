@@ -1,5 +1,5 @@
 -- Stations that have ended, taken apart one after the other, and their queues closed.
-use Rattle.std.proofs.Common.{◌≡◌, ℕ, ◌+◌, ◌*◌, ◌<◌, List, [], ◌∷◌, ◌++◌, length, map, sym, refl, ap, ◌∙◌, subst, ⊎_elim, append-nil}
+use Rattle.std.proofs.Common.{◌≡◌, ℕ, ◌+◌, ◌*◌, ◌<◌, List, [], ◌∷◌, ◌++◌, length, map, sym, ap, ◌∙◌, subst, ⊎_elim, append-nil}
 use Rattle.std.specs.Prelude.{Some, slice_get, All}
 use Rattle.std.proofs.lemmas.List.{length-map, map-append, nil_from_length}
 use Rattle.std.proofs.lemmas.Option.{slice_get_within, get_or_from_slice_get}
@@ -26,9 +26,6 @@ module _ {N : Type 0} (S : NodeSteps N Letter) where
     pub nodes_are : nodes ≡ map (λ s. s.node) ss
     pub outs_are : outs ≡ map (λ s. s.outs) ss
     pub ins_are : ins ≡ map (λ s. s.ins) ss
-
-  pub gathered_none : AreGathered [] [] [] []
-  gathered_none = record { each = λ p s e. cc; nodes_are = refl; outs_are = refl; ins_are = refl }
 
   pub gathered_more : {ss : List (StationState N)} {nodes nodes' : List N} {outs outs' : List (List Outgoing)} {ins ins' : List (List Incoming)}
       (s : StationState N) (n : N) (o : List Outgoing) (i : List Incoming)
@@ -90,12 +87,6 @@ module _ {N : Type 0} (S : NodeSteps N Letter) where
 
     as_many : length outs ≡ length ss
     as_many = ap length h.outs_are ∙ length-map ss (λ s. s.outs)
-
-    pub nodes_count : length nodes ≡ length ss
-    nodes_count = ap length h.nodes_are ∙ length-map ss (λ s. s.node)
-
-    pub closed_count : length closed ≡ length ss * length ss
-    closed_count = pairs.many ∙ ap (λ k. k * k) as_many
 
     module _ (from : List N) (joined : AreJoined from (map fixed ss)) where
       pub ends : Lockstep S (slice_get from) → EndsInLockstep S (start from) nodes

@@ -1,5 +1,5 @@
 -- Stations that are opened one after the other over the ends of all pairs.
-use Rattle.std.proofs.Common.{◌≡◌, ℕ, ◌+◌, List, [], ◌∷◌, ◌++◌, length, map, sym, refl, ap, ◌∙◌, subst, ⊎_elim, length-append, append_assoc, append-nil, arith}
+use Rattle.std.proofs.Common.{◌≡◌, ℕ, ◌+◌, List, [], ◌∷◌, ◌++◌, length, map, sym, ap, ◌∙◌, subst, ⊎_elim, length-append, append_assoc, append-nil, arith}
 use Rattle.std.specs.Prelude.{Some, slice_get}
 use Rattle.std.proofs.lemmas.List.{length-map, map-append, nil_from_length}
 use Rattle.atomic_table.specs.Seated.{TableId}
@@ -18,9 +18,6 @@ pub record AreOpened {N : Type 0} (count : ℕ) (from : List N) (outs_left : Lis
   pub ins_are : ins ≡ map (λ s. s.ins) ss ++ ins_left
   pub openings : from ≡ map (λ s. s.opening) ss
   pub numbered : (p : ℕ) (s : StationState N) → slice_get ss p ≡ Some s → s.id ≡ p
-
-pub opened_none : {N : Type 0} (count : ℕ) (outs : List (List Outgoing)) (ins : List (List Incoming)) → AreOpenPairs count outs ins → AreOpened {N = N} count [] outs ins []
-opened_none count outs ins h = record { outs = outs; ins = ins; pairs = h; outs_are = refl; ins_are = refl; openings = refl; numbered = λ p s e. cc }
 
 module _ {N : Type 0} {count : ℕ} {from : List N} {ol : List (List Outgoing)} {il : List (List Incoming)} {ss : List (StationState N)} (h : AreOpened count from ol il ss) where
   abbrev outs_of : List (StationState N) → List (List Outgoing)

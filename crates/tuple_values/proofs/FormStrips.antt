@@ -10,7 +10,7 @@ use Rattle.op_tables.specs.declared.op.Op.{Op}
 use Rattle.expression_rules.specs.declared.dims.Dim.{Dim}
 use Rattle.storage.specs.Storage.{Spot}
 use Rattle.array_meaning.specs.Elementals.{operated}
-use Rattle.array_meaning.specs.Faults.{Cause, ◌>>=◌, with_more}
+use Rattle.array_meaning.specs.Faults.{◌>>=◌, with_more}
 use Rattle.array_meaning.specs.Sections.{subscripts_at}
 use Rattle.array_meaning.specs.State.{element_place, if_in_bounds}
 use Rattle.node_code.specs.Flat.{Flat}
@@ -22,11 +22,10 @@ use Rattle.node_code.specs.Texts.{form, subs}
 use Rattle.code_meaning.specs.Parallel.{reads_at, all_reads_at, shape_of}
 use Rattle.courses.specs.Entries.{axes_in}
 use Rattle.strip_operators.specs.Operated.{AreOfOne, AreOfTwo, AreWithNumber}
-use Rattle.strip_operators.specs.Strips.{IsStrip}
 use Rattle.tuple_values.specs.declared.strips.ElementLine.{ElementLine}
 use Rattle.tuple_values.specs.declared.strips.Strip.{Strip}
 use Rattle.tuple_values.specs.Fixed.{IsFixed, IsFixedForm}
-use Rattle.tuple_values.specs.FormStrips.{FlatValues, FormReads, FormValues, IsFormStrip, all_section_counts, entries_in_strip, form_in_strip, seen_in_strip, section_count, value_in_strip}
+use Rattle.tuple_values.specs.FormStrips.{FormReads, FormValues, IsFormStrip, all_section_counts, entries_in_strip, form_in_strip, seen_in_strip, section_count, value_in_strip}
 use Rattle.tuple_values.specs.declared.form_strips.SplitLines.{SplitLines}
 use Rattle.tuple_values.specs.SplitLines.{AreSplit}
 use Rattle.tuple_values.specs.Statements.{Statement}
@@ -89,9 +88,6 @@ module _ (get : Spot → ℤ) where
   section-value (Some q) a spot is = ap (λ s. Ok (get s)) (same_Some _ spot is)
 
 module _ (w : Statement) (s : Strip) (get : Spot → ℤ) where
-  pub flat_values : (f : Flat) (ls : List ElementLine) (vs : List ℤ) → FlatValues w s get f vs → IsFormStrip w s get (FlatForm f) ls vs
-  flat_values f ls vs values = record { count = values.0; values = λ reads. (values.0, λ k lt. ap (λ r. Ok (or_zero r)) (values.1 k lt)) }
-
   pub line_values : (l : ElementLine) (vs : List ℤ) → vs ≡ map (λ k. get (line_spot l k)) (range_with_len 0 s.count) → (a : ℕ) (ds : List Sub)
       → IsFormStrip w s get (SectionForm a ds) (l ∷ []) vs
   line_values l vs is a ds = record { count = count; values = λ reads. (count, at reads) } where

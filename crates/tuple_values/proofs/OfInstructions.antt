@@ -1,5 +1,5 @@
 -- The parallel statements that instructions are.
-use Rattle.std.proofs.Common.{◌≡◌, ℕ, zero, suc, ◌+◌, List, [], ◌∷◌, ◌++◌, length, drop, ℤ, pos, Bool, true, false, ◌&&◌, Option, Some, None, Result, Ok, refl, sym, ap, ◌∙◌, subst, append-nil, arith, slice_index_or, option_map}
+use Rattle.std.proofs.Common.{◌≡◌, ℕ, zero, suc, ◌+◌, List, [], ◌∷◌, ◌++◌, length, drop, ℤ, pos, Bool, true, false, ◌&&◌, Option, Some, None, Result, Ok, refl, sym, ap, ◌∙◌, subst, append-nil, arith, slice_index_or}
 use Rattle.std.specs.Prelude.{option_to_list}
 use Rattle.op_tables.specs.declared.reductions.Made.{Made}
 use Rattle.op_tables.specs.Operators.{is_true}
@@ -12,13 +12,11 @@ use Rattle.array_meaning.specs.Sections.{extents, subscripts_at}
 use Rattle.machine_steps.specs.Instr.{Outcome}
 use Rattle.node_code.specs.Forms.{ArrayForm}
 use Rattle.code_meaning.specs.Forms.{selections_in, elemental_at}
-use Rattle.node_code.specs.NestStatements.{NestLeft, ElementLeft, CopyLeft, NestStatement}
-use Rattle.code_meaning.specs.NestStatements.{are_asked, form_value, left_row, nest_elemental, nest_place, nest_spot, nest_tuples, role_made, when_spots}
+use Rattle.code_meaning.specs.NestStatements.{are_asked, nest_elemental, when_spots}
 use Rattle.node_code.specs.Parallel.{Assignment, Evaluation, When}
-use Rattle.code_meaning.specs.Parallel.{as_asked, at_line, is_asked, made_outcome, outcome_if, outcome_of, mask_reads, shape_of, reads_at, value_by_reads, values_by_reads, assigned_spot, assignment_tuples, copy_spot, evaluation_tuples, forall_mask_tuples, forall_spot, forall_tuples, reduction_tuples}
+use Rattle.code_meaning.specs.Parallel.{as_asked, at_line, is_asked, outcome_if, outcome_of, mask_reads, shape_of, reads_at, value_by_reads, values_by_reads, assigned_spot, assignment_tuples, copy_spot, evaluation_tuples, forall_mask_tuples, forall_spot, forall_tuples, reduction_tuples}
 use Rattle.courses.specs.Entries.{axes_in, entries_in}
-use Rattle.tuple_values.specs.Statements.{Statement, Target, Nowhere, InCopy, InSection, ByIndices, IsStatement, left_in, no_left, outcome_made_by, place_in, tuple_outcome, tuple_value}
-use Rattle.tuple_values.specs.Targets.{nest_target}
+use Rattle.tuple_values.specs.Statements.{Statement, Target, Nowhere, InCopy, InSection, ByIndices, IsStatement, no_left, outcome_made_by, place_in, tuple_outcome, tuple_value}
 use Rattle.tuple_values.proofs.NestForms.{sees_axes}
 
 -- ---- masks of which there are none or one
@@ -200,46 +198,4 @@ module _ (shapes : List (List Dim)) (slots : List ℤ) where
       reduction_is m is indices =
           subst (λ w. IsStatement w slots (reduction_tuples shapes p m) no_left)
           (sym (is ∙ (λ i. evaluating (over i) (indices i) Nowhere (Some m)))) (reduction-is m)
-
-  -- ---- statements of nests
-
-  module _ (p : NestStatement) where
-    -- one over a space, with what is assigned
-    abbrev pub nesting : List ℕ → Option (List Selection) → Target → Statement
-    nesting ns ix target = record {
-      shapes = shapes;
-      slots = slots;
-      line = p.line;
-      extents = ns;
-      indices = ix;
-      whens = p.whens;
-      copies = p.copies;
-      located = false;
-      target = target;
-      form = p.right;
-      made = Some (role_made p.role);
-    }
-
-    left-place : (left : NestLeft) (t : ℕ) → place_in shapes slots (Some (selections_in slots p.over)) (extents (selections_in slots p.over)) (nest_target left) t
-        ≡ nest_place shapes p.over left slots t
-    left-place (ElementLeft a ds) t = refl
-    left-place (CopyLeft row) t = refl
-
-    left-spot : (left : NestLeft) (place : Option ℕ) → left_in (nest_target left) place ≡ option_map (λ k. record { row = left_row shapes p.over left; at = k }) place
-    left-spot (ElementLeft a ds) place = refl
-    left-spot (CopyLeft row) place = refl
-
-    nest-is : IsStatement (nesting (extents (selections_in slots p.over)) (Some (selections_in slots p.over)) (nest_target p.left)) slots
-        (nest_tuples shapes p) (nest_spot shapes p)
-    nest-is = record {
-      count = refl;
-      reads = λ t. refl;
-      outcome = λ t values. ap (λ place. made_outcome (role_made p.role) (outcome_if (are_asked p.whens values) (at_line p.line (if_in_bounds place
-          >>= (λ k. form_value shapes p.over p.copies p.right slots t (drop (length p.whens) values)))))) (left-place p.left t);
-      left = λ t. left-spot p.left _ ∙ ap (option_map (λ k. record { row = left_row shapes p.over p.left; at = k })) (left-place p.left t);
-    }
-
-    pub nest_is : (w : Statement) (ns : List ℕ) (ix : Option (List Selection)) (target : Target) → w ≡ nesting ns ix target → ns ≡ extents (selections_in slots p.over)
-        → ix ≡ Some (selections_in slots p.over) → target ≡ nest_target p.left → IsStatement w slots (nest_tuples shapes p) (nest_spot shapes p)
-    nest_is w ns ix target is over indices left =
-        subst (λ w. IsStatement w slots (nest_tuples shapes p) (nest_spot shapes p)) (sym (is ∙ (λ i. nesting (over i) (indices i) (left i)))) nest-is
+      -- ---- statements of nests

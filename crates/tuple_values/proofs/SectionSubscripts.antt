@@ -1,5 +1,5 @@
 -- The subscripts of a section's element, one after the other.
-use Rattle.std.proofs.Common.{◌≡◌, List, [], ◌∷◌, ◌++◌, ℤ, refl, ap, sym, ◌∙◌, append_assoc}
+use Rattle.std.proofs.Common.{◌≡◌, List, [], ◌∷◌, ℤ, refl, ap, ◌∙◌}
 use Rattle.array_meaning.specs.Sections.{subscripts_at}
 use Rattle.node_code.specs.Forms.{Sub, SubAt, SubAlong}
 use Rattle.code_meaning.specs.Forms.{selections_at}
@@ -24,16 +24,6 @@ module _ (slots axes : List ℤ) where
   two_are d e x y i j is after js =
       ap (λ i. i ∷ j ∷ []) is ∙ ap (λ js. subscript_at (selection_at slots axes d) x ∷ js) (one_is e y j js)
       ∙ ap (λ y. subscript_at (selection_at slots axes d) x ∷ subscripts_at (selections_at slots axes (e ∷ [])) y) after ∙ next d (e ∷ []) x
-
-  -- one subscript more
-  pub one_more : (is : List ℤ) (d : Sub) (ds : List Sub) (x y : List ℤ) (i : ℤ) → i ≡ subscript_at (selection_at slots axes d) x
-      → y ≡ positions_after (selection_at slots axes d) x
-      → is ++ subscripts_at (selections_at slots axes (d ∷ ds)) x ≡ (is ++ i ∷ []) ++ subscripts_at (selections_at slots axes ds) y
-  one_more is d ds x y i here after =
-      ap (λ js. is ++ js) (sym (next d ds x))
-      ∙ ap (λ i. is ++ i ∷ subscripts_at (selections_at slots axes ds) (positions_after (selection_at slots axes d) x)) (sym here)
-      ∙ ap (λ y. is ++ i ∷ subscripts_at (selections_at slots axes ds) y) (sym after)
-      ∙ sym (append_assoc is (i ∷ []) (subscripts_at (selections_at slots axes ds) y))
 
 -- two subscripts by the numbers of tuples
 pub numbered_two : (d e : Selection) (x y : List ℤ) (i j : ℤ) → i ≡ subscript_at d x → y ≡ positions_after d x → j ≡ subscript_at e y

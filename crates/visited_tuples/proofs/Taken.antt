@@ -71,11 +71,6 @@ taking-beyond computes nodes ns id lists beside layouts rs b ts own lie within b
     outside true is owns theirs = sym theirs ∙ owns is
     outside false is owns theirs = refl
 
--- where it computes nothing it takes nothing
-pub taking-none : (computes : (node tuple : ℕ) → Bool) (nodes : ℕ) (ns : List ℕ) (id : ℕ) (beside : List ℕ) (layouts : List Layout) (rs : List Named)
-    → IsOwn computes nodes ns id None beside → IsTaking computes layouts ns rs id []
-taking-none computes nodes ns id beside layouts rs own = taking-all computes nodes ns id None beside own layouts rs
-
 -- where it owns all elements of the rows that are read it takes nothing
 pub taking-nothing : (computes : (node tuple : ℕ) → Bool) (ns : List ℕ) (id : ℕ) (layouts : List Layout) (rs : List Named)
     → All (OwnsRow ns layouts id) rs → IsTaking computes layouts ns rs id []

@@ -1,11 +1,11 @@
 -- What a statement comes to over whole arrays is what its instruction does.
-use Rattle.std.proofs.Common.{◌≡◌, ℕ, ℤ, zero, suc, ◌≤◌, List, map, Option, None, refl, sym, ◌∙◌, arith}
+use Rattle.std.proofs.Common.{◌≡◌, ℕ, ℤ, List, map, Option, None, sym, ◌∙◌}
 use Rattle.op_tables.specs.declared.join.Join.{Join}
 use Rattle.storage.specs.Storage.{Spot, read}
 use Rattle.storage.specs.Effect.{scatter}
 use Rattle.array_meaning.specs.Faults.{Fault}
-use Rattle.machine_steps.specs.Instr.{Fold, Tuples}
-use Rattle.machine_steps.specs.Machine.{Machine, earlier, effect_by, effect_of, folded, keep, outcome_of, reduce_step, set_slot, value_by}
+use Rattle.machine_steps.specs.Instr.{Tuples}
+use Rattle.machine_steps.specs.Machine.{Machine, earlier, effect_by, effect_of, folded, keep, outcome_of, value_by}
 use Rattle.code_meaning.specs.Parallel.{fold_of}
 use Rattle.code_meaning.specs.ProgramText.{Text}
 use Rattle.tuple_values.specs.Statements.{IsStatement, Statement, tuple_count, tuple_reads}
@@ -25,10 +25,3 @@ module _ (m : Machine Text Fault) (w : Statement) (tuples : Tuples Fault) (left 
 
   pub joined-is : (op : Join) → folded (fold_of op) (outcome_at m.rows w) (tuple_count w) ≡ folded (fold_of op) (outcome_of tuples m.control.slots (read m.rows)) (tuples.count m.control.slots)
   joined-is op = λ i. folded (fold_of op) (λ t. outcome-is t i) (is.count i)
-
--- the last step of a reduction
-pub reduce-ended : {C F : Type 0} (k : ℕ) (tuples : Tuples F) (f : Fold) (slot : ℕ) (m : Machine C F) → 2 ≤ k
-    → record m { control = set_slot m.control slot m.joined; substep = 0 } ≡ reduce_step k tuples f slot m
-reduce-ended zero tuples f slot m le = absurd (omega arith)
-reduce-ended (suc zero) tuples f slot m le = absurd (omega arith)
-reduce-ended (suc (suc k)) tuples f slot m le = refl
