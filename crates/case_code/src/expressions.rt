@@ -66,7 +66,7 @@ fn leaf(word: &str) -> Option<Flat> {
 }
 
 /// Takes an expression over slots.
-pub fn read_flat(alloc: Global, words: &mut Words<'_>) -> Flat {
+pub(crate) fn read_flat(alloc: Global, words: &mut Words<'_>) -> Flat {
     flat_within(alloc, words, DEPTH)
 }
 
@@ -90,7 +90,7 @@ fn flat_within(alloc: Global, words: &mut Words<'_>, depth: u32) -> Flat {
 }
 
 /// Takes subscripts in parentheses, all of them expressions over slots.
-pub fn read_flats(alloc: Global, words: &mut Words<'_>) -> Vec<Flat> {
+pub(crate) fn read_flats(alloc: Global, words: &mut Words<'_>) -> Vec<Flat> {
     let mut flats = Vec::new(alloc);
     words.skip("(");
     for _ in 0..8 {
@@ -106,7 +106,7 @@ pub fn read_flats(alloc: Global, words: &mut Words<'_>) -> Vec<Flat> {
 }
 
 /// Takes section subscripts in parentheses.
-pub fn read_subs(alloc: Global, words: &mut Words<'_>) -> Vec<Sub> {
+pub(crate) fn read_subs(alloc: Global, words: &mut Words<'_>) -> Vec<Sub> {
     let mut subs = Vec::new(alloc);
     words.skip("(");
     for _ in 0..8 {
@@ -132,7 +132,7 @@ fn read_sub(alloc: Global, words: &mut Words<'_>) -> Sub {
 }
 
 /// Takes an array expression.
-pub fn read_form(alloc: Global, words: &mut Words<'_>) -> ArrayForm {
+pub(crate) fn read_form(alloc: Global, words: &mut Words<'_>) -> ArrayForm {
     form_within(alloc, words, DEPTH)
 }
 

@@ -271,7 +271,7 @@ fn read_of_copy(alloc: Global, word: &str, line: u32, words: &mut Words<'_>) -> 
 }
 
 /// Takes the subscripts of a space.
-pub fn read_over(alloc: Global, words: &mut Words<'_>) -> Vec<node_code::Sub> {
+pub(crate) fn read_over(alloc: Global, words: &mut Words<'_>) -> Vec<node_code::Sub> {
     words.skip("over");
     read_subs(alloc, words)
 }
@@ -296,7 +296,7 @@ fn read_assignment(alloc: Global, line: u32, words: &mut Words<'_>) -> Assignmen
 }
 
 /// Takes a mask, if one stands there.
-pub fn read_mask(words: &mut Words<'_>) -> Option<When> {
+pub(crate) fn read_mask(words: &mut Words<'_>) -> Option<When> {
     let word = words.word();
     if word.is_empty() {
         return None;

@@ -10,7 +10,7 @@ use std::alloc::Global;
 const ROWS: u32 = 16;
 
 /// Takes copies of a nest.
-pub fn read_copies(alloc: Global, words: &mut Words<'_>) -> Instruction {
+pub(crate) fn read_copies(alloc: Global, words: &mut Words<'_>) -> Instruction {
     let copy = words.row();
     words.skip("=");
     let start = read_flat(alloc, words);
@@ -22,7 +22,7 @@ pub fn read_copies(alloc: Global, words: &mut Words<'_>) -> Instruction {
 }
 
 /// Takes a statement of a nest.
-pub fn read_nest(alloc: Global, line: u32, words: &mut Words<'_>) -> NestStatement {
+pub(crate) fn read_nest(alloc: Global, line: u32, words: &mut Words<'_>) -> NestStatement {
     let role = read_role(words);
     let left = read_left(alloc, words);
     words.skip("=");

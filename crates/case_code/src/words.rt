@@ -18,7 +18,7 @@ impl<'a> Words<'a> {
     }
 
     /// The next word, which stays.
-    pub fn front(&self) -> &'a str {
+    pub(crate) fn front(&self) -> &'a str {
         let (word, _) = self.rest.split_once(' ').unwrap_or((self.rest, ""));
         word
     }
@@ -31,7 +31,7 @@ impl<'a> Words<'a> {
     }
 
     /// Takes a word that has to stand there.
-    pub fn skip(&mut self, word: &str) {
+    pub(crate) fn skip(&mut self, word: &str) {
         if self.word() != word {
             self.are_well = false;
         }
@@ -55,7 +55,7 @@ impl<'a> Words<'a> {
     }
 
     /// Takes a slot, as `s3`.
-    pub fn slot(&mut self) -> usize {
+    pub(crate) fn slot(&mut self) -> usize {
         let slot = numbered(self.word(), 's');
         self.known(slot)
     }
@@ -79,7 +79,7 @@ impl<'a> Words<'a> {
 }
 
 /// The number after a letter.
-pub fn numbered(word: &str, letter: char) -> Option<usize> {
+pub(crate) fn numbered(word: &str, letter: char) -> Option<usize> {
     word.strip_prefix(letter)?.parse::<usize>().ok()
 }
 

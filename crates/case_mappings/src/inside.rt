@@ -13,7 +13,7 @@ use mappings::{AlignDim, Line, MapDim, Mapping};
 use std::alloc::Global;
 
 /// Whether every element of the array lies inside the template.
-pub fn all_inside(alloc: Global, map: &Mapping, shape: &Shape) -> bool
+pub(crate) fn all_inside(alloc: Global, map: &Mapping, shape: &Shape) -> bool
     requires mapping { IsMapping (length shape.now.lower) map.now }
     requires shape { IsShape shape.now }
     ensures { IsTrue result → All (MapsInside map.now) (elements shape.now) }

@@ -18,7 +18,7 @@ pub fn line_of(form: Form, lower: i64, extent: i64, procs: u32) -> Option<Line>
 }
 
 /// The line with these numbers, which may not be those of a line.
-pub fn read_line(form: Form, lower: i64, extent: i64, procs: u32) -> Option<Line> {
+pub(crate) fn read_line(form: Form, lower: i64, extent: i64, procs: u32) -> Option<Line> {
     Some(Line {
         lower,
         extent: u64::try_from(extent).ok()?,
@@ -82,7 +82,7 @@ fn size_of(number: i64) -> Option<u64>
 }
 
 /// Whether the line is distributed.
-pub fn is_distributed(line: &Line) -> bool
+pub(crate) fn is_distributed(line: &Line) -> bool
     ensures { IsTrue result → line.now.form ≢ Whole }
 {
     match &line.form {
@@ -92,7 +92,7 @@ pub fn is_distributed(line: &Line) -> bool
 }
 
 /// Whether the numbers are those of a line.
-pub fn is_line(line: &Line) -> bool
+pub(crate) fn is_line(line: &Line) -> bool
     ensures { IsTrue result → IsLine line.now }
 {
     1 <= line.procs

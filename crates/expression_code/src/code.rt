@@ -228,7 +228,7 @@ pub fn parts_code(
 
 /// The code of array expressions, in order.
 #[cycle(code)]
-pub fn all_parts_code(
+pub(crate) fn all_parts_code(
     alloc: Global,
     line: u32,
     b: usize,

@@ -27,12 +27,10 @@ mod sums;
 mod texts;
 mod values;
 
-pub use code::{all_parts_code, code_of, codes_of, control_code, parts_code, subscripts_code};
+pub use code::{code_of, codes_of, control_code, parts_code, subscripts_code};
 pub use evaluations::{own_evaluation, own_space};
 pub use indexed::{all_index_flats, index_flat, index_flats, index_form, index_forms, index_subs};
-pub use slots::{
-    all_parts_slots, all_slots_of, control_slots, parts_slots, slots_of, subscripts_slots,
-};
+pub use slots::{all_slots_of, control_slots, parts_slots, slots_of, subscripts_slots};
 pub use sums::plus;
 pub use texts::joined;
 pub use values::{flat_of, flats_of, form_of, forms_of, subs_of};

@@ -102,7 +102,7 @@ pub fn parts_slots(t: &Term) -> Result<usize, OutOfMemory>
 
 /// The slots of array expressions together.
 #[cycle(slots)]
-pub fn all_parts_slots(terms: &[Term]) -> Result<usize, OutOfMemory>
+pub(crate) fn all_parts_slots(terms: &[Term]) -> Result<usize, OutOfMemory>
     ensures { IfOk result (λ n. n ≡ all_parts_slots (terms_of terms.now)) }
 {
     let mut sum = 0;

@@ -3,7 +3,7 @@
 ghost use Rattle.std.specs.Prelude.{◌≤◌};
 
 /// The place on an axis, from 0, of what has this number, from 0, in a space of these extents.
-pub fn place_on(extents: &[u64], axis: usize, number: u64) -> u64 {
+pub(crate) fn place_on(extents: &[u64], axis: usize, number: u64) -> u64 {
     let mut rest = number;
     for (k, extent) in extents.iter().enumerate() {
         let extent = at_least_one(*extent);
@@ -16,7 +16,7 @@ pub fn place_on(extents: &[u64], axis: usize, number: u64) -> u64 {
 }
 
 /// A node's coordinate in a dimension of its grid, from 0.
-pub fn coordinate(grid: &[u32], dim: u32, node: u32) -> u64 {
+pub(crate) fn coordinate(grid: &[u32], dim: u32, node: u32) -> u64 {
     let mut rest = node as u64;
     for (k, extent) in grid.iter().enumerate() {
         let extent = at_least_one(*extent as u64);
@@ -29,7 +29,7 @@ pub fn coordinate(grid: &[u32], dim: u32, node: u32) -> u64 {
 }
 
 /// How far a subscript of an element is above the lower bound of its dimension.
-pub fn offset(extents: &[i64], dim: u32, at: u64) -> u64 {
+pub(crate) fn offset(extents: &[i64], dim: u32, at: u64) -> u64 {
     let mut rest = at;
     for (k, extent) in extents.iter().enumerate() {
         let extent = at_least_one(extent.unsigned_abs());
@@ -42,7 +42,7 @@ pub fn offset(extents: &[i64], dim: u32, at: u64) -> u64 {
 }
 
 /// The number, and 1 for 0.
-pub fn at_least_one(number: u64) -> u64
+pub(crate) fn at_least_one(number: u64) -> u64
     ensures { 1 ≤ result }
 {
     if number == 0 { 1 } else { number }

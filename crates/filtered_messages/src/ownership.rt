@@ -6,7 +6,7 @@ use hpf_base::Shape;
 use mappings::{AlignDim, Form, Line, MapDim};
 
 /// The nodes that own the element at a place of an array in array-element order, a bit each, that of node 0 the lowest.
-pub fn owners_at(mapped: &Mapped, at: u64) -> u64 {
+pub(crate) fn owners_at(mapped: &Mapped, at: u64) -> u64 {
     let mut owners: u64 = 0;
     for node in 0..mapped.mapping.grid.node_count() {
         if owns(mapped, node, at) {
@@ -17,7 +17,7 @@ pub fn owners_at(mapped: &Mapped, at: u64) -> u64 {
 }
 
 /// The bit of a node.
-pub fn bit_of(node: u32) -> u64 {
+pub(crate) fn bit_of(node: u32) -> u64 {
     let one: u64 = 1;
     one.wrapping_shl(node)
 }

@@ -16,7 +16,7 @@ pub struct Named<'a> {
 
 impl<'a> Named<'a> {
     /// Whether an element is read at a tuple.
-    pub fn is_read(&self, tuple: u64, spot: Spot) -> bool {
+    pub(crate) fn is_read(&self, tuple: u64, spot: Spot) -> bool {
         for reference in self.reads {
             if self.at(reference, tuple) == Some(spot) {
                 return true;

@@ -12,7 +12,7 @@ use std::alloc::Global;
 /// What a text in a source form means that is accepted on a grid. An `Err` is the first breach of the first of these stages that has one: lines, tokens,
 /// statements and directives, and the nest, as `read_in_form` says; names, and ranks; mappings onto the grid; bodies, as `accept_program`
 /// says. Or it is want of memory.
-pub fn accept<'a>(
+pub(crate) fn accept<'a>(
     alloc: Global,
     form: SourceForm,
     grid: &'a Grid,

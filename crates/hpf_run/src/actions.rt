@@ -19,7 +19,7 @@ use serial_run::{End, Outcome, run_serial};
 use std::alloc::Global;
 
 /// What the job's action makes of an accepted program, on the grid that it is accepted on.
-pub fn reply_to_accepted(alloc: Global, job: &Job, accepted: &AcceptedProgram<'_>) -> Reply
+pub(crate) fn reply_to_accepted(alloc: Global, job: &Job, accepted: &AcceptedProgram<'_>) -> Reply
     requires { runs_on_nodes job.now.action ≡ false }
     ensures { ActionMeant accepted.now.grid.now job.now.arrays (main_program accepted.now.program.tree) job.now.action (outcome_of result) }
 {

@@ -9,7 +9,7 @@ use hpf_base::Status;
 use hpf_ports::{Sink, write_all};
 
 /// Writes a reply: first standard output, then standard error. What a run on nodes leaves is kept where all is written.
-pub fn deliver<O: Sink, E: Sink>(reply: Reply, out: &mut O, err: &mut E) -> Answer
+pub(crate) fn deliver<O: Sink, E: Sink>(reply: Reply, out: &mut O, err: &mut E) -> Answer
     ensures { Delivered (outcome_of reply) (port (O.held out.old) (O.faults out.old)) (port (O.held out.new) (O.faults out.new))
         (port (E.held err.old) (E.faults err.old)) (port (E.held err.new) (E.faults err.new)) result.status result.ran }
 {

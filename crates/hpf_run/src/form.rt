@@ -7,7 +7,7 @@ use hpf_reader::SourceForm;
 use hpf_words::Job;
 
 /// The source form in which the job has its text.
-pub fn form_of(job: &Job) -> SourceForm
+pub(crate) fn form_of(job: &Job) -> SourceForm
     ensures { result ≡ form_of job.now }
 {
     if job.fixed {

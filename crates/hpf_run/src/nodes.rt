@@ -24,7 +24,7 @@ use std::sync::Wait;
 use std::thread::Threads;
 
 /// What a job that runs on nodes makes of a text in a source form, on crews of threads. It may wait.
-pub fn run_text<R: Threads + Wait + Sync, G: Gate>(
+pub(crate) fn run_text<R: Threads + Wait + Sync, G: Gate>(
     rt: &R,
     alloc: Global,
     job: &Job,

@@ -13,7 +13,7 @@ use hpf_ports::{ReadAll, Source, read_all};
 use std::alloc::Global;
 
 /// All that the source has left. An `Err` is the reply to a source that isn't read to its end, for any words that ask for what reads it.
-pub fn read_text<S: Source>(alloc: Global, src: &mut S) -> Result<Vec<u8>, Reply>
+pub(crate) fn read_text<S: Source>(alloc: Global, src: &mut S) -> Result<Vec<u8>, Reply>
     ensures whole { IfOk result (λ text. Gave (S.left src.old) (S.left src.new) text.items) }
     ensures end { IfOk result (λ text. IsAtEnd (S.left src.new)) }
     ensures short { IfOk result (λ text. length text.items ≤ MAX_SOURCE_BYTES) }

@@ -69,7 +69,7 @@ impl Reply {
     }
 
     /// What a run on nodes leaves.
-    pub fn into_ran(self) -> Option<Ran>
+    pub(crate) fn into_ran(self) -> Option<Ran>
         ensures { result ≡ (outcome_of self).ran }
     {
         match self {
@@ -98,7 +98,7 @@ fn refusal_text(alloc: Global, refusal: Refusal) -> Result<Vec<u8>, OutOfMemory>
 }
 
 /// The reply to a text that is refused.
-pub fn reply_refused(alloc: Global, refusal: Refusal) -> Reply
+pub(crate) fn reply_refused(alloc: Global, refusal: Refusal) -> Reply
     ensures { IsReplyOf refusal (outcome_of result) }
 {
     match refusal_text(alloc, refusal) {
@@ -108,7 +108,7 @@ pub fn reply_refused(alloc: Global, refusal: Refusal) -> Reply
 }
 
 /// The reply to a fault after what was printed.
-pub fn reply_faulted(
+pub(crate) fn reply_faulted(
     alloc: Global,
     names: &Names,
     printed: Vec<u8>,

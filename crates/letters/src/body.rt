@@ -42,13 +42,6 @@ impl Body {
     {
         self.values.as_slice()
     }
-
-    /// The values, as they lie. It takes no memory.
-    pub fn into_values(self) -> Vec<i64>
-        ensures { result.items ≡ self }
-    {
-        self.values
-    }
 }
 
 impl From<Vec<i64>> for Body {

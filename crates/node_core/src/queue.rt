@@ -36,7 +36,7 @@ impl<M: Drop> Queue<M> {
     }
 
     /// Whether there are four letters in it.
-    pub fn is_full(&self) -> bool
+    pub(crate) fn is_full(&self) -> bool
         ensures full { IsTrue result → length self.now ≡ capacity }
         ensures room { result ≡ false → length self.now < capacity }
     {
@@ -44,7 +44,7 @@ impl<M: Drop> Queue<M> {
     }
 
     /// Whether there is no letter in it.
-    pub fn is_empty(&self) -> bool
+    pub(crate) fn is_empty(&self) -> bool
         ensures { result ≡ (length self.now == 0) }
     {
         self.letters.is_empty()
@@ -62,7 +62,7 @@ impl<M: Drop> Queue<M> {
     }
 
     /// Takes the front letter.
-    pub fn pop(&mut self) -> M
+    pub(crate) fn pop(&mut self) -> M
         requires { 0 < length self.old }
         ensures { self.old ≡ result ∷ self.new }
     {

@@ -14,7 +14,7 @@ pub enum Stage {
 }
 
 /// Whether the act belongs to the stage.
-pub fn is_of_stage(act: Act, stage: Stage) -> bool
+pub(crate) fn is_of_stage(act: Act, stage: Stage) -> bool
     ensures { IsTrue result ↔ IsOfStage stage act }
 {
     match stage {

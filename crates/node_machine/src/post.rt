@@ -53,7 +53,12 @@ impl Post {
     }
 
     /// A phase is opened: this is to be sent, letters of these nodes are to be taken, and there is this room for them. It takes no memory.
-    pub fn open(&mut self, outbox: VecDeque<Parcel>, inbox: VecDeque<u32>, received: Vec<Body>)
+    pub(crate) fn open(
+        &mut self,
+        outbox: VecDeque<Parcel>,
+        inbox: VecDeque<u32>,
+        received: Vec<Body>,
+    )
         requires targets { All (λ parcel. parcel.to < length self.old.next_to) outbox.items }
         requires sources { All (λ source. source < length self.old.next_from) inbox.items }
         ensures { self.new ≡ record self.old { outbox = outbox.items; inbox = inbox.items; received = received.items } }
@@ -65,7 +70,7 @@ impl Post {
 
     /// A phase is opened where what was taken so far stays: this is to be sent, and letters of these nodes are to be taken. It takes no
     /// memory.
-    pub fn reopen(&mut self, outbox: VecDeque<Parcel>, inbox: VecDeque<u32>)
+    pub(crate) fn reopen(&mut self, outbox: VecDeque<Parcel>, inbox: VecDeque<u32>)
         requires targets { All (λ parcel. parcel.to < length self.old.next_to) outbox.items }
         requires sources { All (λ source. source < length self.old.next_from) inbox.items }
         ensures { self.new ≡ record self.old { outbox = outbox.items; inbox = inbox.items } }
@@ -75,7 +80,7 @@ impl Post {
     }
 
     /// What was taken from a node, or nothing.
-    pub fn received(&self, node: u32) -> &[i64]
+    pub(crate) fn received(&self, node: u32) -> &[i64]
         ensures { result.now ≡ slice_index_or self.now.received node [] }
     {
         match self.received.get(node as usize) {
@@ -85,14 +90,14 @@ impl Post {
     }
 
     /// What was taken from each node, by number.
-    pub fn all_received(&self) -> &[Body]
+    pub(crate) fn all_received(&self) -> &[Body]
         ensures { result.now ≡ self.now.received }
     {
         &self.received
     }
 
     /// Nothing of a phase is left, and what was taken is dropped. It takes no memory.
-    pub fn clear(&mut self, alloc: Global)
+    pub(crate) fn clear(&mut self, alloc: Global)
         ensures { self.new ≡ record self.old { outbox = []; inbox = []; received = [] } }
     {
         self.outbox = VecDeque::new(alloc);
@@ -101,7 +106,7 @@ impl Post {
     }
 
     /// The node to which the next letter goes.
-    pub fn target(&self) -> Option<u32>
+    pub(crate) fn target(&self) -> Option<u32>
         ensures { result ≡ target_of self.now.outbox }
     {
         match self.outbox.front() {
@@ -121,7 +126,7 @@ impl Post {
     }
 
     /// The number of the next letter from a node; 0 where there is no such node.
-    pub fn number_from(&self, node: u32) -> u64
+    pub(crate) fn number_from(&self, node: u32) -> u64
         ensures { result ≡ slice_index_or self.now.next_from node 0 }
     {
         match self.next_from.get(node as usize) {
@@ -170,7 +175,7 @@ impl Post {
     }
 
     /// Whether nothing of the phase is left.
-    pub fn is_over(&self) -> bool
+    pub(crate) fn is_over(&self) -> bool
         ensures { result ≡ nothing_left self.now.outbox self.now.inbox }
     {
         self.outbox.is_empty() && self.inbox.is_empty()

@@ -81,7 +81,7 @@ impl Redistribution {
 
     /// Whether it is the one between these owners, which are for as many nodes, on the node with this number: true exactly where it is. It
     /// compares shapes and mappings, and takes no memory.
-    pub fn is_of(&self, before: &Owners, after: &Owners, id: u32) -> bool
+    pub(crate) fn is_of(&self, before: &Owners, after: &Owners, id: u32) -> bool
         ensures same { IsTrue result → self.now ≡ record { nodes = before.now.nodes; old = before.now.layouts; new = after.now.layouts; id = id } }
         ensures all { self.now ≡ record { nodes = before.now.nodes; old = before.now.layouts; new = after.now.layouts; id = id } → before.now.nodes ≡ after.now.nodes → IsTrue result }
     {

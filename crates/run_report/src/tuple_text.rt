@@ -41,7 +41,7 @@ fn add_more(text: &mut Vec<u8>, numbers: &[i64]) -> Result<(), AllocError>
 }
 
 /// Adds a number in decimal.
-pub fn add_number(text: &mut Vec<u8>, number: i64) -> Result<(), AllocError>
+pub(crate) fn add_number(text: &mut Vec<u8>, number: i64) -> Result<(), AllocError>
     ensures { OnOk result (text.new.items ≡ text.old.items ++ signed_decimal number) }
 {
     let mut buffer = Buffer::new();

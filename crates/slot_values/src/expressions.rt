@@ -94,7 +94,11 @@ pub(crate) fn two_values(slots: &[i64], axes: &[i64], fs: &Vec<Flat>) -> Result<
 
 /// The values of expressions in order, or the first fault.
 #[cycle(flat_value)]
-pub fn flat_values(slots: &[i64], axes: &[i64], fs: &Vec<Flat>) -> Result<SmallVec<i64, 7>, Stop>
+pub(crate) fn flat_values(
+    slots: &[i64],
+    axes: &[i64],
+    fs: &Vec<Flat>,
+) -> Result<SmallVec<i64, 7>, Stop>
     ensures value { IfOk result (λ vs. flat_values slots.now axes.now [] (flats_of fs.now.items) ≡ Ok vs.items) }
     ensures stopped { IfErr result (IsStop (flat_values slots.now axes.now [] (flats_of fs.now.items))) }
 {

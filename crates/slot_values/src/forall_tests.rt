@@ -26,7 +26,7 @@ use term_values::{Stop, extents, fault, size};
 /// The run ends with a fault where the space of these indices isn't empty and it or a subscript is beyond the limits, and else goes on.
 /// After want of memory nothing has changed.
 #[tactic(auto, using(crate::proofs::Tested::tested_as))]
-pub fn forall_limits(
+pub(crate) fn forall_limits(
     alloc: Global,
     line: u32,
     over: &[Sub],
@@ -88,7 +88,7 @@ fn is_full_space_in_limits(
 /// The run ends with a fault where an assignment with these subscripts on the left assigns an element at two tuples, and else goes on.
 /// After want of memory nothing has changed.
 #[tactic(auto, using(crate::proofs::Tested::tested_as))]
-pub fn one_to_one(
+pub(crate) fn one_to_one(
     alloc: Global,
     line: u32,
     over: &[Sub],

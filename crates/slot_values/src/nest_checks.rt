@@ -21,7 +21,7 @@ use term_values::{Array, State, Stop};
 /// The run ends with a fault where a nest with iterations is beyond the limits, or else two of them interfere, and else goes on. After
 /// want of memory nothing has changed.
 #[tactic(auto, using(crate::proofs::Tested::tested_as))]
-pub fn check(
+pub(crate) fn check(
     alloc: Global,
     shapes: &[Dims],
     line: u32,

@@ -37,7 +37,7 @@ pub fn set(line: u32, x: usize, value: &Flat, c: &mut Control) -> Result<(), Out
 }
 
 /// The run ends with a fault where a subscript has one or is out of bounds, and else goes on. After want of memory nothing has changed.
-pub fn test_bounds(
+pub(crate) fn test_bounds(
     shapes: &[Dims],
     line: u32,
     array: usize,
@@ -63,7 +63,7 @@ fn bounds(shapes: &[Dims], array: usize, subscripts: &Vec<Flat>, slots: &[i64]) 
 }
 
 /// The run ends with a fault where a slot is 0, and else goes on.
-pub fn test_stride(line: u32, x: usize, c: &mut Control) -> Result<(), OutOfMemory>
+pub(crate) fn test_stride(line: u32, x: usize, c: &mut Control) -> Result<(), OutOfMemory>
     requires in_code { c.old.at < 2 ^ 63 }
     ensures done { OnOk result (control_of c.new ≡ go_on_if (at_line line (stride_at x c.old.slots.items)) (control_of c.old)) }
     ensures unchanged { OnErr result (c.new ≡ c.old) }

@@ -52,7 +52,7 @@ fn assignment_size(alloc: Global, p: &Assignment, slots: &[i64]) -> Result<usize
 /// The run ends with a fault where a section of an array expression by itself has other extents than its space, or the space is beyond
 /// the limits, and else goes on. After want of memory nothing has changed.
 #[tactic(auto, using(crate::proofs::Tested::tested_as))]
-pub fn own_limits(alloc: Global, p: &Evaluation, c: &mut Control) -> Result<(), OutOfMemory>
+pub(crate) fn own_limits(alloc: Global, p: &Evaluation, c: &mut Control) -> Result<(), OutOfMemory>
     requires in_code { c.old.at < 2 ^ 63 }
     ensures done { OnOk result (control_of c.new ≡ go_on_if (at_line p.now.line (evaluation_size (evaluation p.now) c.old.slots.items)) (control_of c.old)) }
     ensures unchanged { OnErr result (c.new ≡ c.old) }

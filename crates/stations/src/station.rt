@@ -121,14 +121,14 @@ impl<N: PhasedNode<Mail = Letter>> Station<N> {
     }
 
     /// True exactly where the node is Done and no letter is kept.
-    pub fn ended(&self) -> bool
+    pub(crate) fn ended(&self) -> bool
         ensures { IsTrue result ↔ HasEnded N.steps self.now }
     {
         matches!(self.node.next_act(), Act::Done) && self.ends.kept.is_none()
     }
 
     /// The node of a station that has ended, its ends to each node and its ends from each node. What the station's type says stays known.
-    pub fn into_parts(self) -> (N, Vec<OutEnd>, Vec<InEnd>)
+    pub(crate) fn into_parts(self) -> (N, Vec<OutEnd>, Vec<InEnd>)
         requires { HasEnded N.steps self }
         ensures parts { (result.0 ≡ self.node) × (result.1.items ≡ self.outs) × (result.2.items ≡ self.ins) }
         ensures stands { Stands N.steps self.id self.opening self.node self.outs self.ins None }

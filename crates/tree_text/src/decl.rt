@@ -7,7 +7,7 @@ use crate::writer::Writer;
 use syntax_tree::{Bound, ConstDef, Decl, DeclKind, Entity, IntegerDecl};
 
 /// Writes a declaration on a line of its own, its number first.
-pub fn write_decl(out: &mut Writer<'_>, decl: &Decl) {
+pub(crate) fn write_decl(out: &mut Writer<'_>, decl: &Decl) {
     out.text("  ");
     out.number(i64::from(decl.line));
     out.text(": ");
@@ -44,7 +44,7 @@ fn write_parameter(out: &mut Writer<'_>, constants: &[ConstDef]) {
     out.text(")");
 }
 
-pub fn write_entities(out: &mut Writer<'_>, entities: &[Entity]) {
+pub(crate) fn write_entities(out: &mut Writer<'_>, entities: &[Entity]) {
     for (place, entity) in entities.iter().enumerate() {
         write_comma(out, place);
         write_name(out, &entity.name);

@@ -8,7 +8,7 @@ use hpf_base::Name;
 use syntax_tree::{AlignSpec, Directive, DistSpec, Expr, Format, Source, Target};
 
 /// Writes a directive of the declarations.
-pub fn write_directive(out: &mut Writer<'_>, directive: &Directive) {
+pub(crate) fn write_directive(out: &mut Writer<'_>, directive: &Directive) {
     match directive {
         Directive::Processors(entities) => {
             out.text("PROCESSORS ");
@@ -35,7 +35,7 @@ pub fn write_directive(out: &mut Writer<'_>, directive: &Directive) {
 }
 
 /// Writes what stands after DISTRIBUTE or REDISTRIBUTE.
-pub fn write_distribution(out: &mut Writer<'_>, spec: &DistSpec) {
+pub(crate) fn write_distribution(out: &mut Writer<'_>, spec: &DistSpec) {
     if !spec.colons {
         write_names(out, spec.names.as_slice());
     }

@@ -7,7 +7,7 @@ use syntax_tree::{Expr, Ref, Subscript};
 
 /// Writes an expression, as `((-A) + [B(1, 2:N:3)])`.
 #[cycle(expression)]
-pub fn write_expr(out: &mut Writer<'_>, expr: &Expr) {
+pub(crate) fn write_expr(out: &mut Writer<'_>, expr: &Expr) {
     match expr {
         Expr::Int(value) => out.number(*value),
         Expr::Bool(value) => out.text(if *value { ".TRUE." } else { ".FALSE." }),
@@ -46,7 +46,7 @@ pub fn write_expr(out: &mut Writer<'_>, expr: &Expr) {
 
 /// Writes a name with its subscripts.
 #[cycle(expression)]
-pub fn write_ref(out: &mut Writer<'_>, reference: &Ref) {
+pub(crate) fn write_ref(out: &mut Writer<'_>, reference: &Ref) {
     write_name(out, &reference.name);
     let Some(subs) = &reference.subs else {
         return;
@@ -60,7 +60,7 @@ pub fn write_ref(out: &mut Writer<'_>, reference: &Ref) {
 }
 
 #[cycle(expression)]
-pub fn write_subscript(out: &mut Writer<'_>, sub: &Subscript) {
+pub(crate) fn write_subscript(out: &mut Writer<'_>, sub: &Subscript) {
     match sub {
         Subscript::One(expr) => write_expr(out, expr),
         Subscript::Triplet { first, last, step } => {
@@ -75,7 +75,7 @@ pub fn write_subscript(out: &mut Writer<'_>, sub: &Subscript) {
 
 /// Writes a sign, and the expression after it where there is one.
 #[cycle(expression)]
-pub fn write_optional(out: &mut Writer<'_>, sign: &str, expr: &Option<Expr>) {
+pub(crate) fn write_optional(out: &mut Writer<'_>, sign: &str, expr: &Option<Expr>) {
     out.text(sign);
     if let Some(expr) = expr {
         write_expr(out, expr);

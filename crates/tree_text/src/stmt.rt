@@ -9,7 +9,7 @@ use syntax_tree::{Arm, DoLoop, Expr, Header, Item, Mark, StatementKind, Stmt};
 
 /// Writes statements, one after the other, `depth` deep.
 #[cycle(statement)]
-pub fn write_block(out: &mut Writer<'_>, depth: usize, block: &[Stmt]) {
+pub(crate) fn write_block(out: &mut Writer<'_>, depth: usize, block: &[Stmt]) {
     for stmt in block {
         write_stmt(out, depth, stmt);
     }
