@@ -7,6 +7,5 @@ mod Typings
 mod Referenced
 mod Dummies
 pub mod Turns
-pub use Rattle.syntax_tree.proofs.stmt.Stmt as StmtLaws
 pub use Rattle.syntax_tree.proofs.Rows
 pub use Rattle.syntax_tree.proofs.Designators

@@ -9,11 +9,12 @@
 //! law of prefixes says this of moves alone, with no queue and no order in time, and the others follow from it. In a
 //! phase no node sends to itself, so there is no letter for which a queue from a node to itself would be wanted.
 //!
-//!   before each. So to whoever counts moves one call is some moves, maybe none, and nothing else. How many there are isn't said.
-//! *Proved:* Nodes that exchange letters in phases make the moves of their one lockstep run in every order of steps,
 //! - `LocalRuns`: a node that makes several local steps in one call. Each of them is what the node's act names then, as if the node had been asked
-//! `letters_to_others`.
+//!   before each. So to whoever counts moves one call is some moves, maybe none, and nothing else. How many there are isn't said.
+//!
+//! *Proved:* Nodes that exchange letters in phases make the moves of their one lockstep run in every order of steps,
 //! and are never stuck: `law_of_prefixes`, `confluence`, `never_stuck`. No node passes letters to itself:
+//! `letters_to_others`. Of a node that makes several local steps in one call, the clauses of a trait: `LocalRuns`.
 #![tactic(auto)]
 
 mod act;
