@@ -11,7 +11,8 @@ use Rattle.name_table.specs.Entries.{declared_as, entry, what_is}
 use Rattle.name_table.specs.declared.names.Entry.{Entry}
 use Rattle.name_table.specs.declared.names.What.{What}
 use Rattle.name_table.specs.declared.names.What.TheVariants as what
-use Rattle.well_formed.proofs.Dimensions.{IsFull, declared_found, none_some, some_same}
+use Rattle.name_table.proofs.Tests.{none_some, some_same}
+use Rattle.well_formed.proofs.Dimensions.{IsFull, declared_found}
 use Rattle.found_names.specs.FoundNames.{HasPlace, IsOperand, IsScalarName}
 use Rattle.found_names.specs.Scalars.{HasDimension, HaveDimensions}
 

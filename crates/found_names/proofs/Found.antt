@@ -24,7 +24,7 @@ use Rattle.name_table.specs.Uses.{ForallIndex, Listed, allows}
 use Rattle.array_meaning.specs.Terms.{Term, Element, Section}
 use Rattle.array_meaning.specs.Resolution.{alone, dims_of, left_of, place_of, section_subscripts, term_of, terms_of}
 use Rattle.array_meaning.specs.Resolution as resolution
-use Rattle.well_formed.proofs.Lists.{all_split, both}
+use Rattle.name_table.proofs.Tests.{all_split, both}
 use Rattle.well_formed.proofs.Dimensions.{declared_found}
 use Rattle.well_formed.proofs.Expressions.{either}
 use Rattle.found_names.specs.FoundNames.{AreFound, HasOwnNames, HasPlace, IsElement, IsFound, IsFoundStatement, IsScalarName, IsSection, IsVariable}

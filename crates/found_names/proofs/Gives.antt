@@ -19,10 +19,9 @@ use Rattle.name_table.specs.declared.names.What.{What}
 use Rattle.name_table.specs.declared.names.What.TheVariants as what
 use Rattle.array_meaning.specs.Terms.{Element, Section, Apply, Reduce, Terms, NoTerm, More, SectionSubscripts}
 use Rattle.array_meaning.specs.Resolution.{alone, dims_of, first_named, first_term, inquiry, is_element, no_dim, place_of, section_subscript, section_subscripts, term_of, term_or, terms_of, whole}
-use Rattle.well_formed.proofs.Lists.{both}
-use Rattle.well_formed.proofs.Dimensions.{IsFull, none_some, some_same}
+use Rattle.name_table.proofs.Tests.{HasValue, both, none_some, some_same}
+use Rattle.well_formed.proofs.Dimensions.{IsFull}
 use Rattle.well_formed.proofs.Expressions.{either}
-use Rattle.well_formed.proofs.RankedExpressions.{HasValue}
 use Rattle.found_names.specs.Scalars.{AllGive, Asked, Gives, HaveDimensions, MayHave, OneValue, SubscriptsGive, Values}
 use Rattle.found_names.proofs.Declared.{has_dimension, rank_is}
 use Rattle.found_names.proofs.Types.{ArgumentsFit, Fits, called_fits, elemental_fits, integer_fits, no_triplet, subscripted_rank}

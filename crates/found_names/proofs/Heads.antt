@@ -16,7 +16,7 @@ use Rattle.name_table.specs.RankRules.{declaration_breaches_at, rank_breaches, r
 use Rattle.name_table.specs.Resolved.{HasNoBreach}
 use Rattle.name_table.specs.Uses.{allows, repeats}
 use Rattle.well_formed.proofs.RankedStatements.{IsTypedHead, all_typed_heads}
-use Rattle.well_formed.proofs.Lists.{all_empty, both, empties, fails, holds, neither, no_breach, no_reason}
+use Rattle.name_table.proofs.Tests.{all_empty, both, empties, fails, holds, neither, no_breach, no_reason}
 
 -- its expressions name operands, its own names stand for what their uses ask, and each expression is what its place asks
 pub record IsKept (t : SymbolTable) (h : PlacedHead) : Type 0 where

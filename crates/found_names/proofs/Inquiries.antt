@@ -25,9 +25,9 @@ use Rattle.name_table.specs.Entries.{declared_as, entry}
 use Rattle.name_table.specs.declared.names.What.TheVariants as what
 use Rattle.array_meaning.specs.Terms.{Apply, Term, Terms, Reduce}
 use Rattle.array_meaning.specs.Resolution.{alone, constant, constants, dims_of, first_named, first_term, inquiry, or_zero, place_of, term_of, terms_of}
-use Rattle.well_formed.proofs.Lists.{both}
-use Rattle.well_formed.proofs.Dimensions.{IsFull, declared_found, none_some}
-use Rattle.well_formed.proofs.RankedExpressions.{HasValue, typed_value}
+use Rattle.name_table.proofs.Tests.{HasValue, both, none_some}
+use Rattle.name_table.proofs.TypedOperands.{typed_value}
+use Rattle.well_formed.proofs.Dimensions.{IsFull, declared_found}
 use Rattle.found_names.specs.FoundNames.{IsScalarName}
 use Rattle.found_names.specs.Inquiries.{AreAnswered, IsAnswered, IsValue, MaybeIsAnswered, PartIsAnswered}
 use Rattle.found_names.specs.Scalars.{Values}

@@ -29,10 +29,10 @@ use Rattle.array_meaning.specs.Terms.{Term, Number, Scalar, Index, Element, Sect
 use Rattle.array_meaning.specs.Statements.{Block, Do, Done, ElementAssignment, Loop, SectionAssignment, Then}
 use Rattle.array_meaning.specs.Resolution.{alone, assignment, control_of, dims_of, do_loop, element_assignments, item, item_of, left_of, loop_of, place_of, resolved, resolved_arms, resolved_block, resolved_otherwise, section_assignments, section_subscripts, step_of, term_of, terms_of, to_element, to_section, with_inner_unmarked}
 use Rattle.array_meaning.specs.Resolution as resolution
-use Rattle.well_formed.proofs.Lists.{all_split, both}
+use Rattle.name_table.proofs.Tests.{HasValue, all_split, both}
+use Rattle.name_table.proofs.TypedOperands.{typed_value}
 use Rattle.well_formed.proofs.Dimensions.{IsFull, declared_found}
 use Rattle.well_formed.proofs.Expressions.{either}
-use Rattle.well_formed.proofs.RankedExpressions.{HasValue, typed_value}
 use Rattle.found_names.specs.Scalars.{ArmsAlone, Asked, BlockAlone, ControlGives, Gives, HaveDimensions, IndexedGives, ItemGives, MaskGives, MaskedGives, OneValue, ScalarsAlone, Values}
 use Rattle.found_names.proofs.Gives.{gives}
 use Rattle.found_names.proofs.Heads.{IsKept}

@@ -13,8 +13,8 @@ use Rattle.expression_rules.specs.declared.types.TypeAndRank.{TypeAndRank}
 use Rattle.expression_rules.specs.Symbols.{SymbolTable}
 use Rattle.expression_rules.specs.Types.{called_type, common, conforming, count_of, elemental, if_typed, integer, integer_scalar_if, is_integer_scalar, is_logical_scalar, of_type, operand_type, rank_in, reduction, reduction_of, result_type, same_type, subscripted, triplets}
 use Rattle.array_meaning.specs.Resolution.{is_element}
-use Rattle.well_formed.proofs.Lists.{both}
-use Rattle.well_formed.proofs.RankedExpressions.{HasValue, typed_value}
+use Rattle.name_table.proofs.Tests.{HasValue, both}
+use Rattle.name_table.proofs.TypedOperands.{typed_value}
 use Rattle.found_names.specs.Scalars.{Asked, OneValue, Values}
 
 -- the type and rank of an expression that gives one value, or values

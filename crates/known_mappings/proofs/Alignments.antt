@@ -38,7 +38,7 @@ use Rattle.alignment_rules.specs.AlignmentEntries.{alignment_of, alignment_with,
 use Rattle.alignment_rules.specs.AlignmentRules.{alignee_reasons, alignment_reasons, are_matched, has_zero_stride, is_colon, is_inside, is_unpaired, pair_reasons, target_reasons}
 use Rattle.alignment_rules.specs.AlignmentValues.{full, list_or, lower_of, part_or, sources, target_value, target_values, targets, values_from}
 use Rattle.directive_check.specs.Chains.{within_limits}
-use Rattle.known_mappings.proofs.Tests.{HasValue, all_empty, all_split, both, empties, fails, holds, neither, no_value, none_pass}
+use Rattle.name_table.proofs.Tests.{HasValue, all_empty, all_split, both, empties, fails, holds, neither, no_value, none_pass}
 use Rattle.known_mappings.proofs.DirectiveValues.{has_value}
 use Rattle.known_mappings.proofs.LinearForms.{linear_known}
 use Rattle.known_mappings.proofs.Objects.{AreNear, IsNear, IsRight, IsTyped, found_right}

@@ -8,7 +8,7 @@ use Rattle.expression_rules.specs.declared.symbols.Symbol.{Symbol}
 use Rattle.name_table.specs.Uses.{repeats}
 use Rattle.directive_check.specs.MappedObjects.{MappedObject}
 use Rattle.directive_check.specs.Chains.{is_aligned, meets, root_from, target_of}
-use Rattle.known_mappings.proofs.Tests.{neither, no_value}
+use Rattle.name_table.proofs.Tests.{neither, no_value}
 
 -- ---- names of which none stands twice are no more than those that are declared
 

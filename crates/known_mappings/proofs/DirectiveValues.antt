@@ -14,43 +14,17 @@ use Rattle.expression_rules.specs.declared.evaluated.Evaluated.TheVariants.{Inva
 use Rattle.expression_rules.specs.declared.symbols.Symbol.{Symbol}
 use Rattle.expression_rules.specs.declared.symbols.Symbol.TheVariants.{Constant, Array}
 use Rattle.expression_rules.specs.declared.types.Context.TheVariants.{Directive}
-use Rattle.expression_rules.specs.declared.types.DataType.{DataType}
 use Rattle.expression_rules.specs.declared.types.TypeAndRank.{TypeAndRank}
 use Rattle.expression_rules.specs.Constants.{bound_of, elemental_value, inquired, item_or, named_first, numbered, of_array, operated, processor_count, unless_zero, value, value_of_symbol, values, values_after, with_more}
 use Rattle.expression_rules.specs.Symbols.{SymbolTable, find}
-use Rattle.expression_rules.specs.Types.{are_inquired, are_integer_scalars, common, conforming, count_of, elemental, if_typed, inquired_from, integer_scalar_if, is_inquired, is_integer_scalar, is_of_array, of_type, operand_type, rank_in, reduction, result_type, type_and_rank, types_and_ranks}
+use Rattle.expression_rules.specs.Types.{are_inquired, are_integer_scalars, count_of, elemental, if_typed, inquired_from, integer_scalar_if, is_inquired, is_integer_scalar, is_of_array, reduction, type_and_rank, types_and_ranks}
 use Rattle.declarations.specs.Declarations.{if_known}
 use Rattle.declarations.specs.DeclarationRules.{is_invalid}
 use Rattle.name_table.specs.KnownSymbols.{is_known}
-use Rattle.known_mappings.proofs.Tests.{HasValue, both, no_value, none_some}
+use Rattle.name_table.proofs.Tests.{HasValue, both, no_value, none_some}
+use Rattle.name_table.proofs.TypedOperands.{elemental_values, typed_value}
 
 -- ---- what has a type
-
-pub typed_value : (test : TypeAndRank → Bool) (o : Option TypeAndRank) → if_typed test o ≡ true → HasValue o
-typed_value test None h = absurd (no_value h)
-typed_value test (Some s) h = refl
-
-common_values : (a b : Option ℕ) → HasValue (common a b) → HasValue a × HasValue b
-common_values None b h = absurd (no_value h)
-common_values (Some q) None h = absurd (no_value h)
-common_values (Some q) (Some r) h = (refl, refl)
-
-in_value : (k : DataType) (o : Option TypeAndRank) → HasValue (rank_in k o) → HasValue o
-in_value k None h = absurd (no_value h)
-in_value k (Some s) h = refl
-
-conforming_values : (k : DataType) (ss : List (Option TypeAndRank)) → HasValue (conforming k ss) → AllByRecursion HasValue ss
-conforming_values k [] h = tt
-conforming_values k (s ∷ ss) h =
-    let both_of = common_values (rank_in k s) (conforming k ss) h in (in_value k s both_of.0, conforming_values k ss both_of.1)
-
-of_value : (k : DataType) (o : Option ℕ) → HasValue (of_type k o) → HasValue o
-of_value k None h = absurd (no_value h)
-of_value k (Some r) h = refl
-
--- the operands of what has a type have one
-pub elemental_values : (o : Op) (ss : List (Option TypeAndRank)) → HasValue (elemental o ss) → AllByRecursion HasValue ss
-elemental_values o ss h = conforming_values (operand_type o) ss (of_value (result_type o) (conforming (operand_type o) ss) h)
 
 scalar_values : (ss : List (Option TypeAndRank)) → are_integer_scalars ss ≡ true → AllByRecursion HasValue ss
 scalar_values [] h = tt

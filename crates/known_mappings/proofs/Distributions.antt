@@ -39,7 +39,7 @@ use Rattle.distribution_rules.specs.DistributionRules.{DistributedDim, are_unfit
 use Rattle.distribution_rules.specs.Setting.{Setting, dims_of, has_kind, is_array_kind, is_arrangement_kind, is_mapped_kind, object, object_dims, value_in}
 use Rattle.distribution_rules.specs.SpaceRules.{is_misfit}
 use Rattle.directive_check.specs.ProgramMaps.{distributed_as}
-use Rattle.known_mappings.proofs.Tests.{HasValue, all_split, empties, fails, holds, neither, no_value, none_pass, none_some, some_same, value_of}
+use Rattle.name_table.proofs.Tests.{HasValue, all_split, empties, fails, holds, neither, no_value, none_pass, none_some, some_same, value_of}
 use Rattle.known_mappings.proofs.DirectiveValues.{IsSettled, settled}
 use Rattle.known_mappings.proofs.Objects.{AreNear, IsNear, IsOfKind, IsRight, IsTyped, found_right}
 

@@ -20,7 +20,7 @@ use Rattle.directive_check.specs.MappingRules.{chain_breaches, declared_breaches
 use Rattle.directive_check.specs.ProgramMaps.{program_moves, start_maps}
 use Rattle.known_mappings.specs.StartMappings.{LiesAtStart}
 use Rattle.known_mappings.specs.NewMappings.{AreMovesOf, redistributions}
-use Rattle.known_mappings.proofs.Tests.{empties, no_breach}
+use Rattle.name_table.proofs.Tests.{empties, no_breach}
 use Rattle.known_mappings.proofs.Objects.{objects_right, ranks_few}
 use Rattle.known_mappings.proofs.Programs.{all_good, found_known, objects_good}
 use Rattle.known_mappings.proofs.Starts.{IsFine, arrays_lie}

@@ -1,4 +1,3 @@
-mod Tests
 mod DirectiveValues
 mod Objects
 mod Distributions

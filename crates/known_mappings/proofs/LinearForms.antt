@@ -14,8 +14,9 @@ use Rattle.name_table.specs.KnownSymbols.{is_known}
 use Rattle.distribution_rules.specs.Setting.{Setting, value_in}
 use Rattle.linear_subscripts.specs.declared.form.LinearForm.{LinearForm}
 use Rattle.linear_subscripts.specs.LinearForms.{combined_form, constant_form, has_invalid_part, is_free, is_linear, is_product, is_sign, is_sum, linear_form, signed_form, with_both}
-use Rattle.known_mappings.proofs.Tests.{HasValue, both, neither, no_value}
-use Rattle.known_mappings.proofs.DirectiveValues.{elemental_values, has_value}
+use Rattle.name_table.proofs.Tests.{HasValue, both, neither, no_value}
+use Rattle.name_table.proofs.TypedOperands.{elemental_values}
+use Rattle.known_mappings.proofs.DirectiveValues.{has_value}
 use Rattle.known_mappings.proofs.Objects.{IsTyped}
 
 form_known : (v : Evaluated ℤ) → HasValue (if_known v) → HasValue (constant_form v)

@@ -25,7 +25,7 @@ use Rattle.directive_check.specs.MappingRules.{head_reasons, redistribute_breach
 use Rattle.directive_check.specs.ProgramMaps.{distributed_as, moves_of, new_map, new_maps_from, replicated, with_root}
 use Rattle.known_mappings.specs.StartMappings.{IsGiven}
 use Rattle.known_mappings.specs.NewMappings.{AreMovesOf, IsNewMapOf, LiesAfter, Redistributed, WithRoot, redistribution_of, redistributions_of}
-use Rattle.known_mappings.proofs.Tests.{all_append, empties, fails, holds, no_reason, no_value}
+use Rattle.name_table.proofs.Tests.{all_append, empties, fails, holds, no_reason, no_value}
 use Rattle.known_mappings.proofs.Distributions.{IsGivenBy, distribution_given}
 use Rattle.known_mappings.proofs.Objects.{IsTyped}
 use Rattle.known_mappings.proofs.Programs.{scalars_typed}

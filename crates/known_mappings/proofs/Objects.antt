@@ -1,5 +1,5 @@
 -- Arrays, templates and processor arrangements of a program that breaks no rule: their dimensions are known and within the limits.
-use Rattle.std.proofs.Common.{◌≡◌, ℕ, suc, Bool, true, false, bytes_eq, cond, find, List, [], ◌∷◌, length, map, nat_lt, Option, Some, None, refl, sym, ap, subst, ◌∙◌}
+use Rattle.std.proofs.Common.{◌≡◌, ℕ, suc, Bool, true, false, true≢false, bytes_eq, cond, find, List, [], ◌∷◌, length, map, nat_lt, Option, Some, None, refl, sym, ap, subst, ◌∙◌}
 use Rattle.std.specs.Bool.{⊤}
 use Rattle.std.specs.Prelude.{ℤ, ◌||◌, if◌then◌else◌}
 use Rattle.std.specs.List.{AllByRecursion, flat_map, list_any}
@@ -16,9 +16,9 @@ use Rattle.expression_rules.specs.declared.symbols.Symbol.{Symbol}
 use Rattle.expression_rules.specs.declared.symbols.Symbol.TheVariants as symbol
 use Rattle.expression_rules.specs.declared.types.Context.TheVariants.{Directive}
 use Rattle.expression_rules.specs.Inner.{bound_expressions, present}
-use Rattle.expression_rules.specs.Symbols.{Name, SymbolTable, added, all_elements, changed, find as find_symbol, is_declared, is_uninitialized, satisfies, with_dummies}
+use Rattle.expression_rules.specs.Symbols.{Name, SymbolTable, all_elements, find as find_symbol, is_array, is_declared, with_dummies}
 use Rattle.expression_rules.specs.Types.{type_and_rank}
-use Rattle.declarations.specs.Declarations.{Item, DimensionAttribute, TypedEntity, Definition, TemplateEntity, ArrangementEntity, PlacedItem, after, after_all, bounds_of, dims, if_known, is_bound_too_far, is_past_limits, is_too_far, is_too_large, items, items_of, known_dims, lower_of, number, rank_in_text, symbol_of, symbol_table, with_dim}
+use Rattle.declarations.specs.Declarations.{Item, DimensionAttribute, TypedEntity, Definition, TemplateEntity, ArrangementEntity, PlacedItem, after, bounds_of, dims, if_known, is_bound_too_far, is_past_limits, is_too_far, is_too_large, items, items_of, known_dims, lower_of, number, rank_in_text, symbol_table, with_dim}
 use Rattle.declarations.specs.DeclarationRules.{declared_again, is_invalid, item_breaches, item_reasons, own_reasons}
 use Rattle.declarations.specs.Reasons.{at}
 use Rattle.name_table.specs.Directives.{directive_dummies, directive_expressions, directive_names, entity_expressions}
@@ -31,7 +31,8 @@ use Rattle.distribution_rules.specs.Dimensions.{dim_if, dim_of, is_too_wide, low
 use Rattle.distribution_rules.specs.Setting.{Setting, arrays, setting, space, spaces_of}
 use Rattle.distribution_rules.specs.SpaceRules.{arrangement_reasons, bound_reasons, is_misfit, template_reasons}
 use Rattle.directive_check.specs.MappingRules.{declared_reasons}
-use Rattle.known_mappings.proofs.Tests.{HasValue, all_append, all_empty, all_split, empties, fails, neither, no_reason, no_value, none_some, of_map, some_same}
+use Rattle.name_table.proofs.Tests.{HasValue, all_append, all_empty, all_split, empties, fails, neither, no_reason, no_value, none_some, of_map, some_same}
+use Rattle.name_table.proofs.TableItems.{AllHold, all_hold}
 use Rattle.known_mappings.proofs.DirectiveValues.{has_value}
 
 -- ---- dimensions
@@ -90,45 +91,12 @@ array_sized t bs n = by (is_past_limits t bs) refl (dims t bs) refl
         let near = dims_near t bs ds two.1 is in
         (near.0, sym (ap (nat_lt MAX_RANK) near.1) ∙ two.0)
 
-symbol_sized : (t : SymbolTable) (constant : Bool) (bs : Option (List Bound)) (e : Option Expression) → IsSized (symbol_of t constant bs e)
-symbol_sized t true bs e = tt
-symbol_sized t false None None = tt
-symbol_sized t false None (Some e) = tt
-symbol_sized t false (Some bs) e = array_sized t bs _
-
-abbrev AllSized : SymbolTable → Type 0
-AllSized t = AllByRecursion (λ e. IsSized e.1) t
-
-changed_sized : (x : Name) (s : Symbol) (t : SymbolTable) → IsSized s → AllSized t → AllSized (changed x s t)
-changed_sized x s [] own all = (own, tt)
-changed_sized x s (e ∷ es) own all = by (bytes_eq x e.0) (changed_sized x s es own all.1)
-  where
-    by : (b : Bool) → AllSized (changed x s es) → AllSized (if b then (e.0, s) ∷ es else e ∷ changed x s es)
-    by true more = (own, all.1)
-    by false more = (all.0, more)
-
-if_sized : (b : Bool) (t u : SymbolTable) → AllSized t → AllSized u → AllSized (if b then t else u)
-if_sized true t u f g = f
-if_sized false t u f g = g
-
-added_sized : (t : SymbolTable) (x : Name) (s : Symbol) → IsSized s → AllSized t → AllSized (added t x s)
-added_sized t x s own all = if_sized (is_declared x t) t (changed x s t) all (changed_sized x s t own all)
-
-after_sized : (t : SymbolTable) (i : Item) → AllSized t → AllSized (after t i)
-after_sized t (DimensionAttribute bs) all = all
-after_sized t (TypedEntity constant bs e) all = added_sized t e.name (symbol_of t constant bs e.start) (symbol_sized t constant bs e.start) all
-after_sized t (Definition c) all =
-    if_sized (satisfies is_uninitialized (find_symbol c.name t)) (changed c.name (symbol.Constant (number t c.value)) t) t
-    (changed_sized c.name (symbol.Constant (number t c.value)) t tt all) all
-after_sized t (TemplateEntity e) all = added_sized t e.name (symbol.Template (rank_in_text e)) tt all
-after_sized t (ArrangementEntity e) all = added_sized t e.name (symbol.Arrangement (rank_in_text e)) tt all
-
-all_sized : (t : SymbolTable) (is : List PlacedItem) → AllSized t → AllSized (after_all t is)
-all_sized t [] all = all
-all_sized t (i ∷ is) all = all_sized (after t i.what) is (after_sized t i.what all)
+other_sized : (s : Symbol) → is_array s ≡ false → IsSized s
+other_sized (symbol.Array r ds n) h = absurd (true≢false h)
+other_sized s h = tt
 
 -- an array whose dimensions aren't known counts as one without any
-array_right : (grid : List ℕ) (t : SymbolTable) → AllSized t → AllByRecursion (IsRight grid) (arrays (map entry t))
+array_right : (grid : List ℕ) (t : SymbolTable) → AllHold IsSized t → AllByRecursion (IsRight grid) (arrays (map entry t))
 array_right grid [] all = tt
 array_right grid (e ∷ es) all = by e.1 all.0 (array_right grid es all.1)
   where
@@ -279,7 +247,7 @@ module _ (s : Setting) (known : (x : Name) (a : Symbol) → find_symbol x s.name
 pub objects_right : (grid : List ℕ) (p : MainProgram) → ((x : Name) (a : Symbol) → find_symbol x (symbol_table p.declarations) ≡ Some a → is_known a ≡ true) →
     AllByRecursion (IsGood (setting grid p)) p.declarations → AllByRecursion (IsRight grid) (setting grid p).objects
 objects_right grid p known good =
-    all_append (IsRight grid) (arrays (map entry (symbol_table p.declarations))) _ (array_right grid (symbol_table p.declarations) (all_sized [] (items p.declarations) tt))
+    all_append (IsRight grid) (arrays (map entry (symbol_table p.declarations))) _ (array_right grid (symbol_table p.declarations) (all_hold IsSized array_sized other_sized [] (items p.declarations) tt))
     (all_spaces (setting grid p) known p.declarations good)
 
 -- what a name stands for

@@ -25,8 +25,8 @@ use Rattle.distribution_rules.specs.Setting.{Setting, object}
 use Rattle.alignment_rules.specs.AlignmentRules.{align_reasons, alignee_reasons, alignment_reasons}
 use Rattle.directive_check.specs.MappedObjects.{How, Aligned, Distributed, MappedObject, how_mapped, mapped_by, mapped_object, mapped_objects}
 use Rattle.directive_check.specs.MappingRules.{chain_reasons, declared_breaches, declared_reasons}
-use Rattle.known_mappings.proofs.Tests.{all_append, all_split, both, empties, fails, holds, no_reason, none_some, some_same}
-use Rattle.known_mappings.proofs.DirectiveValues.{typed_value}
+use Rattle.name_table.proofs.Tests.{all_append, all_split, both, empties, fails, holds, no_reason, none_some, some_same}
+use Rattle.name_table.proofs.TypedOperands.{typed_value}
 use Rattle.known_mappings.proofs.Objects.{AreDeclared, AreTyped, HasFew, IsGood, IsTyped}
 
 -- ---- declarations

@@ -29,7 +29,7 @@ use Rattle.directive_check.specs.Chains.{chain_entries, chain_entries_from, comp
 use Rattle.directive_check.specs.MappingRules.{chain_breaches, chain_reasons, is_past, outside_reasons}
 use Rattle.directive_check.specs.ProgramMaps.{mapped_as, replicated, start_map, start_maps_in, start_mapping, start_of, through, with_root}
 use Rattle.known_mappings.specs.StartMappings.{ByAlign, ByDistribute, IsWhole, LiesAtStart, LiesByItself, NotAligned, Unmapped}
-use Rattle.known_mappings.proofs.Tests.{HasValue, all_append, empties, fails, no_value, none_some, some_same, value_of}
+use Rattle.name_table.proofs.Tests.{HasValue, all_append, empties, fails, no_value, none_some, some_same, value_of}
 use Rattle.known_mappings.proofs.Distributions.{all_made, distribution_given}
 use Rattle.known_mappings.proofs.Alignments.{AreWithin, alignment_known}
 use Rattle.known_mappings.proofs.Chains.{all_end, ends, root_free}

@@ -17,7 +17,7 @@ use Rattle.alignment_rules.specs.AlignmentEntries.{is_past_limits}
 use Rattle.directive_check.specs.MappedObjects.{MappedObject}
 use Rattle.directive_check.specs.Chains.{chain_entries_from, composed_entries, known_or_past, limited, own_entries, root_alignment, root_from, root_of, target_of, through_target, within_limits}
 use Rattle.known_mappings.specs.StartMappings.{IsWhole}
-use Rattle.known_mappings.proofs.Tests.{none_some, some_same}
+use Rattle.name_table.proofs.Tests.{none_some, some_same}
 
 pub of_all : {A : Type 0} (P : A → Type 0) (xs : List A) → All P xs → AllByRecursion P xs
 of_all P [] h = tt

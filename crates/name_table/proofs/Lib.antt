@@ -8,4 +8,7 @@ mod ProgramBreaches
 mod Reasons
 mod Repeats
 mod Scalars
+pub mod Tests
+pub mod TypedOperands
+pub mod TableItems
 pub use Rattle.statement_walk.proofs.Lists

@@ -22,7 +22,7 @@ use Rattle.nest_check.specs.NestNames.{NestNames}
 use Rattle.nest_check.specs.NestRules.{are_linear_inside, head_expressions, is_inner_axis, is_axis_allowed, is_allowed_in_nest, is_readable, keeps_nest_rules, keeps_path_rules, nest_breaches_at, path_breaches_at, list_breaches, axis_breaches, inner_loop_breaches}
 use Rattle.nest_check.specs.Paths.{ReachedHead}
 use Rattle.well_formed.proofs.Dimensions.{declared_found}
-use Rattle.well_formed.proofs.Lists.{both, empties, fails, holds, neither, no_reason}
+use Rattle.name_table.proofs.Tests.{both, empties, fails, holds, neither, no_reason}
 use Rattle.nest_standing.specs.Named.{Declared, AreDeclared, IsScalar, Names, names_arrays, IsGoodUse, IsNamed}
 use Rattle.nest_standing.proofs.Ruled.{IsKept, IsReached}
 use Rattle.nest_standing.proofs.Exprs.{not_true}

@@ -27,7 +27,8 @@ use Rattle.array_meaning.specs.Terms.{Term, Number, Scalar, Element, Section, Ap
 use Rattle.array_meaning.specs.Terms as term
 use Rattle.array_meaning.specs.Resolution.{place_of, alone, assignment, called, left_of, term_of, terms_of, resolved, resolved_block, resolved_arms, resolved_otherwise}
 use Rattle.fitting_states.specs.FittingStates.{TermFits, TermsFit}
-use Rattle.well_formed.proofs.Lists.{all_split, both, pass_split}
+use Rattle.name_table.proofs.Tests.{all_split, both}
+use Rattle.well_formed.proofs.Lists.{pass_split}
 use Rattle.nest_items.specs.Standing.{Stands, IsReductionStatement, has_no_loop, is_no_loop, have_no_loop}
 use Rattle.nest_standing.specs.Named.{Names, is_array_in}
 use Rattle.nest_standing.proofs.Ruled.{IsReached, Tied, IsFree}

@@ -22,7 +22,8 @@ use Rattle.nest_syntax.specs.NestKinds.{Kind, New}
 use Rattle.array_meaning.specs.Terms.{Term, Element, Section, Apply, Reduce}
 use Rattle.array_meaning.specs.Resolution.{place_of, dims_of, alone, inquiry, is_element, first_term, first_named, term_of, terms_of, section_subscripts}
 use Rattle.fitting_states.specs.FittingStates.{TermFits, TermsFit}
-use Rattle.well_formed.proofs.Lists.{all_split, both, pass_split}
+use Rattle.name_table.proofs.Tests.{all_split, both}
+use Rattle.well_formed.proofs.Lists.{pass_split}
 use Rattle.well_formed.proofs.Expressions.{either}
 use Rattle.nest_items.specs.Naming.{IsNaming}
 use Rattle.nest_items.specs.Standing.{IsFixed, IsFixedTerm, AreFixedTerms, MayStand, Stands, AllStand}

@@ -30,7 +30,7 @@ use Rattle.nest_check.specs.NestRules.{is_allowed_in_nest, has_one_operator, own
 use Rattle.array_meaning.specs.Terms.{Term, Element, Section}
 use Rattle.array_meaning.specs.Statements.{Nest, Block}
 use Rattle.array_meaning.specs.Resolution.{place_of, dims_of, is_element, alone, assignment, left_of, term_of, terms_of, section_subscripts, resolved, resolved_block, resolved_arms, resolved_otherwise}
-use Rattle.well_formed.proofs.Lists.{all_split, both}
+use Rattle.name_table.proofs.Tests.{all_split, both}
 use Rattle.well_formed.proofs.Expressions.{either}
 use Rattle.array_meaning.specs.Iterations.{is_in}
 use Rattle.array_meaning.specs.Touches.{assigned_in, assigned_by, assigned_in_arms}

@@ -31,7 +31,7 @@ use Rattle.array_meaning.specs.Terms as term
 use Rattle.array_meaning.specs.Statements.{Unmarked}
 use Rattle.array_meaning.specs.Resolution.{control_of, place_of, dims_of, is_element, alone, assignment, left_of, loop_of, step_of, term_of, terms_of, section_subscripts, resolved, resolved_block, resolved_arms, resolved_otherwise}
 use Rattle.fitting_states.specs.FittingStates.{TermFits, ControlFits, BlockFits, StatementFits, ArmsFit}
-use Rattle.well_formed.proofs.Lists.{all_split, both}
+use Rattle.name_table.proofs.Tests.{all_split, both}
 use Rattle.well_formed.proofs.Heads.{placed_all}
 use Rattle.nest_items.specs.Naming.{IsNaming, AreNaming}
 use Rattle.nest_items.specs.Standing.{IsFixed, IsFixedTerm, Stands, IsReductionStatement, RightKind, has_no_loop, have_no_loop}

@@ -19,7 +19,7 @@ use Rattle.array_meaning.specs.Terms.{Term, Number, Scalar, Index, Element, Sect
 use Rattle.array_meaning.specs.Statements.{Loop, Nest, Block, Then}
 use Rattle.array_meaning.specs.Resolution.{control_of, place_of, assignment, left_of, term_of, loop_of, with_inner_unmarked, resolved_block}
 use Rattle.fitting_states.specs.FittingStates.{ControlFits, BlockFits}
-use Rattle.well_formed.proofs.Lists.{all_split}
+use Rattle.name_table.proofs.Tests.{all_split}
 use Rattle.nest_items.specs.Settled.{without}
 use Rattle.nest_items.specs.Paths.{PathsAssign}
 use Rattle.nest_items.specs.NestForm.{IsStep, BlockKeeps, LoopsKeep, IsNest}

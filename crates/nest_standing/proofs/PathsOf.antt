@@ -22,7 +22,7 @@ use Rattle.nest_syntax.specs.NestKinds.{Kind, New, has_copies}
 use Rattle.array_meaning.specs.Terms.{Term, Number, Scalar, Element, Section, Apply, Reduce}
 use Rattle.array_meaning.specs.Terms as term
 use Rattle.array_meaning.specs.Resolution.{place_of, dims_of, is_element, alone, assignment, left_of, term_of, terms_of, section_subscripts, resolved, resolved_block, resolved_arms, resolved_otherwise}
-use Rattle.well_formed.proofs.Lists.{all_split, both}
+use Rattle.name_table.proofs.Tests.{all_split, both}
 use Rattle.well_formed.proofs.Expressions.{either}
 use Rattle.nest_items.specs.Paths.{IsReadable, PathsAssign, PathAssigns, ArmsAssign, assigned_after, assigned_after_statement, assigned_after_arms}
 use Rattle.nest_standing.specs.Named.{Declared, IsNamed}

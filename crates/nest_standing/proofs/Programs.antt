@@ -23,7 +23,7 @@ use Rattle.array_meaning.specs.Terms.{Term, Scalar, Element, Section}
 use Rattle.array_meaning.specs.Statements.{Loop}
 use Rattle.array_meaning.specs.Resolution.{control_of, assignment, left_of, loop_of, term_of, resolved, resolved_block, resolved_arms, resolved_otherwise}
 use Rattle.fitting_states.specs.FittingStates.{ControlFits, BlockFits, StatementFits, MarkFits, ArmsFit}
-use Rattle.well_formed.proofs.Lists.{all_empty, all_split, empties, no_breach}
+use Rattle.name_table.proofs.Tests.{all_empty, all_split, empties, no_breach}
 use Rattle.well_formed.proofs.RankedStatements.{IsTypedHead, all_typed_heads}
 use Rattle.nest_items.specs.BlockForms.{HasForms, BlockHasForms, ArmsHaveForms}
 use Rattle.nest_standing.specs.Named.{IsNamed}

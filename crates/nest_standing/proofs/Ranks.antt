@@ -19,7 +19,7 @@ use Rattle.name_table.specs.declared.names.Entry.{Entry}
 use Rattle.body_forms.specs.Names.{is_scalar}
 use Rattle.body_forms.specs.Subexpressions.{subexpressions, subexpressions_in_part, subexpressions_in_parts, subexpressions_in_maybe}
 use Rattle.well_formed.proofs.Dimensions.{declared_found}
-use Rattle.well_formed.proofs.Lists.{both}
+use Rattle.name_table.proofs.Tests.{both}
 use Rattle.nest_standing.specs.Named.{is_array_in, names_arrays}
 use Rattle.nest_standing.proofs.Bodies.{two}
 

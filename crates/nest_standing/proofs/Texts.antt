@@ -23,7 +23,7 @@ use Rattle.nest_check.specs.NestRules.{body_names, is_linear_inside, is_allowed_
 use Rattle.array_meaning.specs.Terms.{Term, Element, Section}
 use Rattle.array_meaning.specs.Resolution.{place_of, dims_of, is_element, alone, assignment, left_of, term_of, terms_of, section_subscripts, resolved, resolved_block, resolved_arms, resolved_otherwise}
 use Rattle.fitting_states.specs.FittingStates.{TermFits, BlockFits, StatementFits, ArmsFit}
-use Rattle.well_formed.proofs.Lists.{all_split, both}
+use Rattle.name_table.proofs.Tests.{all_split, both}
 use Rattle.well_formed.proofs.Heads.{placed_all}
 use Rattle.nest_items.specs.NestForm.{IsPlain, NamesNone, TextsKeep, TextKeeps, ArmsTextsKeep}
 use Rattle.nest_standing.specs.Named.{Declared, Names, IsNamed}

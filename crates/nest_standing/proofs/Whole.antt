@@ -26,7 +26,7 @@ use Rattle.nest_syntax.specs.NestKinds.{Kind, has_copies, kind_of}
 use Rattle.array_meaning.specs.Statements.{Block, Do}
 use Rattle.array_meaning.specs.Resolution.{control_of, place_of, term_of, loop_of, with_inner_unmarked, resolved_block}
 use Rattle.fitting_states.specs.FittingStates.{ControlFits, BlockFits}
-use Rattle.well_formed.proofs.Lists.{all_split, both, empties, fails, holds, no_reason}
+use Rattle.name_table.proofs.Tests.{all_split, both, empties, fails, holds, no_reason}
 use Rattle.array_meaning.specs.Iterations.{is_in}
 use Rattle.nest_items.specs.Standing.{AreKinds}
 use Rattle.nest_items.specs.Paths.{PathsAssign}

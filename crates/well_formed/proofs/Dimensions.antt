@@ -1,19 +1,18 @@
 -- The arrays that a program declares: their dimensions, by their names and by their places.
 use Rattle.std.proofs.Common.{◌≡◌, ℕ, zero, suc, ◌+◌, ◌≤◌, Bool, true, false, true≢false, cond, bytes_eq, List, [], ◌∷◌, length, map, position, nat_lt, Option, Some, None, refl, sym, ap, subst, ◌∙◌, arith}
 use Rattle.std.specs.Bool.{⊤}
-use Rattle.std.specs.Prelude.{ℤ, ◌||◌, is_some, option_map, option_and_then, slice_get, unwrap_or, if◌then◌else◌}
+use Rattle.std.specs.Prelude.{ℤ, ◌||◌, option_map, option_and_then, slice_get, unwrap_or, if◌then◌else◌}
 use Rattle.std.specs.List.{AllByRecursion, list_all, list_any, position_from}
 use Rattle.std.proofs.lemmas.Bool.Decides.{nat_tests}
 use Rattle.std.proofs.lemmas.Iterator.Adapters.{position_from-zero}
 use Rattle.hpf_base.specs.declared.limits.TheConstants.{MAX_RANK}
 use Rattle.syntax_tree.specs.Directive.{Bound}
-use Rattle.syntax_tree.specs.Expression.{Expression}
 use Rattle.syntax_tree.specs.MainProgram.{Declaration}
 use Rattle.expression_rules.specs.declared.dims.Dim.{Dim}
 use Rattle.expression_rules.specs.declared.symbols.Symbol.{Symbol}
-use Rattle.expression_rules.specs.declared.symbols.Symbol.TheVariants.{Constant, Array, Template, Arrangement}
-use Rattle.expression_rules.specs.Symbols.{Name, SymbolTable, all_elements, find, added, changed, is_declared, is_uninitialized, satisfies}
-use Rattle.declarations.specs.Declarations.{Item, DimensionAttribute, TypedEntity, Definition, TemplateEntity, ArrangementEntity, PlacedItem, after, after_all, dims, is_bound_too_far, is_past_limits, is_too_large, items, known_dims, lower_of, number, rank_in_text, symbol_of, symbol_table, with_dim}
+use Rattle.expression_rules.specs.declared.symbols.Symbol.TheVariants.{Array}
+use Rattle.expression_rules.specs.Symbols.{Name, SymbolTable, all_elements, find, is_array}
+use Rattle.declarations.specs.Declarations.{dims, is_bound_too_far, is_past_limits, is_too_large, items, known_dims, lower_of, number, symbol_table, with_dim}
 use Rattle.name_table.specs.Entries.{entry, declared_as, what_is}
 use Rattle.name_table.specs.KnownSymbols.{is_known}
 use Rattle.name_table.specs.declared.names.Entry.{Entry}
@@ -21,13 +20,8 @@ use Rattle.name_table.specs.declared.names.What.{What}
 use Rattle.code_meaning.specs.Parallel.{shape_of}
 use Rattle.array_meaning.specs.Resolution.{place_of, initial_array, initial_state}
 use Rattle.lowering.specs.Ranks.{declared_shapes}
-use Rattle.well_formed.proofs.Lists.{both, neither}
-
-pub some_same : {A : Type 0} (a b : A) → Some a ≡ Some b → a ≡ b
-some_same a b h = cc
-
-pub none_some : {A : Type 0} (a : A) → None ≡ Some a → ⊥
-none_some a h = true≢false (sym (ap is_some h))
+use Rattle.name_table.proofs.Tests.{both, neither, none_some, some_same}
+use Rattle.name_table.proofs.TableItems.{AllHold, all_hold}
 
 -- ---- known dimensions: as many as the rank, and 7 at most
 
@@ -61,41 +55,9 @@ array_sized t bs n = by (is_past_limits t bs) refl (dims t bs) refl
         (neither (nat_lt MAX_RANK (length bs) || list_any (is_bound_too_far t) bs) (is_too_large (all_elements t) (dims t bs)) past).0 in
         (same, subst (λ k. k ≤ MAX_RANK) same (at_most (length bs) ranks.0))
 
-symbol_sized : (t : SymbolTable) (constant : Bool) (bs : Option (List Bound)) (e : Option Expression) → IsSized (symbol_of t constant bs e)
-symbol_sized t true bs e = tt
-symbol_sized t false None None = tt
-symbol_sized t false None (Some e) = tt
-symbol_sized t false (Some bs) e = array_sized t bs _
-
-abbrev AllSized : SymbolTable → Type 0
-AllSized t = AllByRecursion (λ e. IsSized e.1) t
-
-changed_sized : (x : Name) (s : Symbol) (t : SymbolTable) → IsSized s → AllSized t → AllSized (changed x s t)
-changed_sized x s [] own all = (own, tt)
-changed_sized x s (e ∷ es) own all = by (bytes_eq x e.0) (changed_sized x s es own all.1)
-  where
-    by : (b : Bool) → AllSized (changed x s es) → AllSized (if b then (e.0, s) ∷ es else e ∷ changed x s es)
-    by true more = (own, all.1)
-    by false more = (all.0, more)
-
-if_sized : (b : Bool) (t u : SymbolTable) → AllSized t → AllSized u → AllSized (if b then t else u)
-if_sized true t u f g = f
-if_sized false t u f g = g
-
-added_sized : (t : SymbolTable) (x : Name) (s : Symbol) → IsSized s → AllSized t → AllSized (added t x s)
-added_sized t x s own all = if_sized (is_declared x t) t (changed x s t) all (changed_sized x s t own all)
-
-after_sized : (t : SymbolTable) (i : Item) → AllSized t → AllSized (after t i)
-after_sized t (DimensionAttribute bs) all = all
-after_sized t (TypedEntity constant bs e) all = added_sized t e.name (symbol_of t constant bs e.start) (symbol_sized t constant bs e.start) all
-after_sized t (Definition c) all =
-    if_sized (satisfies is_uninitialized (find c.name t)) (changed c.name (Constant (number t c.value)) t) t (changed_sized c.name (Constant (number t c.value)) t tt all) all
-after_sized t (TemplateEntity e) all = added_sized t e.name (Template (rank_in_text e)) tt all
-after_sized t (ArrangementEntity e) all = added_sized t e.name (Arrangement (rank_in_text e)) tt all
-
-all_sized : (t : SymbolTable) (is : List PlacedItem) → AllSized t → AllSized (after_all t is)
-all_sized t [] all = all
-all_sized t (i ∷ is) all = all_sized (after t i.what) is (after_sized t i.what all)
+other_sized : (s : Symbol) → is_array s ≡ false → IsSized s
+other_sized (Array r ds n) h = absurd (true≢false h)
+other_sized s h = tt
 
 -- where all is known, each array has its dimensions
 abbrev pub IsFull : Symbol → Type 0
@@ -111,13 +73,13 @@ symbol_full (Array r None n) sized known = absurd (true≢false (sym known))
 symbol_full (Array r (Some ds) n) sized known = sized
 symbol_full s sized known = tt
 
-known_full : (t : SymbolTable) → AllSized t → list_all (λ e. is_known e.1) t ≡ true → AllFull t
+known_full : (t : SymbolTable) → AllHold IsSized t → list_all (λ e. is_known e.1) t ≡ true → AllFull t
 known_full [] sized known = tt
 known_full (e ∷ es) sized known =
     let s = both (is_known e.1) (list_all (λ e. is_known e.1) es) known in (symbol_full e.1 sized.0 s.0, known_full es sized.1 s.1)
 
 pub table_full : (ds : List Declaration) → list_all (λ e. is_known e.1) (symbol_table ds) ≡ true → AllFull (symbol_table ds)
-table_full ds known = known_full (symbol_table ds) (all_sized [] (items ds) tt) known
+table_full ds known = known_full (symbol_table ds) (all_hold IsSized array_sized other_sized [] (items ds) tt) known
 
 pub found_full : (x : Name) (t : SymbolTable) (s : Symbol) → AllFull t → find x t ≡ Some s → IsFull s
 found_full x [] s all is = absurd (none_some s is)

@@ -37,7 +37,8 @@ use Rattle.fitting_states.proofs.Starts.{initial_fits}
 use Rattle.lowering.proofs.Programs.{program-ends, program-passes}
 use Rattle.lowering.proofs.Validity.{code-valid}
 use Rattle.lowering.proofs.ValidPrograms.{program-valid}
-use Rattle.well_formed.proofs.Lists.{all_empty, empties, front_empty, no_breach}
+use Rattle.name_table.proofs.Tests.{all_empty, empties, no_breach}
+use Rattle.well_formed.proofs.Lists.{front_empty}
 use Rattle.well_formed.proofs.Dimensions.{few_dims, found_full, table_full}
 use Rattle.well_formed.proofs.Heads.{all_good}
 use Rattle.well_formed.proofs.RankedStatements.{all_typed_heads, block_ranked}

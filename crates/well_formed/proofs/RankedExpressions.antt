@@ -1,6 +1,6 @@
 -- The expressions of a program that have a type and a rank keep the ranks of arrays.
 use Rattle.std.proofs.Common.{◌≡◌, ℕ, zero, suc, ◌+◌, ◌<◌, Bool, true, false, true≢false, cond, bytes_eq, List, [], ◌∷◌, length, map, position, Option, Some, None, refl, sym, ap, ◌∙◌, arith}
-use Rattle.std.specs.Prelude.{ℤ, pos, drop, ◌&&◌, not, is_some, nat_eq, slice_index_or, if◌then◌else◌}
+use Rattle.std.specs.Prelude.{ℤ, pos, drop, ◌&&◌, not, nat_eq, slice_index_or, if◌then◌else◌}
 use Rattle.std.specs.List.{AllByRecursion, position_from}
 use Rattle.std.proofs.lemmas.Bool.{eqb-true}
 use Rattle.std.proofs.lemmas.Iterator.Adapters.{position_from-zero}
@@ -12,10 +12,9 @@ use Rattle.expression_rules.specs.declared.dims.Dim.{Dim}
 use Rattle.expression_rules.specs.declared.symbols.Symbol.{Symbol}
 use Rattle.expression_rules.specs.declared.symbols.Symbol.TheVariants.{Array}
 use Rattle.expression_rules.specs.declared.types.Context.TheVariants.{Statement}
-use Rattle.expression_rules.specs.declared.types.DataType.{DataType}
 use Rattle.expression_rules.specs.declared.types.TypeAndRank.{TypeAndRank}
 use Rattle.expression_rules.specs.Symbols.{Name, SymbolTable, find, rank_of}
-use Rattle.expression_rules.specs.Types.{are_subscripts, called_type, common, conforming, count_of, elemental, if_typed, integer_scalar_if, is_integer_scalar, is_subscript, is_triplet_part, of_type, operand_type, rank_in, reduction, reduction_of, result_type, subscripted, triplets, type_and_rank, types_and_ranks}
+use Rattle.expression_rules.specs.Types.{are_subscripts, called_type, conforming, count_of, elemental, if_typed, integer_scalar_if, is_integer_scalar, is_subscript, is_triplet_part, operand_type, reduction, reduction_of, subscripted, triplets, type_and_rank, types_and_ranks}
 use Rattle.name_table.specs.Entries.{declared_as, entry, what_is}
 use Rattle.name_table.specs.declared.names.Entry.{Entry}
 use Rattle.name_table.specs.declared.names.What.{What}
@@ -24,51 +23,20 @@ use Rattle.array_meaning.specs.Terms.{Element, Section, Apply, Reduce, Terms, No
 use Rattle.array_meaning.specs.Resolution.{alone, dims_of, first_named, first_term, initial_array, inquiry, is_element, no_dim, place_of, section_subscript, section_subscripts, term_of, term_or, terms_of, whole}
 use Rattle.code_meaning.specs.Parallel.{shape_of}
 use Rattle.lowering.specs.Ranks.{AreRanked, AreRankedSubscripts, IsRanked, subscript_count}
-use Rattle.well_formed.proofs.Lists.{both}
+use Rattle.name_table.proofs.Tests.{HasValue, both, no_value, none_some, some_same}
+use Rattle.name_table.proofs.TypedOperands.{conforming_values, elemental_values, typed_value}
 use Rattle.well_formed.proofs.Expressions.{either}
-use Rattle.well_formed.proofs.Dimensions.{IsFull, declared_found, none_some, shape_is, shapes_in, some_same}
+use Rattle.well_formed.proofs.Dimensions.{IsFull, declared_found, shape_is, shapes_in}
 
 -- ---- tests and options
-
-abbrev pub HasValue : {A : Type 0} → Option A → Type 0
-HasValue o = is_some o ≡ true
-
-no_value : false ≡ true → ⊥
-no_value h = true≢false (sym h)
 
 if_value : {A : Type 0} (b : Bool) (o : Option A) → HasValue (if b then o else None) → b ≡ true
 if_value true o h = refl
 if_value false o h = absurd (no_value h)
 
-pub typed_value : (test : TypeAndRank → Bool) (o : Option TypeAndRank) → if_typed test o ≡ true → HasValue o
-typed_value test None h = absurd (true≢false (sym h))
-typed_value test (Some s) h = refl
-
-common_values : (a b : Option ℕ) → HasValue (common a b) → HasValue a × HasValue b
-common_values None b h = absurd (no_value h)
-common_values (Some q) None h = absurd (no_value h)
-common_values (Some q) (Some r) h = (refl, refl)
-
-in_value : (k : DataType) (o : Option TypeAndRank) → HasValue (rank_in k o) → HasValue o
-in_value k None h = absurd (no_value h)
-in_value k (Some s) h = refl
-
--- operands that conform each have a type
-conforming_values : (k : DataType) (ss : List (Option TypeAndRank)) → HasValue (conforming k ss) → AllByRecursion HasValue ss
-conforming_values k [] h = tt
-conforming_values k (s ∷ ss) h =
-    let both_of = common_values (rank_in k s) (conforming k ss) h in (in_value k s both_of.0, conforming_values k ss both_of.1)
-
-of_value : (k : DataType) (o : Option ℕ) → HasValue (of_type k o) → HasValue o
-of_value k None h = absurd (no_value h)
-of_value k (Some r) h = refl
-
 reduced_value : (o : Op) (r : Option ℕ) → HasValue (reduction_of o r) → HasValue r
 reduced_value o None h = absurd (no_value h)
 reduced_value o (Some r) h = refl
-
-elemental_values : (o : Op) (ss : List (Option TypeAndRank)) → HasValue (elemental o ss) → AllByRecursion HasValue ss
-elemental_values o ss h = conforming_values (operand_type o) ss (of_value (result_type o) (conforming (operand_type o) ss) h)
 
 reduction_values : (o : Op) (ss : List (Option TypeAndRank)) → HasValue (reduction o ss) → AllByRecursion HasValue ss
 reduction_values o ss h = conforming_values (operand_type o) ss (reduced_value o (conforming (operand_type o) ss) h)

@@ -30,10 +30,12 @@ use Rattle.array_meaning.specs.Terms.{Element, Scalar, Section, Term}
 use Rattle.array_meaning.specs.Statements.{Block, Do, Done, ElementAssignment, Loop, SectionAssignment, Then}
 use Rattle.array_meaning.specs.Resolution.{assignment, control_of, do_loop, element_assignments, item, item_of, left_of, loop_of, resolved, resolved_arms, resolved_block, resolved_otherwise, section_assignments, step_of, term_of, to_element, to_section, with_inner_unmarked}
 use Rattle.lowering.specs.Ranks.{ArmsKeepRanks, BlockKeepsRanks, IsRanked, IsRankedControl, IsRankedIndexed, IsRankedItem, IsRankedMask, IsRankedMasked, KeepsRanks}
-use Rattle.well_formed.proofs.Lists.{all_split, both, empties, fails, holds, no_reason, split_map}
+use Rattle.name_table.proofs.Tests.{HasValue, all_split, both, empties, fails, holds, no_reason}
+use Rattle.name_table.proofs.TypedOperands.{typed_value}
+use Rattle.well_formed.proofs.Lists.{split_map}
 use Rattle.well_formed.proofs.Heads.{placed_all}
 use Rattle.well_formed.proofs.Dimensions.{IsFull, shapes_in}
-use Rattle.well_formed.proofs.RankedExpressions.{HasValue, ranked, typed_value}
+use Rattle.well_formed.proofs.RankedExpressions.{ranked}
 
 -- ---- one statement by itself
 
