@@ -39,6 +39,7 @@ pub fn read_statement(alloc: Global, line: u32, tokens: &[Token]) -> Result<Stat
         Err(error) => return Err(unread(line, left_out, error)),
     };
     if left_out {
+        drop(read);
         return Err(StaticError::at(line, Reason::LeftOut));
     }
     Ok(read)
