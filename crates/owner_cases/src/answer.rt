@@ -4,7 +4,7 @@ use crate::composed::write_composed;
 use crate::integers::{write_common, write_divisor, write_solution};
 use crate::owned::{write_owners, write_piece};
 use crate::positions::{Asked, write_positions};
-use crate::tables::write_table;
+use crate::tables::{write_steps, write_table};
 use case_texts::{Answers, Case, TextError};
 use std::alloc::{AllocError, Global};
 
@@ -34,6 +34,7 @@ fn write_answer(alloc: Global, out: &mut String, case: &Case) -> Result<(), Text
         "piece" => write_piece(alloc, out, written),
         "compose" => write_composed(alloc, out, written),
         "table" => write_table(alloc, out, written),
+        "steps" => write_steps(alloc, out, written),
         "gcd" => write_divisor(alloc, out, written),
         "solve" => write_solution(alloc, out, written),
         "meet" => write_common(alloc, out, written),

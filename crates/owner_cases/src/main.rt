@@ -20,6 +20,7 @@
 //! - `table` has a line, and a section of it, by a node, its first position, its stride and its number of places: how many of the places,
 //!   from 0, the node owns. Three lists of numbers follow, and in the answer what is asked of each: the n-th place; the first place
 //!   above a number; and how many places are at most a number.
+//! - `steps` has a line and such a section: in how many steps its table is built, and how many offsets the table has.
 //! - `gcd` has two integers: their greatest common divisor, and what its sum of multiples of them comes to.
 //! - `solve` has a factor, a right side and a modulus: the least solution of the congruence.
 //! - `meet` has two progressions, each by its first member, its stride and its number of members: the progression of the members of both.
