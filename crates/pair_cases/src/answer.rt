@@ -1,6 +1,7 @@
 //! The answers to cases.
 
 use crate::arrays::{Arrays, arrays_of};
+use crate::coded::coded_message;
 use crate::pairs::{write_moves, write_pairs};
 use crate::rounds::write_rounds;
 use crate::show::write_spots;
@@ -39,6 +40,8 @@ fn write_answer(
         None
     } else if word == "remap" {
         write_remap(alloc, out, case, &arrays)
+    } else if word == "statement" {
+        write_coded(alloc, out, case, &arrays, asked)
     } else {
         write_asked(alloc, out, case, &arrays, word, asked)
     }
@@ -52,6 +55,21 @@ fn write_remap(alloc: Global, out: &mut String, case: &[String], arrays: &Arrays
     } else {
         None
     }
+}
+
+/// Writes the message from one node to another for the statement in node code.
+fn write_coded(
+    alloc: Global,
+    out: &mut String,
+    case: &[String],
+    arrays: &Arrays,
+    asked: &str,
+) -> Option<()> {
+    let (from, to) = asked.split_once(' ')?;
+    let from = from.parse::<u32>().ok()?;
+    let to = to.parse::<u32>().ok()?;
+    let spots = coded_message(alloc, case, arrays, from, to)?;
+    write_spots(out, &arrays.shapes, &spots).ok()
 }
 
 /// Writes what the word asks of a statement.

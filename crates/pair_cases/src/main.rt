@@ -10,12 +10,15 @@
 //! - `left`: what is assigned at its tuples: an array, and a course for each dimension, `f5` for the subscript 5 at each tuple, `m0:1:2` for one that
 //!   moves along axis 0 from 1 by 2.
 //! - `read`: what is read at them, written in the same way; a line each.
+//! - `slots`, and a line that begins with a number: the values of the slots, and a statement in node code over them, `par` or `forall`, written as
+//!   `case_code` says.
 //! - `after`: an array as it lies after a redistribution, written as `array` writes it and in the same order; a line each. One that stays has the same line again.
 //!
 //! These lines ask, of what stands before them in the case:
 //!
 //! - `message`: what one node sends another, by the numbers of the sender and the taker, and by how often it is asked, where that isn't once. The answer is the
 //!   elements of the message, and `empty` where there are none; where it is asked more often, how many of the answers are empty.
+//! - `statement`: the same of the statement in node code, once.
 //! - `pairs`: whether the message of each pair of nodes, of a node and itself too, is what a filter of all elements by the definitions gives: those that the
 //!   taker needs and doesn't own, and whose least owner is the sender. The answer is how many pairs there are and how many elements their messages have, or
 //!   the first pair that differs, with both lists. Each array has at most 1,024 elements, and the space 1,024 tuples.
@@ -49,6 +52,7 @@
 mod answer;
 mod arrays;
 mod bounds;
+mod coded;
 mod pairs;
 mod rounds;
 mod show;
@@ -69,7 +73,7 @@ fn main(rt: HostRuntime) -> io::Result<()> {
         let line = line?;
         println!(rt; "{line}")?;
         let (word, rest) = line.as_str().split_once(' ').unwrap_or((line.as_str(), ""));
-        if word == "message" || word == "pairs" || word == "remap" || word == "rounds" {
+        if asks(word) {
             print!(rt; "{}", answer_to(alloc, &case, word, rest)?)?;
         } else {
             if word == "case" {
@@ -79,4 +83,9 @@ fn main(rt: HostRuntime) -> io::Result<()> {
         }
     }
     Ok(())
+}
+
+/// Whether a line that begins with this word asks something.
+fn asks(word: &str) -> bool {
+    matches!(word, "message" | "statement" | "pairs" | "remap" | "rounds")
 }
