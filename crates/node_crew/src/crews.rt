@@ -1,8 +1,9 @@
 //! Crews: the stations that one thread steps in turn.
 
-ghost use Rattle.std.specs.Prelude.{◌≡◌, map};
+ghost use Rattle.std.specs.Prelude.{◌≡◌, map, OnOk};
 ghost use Rattle.stations.specs.Stations.{fixed};
 
+use hpf_base::OutOfMemory;
 use hpf_ports::Gate;
 use node_law::Stepped;
 use sendable_nodes::Node;
@@ -57,9 +58,23 @@ pub(crate) fn joined(one: Turn, other: Turn) -> Turn {
     }
 }
 
-// Local steps of a station's node that take no memory, and then one step of the station. Where its node is refused memory, the word `halt` is set, at which
-// all crews stop.
+// Local steps of a station's node that take no memory, and then one step of the station. It fails where the node is refused memory in it.
 fn step_one<R: Wait, G: Gate>(
+    rt: &R,
+    gate: &G,
+    station: &mut Station<Node>,
+) -> Result<Stepped, OutOfMemory>
+    ensures { fixed station.new ≡ fixed station.old }
+{
+    if let Some((node, phase)) = station.comes_to() {
+        gate.pass(node, phase);
+    }
+    station.run_local();
+    station.step(rt)
+}
+
+// What came of such a step. Where the node was refused memory, the word `halt` is set, at which all crews stop.
+fn turn_of<R: Wait, G: Gate>(
     rt: &R,
     gate: &G,
     station: &mut Station<Node>,
@@ -67,11 +82,7 @@ fn step_one<R: Wait, G: Gate>(
 ) -> Turn
     ensures { fixed station.new ≡ fixed station.old }
 {
-    if let Some((node, phase)) = station.comes_to() {
-        gate.pass(node, phase);
-    }
-    station.run_local();
-    match station.step(rt) {
+    match step_one(rt, gate, station) {
         Ok(Stepped::Moved) => Turn::Moved,
         Ok(Stepped::NotReady) => Turn::Still,
         Ok(Stepped::Ended) => Turn::Over,
@@ -82,6 +93,20 @@ fn step_one<R: Wait, G: Gate>(
     }
 }
 
+/// One step of each of these stations, in order. It fails where a node is refused memory.
+pub(crate) fn step_each<R: Wait, G: Gate>(
+    rt: &R,
+    gate: &G,
+    stations: &mut Vec<Station<Node>>,
+) -> Result<(), OutOfMemory>
+    ensures { OnOk result (map fixed stations.new.items ≡ map fixed stations.old.items) }
+{
+    for station in stations.iter_mut() {
+        step_one(rt, gate, station)?;
+    }
+    Ok(())
+}
+
 impl Crew {
     /// One step of each station, in order.
     pub(crate) fn step_all<R: Wait, G: Gate>(&mut self, rt: &R, gate: &G, halt: &AtomicU64) -> Turn
@@ -89,7 +114,7 @@ impl Crew {
     {
         let mut turn = Turn::Over;
         for station in self.stations.iter_mut() {
-            turn = joined(turn, step_one(rt, gate, station, halt));
+            turn = joined(turn, turn_of(rt, gate, station, halt));
         }
         turn
     }

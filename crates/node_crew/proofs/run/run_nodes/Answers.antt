@@ -7,6 +7,6 @@ use Rattle.stations.specs.Stations.{fixed}
 
 pub returns-clause-ends : goal.returns-clause-ends
 returns-clause-ends g c =
-    let same : map fixed c.in_ok-stations-2.stations.items ≡ map fixed c.in_ok-stations.stations.items =
-    c.in_ok-stations-2.ensures ∙ ap joined c.in_ok-crews-2.ensures ∙ joined_last c.in_ok-crews.crews.items c.in_ok-crews.last ∙ c.in_ok-crews.ensures.joined in
+    let same : map fixed c.in_ok-stations-3.stations.items ≡ map fixed c.in_ok-stations.stations.items =
+    c.in_ok-stations-3.ensures.same ∙ c.in_ok-stations-2.ensures ∙ ap joined c.in_ok-crews-2.ensures ∙ joined_last c.in_ok-crews.crews.items c.in_ok-crews.last ∙ c.in_ok-crews.ensures.joined in
     c.in_ok-nodes.ensures.ends c.args.nodes.items (subst (AreJoined c.args.nodes.items) (sym same) c.in_ok-stations.ensures) c.requires.phased

@@ -5,5 +5,5 @@ use Rattle.node_crew.proofs.crews.Crew.step_all.Goals as goal
 
 pub loop-station-preserved : goal.loop-station-preserved
 loop-station-preserved g c =
-    let same : fixed c.step_one.new.station ≡ fixed c.station-item.result = search rules in
-    map_set_or fixed c.loop-station.station-items c.loop-station.station-index c.station-item.result c.step_one.new.station c.station-item.is same ∙ c.loop-station.invariant
+    let same : fixed c.turn_of.new.station ≡ fixed c.station-item.result = search rules in
+    map_set_or fixed c.loop-station.station-items c.loop-station.station-index c.station-item.result c.turn_of.new.station c.station-item.is same ∙ c.loop-station.invariant
