@@ -65,7 +65,7 @@ module _ (table : ArrayTable) (row_count : ℕ) (moves : ℕ → List NewMapping
     Flows T to b slots m s Cycled = Lands T again b slots m s
     Flows T to b slots m s Stopped =
         (i : Idle row_count) → (m' : Machine Instruction Fault) × ((k : ℕ) × (steps (meaning_of table) k (m i) ≡ m') × IsTrail moves (passed table k (m i)) T)
-        × (m'.control.status ≡ Finished) × (m'.printed ≡ s.printed) × Holds s m'.control.slots m'.rows
+        × (m'.control.status ≡ Finished) × (m'.printed ≡ s.printed) × Holds s m'.control.slots m'.rows × (m'.kept ≡ None)
     Flows T to b slots m s (runs.Faulted f) = Stops table row_count moves code T m f s.printed
 
     abbrev pub Goes : Trail → ℕ → ℕ → List ℤ → Place row_count → Run → Type 0
@@ -93,6 +93,7 @@ module _ (table : ArrayTable) (row_count : ℕ) (moves : ℕ → List NewMapping
           b.2,
           b.3,
           b.4,
+          b.5,
         )
     flows-on T U to b b1 slots slots1 m m1 s (runs.Faulted f) le reach kept h = stops-on table row_count moves code m m1 f s.printed reach h
 

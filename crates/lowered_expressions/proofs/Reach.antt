@@ -126,10 +126,10 @@ module _ (table : ArrayTable) (row_count : ℕ) (moves : ℕ → List NewMapping
       → IsTrail moves (passed table 1 (stands pc slots rows out i)) []
   still pc slots rows out x h e i = subst (λ l. IsTrail moves (l ++ []) []) (sym (ap (λ o. note_at 0 o slots) h ∙ e)) tt
 
-  -- the run ends with a fault, with this printed
+  -- the run ends with a fault, with this printed, and keeps none
   abbrev pub Stops : Trail → Place row_count → Fault → List ℕ → Type 0
   Stops T m f out = (i : Idle row_count) → (m' : Machine Instruction Fault)
-      × ((k : ℕ) × (steps (meaning_of table) k (m i) ≡ m') × IsTrail moves (passed table k (m i)) T) × (m'.control.status ≡ Faulted f) × (m'.printed ≡ out)
+      × ((k : ℕ) × (steps (meaning_of table) k (m i) ≡ m') × IsTrail moves (passed table k (m i)) T) × (m'.control.status ≡ Faulted f) × (m'.printed ≡ out) × (m'.kept ≡ None)
 
   pub stops-on : {T U : Trail} (m m' : Place row_count) (f : Fault) (out : List ℕ) → Reaches T m m' → Stops U m' f out → Stops (T ++ U) m f out
   stops-on {T} {U} m m' f out r s i =
@@ -143,6 +143,7 @@ module _ (table : ArrayTable) (row_count : ℕ) (moves : ℕ → List NewMapping
         ),
         b.2,
         b.3,
+        b.4,
       )
 
   module _ (line : ℕ) (rows : Storage) (out : List ℕ) where

@@ -66,7 +66,7 @@ module _ (table : ArrayTable) (row_count : ℕ) (moves : ℕ → List NewMapping
           ≡ record (stands table row_count moves code pc slots rows out i) { control = set_result (at_line line r) x (control pc slots) })
           → Comes table row_count moves code line rows out [] pc (pc + 1) b slots (λ slots' v. slot slots' x ≡ v) r
       by_result (Ok v) g = (slice_set slots x v, (λ i. (1, i, g i, still table row_count moves code pc slots rows out (Set line x f) h refl i)), same-set b x slots v le, slot-set x slots v lt)
-      by_result (Err c) g = λ i. (record (stands table row_count moves code pc slots rows out i) { control = faulted (control pc slots) (fault_at line c) }, (1, g i, still table row_count moves code pc slots rows out (Set line x f) h refl i), refl, refl)
+      by_result (Err c) g = λ i. (record (stands table row_count moves code pc slots rows out i) { control = faulted (control pc slots) (fault_at line c) }, (1, g i, still table row_count moves code pc slots rows out (Set line x f) h refl i), refl, refl, refl)
 
   -- a fetch of an element
   pub fetch-comes : (pc b x a : ℕ) (slots : List ℤ) (fs : Flats) (is : List ℤ) → slice_get code pc ≡ Some (Fetch line a fs x) → flat_values slots [] [] fs ≡ Ok is → a < n
@@ -96,7 +96,7 @@ module _ (table : ArrayTable) (row_count : ℕ) (moves : ℕ → List NewMapping
         slot-set x slots
             (slice_index_or (row_of rows a) k (pos 0)) lt ∙ ap (λ r. slice_index_or r k (pos 0)) (arrays.elements a la),
       )
-      by_place (Err c) g = λ i. (record (stands table row_count moves code pc slots rows out i) { control = faulted (control pc slots) (fault_at line c) }, (1, g i, still table row_count moves code pc slots rows out (Fetch line a fs x) h refl i), refl, refl)
+      by_place (Err c) g = λ i. (record (stands table row_count moves code pc slots rows out i) { control = faulted (control pc slots) (fault_at line c) }, (1, g i, still table row_count moves code pc slots rows out (Fetch line a fs x) h refl i), refl, refl, refl)
 
   pub apply-comes : (T : Trail) (o : Op) (ts : Terms) (pc b : ℕ) (slots : List ℤ) (c : Bool) → can_divide o ≡ c
       → HasAt code pc (codes_of line b ts ++ set_if c line (b + all_slots_of ts) (Operated o (flats_of b ts))) → b + (all_slots_of ts + one_if c) ≤ length slots

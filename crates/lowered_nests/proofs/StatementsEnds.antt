@@ -218,6 +218,7 @@ module _ (table : ArrayTable) (row_count : ℕ) (moves : ℕ → List NewMapping
             (a.count, a.reach, b.trail i a.count a.quiet (inr ((faults i).fault, ap (λ (m : Machine Instruction Fault). m.control.status) a.reach ∙ a.status))),
             a.status ∙ ap machine.Faulted (same-fault i),
             a.bytes,
+            a.kept,
           )
 
       fault-end : StatementsFault table row_count moves code n many line pc v nest loop block body h.form s slots rows

@@ -80,7 +80,7 @@ module _ (table : ArrayTable) (row_count : ℕ) (moves : ℕ → List NewMapping
           ≡ record (stands table row_count moves code pc slots rows s.printed i) { control = go_on_if {A = Spot} (at_line line (p >>= (λ k. Ok (record { row = a; at = k })))) control })
           → Comes table row_count moves code line rows s.printed [] pc (pc + 1) b slots (λ slots' k. ⊤) p
       by_place (Ok k) g = (slots, (λ i. (1, i, g i, still table row_count moves code pc slots rows s.printed (TestBounds line a fs) h refl i)), same-refl b slots, tt)
-      by_place (Err c) g = λ i. (record (stands table row_count moves code pc slots rows s.printed i) { control = faulted control (fault_at line c) }, (1, g i, still table row_count moves code pc slots rows s.printed (TestBounds line a fs) h refl i), refl, refl)
+      by_place (Err c) g = λ i. (record (stands table row_count moves code pc slots rows s.printed i) { control = faulted control (fault_at line c) }, (1, g i, still table row_count moves code pc slots rows s.printed (TestBounds line a fs) h refl i), refl, refl, refl)
 
   -- an element gets a value
   stores : (line pc b a k : ℕ) (slots : List ℤ) (rows : Storage) (s : State) (fs : Flats) (f : Flat) (is : List ℤ) (v : ℤ) → a < n → slice_get code pc ≡ Some (Store line a fs f)

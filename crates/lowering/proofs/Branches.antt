@@ -161,7 +161,7 @@ module _ (table : ArrayTable) (row_count : ℕ) (moves : ℕ → List NewMapping
           → ((i : Idle row_count) → steps (meaning_of table) 1 (m1 i)
           ≡ record (m1 i) { control = begin_trips (v + 3) leave1 (at_line line (result t k)) (record { at = pc + 1; slots = slots1; status = Running }) })
           → Goes table row_count moves code n many copy leave again (after_value (result t k) (λ p. iterate_trail p.count x p.first p.step brun btrail s)) to v slots1 m1 (with_value line s (result t k) (λ p. iterate p.count x p.first p.step brun s))
-      by_span true k small g = λ i. (_, (1, g i, trips i), refl, refl)
+      by_span true k small g = λ i. (_, (1, g i, trips i), refl, refl, refl)
       by_span false zero small g =
           goes-on table row_count moves code n many copy leave again [] [] to v v slots1 slots1 m1 (stands table row_count moves code leave1 slots1 rows s.printed) (normal (set_scalar s x a)) (omega arith)
           (λ i. (1, i, g i, trips i)) (kept-refl table row_count moves code n many copy v slots1)

@@ -184,7 +184,7 @@ module _ (table : ArrayTable) (row_count : ℕ) (moves : ℕ → List NewMapping
             slot-set x slots v lt,
           )
       by_each all (Err c) kept joins = λ i.
-          (judged (Some kept.0) (folded (fold_of (reduction_of o).join) outcome count) i, (2, two all i ∙ ap (λ k. judged k (folded (fold_of (reduction_of o).join) outcome count) i) kept.1, two-those all i), ap Faulted kept.2, refl)
+          (judged (Some kept.0) (folded (fold_of (reduction_of o).join) outcome count) i, (2, two all i ∙ ap (λ k. judged k (folded (fold_of (reduction_of o).join) outcome count) i) kept.1, two-those all i), ap Faulted kept.2, refl, refl)
 
       limits : (q : Result ℕ Cause) → space_size ns (sections r) ≡ q → (i : Idle row_count)
           → steps (meaning_of table) 1 (stands table row_count moves code pc slots rows out i)
@@ -201,4 +201,4 @@ module _ (table : ArrayTable) (row_count : ℕ) (moves : ℕ → List NewMapping
           (same-refl b slots)
           (subst (λ k. Comes table row_count moves code line rows out entry (pc + 1) (pc + 2) b slots P (values_over s ns r k >>= pair >>= second)) (sym many)
           (by_each (space-counted ns (sections r) k e) (values_over s ns r count) kept-is (folds-all line o outcome (positions ns) (λ t. value_at s (positions ns t) r) count tuple-is)))
-      by_limits (Err c) e = λ i. (_, (1, limits (Err c) e i, still table row_count moves code pc slots rows out (OwnLimits p) has.0 refl i), refl, refl)
+      by_limits (Err c) e = λ i. (_, (1, limits (Err c) e i, still table row_count moves code pc slots rows out (OwnLimits p) has.0 refl i), refl, refl, refl)

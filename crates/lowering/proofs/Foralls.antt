@@ -217,7 +217,7 @@ module _ (table : ArrayTable) (row_count : ℕ) (moves : ℕ → List NewMapping
           })
           → Goes table row_count moves code n many copy leave again [] (pc + 1) b slots (stands table row_count moves code pc slots rows s.printed) (one_step line s (check t kind s))
       by_test true g = (slots, rows, (λ i. (1, i, g i, still table row_count moves code pc slots rows s.printed x h quiet i)), kept-refl table row_count moves code n many copy b slots, holds)
-      by_test false g = λ i. (_, (1, g i, still table row_count moves code pc slots rows s.printed x h quiet i), refl, refl)
+      by_test false g = λ i. (_, (1, g i, still table row_count moves code pc slots rows s.printed x h quiet i), refl, refl, refl)
 
   -- what the slots say of the header
   module _ (line b b1 : ℕ) (controls : List Control) (axes : List Sequence) (le : n ≤ b) (room : b + subscripts_slots (triplets controls) ≡ b1) where

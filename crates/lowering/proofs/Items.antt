@@ -119,6 +119,7 @@ module _ (table : ArrayTable) (row_count : ℕ) (moves : ℕ → List NewMapping
             ),
             refl,
             refl,
+            refl,
           )
 
       by_limits : (q : Result ℕ Cause) → space_size ns (ds ∷ []) ≡ q → Comes table row_count moves code line rows out [] pc (pc + 2) b slots (SpreadGives b a subs)
@@ -149,6 +150,7 @@ module _ (table : ArrayTable) (row_count : ℕ) (moves : ℕ → List NewMapping
                   (limits ∙ e),
               still table row_count moves code pc slots rows out (OwnLimits p) has.0 refl i,
             ),
+            refl,
             refl,
             refl,
           )

@@ -183,7 +183,7 @@ module _ (table : ArrayTable) (row_count : ℕ) (moves : ℕ → List NewMapping
         by_entry nonzero (inr f) (inr g) same =
             subst (λ q. Goal to slots m1 q (check_nest nest body s)) (sym (ap (λ t. if t then fails ZeroStride else Ok first) nonzero))
             (subst (λ q. Goal to slots m1 (Ok first) q) (sym (f.1 ∙ ap Err (some_same f.0 g.0 (sym (ap fault_of f.1) ∙ sym same ∙ ap fault_of g.1))))
-            (λ i. (_, (1, tested (Err g.0) g.1 i, quiet i), refl, refl)))
+            (λ i. (_, (1, tested (Err g.0) g.1 i, quiet i), refl, refl, refl)))
 
         by_step : (t : Bool) → is_zero d ≡ t
             → ((i : Idle row_count) → steps (meaning_of table) 1 (m i)
@@ -191,7 +191,7 @@ module _ (table : ArrayTable) (row_count : ℕ) (moves : ℕ → List NewMapping
             → Goal to slots m (sequence a z d) (check_nest nest body s)
         by_step true none g =
             subst (λ q. Goal to slots m q (check_nest nest body s)) (sym (ap (λ t. if t then fails ZeroStride else Ok first) none))
-            (λ i. (_, (1, g i, still table row_count moves code pc slots rows s.printed (TestStride line (v + 2)) has.0 refl i), refl, refl))
+            (λ i. (_, (1, g i, still table row_count moves code pc slots rows s.printed (TestStride line (v + 2)) has.0 refl i), refl, refl, refl))
         by_step false nonzero g =
             goes-on table row_count moves code n many copy leave again [] (after_value (sequence a z d) (λ p. after_value (check_nest nest body s) (trail_on p))) to v v slots slots m m1
             (with_value line s (sequence a z d) (λ p. then_do (one_step line s (check_nest nest body s)) (go p))) (omega arith)

@@ -53,4 +53,4 @@ module _ (table : ArrayTable) (row_count : ℕ) (moves : ℕ → List NewMapping
 
   -- else it ends
   pub par-stops : (f : Fault) → ((k : Kept Fault) × (kept ≡ Some k) × (k.fault ≡ f) × (k.tuple < count)) → Stops table row_count moves code T (stands table row_count moves code pc slots rows out) f out
-  par-stops f k i = (after (Some k.0) i, (2, two i ∙ ap (λ z. after z i) k.1, two-those i), ap Faulted k.2, refl)
+  par-stops f k i = (after (Some k.0) i, (2, two i ∙ ap (λ z. after z i) k.1, two-those i), ap Faulted k.2, refl, refl)

@@ -122,7 +122,7 @@ module _ (table : ArrayTable) (row_count : ℕ) (moves : ℕ → List NewMapping
             (if t then fails ZeroStride else Ok record { first = a; step = d; count = value_count (wrapped a) (wrapped z) (wrapped d) })
         by_step false g = let e : pc3 + 1 ≡ pc + 4 = omega arith in
             (s3, subst (λ p. Reaches table row_count moves code [] (stands table row_count moves code pc3 s3 rows out) (stands table row_count moves code p s3 rows out)) e (λ i. (1, i, g i, still table row_count moves code pc3 s3 rows out (TestStride line (v + 2)) has.1.1.1.0 refl i)), same-refl v s3, gives)
-        by_step true g = λ i. (_, (1, g i, still table row_count moves code pc3 s3 rows out (TestStride line (v + 2)) has.1.1.1.0 refl i), refl, refl)
+        by_step true g = λ i. (_, (1, g i, still table row_count moves code pc3 s3 rows out (TestStride line (v + 2)) has.1.1.1.0 refl i), refl, refl, refl)
 
   -- a triplet
   -- the code of a term evaluates it, wherever it stands

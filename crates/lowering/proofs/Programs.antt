@@ -120,7 +120,7 @@ module _ (table : ArrayTable) (n room : ℕ) (moves : ℕ → List NewMapping) (
       halts : (slots1 : List ℤ) (rows1 : Storage) → Reaches table row_count moves code entries begin (stands table row_count moves code 1 slots1 rows1 r.state.printed)
           → Holds table row_count moves code n many None r.state slots1 rows1
           → (k : ℕ) × (((steps (meaning_of table) k (m0 i0)).control.status ≡ Finished) × ((steps (meaning_of table) k (m0 i0)).printed ≡ r.state.printed)
-          × IsLeft n (steps (meaning_of table) k (m0 i0)) r.state) × Passes k
+          × IsLeft n (steps (meaning_of table) k (m0 i0)) r.state × ((steps (meaning_of table) k (m0 i0)).kept ≡ None)) × Passes k
       halts slots1 rows1 reach h =
           let m1 = stands table row_count moves code 1 slots1 rows1 r.state.printed in
           let a = reaches-on table row_count moves code m0 begin m1 begins reach i0 in
@@ -129,7 +129,7 @@ module _ (table : ArrayTable) (n room : ℕ) (moves : ℕ → List NewMapping) (
           ∙ one table row_count moves code 1 slots1 rows1 r.state.printed Halt all.1.0 a.1 in
           let those : IsTrail moves (passed table (1 + a.0) (m0 i0)) (entries ++ []) = entries-more table row_count moves code a.0 1 (m0 i0) (m1 a.1) entries [] a.2 a.3
           (still table row_count moves code 1 slots1 rows1 r.state.printed Halt all.1.0 refl a.1) in
-          (1 + a.0, rw (e) (refl, refl, (h.scalars, h.arrays.elements, h.more_places)), subst (λ V. IsTrail moves (passed table (1 + a.0) (m0 i0)) V) (append-nil entries) those)
+          (1 + a.0, rw (e) (refl, refl, (h.scalars, h.arrays.elements, h.more_places), refl), subst (λ V. IsTrail moves (passed table (1 + a.0) (m0 i0)) V) (append-nil entries) those)
 
       by_completion : (c : Completion) → Flows table row_count moves code n many None 1 1 entries (2 + length (block_code n moves body n 2 1 1)) n slots begin r.state c → (k : ℕ)
           × EndsAs n (steps (meaning_of table) k (m0 i0)) r.state c × Passes k
@@ -144,12 +144,12 @@ module _ (table : ArrayTable) (n room : ℕ) (moves : ℕ → List NewMapping) (
           let a = begins i0 in
           let b = h a.1 in
           let e : steps (meaning_of table) (b.1.0 + a.0) (m0 i0) ≡ b.0 = steps-more table row_count moves code a.0 b.1.0 (m0 i0) ∙ ap (steps (meaning_of table) b.1.0) a.2 ∙ b.1.1 in
-          (b.1.0 + a.0, rw (e) (b.2, b.3, (b.4.scalars, b.4.arrays.elements, b.4.more_places)), entries-more table row_count moves code a.0 b.1.0 (m0 i0) (begin a.1) [] entries a.2 a.3 b.1.2)
+          (b.1.0 + a.0, rw (e) (b.2, b.3, (b.4.scalars, b.4.arrays.elements, b.4.more_places), b.5), entries-more table row_count moves code a.0 b.1.0 (m0 i0) (begin a.1) [] entries a.2 a.3 b.1.2)
       by_completion (runs.Faulted f) h =
           let a = begins i0 in
           let b = h a.1 in
           let e : steps (meaning_of table) (b.1.0 + a.0) (m0 i0) ≡ b.0 = steps-more table row_count moves code a.0 b.1.0 (m0 i0) ∙ ap (steps (meaning_of table) b.1.0) a.2 ∙ b.1.1 in
-          (b.1.0 + a.0, rw (e) (b.2, b.3), entries-more table row_count moves code a.0 b.1.0 (m0 i0) (begin a.1) [] entries a.2 a.3 b.1.2)
+          (b.1.0 + a.0, rw (e) (b.2, b.3, b.4), entries-more table row_count moves code a.0 b.1.0 (m0 i0) (begin a.1) [] entries a.2 a.3 b.1.2)
 
   pub program-ends : (layouts : List Layout) → length layouts ≡ row_count → IsWellFormedBlock n body → BlockHasForms body
       → MachineEnds n table (opening n room moves body s layouts) (run_block body s)

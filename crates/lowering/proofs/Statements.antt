@@ -516,7 +516,7 @@ module _ (table : ArrayTable) (row_count : ℕ) (moves : ℕ → List NewMapping
         forall-goes table row_count moves code n many leave again lie.sized line b pc cs mask bl slots rows s ok.0 ok.1 ok.2 has le few holds
     statement-goes (statements.Print items) line b pc leave again slots rows s ok forms fit fits room has le few holds = prints line b pc leave again items slots rows s ok has le few holds
     statement-goes Stop line b pc leave again slots rows s ok forms fit fits room has le few holds =
-        λ i. (_, (1, one table row_count moves code pc slots rows s.printed Halt has.0 i, still table row_count moves code pc slots rows s.printed Halt has.0 refl i), refl, refl, holds)
+        λ i. (_, (1, one table row_count moves code pc slots rows s.printed Halt has.0 i, still table row_count moves code pc slots rows s.printed Halt has.0 refl i), refl, refl, holds, refl)
     statement-goes Exit line b pc leave again slots rows s ok forms fit fits room has le few holds =
         (slots, rows, jump-reaches table row_count moves code n many None pc leave slots rows s.printed has.0, kept-refl table row_count moves code n many None b slots, holds)
     statement-goes Cycle line b pc leave again slots rows s ok forms fit fits room has le few holds =

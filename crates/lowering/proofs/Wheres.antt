@@ -54,7 +54,7 @@ module _ (table : ArrayTable) (row_count : ℕ) (moves : ℕ → List NewMapping
       by_flow Normal h = (h.0, h.1, h.2, h.3, holds' r.state h.0 h.1 h.4)
       by_flow Exited h = (h.0, h.1, h.2, h.3, holds' r.state h.0 h.1 h.4)
       by_flow Cycled h = (h.0, h.1, h.2, h.3, holds' r.state h.0 h.1 h.4)
-      by_flow Stopped h = λ i. let b = h i in (b.0, b.1, b.2, b.3, holds' r.state b.0.control.slots b.0.rows b.4)
+      by_flow Stopped h = λ i. let b = h i in (b.0, b.1, b.2, b.3, holds' r.state b.0.control.slots b.0.rows b.4, b.5)
       by_flow (runs.Faulted f) h = h
 
   -- the assignments of a WHERE, where the copy is as asked
@@ -228,6 +228,7 @@ module _ (table : ArrayTable) (row_count : ℕ) (moves : ℕ → List NewMapping
                       (own-limits n table.shapes s rows holds1.arrays line (form_of b mask) slots1 r right named ∙ e),
                   still table row_count moves code pc1 slots1 rows s.printed (OwnLimits p) at_tail.0 refl i,
                 ),
+                refl,
                 refl,
                 refl,
               )

@@ -52,10 +52,11 @@ abbrev pub IsLeft : ℕ → Machine Instruction Fault → State → Type 0
 IsLeft n m s = ((k : ℕ) → k < n → slot m.control.slots k ≡ scalar s k) × ((a : ℕ) → a < n → row_of m.rows a ≡ (array s a).elements)
     × (length s.arrays ≡ n)
 
--- the machine has ended as a run did: with its fault, or finished with its scalars and arrays; and in both cases with its bytes
+-- the machine has ended as a run did: with its fault, or finished with its scalars and arrays; and in both cases with its bytes, and keeps no
+-- fault
 abbrev pub EndsAs : ℕ → Machine Instruction Fault → State → Completion → Type 0
-EndsAs n m s (runs.Faulted f) = (m.control.status ≡ Faulted f) × (m.printed ≡ s.printed)
-EndsAs n m s completion = (m.control.status ≡ Finished) × (m.printed ≡ s.printed) × IsLeft n m s
+EndsAs n m s (runs.Faulted f) = (m.control.status ≡ Faulted f) × (m.printed ≡ s.printed) × (m.kept ≡ None)
+EndsAs n m s completion = (m.control.status ≡ Finished) × (m.printed ≡ s.printed) × IsLeft n m s × (m.kept ≡ None)
 
 -- the machine ends as a run did
 abbrev pub MachineEnds : ℕ → ArrayTable → Machine Instruction Fault → Run → Type 0

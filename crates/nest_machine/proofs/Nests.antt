@@ -167,7 +167,7 @@ module _ {I A C F P Q : Type 0} (meaning : I → Instr F) (code : List I) (is_qu
               ∙ ap (λ o. record m1 { control = verdict_control o on (record { at = verdict_at; slots = s1; status = Running }); kept = None; parts = 0 }) e,
           first-quiet meaning is_quiet m1 verdict-has.0.1,
         ) in
-        (l.tuple, k.0, l.fault, k.1, record { count = r.0; last = m2; reach = r.1; quiet = r.2; status = refl; bytes = refl })
+        (l.tuple, k.0, l.fault, k.1, record { count = r.0; last = m2; reach = r.1; quiet = r.2; status = refl; bytes = refl; kept = refl })
 
     -- ---- without one
 

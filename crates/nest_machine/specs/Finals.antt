@@ -52,7 +52,7 @@ abbrev pub AreApart : List Final → Type 0
 AreApart [] = Unit {0}
 AreApart (f ∷ fs) = NotAmong (final_slot f) fs × AreApart fs
 
--- the machine ends with a fault, has printed nothing, and has come to quiet places alone
+-- the machine ends with a fault, keeps none, has printed nothing, and has come to quiet places alone
 pub record EndsFaulted {C F : Type 0} (meaning : C → Instr F) (code : List C) (is_quiet : ℕ → Bool) (joined : ℤ) (line printed : List ℕ) (pc : ℕ) (entry : List ℤ) (d : Data F) (fault : F) : Type 0 where
   pub count : ℕ
   pub last : Machine C F
@@ -60,3 +60,4 @@ pub record EndsFaulted {C F : Type 0} (meaning : C → Instr F) (code : List C) 
   pub quiet : StaysQuiet meaning is_quiet count (stands meaning code joined line printed pc entry d)
   pub status : last.control.status ≡ Faulted fault
   pub bytes : last.printed ≡ printed
+  pub kept : last.kept ≡ None

@@ -1,5 +1,5 @@
 -- Nodes that agree with a machine that has ended as a program's run are the last nodes of it.
-use Rattle.std.proofs.Common.{◌≡◌, ℕ, zero, suc, ◌<◌, ◌≤◌, ◌⊎◌, inl, inr, pos, List, [], ◌∷◌, length, take, get_or, Some, None, refl, sym, ap, subst, ◌∙◌, arith}
+use Rattle.std.proofs.Common.{◌≡◌, ℕ, zero, suc, ◌<◌, ◌≤◌, ◌⊎◌, inl, inr, pos, List, [], ◌∷◌, length, take, get_or, Option, Some, None, refl, sym, ap, subst, ◌∙◌, arith}
 use Rattle.std.specs.List.{slice_get}
 use Rattle.std.proofs.Math.ListN.{get_or-map}
 use Rattle.std.proofs.lemmas.Bool.{cases_lt, le-ltb, lt-ltb}
@@ -20,12 +20,13 @@ use Rattle.array_meaning.specs.State.{Array, State, no_array}
 use Rattle.statement_trail.specs.Trail.{serial_trail}
 use Rattle.passed_states.specs.TrailLayouts.{trail_layouts}
 use Rattle.machine_steps.specs.Layout.{Layout, least_owner_of, owned_in, piece, pieces}
-use Rattle.machine_steps.specs.Machine.{Machine}
+use Rattle.machine_steps.specs.Machine.{Kept, Machine}
 use Rattle.machine_steps.specs.Node.{Node, at_root, local_read}
-use Rattle.machine_steps.specs.Agrees.{IsWhole, Own, by_number, standing}
+use Rattle.machine_steps.specs.Agrees.{Agree, IsWhole, Own, by_number, standing}
 use Rattle.node_code.specs.Instructions.{Instruction, NewMapping}
 use Rattle.code_meaning.specs.Instructions.{remappings}
-use Rattle.code_meaning.specs.ProgramText.{Text, text, texts}
+use Rattle.code_meaning.specs.FaultValues.{fault_values}
+use Rattle.code_meaning.specs.ProgramText.{Text, text, text_meaning, texts}
 use Rattle.nest_standing.specs.Lowered.{EndsAs, IsLeft}
 use Rattle.nest_standing.specs.StatementCode.{program_code}
 use Rattle.node_run.specs.Coded.{with_code}
@@ -49,6 +50,13 @@ printed-so n m s Exited h = h.1
 printed-so n m s Cycled h = h.1
 printed-so n m s Stopped h = h.1
 printed-so n m s (runs.Faulted f) h = h.1
+
+unkept-so : (n : ℕ) (m : Machine Instruction Fault) (s : State) (c : Completion) → EndsAs n m s c → m.kept ≡ None
+unkept-so n m s Normal h = h.3
+unkept-so n m s Exited h = h.3
+unkept-so n m s Cycled h = h.3
+unkept-so n m s Stopped h = h.3
+unkept-so n m s (runs.Faulted f) h = h.2
 
 left-so : (n : ℕ) (m : Machine Instruction Fault) (s : State) (c : Completion) → EndsAs n m s c → end_of c ≡ serial.Finished → IsLeft n m s
 left-so n m s Normal h finished = h.2
@@ -97,6 +105,7 @@ as-many (suc count) nodes (x ∷ xs) are = ap suc (as-many count (λ p. nodes (s
 module _ (nodes : ℕ) (p : MainProgram) (maps : List Mapping) (moves : ℕ → List NewMapping) (first : List Layout) (some : 0 < nodes) (number : ℕ)
     (m : Machine Instruction Fault) (own : Own Fault) (shapes : List Shape)
     (whole : IsWhole nodes shapes (with_code (text nodes maps (program_shapes p)) m))
+    (agree : Agree fault_values text_meaning nodes (with_code (text nodes maps (program_shapes p)) m) own)
     (code : m.code ≡ program_code (length (entries p)) moves (resolved_block (entries p) p.body))
     (moved : take (length (entries p)) m.layouts ≡ trail_layouts (λ line. remappings maps (moves line)) (serial_trail p) (take (length (entries p)) first))
     (ends : EndsAs (length (entries p)) m (program_run p).state (program_run p).completion) where
@@ -118,13 +127,28 @@ module _ (nodes : ℕ) (p : MainProgram) (maps : List Mapping) (moves : ℕ → 
   arrays : o.end ≡ serial.Finished → (a : ℕ) → a < n → row_of m.rows a ≡ row_of o.arrays a
   arrays finished a lt = (left finished).1 a lt ∙ sym (get_or-map (λ (x : Array). x.elements) r.state.arrays a no_array)
 
-  standing-last : (q : ℕ) → IsLastNode nodes p maps moves m.control m.layouts q (standing nodes on_texts number own q)
-  standing-last q = record {
+  -- where the machine keeps no fault, no node does
+  unkept : (q : ℕ) → q < nodes → own.kept q ≡ None
+  unkept q lt = by_kept (own.kept q) refl
+    where
+      by_kept : (k : Option (Kept Fault)) → own.kept q ≡ k → own.kept q ≡ None
+      by_kept None e = e
+      by_kept (Some k) e =
+          let one = agree.kept.others q lt k e in
+          absurd (let none : None ≡ Some one.0 = sym (unkept-so n m r.state r.completion ends) ∙ one.1 in cc)
+
+  standing-last : (q : ℕ) → q < nodes → IsLastNode nodes p maps moves m.control m.layouts number m.parts q (standing nodes on_texts number own q)
+  standing-last q lt = record {
     number = refl;
     among = refl;
     coded = ap (texts nodes maps (program_shapes p)) code;
     stands = refl;
     laid = refl;
+    phase_is = refl;
+    ready = refl;
+    received = refl;
+    parts_are = refl;
+    kept = unkept q lt;
     printed = ap (at_root q) (printed-so n m r.state r.completion ends);
     pieces = λ finished a lt. piece-row m.layouts q m.rows a ∙ ap (λ row. piece (owned_in m.layouts a) q row) (arrays finished a lt);
   }
@@ -134,9 +158,15 @@ module _ (nodes : ℕ) (p : MainProgram) (maps : List Mapping) (moves : ℕ → 
   last-nodes last are = record {
     control = m.control;
     layouts = m.layouts;
+    phase = number;
+    parts = m.parts;
     some = some;
     many = as-many nodes (standing nodes on_texts number own) last are;
-    each = λ q node at. subst (IsLastNode nodes p maps moves m.control m.layouts q) (is q node at) (standing-last q);
+    each = λ q node at. subst (IsLastNode nodes p maps moves m.control m.layouts number m.parts q) (is q node at).1 (standing-last q (is q node at).0);
+    matched = λ q s source target from to.
+        ap (λ (x : Node Text Fault). get_or x.next_to s 0) (sym (is q source from).1)
+        ∙ agree.numbers.same q s (is q source from).0 (is s target to).0
+        ∙ ap (λ (x : Node Text Fault). get_or x.next_from q 0) (is s target to).1;
     ended = ended-so n m r.state r.completion ends;
     moved = moved;
     owned = whole.owned;
@@ -145,10 +175,10 @@ module _ (nodes : ℕ) (p : MainProgram) (maps : List Mapping) (moves : ℕ → 
     sized = λ finished a lt. size-row nodes m.layouts m.rows whole.shaped whole.owned a ∙ ap length (arrays finished a lt);
     elements = λ finished spot node lt inside at.
         let owner : ℕ = least_owner_of nodes m.layouts spot in
-        subst (λ (x : Node Text Fault). local_read m.layouts owner x.pieces spot ≡ read o.arrays spot) (is owner node at)
+        subst (λ (x : Node Text Fault). local_read m.layouts owner x.pieces spot ≡ read o.arrays spot) (is owner node at).1
         (read-local m.layouts owner m.rows spot (least-owns nodes m.layouts m.rows whole.shaped whole.owned spot inside).0
         ∙ ap (λ row. get_or row spot.at (pos 0)) (arrays finished spot.row lt));
   }
     where
-      is : (q : ℕ) (node : Node Text Fault) → slice_get last q ≡ Some node → standing nodes on_texts number own q ≡ node
-      is q node at = (numbered nodes q (standing nodes on_texts number own) node (sym (are q) ∙ at)).1
+      is : (q : ℕ) (node : Node Text Fault) → slice_get last q ≡ Some node → (q < nodes) × (standing nodes on_texts number own q ≡ node)
+      is q node at = numbered nodes q (standing nodes on_texts number own) node (sym (are q) ∙ at)

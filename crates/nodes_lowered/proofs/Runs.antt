@@ -20,7 +20,7 @@ use Rattle.passed_states.proofs.TrailMoves.{trail-moves}
 use Rattle.machine_steps.specs.Layout.{Layout}
 use Rattle.machine_steps.specs.Instr.{Status, Running, Finished, Faulted}
 use Rattle.machine_steps.specs.Machine.{Machine, steps}
-use Rattle.machine_steps.specs.Agrees.{IsOver, IsValidCode, IsWhole, NodesSegment, by_number, first_own, standing}
+use Rattle.machine_steps.specs.Agrees.{Agree, IsOver, IsValidCode, IsWhole, NodesSegment, by_number, first_own, standing}
 use Rattle.owner_tables.proofs.CopyLaws.{copy-dealt, copy-size}
 use Rattle.owner_tables.proofs.SameLayouts.{same_layouts}
 use Rattle.covering_rounds.proofs.Covering.{rounds-cover}
@@ -118,7 +118,8 @@ module _ (nodes : ℕ) (p : MainProgram) (maps : List Mapping) (moves : ℕ → 
         count = length-map (range_with_len 0 nodes) (standing nodes coded 1 (first_own nodes)) ∙ length-range_with_len 0 nodes;
         phased = run.lockstep;
         ends = λ last ends. last-nodes nodes p maps moves layouts some run.number end run.new shapes
-            (whole-coded as_text nodes shapes end (steps-whole (meaning_of table) nodes shapes lowered.0 m valid-code whole)) (steps-code (meaning_of table) lowered.0 m)
+            (whole-coded as_text nodes shapes end (steps-whole (meaning_of table) nodes shapes lowered.0 m valid-code whole))
+            (subst (λ (x : Machine Text Fault). Agree fault_values text_meaning nodes x run.new) same run.agree) (steps-code (meaning_of table) lowered.0 m)
             (moved-so lowered.0 (serial_trail p) lowered.2) lowered.1 last
             (λ q. ends (program_nodes nodes p maps moves layouts) run.lockstep [] refl q ∙ run.ends q
             ∙ ap (λ (x : Machine Text Fault). by_number nodes (standing nodes x run.number run.new) q) same);

@@ -21,7 +21,7 @@ use Rattle.passed_states.specs.TrailLayouts.{trail_layouts}
 use Rattle.machine_steps.specs.Layout.{AreOwned, Layout, least_owner_of, owned_in, piece, sizes}
 use Rattle.machine_steps.specs.Instr.{Control, Status, Running, Finished, Faulted}
 use Rattle.machine_steps.specs.Machine.{Machine}
-use Rattle.machine_steps.specs.Node.{Node, at_root, local_read, node_steps}
+use Rattle.machine_steps.specs.Node.{Node, Ready, at_root, local_read, node_steps}
 use Rattle.letters.specs.declared.letter.Letter.{Letter}
 use Rattle.machine_steps.specs.Agrees.{openings}
 use Rattle.code_meaning.specs.FaultValues.{fault_values}
@@ -60,28 +60,39 @@ end_by_status Finished = Some serial.Finished
 end_by_status (Faulted f) = Some (serial.Faulted f)
 
 -- the node q of so many at the end of a program's run: it has the program's code, stands at this place with these slots, and its rows lie
--- so. Node 0 has printed what the program prints, and no other anything; where the run is finished, it has its pieces of the last arrays
-pub record IsLastNode (nodes : ℕ) (p : MainProgram) (maps : List Mapping) (moves : ℕ → List NewMapping) (control : Control Fault) (layouts : List Layout) (q : ℕ)
-    (node : Node Text Fault) : Type 0 where
+-- so. It stands before this phase, of which it has sent and taken nothing, after so many parts since the last verdict, and keeps no fault. Node 0 has
+-- printed what the program prints, and no other anything; where the run is finished, it has its pieces of the last arrays
+pub record IsLastNode (nodes : ℕ) (p : MainProgram) (maps : List Mapping) (moves : ℕ → List NewMapping) (control : Control Fault) (layouts : List Layout)
+    (phase parts q : ℕ) (node : Node Text Fault) : Type 0 where
   pub number : node.id ≡ q
   pub among : node.nodes ≡ nodes
   pub coded : node.code ≡ program_texts nodes p maps moves
   pub stands : node.control ≡ control
   pub laid : node.layouts ≡ layouts
+  pub phase_is : node.phase ≡ phase
+  pub ready : node.stage ≡ Ready
+  pub received : node.received ≡ []
+  pub parts_are : node.parts ≡ parts
+  pub kept : node.kept ≡ None
   pub printed : node.printed ≡ at_root q (serial.serial p).printed
   pub pieces : (serial.serial p).end ≡ serial.Finished → (a : ℕ) → a < length (entries p)
       → row_of node.pieces a ≡ piece (owned_in layouts a) q (slice_index_or (serial.serial p).arrays a [])
 
--- so many nodes at the end of a program's run, which have one code, one place, the same slots and the same layouts. It has ended as the
+-- so many nodes at the end of a program's run, which have one code, one place, the same slots, the same layouts, one phase to come and one number of
+-- parts. No letter is under way: the number of each pair's next letter is the one that its target awaits. The run has ended as the
 -- program does, and the declared names lie as they did at first, with the redistributions of the program's trail. Where it is finished, their
 -- slots are the program's last scalars, and each element of its last arrays is at its address in the piece of its least owner
 pub record AreLastNodes (nodes : ℕ) (p : MainProgram) (maps : List Mapping) (moves : ℕ → List NewMapping) (first : List Layout) (last : List (Node Text Fault))
     : Type 0 where
   pub control : Control Fault
   pub layouts : List Layout
+  pub phase : ℕ
+  pub parts : ℕ
   pub some : 0 < nodes
   pub many : length last ≡ nodes
-  pub each : (q : ℕ) (node : Node Text Fault) → slice_get last q ≡ Some node → IsLastNode nodes p maps moves control layouts q node
+  pub each : (q : ℕ) (node : Node Text Fault) → slice_get last q ≡ Some node → IsLastNode nodes p maps moves control layouts phase parts q node
+  pub matched : (q r : ℕ) (source target : Node Text Fault) → slice_get last q ≡ Some source → slice_get last r ≡ Some target
+      → slice_index_or source.next_to r 0 ≡ slice_index_or target.next_from q 0
   pub ended : end_by_status control.status ≡ Some (serial.serial p).end
   pub moved : take (length (entries p)) layouts
       ≡ trail_layouts (λ line. remappings maps (moves line)) (serial_trail p) (take (length (entries p)) first)
