@@ -4,3 +4,4 @@ mod ArrangementExtents
 mod ProgramArrays
 mod DistributedLines
 pub mod DistributedMaps
+mod Examples
