@@ -1,3 +1,4 @@
 pub mod AcceptLaws
 pub mod TopLaws
 pub mod SourceForms
+mod Examples
