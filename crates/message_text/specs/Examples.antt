@@ -4,6 +4,7 @@ use Rattle.std.specs.Prelude.{ℕ, codes, List, [], ◌∷◌, pos, negsuc, Some
 use Rattle.mappings.specs.declared.mapping.Form.{Form}
 use Rattle.mappings.specs.declared.mapping.Form.TheVariants.{Block, Cyclic}
 use Rattle.mappings.specs.declared.mapping.AlignDim.TheVariants.{Linear}
+use Rattle.mappings.specs.declared.mapping.MapDim.{MapDim}
 use Rattle.mappings.specs.declared.mapping.Mapping.{Mapping}
 use Rattle.syntax_tree.specs.Directive as d
 use Rattle.syntax_tree.specs.Expression as e
@@ -96,6 +97,38 @@ abbrev pub masked : List ℕ
 masked = trail_lines two_setting (lies (Block 2) ∷ lies (Cyclic 1) ∷ copy_layout 2 (0 ∷ []) ∷ []) (trail_of two_names
     (s.Then 4 (s.Where (e.Binary op.Gt (e.Name A) (n 0)) (record { line = 4; left = record { name = B; subscripts = None }; right = e.Name A } ∷ []) [])
     (s.Then 5 (s.Assign (record { name = I; subscripts = None }) (e.Call op.Sum sum)) s.Done)))
+
+-- node 0 computes for A(5), which isn't there
+-- INTEGER :: A(4) = 1, B(4), I|!HPF$ DISTRIBUTE A(BLOCK)|!HPF$ DISTRIBUTE B(CYCLIC)|FORALL (I=3:5, I<5) A(I) = B(I-1)|END
+abbrev pub left_outside : List ℕ
+left_outside = trail_lines two_setting (lies (Block 2) ∷ lies (Cyclic 1) ∷ copy_layout 2 (0 ∷ []) ∷ []) (trail_of two_names
+    (s.Then 4 (s.Forall (record { index = I; first = n 3; last = n 5; step = None } ∷ []) (Some (e.Binary op.Lt (e.Name I) (n 5)))
+    (record { line = 4; left = record { name = A; subscripts = Some at_i }; right = e.Element B (e.More (e.One (e.Binary op.Sub (e.Name I) (n 1))) e.End) } ∷ [])) s.Done))
+
+-- A lies on both nodes, so the first one adds
+-- INTEGER :: A(4) = 1, B(4), I|!HPF$ DISTRIBUTE B(CYCLIC)|I = SUM(A + B)|END
+abbrev pub replicated_first : List ℕ
+replicated_first = trail_lines two_setting
+    (record { shape = record { lower = pos 1 ∷ []; extent = pos 4 ∷ [] }; mapping = record { grid = 2 ∷ []; dims = [] } } ∷ lies (Cyclic 1) ∷ copy_layout 2 (0 ∷ []) ∷ [])
+    (trail_of two_names (s.Then 3 (s.Assign (record { name = I; subscripts = None })
+    (e.Call op.Sum (e.More (e.One (e.Binary op.Add (e.Name A) (e.Name B))) e.End))) s.Done))
+
+-- ---- an array of two dimensions, in blocks along both of a grid
+
+abbrev M : List ℕ
+M = codes "M"
+
+abbrev halves : ℕ → MapDim
+halves dim = record { line = record { lower = pos 1; extent = 4; form = Block 2; procs = 2 }; grid_dim = dim; align = Linear dim (pos 1) (pos 0) }
+
+-- INTEGER :: M(4,4)|!HPF$ DISTRIBUTE M(BLOCK,BLOCK)|M(1:2,:) = M(3:4,4:1:-1)|END
+abbrev pub two_dimensions : List ℕ
+two_dimensions = trail_lines
+    (record { nodes = 4; names = M ∷ []; shapes = (up_to 4 ∷ up_to 4 ∷ []) ∷ []; moves = λ line. []; copies = []; copied = [] })
+    (record { shape = record { lower = pos 1 ∷ pos 1 ∷ []; extent = pos 4 ∷ pos 4 ∷ [] }; mapping = record { grid = 2 ∷ 2 ∷ []; dims = halves 0 ∷ halves 1 ∷ [] } } ∷ [])
+    (trail_of (record { name = M; what = what.Array (up_to 4 ∷ up_to 4 ∷ []) (pos 0) } ∷ []) (s.Then 3 (s.Assign
+    (record { name = M; subscripts = Some (e.More (e.Range (e.Present (n 1)) (e.Present (n 2)) e.Absent) (part e.Absent e.Absent e.Absent)) })
+    (e.Element M (e.More (e.Range (e.Present (n 3)) (e.Present (n 4)) e.Absent) (part (e.Present (n 4)) (e.Present (n 1)) (e.Present (e.Number (negsuc 0))))))) s.Done))
 
 -- ---- a nest of INDEPENDENT loops over an array that lies cyclically, with a scalar of its own and a REDUCTION variable
 

@@ -20,6 +20,18 @@ pub returns-clause-mask : goal.returns-clause-mask
 unfolding int_wrap size_of owned_by digits
 returns-clause-mask c = refl
 
+pub returns-clause-outside : goal.returns-clause-outside
+unfolding int_wrap size_of owned_by digits
+returns-clause-outside c = refl
+
+pub returns-clause-replicated : goal.returns-clause-replicated
+unfolding int_wrap size_of owned_by digits
+returns-clause-replicated c = refl
+
+pub returns-clause-dimensions : goal.returns-clause-dimensions
+unfolding int_wrap size_of owned_by digits
+returns-clause-dimensions c = refl
+
 pub returns-clause-nest : goal.returns-clause-nest
 unfolding int_wrap size_of owned_by digits
 returns-clause-nest c = refl
