@@ -7,9 +7,6 @@ import sys
 TOP = os.path.dirname(os.path.dirname(os.path.realpath(__file__)))
 PROVED = f"{TOP}/crates/hpf/out/hpf"
 
-# A check at run time that fails in an unproved build ends it by a signal, and by no status of its own.
-os.environ.setdefault("ASAN_OPTIONS", "abort_on_error=1:detect_leaks=0")
-
 
 def stop(tool, why, status):
     print(f"{tool}: {why}", file=sys.stderr)
